@@ -1,0 +1,56 @@
+-- The bytes of leaves and of chains (RFC 6962, 3.1, 3.2, 3.4 and 4.6).
+use Rattle.std.specs.Prelude.{◌≡◌, ◌<◌, ◌^◌, ◌++◌, ◌∷◌, [], ℕ, List, length}
+use Rattle.std.specs.List.{AllByRecursion, flat_map}
+use Rattle.ct_codec.specs.Bytes.{num, vec}
+
+-- What a leaf is about: a certificate, or a precertificate by the hash of its issuer's key and its TBSCertificate.
+pub data Entry : Type 0 where
+  certificate : List ℕ → Entry
+  precertificate : List ℕ → List ℕ → Entry
+
+-- a certificate or TBSCertificate of 1 to 2^24 - 1 bytes
+abbrev pub IsCertificate : List ℕ → Type 0
+IsCertificate c = (0 < length c) × (length c < 2 ^ 24)
+
+abbrev pub IsEntry : Entry → Type 0
+IsEntry (certificate c) = IsCertificate c
+IsEntry (precertificate k c) = (length k ≡ 32) × IsCertificate c
+
+-- the entry type and the signed entry
+abbrev pub entry_text : Entry → List ℕ
+entry_text (certificate c) = num 2 0 ++ vec 3 c
+entry_text (precertificate k c) = num 2 1 ++ (k ++ vec 3 c)
+
+-- the bytes of the leaf with timestamp t, entry e and extensions x
+abbrev pub leaf_text : ℕ → Entry → List ℕ → List ℕ
+leaf_text t e x = 0 ∷ 0 ∷ (num 8 t ++ (entry_text e ++ vec 2 x))
+
+-- b is the text of the leaf with timestamp t, entry e and extensions x
+pub record LeafText (t : ℕ) (e : Entry) (x b : List ℕ) : Type 0 where
+  pub timestamp : t < 2 ^ 64
+  pub entry : IsEntry e
+  pub extensions : length x < 2 ^ 16
+  pub text : b ≡ leaf_text t e x
+
+-- certificates one after the other, each as a vector
+abbrev pub chain_bytes : List (List ℕ) → List ℕ
+chain_bytes cs = flat_map (λ c. vec 3 c) cs
+
+-- b is the text of the chain of these certificates
+pub record ChainText (cs : List (List ℕ)) (b : List ℕ) : Type 0 where
+  pub certificates : AllByRecursion IsCertificate cs
+  pub fits : length (chain_bytes cs) < 2 ^ 24
+  pub text : b ≡ vec 3 (chain_bytes cs)
+
+-- The fields of a leaf's text, in order: a length and the bytes that it counts are two fields.
+abbrev pub entry_fields : Entry → List (List ℕ)
+entry_fields (certificate c) = num 2 0 ∷ num 3 (length c) ∷ c ∷ []
+entry_fields (precertificate k c) = num 2 1 ∷ k ∷ num 3 (length c) ∷ c ∷ []
+
+abbrev pub leaf_fields : ℕ → Entry → List ℕ → List (List ℕ)
+leaf_fields t e x = (0 ∷ []) ∷ (0 ∷ []) ∷ num 8 t ∷ (entry_fields e ++ (num 2 (length x) ∷ x ∷ []))
+
+-- the entry type, and what stands before the length of the certificate or TBSCertificate
+abbrev pub entry_front : Entry → List ℕ
+entry_front (certificate c) = num 2 0
+entry_front (precertificate k c) = num 2 1 ++ k

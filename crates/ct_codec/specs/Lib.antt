@@ -1,0 +1,8 @@
+pub mod Bytes
+pub mod Submitted
+pub mod Leaf
+pub mod View
+pub mod Faults
+pub mod DecodedEntry
+pub mod Laws
+pub mod Items

@@ -1,0 +1,67 @@
+//! The hash function of a tree.
+ghost use Rattle.std.specs.Prelude.{◌≡◌, ◌++◌, ◌∷◌, [], ℕ, List, length};
+ghost use Rattle.std.specs.List.{flat_map};
+ghost use Rattle.sha2.specs.Sha256.{sha256};
+ghost use Rattle.sha2.proofs.Facts256.{length-sha256};
+ghost use Rattle.ct_tree.specs.Tree.{hash_leaf, hash_node};
+
+use sha2::{Digest, Sha256};
+
+/// A hash function on byte strings, with digests of 32 bytes.
+pub trait NodeHash {
+    // The digest of a message. Every value of the type computes this one function.
+    ghost digest: { List ℕ → List ℕ };
+
+    /// The digest of the joined parts.
+    fn hash(&self, parts: &[&[u8]]) -> [u8; 32]
+        ensures { result ≡ digest (flat_map (λ part. part.now) parts.now) };
+
+    ghost length_digest: { (message : List ℕ) → length (digest message) ≡ 32 };
+}
+
+/// SHA-256.
+#[derive(Clone, Copy)]
+pub struct Sha256Hash;
+
+impl NodeHash for Sha256Hash {
+    ghost digest = { sha256 };
+
+    fn hash(&self, parts: &[&[u8]]) -> [u8; 32] {
+        let mut hasher = Sha256::new();
+        for part in parts {
+            hasher.update(*part);
+        }
+        hasher.finalize()
+    }
+
+    ghost length_digest = { length-sha256 };
+}
+
+/// The hash of a leaf.
+pub fn leaf_hash<H: NodeHash>(h: &H, leaf: &[u8]) -> [u8; 32]
+    ensures { result ≡ hash_leaf H.digest leaf.now }
+{
+    h.hash(&[&[0], leaf])
+}
+
+/// The hash of an inner node.
+pub fn node_hash<H: NodeHash>(h: &H, left: &[u8; 32], right: &[u8; 32]) -> [u8; 32]
+    ensures { result ≡ hash_node H.digest left.now right.now }
+{
+    h.hash(&[&[1], left, right])
+}
+
+/// The root of no leaves.
+pub fn empty_root<H: NodeHash>(h: &H) -> [u8; 32]
+    ensures { result ≡ H.digest [] }
+{
+    h.hash(&[])
+}
+
+/// The hash of a leaf that is given in parts.
+pub fn leaf_hash_parts<H: NodeHash>(h: &H, parts: [&[u8]; 5]) -> [u8; 32]
+    ensures { result ≡ hash_leaf H.digest (flat_map (λ part. part.now) parts.entry) }
+{
+    let [first, second, third, fourth, fifth] = parts;
+    h.hash(&[&[0], first, second, third, fourth, fifth])
+}
