@@ -36,11 +36,15 @@ pub record LeafText (t : ℕ) (e : Entry) (x b : List ℕ) : Type 0 where
 abbrev pub chain_bytes : List (List ℕ) → List ℕ
 chain_bytes cs = flat_map (λ c. vec 3 c) cs
 
+-- the bytes of the chain of these certificates
+abbrev pub chain_text : List (List ℕ) → List ℕ
+chain_text cs = vec 3 (chain_bytes cs)
+
 -- b is the text of the chain of these certificates
 pub record ChainText (cs : List (List ℕ)) (b : List ℕ) : Type 0 where
   pub certificates : AllByRecursion IsCertificate cs
   pub fits : length (chain_bytes cs) < 2 ^ 24
-  pub text : b ≡ vec 3 (chain_bytes cs)
+  pub text : b ≡ chain_text cs
 
 -- The fields of a leaf's text, in order: a length and the bytes that it counts are two fields.
 abbrev pub entry_fields : Entry → List (List ℕ)
