@@ -1,17 +1,31 @@
 //! Submissions to the log, the bytes of leaves and chains, and the refusals.
+//!
+//! - `Submission` is what is submitted: a chain of certificates whose lengths are in range. `Item` is one that was accepted.
+//! - `identity`, `leaf_input` and `extra_data` write its bytes (RFC 6962 sections 3.1, 3.4 and 4.6), numbers by `byteorder`.
+//! - `decode_leaf` reads a leaf of either entry type from bytes, and answers the first fault where the bytes are no leaf.
+//! - `Refusal` has every reason for which a call of the log is refused.
+//! - The functions of `laws` do nothing: their contracts are laws of the formats.
+//!
+//! What the bytes are stands in `specs`: `Bytes` (numbers and vectors), `Leaf` (leaves and chains), `Submitted`, `Faults`, `Items`, `Laws`.
 #![tactic(auto)]
 
-mod decode;
+mod fault;
 mod item;
 mod laws;
+mod numbers;
+mod reader;
+mod reading;
 mod refusal;
 mod submission;
+mod writing;
 
-pub use decode::{DecodeFault, Leaf, LeafEntry, decode_leaf};
+pub use fault::DecodeFault;
 pub use item::Item;
 pub use laws::leaves_stand_apart;
+pub use reading::{Leaf, LeafEntry, decode_leaf};
 pub use refusal::Refusal;
-pub use submission::{Submission, extra_data, identity, leaf_input};
+pub use submission::Submission;
+pub use writing::{extra_data, identity, leaf_input};
 
 #[cfg(test)]
 mod tests;
