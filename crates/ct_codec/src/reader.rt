@@ -1,9 +1,9 @@
 //! Fields read from the front of an input (RFC 5246 section 4), without memory.
 
-ghost use Rattle.std.specs.Prelude.{◌≡◌, ◌<◌, ◌^◌, ◌++◌, ◌∷◌, ◌==◌, [], ℕ, List, length, IfSome, IfNone, IfOk, IfErr};
+ghost use Rattle.std.specs.Prelude.{◌≡◌, ◌<◌, ◌^◌, ◌++◌, ◌∷◌, ◌==◌, ℕ, List, length, IfSome, IfNone, IfOk, IfErr};
 ghost use Rattle.ct_codec.specs.Bytes.{num, vec};
 ghost use Rattle.ct_codec.specs.Leaf.{IsCertificate};
-ghost use Rattle.ct_codec.specs.Faults.{IsCut, VectorFaulty};
+ghost use Rattle.ct_codec.specs.Faults.{VectorCut, VectorFaulty};
 
 use crate::fault::DecodeFault;
 use crate::numbers::{number_of_2, number_of_3, number_of_8};
@@ -121,17 +121,31 @@ impl<'a> Reader<'a> {
         Ok(certificate)
     }
 
-    /// A leaf's extensions: a vector of 0 to 65,535 bytes.
-    pub fn extensions(&mut self) -> Option<&'a [u8]>
+    /// A vector whose length stands in two bytes.
+    pub fn vector_2(&mut self) -> Option<&'a [u8]>
         ensures some { IfSome result (λ x. (length x.now < 2 ^ 16) × (self.old ≡ vec 2 x.now ++ self.new)) }
-        ensures none { IfNone result ((x : List ℕ) × (length x < 2 ^ 16) × IsCut (num 2 (length x) ∷ x ∷ []) self.old) }
+        ensures none { IfNone result (VectorCut 2 self.old) }
     {
         let Some(size) = self.number_2() else {
             return None;
         };
-        let Some(extensions) = self.bytes(size as usize) else {
+        let Some(content) = self.bytes(size as usize) else {
             return None;
         };
-        Some(extensions)
+        Some(content)
+    }
+
+    /// A vector whose length stands in three bytes.
+    pub fn vector_3(&mut self) -> Option<&'a [u8]>
+        ensures some { IfSome result (λ x. (length x.now < 2 ^ 24) × (self.old ≡ vec 3 x.now ++ self.new)) }
+        ensures none { IfNone result (VectorCut 3 self.old) }
+    {
+        let Some(size) = self.number_3() else {
+            return None;
+        };
+        let Some(content) = self.bytes(size as usize) else {
+            return None;
+        };
+        Some(content)
     }
 }

@@ -1,9 +1,12 @@
 //! Leaves and chains read from bytes (RFC 6962 sections 3.4 and 4.6).
 
 ghost use Rattle.std.specs.Prelude.{◌≡◌, ◌<◌, ◌≤◌, ◌^◌, ◌++◌, [], ◌∷◌, ℕ, List, map, length, IfOk, IfErr};
-ghost use Rattle.ct_codec.specs.Bytes.{num};
-ghost use Rattle.ct_codec.specs.Leaf.{IsEntry, LeafText, entry_text};
-ghost use Rattle.ct_codec.specs.Faults.{EntryFaulty, LeafFaulty};
+ghost use Rattle.std.specs.Prelude.{OnOk, ◌⊎◌};
+ghost use Rattle.std.specs.List.{AllByRecursion};
+ghost use Rattle.ct_codec.specs.Bytes.{num, vec};
+ghost use Rattle.ct_codec.specs.Leaf.{IsCertificate, IsEntry, LeafText, entry_text, chain_bytes, AreCertificates, ChainText};
+ghost use Rattle.ct_codec.specs.Faults.{EntryFaulty, LeafFaulty, CertificatesFaulty, ChainFaulty};
+ghost use Rattle.ct_codec.specs.declared.fault.DecodeFault.TheVariants.{Memory};
 ghost use Rattle.ct_codec.specs.Decoded.{entry_in, entry_lent};
 
 use crate::fault::DecodeFault;
@@ -108,7 +111,7 @@ fn leaf_at(bytes: &[u8]) -> Result<LentLeaf<'_>, DecodeFault>
         Ok(entry) => entry,
         Err(fault) => return Err(fault),
     };
-    let Some(extensions) = reader.extensions() else {
+    let Some(extensions) = reader.vector_2() else {
         return Err(DecodeFault::Truncated);
     };
     if !reader.is_at_end() {
@@ -157,4 +160,73 @@ pub fn decode_leaf(alloc: Global, bytes: &[u8]) -> Result<Leaf, DecodeFault>
         entry,
         extensions,
     })
+}
+
+// Walks over the certificates that the bytes are, one after the other. It takes no memory.
+fn check_certificates(bytes: &[u8]) -> Result<(), DecodeFault>
+    ensures found { OnOk result (AreCertificates bytes.now) }
+    ensures fault { IfErr result (λ f. CertificatesFaulty f bytes.now) }
+{
+    let mut reader = Reader::new(bytes);
+    'certificates: while !reader.is_at_end() {
+        if let Err(fault) = reader.certificate() {
+            return Err(fault);
+        }
+    }
+    Ok(())
+}
+
+// The certificates that the bytes are, one after the other, copied out of the input.
+fn copy_certificates(alloc: Global, bytes: &[u8]) -> Result<Vec<Vec<u8>>, DecodeFault>
+    ensures found { IfOk result (λ cs. AllByRecursion IsCertificate (map (λ c. c.items) cs.items) × (bytes.now ≡ chain_bytes (map (λ c. c.items) cs.items))) }
+    ensures fault { IfErr result (λ f. (f ≡ Memory) ⊎ CertificatesFaulty f bytes.now) }
+{
+    let mut certificates = Vec::new(alloc);
+    let mut reader = Reader::new(bytes);
+    'certificates: while !reader.is_at_end() {
+        let certificate = match reader.certificate() {
+            Ok(certificate) => certificate,
+            Err(fault) => return Err(fault),
+        };
+        let Ok(copy) = Vec::from_slice(alloc, certificate) else {
+            return Err(DecodeFault::Memory);
+        };
+        let Ok(()) = certificates.push(copy) else {
+            return Err(DecodeFault::Memory);
+        };
+    }
+    Ok(certificates)
+}
+
+// The certificates' bytes of the chain with which the input ends. It takes no memory.
+fn last_chain<'a>(reader: &mut Reader<'a>) -> Result<&'a [u8], DecodeFault>
+    ensures found { IfOk result (λ y. (length y.now < 2 ^ 24) × (reader.old ≡ vec 3 y.now) × AreCertificates y.now) }
+    ensures fault { IfErr result (λ f. ChainFaulty f reader.old) }
+{
+    let Some(certificates) = reader.vector_3() else {
+        return Err(DecodeFault::Truncated);
+    };
+    if let Err(fault) = check_certificates(certificates) {
+        return Err(fault);
+    }
+    if !reader.is_at_end() {
+        return Err(DecodeFault::Trailing);
+    }
+    Ok(certificates)
+}
+
+/// The certificates of the chain that the bytes are, all of them. The faults of the bytes are found before memory is taken.
+pub fn decode_chain(alloc: Global, bytes: &[u8]) -> Result<Vec<Vec<u8>>, DecodeFault>
+    ensures found { IfOk result (λ cs. ChainText (map (λ c. c.items) cs.items) bytes.now) }
+    ensures fault { IfErr result (λ f. ChainFaulty f bytes.now) }
+{
+    let mut reader = Reader::new(bytes);
+    let certificates = match last_chain(&mut reader) {
+        Ok(certificates) => certificates,
+        Err(fault) => return Err(fault),
+    };
+    match copy_certificates(alloc, certificates) {
+        Ok(copies) => Ok(copies),
+        Err(fault) => Err(fault),
+    }
 }
