@@ -22,7 +22,10 @@ mod writing;
 
 pub use fault::DecodeFault;
 pub use item::Item;
-pub use laws::leaves_stand_apart;
+pub use laws::{
+    chain_texts_have_no_fault, chains_have_one_fault, chains_stand_apart, leaf_texts_have_no_fault,
+    leaves_have_one_fault, leaves_stand_apart,
+};
 pub use reading::{Leaf, LeafEntry, decode_chain, decode_leaf};
 pub use refusal::Refusal;
 pub use submission::Submission;
