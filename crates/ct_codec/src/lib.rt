@@ -24,7 +24,7 @@ pub use fault::DecodeFault;
 pub use item::Item;
 pub use laws::{
     chain_texts_have_no_fault, chains_have_one_fault, chains_stand_apart, leaf_texts_have_no_fault,
-    leaves_have_one_fault, leaves_stand_apart,
+    leaves_have_one_fault, leaves_stand_apart, written_chains_are_read, written_leaves_are_read,
 };
 pub use reading::{Leaf, LeafEntry, decode_chain, decode_leaf};
 pub use refusal::Refusal;

@@ -4,10 +4,10 @@ ghost use Rattle.std.specs.Prelude.{◌≡◌, ◌<◌, ◌≤◌, ◌^◌, ◌+
 ghost use Rattle.std.specs.Prelude.{OnOk, ◌⊎◌};
 ghost use Rattle.std.specs.List.{AllByRecursion};
 ghost use Rattle.ct_codec.specs.Bytes.{num, vec};
-ghost use Rattle.ct_codec.specs.Leaf.{IsCertificate, IsEntry, LeafText, entry_text, chain_bytes, AreCertificates, ChainText};
+ghost use Rattle.ct_codec.specs.Leaf.{Entry, IsCertificate, IsEntry, LeafText, entry_text, chain_bytes, AreCertificates, ChainText};
 ghost use Rattle.ct_codec.specs.Faults.{EntryFaulty, LeafFaulty, CertificatesFaulty, ChainFaulty};
 ghost use Rattle.ct_codec.specs.declared.fault.DecodeFault.TheVariants.{Memory};
-ghost use Rattle.ct_codec.specs.Decoded.{entry_in, entry_lent};
+ghost use Rattle.ct_codec.specs.Decoded.{entry_in, entry_lent, certificates_in, IsTextOf, GivesLeaf, GivesChain};
 
 use crate::fault::DecodeFault;
 use crate::reader::Reader;
@@ -142,7 +142,11 @@ fn copy_entry(alloc: Global, entry: LentEntry<'_>) -> Result<LeafEntry, AllocErr
 
 /// The leaf that the bytes are, all of them. The faults of the bytes are found before memory is taken.
 pub fn decode_leaf(alloc: Global, bytes: &[u8]) -> Result<Leaf, DecodeFault>
-    ensures found { IfOk result (λ l. LeafText l.timestamp (entry_in l.entry) l.extensions.items bytes.now) }
+    // What is read is what the bytes are the text of.
+    ensures found { IfOk result (λ l. IsTextOf l bytes.now) }
+    // A leaf's text is read, unless memory is refused.
+    ensures every { (t : ℕ) (e : Entry) (x : List ℕ) → LeafText t e x bytes.now → GivesLeaf t e x result }
+    // Which fault it is.
     ensures fault { IfErr result (λ f. LeafFaulty f bytes.now) }
 {
     let leaf = match leaf_at(bytes) {
@@ -178,7 +182,7 @@ fn check_certificates(bytes: &[u8]) -> Result<(), DecodeFault>
 
 // The certificates that the bytes are, one after the other, copied out of the input.
 fn copy_certificates(alloc: Global, bytes: &[u8]) -> Result<Vec<Vec<u8>>, DecodeFault>
-    ensures found { IfOk result (λ cs. AllByRecursion IsCertificate (map (λ c. c.items) cs.items) × (bytes.now ≡ chain_bytes (map (λ c. c.items) cs.items))) }
+    ensures found { IfOk result (λ cs. AllByRecursion IsCertificate (certificates_in cs) × (bytes.now ≡ chain_bytes (certificates_in cs))) }
     ensures fault { IfErr result (λ f. (f ≡ Memory) ⊎ CertificatesFaulty f bytes.now) }
 {
     let mut certificates = Vec::new(alloc);
@@ -217,7 +221,11 @@ fn last_chain<'a>(reader: &mut Reader<'a>) -> Result<&'a [u8], DecodeFault>
 
 /// The certificates of the chain that the bytes are, all of them. The faults of the bytes are found before memory is taken.
 pub fn decode_chain(alloc: Global, bytes: &[u8]) -> Result<Vec<Vec<u8>>, DecodeFault>
-    ensures found { IfOk result (λ cs. ChainText (map (λ c. c.items) cs.items) bytes.now) }
+    // What is read is what the bytes are the text of.
+    ensures found { IfOk result (λ cs. ChainText (certificates_in cs) bytes.now) }
+    // A chain's text is read, unless memory is refused.
+    ensures every { (cs : List (List ℕ)) → ChainText cs bytes.now → GivesChain cs result }
+    // Which fault it is.
     ensures fault { IfErr result (λ f. ChainFaulty f bytes.now) }
 {
     let mut reader = Reader::new(bytes);
