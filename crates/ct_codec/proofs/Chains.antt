@@ -28,19 +28,6 @@ one_more cs c b r s w one e =
       text = w.text ∙ ap (λ l. chain_bytes cs ++ l) e ∙ sym step;
     }
 
-pub certificate_shorter : (c r s : List ℕ) → r ≡ vec 3 c ++ s → length s < length r
-certificate_shorter c r s e =
-    let size = ap length e ∙ length-append (vec 3 c) s in
-    let front = length-vec 3 c in
-    omega (arith, size, front)
-
-pub all_walked : (cs : List (List ℕ)) (b r : List ℕ) → Walked cs b r → length r ≡ 0 → b ≡ chain_bytes cs
-all_walked cs b [] w e = w.text ∙ append-nil (chain_bytes cs)
-all_walked cs b (x ∷ r) w e = absurd (omega arith)
-
-pub certificate_missing : (f : DecodeFault) (cs : List (List ℕ)) (b r : List ℕ) → Walked cs b r → 0 < length r → VectorFaulty f r → CertificatesFaulty f b
-certificate_missing f cs b r w some fault = (cs, r, w.each, some, w.text, fault)
-
 -- within a chain only two faults come
 pub within_chain : (f : DecodeFault) (b y r : List ℕ) → length y < 2 ^ 24 → b ≡ vec 3 y ++ r → CertificatesFaulty f y → ChainFaulty f b
 within_chain Truncated b y r h e v = inr (y, r, h, e, v)
@@ -57,9 +44,6 @@ chain_text_of cs b y all h e f = record {
   fits = rw (← f) h;
   text = e ∙ ap (λ l. vec 3 l) f;
 }
-
-pub chain_trailing : (b y r : List ℕ) → length y < 2 ^ 24 → b ≡ vec 3 y ++ r → AreCertificates y → 0 < length r → ChainFaulty Trailing b
-chain_trailing b y r h e are more = (are.0, vec 3 y, r, chain_text_of are.0 (vec 3 y) y are.1 h refl are.2, more, e)
 
 pub chain_memory : (b y : List ℕ) → length y < 2 ^ 24 → b ≡ vec 3 y → AreCertificates y → ChainFaulty Memory b
 chain_memory b y h e are = (are.0, chain_text_of are.0 b y are.1 h e are.2)

@@ -4,5 +4,6 @@ pub mod Leaf
 pub mod View
 pub mod Faults
 pub mod Decoded
+pub mod Parts
 pub mod Laws
 pub mod Items

@@ -14,6 +14,7 @@ mod fault;
 mod item;
 mod laws;
 mod numbers;
+mod parts;
 mod reader;
 mod reading;
 mod refusal;
@@ -26,6 +27,7 @@ pub use laws::{
     chain_texts_have_no_fault, chains_have_one_fault, chains_stand_apart, leaf_texts_have_no_fault,
     leaves_have_one_fault, leaves_stand_apart, written_chains_are_read, written_leaves_are_read,
 };
+pub use parts::{LeafParts, leaf_parts};
 pub use reading::{Leaf, LeafEntry, decode_chain, decode_leaf};
 pub use refusal::Refusal;
 pub use submission::Submission;

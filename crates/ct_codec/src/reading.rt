@@ -102,19 +102,19 @@ fn leaf_at(bytes: &[u8]) -> Result<LentLeaf<'_>, DecodeFault>
     ensures found { IfOk result (λ l. LeafText l.timestamp (entry_lent l.entry) l.extensions.now bytes.now) }
     ensures fault { IfErr result (λ f. LeafFaulty f bytes.now) }
 {
-    let mut reader = Reader::new(bytes);
-    let timestamp = match timestamp_at(&mut reader) {
+    let mut input = Reader::new(bytes);
+    let timestamp = match timestamp_at(&mut input) {
         Ok(timestamp) => timestamp,
         Err(fault) => return Err(fault),
     };
-    let entry = match entry_at(&mut reader) {
+    let entry = match entry_at(&mut input) {
         Ok(entry) => entry,
         Err(fault) => return Err(fault),
     };
-    let Some(extensions) = reader.vector_2() else {
+    let Some(extensions) = input.vector_2() else {
         return Err(DecodeFault::Truncated);
     };
-    if !reader.is_at_end() {
+    if !input.is_at_end() {
         return Err(DecodeFault::Trailing);
     }
     Ok(LentLeaf {

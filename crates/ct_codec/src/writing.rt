@@ -36,9 +36,9 @@ pub fn identity(alloc: Global, submission: &Submission) -> Result<Vec<u8>, Refus
     ensures text { IfOk result (λ b. b.items ≡ identity_of submission.now) }
     ensures memory { IsOkUnless result Refusal.Memory }
 {
-    let mut bytes = Vec::new(alloc);
-    push_entry(&mut bytes, submission)?;
-    Ok(bytes)
+    let mut text = Vec::new(alloc);
+    push_entry(&mut text, submission)?;
+    Ok(text)
 }
 
 /// The bytes of the submission's leaf (MerkleTreeLeaf, RFC 6962 section 3.4) at this moment, in milliseconds, with no extensions.
