@@ -36,6 +36,10 @@ pub record LeafText (t : ℕ) (e : Entry) (x b : List ℕ) : Type 0 where
 abbrev pub chain_bytes : List (List ℕ) → List ℕ
 chain_bytes cs = flat_map (λ c. vec 3 c) cs
 
+-- the bytes are certificates one after the other
+abbrev pub AreCertificates : List ℕ → Type 0
+AreCertificates y = (cs : List (List ℕ)) × AllByRecursion IsCertificate cs × (y ≡ chain_bytes cs)
+
 -- the bytes of the chain of these certificates
 abbrev pub chain_text : List (List ℕ) → List ℕ
 chain_text cs = vec 3 (chain_bytes cs)

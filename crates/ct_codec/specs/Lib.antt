@@ -3,6 +3,7 @@ pub mod Submitted
 pub mod Leaf
 pub mod View
 pub mod Faults
-pub mod DecodedEntry
+pub mod Decoded
+pub mod Parts
 pub mod Laws
 pub mod Items

@@ -1,0 +1,34 @@
+-- What was written is read again.
+use Rattle.std.proofs.Common.{◌≡◌, ℕ, List, [], ◌∷◌, ◌++◌, Result, Ok, Err, Vec, Global, refl, sym, ap, ◌∙◌}
+use Rattle.ct_codec.specs.Leaf.{Entry, LeafText, ChainText}
+use Rattle.ct_codec.specs.Decoded.{IsTextOf, IsLeaf, AnswersLeaf, AnswersChain, GivesLeaf, GivesChain, certificates_in, entry_in}
+use Rattle.ct_codec.specs.Faults.{LeafFaulty, ChainFaulty}
+use Rattle.ct_codec.specs.Laws.{WrittenLeavesAreRead, WrittenChainsAreRead}
+use Rattle.ct_codec.specs.Submitted.{Submitted, x509, entry_of}
+use Rattle.ct_codec.specs.declared.fault.DecodeFault.{DecodeFault}
+use Rattle.ct_codec.specs.declared.reading.Leaf.{Leaf}
+use Rattle.ct_codec.proofs.Apart.{leaves_stand_apart, chains_stand_apart}
+use Rattle.ct_codec.proofs.Verdict.{leaf_texts_have_no_fault, chain_texts_have_no_fault}
+
+pub same_leaf : (l : Leaf) (t : ℕ) (e : Entry) (x b : List ℕ) → IsTextOf l b → LeafText t e x b → IsLeaf t e x l
+same_leaf l t e x b p q =
+    let same = leaves_stand_apart l.timestamp t (entry_in l.entry) e l.extensions.items x b b [] [] p q refl in
+    (same.0, same.1, same.2)
+
+pub same_chain : (v : Vec (Vec ℕ Global) Global) (cs : List (List ℕ)) (b : List ℕ) → ChainText (certificates_in v) b → ChainText cs b → certificates_in v ≡ cs
+same_chain v cs b p q = (chains_stand_apart (certificates_in v) cs b b [] [] p q refl).0
+
+leaf_again : (t : ℕ) (e : Entry) (x b : List ℕ) (r : Result Leaf DecodeFault) → LeafText t e x b → AnswersLeaf b r → GivesLeaf t e x r
+leaf_again t e x b (Ok l) q a = (same_leaf l t e x b a.0 q, tt)
+leaf_again t e x b (Err f) q a = (tt, leaf_texts_have_no_fault t e x b f q a.1)
+
+chain_again : (cs : List (List ℕ)) (b : List ℕ) (r : Result (Vec (Vec ℕ Global) Global) DecodeFault) → ChainText cs b → AnswersChain b r → GivesChain cs r
+chain_again cs b (Ok v) q a = (same_chain v cs b a.0 q, tt)
+chain_again cs b (Err f) q a = (tt, chain_texts_have_no_fault cs b f q a.1)
+
+pub written_leaves_are_read : WrittenLeavesAreRead
+written_leaves_are_read s t b r q a = leaf_again t (entry_of s) [] b r q a
+
+pub written_chains_are_read : WrittenChainsAreRead
+written_chains_are_read (x509 []) b r q a = chain_again [] b r q a
+written_chains_are_read (x509 (c ∷ cs)) b r q a = chain_again cs b r q a

@@ -1,0 +1,240 @@
+//! Leaves and chains read from bytes (RFC 6962 sections 3.4 and 4.6).
+
+ghost use Rattle.std.specs.Prelude.{◌≡◌, ◌<◌, ◌≤◌, ◌^◌, ◌++◌, [], ◌∷◌, ℕ, List, map, length, IfOk, IfErr};
+ghost use Rattle.std.specs.Prelude.{OnOk, ◌⊎◌};
+ghost use Rattle.std.specs.List.{AllByRecursion};
+ghost use Rattle.ct_codec.specs.Bytes.{num, vec};
+ghost use Rattle.ct_codec.specs.Leaf.{Entry, IsCertificate, IsEntry, LeafText, entry_text, chain_bytes, AreCertificates, ChainText};
+ghost use Rattle.ct_codec.specs.Faults.{EntryFaulty, LeafFaulty, CertificatesFaulty, ChainFaulty};
+ghost use Rattle.ct_codec.specs.declared.fault.DecodeFault.TheVariants.{Memory};
+ghost use Rattle.ct_codec.specs.Decoded.{entry_in, entry_lent, certificates_in, IsTextOf, GivesLeaf, GivesChain};
+
+use crate::fault::DecodeFault;
+use crate::reader::Reader;
+use std::alloc::{AllocError, Global};
+
+/// What a leaf is about (RFC 6962 sections 3.1 and 3.2).
+#[derive(Debug, Drop)]
+pub enum LeafEntry {
+    /// A certificate.
+    X509(Vec<u8>),
+    /// The hash of the issuer's key, and a TBSCertificate.
+    Precert([u8; 32], Vec<u8>),
+}
+
+/// A leaf as it was read (RFC 6962 section 3.4).
+#[derive(Debug, Drop)]
+pub struct Leaf {
+    /// The moment, in milliseconds.
+    pub timestamp: u64,
+    /// What the leaf is about.
+    pub entry: LeafEntry,
+    /// The extensions, 0 to 65,535 bytes.
+    pub extensions: Vec<u8>,
+}
+
+// An entry that stands in the input.
+#[derive(Clone, Copy)]
+enum LentEntry<'a> {
+    X509(&'a [u8]),
+    Precert([u8; 32], &'a [u8]),
+}
+
+// A leaf that stands in the input.
+#[derive(Clone, Copy)]
+struct LentLeaf<'a> {
+    timestamp: u64,
+    entry: LentEntry<'a>,
+    extensions: &'a [u8],
+}
+
+// The version, the leaf type and the timestamp.
+fn timestamp_at(reader: &mut Reader<'_>) -> Result<u64, DecodeFault>
+    ensures found { IfOk result (λ t. (t < 2 ^ 64) × (reader.old ≡ 0 ∷ 0 ∷ (num 8 t ++ reader.new))) }
+    ensures fault { IfErr result (λ f. LeafFaulty f reader.old) }
+{
+    let Some(version) = reader.number_1() else {
+        return Err(DecodeFault::Truncated);
+    };
+    if version != 0 {
+        return Err(DecodeFault::BadVersion);
+    }
+    let Some(leaf_type) = reader.number_1() else {
+        return Err(DecodeFault::Truncated);
+    };
+    if leaf_type != 0 {
+        return Err(DecodeFault::BadLeafType);
+    }
+    let Some(timestamp) = reader.number_8() else {
+        return Err(DecodeFault::Truncated);
+    };
+    Ok(timestamp)
+}
+
+// The entry type and the signed entry.
+fn entry_at<'a>(reader: &mut Reader<'a>) -> Result<LentEntry<'a>, DecodeFault>
+    ensures found { IfOk result (λ e. IsEntry (entry_lent e) × (reader.old ≡ entry_text (entry_lent e) ++ reader.new)) }
+    ensures fault { IfErr result (λ f. EntryFaulty f reader.old) }
+{
+    let Some(entry_type) = reader.number_2() else {
+        return Err(DecodeFault::Truncated);
+    };
+    match entry_type {
+        0 => match reader.certificate() {
+            Ok(certificate) => Ok(LentEntry::X509(certificate)),
+            Err(fault) => Err(fault),
+        },
+        1 => {
+            let Some(key_hash) = reader.key_hash() else {
+                return Err(DecodeFault::Truncated);
+            };
+            match reader.certificate() {
+                Ok(certificate) => Ok(LentEntry::Precert(*key_hash, certificate)),
+                Err(fault) => Err(fault),
+            }
+        }
+        _ => Err(DecodeFault::BadEntryType),
+    }
+}
+
+// The leaf that the bytes are, where they stand. It takes no memory.
+fn leaf_at(bytes: &[u8]) -> Result<LentLeaf<'_>, DecodeFault>
+    ensures found { IfOk result (λ l. LeafText l.timestamp (entry_lent l.entry) l.extensions.now bytes.now) }
+    ensures fault { IfErr result (λ f. LeafFaulty f bytes.now) }
+{
+    let mut input = Reader::new(bytes);
+    let timestamp = match timestamp_at(&mut input) {
+        Ok(timestamp) => timestamp,
+        Err(fault) => return Err(fault),
+    };
+    let entry = match entry_at(&mut input) {
+        Ok(entry) => entry,
+        Err(fault) => return Err(fault),
+    };
+    let Some(extensions) = input.vector_2() else {
+        return Err(DecodeFault::Truncated);
+    };
+    if !input.is_at_end() {
+        return Err(DecodeFault::Trailing);
+    }
+    Ok(LentLeaf {
+        timestamp,
+        entry,
+        extensions,
+    })
+}
+
+// The entry, copied out of the input.
+fn copy_entry(alloc: Global, entry: LentEntry<'_>) -> Result<LeafEntry, AllocError>
+    ensures { IfOk result (λ e. entry_in e ≡ entry_lent entry.entry) }
+{
+    match entry {
+        LentEntry::X509(certificate) => {
+            let certificate = Vec::from_slice(alloc, certificate)?;
+            Ok(LeafEntry::X509(certificate))
+        }
+        LentEntry::Precert(key_hash, certificate) => {
+            let certificate = Vec::from_slice(alloc, certificate)?;
+            Ok(LeafEntry::Precert(key_hash, certificate))
+        }
+    }
+}
+
+/// The leaf that the bytes are, all of them. The faults of the bytes are found before memory is taken.
+pub fn decode_leaf(alloc: Global, bytes: &[u8]) -> Result<Leaf, DecodeFault>
+    // What is read is what the bytes are the text of.
+    ensures found { IfOk result (λ l. IsTextOf l bytes.now) }
+    // A leaf's text is read, unless memory is refused.
+    ensures every { (t : ℕ) (e : Entry) (x : List ℕ) → LeafText t e x bytes.now → GivesLeaf t e x result }
+    // Which fault it is.
+    ensures fault { IfErr result (λ f. LeafFaulty f bytes.now) }
+{
+    let leaf = match leaf_at(bytes) {
+        Ok(leaf) => leaf,
+        Err(fault) => return Err(fault),
+    };
+    let Ok(entry) = copy_entry(alloc, leaf.entry) else {
+        return Err(DecodeFault::Memory);
+    };
+    let Ok(extensions) = Vec::from_slice(alloc, leaf.extensions) else {
+        return Err(DecodeFault::Memory);
+    };
+    Ok(Leaf {
+        timestamp: leaf.timestamp,
+        entry,
+        extensions,
+    })
+}
+
+// Walks over the certificates that the bytes are, one after the other. It takes no memory.
+fn check_certificates(bytes: &[u8]) -> Result<(), DecodeFault>
+    ensures found { OnOk result (AreCertificates bytes.now) }
+    ensures fault { IfErr result (λ f. CertificatesFaulty f bytes.now) }
+{
+    let mut reader = Reader::new(bytes);
+    'certificates: while !reader.is_at_end() {
+        if let Err(fault) = reader.certificate() {
+            return Err(fault);
+        }
+    }
+    Ok(())
+}
+
+// The certificates that the bytes are, one after the other, copied out of the input.
+fn copy_certificates(alloc: Global, bytes: &[u8]) -> Result<Vec<Vec<u8>>, DecodeFault>
+    ensures found { IfOk result (λ cs. AllByRecursion IsCertificate (certificates_in cs) × (bytes.now ≡ chain_bytes (certificates_in cs))) }
+    ensures fault { IfErr result (λ f. (f ≡ Memory) ⊎ CertificatesFaulty f bytes.now) }
+{
+    let mut certificates = Vec::new(alloc);
+    let mut reader = Reader::new(bytes);
+    'certificates: while !reader.is_at_end() {
+        let certificate = match reader.certificate() {
+            Ok(certificate) => certificate,
+            Err(fault) => return Err(fault),
+        };
+        let Ok(copy) = Vec::from_slice(alloc, certificate) else {
+            return Err(DecodeFault::Memory);
+        };
+        let Ok(()) = certificates.push(copy) else {
+            return Err(DecodeFault::Memory);
+        };
+    }
+    Ok(certificates)
+}
+
+// The certificates' bytes of the chain with which the input ends. It takes no memory.
+fn last_chain<'a>(reader: &mut Reader<'a>) -> Result<&'a [u8], DecodeFault>
+    ensures found { IfOk result (λ y. (length y.now < 2 ^ 24) × (reader.old ≡ vec 3 y.now) × AreCertificates y.now) }
+    ensures fault { IfErr result (λ f. ChainFaulty f reader.old) }
+{
+    let Some(certificates) = reader.vector_3() else {
+        return Err(DecodeFault::Truncated);
+    };
+    if let Err(fault) = check_certificates(certificates) {
+        return Err(fault);
+    }
+    if !reader.is_at_end() {
+        return Err(DecodeFault::Trailing);
+    }
+    Ok(certificates)
+}
+
+/// The certificates of the chain that the bytes are, all of them. The faults of the bytes are found before memory is taken.
+pub fn decode_chain(alloc: Global, bytes: &[u8]) -> Result<Vec<Vec<u8>>, DecodeFault>
+    // What is read is what the bytes are the text of.
+    ensures found { IfOk result (λ cs. ChainText (certificates_in cs) bytes.now) }
+    // A chain's text is read, unless memory is refused.
+    ensures every { (cs : List (List ℕ)) → ChainText cs bytes.now → GivesChain cs result }
+    // Which fault it is.
+    ensures fault { IfErr result (λ f. ChainFaulty f bytes.now) }
+{
+    let mut reader = Reader::new(bytes);
+    let certificates = match last_chain(&mut reader) {
+        Ok(certificates) => certificates,
+        Err(fault) => return Err(fault),
+    };
+    match copy_certificates(alloc, certificates) {
+        Ok(copies) => Ok(copies),
+        Err(fault) => Err(fault),
+    }
+}

@@ -1,0 +1,94 @@
+//! The bytes of identities, leaves and chains (RFC 6962 sections 3.1, 3.4 and 4.6).
+
+ghost use Rattle.std.specs.Prelude.{◌≡◌, ◌<◌, ◌^◌, ◌++◌, [], List, map, length, IfOk, OnOk, IsOkUnless};
+ghost use Rattle.ct_codec.specs.Bytes.{vec};
+ghost use Rattle.ct_codec.specs.Leaf.{chain_bytes, LeafText, IsEntry};
+ghost use Rattle.ct_codec.specs.Submitted.{entry_of, identity_of, ExtraData};
+
+use crate::numbers::{number_bytes_2, number_bytes_3, number_bytes_8};
+use crate::refusal::Refusal;
+use crate::submission::Submission;
+use std::alloc::Global;
+
+// Writes a certificate or TBSCertificate: its length in three bytes, and its bytes.
+fn push_vector(out: &mut Vec<u8>, bytes: &[u8]) -> Result<(), Refusal>
+    requires { length bytes.now < 2 ^ 24 }
+    ensures written { OnOk result (out.new.items ≡ out.old.items ++ vec 3 bytes.now) }
+    ensures memory { IsOkUnless result Refusal.Memory }
+{
+    out.extend_from_slice(&number_bytes_3(bytes.len() as u32))?;
+    out.extend_from_slice(bytes)?;
+    Ok(())
+}
+
+// Writes the entry type and the signed entry.
+fn push_entry(out: &mut Vec<u8>, submission: &Submission) -> Result<(), Refusal>
+    ensures written { OnOk result (out.new.items ≡ out.old.items ++ identity_of submission.now) }
+    ensures in_range { OnOk result (IsEntry (entry_of submission.now)) }
+    ensures memory { IsOkUnless result Refusal.Memory }
+{
+    out.extend_from_slice(&number_bytes_2(0))?;
+    push_vector(out, &submission.certificates()[0])
+}
+
+/// The submission's identity: the entry type and the signed entry, without timestamp and chain.
+pub fn identity(alloc: Global, submission: &Submission) -> Result<Vec<u8>, Refusal>
+    ensures text { IfOk result (λ b. b.items ≡ identity_of submission.now) }
+    ensures memory { IsOkUnless result Refusal.Memory }
+{
+    let mut text = Vec::new(alloc);
+    push_entry(&mut text, submission)?;
+    Ok(text)
+}
+
+/// The bytes of the submission's leaf (MerkleTreeLeaf, RFC 6962 section 3.4) at this moment, in milliseconds, with no extensions.
+pub fn leaf_input(
+    alloc: Global,
+    submission: &Submission,
+    timestamp: u64,
+) -> Result<Vec<u8>, Refusal>
+    ensures text { IfOk result (λ b. LeafText timestamp (entry_of submission.now) [] b.items) }
+    ensures memory { IsOkUnless result Refusal.Memory }
+{
+    let mut bytes = Vec::new(alloc);
+    bytes.extend_from_slice(&[0, 0])?;
+    bytes.extend_from_slice(&number_bytes_8(timestamp))?;
+    push_entry(&mut bytes, submission)?;
+    bytes.extend_from_slice(&number_bytes_2(0))?;
+    Ok(bytes)
+}
+
+// The number of bytes of the certificates one after the other, each as a vector.
+fn chain_size(certificates: &[Vec<u8>]) -> u32
+    requires { length (chain_bytes (map (λ c. c.items) certificates.now)) < 2 ^ 24 }
+    ensures { result ≡ length (chain_bytes (map (λ c. c.items) certificates.now)) }
+{
+    let mut size = 0;
+    for certificate in certificates {
+        size += 3 + certificate.len() as u32;
+    }
+    size
+}
+
+// Writes certificates as a chain.
+fn push_chain(out: &mut Vec<u8>, certificates: &[Vec<u8>]) -> Result<(), Refusal>
+    requires { length (chain_bytes (map (λ c. c.items) certificates.now)) < 2 ^ 24 }
+    ensures written { OnOk result (out.new.items ≡ out.old.items ++ vec 3 (chain_bytes (map (λ c. c.items) certificates.now))) }
+    ensures memory { IsOkUnless result Refusal.Memory }
+{
+    out.extend_from_slice(&number_bytes_3(chain_size(certificates)))?;
+    for certificate in certificates {
+        push_vector(out, certificate)?;
+    }
+    Ok(())
+}
+
+/// The bytes that go with the submission's leaf (RFC 6962 section 4.6): the certificates behind the first, as a chain.
+pub fn extra_data(alloc: Global, submission: &Submission) -> Result<Vec<u8>, Refusal>
+    ensures text { IfOk result (λ b. ExtraData submission.now b.items) }
+    ensures memory { IsOkUnless result Refusal.Memory }
+{
+    let mut bytes = Vec::new(alloc);
+    push_chain(&mut bytes, &submission.certificates()[1..])?;
+    Ok(bytes)
+}
