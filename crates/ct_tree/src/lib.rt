@@ -4,8 +4,10 @@
 mod batch;
 mod hash;
 mod head;
+pub mod laws;
 mod nodes;
-mod plain;
+
+pub mod reference;
 mod stack;
 #[cfg(test)]
 mod tests;
@@ -13,10 +15,10 @@ mod tests;
 use std::alloc::AllocError;
 
 pub use batch::{hash_batch, hash_batch_parts};
-pub use hash::{NodeHash, Sha256Hash, empty_root, leaf_hash, leaf_hash_parts, node_hash};
+pub use hash::{NodeHash, Sha256Hash, leaf_hash, leaf_hash_parts, node_hash};
 pub use head::Head;
 pub use nodes::Nodes;
-pub use plain::root_of;
+
 pub use stack::Stack;
 
 /// A growth was refused.
