@@ -9,9 +9,10 @@ use Rattle.ct_tree.proofs.Path.{path-small, path-left, path-right, length-path_a
 use Rattle.ct_tree.proofs.Subproof.{subproof-whole, subproof-left, subproof-right, length-subproof_at}
 
 pub split_is_largest_power_below : SplitIsLargestPowerBelow
-split_is_largest_power_below n k h =
-    ((λ e. let s : IsSplit n k = subst (IsSplit n) (sym e) (split_is n h) in ((s.power.exponent, s.power.is), s.below, s.half)),
-    (λ s. split_unique n k (split n) (record { power = record { exponent = s.0.0; is = s.0.1 }; below = s.1; half = s.2 }) (split_is n h)))
+split_is_largest_power_below n k h = (
+  (λ e. let s : IsSplit n k = subst (IsSplit n) (sym e) (split_is n h) in ((s.power.exponent, s.power.is), s.below, s.half)),
+  (λ s. split_unique n k (split n) (record { power = record { exponent = s.0.0; is = s.0.1 }; below = s.1; half = s.2 }) (split_is n h)),
+)
 
 pub mth_of_none : MthOfNone
 mth_of_none H = mth-nil H
