@@ -1,8 +1,7 @@
 -- The rule of the gate word at the opening, and while the fronts' seats are dealt out.
-use Rattle.std.proofs.Common.{◌≡◌, ℕ, zero, suc, ◌+◌, ◌-◌, ◌<◌, ◌≤◌, nat_lt, if◌then◌else◌, List, [], ◌∷◌, ◌++◌, map, length, set, flat_map, All, true, false, true≢false, Some, None, refl, sym, ap, ◌∙◌, subst, subst₂, get_or, inl, ⊎_elim, arith, length-append}
-use Rattle.std.proofs.lemmas.List.{get_or_append_left}
-use Rattle.std.proofs.Math.Seq.{get_or-append_seam}
-use Rattle.std.proofs.Common.{below_more as each_below_more}
+use Rattle.std.proofs.Common.{◌≡◌, ℕ, zero, suc, ◌+◌, ◌-◌, ◌<◌, ◌≤◌, nat_lt, if◌then◌else◌, List, [], ◌∷◌, ◌++◌, map, length, set, flat_map, All, true, false, true≢false, Some, None, refl, sym, ap, ◌∙◌, subst, subst₂, get_or, ◌⊎◌, inl, inr, ⊎_elim, arith, length-append}
+use Rattle.std.specs.Prelude.{Option, slice_get}
+use Rattle.std.proofs.lemmas.Option.{same_Some}
 use Rattle.std.proofs.lemmas.Bool.Decides.{nat_tests}
 use Rattle.atomic_table.specs.Seated.{TableId}
 use mathlib.Core.Option.{some, some-ne-none, some-injective}
@@ -126,16 +125,38 @@ first_given k n m lt is = ap (λ (m : Me (Unit {0}) SeatView). (first_of m.0, []
 pub no_front_left : (n : ℕ) (m : Me (Unit {0}) SeatView) → m ≡ (stands_for (new_fronts n (n - n)) true, []) → m ≡ (shutter_view None, [])
 no_front_left n m is = let e : n - n ≡ 0 = omega arith in is ∙ ap (λ (j : ℕ). (stands_for (new_fronts n j) true, [])) e
 
+-- an element of a list with one more at its end
+pub get_snoc : {X : Type 0} (xs : List X) (x y : X) (k : ℕ) → slice_get (xs ++ x ∷ []) k ≡ Some y → ((k < length xs) × (slice_get xs k ≡ Some y)) ⊎ ((k ≡ length xs) × (x ≡ y))
+get_snoc [] x y zero e = inr (refl, same_Some x y e)
+get_snoc {X} [] x y (suc k) e = let never : ◌≡◌ {A = Option X} None (Some y) = e in absurd (cc)
+get_snoc (z ∷ zs) x y zero e = inl (omega arith, e)
+get_snoc {X} (z ∷ zs) x y (suc k) e =
+    ⊎_elim
+    (λ (a : (k < length zs) × (slice_get zs k ≡ Some y)). inl (omega (arith, a.0), a.1))
+    (λ (b : (k ≡ length zs) × (x ≡ y)). inr (ap suc b.0, b.1))
+    (get_snoc zs x y k e)
+
 -- one front more
 pub one_more_front : (gate : TableId) (places n : ℕ) (intakes : List IntakeView) (outlets : List OutletView) (i : IntakeView) (o : OutletView)
     → AreNewFronts gate places n intakes outlets → IsNewFront gate places n i o → AreNewFronts gate places (n + 1) (intakes ++ i ∷ []) (outlets ++ o ∷ [])
-one_more_front gate places n intakes outlets i o all new = (
-  omega (arith, length-append intakes (i ∷ []), all.0),
-  omega (arith, length-append outlets (o ∷ []), all.1),
-  (λ k d e lt. each_below_more
-      (λ k. (d : IntakeView) (e : OutletView) → IsNewFront gate places k (get_or (intakes ++ i ∷ []) k d) (get_or (outlets ++ o ∷ []) k e))
-      n
-      (λ k lt d e. subst₂ (IsNewFront gate places k) (sym (get_or_append_left intakes (i ∷ []) d k (omega (arith, all.0)))) (sym (get_or_append_left outlets (o ∷ []) e k (omega (arith, all.1)))) (all.2 k d e lt))
-      (λ d e. subst₂ (IsNewFront gate places n) (sym (ap (λ (k : ℕ). get_or (intakes ++ i ∷ []) k d) (sym all.0) ∙ get_or-append_seam intakes i [] d)) (sym (ap (λ (k : ℕ). get_or (outlets ++ o ∷ []) k e) (sym all.1) ∙ get_or-append_seam outlets o [] e)) new)
-      k lt d e),
-)
+one_more_front gate places n intakes outlets i o all new = record {
+  intake_count = omega (arith, length-append intakes (i ∷ []), all.intake_count);
+  outlet_count = omega (arith, length-append outlets (o ∷ []), all.outlet_count);
+  each = λ k x y at there.
+      ⊎_elim
+      (λ (a : (k < length intakes) × (slice_get intakes k ≡ Some x)).
+          ⊎_elim
+          (λ (b : (k < length outlets) × (slice_get outlets k ≡ Some y)). all.each k x y a.1 b.1)
+          (λ (b : (k ≡ length outlets) × (o ≡ y)). absurd (omega (arith, a.0, b.0, all.intake_count, all.outlet_count)))
+          (get_snoc outlets o y k there))
+      (λ (a : (k ≡ length intakes) × (i ≡ x)).
+          ⊎_elim
+          (λ (b : (k < length outlets) × (slice_get outlets k ≡ Some y)). absurd (omega (arith, a.0, b.0, all.intake_count, all.outlet_count)))
+          (λ (b : (k ≡ length outlets) × (o ≡ y)). last k x y (a.0 ∙ all.intake_count) a.1 b.1)
+          (get_snoc outlets o y k there))
+      (get_snoc intakes i x k at);
+}
+  where
+    last : (k : ℕ) (x : IntakeView) (y : OutletView) → k ≡ n → i ≡ x → o ≡ y → IsNewFront gate places k x y
+    last k x y number intake outlet =
+        subst (λ (k : ℕ). IsNewFront gate places k x y) (sym number) (subst₂ (IsNewFront gate places n) intake outlet new)

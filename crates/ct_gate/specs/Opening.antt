@@ -1,5 +1,5 @@
 -- A new gate. One seat stands for all fronts at first, and each front in turn is split off into a seat of its own.
-use Rattle.std.specs.Prelude.{◌≡◌, ℕ, zero, suc, ◌+◌, ◌<◌, Bool, true, false, List, [], ◌∷◌, length, slice_index_or, None}
+use Rattle.std.specs.Prelude.{◌≡◌, ℕ, zero, suc, ◌+◌, Bool, true, false, List, [], ◌∷◌, length, slice_get, None, Some}
 use Rattle.atomic_table.specs.Seated.{TableId}
 use Rattle.ct_gate.specs.declared.view.FrontTickets.{FrontTickets}
 use Rattle.ct_gate.specs.declared.view.SeatView.{SeatView}
@@ -34,14 +34,18 @@ rest_of v = record { fronts = without_first v.fronts; knows_shutdown = v.knows_s
 abbrev pub first_of : SeatView → SeatView
 first_of v = record { fronts = first_alone v.fronts; knows_shutdown = v.knows_shutdown; refused = 0; is_shutter = false; accepted = None }
 
--- the ends of the k-th front of a new gate, of a ring with so many places
-abbrev pub IsNewFront : TableId → ℕ → ℕ → IntakeView → OutletView → Type 0
-IsNewFront gate places k i o =
-    (i.gate ≡ gate) × (i.number ≡ k) × (i.places ≡ places) × (i.accepted ≡ []) × (i.knows_shutdown ≡ false)
-    × AreEnds i o × (o.received ≡ [])
+-- The ends of the k-th front of a new gate, of one ring with so many places, through which nothing has gone.
+pub record IsNewFront (of_gate : TableId) (with_places k : ℕ) (i : IntakeView) (o : OutletView) : Type 0 where
+  pub gate : i.gate ≡ of_gate
+  pub number : i.number ≡ k
+  pub places : i.places ≡ with_places
+  pub accepted : i.accepted ≡ []
+  pub knows_shutdown : i.knows_shutdown ≡ false
+  pub ends : AreEnds i o
+  pub received : o.received ≡ []
 
--- a new gate's intakes and outlets, in order
-abbrev pub AreNewFronts : TableId → ℕ → ℕ → List IntakeView → List OutletView → Type 0
-AreNewFronts gate places fronts intakes outlets =
-    (length intakes ≡ fronts) × (length outlets ≡ fronts)
-    × ((k : ℕ) (i : IntakeView) (o : OutletView) → k < fronts → IsNewFront gate places k (slice_index_or intakes k i) (slice_index_or outlets k o))
+-- the intakes and the outlets of a new gate, in the fronts' order
+pub record AreNewFronts (gate : TableId) (places fronts : ℕ) (intakes : List IntakeView) (outlets : List OutletView) : Type 0 where
+  pub intake_count : length intakes ≡ fronts
+  pub outlet_count : length outlets ≡ fronts
+  pub each : (k : ℕ) (i : IntakeView) (o : OutletView) → slice_get intakes k ≡ Some i → slice_get outlets k ≡ Some o → IsNewFront gate places k i o

@@ -14,3 +14,6 @@ pub use intake::Intake;
 pub use open::open_gate;
 pub use outlet::Outlet;
 pub use shutter::Shutter;
+
+#[cfg(test)]
+mod tests;
