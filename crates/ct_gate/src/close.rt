@@ -38,8 +38,11 @@ pub fn close_gate<R: Wait>(rt: &R, shutter: Shutter, intakes: Vec<Intake>) -> u6
 
 // The seat takes in the intake's front, and the ring's end is given up.
 fn give_up(table: &Arc<Gate>, seat: &mut Place, intake: Intake)
-    requires { (seat.old.table_id ≡ (arc_value table.now).shared.table_id) × (intake.gate ≡ seat.old.table_id) × (seat.old.table_id.words ≡ 1) }
-    ensures same { (seat.new.table_id ≡ seat.old.table_id) × (seat.new.me.1 ≡ seat.old.me.1) × (seat.new.me.0.is_shutter ≡ seat.old.me.0.is_shutter) × (seat.new.me.0.accepted ≡ seat.old.me.0.accepted) }
+    requires { (seat.old.table_id ≡ (arc_value table.now).shared.table_id)
+        × (intake.gate ≡ seat.old.table_id) × (seat.old.table_id.words ≡ 1) }
+    ensures same { (seat.new.table_id ≡ seat.old.table_id) × (seat.new.me.1 ≡ seat.old.me.1)
+        × (seat.new.me.0.is_shutter ≡ seat.old.me.0.is_shutter)
+        × (seat.new.me.0.accepted ≡ seat.old.me.0.accepted) }
     ensures fronts { seat.new.me.0.fronts ≡ seat.old.me.0.fronts ++ front_tickets intake ∷ [] }
 {
     let Intake {

@@ -38,7 +38,14 @@ impl Model for Intake {
 
     ghost Value = { IntakeView };
 
-    ghost view = { λ i. record { gate = i.seat.table_id; number = i.number; ring = producer_ring i.producer; places = producer_capacity i.producer; accepted = sent i.producer; knows_shutdown = i.knows_shutdown } };
+    ghost view = { λ i. record {
+        gate = i.seat.table_id;
+        number = i.number;
+        ring = producer_ring i.producer;
+        places = producer_capacity i.producer;
+        accepted = sent i.producer;
+        knows_shutdown = i.knows_shutdown;
+    } };
 
     // The seat is of the table. Its view has the front's number and, in order, the tickets of the items that were
     // pushed. As many were pushed as the ring has places, or a free place is known.
@@ -61,7 +68,8 @@ impl Intake {
     // One glance at the word, unless the shutdown is known.
     fn is_shut(&mut self) -> bool
         ensures same { SameIntake self.old self.new × (self.new.accepted ≡ self.old.accepted) }
-        ensures knows_shutdown { (result ≡ self.new.knows_shutdown) × (self.old.knows_shutdown ≡ true → self.new.knows_shutdown ≡ true) }
+        ensures knows_shutdown { (result ≡ self.new.knows_shutdown)
+            × (self.old.knows_shutdown ≡ true → self.new.knows_shutdown ≡ true) }
     {
         if !self.knows_shutdown {
             let found = self.table.shared.load::<Glance>(&mut self.seat, 0);
@@ -70,7 +78,8 @@ impl Intake {
         self.knows_shutdown
     }
 
-    /// Accepts a submission and answers its ticket, or hands it back with the reason. It takes no memory and waits for nobody.
+    /// Accepts a submission and answers its ticket, or hands it back with the reason. It takes no memory and waits
+    /// for nobody.
     ///
     /// The refusals, in order: `Shutdown` where a glance at the gate word, or an earlier refused draw, showed the
     /// shutdown; `FrontSpent` where 2^32 submissions of this front were accepted; `Full` where no free place of the
@@ -80,7 +89,8 @@ impl Intake {
         ensures shutdown { self.old.knows_shutdown ≡ true → self.new.knows_shutdown ≡ true }
         ensures answer { MatchResult result
             (λ ticket. Accepts self.old submission ticket self.new)
-            (λ r. (r.1 ≡ submission) × (self.new.accepted ≡ self.old.accepted) × Refuses self.old r.0 self.new) }
+            (λ r. (r.1 ≡ submission) × (self.new.accepted ≡ self.old.accepted)
+                × Refuses self.old r.0 self.new) }
     {
         if self.is_shut() {
             return Err((Refusal::Shutdown, submission));

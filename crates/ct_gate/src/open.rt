@@ -55,9 +55,12 @@ fn new_front(
     fronts: u16,
     ring: usize,
 ) -> Result<(Intake, Outlet), Refusal>
-    requires table { (seat.old.table_id ≡ (arc_value table.now).shared.table_id) × (seat.old.table_id.words ≡ 1) }
-    requires seat { (number < fronts) × (seat.old.me ≡ (stands_for (new_fronts number (fronts - number)) true, [])) }
-    ensures seat { (seat.new.table_id ≡ seat.old.table_id) × (seat.new.me ≡ (stands_for (new_fronts (number + 1) (fronts - (number + 1))) true, [])) }
+    requires table { (seat.old.table_id ≡ (arc_value table.now).shared.table_id)
+        × (seat.old.table_id.words ≡ 1) }
+    requires seat { (number < fronts)
+        × (seat.old.me ≡ (stands_for (new_fronts number (fronts - number)) true, [])) }
+    ensures seat { (seat.new.table_id ≡ seat.old.table_id)
+        × (seat.new.me ≡ (stands_for (new_fronts (number + 1) (fronts - (number + 1))) true, [])) }
     ensures front { IfOk result (λ f. IsNewFront seat.old.table_id ring number f.0 f.1) }
     ensures refused { IfErr result (λ r. r ≡ Memory) }
 {

@@ -1,6 +1,6 @@
 //! The end of a front's ring that takes items out.
 
-ghost use Rattle.std.specs.Prelude.{◌≡◌, ◌++◌, ◌∷◌, [], ◌↔◌, IsTrue, MatchOption, IfSome};
+ghost use Rattle.std.specs.Prelude.{◌≡◌, ◌++◌, ◌∷◌, [], ◌↔◌, IsTrue, MatchOption, IfSome, IfNone};
 ghost use mathlib.Core.List.{IsPrefix};
 ghost use Rattle.ct_gate.specs.Ends.{SameOutlet, AreEnds, made_item};
 
@@ -25,7 +25,11 @@ impl Model for Outlet {
 
     ghost Value = { OutletView };
 
-    ghost view = { λ o. record { number = o.number; ring = consumer_ring o.consumer; received = numbered o.number (taken o.consumer) } };
+    ghost view = { λ o. record {
+        number = o.number;
+        ring = consumer_ring o.consumer;
+        received = numbered o.number (taken o.consumer);
+    } };
 }
 
 impl Outlet {
@@ -34,7 +38,9 @@ impl Outlet {
     /// `None` says nothing of what the front has sent: an item may come into sight later.
     pub fn take(&mut self) -> Option<Item>
         ensures same { SameOutlet self.old self.new }
-        ensures next { MatchOption result (self.new.received ≡ self.old.received) (λ i. self.new.received ≡ self.old.received ++ i ∷ []) }
+        ensures next { MatchOption result
+            (self.new.received ≡ self.old.received)
+            (λ i. self.new.received ≡ self.old.received ++ i ∷ []) }
         ensures numbered { IfSome result (λ i. i.front ≡ self.old.number) }
     {
         match self.consumer.pop() {
@@ -48,7 +54,10 @@ impl Outlet {
     pub fn drain_step(&mut self, intake: &mut Intake) -> Option<Item>
         requires { AreEnds intake.old self.old }
         ensures same { SameOutlet self.old self.new × (intake.new ≡ intake.old) }
-        ensures next { MatchOption result ((self.new.received ≡ self.old.received) × (self.new.received ≡ intake.old.accepted)) (λ i. self.new.received ≡ self.old.received ++ i ∷ []) }
+        ensures next { MatchOption result
+            (self.new.received ≡ self.old.received)
+            (λ i. self.new.received ≡ self.old.received ++ i ∷ []) }
+        ensures drained { IfNone result (self.new.received ≡ intake.old.accepted) }
         ensures begins { IsPrefix self.new.received intake.old.accepted }
         ensures numbered { IfSome result (λ i. i.front ≡ self.old.number) }
     {

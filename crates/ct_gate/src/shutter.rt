@@ -11,7 +11,8 @@ use std::sync::Arc;
 
 /// Shuts the gate, once. It can move to a thread of its own.
 ///
-/// Contracts see its gate, the number of fronts that this has, and how many submissions were accepted, once it was shut.
+/// Contracts see its gate, the number of fronts that this has, and how many submissions were accepted, once it was
+/// shut.
 #[derive(Drop)]
 pub struct Shutter {
     pub(crate) table: Arc<Gate>,
@@ -27,18 +28,28 @@ impl Model for Shutter {
 
     ghost Value = { ShutterView };
 
-    ghost view = { λ s. record { gate = s.seat.table_id; fronts = (arc_value s.table).shared.key; accepted = s.accepted } };
+    ghost view = { λ s. record {
+        gate = s.seat.table_id;
+        fronts = (arc_value s.table).shared.key;
+        accepted = s.accepted;
+    } };
 
-    ghost invariant = { λ s. (s.seat.table_id ≡ (arc_value s.table).shared.table_id) × (s.seat.table_id.words ≡ 1) × (s.seat.table_id.slots ≡ 0) × (s.seat.me ≡ (shutter_view s.accepted, [])) };
+    // The seat is of the table, which has the one word and no slot. Its view is the shutter's.
+    ghost invariant = { λ s.
+        (s.seat.table_id ≡ (arc_value s.table).shared.table_id) × (s.seat.table_id.words ≡ 1)
+        × (s.seat.table_id.slots ≡ 0) × (s.seat.me ≡ (shutter_view s.accepted, [])) };
 }
 
 impl Shutter {
-    /// Shuts the gate, and answers how many submissions were accepted in all. It takes no memory and waits for nobody.
+    /// Shuts the gate, and answers how many submissions were accepted in all. It takes no memory and waits for
+    /// nobody.
     ///
     /// The second time and from then on: `Shutdown`.
     pub fn shut(&mut self) -> Result<u64, Refusal>
         ensures same { SameShutter self.old self.new }
-        ensures answer { MatchResult result (λ n. (self.old.accepted ≡ None) × (self.new.accepted ≡ Some n)) (λ r. (r ≡ Shutdown) × (self.old.accepted ≢ None) × (self.new ≡ self.old)) }
+        ensures answer { MatchResult result
+            (λ n. (self.old.accepted ≡ None) × (self.new.accepted ≡ Some n))
+            (λ r. (r ≡ Shutdown) × (self.old.accepted ≢ None) × (self.new ≡ self.old)) }
     {
         if self.accepted.is_some() {
             return Err(Refusal::Shutdown);

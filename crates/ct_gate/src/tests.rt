@@ -224,3 +224,20 @@ fn each_end_moves_to_a_thread(rt: HostRuntime) -> Result<(), Fail> {
     assert_eq!(rt; taker.join(&rt), Some((0, 0)));
     Ok(())
 }
+
+#[test]
+fn a_full_ring_takes_again_after_a_take(rt: HostRuntime) -> Result<(), Fail> {
+    let alloc = rt.alloc();
+    let (_shutter, mut intakes, mut outlets) = open_gate(alloc, 1, 1)?;
+    let (Some(mut intake), Some(mut outlet)) = (intakes.pop(), outlets.pop()) else {
+        panic!(rt; "one front")
+    };
+    for round in 0..100u64 {
+        assert_eq!(rt; intake.send(submission(alloc, 0x41)?).ok(), Some(round));
+        let refused = intake.send(submission(alloc, 0x42)?).err();
+        assert_eq!(rt; refused.map(|(refusal, _)| refusal), Some(Refusal::Full));
+        assert_eq!(rt; outlet.take().map(|item| item.ticket), Some(round));
+        assert!(rt; outlet.take().is_none());
+    }
+    Ok(())
+}

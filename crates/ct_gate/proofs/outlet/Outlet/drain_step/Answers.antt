@@ -6,16 +6,17 @@ use Rattle.ct_gate.proofs.Draining.{in_order, all_taken, popped}
 use Rattle.ct_gate.proofs.outlet.Outlet.drain_step.Goals as goal
 
 pub returns-then-slots_beside-eq0-clause-next : goal.returns-then-slots_beside-eq0-clause-next
-returns-then-slots_beside-eq0-clause-next c =
+returns-then-slots_beside-eq0-clause-next c = ap (numbered c.self.inside.number) c.slots_beside.ensures.looked.1 ∙ ap (λ v. v.received) c.self.view_is
+
+pub returns-then-slots_beside-eq0-clause-drained : goal.returns-then-slots_beside-eq0-clause-drained
+returns-then-slots_beside-eq0-clause-drained c =
     let o = c.slots_beside.new.self in
     let p = c.slots_beside.new.producer in
     let s = c.slots_beside.ensures in
     let fronts = subst (λ (l : List Item). All (λ (t : Item). t.front ≡ c.intake.inside.number) l) (sym s.producer.1) c.intake.invariant.5 in
     let same = ap (λ v. v.number) c.self.view_is ∙ c.requires.1 ∙ sym (ap (λ v. v.number) c.intake.view_is) in
-    let none : length (known_items o) ≡ 0 = sym s.value ∙ c.if-slots_beside-eq0.true in (
-      ap (numbered c.self.inside.number) s.looked.1 ∙ ap (λ v. v.received) c.self.view_is,
-      all_taken c.self.inside.number c.intake.inside.number (received o) (known_items o) (sent p) s.fifo fronts same none ∙ s.producer.1 ∙ ap (λ v. v.accepted) c.intake.view_is,
-    )
+    let none : length (known_items o) ≡ 0 = sym s.value ∙ c.if-slots_beside-eq0.true in
+    all_taken c.self.inside.number c.intake.inside.number (received o) (known_items o) (sent p) s.fifo fronts same none ∙ s.producer.1 ∙ ap (λ v. v.accepted) c.intake.view_is
 
 pub returns-then-slots_beside-eq0-clause-begins : goal.returns-then-slots_beside-eq0-clause-begins
 returns-then-slots_beside-eq0-clause-begins c =
