@@ -1,12 +1,12 @@
 -- Numbers that stand once in a list, and lists that are joined from those of all views.
-use Rattle.std.proofs.Common.{◌≡◌, ◌≢◌, ◌⊎◌, ℕ, zero, suc, ◌+◌, ◌*◌, ◌^◌, ◌<◌, ◌≤◌, ◌==◌, nat_lt, if◌then◌else◌, List, [], ◌∷◌, ◌++◌, map, length, get_or, set, flat_map, All, true, false, true≢false, refl, sym, ap, ◌∙◌, subst, inl, inr, ⊎_elim, arith, length-append}
+use Rattle.std.proofs.Common.{◌≡◌, ◌≢◌, ℕ, zero, suc, ◌+◌, ◌*◌, ◌^◌, ◌<◌, ◌≤◌, ◌==◌, nat_lt, if◌then◌else◌, List, [], ◌∷◌, ◌++◌, length, get_or, set, flat_map, All, true, false, true≢false, refl, sym, ap, ◌∙◌, subst, ⊎_elim, arith, length-append}
 use Rattle.std.proofs.lemmas.Bool.Decides.{nat_tests}
 use mathlib.Core.Option.{some, some-ne-none, some-injective}
 use lib.ListN.{get_elem?}
-use Rattle.atomic_table.proofs.Lists.{at_set, at_snoc, set_again}
+use Rattle.atomic_table.proofs.Lists.{at_set, at_snoc}
 use Rattle.ct_gate.specs.declared.view.FrontTickets.{FrontTickets}
 use Rattle.ct_gate.specs.declared.view.SeatView.{SeatView}
-use Rattle.ct_codec.specs.Items.{times, EachOnceBelow, Rises}
+use Rattle.ct_codec.specs.Items.{times, EachOnceBelow}
 use Rattle.ct_gate.specs.Seats.{EachView, refused_draws, tickets_in, fronts_in}
 use Rattle.ct_gate.specs.Word.{HasTickets, IsSound}
 use Rattle.std.proofs.lemmas.List.{length-map}

@@ -4,8 +4,7 @@ use Rattle.std.specs.Prelude.{Option, slice_get}
 use Rattle.std.proofs.lemmas.Option.{same_Some}
 use Rattle.std.proofs.lemmas.Bool.Decides.{nat_tests}
 use Rattle.atomic_table.specs.Seated.{TableId}
-use mathlib.Core.Option.{some, some-ne-none, some-injective}
-use lib.ListN.{get_elem?}
+use mathlib.Core.Option.{some-ne-none, some-injective}
 use Rattle.atomic_table.specs.Table.{Me, Splits, opening}
 use Rattle.ct_codec.specs.Items.{times}
 use Rattle.ct_gate.specs.declared.view.FrontTickets.{FrontTickets}
@@ -145,15 +144,15 @@ one_more_front gate places n intakes outlets i o all new = record {
   each = λ k x y at there.
       ⊎_elim
       (λ (a : (k < length intakes) × (slice_get intakes k ≡ Some x)).
-          ⊎_elim
-          (λ (b : (k < length outlets) × (slice_get outlets k ≡ Some y)). all.each k x y a.1 b.1)
-          (λ (b : (k ≡ length outlets) × (o ≡ y)). absurd (omega (arith, a.0, b.0, all.intake_count, all.outlet_count)))
-          (get_snoc outlets o y k there))
+      ⊎_elim
+      (λ (b : (k < length outlets) × (slice_get outlets k ≡ Some y)). all.each k x y a.1 b.1)
+      (λ (b : (k ≡ length outlets) × (o ≡ y)). absurd (omega (arith, a.0, b.0, all.intake_count, all.outlet_count)))
+      (get_snoc outlets o y k there))
       (λ (a : (k ≡ length intakes) × (i ≡ x)).
-          ⊎_elim
-          (λ (b : (k < length outlets) × (slice_get outlets k ≡ Some y)). absurd (omega (arith, a.0, b.0, all.intake_count, all.outlet_count)))
-          (λ (b : (k ≡ length outlets) × (o ≡ y)). last k x y (a.0 ∙ all.intake_count) a.1 b.1)
-          (get_snoc outlets o y k there))
+      ⊎_elim
+      (λ (b : (k < length outlets) × (slice_get outlets k ≡ Some y)). absurd (omega (arith, a.0, b.0, all.intake_count, all.outlet_count)))
+      (λ (b : (k ≡ length outlets) × (o ≡ y)). last k x y (a.0 ∙ all.intake_count) a.1 b.1)
+      (get_snoc outlets o y k there))
       (get_snoc intakes i x k at);
 }
   where

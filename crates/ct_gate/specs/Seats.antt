@@ -2,7 +2,6 @@
 use Rattle.std.specs.Prelude.{◌≡◌, ℕ, ◌+◌, Bool, true, false, List, [], ◌∷◌, map, flat_map, Option, None}
 use mathlib.Core.Option.{some}
 use lib.ListN.{get_elem?}
-use Rattle.ct_gate.specs.declared.view.FrontTickets.{FrontTickets}
 use Rattle.ct_gate.specs.declared.view.SeatView.{SeatView}
 
 -- the numbers of the fronts that the view stands for

@@ -39,12 +39,12 @@ impl Model for Intake {
     ghost Value = { IntakeView };
 
     ghost view = { λ i. record {
-        gate = i.seat.table_id;
-        number = i.number;
-        ring = producer_ring i.producer;
-        places = producer_capacity i.producer;
-        accepted = sent i.producer;
-        knows_shutdown = i.knows_shutdown;
+      gate = i.seat.table_id;
+      number = i.number;
+      ring = producer_ring i.producer;
+      places = producer_capacity i.producer;
+      accepted = sent i.producer;
+      knows_shutdown = i.knows_shutdown;
     } };
 
     // The seat is of the table. Its view has the front's number and, in order, the tickets of the items that were
@@ -90,7 +90,7 @@ impl Intake {
         ensures answer { MatchResult result
             (λ ticket. Accepts self.old submission ticket self.new)
             (λ r. (r.1 ≡ submission) × (self.new.accepted ≡ self.old.accepted)
-                × Refuses self.old r.0 self.new) }
+            × Refuses self.old r.0 self.new) }
     {
         if self.is_shut() {
             return Err((Refusal::Shutdown, submission));

@@ -26,9 +26,9 @@ impl Model for Outlet {
     ghost Value = { OutletView };
 
     ghost view = { λ o. record {
-        number = o.number;
-        ring = consumer_ring o.consumer;
-        received = numbered o.number (taken o.consumer);
+      number = o.number;
+      ring = consumer_ring o.consumer;
+      received = numbered o.number (taken o.consumer);
     } };
 }
 

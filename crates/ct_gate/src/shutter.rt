@@ -29,9 +29,9 @@ impl Model for Shutter {
     ghost Value = { ShutterView };
 
     ghost view = { λ s. record {
-        gate = s.seat.table_id;
-        fronts = (arc_value s.table).shared.key;
-        accepted = s.accepted;
+      gate = s.seat.table_id;
+      fronts = (arc_value s.table).shared.key;
+      accepted = s.accepted;
     } };
 
     // The seat is of the table, which has the one word and no slot. Its view is the shutter's.

@@ -82,11 +82,7 @@ impl TwoFronts {
             _ => self.outlet_one.drain_step(&mut self.one),
         };
         match next {
-            Some(item) => Ok(Some((
-                item.front,
-                item.ticket,
-                byte_of(alloc, &item.submission)?,
-            ))),
+            Some(item) => Ok(Some((item.front, item.ticket, byte_of(alloc, &item.submission)?))),
             None => Ok(None),
         }
     }
@@ -125,10 +121,19 @@ fn two_fronts_and_a_shutdown(rt: HostRuntime) -> Result<(), Fail> {
     assert_eq!(rt; gate.send(0, alloc, 0x41)?, Ok(0));
     assert_eq!(rt; gate.send(1, alloc, 0x42)?, Ok(1));
     assert_eq!(rt; gate.send(0, alloc, 0x41)?, Ok(2));
-    assert_eq!(rt; gate.send(0, alloc, 0x42)?, Err((Refusal::Full, Some(0x42))));
+    assert_eq!(rt;
+        gate.send(0, alloc, 0x42)?,
+        Err((Refusal::Full, Some(0x42)))
+    );
     assert_eq!(rt; gate.shutter.shut(), Ok(3));
-    assert_eq!(rt; gate.send(0, alloc, 0x42)?, Err((Refusal::Shutdown, Some(0x42))));
-    assert_eq!(rt; gate.send(1, alloc, 0x41)?, Err((Refusal::Shutdown, Some(0x41))));
+    assert_eq!(rt;
+        gate.send(0, alloc, 0x42)?,
+        Err((Refusal::Shutdown, Some(0x42)))
+    );
+    assert_eq!(rt;
+        gate.send(1, alloc, 0x41)?,
+        Err((Refusal::Shutdown, Some(0x41)))
+    );
     assert_eq!(rt; gate.shutter.shut(), Err(Refusal::Shutdown));
     assert_eq!(rt; gate.shutter.accepted(), Some(3));
     assert!(rt; !gate.is_drained(0));
@@ -220,7 +225,10 @@ fn each_end_moves_to_a_thread(rt: HostRuntime) -> Result<(), Fail> {
     assert_eq!(rt; sender.join(&rt), Ok(1));
     let closer = thread::spawn(&rt, move || shutter.shut())?;
     assert_eq!(rt; closer.join(&rt), Ok(1));
-    let taker = thread::spawn(&rt, move || outlet.take().map(|item| (item.front, item.ticket)))?;
+    let taker = thread::spawn(
+        &rt,
+        move || outlet.take().map(|item| (item.front, item.ticket)),
+    )?;
     assert_eq!(rt; taker.join(&rt), Some((0, 0)));
     Ok(())
 }

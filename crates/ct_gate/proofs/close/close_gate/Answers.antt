@@ -1,12 +1,9 @@
-use Rattle.std.proofs.Common.{◌≡◌, ℕ, ◌<◌, ◌++◌, ◌∷◌, [], List, Some, None, true, All, map, length, sym, ap, ◌∙◌, subst, rules, arith, append_assoc, append-nil}
+use Rattle.std.proofs.Common.{◌≡◌, ◌++◌, ◌∷◌, [], List, map, length, sym, ap, ◌∙◌, arith, append_assoc, append-nil}
 use Rattle.std.specs.Vec.Iter.{into_iter_items}
 use Rattle.std.specs.Slots.{slots_len}
-use Rattle.std.specs.Arc.{arc_value}
 use Rattle.std.proofs.lemmas.List.{length-map, nil_from_length}
 use Rattle.std.proofs.lemmas.List.FromFn.{length-range_with_len}
 use Rattle.ct_gate.specs.declared.view.FrontTickets.{FrontTickets}
-use Rattle.ct_codec.specs.Items.{Tickets}
-use Rattle.ct_gate.specs.Ends.{IntakeView}
 use Rattle.ct_gate.specs.Closing.{front_tickets}
 use Rattle.ct_gate.proofs.Closing.{all_rest, ends, all_tickets}
 use Rattle.ct_gate.proofs.close.close_gate.Goals as goal

@@ -1,4 +1,4 @@
-use Rattle.std.proofs.Common.{◌≡◌, [], false, sym, ap, ◌∙◌, arith}
+use Rattle.std.proofs.Common.{◌≡◌, sym, ap, ◌∙◌, arith}
 use Rattle.ct_gate.proofs.Closing.{gathers}
 use Rattle.ct_gate.proofs.close.give_up.Goals as goal
 

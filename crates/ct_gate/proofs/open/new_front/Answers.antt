@@ -1,7 +1,7 @@
-use Rattle.std.proofs.Common.{◌≡◌, ◌<◌, ◌-◌, false, [], List, length, sym, ap, ap₂, ◌∙◌, refl, arith, rules}
+use Rattle.std.proofs.Common.{◌≡◌, ◌-◌, false, [], List, length, sym, ap, ap₂, ◌∙◌, arith}
 use Rattle.rtrb.specs.Ring.{sent}
 use Rattle.ct_codec.specs.declared.item.Item.{Item}
-use Rattle.ct_gate.specs.Opening.{stands_for, new_fronts}
+use Rattle.ct_gate.specs.Opening.{new_fronts}
 use Rattle.ct_gate.specs.Seats.{front_view}
 use Rattle.ct_codec.specs.Items.{tickets_of}
 use Rattle.ct_gate.proofs.Opening.{deals_as, rest_left, first_given}

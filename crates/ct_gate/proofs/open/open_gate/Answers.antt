@@ -1,8 +1,6 @@
-use Rattle.std.proofs.Common.{◌≡◌, ◌≤◌, ◌+◌, ◌-◌, ◌++◌, ◌∷◌, ℕ, [], true, sym, ap, ◌∙◌, subst, subst₂, refl, arith, rules}
+use Rattle.std.proofs.Common.{◌≡◌, ◌≤◌, ◌+◌, ◌-◌, ◌++◌, ◌∷◌, ℕ, [], true, sym, ap, ◌∙◌, subst, subst₂, arith}
 use Rattle.ct_gate.specs.Opening.{stands_for, new_fronts, AreNewFronts}
-use Rattle.atomic_table.specs.Table.{Me}
 use Rattle.atomic_table.specs.Seated.{TableId}
-use Rattle.ct_gate.specs.declared.view.SeatView.{SeatView}
 use Rattle.ct_gate.proofs.Opening.{opens, no_front_left, one_more_front}
 use Rattle.ct_gate.proofs.open.open_gate.Goals as goal
 

@@ -1,7 +1,7 @@
-use Rattle.std.proofs.Common.{◌≡◌, ◌++◌, ◌∷◌, [], List, length, All, sym, ap, ◌∙◌, subst, arith}
+use Rattle.std.proofs.Common.{◌≡◌, ◌++◌, List, length, All, sym, ap, ◌∙◌, subst}
 use Rattle.rtrb.specs.Ring.{sent, received, known_items}
 use Rattle.ct_codec.specs.declared.item.Item.{Item}
-use Rattle.ct_gate.specs.Ends.{numbered, made_item}
+use Rattle.ct_gate.specs.Ends.{numbered}
 use Rattle.ct_gate.proofs.Draining.{in_order, all_taken, popped}
 use Rattle.ct_gate.proofs.outlet.Outlet.drain_step.Goals as goal
 

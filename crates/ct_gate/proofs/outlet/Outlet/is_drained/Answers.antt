@@ -1,7 +1,7 @@
-use Rattle.std.proofs.Common.{◌≡◌, ◌++◌, ◌∷◌, [], List, length, All, sym, ap, ◌∙◌, subst, arith, eq-eqb, eqb→eq}
+use Rattle.std.proofs.Common.{◌≡◌, List, length, All, sym, ap, ◌∙◌, subst, eq-eqb}
 use Rattle.rtrb.specs.Ring.{sent, received, known_items}
 use Rattle.ct_codec.specs.declared.item.Item.{Item}
-use Rattle.ct_gate.specs.Ends.{numbered, made_item}
+use Rattle.ct_gate.specs.Ends.{numbered}
 use Rattle.ct_gate.proofs.Draining.{all_taken, none_known, is_zero}
 use Rattle.ct_gate.proofs.outlet.Outlet.is_drained.Goals as goal
 

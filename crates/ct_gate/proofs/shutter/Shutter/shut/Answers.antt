@@ -1,4 +1,4 @@
-use Rattle.std.proofs.Common.{rules, ◌≡◌, ℕ, Option, None, Some, [], false, true≢false, is_some, refl, sym, ap, ◌∙◌, arith}
+use Rattle.std.proofs.Common.{◌≡◌, ℕ, Option, None, Some, [], false, true≢false, is_some, refl, sym, ap, ◌∙◌, arith}
 use Rattle.ct_gate.specs.Seats.{shutter_view}
 use Rattle.ct_gate.proofs.Steps.{shuts_as}
 use Rattle.ct_gate.proofs.shutter.Shutter.shut.Goals as goal

@@ -1,4 +1,4 @@
-use Rattle.std.proofs.Common.{◌≡◌, ◌+◌, ℕ, [], ◌∷◌, ◌++◌, List, length, refl, sym, ap, ◌∙◌, subst₂, arith, length-append}
+use Rattle.std.proofs.Common.{◌≡◌, [], ◌∷◌, ◌++◌, List, length, refl, ap, ◌∙◌, subst₂, arith, length-append}
 use Rattle.ct_gate.specs.Opening.{AreNewFronts}
 use Rattle.ct_gate.proofs.tests.TwoFronts.open.Goals as goal
 
