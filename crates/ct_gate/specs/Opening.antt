@@ -1,0 +1,51 @@
+-- A new gate. One seat stands for all fronts at first, and each front in turn is split off into a seat of its own.
+use Rattle.std.specs.Prelude.{◌≡◌, ℕ, zero, suc, ◌+◌, Bool, true, false, List, [], ◌∷◌, length, slice_get, None, Some}
+use Rattle.atomic_table.specs.Seated.{TableId}
+use Rattle.ct_gate.specs.declared.view.FrontTickets.{FrontTickets}
+use Rattle.ct_gate.specs.declared.view.SeatView.{SeatView}
+use Rattle.ct_gate.specs.Ends.{IntakeView, OutletView, AreEnds}
+
+-- n fronts without tickets, from the k-th on
+abbrev pub new_fronts : ℕ → ℕ → List FrontTickets
+new_fronts k zero = []
+new_fronts k (suc n) = record { front = k; tickets = [] } ∷ new_fronts (k + 1) n
+
+-- who stands for these fronts, where nobody has drawn or knows anything
+abbrev pub stands_for : List FrontTickets → Bool → SeatView
+stands_for fs is_shutter = record { fronts = fs; knows_shutdown = false; refused = 0; is_shutter = is_shutter; accepted = None }
+
+-- who opens a gate with n fronts
+abbrev pub all_in_one : ℕ → SeatView
+all_in_one n = stands_for (new_fronts 0 n) true
+
+abbrev pub without_first : List FrontTickets → List FrontTickets
+without_first [] = []
+without_first (f ∷ fs) = fs
+
+abbrev pub first_alone : List FrontTickets → List FrontTickets
+first_alone [] = []
+first_alone (f ∷ fs) = f ∷ []
+
+-- what is left of the view without its first front
+abbrev pub rest_of : SeatView → SeatView
+rest_of v = record { fronts = without_first v.fronts; knows_shutdown = v.knows_shutdown; refused = v.refused; is_shutter = v.is_shutter; accepted = v.accepted }
+
+-- the view of its first front
+abbrev pub first_of : SeatView → SeatView
+first_of v = record { fronts = first_alone v.fronts; knows_shutdown = v.knows_shutdown; refused = 0; is_shutter = false; accepted = None }
+
+-- The ends of the k-th front of a new gate, of one ring with so many places, through which nothing has gone.
+pub record IsNewFront (of_gate : TableId) (with_places k : ℕ) (i : IntakeView) (o : OutletView) : Type 0 where
+  pub gate : i.gate ≡ of_gate
+  pub number : i.number ≡ k
+  pub places : i.places ≡ with_places
+  pub accepted : i.accepted ≡ []
+  pub knows_shutdown : i.knows_shutdown ≡ false
+  pub ends : AreEnds i o
+  pub received : o.received ≡ []
+
+-- the intakes and the outlets of a new gate, in the fronts' order
+pub record AreNewFronts (gate : TableId) (places fronts : ℕ) (intakes : List IntakeView) (outlets : List OutletView) : Type 0 where
+  pub intake_count : length intakes ≡ fronts
+  pub outlet_count : length outlets ≡ fronts
+  pub each : (k : ℕ) (i : IntakeView) (o : OutletView) → slice_get intakes k ≡ Some i → slice_get outlets k ≡ Some o → IsNewFront gate places k i o
