@@ -3,7 +3,8 @@ use Rattle.std.proofs.Common.{◌≡◌, ℕ, zero, suc, ◌-◌, ◌*◌, ◌<�
 use Rattle.std.proofs.lemmas.Bool.{cond-false, lt-ltb, le-ltb, cases_lt}
 use Rattle.std.proofs.lemmas.List.{length-take-le, take_rest}
 use Rattle.ct_tree.proofs.Split.{split_pos, split_lt, split_half, split_two, split_up, split_induct, up}
-use Rattle.ct_tree.specs.Tree.{split, hash_node, mth_within, mth, level}
+use Rattle.ct_tree.specs.Tree.{split, hash_node, mth_within, mth}
+use Rattle.ct_tree.specs.Levels.{level}
 
 pub length_left : {X : Type 0} (D : List X) → 1 < length D → length (take (split (length D)) D) ≡ split (length D)
 length_left D h = length-take-le (split (length D)) D (omega (arith, split_lt (length D) h))

@@ -4,7 +4,9 @@ use Rattle.std.proofs.lemmas.Bool.{cases_lt}
 use Rattle.std.proofs.lemmas.List.{append-nil, length-take-le, take-append-drop, take_all, drop_all, length_push, nil_from_length, take_at, drop_at, get_or_at, take-take}
 use Rattle.std.proofs.Math.Arith.{bin_ind}
 use Rattle.ct_tree.proofs.Mth.{mth-nil, mth-one, mth-level, length_level, level_small}
-use Rattle.ct_tree.specs.Tree.{hash_node, mth, level, peaks_within, peaks, root_of_peaks}
+use Rattle.ct_tree.specs.Tree.{hash_node, mth}
+use Rattle.ct_tree.specs.Levels.{level}
+use Rattle.ct_tree.specs.Peaks.{peaks_within, peaks, root_of_peaks}
 
 pub level-append : (H : List ℕ → List ℕ) (A B : List (List ℕ)) → length A % 2 ≡ 0 → level H (A ++ B) ≡ level H A ++ level H B
 unfolding level

@@ -5,7 +5,8 @@ use Rattle.std.proofs.lemmas.List.{get_or-take, length-take, append_assoc}
 use Rattle.std.proofs.Math.Nat.{pow-suc}
 use Rattle.ct_tree.proofs.Mth.{length_level, mth-level, mth-one}
 use Rattle.ct_tree.proofs.Path.{path-up_at, path-lone_at}
-use Rattle.ct_tree.specs.Tree.{hash_node, mth, level, raised, subtree, path, beside, node_or_edge}
+use Rattle.ct_tree.specs.Tree.{hash_node, mth, path}
+use Rattle.ct_tree.specs.Levels.{level, raised, subtree, beside, node_or_edge}
 
 module _ (H : List ℕ → List ℕ) where
   -- ---- the nodes of the next level

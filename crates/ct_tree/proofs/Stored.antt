@@ -5,7 +5,8 @@ use Rattle.std.proofs.lemmas.List.{get_or-set_same, get_or-set_other, get_or_app
 use Rattle.std.proofs.lemmas.Nat.{pow_pos}
 use Rattle.std.proofs.Math.Nat.{pow-suc, pow-le-pow_right}
 use Rattle.ct_tree.proofs.Raised.{pow_more}
-use Rattle.ct_tree.specs.Tree.{hash_node, subtree}
+use Rattle.ct_tree.specs.Tree.{hash_node}
+use Rattle.ct_tree.specs.Levels.{subtree}
 use Rattle.ct_tree.specs.Stored.{place, leaves_of, Stores}
 
 -- ---- numbers

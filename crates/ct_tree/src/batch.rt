@@ -1,12 +1,12 @@
 //! The leaf hashes of many leaves, by fork and join.
-ghost use Rattle.std.specs.Prelude.{◌≡◌, ◌+◌, ◌*◌, ◌<◌, ◌≤◌, ℕ, List, length, map, get_or, IfOk};
+ghost use Rattle.std.specs.Prelude.{◌≡◌, ◌+◌, ◌<◌, ◌≤◌, ℕ, List, length, map, slice_index_or, IfOk};
 ghost use Rattle.std.specs.List.{flat_map};
+ghost use Rattle.std.specs.Thread.{IsSync};
 ghost use Rattle.ct_tree.specs.Tree.{hash_leaf};
 
 use crate::hash::{NodeHash, leaf_hash, leaf_hash_parts};
 use std::alloc::{AllocError, Global};
-use std::thread;
-use std::thread::Threads;
+use std::thread::{Threads, join_mut};
 
 // A leaf, in whatever form its bytes are held.
 trait LeafBytes {
@@ -32,19 +32,54 @@ impl<'a> LeafBytes for [&'a [u8]; 5] {
     }
 }
 
-// One worker's part: the hashes of the leaves from a place on.
-fn hash_part<H: NodeHash, L: LeafBytes>(h: &H, leaves: &[L], start: usize, hashes: &mut [[u8; 32]])
-    requires { start + length hashes.old ≤ length leaves.now }
+// One worker's part.
+fn hash_part<H: NodeHash, L: LeafBytes>(h: &H, leaves: &[L], hashes: &mut [[u8; 32]])
+    requires { length hashes.old ≡ length leaves.now }
     ensures length { length hashes.new ≡ length hashes.old }
-    ensures each { (k : ℕ) (d : List ℕ) (e : L) → k < length hashes.old → get_or hashes.new k d ≡ hash_leaf H.digest (L.bytes (get_or leaves.now (start + k) e)) }
+    ensures each { (k : ℕ) (d : List ℕ) (e : L) → k < length hashes.old → slice_index_or hashes.new k d ≡ hash_leaf H.digest (L.bytes (slice_index_or leaves.now k e)) }
 {
     for k in 0..hashes.len() {
-        hashes[k] = leaves[start + k].hashed(h);
+        hashes[k] = leaves[k].hashed(h);
     }
 }
 
-// The leaf hashes in order. Each worker takes one part; no part is longer than the number of leaves over that of
-// workers, rounded up. One part alone is hashed without any thread.
+// Each worker takes one part: the parts' lengths differ by one at most, since at each fork the leaves are shared out by
+// the numbers of workers on the two sides. The part for which no thread can be started is hashed in the caller's.
+fn hash_among<H: NodeHash + Sync, L: LeafBytes + Sync, R: Threads + Sync>(
+    rt: &R,
+    h: &H,
+    leaves: &[L],
+    hashes: &mut [[u8; 32]],
+    workers: usize,
+)
+    requires length { length hashes.old ≡ length leaves.now }
+    requires workers { (0 < workers) × (workers ≤ 64) }
+    ensures length { length hashes.new ≡ length hashes.old }
+    ensures each { (k : ℕ) (d : List ℕ) (e : L) → k < length hashes.old → slice_index_or hashes.new k d ≡ hash_leaf H.digest (L.bytes (slice_index_or leaves.now k e)) }
+{
+    if workers == 1 || leaves.len() < 2 {
+        hash_part(h, leaves, hashes);
+        return;
+    }
+    let second = workers / 2;
+    let first = workers - second;
+    let cut = leaves.len() / workers * first + leaves.len() % workers * first / workers;
+    let (left, right) = leaves.split_at(cut);
+    let (front, back) = hashes.split_at_mut(cut);
+    join_mut(
+        rt,
+        &mut ||
+            requires { IsSync R.row × IsSync H.row × IsSync L.row × (length front.now ≡ length left.now) × (0 < first) × (first ≤ 64) }
+            ensures { (k : ℕ) (d : List ℕ) (e : L) → k < length front.entry.now → slice_index_or front.exit.now k d ≡ hash_leaf H.digest (L.bytes (slice_index_or left.entry.now k e)) }
+        { hash_among(rt, h, left, front, first) },
+        &mut ||
+            requires { IsSync R.row × IsSync H.row × IsSync L.row × (length back.now ≡ length right.now) × (0 < second) × (second ≤ 64) }
+            ensures { (k : ℕ) (d : List ℕ) (e : L) → k < length back.entry.now → slice_index_or back.exit.now k d ≡ hash_leaf H.digest (L.bytes (slice_index_or right.entry.now k e)) }
+        { hash_among(rt, h, right, back, second) },
+    );
+}
+
+// The leaf hashes in order.
 fn hash_all<H: NodeHash + Sync, L: LeafBytes + Sync, R: Threads + Sync>(
     rt: &R,
     alloc: Global,
@@ -52,20 +87,17 @@ fn hash_all<H: NodeHash + Sync, L: LeafBytes + Sync, R: Threads + Sync>(
     leaves: &[L],
     workers: usize,
 ) -> Result<Vec<[u8; 32]>, AllocError>
-    requires { 0 < workers }
+    requires { (0 < workers) × (workers ≤ 64) }
     ensures { IfOk result (λ hashes. hashes.items ≡ map (λ leaf. hash_leaf H.digest (L.bytes leaf)) leaves.now) }
 {
     let mut hashes = vec![in alloc; [0; 32]; leaves.len()]?;
-    let size = leaves.len().div_ceil(workers).max(1);
-    let part = |start: usize, part: &mut [[u8; 32]]|
-        requires { start + length part.now ≤ length leaves.now }
-        ensures { (k : ℕ) (d : List ℕ) (e : L) → k < length part.entry.now → get_or part.exit.now k d ≡ hash_leaf H.digest (L.bytes (get_or leaves.entry.now (start + k) e)) }
-    { hash_part(h, leaves, start, part) };
-    thread::for_each_chunk_mut(rt, &mut hashes, size, &part);
+    hash_among(rt, h, leaves, &mut hashes, workers);
     Ok(hashes)
 }
 
-/// The leaf hashes in order.
+/// The leaf hashes of `leaves` in order (RFC 6962, section 2.1), by 1 to 64 workers. Each worker hashes one contiguous
+/// part, and the lengths of the parts differ by one at most. Where no thread can be started for a worker, its part is
+/// hashed all the same.
 pub fn hash_batch<H: NodeHash + Sync, R: Threads + Sync>(
     rt: &R,
     alloc: Global,
@@ -79,7 +111,7 @@ pub fn hash_batch<H: NodeHash + Sync, R: Threads + Sync>(
     hash_all(rt, alloc, h, leaves, workers)
 }
 
-/// The leaf hashes in order, of leaves in parts.
+/// What `hash_batch` answers, for leaves whose bytes lie in five parts that follow one another.
 pub fn hash_batch_parts<H: NodeHash + Sync, R: Threads + Sync>(
     rt: &R,
     alloc: Global,

@@ -1,11 +1,24 @@
-//! The Merkle tree of RFC 6962, section 2.1: hashes, roots, audit paths and consistency proofs.
+//! The Merkle tree of RFC 6962, section 2.1: leaf and node hashes, roots, audit paths and consistency proofs.
+//!
+//! - [`NodeHash`] is a hash function with digests of 32 bytes, and [`Sha256Hash`] is SHA-256. Everything else here holds
+//!   for every `NodeHash`. `leaf_hash` and `node_hash` are the tree's two uses of it.
+//! - [`Stack`] keeps the perfect subtrees of a list of leaves that only grows: enough for its root.
+//! - [`Nodes`] keeps every node of such a tree, and answers the root, the audit paths and the consistency proofs of each
+//!   beginning of the list.
+//! - `hash_batch` hashes many leaves by several threads.
+//! - [`Head`] is a tree head without its signature.
+//! - [`reference`] computes roots, paths and proofs as the RFC writes them, slowly. The tests compare with it.
+//! - [`laws`] shows that the definitions of `specs/Tree.antt`, which all the contracts name, are the RFC's equations.
+//!
+//! A tree is a list of leaf hashes, the leftmost first. Leaf indexes begin at 0, and sizes count leaves.
 #![tactic(auto)]
 
 mod batch;
 mod hash;
 mod head;
+pub mod laws;
 mod nodes;
-mod plain;
+pub mod reference;
 mod stack;
 #[cfg(test)]
 mod tests;
@@ -13,10 +26,9 @@ mod tests;
 use std::alloc::AllocError;
 
 pub use batch::{hash_batch, hash_batch_parts};
-pub use hash::{NodeHash, Sha256Hash, empty_root, leaf_hash, leaf_hash_parts, node_hash};
+pub use hash::{NodeHash, Sha256Hash, leaf_hash, leaf_hash_parts, node_hash};
 pub use head::Head;
 pub use nodes::Nodes;
-pub use plain::root_of;
 pub use stack::Stack;
 
 /// A growth was refused.

@@ -1,0 +1,108 @@
+//! The reference program: MTH, PATH and PROOF of a list of leaf hashes, by the recursions of RFC 6962, section 2.1, as
+//! they are written there. It is slow, and what `Stack` and `Nodes` answer is tested against it.
+ghost use Rattle.std.specs.Prelude.{◌≡◌, ◌-◌, ◌<◌, ◌≤◌, Bool, List, length, IfOk};
+ghost use Rattle.ct_tree.specs.Tree.{split, mth, path as path_of, subproof as subproof_of, proof as proof_of};
+
+use crate::hash::{NodeHash, empty_root, node_hash};
+use std::alloc::{AllocError, Global};
+
+// The largest power of two smaller than `n`.
+fn largest_power_below(n: usize) -> usize
+    requires { 1 < n }
+    ensures split { result ≡ split n }
+    ensures positive { 0 < result }
+    ensures below { result < n }
+{
+    let mut power = 1;
+    while power < n - power {
+        power *= 2;
+    }
+    power
+}
+
+/// MTH of a list of leaf hashes (RFC 6962, section 2.1).
+pub fn root<H: NodeHash>(h: &H, leaves: &[[u8; 32]]) -> [u8; 32]
+    ensures { result ≡ mth H.digest leaves.now }
+{
+    if leaves.is_empty() {
+        empty_root(h)
+    } else if leaves.len() == 1 {
+        leaves[0]
+    } else {
+        let k = largest_power_below(leaves.len());
+        let left = root(h, &leaves[..k]);
+        let right = root(h, &leaves[k..]);
+        node_hash(h, &left, &right)
+    }
+}
+
+/// PATH of the leaf at index `m` (RFC 6962, section 2.1.1): the hash nearest the root comes last.
+pub fn path<H: NodeHash>(
+    alloc: Global,
+    h: &H,
+    m: usize,
+    leaves: &[[u8; 32]],
+) -> Result<Vec<[u8; 32]>, AllocError>
+    requires { m < length leaves.now }
+    ensures { IfOk result (λ path. path.items ≡ path_of H.digest m leaves.now) }
+{
+    if leaves.len() == 1 {
+        return Ok(Vec::new(alloc));
+    }
+    let k = largest_power_below(leaves.len());
+    let (left, right) = leaves.split_at(k);
+    if m < k {
+        let mut hashes = path(alloc, h, m, left)?;
+        hashes.push(root(h, right))?;
+        Ok(hashes)
+    } else {
+        let mut hashes = path(alloc, h, m - k, right)?;
+        hashes.push(root(h, left))?;
+        Ok(hashes)
+    }
+}
+
+// SUBPROOF (RFC 6962, section 2.1.2), where `is_known` says that the verifier has the root of the first `m` leaves.
+fn subproof<H: NodeHash>(
+    alloc: Global,
+    h: &H,
+    m: usize,
+    leaves: &[[u8; 32]],
+    is_known: bool,
+) -> Result<Vec<[u8; 32]>, AllocError>
+    requires positive { 0 < m }
+    requires within { m ≤ length leaves.now }
+    ensures { IfOk result (λ proof. proof.items ≡ subproof_of H.digest m leaves.now is_known) }
+{
+    if m == leaves.len() {
+        if is_known {
+            return Ok(Vec::new(alloc));
+        }
+        return Ok(vec![in alloc; root(h, leaves)]?);
+    }
+    let k = largest_power_below(leaves.len());
+    let (left, right) = leaves.split_at(k);
+    if m <= k {
+        let mut hashes = subproof(alloc, h, m, left, is_known)?;
+        hashes.push(root(h, right))?;
+        Ok(hashes)
+    } else {
+        let mut hashes = subproof(alloc, h, m - k, right, false)?;
+        hashes.push(root(h, left))?;
+        Ok(hashes)
+    }
+}
+
+/// PROOF from the first `m` leaves to all of them (RFC 6962, section 2.1.2): the hash nearest the root comes last.
+pub fn proof<H: NodeHash>(
+    alloc: Global,
+    h: &H,
+    m: usize,
+    leaves: &[[u8; 32]],
+) -> Result<Vec<[u8; 32]>, AllocError>
+    requires positive { 0 < m }
+    requires below { m < length leaves.now }
+    ensures { IfOk result (λ proof. proof.items ≡ proof_of H.digest m leaves.now) }
+{
+    subproof(alloc, h, m, leaves, true)
+}
