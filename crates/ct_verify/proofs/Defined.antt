@@ -5,13 +5,15 @@ use Rattle.std.proofs.lemmas.List.{length-reverse}
 use Rattle.ct_tree.proofs.Split.{split_lt}
 use Rattle.ct_tree.proofs.Length.{path_length-one, path_length-left, path_length-right}
 use Rattle.ct_tree.proofs.SubproofLength.{subproof_length-whole, subproof_length-left, subproof_length-right}
-use Rattle.ct_tree.specs.Tree.{split, hash_node, path_length, subproof_length}
-use Rattle.ct_verify.proofs.Options.{none_some, same_some, mapped, held, some_mapped}
+use Rattle.ct_tree.specs.Tree.{split, hash_node}
+use Rattle.ct_tree.specs.Lengths.{path_length, subproof_length}
+use Rattle.ct_verify.proofs.Options.{none_some, same_some, mapped, some_mapped}
 use Rattle.ct_verify.proofs.Rebuild.{rebuild_left, rebuild_right, rebuild_past, rebuild_short, rebuild_leaf}
 use Rattle.ct_verify.proofs.Both.{both-left, both-right, both-end, both-end_whole, both-whole}
 use Rattle.ct_verify.specs.Climb.{pair_left, pair_right}
 use Rattle.ct_verify.specs.Rebuild.{rebuild, rebuild_down, both, both_down, same_pair}
-use Rattle.ct_verify.specs.Laws.{RebuildsDefined, PathNotRefused, BothDefined, ProofNotRefused}
+use Rattle.ct_verify.specs.Verdict.{AcceptsInclusion, RefusesInclusion, AcceptsConsistency, RefusesConsistency}
+use Rattle.ct_verify.specs.declared.fault.ProofFault.{ProofFault}
 use Rattle.ct_verify.specs.declared.fault.ProofFault.TheVariants.{IndexOutOfRange, PathTooLong, PathTooShort, RootMismatch, EmptyPath, FirstMismatch, SizesOutOfRange}
 
 module _ (H : List ℕ → List ℕ) where
@@ -67,21 +69,19 @@ module _ (H : List ℕ → List ℕ) where
   unfolding rebuild
   defined_length m n h r p l e = sym (length-reverse p) ∙ defined_down (reverse p) m n h r l e
 
-  pub rebuilds_defined : RebuildsDefined H
+  pub path_long_enough : (m n : ℕ) (h : List ℕ) (p : List (List ℕ)) → m < n → length p ≡ path_length m n → is_some (rebuild H m n h p) ≡ true
   unfolding rebuild
-  rebuilds_defined m n h p l = (
-    λ s. let x = held (rebuild H m n h p) s in defined_length m n h x.0 p l x.1,
-    λ e. long_enough (reverse p) m n h l (length-reverse p ∙ e),
-  )
+  path_long_enough m n h p l e = long_enough (reverse p) m n h l (length-reverse p ∙ e)
 
-  pub path_not_refused : PathNotRefused H
-  path_not_refused h m n p root IndexOutOfRange a r = omega (arith, a.0)
-  path_not_refused h m n p root PathTooLong a r = omega (arith, r.1, defined_length m n h root p a.0 a.1)
-  path_not_refused h m n p root PathTooShort a r = omega (arith, r.1, defined_length m n h root p a.0 a.1)
-  path_not_refused h m n p root RootMismatch a r = r.2 a.1
-  path_not_refused h m n p root EmptyPath a r = r
-  path_not_refused h m n p root FirstMismatch a r = r
-  path_not_refused h m n p root SizesOutOfRange a r = r
+  pub accepted_not_refused : (h : List ℕ) (m n : ℕ) (p : List (List ℕ)) (root : List ℕ) (fault : ProofFault) → AcceptsInclusion H h m n p root
+      → RefusesInclusion H h m n p root fault → ⊥
+  accepted_not_refused h m n p root IndexOutOfRange a r = omega (arith, a.0)
+  accepted_not_refused h m n p root PathTooLong a r = omega (arith, r.1, defined_length m n h root p a.0 a.1)
+  accepted_not_refused h m n p root PathTooShort a r = omega (arith, r.1, defined_length m n h root p a.0 a.1)
+  accepted_not_refused h m n p root RootMismatch a r = r.2 a.1
+  accepted_not_refused h m n p root EmptyPath a r = r
+  accepted_not_refused h m n p root FirstMismatch a r = r
+  accepted_not_refused h m n p root SizesOutOfRange a r = r
 
   -- ---- two roots
   same_length : (c : List ℕ) (q : List (List ℕ)) (z : List ℕ × List ℕ) → same_pair c q ≡ Some z → length q ≡ 0
@@ -153,31 +153,30 @@ module _ (H : List ℕ → List ℕ) where
       (λ (g : n ≤ m). whole_enough (s ∷ q) m n b r g (e ∙ subproof_length-whole m n b p (omega arith)))
       (cases_lt m n)
 
-  both_defined_length : (m n : ℕ) (b : Bool) (r : List ℕ) (p : List (List ℕ)) (z : List ℕ × List ℕ) → 0 < m → m ≤ n → both H m n b r p ≡ Some z
+  pub both_defined_length : (m n : ℕ) (b : Bool) (r : List ℕ) (p : List (List ℕ)) (z : List ℕ × List ℕ) → 0 < m → m ≤ n → both H m n b r p ≡ Some z
       → length p ≡ subproof_length m n b
   unfolding both
   both_defined_length m n b r p z s w e = sym (length-reverse p) ∙ both_defined_down (reverse p) m n b r z s w e
 
-  pub both_defined : BothDefined H
+  pub proof_long_enough : (m n : ℕ) (b : Bool) (r : List ℕ) (p : List (List ℕ)) → 0 < m → m ≤ n → length p ≡ subproof_length m n b
+      → is_some (both H m n b r p) ≡ true
   unfolding both
-  both_defined m n b r p z w = (
-    λ s. let x = held (both H m n b r p) s in both_defined_length m n b r p x.0 z w x.1,
-    λ e. both_long_enough (reverse p) m n b r z w (length-reverse p ∙ e),
-  )
+  proof_long_enough m n b r p z w e = both_long_enough (reverse p) m n b r z w (length-reverse p ∙ e)
 
   not_empty : (m n : ℕ) (r : List ℕ) (p : List (List ℕ)) (z : List ℕ × List ℕ) → m < n → p ≡ [] → both H m n true r p ≡ Some z → ⊥
   unfolding both
   not_empty m n r p z l f e = none_some z (sym (both-end H m n true r l) ∙ sym (ap (both H m n true r) f) ∙ e)
 
-  pub proof_not_refused : ProofNotRefused H
-  proof_not_refused m n x y p SizesOutOfRange a r = r (a.0, a.1)
-  proof_not_refused m n x y p EmptyPath a r = not_empty m n x p (x, y) a.1 r.2 a.2
-  proof_not_refused m n x y p PathTooLong a r = omega (arith, r.2, both_defined_length m n true x p (x, y) a.0 (omega (arith, a.1)) a.2)
-  proof_not_refused m n x y p PathTooShort a r = omega (arith, r.3, both_defined_length m n true x p (x, y) a.0 (omega (arith, a.1)) a.2)
-  proof_not_refused m n x y p FirstMismatch a r =
+  pub accepted_proof_not_refused : (m n : ℕ) (x y : List ℕ) (p : List (List ℕ)) (fault : ProofFault) → AcceptsConsistency H m n x y p
+      → RefusesConsistency H m n x y p fault → ⊥
+  accepted_proof_not_refused m n x y p SizesOutOfRange a r = r (a.0, a.1)
+  accepted_proof_not_refused m n x y p EmptyPath a r = not_empty m n x p (x, y) a.1 r.2 a.2
+  accepted_proof_not_refused m n x y p PathTooLong a r = omega (arith, r.2, both_defined_length m n true x p (x, y) a.0 (omega (arith, a.1)) a.2)
+  accepted_proof_not_refused m n x y p PathTooShort a r = omega (arith, r.3, both_defined_length m n true x p (x, y) a.0 (omega (arith, a.1)) a.2)
+  accepted_proof_not_refused m n x y p FirstMismatch a r =
       let z : (r.2.0, r.2.1) ≡ (x, y) = same_some (r.2.0, r.2.1) (x, y) (sym r.2.2 ∙ a.2) in
       r.2.3 (ap (λ (v : List ℕ × List ℕ). v.0) z)
-  proof_not_refused m n x y p RootMismatch a r =
+  accepted_proof_not_refused m n x y p RootMismatch a r =
       let z : (x, r.2.0) ≡ (x, y) = same_some (x, r.2.0) (x, y) (sym r.2.1 ∙ a.2) in
       r.2.2 (ap (λ (v : List ℕ × List ℕ). v.1) z)
-  proof_not_refused m n x y p IndexOutOfRange a r = r
+  accepted_proof_not_refused m n x y p IndexOutOfRange a r = r

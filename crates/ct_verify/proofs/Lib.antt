@@ -6,3 +6,4 @@ pub mod Both
 pub mod PairWalk
 pub mod RebuildLaws
 pub mod Defined
+pub mod Equations

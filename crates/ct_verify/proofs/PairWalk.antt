@@ -5,7 +5,7 @@ use Rattle.std.proofs.lemmas.Bool.{cases_lt, both_ways, eq-eqb}
 use Rattle.std.proofs.lemmas.List.{drop_all, take_all}
 use Rattle.ct_tree.proofs.Split.{inside}
 use Rattle.ct_tree.proofs.SubproofLength.{subproof_length-up, subproof_length-first, subproof_length-odd}
-use Rattle.ct_tree.specs.Tree.{path_length, subproof_length}
+use Rattle.ct_tree.specs.Lengths.{path_length, subproof_length}
 use Rattle.ct_verify.proofs.Both.{both-halved, both-begin_known, both-begin, pair_up-one, pair_up-odd, pair_up-even, pair_up-lone}
 use Rattle.ct_verify.proofs.Walk.{up_last, lifted_inside}
 use Rattle.ct_verify.specs.Climb.{pair_up, pair_left, pair_right}

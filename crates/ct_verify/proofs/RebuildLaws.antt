@@ -13,7 +13,6 @@ use Rattle.ct_verify.proofs.Rebuild.{rebuild-one, rebuild_left, rebuild_right}
 use Rattle.ct_verify.proofs.Both.{both-left, both-right, both-end_whole, both-whole}
 use Rattle.ct_verify.specs.Climb.{pair_left, pair_right}
 use Rattle.ct_verify.specs.Rebuild.{rebuild, both, both_down}
-use Rattle.ct_verify.specs.Laws.{PathRebuilds, ProofRebuilds, PathAccepted, ProofAccepted, RebuildsLeft, RebuildsRight, BothKnown, BothGiven, BothLeft, BothRight}
 
 module _ (H : List ℕ → List ℕ) where
   pub rebuild-left : (m n k : ℕ) (h s : List ℕ) (q : List (List ℕ)) → 1 < n → split n ≡ k → m < k
@@ -26,7 +25,7 @@ module _ (H : List ℕ → List ℕ) where
   unfolding rebuild
   rebuild-right m n k h s q l e high = rw (reverse_last q s) (rebuild_right H m n k h s (reverse q) l e high)
 
-  path_rebuilds_at : (n m : ℕ) (D : List (List ℕ)) → length D ≡ n → m < n → rebuild H m n (get_or D m []) (path H m D) ≡ Some (mth H D)
+  pub path_rebuilds_at : (n m : ℕ) (D : List (List ℕ)) → length D ≡ n → m < n → rebuild H m n (get_or D m []) (path H m D) ≡ Some (mth H D)
   path_rebuilds_at =
       split_induct (λ n. (m : ℕ) (D : List (List ℕ)) → length D ≡ n → m < n → rebuild H m n (get_or D m []) (path H m D) ≡ Some (mth H D))
       (λ m D e l. absurd (omega arith))
@@ -73,12 +72,15 @@ module _ (H : List ℕ → List ℕ) where
   both_right m n k b r t s q l e high =
       rw (reverse_last q s) (both-right H m n k b r s (reverse q) l e high ∙ ap (option_map (λ z. pair_right H z s)) (both_any r t (reverse q) (m - k) (n - k)))
 
-  pub both_whole : (n : ℕ) (b : Bool) (x : List ℕ) → both H n n b x (cond b [] (x ∷ [])) ≡ Some (x, x)
+  both_whole : (n : ℕ) (b : Bool) (x : List ℕ) → both H n n b x (cond b [] (x ∷ [])) ≡ Some (x, x)
   unfolding both
   both_whole n true x = both-end_whole H n n true x (omega arith)
   both_whole n false x = both-whole H n n false x x [] (omega arith)
 
-  both_whole_given : (n : ℕ) (r x : List ℕ) → both H n n false r (x ∷ []) ≡ Some (x, x)
+  pub both_whole_known : (n : ℕ) (x : List ℕ) → both H n n true x [] ≡ Some (x, x)
+  both_whole_known n x = both_whole n true x
+
+  pub both_whole_given : (n : ℕ) (r x : List ℕ) → both H n n false r (x ∷ []) ≡ Some (x, x)
   unfolding both
   both_whole_given n r x = both-whole H n n false r x [] (omega arith)
 
@@ -94,7 +96,7 @@ module _ (H : List ℕ → List ℕ) where
       mth-split_at H (take m D) k (omega (arith, split_pos (length D) (omega arith))) f
       ∙ rw (take-take k m D (omega arith)) (ap (λ r. hash_node H (mth H (take k D)) (mth H r)) (ap (λ u. drop k (take u D)) (sym j) ∙ drop-take k (m - k) D))
 
-  proof_rebuilds_at : (n m : ℕ) (D : List (List ℕ)) (b : Bool) → length D ≡ n → 0 < m → m ≤ n
+  pub proof_rebuilds_at : (n m : ℕ) (D : List (List ℕ)) (b : Bool) → length D ≡ n → 0 < m → m ≤ n
       → both H m n b (mth H (take m D)) (subproof H m D b) ≡ Some (mth H (take m D), mth H D)
   proof_rebuilds_at =
       split_induct (λ n. (m : ℕ) (D : List (List ℕ)) (b : Bool) → length D ≡ n → 0 < m → m ≤ n → both H m n b (mth H (take m D)) (subproof H m D b) ≡ Some (mth H (take m D), mth H D))
@@ -128,34 +130,3 @@ module _ (H : List ℕ → List ℕ) where
       all n m D b e z g =
           let t : take m D ≡ D = take_all m D (omega arith) in
           rw (t, subproof-whole H m D b z (omega arith), g) (both_whole n b (mth H D))
-
-  -- ---- the laws
-  pub path_rebuilds : PathRebuilds H
-  path_rebuilds D m l = path_rebuilds_at (length D) m D refl l
-
-  pub proof_rebuilds : ProofRebuilds H
-  proof_rebuilds D m z l = proof_rebuilds_at (length D) m D true refl z (omega arith)
-
-  pub path_accepted : PathAccepted H
-  path_accepted D m l = (l, path_rebuilds D m l)
-
-  pub proof_accepted : ProofAccepted H
-  proof_accepted D m z l = (z, l, proof_rebuilds D m z l)
-
-  pub rebuilds_left : RebuildsLeft H
-  rebuilds_left m n h s q l low = rebuild-left m n (split n) h s q l refl low
-
-  pub rebuilds_right : RebuildsRight H
-  rebuilds_right m n h s q l high = rebuild-right m n (split n) h s q l refl high
-
-  pub both_known : BothKnown H
-  both_known n r = both_whole n true r
-
-  pub both_given : BothGiven H
-  both_given n r c = both_whole_given n r c
-
-  pub both_from_left : BothLeft H
-  both_from_left m n b r s q l low = both_left m n (split n) b r s q l refl low
-
-  pub both_from_right : BothRight H
-  both_from_right m n b r s q l high = both_right m n (split n) b r r s q l refl high

@@ -6,7 +6,8 @@ use Rattle.std.specs.Cmp.Lexicographic.{pointwise}
 use Rattle.std.proofs.lemmas.List.{drop_all}
 use Rattle.ct_tree.proofs.Split.{up}
 use Rattle.ct_tree.proofs.Length.{path_length-up, path_length-lone, path_length-one, path_length-left, path_length-right}
-use Rattle.ct_tree.specs.Tree.{hash_node, path_length, split}
+use Rattle.ct_tree.specs.Tree.{hash_node, split}
+use Rattle.ct_tree.specs.Lengths.{path_length}
 use Rattle.ct_verify.proofs.Rebuild.{rebuild-odd, rebuild-even, rebuild-lone, rebuild-one}
 use Rattle.ct_verify.specs.Rebuild.{rebuild}
 use Rattle.ct_verify.specs.Place.{Lifted, here, above}

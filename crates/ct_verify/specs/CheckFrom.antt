@@ -1,6 +1,6 @@
 -- What the walk along the rest of a consistency proof refuses.
 use Rattle.std.specs.Prelude.{◌≡◌, ℕ, ◌+◌, ◌<◌, List, length, Some}
-use Rattle.ct_tree.specs.Tree.{path_length}
+use Rattle.ct_tree.specs.Lengths.{path_length}
 use Rattle.ct_verify.specs.Climb.{pair_up}
 use Rattle.ct_verify.specs.declared.fault.ProofFault.{ProofFault}
 use Rattle.ct_verify.specs.declared.fault.ProofFault.TheVariants.{IndexOutOfRange, PathTooLong, PathTooShort, RootMismatch, EmptyPath, FirstMismatch, SizesOutOfRange}

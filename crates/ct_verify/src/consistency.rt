@@ -1,6 +1,6 @@
 //! Consistency proofs (RFC 9162, section 2.1.4.2).
 ghost use Rattle.std.specs.Prelude.{◌≡◌, ◌+◌, ◌<◌, ◌≤◌, List, ℕ, ◌∷◌, MatchResult};
-ghost use Rattle.ct_tree.specs.Tree.{path_length};
+ghost use Rattle.ct_tree.specs.Lengths.{path_length};
 ghost use Rattle.ct_verify.specs.Climb.{pair_up};
 ghost use Rattle.ct_verify.specs.CheckFrom.{WalkRefuses};
 ghost use Rattle.ct_verify.specs.Verdict.{AcceptsConsistency, RefusesConsistency};

@@ -1,6 +1,6 @@
 //! Audit paths (RFC 9162, section 2.1.3.2).
 ghost use Rattle.std.specs.Prelude.{◌≡◌, ◌+◌, ◌<◌, ◌≤◌, List, ℕ, ◌∷◌, MatchResult};
-ghost use Rattle.ct_tree.specs.Tree.{path_length};
+ghost use Rattle.ct_tree.specs.Lengths.{path_length};
 ghost use Rattle.ct_verify.specs.Rebuild.{rebuild};
 ghost use Rattle.ct_verify.specs.Verdict.{AcceptsInclusion, RefusesInclusion};
 

@@ -1,38 +1,38 @@
-//! What the definitions of the verifiers' answers say, for every hash function: each function's contract is a law of
-//! `rebuild` and `both`, and its body does nothing.
-ghost use Rattle.ct_verify.specs.Laws.{RebuildsLeaf, RebuildsLeft, RebuildsRight, RebuildsDefined, BothKnown, BothGiven, BothLeft, BothRight, BothDefined, PathRebuilds, PathAccepted, PathNotRefused, ProofRebuilds, ProofAccepted, ProofNotRefused};
+//! The laws of the definitions that the verifiers' contracts name, each a clause of a function that does nothing. A
+//! reader who believes these need not read how `specs/Rebuild.antt` reads a path from its end.
+ghost use Rattle.ct_verify.specs.Laws.{RebuildOfOne, RebuildInLeft, RebuildInRight, RebuildDefined, BothOfKnown, BothOfUnknown, BothInLeft, BothInRight, BothDefined, PathRebuilds, PathAccepted, PathNotRefused, ProofRebuilds, ProofAccepted, ProofNotRefused};
 
-use ct_tree::NodeHash;
-
-/// A root is rebuilt from an audit path as RFC 6962, section 2.1.1, makes the path, from the root down, and exactly
-/// where the path is as long as PATH.
-pub fn rebuild_equations<H: NodeHash>(_h: &H)
-    ensures leaf { RebuildsLeaf H.digest }
-    ensures left { RebuildsLeft H.digest }
-    ensures right { RebuildsRight H.digest }
-    ensures defined { RebuildsDefined H.digest }
+/// The root that an audit path gives to a leaf hash, from the root of the tree down.
+#[tactic(auto, using(crate::proofs::Equations::rebuild_of_one, crate::proofs::Equations::rebuild_in_left, crate::proofs::Equations::rebuild_in_right, crate::proofs::Equations::rebuild_defined))]
+pub fn rebuild()
+    ensures one { RebuildOfOne }
+    ensures left { RebuildInLeft }
+    ensures right { RebuildInRight }
+    ensures defined { RebuildDefined }
 {}
 
-/// Two roots are rebuilt from a consistency proof as RFC 6962, section 2.1.2, makes the proof, from the root down, and
-/// exactly where the proof is as long as SUBPROOF.
-pub fn both_equations<H: NodeHash>(_h: &H)
-    ensures known { BothKnown H.digest }
-    ensures given { BothGiven H.digest }
-    ensures left { BothLeft H.digest }
-    ensures right { BothRight H.digest }
-    ensures defined { BothDefined H.digest }
+/// The two roots that a consistency proof gives, from the root of the tree down.
+#[tactic(auto, using(crate::proofs::Equations::both_of_known, crate::proofs::Equations::both_of_unknown, crate::proofs::Equations::both_in_left, crate::proofs::Equations::both_in_right, crate::proofs::Equations::both_defined))]
+pub fn both()
+    ensures known { BothOfKnown }
+    ensures unknown { BothOfUnknown }
+    ensures left { BothInLeft }
+    ensures right { BothInRight }
+    ensures defined { BothDefined }
 {}
 
-/// The audit path of a leaf leads from its hash to the root, so it is accepted. No accepted path is refused.
-pub fn path_rebuilds<H: NodeHash>(_h: &H)
-    ensures rebuilds { PathRebuilds H.digest }
-    ensures accepted { PathAccepted H.digest }
-    ensures not_refused { PathNotRefused H.digest }
+/// Every audit path (RFC 6962, section 2.1.1) leads to its root, and is accepted. No accepted path is refused.
+#[tactic(auto, using(crate::proofs::Equations::path_rebuilds, crate::proofs::Equations::path_accepted, crate::proofs::Equations::path_not_refused))]
+pub fn path()
+    ensures rebuilds { PathRebuilds }
+    ensures accepted { PathAccepted }
+    ensures not_refused { PathNotRefused }
 {}
 
-/// The consistency proof between two sizes leads to both roots, so it is accepted. No accepted proof is refused.
-pub fn proof_rebuilds<H: NodeHash>(_h: &H)
-    ensures rebuilds { ProofRebuilds H.digest }
-    ensures accepted { ProofAccepted H.digest }
-    ensures not_refused { ProofNotRefused H.digest }
+/// Every consistency proof (RFC 6962, section 2.1.2) leads to both roots, and is accepted. No accepted proof is refused.
+#[tactic(auto, using(crate::proofs::Equations::proof_rebuilds, crate::proofs::Equations::proof_accepted, crate::proofs::Equations::proof_not_refused))]
+pub fn proof()
+    ensures rebuilds { ProofRebuilds }
+    ensures accepted { ProofAccepted }
+    ensures not_refused { ProofNotRefused }
 {}

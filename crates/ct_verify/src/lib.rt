@@ -8,14 +8,14 @@
 //! which hashes a proof has. A path is accepted exactly where `rebuild` (`specs/Rebuild.antt`) gives the root, and a
 //! consistency proof exactly where `both` gives the two roots. A refusal names the first fault in a fixed order
 //! ([`ProofFault`], `specs/Verdict.antt`). The walk of the code, from the leaf up by the bits of two numbers, appears in
-//! neither. [`path_rebuilds`] and [`proof_rebuilds`] are the laws that every true path and every true proof is accepted,
-//! [`rebuild_equations`] and [`both_equations`] the equations of the definitions.
+//! neither. The module [`laws`] shows that every true path and every true proof is accepted, and the
+//! equations of `rebuild` and `both`.
 #![tactic(auto)]
 
 mod consistency;
 mod fault;
 mod inclusion;
-mod laws;
+pub mod laws;
 mod place;
 #[cfg(test)]
 mod sweep_tests;
@@ -25,4 +25,3 @@ mod tests;
 pub use consistency::verify_consistency;
 pub use fault::ProofFault;
 pub use inclusion::verify_inclusion;
-pub use laws::{both_equations, path_rebuilds, proof_rebuilds, rebuild_equations};

@@ -5,7 +5,8 @@ ghost use Rattle.std.specs.Prelude.{◌≡◌, ◌<◌, IfOk};
 use crate::consistency::verify_consistency;
 use crate::fault::ProofFault;
 use crate::inclusion::verify_inclusion;
-use ct_tree::{Sha256Hash, leaf_hash, root_of};
+use ct_tree::reference::root;
+use ct_tree::{Sha256Hash, leaf_hash};
 use std::alloc::{AllocError, Global};
 
 // The largest power of two smaller than `n`.
@@ -25,11 +26,11 @@ fn plain_path(alloc: Global, leaves: &[[u8; 32]], m: usize) -> Result<Vec<[u8; 3
     let k = split(leaves.len());
     if m < k {
         let mut path = plain_path(alloc, &leaves[..k], m)?;
-        path.push(root_of(&Sha256Hash, &leaves[k..]))?;
+        path.push(root(&Sha256Hash, &leaves[k..]))?;
         Ok(path)
     } else {
         let mut path = plain_path(alloc, &leaves[k..], m - k)?;
-        path.push(root_of(&Sha256Hash, &leaves[..k]))?;
+        path.push(root(&Sha256Hash, &leaves[..k]))?;
         Ok(path)
     }
 }
@@ -44,18 +45,18 @@ fn plain_subproof(
     if m >= leaves.len() || leaves.len() < 2 {
         let mut proof = Vec::new(alloc);
         if !is_known {
-            proof.push(root_of(&Sha256Hash, leaves))?;
+            proof.push(root(&Sha256Hash, leaves))?;
         }
         return Ok(proof);
     }
     let k = split(leaves.len());
     if m <= k {
         let mut proof = plain_subproof(alloc, &leaves[..k], m, is_known)?;
-        proof.push(root_of(&Sha256Hash, &leaves[k..]))?;
+        proof.push(root(&Sha256Hash, &leaves[k..]))?;
         Ok(proof)
     } else {
         let mut proof = plain_subproof(alloc, &leaves[k..], m - k, false)?;
-        proof.push(root_of(&Sha256Hash, &leaves[..k]))?;
+        proof.push(root(&Sha256Hash, &leaves[..k]))?;
         Ok(proof)
     }
 }
@@ -124,7 +125,7 @@ fn answer_to_path(
 // Whether each path of a size is answered rightly: with each index, and each of its variants.
 fn are_paths_answered(alloc: Global, size: u8) -> Result<bool, AllocError> {
     let leaves = leaves_of(alloc, size)?;
-    let root = root_of(&Sha256Hash, &leaves);
+    let tree_root = root(&Sha256Hash, &leaves);
     let mut paths = Vec::new(alloc);
     for m in 0..leaves.len() {
         paths.push(plain_path(alloc, &leaves, m)?)?;
@@ -141,7 +142,7 @@ fn are_paths_answered(alloc: Global, size: u8) -> Result<bool, AllocError> {
                 index as u64,
                 size as u64,
                 &path,
-                &root,
+                &tree_root,
             );
             right = right && answer == wanted;
         }
@@ -153,7 +154,7 @@ fn are_paths_answered(alloc: Global, size: u8) -> Result<bool, AllocError> {
                 m as u64,
                 size as u64,
                 variant,
-                &root,
+                &tree_root,
             );
             right = right && answer == wanted && answer != Ok(());
         }
@@ -182,7 +183,7 @@ fn proofs_of(alloc: Global, leaves: &[[u8; 32]]) -> Result<Proofs, AllocError> {
     let mut roots = Vec::new(alloc);
     for first in 0..leaves.len() {
         proofs.push(plain_subproof(alloc, leaves, first, true)?)?;
-        roots.push(root_of(&Sha256Hash, &leaves[..first]))?;
+        roots.push(root(&Sha256Hash, &leaves[..first]))?;
     }
     Ok(Proofs { proofs, roots })
 }
@@ -225,11 +226,11 @@ fn with_one_mismatch(answer: Result<(), ProofFault>) -> Result<(), ProofFault> {
 // Whether each proof up to a size is answered rightly: with each first size, and each of its variants.
 fn are_proofs_answered(alloc: Global, size: u8) -> Result<bool, AllocError> {
     let leaves = leaves_of(alloc, size)?;
-    let root = root_of(&Sha256Hash, &leaves);
+    let tree_root = root(&Sha256Hash, &leaves);
     let all = proofs_of(alloc, &leaves)?;
     let mut right = true;
     for m in 1..leaves.len() {
-        let first_root = root_of(&Sha256Hash, &leaves[..m]);
+        let first_root = root(&Sha256Hash, &leaves[..m]);
         let proof = plain_subproof(alloc, &leaves, m, true)?;
         for first in 0..=leaves.len() {
             let wanted = answer_to_proof(&all, first, &first_root, &proof);
@@ -238,7 +239,7 @@ fn are_proofs_answered(alloc: Global, size: u8) -> Result<bool, AllocError> {
                 first as u64,
                 size as u64,
                 &first_root,
-                &root,
+                &tree_root,
                 &proof,
             );
             right = right && with_one_mismatch(answer) == wanted;
@@ -250,7 +251,7 @@ fn are_proofs_answered(alloc: Global, size: u8) -> Result<bool, AllocError> {
                 m as u64,
                 size as u64,
                 &first_root,
-                &root,
+                &tree_root,
                 variant,
             );
             right = right && with_one_mismatch(answer) == wanted && answer != Ok(());

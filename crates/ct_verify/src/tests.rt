@@ -7,7 +7,7 @@ ghost use Rattle.std.proofs.lemmas.List.{length-replicate};
 use crate::consistency::verify_consistency;
 use crate::fault::ProofFault;
 use crate::inclusion::verify_inclusion;
-use crate::laws::{both_equations, path_rebuilds, proof_rebuilds, rebuild_equations};
+use crate::laws;
 use ct_tree::{NodeHash, Sha256Hash};
 
 const L0: [u8; 32] = [
@@ -208,8 +208,8 @@ fn another_hash(rt: HostRuntime) {
     let path = [ZEROS; 64];
     assert!(rt; verify_inclusion(&ZeroHash, &ZEROS, 0, size, &path, &ZEROS) == Ok(()));
     assert!(rt; verify_consistency(&ZeroHash, 1, size, &ZEROS, &ZEROS, &path) == Ok(()));
-    rebuild_equations(&ZeroHash);
-    both_equations(&ZeroHash);
-    path_rebuilds(&ZeroHash);
-    proof_rebuilds(&ZeroHash);
+    laws::rebuild();
+    laws::both();
+    laws::path();
+    laws::proof();
 }
