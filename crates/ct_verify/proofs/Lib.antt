@@ -7,3 +7,9 @@ pub mod PairWalk
 pub mod RebuildLaws
 pub mod Defined
 pub mod Equations
+pub mod Leaves
+pub mod Shown
+pub mod Comparing
+pub mod Explaining
+pub mod Prefix
+pub mod Walking

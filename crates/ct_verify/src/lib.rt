@@ -12,9 +12,14 @@
 //! equations of `rebuild` and `both`.
 #![tactic(auto)]
 
+mod children;
 mod consistency;
+mod consistency_evidence;
+mod evidence;
 mod fault;
+mod halves;
 mod inclusion;
+mod inclusion_evidence;
 pub mod laws;
 mod place;
 #[cfg(test)]
@@ -23,5 +28,8 @@ mod sweep_tests;
 mod tests;
 
 pub use consistency::verify_consistency;
+pub use consistency_evidence::explain_consistency;
+pub use evidence::{Evidence, EvidenceFault};
 pub use fault::ProofFault;
 pub use inclusion::verify_inclusion;
+pub use inclusion_evidence::explain_inclusion;
