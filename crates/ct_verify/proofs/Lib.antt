@@ -1,0 +1,15 @@
+pub mod Options
+pub mod Along
+pub mod Rebuild
+pub mod Walk
+pub mod Both
+pub mod PairWalk
+pub mod RebuildLaws
+pub mod Defined
+pub mod Equations
+pub mod Leaves
+pub mod Shown
+pub mod Comparing
+pub mod Explaining
+pub mod Prefix
+pub mod Walking

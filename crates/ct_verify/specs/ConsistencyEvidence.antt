@@ -1,0 +1,28 @@
+-- What the evidence for a consistency proof says, against the old leaves E and the new ones D.
+use Rattle.std.specs.Prelude.{◌≡◌, ℕ, List, length, take}
+use Rattle.ct_tree.specs.Tree.{mth_of_leaves}
+use Rattle.ct_verify.specs.Evidence.{Collides}
+use Rattle.ct_verify.specs.Verdict.{AcceptsConsistency, RefusesConsistency}
+use Rattle.ct_verify.specs.declared.evidence.Evidence.{Evidence}
+use Rattle.ct_verify.specs.declared.evidence.Evidence.TheVariants.{Holds, Collision}
+use Rattle.ct_verify.specs.declared.evidence.EvidenceFault.{EvidenceFault}
+use Rattle.ct_verify.specs.declared.evidence.EvidenceFault.TheVariants.{ProofRefused, Memory}
+
+-- the proof is accepted against MTH of both lists and their numbers
+abbrev pub IsAcceptedFor : (List ℕ → List ℕ) → List (List ℕ) → List (List ℕ) → List (List ℕ) → Type 0
+IsAcceptedFor H E D p = AcceptsConsistency H (length E) (length D) (mth_of_leaves H E) (mth_of_leaves H D) p
+
+-- the old list is the beginning of the new one
+abbrev pub Begins : List (List ℕ) → List (List ℕ) → Type 0
+Begins E D = E ≡ take (length E) D
+
+-- Holds: accepted, and the old list begins the new one. Collision: accepted, it doesn't, and here are two strings that
+-- differ and have one hash
+abbrev pub ConsistencyEvidence : (List ℕ → List ℕ) → List (List ℕ) → List (List ℕ) → List (List ℕ) → Evidence → Type 0
+ConsistencyEvidence H E D p Holds = IsAcceptedFor H E D p × Begins E D
+ConsistencyEvidence H E D p (Collision a b) = IsAcceptedFor H E D p × (¬ Begins E D) × Collides H a.items b.items
+
+-- ProofRefused: the verifier's own refusal. Memory: accepted, and the old list doesn't begin the new one
+abbrev pub ConsistencyFault : (List ℕ → List ℕ) → List (List ℕ) → List (List ℕ) → List (List ℕ) → EvidenceFault → Type 0
+ConsistencyFault H E D p (ProofRefused v) = RefusesConsistency H (length E) (length D) (mth_of_leaves H E) (mth_of_leaves H D) p v
+ConsistencyFault H E D p Memory = IsAcceptedFor H E D p × (¬ Begins E D)

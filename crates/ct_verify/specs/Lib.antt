@@ -1,0 +1,12 @@
+pub mod Rebuild
+pub mod Verdict
+pub mod Laws
+pub mod Evidence
+pub mod InclusionEvidence
+pub mod ConsistencyEvidence
+pub mod Climb
+pub mod Place
+pub mod CheckFrom
+pub mod Strings
+pub mod Difference
+pub mod Search

@@ -1,0 +1,194 @@
+//! Evidence for an accepted audit path: it is the list's own, or two strings have one hash.
+ghost use Rattle.std.specs.Prelude.{◌≡◌, ◌+◌, ◌-◌, ◌<◌, ◌≤◌, ℕ, List, length, map, get_or, IsTrue, ◌↔◌, [], ◌∷◌, ◌++◌, IfOk, OnOk, MatchResult, Some, None, Ok};
+ghost use Rattle.std.specs.Option.{option_map};
+ghost use Rattle.ct_tree.specs.Tree.{hash_leaf, mth_of_leaves};
+ghost use Rattle.ct_verify.specs.Rebuild.{rebuild};
+ghost use Rattle.ct_verify.specs.Evidence.{compared, evid, IsAudited};
+ghost use Rattle.ct_verify.specs.Strings.{children_string};
+ghost use Rattle.ct_verify.specs.Difference.{strings, IsCollision};
+ghost use Rattle.ct_verify.specs.InclusionEvidence.{InclusionEvidence, InclusionFault};
+ghost use Rattle.ct_verify.specs.declared.evidence.Evidence.TheVariants.{Holds};
+
+use crate::children::{Children, is_same_string, under_node};
+use crate::evidence::{Evidence, EvidenceFault, joined};
+use crate::fault::ProofFault;
+use crate::halves::{largest_power_below, last_and_rest, root_of_leaves};
+use crate::inclusion::verify_inclusion;
+use ct_tree::{NodeHash, leaf_hash, node_hash};
+use std::alloc::{AllocError, Global};
+
+// Where the strings of a path and those of a list differ.
+#[derive(Clone, Copy)]
+enum Difference {
+    AtLeaf,
+    AtNode(Children, Children),
+}
+
+// A path beside a list of leaves: the root that the path gives, the root of the list, and the topmost
+// difference.
+#[derive(Clone, Copy)]
+struct Compared {
+    rebuilt: [u8; 32],
+    listed: [u8; 32],
+    difference: Option<Difference>,
+}
+
+// The difference at this node, or else the one below.
+fn topmost(proved: Children, listed: Children, below: Option<Difference>) -> Option<Difference>
+    ensures { (leaf other : List ℕ) → option_map (strings leaf other) result
+        ≡ compared (children_string proved) (children_string listed) (option_map (strings leaf other) below) }
+{
+    if is_same_string(&proved, &listed) {
+        below
+    } else {
+        Some(Difference::AtNode(proved, listed))
+    }
+}
+
+// One level up.
+fn join<H: NodeHash>(
+    h: &H,
+    proved: Children,
+    listed: Children,
+    below: Option<Difference>,
+) -> Compared
+    ensures rebuilt { result.rebuilt ≡ H.digest (children_string proved) }
+    ensures listed { result.listed ≡ H.digest (children_string listed) }
+    ensures difference { (leaf other : List ℕ) → option_map (strings leaf other) result.difference
+        ≡ compared (children_string proved) (children_string listed) (option_map (strings leaf other) below) }
+{
+    let rebuilt = node_hash(h, &proved.left, &proved.right);
+    let root = node_hash(h, &listed.left, &listed.right);
+    Compared {
+        rebuilt,
+        listed: root,
+        difference: topmost(proved, listed, below),
+    }
+}
+
+// A leaf beside the only leaf of a list.
+fn compare_leaves<H: NodeHash>(h: &H, leaf: &[u8], listed: &[u8]) -> Compared
+    ensures rebuilt { result.rebuilt ≡ hash_leaf H.digest leaf.now }
+    ensures listed { result.listed ≡ hash_leaf H.digest listed.now }
+    ensures difference { option_map (strings leaf.now listed.now) result.difference ≡ compared (0 ∷ leaf.now) (0 ∷ listed.now) None }
+{
+    let difference = if leaf == listed {
+        None
+    } else {
+        Some(Difference::AtLeaf)
+    };
+    let rebuilt = leaf_hash(h, leaf);
+    let root = leaf_hash(h, listed);
+    Compared {
+        rebuilt,
+        listed: root,
+        difference,
+    }
+}
+
+// A path beside a list of leaves, each leaf hashed once. Where the path has not the length of the
+// leaf's path, only the list's root is told.
+fn compare<H: NodeHash>(
+    h: &H,
+    leaves: &[Vec<u8>],
+    leaf: &[u8],
+    index: usize,
+    path: &[[u8; 32]],
+) -> Compared
+    requires { 0 < length leaves.now }
+    ensures listed { result.listed ≡ mth_of_leaves H.digest (map (λ l. l.items) leaves.now) }
+    ensures rebuilt { (r : List ℕ) → rebuild H.digest index (length leaves.now) (hash_leaf H.digest leaf.now) path.now ≡ Some r
+        → result.rebuilt ≡ r }
+    ensures difference { (r : List ℕ) → index < length leaves.now
+        → rebuild H.digest index (length leaves.now) (hash_leaf H.digest leaf.now) path.now ≡ Some r
+        → option_map (strings leaf.now (get_or (map (λ l. l.items) leaves.now) index [])) result.difference
+        ≡ evid H.digest (map (λ l. l.items) leaves.now) leaf.now index path.now }
+{
+    if leaves.len() == 1 {
+        return compare_leaves(h, leaf, &leaves[0]);
+    }
+    let middle = largest_power_below(leaves.len());
+    let (sibling, rest) = last_and_rest(path);
+    if index < middle {
+        let side = compare(h, &leaves[..middle], leaf, index, rest);
+        let other = root_of_leaves(h, &leaves[middle..]);
+        join(h, under_node(side.rebuilt, sibling), under_node(side.listed, other), side.difference)
+    } else {
+        let side = compare(h, &leaves[middle..], leaf, index - middle, rest);
+        let other = root_of_leaves(h, &leaves[..middle]);
+        join(h, under_node(sibling, side.rebuilt), under_node(other, side.listed), side.difference)
+    }
+}
+
+// The two strings of one hash.
+fn collision(
+    alloc: Global,
+    difference: Difference,
+    leaf: &[u8],
+    listed: &[u8],
+) -> Result<Evidence, AllocError>
+    ensures { IfOk result (IsCollision (strings leaf.now listed.now difference)) }
+{
+    match difference {
+        Difference::AtLeaf => {
+            let proved = joined(alloc, 0, leaf, &[])?;
+            let other = joined(alloc, 0, listed, &[])?;
+            Ok(Evidence::Collision(proved, other))
+        }
+        Difference::AtNode(proved, listed) => {
+            let first = joined(alloc, 1, &proved.left, &proved.right)?;
+            let second = joined(alloc, 1, &listed.left, &listed.right)?;
+            Ok(Evidence::Collision(first, second))
+        }
+    }
+}
+
+// The evidence that the comparison gives.
+fn evidence_for<H: NodeHash>(
+    alloc: Global,
+    h: &H,
+    leaves: &[Vec<u8>],
+    leaf: &[u8],
+    index: u64,
+    path: &[[u8; 32]],
+) -> Result<Evidence, EvidenceFault>
+    ensures { MatchResult result (InclusionEvidence H.digest (map (λ l. l.items) leaves.now) leaf.now index path.now)
+        (InclusionFault H.digest (map (λ l. l.items) leaves.now) leaf.now index path.now) }
+{
+    let size = leaves.len() as u64;
+    if index >= size {
+        return Err(EvidenceFault::ProofRefused(ProofFault::IndexOutOfRange));
+    }
+    let compared = compare(h, leaves, leaf, index as usize, path);
+    let hash = leaf_hash(h, leaf);
+    verify_inclusion(h, &hash, index, size, path, &compared.listed)?;
+    match compared.difference {
+        None => Ok(Evidence::Holds),
+        Some(difference) => Ok(collision(alloc, difference, leaf, &leaves[index as usize])?),
+    }
+}
+
+/// Explains an audit path against the list of the leaves: their root and their number stand for the tree head.
+///
+/// `Holds` says that the leaf is the list's element at the index and the path its audit path. `Collision` gives two
+/// strings that differ and have one hash: the string that the proof hashes and the one that the list hashes, at the place
+/// nearest the root where they differ (`01` and two hashes for a node, `00` and the leaf for a leaf). This holds for
+/// every hash function. Each leaf is hashed once, and memory is taken for the strings alone.
+///
+/// # Errors
+/// `ProofRefused` with the fault of [`verify_inclusion`](crate::verify_inclusion) where that refuses the path, and
+/// `Memory` in place of a `Collision` where a growth was refused.
+pub fn explain_inclusion<H: NodeHash>(
+    alloc: Global,
+    h: &H,
+    leaves: &[Vec<u8>],
+    leaf: &[u8],
+    index: u64,
+    path: &[[u8; 32]],
+) -> Result<Evidence, EvidenceFault>
+    ensures explained { MatchResult result (InclusionEvidence H.digest (map (λ l. l.items) leaves.now) leaf.now index path.now)
+        (InclusionFault H.digest (map (λ l. l.items) leaves.now) leaf.now index path.now) }
+    ensures holds { IsAudited H.digest (map (λ l. l.items) leaves.now) leaf.now index path.now → result ≡ Ok Holds }
+{
+    evidence_for(alloc, h, leaves, leaf, index, path)
+}

@@ -1,0 +1,35 @@
+//! The two verifiers of a Certificate Transparency log's proofs.
+//!
+//! [`verify_inclusion`] checks an audit path and [`verify_consistency`] a consistency proof, by the steps of
+//! RFC 9162, sections 2.1.3.2 and 2.1.4.2, for every hash function with digests of 32 bytes, every size of 64 bits and
+//! every path. They take no memory and hash at most two nodes for each element of the path.
+//!
+//! What an answer means is said from the root of the tree down to the leaf, as RFC 6962, sections 2.1.1 and 2.1.2, says
+//! which hashes a proof has. A path is accepted exactly where `rebuild` (`specs/Rebuild.antt`) gives the root, and a
+//! consistency proof exactly where `both` gives the two roots. A refusal names the first fault in a fixed order
+//! ([`ProofFault`], `specs/Verdict.antt`). The walk of the code, from the leaf up by the bits of two numbers, appears in
+//! neither. The module [`laws`] shows that every true path and every true proof is accepted, and the
+//! equations of `rebuild` and `both`.
+#![tactic(auto)]
+
+mod children;
+mod consistency;
+mod consistency_evidence;
+mod evidence;
+mod fault;
+mod halves;
+mod inclusion;
+mod inclusion_evidence;
+pub mod laws;
+mod place;
+#[cfg(test)]
+mod sweep_tests;
+#[cfg(test)]
+mod tests;
+
+pub use consistency::verify_consistency;
+pub use consistency_evidence::explain_consistency;
+pub use evidence::{Evidence, EvidenceFault};
+pub use fault::ProofFault;
+pub use inclusion::verify_inclusion;
+pub use inclusion_evidence::explain_inclusion;
