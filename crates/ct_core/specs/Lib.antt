@@ -1,0 +1,4 @@
+pub mod Tree
+pub mod Leaf
+pub mod Settlement
+pub mod Core
