@@ -1,0 +1,5 @@
+pub mod Fields
+pub mod Asked
+pub mod Requests
+pub mod Answers
+pub mod ReplyText

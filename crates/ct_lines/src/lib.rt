@@ -1,0 +1,22 @@
+//! Request lines and reply lines: one JSON object a line (RFC 8259), bytes as base64 (RFC 4648, section 4).
+//!
+//! - `read_line` answers the `Request` that a line is, or `BadLine` exactly where it is none.
+//! - `reply_text` answers the text of a `Reply` or of a refusal, with the end of the line.
+//!
+//! What a line asks and how a reply is written are defined in `specs/`, over `serde_json`'s own words for the value
+//! of a text and the text of a value, and over `base64`'s strict decoding and encoding.
+#![tactic(auto)]
+
+mod query;
+mod reading;
+mod reply;
+mod request;
+#[cfg(test)]
+mod tests;
+mod writing;
+
+pub use query::Query;
+pub use reading::read_line;
+pub use reply::Reply;
+pub use request::{Audit, FrontRequest, FrozenRequest, OperatorRequest, Request};
+pub use writing::reply_text;
