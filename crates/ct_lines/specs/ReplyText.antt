@@ -1,12 +1,13 @@
 -- The text of a reply: compact JSON, keys in byte order, and the end of the line.
-use Rattle.std.specs.Prelude.{ℕ, List, [], ◌∷◌, ◌++◌, codes}
-use Rattle.serde_json.specs.Data.{Data, number, unsigned, string, object, member, no_members}
+use Rattle.std.specs.Prelude.{ℕ, List, [], ◌∷◌, ◌++◌, map, codes}
+use Rattle.serde_json.specs.Data.{Data, number, unsigned, string, array, object, member, no_members}
+use Rattle.serde_json.specs.View.{items_of}
 use Rattle.serde_json.specs.Written.{compact_text}
 use Rattle.base64.specs.Engines.{standard}
 use Rattle.base64.specs.GeneralPurpose.{encode_of}
 use Rattle.ct_codec.specs.declared.refusal.Refusal.{Refusal}
 use Rattle.ct_codec.specs.declared.refusal.Refusal.TheVariants.{Memory, Full, Shutdown, FrontSpent, EmptyChain, EmptyCertificate, CertificateTooLong, ChainTooLong, ClockBack, UnknownSize, BadRange, UnknownLeaf, MissingFront, BadLine, NotYet, Late, Closed}
-use Rattle.ct_lines.specs.Answers.{Answer, a_head, a_ticket, an_accepted_count, refused}
+use Rattle.ct_lines.specs.Answers.{EntryText, Answer, a_head, a_proof, an_index, some_entries, an_entry, a_receipt, a_ticket, a_reached_size, a_settled_count, a_publication, an_accepted_count, a_proof_that_holds, a_refused_proof, a_collision, refused}
 
 -- the name of a refusal
 abbrev pub refusal_name : Refusal → List ℕ
@@ -32,18 +33,50 @@ refusal_name Closed = codes "closed"
 unfoldable pub base64_text : List ℕ → List ℕ
 base64_text bytes = encode_of standard bytes
 
--- a number, a text, and bytes as JSON values
-abbrev pub count : ℕ → Data
-count n = number (unsigned n)
+-- a number as a JSON value
+abbrev pub number_data : ℕ → Data
+number_data n = number (unsigned n)
 
-abbrev pub bytes : List ℕ → Data
-bytes b = string (base64_text b)
+-- bytes as a JSON string
+abbrev pub bytes_data : List ℕ → Data
+bytes_data b = string (base64_text b)
+
+-- hashes as a JSON array
+abbrev pub hashes_data : List (List ℕ) → Data
+hashes_data hs = array (items_of (map bytes_data hs))
+
+-- an entry as a JSON object, and entries as a JSON array
+abbrev pub entry_data : EntryText → Data
+entry_data e = object (member (codes "extra_data") (bytes_data e.extra_data) (member (codes "leaf_input") (bytes_data e.leaf_input) no_members))
+
+abbrev pub entries_data : List EntryText → Data
+entries_data es = array (items_of (map entry_data es))
+
+-- the object of one count
+abbrev pub count_data : List ℕ → ℕ → Data
+count_data key n = object (member key (number_data n) no_members)
+
+-- the object of a verdict and nothing more
+abbrev pub verdict_data : List ℕ → Data
+verdict_data verdict = object (member (codes "verdict") (string verdict) no_members)
 
 -- the JSON object of an answer, its keys in byte order
 abbrev pub reply_data : Answer → Data
-reply_data (a_head h) = object (member (codes "sha256_root_hash") (bytes h.root) (member (codes "timestamp") (count h.timestamp) (member (codes "tree_size") (count h.tree_size) no_members)))
-reply_data (a_ticket n) = object (member (codes "ticket") (count n) no_members)
-reply_data (an_accepted_count n) = object (member (codes "accepted") (count n) no_members)
+reply_data (a_head h) = object (member (codes "sha256_root_hash") (bytes_data h.root) (member (codes "timestamp") (number_data h.timestamp) (member (codes "tree_size") (number_data h.tree_size) no_members)))
+reply_data (a_proof path) = object (member (codes "consistency") (hashes_data path) no_members)
+reply_data (an_index index path) = object (member (codes "audit_path") (hashes_data path) (member (codes "leaf_index") (number_data index) no_members))
+reply_data (some_entries es) = object (member (codes "entries") (entries_data es) no_members)
+reply_data (an_entry e path) = object (member (codes "audit_path") (hashes_data path) (member (codes "extra_data") (bytes_data e.extra_data) (member (codes "leaf_input") (bytes_data e.leaf_input) no_members)))
+reply_data (a_receipt index timestamp) =
+    object (member (codes "extensions") (string (codes "")) (member (codes "leaf_index") (number_data index) (member (codes "sct_version") (number_data 0) (member (codes "timestamp") (number_data timestamp) no_members))))
+reply_data (a_ticket n) = count_data (codes "ticket") n
+reply_data (a_reached_size n) = count_data (codes "reached") n
+reply_data (a_settled_count n) = count_data (codes "settled") n
+reply_data (a_publication timestamp size) = object (member (codes "timestamp") (number_data timestamp) (member (codes "tree_size") (number_data size) no_members))
+reply_data (an_accepted_count n) = count_data (codes "accepted") n
+reply_data a_proof_that_holds = verdict_data (codes "holds")
+reply_data a_refused_proof = verdict_data (codes "refused")
+reply_data (a_collision left right) = object (member (codes "left") (bytes_data left) (member (codes "right") (bytes_data right) (member (codes "verdict") (string (codes "collision")) no_members)))
 reply_data (refused e) = object (member (codes "error") (string (refusal_name e)) no_members)
 
 -- the line of an answer

@@ -4,9 +4,11 @@
 //! - `reply_text` answers the text of a `Reply` or of a refusal, with the end of the line.
 //!
 //! What a line asks and how a reply is written are defined in `specs/`, over `serde_json`'s own words for the value
-//! of a text and the text of a value, and over `base64`'s strict decoding and encoding.
+//! of a text and the text of a value, and over `base64`'s strict decoding and encoding: `Fields` says what stands
+//! under a key, `Asked` what a line asks, `ReplyText` how an answer is written.
 #![tactic(auto)]
 
+mod fields;
 mod query;
 mod reading;
 mod reply;
@@ -17,6 +19,6 @@ mod writing;
 
 pub use query::Query;
 pub use reading::read_line;
-pub use reply::Reply;
+pub use reply::{Reply, ShownEntry};
 pub use request::{Audit, FrontRequest, FrozenRequest, OperatorRequest, Request};
 pub use writing::reply_text;
