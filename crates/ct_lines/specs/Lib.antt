@@ -3,3 +3,4 @@ pub mod Asked
 pub mod Requests
 pub mod Answers
 pub mod ReplyText
+pub mod Laws

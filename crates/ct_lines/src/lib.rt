@@ -9,6 +9,7 @@
 #![tactic(auto)]
 
 mod fields;
+mod laws;
 mod query;
 mod reading;
 mod reply;
@@ -17,6 +18,7 @@ mod request;
 mod tests;
 mod writing;
 
+pub use laws::{bytes_read_back, line_is_one_request};
 pub use query::Query;
 pub use reading::read_line;
 pub use reply::{Reply, ShownEntry};

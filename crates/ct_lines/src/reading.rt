@@ -101,11 +101,7 @@ fn query(alloc: Global, op: &str, value: &Value) -> Result<Option<Query>, AllocE
 }
 
 // What a front asks by an op.
-fn front_request(
-    alloc: Global,
-    op: &str,
-    value: &Value,
-) -> Result<Option<FrontRequest>, AllocError>
+fn front_request(alloc: Global, op: &str, value: &Value) -> Result<Option<FrontRequest>, AllocError>
     ensures { IfOk result (λ o. option_map front_asked o ≡ front_asks op.now (view value.now)) }
 {
     match op {

@@ -31,7 +31,10 @@ pub enum Reply {
         audit_path: Vec<[u8; 32]>,
     },
     /// The index of a submission's leaf, and the leaf's timestamp in milliseconds.
-    Receipt { leaf_index: u64, timestamp: u64 },
+    Receipt {
+        leaf_index: u64,
+        timestamp: u64,
+    },
     /// The ticket of a submission that was accepted.
     Ticket(u64),
     /// The size that was waited for.
@@ -39,7 +42,10 @@ pub enum Reply {
     /// How many submissions were settled.
     Settled(u64),
     /// The timestamp in milliseconds and the size of the tree head that was published.
-    Published { timestamp: u64, tree_size: u64 },
+    Published {
+        timestamp: u64,
+        tree_size: u64,
+    },
     /// How many submissions were accepted in all.
     Accepted(u64),
     /// An audited proof holds: the leaf stands at that index, and the path is its audit path.
@@ -48,5 +54,8 @@ pub enum Reply {
     Refused,
     /// An audited proof gives the root and doesn't hold: two different strings with one hash, the proof's and the
     /// log's.
-    Collision { left: Vec<u8>, right: Vec<u8> },
+    Collision {
+        left: Vec<u8>,
+        right: Vec<u8>,
+    },
 }

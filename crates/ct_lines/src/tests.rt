@@ -159,7 +159,10 @@ fn other_lines_are_bad(rt: HostRuntime) {
         let answer = read_line(rt.alloc(), line.as_bytes());
         assert!(rt; matches!(answer, Err(Refusal::BadLine)), "{line}");
     }
-    let not_text = read_line(rt.alloc(), b"{\"who\":\"operator\",\"op\":\"shutdown\",\"\xff\":0}");
+    let not_text = read_line(
+        rt.alloc(),
+        b"{\"who\":\"operator\",\"op\":\"shutdown\",\"\xff\":0}",
+    );
     assert!(rt; matches!(not_text, Err(Refusal::BadLine)));
 }
 
@@ -186,7 +189,10 @@ fn depth_and_length_have_limits(rt: HostRuntime) -> Result<(), Fail> {
     assert_eq!(rt; read(&rt, &nested(&rt, 126)?)?.as_str(), shutdown);
     assert_eq!(rt; read(&rt, &nested(&rt, 127)?)?.as_str(), "Err(BadLine)");
     assert_eq!(rt; read(&rt, &padded(&rt, 1_048_576)?)?.as_str(), shutdown);
-    assert_eq!(rt; read(&rt, &padded(&rt, 1_048_577)?)?.as_str(), "Err(BadLine)");
+    assert_eq!(rt;
+        read(&rt, &padded(&rt, 1_048_577)?)?.as_str(),
+        "Err(BadLine)"
+    );
     Ok(())
 }
 
@@ -236,7 +242,10 @@ fn replies_to_queries_are_written(rt: HostRuntime) -> Result<(), Fail> {
             Reply::Sth(head),
             "{\"sha256_root_hash\":\"47DEQpj8HBSa+/TImW+5JCeuQeRkm5NMpJWZG3hSuFU=\",\"timestamp\":7,\"tree_size\":0}\n",
         ),
-        (Reply::Consistency(Vec::new(alloc)), "{\"consistency\":[]}\n"),
+        (
+            Reply::Consistency(Vec::new(alloc)),
+            "{\"consistency\":[]}\n",
+        ),
         (
             Reply::Consistency(Vec::from_slice(alloc, &[HASH])?),
             "{\"consistency\":[\"AAECAwQFBgcICQoLDA0ODxAREhMUFRYXGBkaGxwdHh8=\"]}\n",
