@@ -1,6 +1,6 @@
 pub mod Fields
 pub mod Asked
 pub mod Requests
-pub mod Answers
+pub mod Replies
 pub mod ReplyText
 pub mod Laws

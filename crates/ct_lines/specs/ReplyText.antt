@@ -1,5 +1,5 @@
 -- The text of a reply: compact JSON, keys in byte order, and the end of the line.
-use Rattle.std.specs.Prelude.{ℕ, List, [], ◌∷◌, ◌++◌, map, codes}
+use Rattle.std.specs.Prelude.{ℕ, List, [], ◌∷◌, ◌++◌, map, Result, Ok, Err, codes}
 use Rattle.serde_json.specs.Data.{Data, number, unsigned, string, array, object, member, no_members}
 use Rattle.serde_json.specs.View.{items_of}
 use Rattle.serde_json.specs.Written.{compact_text}
@@ -7,7 +7,8 @@ use Rattle.base64.specs.Engines.{standard}
 use Rattle.base64.specs.GeneralPurpose.{encode_of}
 use Rattle.ct_codec.specs.declared.refusal.Refusal.{Refusal}
 use Rattle.ct_codec.specs.declared.refusal.Refusal.TheVariants.{Memory, Full, Shutdown, FrontSpent, EmptyChain, EmptyCertificate, CertificateTooLong, ChainTooLong, ClockBack, UnknownSize, BadRange, UnknownLeaf, MissingFront, BadLine, NotYet, Late, Closed}
-use Rattle.ct_lines.specs.Answers.{EntryText, Answer, a_head, a_proof, an_index, some_entries, an_entry, a_receipt, a_ticket, a_reached_size, a_settled_count, a_publication, an_accepted_count, a_proof_that_holds, a_refused_proof, a_collision, refused}
+use Rattle.ct_lines.specs.declared.query.Reply.{Reply}
+use Rattle.ct_lines.specs.Replies.{EntryText, Answer, a_head, a_proof, an_index, some_entries, an_entry, a_receipt, a_ticket, a_reached_size, a_settled_count, a_published_head, an_accepted_count, proof_holds, proof_refused, a_collision, refused, shown}
 
 -- the name of a refusal
 abbrev pub refusal_name : Refusal → List ℕ
@@ -72,12 +73,17 @@ reply_data (a_receipt index timestamp) =
 reply_data (a_ticket n) = count_data (codes "ticket") n
 reply_data (a_reached_size n) = count_data (codes "reached") n
 reply_data (a_settled_count n) = count_data (codes "settled") n
-reply_data (a_publication timestamp size) = object (member (codes "timestamp") (number_data timestamp) (member (codes "tree_size") (number_data size) no_members))
+reply_data (a_published_head h) = object (member (codes "timestamp") (number_data h.timestamp) (member (codes "tree_size") (number_data h.tree_size) no_members))
 reply_data (an_accepted_count n) = count_data (codes "accepted") n
-reply_data a_proof_that_holds = verdict_data (codes "holds")
-reply_data a_refused_proof = verdict_data (codes "refused")
+reply_data proof_holds = verdict_data (codes "holds")
+reply_data proof_refused = verdict_data (codes "refused")
 reply_data (a_collision left right) = object (member (codes "left") (bytes_data left) (member (codes "right") (bytes_data right) (member (codes "verdict") (string (codes "collision")) no_members)))
 reply_data (refused e) = object (member (codes "error") (string (refusal_name e)) no_members)
+
+-- what a reply, or a refusal in its place, says
+abbrev pub answered : Result Reply Refusal → Answer
+answered (Ok r) = shown r
+answered (Err e) = refused e
 
 -- the line of an answer
 abbrev pub reply_line : Answer → List ℕ

@@ -12,15 +12,13 @@ mod fields;
 mod laws;
 mod query;
 mod reading;
-mod reply;
 mod request;
 #[cfg(test)]
 mod tests;
 mod writing;
 
 pub use laws::{bytes_read_back, line_is_one_request};
-pub use query::Query;
+pub use query::{Query, Reply, ShownEntry};
 pub use reading::read_line;
-pub use reply::{Reply, ShownEntry};
 pub use request::{Audit, FrontRequest, FrozenRequest, OperatorRequest, Request};
 pub use writing::reply_text;

@@ -274,13 +274,13 @@ fn replies_to_queries_are_written(rt: HostRuntime) -> Result<(), Fail> {
 
 #[test]
 fn other_replies_are_written(rt: HostRuntime) -> Result<(), Fail> {
-    let collision = Reply::Collision {
-        left: Vec::from_slice(rt.alloc(), &[0, 0x42])?,
-        right: Vec::from_slice(rt.alloc(), &[0, 0x41])?,
-    };
-    let published = Reply::Published {
-        timestamp: 4,
+    let alloc = rt.alloc();
+    let left = Vec::from_slice(alloc, &[0, 0x42])?;
+    let right = Vec::from_slice(alloc, &[0, 0x41])?;
+    let published = Head {
         tree_size: 1,
+        timestamp: 4,
+        root: HASH,
     };
     for (reply, text) in [
         (
@@ -289,12 +289,15 @@ fn other_replies_are_written(rt: HostRuntime) -> Result<(), Fail> {
         ),
         (Reply::Reached(1), "{\"reached\":1}\n"),
         (Reply::Settled(2), "{\"settled\":2}\n"),
-        (published, "{\"timestamp\":4,\"tree_size\":1}\n"),
+        (
+            Reply::Published(published),
+            "{\"timestamp\":4,\"tree_size\":1}\n",
+        ),
         (Reply::Accepted(0), "{\"accepted\":0}\n"),
         (Reply::Holds, "{\"verdict\":\"holds\"}\n"),
         (Reply::Refused, "{\"verdict\":\"refused\"}\n"),
         (
-            collision,
+            Reply::Collision(left, right),
             "{\"left\":\"AEI=\",\"right\":\"AEE=\",\"verdict\":\"collision\"}\n",
         ),
     ] {

@@ -2,10 +2,10 @@
 
 ghost use Rattle.std.specs.Prelude.{◌≡◌, IfOk, map, string_bytes};
 ghost use Rattle.serde_json.specs.View.{view};
-ghost use Rattle.ct_lines.specs.Answers.{a_head, a_proof, an_index, some_entries, an_entry, a_receipt, a_publication, a_collision, refused, shown, shown_text, answered};
-ghost use Rattle.ct_lines.specs.ReplyText.{refusal_name, base64_text, bytes_data, hashes_data, entry_data, entries_data, count_data, verdict_data, reply_data, reply_line};
+ghost use Rattle.ct_lines.specs.Replies.{a_head, a_proof, an_index, some_entries, an_entry, a_receipt, a_published_head, a_collision, refused, shown, shown_text};
+ghost use Rattle.ct_lines.specs.ReplyText.{refusal_name, base64_text, bytes_data, hashes_data, entry_data, entries_data, count_data, verdict_data, reply_data, answered, reply_line};
 
-use crate::reply::{Reply, ShownEntry};
+use crate::query::{Reply, ShownEntry};
 use base64::engine::general_purpose::STANDARD;
 use ct_codec::Refusal;
 use ct_tree::{Head, Memory};
@@ -137,10 +137,10 @@ fn receipt_value(alloc: Global, leaf_index: u64, timestamp: u64) -> Result<Value
     json!(in alloc; {"extensions": "", "leaf_index": leaf_index, "sct_version": 0u64, "timestamp": timestamp})
 }
 
-fn publication_value(alloc: Global, timestamp: u64, tree_size: u64) -> Result<Value, Memory>
-    ensures { IfOk result (λ v. view v ≡ reply_data (a_publication timestamp tree_size)) }
+fn published_value(alloc: Global, head: &Head) -> Result<Value, Memory>
+    ensures { IfOk result (λ v. view v ≡ reply_data (a_published_head head.now)) }
 {
-    json!(in alloc; {"timestamp": timestamp, "tree_size": tree_size})
+    json!(in alloc; {"timestamp": head.timestamp, "tree_size": head.tree_size})
 }
 
 // The reply of a verdict and nothing more.
@@ -186,14 +186,11 @@ fn shown_value(alloc: Global, reply: &Reply) -> Result<Value, Memory>
         Reply::Ticket(ticket) => count_value(alloc, "ticket", *ticket),
         Reply::Reached(tree_size) => count_value(alloc, "reached", *tree_size),
         Reply::Settled(count) => count_value(alloc, "settled", *count),
-        Reply::Published {
-            timestamp,
-            tree_size,
-        } => publication_value(alloc, *timestamp, *tree_size),
+        Reply::Published(head) => published_value(alloc, head),
         Reply::Accepted(count) => count_value(alloc, "accepted", *count),
         Reply::Holds => verdict_value(alloc, "holds"),
         Reply::Refused => verdict_value(alloc, "refused"),
-        Reply::Collision { left, right } => collision_value(alloc, left, right),
+        Reply::Collision(left, right) => collision_value(alloc, left, right),
     }
 }
 
@@ -208,7 +205,7 @@ fn reply_value(alloc: Global, reply: &Result<Reply, Refusal>) -> Result<Value, M
 }
 
 /// The text of a reply or of a refusal: compact JSON with its keys in byte order, and the byte 0A.
-#[tactic(auto, using(crate::proofs::Replies::no_float))]
+#[tactic(auto, using(crate::proofs::NoFloat::no_float))]
 pub fn reply_text(alloc: Global, reply: &Result<Reply, Refusal>) -> Result<Vec<u8>, Memory>
     ensures { IfOk result (λ b. b.items ≡ reply_line (answered reply.now)) }
 {
