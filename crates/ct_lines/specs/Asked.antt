@@ -1,0 +1,131 @@
+-- What a request line asks.
+use Rattle.std.specs.Prelude.{◌≡◌, ◌≤◌, ℕ, List, length, Option, Some, None, option_map, option_and_then, if◌then◌else◌, codes}
+use Rattle.std.specs.Str.{bytes_eq, IsUtf8}
+use Rattle.serde_json.specs.Data.{Data, null, boolean, number, string, array, object}
+use Rattle.serde_json.specs.Read.{read}
+use Rattle.serde_json.specs.Find.{get, as_u64}
+use Rattle.ct_lines.specs.Fields.{text_at, number_at, bytes_at, bytes_list_at, hash_at, hashes_at}
+use Rattle.ct_lines.specs.declared.query.Query.{Query}
+use Rattle.ct_lines.specs.declared.query.Query.TheVariants.{GetSth, Consistency, ProofByHash, Entries, EntryAndProof, Receipt}
+
+-- who makes a request: a front by its number, the operator, or a reader of the frozen log
+pub data Party : Type 0 where
+  front : ℕ → Party
+  operator : Party
+  frozen : Party
+
+-- what a front asks
+pub data FrontAsked : Type 0 where
+  add_chain : List (List ℕ) → FrontAsked
+  await_size : ℕ → FrontAsked
+  front_query : Query → FrontAsked
+
+-- what the operator asks; to sequence has a front, a count and a moment, to publish a moment
+pub data OperatorAsked : Type 0 where
+  sequence : ℕ → ℕ → ℕ → OperatorAsked
+  publish : ℕ → OperatorAsked
+  shutdown : OperatorAsked
+
+-- a proof of inclusion: a leaf, its index, a tree size and an audit path
+pub data AuditAsked : Type 0 where
+  audit : List ℕ → ℕ → ℕ → List (List ℕ) → AuditAsked
+
+-- what a reader of the frozen log asks
+pub data FrozenAsked : Type 0 where
+  frozen_query : Query → FrozenAsked
+  frozen_audit : AuditAsked → FrozenAsked
+
+-- what a request asks, and who
+pub data Asked : Type 0 where
+  by_front : ℕ → FrontAsked → Asked
+  by_operator : OperatorAsked → Asked
+  by_frozen : FrozenAsked → Asked
+
+-- the party of a name
+abbrev pub named_party : List ℕ → Option Party
+named_party name = if bytes_eq name (codes "operator") then Some operator else (if bytes_eq name (codes "frozen") then Some frozen else None)
+
+-- the party that a value names: a number is a front
+abbrev pub party_in : Data → Option Party
+party_in null = None
+party_in (boolean b) = None
+party_in (number n) = option_map front (as_u64 n)
+party_in (string name) = named_party name
+party_in (array ds) = None
+party_in (object ms) = None
+
+-- who makes the request
+abbrev pub party_at : Data → Option Party
+party_at d = option_and_then party_in (get (codes "who") d)
+
+-- the questions of the ops get-sth-consistency, get-proof-by-hash, get-entries, get-entry-and-proof and receipt
+abbrev pub consistency_asked : Data → Option Query
+consistency_asked d = option_and_then (λ first. option_map (λ second. Consistency first second) (number_at (codes "second") d)) (number_at (codes "first") d)
+
+abbrev pub proof_by_hash_asked : Data → Option Query
+proof_by_hash_asked d = option_and_then (λ hash. option_map (λ size. ProofByHash hash size) (number_at (codes "tree_size") d)) (hash_at (codes "hash") d)
+
+abbrev pub entries_asked : Data → Option Query
+entries_asked d = option_and_then (λ start. option_map (λ end. Entries start end) (number_at (codes "end") d)) (number_at (codes "start") d)
+
+abbrev pub entry_and_proof_asked : Data → Option Query
+entry_and_proof_asked d = option_and_then (λ index. option_map (λ size. EntryAndProof index size) (number_at (codes "tree_size") d)) (number_at (codes "leaf_index") d)
+
+abbrev pub receipt_asked : Data → Option Query
+receipt_asked d = option_map (λ ticket. Receipt ticket) (number_at (codes "ticket") d)
+
+-- the question that an op asks
+abbrev pub query_asked : List ℕ → Data → Option Query
+query_asked op d =
+    if bytes_eq op (codes "get-sth") then Some GetSth
+    else (if bytes_eq op (codes "get-sth-consistency") then consistency_asked d
+    else (if bytes_eq op (codes "get-proof-by-hash") then proof_by_hash_asked d
+    else (if bytes_eq op (codes "get-entries") then entries_asked d
+    else (if bytes_eq op (codes "get-entry-and-proof") then entry_and_proof_asked d
+    else (if bytes_eq op (codes "receipt") then receipt_asked d else None)))))
+
+-- what a front asks by an op
+abbrev pub front_asks : List ℕ → Data → Option FrontAsked
+front_asks op d =
+    if bytes_eq op (codes "add-chain") then option_map add_chain (bytes_list_at (codes "chain") d)
+    else (if bytes_eq op (codes "await-size") then option_map await_size (number_at (codes "tree_size") d)
+    else option_map front_query (query_asked op d))
+
+-- the op sequence
+abbrev pub sequence_asked : Data → Option OperatorAsked
+sequence_asked d = option_and_then (λ from. option_and_then (λ count. option_map (λ now. sequence from count now) (number_at (codes "now") d)) (number_at (codes "count") d)) (number_at (codes "from") d)
+
+-- what the operator asks by an op
+abbrev pub operator_asks : List ℕ → Data → Option OperatorAsked
+operator_asks op d =
+    if bytes_eq op (codes "sequence") then sequence_asked d
+    else (if bytes_eq op (codes "publish") then option_map publish (number_at (codes "now") d)
+    else (if bytes_eq op (codes "shutdown") then Some shutdown else None))
+
+-- the op audit
+abbrev pub audit_asked : Data → Option AuditAsked
+audit_asked d =
+    option_and_then (λ leaf. option_and_then (λ index. option_and_then (λ size. option_map (λ path. audit leaf index size path)
+    (hashes_at (codes "audit_path") d)) (number_at (codes "tree_size") d)) (number_at (codes "leaf_index") d)) (bytes_at (codes "leaf_input") d)
+
+-- what a reader of the frozen log asks by an op
+abbrev pub frozen_asks : List ℕ → Data → Option FrozenAsked
+frozen_asks op d =
+    if bytes_eq op (codes "audit") then option_map frozen_audit (audit_asked d)
+    else option_map frozen_query (query_asked op d)
+
+-- what a party asks by an op
+abbrev pub asked_by : Party → List ℕ → Data → Option Asked
+asked_by (front n) op d = option_map (by_front n) (front_asks op d)
+asked_by operator op d = option_map by_operator (operator_asks op d)
+asked_by frozen op d = option_map by_frozen (frozen_asks op d)
+
+-- what a JSON value asks
+abbrev pub asked_in : Data → Option Asked
+asked_in d = option_and_then (λ who. option_and_then (λ op. asked_by who op d) (text_at (codes "op") d)) (party_at d)
+
+-- the line is a request that asks this: it is not too long, is UTF-8, and is JSON that asks this
+pub record IsRequest (line : List ℕ) (a : Asked) : Type 0 where
+  pub fits : length line ≤ 1048576
+  pub text : IsUtf8 line
+  pub value : option_and_then asked_in (read line) ≡ Some a

@@ -1,0 +1,47 @@
+-- The requests as the code has them.
+use Rattle.std.specs.Prelude.{map}
+use Rattle.ct_lines.specs.Asked.{Asked, by_front, by_operator, by_frozen, FrontAsked, add_chain, await_size, front_query, OperatorAsked, sequence, publish, shutdown, AuditAsked, audit, FrozenAsked, frozen_query, frozen_audit, Party, front, operator, frozen}
+use Rattle.ct_lines.specs.declared.reading.Party.{Party as CodeParty}
+use Rattle.ct_lines.specs.declared.reading.Party.TheVariants as party_case
+use Rattle.ct_lines.specs.declared.request.FrontRequest.{FrontRequest}
+use Rattle.ct_lines.specs.declared.request.FrontRequest.TheVariants as front_case
+use Rattle.ct_lines.specs.declared.request.OperatorRequest.{OperatorRequest}
+use Rattle.ct_lines.specs.declared.request.OperatorRequest.TheVariants as operator_case
+use Rattle.ct_lines.specs.declared.request.Audit.{Audit}
+use Rattle.ct_lines.specs.declared.request.FrozenRequest.{FrozenRequest}
+use Rattle.ct_lines.specs.declared.request.FrozenRequest.TheVariants as frozen_case
+use Rattle.ct_lines.specs.declared.request.Request.{Request}
+use Rattle.ct_lines.specs.declared.request.Request.TheVariants as request_case
+
+-- what a front's request asks
+abbrev pub front_asked : FrontRequest → FrontAsked
+front_asked (front_case.AddChain chain) = add_chain (map (λ c. c.items) chain.items)
+front_asked (front_case.AwaitSize n) = await_size n
+front_asked (front_case.Ask q) = front_query q
+
+-- what the operator's request asks
+abbrev pub operator_asked : OperatorRequest → OperatorAsked
+operator_asked (operator_case.Sequence from count now) = sequence from count now
+operator_asked (operator_case.Publish now) = publish now
+operator_asked operator_case.Shutdown = shutdown
+
+-- the proof of inclusion that is to be audited
+abbrev pub audit_of : Audit → AuditAsked
+audit_of a = audit a.leaf_input.items a.leaf_index a.tree_size a.audit_path.items
+
+-- what the request of a reader of the frozen log asks
+abbrev pub frozen_asked : FrozenRequest → FrozenAsked
+frozen_asked (frozen_case.Ask q) = frozen_query q
+frozen_asked (frozen_case.Audit a) = frozen_audit (audit_of a)
+
+-- what a request asks
+abbrev pub asked : Request → Asked
+asked (request_case.Front n r) = by_front n (front_asked r)
+asked (request_case.Operator r) = by_operator (operator_asked r)
+asked (request_case.Frozen r) = by_frozen (frozen_asked r)
+
+-- who makes a request
+abbrev pub party : CodeParty → Party
+party (party_case.Front n) = front n
+party party_case.Operator = operator
+party party_case.Frozen = frozen

@@ -1,0 +1,24 @@
+//! Request lines and reply lines: one JSON object a line (RFC 8259), bytes as base64 (RFC 4648, section 4).
+//!
+//! - `read_line` answers the `Request` that a line is, or `BadLine` exactly where it is none.
+//! - `reply_text` answers the text of a `Reply` or of a refusal, with the end of the line.
+//!
+//! What a line asks and how a reply is written are defined in `specs/`, over `serde_json`'s own words for the value
+//! of a text and the text of a value, and over `base64`'s strict decoding and encoding: `Fields` says what stands
+//! under a key, `Asked` what a line asks, `ReplyText` how an answer is written.
+#![tactic(auto)]
+
+mod fields;
+mod laws;
+mod query;
+mod reading;
+mod request;
+#[cfg(test)]
+mod tests;
+mod writing;
+
+pub use laws::{bytes_read_back, line_is_one_request};
+pub use query::{Query, Reply, ShownEntry};
+pub use reading::read_line;
+pub use request::{Audit, FrontRequest, FrozenRequest, OperatorRequest, Request};
+pub use writing::reply_text;
