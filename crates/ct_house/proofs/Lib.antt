@@ -1,0 +1,5 @@
+pub mod LaneLemmas
+pub mod OpeningLemmas
+pub mod SequencerLemmas
+pub mod FinishLemmas
+pub mod SequenceLemmas
