@@ -1,0 +1,30 @@
+-- What was received, beside what was sent.
+use Rattle.std.proofs.Common.{◌≡◌, ℕ, zero, suc, ◌+◌, List, [], ◌∷◌, ◌++◌, map, length, All, refl, sym, ap, ◌∙◌, subst, arith, length-append, append-nil, append_assoc, IsTrue, nat_eq}
+use Rattle.std.proofs.lemmas.Bool.Decides.{nat_tests}
+use Rattle.std.proofs.lemmas.List.{map-append, length-map, nil_from_length}
+use Rattle.ct_codec.specs.declared.item.Item.{Item}
+use Rattle.ct_gate.specs.Ends.{numbered, made_item}
+
+numbered_own : (n : ℕ) (xs : List Item) → All (λ (t : Item). t.front ≡ n) xs → numbered n xs ≡ xs
+numbered_own n [] h = refl
+numbered_own n (x ∷ xs) h = λ i. record { front = sym (h 0 x (omega arith)) i; ticket = x.ticket; submission = x.submission } ∷ numbered_own n xs (λ k d lt. h (suc k) d (omega arith)) i
+
+-- n is the outlet's number and m the intake's
+pub in_order : (n m : ℕ) (taken known sent : List Item) → taken ++ known ≡ sent → All (λ (t : Item). t.front ≡ m) sent → n ≡ m → numbered n taken ++ numbered n known ≡ sent
+in_order n m taken known sent e h same =
+    sym (map-append (λ (t : Item). made_item n t.ticket t.submission) taken known) ∙ ap (numbered n) e ∙ numbered_own n sent (subst (λ (k : ℕ). All (λ (t : Item). t.front ≡ k) sent) (sym same) h)
+
+pub all_taken : (n m : ℕ) (taken known sent : List Item) → taken ++ known ≡ sent → All (λ (t : Item). t.front ≡ m) sent → n ≡ m → length known ≡ 0 → numbered n taken ≡ sent
+all_taken n m taken known sent e h same none =
+    sym (append-nil (numbered n taken)) ∙ ap (λ (l : List Item). numbered n taken ++ numbered n l) (sym (nil_from_length known none)) ∙ in_order n m taken known sent e h same
+
+pub none_known : (n : ℕ) (taken known sent : List Item) → taken ++ known ≡ sent → numbered n taken ≡ sent → length known ≡ 0
+none_known n taken known sent e all =
+    omega (arith, length-append taken known, ap length e, ap length all, length-map taken (λ (t : Item). made_item n t.ticket t.submission))
+
+pub popped : (before after known left sent : List Item) (x : Item) → after ≡ before ++ x ∷ [] → known ≡ x ∷ left → before ++ known ≡ sent → after ++ left ≡ sent
+popped before after known left sent x grown first all =
+    ap (λ (l : List Item). l ++ left) grown ∙ append_assoc before (x ∷ []) left ∙ ap (λ (l : List Item). before ++ l) (sym first) ∙ all
+
+pub is_zero : (n : ℕ) → IsTrue (nat_eq n 0) → n ≡ 0
+is_zero n h = grind (arith, nat_tests)

@@ -1,0 +1,20 @@
+-- The end of a gate. The shutter's seat takes in each front's, so that one view has all tickets.
+use Rattle.std.specs.Prelude.{ℕ, ◌+◌, false, ◌||◌, ◌++◌, []}
+use Rattle.ct_codec.specs.Items.{tickets_of}
+use Rattle.ct_gate.specs.declared.view.FrontTickets.{FrontTickets}
+use Rattle.ct_gate.specs.declared.view.SeatView.{SeatView}
+use Rattle.ct_gate.specs.Ends.{IntakeView}
+use Rattle.ct_gate.specs.Opening.{stands_for}
+
+-- the fronts of both, and the first one's place as shutter
+abbrev pub both : SeatView → SeatView → SeatView
+both v w =
+    record { fronts = v.fronts ++ w.fronts; knows_shutdown = v.knows_shutdown || w.knows_shutdown; refused = v.refused + w.refused; is_shutter = v.is_shutter; accepted = v.accepted }
+
+-- what is left of a seat that was taken in
+abbrev pub spent : SeatView
+spent = stands_for [] false
+
+-- an intake's front and its tickets
+abbrev pub front_tickets : IntakeView → FrontTickets
+front_tickets i = record { front = i.number; tickets = tickets_of i.accepted }

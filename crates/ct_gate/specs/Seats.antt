@@ -1,0 +1,32 @@
+-- What the seats at the gate word know. A seat's view stands for fronts, each with the tickets that were drawn for it.
+use Rattle.std.specs.Prelude.{◌≡◌, ℕ, ◌+◌, Bool, true, false, List, [], ◌∷◌, map, flat_map, Option, None}
+use mathlib.Core.Option.{some}
+use lib.ListN.{get_elem?}
+use Rattle.ct_gate.specs.declared.view.FrontTickets.{FrontTickets}
+use Rattle.ct_gate.specs.declared.view.SeatView.{SeatView}
+
+-- the numbers of the fronts that the view stands for
+abbrev pub fronts_in : SeatView → List ℕ
+fronts_in v = map (λ f. f.front) v.fronts
+
+-- the tickets of all these fronts
+abbrev pub tickets_in : SeatView → List ℕ
+tickets_in v = flat_map (λ f. f.tickets) v.fronts
+
+-- how many refused draws were made in all
+abbrev pub refused_draws : List SeatView → ℕ
+refused_draws [] = 0
+refused_draws (v ∷ vs) = v.refused + refused_draws vs
+
+-- P holds of each seat's number and view
+abbrev pub EachView : (ℕ → SeatView → Type 0) → List SeatView → Type 0
+EachView P views = (id : ℕ) (v : SeatView) → get_elem? views id ≡ some v → P id v
+
+-- of one front's seat
+abbrev pub front_view : ℕ → List ℕ → Bool → ℕ → SeatView
+front_view number tickets knows_shutdown refused =
+    record { fronts = record { front = number; tickets = tickets } ∷ []; knows_shutdown = knows_shutdown; refused = refused; is_shutter = false; accepted = None }
+
+-- of the shutter's seat
+abbrev pub shutter_view : Option ℕ → SeatView
+shutter_view accepted = record { fronts = []; knows_shutdown = false; refused = 0; is_shutter = true; accepted = accepted }

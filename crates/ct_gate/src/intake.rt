@@ -1,0 +1,107 @@
+//! A front's end of the gate, which accepts submissions.
+
+ghost use Rattle.std.specs.Prelude.{◌≡◌, true, MatchResult};
+ghost use Rattle.ct_gate.specs.Ends.{SameIntake};
+ghost use Rattle.ct_gate.specs.Sending.{Accepts, Refuses};
+
+use crate::word::{Draw, Gate, Glance, Place, SHUTDOWN};
+use ct_codec::{Item, Refusal, Submission};
+use rtrb::Producer;
+use std::marker::Model;
+use std::sync::Arc;
+
+/// How many submissions of one front are accepted at most.
+const MOST: u64 = 1 << 32;
+
+/// Accepts the submissions of one front. It can move to a thread of its own.
+///
+/// Contracts see its gate, its front's number, its ring and the ring's places, the items accepted so far,
+/// and whether it knows of the shutdown.
+#[derive(Drop)]
+pub struct Intake {
+    pub(crate) table: Arc<Gate>,
+    pub(crate) seat: Place,
+    pub(crate) producer: Producer<Item>,
+    pub(crate) number: u16,
+    pub(crate) tickets: u64,
+    pub(crate) knows_shutdown: bool,
+}
+
+impl Model for Intake {
+    ghost use Rattle.std.specs.Prelude.{◌≡◌, ◌≤◌, ◌+◌, ◌^◌, [], length, All};
+    ghost use Rattle.std.specs.Arc.{arc_value};
+    ghost use Rattle.rtrb.specs.Ring.{sent, known_free, producer_capacity};
+    ghost use Rattle.ct_codec.specs.Items.{tickets_of};
+    ghost use Rattle.ct_gate.specs.Seats.{front_view};
+    ghost use Rattle.ct_gate.specs.Ring.{producer_ring};
+    ghost use Rattle.ct_gate.specs.Ends.{IntakeView};
+
+    ghost Value = { IntakeView };
+
+    ghost view = { λ i. record { gate = i.seat.table_id; number = i.number; ring = producer_ring i.producer; places = producer_capacity i.producer; accepted = sent i.producer; knows_shutdown = i.knows_shutdown } };
+
+    // The seat is of the table. Its view has the front's number and, in order, the tickets of the items that were
+    // pushed. As many were pushed as the ring has places, or a free place is known.
+    ghost invariant = { λ i.
+        (i.seat.table_id ≡ (arc_value i.table).shared.table_id) × (i.seat.table_id.words ≡ 1)
+        × (i.seat.me ≡ (front_view i.number (tickets_of (sent i.producer)) i.knows_shutdown i.seat.me.0.refused, []))
+        × (i.tickets ≡ length (sent i.producer)) × (i.tickets ≤ 2 ^ 32)
+        × All (λ t. t.front ≡ i.number) (sent i.producer)
+        × (producer_capacity i.producer ≤ known_free i.producer + length (sent i.producer)) };
+}
+
+impl Intake {
+    /// The number of its front.
+    pub fn number(&self) -> u16
+        ensures { result ≡ self.now.number }
+    {
+        self.number
+    }
+
+    // One glance at the word, unless the shutdown is known.
+    fn is_shut(&mut self) -> bool
+        ensures same { SameIntake self.old self.new × (self.new.accepted ≡ self.old.accepted) }
+        ensures knows_shutdown { (result ≡ self.new.knows_shutdown) × (self.old.knows_shutdown ≡ true → self.new.knows_shutdown ≡ true) }
+    {
+        if !self.knows_shutdown {
+            let found = self.table.shared.load::<Glance>(&mut self.seat, 0);
+            self.knows_shutdown = found >= SHUTDOWN;
+        }
+        self.knows_shutdown
+    }
+
+    /// Accepts a submission and answers its ticket, or hands it back with the reason. It takes no memory and waits for nobody.
+    ///
+    /// The refusals, in order: `Shutdown` where a glance at the gate word, or an earlier refused draw, showed the
+    /// shutdown; `FrontSpent` where 2^32 submissions of this front were accepted; `Full` where no free place of the
+    /// ring is known. Then one draw is made, which is `Shutdown` too where the gate was shut in between.
+    pub fn send(&mut self, submission: Submission) -> Result<u64, (Refusal, Submission)>
+        ensures same { SameIntake self.old self.new }
+        ensures shutdown { self.old.knows_shutdown ≡ true → self.new.knows_shutdown ≡ true }
+        ensures answer { MatchResult result
+            (λ ticket. Accepts self.old submission ticket self.new)
+            (λ r. (r.1 ≡ submission) × (self.new.accepted ≡ self.old.accepted) × Refuses self.old r.0 self.new) }
+    {
+        if self.is_shut() {
+            return Err((Refusal::Shutdown, submission));
+        }
+        if self.tickets == MOST {
+            return Err((Refusal::FrontSpent, submission));
+        }
+        if self.producer.is_full() {
+            return Err((Refusal::Full, submission));
+        }
+        let ticket = self.table.shared.fetch_add::<Draw>(&mut self.seat, 0, 1);
+        if ticket >= SHUTDOWN {
+            self.knows_shutdown = true;
+            return Err((Refusal::Shutdown, submission));
+        }
+        self.tickets += 1;
+        self.producer.push_reserved(Item {
+            front: self.number,
+            ticket,
+            submission,
+        });
+        Ok(ticket)
+    }
+}

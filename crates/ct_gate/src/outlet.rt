@@ -1,0 +1,81 @@
+//! The end of a front's ring that takes items out.
+
+ghost use Rattle.std.specs.Prelude.{◌≡◌, ◌++◌, ◌∷◌, [], ◌↔◌, IsTrue, MatchOption, IfSome};
+ghost use mathlib.Core.List.{IsPrefix};
+ghost use Rattle.ct_gate.specs.Ends.{SameOutlet, AreEnds, made_item};
+
+use crate::intake::Intake;
+use ct_codec::Item;
+use rtrb::Consumer;
+use std::marker::Model;
+
+/// Takes out the accepted submissions of one front, in order. It can move to a thread of its own.
+///
+/// Contracts see its front's number, its ring, and the items received so far.
+#[derive(Drop)]
+pub struct Outlet {
+    pub(crate) consumer: Consumer<Item>,
+    pub(crate) number: u16,
+}
+
+impl Model for Outlet {
+    ghost use Rattle.rtrb.specs.Ring.{received as taken};
+    ghost use Rattle.ct_gate.specs.Ring.{consumer_ring};
+    ghost use Rattle.ct_gate.specs.Ends.{OutletView, numbered};
+
+    ghost Value = { OutletView };
+
+    ghost view = { λ o. record { number = o.number; ring = consumer_ring o.consumer; received = numbered o.number (taken o.consumer) } };
+}
+
+impl Outlet {
+    /// The next item of the front, where one is seen. It takes no memory and waits for nobody.
+    ///
+    /// `None` says nothing of what the front has sent: an item may come into sight later.
+    pub fn take(&mut self) -> Option<Item>
+        ensures same { SameOutlet self.old self.new }
+        ensures next { MatchOption result (self.new.received ≡ self.old.received) (λ i. self.new.received ≡ self.old.received ++ i ∷ []) }
+        ensures numbered { IfSome result (λ i. i.front ≡ self.old.number) }
+    {
+        match self.consumer.pop() {
+            Ok(item) => Some(numbered(self.number, item)),
+            Err(_) => None,
+        }
+    }
+
+    /// The next item, with both ends of the ring at hand: `None` where all that was accepted has been received.
+    /// It takes no memory and waits for nobody.
+    pub fn drain_step(&mut self, intake: &mut Intake) -> Option<Item>
+        requires { AreEnds intake.old self.old }
+        ensures same { SameOutlet self.old self.new × (intake.new ≡ intake.old) }
+        ensures next { MatchOption result ((self.new.received ≡ self.old.received) × (self.new.received ≡ intake.old.accepted)) (λ i. self.new.received ≡ self.old.received ++ i ∷ []) }
+        ensures begins { IsPrefix self.new.received intake.old.accepted }
+        ensures numbered { IfSome result (λ i. i.front ≡ self.old.number) }
+    {
+        if self.consumer.slots_beside(&mut intake.producer) == 0 {
+            return None;
+        }
+        let item = self.consumer.pop_known();
+        Some(numbered(self.number, item))
+    }
+
+    /// Whether all that was accepted has been received. It takes nothing out, and no memory.
+    pub fn is_drained(&mut self, intake: &mut Intake) -> bool
+        requires { AreEnds intake.old self.old }
+        ensures same { (self.new ≡ self.old) × (intake.new ≡ intake.old) }
+        ensures answer { IsTrue result ↔ (self.old.received ≡ intake.old.accepted) }
+    {
+        self.consumer.slots_beside(&mut intake.producer) == 0
+    }
+}
+
+// The item, with the front's number.
+fn numbered(number: u16, item: Item) -> Item
+    ensures { result ≡ made_item number item.ticket item.submission }
+{
+    Item {
+        front: number,
+        ticket: item.ticket,
+        submission: item.submission,
+    }
+}

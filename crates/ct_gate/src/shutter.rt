@@ -1,0 +1,60 @@
+//! The end that shuts the gate.
+
+ghost use Rattle.std.specs.Prelude.{◌≡◌, ◌≢◌, None, Some, MatchResult};
+ghost use Rattle.ct_codec.specs.declared.refusal.Refusal.TheVariants.{Shutdown};
+ghost use Rattle.ct_gate.specs.Ends.{SameShutter};
+
+use crate::word::{Gate, Place, SHUTDOWN, Shut};
+use ct_codec::Refusal;
+use std::marker::Model;
+use std::sync::Arc;
+
+/// Shuts the gate, once. It can move to a thread of its own.
+///
+/// Contracts see its gate, the number of fronts that this has, and how many submissions were accepted, once it was shut.
+#[derive(Drop)]
+pub struct Shutter {
+    pub(crate) table: Arc<Gate>,
+    pub(crate) seat: Place,
+    pub(crate) accepted: Option<u64>,
+}
+
+impl Model for Shutter {
+    ghost use Rattle.std.specs.Prelude.{◌≡◌, []};
+    ghost use Rattle.std.specs.Arc.{arc_value};
+    ghost use Rattle.ct_gate.specs.Seats.{shutter_view};
+    ghost use Rattle.ct_gate.specs.Ends.{ShutterView};
+
+    ghost Value = { ShutterView };
+
+    ghost view = { λ s. record { gate = s.seat.table_id; fronts = (arc_value s.table).shared.key; accepted = s.accepted } };
+
+    ghost invariant = { λ s. (s.seat.table_id ≡ (arc_value s.table).shared.table_id) × (s.seat.table_id.words ≡ 1) × (s.seat.table_id.slots ≡ 0) × (s.seat.me ≡ (shutter_view s.accepted, [])) };
+}
+
+impl Shutter {
+    /// Shuts the gate, and answers how many submissions were accepted in all. It takes no memory and waits for nobody.
+    ///
+    /// The second time and from then on: `Shutdown`.
+    pub fn shut(&mut self) -> Result<u64, Refusal>
+        ensures same { SameShutter self.old self.new }
+        ensures answer { MatchResult result (λ n. (self.old.accepted ≡ None) × (self.new.accepted ≡ Some n)) (λ r. (r ≡ Shutdown) × (self.old.accepted ≢ None) × (self.new ≡ self.old)) }
+    {
+        if self.accepted.is_some() {
+            return Err(Refusal::Shutdown);
+        }
+        let count = self
+            .table
+            .shared
+            .fetch_or::<Shut>(&mut self.seat, 0, SHUTDOWN);
+        self.accepted = Some(count);
+        Ok(count)
+    }
+
+    /// How many submissions were accepted in all, once the gate was shut.
+    pub fn accepted(&self) -> Option<u64>
+        ensures { result ≡ self.now.accepted }
+    {
+        self.accepted
+    }
+}

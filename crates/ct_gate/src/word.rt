@@ -1,0 +1,75 @@
+//! The gate word: its rule, and what each kind of step on it tells.
+
+use crate::view::SeatView;
+use atomic_table::{Join, Play, Seat, Split, Table, TableRule};
+use std::alloc::Global;
+
+/// Bit 63 of the word, which is set once the gate is shut.
+pub const SHUTDOWN: u64 = 1 << 63;
+
+/// The table with the one word. Its key is the number of fronts.
+pub type Gate = Table<(), SeatView, u64, GateRule, Global>;
+
+/// A seat at the gate word.
+pub type Place = Seat<(), SeatView>;
+
+/// The rule of the gate word.
+pub struct GateRule;
+
+impl TableRule<(), SeatView, u64> for GateRule {
+    ghost use Rattle.ct_gate.specs.Word.{GateHolds};
+    ghost use Rattle.ct_gate.specs.Opening.{all_in_one};
+
+    ghost holds = { GateHolds };
+
+    ghost first = { all_in_one };
+}
+
+/// A draw: one is added to the word. Bit 63 says whether it is refused.
+pub struct Draw;
+
+impl Play<(), SeatView> for Draw {
+    ghost use Rattle.ct_gate.specs.Steps.{Draws};
+
+    ghost then = { Draws };
+}
+
+/// A glance: the word is read.
+pub struct Glance;
+
+impl Play<(), SeatView> for Glance {
+    ghost use Rattle.ct_gate.specs.Steps.{Glances};
+
+    ghost then = { Glances };
+}
+
+/// The shutdown: bit 63 is set.
+pub struct Shut;
+
+impl Play<(), SeatView> for Shut {
+    ghost use Rattle.ct_gate.specs.Steps.{Shuts};
+
+    ghost then = { Shuts };
+}
+
+/// The first front of a view gets a seat of its own.
+pub struct Deal;
+
+impl Split<SeatView> for Deal {
+    ghost use Rattle.ct_gate.specs.Opening.{rest_of, first_of};
+
+    ghost left = { rest_of };
+
+    ghost right = { first_of };
+}
+
+/// A view takes in another's fronts.
+pub struct Gather;
+
+impl Join<SeatView> for Gather {
+    ghost use Rattle.ct_gate.specs.Closing.{both, spent};
+
+    ghost both = { both };
+
+    ghost spent = { spent };
+}
