@@ -1,16 +1,19 @@
-// A front, before and after it retired.
+//! A front, before and after it retired.
 ghost use Rattle.std.specs.Prelude.{◌≡◌, true, MatchResult};
 ghost use Rattle.ct_gate.specs.Ends.{SameIntake};
 ghost use Rattle.ct_gate.specs.Sending.{Accepts, Refuses};
 
 use ct_codec::{Refusal, Submission};
+use ct_core::Published;
 use ct_gate::Intake;
 use std::marker::Model;
+use std::sync::{Arc, RwLock};
 
 /// Takes submissions. It can move to a thread of its own.
 #[derive(Drop)]
 pub struct Front {
     pub(crate) intake: Intake,
+    pub(crate) shown: Arc<RwLock<Published>>,
 }
 
 impl Model for Front {

@@ -7,10 +7,11 @@ use crate::front::Front;
 use crate::lane::{HAND, LaneOwner};
 use crate::sequencer::Sequencer;
 use ct_codec::Refusal;
-use ct_core::Core;
+use ct_core::{Core, Published};
 use ct_gate::{Intake, Outlet, open_gate};
 use std::alloc::Global;
 use std::collections::VecDeque;
+use std::sync::{Arc, RwLock};
 
 /// Opens a house with so many fronts, each with a ring of so many places.
 pub fn open(
@@ -27,8 +28,10 @@ pub fn open(
 {
     let (shutter, intakes, outlets) = open_gate(alloc, fronts, ring)?;
     let core = Core::open(alloc, now)?;
+    let first = core.published().copy(alloc)?;
+    let shown = Arc::new(alloc, RwLock::new(first))?;
     let lanes = new_lanes(alloc, outlets)?;
-    let fronts = new_fronts(alloc, intakes)?;
+    let fronts = new_fronts(alloc, intakes, &shown)?;
     let Ok(room) = Vec::with_capacity(alloc, lanes.len()) else {
         return Err(Refusal::Memory);
     };
@@ -38,6 +41,7 @@ pub fn open(
             shutter,
             lanes,
             room,
+            shown,
         },
         fronts,
     ))
@@ -61,15 +65,18 @@ fn new_lanes(alloc: Global, outlets: Vec<Outlet>) -> Result<Vec<LaneOwner>, Refu
 }
 
 // A front for each intake.
-fn new_fronts(alloc: Global, intakes: Vec<Intake>) -> Result<Vec<Front>, Refusal>
+fn new_fronts(
+    alloc: Global,
+    intakes: Vec<Intake>,
+    shown: &Arc<RwLock<Published>>,
+) -> Result<Vec<Front>, Refusal>
     ensures ok { IfOk result (λ v. v.items ≡ map new_front intakes.items) }
     ensures err { IfErr result (λ e. e ≡ Refusal.Memory) }
 {
     let mut fronts = Vec::new(alloc);
     for intake in intakes {
-        if fronts.push(Front { intake }).is_err() {
-            return Err(Refusal::Memory);
-        }
+        let shown = shown.try_clone()?;
+        fronts.push(Front { intake, shown })?;
     }
     Ok(fronts)
 }

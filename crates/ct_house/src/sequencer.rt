@@ -1,4 +1,4 @@
-// The sequencer.
+//! The sequencer: what it settles, publishes and closes.
 ghost use Rattle.std.specs.Prelude.{◌≡◌, ◌≢◌, ◌≤◌, ◌<◌, ◌-◌, ◌++◌, ◌↔◌, ℕ, List, [], None, Some, MatchResult, IsTrue, IfOk, IfErr, OnOk, OnErr, ◌⊎◌, All, slice_get, length, map, vec_len, vec_capacity, min};
 ghost use Rattle.ct_core.specs.Core.{clock_of, settle_refusal, IsCovered, IsNextHead, IsInTime, after_publishing, publish_refusal};
 ghost use Rattle.ct_core.specs.Settlement.{IsFinal};
@@ -10,11 +10,12 @@ use crate::front::Retired;
 use crate::lane::LaneOwner;
 use ct_codec::Refusal;
 use ct_tree::Head;
-use ct_core::Core;
+use ct_core::{Core, Published, Settled};
 use ct_gate::{Intake, Shutter, close_gate};
 use std::alloc::Global;
 use std::marker::Model;
-use std::sync::Wait;
+use std::sync::{Arc, RwLock, Wait};
+use std::thread::Threads;
 
 /// Settles what the fronts accept, and publishes it.
 #[derive(Drop)]
@@ -23,6 +24,7 @@ pub struct Sequencer {
     pub(crate) shutter: Shutter,
     pub(crate) lanes: Vec<LaneOwner>,
     pub(crate) room: Vec<Intake>,
+    pub(crate) shown: Arc<RwLock<Published>>,
 }
 
 impl Model for Sequencer {
@@ -54,8 +56,9 @@ impl Sequencer {
     }
 
     /// Settles items of a front at this moment, so many at most, and answers how many.
-    pub fn take(
+    pub fn take<R: Threads + Sync>(
         &mut self,
+        rt: &R,
         alloc: Global,
         front: u16,
         max: u32,
@@ -68,12 +71,13 @@ impl Sequencer {
         ensures early { now < clock_of self.old.core → self.new ≡ self.old }
     {
         let lane = &mut self.lanes[front as usize];
-        lane.take(&mut self.core, alloc, max, now)
+        lane.take(&mut self.core, rt, alloc, max, now)
     }
 
     // Settles all that is left of one front.
-    fn settle_front(
+    fn settle_front<R: Threads + Sync>(
         &mut self,
+        rt: &R,
         alloc: Global,
         front: usize,
         end: &mut Retired,
@@ -90,12 +94,13 @@ impl Sequencer {
     {
         let intake = &mut end.intake;
         let lane = &mut self.lanes[front];
-        lane.settle(&mut self.core, alloc, intake, now)
+        lane.settle(&mut self.core, rt, alloc, intake, now)
     }
 
     /// Settles all that the fronts had accepted, at this moment. It needs the ends of all fronts, in order.
-    pub fn settle(
+    pub fn settle<R: Threads + Sync>(
         &mut self,
+        rt: &R,
         alloc: Global,
         ends: &mut [Retired],
         now: u64,
@@ -116,7 +121,7 @@ impl Sequencer {
         }
         for front in 0..ends.len() {
             let end = &mut ends[front];
-            self.settle_front(alloc, front, end, now)?;
+            self.settle_front(rt, alloc, front, end, now)?;
         }
         Ok(())
     }
@@ -159,16 +164,17 @@ impl Sequencer {
         core.is_covered()
     }
 
-    /// Publishes a head of all entries.
-    pub fn publish<R: Wait>(&mut self, rt: &R, now: u64) -> Result<Head, Refusal>
+    /// Publishes a head of all entries, and shows it to the fronts.
+    pub fn publish<R: Wait>(&mut self, rt: &R, alloc: Global, now: u64) -> Result<Head, Refusal>
         ensures head { IfOk result (λ h. IsNextHead self.old.core now h × (self.new ≡ record self.old { core = after_publishing self.old.core h })) }
         ensures in_time { OnOk result (IsInTime self.old.core now) }
         ensures refused { IfErr result (λ e. (e ≡ publish_refusal self.old.core now) × (self.new ≡ self.old)) }
         ensures listed { (items : List Item) → Sequences self.old items → Sequences self.new items }
     {
-        let _ = rt;
-        let core = &mut self.core;
-        core.publish(now)
+        let shown = self.core.next(alloc, now)?;
+        let own = self.core.next(alloc, now)?;
+        *self.shown.write(rt) = shown;
+        Ok(self.core.adopt(own))
     }
 
     /// Closes the house, whose fronts have all retired.
@@ -185,6 +191,7 @@ impl Sequencer {
             shutter,
             lanes: _,
             room,
+            shown: _,
         } = self;
         let intakes = intakes_of(ends, room);
         let accepted = close_gate(rt, shutter, intakes);
