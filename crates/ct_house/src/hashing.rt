@@ -5,7 +5,7 @@ ghost use Rattle.ct_core.specs.Leaf.{leaf_at};
 ghost use Rattle.ct_core.specs.Tree.{hash_leaf};
 ghost use Rattle.ct_codec.specs.declared.item.Item.{Item};
 
-use ct_codec::{Item, Refusal, leaf_input};
+use ct_codec::{Item, Refusal, Submission, leaf_input};
 use ct_tree::{Sha256Hash, hash_batch};
 use std::alloc::Global;
 use std::collections::VecDeque;
@@ -34,6 +34,16 @@ fn workers_for(leaves: &[Vec<u8>]) -> usize
     if bytes < FEW_BYTES { 1 } else { WORKERS }
 }
 
+// The leaf input of a submission that settles at this moment.
+#[tactic(auto, using(crate::proofs::HashingLemmas::leaf_is))]
+fn leaf_of(alloc: Global, submission: &Submission, now: u64) -> Result<Vec<u8>, Refusal>
+    ensures text { IfOk result (λ b. b.items ≡ leaf_at submission.now now) }
+    ensures memory { IsOkUnless result Refusal.Memory }
+{
+    let bytes = leaf_input(alloc, submission, now)?;
+    Ok(bytes)
+}
+
 // The leaf inputs of the first items.
 fn leaf_inputs(
     alloc: Global,
@@ -47,10 +57,23 @@ fn leaf_inputs(
 {
     let mut leaves = Vec::new(alloc);
     for i in 0..count {
-        let leaf = leaf_input(alloc, &hand[i].submission, now)?;
+        let leaf = leaf_of(alloc, &hand[i].submission, now)?;
         leaves.push(leaf)?;
     }
     Ok(leaves)
+}
+
+// The leaf hashes of these leaf inputs.
+fn hash_all<R: Threads + Sync>(
+    rt: &R,
+    alloc: Global,
+    leaves: &[Vec<u8>],
+) -> Result<Vec<[u8; 32]>, Refusal>
+    ensures hashes { IfOk result (λ v. v.items ≡ map (λ l. hash_leaf l.items) leaves.now) }
+    ensures memory { IsOkUnless result Refusal.Memory }
+{
+    let hashes = hash_batch(rt, alloc, &Sha256Hash, leaves, workers_for(leaves))?;
+    Ok(hashes)
 }
 
 /// The leaf hashes of the first `count` items of the hand, settled at `now`, in order.
@@ -66,6 +89,6 @@ pub fn hash_first<R: Threads + Sync>(
     ensures memory { IsOkUnless result Refusal.Memory }
 {
     let leaves = leaf_inputs(alloc, hand, count, now)?;
-    let hashes = hash_batch(rt, alloc, &Sha256Hash, &leaves, workers_for(&leaves))?;
+    let hashes = hash_all(rt, alloc, &leaves)?;
     Ok(hashes)
 }

@@ -75,7 +75,7 @@ fn new_fronts(
 {
     let mut fronts = Vec::new(alloc);
     for intake in intakes {
-        let shown = shown.try_clone()?;
+        let shown = Arc::try_clone(shown)?;
         fronts.push(Front { intake, shown })?;
     }
     Ok(fronts)

@@ -264,10 +264,17 @@ impl FinalLog {
         self.accepted
     }
 
-    /// The last head.
-    pub fn last_head(&self) -> Head
-        ensures { slice_get self.now.log.heads (length self.now.log.heads - 1) ≡ Some result }
+    /// The final published state.
+    pub fn published(&self) -> &Published
+        ensures { result.now ≡ self.now.log }
     {
-        self.core.last_head()
+        self.core.published()
+    }
+
+    /// Where each accepted submission settled, in the order of settling.
+    pub fn settlement(&self) -> &[Settled]
+        ensures { result.now ≡ self.now.log.settlement }
+    {
+        self.core.published().settlement()
     }
 }

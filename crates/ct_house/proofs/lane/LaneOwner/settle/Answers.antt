@@ -4,7 +4,7 @@ use Rattle.ct_house.proofs.LaneLemmas.{LaneTakes-filled, LaneTakes-join}
 use Rattle.ct_house.proofs.lane.LaneOwner.settle.Goals as goal
 
 pub loop-alloc-preserved : goal.loop-alloc-preserved
-loop-alloc-preserved c =
+loop-alloc-preserved g c =
     let l = c.loop-alloc in
     let (xs, t) = l.invariant.0 in
     let (ys, u) = c.settle_hand-in-loop-alloc.ensures.settled in
@@ -17,7 +17,7 @@ loop-alloc-preserved c =
     )
 
 pub returns-in_err-settle_hand-2-clause-settled : goal.returns-in_err-settle_hand-2-clause-settled
-returns-in_err-settle_hand-2-clause-settled c =
+returns-in_err-settle_hand-2-clause-settled g c =
     let l = c.loop-alloc in
     let (xs, t) = l.invariant.0 in
     let (ys, u) = c.settle_hand-in-loop-alloc.ensures.settled in

@@ -5,6 +5,7 @@ use Rattle.ct_core.specs.Settlement.{Log, Lawful, IsFinal}
 use Rattle.ct_gate.specs.Ends.{IntakeView}
 use Rattle.ct_house.specs.House.{HouseState, FrontView, lane_of, accepted_lists}
 use Rattle.ct_house.proofs.OpeningLemmas.{map_twice}
+use Rattle.ct_house.proofs.SequencerLemmas.{order_count}
 use Rattle.ct_house.proofs.FinishLemmas.{final_log, tickets_moved, gates_moved}
 use Rattle.ct_house.proofs.sequencer.Sequencer.finish.Goals as goal
 
@@ -26,3 +27,13 @@ returns-clause-closes g c =
     λ items q.
     subst (λ (l : Log). IsFinal (accepted_lists c.args.ends.items) c.close_gate-accepted.result l) (sym same)
     (final_log c.args.self c.args.ends.items c.close_gate-accepted.result (subst Lawful same c.self.invariant.lawful) c.requires.settled c.requires.covered tickets items q)
+
+pub intakes_of-intakes-requires-clause-room : goal.intakes_of-intakes-requires-clause-room
+intakes_of-intakes-requires-clause-room g c =
+    let a = c.self.inside in
+    let many : length (map lane_of a.lanes.items) ≡ length c.args.self.lanes = ap (λ (s : HouseState). length s.lanes) c.self.view_is in
+    let each = length-map a.lanes.items lane_of in
+    let count = order_count (length c.args.self.lanes) c.args.ends.items c.requires.settled.in_order in
+    let stored = c.args.ends.ok.0 in
+    let room = c.self.invariant.room in
+    omega arith

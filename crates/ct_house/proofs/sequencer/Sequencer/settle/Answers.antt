@@ -9,7 +9,7 @@ use Rattle.ct_codec.specs.declared.item.Item.{Item}
 use Rattle.ct_house.proofs.sequencer.Sequencer.settle.Goals as goal
 
 pub loop-front-init : goal.loop-front-init
-loop-front-init c =
+loop-front-init g c =
     let k = c.clock.ensures in
     let v = ap (λ (s : HouseState). clock_of s.core) c.self.view_is in
     let f = c.if-now-clock.false in
@@ -22,7 +22,7 @@ loop-front-init c =
     (Draining-none c.args.self.now c.args.ends.now c.args.now (omega arith), refl, omega arith, o)
 
 pub settle_front-requires-clause-front : goal.settle_front-requires-clause-front
-settle_front-requires-clause-front c =
+settle_front-requires-clause-front g c =
     let l = c.loop-front in
     let i = l.invariant in
     let d = c.index-ends-front.result in
@@ -34,10 +34,10 @@ settle_front-requires-clause-front c =
     let at : slice_get l.ends l.front ≡ Some x = slice_get-get_or l.ends l.front d (omega arith) in
     let (xs, more) = i.0.more in
     let many = more.count in
-    (omega arith, order_at (length c.args.self.now.lanes) c.args.ends.now l.front x i.3 (ap (λ (es : List FrontView). slice_get es l.front) (sym i.1) ∙ at))
+    λ κs inside. (omega arith, order_at (length c.args.self.now.lanes) c.args.ends.now l.front x i.3 (ap (λ (es : List FrontView). slice_get es l.front) (sym i.1) ∙ at))
 
 pub returns-in_err-settle_front-clause-settled : goal.returns-in_err-settle_front-clause-settled
-returns-in_err-settle_front-clause-settled c =
+returns-in_err-settle_front-clause-settled g c =
     let l = c.loop-front in
     let i = l.invariant in
     let t = c.loop-front-test.true in
@@ -50,7 +50,7 @@ returns-in_err-settle_front-clause-settled c =
     (xs ++ ys, SettlesMore-one c.args.self.now l.self c.settle_front.new.self xs ys l.front c.args.now (omega arith) more takes)
 
 pub loop-front-preserved : goal.loop-front-preserved
-loop-front-preserved c =
+loop-front-preserved g c =
     let l = c.loop-front in
     let i = l.invariant in
     let d = c.index-ends-front.result in
@@ -72,7 +72,7 @@ loop-front-preserved c =
     )
 
 pub returns-clause-all : goal.returns-clause-all
-returns-clause-all c =
+returns-clause-all g c =
     let l = c.loop-front in
     let i = l.invariant in
     let t = c.loop-front-test.false in

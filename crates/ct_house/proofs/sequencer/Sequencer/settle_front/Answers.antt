@@ -7,17 +7,17 @@ use Rattle.ct_house.proofs.SequencerLemmas.{lane_takes, lane_there, lane_ends, n
 use Rattle.ct_house.proofs.sequencer.Sequencer.settle_front.Goals as goal
 
 pub settle-requires-clause-ends : goal.settle-requires-clause-ends
-settle-requires-clause-ends c =
+settle-requires-clause-ends g c =
     let a = c.self.inside in
     let i = c.self.invariant in
     let s = c.args.self.now in
     let old = c.index_mut-lane.result.now in
     let e = c.args.end.now in
     let at : slice_get a.lanes.items c.args.front ≡ Some old = lane_there a.shutter.gate a.shutter.accepted a.core a.lanes.items s c.args.front old c.self.view_is c.requires.front.0 c.index_mut-lane.ensures.value in
-    lane_ends a.shutter.gate a.shutter.accepted a.core a.lanes.items s c.args.front old e c.end.inside.intake c.self.view_is i.numbers at c.requires.of_house c.requires.front.1 (ap (λ (f : FrontView). f.intake) c.end.view_is)
+    λ κs inside. lane_ends a.shutter.gate a.shutter.accepted a.core a.lanes.items s c.args.front old e c.end.inside.intake c.self.view_is i.numbers at c.requires.of_house c.requires.front.1 (ap (λ (f : FrontView). f.intake) c.end.view_is)
 
 pub invariant_of-self : goal.invariant_of-self
-invariant_of-self c =
+invariant_of-self g c =
     let a = c.self.inside in
     let i = c.self.invariant in
     let s = c.args.self.now in
@@ -36,7 +36,7 @@ invariant_of-self c =
     }
 
 pub returns-clause-settled : goal.returns-clause-settled
-returns-clause-settled c =
+returns-clause-settled g c =
     let a = c.self.inside in
     let i = c.self.invariant in
     let s = c.args.self.now in
@@ -47,7 +47,7 @@ returns-clause-settled c =
     rw (← c.self.view_is) (xs, lane_takes a.shutter.gate a.shutter.accepted a.core c.settle.new.core a.lanes.items c.args.front old c.settle.new.self xs c.args.now i.numbers at t)
 
 pub returns-clause-all : goal.returns-clause-all
-returns-clause-all c =
+returns-clause-all g c =
     let a = c.self.inside in
     let i = c.self.invariant in
     let s = c.args.self.now in

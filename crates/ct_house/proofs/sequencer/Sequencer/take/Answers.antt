@@ -11,7 +11,7 @@ use Rattle.ct_house.proofs.SequencerLemmas.{lane_takes, hand_at, numbers_kept, l
 use Rattle.ct_house.proofs.sequencer.Sequencer.take.Goals as goal
 
 pub invariant_of-self : goal.invariant_of-self
-invariant_of-self c =
+invariant_of-self g c =
     let a = c.self.inside in
     let i = c.self.invariant in
     let old = c.index_mut-lane.result.now in
@@ -31,7 +31,7 @@ invariant_of-self c =
     }
 
 pub returns-clause-taken : goal.returns-clause-taken
-returns-clause-taken c =
+returns-clause-taken g c =
     let a = c.self.inside in
     let i = c.self.invariant in
     let old = c.index_mut-lane.result.now in
