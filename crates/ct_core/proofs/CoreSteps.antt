@@ -8,8 +8,8 @@ use Rattle.std.specs.Str.{bytes_eq}
 use Rattle.ct_codec.specs.declared.item.Item.{Item}
 use Rattle.ct_core.specs.declared.settled.Settled.{Settled}
 use Rattle.ct_core.specs.Leaf.{Entry, submitted}
-use Rattle.ct_codec.specs.Submitted.{identity_of}
 use Rattle.ct_core.specs.Settlement.{Log, record_of}
+use Rattle.ct_codec.specs.Submitted.{identity_of}
 use Rattle.ct_core.specs.Core.{CoreState, IsSettled, IsCore, Begins, newest_leaf, last_moment, clock_of, entry_at, Grows}
 use Rattle.ct_core.proofs.SettleSteps.{identities_of, repeat_record, first_record, with_repeat, with_first, repeat_grows, repeat_core, first_grows, first_core}
 use Rattle.ct_core.specs.Parts.{with_rest}

@@ -9,9 +9,9 @@ use Rattle.std.proofs.lemmas.List.Elements.{All-append, All-weaker}
 use Rattle.std.specs.Prelude.{Some, slice_get, All}
 use Rattle.std.specs.List.Sorted.{IsNonDecreasingBy}
 use Rattle.ct_core.specs.Leaf.{Entry, leaves_of}
-use Rattle.ct_tree.specs.declared.head.Head.{Head}
-use Rattle.ct_core.specs.Tree.{MTH}
 use Rattle.ct_core.specs.Settlement.{Log, Lawful, IsHeadOf, RisesBy, Settled_as, firsts}
+use Rattle.ct_core.specs.Tree.{MTH}
+use Rattle.ct_tree.specs.declared.head.Head.{Head}
 use Rattle.ct_core.specs.Core.{CoreState, IsSettled, Begins, IsCore, newest_leaf, last_moment, IsInTime, IsNextHead, published_with, after_publishing, first_head, new_core}
 use Rattle.ct_core.proofs.SettlementLemmas.{slice_get-left, slice_get-end, Settles-none}
 use Rattle.ct_core.proofs.CoreLemmas.{Begins-refl}
@@ -146,3 +146,10 @@ IsCore-open now = record {
 
 pub IsSettled-open : (now : ℕ) → IsSettled (new_core now) []
 IsSettled-open now = no_items
+
+-- a core and a moment determine the next head
+pub IsNextHead-unique : (core : CoreState) (now : ℕ) (h g : Head) → IsNextHead core now h → IsNextHead core now g → h ≡ g
+IsNextHead-unique core now h g a b =
+    let make : ℕ → ℕ → List ℕ → Head = λ s t r. record { tree_size = s; timestamp = t; root = r } in
+    ap (λ (s : ℕ). make s h.timestamp h.root) (a.size ∙ sym b.size) ∙ ap (λ (t : ℕ). make g.tree_size t h.root) (a.moment ∙ sym b.moment)
+    ∙ ap (make g.tree_size g.timestamp) (a.root ∙ sym b.root)

@@ -4,11 +4,10 @@ use Rattle.std.proofs.lemmas.List.{append-nil, length-map, map-append, take_all,
 use Rattle.std.proofs.lemmas.Option.{same_Some}
 use Rattle.std.specs.Prelude.{slice_get, Some}
 use Rattle.ct_core.specs.declared.settled.Settled.{Settled}
-use Rattle.ct_core.specs.Leaf.{Entry, leaves_of}
-use Rattle.ct_tree.specs.declared.head.Head.{Head}
-use Rattle.ct_core.specs.Leaf.{leaf_at}
-use Rattle.ct_core.specs.Tree.{hash_leaf, tree_hash, MTH}
+use Rattle.ct_core.specs.Leaf.{Entry, leaves_of, leaf_at}
 use Rattle.ct_core.specs.Settlement.{Log, Lawful}
+use Rattle.ct_core.specs.Tree.{hash_leaf, tree_hash, MTH}
+use Rattle.ct_tree.specs.declared.head.Head.{Head}
 use Rattle.ct_core.specs.Core.{CoreState, IsCore, IsInTime, IsNextHead, published_with, after_publishing, new_core}
 use Rattle.ct_core.proofs.LawfulLemmas.{IsCore-publish, IsCore-open}
 use Rattle.ct_core.proofs.SettlementLemmas.{slice_get-end}

@@ -7,8 +7,8 @@ use Rattle.std.specs.Str.{bytes_eq}
 use Rattle.ct_codec.specs.declared.item.Item.{Item}
 use Rattle.ct_core.specs.declared.settled.Settled.{Settled}
 use Rattle.ct_core.specs.Leaf.{Entry, submitted}
-use Rattle.ct_codec.specs.Submitted.{Submitted, identity_of}
 use Rattle.ct_core.specs.Settlement.{has_identity, is_new, firsts, place_of, record_of, submissions_of}
+use Rattle.ct_codec.specs.Submitted.{Submitted, identity_of}
 use Rattle.ct_core.specs.Core.{CoreState, IsSettled, IsCore, newest_leaf, entry_at, Grows}
 use Rattle.ct_core.proofs.FirstsLemmas.{present-firsts}
 use Rattle.ct_core.proofs.SettlementLemmas.{place-absent, place-within, record-newest}

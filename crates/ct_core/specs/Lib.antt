@@ -7,3 +7,5 @@ pub mod LeafHashes
 pub mod Published
 pub mod Parts
 pub mod CoreFields
+pub mod Replies
+pub mod Answers

@@ -2,10 +2,11 @@
 
 ghost use Rattle.std.specs.Prelude.{◌≡◌, ◌++◌, IfOk, IsOkUnless, OnOk};
 ghost use Rattle.std.specs.Arc.{arc_value};
+ghost use Rattle.ct_codec.specs.Submitted.{extra_data_of};
 ghost use Rattle.ct_core.specs.Leaf.{leaf_at};
 ghost use Rattle.ct_core.specs.Tree.{hash_leaf};
 
-use ct_codec::{Refusal, Submission, leaf_input};
+use ct_codec::{Refusal, Submission, extra_data, leaf_input};
 use std::alloc::Global;
 use std::marker::Model;
 use std::sync::Arc;
@@ -79,6 +80,16 @@ impl StoredEntry {
         ensures memory { IsOkUnless result Refusal.Memory }
     {
         let bytes = leaf_input(alloc, self.submission(), self.timestamp)?;
+        Ok(bytes)
+    }
+
+    // The bytes that go with the leaf: the rest of the chain.
+    #[tactic(auto, using(crate::proofs::Texts::extra_data_is))]
+    pub(crate) fn extra_data(&self, alloc: Global) -> Result<Vec<u8>, Refusal>
+        ensures text { IfOk result (λ b. b.items ≡ extra_data_of self.now.submission) }
+        ensures memory { IsOkUnless result Refusal.Memory }
+    {
+        let bytes = extra_data(alloc, self.submission())?;
         Ok(bytes)
     }
 

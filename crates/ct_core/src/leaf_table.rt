@@ -93,12 +93,42 @@ impl LeafTable {
         Ok(())
     }
 
+    // The least index of a leaf with that hash.
+    pub(crate) fn index_of(&self, leaf_hash: &[u8; 32]) -> Option<u64>
+        ensures { result ≡ position (bytes_eq leaf_hash.now) self.now }
+    {
+        self.by_hash.get(&LeafHash { bytes: *leaf_hash }).copied()
+    }
+
     // The root of the first `n` leaves.
     pub(crate) fn root_at(&self, n: u64) -> [u8; 32]
         requires { n ≤ length self.now }
         ensures { result ≡ tree_hash (take n self.now) }
     {
         self.nodes.root_at(n)
+    }
+
+    // The audit path of leaf `m` in the tree of the first `n` leaves.
+    pub(crate) fn path(&self, alloc: Global, m: u64, n: u64) -> Result<Vec<[u8; 32]>, Refusal>
+        requires below { m < n }
+        requires within { n ≤ length self.now }
+        ensures path { IfOk result (λ p. p.items ≡ path_of m (take n self.now)) }
+        ensures memory { IsOkUnless result Refusal.Memory }
+    {
+        let path = self.nodes.path(alloc, m, n)?;
+        Ok(path)
+    }
+
+    // The consistency proof from the tree of the first `m` leaves to that of the first `n`.
+    pub(crate) fn proof(&self, alloc: Global, m: u64, n: u64) -> Result<Vec<[u8; 32]>, Refusal>
+        requires positive { 0 < m }
+        requires below { m < n }
+        requires within { n ≤ length self.now }
+        ensures proof { IfOk result (λ p. p.items ≡ proof_of m (take n self.now)) }
+        ensures memory { IsOkUnless result Refusal.Memory }
+    {
+        let proof = self.nodes.proof(alloc, m, n)?;
+        Ok(proof)
     }
 
     // An equal table.

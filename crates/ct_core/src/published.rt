@@ -19,10 +19,10 @@ use std::marker::Model;
 /// A published state: the entries in order, the settlement, and the heads, of which the last covers all entries.
 #[derive(Drop)]
 pub struct Published {
-    entries: Vec<StoredEntry>,
-    settlement: Vec<Settled>,
-    heads: Vec<Head>,
-    nodes: LeafTable,
+    pub(crate) entries: Vec<StoredEntry>,
+    pub(crate) settlement: Vec<Settled>,
+    pub(crate) heads: Vec<Head>,
+    pub(crate) nodes: LeafTable,
 }
 
 impl Model for Published {
