@@ -1,13 +1,17 @@
 //! A front, before and after it retired.
-ghost use Rattle.std.specs.Prelude.{◌≡◌, true, MatchResult};
+ghost use Rattle.std.specs.Prelude.{◌≡◌, true, MatchResult, ◌⊎◌};
+ghost use Rattle.ct_core.specs.Settlement.{Log, Lawful};
+ghost use Rattle.ct_core.specs.Answers.{answer};
+ghost use Rattle.ct_core.specs.Replies.{shown, refused};
 ghost use Rattle.ct_gate.specs.Ends.{SameIntake};
 ghost use Rattle.ct_gate.specs.Sending.{Accepts, Refuses};
 
 use ct_codec::{Refusal, Submission};
-use ct_core::Published;
+use ct_core::{Published, Query, Reply};
 use ct_gate::Intake;
 use std::marker::Model;
-use std::sync::{Arc, RwLock};
+use std::alloc::Global;
+use std::sync::{Arc, RwLock, Wait};
 
 /// Takes submissions. It can move to a thread of its own.
 #[derive(Drop)]
@@ -48,6 +52,17 @@ impl Front {
     {
         let intake = &mut self.intake;
         intake.send(submission)
+    }
+
+    /// The reply to a query, or its refusal, at a state that was published. It may wait while a publication is put in place.
+    pub fn ask<R: Wait>(&mut self, rt: &R, alloc: Global, query: &Query) -> Result<Reply, Refusal>
+        ensures same { self.new ≡ self.old }
+        ensures answer { (p : Log) × Lawful p × MatchResult result (λ r. shown r ≡ answer p query.now) (λ e. (e ≡ Refusal.Memory) ⊎ (refused e ≡ answer p query.now)) }
+    {
+        let shown = &self.shown;
+        let state = shown.read(rt);
+        let reply = state.answer(alloc, query);
+        reply
     }
 
     /// Hands its ends over.
