@@ -1,0 +1,280 @@
+//! The sequencer: what it settles, publishes and closes.
+ghost use Rattle.std.specs.Prelude.{◌≡◌, ◌≢◌, ◌≤◌, ◌<◌, ◌-◌, ◌++◌, ◌↔◌, ℕ, List, [], None, Some, MatchResult, IsTrue, IfOk, IfErr, OnOk, OnErr, ◌⊎◌, All, slice_get, length, map, vec_len, vec_capacity, min};
+ghost use Rattle.ct_core.specs.Core.{clock_of, settle_refusal, IsCovered, IsNextHead, IsInTime, after_publishing, publish_refusal};
+ghost use Rattle.ct_core.specs.Settlement.{IsFinal};
+ghost use Rattle.ct_codec.specs.declared.item.Item.{Item};
+ghost use Rattle.ct_house.specs.Sequence.{Takes, Sequences};
+ghost use Rattle.ct_house.specs.House.{FrontView, accepted_lists, hand_count, IsOfHouse, AreInOrder, IsAllSettled, SettlesMore, drained_lane};
+
+use crate::front::Retired;
+use crate::lane::LaneOwner;
+use ct_codec::Refusal;
+use ct_tree::Head;
+use ct_core::{Core, Published, Settled};
+use ct_gate::{Intake, Shutter, close_gate};
+use std::alloc::Global;
+use std::marker::Model;
+use std::sync::{Arc, RwLock, Wait};
+use std::thread::Threads;
+
+/// Settles what the fronts accept, and publishes it.
+#[derive(Drop)]
+pub struct Sequencer {
+    pub(crate) core: Core,
+    pub(crate) shutter: Shutter,
+    pub(crate) lanes: Vec<LaneOwner>,
+    pub(crate) room: Vec<Intake>,
+    pub(crate) shown: Arc<RwLock<Published>>,
+}
+
+impl Model for Sequencer {
+    ghost use Rattle.ct_house.specs.House.{HouseState};
+
+    ghost Value = { HouseState };
+
+    ghost use Rattle.ct_house.specs.SequencerFields.{sequencer_state, IsSequencer};
+
+    ghost view = { sequencer_state };
+
+    ghost invariant = { IsSequencer };
+}
+
+impl Sequencer {
+    /// Shuts the house, and answers how many submissions were accepted in all.
+    pub fn shutdown(&mut self) -> Result<u64, Refusal>
+        ensures same { self.new ≡ record self.old { accepted = self.new.accepted } }
+        ensures answer { MatchResult result (λ n. (self.old.accepted ≡ None) × (self.new.accepted ≡ Some n)) (λ r. (r ≡ Refusal.Shutdown) × (self.old.accepted ≢ None) × (self.new ≡ self.old)) }
+    {
+        self.shutter.shut()
+    }
+
+    /// Whether the house was shut.
+    pub fn is_shut(&self) -> bool
+        ensures { IsTrue result ↔ (self.now.accepted ≢ None) }
+    {
+        self.shutter.accepted().is_some()
+    }
+
+    /// Settles items of a front at this moment, so many at most, and answers how many.
+    pub fn take<R: Threads + Sync>(
+        &mut self,
+        rt: &R,
+        alloc: Global,
+        front: u16,
+        max: u32,
+        now: u64,
+    ) -> Result<u32, Refusal>
+        requires limits { (front < length self.old.lanes) × (0 < max) × (max ≤ 256) }
+        ensures taken { (xs : List Item) × Takes self.old self.new front xs now × IfOk result (λ c. (c ≡ length xs) × (c ≤ max) × (min max (hand_count self.old front) ≤ c)) }
+        ensures in_time { OnOk result (clock_of self.old.core ≤ now) }
+        ensures refused { IfErr result (λ e. e ≡ settle_refusal self.old.core now) }
+        ensures early { now < clock_of self.old.core → self.new ≡ self.old }
+    {
+        let lane = &mut self.lanes[front as usize];
+        lane.take(&mut self.core, rt, alloc, max, now)
+    }
+
+    // Settles all that is left of one front.
+    fn settle_front<R: Threads + Sync>(
+        &mut self,
+        rt: &R,
+        alloc: Global,
+        front: usize,
+        end: &mut Retired,
+        now: u64,
+    ) -> Result<(), Refusal>
+        requires of_house { IsOfHouse self.old.house end.old }
+        requires front { (front < length self.old.lanes) × (end.old.intake.number ≡ front) }
+        requires time { clock_of self.old.core ≤ now }
+        ensures settled { (xs : List Item) × Takes self.old self.new front xs now }
+        ensures all { OnOk result (slice_get self.new.lanes front ≡ Some (drained_lane end.old)) }
+        ensures end { end.new ≡ end.old }
+        ensures time { clock_of self.new.core ≤ now }
+        ensures refused { IfErr result (λ e. e ≡ Refusal.Memory) }
+    {
+        let intake = &mut end.intake;
+        let lane = &mut self.lanes[front];
+        lane.settle(&mut self.core, rt, alloc, intake, now)
+    }
+
+    /// Settles all that the fronts had accepted, at this moment. It needs the ends of all fronts, in order.
+    pub fn settle<R: Threads + Sync>(
+        &mut self,
+        rt: &R,
+        alloc: Global,
+        ends: &mut [Retired],
+        now: u64,
+    ) -> Result<(), Refusal>
+        requires { All (IsOfHouse self.old.house) ends.old }
+        ensures settled { (xs : List Item) × SettlesMore self.old self.new xs now }
+        ensures all { OnOk result (IsAllSettled self.new ends.old) }
+        ensures ends { ends.new ≡ ends.old }
+        ensures in_time { OnOk result (clock_of self.old.core ≤ now) }
+        ensures refused { IfErr result (λ e. ((AreInOrder (length self.old.lanes) ends.old → ⊥) × (e ≡ Refusal.MissingFront)) ⊎ (AreInOrder (length self.old.lanes) ends.old × (e ≡ settle_refusal self.old.core now))) }
+        ensures early { OnErr result ((AreInOrder (length self.old.lanes) ends.old × (clock_of self.old.core ≤ now)) ⊎ (self.new ≡ self.old)) }
+    {
+        if !are_all(ends, self.lanes.len()) {
+            return Err(Refusal::MissingFront);
+        }
+        if now < self.core.clock() {
+            return Err(Refusal::ClockBack);
+        }
+        for front in 0..ends.len() {
+            let end = &mut ends[front];
+            self.settle_front(rt, alloc, front, end, now)?;
+        }
+        Ok(())
+    }
+
+    // Whether all that one front had accepted is settled.
+    fn is_front_settled(&mut self, front: usize, end: &mut Retired) -> bool
+        requires of_house { IsOfHouse self.old.house end.old }
+        requires front { (front < length self.old.lanes) × (end.old.intake.number ≡ front) }
+        ensures same { (self.new ≡ self.old) × (end.new ≡ end.old) }
+        ensures answer { IsTrue result ↔ (slice_get self.old.lanes front ≡ Some (drained_lane end.old)) }
+    {
+        let intake = &mut end.intake;
+        let lane = &mut self.lanes[front];
+        lane.is_settled(intake)
+    }
+
+    /// Whether these are the ends of all fronts, in order, and all that they had accepted is settled.
+    pub fn is_settled(&mut self, ends: &mut [Retired]) -> bool
+        requires { All (IsOfHouse self.old.house) ends.old }
+        ensures same { (self.new ≡ self.old) × (ends.new ≡ ends.old) }
+        ensures answer { IsTrue result ↔ IsAllSettled self.old ends.old }
+    {
+        if !are_all(ends, self.lanes.len()) {
+            return false;
+        }
+        for front in 0..ends.len() {
+            let end = &mut ends[front];
+            if !self.is_front_settled(front, end) {
+                return false;
+            }
+        }
+        true
+    }
+
+    /// Whether the last head covers all entries and records.
+    pub fn is_covered(&self) -> bool
+        ensures { IsTrue result ↔ IsCovered self.now.core }
+    {
+        let core = &self.core;
+        core.is_covered()
+    }
+
+    /// Publishes a head of all entries, and shows it to the fronts.
+    pub fn publish<R: Wait>(&mut self, rt: &R, alloc: Global, now: u64) -> Result<Head, Refusal>
+        ensures head { IfOk result (λ h. IsNextHead self.old.core now h × (self.new ≡ record self.old { core = after_publishing self.old.core h })) }
+        ensures in_time { OnOk result (IsInTime self.old.core now) }
+        ensures refused { IfErr result (λ e. (e ≡ publish_refusal self.old.core now) × (self.new ≡ self.old)) }
+        ensures listed { (items : List Item) → Sequences self.old items → Sequences self.new items }
+    {
+        let shown = self.core.next(alloc, now)?;
+        let own = self.core.next(alloc, now)?;
+        *self.shown.write(rt) = shown;
+        Ok(self.core.adopt(own))
+    }
+
+    /// Closes the house, whose fronts have all retired.
+    pub fn finish<R: Wait>(self, rt: &R, ends: Vec<Retired>) -> FinalLog
+        requires of_house { All (IsOfHouse self.house) ends.items }
+        requires shut { self.accepted ≢ None }
+        requires settled { IsAllSettled self ends.items }
+        requires covered { IsCovered self.core }
+        ensures same { (result.log ≡ self.core.published) × (self.accepted ≡ Some result.accepted) }
+        ensures closes { (items : List Item) → Sequences self items → IsFinal (accepted_lists ends.items) result.accepted result.log }
+    {
+        let Sequencer {
+            core,
+            shutter,
+            lanes: _,
+            room,
+            shown: _,
+        } = self;
+        let intakes = intakes_of(ends, room);
+        let accepted = close_gate(rt, shutter, intakes);
+        FinalLog { core, accepted }
+    }
+
+    /// Gives the house up.
+    pub fn abandon(self, ends: Vec<Retired>) {
+        let mut ends = ends;
+        while let Some(end) = ends.pop() {
+            let Retired { intake: _ } = end;
+        }
+        ends.destroy_empty();
+    }
+}
+
+// The fronts' ends of the gate, moved into the room that was made for them.
+fn intakes_of(ends: Vec<Retired>, room: Vec<Intake>) -> Vec<Intake>
+    requires nothing { vec_len room ≡ 0 }
+    requires room { vec_len ends ≤ vec_capacity room }
+    ensures { result.items ≡ map (λ (f : FrontView). f.intake) ends.items }
+{
+    let mut ends = ends;
+    let mut room = room;
+    while let Some(end) = ends.pop() {
+        let Retired { intake } = end;
+        room.push_reserved(intake);
+    }
+    ends.destroy_empty();
+    room.reverse();
+    room
+}
+
+// Whether these are the ends of so many fronts, in order.
+fn are_all(ends: &[Retired], count: usize) -> bool
+    ensures { IsTrue result ↔ AreInOrder count ends.now }
+{
+    if ends.len() != count {
+        return false;
+    }
+    for front in 0..count {
+        let end = &ends[front];
+        if usize::from(end.intake.number()) != front {
+            return false;
+        }
+    }
+    true
+}
+
+/// What a closed house leaves.
+#[derive(Drop)]
+pub struct FinalLog {
+    core: Core,
+    accepted: u64,
+}
+
+impl Model for FinalLog {
+    ghost use Rattle.ct_house.specs.House.{FinalState};
+
+    ghost Value = { FinalState };
+
+    ghost view = { λ f. record { log = f.core.published; accepted = f.accepted } };
+}
+
+impl FinalLog {
+    /// How many submissions were accepted.
+    pub fn accepted(&self) -> u64
+        ensures { result ≡ self.now.accepted }
+    {
+        self.accepted
+    }
+
+    /// The final published state.
+    pub fn published(&self) -> &Published
+        ensures { result.now ≡ self.now.log }
+    {
+        self.core.published()
+    }
+
+    /// Where each accepted submission settled, in the order of settling.
+    pub fn settlement(&self) -> &[Settled]
+        ensures { result.now ≡ self.now.log.settlement }
+    {
+        self.core.published().settlement()
+    }
+}
