@@ -5,8 +5,8 @@ use Rattle.serde_json.specs.Data.{Data, null, boolean, number, string, array, ob
 use Rattle.serde_json.specs.Read.{read}
 use Rattle.serde_json.specs.Find.{get, as_u64}
 use Rattle.ct_lines.specs.Fields.{text_at, number_at, bytes_at, bytes_list_at, hash_at, hashes_at}
-use Rattle.ct_lines.specs.declared.query.Query.{Query}
-use Rattle.ct_lines.specs.declared.query.Query.TheVariants.{GetSth, Consistency, ProofByHash, Entries, EntryAndProof, Receipt}
+use Rattle.ct_core.specs.declared.query.Query.{Query}
+use Rattle.ct_core.specs.declared.query.Query.TheVariants.{GetSth, Consistency, ProofByHash, Entries, EntryAndProof, Receipt}
 
 -- who makes a request: a front by its number, the operator, or a reader of the frozen log
 pub data Party : Type 0 where

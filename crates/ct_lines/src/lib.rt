@@ -10,7 +10,6 @@
 
 mod fields;
 mod laws;
-mod query;
 mod reading;
 mod request;
 #[cfg(test)]
@@ -18,7 +17,6 @@ mod tests;
 mod writing;
 
 pub use laws::{bytes_read_back, line_is_one_request};
-pub use query::{Query, Reply, ShownEntry};
 pub use reading::read_line;
 pub use request::{Audit, FrontRequest, FrozenRequest, OperatorRequest, Request};
 pub use writing::reply_text;

@@ -6,9 +6,9 @@ ghost use Rattle.ct_lines.specs.Asked.{Asked, IsRequest, asked_in, consistency_a
 ghost use Rattle.ct_lines.specs.Requests.{asked, front_asked, operator_asked, frozen_asked, audit_of, party};
 
 use crate::fields;
-use crate::query::Query;
 use crate::request::{Audit, FrontRequest, FrozenRequest, OperatorRequest, Request};
 use ct_codec::Refusal;
+use ct_core::Query;
 use serde_json::Value;
 use std::alloc::{AllocError, Global};
 

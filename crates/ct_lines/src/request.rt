@@ -1,6 +1,6 @@
 //! Requests: who makes them, and what they ask.
 
-use crate::query::Query;
+use ct_core::Query;
 
 /// A request.
 #[derive(Debug, Drop)]

@@ -1,5 +1,6 @@
 use super::*;
 use ct_codec::Refusal;
+use ct_core::{Query, Reply, ShownEntry};
 use ct_tree::Head;
 use std::test::*;
 

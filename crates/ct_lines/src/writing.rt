@@ -2,12 +2,12 @@
 
 ghost use Rattle.std.specs.Prelude.{◌≡◌, IfOk, map, string_bytes};
 ghost use Rattle.serde_json.specs.View.{view};
-ghost use Rattle.ct_lines.specs.Replies.{a_head, a_proof, an_index, some_entries, an_entry, a_receipt, a_published_head, a_collision, refused, shown, shown_text};
+ghost use Rattle.ct_core.specs.Replies.{a_head, a_proof, an_index, some_entries, an_entry, a_receipt, a_published_head, a_collision, refused, shown, shown_text};
 ghost use Rattle.ct_lines.specs.ReplyText.{refusal_name, base64_text, bytes_data, hashes_data, entry_data, entries_data, count_data, verdict_data, reply_data, answered, reply_line};
 
-use crate::query::{Reply, ShownEntry};
 use base64::engine::general_purpose::STANDARD;
 use ct_codec::Refusal;
+use ct_core::{Reply, ShownEntry};
 use ct_tree::{Head, Memory};
 use serde_json::{Value, json};
 use std::alloc::Global;

@@ -1,6 +1,6 @@
 use Rattle.std.proofs.Common.{◌≡◌, map, take}
 use Rattle.serde_json.specs.View.{view}
-use Rattle.ct_lines.specs.Replies.{shown_text}
+use Rattle.ct_core.specs.Replies.{shown_text}
 use Rattle.ct_lines.specs.ReplyText.{entry_data}
 use Rattle.ct_lines.proofs.writing.entries_array.Given as goal
 
