@@ -164,7 +164,7 @@ entry_cut : (e : Entry) (gs : List (List ℕ)) (r : List ℕ) → IsEntry e → 
 entry_cut (certificate c) gs r h v = number_cut 2 0 (num 3 (length c) ∷ c ∷ gs) gs r entry_of (omega arith) v (λ s cut. certificate_cut c gs s h cut)
 entry_cut (precertificate k c) gs r h v =
     number_cut 2 1 (k ∷ num 3 (length c) ∷ c ∷ gs) gs r entry_of (omega arith) v (λ s cut.
-      then_cut (bytes_at 32 s) certificate_at (num 3 (length c) ∷ c ∷ gs) gs (bytes_cut 32 k (num 3 (length c) ∷ c ∷ gs) s h.0 cut) (λ u rest. certificate_cut c gs u h.1 rest))
+    then_cut (bytes_at 32 s) certificate_at (num 3 (length c) ∷ c ∷ gs) gs (bytes_cut 32 k (num 3 (length c) ∷ c ∷ gs) s h.0 cut) (λ u rest. certificate_cut c gs u h.1 rest))
 
 cut_at_last : (x : Read) → Cut [] x → x ≡ Err Truncated
 cut_at_last x (inl h) = h
@@ -187,7 +187,7 @@ leaf_cut : (t : ℕ) (e : Entry) (x b : List ℕ) → IsEntry e → length x < 2
 leaf_cut t e x b fine short v =
     let end : List (List ℕ) = num 8 t ∷ (entry_fields e ++ (num 2 (length x) ∷ x ∷ [])) in
     cut_at_last (leaf_read b) (then_cut (zero_at BadVersion b) (λ r. then_read (zero_at BadLeafType r) after_types) ((0 ∷ []) ∷ end) [] (zero_cut BadVersion ((0 ∷ []) ∷ end) b v) (λ s rest.
-      then_cut (zero_at BadLeafType s) after_types end [] (zero_cut BadLeafType end s rest) (λ u cut. cut_behind_types t e x u fine short cut)))
+    then_cut (zero_at BadLeafType s) after_types end [] (zero_cut BadLeafType end s rest) (λ u cut. cut_behind_types t e x u fine short cut)))
 
 leaf_here : (t : ℕ) (e : Entry) (x b r : List ℕ) → IsEntry e → length x < 2 ^ 16 → b ≡ leaf_text t e x ++ r → leaf_read b ≡ end_at r
 leaf_here t e x b r fine short same =

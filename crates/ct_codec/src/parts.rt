@@ -66,6 +66,12 @@ impl<'a> LeafParts<'a> {
     pub fn parts(&self) -> [&[u8]; 5]
         ensures { map (λ p. p.now) result ≡ self.now }
     {
-        five(&self.head, self.key_hash, &self.size, self.certificate, &self.end)
+        five(
+            &self.head,
+            self.key_hash,
+            &self.size,
+            self.certificate,
+            &self.end,
+        )
     }
 }

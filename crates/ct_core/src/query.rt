@@ -48,7 +48,10 @@ pub enum Reply {
         audit_path: Vec<[u8; 32]>,
     },
     /// The index that a ticket settled at, and its leaf's timestamp in milliseconds.
-    Receipt { leaf_index: u64, timestamp: u64 },
+    Receipt {
+        leaf_index: u64,
+        timestamp: u64,
+    },
     /// The ticket of an accepted submission.
     Ticket(u64),
     /// The size that was waited for.

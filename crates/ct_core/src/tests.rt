@@ -65,8 +65,14 @@ fn asked(rt: &HostRuntime, core: &Core, query: Query) -> Result<Reply, Refusal> 
 #[test]
 fn two_fronts_with_one_certificate(rt: HostRuntime) -> Result<(), Fail> {
     let mut core = opened(&rt, 0)?;
-    assert_eq!(rt; settle(&rt, &mut core, (1, 1), b"A", 5), record(1, 1, 0, true));
-    assert_eq!(rt; settle(&rt, &mut core, (0, 0), b"A", 6), record(0, 0, 0, false));
+    assert_eq!(rt;
+        settle(&rt, &mut core, (1, 1), b"A", 5),
+        record(1, 1, 0, true)
+    );
+    assert_eq!(rt;
+        settle(&rt, &mut core, (0, 0), b"A", 6),
+        record(0, 0, 0, false)
+    );
     assert_eq!(rt; core.clock(), 5);
     assert!(rt; matches!(core.publish(rt.alloc(), 6), Ok(_)));
     assert!(rt;
@@ -79,8 +85,14 @@ fn two_fronts_with_one_certificate(rt: HostRuntime) -> Result<(), Fail> {
         )
     );
     // the settlement goes on behind a publication
-    assert_eq!(rt; settle(&rt, &mut core, (0, 2), b"A", 7), record(0, 2, 0, false));
-    assert_eq!(rt; settle(&rt, &mut core, (1, 3), b"B", 7), record(1, 3, 1, true));
+    assert_eq!(rt;
+        settle(&rt, &mut core, (0, 2), b"A", 7),
+        record(0, 2, 0, false)
+    );
+    assert_eq!(rt;
+        settle(&rt, &mut core, (1, 3), b"B", 7),
+        record(1, 3, 1, true)
+    );
     Ok(())
 }
 

@@ -36,13 +36,13 @@ all_drained : (s : HouseState) (ends : List FrontView) → IsAllSettled s ends �
 all_drained s ends d = record {
   count = length-map ends (λ (f : FrontView). f.intake.accepted) ∙ order_count (length s.lanes) ends d.in_order;
   received = λ f xs lane at lane_at.
-    let w = slice_get_within (accepted_lists ends) f xs at in
-    let n = length-map ends (λ (e : FrontView). e.intake.accepted) in
-    let inside : f < length ends = omega arith in
-    let (e, is) = slice_get_is ends f inside in
-    let own : e.intake.accepted ≡ xs = same_Some e.intake.accepted xs (sym (slice_get-map (λ (e : FrontView). e.intake.accepted) ends f ∙ ap (option_map (λ (e : FrontView). e.intake.accepted)) is) ∙ at) in
-    let here : drained_lane e ≡ lane = same_Some (drained_lane e) lane (sym (d.drained f e is) ∙ lane_at) in
-    (ap (λ (l : Lane). l.received) (sym here) ∙ own, ap (λ (l : Lane). l.hand) (sym here));
+      let w = slice_get_within (accepted_lists ends) f xs at in
+      let n = length-map ends (λ (e : FrontView). e.intake.accepted) in
+      let inside : f < length ends = omega arith in
+      let (e, is) = slice_get_is ends f inside in
+      let own : e.intake.accepted ≡ xs = same_Some e.intake.accepted xs (sym (slice_get-map (λ (e : FrontView). e.intake.accepted) ends f ∙ ap (option_map (λ (e : FrontView). e.intake.accepted)) is) ∙ at) in
+      let here : drained_lane e ≡ lane = same_Some (drained_lane e) lane (sym (d.drained f e is) ∙ lane_at) in
+      (ap (λ (l : Lane). l.received) (sym here) ∙ own, ap (λ (l : Lane). l.hand) (sym here));
 }
 
 -- the final log

@@ -113,6 +113,7 @@ hashed_texts hashes seen leaves xs now e same texts =
     twice : (ls : List (Vec ℕ Global)) → map hash_leaf (map (λ (l : Vec ℕ Global). l.items) ls) ≡ map (λ (l : Vec ℕ Global). hash_leaf l.items) ls
     twice [] = refl
     twice (l ∷ ls) = ap (λ (zs : List (List ℕ)). hash_leaf l.items ∷ zs) (twice ls)
+
     again : (ys : List Item) → map hash_leaf (map (λ (x : Item). leaf_at x.submission now) ys) ≡ map (λ (x : Item). hash_leaf (leaf_at x.submission now)) ys
     again [] = refl
     again (y ∷ ys) = ap (λ (zs : List (List ℕ)). hash_leaf (leaf_at y.submission now) ∷ zs) (again ys)

@@ -35,26 +35,27 @@ each_new {B} f target gate room n intakes outlets a count each =
     let c1 = a.1 in
     let c0 = a.0 in
     same_lists (map f outlets) target (many ∙ c1 ∙ sym count) (λ k d below.
-        let inside : k < length outlets = omega arith in
-        let within : k < length intakes = omega arith in
-        let small : k < n = omega arith in
-        let (o, bt) = slice_get_is outlets k inside in
-        let (i, at) = slice_get_is intakes k within in
-        get_or-map f outlets k o d inside ∙ ap f (get_or_from_slice_get outlets k o o bt) ∙ each k i o d small (new_at gate room n intakes outlets a k i o at bt))
+    let inside : k < length outlets = omega arith in
+    let within : k < length intakes = omega arith in
+    let small : k < n = omega arith in
+    let (o, bt) = slice_get_is outlets k inside in
+    let (i, at) = slice_get_is intakes k within in
+    get_or-map f outlets k o d inside ∙ ap f (get_or_from_slice_get outlets k o o bt) ∙ each k i o d small (new_at gate room n intakes outlets a k i o at bt))
 
 pub new_numbers : (gate : TableId) (room n : ℕ) (intakes : List IntakeView) (outlets : List OutletView) (lanes : List LaneView) → AreNewFronts gate room n intakes outlets → lanes ≡ map new_lane outlets
     → (map (λ (l : LaneView). l.number) lanes ≡ range_with_len 0 (length lanes)) × (length lanes ≡ n)
 new_numbers gate room n intakes outlets lanes a e =
-    let count : length lanes ≡ n = ap length e ∙ length-map outlets new_lane ∙ a.1 in
-    (ap (map (λ (l : LaneView). l.number)) e ∙ map_twice (λ (l : LaneView). l.number) new_lane outlets
-        ∙ each_new (λ (o : OutletView). o.number) (range_with_len 0 n) gate room n intakes outlets a (length-range_with_len 0 n) (λ k i o d below new. number k i o d below new)
-        ∙ ap (range_with_len 0) (sym count),
-      count)
+    let count : length lanes ≡ n = ap length e ∙ length-map outlets new_lane ∙ a.1 in (
+      ap (map (λ (l : LaneView). l.number)) e ∙ map_twice (λ (l : LaneView). l.number) new_lane outlets
+          ∙ each_new (λ (o : OutletView). o.number) (range_with_len 0 n) gate room n intakes outlets a (length-range_with_len 0 n) (λ k i o d below new. number k i o d below new)
+          ∙ ap (range_with_len 0) (sym count),
+      count,
+    )
   where
     number : (k : ℕ) (i : IntakeView) (o : OutletView) (d : ℕ) → k < n → IsNewFront gate room k i o → o.number ≡ get_or (range_with_len 0 n) k d
     number k i o d below new =
-      let z : 0 + k ≡ k = omega arith in
-      new.5.1 ∙ new.1 ∙ sym (get_or-range_with_len 0 n k d below ∙ z)
+        let z : 0 + k ≡ k = omega arith in
+        new.5.1 ∙ new.1 ∙ sym (get_or-range_with_len 0 n k d below ∙ z)
 
 new_lanes : (gate : TableId) (room n : ℕ) (intakes : List IntakeView) (outlets : List OutletView) (lanes : List LaneView) → AreNewFronts gate room n intakes outlets → lanes ≡ map new_lane outlets
     → map lane_of lanes ≡ replicate n empty_lane
@@ -76,27 +77,27 @@ opened gate room n now intakes outlets lanes fronts core count a e f new none = 
   lanes = new_lanes gate room n intakes outlets lanes a e;
   count = ap length f ∙ length-map intakes new_front ∙ a.0;
   each = λ k x at.
-    let small : k < length fronts = slice_get_within fronts k x at in
-    let size = ap length f ∙ length-map intakes new_front in
-    let within : k < length intakes = omega arith in
-    let c0 = a.0 in
-    let c1 = a.1 in
-    let inside : k < length outlets = omega arith in
-    let (i, is) = slice_get_is intakes k within in
-    let (o, os) = slice_get_is outlets k inside in
-    let here = new_at gate room n intakes outlets a k i o is os in
-    let same : new_front i ≡ x = same_Some (new_front i) x (sym (slice_get-map new_front intakes k ∙ ap (option_map new_front) is) ∙ ap (λ (zs : List FrontView). slice_get zs k) (sym f) ∙ at) in
-    subst (IsFreshFront (record { gate = gate; rings = map (λ (l : LaneView). l.ring) lanes }) room k) same (record {
-      of_house = record {
-        gate = here.0;
-        ring = ap (slice_get (map (λ (l : LaneView). l.ring) lanes)) here.1 ∙ ap (λ (zs : List LaneView). slice_get (map (λ (l : LaneView). l.ring) zs) k) e ∙ ap (λ (zs : List RingName). slice_get zs k) (map_twice (λ (l : LaneView). l.ring) new_lane outlets)
-          ∙ slice_get-map (λ (o : OutletView). o.ring) outlets k ∙ ap (option_map (λ (o : OutletView). o.ring)) os ∙ ap Some here.5.0;
-      };
-      number = here.1;
-      places = here.2;
-      accepted = here.3;
-      knows_shutdown = here.4;
-    });
+      let small : k < length fronts = slice_get_within fronts k x at in
+      let size = ap length f ∙ length-map intakes new_front in
+      let within : k < length intakes = omega arith in
+      let c0 = a.0 in
+      let c1 = a.1 in
+      let inside : k < length outlets = omega arith in
+      let (i, is) = slice_get_is intakes k within in
+      let (o, os) = slice_get_is outlets k inside in
+      let here = new_at gate room n intakes outlets a k i o is os in
+      let same : new_front i ≡ x = same_Some (new_front i) x (sym (slice_get-map new_front intakes k ∙ ap (option_map new_front) is) ∙ ap (λ (zs : List FrontView). slice_get zs k) (sym f) ∙ at) in
+      subst (IsFreshFront (record { gate = gate; rings = map (λ (l : LaneView). l.ring) lanes }) room k) same (record {
+        of_house = record {
+          gate = here.0;
+          ring = ap (slice_get (map (λ (l : LaneView). l.ring) lanes)) here.1 ∙ ap (λ (zs : List LaneView). slice_get (map (λ (l : LaneView). l.ring) zs) k) e ∙ ap (λ (zs : List RingName). slice_get zs k) (map_twice (λ (l : LaneView). l.ring) new_lane outlets)
+              ∙ slice_get-map (λ (o : OutletView). o.ring) outlets k ∙ ap (option_map (λ (o : OutletView). o.ring)) os ∙ ap Some here.5.0;
+        };
+        number = here.1;
+        places = here.2;
+        accepted = here.3;
+        knows_shutdown = here.4;
+      });
 }
 
 -- nothing was settled by a new house
@@ -106,8 +107,8 @@ sequences_none s n settled lanes = record {
   sequence = record {
     numbered = λ k d below. absurd (omega arith);
     received = λ f lane at.
-      let within : f < n = let w = slice_get_within s.lanes f lane at in let c = ap length lanes ∙ length-replicate n empty_lane in omega arith in
-      let is : lane ≡ empty_lane = sym (get_or_from_slice_get s.lanes f lane lane at) ∙ ap (λ (zs : List Lane). get_or zs f lane) lanes ∙ get_or-replicate n f empty_lane lane within in
-      ap (λ (l : Lane). l.received) is ∙ ap (λ (l : Lane). l.hand) (sym is);
+        let within : f < n = let w = slice_get_within s.lanes f lane at in let c = ap length lanes ∙ length-replicate n empty_lane in omega arith in
+        let is : lane ≡ empty_lane = sym (get_or_from_slice_get s.lanes f lane lane at) ∙ ap (λ (zs : List Lane). get_or zs f lane) lanes ∙ get_or-replicate n f empty_lane lane within in
+        ap (λ (l : Lane). l.received) is ∙ ap (λ (l : Lane). l.hand) (sym is);
   };
 }

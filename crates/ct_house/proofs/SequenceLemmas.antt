@@ -42,35 +42,38 @@ takes_sequence {House = House} old new f xs now inside t items s = record {
   sequence = record {
     numbered = rw t.count (All-append (λ (x : Item). x.front < length old.lanes) items xs s.sequence.numbered (All-weaker (λ (x : Item). x.front ≡ f) (λ (x : Item). x.front < length old.lanes) (λ x e. omega arith) xs t.of_front));
     received = λ g lane at. elim (eqb_tells g f) [
-        inl same ↦ own g lane (same.1) at
-      | inr apart ↦ other g lane (apart.1) at ];
+      | inl same ↦ own g lane (same.1) at
+      | inr apart ↦ other g lane (apart.1) at
+    ];
   };
 }
   where
     split : (g : ℕ) → items_of g (items ++ xs) ≡ items_of g items ++ items_of g xs
     split g = filter-append (λ (x : Item). x.front == g) items xs
+
     own : (g : ℕ) (lane : Lane) → g ≡ f → slice_get new.lanes g ≡ Some lane → lane.received ≡ items_of g (items ++ xs) ++ lane.hand
     own g lane e at =
-      let (was, was_at) = slice_get_is old.lanes f inside in
-      let at' : slice_get new.lanes f ≡ Some lane = ap (slice_get new.lanes) (sym e) ∙ at in
-      let (more, grown, moved) = t.lane was lane was_at at' in
-      let before : was.received ≡ items_of f items ++ was.hand = s.sequence.received f was was_at in
-      let here : lane.received ≡ items_of f (items ++ xs) ++ lane.hand =
+        let (was, was_at) = slice_get_is old.lanes f inside in
+        let at' : slice_get new.lanes f ≡ Some lane = ap (slice_get new.lanes) (sym e) ∙ at in
+        let (more, grown, moved) = t.lane was lane was_at at' in
+        let before : was.received ≡ items_of f items ++ was.hand = s.sequence.received f was was_at in
+        let here : lane.received ≡ items_of f (items ++ xs) ++ lane.hand =
         grown ∙ ap (λ (ys : List Item). ys ++ more) before ∙ append_assoc (items_of f items) was.hand more ∙ ap (λ (ys : List Item). items_of f items ++ ys) moved
         ∙ sym (append_assoc (items_of f items) xs lane.hand) ∙ ap (λ (ys : List Item). (items_of f items ++ ys) ++ lane.hand) (sym (own_items f xs t.of_front)) ∙ ap (λ (ys : List Item). ys ++ lane.hand) (sym (split f)) in
-      here ∙ ap (λ (n : ℕ). items_of n (items ++ xs) ++ lane.hand) (sym e)
+        here ∙ ap (λ (n : ℕ). items_of n (items ++ xs) ++ lane.hand) (sym e)
+
     other : (g : ℕ) (lane : Lane) → g ≢ f → slice_get new.lanes g ≡ Some lane → lane.received ≡ items_of g (items ++ xs) ++ lane.hand
     other g lane apart at =
-      let before : lane.received ≡ items_of g items ++ lane.hand = s.sequence.received g lane (sym (t.others g apart) ∙ at) in
-      before ∙ ap (λ (ys : List Item). ys ++ lane.hand) (sym (append-nil (items_of g items)) ∙ ap (λ (ys : List Item). items_of g items ++ ys) (sym (no_items_of f g xs apart t.of_front)) ∙ sym (split g))
+        let before : lane.received ≡ items_of g items ++ lane.hand = s.sequence.received g lane (sym (t.others g apart) ∙ at) in
+        before ∙ ap (λ (ys : List Item). ys ++ lane.hand) (sym (append-nil (items_of g items)) ∙ ap (λ (ys : List Item). items_of g items ++ ys) (sym (no_items_of f g xs apart t.of_front)) ∙ sym (split g))
 
 -- where everything is received and settled, the settled items are a merge of the accepted lists
 pub drained_merge : {House : Type 0} (s : SequencerState House) (accepted : List (List Item)) (items : List Item) → IsDrained s accepted → Sequences s items → Merge accepted items
 drained_merge s accepted items d q = record {
   numbered = rw d.count q.sequence.numbered;
   in_order = λ f xs at.
-    let inside : f < length s.lanes = let n = slice_get_within accepted f xs at in let c = d.count in omega arith in
-    let (lane, lane_at) = slice_get_is s.lanes f inside in
-    let facts = d.received f xs lane at lane_at in
-    sym (append-nil (items_of f items)) ∙ ap (λ (ys : List Item). items_of f items ++ ys) (sym facts.1) ∙ sym (q.sequence.received f lane lane_at) ∙ facts.0;
+      let inside : f < length s.lanes = let n = slice_get_within accepted f xs at in let c = d.count in omega arith in
+      let (lane, lane_at) = slice_get_is s.lanes f inside in
+      let facts = d.received f xs lane at lane_at in
+      sym (append-nil (items_of f items)) ∙ ap (λ (ys : List Item). items_of f items ++ ys) (sym facts.1) ∙ sym (q.sequence.received f lane lane_at) ∙ facts.0;
 }

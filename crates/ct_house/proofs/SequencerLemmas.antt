@@ -89,14 +89,13 @@ lane_takes gate count core after lanes f old new xs now numbers at t = record {
   of_front = All-weaker (λ (x : Item). x.front ≡ old.number) (λ (x : Item). x.front ≡ f) (λ x e. e ∙ number_at lanes f old numbers at) xs t.of_front;
   others = λ g apart. slice_get-map lane_of (set lanes f new) g ∙ ap (option_map lane_of) (set_elsewhere lanes f g new apart) ∙ sym (slice_get-map lane_of lanes g);
   lane = λ was is was_at is_at.
-    let (more, received, moved) = t.moved in
-    let w : was ≡ lane_of old = same_Some was (lane_of old) (sym was_at ∙ slice_get-map lane_of lanes f ∙ ap (option_map lane_of) at) in
-    let i : is ≡ lane_of new = same_Some is (lane_of new) (sym is_at ∙ slice_get-map lane_of (set lanes f new) f ∙ ap (option_map lane_of) (set_there lanes f old new at)) in
-    (
-      more,
-      ap (λ (l : Lane). l.received) i ∙ received ∙ ap (λ (l : Lane). l.received ++ more) (sym w),
-      ap (λ (l : Lane). l.hand ++ more) w ∙ moved ∙ ap (λ (l : Lane). xs ++ l.hand) (sym i),
-    );
+      let (more, received, moved) = t.moved in
+      let w : was ≡ lane_of old = same_Some was (lane_of old) (sym was_at ∙ slice_get-map lane_of lanes f ∙ ap (option_map lane_of) at) in
+      let i : is ≡ lane_of new = same_Some is (lane_of new) (sym is_at ∙ slice_get-map lane_of (set lanes f new) f ∙ ap (option_map lane_of) (set_there lanes f old new at)) in (
+        more,
+        ap (λ (l : Lane). l.received) i ∙ received ∙ ap (λ (l : Lane). l.received ++ more) (sym w),
+        ap (λ (l : Lane). l.hand ++ more) w ∙ moved ∙ ap (λ (l : Lane). xs ++ l.hand) (sym i),
+      );
   grows = t.grows;
   published = t.published;
   entries = t.entries;
@@ -110,7 +109,7 @@ lane_takes gate count core after lanes f old new xs now numbers at t = record {
 pub hand_at : (gate : TableId) (count : Option ℕ) (core : CoreState) (lanes : List LaneView) (f : ℕ) (l : LaneView) → slice_get lanes f ≡ Some l → hand_count (make_house gate count core lanes) f ≡ length l.hand
 hand_at gate count core lanes f l at =
     ap length (get_or_from_slice_get (map (λ (x : Lane). x.hand) (map lane_of lanes)) f l.hand []
-      (slice_get-map (λ (x : Lane). x.hand) (map lane_of lanes) f ∙ ap (option_map (λ (x : Lane). x.hand)) (slice_get-map lane_of lanes f ∙ ap (option_map lane_of) at)))
+    (slice_get-map (λ (x : Lane). x.hand) (map lane_of lanes) f ∙ ap (option_map (λ (x : Lane). x.hand)) (slice_get-map lane_of lanes f ∙ ap (option_map lane_of) at)))
 
 -- the numbers stay, where a lane keeps its own
 pub numbers_kept : (lanes : List LaneView) (f : ℕ) (old new : LaneView) → map (λ (x : LaneView). x.number) lanes ≡ range_with_len 0 (length lanes) → slice_get lanes f ≡ Some old → new.number ≡ old.number
@@ -129,7 +128,7 @@ pub lane_ends : (gate : TableId) (count : Option ℕ) (core : CoreState) (lanes 
     → map (λ (x : LaneView). x.number) lanes ≡ range_with_len 0 (length lanes) → slice_get lanes f ≡ Some l → IsOfHouse s.house e → e.intake.number ≡ f → i ≡ e.intake → AreLaneEnds l i
 lane_ends gate count core lanes s f l e i view numbers at own number same =
     let ring : Some l.ring ≡ Some e.intake.ring =
-      sym (slice_get-map (λ (x : LaneView). x.ring) lanes f ∙ ap (option_map (λ (x : LaneView). x.ring)) at) ∙ ap (λ (t : HouseState). slice_get t.house.rings f) view ∙ ap (slice_get s.house.rings) (sym number) ∙ own.ring in
+    sym (slice_get-map (λ (x : LaneView). x.ring) lanes f ∙ ap (option_map (λ (x : LaneView). x.ring)) at) ∙ ap (λ (t : HouseState). slice_get t.house.rings f) view ∙ ap (slice_get s.house.rings) (sym number) ∙ own.ring in
     (same_Some l.ring e.intake.ring ring ∙ ap (λ (v : IntakeView). v.ring) (sym same), number_at lanes f l numbers at ∙ sym number ∙ ap (λ (v : IntakeView). v.number) (sym same))
 
 -- the drained lane stands at its place
@@ -200,8 +199,9 @@ Draining-one old new last ends k now x ys d at below t done time =
     record {
       more = (xs ++ ys, SettlesMore-one old new last xs ys k now below more t);
       drained = λ j e inside there. elim (eqb_tells j k) [
-          inl same ↦ (let here : x ≡ e = same_Some x e (sym at ∙ ap (slice_get ends) (sym same.1) ∙ there) in ap (slice_get last.lanes) same.1 ∙ done ∙ ap (λ (z : FrontView). Some (drained_lane z)) here)
-        | inr apart ↦ (t.others j apart.1 ∙ d.drained j e (less j k inside apart.1) there) ];
+        | inl same ↦ (let here : x ≡ e = same_Some x e (sym at ∙ ap (slice_get ends) (sym same.1) ∙ there) in ap (slice_get last.lanes) same.1 ∙ done ∙ ap (λ (z : FrontView). Some (drained_lane z)) here)
+        | inr apart ↦ (t.others j apart.1 ∙ d.drained j e (less j k inside apart.1) there)
+      ];
       time = time;
     }
   where
@@ -238,8 +238,9 @@ set_back (z ∷ zs) (suc i) d = ap (λ ys. z ∷ ys) (set_back zs i d)
 pub drained_more : (s : HouseState) (ends : List FrontView) (k : ℕ) (x : FrontView) → ((j : ℕ) (e : FrontView) → j < k → slice_get ends j ≡ Some e → slice_get s.lanes j ≡ Some (drained_lane e)) → slice_get ends k ≡ Some x → slice_get s.lanes k ≡ Some (drained_lane x)
     → (j : ℕ) (e : FrontView) → j < k + 1 → slice_get ends j ≡ Some e → slice_get s.lanes j ≡ Some (drained_lane e)
 drained_more s ends k x d at done j e inside there = elim (eqb_tells j k) [
-    inl same ↦ (let here : x ≡ e = same_Some x e (sym at ∙ ap (slice_get ends) (sym same.1) ∙ there) in ap (slice_get s.lanes) same.1 ∙ done ∙ ap (λ (z : FrontView). Some (drained_lane z)) here)
-  | inr apart ↦ d j e (less j k inside apart.1) there ]
+  | inl same ↦ (let here : x ≡ e = same_Some x e (sym at ∙ ap (slice_get ends) (sym same.1) ∙ there) in ap (slice_get s.lanes) same.1 ∙ done ∙ ap (λ (z : FrontView). Some (drained_lane z)) here)
+  | inr apart ↦ d j e (less j k inside apart.1) there
+]
   where
     less : (a b : ℕ) → a < b + 1 → a ≢ b → a < b
     less a b h n = elim (cases_lt a b) [ inl l ↦ l | inr g ↦ absurd (n (omega arith)) ]

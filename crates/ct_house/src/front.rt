@@ -9,8 +9,8 @@ ghost use Rattle.ct_gate.specs.Sending.{Accepts, Refuses};
 use ct_codec::{Refusal, Submission};
 use ct_core::{Published, Query, Reply};
 use ct_gate::Intake;
-use std::marker::Model;
 use std::alloc::Global;
+use std::marker::Model;
 use std::sync::{Arc, RwLock, Wait};
 
 /// Takes submissions. It can move to a thread of its own.

@@ -9,9 +9,9 @@ ghost use Rattle.ct_house.specs.House.{FrontView, accepted_lists, hand_count, Is
 use crate::front::Retired;
 use crate::lane::LaneOwner;
 use ct_codec::Refusal;
-use ct_tree::Head;
 use ct_core::{Core, Published, Settled};
 use ct_gate::{Intake, Shutter, close_gate};
+use ct_tree::Head;
 use std::alloc::Global;
 use std::marker::Model;
 use std::sync::{Arc, RwLock, Wait};

@@ -196,7 +196,7 @@ module _ (H : List ℕ → List ℕ) (hash_length : (x : List ℕ) → length (H
   shown [] (x ∷ []) leaf m i e =
       let z : m ≡ 0 = omega arith in
       let g : hash_leaf H leaf ≡ hash_leaf H x =
-          same_some (hash_leaf H leaf) (hash_leaf H x) (sym (rebuild_leaf H m 1 (hash_leaf H leaf) (omega arith)) ∙ e ∙ ap Some (leaves_one H x)) in
+      same_some (hash_leaf H leaf) (hash_leaf H x) (sym (rebuild_leaf H m 1 (hash_leaf H leaf) (omega arith)) ∙ e ∙ ap Some (leaves_one H x)) in
       subst (Shows H (Agrees (x ∷ []) leaf m [])) (sym (evid_leaf H (x ∷ []) leaf m))
       (compared_shows H (Agrees (x ∷ []) leaf m []) (0 ∷ leaf) (0 ∷ x) None g
       (λ s. (tail_same 0 0 leaf x s ∙ ap (λ u. get_or (x ∷ []) u []) (sym z), sym (path_one H m (x ∷ []) (omega arith)))))
@@ -214,7 +214,7 @@ module _ (H : List ℕ → List ℕ) (hash_length : (x : List ℕ) → length (H
       ⊎_elim
       (λ (low : m < k).
       let z = mapped (λ x. hash_node H x s) (rebuild_down H m k (hash_leaf H leaf) q) (mth_of_leaves H D)
-          (sym (rebuild_left H m (length D) k (hash_leaf H leaf) s q more refl low) ∙ e) in
+      (sym (rebuild_left H m (length D) k (hash_leaf H leaf) s q more refl low) ∙ e) in
       let r = z.0 in
       let n = rebuilt_length q m k (hash_leaf H leaf) r (hash_length (0 ∷ leaf)) z.1 in
       subst (Shows H (Agrees D leaf m (s ∷ q))) (sym (evid_left H D leaf m k s r q refl low z.1))
@@ -226,7 +226,7 @@ module _ (H : List ℕ → List ℕ) (hash_length : (x : List ℕ) → length (H
       (shown q (take k D) leaf m (omega (arith, c)) (ap (λ x. rebuild_down H m x (hash_leaf H leaf) q) c ∙ z.1 ∙ ap Some w.0)))))
       (λ (high : k ≤ m).
       let z = mapped (λ x. hash_node H s x) (rebuild_down H (m - k) (length D - k) (hash_leaf H leaf) q) (mth_of_leaves H D)
-          (sym (rebuild_right H m (length D) k (hash_leaf H leaf) s q more refl high) ∙ e) in
+      (sym (rebuild_right H m (length D) k (hash_leaf H leaf) s q more refl high) ∙ e) in
       let r = z.0 in
       let n = rebuilt_length q (m - k) (length D - k) (hash_leaf H leaf) r (hash_length (0 ∷ leaf)) z.1 in
       subst (Shows H (Agrees D leaf m (s ∷ q))) (sym (evid_right H D leaf m k s r q refl high z.1))

@@ -69,7 +69,7 @@ module _ (H : List ℕ → List ℕ) where
   whole_value n false r s x y [] q w e = absurd (none_some (x, y) (sym (both-end_whole H n n false r (omega arith)) ∙ e))
   whole_value n b r s x y (c ∷ p) q w e =
       let z : both_down H n n b r (reverse (c ∷ p)) ≡ both_down H n n b r (s ∷ reverse q) =
-          ap (both_down H n n b r) (ap reverse (w (omega arith)) ∙ reverse_last q s) in
+      ap (both_down H n n b r) (ap reverse (w (omega arith)) ∙ reverse_last q s) in
       whole_end b (sym z ∙ e)
     where
       whole_end : (b : Bool) → both_down H n n b r (s ∷ reverse q) ≡ Some (x, y) → (x ≡ cond b r s) × (y ≡ cond b r s)
@@ -107,7 +107,7 @@ module _ (H : List ℕ → List ℕ) {V : Type 0} (f : V → List ℕ) where
       → a ≡ mth_of_leaves H (map f (take k xs)) → c ≡ mth_of_leaves H (map f (take (length xs - k) (drop k xs)))
       → d ≡ mth_of_leaves H (map f (take k ys)) → e ≡ mth_of_leaves H (map f (take (length ys - k) (drop k ys)))
       → (SameRoot H (map f (take k xs)) (map f (take k ys)) × Begun H false t q (map f (take (length xs - k) (drop k xs))) (map f (take (length ys - k) (drop k ys))))
-        × (NodesApart H s v a c × NodesApart H s w d e)
+      × (NodesApart H s v a c × NodesApart H s w d e)
       → Begun H b r p (map f xs) (map f ys)
   right_begun b xs ys k r t s v w a c d e p q l split_is_k positive high g known ea ec ed ee z =
       let m : length (map f xs) ≡ length xs = length-map xs f in

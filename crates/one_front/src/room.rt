@@ -26,10 +26,7 @@ pub(crate) fn put_back(items: &mut VecDeque<Item>, item: Item)
 }
 
 // Adds an answer at the end.
-pub(crate) fn note_reserved(
-    answers: &mut Vec<Result<u64, Refusal>>,
-    answer: Result<u64, Refusal>,
-)
+pub(crate) fn note_reserved(answers: &mut Vec<Result<u64, Refusal>>, answer: Result<u64, Refusal>)
     requires { vec_len answers.old < vec_capacity answers.old }
     ensures items { answers.new.items ≡ answers.old.items ++ answer ∷ [] }
     ensures capacity { vec_capacity answers.old ≤ vec_capacity answers.new }

@@ -170,7 +170,10 @@ fn answers_to_several_submissions(rt: HostRuntime) -> Result<(), Fail> {
             .submit_all(rt.alloc(), submissions)
             .map_err(|(refusal, _)| refusal)?,
     };
-    assert_eq!(rt; answers.as_slice(), [Ok(0), Ok(1), Err(Refusal::Full)].as_slice());
+    assert_eq!(rt;
+        answers.as_slice(),
+        [Ok(0), Ok(1), Err(Refusal::Full)].as_slice()
+    );
     assert_eq!(rt; front.retire().shutdown(), Ok(2));
     Ok(())
 }

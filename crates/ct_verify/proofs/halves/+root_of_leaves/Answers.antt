@@ -4,7 +4,6 @@ use Rattle.ct_verify.proofs.Leaves.{leaves_nil, leaves_single, leaves_joined}
 use Rattle.ct_tree.specs.Tree.{hash_leaf}
 use Rattle.ct_verify.proofs.halves.+root_of_leaves.Goals as goal
 
-
 pub returns-then-is_empty : goal.returns-then-is_empty
 returns-then-is_empty g t c =
     let n = eqb-true (length c.args.leaves.now) 0 (sym c.is_empty.ensures ∙ c.if-is_empty.true) in

@@ -45,8 +45,7 @@ loop-front-preserved c =
     let x = get_or l.ends l.front d in
     let at : slice_get l.ends l.front ≡ Some x = slice_get-get_or l.ends l.front d (omega arith) in
     let there = ap (λ (es : List FrontView). slice_get es l.front) (sym i.1) ∙ at in
-    let done = ap (λ (s : HouseState). slice_get s.lanes l.front) (sym i.0) ∙ c.if-not-is_front_settled.ensures.answer.0 refl in
-    (
+    let done = ap (λ (s : HouseState). slice_get s.lanes l.front) (sym i.0) ∙ c.if-not-is_front_settled.ensures.answer.0 refl in (
       c.is_front_settled.ensures.same.0 ∙ i.0,
       ap (set l.ends l.front) c.is_front_settled.ensures.same.1 ∙ set_back l.ends l.front d ∙ i.1,
       omega arith,

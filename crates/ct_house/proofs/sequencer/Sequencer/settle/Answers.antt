@@ -63,8 +63,7 @@ loop-front-preserved g c =
     let there = ap (λ (es : List FrontView). slice_get es l.front) (sym i.1) ∙ at in
     let (xs, more) = i.0.more in
     let many = more.count in
-    let (ys, takes) = c.settle_front.ensures.settled in
-    (
+    let (ys, takes) = c.settle_front.ensures.settled in (
       Draining-one c.args.self.now l.self c.settle_front.new.self c.args.ends.now l.front c.args.now x ys i.0 there (omega arith) takes c.in_ok-settle_front.ensures.all c.settle_front.ensures.time,
       ap (set l.ends l.front) c.settle_front.ensures.end ∙ set_back l.ends l.front d ∙ i.1,
       omega arith,

@@ -41,8 +41,7 @@ returns-clause-taken g c =
     let below = c.requires.limits.0 in
     let at : slice_get a.lanes.items c.args.front ≡ Some old = slice_get_read a.lanes.items (length a.lanes.items) c.args.front old refl (omega arith) c.index_mut-lane.ensures.value in
     let hand : hand_count (sequencer_state a) c.args.front ≡ length old.hand = hand_at a.shutter.gate a.shutter.accepted a.core a.lanes.items c.args.front old at in
-    rw (← c.self.view_is)
-    (
+    rw (← c.self.view_is) (
       xs,
       lane_takes a.shutter.gate a.shutter.accepted a.core c.take.new.core a.lanes.items c.args.front old c.take.new.self xs c.args.now i.numbers at t,
       IfOk-weaker c.take.result (λ n. (n ≡ length xs) × (n ≤ c.args.max) × (min c.args.max (length old.hand) ≤ n)) (λ n. (n ≡ length xs) × (n ≤ c.args.max) × (min c.args.max (hand_count (sequencer_state a) c.args.front) ≤ n)) (λ n p. (p.0, p.1, rw hand p.2)) count,
