@@ -13,3 +13,4 @@ pub mod Comparing
 pub mod Explaining
 pub mod Prefix
 pub mod Walking
+pub mod Extending

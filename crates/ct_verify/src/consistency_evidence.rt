@@ -1,10 +1,11 @@
 //! Evidence for an accepted consistency proof: the old list begins the new one, or two strings have one hash.
-ghost use Rattle.std.specs.Prelude.{◌≡◌, ◌+◌, ◌-◌, ◌<◌, ◌≤◌, ◌⊎◌, ◌↔◌, ℕ, List, [], length, map, take, IfOk, IsTrue, MatchResult, Some, None, cond};
+ghost use Rattle.std.specs.Prelude.{◌≡◌, ◌+◌, ◌-◌, ◌<◌, ◌≤◌, ◌⊎◌, ◌↔◌, ℕ, List, [], length, map, take, IfOk, IsTrue, MatchResult, Some, None, Ok, cond};
 ghost use Rattle.ct_tree.specs.Tree.{hash_leaf, mth_of_leaves};
 ghost use Rattle.ct_verify.specs.Rebuild.{both};
 ghost use Rattle.ct_verify.specs.Strings.{children_string};
 ghost use Rattle.ct_verify.specs.Search.{FoundOr, NodesApart, SameRoot, Begun};
-ghost use Rattle.ct_verify.specs.ConsistencyEvidence.{Begins, ConsistencyEvidence, ConsistencyFault};
+ghost use Rattle.ct_verify.specs.ConsistencyEvidence.{IsAcceptedFor, Begins, ConsistencyEvidence, ConsistencyFault};
+ghost use Rattle.ct_verify.specs.declared.evidence.Evidence.TheVariants.{Holds};
 
 use crate::children::{Children, is_same, is_same_string, under_node};
 use crate::consistency::verify_consistency;
@@ -225,8 +226,17 @@ fn walk<H: NodeHash>(
     }
 }
 
-/// Explains a consistency proof against both lists of leaves.
-pub fn explain_consistency<H: NodeHash>(
+// Whether the old list is the beginning of the new one.
+fn begins(old: &[Vec<u8>], new: &[Vec<u8>]) -> bool
+    requires { length old.now ≤ length new.now }
+    ensures { IsTrue result ↔ Begins (map (λ l. l.items) old.now) (map (λ l. l.items) new.now) }
+{
+    let beginning = &new[..old.len()];
+    old == beginning
+}
+
+// The evidence that the comparison and the search give.
+fn evidence_for<H: NodeHash>(
     alloc: Global,
     h: &H,
     old: &[Vec<u8>],
@@ -241,13 +251,37 @@ pub fn explain_consistency<H: NodeHash>(
     let first = old.len() as u64;
     let second = new.len() as u64;
     verify_consistency(h, first, second, &old_root, &new_root, path)?;
-    let beginning = &new[..old.len()];
-    if old == beginning {
+    if begins(old, new) {
         return Ok(Evidence::Holds);
     }
     let walked = walk(alloc, h, old, new, true, &old_root, path)?;
     match walked.found {
         Some(pair) => Ok(Evidence::Collision(pair.first, pair.second)),
+        // Where nothing is found, the old list begins the new one. So this doesn't come.
         None => Ok(Evidence::Holds),
     }
+}
+
+/// Explains a consistency proof against both lists of leaves: their roots and their numbers stand for the tree heads.
+///
+/// `Holds` says that the old list is the beginning of the new one. `Collision` says that it isn't, and gives two strings
+/// that differ and have one hash, each the string of a leaf or of a node. This holds for every hash function. Memory is
+/// taken for the strings alone.
+///
+/// # Errors
+/// `ProofRefused` with the fault of [`verify_consistency`](crate::verify_consistency) where that refuses the proof, and
+/// `Memory` in place of a `Collision` where a growth was refused.
+pub fn explain_consistency<H: NodeHash>(
+    alloc: Global,
+    h: &H,
+    old: &[Vec<u8>],
+    new: &[Vec<u8>],
+    path: &[[u8; 32]],
+) -> Result<Evidence, EvidenceFault>
+    ensures explained { MatchResult result (ConsistencyEvidence H.digest (map (λ l. l.items) old.now) (map (λ l. l.items) new.now) path.now)
+        (ConsistencyFault H.digest (map (λ l. l.items) old.now) (map (λ l. l.items) new.now) path.now) }
+    ensures holds { IsAcceptedFor H.digest (map (λ l. l.items) old.now) (map (λ l. l.items) new.now) path.now
+        → Begins (map (λ l. l.items) old.now) (map (λ l. l.items) new.now) → result ≡ Ok Holds }
+{
+    evidence_for(alloc, h, old, new, path)
 }

@@ -1,4 +1,4 @@
-//! The two verifiers of a Certificate Transparency log's proofs.
+//! The two verifiers of a Certificate Transparency log's proofs, and evidence for what they accept.
 //!
 //! [`verify_inclusion`] checks an audit path and [`verify_consistency`] a consistency proof, by the steps of
 //! RFC 9162, sections 2.1.3.2 and 2.1.4.2, for every hash function with digests of 32 bytes, every size of 64 bits and
@@ -10,6 +10,10 @@
 //! ([`ProofFault`], `specs/Verdict.antt`). The walk of the code, from the leaf up by the bits of two numbers, appears in
 //! neither. The module [`laws`] shows that every true path and every true proof is accepted, and the
 //! equations of `rebuild` and `both`.
+//!
+//! [`explain_inclusion`] and [`explain_consistency`] say what an accepted proof means without the assumption that the
+//! hash function has no collisions. Handed the lists themselves, they answer that the proof tells the truth about them,
+//! or give two strings that differ and have one hash (`specs/Evidence.antt`).
 #![tactic(auto)]
 
 mod children;
@@ -24,6 +28,8 @@ pub mod laws;
 mod place;
 #[cfg(test)]
 mod sweep_tests;
+#[cfg(test)]
+mod test_hashes;
 #[cfg(test)]
 mod tests;
 

@@ -1,14 +1,13 @@
 // Worked proofs over seven leaves under SHA-256. The values were computed by another program (Python's hashlib) from
 // the bytes of the leaves: none, 00, 10, 20 21, 30 31, 40 41 42 43, 50 51 52 53 54 55 56 57. `N01` is the node over
 // leaves 0 and 1, and so on; `MTH_3` is the root of the first three leaves.
-ghost use Rattle.std.specs.Prelude.{ℕ, List, replicate};
-ghost use Rattle.std.proofs.lemmas.List.{length-replicate};
 
 use crate::consistency::verify_consistency;
 use crate::fault::ProofFault;
 use crate::inclusion::verify_inclusion;
 use crate::laws;
-use ct_tree::{NodeHash, Sha256Hash};
+use crate::test_hashes::ZeroHash;
+use ct_tree::Sha256Hash;
 
 const L0: [u8; 32] = [
     0x6e, 0x34, 0x0b, 0x9c, 0xff, 0xb3, 0x7a, 0x98, 0x9c, 0xa5, 0x44, 0xe6, 0xbb, 0x78, 0x0a, 0x2c,
@@ -185,20 +184,6 @@ fn largest_size(rt: HostRuntime) {
     );
     assert!(rt; inclusion(&ZEROS, last, size, &path[..64], &ZEROS) == Err(ProofFault::PathTooLong));
     assert!(rt; inclusion(&ZEROS, size, size, &path, &ZEROS) == Err(ProofFault::IndexOutOfRange));
-}
-
-// The digest of every message is 32 bytes 00.
-#[derive(Clone, Copy)]
-struct ZeroHash;
-
-impl NodeHash for ZeroHash {
-    ghost digest = { λ _. replicate 32 0 };
-
-    fn hash(&self, _parts: &[&[u8]]) -> [u8; 32] {
-        [0; 32]
-    }
-
-    ghost length_digest = { λ _. length-replicate {A = ℕ} 32 0 };
 }
 
 // Under another hash function, and at the largest size, a path of the right length is accepted.
