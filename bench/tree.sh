@@ -1,0 +1,7 @@
+#!/bin/sh
+# Times the tree: an append, a root, a path, a proof and a copy at 10^3 to 10^6 leaves, and batches of leaf hashes.
+# The program is proved first, so the first run takes some minutes.
+set -eu
+command -v rt >/dev/null 2>&1 || { echo "bench/tree.sh: the kit's rt is not on the PATH" >&2; exit 1; }
+cd "$(dirname "$0")/../crates/tree_bench"
+rt run -- 1000 10000 100000 1000000
