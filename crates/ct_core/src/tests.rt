@@ -119,9 +119,18 @@ fn root(heap: Global, core: &Core) -> Result<[u8; 32], Refusal> {
 fn a_repeat_has_the_firsts_leaf(rt: HostRuntime) -> Result<(), Fail> {
     let heap = rt.alloc();
     let mut core = Core::open(heap, 0)?;
-    assert_eq!(rt; settle(heap, &mut core, (0, 0), b"A", 10), record(0, 0, 0, true));
-    assert_eq!(rt; settle(heap, &mut core, (0, 1), b"B", 10), record(0, 1, 1, true));
-    assert_eq!(rt; settle(heap, &mut core, (0, 2), b"A", 10), record(0, 2, 0, false));
+    assert_eq!(rt;
+        settle(heap, &mut core, (0, 0), b"A", 10),
+        record(0, 0, 0, true)
+    );
+    assert_eq!(rt;
+        settle(heap, &mut core, (0, 1), b"B", 10),
+        record(0, 1, 1, true)
+    );
+    assert_eq!(rt;
+        settle(heap, &mut core, (0, 2), b"A", 10),
+        record(0, 2, 0, false)
+    );
     assert_eq!(rt; receipt(heap, &core, 2), Err(Refusal::NotYet));
     assert!(rt; !core.is_covered());
     let head = core.publish(heap, 10)?;
@@ -135,14 +144,26 @@ fn a_repeat_has_the_firsts_leaf(rt: HostRuntime) -> Result<(), Fail> {
 fn two_fronts_with_one_certificate(rt: HostRuntime) -> Result<(), Fail> {
     let heap = rt.alloc();
     let mut core = Core::open(heap, 0)?;
-    assert_eq!(rt; settle(heap, &mut core, (1, 1), b"A", 5), record(1, 1, 0, true));
-    assert_eq!(rt; settle(heap, &mut core, (0, 0), b"A", 6), record(0, 0, 0, false));
+    assert_eq!(rt;
+        settle(heap, &mut core, (1, 1), b"A", 5),
+        record(1, 1, 0, true)
+    );
+    assert_eq!(rt;
+        settle(heap, &mut core, (0, 0), b"A", 6),
+        record(0, 0, 0, false)
+    );
     assert_eq!(rt; core.clock(), 5);
     assert!(rt; core.publish(heap, 6)?.tree_size == 1);
     assert_eq!(rt; receipt(heap, &core, 0), Ok((0, 5)));
     // the core still knows the certificate behind a publication
-    assert_eq!(rt; settle(heap, &mut core, (0, 2), b"A", 7), record(0, 2, 0, false));
-    assert_eq!(rt; settle(heap, &mut core, (1, 3), b"B", 7), record(1, 3, 1, true));
+    assert_eq!(rt;
+        settle(heap, &mut core, (0, 2), b"A", 7),
+        record(0, 2, 0, false)
+    );
+    assert_eq!(rt;
+        settle(heap, &mut core, (1, 3), b"B", 7),
+        record(1, 3, 1, true)
+    );
     Ok(())
 }
 
@@ -151,10 +172,16 @@ fn moments_that_the_clock_refuses(rt: HostRuntime) -> Result<(), Fail> {
     let heap = rt.alloc();
     let mut core = Core::open(heap, 5)?;
     assert!(rt; matches!(core.publish(heap, 5), Err(Refusal::ClockBack)));
-    assert_eq!(rt; settle(heap, &mut core, (0, 0), b"A", 8), record(0, 0, 0, true));
+    assert_eq!(rt;
+        settle(heap, &mut core, (0, 0), b"A", 8),
+        record(0, 0, 0, true)
+    );
     assert!(rt; matches!(core.publish(heap, 7), Err(Refusal::ClockBack)));
     assert!(rt; core.publish(heap, 8)?.tree_size == 1);
-    assert_eq!(rt; settle(heap, &mut core, (0, 1), b"B", 7), Err(Refusal::ClockBack));
+    assert_eq!(rt;
+        settle(heap, &mut core, (0, 1), b"B", 7),
+        Err(Refusal::ClockBack)
+    );
     assert!(rt; matches!(core.publish(heap, 8), Err(Refusal::ClockBack)));
     let next = core.next(heap, 9)?;
     assert!(rt; core.clock() == 8 && next.heads().len() == 3);
@@ -193,7 +220,9 @@ fn leaf(number: u8) -> [u8; 32] {
     let moment = if number < 2 { 1 } else { 2 };
     leaf_hash(
         &Sha256Hash,
-        &[0, 0, 0, 0, 0, 0, 0, 0, 0, moment, 0, 0, 0, 0, 2, 0, number, 0, 0],
+        &[
+            0, 0, 0, 0, 0, 0, 0, 0, 0, moment, 0, 0, 0, 0, 2, 0, number, 0, 0,
+        ],
     )
 }
 
@@ -238,16 +267,46 @@ fn entry_refusal(heap: Global, core: &Core, leaf_index: u64, tree_size: u64) -> 
 fn refusals_in_their_order(rt: HostRuntime) -> Result<(), Fail> {
     let heap = rt.alloc();
     let core = five_leaves(heap)?;
-    assert_eq!(rt; consistency_refusal(heap, &core, 5, 5), Some(Refusal::BadRange));
-    assert_eq!(rt; consistency_refusal(heap, &core, 0, 5), Some(Refusal::BadRange));
-    assert_eq!(rt; consistency_refusal(heap, &core, 4, 3), Some(Refusal::BadRange));
-    assert_eq!(rt; consistency_refusal(heap, &core, 3, 5), Some(Refusal::UnknownSize));
-    assert_eq!(rt; consistency_refusal(heap, &core, 2, 4), Some(Refusal::UnknownSize));
-    assert_eq!(rt; hash_refusal(heap, &core, leaf(1), 3), Some(Refusal::UnknownSize));
-    assert_eq!(rt; hash_refusal(heap, &core, leaf(2), 2), Some(Refusal::UnknownLeaf));
-    assert_eq!(rt; hash_refusal(heap, &core, leaf(7), 5), Some(Refusal::UnknownLeaf));
-    assert_eq!(rt; hash_refusal(heap, &core, leaf(0), 0), Some(Refusal::UnknownLeaf));
-    assert_eq!(rt; entry_refusal(heap, &core, 9, 3), Some(Refusal::UnknownSize));
+    assert_eq!(rt;
+        consistency_refusal(heap, &core, 5, 5),
+        Some(Refusal::BadRange)
+    );
+    assert_eq!(rt;
+        consistency_refusal(heap, &core, 0, 5),
+        Some(Refusal::BadRange)
+    );
+    assert_eq!(rt;
+        consistency_refusal(heap, &core, 4, 3),
+        Some(Refusal::BadRange)
+    );
+    assert_eq!(rt;
+        consistency_refusal(heap, &core, 3, 5),
+        Some(Refusal::UnknownSize)
+    );
+    assert_eq!(rt;
+        consistency_refusal(heap, &core, 2, 4),
+        Some(Refusal::UnknownSize)
+    );
+    assert_eq!(rt;
+        hash_refusal(heap, &core, leaf(1), 3),
+        Some(Refusal::UnknownSize)
+    );
+    assert_eq!(rt;
+        hash_refusal(heap, &core, leaf(2), 2),
+        Some(Refusal::UnknownLeaf)
+    );
+    assert_eq!(rt;
+        hash_refusal(heap, &core, leaf(7), 5),
+        Some(Refusal::UnknownLeaf)
+    );
+    assert_eq!(rt;
+        hash_refusal(heap, &core, leaf(0), 0),
+        Some(Refusal::UnknownLeaf)
+    );
+    assert_eq!(rt;
+        entry_refusal(heap, &core, 9, 3),
+        Some(Refusal::UnknownSize)
+    );
     assert_eq!(rt; entry_refusal(heap, &core, 2, 2), Some(Refusal::BadRange));
     assert_eq!(rt; entry_refusal(heap, &core, 0, 0), Some(Refusal::BadRange));
     Ok(())
