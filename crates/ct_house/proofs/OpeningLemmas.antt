@@ -21,31 +21,25 @@ pub map_twice : {A B C : Type 0} (g : B → C) (f : A → B) (xs : List A) → m
 map_twice g f [] = refl
 map_twice g f (x ∷ xs) = ap (λ zs. g (f x) ∷ zs) (map_twice g f xs)
 
-new_at : (gate : TableId) (room n : ℕ) (intakes : List IntakeView) (outlets : List OutletView) → AreNewFronts gate room n intakes outlets → (k : ℕ) (i : IntakeView) (o : OutletView)
-    → slice_get intakes k ≡ Some i → slice_get outlets k ≡ Some o → IsNewFront gate room k i o
-new_at gate room n intakes outlets a k i o at bt =
-    let below : k < n = let w = slice_get_within intakes k i at in let c = a.0 in omega arith in
-    subst₂ (IsNewFront gate room k) (get_or_from_slice_get intakes k i i at) (get_or_from_slice_get outlets k o o bt) (a.2 k i o below)
-
 -- the outlets, seen one by one, are a list
 each_new : {B : Type 0} (f : OutletView → B) (target : List B) (gate : TableId) (room n : ℕ) (intakes : List IntakeView) (outlets : List OutletView) → AreNewFronts gate room n intakes outlets → length target ≡ n
     → ((k : ℕ) (i : IntakeView) (o : OutletView) (d : B) → k < n → IsNewFront gate room k i o → f o ≡ get_or target k d) → map f outlets ≡ target
 each_new {B} f target gate room n intakes outlets a count each =
     let many = length-map outlets f in
-    let c1 = a.1 in
-    let c0 = a.0 in
+    let c1 = a.outlet_count in
+    let c0 = a.intake_count in
     same_lists (map f outlets) target (many ∙ c1 ∙ sym count) (λ k d below.
     let inside : k < length outlets = omega arith in
     let within : k < length intakes = omega arith in
     let small : k < n = omega arith in
     let (o, bt) = slice_get_is outlets k inside in
     let (i, at) = slice_get_is intakes k within in
-    get_or-map f outlets k o d inside ∙ ap f (get_or_from_slice_get outlets k o o bt) ∙ each k i o d small (new_at gate room n intakes outlets a k i o at bt))
+    get_or-map f outlets k o d inside ∙ ap f (get_or_from_slice_get outlets k o o bt) ∙ each k i o d small (a.each k i o at bt))
 
 pub new_numbers : (gate : TableId) (room n : ℕ) (intakes : List IntakeView) (outlets : List OutletView) (lanes : List LaneView) → AreNewFronts gate room n intakes outlets → lanes ≡ map new_lane outlets
     → (map (λ (l : LaneView). l.number) lanes ≡ range_with_len 0 (length lanes)) × (length lanes ≡ n)
 new_numbers gate room n intakes outlets lanes a e =
-    let count : length lanes ≡ n = ap length e ∙ length-map outlets new_lane ∙ a.1 in (
+    let count : length lanes ≡ n = ap length e ∙ length-map outlets new_lane ∙ a.outlet_count in (
       ap (map (λ (l : LaneView). l.number)) e ∙ map_twice (λ (l : LaneView). l.number) new_lane outlets
           ∙ each_new (λ (o : OutletView). o.number) (range_with_len 0 n) gate room n intakes outlets a (length-range_with_len 0 n) (λ k i o d below new. number k i o d below new)
           ∙ ap (range_with_len 0) (sym count),
@@ -55,7 +49,7 @@ new_numbers gate room n intakes outlets lanes a e =
     number : (k : ℕ) (i : IntakeView) (o : OutletView) (d : ℕ) → k < n → IsNewFront gate room k i o → o.number ≡ get_or (range_with_len 0 n) k d
     number k i o d below new =
         let z : 0 + k ≡ k = omega arith in
-        new.5.1 ∙ new.1 ∙ sym (get_or-range_with_len 0 n k d below ∙ z)
+        new.ends.1 ∙ new.number ∙ sym (get_or-range_with_len 0 n k d below ∙ z)
 
 new_lanes : (gate : TableId) (room n : ℕ) (intakes : List IntakeView) (outlets : List OutletView) (lanes : List LaneView) → AreNewFronts gate room n intakes outlets → lanes ≡ map new_lane outlets
     → map lane_of lanes ≡ replicate n empty_lane
@@ -65,7 +59,7 @@ new_lanes gate room n intakes outlets lanes a e =
     empty : (k : ℕ) (i : IntakeView) (o : OutletView) (d : Lane) → k < n → IsNewFront gate room k i o → lane_of (new_lane o) ≡ get_or (replicate n empty_lane) k d
     empty k i o d below new =
         let make : List Item → Lane = λ xs. record { received = xs; hand = [] } in
-        ap make new.6 ∙ sym (get_or-replicate n k empty_lane d below)
+        ap make new.received ∙ sym (get_or-replicate n k empty_lane d below)
 
 -- the new house, from what the gate gave
 pub opened : (gate : TableId) (room n now : ℕ) (intakes : List IntakeView) (outlets : List OutletView) (lanes : List LaneView) (fronts : List FrontView) (core : CoreState) (count : Option ℕ) → AreNewFronts gate room n intakes outlets
@@ -75,28 +69,28 @@ opened gate room n now intakes outlets lanes fronts core count a e f new none = 
   core = new;
   accepted = none;
   lanes = new_lanes gate room n intakes outlets lanes a e;
-  count = ap length f ∙ length-map intakes new_front ∙ a.0;
+  count = ap length f ∙ length-map intakes new_front ∙ a.intake_count;
   each = λ k x at.
       let small : k < length fronts = slice_get_within fronts k x at in
       let size = ap length f ∙ length-map intakes new_front in
       let within : k < length intakes = omega arith in
-      let c0 = a.0 in
-      let c1 = a.1 in
+      let c0 = a.intake_count in
+      let c1 = a.outlet_count in
       let inside : k < length outlets = omega arith in
       let (i, is) = slice_get_is intakes k within in
       let (o, os) = slice_get_is outlets k inside in
-      let here = new_at gate room n intakes outlets a k i o is os in
+      let here = a.each k i o is os in
       let same : new_front i ≡ x = same_Some (new_front i) x (sym (slice_get-map new_front intakes k ∙ ap (option_map new_front) is) ∙ ap (λ (zs : List FrontView). slice_get zs k) (sym f) ∙ at) in
       subst (IsFreshFront (record { gate = gate; rings = map (λ (l : LaneView). l.ring) lanes }) room k) same (record {
         of_house = record {
-          gate = here.0;
-          ring = ap (slice_get (map (λ (l : LaneView). l.ring) lanes)) here.1 ∙ ap (λ (zs : List LaneView). slice_get (map (λ (l : LaneView). l.ring) zs) k) e ∙ ap (λ (zs : List RingName). slice_get zs k) (map_twice (λ (l : LaneView). l.ring) new_lane outlets)
-              ∙ slice_get-map (λ (o : OutletView). o.ring) outlets k ∙ ap (option_map (λ (o : OutletView). o.ring)) os ∙ ap Some here.5.0;
+          gate = here.gate;
+          ring = ap (slice_get (map (λ (l : LaneView). l.ring) lanes)) here.number ∙ ap (λ (zs : List LaneView). slice_get (map (λ (l : LaneView). l.ring) zs) k) e ∙ ap (λ (zs : List RingName). slice_get zs k) (map_twice (λ (l : LaneView). l.ring) new_lane outlets)
+              ∙ slice_get-map (λ (o : OutletView). o.ring) outlets k ∙ ap (option_map (λ (o : OutletView). o.ring)) os ∙ ap Some here.ends.0;
         };
-        number = here.1;
-        places = here.2;
-        accepted = here.3;
-        knows_shutdown = here.4;
+        number = here.number;
+        places = here.places;
+        accepted = here.accepted;
+        knows_shutdown = here.knows_shutdown;
       });
 }
 
