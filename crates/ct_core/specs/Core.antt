@@ -1,0 +1,92 @@
+-- The sequencing core as plain data, its clock, and its steps.
+use Rattle.std.specs.Prelude.{◌≡◌, ℕ, ◌+◌, ◌-◌, ◌<◌, ◌≤◌, max, List, [], ◌∷◌, ◌++◌, length, map, slice_index, nat_lt, ◌||◌, if◌then◌else◌}
+use Rattle.std.specs.List.Sorted.{IsNonDecreasingBy}
+use Rattle.ct_codec.specs.declared.item.Item.{Item}
+use Rattle.ct_codec.specs.declared.refusal.Refusal.{Refusal}
+use Rattle.ct_codec.specs.declared.refusal.Refusal.TheVariants.{Memory, ClockBack}
+use Rattle.ct_core.specs.declared.settled.Settled.{Settled}
+use Rattle.ct_core.specs.Leaf.{Entry, leaves_of}
+use Rattle.ct_tree.specs.declared.head.Head.{Head}
+use Rattle.ct_core.specs.Tree.{MTH}
+use Rattle.ct_core.specs.Settlement.{Log, Lawful, Settled_as, firsts_after}
+
+-- the published state, and all entries and records so far
+pub record CoreState : Type 0 where
+  pub published : Log
+  pub entries : List Entry
+  pub settlement : List Settled
+
+-- the core has settled these items, in this order
+abbrev pub IsSettled : CoreState → List Item → Type 0
+IsSettled core items = Settled_as items core.entries core.settlement
+
+-- xs begins ys
+abbrev pub Begins : {X : Type 0} → List X → List X → Type 0
+Begins {X} xs ys = (rest : List X) × (ys ≡ xs ++ rest)
+
+-- what holds of every core
+pub record IsCore (core : CoreState) : Type 0 where
+  pub lawful : Lawful core.published
+  pub settled : (items : List Item) × IsSettled core items
+  pub entries : Begins core.published.entries core.entries
+  pub settlement : Begins core.published.settlement core.settlement
+  pub never_fall : IsNonDecreasingBy (λ (e : Entry). e.timestamp) core.entries
+
+-- the newest leaf's timestamp, or 0 where there is no leaf
+abbrev pub newest_leaf : List Entry → ℕ
+newest_leaf entries = slice_index (map (λ (e : Entry). e.timestamp) entries) (length entries - 1)
+
+-- the last head's timestamp
+abbrev pub last_moment : List Head → ℕ
+last_moment heads = slice_index (map (λ (h : Head). h.timestamp) heads) (length heads - 1)
+
+-- the greater of the last head's timestamp and the newest leaf's
+abbrev pub clock_of : CoreState → ℕ
+clock_of core = max (last_moment core.published.heads) (newest_leaf core.entries)
+
+-- the refusal of a settling at now, and that of a publication at now
+abbrev pub settle_refusal : CoreState → ℕ → Refusal
+settle_refusal core now = (if nat_lt now (clock_of core) then ClockBack else Memory)
+
+-- a publication at now is in time
+pub record IsInTime (core : CoreState) (now : ℕ) : Type 0 where
+  pub leaves : newest_leaf core.entries ≤ now
+  pub heads : last_moment core.published.heads < now
+
+abbrev pub publish_refusal : CoreState → ℕ → Refusal
+publish_refusal core now = (if nat_lt now (newest_leaf core.entries) || nat_lt now (last_moment core.published.heads + 1) then ClockBack else Memory)
+
+-- a new log, opened at now
+abbrev pub first_head : ℕ → Head
+first_head now = record { tree_size = 0; timestamp = now; root = MTH [] }
+
+abbrev pub new_core : ℕ → CoreState
+new_core now = record { published = record { entries = []; settlement = []; heads = first_head now ∷ [] }; entries = []; settlement = [] }
+
+-- an item's entry, settled at now
+abbrev pub entry_at : ℕ → Item → Entry
+entry_at now x = record { submission = x.submission; timestamp = now }
+
+-- the items xs were settled at now behind the settled items
+pub record Grows (old : CoreState) (items xs : List Item) (now : ℕ) (new : CoreState) : Type 0 where
+  pub settled : IsSettled new (items ++ xs)
+  pub entries : new.entries ≡ old.entries ++ map (entry_at now) (firsts_after items xs)
+  pub settlement : Begins old.settlement new.settlement
+  pub published : new.published ≡ old.published
+
+-- the head that a publication at now makes
+pub record IsNextHead (core : CoreState) (now : ℕ) (h : Head) : Type 0 where
+  pub size : h.tree_size ≡ length core.entries
+  pub moment : h.timestamp ≡ now
+  pub root : h.root ≡ MTH (leaves_of core.entries)
+
+-- the state with all entries and records, and one head more
+abbrev pub published_with : CoreState → Head → Log
+published_with core h = record { entries = core.entries; settlement = core.settlement; heads = core.published.heads ++ h ∷ [] }
+
+abbrev pub after_publishing : CoreState → Head → CoreState
+after_publishing core h = record { published = published_with core h; entries = core.entries; settlement = core.settlement }
+
+-- nothing stands past the last head
+abbrev pub IsCovered : CoreState → Type 0
+IsCovered core = (core.published.entries ≡ core.entries) × (core.published.settlement ≡ core.settlement)

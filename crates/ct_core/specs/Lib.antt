@@ -1,0 +1,9 @@
+pub mod Tree
+pub mod Leaf
+pub mod Settlement
+pub mod Core
+pub mod Names
+pub mod LeafHashes
+pub mod Published
+pub mod Parts
+pub mod CoreFields

@@ -1,0 +1,195 @@
+//! The sequencing core.
+
+ghost use Rattle.std.specs.Prelude.{◌≡◌, ◌≤◌, ◌<◌, List, ℕ, [], ◌∷◌, ◌++◌, length, max, IfOk, IfErr, IsOkUnless, OnOk, OnErr, IsTrue, ◌↔◌, if◌then◌else◌, slice_get, Some, ◌-◌};
+ghost use Rattle.std.specs.Bool.{OnTrue};
+ghost use Rattle.ct_codec.specs.declared.item.Item.{Item};
+ghost use Rattle.ct_tree.specs.declared.head.Head.{Head};
+ghost use Rattle.ct_core.specs.Tree.{hash_leaf};
+ghost use Rattle.ct_core.specs.Leaf.{leaf_at};
+ghost use Rattle.ct_core.specs.Settlement.{record_of, Lawful};
+ghost use Rattle.ct_core.specs.Core.{IsSettled, Begins, Grows, clock_of, newest_leaf, last_moment, settle_refusal, publish_refusal, new_core, IsNextHead, IsInTime, IsCovered, published_with, after_publishing};
+
+use crate::entry::StoredEntry;
+use crate::identity::{Identity, identity_key, place_reserved};
+use crate::published::Published;
+use crate::room::push_reserved;
+use crate::settled::Settled;
+use ct_codec::{Item, Refusal};
+use ct_tree::Head;
+use indexmap::IndexSet;
+use std::alloc::Global;
+use std::marker::Model;
+use std::sync::Arc;
+
+/// The sequencing core: the published state, and what was settled after it.
+#[derive(Drop)]
+pub struct Core {
+    published: Published,
+    entries: Vec<StoredEntry>,
+    settlement: Vec<Settled>,
+    identities: IndexSet<Identity>,
+}
+
+impl Model for Core {
+    ghost use Rattle.ct_core.specs.Core.{CoreState};
+
+    ghost Value = { CoreState };
+
+    ghost use Rattle.ct_core.specs.CoreFields.{state_of, IsCoreOf};
+
+    ghost view = { state_of };
+
+    ghost invariant = { IsCoreOf };
+}
+
+impl Core {
+    /// A new log, with one head of size 0.
+    pub fn open(alloc: Global, now: u64) -> Result<Core, Refusal>
+        ensures fresh { IfOk result (λ c. c ≡ new_core now) }
+        ensures settled { IfOk result (λ c. IsSettled c []) }
+        ensures lawful { IfOk result (λ c. Lawful c.published) }
+        ensures memory { IsOkUnless result Refusal.Memory }
+    {
+        let published = Published::open(alloc, now)?;
+        Ok(Core {
+            published,
+            entries: Vec::new(alloc),
+            settlement: Vec::new(alloc),
+            identities: IndexSet::new(alloc),
+        })
+    }
+
+    fn newest_leaf(&self) -> u64
+        ensures { result ≡ newest_leaf self.now.entries }
+    {
+        match self.entries.last() {
+            Some(entry) => entry.timestamp(),
+            None => self.published.newest_leaf(),
+        }
+    }
+
+    /// The greater of the last head's timestamp and the newest leaf's.
+    pub fn clock(&self) -> u64
+        ensures { result ≡ clock_of self.now }
+    {
+        self.published.last_moment().max(self.newest_leaf())
+    }
+
+    /// Settles an item, whose leaf at this moment has that hash.
+    pub fn settle_one(
+        &mut self,
+        alloc: Global,
+        item: Item,
+        hash: [u8; 32],
+        now: u64,
+    ) -> Result<Settled, (Refusal, Item)>
+        requires { hash ≡ hash_leaf (leaf_at item.submission now) }
+        ensures settled { IfOk result (λ r. (items : List Item) → IsSettled self.old items → Grows self.old items (item ∷ []) now self.new × (r ≡ record_of (items ++ item ∷ []) (length items) item)) }
+        ensures in_time { OnOk result ((clock_of self.old ≤ now) × (clock_of self.new ≤ now)) }
+        ensures published { self.new.published ≡ self.old.published }
+        ensures begins { Begins self.old.entries self.new.entries × Begins self.old.settlement self.new.settlement }
+        ensures refused { IfErr result (λ e. (e.0 ≡ settle_refusal self.old now) × (e.1 ≡ item) × (self.new ≡ self.old)) }
+    {
+        if now < self.clock() {
+            return Err((Refusal::ClockBack, item));
+        }
+        let Ok(identity) = identity_key(alloc, &item.submission) else {
+            return Err((Refusal::Memory, item));
+        };
+        if self.settlement.reserve(1).is_err()
+            || self.entries.reserve(1).is_err()
+            || self.identities.reserve(1).is_err()
+        {
+            return Err((Refusal::Memory, item));
+        }
+        let Item {
+            front,
+            ticket,
+            submission,
+        } = item;
+        let shared = match Arc::new(alloc, submission) {
+            Ok(shared) => shared,
+            Err(refused) => {
+                let item = Item {
+                    front,
+                    ticket,
+                    submission: refused.value,
+                };
+                return Err((Refusal::Memory, item));
+            }
+        };
+        let (index, first) = place_reserved(&mut self.identities, identity);
+        let record = Settled {
+            front,
+            ticket,
+            index: index as u64,
+            first,
+        };
+        push_reserved(&mut self.settlement, record);
+        if !first {
+            return Ok(record);
+        }
+        push_reserved(&mut self.entries, StoredEntry::new(shared, now, hash));
+        Ok(record)
+    }
+
+    /// Whether a publication at this moment is in time.
+    fn is_in_time(&self, now: u64) -> bool
+        ensures yes { OnTrue result (IsInTime self.now now) }
+        ensures refusal { publish_refusal self.now now ≡ (if result then Refusal.Memory else Refusal.ClockBack) }
+    {
+        self.newest_leaf() <= now && self.published.last_moment() < now
+    }
+
+    /// The state that a publication at this moment would make.
+    pub fn next(&self, alloc: Global, now: u64) -> Result<Published, Refusal>
+        ensures state { IfOk result (λ p. (h : Head) × IsNextHead self.now now h × (p ≡ published_with self.now h)) }
+        ensures in_time { OnOk result (IsInTime self.now now) }
+        ensures refused { IfErr result (λ e. e ≡ publish_refusal self.now now) }
+    {
+        if !self.is_in_time(now) {
+            return Err(Refusal::ClockBack);
+        }
+        self.published
+            .extended(alloc, &self.entries, &self.settlement, now)
+    }
+
+    /// Makes the publication of the state that `next` gave.
+    pub fn adopt(&mut self, next: Published) -> Head
+        requires { (h : Head) × IsNextHead self.old h.timestamp h × IsInTime self.old h.timestamp × (next ≡ published_with self.old h) }
+        ensures state { next ≡ published_with self.old result }
+        ensures after { self.new ≡ after_publishing self.old result }
+    {
+        let head = next.last_head();
+        self.entries.clear();
+        self.settlement.clear();
+        self.published = next;
+        head
+    }
+
+    /// Publishes a head of all entries, with all records.
+    pub fn publish(&mut self, alloc: Global, now: u64) -> Result<Head, Refusal>
+        ensures head { IfOk result (λ h. IsNextHead self.old now h × (self.new ≡ after_publishing self.old h)) }
+        ensures in_time { OnOk result (IsInTime self.old now) }
+        ensures lawful { Lawful self.new.published }
+        ensures refused { IfErr result (λ e. (e ≡ publish_refusal self.old now) × (self.new ≡ self.old)) }
+    {
+        let _ = &self.published;
+        let next = self.next(alloc, now)?;
+        Ok(self.adopt(next))
+    }
+
+    /// Whether nothing stands past the last head.
+    pub fn is_covered(&self) -> bool
+        ensures { IsTrue result ↔ IsCovered self.now }
+    {
+        self.entries.is_empty() && self.settlement.is_empty()
+    }
+
+    /// The published state.
+    pub fn published(&self) -> &Published
+        ensures { result.now ≡ self.now.published }
+    {
+        &self.published
+    }
+}
