@@ -1,0 +1,5 @@
+pub mod Tickets
+pub mod Continuing
+pub mod Accepting
+pub mod Settling
+pub mod Answering

@@ -1,0 +1,6 @@
+pub mod Front
+pub mod Closing
+pub mod Continues
+pub mod FrontFields
+pub mod ClosingFields
+pub mod FinalFields
