@@ -1,0 +1,40 @@
+-- Tasks given out one by one.
+use Rattle.std.proofs.Common.{◌≡◌, ◌<◌, ℕ, List, [], ◌∷◌, ◌++◌, length, Option, refl, sym, ap, subst, ◌∙◌, arith, append_assoc, append-nil}
+use Rattle.std.specs.List.{filter_map}
+use Rattle.std.proofs.lemmas.List.Elements.{filter_map-append}
+use Rattle.ctlog.specs.Lines.{lines_of}
+use Rattle.ctlog.specs.Tasks.{Task, AsksFor, AllAskFor}
+
+-- a task that is of another part leaves the part as it is
+pub part_kept : {A : Type 0} (f : Task → Option A) (ts : List Task) (t : Task) (xs : List A) → xs ≡ filter_map f ts
+    → filter_map f (t ∷ []) ≡ [] → xs ≡ filter_map f (ts ++ t ∷ [])
+part_kept f ts t xs e none =
+    e ∙ sym (append-nil (filter_map f ts)) ∙ ap (λ l. filter_map f ts ++ l) (sym none) ∙ sym (filter_map-append f ts (t ∷ []))
+
+-- and one that is of this part comes last in it
+pub part_grows : {A : Type 0} (f : Task → Option A) (ts : List Task) (t : Task) (xs : List A) (x : A) → xs ≡ filter_map f ts
+    → filter_map f (t ∷ []) ≡ x ∷ [] → xs ++ x ∷ [] ≡ filter_map f (ts ++ t ∷ [])
+part_grows f ts t xs x e one =
+    ap (λ l. l ++ x ∷ []) e ∙ ap (λ l. filter_map f ts ++ l) (sym one) ∙ sym (filter_map-append f ts (t ∷ []))
+
+ask_first : (line : List ℕ) (lines : List (List ℕ)) (t : Task) (ts : List Task) → 0 < length line → AsksFor line t
+    → AllAskFor lines ts → AllAskFor (line ∷ lines) (t ∷ ts)
+ask_first [] lines t ts some asks rest = absurd (omega arith)
+ask_first (b ∷ bs) lines t ts some asks rest = (asks, rest)
+
+-- the tasks so far, and what is left, are the input's
+abbrev pub LeadsTo : List ℕ → List Task → List ℕ → Type 0
+LeadsTo input done rest = (left : List Task) → AllAskFor (lines_of rest) left → AllAskFor (lines_of input) (done ++ left)
+
+-- the next line's task is done as well
+pub next_task : (input rest line behind : List ℕ) (done : List Task) (t : Task) → lines_of rest ≡ line ∷ lines_of behind
+    → 0 < length line → AsksFor line t → LeadsTo input done rest → LeadsTo input (done ++ t ∷ []) behind
+next_task input rest line behind done t cut some asks before left more =
+    let all : AllAskFor (lines_of rest) (t ∷ left) =
+    subst (λ (ls : List (List ℕ)). AllAskFor ls (t ∷ left)) (sym cut) (ask_first line (lines_of behind) t left some asks more) in
+    subst (λ (ts : List Task). AllAskFor (lines_of input) ts) (sym (append_assoc done (t ∷ []) left)) (before (t ∷ left) all)
+
+-- all is done
+pub all_done : (input rest : List ℕ) (done : List Task) → length rest ≡ 0 → LeadsTo input done rest → AllAskFor (lines_of input) done
+all_done input [] done none before = subst (λ (ts : List Task). AllAskFor (lines_of input) ts) (append-nil done) (before [] tt)
+all_done input (b ∷ bs) done none before = absurd (omega arith)
