@@ -27,6 +27,8 @@ mod inclusion_evidence;
 pub mod laws;
 mod place;
 #[cfg(test)]
+mod evidence_tests;
+#[cfg(test)]
 mod sweep_tests;
 #[cfg(test)]
 mod test_hashes;
