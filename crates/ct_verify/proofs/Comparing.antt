@@ -1,7 +1,7 @@
 -- What the comparison of a path with a list of leaves finds, one level up.
 use Rattle.std.proofs.Common.{refl, ◌≡◌, ℕ, ◌+◌, ◌-◌, ◌<◌, ◌≤◌, sym, ◌∙◌, ap, arith, List, reverse, [], ◌∷◌, ◌++◌, length, take, drop, get_or, map, Option, Some, None, true, false, length-drop, ⊎_elim}
 use Rattle.std.specs.Str.{bytes_eq}
-use Rattle.std.proofs.lemmas.Bool.{cases_Bool, cond-true, cond-false, cases_lt}
+use Rattle.std.proofs.lemmas.Bool.{cases_Bool, cond-true, cond-false}
 use Rattle.std.proofs.lemmas.Slice.Eq.{bytes_eq-Decides}
 use Rattle.std.proofs.lemmas.List.{length-map, take-map, drop-map, take_rest, get_or-take, get_or-drop, length-take-le}
 use Rattle.ct_tree.proofs.Split.{split_lt}
@@ -91,7 +91,7 @@ module _ (H : List ℕ → List ℕ) {V : Type 0} (f : V → List ℕ) where
       → ((t : List ℕ) → rebuild H m (length (take k xs)) (hash_leaf H leaf) rest ≡ Some t → x ≡ t)
       → y ≡ mth_of_leaves H (map f (take k xs)) → z ≡ mth_of_leaves H (map f (take (length xs - k) (drop k xs)))
       → ((t : List ℕ) → m < length (take k xs) → rebuild H m (length (take k xs)) (hash_leaf H leaf) rest ≡ Some t
-        → found (get_or (map f (take k xs)) m []) ≡ evid H (map f (take k xs)) leaf m rest)
+      → found (get_or (map f (take k xs)) m []) ≡ evid H (map f (take k xs)) leaf m rest)
       → ((o : List ℕ) → result o ≡ compared (1 ∷ x ++ s) (1 ∷ y ++ z) (found o))
       → (r : List ℕ) → rebuild H m (length xs) (hash_leaf H leaf) p ≡ Some r → result (get_or (map f xs) m []) ≡ evid H (map f xs) leaf m p
   left_difference xs leaf m k p rest s x y z found result more e low w ih_x ey ez ih make r a =
@@ -101,7 +101,7 @@ module _ (H : List ℕ → List ℕ) {V : Type 0} (f : V → List ℕ) where
       let t = b.0 in
       let root : rebuild H m (length (take k xs)) (hash_leaf H leaf) rest ≡ Some t = ap (λ i. rebuild H m i (hash_leaf H leaf) rest) c ∙ b.1 in
       let g : get_or (map f (take k xs)) m [] ≡ get_or (map f xs) m [] =
-          ap (λ D. get_or D m []) (sym (take-map f k xs)) ∙ get_or-take k (map f xs) m [] low in
+      ap (λ D. get_or D m []) (sym (take-map f k xs)) ∙ get_or-take k (map f xs) m [] low in
       let under : found (get_or (map f xs) m []) ≡ evid H (map f (take k xs)) leaf m rest = ap found (sym g) ∙ ih t (omega arith) root in
       let i = evid_last_left H (map f xs) leaf m k s t rest (ap split n ∙ sym e) low b.1 in
       let j = rw (take-map f k xs, drop-map f k xs) at i in
@@ -114,7 +114,7 @@ module _ (H : List ℕ → List ℕ) {V : Type 0} (f : V → List ℕ) where
       → ((t : List ℕ) → rebuild H (m - k) (length (take (length xs - k) (drop k xs))) (hash_leaf H leaf) rest ≡ Some t → x ≡ t)
       → y ≡ mth_of_leaves H (map f (take k xs)) → z ≡ mth_of_leaves H (map f (take (length xs - k) (drop k xs)))
       → ((t : List ℕ) → m - k < length (take (length xs - k) (drop k xs)) → rebuild H (m - k) (length (take (length xs - k) (drop k xs))) (hash_leaf H leaf) rest ≡ Some t
-        → found (get_or (map f (take (length xs - k) (drop k xs))) (m - k) []) ≡ evid H (map f (take (length xs - k) (drop k xs))) leaf (m - k) rest)
+      → found (get_or (map f (take (length xs - k) (drop k xs))) (m - k) []) ≡ evid H (map f (take (length xs - k) (drop k xs))) leaf (m - k) rest)
       → ((o : List ℕ) → result o ≡ compared (1 ∷ s ++ x) (1 ∷ y ++ z) (found o))
       → (r : List ℕ) → m < length xs → rebuild H m (length xs) (hash_leaf H leaf) p ≡ Some r → result (get_or (map f xs) m []) ≡ evid H (map f xs) leaf m p
   right_difference xs leaf m k p rest s x y z found result more e high w ih_x ey ez ih make r inside a =
@@ -127,10 +127,10 @@ module _ (H : List ℕ → List ℕ) {V : Type 0} (f : V → List ℕ) where
       let root : rebuild H (m - k) (length (take (length xs - k) (drop k xs))) (hash_leaf H leaf) rest ≡ Some t = ap (λ i. rebuild H (m - k) i (hash_leaf H leaf) rest) c2 ∙ b.1 in
       let j : k + (m - k) ≡ m = omega arith in
       let g : get_or (map f (take (length xs - k) (drop k xs))) (m - k) [] ≡ get_or (map f xs) m [] =
-          ap (λ D. get_or (map f D) (m - k) []) tr
-          ∙ ap (λ D. get_or D (m - k) []) (sym (drop-map f k xs)) ∙ get_or-drop k (map f xs) (m - k) [] ∙ ap (λ u. get_or (map f xs) u []) j in
+      ap (λ D. get_or (map f D) (m - k) []) tr
+      ∙ ap (λ D. get_or D (m - k) []) (sym (drop-map f k xs)) ∙ get_or-drop k (map f xs) (m - k) [] ∙ ap (λ u. get_or (map f xs) u []) j in
       let under : found (get_or (map f xs) m []) ≡ evid H (map f (drop k xs)) leaf (m - k) rest =
-          ap found (sym g) ∙ ih t (omega arith) root ∙ ap (λ D. evid H (map f D) leaf (m - k) rest) tr in
+      ap found (sym g) ∙ ih t (omega arith) root ∙ ap (λ D. evid H (map f D) leaf (m - k) rest) tr in
       let i = evid_last_right H (map f xs) leaf m k s t rest (ap split n ∙ sym e) high (ap (λ u. rebuild H (m - k) (u - k) (hash_leaf H leaf) rest) n ∙ b.1) in
       let j = rw (take-map f k xs, drop-map f k xs) at i in
       make (get_or (map f xs) m [])

@@ -1,13 +1,12 @@
 -- What a consistency proof shows of two lists: the old one begins the new one, where no two strings
 -- that are compared on the way have one hash and differ. Each law is one step from the parts to the whole.
-use Rattle.std.proofs.Common.{refl, subst, ◌⊎◌, inl, inr, ◌≡◌, ℕ, ◌+◌, ◌-◌, ◌<◌, ◌≤◌, sym, ◌∙◌, ap, arith, Bool, true, false, List, [], ◌∷◌, ◌++◌, length, take, drop, get_or, map, Option, Some, None, length-drop}
+use Rattle.std.proofs.Common.{refl, subst, ◌⊎◌, inl, inr, ◌≡◌, ℕ, ◌+◌, ◌-◌, ◌<◌, ◌≤◌, sym, ◌∙◌, ap, arith, Bool, false, List, [], ◌∷◌, ◌++◌, length, take, drop, get_or, map, Option, Some, None, length-drop}
 use Rattle.std.specs.Option.{option_map}
 use Rattle.std.proofs.lemmas.List.{length-map, take-map, drop-map, take_rest, length-take-le, take-append-drop, take-take, drop-take, take_all}
 use Rattle.ct_tree.proofs.Split.{split_lt}
-use Rattle.ct_verify.proofs.Leaves.{leaves_halves}
-use Rattle.ct_tree.specs.Tree.{split, hash_leaf, hash_node, mth, mth_of_leaves}
-use Rattle.ct_verify.proofs.RebuildLaws.{both_left, both_right, first_root}
-use Rattle.ct_verify.proofs.Options.{none_some, mapped, same_some}
+use Rattle.ct_tree.specs.Tree.{split, hash_leaf, hash_node, mth_of_leaves}
+use Rattle.ct_verify.proofs.RebuildLaws.{both_left, both_right}
+use Rattle.ct_verify.proofs.Options.{none_some, same_some}
 use Rattle.ct_verify.proofs.Shown.{leaves_split, leaves_one}
 use Rattle.ct_verify.specs.Climb.{pair_left, pair_right}
 use Rattle.ct_verify.specs.Rebuild.{both}
@@ -51,7 +50,7 @@ module _ (H : List ℕ → List ℕ) where
   begun_left b r s x y p q E D k l more f low w two apart under e =
       let c : length (take k D) ≡ k = length-take-le k D (omega (arith, split_lt (length D) more)) in
       let z : both H (length E) (length D) b r p ≡ Some (x, hash_node H y s) =
-          ap (both H (length E) (length D) b r) w ∙ both_left H (length E) (length D) k b r s q l f low ∙ ap (option_map (λ z. pair_left H z s)) two in
+      ap (both H (length E) (length D) b r) w ∙ both_left H (length E) (length D) k b r s q l f low ∙ ap (option_map (λ z. pair_left H z s)) two in
       let v = pair_parts (x, hash_node H y s) (mth_of_leaves H E, mth_of_leaves H D) (same_some (x, hash_node H y s) (mth_of_leaves H E, mth_of_leaves H D) (sym z ∙ e)) in
       let a = apart (v.1 ∙ halves D k more f) in
       under (ap (λ u. both H (length E) u b r q) c ∙ two ∙ rw (v.0, a.0) refl)
@@ -67,9 +66,9 @@ module _ (H : List ℕ → List ℕ) where
       let m : length (drop k E) ≡ length E - k = length-drop k E in
       let n : length (drop k D) ≡ length D - k = length-drop k D in
       let z : both H (length E) (length D) b r p ≡ Some (hash_node H s x, hash_node H s y) =
-          ap (both H (length E) (length D) b r) w ∙ both_right H (length E) (length D) k b r t s q l f high ∙ ap (option_map (λ z. pair_right H z s)) two in
+      ap (both H (length E) (length D) b r) w ∙ both_right H (length E) (length D) k b r t s q l f high ∙ ap (option_map (λ z. pair_right H z s)) two in
       let v = pair_parts (hash_node H s x, hash_node H s y) (mth_of_leaves H E, mth_of_leaves H D)
-          (same_some (hash_node H s x, hash_node H s y) (mth_of_leaves H E, mth_of_leaves H D) (sym z ∙ e)) in
+      (same_some (hash_node H s x, hash_node H s y) (mth_of_leaves H E, mth_of_leaves H D) (sym z ∙ e)) in
       let a = apart_old (v.0 ∙ halves E k more g) in
       let c = apart_new (v.1 ∙ halves D k (omega arith) f) in
       let h : take k E ≡ take k D = left (sym a.0 ∙ c.0) in
@@ -101,7 +100,7 @@ module _ (H : List ℕ → List ℕ) where
       let m : length (map f xs) ≡ length xs = length-map xs f in
       let o : length (map f ys) ≡ length ys = length-map ys f in
       let apart : NodesApart H (mth_of_leaves H (map f (take k xs))) (mth_of_leaves H (map f (drop k xs))) (mth_of_leaves H (map f (take k ys))) (mth_of_leaves H (map f (drop k ys))) =
-          rw (ea, eb, ec, ed, take_rest xs k, take_rest ys k) at s.1 in
+      rw (ea, eb, ec, ed, take_rest xs k, take_rest ys k) at s.1 in
       let right : SameRoot H (map f (drop k xs)) (map f (drop k ys)) = rw (take_rest xs k, take_rest ys k) at s.0.1 in
       same_halves (map f xs) (map f ys) k (omega arith) (omega arith) (ap split o ∙ ap split (sym n) ∙ sym e)
       (rw (take-map f k xs, drop-map f k xs, take-map f k ys, drop-map f k ys) apart)

@@ -1,19 +1,18 @@
 -- What going down an accepted path shows, and that nothing is found where the path is PATH.
-use Rattle.std.proofs.Common.{◌≡◌, ℕ, zero, suc, ◌+◌, ◌-◌, ◌<◌, ◌≤◌, ltb, cond, refl, subst, sym, ◌∙◌, ap, arith, List, [], ◌∷◌, ◌++◌, reverse, length, take, drop, get_or, map, Option, Some, None, true, false, length-drop, ⊎_elim}
-use Rattle.std.specs.Option.{option_map}
+use Rattle.std.proofs.Common.{◌≡◌, ℕ, ◌+◌, ◌-◌, ◌<◌, ◌≤◌, refl, subst, sym, ◌∙◌, ap, arith, List, [], ◌∷◌, ◌++◌, reverse, length, take, drop, get_or, map, Option, Some, None, true, false, length-drop, ⊎_elim}
 use Rattle.std.specs.Str.{bytes_eq}
 use Rattle.std.proofs.lemmas.Bool.{cases_Bool, cond-true, cond-false, both_ways, lt-ltb, le-ltb, cases_lt}
 use Rattle.std.proofs.lemmas.Slice.Eq.{bytes_eq-Decides}
-use Rattle.std.proofs.lemmas.List.{append_cancel_left, length-append, length-map, take-map, drop-map, get_or-take, get_or-drop, length-take-le, reverse-append, get_or-map, reverse-reverse}
+use Rattle.std.proofs.lemmas.List.{length-append, length-map, take-map, drop-map, get_or-take, get_or-drop, length-take-le, get_or-map, reverse-reverse}
 use Rattle.ct_tree.proofs.Split.{split_pos, split_lt, split_induct}
 use Rattle.ct_tree.proofs.Mth.{mth-one, mth-split_at}
 use Rattle.ct_tree.proofs.Path.{path-small, path-left, path-right}
-use Rattle.ct_tree.specs.Tree.{split, hash_leaf, hash_node, mth, mth_of_leaves, path}
+use Rattle.ct_tree.specs.Tree.{split, hash_leaf, hash_node, mth_of_leaves, path}
 use Rattle.ct_verify.proofs.Options.{reverse_last, same_some, none_some, mapped}
 use Rattle.ct_verify.proofs.Rebuild.{rebuild_left, rebuild_right, rebuild_past, rebuild_short, rebuild_leaf}
 use Rattle.ct_verify.proofs.Equations.{path_rebuilds}
 use Rattle.ct_verify.specs.Rebuild.{rebuild, rebuild_down}
-use Rattle.ct_verify.specs.Evidence.{Collides, compared, compared_with, evid_down, evid, IsAudited}
+use Rattle.ct_verify.specs.Evidence.{Collides, compared, evid_down, evid, IsAudited}
 
 pub head_same : {X : Type 0} (x y : X) (xs ys : List X) → x ∷ xs ≡ y ∷ ys → x ≡ y
 head_same x y xs ys e = cc
@@ -196,7 +195,7 @@ module _ (H : List ℕ → List ℕ) (hash_length : (x : List ℕ) → length (H
   shown [] (x ∷ []) leaf m i e =
       let z : m ≡ 0 = omega arith in
       let g : hash_leaf H leaf ≡ hash_leaf H x =
-          same_some (hash_leaf H leaf) (hash_leaf H x) (sym (rebuild_leaf H m 1 (hash_leaf H leaf) (omega arith)) ∙ e ∙ ap Some (leaves_one H x)) in
+      same_some (hash_leaf H leaf) (hash_leaf H x) (sym (rebuild_leaf H m 1 (hash_leaf H leaf) (omega arith)) ∙ e ∙ ap Some (leaves_one H x)) in
       subst (Shows H (Agrees (x ∷ []) leaf m [])) (sym (evid_leaf H (x ∷ []) leaf m))
       (compared_shows H (Agrees (x ∷ []) leaf m []) (0 ∷ leaf) (0 ∷ x) None g
       (λ s. (tail_same 0 0 leaf x s ∙ ap (λ u. get_or (x ∷ []) u []) (sym z), sym (path_one H m (x ∷ []) (omega arith)))))
@@ -214,7 +213,7 @@ module _ (H : List ℕ → List ℕ) (hash_length : (x : List ℕ) → length (H
       ⊎_elim
       (λ (low : m < k).
       let z = mapped (λ x. hash_node H x s) (rebuild_down H m k (hash_leaf H leaf) q) (mth_of_leaves H D)
-          (sym (rebuild_left H m (length D) k (hash_leaf H leaf) s q more refl low) ∙ e) in
+      (sym (rebuild_left H m (length D) k (hash_leaf H leaf) s q more refl low) ∙ e) in
       let r = z.0 in
       let n = rebuilt_length q m k (hash_leaf H leaf) r (hash_length (0 ∷ leaf)) z.1 in
       subst (Shows H (Agrees D leaf m (s ∷ q))) (sym (evid_left H D leaf m k s r q refl low z.1))
@@ -226,7 +225,7 @@ module _ (H : List ℕ → List ℕ) (hash_length : (x : List ℕ) → length (H
       (shown q (take k D) leaf m (omega (arith, c)) (ap (λ x. rebuild_down H m x (hash_leaf H leaf) q) c ∙ z.1 ∙ ap Some w.0)))))
       (λ (high : k ≤ m).
       let z = mapped (λ x. hash_node H s x) (rebuild_down H (m - k) (length D - k) (hash_leaf H leaf) q) (mth_of_leaves H D)
-          (sym (rebuild_right H m (length D) k (hash_leaf H leaf) s q more refl high) ∙ e) in
+      (sym (rebuild_right H m (length D) k (hash_leaf H leaf) s q more refl high) ∙ e) in
       let r = z.0 in
       let n = rebuilt_length q (m - k) (length D - k) (hash_leaf H leaf) r (hash_length (0 ∷ leaf)) z.1 in
       subst (Shows H (Agrees D leaf m (s ∷ q))) (sym (evid_right H D leaf m k s r q refl high z.1))

@@ -1,9 +1,8 @@
 -- The steps of the walk through two lists along a consistency proof, as the code sees its slices.
-use Rattle.std.proofs.Common.{refl, subst, ◌≡◌, ℕ, ◌+◌, ◌-◌, ◌<◌, ◌≤◌, sym, ◌∙◌, ap, arith, Bool, true, false, cond, List, [], ◌∷◌, ◌++◌, reverse, length, take, drop, map, Option, Some, None, length-drop}
-use Rattle.std.specs.Option.{option_map}
+use Rattle.std.proofs.Common.{subst, ◌≡◌, ℕ, ◌-◌, ◌<◌, ◌≤◌, sym, ◌∙◌, ap, arith, Bool, true, false, cond, List, [], ◌∷◌, ◌++◌, reverse, length, take, drop, map, Some, length-drop}
 use Rattle.std.proofs.lemmas.List.{length-map, take-map, drop-map, take_rest, length-take-le}
-use Rattle.ct_tree.proofs.Split.{IsPower, IsSplit, split_is, split_unique, split_lt, split_pos}
-use Rattle.ct_tree.specs.Tree.{split, hash_leaf, hash_node, mth_of_leaves}
+use Rattle.ct_tree.proofs.Split.{IsPower, IsSplit, split_is, split_unique, split_lt}
+use Rattle.ct_tree.specs.Tree.{split, hash_node, mth_of_leaves}
 use Rattle.ct_verify.proofs.RebuildLaws.{both_left, both_right}
 use Rattle.ct_verify.proofs.Both.{both-end, both-end_whole, both-whole}
 use Rattle.ct_verify.proofs.Options.{none_some, same_some, mapped, reverse_last}
@@ -69,7 +68,7 @@ module _ (H : List ℕ → List ℕ) where
   whole_value n false r s x y [] q w e = absurd (none_some (x, y) (sym (both-end_whole H n n false r (omega arith)) ∙ e))
   whole_value n b r s x y (c ∷ p) q w e =
       let z : both_down H n n b r (reverse (c ∷ p)) ≡ both_down H n n b r (s ∷ reverse q) =
-          ap (both_down H n n b r) (ap reverse (w (omega arith)) ∙ reverse_last q s) in
+      ap (both_down H n n b r) (ap reverse (w (omega arith)) ∙ reverse_last q s) in
       whole_end b (sym z ∙ e)
     where
       whole_end : (b : Bool) → both_down H n n b r (s ∷ reverse q) ≡ Some (x, y) → (x ≡ cond b r s) × (y ≡ cond b r s)
@@ -107,7 +106,7 @@ module _ (H : List ℕ → List ℕ) {V : Type 0} (f : V → List ℕ) where
       → a ≡ mth_of_leaves H (map f (take k xs)) → c ≡ mth_of_leaves H (map f (take (length xs - k) (drop k xs)))
       → d ≡ mth_of_leaves H (map f (take k ys)) → e ≡ mth_of_leaves H (map f (take (length ys - k) (drop k ys)))
       → (SameRoot H (map f (take k xs)) (map f (take k ys)) × Begun H false t q (map f (take (length xs - k) (drop k xs))) (map f (take (length ys - k) (drop k ys))))
-        × (NodesApart H s v a c × NodesApart H s w d e)
+      × (NodesApart H s v a c × NodesApart H s w d e)
       → Begun H b r p (map f xs) (map f ys)
   right_begun b xs ys k r t s v w a c d e p q l split_is_k positive high g known ea ec ed ee z =
       let m : length (map f xs) ≡ length xs = length-map xs f in

@@ -193,7 +193,15 @@ fn walk<H: NodeHash>(
         })
     } else {
         let sides = diverge(alloc, h, &old[..middle], &new[..middle])?;
-        let part = walk(alloc, h, &old[middle..], &new[middle..], false, first_root, rest)?;
+        let part = walk(
+            alloc,
+            h,
+            &old[middle..],
+            &new[middle..],
+            false,
+            first_root,
+            rest,
+        )?;
         let a = under_node(sibling, part.first);
         let b = under_node(sides.old_root, part.old_root);
         let c = under_node(sibling, part.second);
@@ -204,7 +212,10 @@ fn walk<H: NodeHash>(
         let second = node_hash(h, &c.left, &c.right);
         let old_root = node_hash(h, &b.left, &b.right);
         let new_root = node_hash(h, &d.left, &d.right);
-        let found = first_found(first_found(sides.found, part.found), first_found(met_old, met_new));
+        let found = first_found(
+            first_found(sides.found, part.found),
+            first_found(met_old, met_new),
+        );
         Ok(Walked {
             first,
             second,

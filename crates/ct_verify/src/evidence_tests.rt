@@ -163,7 +163,9 @@ fn are_changes_shown(alloc: Global, bytes: &[u8]) -> Result<bool, AllocError> {
         let mut listed = Vec::new(alloc);
         listed.push(0)?;
         listed.extend_from_slice(leaf)?;
-        right = right && is_holding(&true_path) && is_collision_of(&other_leaf, &[0, 7, 7], &listed);
+        right = right
+            && is_holding(&true_path)
+            && is_collision_of(&other_leaf, &[0, 7, 7], &listed);
     }
     Ok(right)
 }

@@ -112,11 +112,21 @@ fn compare<H: NodeHash>(
     if index < middle {
         let side = compare(h, &leaves[..middle], leaf, index, rest);
         let other = root_of_leaves(h, &leaves[middle..]);
-        join(h, under_node(side.rebuilt, sibling), under_node(side.listed, other), side.difference)
+        join(
+            h,
+            under_node(side.rebuilt, sibling),
+            under_node(side.listed, other),
+            side.difference,
+        )
     } else {
         let side = compare(h, &leaves[middle..], leaf, index - middle, rest);
         let other = root_of_leaves(h, &leaves[..middle]);
-        join(h, under_node(sibling, side.rebuilt), under_node(other, side.listed), side.difference)
+        join(
+            h,
+            under_node(sibling, side.rebuilt),
+            under_node(other, side.listed),
+            side.difference,
+        )
     }
 }
 

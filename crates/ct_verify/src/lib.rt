@@ -20,14 +20,14 @@ mod children;
 mod consistency;
 mod consistency_evidence;
 mod evidence;
+#[cfg(test)]
+mod evidence_tests;
 mod fault;
 mod halves;
 mod inclusion;
 mod inclusion_evidence;
 pub mod laws;
 mod place;
-#[cfg(test)]
-mod evidence_tests;
 #[cfg(test)]
 mod sweep_tests;
 #[cfg(test)]

@@ -1,4 +1,4 @@
-use Rattle.std.proofs.Common.{length, arith, sym, ◌∙◌, ap, Vec, Global, ℕ, List, map, take, drop, ◌-◌, ◌<◌, ◌≡◌}
+use Rattle.std.proofs.Common.{length, arith, sym, ◌∙◌, ap, Vec, Global, ℕ, List, map, take, drop, ◌-◌}
 use Rattle.ct_verify.proofs.Leaves.{leaves_single, leaves_joined}
 use Rattle.ct_tree.specs.Tree.{hash_leaf, split}
 use Rattle.ct_verify.specs.Search.{FoundOr, NodesApart, SameRoot}
@@ -50,7 +50,7 @@ returns-clause-found g t c =
     let Q = SameRoot H (map bytes (take (length E - k) (drop k E))) (map bytes (take (length D - k) (drop k D))) in
     let R = NodesApart H c.in_ok-left.left.old_root c.in_ok-right.right.old_root c.in_ok-left.left.new_root c.in_ok-right.right.new_root in
     let met : FoundOr H R c.in_ok-met.met =
-        rw (c.under_node-a.ensures.left, c.under_node-a.ensures.right, c.under_node-b.ensures.left, c.under_node-b.ensures.right) at c.in_ok-met.ensures in
+    rw (c.under_node-a.ensures.left, c.under_node-a.ensures.right, c.under_node-b.ensures.left, c.under_node-b.ensures.right) at c.in_ok-met.ensures in
     found_map H ((P × Q) × R) (SameRoot H (map bytes E) (map bytes D)) c.first_found-found.result
     (diverged H bytes E D k c.in_ok-left.left.old_root c.in_ok-right.right.old_root c.in_ok-left.left.new_root c.in_ok-right.right.new_root c.requires.same
     (omega (arith, c.largest_power_below-middle.ensures.positive, c.largest_power_below-middle.ensures.below))

@@ -1,6 +1,5 @@
-use Rattle.std.proofs.Common.{length, arith, sym, ◌∙◌, ap, Vec, Global, ℕ, List, map, take, drop, ◌+◌, ◌-◌, ◌<◌, ◌≤◌, ◌≡◌, length-drop, false}
+use Rattle.std.proofs.Common.{length, arith, sym, ◌∙◌, ap, Vec, Global, ℕ, List, map, take, drop, ◌-◌, ◌<◌, ◌≡◌, length-drop, false}
 use Rattle.std.proofs.lemmas.List.{take_rest, length-take-le}
-use Rattle.ct_tree.specs.Tree.{split, mth_of_leaves}
 use Rattle.ct_verify.specs.Search.{FoundOr, NodesApart, SameRoot, Begun}
 use Rattle.ct_verify.proofs.Leaves.{leaves_joined}
 use Rattle.ct_verify.proofs.Prefix.{found_map, found_both}
@@ -49,7 +48,7 @@ returns-in_ok-met-clause-found g t c =
     let P = Begun H c.args.known c.args.first_root.now c.last_and_rest.result.1.now (map bytes E) (map bytes (take k D)) in
     let Q = NodesApart H c.in_ok-part.part.second c.last_and_rest.result.0 c.in_ok-part.part.new_root c.root_of_leaves-other.result in
     let met : FoundOr H Q c.in_ok-met.met =
-        rw (c.under_node-a.ensures.left, c.under_node-a.ensures.right, c.under_node-b.ensures.left, c.under_node-b.ensures.right) at c.in_ok-met.ensures in
+    rw (c.under_node-a.ensures.left, c.under_node-a.ensures.right, c.under_node-b.ensures.left, c.under_node-b.ensures.right) at c.in_ok-met.ensures in
     found_map H (P × Q) (Begun H c.args.known c.args.first_root.now c.args.path.now (map bytes E) (map bytes D)) c.first_found-found.result
     (left_begun H bytes c.args.known E D k c.args.first_root.now c.last_and_rest.result.0 c.in_ok-part.part.first c.in_ok-part.part.second c.in_ok-part.part.new_root
     c.root_of_leaves-other.result c.args.path.now c.last_and_rest.result.1.now c.requires.some l c.largest_power_below-middle.ensures.split c.if-old-middle.true
@@ -84,8 +83,14 @@ returns-in_ok-met_new-clause-rebuilt g t c =
     let high : k < length E = omega arith in
     let i : length (take (length E - k) (drop k E)) ≡ length E - k = ap length (take_rest E k) ∙ length-drop k E in
     let j : length (take (length D - k) (drop k D)) ≡ length D - k = ap length (take_rest D k) ∙ length-drop k D in
-    rw (c.node_hash-first.ensures, c.node_hash-second-else-old-middle.ensures, c.under_node-a-else-old-middle.ensures.left, c.under_node-a-else-old-middle.ensures.right,
-    c.under_node-c.ensures.left, c.under_node-c.ensures.right)
+    rw (
+      c.node_hash-first.ensures,
+      c.node_hash-second-else-old-middle.ensures,
+      c.under_node-a-else-old-middle.ensures.left,
+      c.under_node-a-else-old-middle.ensures.right,
+      c.under_node-c.ensures.left,
+      c.under_node-c.ensures.right,
+    )
     (right_roots g.H.NodeHash.digest c.args.known (length E) (length D) k (length (take (length E - k) (drop k E))) (length (take (length D - k) (drop k D)))
     c.args.first_root.now c.args.first_root.now c.last_and_rest.result.0
     c.in_ok-part-2.part.first c.in_ok-part-2.part.second c.args.path.now c.last_and_rest.result.1.now l c.largest_power_below-middle.ensures.split high i j
@@ -106,9 +111,9 @@ returns-in_ok-met_new-clause-found g t c =
     let R = NodesApart H s c.in_ok-part-2.part.first c.in_ok-sides-2.sides.old_root c.in_ok-part-2.part.old_root in
     let S = NodesApart H s c.in_ok-part-2.part.second c.in_ok-sides-2.sides.new_root c.in_ok-part-2.part.new_root in
     let met_old : FoundOr H R c.in_ok-met_old.met_old =
-        rw (c.under_node-a-else-old-middle.ensures.left, c.under_node-a-else-old-middle.ensures.right, c.under_node-b-else-old-middle.ensures.left, c.under_node-b-else-old-middle.ensures.right) at c.in_ok-met_old.ensures in
+    rw (c.under_node-a-else-old-middle.ensures.left, c.under_node-a-else-old-middle.ensures.right, c.under_node-b-else-old-middle.ensures.left, c.under_node-b-else-old-middle.ensures.right) at c.in_ok-met_old.ensures in
     let met_new : FoundOr H S c.in_ok-met_new.met_new =
-        rw (c.under_node-c.ensures.left, c.under_node-c.ensures.right, c.under_node-d.ensures.left, c.under_node-d.ensures.right) at c.in_ok-met_new.ensures in
+    rw (c.under_node-c.ensures.left, c.under_node-c.ensures.right, c.under_node-d.ensures.left, c.under_node-d.ensures.right) at c.in_ok-met_new.ensures in
     found_map H ((P × Q) × (R × S)) (Begun H c.args.known c.args.first_root.now c.args.path.now (map bytes E) (map bytes D)) c.first_found-found-else-old-middle.result
     (right_begun H bytes c.args.known E D k c.args.first_root.now c.args.first_root.now s c.in_ok-part-2.part.first c.in_ok-part-2.part.second
     c.in_ok-sides-2.sides.old_root c.in_ok-part-2.part.old_root c.in_ok-sides-2.sides.new_root c.in_ok-part-2.part.new_root c.args.path.now q l

@@ -1,4 +1,4 @@
-use Rattle.std.proofs.Common.{Vec, Global, ℕ, List, map, length, false, true, ◌≡◌, ◌∙◌, sym, subst}
+use Rattle.std.proofs.Common.{Vec, Global, ℕ, List, map, true, subst}
 use Rattle.std.proofs.lemmas.Bool.{both_ways}
 use Rattle.ct_verify.proofs.Extending.{answered, accepted_for, refused_for}
 use Rattle.ct_verify.specs.Search.{FoundOr, Begun}
@@ -20,10 +20,11 @@ returns-in_err-verify_consistency g c =
     c.root_of_leaves-old_root.ensures c.root_of_leaves-new_root.ensures c.in_err-verify_consistency.ensures)
 
 pub returns-then-begins : goal.returns-then-begins
-returns-then-begins g c =
-    (accepted_for g.H.NodeHash.digest bytes c.args.old.now c.args.new.now c.root_of_leaves-old_root.result c.root_of_leaves-new_root.result c.args.path.now
-    c.root_of_leaves-old_root.ensures c.root_of_leaves-new_root.ensures c.in_ok-verify_consistency.ensures,
-    c.begins.ensures.0 c.if-begins.true)
+returns-then-begins g c = (
+  accepted_for g.H.NodeHash.digest bytes c.args.old.now c.args.new.now c.root_of_leaves-old_root.result c.root_of_leaves-new_root.result c.args.path.now
+      c.root_of_leaves-old_root.ensures c.root_of_leaves-new_root.ensures c.in_ok-verify_consistency.ensures,
+  c.begins.ensures.0 c.if-begins.true,
+)
 
 pub returns-in_err-walked : goal.returns-in_err-walked
 returns-in_err-walked g c =
@@ -31,18 +32,20 @@ returns-in_err-walked g c =
     let E = map bytes c.args.old.now in
     let D = map bytes c.args.new.now in
     answered c.from_residual-in_err-walked.result (ConsistencyEvidence H E D c.args.path.now) (ConsistencyFault H E D c.args.path.now) Memory
-    c.from_residual-in_err-walked.ensures.0 c.from_residual-in_err-walked.ensures.1
-    (accepted_for H bytes c.args.old.now c.args.new.now c.root_of_leaves-old_root.result c.root_of_leaves-new_root.result c.args.path.now
-    c.root_of_leaves-old_root.ensures c.root_of_leaves-new_root.ensures c.in_ok-verify_consistency.ensures,
-    λ b. both_ways c.begins.result c.if-begins.false (c.begins.ensures.1 b))
+    c.from_residual-in_err-walked.ensures.0 c.from_residual-in_err-walked.ensures.1 (
+      accepted_for H bytes c.args.old.now c.args.new.now c.root_of_leaves-old_root.result c.root_of_leaves-new_root.result c.args.path.now
+          c.root_of_leaves-old_root.ensures c.root_of_leaves-new_root.ensures c.in_ok-verify_consistency.ensures,
+      λ b. both_ways c.begins.result c.if-begins.false (c.begins.ensures.1 b),
+    )
 
 pub returns-in-Some : goal.returns-in-Some
 returns-in-Some g c =
     let H = g.H.NodeHash.digest in
     let E = map bytes c.args.old.now in
     let D = map bytes c.args.new.now in
-    rw c.in-Some.pair-is
-    (accepted_for H bytes c.args.old.now c.args.new.now c.root_of_leaves-old_root.result c.root_of_leaves-new_root.result c.args.path.now
-    c.root_of_leaves-old_root.ensures c.root_of_leaves-new_root.ensures c.in_ok-verify_consistency.ensures,
-    λ b. both_ways c.begins.result c.if-begins.false (c.begins.ensures.1 b),
-    subst (FoundOr H (Begun H true c.root_of_leaves-old_root.result c.args.path.now E D)) c.in-Some.is c.in_ok-walked.ensures.found)
+    rw c.in-Some.pair-is (
+      accepted_for H bytes c.args.old.now c.args.new.now c.root_of_leaves-old_root.result c.root_of_leaves-new_root.result c.args.path.now
+          c.root_of_leaves-old_root.ensures c.root_of_leaves-new_root.ensures c.in_ok-verify_consistency.ensures,
+      λ b. both_ways c.begins.result c.if-begins.false (c.begins.ensures.1 b),
+      subst (FoundOr H (Begun H true c.root_of_leaves-old_root.result c.args.path.now E D)) c.in-Some.is c.in_ok-walked.ensures.found,
+    )
