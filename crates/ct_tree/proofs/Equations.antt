@@ -1,17 +1,18 @@
 -- The equations of RFC 6962, section 2.1.
-use Rattle.std.proofs.Common.{◌≡◌, ℕ, List, [], ◌∷◌, length, take, drop, map, true, false, refl, sym, ◌∙◌, ap, arith, subst}
+use Rattle.std.proofs.Common.{[], ◌∷◌, length, map, true, false, refl, sym, ◌∙◌, ap, arith, subst}
 use Rattle.std.proofs.lemmas.List.{length-map, take-map, drop-map}
-use Rattle.ct_tree.specs.Tree.{split, hash_leaf, hash_node, mth}
+use Rattle.ct_tree.specs.Tree.{split, hash_leaf}
 use Rattle.ct_tree.specs.Laws.{SplitIsLargestPowerBelow, MthOfNone, MthOfOne, MthOfMore, MthOfNoLeaves, MthOfOneLeaf, MthOfMoreLeaves, PathOfOne, PathInLeft, PathInRight, ProofIsSubproof, SubproofOfKnown, SubproofOfUnknown, SubproofInLeft, SubproofInRight, PathHasLength, SubproofHasLength}
-use Rattle.ct_tree.proofs.Split.{IsPower, IsSplit, split_is, split_unique, split_lt}
+use Rattle.ct_tree.proofs.Split.{IsSplit, split_is, split_unique}
 use Rattle.ct_tree.proofs.Mth.{mth-nil, mth-one, mth-split_at}
 use Rattle.ct_tree.proofs.Path.{path-small, path-left, path-right, length-path_at}
 use Rattle.ct_tree.proofs.Subproof.{subproof-whole, subproof-left, subproof-right, length-subproof_at}
 
 pub split_is_largest_power_below : SplitIsLargestPowerBelow
-split_is_largest_power_below n k h =
-    ((λ e. let s : IsSplit n k = subst (IsSplit n) (sym e) (split_is n h) in ((s.power.exponent, s.power.is), s.below, s.half)),
-    (λ s. split_unique n k (split n) (record { power = record { exponent = s.0.0; is = s.0.1 }; below = s.1; half = s.2 }) (split_is n h)))
+split_is_largest_power_below n k h = (
+  (λ e. let s : IsSplit n k = subst (IsSplit n) (sym e) (split_is n h) in ((s.power.exponent, s.power.is), s.below, s.half)),
+  (λ s. split_unique n k (split n) (record { power = record { exponent = s.0.0; is = s.0.1 }; below = s.1; half = s.2 }) (split_is n h)),
+)
 
 pub mth_of_none : MthOfNone
 mth_of_none H = mth-nil H

@@ -78,6 +78,16 @@ module _ (H : List ℕ → List ℕ) where
       let a : 2 * (l / 2) ≡ l = omega arith in
       rw (raised-suc j (take n D)) (get-level_last (raised H j (take n D)) (l / 2) [] (omega arith) ∙ rw a f)
 
+  -- the last node of the next level, however it comes about
+  pub edge_up : (j l n : ℕ) (D : List (List ℕ)) (edge next : List ℕ) → length (raised H j (take n D)) ≡ l + 1
+      → get_or (raised H j (take n D)) l [] ≡ edge → (l % 2 ≡ 1 → next ≡ hash_node H (subtree H j (l - 1) D) edge) → (l % 2 ≡ 0 → next ≡ edge)
+      → get_or (raised H (j + 1) (take n D)) (l / 2) [] ≡ next
+  edge_up j l n D edge next e f joined lone =
+      ⊎_elim
+      (λ (z : l % 2 < 1). edge-even j l n D edge e (omega arith) f ∙ sym (lone (omega arith)))
+      (λ (o : 1 ≤ l % 2). edge-odd j l n D edge (subtree H j (l - 1) D) e (omega arith) f refl ∙ sym (joined (omega arith)))
+      (cases_lt (l % 2) 1)
+
   -- ---- PATH, one level up
   pub path-raised : (j l m n : ℕ) (D : List (List ℕ)) (s : List ℕ) → length (raised H j (take n D)) ≡ l + 1 → m + 1 < l + 1 + m % 2
       → get_or (raised H j (take n D)) (m + 1 - 2 * (m % 2)) [] ≡ s

@@ -1,5 +1,5 @@
 -- How many hashes an audit path and a consistency proof have, by the recursions of RFC 6962, sections 2.1.1 and 2.1.2.
-use Rattle.std.specs.Prelude.{ℕ, zero, suc, ◌-◌, Bool, true, false, nat_lt, if◌then◌else◌}
+use Rattle.std.specs.Prelude.{ℕ, zero, suc, ◌-◌, Bool, false, nat_lt, if◌then◌else◌}
 use Rattle.ct_tree.specs.Tree.{split}
 
 unfoldable pub path_length_within : ℕ → ℕ → ℕ → ℕ

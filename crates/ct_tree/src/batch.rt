@@ -36,7 +36,8 @@ impl<'a> LeafBytes for [&'a [u8]; 5] {
 fn hash_part<H: NodeHash, L: LeafBytes>(h: &H, leaves: &[L], hashes: &mut [[u8; 32]])
     requires { length hashes.old ≡ length leaves.now }
     ensures length { length hashes.new ≡ length hashes.old }
-    ensures each { (k : ℕ) (d : List ℕ) (e : L) → k < length hashes.old → slice_index_or hashes.new k d ≡ hash_leaf H.digest (L.bytes (slice_index_or leaves.now k e)) }
+    ensures each { (k : ℕ) (d : List ℕ) (e : L) → k < length hashes.old
+        → slice_index_or hashes.new k d ≡ hash_leaf H.digest (L.bytes (slice_index_or leaves.now k e)) }
 {
     for k in 0..hashes.len() {
         hashes[k] = leaves[k].hashed(h);
@@ -55,7 +56,8 @@ fn hash_among<H: NodeHash + Sync, L: LeafBytes + Sync, R: Threads + Sync>(
     requires length { length hashes.old ≡ length leaves.now }
     requires workers { (0 < workers) × (workers ≤ 64) }
     ensures length { length hashes.new ≡ length hashes.old }
-    ensures each { (k : ℕ) (d : List ℕ) (e : L) → k < length hashes.old → slice_index_or hashes.new k d ≡ hash_leaf H.digest (L.bytes (slice_index_or leaves.now k e)) }
+    ensures each { (k : ℕ) (d : List ℕ) (e : L) → k < length hashes.old
+        → slice_index_or hashes.new k d ≡ hash_leaf H.digest (L.bytes (slice_index_or leaves.now k e)) }
 {
     if workers == 1 || leaves.len() < 2 {
         hash_part(h, leaves, hashes);
@@ -69,12 +71,16 @@ fn hash_among<H: NodeHash + Sync, L: LeafBytes + Sync, R: Threads + Sync>(
     join_mut(
         rt,
         &mut ||
-            requires { IsSync R.row × IsSync H.row × IsSync L.row × (length front.now ≡ length left.now) × (0 < first) × (first ≤ 64) }
-            ensures { (k : ℕ) (d : List ℕ) (e : L) → k < length front.entry.now → slice_index_or front.exit.now k d ≡ hash_leaf H.digest (L.bytes (slice_index_or left.entry.now k e)) }
+            requires { IsSync R.row × IsSync H.row × IsSync L.row
+                × (length front.now ≡ length left.now) × (0 < first) × (first ≤ 64) }
+            ensures { (k : ℕ) (d : List ℕ) (e : L) → k < length front.entry.now
+                → slice_index_or front.exit.now k d ≡ hash_leaf H.digest (L.bytes (slice_index_or left.entry.now k e)) }
         { hash_among(rt, h, left, front, first) },
         &mut ||
-            requires { IsSync R.row × IsSync H.row × IsSync L.row × (length back.now ≡ length right.now) × (0 < second) × (second ≤ 64) }
-            ensures { (k : ℕ) (d : List ℕ) (e : L) → k < length back.entry.now → slice_index_or back.exit.now k d ≡ hash_leaf H.digest (L.bytes (slice_index_or right.entry.now k e)) }
+            requires { IsSync R.row × IsSync H.row × IsSync L.row
+                × (length back.now ≡ length right.now) × (0 < second) × (second ≤ 64) }
+            ensures { (k : ℕ) (d : List ℕ) (e : L) → k < length back.entry.now
+                → slice_index_or back.exit.now k d ≡ hash_leaf H.digest (L.bytes (slice_index_or right.entry.now k e)) }
         { hash_among(rt, h, right, back, second) },
     );
 }
@@ -88,7 +94,8 @@ fn hash_all<H: NodeHash + Sync, L: LeafBytes + Sync, R: Threads + Sync>(
     workers: usize,
 ) -> Result<Vec<[u8; 32]>, AllocError>
     requires { (0 < workers) × (workers ≤ 64) }
-    ensures { IfOk result (λ hashes. hashes.items ≡ map (λ leaf. hash_leaf H.digest (L.bytes leaf)) leaves.now) }
+    ensures { IfOk result (λ hashes.
+        hashes.items ≡ map (λ leaf. hash_leaf H.digest (L.bytes leaf)) leaves.now) }
 {
     let mut hashes = vec![in alloc; [0; 32]; leaves.len()]?;
     hash_among(rt, h, leaves, &mut hashes, workers);
@@ -106,7 +113,8 @@ pub fn hash_batch<H: NodeHash + Sync, R: Threads + Sync>(
     workers: usize,
 ) -> Result<Vec<[u8; 32]>, AllocError>
     requires { (0 < workers) × (workers ≤ 64) }
-    ensures { IfOk result (λ hashes. hashes.items ≡ map (λ leaf. hash_leaf H.digest leaf.items) leaves.now) }
+    ensures { IfOk result (λ hashes.
+        hashes.items ≡ map (λ leaf. hash_leaf H.digest leaf.items) leaves.now) }
 {
     hash_all(rt, alloc, h, leaves, workers)
 }
@@ -120,7 +128,8 @@ pub fn hash_batch_parts<H: NodeHash + Sync, R: Threads + Sync>(
     workers: usize,
 ) -> Result<Vec<[u8; 32]>, AllocError>
     requires { (0 < workers) × (workers ≤ 64) }
-    ensures { IfOk result (λ hashes. hashes.items ≡ map (λ parts. hash_leaf H.digest (flat_map (λ part. part.now) parts)) leaves.now) }
+    ensures { IfOk result (λ hashes.
+        hashes.items ≡ map (λ parts. hash_leaf H.digest (flat_map (λ part. part.now) parts)) leaves.now) }
 {
     hash_all(rt, alloc, h, leaves, workers)
 }

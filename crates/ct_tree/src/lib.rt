@@ -23,13 +23,12 @@ mod stack;
 #[cfg(test)]
 mod tests;
 
-use std::alloc::AllocError;
-
 pub use batch::{hash_batch, hash_batch_parts};
 pub use hash::{NodeHash, Sha256Hash, leaf_hash, leaf_hash_parts, node_hash};
 pub use head::Head;
 pub use nodes::Nodes;
 pub use stack::Stack;
+use std::alloc::AllocError;
 
 /// A growth was refused.
 pub type Memory = AllocError;
