@@ -1,7 +1,7 @@
 -- What the comparison of a path with a list of leaves finds, one level up.
 use Rattle.std.proofs.Common.{refl, ◌≡◌, ℕ, ◌+◌, ◌-◌, ◌<◌, ◌≤◌, sym, ◌∙◌, ap, arith, List, reverse, [], ◌∷◌, ◌++◌, length, take, drop, get_or, map, Option, Some, None, true, false, length-drop, ⊎_elim}
 use Rattle.std.specs.Str.{bytes_eq}
-use Rattle.std.proofs.lemmas.Bool.{cases_Bool, cond-true, cond-false, cases_lt}
+use Rattle.std.proofs.lemmas.Bool.{cases_Bool, cond-true, cond-false}
 use Rattle.std.proofs.lemmas.Slice.Eq.{bytes_eq-Decides}
 use Rattle.std.proofs.lemmas.List.{length-map, take-map, drop-map, take_rest, get_or-take, get_or-drop, length-take-le}
 use Rattle.ct_tree.proofs.Split.{split_lt}

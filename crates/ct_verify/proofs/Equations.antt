@@ -1,6 +1,5 @@
 -- The laws of `rebuild` and `both`.
-use Rattle.std.proofs.Common.{refl, sym, arith, ◌∙◌, length, reverse, true, false}
-use Rattle.std.proofs.lemmas.List.{length-reverse}
+use Rattle.std.proofs.Common.{refl, sym, arith, length, true}
 use Rattle.ct_verify.proofs.Options.{held}
 use Rattle.ct_verify.proofs.Rebuild.{rebuild-one}
 use Rattle.ct_verify.proofs.RebuildLaws.{rebuild-left, rebuild-right, both_left, both_right, both_whole_known, both_whole_given, path_rebuilds_at, proof_rebuilds_at}

@@ -1,19 +1,15 @@
 -- The evidence for an audit path.
-use Rattle.std.proofs.Common.{◌≡◌, ℕ, ◌<◌, ◌≤◌, refl, subst, sym, ◌∙◌, ap, arith, List, [], length, map, Option, Some, None, Ok, Err, Result, MatchResult}
+use Rattle.std.proofs.Common.{◌≡◌, ℕ, refl, subst, sym, ◌∙◌, ap, arith, List, length, map, Some, None, Ok, Err, Result, MatchResult}
 use Rattle.std.proofs.lemmas.List.{length-map}
-use Rattle.ct_tree.proofs.Path.{length-path_at}
-use Rattle.ct_tree.specs.Tree.{hash_leaf, mth_of_leaves, path}
-use Rattle.ct_tree.specs.Lengths.{path_length}
-use Rattle.ct_verify.proofs.Options.{none_some, same_some}
+use Rattle.ct_tree.specs.Tree.{hash_leaf, mth_of_leaves}
+use Rattle.ct_verify.proofs.Options.{none_some}
 use Rattle.ct_verify.proofs.Defined.{accepted_not_refused}
 use Rattle.ct_verify.proofs.Shown.{Shows, evid_shows, audited_none, audited_accepted}
 use Rattle.ct_verify.specs.Rebuild.{rebuild}
-use Rattle.ct_verify.specs.Verdict.{AcceptsInclusion, RefusesInclusion}
+use Rattle.ct_verify.specs.Verdict.{AcceptsInclusion}
 use Rattle.ct_verify.specs.Evidence.{Collides, evid, IsAudited}
 use Rattle.ct_verify.specs.Difference.{IsCollision}
 use Rattle.ct_verify.specs.InclusionEvidence.{IsAccepted, InclusionEvidence, InclusionFault}
-use Rattle.ct_verify.specs.declared.fault.ProofFault.{ProofFault}
-use Rattle.ct_verify.specs.declared.fault.ProofFault.TheVariants.{IndexOutOfRange, PathTooLong, PathTooShort, RootMismatch, EmptyPath, FirstMismatch, SizesOutOfRange}
 use Rattle.ct_verify.specs.declared.evidence.Evidence.{Evidence}
 use Rattle.ct_verify.specs.declared.evidence.Evidence.TheVariants.{Holds, Collision}
 use Rattle.ct_verify.specs.declared.evidence.EvidenceFault.{EvidenceFault}

@@ -1,5 +1,5 @@
 -- The evidence for a consistency proof.
-use Rattle.std.proofs.Common.{◌≡◌, ℕ, ◌<◌, ◌≤◌, refl, subst, sym, ◌∙◌, ap, arith, Bool, true, false, eqb, List, length, take, map, Some, None, Ok, Err, Result, MatchResult}
+use Rattle.std.proofs.Common.{◌≡◌, ℕ, refl, subst, sym, ◌∙◌, ap, false, eqb, List, length, take, map, Ok, Err, Result, MatchResult}
 use Rattle.std.specs.Prelude.{IsErr, IsErrAnd}
 use Rattle.std.specs.Bool.{Decides}
 use Rattle.std.specs.Cmp.Lexicographic.{pointwise, pointwise_decides}

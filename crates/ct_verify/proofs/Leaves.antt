@@ -1,8 +1,8 @@
 -- MTH of a list that is given by its leaves, each seen through a function f.
-use Rattle.std.proofs.Common.{refl, ◌≡◌, ℕ, ◌+◌, ◌-◌, ◌<◌, sym, ◌∙◌, ap, arith, List, [], ◌∷◌, length, take, drop, get_or, map}
+use Rattle.std.proofs.Common.{refl, ◌≡◌, ℕ, ◌-◌, ◌<◌, sym, ◌∙◌, ap, arith, List, [], ◌∷◌, length, take, drop, get_or, map}
 use Rattle.std.proofs.lemmas.List.{length-map, take-map, drop-map, take_rest}
 use Rattle.ct_tree.proofs.Mth.{mth-nil, mth-one, mth-split_at}
-use Rattle.ct_tree.specs.Tree.{split, hash_leaf, hash_node, mth, mth_of_leaves}
+use Rattle.ct_tree.specs.Tree.{split, hash_leaf, hash_node, mth_of_leaves}
 
 module _ (H : List ℕ → List ℕ) {V : Type 0} (f : V → List ℕ) where
   pub leaves_nil : (xs : List V) → length xs ≡ 0 → mth_of_leaves H (map f xs) ≡ H []

@@ -1,19 +1,18 @@
 -- What going down an accepted path shows, and that nothing is found where the path is PATH.
-use Rattle.std.proofs.Common.{◌≡◌, ℕ, zero, suc, ◌+◌, ◌-◌, ◌<◌, ◌≤◌, ltb, cond, refl, subst, sym, ◌∙◌, ap, arith, List, [], ◌∷◌, ◌++◌, reverse, length, take, drop, get_or, map, Option, Some, None, true, false, length-drop, ⊎_elim}
-use Rattle.std.specs.Option.{option_map}
+use Rattle.std.proofs.Common.{◌≡◌, ℕ, ◌+◌, ◌-◌, ◌<◌, ◌≤◌, refl, subst, sym, ◌∙◌, ap, arith, List, [], ◌∷◌, ◌++◌, reverse, length, take, drop, get_or, map, Option, Some, None, true, false, length-drop, ⊎_elim}
 use Rattle.std.specs.Str.{bytes_eq}
 use Rattle.std.proofs.lemmas.Bool.{cases_Bool, cond-true, cond-false, both_ways, lt-ltb, le-ltb, cases_lt}
 use Rattle.std.proofs.lemmas.Slice.Eq.{bytes_eq-Decides}
-use Rattle.std.proofs.lemmas.List.{append_cancel_left, length-append, length-map, take-map, drop-map, get_or-take, get_or-drop, length-take-le, reverse-append, get_or-map, reverse-reverse}
+use Rattle.std.proofs.lemmas.List.{length-append, length-map, take-map, drop-map, get_or-take, get_or-drop, length-take-le, get_or-map, reverse-reverse}
 use Rattle.ct_tree.proofs.Split.{split_pos, split_lt, split_induct}
 use Rattle.ct_tree.proofs.Mth.{mth-one, mth-split_at}
 use Rattle.ct_tree.proofs.Path.{path-small, path-left, path-right}
-use Rattle.ct_tree.specs.Tree.{split, hash_leaf, hash_node, mth, mth_of_leaves, path}
+use Rattle.ct_tree.specs.Tree.{split, hash_leaf, hash_node, mth_of_leaves, path}
 use Rattle.ct_verify.proofs.Options.{reverse_last, same_some, none_some, mapped}
 use Rattle.ct_verify.proofs.Rebuild.{rebuild_left, rebuild_right, rebuild_past, rebuild_short, rebuild_leaf}
 use Rattle.ct_verify.proofs.Equations.{path_rebuilds}
 use Rattle.ct_verify.specs.Rebuild.{rebuild, rebuild_down}
-use Rattle.ct_verify.specs.Evidence.{Collides, compared, compared_with, evid_down, evid, IsAudited}
+use Rattle.ct_verify.specs.Evidence.{Collides, compared, evid_down, evid, IsAudited}
 
 pub head_same : {X : Type 0} (x y : X) (xs ys : List X) → x ∷ xs ≡ y ∷ ys → x ≡ y
 head_same x y xs ys e = cc

@@ -1,9 +1,8 @@
 -- The steps of the walk through two lists along a consistency proof, as the code sees its slices.
-use Rattle.std.proofs.Common.{refl, subst, ◌≡◌, ℕ, ◌+◌, ◌-◌, ◌<◌, ◌≤◌, sym, ◌∙◌, ap, arith, Bool, true, false, cond, List, [], ◌∷◌, ◌++◌, reverse, length, take, drop, map, Option, Some, None, length-drop}
-use Rattle.std.specs.Option.{option_map}
+use Rattle.std.proofs.Common.{subst, ◌≡◌, ℕ, ◌-◌, ◌<◌, ◌≤◌, sym, ◌∙◌, ap, arith, Bool, true, false, cond, List, [], ◌∷◌, ◌++◌, reverse, length, take, drop, map, Some, length-drop}
 use Rattle.std.proofs.lemmas.List.{length-map, take-map, drop-map, take_rest, length-take-le}
-use Rattle.ct_tree.proofs.Split.{IsPower, IsSplit, split_is, split_unique, split_lt, split_pos}
-use Rattle.ct_tree.specs.Tree.{split, hash_leaf, hash_node, mth_of_leaves}
+use Rattle.ct_tree.proofs.Split.{IsPower, IsSplit, split_is, split_unique, split_lt}
+use Rattle.ct_tree.specs.Tree.{split, hash_node, mth_of_leaves}
 use Rattle.ct_verify.proofs.RebuildLaws.{both_left, both_right}
 use Rattle.ct_verify.proofs.Both.{both-end, both-end_whole, both-whole}
 use Rattle.ct_verify.proofs.Options.{none_some, same_some, mapped, reverse_last}

@@ -20,6 +20,8 @@ mod children;
 mod consistency;
 mod consistency_evidence;
 mod evidence;
+#[cfg(test)]
+mod evidence_tests;
 mod fault;
 mod halves;
 mod inclusion;

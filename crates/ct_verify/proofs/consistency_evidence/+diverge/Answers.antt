@@ -1,4 +1,4 @@
-use Rattle.std.proofs.Common.{length, arith, sym, ◌∙◌, ap, Vec, Global, ℕ, List, map, take, drop, ◌-◌, ◌<◌, ◌≡◌}
+use Rattle.std.proofs.Common.{length, arith, sym, ◌∙◌, ap, Vec, Global, ℕ, List, map, take, drop, ◌-◌}
 use Rattle.ct_verify.proofs.Leaves.{leaves_single, leaves_joined}
 use Rattle.ct_tree.specs.Tree.{hash_leaf, split}
 use Rattle.ct_verify.specs.Search.{FoundOr, NodesApart, SameRoot}

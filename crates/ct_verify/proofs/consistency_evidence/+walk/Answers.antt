@@ -1,6 +1,5 @@
-use Rattle.std.proofs.Common.{length, arith, sym, ◌∙◌, ap, Vec, Global, ℕ, List, map, take, drop, ◌+◌, ◌-◌, ◌<◌, ◌≤◌, ◌≡◌, length-drop, false}
+use Rattle.std.proofs.Common.{length, arith, sym, ◌∙◌, ap, Vec, Global, ℕ, List, map, take, drop, ◌-◌, ◌<◌, ◌≡◌, length-drop, false}
 use Rattle.std.proofs.lemmas.List.{take_rest, length-take-le}
-use Rattle.ct_tree.specs.Tree.{split, mth_of_leaves}
 use Rattle.ct_verify.specs.Search.{FoundOr, NodesApart, SameRoot, Begun}
 use Rattle.ct_verify.proofs.Leaves.{leaves_joined}
 use Rattle.ct_verify.proofs.Prefix.{found_map, found_both}

@@ -1,4 +1,4 @@
-use Rattle.std.proofs.Common.{Vec, Global, ℕ, List, map, length, false, true, ◌≡◌, ◌∙◌, sym, subst}
+use Rattle.std.proofs.Common.{Vec, Global, ℕ, List, map, true, subst}
 use Rattle.std.proofs.lemmas.Bool.{both_ways}
 use Rattle.ct_verify.proofs.Extending.{answered, accepted_for, refused_for}
 use Rattle.ct_verify.specs.Search.{FoundOr, Begun}

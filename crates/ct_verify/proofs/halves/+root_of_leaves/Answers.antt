@@ -1,4 +1,4 @@
-use Rattle.std.proofs.Common.{length, [], arith, sym, ◌∙◌, ap, Vec, Global, ℕ, List}
+use Rattle.std.proofs.Common.{length, arith, sym, ◌∙◌, ap, Vec, Global, ℕ}
 use Rattle.std.proofs.lemmas.Bool.{eqb-true}
 use Rattle.ct_verify.proofs.Leaves.{leaves_nil, leaves_single, leaves_joined}
 use Rattle.ct_tree.specs.Tree.{hash_leaf}

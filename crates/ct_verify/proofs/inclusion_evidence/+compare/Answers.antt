@@ -1,4 +1,4 @@
-use Rattle.std.proofs.Common.{length, [], arith, sym, ◌∙◌, ap, Vec, Global, ℕ, List, Option}
+use Rattle.std.proofs.Common.{length, arith, sym, ◌∙◌, ap, Vec, Global, ℕ, List}
 use Rattle.std.specs.Option.{option_map}
 use Rattle.ct_verify.proofs.Leaves.{leaves_single, leaves_joined}
 use Rattle.ct_tree.specs.Tree.{hash_leaf}

@@ -1,4 +1,4 @@
-use Rattle.std.proofs.Common.{length, [], arith, sym, ◌∙◌, ap, Vec, Global, ℕ, List, Option, map, Some, get_or, ◌≡◌, ◌<◌}
+use Rattle.std.proofs.Common.{length, [], sym, ◌∙◌, ap, Vec, Global, ℕ, List, map, Some, get_or, ◌≡◌}
 use Rattle.std.specs.Option.{option_map}
 use Rattle.std.proofs.lemmas.List.{get_or-map}
 use Rattle.ct_verify.specs.Difference.{strings}
