@@ -5,7 +5,6 @@ ghost use Rattle.ct_core.specs.Tree.{hash_leaf};
 use super::*;
 use crate::leaf_table::LeafTable;
 use ct_codec::{Item, Refusal, Submission, leaf_input};
-use ct_tree::reference::root;
 use ct_tree::{Sha256Hash, leaf_hash, node_hash};
 use std::alloc::Global;
 use std::test::*;
