@@ -160,13 +160,13 @@ fn a_second_shutdown(rt: HostRuntime) {
 
 #[test]
 fn command_lines_that_are_refused(rt: HostRuntime) {
-    let few = ["ctlog", "--fronts", "17", "--ring", "4"];
+    let seventeen = ["ctlog", "--fronts", "17", "--ring", "4"];
     let two = ["ctlog", "--fronts", "2", "--ring", "4"];
     let no_places = ["ctlog", "--fronts", "1", "--ring", "0"];
     let places = ["ctlog", "--fronts", "1", "--ring", "4097"];
     let late = ["ctlog", "--fronts", "1", "--ring", "4", "--close-at", "9007199254740992"];
     let none = ["ctlog", "--fronts", "1"];
-    let table: [&[&str]; 6] = [&few, &two, &no_places, &places, &late, &none];
+    let table: [&[&str]; 6] = [&seventeen, &two, &no_places, &places, &late, &none];
     for words in table {
         let outcome = outcome_of(rt.alloc(), words, b"");
         assert!(rt; outcome.status == 2 && outcome.output.is_empty());
@@ -191,7 +191,7 @@ fn the_greatest_numbers(rt: HostRuntime) {
 fn help(rt: HostRuntime) {
     let outcome = outcome_of(rt.alloc(), &["ctlog", "--help"], b"");
     assert!(rt; outcome.status == 0 && outcome.faults.is_empty());
-    assert!(rt; outcome.output.starts_with(b"Usage: ctlog --fronts <N> --ring <K>"));
+    assert!(rt; outcome.output.starts_with(b"Usage: ctlog [OPTIONS] --fronts <N> --ring <K>\n"));
 }
 
 // The replies of the front and of the operator are written, and none of the frozen log.
