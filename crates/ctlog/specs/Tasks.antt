@@ -1,7 +1,7 @@
 -- What the lines have the program do.
 use Rattle.std.specs.Prelude.{◌≡◌, ℕ, List, [], ◌∷◌, Option, Some, None, map, ◌==◌, ◌⊎◌, if◌then◌else◌}
 use Rattle.std.specs.List.{filter_map}
-use Rattle.ct_lines.specs.Asked.{Asked, by_front, by_operator, by_frozen, FrontAsked, add_chain, await_size, front_query, OperatorAsked, sequence, publish, shutdown, FrozenAsked, frozen_query, audit, IsRequest}
+use Rattle.ct_lines.specs.Asked.{Asked, by_front, by_operator, by_frozen, FrontAsked, add_chain, await_size, front_query, OperatorAsked, sequence, publish, shutdown, FrozenAsked, frozen_query, frozen_audit, IsRequest}
 use Rattle.ct_core.specs.declared.query.Query.{Query}
 use Rattle.ct_core.specs.declared.query.Query.TheVariants.{GetSth, Consistency, ProofByHash, Entries, EntryAndProof, Receipt}
 use Rattle.ctlog.specs.declared.plan.OperatorLine.{OperatorLine}
@@ -35,7 +35,7 @@ query_task (Receipt ticket) = bad
 
 abbrev pub frozen_task : FrozenAsked → Task
 frozen_task (frozen_query q) = query_task q
-frozen_task (audit leaf index size path) = bad
+frozen_task (frozen_audit a) = bad
 
 -- what is done for a request: the one front has the number 0
 abbrev pub task_of : Asked → Task

@@ -169,7 +169,7 @@ fn a_second_shutdown(rt: HostRuntime) {
 
 #[test]
 fn command_lines_that_are_refused(rt: HostRuntime) {
-    let few = ["ctlog", "--fronts", "17", "--ring", "4"];
+    let seventeen = ["ctlog", "--fronts", "17", "--ring", "4"];
     let two = ["ctlog", "--fronts", "2", "--ring", "4"];
     let no_places = ["ctlog", "--fronts", "1", "--ring", "0"];
     let places = ["ctlog", "--fronts", "1", "--ring", "4097"];
@@ -183,7 +183,7 @@ fn command_lines_that_are_refused(rt: HostRuntime) {
         "9007199254740992",
     ];
     let none = ["ctlog", "--fronts", "1"];
-    let table: [&[&str]; 6] = [&few, &two, &no_places, &places, &late, &none];
+    let table: [&[&str]; 6] = [&seventeen, &two, &no_places, &places, &late, &none];
     for words in table {
         let outcome = outcome_of(rt.alloc(), words, b"");
         assert!(rt; outcome.status == 2 && outcome.output.is_empty());
@@ -211,7 +211,7 @@ fn help(rt: HostRuntime) {
     assert!(rt;
         outcome
             .output
-            .starts_with(b"Usage: ctlog --fronts <N> --ring <K>")
+            .starts_with(b"Usage: ctlog [OPTIONS] --fronts <N> --ring <K>\n")
     );
 }
 
