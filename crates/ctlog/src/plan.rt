@@ -96,8 +96,8 @@ fn line_task(alloc: Global, line: &[u8]) -> Result<Task, Memory>
 {
     match read_line(alloc, line) {
         Ok(request) => Ok(request_task(request)),
-        Err(Refusal::Memory) => Err(AllocError),
-        Err(_) => Ok(Task::Bad),
+        Err(Refusal::BadLine) => Ok(Task::Bad),
+        Err(_) => Err(AllocError),
     }
 }
 

@@ -10,3 +10,10 @@ loop-chain-preserved c =
     (front_served_more c.args.front.now c.loop-chain.front c.submit_chain-reply.new.front c.args.replies.now.items c.loop-chain.replies.items
     c.add_reply.new.replies.items (map (λ chain. map (λ b. b.items) chain.items) c.loop-chain.yielded) (map (λ b. b.items) c.in-Some.chain.items)
     (answered c.submit_chain-reply.result) c.loop-chain.invariant c.submit_chain-reply.ensures.answer c.submit_chain-reply.ensures.accepted c.in_ok-add_reply.ensures)
+
+pub loop-chain-preserved-in_ok-add_reply-6 : goal.loop-chain-preserved-in_ok-add_reply-6
+loop-chain-preserved-in_ok-add_reply-6 c =
+    rw map-append
+    (front_served_more c.args.front.now c.loop-chain.front c.submit_chain-reply.new.front c.args.replies.now.items c.loop-chain.replies.items
+    c.add_reply.new.replies.items (map (λ chain. map (λ b. b.items) chain.items) c.loop-chain.yielded) (map (λ b. b.items) c.in-Some.chain.items)
+    (answered c.submit_chain-reply.result) c.loop-chain.invariant c.submit_chain-reply.ensures.answer c.submit_chain-reply.ensures.accepted c.in_ok-add_reply.ensures)
