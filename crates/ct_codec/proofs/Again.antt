@@ -1,10 +1,9 @@
 -- What was written is read again.
-use Rattle.std.proofs.Common.{◌≡◌, ℕ, List, [], ◌∷◌, ◌++◌, Result, Ok, Err, Vec, Global, refl, sym, ap, ◌∙◌}
+use Rattle.std.proofs.Common.{◌≡◌, ℕ, List, [], ◌∷◌, Result, Ok, Err, Vec, Global, refl}
 use Rattle.ct_codec.specs.Leaf.{Entry, LeafText, ChainText}
 use Rattle.ct_codec.specs.Decoded.{IsTextOf, IsLeaf, AnswersLeaf, AnswersChain, GivesLeaf, GivesChain, certificates_in, entry_in}
-use Rattle.ct_codec.specs.Faults.{LeafFaulty, ChainFaulty}
 use Rattle.ct_codec.specs.Laws.{WrittenLeavesAreRead, WrittenChainsAreRead}
-use Rattle.ct_codec.specs.Submitted.{Submitted, x509, entry_of}
+use Rattle.ct_codec.specs.Submitted.{x509, entry_of}
 use Rattle.ct_codec.specs.declared.fault.DecodeFault.{DecodeFault}
 use Rattle.ct_codec.specs.declared.reading.Leaf.{Leaf}
 use Rattle.ct_codec.proofs.Apart.{leaves_stand_apart, chains_stand_apart}

@@ -1,14 +1,12 @@
 -- Certificates one after the other, step by step along the bytes.
-use Rattle.std.proofs.Common.{◌≡◌, ◌<◌, ◌≤◌, ◌^◌, ◌+◌, ℕ, zero, suc, List, [], ◌∷◌, ◌++◌, length, map, Vec, Global, ◌⊎◌, inl, inr, refl, sym, ap, ◌∙◌, arith, length-append, append_assoc, append-nil}
+use Rattle.std.proofs.Common.{◌≡◌, ◌<◌, ◌^◌, ℕ, List, [], ◌∷◌, ◌++◌, length, ◌⊎◌, inl, inr, sym, ap, ◌∙◌, append_assoc, append-nil}
 use Rattle.std.specs.List.{AllByRecursion}
-use Rattle.std.proofs.lemmas.List.{map-append}
 use Rattle.std.proofs.lemmas.Grind.{flat_map-append}
-use Rattle.ct_codec.specs.Bytes.{num, vec}
+use Rattle.ct_codec.specs.Bytes.{vec}
 use Rattle.ct_codec.specs.Leaf.{IsCertificate, AreCertificates, ChainText, chain_bytes}
-use Rattle.ct_codec.specs.Faults.{IsCut, VectorFaulty, CertificatesFaulty, WithinFaulty, ChainFaulty}
+use Rattle.ct_codec.specs.Faults.{CertificatesFaulty, ChainFaulty}
 use Rattle.ct_codec.specs.declared.fault.DecodeFault.{DecodeFault}
 use Rattle.ct_codec.specs.declared.fault.DecodeFault.TheVariants.{Truncated, BadVersion, BadLeafType, BadEntryType, EmptyVector, Trailing, Memory}
-use Rattle.ct_codec.proofs.Refusals.{length-vec}
 
 -- the bytes are these certificates and the rest
 pub record Walked (cs : List (List ℕ)) (b r : List ℕ) : Type 0 where

@@ -7,7 +7,7 @@ use Rattle.byteorder.specs.Endian.{big_from}
 use Rattle.byteorder.specs.Numbers.{big_number-reads_back}
 use Rattle.ct_codec.specs.Bytes.{num, vec}
 use Rattle.ct_codec.specs.Leaf.{Entry, certificate, precertificate, IsEntry, IsCertificate, LeafText, ChainText, entry_text, leaf_text, chain_bytes, entry_fields, leaf_fields, entry_front}
-use Rattle.ct_codec.specs.Faults.{IsCut, VectorCut, VectorFaulty, LeafFaulty, CertificatesFaulty, WithinFaulty, ChainFaulty}
+use Rattle.ct_codec.specs.Faults.{IsCut, VectorFaulty, LeafFaulty, CertificatesFaulty, WithinFaulty, ChainFaulty}
 use Rattle.ct_codec.specs.Laws.{LeavesHaveOneFault, LeafTextsHaveNoFault, ChainsHaveOneFault, ChainTextsHaveNoFault}
 use Rattle.ct_codec.specs.declared.fault.DecodeFault.{DecodeFault}
 use Rattle.ct_codec.specs.declared.fault.DecodeFault.TheVariants.{Truncated, BadVersion, BadLeafType, BadEntryType, EmptyVector, Trailing, Memory}

@@ -1,5 +1,5 @@
 -- What is read from bytes: leaves and chains.
-use Rattle.std.specs.Prelude.{◌≡◌, [], ℕ, List, map, Vec, Result, IfOk, IfErr, IsOkUnless}
+use Rattle.std.specs.Prelude.{◌≡◌, ℕ, List, map, Vec, Result, IfOk, IfErr, IsOkUnless}
 use Rattle.std.specs.Global.{Global}
 use Rattle.ct_codec.specs.Leaf.{Entry, certificate, precertificate, LeafText, ChainText}
 use Rattle.ct_codec.specs.Faults.{LeafFaulty, ChainFaulty}

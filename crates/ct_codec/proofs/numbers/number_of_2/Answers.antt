@@ -1,4 +1,4 @@
-use Rattle.std.proofs.Common.{rules, arith, ◌≡◌, ◌<◌, ℕ, get_or, refl}
+use Rattle.std.proofs.Common.{rules, arith}
 use Rattle.std.proofs.lemmas.Nat.{be_bytes_2}
 use Rattle.ct_codec.specs.Bytes.{num}
 use Rattle.ct_codec.proofs.numbers.number_of_2.Goals as goal

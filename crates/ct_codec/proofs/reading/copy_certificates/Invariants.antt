@@ -1,4 +1,4 @@
-use Rattle.std.proofs.Common.{ℕ, List, length, map}
+use Rattle.std.proofs.Common.{length, map}
 use Rattle.ct_codec.proofs.Chains.{Walked}
 use Rattle.ct_codec.proofs.reading.copy_certificates.Given as goal
 

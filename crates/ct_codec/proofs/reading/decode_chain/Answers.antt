@@ -1,4 +1,4 @@
-use Rattle.std.proofs.Common.{[], refl, sym, ◌∙◌}
+use Rattle.std.proofs.Common.{sym, ◌∙◌}
 use Rattle.ct_codec.specs.Decoded.{certificates_in}
 use Rattle.ct_codec.proofs.Again.{same_chain}
 use Rattle.ct_codec.proofs.Chains.{chain_text_of, chain_copy}

@@ -1,4 +1,4 @@
-use Rattle.std.proofs.Common.{◌≡◌, ◌<◌, ◌++◌, ◌∷◌, length, ◌∙◌, sym, rules}
+use Rattle.std.proofs.Common.{◌∙◌, sym}
 use Rattle.ct_codec.specs.Decoded.{entry_lent}
 use Rattle.ct_codec.proofs.Leaves.{leaf_entry_fault, leaf_extensions_cut}
 use Rattle.ct_codec.proofs.reading.leaf_at.Goals as goal

@@ -1,5 +1,5 @@
 use Rattle.std.proofs.Common.{arith}
-use Rattle.ct_codec.proofs.Refusals.{size_step, rest_size}
+use Rattle.ct_codec.proofs.Refusals.{size_step}
 use Rattle.ct_codec.proofs.writing.chain_size.Goals as goal
 
 pub loop-certificate-preserved : goal.loop-certificate-preserved

@@ -1,5 +1,4 @@
 use Rattle.std.proofs.Common.{rules}
-use Rattle.std.proofs.lemmas.Grind.{common_steps}
 use Rattle.ct_codec.proofs.Refusals.{extra_written}
 use Rattle.ct_codec.proofs.writing.extra_data.Goals as goal
 

@@ -1,4 +1,4 @@
-use Rattle.std.proofs.Common.{rules, arith, ◌<◌, length, ◌≡◌}
+use Rattle.std.proofs.Common.{rules, ◌<◌}
 use Rattle.ct_codec.proofs.Leaves.{vector_cut_length, vector_cut_content}
 use Rattle.ct_codec.proofs.reader.Reader.certificate.Goals as goal
 
