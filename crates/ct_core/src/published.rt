@@ -165,21 +165,22 @@ impl Published {
         self.heads[self.heads.len() - 1]
     }
 
-    /// The published heads, in order.
+    /// The published heads, in order. The first has size 0.
     pub fn heads(&self) -> &[Head]
         ensures { result.now ≡ self.now.heads }
     {
         &self.heads
     }
 
-    /// The published settlement, in order.
+    /// The published records, in the order of settling.
     pub fn settlement(&self) -> &[Settled]
         ensures { result.now ≡ self.now.settlement }
     {
         &self.settlement
     }
 
-    /// The leaf inputs of the first `n` entries. `n` is at most the last head's size, which is the number of entries.
+    /// The leaf inputs (RFC 6962, section 3.4) of the first `n` entries. `n` is at most the last head's size, which is the number of
+    /// entries.
     ///
     /// Refused with `Memory`.
     pub fn leaves(&self, alloc: Global, n: u64) -> Result<Vec<Vec<u8>>, Refusal>

@@ -43,7 +43,9 @@ impl Model for Core {
 }
 
 impl Core {
-    /// A new log, with one head of size 0.
+    /// A new log, with one head of size 0 that was made at the moment `now`, in milliseconds.
+    ///
+    /// Refused with `Memory`.
     pub fn open(alloc: Global, now: u64) -> Result<Core, Refusal>
         ensures fresh { IfOk result (λ c. c ≡ new_core now) }
         ensures settled { IfOk result (λ c. IsSettled c []) }
@@ -68,14 +70,19 @@ impl Core {
         }
     }
 
-    /// The greater of the last head's timestamp and the newest leaf's.
+    /// The clock: the greater of the last head's timestamp and the newest leaf's, in milliseconds.
     pub fn clock(&self) -> u64
         ensures { result ≡ clock_of self.now }
     {
         self.published.last_moment().max(self.newest_leaf())
     }
 
-    /// Settles an item, whose leaf at this moment has that hash.
+    /// Settles an item at the moment `now`, in milliseconds, and answers its record. `hash` is the leaf hash (RFC 6962, section 2.1)
+    /// of the leaf that the item has at this moment (section 3.4). Where no item settled before has its identity, that leaf becomes
+    /// an entry; otherwise the record names the leaf of the first one.
+    ///
+    /// Refused, in this order, with `ClockBack` where `now` is before the clock, and with `Memory`. The item comes back as it was, and
+    /// the core stays as it was.
     pub fn settle_one(
         &mut self,
         alloc: Global,
@@ -141,7 +148,9 @@ impl Core {
         self.newest_leaf() <= now && self.published.last_moment() < now
     }
 
-    /// The state that a publication at this moment would make.
+    /// The state that a publication at the moment `now`, in milliseconds, would make. The core stays as it is.
+    ///
+    /// Refused as `publish` is.
     pub fn next(&self, alloc: Global, now: u64) -> Result<Published, Refusal>
         ensures state { IfOk result (λ p. (h : Head) × IsNextHead self.now now h × (p ≡ published_with self.now h)) }
         ensures in_time { OnOk result (IsInTime self.now now) }
@@ -154,7 +163,8 @@ impl Core {
             .extended(alloc, &self.entries, &self.settlement, now)
     }
 
-    /// Makes the publication of the state that `next` gave.
+    /// Makes the publication of the state that `next` gave, with nothing settled or published since, and answers its last head.
+    /// It takes no memory.
     pub fn adopt(&mut self, next: Published) -> Head
         requires { (h : Head) × IsNextHead self.old h.timestamp h × IsInTime self.old h.timestamp × (next ≡ published_with self.old h) }
         ensures state { next ≡ published_with self.old result }
@@ -167,7 +177,11 @@ impl Core {
         head
     }
 
-    /// Publishes a head of all entries, with all records.
+    /// Publishes a tree head (RFC 6962, section 3.5) of all entries so far at the moment `now`, in milliseconds, with all records. There
+    /// may be nothing new.
+    ///
+    /// Refused, in this order, with `ClockBack` where `now` is before the newest leaf's timestamp or not after the last head's, and with
+    /// `Memory`. A refusal leaves the core as it was.
     pub fn publish(&mut self, alloc: Global, now: u64) -> Result<Head, Refusal>
         ensures head { IfOk result (λ h. IsNextHead self.old now h × (self.new ≡ after_publishing self.old h)) }
         ensures in_time { OnOk result (IsInTime self.old now) }
@@ -179,7 +193,7 @@ impl Core {
         Ok(self.adopt(next))
     }
 
-    /// Whether nothing stands past the last head.
+    /// Whether nothing stands past the last head: all entries and records so far are published.
     pub fn is_covered(&self) -> bool
         ensures { IsTrue result ↔ IsCovered self.now }
     {

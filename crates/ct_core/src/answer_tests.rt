@@ -1,0 +1,209 @@
+use crate::test_log::{asked, opened, publish, settle};
+use crate::{Core, Query, Reply, ShownEntry};
+use ct_codec::Refusal;
+use std::test::Fail;
+
+// The hashes of five leaves by Python's hashlib: the certificates 41 and 42 at the moment 1, and 43 to 45 at 2. The
+// hash of a leaf is sha256(00, 00 00, its moment in eight bytes, 00 00, 00 00 01, its certificate, 00 00) and that of
+// a node sha256(01, left, right), the strings joined. `NODE_23` is over leaves 2 and 3, and `ROOT` over all.
+const LEAF_0: [u8; 32] = [
+    0x20, 0x0a, 0x76, 0x64, 0xe4, 0x32, 0x80, 0x58, 0x30, 0x1c, 0xda, 0xdf, 0xf3, 0xe6, 0x2a, 0x0f,
+    0x91, 0x2f, 0x80, 0x7c, 0xa1, 0xd4, 0x51, 0x3f, 0x8a, 0x10, 0xa7, 0x4c, 0x4c, 0x87, 0x35, 0x69,
+];
+
+const LEAF_1: [u8; 32] = [
+    0x78, 0xef, 0x67, 0x41, 0x4b, 0x70, 0xd2, 0xba, 0x2f, 0x65, 0x10, 0x9f, 0x9f, 0xe7, 0x07, 0x14,
+    0x05, 0x09, 0x4c, 0x1b, 0x57, 0x55, 0x9a, 0x4a, 0x14, 0x46, 0x80, 0xdb, 0x9b, 0xeb, 0xb5, 0x80,
+];
+
+const LEAF_4: [u8; 32] = [
+    0xc5, 0x31, 0x7e, 0x34, 0x6f, 0x75, 0x78, 0x6f, 0x30, 0x3f, 0x22, 0xd8, 0x3c, 0x0d, 0x4e, 0xb5,
+    0xaa, 0x92, 0x13, 0x14, 0x0d, 0x24, 0xbf, 0x19, 0xea, 0x8d, 0x2e, 0x68, 0x2e, 0x7a, 0x90, 0x18,
+];
+
+const NODE_23: [u8; 32] = [
+    0x91, 0x56, 0xed, 0x9c, 0xac, 0x8e, 0xe3, 0x21, 0x05, 0xd7, 0x0d, 0x36, 0x6d, 0xd4, 0x78, 0x71,
+    0xf4, 0x99, 0xe5, 0x44, 0x54, 0xe6, 0xcc, 0x7d, 0x37, 0xb6, 0x78, 0xf5, 0x4d, 0xaa, 0x2e, 0xb7,
+];
+
+const ROOT: [u8; 32] = [
+    0xd8, 0xfa, 0xa2, 0x1e, 0x88, 0x3f, 0xd7, 0x7f, 0xcb, 0x70, 0x74, 0xe2, 0xa8, 0x2d, 0x48, 0x9b,
+    0x2f, 0x46, 0x3a, 0x8e, 0x14, 0x1e, 0x8e, 0x92, 0xb5, 0x79, 0xaa, 0xcb, 0x7c, 0x24, 0x7e, 0x58,
+];
+
+// Settles certificates of one byte.
+fn fill(rt: &HostRuntime, core: &mut Core, certificates: &[u8], now: u64) -> Result<(), Refusal> {
+    for byte in certificates {
+        settle(rt, core, (0, u64::from(*byte)), &[*byte], now)?;
+    }
+    Ok(())
+}
+
+// A core with heads of sizes 0, 2 and 5.
+fn five_leaves(rt: &HostRuntime) -> Result<Core, Fail> {
+    let mut core = opened(rt, 0)?;
+    fill(rt, &mut core, b"AB", 1)?;
+    publish(rt, &mut core, 1)?;
+    fill(rt, &mut core, b"CDE", 2)?;
+    publish(rt, &mut core, 3)?;
+    Ok(core)
+}
+
+#[test]
+fn the_last_head(rt: HostRuntime) -> Result<(), Fail> {
+    let core = five_leaves(&rt)?;
+    let Reply::Sth(head) = asked(&rt, &core, Query::GetSth)? else {
+        return Err("another reply".into());
+    };
+    assert!(rt; head.tree_size == 5 && head.timestamp == 3 && head.root == ROOT);
+    Ok(())
+}
+
+#[test]
+fn the_consistency_proof_from_two_to_five(rt: HostRuntime) -> Result<(), Fail> {
+    let core = five_leaves(&rt)?;
+    let (first, second) = (2, 5);
+    let Reply::Consistency(proof) = asked(&rt, &core, Query::Consistency { first, second })? else {
+        return Err("another reply".into());
+    };
+    assert!(rt; proof.as_slice() == [NODE_23, LEAF_4].as_slice());
+    Ok(())
+}
+
+#[test]
+fn a_leaf_found_by_its_hash(rt: HostRuntime) -> Result<(), Fail> {
+    let core = five_leaves(&rt)?;
+    let query = Query::ProofByHash {
+        hash: LEAF_1,
+        tree_size: 5,
+    };
+    let Reply::ProofByHash {
+        leaf_index,
+        audit_path,
+    } = asked(&rt, &core, query)?
+    else {
+        return Err("another reply".into());
+    };
+    assert_eq!(rt; leaf_index, 1);
+    assert!(rt; audit_path.as_slice() == [LEAF_0, NODE_23, LEAF_4].as_slice());
+    Ok(())
+}
+
+// Whether an entry is that of the certificate 41 at the moment 1.
+fn is_leaf_0(entry: &ShownEntry) -> bool {
+    let leaf = [0, 0, 0, 0, 0, 0, 0, 0, 0, 1, 0, 0, 0, 0, 1, 0x41, 0, 0];
+    entry.leaf_input.as_slice() == leaf.as_slice()
+        && entry.extra_data.as_slice() == [0, 0, 0].as_slice()
+}
+
+#[test]
+fn an_entry_with_its_path_in_an_older_tree(rt: HostRuntime) -> Result<(), Fail> {
+    let core = five_leaves(&rt)?;
+    let query = Query::EntryAndProof {
+        leaf_index: 0,
+        tree_size: 2,
+    };
+    let Reply::EntryAndProof { entry, audit_path } = asked(&rt, &core, query)? else {
+        return Err("another reply".into());
+    };
+    assert!(rt; is_leaf_0(&entry));
+    assert!(rt; audit_path.as_slice() == [LEAF_1].as_slice());
+    Ok(())
+}
+
+fn consistency(first: u64, second: u64) -> Query {
+    Query::Consistency { first, second }
+}
+
+fn by_hash(hash: [u8; 32], tree_size: u64) -> Query {
+    Query::ProofByHash { hash, tree_size }
+}
+
+fn entry_at(leaf_index: u64, tree_size: u64) -> Query {
+    Query::EntryAndProof {
+        leaf_index,
+        tree_size,
+    }
+}
+
+fn refusal(rt: &HostRuntime, core: &Core, query: Query) -> Option<Refusal> {
+    asked(rt, core, query).err()
+}
+
+#[test]
+fn refusals_in_their_order(rt: HostRuntime) -> Result<(), Fail> {
+    let core = five_leaves(&rt)?;
+    let cases = [
+        (consistency(5, 5), Refusal::BadRange),
+        (consistency(3, 3), Refusal::BadRange),
+        (consistency(0, 5), Refusal::BadRange),
+        (consistency(5, 2), Refusal::BadRange),
+        (consistency(3, 5), Refusal::UnknownSize),
+        (consistency(2, 4), Refusal::UnknownSize),
+        (by_hash(LEAF_0, 3), Refusal::UnknownSize),
+        (by_hash(LEAF_4, 2), Refusal::UnknownLeaf),
+        (by_hash(ROOT, 5), Refusal::UnknownLeaf),
+        (by_hash(LEAF_0, 0), Refusal::UnknownLeaf),
+        (entry_at(9, 3), Refusal::UnknownSize),
+        (entry_at(2, 2), Refusal::BadRange),
+        (entry_at(0, 0), Refusal::BadRange),
+        (Query::Receipt { ticket: 7 }, Refusal::NotYet),
+    ];
+    for (query, wanted) in cases {
+        assert_eq!(rt; refusal(&rt, &core, query), Some(wanted), "{query:?}");
+    }
+    Ok(())
+}
+
+// A core with 300 published entries, of the certificates 00 00 to 01 2b.
+fn three_hundred(rt: &HostRuntime) -> Result<Core, Fail> {
+    let mut core = opened(rt, 0)?;
+    for number in 0..300u16 {
+        let certificate = number.to_be_bytes();
+        settle(rt, &mut core, (0, u64::from(number)), &certificate, 1)?;
+    }
+    publish(rt, &mut core, 1)?;
+    Ok(core)
+}
+
+// The number that is the certificate of an entry, which has two bytes.
+fn number_of(entry: &ShownEntry) -> Option<u16> {
+    match entry.leaf_input.as_slice() {
+        [_, _, _, _, _, _, _, _, _, _, _, _, 0, 0, 2, high, low, 0, 0] => {
+            Some(u16::from_be_bytes([*high, *low]))
+        }
+        _ => None,
+    }
+}
+
+// How many entries the reply has, and the numbers of the first and the last.
+fn window(
+    rt: &HostRuntime,
+    core: &Core,
+    start: u64,
+    end: u64,
+) -> Result<(usize, Option<u16>, Option<u16>), Refusal> {
+    match asked(rt, core, Query::Entries { start, end })? {
+        Reply::Entries(entries) => Ok((
+            entries.len(),
+            entries.first().and_then(number_of),
+            entries.last().and_then(number_of),
+        )),
+        _ => Ok((0, None, None)),
+    }
+}
+
+#[test]
+fn at_most_256_entries(rt: HostRuntime) -> Result<(), Fail> {
+    let core = three_hundred(&rt)?;
+    assert_eq!(rt; window(&rt, &core, 0, 999), Ok((256, Some(0), Some(255))));
+    assert_eq!(rt; window(&rt, &core, 10, 11), Ok((2, Some(10), Some(11))));
+    assert_eq!(rt;
+        window(&rt, &core, 200, u64::MAX),
+        Ok((100, Some(200), Some(299)))
+    );
+    assert_eq!(rt; window(&rt, &core, 299, 299), Ok((1, Some(299), Some(299))));
+    assert_eq!(rt; window(&rt, &core, 300, 300), Err(Refusal::BadRange));
+    assert_eq!(rt; window(&rt, &core, 2, 1), Err(Refusal::BadRange));
+    Ok(())
+}
