@@ -1,2 +1,4 @@
 pub mod Heads
 pub mod Audited
+pub mod Followed
+pub mod Observed
