@@ -4,9 +4,10 @@ use Rattle.std.proofs.lemmas.List.{take_rest}
 use Rattle.std.proofs.Math.Seq.{drop-append_seam}
 use Rattle.ct_tree.specs.declared.head.Head.{Head}
 use Rattle.ct_monitor.specs.Followed.{Followed}
-use Rattle.ct_monitor.specs.Observed.{IsInOrder, IsCounted, IsNoRoot, Refuses}
-use Rattle.ct_monitor.specs.declared.monitor.MonitorFault.{MonitorFault}
-use Rattle.ct_monitor.specs.declared.monitor.MonitorFault.TheVariants.{RootMismatch, Shrunk, Fork, TimeNotLater, CountMismatch, Memory}
+use Rattle.ct_monitor.specs.Extended.{IsNoRoot}
+use Rattle.ct_monitor.specs.Observed.{IsInOrder, IsCounted, Refuses}
+use Rattle.ct_monitor.specs.declared.fault.MonitorFault.{MonitorFault}
+use Rattle.ct_monitor.specs.declared.fault.MonitorFault.TheVariants.{RootMismatch, Shrunk, Fork, TimeNotLater, CountMismatch, Memory}
 
 -- the part of a list behind its beginning a
 pub rest_of_joined : {V : Type 0} (xs a b : List V) (n : ℕ) → xs ≡ a ++ b → n ≡ length a → take (length xs - n) (drop n xs) ≡ b

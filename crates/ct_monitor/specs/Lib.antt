@@ -1,4 +1,5 @@
 pub mod Heads
-pub mod Audited
 pub mod Followed
 pub mod Observed
+pub mod Audited
+pub mod Extended

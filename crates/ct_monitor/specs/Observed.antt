@@ -1,12 +1,11 @@
--- What a monitor keeps, and when it refuses a head. H is any hash function on byte lists.
-use Rattle.std.specs.Prelude.{◌≡◌, ℕ, ◌+◌, ◌<◌, ◌≤◌, List, ◌++◌, length, map, Some, None, ⊤}
+-- When a monitor refuses a head. H is any hash function on byte lists.
+use Rattle.std.specs.Prelude.{◌≡◌, ℕ, ◌+◌, ◌<◌, ◌≤◌, List, ◌++◌, length, Some, None}
 use Rattle.std.specs.declared.option.Option.{Option}
-use Rattle.ct_tree.specs.Stack.{Stands}
-use Rattle.ct_tree.specs.Tree.{hash_leaf, mth_of_leaves}
+use Rattle.ct_tree.specs.Tree.{mth_of_leaves}
 use Rattle.ct_tree.specs.declared.head.Head.{Head}
 use Rattle.ct_monitor.specs.Followed.{Followed}
-use Rattle.ct_monitor.specs.declared.monitor.MonitorFault.{MonitorFault}
-use Rattle.ct_monitor.specs.declared.monitor.MonitorFault.TheVariants.{RootMismatch, Shrunk, Fork, TimeNotLater, CountMismatch, Memory}
+use Rattle.ct_monitor.specs.declared.fault.MonitorFault.{MonitorFault}
+use Rattle.ct_monitor.specs.declared.fault.MonitorFault.TheVariants.{RootMismatch, Shrunk, Fork, TimeNotLater, CountMismatch, Memory}
 
 -- the last head has this head's size and another root
 abbrev pub Forks : Option Head → Head → Type 0
@@ -35,13 +34,3 @@ Refuses H old head E TimeNotLater = (length old.leaves ≤ head.tree_size) × (�
 Refuses H old head E CountMismatch = IsInOrder old head × (¬ IsCounted old head E)
 Refuses H old head E Memory = IsInOrder old head × IsCounted old head E
 Refuses H old head E RootMismatch = IsInOrder old head × IsCounted old head E × (¬ (head.root ≡ mth_of_leaves H (old.leaves ++ E)))
-
--- the stack stands for the hashes of the leaves D, and the root is MTH of them
-abbrev pub Extends : (List ℕ → List ℕ) → List (List ℕ) → List ℕ → ℕ × List (List ℕ) → Type 0
-Extends H D root stack = Stands H stack (map (hash_leaf H) D) × (root ≡ mth_of_leaves H D)
-
--- why a stack isn't extended to one of the leaves D with that root
-abbrev pub IsNoRoot : (List ℕ → List ℕ) → List (List ℕ) → List ℕ → MonitorFault → Type 0
-IsNoRoot H D root RootMismatch = ¬ (root ≡ mth_of_leaves H D)
-IsNoRoot H D root Memory = ⊤
-IsNoRoot H D root fault = ⊥

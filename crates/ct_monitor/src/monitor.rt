@@ -1,42 +1,17 @@
 //! A monitor, who keeps all leaves of a log and follows its tree heads.
-ghost use Rattle.std.specs.Prelude.{◌≡◌, ◌+◌, ◌<◌, ◌^◌, ◌↔◌, List, ℕ, [], ◌++◌, length, map, IfErr, MatchResult, OnErr, OnOk, Some, None, IsTrue};
-ghost use Rattle.std.specs.declared.option.Option.{Option};
+ghost use Rattle.std.specs.Prelude.{◌≡◌, List, ℕ, [], ◌++◌, map, IfErr, MatchResult, OnErr, OnOk, Some, None};
 ghost use Rattle.ct_tree.specs.Stack.{Stands};
-ghost use Rattle.ct_tree.specs.Tree.{hash_leaf, mth_of_leaves};
-ghost use Rattle.ct_tree.specs.declared.head.Head.{Head};
+ghost use Rattle.ct_tree.specs.Tree.{hash_leaf};
 ghost use Rattle.ct_monitor.specs.Followed.{Followed, IsFollowing};
 ghost use Rattle.ct_monitor.specs.Heads.{IsHeadOf};
-ghost use Rattle.ct_monitor.specs.Observed.{Extends, Forks, IsCounted, IsInOrder, IsNoRoot, IsNotLater, Refuses};
-ghost use Rattle.ct_monitor.specs.declared.monitor.MonitorFault.TheVariants.{Memory};
+ghost use Rattle.ct_monitor.specs.Observed.{IsCounted, IsInOrder, Refuses};
 
-use ct_tree::{Head, NodeHash, Stack, leaf_hash};
-use std::alloc::{AllocError, Global};
+use crate::extension::extend;
+use crate::fault::MonitorFault;
+use crate::order::{forks, is_not_later};
+use ct_tree::{Head, NodeHash, Stack};
+use std::alloc::Global;
 use std::marker::Model;
-
-/// Why a monitor refuses a head.
-#[derive(Clone, Copy, PartialEq, Eq, Debug)]
-pub enum MonitorFault {
-    /// The root is not that of the kept and the new leaves.
-    RootMismatch,
-    /// The head has fewer leaves than are kept.
-    Shrunk,
-    /// The last head has this size and another root.
-    Fork,
-    /// The head is not later than the last one, and not that same head again.
-    TimeNotLater,
-    /// The kept and the new leaves together are not as many as the head says.
-    CountMismatch,
-    /// A growth was refused.
-    Memory,
-}
-
-impl From<AllocError> for MonitorFault {
-    ghost from_gives = { λ _ fault. fault ≡ Memory };
-
-    fn from(_e: AllocError) -> MonitorFault {
-        MonitorFault::Memory
-    }
-}
 
 /// Who follows a log's tree heads and keeps all its leaves, under one hash function.
 #[derive(Drop)]
@@ -53,79 +28,6 @@ impl<H: NodeHash + Drop> Model for Monitor<H> {
 
     ghost invariant = { λ m. Stands H.digest m.stack (map (hash_leaf H.digest) (map (λ l. l.items) m.kept.items))
         × IsFollowing H.digest (map (λ l. l.items) m.kept.items) m.last };
-}
-
-// Whether two roots are equal.
-fn is_same_root(a: &[u8; 32], b: &[u8; 32]) -> bool
-    ensures { IsTrue result ↔ (a.now ≡ b.now) }
-{
-    *a == *b
-}
-
-// Whether two heads are equal.
-fn is_same_head(a: &Head, b: &Head) -> bool
-    ensures { IsTrue result ↔ (a.now ≡ b.now) }
-{
-    let same_root = is_same_root(&a.root, &b.root);
-    a.tree_size == b.tree_size && a.timestamp == b.timestamp && same_root
-}
-
-// Whether the last head has the size of this one and another root.
-fn forks(last: &Option<Head>, head: &Head) -> bool
-    ensures { IsTrue result ↔ Forks last.now head.now }
-{
-    match last {
-        None => false,
-        Some(last) => {
-            let same_root = is_same_root(&last.root, &head.root);
-            last.tree_size == head.tree_size && !same_root
-        }
-    }
-}
-
-// Whether the head is not later than the last one, and another.
-fn is_not_later(last: &Option<Head>, head: &Head) -> bool
-    ensures { IsTrue result ↔ IsNotLater last.now head.now }
-{
-    match last {
-        None => false,
-        Some(last) => {
-            let same = is_same_head(last, head);
-            head.timestamp <= last.timestamp && !same
-        }
-    }
-}
-
-// Appends the hashes of leaves to a stack.
-fn push_all<H: NodeHash + Drop>(stack: &mut Stack<H>, leaves: &[Vec<u8>]) -> Result<(), AllocError>
-    requires { (D : List (List ℕ)) × Stands H.digest stack.old D × (length D + length leaves.now < 2 ^ 64) }
-    ensures { OnOk result ((D : List (List ℕ)) → Stands H.digest stack.old D
-        → Stands H.digest stack.new (D ++ map (hash_leaf H.digest) (map (λ l. l.items) leaves.now))) }
-{
-    for leaf in leaves {
-        let hash = leaf_hash(stack.hash_function(), leaf);
-        stack.push(&hash)?;
-    }
-    Ok(())
-}
-
-// Appends the hashes of leaves to a stack, and compares its root with the one that a head has.
-fn extend<H: NodeHash + Drop>(
-    stack: &mut Stack<H>,
-    leaves: &[Vec<u8>],
-    root: &[u8; 32],
-) -> Result<(), MonitorFault>
-    requires { (D : List (List ℕ)) × Stands H.digest stack.old D × (length D + length leaves.now < 2 ^ 64) }
-    ensures { (D : List (List ℕ)) → Stands H.digest stack.old (map (hash_leaf H.digest) D)
-        → MatchResult result (λ _. Extends H.digest (D ++ map (λ l. l.items) leaves.now) root.now stack.new) (IsNoRoot H.digest (D ++ map (λ l. l.items) leaves.now) root.now) }
-{
-    push_all(stack, leaves)?;
-    let extended = stack.root();
-    if is_same_root(&extended, root) {
-        Ok(())
-    } else {
-        Err(MonitorFault::RootMismatch)
-    }
 }
 
 impl<H: NodeHash + Drop> Monitor<H> {

@@ -2,7 +2,8 @@ ghost use Rattle.std.specs.Prelude.{ℕ, List, replicate};
 ghost use Rattle.std.proofs.lemmas.List.{length-replicate};
 
 use crate::auditor::Auditor;
-use crate::monitor::{Monitor, MonitorFault};
+use crate::fault::MonitorFault;
+use crate::monitor::Monitor;
 use ct_tree::{Head, NodeHash, Sha256Hash};
 use ct_verify::{Evidence, EvidenceFault, ProofFault};
 use std::alloc::{AllocError, Global};

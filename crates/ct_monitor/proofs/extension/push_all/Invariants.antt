@@ -1,7 +1,7 @@
 use Rattle.std.proofs.Common.{◌++◌, ℕ, List, map, take}
 use Rattle.ct_tree.specs.Stack.{Stands}
 use Rattle.ct_tree.specs.Tree.{hash_leaf}
-use Rattle.ct_monitor.proofs.monitor.push_all.Given as goal
+use Rattle.ct_monitor.proofs.extension.push_all.Given as goal
 
 -- the leaves so far are pushed
 abbrev pub invariant-loop-leaf : goal.invariant-loop-leaf

@@ -1,7 +1,7 @@
 use Rattle.std.proofs.Common.{◌≡◌, ◌+◌, length, map, take, arith, sym, ◌∙◌}
 use Rattle.std.proofs.lemmas.List.{length-append, length-map, length-take-le}
 use Rattle.ct_tree.specs.Tree.{hash_leaf}
-use Rattle.ct_monitor.proofs.monitor.push_all.Goals as goal
+use Rattle.ct_monitor.proofs.extension.push_all.Goals as goal
 
 pub push-requires : goal.push-requires
 push-requires g c D s =

@@ -2,7 +2,7 @@ use Rattle.std.proofs.Common.{◌++◌, List, ℕ, map, sym, ◌∙◌, Vec, Glo
 use Rattle.std.proofs.lemmas.Bool.{both_ways}
 use Rattle.ct_tree.specs.Tree.{hash_leaf}
 use Rattle.ct_monitor.proofs.Extended.{stands_for_all}
-use Rattle.ct_monitor.proofs.monitor.extend.Goals as goal
+use Rattle.ct_monitor.proofs.extension.extend.Goals as goal
 
 abbrev bytes : Vec ℕ Global → List ℕ
 bytes l = l.items
