@@ -27,7 +27,7 @@ pub use batch::{hash_batch, hash_batch_parts};
 pub use hash::{NodeHash, Sha256Hash, leaf_hash, leaf_hash_parts, node_hash};
 pub use head::Head;
 pub use nodes::Nodes;
-pub use stack::Stack;
+pub use stack::{Snapshot, Stack};
 use std::alloc::AllocError;
 
 /// A growth was refused.

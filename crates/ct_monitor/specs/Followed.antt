@@ -1,0 +1,15 @@
+-- What contracts see of a monitor.
+use Rattle.std.specs.Prelude.{◌≡◌, ℕ, List, [], Some, None}
+use Rattle.std.specs.declared.option.Option.{Option}
+use Rattle.ct_tree.specs.declared.head.Head.{Head}
+use Rattle.ct_monitor.specs.Heads.{IsHeadOf}
+
+-- The leaves that it keeps, and the last head that it took.
+pub record Followed : Type 0 where
+  pub leaves : List (List ℕ)
+  pub last_head : Option Head
+
+-- the last head is that of the kept leaves; before the first head none is kept
+abbrev pub IsFollowing : (List ℕ → List ℕ) → List (List ℕ) → Option Head → Type 0
+IsFollowing H D None = D ≡ []
+IsFollowing H D (Some head) = IsHeadOf H D head

@@ -1,0 +1,5 @@
+pub mod Heads
+pub mod Followed
+pub mod Observed
+pub mod Audited
+pub mod Extended

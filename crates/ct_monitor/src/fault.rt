@@ -1,0 +1,30 @@
+//! Why a monitor refuses a head.
+ghost use Rattle.std.specs.Prelude.{◌≡◌};
+ghost use Rattle.ct_monitor.specs.declared.fault.MonitorFault.TheVariants.{Memory};
+
+use std::alloc::AllocError;
+
+/// Why a monitor refuses a head.
+#[derive(Clone, Copy, PartialEq, Eq, Debug)]
+pub enum MonitorFault {
+    /// The root is not that of the kept and the new leaves.
+    RootMismatch,
+    /// The head has fewer leaves than are kept.
+    Shrunk,
+    /// The last head has this size and another root.
+    Fork,
+    /// The head is not later than the last one, and not that same head again.
+    TimeNotLater,
+    /// The kept and the new leaves together are not as many as the head says.
+    CountMismatch,
+    /// A growth was refused.
+    Memory,
+}
+
+impl From<AllocError> for MonitorFault {
+    ghost from_gives = { λ _ fault. fault ≡ Memory };
+
+    fn from(_e: AllocError) -> MonitorFault {
+        MonitorFault::Memory
+    }
+}

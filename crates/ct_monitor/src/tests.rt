@@ -1,0 +1,236 @@
+ghost use Rattle.std.specs.Prelude.{ℕ, List, replicate};
+ghost use Rattle.std.proofs.lemmas.List.{length-replicate};
+
+use crate::auditor::Auditor;
+use crate::fault::MonitorFault;
+use crate::monitor::Monitor;
+use ct_tree::{Head, NodeHash, Sha256Hash};
+use ct_verify::{Evidence, EvidenceFault, ProofFault};
+use std::alloc::{AllocError, Global};
+use std::test::Fail;
+
+// The SHA-256 tree of the leaves 41, 42, 43 (bytes, hexadecimal): roots of its first leaves, and two leaf hashes.
+const ROOT_1: [u8; 32] = [
+    0xc0, 0x0b, 0x4d, 0x3c, 0x92, 0x9c, 0xb5, 0xcc, 0x31, 0x66, 0x91, 0xed, 0x46, 0x36, 0xf6, 0x34,
+    0x57, 0x6f, 0x2c, 0x9b, 0x29, 0x54, 0x76, 0x72, 0x34, 0xc5, 0x27, 0x4e, 0x9d, 0xde, 0x18, 0x5d,
+];
+
+// Of 41 and 42.
+const ROOT_2: [u8; 32] = [
+    0xed, 0x69, 0x2f, 0x01, 0xf7, 0xf6, 0xc4, 0x69, 0x30, 0xd7, 0xad, 0x8f, 0x9a, 0xda, 0xd3, 0xf9,
+    0xf3, 0x8b, 0x73, 0x79, 0xcf, 0x6a, 0x8d, 0x2f, 0x39, 0x9a, 0x0b, 0xa1, 0xe9, 0x14, 0xfe, 0x25,
+];
+
+// Of all three.
+const ROOT_3: [u8; 32] = [
+    0x96, 0x1d, 0x2e, 0x2b, 0xe2, 0x0f, 0x53, 0x8f, 0xfd, 0xf5, 0x69, 0x62, 0xa8, 0x6d, 0x1b, 0xd1,
+    0x65, 0x49, 0x8f, 0x22, 0x26, 0x84, 0xee, 0x4c, 0x5e, 0x02, 0xc1, 0xe9, 0xf8, 0x52, 0xad, 0xc5,
+];
+
+// Of the leaf 42.
+const LEAF_1: [u8; 32] = [
+    0x87, 0xaf, 0xe6, 0x08, 0x6f, 0xe4, 0x57, 0x1e, 0x37, 0x65, 0x7e, 0x76, 0x28, 0x13, 0x01, 0xf1,
+    0x89, 0xc7, 0x5e, 0xba, 0xe1, 0xd2, 0xea, 0xaf, 0xb5, 0x6d, 0x57, 0x80, 0x67, 0xa1, 0xd9, 0x5e,
+];
+
+// Of the leaf 43.
+const LEAF_2: [u8; 32] = [
+    0xb5, 0x63, 0xa5, 0xe6, 0x96, 0x28, 0x74, 0x39, 0x29, 0xed, 0xde, 0xc0, 0xcc, 0xfe, 0xb0, 0x74,
+    0x5c, 0x39, 0x57, 0x7e, 0x12, 0xa7, 0x2e, 0x84, 0x91, 0x5e, 0xdd, 0x66, 0x33, 0xcb, 0x97, 0xf2,
+];
+
+// The digest of every message is 32 bytes 00.
+#[derive(Clone, Copy)]
+struct ZeroHash;
+
+impl NodeHash for ZeroHash {
+    ghost digest = { λ _. replicate 32 0 };
+
+    fn hash(&self, _parts: &[&[u8]]) -> [u8; 32] {
+        [0; 32]
+    }
+
+    ghost length_digest = { λ _. length-replicate {A = ℕ} 32 0 };
+}
+
+// A leaf of one byte for each byte.
+fn leaves_of(alloc: Global, bytes: &[u8]) -> Result<Vec<Vec<u8>>, AllocError> {
+    let mut leaves = Vec::new(alloc);
+    for byte in bytes {
+        leaves.push(vec![in alloc; *byte]?)?;
+    }
+    Ok(leaves)
+}
+
+fn head(tree_size: u64, timestamp: u64, root: [u8; 32]) -> Head {
+    Head {
+        tree_size,
+        timestamp,
+        root,
+    }
+}
+
+// Whether the monitor keeps a leaf of one byte for each byte, and this is its last head.
+fn is_at(monitor: &Monitor<Sha256Hash>, bytes: &[u8], last: Head) -> bool {
+    let leaves = monitor.leaves();
+    if leaves.len() != bytes.len() || monitor.last_head() != Some(last) {
+        return false;
+    }
+    for i in 0..bytes.len() {
+        if leaves[i].as_slice() != [bytes[i]].as_slice() {
+            return false;
+        }
+    }
+    true
+}
+
+fn is_holding(answer: &Result<Evidence, EvidenceFault>) -> bool {
+    match answer {
+        Ok(Evidence::Holds) => true,
+        _ => false,
+    }
+}
+
+fn is_collision_of(answer: &Result<Evidence, EvidenceFault>, first: &[u8], second: &[u8]) -> bool {
+    match answer {
+        Ok(Evidence::Collision(a, b)) => a.as_slice() == first && b.as_slice() == second,
+        _ => false,
+    }
+}
+
+fn is_refused_with(answer: &Result<Evidence, EvidenceFault>, fault: ProofFault) -> bool {
+    match answer {
+        Err(EvidenceFault::ProofRefused(refusal)) => *refusal == fault,
+        _ => false,
+    }
+}
+
+#[test]
+fn a_monitor_follows_three_heads(rt: HostRuntime) -> Result<(), Fail> {
+    let heap = rt.alloc();
+    let mut monitor = Monitor::new(heap, Sha256Hash);
+    assert!(rt; monitor.last_head() == None && monitor.leaves().is_empty());
+    assert!(rt; monitor.observe(head(1, 5, ROOT_1), leaves_of(heap, &[0x41])?) == Ok(()));
+    assert!(rt; monitor.observe(head(2, 6, ROOT_2), leaves_of(heap, &[0x42])?) == Ok(()));
+    assert!(rt; monitor.observe(head(3, 7, ROOT_3), leaves_of(heap, &[0x43])?) == Ok(()));
+    assert!(rt; is_at(&monitor, &[0x41, 0x42, 0x43], head(3, 7, ROOT_3)));
+    Ok(())
+}
+
+#[test]
+fn an_auditor_checks_three_heads(rt: HostRuntime) {
+    let auditor = Auditor::new(Sha256Hash);
+    let first = head(1, 5, ROOT_1);
+    let second = head(2, 6, ROOT_2);
+    let third = head(3, 7, ROOT_3);
+    assert!(rt; auditor.check_heads(&first, &second, &[LEAF_1]) == Ok(()));
+    assert!(rt; auditor.check_heads(&second, &third, &[LEAF_2]) == Ok(()));
+    assert!(rt; auditor.check_heads(&first, &third, &[LEAF_1, LEAF_2]) == Ok(()));
+    assert!(rt;
+        auditor.check_heads(&second, &first, &[LEAF_1]) == Err(ProofFault::SizesOutOfRange)
+    );
+    let forged = head(2, 6, ROOT_3);
+    assert!(rt; auditor.check_heads(&first, &forged, &[LEAF_1]) == Err(ProofFault::RootMismatch));
+}
+
+#[test]
+fn an_auditor_checks_and_explains_paths(rt: HostRuntime) -> Result<(), Fail> {
+    let heap = rt.alloc();
+    let auditor = Auditor::new(Sha256Hash);
+    let third = head(3, 7, ROOT_3);
+    let leaves = leaves_of(heap, &[0x41, 0x42, 0x43])?;
+    assert!(rt; auditor.check(&third, &[0x42], 1, &[ROOT_1, LEAF_2]) == Ok(()));
+    assert!(rt; is_holding(&auditor.explain(heap, &leaves, &[0x42], 1, &[ROOT_1, LEAF_2])));
+    let other_leaf = auditor.check(&third, &[0x43], 1, &[ROOT_1, LEAF_2]);
+    assert!(rt; other_leaf == Err(ProofFault::RootMismatch));
+    let explained = auditor.explain(heap, &leaves, &[0x43], 1, &[ROOT_1, LEAF_2]);
+    assert!(rt; is_refused_with(&explained, ProofFault::RootMismatch));
+    Ok(())
+}
+
+#[test]
+fn an_auditor_explains_paths_under_the_hash_of_zeros(rt: HostRuntime) -> Result<(), Fail> {
+    let heap = rt.alloc();
+    let auditor = Auditor::new(ZeroHash);
+    let one = leaves_of(heap, &[0x41])?;
+    let two = leaves_of(heap, &[0x41, 0x42])?;
+    assert!(rt; auditor.check(&head(1, 5, [0; 32]), &[0x42], 0, &[]) == Ok(()));
+    let other_leaf = auditor.explain(heap, &one, &[0x42], 0, &[]);
+    assert!(rt; is_collision_of(&other_leaf, &[0, 0x42], &[0, 0x41]));
+
+    let mut listed = [0; 65];
+    listed[0] = 1;
+    let mut proved = Vec::new(heap);
+    proved.extend_from_slice(&listed[..33])?;
+    proved.extend_from_slice(&[1; 32])?;
+    let other_path = auditor.explain(heap, &two, &[0x41], 0, &[[1; 32]]);
+    assert!(rt; is_collision_of(&other_path, &proved, &listed));
+    assert!(rt; is_holding(&auditor.explain(heap, &two, &[0x41], 0, &[[0; 32]])));
+    Ok(())
+}
+
+#[test]
+fn faults_beside_one_leaf(rt: HostRuntime) -> Result<(), Fail> {
+    let heap = rt.alloc();
+    let held = head(1, 5, ROOT_1);
+    let mut monitor = Monitor::new(heap, Sha256Hash);
+    assert!(rt; monitor.observe(held, leaves_of(heap, &[0x41])?) == Ok(()));
+    let fork = monitor.observe(head(1, 6, [7; 32]), Vec::new(heap));
+    assert!(rt; fork == Err(MonitorFault::Fork) && is_at(&monitor, &[0x41], held));
+    let shrunk = monitor.observe(head(0, 6, ROOT_1), Vec::new(heap));
+    assert!(rt; shrunk == Err(MonitorFault::Shrunk) && is_at(&monitor, &[0x41], held));
+    let early = monitor.observe(head(1, 4, ROOT_1), Vec::new(heap));
+    assert!(rt; early == Err(MonitorFault::TimeNotLater) && is_at(&monitor, &[0x41], held));
+    let miscounted = monitor.observe(head(3, 6, ROOT_3), leaves_of(heap, &[0x42])?);
+    assert!(rt; miscounted == Err(MonitorFault::CountMismatch) && is_at(&monitor, &[0x41], held));
+    let again = monitor.observe(held, Vec::new(heap));
+    assert!(rt; again == Ok(()) && is_at(&monitor, &[0x41], held));
+    Ok(())
+}
+
+#[test]
+fn faults_beside_two_leaves(rt: HostRuntime) -> Result<(), Fail> {
+    let heap = rt.alloc();
+    let held = head(2, 5, ROOT_2);
+    let mut monitor = Monitor::new(heap, Sha256Hash);
+    assert!(rt; monitor.observe(held, leaves_of(heap, &[0x41, 0x42])?) == Ok(()));
+    let shrunk = monitor.observe(head(1, 4, ROOT_1), Vec::new(heap));
+    assert!(rt; shrunk == Err(MonitorFault::Shrunk) && is_at(&monitor, &[0x41, 0x42], held));
+    let fork = monitor.observe(head(2, 4, ROOT_1), Vec::new(heap));
+    assert!(rt; fork == Err(MonitorFault::Fork) && is_at(&monitor, &[0x41, 0x42], held));
+    let forged = monitor.observe(head(3, 6, ROOT_2), leaves_of(heap, &[0x43])?);
+    assert!(rt; forged == Err(MonitorFault::RootMismatch) && is_at(&monitor, &[0x41, 0x42], held));
+    let third = monitor.observe(head(3, 6, ROOT_3), leaves_of(heap, &[0x43])?);
+    assert!(rt; third == Ok(()) && is_at(&monitor, &[0x41, 0x42, 0x43], head(3, 6, ROOT_3)));
+    Ok(())
+}
+
+// Takes in a leaf, once more where memory was refused: then nothing has changed.
+fn taken_at_last(
+    alloc: Global,
+    monitor: &mut Monitor<Sha256Hash>,
+    next: Head,
+    leaf: u8,
+) -> Result<bool, AllocError> {
+    let last = monitor.last_head();
+    let count = monitor.leaves().len();
+    let mut answer = monitor.observe(next, leaves_of(alloc, &[leaf])?);
+    if answer == Err(MonitorFault::Memory) {
+        if monitor.last_head() != last || monitor.leaves().len() != count {
+            return Ok(false);
+        }
+        answer = monitor.observe(next, leaves_of(alloc, &[leaf])?);
+    }
+    Ok(answer == Ok(()))
+}
+
+#[test]
+fn a_refused_growth_changes_nothing(rt: HostRuntime) -> Result<(), Fail> {
+    let heap = rt.alloc();
+    let mut monitor = Monitor::new(heap, Sha256Hash);
+    assert!(rt; taken_at_last(heap, &mut monitor, head(1, 5, ROOT_1), 0x41)?);
+    assert!(rt; taken_at_last(heap, &mut monitor, head(2, 6, ROOT_2), 0x42)?);
+    assert!(rt; taken_at_last(heap, &mut monitor, head(3, 7, ROOT_3), 0x43)?);
+    assert!(rt; is_at(&monitor, &[0x41, 0x42, 0x43], head(3, 7, ROOT_3)));
+    Ok(())
+}
