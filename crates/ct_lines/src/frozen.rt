@@ -13,8 +13,9 @@ use crate::request::{Audit, FrozenRequest, Request};
 use crate::writing::reply_text;
 use ct_codec::Refusal;
 use ct_core::{Published, Reply};
+use ct_monitor::Auditor;
 use ct_tree::{Memory, Sha256Hash};
-use ct_verify::{Evidence, EvidenceFault, explain_inclusion};
+use ct_verify::{Evidence, EvidenceFault};
 use std::alloc::{AllocError, Global};
 
 // Whether a published head has that size.
@@ -42,9 +43,9 @@ fn verdict(alloc: Global, leaves: &[Vec<u8>], audit: &Audit) -> Result<Reply, Re
         (λ e. e ≡ Refusal.Memory) }
 {
     ct_verify::laws::path();
-    match explain_inclusion(
+    let auditor = Auditor::new(Sha256Hash);
+    match auditor.explain(
         alloc,
-        &Sha256Hash,
         leaves,
         &audit.leaf_input,
         audit.leaf_index,

@@ -17,6 +17,8 @@ mod reading;
 mod request;
 mod sending;
 mod serving;
+#[cfg(test)]
+mod serving_tests;
 mod standing;
 #[cfg(test)]
 mod tests;
