@@ -1,5 +1,5 @@
 -- What a line asks, as a relation and as a function.
-use Rattle.std.proofs.Common.{inl, inr, ◌≡◌, ◌<◌, ◌≤◌, ℕ, List, [], ◌∷◌, length, Vec, Global, Option, Some, None, Result, Ok, Err, Bool, true, false, ◌&&◌, nat_le, cond, refl, sym, ap, subst, ◌∙◌, arith}
+use Rattle.std.proofs.Common.{inl, inr, ◌≡◌, ◌<◌, ℕ, List, [], ◌∷◌, length, Vec, Global, Option, Some, None, Result, Ok, Err, Bool, true, false, ◌&&◌, nat_le, cond, refl, sym, ap, subst, ◌∙◌, arith}
 use Rattle.std.specs.Prelude.{option_and_then, IfOk}
 use Rattle.std.specs.declared.alloc.AllocError.{AllocError}
 use Rattle.std.specs.Str.{is_utf8}
@@ -12,7 +12,7 @@ use Rattle.ct_codec.specs.declared.refusal.Refusal.{Refusal}
 use Rattle.ct_codec.specs.declared.refusal.Refusal.TheVariants.{Memory, BadLine}
 use Rattle.ct_core.specs.declared.query.Reply.{Reply}
 use Rattle.ct_core.specs.Settlement.{Log}
-use Rattle.ct_core.specs.Replies.{Answer, refused, shown}
+use Rattle.ct_core.specs.Replies.{refused}
 use Rattle.ct_lines.specs.ReplyText.{answered, reply_line}
 use Rattle.ct_lines.specs.declared.standing.StandingLine.{StandingLine}
 use Rattle.ct_lines.specs.Serving.{reply_if}

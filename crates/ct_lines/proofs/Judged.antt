@@ -1,6 +1,5 @@
 -- Verdicts on proofs of inclusion.
-use Rattle.std.proofs.Common.{◌≡◌, ◌<◌, ◌≤◌, ℕ, List, length, Option, Some, None, Bool, true, false, ◌&&◌, nat_lt, cond, refl, sym, ap, ◌∙◌, arith}
-use Rattle.std.specs.Str.{bytes_eq}
+use Rattle.std.proofs.Common.{◌≡◌, ◌<◌, ℕ, List, length, Option, Some, None, Bool, true, false, ◌&&◌, nat_lt, cond, refl, sym, ap, ◌∙◌, arith}
 use Rattle.std.proofs.lemmas.Bool.Decides.{nat_tests}
 use Rattle.std.proofs.lemmas.Bool.{false≢true}
 use Rattle.std.proofs.lemmas.Slice.Eq.{bytes_eq-Decides}
@@ -8,7 +7,7 @@ use Rattle.sha2.specs.Sha256.{sha256}
 use Rattle.ct_tree.specs.Tree.{hash_leaf, mth_of_leaves}
 use Rattle.ct_verify.specs.Rebuild.{rebuild}
 use Rattle.ct_verify.specs.Evidence.{evid}
-use Rattle.ct_verify.specs.Verdict.{AcceptsInclusion, RefusesInclusion}
+use Rattle.ct_verify.specs.Verdict.{RefusesInclusion}
 use Rattle.ct_verify.specs.InclusionEvidence.{IsAccepted, InclusionEvidence}
 use Rattle.ct_verify.specs.declared.evidence.Evidence.{Evidence}
 use Rattle.ct_verify.specs.declared.evidence.Evidence.TheVariants.{Holds, Collision}

@@ -1,5 +1,5 @@
 -- Serving a piece of the input, byte by byte.
-use Rattle.std.proofs.Common.{◌≡◌, ◌<◌, ◌≤◌, ◌+◌, ℕ, List, [], ◌∷◌, ◌++◌, length, take, drop, get_or, Option, Some, None, Bool, true, false, cond, nat_eq, Vec, Global, refl, sym, ap, subst, ◌∙◌, arith, append_assoc, append-nil, length-append, take-append-drop}
+use Rattle.std.proofs.Common.{◌≡◌, ◌<◌, ◌+◌, ℕ, List, [], ◌∷◌, ◌++◌, length, take, drop, get_or, Option, Bool, false, cond, nat_eq, refl, sym, ap, subst, ◌∙◌, arith, append_assoc, append-nil, length-append, take-append-drop}
 use Rattle.std.proofs.lemmas.List.{take_more, take_at, length-take-le, drop_more, drop_at}
 use Rattle.std.proofs.lemmas.Grind.{common_steps}
 use Rattle.std.specs.Io.KnownBytes.{Appends, Consumes}
@@ -14,7 +14,7 @@ joined-append [] ys = refl
 joined-append (x ∷ xs) ys = ap (λ l. x ++ l) (joined-append xs ys) ∙ sym (append_assoc x (joined xs) (joined ys))
 
 -- the replies from a line on, first its own
-line_first : (reply : List ℕ → List ℕ) (m : List ℕ) (ls : List (List ℕ)) → replies reply (m ∷ ls) ≡ reply_if reply m ++ replies reply ls
+pub line_first : (reply : List ℕ → List ℕ) (m : List ℕ) (ls : List (List ℕ)) → replies reply (m ∷ ls) ≡ reply_if reply m ++ replies reply ls
 line_first reply [] ls = refl
 line_first reply (b ∷ bs) ls = refl
 

@@ -24,7 +24,7 @@ mod standing;
 mod tests;
 mod writing;
 
-pub use laws::{bytes_read_back, line_is_one_request};
+pub use laws::{bytes_read_back, line_is_one_request, replies_by_lines, request_is_found};
 pub use reading::read_line;
 pub use request::{Audit, FrontRequest, FrozenRequest, OperatorRequest, Request};
 pub use serving::{ServeFault, serve_frozen};

@@ -4,7 +4,7 @@ ghost use Rattle.ct_core.specs.Tree.{hash_leaf};
 
 use super::*;
 use ct_codec::{Item, Refusal, Submission, leaf_input};
-use ct_core::Core;
+use ct_core::{Core, Published};
 use ct_tree::{Sha256Hash, leaf_hash};
 use std::io;
 use std::io::{ErrorKind, Read, Write};
@@ -36,7 +36,7 @@ fn settle(rt: &HostRuntime, core: &mut Core, ticket: u64, now: u64) -> Result<()
 }
 
 // A log opened at 0, in which that certificate was settled so often at one moment, and which was closed at another.
-fn closed_log(rt: &HostRuntime, count: u64, now: u64, close_at: u64) -> Result<Core, Fail> {
+fn closed_log(rt: &HostRuntime, count: u64, now: u64, close_at: u64) -> Result<Core, Refusal> {
     let mut core = Core::open(rt.alloc(), 0)?;
     for ticket in 0..count {
         settle(rt, &mut core, ticket, now)?;
@@ -45,97 +45,100 @@ fn closed_log(rt: &HostRuntime, count: u64, now: u64, close_at: u64) -> Result<C
     Ok(core)
 }
 
-// All that the log writes for an input.
-fn served(rt: &HostRuntime, log: &Core, mut input: &[u8]) -> Result<String, Fail> {
+// Whether the log writes this text for this input.
+fn writes(rt: &HostRuntime, log: &Published, mut input: &[u8], text: &[u8]) -> bool {
     let mut output: Vec<u8> = Vec::new(rt.alloc());
-    let end = serve_frozen(rt.alloc(), log.published(), &mut input, &mut output);
-    if end.is_err() {
-        Err("fault")?;
-    }
-    Ok(String::from_utf8(output).ok().ok_or("text")?)
+    let end = serve_frozen(rt.alloc(), log, &mut input, &mut output);
+    end.is_ok() && output.as_slice() == text
 }
+
+const GET_STH: &[u8] = b"{\"who\":\"frozen\",\"op\":\"get-sth\"}\n";
+
+const EMPTY_HEAD: &[u8] =
+    b"{\"sha256_root_hash\":\"47DEQpj8HBSa+/TImW+5JCeuQeRkm5NMpJWZG3hSuFU=\",\"timestamp\":7,\"tree_size\":0}\n";
+
+const BAD_LINE: &[u8] = b"{\"error\":\"bad-line\"}\n";
+
+const THREE_BAD_LINES: &[u8] =
+    b"{\"error\":\"bad-line\"}\n{\"error\":\"bad-line\"}\n{\"error\":\"bad-line\"}\n";
 
 #[test]
 fn the_head_of_an_empty_log(rt: HostRuntime) -> Result<(), Fail> {
     let log = closed_log(&rt, 0, 0, 7)?;
-    assert_eq!(rt;
-        served(&rt, &log, b"{\"who\":\"frozen\",\"op\":\"get-sth\"}\n")?.as_str(),
-        "{\"sha256_root_hash\":\"47DEQpj8HBSa+/TImW+5JCeuQeRkm5NMpJWZG3hSuFU=\",\"timestamp\":7,\"tree_size\":0}\n"
-    );
+    assert!(rt; writes(&rt, log.published(), GET_STH, EMPTY_HEAD));
     Ok(())
 }
 
 #[test]
 fn receipts_of_a_repeat_and_of_no_ticket(rt: HostRuntime) -> Result<(), Fail> {
     let log = closed_log(&rt, 2, 3, 9)?;
-    assert_eq!(rt;
-        served(&rt, &log, b"{\"who\":\"frozen\",\"op\":\"receipt\",\"ticket\":1}\n{\"who\":\"frozen\",\"op\":\"receipt\",\"ticket\":2}\n")?.as_str(),
-        "{\"extensions\":\"\",\"leaf_index\":0,\"sct_version\":0,\"timestamp\":3}\n{\"error\":\"not-yet\"}\n"
-    );
+    let lines =
+        b"{\"who\":\"frozen\",\"op\":\"receipt\",\"ticket\":1}\n{\"who\":\"frozen\",\"op\":\"receipt\",\"ticket\":2}\n";
+    let replies =
+        b"{\"extensions\":\"\",\"leaf_index\":0,\"sct_version\":0,\"timestamp\":3}\n{\"error\":\"not-yet\"}\n";
+    assert!(rt; writes(&rt, log.published(), lines, replies));
     Ok(())
 }
 
 #[test]
-fn an_entry_and_audits_of_its_proof(rt: HostRuntime) -> Result<(), Fail> {
+fn an_entry_and_an_audit_of_its_proof(rt: HostRuntime) -> Result<(), Fail> {
     let log = closed_log(&rt, 1, 1, 9)?;
-    for (line, reply) in [
-        (
-            r#"{"who":"frozen","op":"get-entry-and-proof","leaf_index":0,"tree_size":1}"#,
-            "{\"audit_path\":[],\"extra_data\":\"AAAA\",\"leaf_input\":\"AAAAAAAAAAAAAQAAAAABQQAA\"}\n",
-        ),
-        (
-            r#"{"who":"frozen","op":"audit","leaf_input":"AAAAAAAAAAAAAQAAAAABQQAA","leaf_index":0,"tree_size":1,"audit_path":[]}"#,
-            "{\"verdict\":\"holds\"}\n",
-        ),
-        (
-            r#"{"who":"frozen","op":"audit","leaf_input":"AAAAAAAAAAAAAQAAAAABQQAA","leaf_index":1,"tree_size":1,"audit_path":[]}"#,
-            "{\"verdict\":\"refused\"}\n",
-        ),
-        (
-            r#"{"who":"frozen","op":"audit","leaf_input":"AAAAAAAAAAAAAQAAAAABQgAA","leaf_index":0,"tree_size":1,"audit_path":[]}"#,
-            "{\"verdict\":\"refused\"}\n",
-        ),
-        (
-            r#"{"who":"frozen","op":"audit","leaf_input":"AAAAAAAAAAAAAQAAAAABQQAA","leaf_index":0,"tree_size":2,"audit_path":[]}"#,
-            "{\"error\":\"unknown-size\"}\n",
-        ),
-        (
-            r#"{"who":"frozen","op":"audit","leaf_input":"AAAAAAAAAAAAAQAAAAABQQAA","leaf_index":0,"tree_size":0,"audit_path":[]}"#,
-            "{\"verdict\":\"refused\"}\n",
-        ),
-    ] {
-        assert_eq!(rt; served(&rt, &log, line.as_bytes())?.as_str(), reply);
-    }
+    let lines =
+        b"{\"who\":\"frozen\",\"op\":\"get-entry-and-proof\",\"leaf_index\":0,\"tree_size\":1}\n{\"who\":\"frozen\",\"op\":\"audit\",\"leaf_input\":\"AAAAAAAAAAAAAQAAAAABQQAA\",\"leaf_index\":0,\"tree_size\":1,\"audit_path\":[]}\n";
+    let replies =
+        b"{\"audit_path\":[],\"extra_data\":\"AAAA\",\"leaf_input\":\"AAAAAAAAAAAAAQAAAAABQQAA\"}\n{\"verdict\":\"holds\"}\n";
+    assert!(rt; writes(&rt, log.published(), lines, replies));
+    Ok(())
+}
+
+// At another index, of another leaf, at a size that no head has, and at size 0.
+#[test]
+fn audits_that_do_not_hold(rt: HostRuntime) -> Result<(), Fail> {
+    let log = closed_log(&rt, 1, 1, 9)?;
+    let lines =
+        b"{\"who\":\"frozen\",\"op\":\"audit\",\"leaf_input\":\"AAAAAAAAAAAAAQAAAAABQQAA\",\"leaf_index\":1,\"tree_size\":1,\"audit_path\":[]}\n{\"who\":\"frozen\",\"op\":\"audit\",\"leaf_input\":\"AAAAAAAAAAAAAQAAAAABQgAA\",\"leaf_index\":0,\"tree_size\":1,\"audit_path\":[]}\n{\"who\":\"frozen\",\"op\":\"audit\",\"leaf_input\":\"AAAAAAAAAAAAAQAAAAABQQAA\",\"leaf_index\":0,\"tree_size\":2,\"audit_path\":[]}\n{\"who\":\"frozen\",\"op\":\"audit\",\"leaf_input\":\"AAAAAAAAAAAAAQAAAAABQQAA\",\"leaf_index\":0,\"tree_size\":0,\"audit_path\":[]}\n";
+    let replies =
+        b"{\"verdict\":\"refused\"}\n{\"verdict\":\"refused\"}\n{\"error\":\"unknown-size\"}\n{\"verdict\":\"refused\"}\n";
+    assert!(rt; writes(&rt, log.published(), lines, replies));
     Ok(())
 }
 
 #[test]
 fn lines_that_are_not_of_the_frozen_log(rt: HostRuntime) -> Result<(), Fail> {
     let log = closed_log(&rt, 0, 0, 9)?;
-    for (lines, replies) in [
-        ("", 0),
-        ("\n", 0),
-        ("{}\n\n{\"who\":1,\"op\":\"get-sth\"}\n{\"who\":\"operator\",\"op\":\"publish\",\"now\":-1}", 3),
-        ("\n\r\n \n{\"who\":\"operator\",\"op\":\"shutdown\"}\n\n", 3),
-    ] {
-        let expected = "{\"error\":\"bad-line\"}\n".repeat(rt.alloc(), replies)?;
-        assert_eq!(rt; served(&rt, &log, lines.as_bytes())?.as_str(), expected.as_str());
-    }
+    assert!(rt; writes(&rt, log.published(), b"", b""));
+    assert!(rt; writes(&rt, log.published(), b"\n", b""));
+    let refused =
+        b"{}\n\n{\"who\":1,\"op\":\"get-sth\"}\n{\"who\":\"operator\",\"op\":\"publish\",\"now\":-1}";
+    assert!(rt; writes(&rt, log.published(), refused, THREE_BAD_LINES));
+    let elsewhere = b"\n\r\n \n{\"who\":\"operator\",\"op\":\"shutdown\"}\n\n";
+    assert!(rt; writes(&rt, log.published(), elsewhere, THREE_BAD_LINES));
+    Ok(())
+}
+
+// A question for the head, of so many bytes with blanks at the end, and then these bytes.
+fn padded(rt: &HostRuntime, len: usize, behind: &[u8]) -> Result<Vec<u8>, Fail> {
+    let mut line = Vec::from_slice(rt.alloc(), b"{\"who\":\"frozen\",\"op\":\"get-sth\"}")?;
+    line.resize(len, b' ')?;
+    line.extend_from_slice(behind)?;
+    Ok(line)
+}
+
+#[test]
+fn the_longest_line(rt: HostRuntime) -> Result<(), Fail> {
+    let log = closed_log(&rt, 0, 0, 7)?;
+    let line = padded(&rt, 1_048_576, b"")?;
+    assert!(rt; writes(&rt, log.published(), &line, EMPTY_HEAD));
     Ok(())
 }
 
 #[test]
 fn a_line_that_is_too_long(rt: HostRuntime) -> Result<(), Fail> {
     let log = closed_log(&rt, 0, 0, 7)?;
-    let head = "{\"sha256_root_hash\":\"47DEQpj8HBSa+/TImW+5JCeuQeRkm5NMpJWZG3hSuFU=\",\"timestamp\":7,\"tree_size\":0}\n";
-    let mut input = Vec::from_slice(rt.alloc(), b"{\"who\":\"frozen\",\"op\":\"get-sth\"}")?;
-    input.resize(1_048_576, b' ')?;
-    assert_eq!(rt; served(&rt, &log, &input)?.as_str(), head);
-    input.push(b' ')?;
-    assert_eq!(rt; served(&rt, &log, &input)?.as_str(), "{\"error\":\"bad-line\"}\n");
-    input.extend_from_slice(b"  \n{\"who\":\"frozen\",\"op\":\"get-sth\"}\n")?;
-    let both = format!(in rt.alloc(); "{{\"error\":\"bad-line\"}}\n{head}")?;
-    assert_eq!(rt; served(&rt, &log, &input)?.as_str(), both.as_str());
+    let line = padded(&rt, 1_048_577, b"")?;
+    assert!(rt; writes(&rt, log.published(), &line, BAD_LINE));
+    let lines = padded(&rt, 1_048_599, b"\n{}\n\n[]")?;
+    assert!(rt; writes(&rt, log.published(), &lines, THREE_BAD_LINES));
     Ok(())
 }
 
@@ -159,25 +162,46 @@ impl Read for Breaking<'_> {
     }
 }
 
+// How serving ends over such a reader, where it writes this text.
+fn broken_end(
+    rt: &HostRuntime,
+    log: &Published,
+    mut reader: Breaking<'_>,
+    text: &[u8],
+) -> Option<ServeFault> {
+    let mut output: Vec<u8> = Vec::new(rt.alloc());
+    let end = serve_frozen(rt.alloc(), log, &mut reader, &mut output);
+    if output.as_slice() == text {
+        end.err()
+    } else {
+        None
+    }
+}
+
 #[test]
 fn a_reader_that_fails(rt: HostRuntime) -> Result<(), Fail> {
     let log = closed_log(&rt, 0, 0, 9)?;
-    for (text, step, count) in [
-        ("", 9, 0),
-        ("{}\n", 9, 1),
-        ("{}\n", 1, 1),
-        ("\n{}\n\n[]\n{", 2, 2),
-    ] {
-        let mut output: Vec<u8> = Vec::new(rt.alloc());
-        let mut input = Breaking {
-            text: text.as_bytes(),
-            step,
-        };
-        let end = serve_frozen(rt.alloc(), log.published(), &mut input, &mut output);
-        let expected = "{\"error\":\"bad-line\"}\n".repeat(rt.alloc(), count as usize)?;
-        assert_eq!(rt; end, Err(ServeFault::Read(count)));
-        assert_eq!(rt; output.as_slice(), expected.as_bytes());
-    }
+    let one = Breaking {
+        text: b"{}\n",
+        step: 9,
+    };
+    assert_eq!(rt;
+        broken_end(&rt, log.published(), one, BAD_LINE),
+        Some(ServeFault::Read(1))
+    );
+    let bytewise = Breaking {
+        text: b"\n{}\n\n[]\n{\n{",
+        step: 1,
+    };
+    assert_eq!(rt;
+        broken_end(&rt, log.published(), bytewise, THREE_BAD_LINES),
+        Some(ServeFault::Read(3))
+    );
+    let nothing = Breaking { text: b"", step: 9 };
+    assert_eq!(rt;
+        broken_end(&rt, log.published(), nothing, b""),
+        Some(ServeFault::Read(0))
+    );
     Ok(())
 }
 
@@ -205,23 +229,52 @@ impl Write for Room {
     }
 }
 
+// How serving a bad line and a question for the head ends with so much room, where this text is written.
+fn cramped_end(
+    rt: &HostRuntime,
+    log: &Published,
+    left: usize,
+    fails: bool,
+    text: &[u8],
+) -> Option<ServeFault> {
+    let mut input: &[u8] = b"{}\n{\"who\":\"frozen\",\"op\":\"get-sth\"}\n";
+    let mut output = Room {
+        taken: Vec::new(rt.alloc()),
+        left,
+        fails,
+    };
+    let end = serve_frozen(rt.alloc(), log, &mut input, &mut output);
+    if output.taken.as_slice() == text {
+        end.err()
+    } else {
+        None
+    }
+}
+
 #[test]
 fn a_writer_that_fails(rt: HostRuntime) -> Result<(), Fail> {
     let log = closed_log(&rt, 0, 0, 9)?;
-    let whole = "{\"error\":\"bad-line\"}\n{\"sha256_root_hash\":\"47DEQpj8HBSa+/TImW+5JCeuQeRkm5NMpJWZG3hSuFU=\",\"timestamp\":9,\"tree_size\":0}\n";
-    for (left, count) in [(0, 0), (20, 0), (21, 1), (25, 1)] {
-        for fails in [true, false] {
-            let mut input: &[u8] = b"{}\n{\"who\":\"frozen\",\"op\":\"get-sth\"}\n";
-            let mut output = Room {
-                taken: Vec::new(rt.alloc()),
-                left,
-                fails,
-            };
-            let end = serve_frozen(rt.alloc(), log.published(), &mut input, &mut output);
-            assert_eq!(rt; end, Err(ServeFault::Write(count)));
-            assert_eq!(rt; output.taken.len(), left);
-            assert!(rt; whole.as_bytes().starts_with(&output.taken));
-        }
-    }
+    let short = cramped_end(&rt, log.published(), 20, true, b"{\"error\":\"bad-line\"}");
+    assert_eq!(rt; short, Some(ServeFault::Write(0)));
+    let whole = cramped_end(&rt, log.published(), 21, true, BAD_LINE);
+    assert_eq!(rt; whole, Some(ServeFault::Write(1)));
+    let begun = cramped_end(
+        &rt,
+        log.published(),
+        25,
+        true,
+        b"{\"error\":\"bad-line\"}\n{\"sh",
+    );
+    assert_eq!(rt; begun, Some(ServeFault::Write(1)));
+    Ok(())
+}
+
+#[test]
+fn a_writer_that_takes_no_bytes(rt: HostRuntime) -> Result<(), Fail> {
+    let log = closed_log(&rt, 0, 0, 9)?;
+    let none = cramped_end(&rt, log.published(), 0, false, b"");
+    assert_eq!(rt; none, Some(ServeFault::Write(0)));
+    let whole = cramped_end(&rt, log.published(), 21, false, BAD_LINE);
+    assert_eq!(rt; whole, Some(ServeFault::Write(1)));
     Ok(())
 }

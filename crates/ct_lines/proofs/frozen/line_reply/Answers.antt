@@ -1,4 +1,4 @@
-use Rattle.std.proofs.Common.{◌≡◌, ◌⊎◌, ◌∙◌, inl, inr, ap, subst, Err}
+use Rattle.std.proofs.Common.{◌∙◌, inl, inr, ap, subst, Err}
 use Rattle.ct_core.specs.Replies.{Answer, refused}
 use Rattle.ct_lines.specs.Requests.{asked}
 use Rattle.ct_lines.specs.Frozen.{Answers}

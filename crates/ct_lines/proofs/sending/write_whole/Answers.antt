@@ -1,4 +1,4 @@
-use Rattle.std.proofs.Common.{◌≡◌, ◌<◌, length, arith, rules, drop, take, length-drop, refl, ℕ}
+use Rattle.std.proofs.Common.{◌<◌, length, arith, drop, length-drop, refl}
 use Rattle.std.proofs.lemmas.Grind.{common_steps}
 use Rattle.ct_lines.proofs.Sent.{sending_more, sending_stops, sending_kept}
 use Rattle.ct_lines.proofs.sending.write_whole.Goals as goal

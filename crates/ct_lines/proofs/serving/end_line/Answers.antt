@@ -1,7 +1,5 @@
-use Rattle.std.proofs.Common.{◌≡◌, ◌<◌, List, ℕ, [], ◌∷◌, rules, refl, length, take, sym, subst}
-use Rattle.std.specs.Io.KnownBytes.{Appends}
+use Rattle.std.proofs.Common.{refl}
 use Rattle.ct_lines.specs.Frozen.{frozen_reply}
-use Rattle.ct_lines.specs.Serving.{reply_if}
 use Rattle.ct_lines.proofs.Pieces.{stop_here}
 use Rattle.ct_lines.proofs.serving.end_line.Goals as goal
 

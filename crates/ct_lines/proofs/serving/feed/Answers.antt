@@ -1,4 +1,4 @@
-use Rattle.std.proofs.Common.{◌≡◌, ◌<◌, ◌≤◌, List, ℕ, rules, arith, refl}
+use Rattle.std.proofs.Common.{arith}
 use Rattle.ct_lines.specs.Frozen.{frozen_reply}
 use Rattle.ct_lines.proofs.Pieces.{goes_none, goes_byte_at, goes_end_at, stops_end_at, stops_between_at}
 use Rattle.ct_lines.proofs.serving.feed.Goals.{then-byte-eq10+in-Ok, else-byte-eq10+in-Ok-push}
