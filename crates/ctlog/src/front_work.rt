@@ -30,12 +30,7 @@ fn submit_chain(front: &mut Front, chain: Vec<Vec<u8>>) -> Result<Reply, Refusal
 }
 
 // Asks the published log.
-fn ask<R: Wait>(
-    rt: &R,
-    alloc: Global,
-    front: &mut Front,
-    query: &Query,
-) -> Result<Reply, Refusal>
+fn ask<R: Wait>(rt: &R, alloc: Global, front: &mut Front, query: &Query) -> Result<Reply, Refusal>
     ensures same { front.new ≡ front.old }
     ensures shows { Shows query.now (answered result) }
 {

@@ -39,7 +39,13 @@ fn replies<R: Threads + Wait + Sync>(
         fronts: ends.len(),
         tasks: operator,
     };
-    let served = serve_parties(rt, alloc, operator, front_parties(alloc, ends, fronts)?, turns)?;
+    let served = serve_parties(
+        rt,
+        alloc,
+        operator,
+        front_parties(alloc, ends, fronts)?,
+        turns,
+    )?;
     Ok(served.replies)
 }
 
@@ -55,7 +61,11 @@ fn a_front_waits_for_the_operator(rt: HostRuntime) -> Result<(), Fail> {
     let mut fronts = Vec::new(alloc);
     fronts.push(tasks)?;
     let mut operator = Vec::new(alloc);
-    operator.push(OperatorTask::Sequence { from: 0, count: 2, now: 3 })?;
+    operator.push(OperatorTask::Sequence {
+        from: 0,
+        count: 2,
+        now: 3,
+    })?;
     operator.push(OperatorTask::Shutdown)?;
     operator.push(OperatorTask::Publish { now: 4 })?;
     operator.push(OperatorTask::Shutdown)?;
@@ -82,8 +92,16 @@ fn waits_that_are_too_long(rt: HostRuntime) -> Result<(), Fail> {
     let mut fronts = Vec::new(alloc);
     fronts.push(tasks)?;
     let mut operator = Vec::new(alloc);
-    operator.push(OperatorTask::Sequence { from: 0, count: 0, now: 0 })?;
-    operator.push(OperatorTask::Sequence { from: 0, count: 1, now: 1 })?;
+    operator.push(OperatorTask::Sequence {
+        from: 0,
+        count: 0,
+        now: 0,
+    })?;
+    operator.push(OperatorTask::Sequence {
+        from: 0,
+        count: 1,
+        now: 1,
+    })?;
     operator.push(OperatorTask::BadLine)?;
     let replies = replies(&rt, alloc, fronts, operator, 3)?;
     let wanted = "{\"reached\":0}
@@ -105,9 +123,21 @@ fn moments_that_the_clock_refuses(rt: HostRuntime) -> Result<(), Fail> {
     let mut operator = Vec::new(alloc);
     operator.push(OperatorTask::Publish { now: 0 })?;
     operator.push(OperatorTask::Publish { now: 5 })?;
-    operator.push(OperatorTask::Sequence { from: 0, count: 1, now: 4 })?;
-    operator.push(OperatorTask::Sequence { from: 0, count: 0, now: 4 })?;
-    operator.push(OperatorTask::Sequence { from: 1, count: 0, now: 9 })?;
+    operator.push(OperatorTask::Sequence {
+        from: 0,
+        count: 1,
+        now: 4,
+    })?;
+    operator.push(OperatorTask::Sequence {
+        from: 0,
+        count: 0,
+        now: 4,
+    })?;
+    operator.push(OperatorTask::Sequence {
+        from: 1,
+        count: 0,
+        now: 9,
+    })?;
     let replies = replies(&rt, alloc, fronts, operator, 3)?;
     let wanted = "{\"error\":\"clock-back\"}
 {\"timestamp\":5,\"tree_size\":0}

@@ -47,7 +47,15 @@ fn serve_operator_party<R: Threads + Wait + Sync>(
         tasks,
     } = party;
     let mut replies = Vec::new(alloc);
-    serve_operator(rt, alloc, &mut sequencer, fronts, tasks, turns, &mut replies)?;
+    serve_operator(
+        rt,
+        alloc,
+        &mut sequencer,
+        fronts,
+        tasks,
+        turns,
+        &mut replies,
+    )?;
     Ok((sequencer, replies))
 }
 

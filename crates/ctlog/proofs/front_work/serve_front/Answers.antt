@@ -8,6 +8,6 @@ loop-task-preserved g c =
     let (serves, same) = c.loop-task.invariant in
     let (r, does, text) = c.in_ok-reply_to.ensures.does in (
       serves_more FrontDoes c.args.front.now c.loop-task.front c.reply_to.new.front c.loop-task.yielded c.in-Some.task c.args.replies.now.items
-      c.loop-task.replies.items c.reply_to.new.replies.items r serves does text,
+          c.loop-task.replies.items c.reply_to.new.replies.items r serves does text,
       same_both c.args.front.now.intake c.loop-task.front.intake c.reply_to.new.front.intake same c.reply_to.ensures.same,
     )

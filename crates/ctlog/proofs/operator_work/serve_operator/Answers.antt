@@ -11,6 +11,6 @@ loop-task-preserved g c =
     let (serves, on) = c.loop-task.invariant in
     let (r, does, text) = c.in_ok-reply_to.ensures.does in (
       serves_more OperatorDoes c.args.sequencer.now c.loop-task.sequencer c.reply_to.new.sequencer c.loop-task.yielded c.in-Some.task c.args.replies.now.items
-      c.loop-task.replies.items c.reply_to.new.replies.items r serves does text,
+          c.loop-task.replies.items c.reply_to.new.replies.items r serves does text,
       goes_on_both c.args.sequencer.now c.loop-task.sequencer c.reply_to.new.sequencer on c.reply_to.ensures.goes_on,
     )
