@@ -4,3 +4,6 @@ pub mod TaskLemmas
 pub mod ServingLemmas
 pub mod ClosingLemmas
 pub mod OutputLemmas
+pub mod TurnLemmas
+pub mod OperatorLemmas
+pub mod PartyLemmas

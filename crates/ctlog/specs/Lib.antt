@@ -5,3 +5,7 @@ pub mod Answering
 pub mod ClosedLog
 pub mod Output
 pub mod Faults
+pub mod InTurn
+pub mod FrontWork
+pub mod OperatorWork
+pub mod Parties

@@ -16,11 +16,19 @@
 mod closing;
 mod command;
 mod fault;
+mod front_work;
 mod frozen;
+mod operator_work;
 mod parties;
+mod party;
+#[cfg(test)]
+mod party_tests;
 mod plan;
 mod program;
+mod replying;
 mod sending;
+mod task;
+mod threads;
 #[cfg(test)]
 mod tests;
 
