@@ -17,8 +17,8 @@ fn report(rt: &HostRuntime, what: &str, count: u64, start: Instant) -> io::Resul
     println!(rt; "{what} {each} ns")
 }
 
-/// Times appends, roots, paths, proofs and a copy of a tree of `size` leaves.
-pub fn tree(rt: &HostRuntime, size: u64) -> io::Result<()> {
+// Times appends, roots, paths, proofs and a copy of a tree of `size` leaves.
+pub(crate) fn tree(rt: &HostRuntime, size: u64) -> io::Result<()> {
     let heap = rt.alloc();
     let calls = 10_000;
     println!(rt; "{size} leaves")?;
@@ -41,8 +41,8 @@ pub fn tree(rt: &HostRuntime, size: u64) -> io::Result<()> {
     report(rt, "copy, for each leaf", copy.size(), start)
 }
 
-/// Times batches of leaves of 1,500 bytes.
-pub fn batches<R: Threads + Sync>(rt: &HostRuntime, threads: &R) -> io::Result<()> {
+// Times batches of leaves of 1,500 bytes.
+pub(crate) fn batches<R: Threads + Sync>(rt: &HostRuntime, threads: &R) -> io::Result<()> {
     let heap = rt.alloc();
     for count in [32u64, 256, 8_192] {
         let mut leaves = Vec::new(heap);

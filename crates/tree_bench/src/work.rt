@@ -14,16 +14,16 @@ fn spread(k: u64, n: u64) -> u64
     k.wrapping_mul(7919) % n
 }
 
-/// Pushes the leaf hashes of `count` leaves.
-pub fn fill(nodes: &mut Nodes<Sha256Hash>, count: u64) -> Result<(), AllocError> {
+// Pushes the leaf hashes of `count` leaves.
+pub(crate) fn fill(nodes: &mut Nodes<Sha256Hash>, count: u64) -> Result<(), AllocError> {
     for k in 0..count {
         nodes.push(&leaf_hash(&Sha256Hash, &k.to_be_bytes()))?;
     }
     Ok(())
 }
 
-/// How many of `count` roots of beginnings differ from the root of all.
-pub fn roots(nodes: &Nodes<Sha256Hash>, count: u64) -> u64 {
+// How many of `count` roots of beginnings differ from the root of all.
+pub(crate) fn roots(nodes: &Nodes<Sha256Hash>, count: u64) -> u64 {
     let mut differ = 0u64;
     for k in 0..count {
         let n = nodes.size();
@@ -34,8 +34,8 @@ pub fn roots(nodes: &Nodes<Sha256Hash>, count: u64) -> u64 {
     differ
 }
 
-/// How many hashes `count` audit paths have.
-pub fn paths(heap: Global, nodes: &Nodes<Sha256Hash>, count: u64) -> Result<u64, AllocError> {
+// How many hashes `count` audit paths have.
+pub(crate) fn paths(heap: Global, nodes: &Nodes<Sha256Hash>, count: u64) -> Result<u64, AllocError> {
     let mut hashes = 0u64;
     for k in 0..count {
         let n = nodes.size();
@@ -47,8 +47,8 @@ pub fn paths(heap: Global, nodes: &Nodes<Sha256Hash>, count: u64) -> Result<u64,
     Ok(hashes)
 }
 
-/// How many hashes `count` consistency proofs have.
-pub fn proofs(heap: Global, nodes: &Nodes<Sha256Hash>, count: u64) -> Result<u64, AllocError> {
+// How many hashes `count` consistency proofs have.
+pub(crate) fn proofs(heap: Global, nodes: &Nodes<Sha256Hash>, count: u64) -> Result<u64, AllocError> {
     let mut hashes = 0u64;
     for k in 0..count {
         let n = nodes.size();
@@ -60,8 +60,8 @@ pub fn proofs(heap: Global, nodes: &Nodes<Sha256Hash>, count: u64) -> Result<u64
     Ok(hashes)
 }
 
-/// How many leaves of 1,500 bytes a batch of `count` hashed.
-pub fn batch<R: Threads + Sync>(
+// How many leaves of 1,500 bytes a batch of `count` hashed.
+pub(crate) fn batch<R: Threads + Sync>(
     threads: &R,
     heap: Global,
     count: u64,
