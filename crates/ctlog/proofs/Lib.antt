@@ -1,6 +1,5 @@
 pub mod Sent
 pub mod LineLemmas
 pub mod TaskLemmas
-pub mod ServingLemmas
+pub mod PlanLemmas
 pub mod ClosingLemmas
-pub mod OutputLemmas

@@ -16,47 +16,8 @@
 mod closing;
 mod command;
 mod fault;
-mod frozen;
-mod parties;
 mod plan;
-mod program;
 mod sending;
-#[cfg(test)]
-mod tests;
+mod task;
 
-use fault::Fault;
-use program::run;
-use std::alloc::{AllocError, Global};
-use std::io;
-use std::process::ExitCode;
-
-// How many turns a line may wait.
-const TURNS: u64 = 50_000_000;
-
-// The texts of the words, for as long as the words stand.
-fn texts<'a>(alloc: Global, words: &'a [String]) -> Result<Vec<&'a str>, AllocError> {
-    let mut texts = Vec::new(alloc);
-    for word in words {
-        texts.push(word.as_str())?;
-    }
-    Ok(texts)
-}
-
-fn collected(rt: &HostRuntime) -> io::Result<Vec<String>> {
-    let words = std::env::args(rt)?.collect(rt.alloc())?;
-    Ok(words)
-}
-
-fn main(rt: HostRuntime) -> ExitCode {
-    let alloc = rt.alloc();
-    let mut faults = rt.stderr();
-    let Ok(words) = collected(&rt) else {
-        return ExitCode::from(fault::report(Fault::Memory, &mut faults));
-    };
-    let Ok(texts) = texts(alloc, &words) else {
-        return ExitCode::from(fault::report(Fault::Memory, &mut faults));
-    };
-    let mut input = rt.reader();
-    let mut output = std::io::writer(&rt);
-    ExitCode::from(run(alloc, &texts, TURNS, &mut input, &mut output, &mut faults))
-}
+fn main() {}
