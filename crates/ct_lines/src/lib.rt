@@ -2,16 +2,22 @@
 //!
 //! - `read_line` answers the `Request` that a line is, or `BadLine` exactly where it is none.
 //! - `reply_text` answers the text of a `Reply` or of a refusal, with the end of the line.
+//! - `serve_frozen` reads request lines from a reader, and writes the replies of a closed log to a writer.
 //!
 //! What a line asks and how a reply is written are defined in `specs/`, over `serde_json`'s own words for the value
 //! of a text and the text of a value, and over `base64`'s strict decoding and encoding: `Fields` says what stands
-//! under a key, `Asked` what a line asks, `ReplyText` how an answer is written.
+//! under a key, `Asked` what a line asks, `ReplyText` how an answer is written. `Verdicts` says what an audit answers,
+//! `Frozen` what a closed log writes for its input, and `Serving` what is written where serving ends early.
 #![tactic(auto)]
 
 mod fields;
+mod frozen;
 mod laws;
 mod reading;
 mod request;
+mod sending;
+mod serving;
+mod standing;
 #[cfg(test)]
 mod tests;
 mod writing;
@@ -19,4 +25,5 @@ mod writing;
 pub use laws::{bytes_read_back, line_is_one_request};
 pub use reading::read_line;
 pub use request::{Audit, FrontRequest, FrozenRequest, OperatorRequest, Request};
+pub use serving::{ServeFault, serve_frozen};
 pub use writing::reply_text;

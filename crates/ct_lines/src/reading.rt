@@ -13,7 +13,7 @@ use serde_json::Value;
 use std::alloc::{AllocError, Global};
 
 // The longest line, in bytes, without its end.
-const LONGEST: usize = 1_048_576;
+pub(crate) const LONGEST: usize = 1_048_576;
 
 // Who makes a request.
 #[derive(Clone, Copy, Debug)]

@@ -1,0 +1,78 @@
+-- What a line asks, as a relation and as a function.
+use Rattle.std.proofs.Common.{inl, inr, ◌≡◌, ◌<◌, ◌≤◌, ℕ, List, [], ◌∷◌, length, Vec, Global, Option, Some, None, Result, Ok, Err, Bool, true, false, ◌&&◌, nat_le, cond, refl, sym, ap, subst, ◌∙◌, arith}
+use Rattle.std.specs.Prelude.{option_and_then, IfOk}
+use Rattle.std.specs.declared.alloc.AllocError.{AllocError}
+use Rattle.std.specs.Str.{is_utf8}
+use Rattle.std.proofs.lemmas.Bool.Decides.{nat_tests}
+use Rattle.std.proofs.lemmas.Str.{IsUtf8-from_is_utf8, is_utf8-from_IsUtf8}
+use Rattle.std.proofs.lemmas.Option.{none-some}
+use Rattle.serde_json.specs.Read.{read}
+use Rattle.ct_lines.specs.Asked.{Asked, IsRequest, asked_in}
+use Rattle.ct_codec.specs.declared.refusal.Refusal.{Refusal}
+use Rattle.ct_codec.specs.declared.refusal.Refusal.TheVariants.{Memory, BadLine}
+use Rattle.ct_core.specs.declared.query.Reply.{Reply}
+use Rattle.ct_core.specs.Settlement.{Log}
+use Rattle.ct_core.specs.Replies.{Answer, refused, shown}
+use Rattle.ct_lines.specs.ReplyText.{answered, reply_line}
+use Rattle.ct_lines.specs.declared.standing.StandingLine.{StandingLine}
+use Rattle.ct_lines.specs.Serving.{reply_if}
+use Rattle.ct_lines.specs.Progress.{Stands, StandsAs}
+use Rattle.ct_lines.specs.Frozen.{request_of, asked_answer, answer_if, line_answer, Answers, frozen_reply}
+
+-- what a text asks
+abbrev asks : List ℕ → Option Asked
+asks line = option_and_then asked_in (read line)
+
+both_true : (t u : Bool) (x : Option Asked) (a : Asked) → cond (t && u) x None ≡ Some a → (t ≡ true) × (u ≡ true) × (x ≡ Some a)
+both_true true true x a e = (refl, refl, e)
+both_true true false x a e = absurd (none-some a e)
+both_true false u x a e = absurd (none-some a e)
+
+pub request_of-is : (line : List ℕ) (a : Asked) → IsRequest line a → request_of line ≡ Some a
+unfolding request_of
+request_of-is line a r =
+    let fits : nat_le (length line) 1048576 ≡ true = grind (arith, nat_tests, r.fits) in
+    ap (λ t. cond (t && is_utf8 line) (asks line) None) fits ∙ ap (λ t. cond t (asks line) None) (is_utf8-from_IsUtf8 line r.text) ∙ r.value
+
+pub is_request : (line : List ℕ) (a : Asked) → request_of line ≡ Some a → IsRequest line a
+unfolding request_of
+is_request line a e =
+    let b = both_true (nat_le (length line) 1048576) (is_utf8 line) (asks line) a e in
+    record { fits = grind (arith, nat_tests, b.0); text = IsUtf8-from_is_utf8 line b.1; value = b.2 }
+
+pub no_request : (line : List ℕ) → ((a : Asked) → IsRequest line a → ⊥) → request_of line ≡ None
+no_request line h = go (request_of line) refl
+  where
+    go : (o : Option Asked) → request_of line ≡ o → request_of line ≡ None
+    go None e = e
+    go (Some a) e = absurd (h a (is_request line a e))
+
+pub too_long : (line : List ℕ) → 1048576 < length line → request_of line ≡ None
+too_long line h = no_request line (λ a r. omega (arith, h, r.fits))
+
+-- the answer to a line that is a request, and to one that is none
+pub asked_line : (log : Log) (line : List ℕ) (a : Asked) → IsRequest line a → asked_answer log a ≡ line_answer log line
+asked_line log line a r = sym (ap (answer_if log) (request_of-is line a r))
+
+pub bad_line : (log : Log) (line : List ℕ) → ((a : Asked) → IsRequest line a → ⊥) → refused BadLine ≡ line_answer log line
+bad_line log line h = sym (ap (answer_if log) (no_request line h))
+
+-- the reply to a line
+reply_as : (log : Log) (line text : List ℕ) (r : Result Reply Refusal) → Answers r (line_answer log line) → (r ≡ Err Memory → ⊥) → text ≡ reply_line (answered r) → text ≡ frozen_reply log line
+unfolding frozen_reply
+reply_as log line text (Ok x) a h e = e ∙ ap reply_line a
+reply_as log line text (Err f) (inl same) h e = absurd (h (ap Err same))
+reply_as log line text (Err f) (inr a) h e = e ∙ ap reply_line a
+
+pub reply_ok : (log : Log) (line : List ℕ) (t : Result (Vec ℕ Global) AllocError) (r : Result Reply Refusal) → IfOk t (λ b. b.items ≡ reply_line (answered r)) → Answers r (line_answer log line)
+    → (r ≡ Err Memory → ⊥) → IfOk t (λ b. b.items ≡ frozen_reply log line)
+reply_ok log line (Ok b) r e a h = reply_as log line b.items r a h e
+reply_ok log line (Err f) r e a h = tt
+
+pub reply_too_long : (log : Log) (line : List ℕ) → 1048576 < length line → reply_line (refused BadLine) ≡ frozen_reply log line
+unfolding frozen_reply
+reply_too_long log line h = ap reply_line (sym (ap (answer_if log) (too_long line h)))
+
+pub too_long_stands : (log : Log) (held : StandingLine) (line text : List ℕ) → held.too_long ≡ true → text ≡ reply_line (refused BadLine) → Stands held line → text ∷ [] ≡ reply_if (frozen_reply log) line
+too_long_stands log held [] text e same s = absurd (omega (arith, subst (λ t. StandsAs t held.bytes.items []) e s))
+too_long_stands log held (b ∷ bs) text e same s = ap (λ t. t ∷ []) (same ∙ reply_too_long log (b ∷ bs) (subst (λ t. StandsAs t held.bytes.items (b ∷ bs)) e s))

@@ -1,0 +1,68 @@
+-- What the frozen log replies to its input.
+use Rattle.std.specs.Prelude.{◌≡◌, ◌⊎◌, ℕ, List, [], ◌∷◌, ◌++◌, length, Option, Some, None, option_and_then, ◌&&◌, ◌==◌, nat_le, if◌then◌else◌, Result, MatchResult}
+use Rattle.std.specs.List.{flat_map}
+use Rattle.std.specs.Str.{is_utf8}
+use Rattle.serde_json.specs.Read.{read}
+use Rattle.ct_codec.specs.declared.refusal.Refusal.{Refusal}
+use Rattle.ct_codec.specs.declared.refusal.Refusal.TheVariants.{Memory, BadLine}
+use Rattle.ct_core.specs.declared.query.Reply.{Reply}
+use Rattle.ct_core.specs.Settlement.{Log}
+use Rattle.ct_core.specs.Answers.{answer}
+use Rattle.ct_core.specs.Replies.{Answer, refused, shown}
+use Rattle.ct_lines.specs.Asked.{Asked, by_front, by_operator, by_frozen, FrozenAsked, frozen_query, frozen_audit, asked_in}
+use Rattle.ct_lines.specs.ReplyText.{reply_line}
+use Rattle.ct_lines.specs.Verdicts.{audit_answer}
+
+-- what a line asks, where it is a request
+unfoldable pub request_of : List ℕ → Option Asked
+request_of line = if nat_le (length line) 1048576 && is_utf8 line then option_and_then asked_in (read line) else None
+
+-- the result says this answer, or that a growth was refused
+abbrev pub Answers : Result Reply Refusal → Answer → Type 0
+Answers result a = MatchResult result (λ reply. shown reply ≡ a) (λ e. (e ≡ Memory) ⊎ (refused e ≡ a))
+
+-- the answer to a reader of the frozen log
+abbrev pub frozen_answer : Log → FrozenAsked → Answer
+frozen_answer log (frozen_query q) = answer log q
+frozen_answer log (frozen_audit a) = audit_answer log a
+
+-- the answer to a request: bad-line to a front and to the operator
+abbrev pub asked_answer : Log → Asked → Answer
+asked_answer log (by_front n r) = refused BadLine
+asked_answer log (by_operator r) = refused BadLine
+asked_answer log (by_frozen r) = frozen_answer log r
+
+-- the answer to a line: bad-line to one that is no request
+abbrev pub answer_if : Log → Option Asked → Answer
+answer_if log None = refused BadLine
+answer_if log (Some a) = asked_answer log a
+
+abbrev pub line_answer : Log → List ℕ → Answer
+line_answer log line = answer_if log (request_of line)
+
+-- the reply to a line
+unfoldable pub frozen_reply : Log → List ℕ → List ℕ
+frozen_reply log line = reply_line (line_answer log line)
+
+-- the input cut at each byte 0A, where `line` stands before it
+abbrev pub cut : List ℕ → List ℕ → List (List ℕ)
+cut line [] = line ∷ []
+cut line (b ∷ bs) = if b == 10 then line ∷ cut [] bs else cut (line ++ b ∷ []) bs
+
+-- the replies to the lines that aren't empty
+abbrev pub replies : (List ℕ → List ℕ) → List (List ℕ) → List (List ℕ)
+replies reply [] = []
+replies reply ([] ∷ lines) = replies reply lines
+replies reply ((b ∷ bs) ∷ lines) = reply (b ∷ bs) ∷ replies reply lines
+
+-- the replies of the frozen log to the lines of an input
+abbrev pub frozen_replies : Log → List ℕ → List (List ℕ)
+frozen_replies log input = replies (frozen_reply log) (cut [] input)
+
+-- texts one after the other
+abbrev pub joined : List (List ℕ) → List ℕ
+joined texts = flat_map (λ text. text) texts
+
+-- all that the frozen log writes for an input
+abbrev pub frozen_text : Log → List ℕ → List ℕ
+frozen_text log input = joined (frozen_replies log input)

@@ -1,0 +1,169 @@
+//! The frozen log over a reader of request lines and a writer of replies.
+
+ghost use Rattle.std.specs.Prelude.{◌≡◌, ◌<◌, ◌≤◌, ◌+◌, ◌^◌, ℕ, List, [], length, IfOk, OnOk, IfErr, OnErr};
+ghost use Rattle.std.specs.Io.KnownBytes.{Appends, Consumes, IsAtEnd};
+ghost use Rattle.ct_lines.specs.Frozen.{frozen_reply, frozen_replies, frozen_text, joined};
+ghost use Rattle.ct_lines.specs.Serving.{count_in, reply_if, as_list, IsShort, IsCutOff};
+ghost use Rattle.ct_lines.specs.Progress.{Stands, Goes, Stops};
+
+use crate::frozen::frozen_reply;
+use crate::sending::write_whole;
+use crate::standing::StandingLine;
+use crate::writing::reply_text;
+use ct_codec::Refusal;
+use ct_core::Published;
+use ct_tree::Memory;
+use std::alloc::Global;
+use std::io::{Read, Write};
+
+// How often the reader is called at most: so many pieces have fewer lines than a u64 can count.
+const READS: u64 = 1 << 50;
+
+/// Why serving ended early, and how many replies were written whole.
+#[derive(Clone, Copy, Debug, PartialEq, Eq)]
+pub enum ServeFault {
+    /// The reader failed.
+    Read(u64),
+    /// The writer failed, or wrote no bytes.
+    Write(u64),
+    /// A growth was refused.
+    Memory(u64),
+}
+
+// The reply to the line that stands, or none where it is empty.
+fn standing_reply(
+    alloc: Global,
+    log: &Published,
+    standing: &StandingLine,
+) -> Result<Option<Vec<u8>>, Memory>
+    ensures { IfOk result (λ o. (line : List ℕ) → Stands standing.now line → as_list o ≡ reply_if (frozen_reply log.now) line) }
+{
+    if standing.too_long {
+        let reply = reply_text(alloc, &Err(Refusal::BadLine))?;
+        return Ok(Some(reply));
+    }
+    if standing.bytes.is_empty() {
+        return Ok(None);
+    }
+    let reply = frozen_reply(alloc, log, &standing.bytes)?;
+    Ok(Some(reply))
+}
+
+// Replies to the line that stands, which ends, and forgets it. Answers the number of replies, of which `count` are
+// written before.
+fn end_line<W: Write>(
+    alloc: Global,
+    log: &Published,
+    writer: &mut W,
+    standing: &mut StandingLine,
+    count: u64,
+) -> Result<u64, ServeFault>
+    requires { count + 1 < 2 ^ 64 }
+    ensures written { IfOk result (λ n. (line : List ℕ) → Stands standing.old line
+        → Appends (W.contents writer.old) (W.contents writer.new) (joined (reply_if (frozen_reply log.now) line))
+        × (n ≡ count + length (reply_if (frozen_reply log.now) line))) }
+    ensures bounded { IfOk result (λ n. n ≤ count + 1) }
+    ensures forgotten { OnOk result (Stands standing.new []) }
+    ensures counted { IfErr result (λ f. count_in f ≡ count) }
+    ensures stopped { OnErr result ((line : List ℕ) → Stands standing.old line
+        → (next : List ℕ) × IsShort next (reply_if (frozen_reply log.now) line)
+        × Appends (W.contents writer.old) (W.contents writer.new) next) }
+{
+    let Ok(reply) = standing_reply(alloc, log, standing) else {
+        return Err(ServeFault::Memory(count));
+    };
+    standing.clear();
+    let Some(bytes) = reply else {
+        return Ok(count);
+    };
+    if write_whole(writer, &bytes) {
+        Ok(count + 1)
+    } else {
+        Err(ServeFault::Write(count))
+    }
+}
+
+// Serves a piece of the input: replies to each line that ends in it, and keeps the line that stands behind it.
+fn feed<W: Write>(
+    alloc: Global,
+    log: &Published,
+    writer: &mut W,
+    standing: &mut StandingLine,
+    count: u64,
+    piece: &[u8],
+) -> Result<u64, ServeFault>
+    requires { count + length piece.now < 2 ^ 64 }
+    ensures bounded { IfOk result (λ n. n ≤ count + length piece.now) }
+    ensures served { IfOk result (λ n. (line : List ℕ) → Stands standing.old line
+        → Goes (frozen_reply log.now) (W.contents writer.old) (W.contents writer.new) standing.new count n line piece.now) }
+    ensures stopped { IfErr result (λ f. (line : List ℕ) → Stands standing.old line
+        → Stops (frozen_reply log.now) (W.contents writer.old) (W.contents writer.new) count (count_in f) line piece.now) }
+{
+    let mut total = count;
+    for byte in piece {
+        if *byte == b'\n' {
+            match end_line(alloc, log, writer, standing, total) {
+                Ok(more) => total = more,
+                Err(fault) => return Err(fault),
+            }
+        } else {
+            match standing.push(*byte) {
+                Ok(()) => {}
+                Err(_) => return Err(ServeFault::Memory(total)),
+            }
+        }
+    }
+    Ok(total)
+}
+
+/// Serves a log that was closed: reads request lines until the input ends, and writes for each its reply.
+///
+/// A line ends at the byte 0A, and the last one may end with the input. An empty line has no reply. A line that is no
+/// request, one of more than 1,048,576 bytes among them, and a request of a front or of the operator are replied to with
+/// `bad-line`. Each whole line that was read is replied to before the reader is called again. Memory is taken for one
+/// line and one reply at a time, and of a line that is too long no more is kept than of the longest line.
+///
+/// # Errors
+///
+/// With the number k of the replies that were written whole; behind these at most a proper beginning of the next one is
+/// written. `Read`: the reader failed (or was called 2^50 times). `Write`: the writer failed or took no bytes. `Memory`:
+/// a growth was refused. Each ends the call at once.
+pub fn serve_frozen<R: Read, W: Write>(
+    alloc: Global,
+    log: &Published,
+    reader: &mut R,
+    writer: &mut W,
+) -> Result<(), ServeFault>
+    ensures served { OnOk result ((input : List ℕ)
+        × Consumes (R.remaining reader.old) (R.remaining reader.new) input
+        × IsAtEnd (R.remaining reader.new)
+        × Appends (W.contents writer.old) (W.contents writer.new) (frozen_text log.now input)) }
+    ensures fault { IfErr result (λ f. (input : List ℕ) × (written : List ℕ)
+        × Consumes (R.remaining reader.old) (R.remaining reader.new) input
+        × Appends (W.contents writer.old) (W.contents writer.new) written
+        × IsCutOff (frozen_replies log.now input) written (count_in f)) }
+{
+    let mut standing = StandingLine::new(alloc);
+    let mut count = 0;
+    let mut buffer = [0u8; 8192];
+    for turn in 0..READS {
+        let space: &mut [u8] = &mut buffer;
+        match reader.read(space) {
+            Ok(0) => {
+                return match end_line(alloc, log, writer, &mut standing, count) {
+                    Ok(_) => Ok(()),
+                    Err(fault) => Err(fault),
+                };
+            }
+            Ok(n) => {
+                let (piece, _) = buffer.split_at(n);
+                match feed(alloc, log, writer, &mut standing, count, piece) {
+                    Ok(more) => count = more,
+                    Err(fault) => return Err(fault),
+                }
+            }
+            Err(_) => return Err(ServeFault::Read(count)),
+        }
+    }
+    Err(ServeFault::Read(count))
+}

@@ -1,0 +1,15 @@
+-- What an auditor's answers say: the verifiers' words over a tree head, and the words of the evidence.
+use Rattle.std.specs.Prelude.{Ok, Err, ⊤}
+use Rattle.std.specs.declared.result.Result.{Result}
+use Rattle.ct_verify.specs.declared.evidence.Evidence.{Evidence}
+use Rattle.ct_verify.specs.declared.evidence.EvidenceFault.{EvidenceFault}
+use Rattle.ct_verify.specs.declared.evidence.EvidenceFault.TheVariants.{ProofRefused, Memory}
+pub use Rattle.ct_verify.specs.Verdict.{AcceptsInclusion, RefusesInclusion, AcceptsConsistency, RefusesConsistency}
+pub use Rattle.ct_verify.specs.InclusionEvidence.{InclusionEvidence, InclusionFault}
+pub use Rattle.ct_verify.specs.Evidence.{IsAudited}
+
+-- the answer is that the verifier refuses the proof
+abbrev pub IsRefused : Result Evidence EvidenceFault → Type 0
+IsRefused (Ok evidence) = ⊥
+IsRefused (Err (ProofRefused fault)) = ⊤
+IsRefused (Err Memory) = ⊥
