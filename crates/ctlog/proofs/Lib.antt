@@ -3,3 +3,8 @@ pub mod LineLemmas
 pub mod TaskLemmas
 pub mod PlanLemmas
 pub mod ClosingLemmas
+pub mod TurnLemmas
+pub mod OperatorLemmas
+pub mod PartyLemmas
+pub mod HouseLemmas
+pub mod OutputLemmas

@@ -11,8 +11,8 @@ use Rattle.ct_lines.specs.Frozen.{frozen_replies, frozen_text}
 use Rattle.ct_lines.specs.Serving.{IsCutOff}
 use Rattle.ctlog.specs.declared.task.FrontTask.{FrontTask}
 use Rattle.ctlog.specs.declared.task.OperatorTask.{OperatorTask}
-use Rattle.ctlog.specs.declared.threads.FrontParty.{FrontParty}
-use Rattle.ctlog.specs.declared.threads.OperatorParty.{OperatorParty}
+use Rattle.ctlog.specs.declared.party.FrontParty.{FrontParty}
+use Rattle.ctlog.specs.declared.party.OperatorParty.{OperatorParty}
 use Rattle.ctlog.specs.Lines.{lines_of}
 use Rattle.ctlog.specs.Tasks.{Task, AllAskFor, front_parts, operator_parts, frozen_lines}
 use Rattle.ctlog.specs.Plans.{front_asked}
@@ -36,7 +36,7 @@ fronts_of parties = map (λ (p : FrontParty). p.front) parties
 pub record AreParties (n places open_at : ℕ) (ts : List Task) (operator : OperatorParty) (parties : List FrontParty) : Type 0 where
   pub fresh : IsNewHouse operator.sequencer (fronts_of parties) n places open_at
   pub fronts : (k : ℕ) (p : FrontParty) → slice_get parties k ≡ Some p → map front_asked p.tasks.items ≡ front_parts k ts
-  pub operator : operator.tasks.items ≡ operator_parts ts
+  pub operated : operator.tasks.items ≡ operator_parts ts
 
 -- The parties did their tasks, whatever the order between them, and left these fronts; the text is of their replies.
 abbrev pub AreServed : OperatorParty → List FrontParty → List FrontView → List ℕ → Type 0
@@ -94,5 +94,7 @@ IsBegun n places open_at close_at input old new =
 
 -- so many fronts, and so many places in each ring, can be asked for
 pub record AreOptions (n places : ℕ) : Type 0 where
-  pub fronts : (0 < n) × (n ≤ 16)
-  pub places : (0 < places) × (places ≤ 4096)
+  pub some_fronts : 0 < n
+  pub few_fronts : n ≤ 16
+  pub some_places : 0 < places
+  pub few_places : places ≤ 4096
