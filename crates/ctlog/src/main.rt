@@ -8,7 +8,8 @@
 //! - `command` reads the command line.
 //! - `plan` cuts the input into lines and gives them out, and `task` says what a front and the operator do for a line.
 //! - `front_work` and `operator_work` do the lines of a front and of the operator, and `replying` adds their replies.
-//! - `party` has the fronts and the operator with what they do, and `threads` has each front and the operator work in a thread of its own.
+//! - `party` has the fronts and the operator with what they do, and `threads` has each of them work in a thread of its
+//!   own.
 //! - `closing` closes the log.
 //! - `sending` writes bytes, and `fault` names what ends the program before all is written.
 //! - `program` has `run`, which does all this over any reader and any two writers.

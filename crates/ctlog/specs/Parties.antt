@@ -1,0 +1,44 @@
+-- What the fronts and the operator leave, when each has done its lines.
+use Rattle.std.specs.Prelude.{◌≡◌, ◌⊎◌, ℕ, List, [], ◌∷◌, ◌++◌}
+use Rattle.std.specs.List.{AllZip}
+use Rattle.ct_gate.specs.Ends.{SameIntake}
+use Rattle.ct_house.specs.House.{FrontView, HouseState}
+use Rattle.ctlog.specs.declared.fault.Fault.{Fault}
+use Rattle.ctlog.specs.declared.fault.Fault.TheVariants.{Memory, Threads}
+use Rattle.ctlog.specs.FrontWork.{FrontServes}
+use Rattle.ctlog.specs.OperatorWork.{OperatorServes, GoesOn}
+use Rattle.ctlog.specs.declared.party.FrontParty.{FrontParty}
+use Rattle.ctlog.specs.declared.party.OperatorParty.{OperatorParty}
+
+-- the party's front did its tasks, and is of the same ring; the text is of its replies
+pub record FrontIsServed (p : FrontParty) (after : FrontView) (text : List ℕ) : Type 0 where
+  pub serves : FrontServes p.front p.tasks.items [] after text
+  pub same : SameIntake p.front.intake after.intake
+
+-- the operator did its tasks, and the house went on; the text is of its replies
+pub record OperatorIsServed (p : OperatorParty) (after : HouseState) (text : List ℕ) : Type 0 where
+  pub serves : OperatorServes p.sequencer p.tasks.items [] after text
+  pub goes_on : GoesOn p.sequencer after
+
+-- the fronts are of the same rings, place by place
+abbrev pub AreSame : List FrontView → List FrontView → Type 0
+AreSame before after = AllZip (λ (a b : FrontView). SameIntake a.intake b.intake) before after
+
+-- each front did its tasks, and the text is of all their replies, front by front
+abbrev pub FrontsServe : List FrontParty → List FrontView → List ℕ → Type 0
+FrontsServe [] [] text = text ≡ []
+FrontsServe [] (f ∷ fs) text = ⊥
+FrontsServe (p ∷ ps) [] text = ⊥
+FrontsServe (p ∷ ps) (f ∷ fs) text = (own rest : List ℕ) × FrontIsServed p f own × FrontsServe ps fs rest × (text ≡ own ++ rest)
+
+-- all parties did their tasks: the text is of the fronts' replies, and then of the operator's
+pub record PartiesServe (operator : OperatorParty) (fronts : List FrontParty) (sequencer : HouseState) (after : List FrontView) (text : List ℕ) : Type 0 where
+  pub front_text : List ℕ
+  pub operator_text : List ℕ
+  pub served : FrontsServe fronts after front_text
+  pub operated : OperatorIsServed operator sequencer operator_text
+  pub replies : text ≡ front_text ++ operator_text
+
+-- a thread didn't start, or there was no memory
+abbrev pub IsPartyFault : Fault → Type 0
+IsPartyFault f = (f ≡ Threads) ⊎ (f ≡ Memory)
