@@ -1,91 +1,61 @@
 -- What the closing leaves.
-use Rattle.std.proofs.Common.{◌≡◌, ◌<◌, ◌≤◌, ℕ, List, [], ◌∷◌, ◌++◌, length, map, true, refl, sym, ap, subst, ◌∙◌, append-nil}
-use Rattle.std.specs.Prelude.{Result, Ok, Err, IfOk, IsErrOf, Some, slice_get, ◌-◌}
+use Rattle.std.proofs.Common.{◌≡◌, ◌≢◌, ◌⊎◌, ◌<◌, ◌≤◌, ◌+◌, ◌-◌, ℕ, List, [], ◌∷◌, ◌++◌, length, map, Bool, true, false, refl, sym, ap, subst, ◌∙◌, arith, append_assoc, append-nil, inl, inr}
+use Rattle.std.specs.Prelude.{Option, ◌||◌, if◌then◌else◌, nat_lt, Result, Ok, Err, IfErr}
+use Rattle.std.proofs.lemmas.Grind.{common_steps}
+use Rattle.std.proofs.lemmas.Bool.{ltb-true}
 use Rattle.ct_codec.specs.declared.item.Item.{Item}
 use Rattle.ct_codec.specs.declared.refusal.Refusal.{Refusal}
+use Rattle.ct_codec.specs.declared.refusal.Refusal.TheVariants.{ClockBack, Memory}
 use Rattle.ct_tree.specs.declared.head.Head.{Head}
-use Rattle.ct_core.specs.Leaf.{Entry, leaves_of}
-use Rattle.ct_core.specs.Settlement.{Log, Settled_as, firsts, firsts_after}
-use Rattle.ct_core.specs.Core.{CoreState, IsSettled, IsNextHead, IsInTime, IsCovered, after_publishing, new_core, first_head, last_moment, entry_at}
-use Rattle.ct_core.specs.Tree.{MTH}
-use Rattle.one_front.specs.Closing.{ClosingState, IsAccepted, SettlesWaiting}
-use Rattle.ctlog.specs.Answering.{final_entries, final_head}
-use Rattle.ctlog.specs.ClosedLog.{IsReady}
+use Rattle.ct_core.specs.Leaf.{Entry}
+use Rattle.ct_core.specs.Settlement.{Log, firsts_after}
+use Rattle.ct_core.specs.Core.{CoreState, IsSettled, newest_leaf, last_moment, clock_of, entry_at, publish_refusal}
+use Rattle.ct_house.specs.Sequence.{Sequences}
+use Rattle.ct_house.specs.House.{HouseState, SettlesMore}
+use Rattle.ctlog.specs.ClosedLog.{IsLate, IsRefused}
 
-no_items : Settled_as [] [] []
-unfolding firsts
-no_items = record { settles = record { count = refl; recorded = λ i x e. cc }; entered = refl }
+newest-push : (es : List Entry) (e : Entry) → newest_leaf (es ++ e ∷ []) ≡ e.timestamp
+newest-push es e = grind (arith, common_steps)
 
-none_settled : (core : CoreState) (t : ℕ) → core ≡ new_core t → IsSettled core []
-none_settled core t fresh = subst (λ (s : CoreState). IsSettled s []) (sym fresh) no_items
+-- entries of the moment now don't move the newest leaf past it
+newest-entered : (es : List Entry) (xs : List Item) (now : ℕ) → newest_leaf es ≤ now → newest_leaf (es ++ map (entry_at now) xs) ≤ now
+newest-entered es [] now h = subst (λ (l : List Entry). newest_leaf l ≤ now) (sym (append-nil es)) h
+newest-entered es (x ∷ xs) now h =
+    let last : newest_leaf (es ++ entry_at now x ∷ []) ≡ now = newest-push es (entry_at now x) in
+    subst (λ (l : List Entry). newest_leaf l ≤ now) (append_assoc es (entry_at now x ∷ []) (map (entry_at now) xs)) (newest-entered (es ++ entry_at now x ∷ []) xs now (omega arith))
 
--- all that waited is entered at now
-all_entered : (old new : ClosingState) (t now : ℕ) → old.core ≡ new_core t → SettlesWaiting old now new → new.waiting ≡ []
-    → new.core.entries ≡ final_entries now old.waiting
-unfolding firsts
-all_entered old new t now fresh s none =
-    let xs = s.done.0 in
-    let all : old.waiting ≡ xs = s.done.1 ∙ ap (λ (l : List Item). xs ++ l) none ∙ append-nil xs in
-    let grown = s.done.2 [] (none_settled old.core t fresh) in
-    grown.entries ∙ ap (λ (c : CoreState). c.entries ++ map (entry_at now) (firsts_after [] xs)) fresh
-    ∙ ap (λ (l : List Item). map (entry_at now) (firsts_after [] l)) (sym all)
+newest_in_time : (core : CoreState) (now : ℕ) → clock_of core ≤ now → newest_leaf core.entries ≤ now
+newest_in_time core now h = omega arith
 
-head_is : (h : Head) (size moment : ℕ) (root : List ℕ) → h.tree_size ≡ size → h.timestamp ≡ moment → h.root ≡ root
-    → h ≡ record { tree_size = size; timestamp = moment; root = root }
-head_is h size moment root p q r =
-    let f : ℕ → Head = λ n. record { tree_size = n; timestamp = h.timestamp; root = h.root } in
-    let g : ℕ → Head = λ n. record { tree_size = size; timestamp = n; root = h.root } in
-    let k : List ℕ → Head = λ n. record { tree_size = size; timestamp = moment; root = n } in
-    ap f p ∙ ap g q ∙ ap k r
+-- a refused publication: what either test says, or there was no memory
+refused_by : (a b : Bool) (e : Refusal) (P : Type 0) → (a ≡ true → P) → (b ≡ true → P) → e ≡ (if a || b then ClockBack else Memory) → ((e ≡ ClockBack) × P) ⊎ (e ≡ Memory)
+refused_by true b e P p q h = inl (h, p refl)
+refused_by false true e P p q h = inl (h, q refl)
+refused_by false false e P p q h = inr h
 
-final_head_is : (core : CoreState) (now : ℕ) (h : Head) (accepted : List Item) → IsNextHead core now h
-    → core.entries ≡ final_entries now accepted → h ≡ final_head now accepted
-final_head_is core now h accepted n e =
-    head_is h (length (final_entries now accepted)) now (MTH (leaves_of (final_entries now accepted)))
-    (n.size ∙ ap (λ (es : List Entry). length es) e) n.moment (n.root ∙ ap (λ (es : List Entry). MTH (leaves_of es)) e)
+-- where the newest leaf isn't past now, the last head is what stands against a publication
+publish_refused : (core : CoreState) (now : ℕ) (e : Refusal) → e ≡ publish_refusal core now
+    → ((e ≡ ClockBack) × (newest_leaf core.entries ≤ now → now ≤ last_moment core.published.heads)) ⊎ (e ≡ Memory)
+publish_refused core now e h =
+    refused_by (nat_lt now (newest_leaf core.entries)) (nat_lt now (last_moment core.published.heads + 1)) e
+    (newest_leaf core.entries ≤ now → now ≤ last_moment core.published.heads)
+    (λ t newest. let l : now < newest_leaf core.entries = ltb-true now (newest_leaf core.entries) t in absurd (omega arith))
+    (λ t newest. let l : now < last_moment core.published.heads + 1 = ltb-true now (last_moment core.published.heads + 1) t in omega arith) h
 
--- shut, settled and published, one after the other
-pub ready : (first shut settled last : ClosingState) (now : ℕ) (h : Head) → shut ≡ record first { shut = true } → SettlesWaiting shut now settled
-    → settled.waiting ≡ [] → IsNextHead settled.core now h → last ≡ record settled { core = after_publishing settled.core h }
-    → ((items : List Item) → IsAccepted first items → IsAccepted last items) → IsReady first now h last
-ready first shut settled last now h e s none n p listed =
-    let core_is : last.core ≡ after_publishing settled.core h = ap (λ (x : ClosingState). x.core) p in
-    let same_core : shut.core ≡ first.core = ap (λ (x : ClosingState). x.core) e in
-    let same_waiting : shut.waiting ≡ first.waiting = ap (λ (x : ClosingState). x.waiting) e in
-    record {
-      shut = ap (λ (x : ClosingState). x.shut) p ∙ s.shut ∙ ap (λ (x : ClosingState). x.shut) e;
-      settled = ap (λ (x : ClosingState). x.waiting) p ∙ none;
-      covered = subst (λ (c : CoreState). IsCovered c) (sym core_is) (refl, refl);
-      accepted = ap (λ (x : ClosingState). x.accepted) p ∙ s.accepted ∙ ap (λ (x : ClosingState). x.accepted) e;
-      listed = listed;
-      heads = ap (λ (c : CoreState). c.published.heads) core_is ∙ ap (λ (l : Log). l.heads ++ h ∷ []) (s.published ∙ ap (λ (c : CoreState). c.published) same_core);
-      last = λ t fresh. final_head_is settled.core now h first.waiting n
-          (all_entered shut settled t now (same_core ∙ fresh) s none ∙ ap (λ (l : List Item). final_entries now l) same_waiting);
-    }
+-- after all was settled at now, the last head alone can be too late
+late_head : (old shut settled : HouseState) (xs : List Item) (now : ℕ) → shut ≡ record old { accepted = shut.accepted } → SettlesMore shut settled xs now → clock_of shut.core ≤ now
+    → (newest_leaf settled.core.entries ≤ now → now ≤ last_moment settled.core.published.heads) → (items : List Item) → Sequences old items → IsLate old.core now
+late_head old shut settled xs now e s time late items q =
+    let same : shut.core ≡ old.core = ap (λ (h : HouseState). h.core) e in
+    let grown = s.grows items (subst (λ (c : CoreState). IsSettled c items) (sym same) q.settled) in
+    let newest : newest_leaf settled.core.entries ≤ now =
+    subst (λ (l : List Entry). newest_leaf l ≤ now) (sym grown.entries) (newest-entered shut.core.entries (firsts_after items xs) now (newest_in_time shut.core now time)) in
+    inr (subst (λ (l : Log). now ≤ last_moment l.heads) (s.published ∙ ap (λ (c : CoreState). c.published) same) (late newest))
 
--- the moment of a log that was opened and not yet published
-pub opened_at : (core : CoreState) (t : ℕ) → core.published ≡ (let fresh = new_core t in fresh.published) → last_moment core.published.heads ≡ t
-opened_at core t e = ap (λ (l : Log). last_moment l.heads) e
-
--- the same where the publication is refused, of which nothing is said
-pub ready_if : (first shut settled last : ClosingState) (now : ℕ) (r : Result Head Refusal) → shut ≡ record first { shut = true } → SettlesWaiting shut now settled
-    → settled.waiting ≡ [] → IfOk r (λ h. IsNextHead settled.core now h) → IfOk r (λ h. last ≡ record settled { core = after_publishing settled.core h })
-    → ((items : List Item) → IsAccepted first items → IsAccepted last items) → IfOk r (λ h. IsReady first now h last)
-ready_if first shut settled last now (Ok h) e s none n p listed = ready first shut settled last now h e s none n p listed
-ready_if first shut settled last now (Err r) e s none n p listed = tt
-
--- the last of the heads of a log that had one head and got another
-pub last_head_is : (log : Log) (old new : CoreState) (t : ℕ) (h f : Head) → log ≡ new.published → new.published.heads ≡ old.published.heads ++ h ∷ []
-    → old ≡ new_core t → h ≡ f → slice_get log.heads (length log.heads - 1) ≡ Some f
-last_head_is log old new t h f e hs fresh same =
-    let heads : log.heads ≡ first_head t ∷ h ∷ [] = ap (λ (l : Log). l.heads) e ∙ hs ∙ ap (λ (c : CoreState). c.published.heads ++ h ∷ []) fresh in
-    ap (λ (l : List Head). slice_get l (length l - 1)) heads ∙ ap (λ (x : Head). Some x) same
-
--- the error of a result that is this error
-error_or : {T E : Type 0} → E → Result T E → E
-error_or d (Ok x) = d
-error_or d (Err e) = e
-
-pub error_is : {T E : Type 0} (e f : E) → IsErrOf {T = T} {E = E} (Err e) f → e ≡ f
-unfolding error_or
-error_is e f h = ap (error_or e) h
+pub closing_refused : (r : Result Head Refusal) (old shut settled after : HouseState) (xs : List Item) (now : ℕ) → shut ≡ record old { accepted = shut.accepted } → SettlesMore shut settled xs now
+    → clock_of shut.core ≤ now → IfErr r (λ e. (e ≡ publish_refusal settled.core now) × (after ≡ settled)) → IfErr r (λ e. IsRefused old now e)
+closing_refused (Ok h) old shut settled after xs now e s time p = tt
+closing_refused (Err r) old shut settled after xs now e s time p = elim (publish_refused settled.core now r p.0) [
+  | inl c ↦ inl (c.0, late_head old shut settled xs now e s time c.1)
+  | inr m ↦ inr m
+]

@@ -1,9 +1,10 @@
 pub mod Sent
 pub mod LineLemmas
 pub mod TaskLemmas
-pub mod ServingLemmas
+pub mod PlanLemmas
 pub mod ClosingLemmas
-pub mod OutputLemmas
 pub mod TurnLemmas
 pub mod OperatorLemmas
 pub mod PartyLemmas
+pub mod HouseLemmas
+pub mod OutputLemmas

@@ -1,11 +1,11 @@
 pub mod Lines
 pub mod Tasks
 pub mod Plans
-pub mod Answering
-pub mod ClosedLog
-pub mod Output
-pub mod Faults
 pub mod InTurn
 pub mod FrontWork
 pub mod OperatorWork
 pub mod Parties
+pub mod ClosedLog
+pub mod Output
+pub mod Faults
+pub mod Sends

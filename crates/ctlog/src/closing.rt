@@ -1,30 +1,49 @@
 //! The closing of the log.
 
-ghost use Rattle.std.specs.Prelude.{◌≡◌, ◌⊎◌, ◌<◌, ◌≤◌, ◌-◌, ℕ, List, [], ◌∷◌, length, slice_get, Some, Err, IfOk, OnOk, IfErr, IsErrOf};
+ghost use Rattle.std.specs.Prelude.{◌≡◌, ◌⊎◌, List, length, All, IfOk, OnOk, IfErr, IsErrOf};
 ghost use Rattle.ct_codec.specs.declared.item.Item.{Item};
-ghost use Rattle.ct_core.specs.Core.{new_core};
 ghost use Rattle.ct_core.specs.Settlement.{IsFinal};
-ghost use Rattle.one_front.specs.Closing.{IsAccepted};
-ghost use Rattle.ctlog.specs.Answering.{final_head};
-ghost use Rattle.ctlog.specs.ClosedLog.{IsReady};
+ghost use Rattle.ct_house.specs.Sequence.{Sequences};
+ghost use Rattle.ct_house.specs.House.{IsOfHouse, AreInOrder, accepted_lists};
+ghost use Rattle.ctlog.specs.ClosedLog.{IsLate, IsReady, IsRefused, EndsAt};
 
 use crate::fault::Fault;
 use ct_codec::Refusal;
-use ct_tree::Head;
-use one_front::{Closing, FinalLog};
+use ct_house::{FinalLog, Front, Retired, Sequencer};
+use ct_tree::{Head, Memory};
 use std::alloc::Global;
+use std::sync::Wait;
+use std::thread::Threads;
 
-// Shuts the log, settles what waits, and publishes the last head. A log that the operator shut stays shut.
-fn settle_and_publish(alloc: Global, house: &mut Closing, now: u64) -> Result<Head, Refusal>
-    ensures ready { IfOk result (λ h. IsReady house.old now h house.new) }
-    ensures in_time { (opened : ℕ) → house.old.core ≡ new_core opened → OnOk result (opened < now) }
-    ensures clock_back { (opened : ℕ) → house.old.core ≡ new_core opened → IsErrOf result Refusal.ClockBack → now ≤ opened }
-    ensures early { (opened : ℕ) → house.old.core ≡ new_core opened → now < opened → result ≡ Err Refusal.ClockBack }
-    ensures refusals { IfErr result (λ e. (e ≡ Refusal.ClockBack) ⊎ (e ≡ Refusal.Memory)) }
+// The fronts, retired, in order.
+fn retire_all(alloc: Global, fronts: Vec<Front>) -> Result<Vec<Retired>, Memory>
+    ensures { IfOk result (λ ends. ends.items ≡ fronts.items) }
 {
-    let _ = house.shutdown();
-    house.settle(alloc, now)?;
-    house.publish(alloc, now)
+    let mut ends = Vec::with_capacity(alloc, fronts.len())?;
+    for front in fronts {
+        ends.push_reserved(front.retire());
+    }
+    Ok(ends)
+}
+
+// Shuts the log, settles all that the fronts had accepted, and publishes the last head. A log that the operator shut
+// stays shut.
+fn settle_and_publish<H: Threads + Wait + Sync>(
+    rt: &H,
+    alloc: Global,
+    sequencer: &mut Sequencer,
+    ends: &mut [Retired],
+    now: u64,
+) -> Result<Head, Refusal>
+    requires of_house { All (IsOfHouse sequencer.old.house) ends.old }
+    requires in_order { AreInOrder (length sequencer.old.lanes) ends.old }
+    ensures ready { IfOk result (λ h. IsReady sequencer.old ends.old now h sequencer.new) }
+    ensures ends { ends.new ≡ ends.old }
+    ensures refused { IfErr result (λ e. IsRefused sequencer.old now e) }
+{
+    let _ = sequencer.shutdown();
+    sequencer.settle(rt, alloc, ends, now)?;
+    sequencer.publish(rt, alloc, now)
 }
 
 // The fault that a refusal of the closing is.
@@ -38,20 +57,29 @@ fn closing_fault(refusal: Refusal) -> Fault
     }
 }
 
-/// Closes the log at the moment `now`, in milliseconds. A fault is `ClockBack`, where the clock refuses the moment, or
-/// `Memory`.
-pub fn close(alloc: Global, mut house: Closing, now: u64) -> Result<FinalLog, Fault>
-    ensures closes { IfOk result (λ log. (items : List Item) → IsAccepted house items → IsFinal (items ∷ []) log.accepted log.log) }
-    ensures accepted { IfOk result (λ log. log.accepted ≡ house.accepted) }
-    ensures head { (opened : ℕ) → house.core ≡ new_core opened
-        → IfOk result (λ log. slice_get log.log.heads (length log.log.heads - 1) ≡ Some (final_head now house.waiting)) }
-    ensures in_time { (opened : ℕ) → house.core ≡ new_core opened → OnOk result (opened < now) }
-    ensures clock_back { (opened : ℕ) → house.core ≡ new_core opened → IsErrOf result Fault.ClockBack → now ≤ opened }
-    ensures early { (opened : ℕ) → house.core ≡ new_core opened → now < opened → result ≡ Err Fault.ClockBack }
+/// Closes the log at the moment `now`, in milliseconds, with all of its fronts in order. A fault is `ClockBack`, where
+/// the clock refuses the moment, or `Memory`.
+pub fn close<H: Threads + Wait + Sync>(
+    rt: &H,
+    alloc: Global,
+    mut sequencer: Sequencer,
+    fronts: Vec<Front>,
+    now: u64,
+) -> Result<FinalLog, Fault>
+    requires of_house { All (IsOfHouse sequencer.house) fronts.items }
+    requires in_order { AreInOrder (length sequencer.lanes) fronts.items }
+    ensures closes { IfOk result (λ log. (items : List Item) → Sequences sequencer items → IsFinal (accepted_lists fronts.items) log.accepted log.log) }
+    ensures head { IfOk result (λ log. EndsAt sequencer.core.published now log.log) }
+    ensures in_time { OnOk result (IsLate sequencer.core now → ⊥) }
+    ensures clock_back { IsErrOf result Fault.ClockBack → (items : List Item) → Sequences sequencer items → IsLate sequencer.core now }
     ensures faults { IfErr result (λ f. (f ≡ Fault.ClockBack) ⊎ (f ≡ Fault.Memory)) }
 {
-    match settle_and_publish(alloc, &mut house, now) {
-        Ok(_) => Ok(house.finish()),
-        Err(refusal) => Err(closing_fault(refusal)),
+    let mut ends = retire_all(alloc, fronts)?;
+    match settle_and_publish(rt, alloc, &mut sequencer, &mut ends, now) {
+        Ok(_) => Ok(sequencer.finish(rt, ends)),
+        Err(refusal) => {
+            sequencer.abandon(ends);
+            Err(closing_fault(refusal))
+        }
     }
 }

@@ -12,12 +12,16 @@ const LAST_MOMENT: u64 = 9_007_199_254_740_991;
 /// What the command line asks for.
 #[derive(Clone, Copy, Debug)]
 pub struct Options {
-    /// The places of the front's ring.
+    /// The number of fronts.
+    pub fronts: u16,
+    /// The places of each front's ring.
     pub ring: usize,
     /// The moment at which the log opens, in milliseconds.
     pub open_at: u64,
     /// The moment at which it is closed, in milliseconds.
     pub close_at: u64,
+    ghost some_fronts: { 0 < fronts },
+    ghost few_fronts: { fronts ≤ 16 },
     ghost some_places: { 0 < ring },
     ghost few_places: { ring ≤ 4096 },
 }
@@ -29,7 +33,7 @@ fn command<'a>(alloc: Global) -> Result<Command<'a>, Error> {
         .value_name("N")
         .help("The number of fronts")
         .required(true)
-        .value_parser(value_parser!(u16).range(1..=1));
+        .value_parser(value_parser!(u16).range(1..=16));
     let ring = Arg::new(alloc, "ring")
         .long("ring")
         .value_name("K")
@@ -60,15 +64,32 @@ pub fn read_options<'a>(alloc: Global, words: &'a [&'a str]) -> Result<Options, 
     let matches = command.try_get_matches_from_mut(words)?;
     let open_at = matches.get_one::<u64>("open-at").unwrap_or(0);
     let close_at = matches.get_one::<u64>("close-at").unwrap_or(LAST_MOMENT);
-    match matches.get_one::<usize>("ring") {
-        Some(ring @ 1..=4096) => Ok(Options {
+    let fronts = matches.get_one::<u16>("fronts");
+    let ring = matches.get_one::<usize>("ring");
+    match (fronts, ring) {
+        (Some(fronts @ 1..=16), Some(ring @ 1..=4096)) => Ok(Options {
+            fronts,
             ring,
             open_at,
             close_at,
         }),
         _ => {
-            let error = command.error(ErrorKind::ValueValidation, "a ring has 1 to 4096 places")?;
+            let error = command.error(ErrorKind::ValueValidation, "a number is out of range")?;
             Err(error)
         }
+    }
+}
+
+fn unreadable(alloc: Global) -> Result<Error, Error> {
+    let mut command = command(alloc)?;
+    let error = command.error(ErrorKind::InvalidValue, "an argument isn't UTF-8")?;
+    Ok(error)
+}
+
+/// The refusal of a command line with a word that isn't UTF-8.
+pub fn unreadable_word(alloc: Global) -> Error {
+    match unreadable(alloc) {
+        Ok(error) => error,
+        Err(error) => error,
     }
 }

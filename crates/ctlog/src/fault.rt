@@ -2,7 +2,7 @@
 
 ghost use Rattle.std.specs.Prelude.{◌≡◌, List, ℕ};
 ghost use Rattle.std.specs.Io.KnownBytes.{Appends};
-ghost use Rattle.ctlog.specs.Output.{SendsSome};
+ghost use Rattle.ctlog.specs.Sends.{SendsSome};
 ghost use Rattle.ctlog.specs.declared.fault.Fault.TheVariants.{Memory};
 ghost use Rattle.ctlog.specs.Faults.{fault_line};
 

@@ -1,14 +1,16 @@
-//! The program `ctlog`: a log with one front, run over a script of request lines.
+//! The program `ctlog`: a log with up to 16 fronts, run over a script of request lines.
 //!
-//! It reads standard input whole, gives its lines out to the front, the operator and the frozen log, and writes a
-//! reply for each line that isn't empty: the front's first, then the operator's, then, once the log is closed, those
-//! of the frozen log.
+//! It reads standard input whole, gives its lines out to the fronts, the operator and the frozen log, and writes a
+//! reply for each line that isn't empty: each front and the operator does its lines in a thread of its own, the
+//! replies of the fronts come first, in the order of their numbers, then the operator's, then, once the log is closed,
+//! those of the frozen log.
 //!
 //! - `command` reads the command line.
-//! - `plan` cuts the input into lines and gives them out.
-//! - `parties` does the lines of the front and of the operator.
+//! - `plan` cuts the input into lines and gives them out, and `task` says what a front and the operator do for a line.
+//! - `front_work` and `operator_work` do the lines of a front and of the operator, and `replying` adds their replies.
+//! - `party` has the fronts and the operator with what they do, and `threads` has each of them work in a thread of its
+//!   own.
 //! - `closing` closes the log.
-//! - `frozen` answers from the closed log.
 //! - `sending` writes bytes, and `fault` names what ends the program before all is written.
 //! - `program` has `run`, which does all this over any reader and any two writers.
 #![tactic(auto)]
@@ -17,9 +19,7 @@ mod closing;
 mod command;
 mod fault;
 mod front_work;
-mod frozen;
 mod operator_work;
-mod parties;
 mod party;
 #[cfg(test)]
 mod party_tests;
@@ -28,12 +28,12 @@ mod program;
 mod replying;
 mod sending;
 mod task;
-mod threads;
 #[cfg(test)]
 mod tests;
+mod threads;
 
 use fault::Fault;
-use program::run;
+use program::{refuse_words, run};
 use std::alloc::{AllocError, Global};
 use std::io;
 use std::process::ExitCode;
@@ -57,14 +57,23 @@ fn collected(rt: &HostRuntime) -> io::Result<Vec<String>> {
 
 fn main(rt: HostRuntime) -> ExitCode {
     let alloc = rt.alloc();
+    let mut output = std::io::writer(&rt);
     let mut faults = rt.stderr();
-    let Ok(words) = collected(&rt) else {
-        return ExitCode::from(fault::report(Fault::Memory, &mut faults));
+    let words = match collected(&rt) {
+        Ok(words) => words,
+        Err(error) => return ExitCode::from(refuse_words(alloc, &error, &mut output, &mut faults)),
     };
     let Ok(texts) = texts(alloc, &words) else {
         return ExitCode::from(fault::report(Fault::Memory, &mut faults));
     };
     let mut input = rt.reader();
-    let mut output = std::io::writer(&rt);
-    ExitCode::from(run(alloc, &texts, TURNS, &mut input, &mut output, &mut faults))
+    ExitCode::from(run(
+        &rt,
+        alloc,
+        &texts,
+        TURNS,
+        &mut input,
+        &mut output,
+        &mut faults,
+    ))
 }

@@ -1,102 +1,97 @@
 //! The lines of the input, and who does them.
 
-ghost use Rattle.std.specs.Prelude.{◌≡◌, ◌<◌, ◌++◌, ◌∷◌, [], List, length, IfOk, OnOk};
-ghost use Rattle.ct_lines.specs.Asked.{by_front};
-ghost use Rattle.ct_lines.specs.Requests.{asked, front_asked, operator_asked, frozen_asked};
-ghost use Rattle.ctlog.specs.Lines.{lines_behind, lines_of};
-ghost use Rattle.ctlog.specs.Tasks.{Task as TaskOf, task_of, operator_task, frozen_task, AsksFor, AllAskFor};
-ghost use Rattle.ctlog.specs.Plans.{task, task as task_in, IsPlanOf};
+ghost use Rattle.std.specs.Prelude.{◌≡◌, ◌<◌, ◌++◌, ◌∷◌, ℕ, [], List, Vec, length, IfOk, OnOk, Some, slice_get};
+ghost use Rattle.std.specs.Global.{Global as GlobalOf};
+ghost use Rattle.ct_lines.specs.Requests.{asked, front_asked as request_of, operator_asked};
+ghost use Rattle.ctlog.specs.declared.task.FrontTask.{FrontTask as FrontTaskOf};
+ghost use Rattle.ctlog.specs.Lines.{lines_of};
+ghost use Rattle.ctlog.specs.Tasks.{Task as TaskOf, for_front, for_frozen, front_task, operator_task, task_of, AsksFor, AllAskFor, IsForThere};
+ghost use Rattle.ctlog.specs.Plans.{task, task as task_in, front_asked, IsPlanOf};
 
+use crate::task::{FrontTask, OperatorTask};
 use ct_codec::Refusal;
-use ct_core::Query;
-use ct_lines::{FrontRequest, FrozenRequest, OperatorRequest, Request, read_line};
+use ct_lines::{FrontRequest, OperatorRequest, Request, read_line};
 use ct_tree::Memory;
 use memchr::memchr;
 use std::alloc::{AllocError, Global};
 
 /// What a line has the program do.
 #[derive(Debug, Drop)]
-enum Task {
-    // The front submits this chain.
-    Submit(Vec<Vec<u8>>),
-    // The operator shuts the log down.
-    Shut,
-    // The frozen log answers.
-    Show(Query),
-    // The line is replied to with bad-line.
-    Bad,
-}
-
-/// What the operator does for a line.
-#[derive(Clone, Copy, Debug, PartialEq, Eq)]
-pub enum OperatorLine {
-    /// The log is shut down.
-    Shutdown,
-    /// The line is no request that anyone here takes, and is replied to with bad-line.
-    BadLine,
+enum Task<'a> {
+    // The front with this number does this.
+    Front(u16, FrontTask),
+    // The operator does this.
+    Operator(OperatorTask),
+    // The frozen log answers this line.
+    Frozen(&'a [u8]),
 }
 
 /// What the lines of an input ask for, given out to those who do it.
 #[derive(Drop)]
 pub struct Plan {
-    /// The chains that the front submits, in order.
-    pub chains: Vec<Vec<Vec<u8>>>,
+    /// What each front does, in order.
+    pub fronts: Vec<Vec<FrontTask>>,
     /// What the operator does, in order.
-    pub operator: Vec<OperatorLine>,
-    /// What the frozen log is asked, in order.
-    pub frozen: Vec<Query>,
+    pub operator: Vec<OperatorTask>,
+    /// The lines that the frozen log answers, in order, each with its end.
+    pub frozen: Vec<u8>,
 }
 
-fn front_request_task(front: u64, request: FrontRequest) -> Task
-    ensures { task result ≡ task_of (by_front front (front_asked request)) }
+// What the front with this number does. One that isn't there leaves the operator a bad line.
+fn front_request_task<'a>(fronts: u16, number: u64, request: FrontRequest) -> Task<'a>
+    ensures asked { task result ≡ front_task fronts number (request_of request) }
+    ensures there { IsForThere fronts (task result) }
 {
-    if front != 0 {
-        return Task::Bad;
+    if number >= u64::from(fronts) {
+        return Task::Operator(OperatorTask::BadLine);
     }
+    let number = number as u16;
     match request {
-        FrontRequest::AddChain { chain } => Task::Submit(chain),
-        FrontRequest::AwaitSize { .. } => Task::Bad,
-        FrontRequest::Ask(_) => Task::Bad,
-    }
-}
-
-fn operator_request_task(request: OperatorRequest) -> Task
-    ensures { task result ≡ operator_task (operator_asked request) }
-{
-    match request {
-        OperatorRequest::Shutdown => Task::Shut,
-        OperatorRequest::Sequence { .. } => Task::Bad,
-        OperatorRequest::Publish { .. } => Task::Bad,
+        FrontRequest::AddChain { chain } => Task::Front(number, FrontTask::Submit(chain)),
+        FrontRequest::AwaitSize { tree_size } => {
+            Task::Front(number, FrontTask::AwaitSize(tree_size))
+        }
+        FrontRequest::Ask(query) => Task::Front(number, FrontTask::Ask(query)),
     }
 }
 
-fn frozen_request_task(request: FrozenRequest) -> Task
-    ensures { task result ≡ frozen_task (frozen_asked request) }
+// What the operator does. To sequence a front that isn't there is a bad line.
+fn operator_request_task(fronts: u16, request: OperatorRequest) -> OperatorTask
+    ensures { result ≡ operator_task fronts (operator_asked request) }
 {
     match request {
-        FrozenRequest::Ask(Query::GetSth) => Task::Show(Query::GetSth),
-        FrozenRequest::Ask(_) => Task::Bad,
-        FrozenRequest::Audit(_) => Task::Bad,
+        OperatorRequest::Sequence { from, count, now } => {
+            if from >= u64::from(fronts) {
+                return OperatorTask::BadLine;
+            }
+            let from = from as u16;
+            OperatorTask::Sequence { from, count, now }
+        }
+        OperatorRequest::Publish { now } => OperatorTask::Publish { now },
+        OperatorRequest::Shutdown => OperatorTask::Shutdown,
     }
 }
 
-fn request_task(request: Request) -> Task
-    ensures { task result ≡ task_of (asked request) }
+// What the request that a line is asks for.
+fn request_task<'a>(fronts: u16, line: &'a [u8], request: Request) -> Task<'a>
+    ensures asked { task result ≡ task_of fronts line.entry.now (asked request) }
+    ensures there { IsForThere fronts (task result) }
 {
     match request {
-        Request::Front(front, request) => front_request_task(front, request),
-        Request::Operator(request) => operator_request_task(request),
-        Request::Frozen(request) => frozen_request_task(request),
+        Request::Front(number, request) => front_request_task(fronts, number, request),
+        Request::Operator(request) => Task::Operator(operator_request_task(fronts, request)),
+        Request::Frozen(_) => Task::Frozen(line),
     }
 }
 
 // What a line asks for.
-fn line_task(alloc: Global, line: &[u8]) -> Result<Task, Memory>
-    ensures { IfOk result (λ t. AsksFor line.now (task t)) }
+fn line_task<'a>(alloc: Global, fronts: u16, line: &'a [u8]) -> Result<Task<'a>, Memory>
+    ensures asked { IfOk result (λ t. AsksFor fronts line.entry.now (task t)) }
+    ensures there { IfOk result (λ t. IsForThere fronts (task t)) }
 {
     match read_line(alloc, line) {
-        Ok(request) => Ok(request_task(request)),
-        Err(Refusal::BadLine) => Ok(Task::Bad),
+        Ok(request) => Ok(request_task(fronts, line, request)),
+        Err(Refusal::BadLine) => Ok(Task::Operator(OperatorTask::BadLine)),
         Err(_) => Err(AllocError),
     }
 }
@@ -113,41 +108,74 @@ fn first_line(bytes: &[u8]) -> (&[u8], &[u8])
     }
 }
 
+// A list for each front, with nothing to do in it.
+fn no_tasks(alloc: Global, fronts: u16) -> Result<Vec<Vec<FrontTask>>, Memory>
+    ensures count { IfOk result (λ lists. length lists.items ≡ fronts) }
+    ensures empty { IfOk result (λ lists. (k : ℕ) (v : Vec FrontTaskOf GlobalOf) → slice_get lists.items k ≡ Some v → v.items ≡ []) }
+{
+    let mut lists = Vec::new(alloc);
+    for _front in 0..fronts {
+        lists.push(Vec::new(alloc))?;
+    }
+    Ok(lists)
+}
+
 impl Plan {
-    fn new(alloc: Global) -> Plan
-        ensures { IsPlanOf result [] }
+    // A plan for so many fronts, with nothing to do.
+    fn new(alloc: Global, fronts: u16) -> Result<Plan, Memory>
+        ensures { IfOk result (λ p. IsPlanOf fronts p []) }
     {
-        Plan {
-            chains: Vec::new(alloc),
+        let fronts = no_tasks(alloc, fronts)?;
+        Ok(Plan {
+            fronts,
             operator: Vec::new(alloc),
             frozen: Vec::new(alloc),
-        }
+        })
+    }
+
+    // Adds what a front does.
+    fn add_front_task(&mut self, number: u16, task: FrontTask) -> Result<(), Memory>
+        requires { number < length self.old.fronts.items }
+        ensures { OnOk result ((fronts : ℕ) (tasks : List TaskOf) → IsPlanOf fronts self.old tasks → IsPlanOf fronts self.new (tasks ++ for_front number (front_asked task) ∷ [])) }
+    {
+        let tasks = &mut self.fronts[number as usize];
+        tasks.push(task)?;
+        Ok(())
+    }
+
+    // Adds a line that the frozen log answers.
+    fn add_frozen_line(&mut self, line: &[u8]) -> Result<(), Memory>
+        ensures { OnOk result ((fronts : ℕ) (tasks : List TaskOf) → IsPlanOf fronts self.old tasks → IsPlanOf fronts self.new (tasks ++ for_frozen line.now ∷ [])) }
+    {
+        self.frozen.extend_from_slice(line)?;
+        self.frozen.push(b'\n')?;
+        Ok(())
     }
 
     // Adds what a line asks for.
-    fn add(&mut self, task: Task) -> Result<(), Memory>
-        ensures { OnOk result ((tasks : List TaskOf) → IsPlanOf self.old tasks → IsPlanOf self.new (tasks ++ task_in task ∷ [])) }
+    fn add(&mut self, task: Task<'_>) -> Result<(), Memory>
+        requires { IsForThere (length self.old.fronts.items) (task_in task) }
+        ensures { OnOk result ((fronts : ℕ) (tasks : List TaskOf) → IsPlanOf fronts self.old tasks → IsPlanOf fronts self.new (tasks ++ task_in task.entry ∷ [])) }
     {
         match task {
-            Task::Submit(chain) => self.chains.push(chain)?,
-            Task::Shut => self.operator.push(OperatorLine::Shutdown)?,
-            Task::Show(query) => self.frozen.push(query)?,
-            Task::Bad => self.operator.push(OperatorLine::BadLine)?,
+            Task::Front(number, task) => self.add_front_task(number, task)?,
+            Task::Operator(task) => self.operator.push(task)?,
+            Task::Frozen(line) => self.add_frozen_line(line)?,
         }
         Ok(())
     }
 }
 
-/// Gives the lines of the input out. An empty line is nobody's.
-pub fn give_out(alloc: Global, input: &[u8]) -> Result<Plan, Memory>
-    ensures { IfOk result (λ p. (tasks : List TaskOf) × AllAskFor (lines_of input.now) tasks × IsPlanOf p tasks) }
+/// Gives the lines of the input out to so many fronts, to the operator and to the frozen log. An empty line is nobody's.
+pub fn give_out(alloc: Global, fronts: u16, input: &[u8]) -> Result<Plan, Memory>
+    ensures { IfOk result (λ p. (tasks : List TaskOf) × AllAskFor fronts (lines_of input.now) tasks × IsPlanOf fronts p tasks) }
 {
-    let mut plan = Plan::new(alloc);
+    let mut plan = Plan::new(alloc, fronts)?;
     let mut rest = input;
     while !rest.is_empty() {
         let (line, behind) = first_line(rest);
         if !line.is_empty() {
-            plan.add(line_task(alloc, line)?)?;
+            plan.add(line_task(alloc, fronts, line)?)?;
         }
         rest = behind;
     }

@@ -1,8 +1,10 @@
-use crate::program::run;
+use crate::program::{refuse_words, run};
 use std::alloc::Global;
 use std::io;
 use std::io::{ErrorKind, Read, Write};
+use std::sync::Wait;
 use std::test::Fail;
+use std::thread::Threads;
 
 const EMPTY_HEAD: &str =
     "{\"sha256_root_hash\":\"47DEQpj8HBSa+/TImW+5JCeuQeRkm5NMpJWZG3hSuFU=\",\"timestamp\":7,\"tree_size\":0}\n";
@@ -15,11 +17,17 @@ struct Outcome {
     faults: Vec<u8>,
 }
 
-fn outcome_of<'a>(alloc: Global, words: &'a [&'a str], input: &[u8]) -> Outcome {
+fn outcome_of<'a, H: Threads + Wait + Sync>(
+    rt: &H,
+    alloc: Global,
+    words: &'a [&'a str],
+    turns: u64,
+    input: &[u8],
+) -> Outcome {
     let mut input = input;
     let mut output = Vec::new(alloc);
     let mut faults = Vec::new(alloc);
-    let status = run(alloc, words, 9, &mut input, &mut output, &mut faults);
+    let status = run(rt, alloc, words, turns, &mut input, &mut output, &mut faults);
     Outcome {
         status,
         output,
@@ -27,28 +35,54 @@ fn outcome_of<'a>(alloc: Global, words: &'a [&'a str], input: &[u8]) -> Outcome 
     }
 }
 
-// Whether a run with one front, a ring of this many places and the closing at 7 ends well and writes this.
-fn writes(alloc: Global, places: &str, input: &str, output: &str) -> bool {
+// How many turns a line may wait, where it is not to wait in vain.
+const TURNS: u64 = 50_000_000;
+
+// What a run with so many fronts, rings of so many places and the closing at `close_at` answers and writes.
+fn run_of<H: Threads + Wait + Sync>(
+    rt: &H,
+    alloc: Global,
+    fronts: &str,
+    places: &str,
+    close_at: &str,
+    input: &str,
+) -> Outcome {
     let words = [
         "ctlog",
         "--fronts",
-        "1",
+        fronts,
         "--ring",
         places,
         "--close-at",
-        "7",
+        close_at,
     ];
-    let outcome = outcome_of(alloc, &words, input.as_bytes());
+    outcome_of(rt, alloc, &words, TURNS, input.as_bytes())
+}
+
+// Whether the run ended well and wrote this.
+fn wrote(outcome: &Outcome, output: &str) -> bool {
     outcome.status == 0
         && outcome.output.as_slice() == output.as_bytes()
         && outcome.faults.is_empty()
 }
 
+// Whether a run with one front, a ring of this many places and the closing at 7 ends well and writes this.
+fn writes<H: Threads + Wait + Sync>(
+    rt: &H,
+    alloc: Global,
+    places: &str,
+    input: &str,
+    output: &str,
+) -> bool {
+    let outcome = run_of(rt, alloc, "1", places, "7", input);
+    wrote(&outcome, output)
+}
+
 #[test]
 fn an_empty_log(rt: HostRuntime) {
     let input = "{\"who\":\"frozen\",\"op\":\"get-sth\"}\n";
-    assert!(rt; writes(rt.alloc(), "4", input, EMPTY_HEAD));
-    assert!(rt; writes(rt.alloc(), "4", "", ""));
+    assert!(rt; writes(&rt, rt.alloc(), "4", input, EMPTY_HEAD));
+    assert!(rt; writes(&rt, rt.alloc(), "4", "", ""));
 }
 
 #[test]
@@ -63,7 +97,7 @@ fn chains_that_are_refused(rt: HostRuntime) {
 {\"error\":\"empty-certificate\"}
 {\"ticket\":0}
 ";
-    assert!(rt; writes(rt.alloc(), "4", input, output));
+    assert!(rt; writes(&rt, rt.alloc(), "4", input, output));
 }
 
 // The root is SHA-256 of 00, of the leaf's version and type, of the moment 7 in eight bytes, of 00 00, of the
@@ -78,7 +112,7 @@ fn a_chain_submitted_twice(rt: HostRuntime) {
 {\"ticket\":1}
 {\"sha256_root_hash\":\"fV9+kfNWc6WhrBC4FWQ8cnZ9Z8PW7wGOv6AnRvHlwco=\",\"timestamp\":7,\"tree_size\":1}
 ";
-    assert!(rt; writes(rt.alloc(), "4", input, output));
+    assert!(rt; writes(&rt, rt.alloc(), "4", input, output));
 }
 
 // The root is that of the three leaves 41, 42 and 43 at the moment 7.
@@ -98,7 +132,7 @@ fn three_leaves(rt: HostRuntime) {
 {\"sha256_root_hash\":\"3TlG6a+70cjw7+/Hk5z2hrYE3zme1WLXn50vkcyITJQ=\",\"timestamp\":7,\"tree_size\":3}
 {\"sha256_root_hash\":\"3TlG6a+70cjw7+/Hk5z2hrYE3zme1WLXn50vkcyITJQ=\",\"timestamp\":7,\"tree_size\":3}
 ";
-    assert!(rt; writes(rt.alloc(), "4", input, output));
+    assert!(rt; writes(&rt, rt.alloc(), "4", input, output));
 }
 
 #[test]
@@ -107,7 +141,7 @@ fn a_full_ring(rt: HostRuntime) {
 {\"who\":0,\"op\":\"add-chain\",\"chain\":[\"Qg==\"]}
 ";
     let output = "{\"ticket\":0}\n{\"error\":\"full\"}\n";
-    assert!(rt; writes(rt.alloc(), "1", input, output));
+    assert!(rt; writes(&rt, rt.alloc(), "1", input, output));
 }
 
 #[test]
@@ -117,17 +151,17 @@ fn bad_lines(rt: HostRuntime) {
 
 {\"who\":1,\"op\":\"get-sth\"}
 {\"who\":\"operator\",\"op\":\"publish\",\"now\":-1}";
-    assert!(rt; writes(rt.alloc(), "4", input, bad));
+    assert!(rt; writes(&rt, rt.alloc(), "4", input, bad));
     let input = "{\"who\":1,\"op\":\"add-chain\",\"chain\":[\"QQ==\"]}
 \r
 {\"who\":\"frozen\",\"op\":\"shutdown\"}
 ";
-    assert!(rt; writes(rt.alloc(), "4", input, bad));
-    let input = "{\"who\":0,\"op\":\"get-sth\"}
-{\"who\":\"operator\",\"op\":\"sequence\",\"from\":0,\"count\":0,\"now\":1}
-{\"who\":\"frozen\",\"op\":\"receipt\",\"ticket\":0}
+    assert!(rt; writes(&rt, rt.alloc(), "4", input, bad));
+    let input = "{\"who\":0,\"op\":\"publish\",\"now\":1}
+{\"who\":\"operator\",\"op\":\"get-sth\"}
+{\"who\":\"frozen\",\"op\":\"add-chain\",\"chain\":[\"QQ==\"]}
 ";
-    assert!(rt; writes(rt.alloc(), "4", input, bad));
+    assert!(rt; writes(&rt, rt.alloc(), "4", input, bad));
 }
 
 // The first line is the longest that is read, the second has one byte more.
@@ -142,7 +176,7 @@ fn a_line_that_is_too_long(rt: HostRuntime) -> Result<(), Fail> {
     input.extend_from_slice(&blanks)?;
     input.extend_from_slice(line)?;
     let words = ["ctlog", "--fronts", "1", "--ring", "4", "--close-at", "7"];
-    let outcome = outcome_of(alloc, &words, &input);
+    let outcome = outcome_of(&rt, alloc, &words, 9, &input);
     let mut output = Vec::new(alloc);
     output.extend_from_slice(b"{\"error\":\"bad-line\"}\n")?;
     output.extend_from_slice(EMPTY_HEAD.as_bytes())?;
@@ -151,26 +185,126 @@ fn a_line_that_is_too_long(rt: HostRuntime) -> Result<(), Fail> {
     Ok(())
 }
 
-// The front's replies come first, wherever its lines stand, and then the operator's.
 #[test]
 fn a_second_shutdown(rt: HostRuntime) {
     let input = "{\"who\":\"operator\",\"op\":\"shutdown\"}
-{\"who\":0,\"op\":\"add-chain\",\"chain\":[\"QQ==\"]}
 []
 {\"who\":\"operator\",\"op\":\"shutdown\"}
 ";
-    let output = "{\"ticket\":0}
-{\"accepted\":1}
+    let output = "{\"accepted\":0}
 {\"error\":\"bad-line\"}
 {\"error\":\"shutdown\"}
 ";
-    assert!(rt; writes(rt.alloc(), "4", input, output));
+    assert!(rt; writes(&rt, rt.alloc(), "4", input, output));
+}
+
+// The front's third line waits for the operator's head, and the operator's first for the front's items: this ends as it
+// does only where both work at a time. Every submission is told the shutdown, which comes before the head that the front
+// waited for.
+#[test]
+fn a_front_and_the_operator_that_wait_for_each_other(rt: HostRuntime) {
+    let input = "{\"who\":0,\"op\":\"add-chain\",\"chain\":[\"QQ==\"]}
+{\"who\":0,\"op\":\"add-chain\",\"chain\":[\"QQ==\"]}
+{\"who\":0,\"op\":\"await-size\",\"tree_size\":1}
+{\"who\":0,\"op\":\"add-chain\",\"chain\":[\"Qg==\"]}
+{\"who\":0,\"op\":\"add-chain\",\"chain\":[\"Qg==\"]}
+{\"who\":\"operator\",\"op\":\"sequence\",\"from\":0,\"count\":2,\"now\":3}
+{\"who\":\"operator\",\"op\":\"shutdown\"}
+{\"who\":\"operator\",\"op\":\"publish\",\"now\":4}
+{\"who\":\"operator\",\"op\":\"shutdown\"}
+{\"who\":\"frozen\",\"op\":\"receipt\",\"ticket\":1}
+{\"who\":\"frozen\",\"op\":\"receipt\",\"ticket\":2}
+";
+    let output = "{\"ticket\":0}
+{\"ticket\":1}
+{\"reached\":1}
+{\"error\":\"shutdown\"}
+{\"error\":\"shutdown\"}
+{\"settled\":2}
+{\"accepted\":2}
+{\"timestamp\":4,\"tree_size\":1}
+{\"error\":\"shutdown\"}
+{\"extensions\":\"\",\"leaf_index\":0,\"sct_version\":0,\"timestamp\":3}
+{\"error\":\"not-yet\"}
+";
+    let outcome = run_of(&rt, rt.alloc(), "1", "4", "9", input);
+    assert!(rt; wrote(&outcome, output));
+}
+
+// The leaf input has version 0, type 0, the moment 1, entry type 0, the certificate 41, and no extensions.
+#[test]
+fn an_entry_and_its_audits(rt: HostRuntime) {
+    let input = "{\"who\":0,\"op\":\"add-chain\",\"chain\":[\"QQ==\"]}
+{\"who\":\"operator\",\"op\":\"sequence\",\"from\":0,\"count\":1,\"now\":1}
+{\"who\":\"frozen\",\"op\":\"get-entry-and-proof\",\"leaf_index\":0,\"tree_size\":1}
+{\"who\":\"frozen\",\"op\":\"audit\",\"leaf_input\":\"AAAAAAAAAAAAAQAAAAABQQAA\",\"leaf_index\":0,\"tree_size\":1,\"audit_path\":[]}
+{\"who\":\"frozen\",\"op\":\"audit\",\"leaf_input\":\"AAAAAAAAAAAAAQAAAAABQQAA\",\"leaf_index\":1,\"tree_size\":1,\"audit_path\":[]}
+{\"who\":\"frozen\",\"op\":\"audit\",\"leaf_input\":\"AAAAAAAAAAAAAQAAAAABQQAA\",\"leaf_index\":0,\"tree_size\":2,\"audit_path\":[]}
+";
+    let output = "{\"ticket\":0}
+{\"settled\":1}
+{\"audit_path\":[],\"extra_data\":\"AAAA\",\"leaf_input\":\"AAAAAAAAAAAAAQAAAAABQQAA\"}
+{\"verdict\":\"holds\"}
+{\"verdict\":\"refused\"}
+{\"error\":\"unknown-size\"}
+";
+    assert!(rt; writes(&rt, rt.alloc(), "4", input, output));
+}
+
+// The replies of the fronts come first, in the order of their numbers, and the operator's last, wherever their lines stand.
+#[test]
+fn two_fronts(rt: HostRuntime) {
+    let input = "{\"who\":1,\"op\":\"add-chain\",\"chain\":[\"QQ==\"]}
+{\"who\":2,\"op\":\"get-sth\"}
+{\"who\":0,\"op\":\"get-sth\"}
+{\"who\":\"operator\",\"op\":\"sequence\",\"from\":5,\"count\":0,\"now\":1}
+";
+    let output = "{\"sha256_root_hash\":\"47DEQpj8HBSa+/TImW+5JCeuQeRkm5NMpJWZG3hSuFU=\",\"timestamp\":0,\"tree_size\":0}
+{\"ticket\":0}
+{\"error\":\"bad-line\"}
+{\"error\":\"bad-line\"}
+";
+    let outcome = run_of(&rt, rt.alloc(), "2", "4", "7", input);
+    assert!(rt; wrote(&outcome, output));
+}
+
+// Three fronts submit the same certificate. Whichever draws the first ticket, the log has one leaf, and a receipt for
+// each ticket.
+#[test]
+fn three_fronts_with_one_certificate(rt: HostRuntime) {
+    let input = "{\"who\":2,\"op\":\"add-chain\",\"chain\":[\"QQ==\"]}
+{\"who\":1,\"op\":\"add-chain\",\"chain\":[\"QQ==\"]}
+{\"who\":0,\"op\":\"add-chain\",\"chain\":[\"QQ==\"]}
+{\"who\":\"frozen\",\"op\":\"get-sth\"}
+{\"who\":\"frozen\",\"op\":\"receipt\",\"ticket\":0}
+{\"who\":\"frozen\",\"op\":\"receipt\",\"ticket\":2}
+";
+    let frozen = "{\"sha256_root_hash\":\"fV9+kfNWc6WhrBC4FWQ8cnZ9Z8PW7wGOv6AnRvHlwco=\",\"timestamp\":7,\"tree_size\":1}
+{\"extensions\":\"\",\"leaf_index\":0,\"sct_version\":0,\"timestamp\":7}
+{\"extensions\":\"\",\"leaf_index\":0,\"sct_version\":0,\"timestamp\":7}
+";
+    let outcome = run_of(&rt, rt.alloc(), "3", "1", "7", input);
+    assert!(rt; outcome.status == 0 && outcome.faults.is_empty());
+    assert!(rt; outcome.output.ends_with(frozen.as_bytes()));
+    assert!(rt; outcome.output.starts_with(b"{\"ticket\":"));
+    assert_eq!(rt; outcome.output.len(), 3 * 13 + frozen.len());
+}
+
+#[test]
+fn a_wait_that_is_too_long(rt: HostRuntime) {
+    let words = ["ctlog", "--fronts", "1", "--ring", "4"];
+    let input = b"{\"who\":0,\"op\":\"await-size\",\"tree_size\":1}\n";
+    let outcome = outcome_of(&rt, rt.alloc(), &words, 3, input);
+    assert!(rt; wrote(&outcome, "{\"error\":\"late\"}\n"));
+    let input = b"{\"who\":\"operator\",\"op\":\"sequence\",\"from\":0,\"count\":1,\"now\":1}\n";
+    let outcome = outcome_of(&rt, rt.alloc(), &words, 3, input);
+    assert!(rt; wrote(&outcome, "{\"error\":\"late\"}\n"));
 }
 
 #[test]
 fn command_lines_that_are_refused(rt: HostRuntime) {
     let seventeen = ["ctlog", "--fronts", "17", "--ring", "4"];
-    let two = ["ctlog", "--fronts", "2", "--ring", "4"];
+    let no_front = ["ctlog", "--fronts", "0", "--ring", "4"];
     let no_places = ["ctlog", "--fronts", "1", "--ring", "0"];
     let places = ["ctlog", "--fronts", "1", "--ring", "4097"];
     let late = [
@@ -183,9 +317,9 @@ fn command_lines_that_are_refused(rt: HostRuntime) {
         "9007199254740992",
     ];
     let none = ["ctlog", "--fronts", "1"];
-    let table: [&[&str]; 6] = [&seventeen, &two, &no_places, &places, &late, &none];
+    let table: [&[&str]; 6] = [&seventeen, &no_front, &no_places, &places, &late, &none];
     for words in table {
-        let outcome = outcome_of(rt.alloc(), words, b"");
+        let outcome = outcome_of(&rt, rt.alloc(), words, 9, b"");
         assert!(rt; outcome.status == 2 && outcome.output.is_empty());
         assert!(rt; outcome.faults.starts_with(b"error: "));
     }
@@ -195,18 +329,18 @@ fn command_lines_that_are_refused(rt: HostRuntime) {
 fn the_greatest_numbers(rt: HostRuntime) {
     let words = [
         "ctlog",
-        "--fronts=1",
+        "--fronts=16",
         "--ring=4096",
         "--open-at=9007199254740990",
         "--close-at=9007199254740991",
     ];
-    let outcome = outcome_of(rt.alloc(), &words, b"");
+    let outcome = outcome_of(&rt, rt.alloc(), &words, 9, b"");
     assert!(rt; outcome.status == 0 && outcome.output.is_empty() && outcome.faults.is_empty());
 }
 
 #[test]
 fn help(rt: HostRuntime) {
-    let outcome = outcome_of(rt.alloc(), &["ctlog", "--help"], b"");
+    let outcome = outcome_of(&rt, rt.alloc(), &["ctlog", "--help"], 9, b"");
     assert!(rt; outcome.status == 0 && outcome.faults.is_empty());
     assert!(rt;
         outcome
@@ -218,17 +352,37 @@ fn help(rt: HostRuntime) {
 // The replies of the front and of the operator are written, and none of the frozen log.
 #[test]
 fn a_closing_that_the_clock_refuses(rt: HostRuntime) {
-    let words = ["ctlog", "--fronts", "1", "--ring", "4", "--close-at", "0"];
-    let input = b"{\"who\":\"frozen\",\"op\":\"get-sth\"}
-{\"who\":\"operator\",\"op\":\"shutdown\"}
-{\"who\":0,\"op\":\"add-chain\",\"chain\":[\"QQ==\"]}
+    let input = "{\"who\":\"frozen\",\"op\":\"get-sth\"}
+{\"who\":\"operator\",\"op\":\"publish\",\"now\":9}
+{\"who\":0,\"op\":\"add-chain\",\"chain\":[\"\"]}
 ";
-    let outcome = outcome_of(rt.alloc(), &words, input);
+    let output = "{\"error\":\"empty-certificate\"}\n{\"timestamp\":9,\"tree_size\":0}\n";
+    let outcome = run_of(&rt, rt.alloc(), "1", "4", "9", input);
     assert_eq!(rt; outcome.status, 1);
-    assert!(rt; outcome.output.as_slice() == b"{\"ticket\":0}\n{\"accepted\":1}\n".as_slice());
+    assert!(rt; outcome.output.as_slice() == output.as_bytes());
     assert!(rt; outcome.faults.as_slice() == b"ctlog: clock-back\n".as_slice());
-    let outcome = outcome_of(rt.alloc(), &words, b"");
+}
+
+#[test]
+fn a_log_that_closes_as_it_opens(rt: HostRuntime) {
+    let outcome = run_of(&rt, rt.alloc(), "1", "4", "0", "");
     assert!(rt; outcome.status == 1 && outcome.output.is_empty());
+    assert!(rt; outcome.faults.as_slice() == b"ctlog: clock-back\n".as_slice());
+}
+
+// A word that isn't UTF-8, and no memory for the words.
+#[test]
+fn words_that_cannot_be_read(rt: HostRuntime) {
+    let alloc = rt.alloc();
+    let mut output: Vec<u8> = Vec::new(alloc);
+    let mut faults: Vec<u8> = Vec::new(alloc);
+    let error = io::Error::from(ErrorKind::InvalidData);
+    assert_eq!(rt; refuse_words(alloc, &error, &mut output, &mut faults), 2);
+    assert!(rt; output.is_empty() && faults.starts_with(b"error: an argument isn't UTF-8\n"));
+    let mut faults: Vec<u8> = Vec::new(alloc);
+    let error = io::Error::from(ErrorKind::OutOfMemory);
+    assert_eq!(rt; refuse_words(alloc, &error, &mut output, &mut faults), 1);
+    assert!(rt; output.is_empty() && faults.as_slice() == b"ctlog: memory\n".as_slice());
 }
 
 // A reader that fails.
@@ -266,7 +420,7 @@ fn an_input_that_fails(rt: HostRuntime) {
     let words = ["ctlog", "--fronts", "1", "--ring", "4"];
     let mut output: Vec<u8> = Vec::new(alloc);
     let mut faults: Vec<u8> = Vec::new(alloc);
-    let status = run(alloc, &words, 9, &mut NoInput, &mut output, &mut faults);
+    let status = run(&rt, alloc, &words, 9, &mut NoInput, &mut output, &mut faults);
     assert!(rt; status == 1 && output.is_empty());
     assert!(rt; faults.as_slice() == b"ctlog: read\n".as_slice());
 }
@@ -287,7 +441,7 @@ fn an_output_that_fails(rt: HostRuntime) {
 {\"who\":0,\"op\":\"add-chain\",\"chain\":[\"QQ==\"]}
 ";
         let mut faults: Vec<u8> = Vec::new(alloc);
-        let status = run(alloc, &words, 9, &mut input, &mut Room(room), &mut faults);
+        let status = run(&rt, alloc, &words, 9, &mut input, &mut Room(room), &mut faults);
         assert_eq!(rt; status, wanted, "with room {room}");
         assert!(rt;
             faults.as_slice()
@@ -301,6 +455,6 @@ fn an_output_that_fails(rt: HostRuntime) {
     let mut input: &[u8] = b"";
     let mut faults: Vec<u8> = Vec::new(alloc);
     let help = ["ctlog", "--help"];
-    let status = run(alloc, &help, 9, &mut input, &mut Room(0), &mut faults);
+    let status = run(&rt, alloc, &help, 9, &mut input, &mut Room(0), &mut faults);
     assert!(rt; status == 1 && faults.as_slice() == b"ctlog: write\n".as_slice());
 }

@@ -1,36 +1,32 @@
-use Rattle.std.proofs.Common.{◌≡◌, ◌<◌, arith, ap, inl, inr}
-use Rattle.std.specs.Prelude.{Err}
-use Rattle.ct_codec.specs.declared.refusal.Refusal.{Refusal}
-use Rattle.ct_codec.specs.declared.refusal.Refusal.TheVariants as refusal
-use Rattle.ct_tree.specs.declared.head.Head.{Head}
-use Rattle.one_front.specs.declared.final_log.FinalLog.{FinalLog}
-use Rattle.ctlog.specs.declared.fault.Fault.{Fault}
-use Rattle.ctlog.specs.declared.fault.Fault.TheVariants.{ClockBack, Memory}
-use Rattle.ctlog.specs.Answering.{final_head}
-use Rattle.ctlog.proofs.ClosingLemmas.{last_head_is, error_is}
+use Rattle.std.proofs.Common.{◌≡◌, List, length, map, sym, ap, subst, ◌∙◌, ◌++◌}
+use Rattle.std.specs.Prelude.{All}
+use Rattle.std.specs.Vec.{with_items}
+use Rattle.std.proofs.lemmas.List.{with_items_is}
+use Rattle.ct_core.specs.Settlement.{IsFinal}
+use Rattle.ct_house.specs.House.{HouseName, FrontView, IsOfHouse, IsAllSettled, accepted_lists}
 use Rattle.ctlog.proofs.closing.close.Goals as goal
 
-pub returns-in-Ok-clause-head : goal.returns-in-Ok-clause-head
-returns-in-Ok-clause-head c = λ opened fresh.
-    let ready = c.in-Ok.ensures.ready in
-    last_head_is c.finish.result.log c.args.house.core c.settle_and_publish.new.house.core opened c.in-Ok.field-0
-    (final_head c.args.now c.args.house.waiting) c.finish.ensures.published ready.heads fresh (ready.last opened fresh)
+pub finish-requires-clause-of_house : goal.finish-requires-clause-of_house
+finish-requires-clause-of_house g c =
+    let ends = c.settle_and_publish.new.ends in
+    let before : ends ≡ c.in_ok-ends.ends.items = c.settle_and_publish.ensures.ends ∙ c.deref_mut.ensures.value in
+    let same : (with_items c.in_ok-ends.ends ends).items ≡ ends = with_items_is c.in_ok-ends.ends ends (ap length before ∙ sym c.in_ok-ends.ends.ok.0) in
+    let all : (with_items c.in_ok-ends.ends ends).items ≡ c.args.fronts.items = same ∙ before ∙ c.in_ok-ends.ensures in
+    subst (λ (l : List FrontView). All (IsOfHouse c.settle_and_publish.new.sequencer.house) l) (sym all)
+    (subst (λ (h : HouseName). All (IsOfHouse h) c.args.fronts.items) (sym c.in-Ok.ensures.ready.house) c.requires.of_house)
 
-pub returns-in-Ok-clause-in_time : goal.returns-in-Ok-clause-in_time
-returns-in-Ok-clause-in_time c = λ opened fresh. c.in-Ok.ensures.in_time opened fresh
+pub finish-requires-clause-settled : goal.finish-requires-clause-settled
+finish-requires-clause-settled g c =
+    let ends = c.settle_and_publish.new.ends in
+    let before : ends ≡ c.in_ok-ends.ends.items = c.settle_and_publish.ensures.ends ∙ c.deref_mut.ensures.value in
+    let same : (with_items c.in_ok-ends.ends ends).items ≡ ends = with_items_is c.in_ok-ends.ends ends (ap length before ∙ sym c.in_ok-ends.ends.ok.0) in
+    subst (λ (l : List FrontView). IsAllSettled c.settle_and_publish.new.sequencer l) (c.deref_mut.ensures.value ∙ sym before ∙ sym same) c.in-Ok.ensures.ready.settled
 
-pub returns-in-Ok-clause-early : goal.returns-in-Ok-clause-early
-returns-in-Ok-clause-early c = λ opened fresh lt. let late : opened < c.args.now = c.in-Ok.ensures.in_time opened fresh in absurd (omega arith)
-
-pub returns-in-Err-clause-clock_back : goal.returns-in-Err-clause-clock_back
-returns-in-Err-clause-clock_back c = λ opened fresh e.
-    let back : c.closing_fault.result ≡ ClockBack = error_is {T = FinalLog} {E = Fault} c.closing_fault.result ClockBack e in
-    elim c.in-Err.ensures.refusals [
-      | inl r ↦ c.in-Err.ensures.clock_back opened fresh (ap (λ (x : Refusal). Err x) r)
-      | inr m ↦ let memory : c.closing_fault.result ≡ Memory = c.closing_fault.ensures.memory m in cc
-    ]
-
-pub returns-in-Err-clause-early : goal.returns-in-Err-clause-early
-returns-in-Err-clause-early c = λ opened fresh lt.
-    let refused : c.in-Err.refusal ≡ refusal.ClockBack = error_is {T = Head} {E = Refusal} c.in-Err.refusal refusal.ClockBack (c.in-Err.ensures.early opened fresh lt) in
-    ap (λ (f : Fault). Err f) (c.closing_fault.ensures.clock_back refused)
+pub returns-in-Ok-clause-closes : goal.returns-in-Ok-clause-closes
+returns-in-Ok-clause-closes g c = λ items q.
+    let ends = c.settle_and_publish.new.ends in
+    let before : ends ≡ c.in_ok-ends.ends.items = c.settle_and_publish.ensures.ends ∙ c.deref_mut.ensures.value in
+    let same : (with_items c.in_ok-ends.ends ends).items ≡ ends = with_items_is c.in_ok-ends.ends ends (ap length before ∙ sym c.in_ok-ends.ends.ok.0) in
+    let all : (with_items c.in_ok-ends.ends ends).items ≡ c.args.fronts.items = same ∙ before ∙ c.in_ok-ends.ensures in
+    let more = c.in-Ok.ensures.ready.sequences items q in
+    subst (λ (l : List FrontView). IsFinal (accepted_lists l) c.finish.result.accepted c.finish.result.log) all (c.finish.ensures.closes (items ++ more.0) more.1)

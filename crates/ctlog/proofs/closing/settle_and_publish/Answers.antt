@@ -1,8 +1,7 @@
-use Rattle.ctlog.proofs.ClosingLemmas.{ready_if}
+use Rattle.ctlog.proofs.ClosingLemmas.{closing_refused}
 use Rattle.ctlog.proofs.closing.settle_and_publish.Goals as goal
 
-pub returns-clause-ready : goal.returns-clause-ready
-returns-clause-ready c =
-    ready_if c.args.house.now c.shutdown.new.self c.settle.new.self c.publish.new.self c.args.now c.publish.result c.shutdown.ensures.shut
-    c.in_ok-settle.ensures.settled c.in_ok-settle.ensures.all c.publish.ensures.head c.publish.ensures.published
-    (λ items a. c.publish.ensures.listed items (c.in_ok-settle.ensures.listed items (c.shutdown.ensures.listed items a)))
+pub returns-clause-refused : goal.returns-clause-refused
+returns-clause-refused g c =
+    closing_refused c.publish.result c.args.sequencer.now c.shutdown.new.self c.settle.new.self c.publish.new.self c.settle.ensures.settled.0 c.args.now
+    c.shutdown.ensures.same c.settle.ensures.settled.1 c.in_ok-settle.ensures.in_time c.publish.ensures.refused

@@ -1,6 +1,6 @@
 use Rattle.std.proofs.Common.{ℕ, List, subst, ◌∙◌}
-use Rattle.ctlog.specs.Output.{SendsSome}
-use Rattle.ctlog.proofs.OutputLemmas.{sent_some}
+use Rattle.ctlog.specs.Sends.{SendsSome}
+use Rattle.ctlog.proofs.Sent.{sent_some}
 use Rattle.ctlog.proofs.fault.report.Goals as goal
 
 pub returns-clause-line : goal.returns-clause-line

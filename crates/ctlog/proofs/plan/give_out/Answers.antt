@@ -10,13 +10,13 @@ loop-rest-preserved-in_ok-add c =
     let t = task c.in_ok-line_task.field-0 in
     let some : 0 < length c.first_line.result.0.now = grind (arith, common_steps) in (
       before.0 ++ t ∷ [],
-      c.in_ok-add.ensures before.0 before.1,
-      next_task c.args.input.now c.loop-rest.rest.now c.first_line.result.0.now c.first_line.result.1.now before.0 t
-          c.first_line.ensures.lines some c.in_ok-line_task.ensures before.2,
+      c.in_ok-add.ensures c.args.fronts before.0 before.1,
+      next_task c.args.fronts c.args.input.now c.loop-rest.rest.now c.first_line.result.0.now c.first_line.result.1.now before.0 t
+          c.first_line.ensures.lines some c.in_ok-line_task.ensures.asked before.2,
     )
 
 pub returns : goal.returns
 returns c =
     let before = c.loop-rest.invariant in
     let none : length c.loop-rest.rest.now ≡ 0 = grind (arith, common_steps) in
-    (before.0, all_done c.args.input.now c.loop-rest.rest.now before.0 none before.2, before.1)
+    (before.0, all_done c.args.fronts c.args.input.now c.loop-rest.rest.now before.0 none before.2, before.1)

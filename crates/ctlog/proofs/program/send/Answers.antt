@@ -1,4 +1,4 @@
-use Rattle.ctlog.proofs.OutputLemmas.{sent_some}
+use Rattle.ctlog.proofs.Sent.{sent_some}
 use Rattle.ctlog.proofs.program.send.Goals as goal
 
 pub returns-then-not-write_whole-clause-some : goal.returns-then-not-write_whole-clause-some
