@@ -1,0 +1,9 @@
+#!/usr/bin/env bash
+# Builds the plain Rust program and prints where it lies: in bench/baseline/out, or at the path that is given.
+set -euo pipefail
+here=$(cd "$(dirname "$0")" && pwd)
+program=${1:-$here/out/baseline}
+command -v rustc >/dev/null || { echo "build.sh: rustc isn't on the PATH" >&2; exit 1; }
+mkdir -p "$(dirname "$program")"
+rustc --edition 2024 -O -C codegen-units=1 -C target-cpu=x86-64-v2 --crate-name baseline -o "$program" "$here/src/main.rs"
+echo "$program"
