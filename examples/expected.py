@@ -208,8 +208,9 @@ def main():
     doers = [lambda request, front=front: do_front(log, front, request) for front in range(fronts)]
     doers.append(lambda request: do_operator(log, request))
     replies = [[] for _ in parties]
-    left = None
-    while left != (left := sum(map(len, replies))):
+    done = -1
+    while done < sum(map(len, replies)):
+        done = sum(map(len, replies))
         for party, do in enumerate(doers):
             do_lines(do, parties[party], replies[party])
     log.shut = True

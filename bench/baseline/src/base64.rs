@@ -40,33 +40,29 @@ pub fn decode(text: &[u8]) -> Option<Vec<u8>> {
         .take_while(|&&c| c == b'=')
         .count();
     let digits = &text[..text.len() - padding];
-    let mut bytes = Vec::with_capacity(text.len() / 4 * 3);
     let (groups, rest) = digits.as_chunks::<4>();
-    for group in groups {
-        let values = group.map(|c| VALUES[c as usize]);
-        if values.contains(&NONE) {
+    let mut bytes = Vec::with_capacity(text.len() / 4 * 3);
+    bytes.resize(3 * groups.len(), 0);
+    for (group, place) in groups.iter().zip(bytes.as_chunks_mut::<3>().0) {
+        let [a, b, c, d] = group.map(|c| VALUES[c as usize]);
+        if a | b | c | d >= 64 {
             return None;
         }
-        let [a, b, c, d] = values;
-        bytes.extend_from_slice(&[a << 2 | b >> 4, b << 4 | c >> 2, c << 6 | d]);
+        *place = [a << 2 | b >> 4, b << 4 | c >> 2, c << 6 | d];
     }
-    decode_rest(rest, &mut bytes)?;
+    bytes.extend_from_slice(&decode_rest(rest)?);
     Some(bytes)
 }
 
-// The last group of two or three digits. The bits past its last byte must be 0.
-fn decode_rest(rest: &[u8], bytes: &mut Vec<u8>) -> Option<()> {
+// The last group, of two or three digits, or of none. The bits past its last byte must be 0.
+fn decode_rest(rest: &[u8]) -> Option<Vec<u8>> {
     let value = |i: usize| Some(VALUES[rest[i] as usize]).filter(|&value| value != NONE);
     match rest.len() {
-        0 => Some(()),
-        2 if value(1)? & 15 == 0 => {
-            bytes.push(value(0)? << 2 | value(1)? >> 4);
-            Some(())
-        }
+        0 => Some(vec![]),
+        2 if value(1)? & 15 == 0 => Some(vec![value(0)? << 2 | value(1)? >> 4]),
         3 if value(2)? & 3 == 0 => {
-            bytes.push(value(0)? << 2 | value(1)? >> 4);
-            bytes.push(value(1)? << 4 | value(2)? >> 2);
-            Some(())
+            let [a, b, c] = [value(0)?, value(1)?, value(2)?];
+            Some(vec![a << 2 | b >> 4, b << 4 | c >> 2])
         }
         _ => None,
     }

@@ -5,6 +5,19 @@ use std::borrow::Cow;
 // How deep arrays and objects may nest.
 const DEEPEST: u32 = 127;
 
+// Whether a byte ends a piece of a string that stands for itself: the end, an escape, or what no string has.
+const ENDS_PIECE: [bool; 256] = {
+    let mut ends = [false; 256];
+    let mut byte = 0;
+    while byte < 0x20 {
+        ends[byte] = true;
+        byte += 1;
+    }
+    ends[b'"' as usize] = true;
+    ends[b'\\' as usize] = true;
+    ends
+};
+
 /// A value of JSON.
 pub enum Value<'a> {
     /// `null`, a truth value or a number that isn't a `Number`.
@@ -192,7 +205,7 @@ impl<'a> Reader<'a> {
             let rest = &self.text[self.at..];
             let plain = rest
                 .bytes()
-                .position(|byte| matches!(byte, b'"' | b'\\' | 0..0x20))?;
+                .position(|byte| ENDS_PIECE[usize::from(byte)])?;
             self.at += plain + 1;
             let piece = &rest[..plain];
             match rest.as_bytes()[plain] {

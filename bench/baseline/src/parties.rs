@@ -5,6 +5,7 @@ use crate::house::{Front, Sequencer};
 use crate::published::Published;
 use crate::reply::{Refusal, Reply, push_reply};
 use crate::request::{FrontRequest, FrozenRequest, OperatorRequest, Request, read_line};
+use std::io::BufRead;
 
 /// What the lines ask for, given out to those who do it.
 pub struct Plan {
@@ -21,9 +22,13 @@ impl Plan {
             operator: Vec::new(),
             frozen: Vec::new(),
         };
-        let lines = input.split(|&byte| byte == b'\n');
-        for line in lines.filter(|line| !line.is_empty()) {
-            plan.add(read_line(line));
+        let mut rest = input;
+        while !rest.is_empty() {
+            let (line, behind) = cut_line(rest);
+            if !line.is_empty() {
+                plan.add(read_line(line));
+            }
+            rest = behind;
         }
         plan
     }
@@ -42,6 +47,14 @@ impl Plan {
             Some(Request::Front(..)) | None => self.operator.push(None),
         }
     }
+}
+
+// The first line without its end, and what stands behind it. Std searches for the end by words, and not by bytes.
+fn cut_line(input: &[u8]) -> (&[u8], &[u8]) {
+    let mut behind = input;
+    let length = behind.skip_until(b'\n').expect("a slice can be read");
+    let line = &input[..length];
+    (line.strip_suffix(b"\n").unwrap_or(line), behind)
 }
 
 /// Does the lines of a front, and answers the replies.

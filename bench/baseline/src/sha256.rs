@@ -36,21 +36,32 @@ fn schedule(block: &[u8; 64]) -> [u32; 64] {
     words
 }
 
+// One round. Of the eight variables two change; the next round has each under the name of the one before it.
+#[allow(clippy::too_many_arguments)]
+#[inline(always)]
+fn round(a: u32, b: u32, c: u32, d: &mut u32, e: u32, f: u32, g: u32, h: &mut u32, added: u32) {
+    let s1 = e.rotate_right(6) ^ e.rotate_right(11) ^ e.rotate_right(25);
+    let choice = g ^ (e & (f ^ g));
+    let first = h.wrapping_add(s1).wrapping_add(choice).wrapping_add(added);
+    let s0 = a.rotate_right(2) ^ a.rotate_right(13) ^ a.rotate_right(22);
+    let majority = (a & b) | (c & (a | b));
+    *d = d.wrapping_add(first);
+    *h = first.wrapping_add(s0).wrapping_add(majority);
+}
+
 fn compress(state: &mut [u32; 8], block: &[u8; 64]) {
     let words = schedule(block);
     let [mut a, mut b, mut c, mut d, mut e, mut f, mut g, mut h] = *state;
-    for t in 0..64 {
-        let s1 = e.rotate_right(6) ^ e.rotate_right(11) ^ e.rotate_right(25);
-        let choice = g ^ (e & (f ^ g));
-        let first = h
-            .wrapping_add(s1)
-            .wrapping_add(choice)
-            .wrapping_add(ROUNDS[t])
-            .wrapping_add(words[t]);
-        let s0 = a.rotate_right(2) ^ a.rotate_right(13) ^ a.rotate_right(22);
-        let majority = (a & b) | (c & (a | b));
-        (h, g, f, e) = (g, f, e, d.wrapping_add(first));
-        (d, c, b, a) = (c, b, a, first.wrapping_add(s0).wrapping_add(majority));
+    for t in (0..64).step_by(8) {
+        let added = |i: usize| ROUNDS[t + i].wrapping_add(words[t + i]);
+        round(a, b, c, &mut d, e, f, g, &mut h, added(0));
+        round(h, a, b, &mut c, d, e, f, &mut g, added(1));
+        round(g, h, a, &mut b, c, d, e, &mut f, added(2));
+        round(f, g, h, &mut a, b, c, d, &mut e, added(3));
+        round(e, f, g, &mut h, a, b, c, &mut d, added(4));
+        round(d, e, f, &mut g, h, a, b, &mut c, added(5));
+        round(c, d, e, &mut f, g, h, a, &mut b, added(6));
+        round(b, c, d, &mut e, f, g, h, &mut a, added(7));
     }
     for (word, change) in state.iter_mut().zip([a, b, c, d, e, f, g, h]) {
         *word = word.wrapping_add(change);
