@@ -4,9 +4,9 @@
     make_lines.py N [FRONTS] > lines
 
 A submission is a chain of one certificate of its own, of 1,536 bytes that look random and are the same in each run: SHAKE-128 of
-its number. Each front submits as many as its ring of 4,096 places holds, and waits for the tree head that covers them
-before it goes on; the operator settles such a block front by front and publishes. At the end stand a shutdown and a question
-to the frozen log. Nothing but the standard library is used.
+its number. Each front submits no more than its ring of 4,096 places holds, and waits for the tree head that covers them
+before it goes on; the operator settles such a block, of 16,384 submissions at most, front by front, and publishes. At the
+end stand a shutdown and a question to the frozen log. Nothing but the standard library is used.
 """
 
 import base64
@@ -14,7 +14,9 @@ import hashlib
 import sys
 
 SIZE = 1536
+# How many submissions of a front, and of all, the operator has to settle before a front goes on.
 RING = 4096
+BLOCK = 16384
 
 
 def add_chain(front, number):
@@ -27,7 +29,7 @@ def blocks(count, fronts):
     """How many submissions each front makes, block by block."""
     left = [(count + fronts - 1 - front) // fronts for front in range(fronts)]
     while any(left):
-        block = [min(RING, of_front) for of_front in left]
+        block = [min(RING, BLOCK // fronts, of_front) for of_front in left]
         left = [of_front - made for of_front, made in zip(left, block)]
         yield block
 

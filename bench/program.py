@@ -98,21 +98,20 @@ def compare_programs(ctlog, plain, count, fronts, runs):
     return row(count, fronts, lines, Runs(of_ctlog), Runs(of_plain))
 
 
+def cell(form, of_ctlog, of_plain, unit=1):
+    """Both figures, and their ratio."""
+    return f"{form.format(of_ctlog / unit)} / {form.format(of_plain / unit)} ({of_ctlog / of_plain:.2f})"
+
+
 def row(count, fronts, lines, ctlog, plain):
-    certificates = count * CERTIFICATE
-    cells = [f"{count:,}", str(fronts)]
-    for runs in (ctlog, plain):
-        cells += [
-            f"{runs.seconds:.2f}",
-            f"{lines / runs.seconds:,.0f}",
-            f"{runs.processor:.2f}",
-            f"{runs.peak / 1e6:.0f}",
-            f"{runs.peak / certificates:.2f}",
-        ]
-    cells += [
-        f"{ctlog.seconds / plain.seconds:.2f}",
-        f"{ctlog.processor / plain.processor:.2f}",
-        f"{ctlog.peak / plain.peak:.2f}",
+    cells = [
+        f"{count:,}",
+        str(fronts),
+        cell("{:.2f}", ctlog.seconds, plain.seconds),
+        cell("{:,.0f}", lines / ctlog.seconds, lines / plain.seconds),
+        cell("{:.2f}", ctlog.processor, plain.processor),
+        cell("{:.0f}", ctlog.peak, plain.peak, 1e6),
+        cell("{:.2f}", ctlog.peak, plain.peak, count * CERTIFICATE),
     ]
     return "| " + " | ".join(cells) + " |"
 
@@ -131,13 +130,10 @@ def main():
     options = parser.parse_args()
     load = " ".join(f"{average:.1f}" for average in os.getloadavg())
     print(f"{os.cpu_count()} processors, load {load}; {options.runs} runs of each, in turns")
+    print("Each cell: ctlog / plain Rust (ctlog over plain Rust)")
     print()
-    of_each = ["s", "lines/s", "processor s", "peak MB", "peak over certificates"]
-    heads = ["Submissions", "Fronts"]
-    heads += [f"{name}: {head}" for name in ("ctlog", "plain") for head in of_each]
-    heads += [f"ctlog over plain: {head}" for head in ("time", "processor time", "peak")]
-    print("| " + " | ".join(heads) + " |")
-    print("|" + "---|" * len(heads))
+    print("| Submissions | Fronts | s | lines/s | processor s | peak MB | peak over the bytes of the certificates |")
+    print("|---|---|---|---|---|---|---|")
     for count in options.submissions:
         for fronts in options.fronts:
             print(compare_programs(options.ctlog, options.plain, count, fronts, options.runs), flush=True)

@@ -5,7 +5,7 @@
 
 An independent program: it shares no code with ctlog. The fronts and the operator take turns, each doing its lines until
 it has to wait, which is one of the schedules that threads may take. Tickets are written as `_` where there are several fronts: all else
-has to come from any schedule, if the input is made so that it can. Waits that nothing ends, lines of the greatest length and collisions aren't known to it.
+has to come from any schedule, if the input is made so that it can. Waits that nothing ends, lines that are too long and collisions aren't known to it.
 """
 import base64
 import json
@@ -103,8 +103,8 @@ class Log:
             raise Refused("unknown-size")
         return self.leaves(size)
 
-    def answer(self, op, request):
-        return getattr(self, op.replace("-", "_"))(**{key: request[key] for key in request if key not in ("who", "op")})
+    def answer(self, op, keys):
+        return getattr(self, op.replace("-", "_"))(**keys)
 
     def get_sth(self):
         size, now = self.heads[-1]
@@ -155,25 +155,29 @@ class Log:
 
 def do_front(log, front, request):
     """The reply to a line of a front; None where it has to wait."""
-    if request["op"] == "add-chain":
-        return log.submit(front, [base64.b64decode(text, validate=True) for text in request["chain"]])
-    if request["op"] == "await-size":
-        return {"reached": request["tree_size"]} if log.size() >= request["tree_size"] else None
-    return log.answer(request["op"], request)
+    op, keys = request
+    if op == "add-chain":
+        return log.submit(front, [base64.b64decode(text) for text in keys["chain"]])
+    if op == "await-size":
+        return {"reached": keys["tree_size"]} if log.size() >= keys["tree_size"] else None
+    return log.answer(op, keys)
 
 
 def do_operator(log, request):
     """The reply to a line of the operator; None where it has to wait."""
     if request is None:
         raise Refused("bad-line")
-    if request["op"] == "shutdown":
+    op, keys = request
+    if op == "shutdown":
         return log.shutdown()
-    if request["op"] == "publish":
-        return log.publish(request["now"])
-    if len(log.rings[request["from"]]) < request["count"]:
+    if op == "publish":
+        return log.publish(keys["now"])
+    front, count = keys["from"], keys["count"]
+    if len(log.rings[front]) < count:
         return None
-    log.settle(request["from"], request["count"], request["now"])
-    return {"settled": request["count"]}
+    if count > 0:
+        log.settle(front, count, keys["now"])
+    return {"settled": count}
 
 
 def do_lines(do, lines, replies):
@@ -188,22 +192,83 @@ def do_lines(do, lines, replies):
         replies.append(reply)
 
 
+def is_number(value):
+    return type(value) is int and 0 <= value < 1 << 64
+
+
+def is_bytes(value):
+    try:
+        return isinstance(value, str) and text(base64.b64decode(value, validate=True)) == value
+    except ValueError:
+        return False
+
+
+def is_hash(value):
+    return is_bytes(value) and len(base64.b64decode(value)) == 32
+
+
+def is_list_of(is_element):
+    return lambda value: isinstance(value, list) and all(map(is_element, value))
+
+
+# The keys of each op, and what has to stand under them.
+QUERIES = {
+    "get-sth": {},
+    "get-sth-consistency": {"first": is_number, "second": is_number},
+    "get-proof-by-hash": {"hash": is_hash, "tree_size": is_number},
+    "get-entries": {"start": is_number, "end": is_number},
+    "get-entry-and-proof": {"leaf_index": is_number, "tree_size": is_number},
+    "receipt": {"ticket": is_number},
+}
+AUDIT = {
+    "leaf_input": is_bytes,
+    "leaf_index": is_number,
+    "tree_size": is_number,
+    "audit_path": is_list_of(is_hash),
+}
+FRONT_OPS = {"add-chain": {"chain": is_list_of(is_bytes)}, "await-size": {"tree_size": is_number}, **QUERIES}
+OTHER_OPS = {
+    "operator": {
+        "sequence": {"from": is_number, "count": is_number, "now": is_number},
+        "publish": {"now": is_number},
+        "shutdown": {},
+    },
+    "frozen": {"audit": AUDIT, **QUERIES},
+}
+
+
+def whole_number(digits):
+    """A number without fraction and exponent; one with a sign is no number of a request."""
+    return int(digits) if digits[0] != "-" else -1
+
+
+def read_line(line, fronts):
+    """Who does the line, and the request. What is no request is the operator's, as None."""
+    try:
+        value = json.loads(line, parse_int=whole_number)
+        who = value["who"]
+        keys = (FRONT_OPS if is_number(who) else OTHER_OPS[who])[value["op"]]
+        request = {key: value[key] for key in keys}
+    except (ValueError, KeyError, TypeError):
+        return "operator", None
+    holds = all(is_right(request[key]) for key, is_right in keys.items())
+    there = all(front < fronts for front in (who, request.get("from", 0)) if is_number(front))
+    return (who, (value["op"], request)) if holds and there else ("operator", None)
+
+
 def give_out(lines, fronts):
-    """The lines of each party: front 0's first, the operator's and the frozen log's last."""
+    """The requests of each party: front 0's first, the operator's and the frozen log's last."""
     parties = [[] for _ in range(fronts + 2)]
     places = {**{front: front for front in range(fronts)}, "operator": fronts, "frozen": fronts + 1}
     for line in lines:
-        try:
-            request = json.loads(line)
-            parties[places[request["who"]]].append(request)
-        except (ValueError, KeyError, TypeError):
-            parties[fronts].append(None)
+        who, request = read_line(line, fronts)
+        parties[places[who]].append(request)
     return parties
 
 
-def main():
-    fronts, ring, open_at, close_at = map(int, sys.argv[1:])
-    parties = give_out(filter(None, sys.stdin.buffer.read().split(b"\n")), fronts)
+def expected(fronts, ring, open_at, close_at, given):
+    """The lines of the output for this input, which ends as the program does at status 0."""
+    parties = give_out(filter(None, given.split(b"\n")), fronts)
     log = Log(fronts, ring, open_at)
     doers = [lambda request, front=front: do_front(log, front, request) for front in range(fronts)]
     doers.append(lambda request: do_operator(log, request))
@@ -217,12 +282,20 @@ def main():
     for front in range(fronts):
         log.settle(front, ring, close_at)
     log.publish(close_at)
-    do_lines(lambda request: log.answer(request["op"], request), parties[-1], replies[-1])
-    for reply in sum(replies, []):
-        line = json.dumps(reply, separators=(",", ":"), sort_keys=True)
-        if fronts > 1 and "ticket" in reply:
-            line = '{"ticket":_}'
+    do_lines(lambda request: log.answer(*request), parties[-1], replies[-1])
+    return [line_of(reply, fronts) for reply in sum(replies, [])]
+
+
+def line_of(reply, fronts):
+    if fronts > 1 and "ticket" in reply:
+        return '{"ticket":_}'
+    return json.dumps(reply, separators=(",", ":"), sort_keys=True)
+
+
+def main():
+    for line in expected(*map(int, sys.argv[1:]), sys.stdin.buffer.read()):
         print(line)
 
 
-main()
+if __name__ == "__main__":
+    main()
