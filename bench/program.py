@@ -16,6 +16,7 @@ import subprocess
 import sys
 import tempfile
 import time
+from itertools import zip_longest
 from pathlib import Path
 from statistics import median
 
@@ -72,7 +73,9 @@ def compare(written, plain, count, fronts):
     tickets, rest = tickets_and_rest(written)
     plain_tickets, plain_rest = tickets_and_rest(plain)
     if rest != plain_rest:
-        sys.exit("program.py: the two programs write different replies")
+        pairs = enumerate(zip_longest(rest, plain_rest), 1)
+        number, pair = next((number, pair) for number, pair in pairs if pair[0] != pair[1])
+        sys.exit(f"program.py: the two programs write different replies, first in line {number}: {pair[0]} and {pair[1]}")
     if any(sorted(numbers) != list(range(count)) for numbers in (tickets, plain_tickets)):
         sys.exit(f"program.py: the tickets aren't 0 to {count - 1}, each once")
     if fronts == 1 and tickets != plain_tickets:
