@@ -1,8 +1,12 @@
 #!/usr/bin/env python3
-"""Writes N request lines, each of which submits a chain of one certificate of its own.
+"""Writes the lines of N submissions through a number of fronts, so that each is accepted and in the end published.
 
-Usage: make_lines.py N > lines. A certificate has 1,536 bytes that look random and are the same in each run: SHAKE-128 of
-its number. Nothing but the standard library is used.
+    make_lines.py N [FRONTS] > lines
+
+A submission is a chain of one certificate of its own, of 1,536 bytes that look random and are the same in each run: SHAKE-128 of
+its number. Each front submits no more than its ring of 4,096 places holds, and waits for the tree head that covers them
+before it goes on; the operator settles such a block, of 16,384 submissions at most, front by front, and publishes. At the
+end stand a shutdown and a question to the frozen log. Nothing but the standard library is used.
 """
 
 import base64
@@ -10,18 +14,49 @@ import hashlib
 import sys
 
 SIZE = 1536
+# How many submissions of a front, and of all, the operator has to settle before a front goes on.
+RING = 4096
+BLOCK = 16384
 
 
-def line(number):
+def add_chain(front, number):
     certificate = hashlib.shake_128(number.to_bytes(8, "big")).digest(SIZE)
     text = base64.b64encode(certificate).decode("ascii")
-    return '{"who":0,"op":"add-chain","chain":["%s"]}\n' % text
+    return '{"who":%d,"op":"add-chain","chain":["%s"]}\n' % (front, text)
+
+
+def blocks(count, fronts):
+    """How many submissions each front makes, block by block."""
+    left = [(count + fronts - 1 - front) // fronts for front in range(fronts)]
+    while any(left):
+        block = [min(RING, BLOCK // fronts, of_front) for of_front in left]
+        left = [of_front - made for of_front, made in zip(left, block)]
+        yield block
+
+
+def write_block(block, published, now, write):
+    """Writes the lines of a block that comes after a head of that size, up to its publication."""
+    number = published
+    for front, made in enumerate(block):
+        if published:
+            write('{"who":%d,"op":"await-size","tree_size":%d}\n' % (front, published))
+        for _ in range(made):
+            write(add_chain(front, number))
+            number += 1
+    for front, made in enumerate(block):
+        write('{"who":"operator","op":"sequence","from":%d,"count":%d,"now":%d}\n' % (front, made, now))
+    write('{"who":"operator","op":"publish","now":%d}\n' % now)
 
 
 def main():
     count = int(sys.argv[1])
-    for number in range(count):
-        sys.stdout.write(line(number))
+    fronts = int(sys.argv[2]) if len(sys.argv) > 2 else 1
+    write = sys.stdout.write
+    published = 0
+    for now, block in enumerate(blocks(count, fronts), 1):
+        write_block(block, published, now, write)
+        published += sum(block)
+    write('{"who":"operator","op":"shutdown"}\n{"who":"frozen","op":"get-sth"}\n')
 
 
 if __name__ == "__main__":

@@ -1,45 +1,96 @@
 #!/usr/bin/env bash
-# Builds ctlog, runs it on real certificate chains, and compares what it writes with what is expected.
+# Builds ctlog, runs it on real certificate chains, through one front and through four at once, and compares what it
+# writes with what is expected. With CTLOG=PATH another program with the same command line is run in its place.
 set -eu
+program=${CTLOG:+$(realpath "$CTLOG")}
 cd "$(dirname "$0")/.."
+program=${program:-crates/ctlog/out/ctlog}
 ring=32
 open_at=1767225600000
 close_at=1767225660000
-input=examples/real-chains.jsonl
-expected=examples/real-chains.expected.jsonl
-output=$(mktemp)
-trap 'rm -f "$output"' EXIT
+work=$(mktemp -d)
+trap 'rm -rf "$work"' EXIT
 
-echo "Building ctlog (the first time this proves it and the crates below it, which takes some minutes) .."
-log=$(mktemp)
-if ! (cd crates/ctlog && rt run -- --help) >"$log" 2>&1; then
-  cat "$log" >&2
-  rm -f "$log"
-  echo "demo: ctlog was not built" >&2
+fail() {
+  echo "demo: $1" >&2
   exit 1
-fi
-rm -f "$log"
+}
 
-echo
-echo "ctlog --fronts 1 --ring $ring --open-at $open_at --close-at $close_at < $input"
-echo "$(grep -c . "$input") lines: $(grep -c '"add-chain"' "$input") chains submitted, some twice; a shutdown, made twice; a line that is no request;"
-echo "and a question to the frozen log for its tree head."
-echo
-crates/ctlog/out/ctlog --fronts 1 --ring "$ring" --open-at "$open_at" --close-at "$close_at" <"$input" >"$output"
-cat "$output"
-echo
-if cmp -s "$output" "$expected"; then
-  echo "Each of the $(grep -c . "$expected") replies is the expected one."
-else
-  diff "$output" "$expected" >&2 || true
-  echo "demo: the replies differ from $expected" >&2
-  exit 1
-fi
-if command -v python3 >/dev/null; then
-  if python3 examples/expected.py "$ring" "$close_at" <"$input" | cmp -s - "$output"; then
-    echo "An independent program (examples/expected.py, hashlib alone) computes the same replies and the same root."
-  else
-    echo "demo: examples/expected.py computes other replies" >&2
-    exit 1
+build() {
+  echo "Building ctlog (the first time this proves it and the crates below it, which takes some minutes) .."
+  if ! (cd crates/ctlog && rt run -- --help) >"$work/log" 2>&1; then
+    cat "$work/log" >&2
+    fail "ctlog was not built"
   fi
+  echo
+}
+
+# Runs the program on the lines of examples/$2.jsonl with $1 fronts. The replies come to $work/$2, and once more
+# to $work/$2.shown, where with several fronts the numbers of tickets, which depend on how the threads ran, are blotted out.
+run() {
+  "$program" --fronts "$1" --ring "$ring" --open-at "$open_at" --close-at "$close_at" \
+    <"examples/$2.jsonl" >"$work/$2" || fail "$program ended with status $?"
+  if [ "$1" = 1 ]; then
+    cp "$work/$2" "$work/$2.shown"
+  else
+    sed -E 's/"ticket":[0-9]+/"ticket":_/' "$work/$2" >"$work/$2.shown"
+  fi
+}
+
+# Compares what is shown with what is expected, and the numbers of the tickets with 0, 1, 2 and so on.
+compare() {
+  if ! cmp -s "$work/$2.shown" "examples/$2.expected.jsonl"; then
+    diff "$work/$2.shown" "examples/$2.expected.jsonl" >&2 || true
+    fail "the replies differ from examples/$2.expected.jsonl"
+  fi
+  sed -nE 's/^\{"ticket":([0-9]+)\}$/\1/p' "$work/$2" | sort -n >"$work/tickets"
+  seq 0 $(($(wc -l <"$work/tickets") - 1)) | cmp -s - "$work/tickets" || fail "the tickets aren't 0, 1, 2 and so on, each once"
+}
+
+# Has an independent program compute the same replies.
+recompute() {
+  command -v python3 >/dev/null || return 0
+  PYTHONDONTWRITEBYTECODE=1 python3 examples/expected.py "$1" "$ring" "$open_at" "$close_at" <"examples/$2.jsonl" |
+    cmp -s - "$work/$2.shown" || fail "examples/expected.py computes other replies"
+  echo "An independent program (examples/expected.py, hashlib alone) computes the same replies."
+}
+
+# Shows the next replies, cut short, equal ones once with their number. $1 names who asked, $2 is how many they are.
+show() {
+  echo "  $1"
+  sed -n "$((shown + 1)),$((shown + $2))p" "$work/four-fronts.shown" | uniq -c | cut -c1-120 | sed -E 's/^ *([0-9]+) /    \1 x /; s/^(    )1 x /\1    /'
+  shown=$((shown + $2))
+}
+
+lines_of() {
+  grep -c "^{\"who\":$1," examples/four-fronts.jsonl
+}
+
+[ -n "${CTLOG:-}" ] || build
+
+echo "One front: $program --fronts 1 --ring $ring --open-at $open_at --close-at $close_at < examples/real-chains.jsonl"
+run 1 real-chains
+compare 1 real-chains
+echo "$(grep -c '"add-chain"' examples/real-chains.jsonl) chains, some twice, one empty; settled, shut down, and closed. The tree head:"
+tail -n 1 "$work/real-chains"
+echo "Each of the $(grep -c . "$work/real-chains") replies is the expected one."
+recompute 1 real-chains
+echo
+
+echo "Four fronts in threads: $program --fronts 4 .. < examples/four-fronts.jsonl"
+for _ in 1 2 3; do
+  run 4 four-fronts
+  compare 4 four-fronts
+done
+shown=0
+for front in 0 1 2 3; do
+  show "front $front" "$(lines_of "$front")"
+done
+show "the operator, and a line that is no request" $(($(lines_of '"operator"') + 1))
+show "the frozen log" "$(lines_of '"frozen"')"
+echo "In three runs each of the $(grep -c . "$work/four-fronts") replies is the expected one, and the tickets are those that were to be given, each once."
+recompute 4 four-fronts
+if command -v python3 >/dev/null; then
+  echo "Another (examples/check.py) finds in what ctlog wrote:"
+  PYTHONDONTWRITEBYTECODE=1 python3 examples/check.py 4 examples/four-fronts.jsonl "$work/four-fronts" || fail "examples/check.py finds a fault"
 fi

@@ -1,97 +1,301 @@
 #!/usr/bin/env python3
-"""Computes, with hashlib alone, what `ctlog --fronts 1` has to answer to the lines on standard input.
+"""Computes, with hashlib alone, what ctlog has to answer to the lines on standard input.
 
-    expected.py RING CLOSE_AT < real-chains.jsonl
+    expected.py FRONTS RING OPEN_AT CLOSE_AT < real-chains.jsonl
 
-An independent program of a few lines: it knows the lines of the examples (add-chain, shutdown, get-sth) and
-nothing of ctlog's code. The tree is that of RFC 6962, section 2.1, by plain recursion.
+An independent program: it shares no code with ctlog. The fronts and the operator take turns, each doing its lines until
+it has to wait, which is one of the schedules that threads may take. Tickets are written as `_` where there are several fronts: all else
+has to come from any schedule, if the input is made so that it can. Waits that nothing ends, lines that are too long and collisions aren't known to it.
 """
 import base64
-import hashlib
 import json
 import sys
 
+import merkle
 
-def sha256(message):
-    return hashlib.sha256(message).digest()
-
-
-def root(leaves):
-    """MTH of RFC 6962, section 2.1."""
-    if not leaves:
-        return sha256(b"")
-    if len(leaves) == 1:
-        return sha256(b"\x00" + leaves[0])
-    k = 1
-    while 2 * k < len(leaves):
-        k *= 2
-    return sha256(b"\x01" + root(leaves[:k]) + root(leaves[k:]))
+LIMIT = 1 << 24
 
 
-def reply(**fields):
-    return json.dumps(fields, separators=(",", ":"), sort_keys=True)
+def text(value):
+    return base64.b64encode(value).decode()
 
 
-def refusal_of(chain):
-    limit = 1 << 24
+def texts(values):
+    return [text(value) for value in values]
+
+
+def vector(value):
+    return len(value).to_bytes(3, "big") + value
+
+
+class Refused(Exception):
+    """A refusal, by its name."""
+
+
+def check_chain(chain):
     if not chain:
-        return "empty-chain"
+        raise Refused("empty-chain")
     for certificate in chain:
         if not certificate:
-            return "empty-certificate"
-        if len(certificate) >= limit:
-            return "certificate-too-long"
-    if sum(3 + len(certificate) for certificate in chain[1:]) >= limit:
-        return "chain-too-long"
-    return None
+            raise Refused("empty-certificate")
+        if len(certificate) >= LIMIT:
+            raise Refused("certificate-too-long")
+    if sum(3 + len(issuer) for issuer in chain[1:]) >= LIMIT:
+        raise Refused("chain-too-long")
+
+
+class Log:
+    """The log: what was accepted, settled and published."""
+
+    def __init__(self, fronts, ring, now):
+        self.rings = [[] for _ in range(fronts)]
+        self.ring, self.accepted, self.shut = ring, 0, False
+        self.indexes, self.entries = {}, []  # from identity to index; (timestamp, leaf input, extra data)
+        self.settled = {}  # from ticket to index
+        self.heads, self.covered = [(0, now)], {}
+
+    def size(self):
+        return self.heads[-1][0]
+
+    def leaves(self, size):
+        return [leaf for _, leaf, _ in self.entries[:size]]
+
+    def submit(self, front, chain):
+        check_chain(chain)
+        if self.shut:
+            raise Refused("shutdown")
+        if len(self.rings[front]) == self.ring:
+            raise Refused("full")
+        self.rings[front].append((self.accepted, chain))
+        self.accepted += 1
+        return {"ticket": self.accepted - 1}
+
+    def newest(self):
+        return self.entries[-1][0] if self.entries else 0
+
+    def settle(self, front, count, now):
+        if now < max(self.newest(), self.heads[-1][1]):
+            raise Refused("clock-back")
+        for ticket, chain in self.rings[front][:count]:
+            identity = b"\x00\x00" + vector(chain[0])
+            if identity not in self.indexes:
+                self.indexes[identity] = len(self.entries)
+                leaf = b"\x00\x00" + now.to_bytes(8, "big") + identity + b"\x00\x00"
+                self.entries.append((now, leaf, vector(b"".join(map(vector, chain[1:])))))
+            self.settled[ticket] = self.indexes[identity]
+        del self.rings[front][:count]
+
+    def publish(self, now):
+        if now < self.newest() or now <= self.heads[-1][1]:
+            raise Refused("clock-back")
+        self.heads.append((len(self.entries), now))
+        self.covered = dict(self.settled)
+        return {"timestamp": now, "tree_size": len(self.entries)}
+
+    def shutdown(self):
+        if self.shut:
+            raise Refused("shutdown")
+        self.shut = True
+        return {"accepted": self.accepted}
+
+    def leaves_at_head(self, size):
+        if size not in [published for published, _ in self.heads]:
+            raise Refused("unknown-size")
+        return self.leaves(size)
+
+    def answer(self, op, keys):
+        return getattr(self, op.replace("-", "_"))(**keys)
+
+    def get_sth(self):
+        size, now = self.heads[-1]
+        return {"sha256_root_hash": text(merkle.root(self.leaves(size))), "timestamp": now, "tree_size": size}
+
+    def get_sth_consistency(self, first, second):
+        if not 0 < first < second:
+            raise Refused("bad-range")
+        self.leaves_at_head(first)
+        return {"consistency": texts(merkle.proof(first, self.leaves_at_head(second)))}
+
+    def get_proof_by_hash(self, hash, tree_size):
+        leaves = self.leaves_at_head(tree_size)
+        hashes = texts(merkle.leaf_hash(leaf) for leaf in leaves)
+        if hash not in hashes:
+            raise Refused("unknown-leaf")
+        index = hashes.index(hash)
+        return {"audit_path": texts(merkle.path(index, leaves)), "leaf_index": index}
+
+    def entry(self, index):
+        _, leaf, extra_data = self.entries[index]
+        return {"extra_data": text(extra_data), "leaf_input": text(leaf)}
+
+    def get_entries(self, start, end):
+        if start > end or start >= self.size():
+            raise Refused("bad-range")
+        last = min(end, start + 255, self.size() - 1)
+        return {"entries": [self.entry(index) for index in range(start, last + 1)]}
+
+    def get_entry_and_proof(self, leaf_index, tree_size):
+        leaves = self.leaves_at_head(tree_size)
+        if leaf_index >= tree_size:
+            raise Refused("bad-range")
+        return {"audit_path": texts(merkle.path(leaf_index, leaves)), **self.entry(leaf_index)}
+
+    def receipt(self, ticket):
+        if ticket not in self.covered:
+            raise Refused("not-yet")
+        index = self.covered[ticket]
+        return {"extensions": "", "leaf_index": index, "sct_version": 0, "timestamp": self.entries[index][0]}
+
+    def audit(self, leaf_input, leaf_index, tree_size, audit_path):
+        leaves = self.leaves_at_head(tree_size)
+        leaf, hashes = base64.b64decode(leaf_input), [base64.b64decode(hash) for hash in audit_path]
+        holds = merkle.includes(leaf, leaf_index, tree_size, hashes, merkle.root(leaves))
+        return {"verdict": "holds" if holds else "refused"}
+
+
+def do_front(log, front, request):
+    """The reply to a line of a front; None where it has to wait."""
+    op, keys = request
+    if op == "add-chain":
+        return log.submit(front, [base64.b64decode(text) for text in keys["chain"]])
+    if op == "await-size":
+        return {"reached": keys["tree_size"]} if log.size() >= keys["tree_size"] else None
+    return log.answer(op, keys)
+
+
+def do_operator(log, request):
+    """The reply to a line of the operator; None where it has to wait."""
+    if request is None:
+        raise Refused("bad-line")
+    op, keys = request
+    if op == "shutdown":
+        return log.shutdown()
+    if op == "publish":
+        return log.publish(keys["now"])
+    front, count = keys["from"], keys["count"]
+    if len(log.rings[front]) < count:
+        return None
+    if count > 0:
+        log.settle(front, count, keys["now"])
+    return {"settled": count}
+
+
+def do_lines(do, lines, replies):
+    """Does lines from the next one on, until one has to wait."""
+    while len(replies) < len(lines):
+        try:
+            reply = do(lines[len(replies)])
+        except Refused as refused:
+            reply = {"error": str(refused)}
+        if reply is None:
+            return
+        replies.append(reply)
+
+
+def is_number(value):
+    return type(value) is int and 0 <= value < 1 << 64
+
+
+def is_bytes(value):
+    try:
+        return isinstance(value, str) and text(base64.b64decode(value, validate=True)) == value
+    except ValueError:
+        return False
+
+
+def is_hash(value):
+    return is_bytes(value) and len(base64.b64decode(value)) == 32
+
+
+def is_list_of(is_element):
+    return lambda value: isinstance(value, list) and all(map(is_element, value))
+
+
+# The keys of each op, and what has to stand under them.
+QUERIES = {
+    "get-sth": {},
+    "get-sth-consistency": {"first": is_number, "second": is_number},
+    "get-proof-by-hash": {"hash": is_hash, "tree_size": is_number},
+    "get-entries": {"start": is_number, "end": is_number},
+    "get-entry-and-proof": {"leaf_index": is_number, "tree_size": is_number},
+    "receipt": {"ticket": is_number},
+}
+AUDIT = {
+    "leaf_input": is_bytes,
+    "leaf_index": is_number,
+    "tree_size": is_number,
+    "audit_path": is_list_of(is_hash),
+}
+FRONT_OPS = {"add-chain": {"chain": is_list_of(is_bytes)}, "await-size": {"tree_size": is_number}, **QUERIES}
+OTHER_OPS = {
+    "operator": {
+        "sequence": {"from": is_number, "count": is_number, "now": is_number},
+        "publish": {"now": is_number},
+        "shutdown": {},
+    },
+    "frozen": {"audit": AUDIT, **QUERIES},
+}
+
+
+def whole_number(digits):
+    """A number without fraction and exponent; one with a sign is no number of a request."""
+    return int(digits) if digits[0] != "-" else -1
+
+
+def read_line(line, fronts):
+    """Who does the line, and the request. What is no request is the operator's, as None."""
+    try:
+        value = json.loads(line, parse_int=whole_number)
+        who = value["who"]
+        keys = (FRONT_OPS if is_number(who) else OTHER_OPS[who])[value["op"]]
+        request = {key: value[key] for key in keys}
+    except (ValueError, KeyError, TypeError):
+        return "operator", None
+    holds = all(is_right(request[key]) for key, is_right in keys.items())
+    there = all(front < fronts for front in (who, request.get("from", 0)) if is_number(front))
+    return (who, (value["op"], request)) if holds and there else ("operator", None)
+
+
+def give_out(lines, fronts):
+    """The requests of each party: front 0's first, the operator's and the frozen log's last."""
+    parties = [[] for _ in range(fronts + 2)]
+    places = {**{front: front for front in range(fronts)}, "operator": fronts, "frozen": fronts + 1}
+    for line in lines:
+        who, request = read_line(line, fronts)
+        parties[places[who]].append(request)
+    return parties
+
+
+def expected(fronts, ring, open_at, close_at, given):
+    """The lines of the output for this input, which ends as the program does at status 0."""
+    parties = give_out(filter(None, given.split(b"\n")), fronts)
+    log = Log(fronts, ring, open_at)
+    doers = [lambda request, front=front: do_front(log, front, request) for front in range(fronts)]
+    doers.append(lambda request: do_operator(log, request))
+    replies = [[] for _ in parties]
+    done = -1
+    while done < sum(map(len, replies)):
+        done = sum(map(len, replies))
+        for party, do in enumerate(doers):
+            do_lines(do, parties[party], replies[party])
+    log.shut = True
+    for front in range(fronts):
+        log.settle(front, ring, close_at)
+    log.publish(close_at)
+    do_lines(lambda request: log.answer(*request), parties[-1], replies[-1])
+    return [line_of(reply, fronts) for reply in sum(replies, [])]
+
+
+def line_of(reply, fronts):
+    if fronts > 1 and "ticket" in reply:
+        return '{"ticket":_}'
+    return json.dumps(reply, separators=(",", ":"), sort_keys=True)
 
 
 def main():
-    ring, close_at = int(sys.argv[1]), int(sys.argv[2])
-    front, operator, frozen = [], [], []
-    for line in sys.stdin.buffer.read().split(b"\n"):
-        if not line:
-            continue
-        try:
-            request = json.loads(line)
-            who, op = request["who"], request["op"]
-        except (ValueError, KeyError, TypeError):
-            who, op = "operator", "bad-line"
-            request = {}
-        {0: front, "operator": operator, "frozen": frozen}[who].append((op, request))
-
-    accepted, out = [], []
-    for op, request in front:
-        chain = [base64.b64decode(text, validate=True) for text in request["chain"]]
-        error = refusal_of(chain) or ("full" if len(accepted) == ring else None)
-        if error:
-            out.append(reply(error=error))
-        else:
-            out.append(reply(ticket=len(accepted)))
-            accepted.append(chain)
-
-    shut = False
-    for op, request in operator:
-        if op == "bad-line":
-            out.append(reply(error="bad-line"))
-        elif shut:
-            out.append(reply(error="shutdown"))
-        else:
-            shut = True
-            out.append(reply(accepted=len(accepted)))
-
-    # a leaf for the first occurrence of each end entity
-    seen, leaves = set(), []
-    for chain in accepted:
-        entry = b"\x00\x00" + len(chain[0]).to_bytes(3, "big") + chain[0]
-        if entry not in seen:
-            seen.add(entry)
-            leaves.append(b"\x00\x00" + close_at.to_bytes(8, "big") + entry + b"\x00\x00")
-
-    for op, request in frozen:
-        head = base64.b64encode(root(leaves)).decode()
-        out.append(reply(sha256_root_hash=head, timestamp=close_at, tree_size=len(leaves)))
-    sys.stdout.write("".join(line + "\n" for line in out))
+    for line in expected(*map(int, sys.argv[1:]), sys.stdin.buffer.read()):
+        print(line)
 
 
-main()
+if __name__ == "__main__":
+    main()

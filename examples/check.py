@@ -1,0 +1,177 @@
+#!/usr/bin/env python3
+"""Checks what ctlog wrote for an input, with hashlib alone, and prints what was found to hold.
+
+    check.py FRONTS INPUT OUTPUT
+
+It takes the log at its word in nothing: roots are computed from the entries that `get-entries` returns, proofs are checked
+by the steps of RFC 9162, section 2.1.3, receipts against the entries and the submissions. What it prints doesn't depend on
+how the threads ran. The input asks the frozen log for all entries, at most 256.
+"""
+import base64
+import json
+import sys
+
+import merkle
+
+
+def bytes_of(text):
+    return base64.b64decode(text, validate=True)
+
+
+def all_bytes(texts):
+    return [bytes_of(text) for text in texts]
+
+
+class Wrong(Exception):
+    """What doesn't hold."""
+
+
+def claim(holds, wrong):
+    if not holds:
+        raise Wrong(wrong)
+
+
+def requests_of(lines, fronts):
+    """The requests in the order of their replies: front 0's, front 1's and so on, the operator's, the frozen log's."""
+    parties = [[] for _ in range(fronts + 2)]
+    places = {**{front: front for front in range(fronts)}, "operator": fronts, "frozen": fronts + 1}
+    for line in filter(None, lines):
+        try:
+            request = json.loads(line)
+            parties[places[request["who"]]].append(request)
+        except (ValueError, KeyError, TypeError):
+            parties[fronts].append({"who": "operator", "op": "no request"})
+    return sum(parties, [])
+
+
+class Checker:
+    """Checks the replies to the requests, one kind after the other."""
+
+    def __init__(self, pairs):
+        self.pairs = pairs
+        self.submissions = [(request, reply["ticket"]) for request, reply in self.replies_to("add-chain")]
+        self.heads = [reply["tree_size"] for _, reply in self.replies_to("publish")]
+        final = [reply for request, reply in self.replies_to("get-entries") if request["who"] == "frozen"]
+        self.entries = final[-1]["entries"]
+        self.leaves = all_bytes(entry["leaf_input"] for entry in self.entries)
+
+    def replies_to(self, op):
+        """The requests of this op that weren't refused, with their replies."""
+        return [(request, reply) for request, reply in self.pairs if request["op"] == op and "error" not in reply]
+
+    def root_at(self, size):
+        return merkle.root(self.leaves[:size])
+
+    def tickets(self):
+        numbers = sorted(ticket for _, ticket in self.submissions)
+        claim(numbers == list(range(len(numbers))), "the tickets aren't 0 to n - 1, each once")
+        for who in {request["who"] for request, _ in self.submissions}:
+            own = [ticket for request, ticket in self.submissions if request["who"] == who]
+            claim(own == sorted(own), f"the tickets of front {who} don't rise")
+        accepted = [reply["accepted"] for _, reply in self.replies_to("shutdown")]
+        claim(accepted == [len(numbers)], "the shutdown counted other submissions")
+        fronts = len({request["who"] for request, _ in self.submissions})
+        return f"{len(numbers)} submissions of {fronts} fronts: the tickets are 0 to {numbers[-1]}, each once, and rise at each front"
+
+    def certificate_at(self, index):
+        return self.leaves[index][15:-2]
+
+    def entries_are_submissions(self):
+        submitted = [bytes_of(request["chain"][0]) for request, _ in self.submissions]
+        logged = [self.certificate_at(index) for index in range(len(self.leaves))]
+        claim(len(set(logged)) == len(logged), "a certificate has two leaves")
+        claim(set(logged) == set(submitted), "the leaves aren't those of the submitted certificates")
+        chains = {(bytes_of(request["chain"][0]), chain_bytes(request["chain"])) for request, _ in self.submissions}
+        for index, entry in enumerate(self.entries):
+            claim((self.certificate_at(index), bytes_of(entry["extra_data"])) in chains, f"entry {index} has another chain")
+        repeats = len(submitted) - len(logged)
+        return f"{len(logged)} entries: each submitted certificate has one leaf; {repeats} submissions were repeats"
+
+    def tree_heads(self):
+        heads = [reply for _, reply in self.replies_to("get-sth")]
+        for reply in heads:
+            claim(bytes_of(reply["sha256_root_hash"]) == self.root_at(reply["tree_size"]), "a head has another root")
+        claim(self.heads == sorted(self.heads), "the sizes of the heads fall")
+        final = heads[-1]
+        claim(final["tree_size"] == len(self.leaves), "the final head doesn't cover all entries")
+        sizes = ", ".join(map(str, self.heads + [final["tree_size"]]))
+        return f"{len(self.heads) + 1} tree heads, of sizes {sizes}; the final root {final['sha256_root_hash']} is that of the entries"
+
+    def inclusion_proofs(self):
+        asked = self.replies_to("get-proof-by-hash") + self.replies_to("get-entry-and-proof")
+        said = []
+        for request, reply in asked:
+            size = request["tree_size"]
+            index = reply.get("leaf_index", request.get("leaf_index"))
+            leaf = bytes_of(reply["leaf_input"]) if "leaf_input" in reply else self.leaves[index]
+            claim(merkle.leaf_hash(leaf) == bytes_of(request["hash"]) if "hash" in request else True, "a leaf has another hash")
+            claim(leaf == self.leaves[index], "an entry isn't the log's")
+            path = all_bytes(reply["audit_path"])
+            claim(merkle.includes(leaf, index, size, path, self.root_at(size)), "an inclusion proof fails")
+            said.append(f"leaf {index} at size {size}")
+        return f"{len(asked)} inclusion proofs verify: {'; '.join(said)}"
+
+    def consistency_proofs(self):
+        asked = self.replies_to("get-sth-consistency")
+        said = []
+        for request, reply in asked:
+            first, second = request["first"], request["second"]
+            path = all_bytes(reply["consistency"])
+            roots = self.root_at(first), self.root_at(second)
+            claim(merkle.extends(first, second, *roots, path), "a consistency proof fails")
+            said.append(f"{first} to {second}")
+        return f"{len(asked)} consistency proofs verify: {'; '.join(said)}"
+
+    def receipts(self):
+        certificates = {ticket: bytes_of(request["chain"][0]) for request, ticket in self.submissions}
+        asked = self.replies_to("receipt")
+        for request, reply in asked:
+            index = reply["leaf_index"]
+            claim(certificates[request["ticket"]] == self.certificate_at(index), "a receipt names another entry")
+            claim(reply["timestamp"] == int.from_bytes(self.leaves[index][2:10], "big"), "a receipt has another timestamp")
+        return f"{len(asked)} receipts agree with the entries and with what the tickets were given for"
+
+    def audits(self):
+        asked = self.replies_to("audit")
+        for request, reply in asked:
+            size, path = request["tree_size"], all_bytes(request["audit_path"])
+            leaf, index = bytes_of(request["leaf_input"]), request["leaf_index"]
+            holds = merkle.includes(leaf, index, size, path, self.root_at(size))
+            claim(reply["verdict"] == ("holds" if holds else "refused"), "an audit has another verdict")
+        verdicts = ", ".join(reply["verdict"] for _, reply in asked)
+        return f"{len(asked)} audits have the right verdict: {verdicts}"
+
+    def refusals(self):
+        names = [reply["error"] for _, reply in self.pairs if "error" in reply]
+        return f"{len(names)} refusals: {', '.join(sorted(names))}"
+
+
+def chain_bytes(chain):
+    """The certificates after the first, as extra_data has them (RFC 6962, section 4.6)."""
+    issuers = b"".join(len(issuer).to_bytes(3, "big") + issuer for issuer in all_bytes(chain[1:]))
+    return len(issuers).to_bytes(3, "big") + issuers
+
+
+def main():
+    with open(sys.argv[2], encoding="utf-8") as given, open(sys.argv[3], encoding="utf-8") as written:
+        requests = requests_of(given.read().split("\n"), int(sys.argv[1]))
+        replies = [json.loads(line) for line in written]
+    try:
+        claim(len(requests) == len(replies), f"{len(requests)} requests, but {len(replies)} replies")
+        checker = Checker(list(zip(requests, replies)))
+        for check in (
+            checker.tickets,
+            checker.entries_are_submissions,
+            checker.tree_heads,
+            checker.inclusion_proofs,
+            checker.consistency_proofs,
+            checker.receipts,
+            checker.audits,
+            checker.refusals,
+        ):
+            print(f"  {check()}")
+    except (Wrong, KeyError, IndexError, ValueError) as fault:
+        sys.exit(f"check.py: {fault!r}")
+
+
+main()

@@ -1,0 +1,110 @@
+#!/usr/bin/env python3
+"""Writes four-fronts.jsonl from the chains of real-chains.jsonl: what four fronts, the operator and a reader ask.
+
+    four_fronts.py < real-chains.jsonl > four-fronts.jsonl
+
+The lines are such that only the numbers of tickets depend on how the threads run: the operator settles front by front, and
+each front waits for a head before it asks about it. Leaf hashes and the audited proof are computed here, by hashlib alone.
+"""
+import base64
+import json
+import sys
+
+import merkle
+
+OPEN_AT = 1767225600000
+
+
+def text(value):
+    return base64.b64encode(value).decode()
+
+
+def leaf(chain, timestamp):
+    certificate = base64.b64decode(chain[0])
+    size = len(certificate).to_bytes(3, "big")
+    return bytes(2) + timestamp.to_bytes(8, "big") + bytes(2) + size + certificate + bytes(2)
+
+
+def say(who, op, **keys):
+    print(json.dumps({"who": who, "op": op, **keys}, separators=(",", ":")))
+
+
+class Script:
+    """Writes the lines, and keeps what the operator is to settle and the leaves that the log is to have."""
+
+    def __init__(self):
+        self.waiting = [[] for _ in range(4)]
+        self.leaves, self.known = [], set()
+
+    def submit(self, front, *chains):
+        for chain in chains:
+            say(front, "add-chain", chain=chain)
+            self.waiting[front].append(chain)
+
+    def sequence(self, front, now):
+        chains, self.waiting[front] = self.waiting[front], []
+        for chain in chains:
+            if chain[0] not in self.known:
+                self.known.add(chain[0])
+                self.leaves.append(leaf(chain, now))
+        say("operator", "sequence", **{"from": front}, count=len(chains), now=now)
+
+
+def main():
+    requests = [json.loads(line) for line in sys.stdin if '"add-chain"' in line]
+    chains = [request["chain"] for request in requests if request["chain"]]
+    signers, roots = chains[:5], chains[5:9] + chains[11:20]
+    isrg_x1, isrg_x2 = roots[:2]
+    script = Script()
+
+    # front 0 begins alone
+    script.submit(0, *signers[:3])
+    script.sequence(0, OPEN_AT + 1000)
+    say("operator", "publish", now=OPEN_AT + 2000)
+
+    # then all four submit side by side, some of it twice
+    for front in range(4):
+        say(front, "await-size", tree_size=3)
+    script.submit(0, *signers[3:], isrg_x1)
+    script.submit(1, isrg_x1, isrg_x2, *roots[2:5])
+    script.submit(2, *roots[5:9], isrg_x2)
+    script.submit(3, *roots[9:12], chains[10])
+    say(3, "add-chain", chain=[])
+    for front in range(4):
+        script.sequence(front, OPEN_AT + 3000 + 1000 * front)
+    say("operator", "publish", now=OPEN_AT + 7000)
+    middle = len(script.leaves)
+
+    # one more, and the shutdown
+    for front in range(4):
+        say(front, "await-size", tree_size=middle)
+    script.submit(2, roots[12])
+    script.sequence(2, OPEN_AT + 8000)
+    say("operator", "shutdown")
+    say("operator", "publish", now=OPEN_AT + 9000)
+    size = len(script.leaves)
+    for front in range(4):
+        say(front, "await-size", tree_size=size)
+
+    # what the fronts ask then
+    say(0, "get-sth")
+    say(0, "get-sth-consistency", first=3, second=middle)
+    say(0, "receipt", ticket=1)
+    say(1, "get-proof-by-hash", hash=text(merkle.leaf_hash(script.leaves[5])), tree_size=middle)
+    say(2, "get-entry-and-proof", leaf_index=2, tree_size=3)
+    say(3, "get-sth-consistency", first=5, second=middle)
+    say(3, "add-chain", chain=signers[0])
+    print("this line is no request")
+
+    # what the frozen log is asked
+    say("frozen", "get-sth")
+    say("frozen", "get-entries", start=0, end=255)
+    say("frozen", "get-sth-consistency", first=middle, second=size)
+    say("frozen", "receipt", ticket=2)
+    say("frozen", "receipt", ticket=1000)
+    for index in (9, 10):
+        audited = {"leaf_input": text(script.leaves[9]), "leaf_index": index, "tree_size": size}
+        say("frozen", "audit", **audited, audit_path=[text(hash) for hash in merkle.path(9, script.leaves)])
+
+
+main()

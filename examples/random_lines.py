@@ -1,0 +1,193 @@
+#!/usr/bin/env python3
+"""Runs a program that does ctlog's job on random lines, and compares what it writes with what expected.py computes.
+
+    random_lines.py PROGRAM [INPUTS]
+
+The lines are the same in each run: input n comes from the seed n. They are made so that only the numbers of tickets depend on how the
+threads run: the operator settles front by front, and a front asks about sizes that it has waited for. With one front
+the tickets are compared too, and receipts are asked for.
+"""
+import base64
+import json
+import random
+import re
+import subprocess
+import sys
+
+import merkle
+from expected import Log, Refused, expected
+
+RING = 4096
+CLOSE_AT = 1000
+BAD_LINES = [
+    b"{}",
+    b"[]",
+    b"no request",
+    b'{"who":99,"op":"get-sth"}',
+    b'{"who":"operator","op":"get-sth"}',
+    b'{"who":"frozen","op":"shutdown"}',
+    b'{"who":"operator","op":"publish","now":1.0}',
+    b'{"who":"operator","op":"sequence","from":99,"count":0,"now":0}',
+    b'{"who":0,"op":"add-chain","chain":["QR=="]}',
+    b'{"who":0,"op":"add-chain","chain":"QQ=="}',
+    b'{"who":"front","op":"get-sth"}',
+    b'{"who":null,"op":"get-sth"}',
+    b'{"who":0,"op":["get-sth"]}',
+    b'{"who":0,"op":"receipt","ticket":-0}',
+    b'{"who":0,"op":"receipt","ticket":18446744073709551616}',
+    b'{"who":0,"op":"receipt"}',
+    b'{"who":0,"op":"get-proof-by-hash","hash":"QQ==","tree_size":0}',
+    b"\xff",
+]
+
+
+class Script:
+    """Makes the lines of an input, and plays them on a log to know sizes, moments and leaves."""
+
+    def __init__(self, seed):
+        self.random = random.Random(seed)
+        self.fronts = self.random.choice([1, 1, 2, 3, 4, 16])
+        self.lines = []
+        self.log = Log(self.fronts, RING, 0)
+        self.now = 1
+
+    def say(self, who, op, **keys):
+        members = [("who", who), ("op", op), *keys.items()]
+        self.random.shuffle(members)
+        self.lines.append(json.dumps(dict(members)).encode())
+
+    def chain(self):
+        kind = self.random.random()
+        if kind < 0.05:
+            return []
+        sizes = [self.random.choice([1, 1, 1, 2, 3, 100]) for _ in range(self.random.randint(1, 3))]
+        if kind < 0.1:
+            sizes[-1] = 0
+        return [bytes([self.random.randrange(40)]) * size for size in sizes]
+
+    def submit(self, front):
+        chain = self.chain()
+        self.say(front, "add-chain", chain=[base64.b64encode(certificate).decode() for certificate in chain])
+        try:
+            self.log.submit(front, chain)
+        except Refused:
+            pass
+
+    def sequence(self, front):
+        count = self.random.randint(0, len(self.log.rings[front]))
+        moment = self.now - self.random.choice([0, 0, 0, 1])
+        try:
+            if count:
+                self.log.settle(front, count, moment)
+        except Refused:
+            pass
+        self.say("operator", "sequence", **{"from": front}, count=count, now=moment)
+
+    def publish(self):
+        moment = self.now - self.random.choice([0, 0, 0, 2])
+        try:
+            self.log.publish(moment)
+        except Refused:
+            pass
+        self.say("operator", "publish", now=moment)
+
+    def ask(self, who, size):
+        """A question that sizes up to this one, which was published, decide."""
+        sizes = sorted({published for published, _ in self.log.heads if published <= size})
+        some_size = self.random.choice(sizes + sizes + [self.random.randint(0, size)])
+        index = self.random.randint(0, size)
+        leaves = self.log.leaves(size)
+        hashes = [merkle.leaf_hash(leaf) for leaf in leaves] + [bytes(32)]
+        op = self.random.choice(["consistency", "hash", "entries", "entry", "receipt"])
+        if op == "consistency":
+            self.say(who, "get-sth-consistency", first=self.random.choice(sizes), second=some_size)
+        elif op == "hash":
+            hash = base64.b64encode(self.random.choice(hashes)).decode()
+            self.say(who, "get-proof-by-hash", hash=hash, tree_size=some_size)
+        elif op == "entries" and size > 0:
+            self.say(who, "get-entries", start=self.random.randint(0, size - 1), end=self.random.randint(0, size - 1))
+        elif op == "entry":
+            self.say(who, "get-entry-and-proof", leaf_index=index, tree_size=some_size)
+        elif op == "receipt" and self.fronts == 1:
+            tickets = sorted(self.log.covered) if who != "frozen" else range(self.log.accepted + 2)
+            if tickets:
+                self.say(who, "receipt", ticket=self.random.choice(tickets))
+
+    def audit(self, size):
+        leaves = self.log.leaves(size)
+        if not leaves:
+            return
+        index = self.random.randrange(size)
+        path = [base64.b64encode(hash).decode() for hash in merkle.path(index, leaves)]
+        if path and self.random.random() < 0.3:
+            self.random.choice([path.pop, lambda: path.append(path[0]), lambda: path.reverse()])()
+        leaf = base64.b64encode(self.random.choice([leaves[index]] * 3 + [b"A"])).decode()
+        claimed = self.random.choice([index] * 3 + [index + 1])
+        self.say("frozen", "audit", leaf_input=leaf, leaf_index=claimed, tree_size=size, audit_path=path)
+
+    def round(self):
+        """Submissions side by side, their settlement and a head, and questions once it is there."""
+        before = self.log.size()
+        for front in range(self.fronts):
+            for _ in range(self.random.randint(0, 6)):
+                self.submit(front)
+        for front in self.random.sample(range(self.fronts), self.fronts):
+            self.sequence(front)
+        self.publish()
+        size = self.log.size()
+        for front in range(self.fronts):
+            if size > before:
+                self.say(front, "await-size", tree_size=size)
+            for _ in range(self.random.randint(0, 3)):
+                self.ask(front, size)
+        if self.random.random() < 0.3:
+            self.lines.append(self.random.choice(BAD_LINES))
+        self.now += self.random.randint(1, 3)
+
+    def text(self):
+        for _ in range(self.random.randint(1, 6)):
+            self.round()
+        if self.random.random() < 0.5:
+            self.shut_down()
+        self.log.shut = True
+        for front in range(self.fronts):
+            self.log.settle(front, RING, CLOSE_AT)
+        self.log.publish(CLOSE_AT)
+        self.say("frozen", "get-sth")
+        for _ in range(12):
+            self.ask("frozen", self.log.size())
+            self.audit(self.random.choice(self.log.heads)[0])
+        return b"\n".join(self.lines)
+
+    def shut_down(self):
+        """Has the operator wait for all that was submitted, so that the shutdown finds it accepted."""
+        for front in range(self.fronts):
+            count = len(self.log.rings[front])
+            self.say("operator", "sequence", **{"from": front}, count=count, now=self.now)
+            self.log.settle(front, count, self.now)
+        self.say("operator", "shutdown")
+        self.say("operator", "shutdown")
+
+
+def check(program, seed):
+    script = Script(seed)
+    given = script.text()
+    words = ["--fronts", str(script.fronts), "--ring", str(RING), "--close-at", str(CLOSE_AT)]
+    done = subprocess.run([program, *words], input=given, capture_output=True, check=True)
+    tickets = sorted(int(number) for number in re.findall(rb'"ticket":(\d+)', done.stdout))
+    written = done.stdout.decode()
+    if script.fronts > 1:
+        written = re.sub(r'"ticket":\d+', '"ticket":_', written)
+    wanted = "".join(line + "\n" for line in expected(script.fronts, RING, 0, CLOSE_AT, given))
+    if written != wanted or tickets != list(range(len(tickets))):
+        sys.exit(f"random_lines.py: other replies to input {seed}, of {script.fronts} fronts:\n{given.decode(errors='replace')}")
+    return len(wanted.splitlines())
+
+
+def main():
+    inputs = int(sys.argv[2]) if len(sys.argv) > 2 else 200
+    replies = sum(check(sys.argv[1], seed) for seed in range(inputs))
+    print(f"{inputs} inputs, {replies} replies: the same as expected.py's")
+
+
+main()
