@@ -35,7 +35,11 @@ pub(crate) fn roots(nodes: &Nodes<Sha256Hash>, count: u64) -> u64 {
 }
 
 // How many hashes `count` audit paths have.
-pub(crate) fn paths(heap: Global, nodes: &Nodes<Sha256Hash>, count: u64) -> Result<u64, AllocError> {
+pub(crate) fn paths(
+    heap: Global,
+    nodes: &Nodes<Sha256Hash>,
+    count: u64,
+) -> Result<u64, AllocError> {
     let mut hashes = 0u64;
     for k in 0..count {
         let n = nodes.size();
@@ -48,7 +52,11 @@ pub(crate) fn paths(heap: Global, nodes: &Nodes<Sha256Hash>, count: u64) -> Resu
 }
 
 // How many hashes `count` consistency proofs have.
-pub(crate) fn proofs(heap: Global, nodes: &Nodes<Sha256Hash>, count: u64) -> Result<u64, AllocError> {
+pub(crate) fn proofs(
+    heap: Global,
+    nodes: &Nodes<Sha256Hash>,
+    count: u64,
+) -> Result<u64, AllocError> {
     let mut hashes = 0u64;
     for k in 0..count {
         let n = nodes.size();
