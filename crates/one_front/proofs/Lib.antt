@@ -1,5 +1,0 @@
-pub mod Tickets
-pub mod Continuing
-pub mod Accepting
-pub mod Settling
-pub mod Answering
