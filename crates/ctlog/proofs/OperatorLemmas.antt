@@ -1,13 +1,12 @@
 -- The operator's work, step by step.
-use Rattle.std.proofs.Common.{◌≡◌, ◌<◌, ◌≤◌, ◌+◌, ℕ, List, [], ◌∷◌, ◌++◌, length, refl, sym, ap, subst, ◌∙◌, append_assoc, append-nil, arith, length-append}
+use Rattle.std.proofs.Common.{◌≡◌, ◌<◌, ◌≤◌, ◌+◌, ℕ, List, [], ◌∷◌, ◌++◌, length, refl, sym, subst, ◌∙◌, append_assoc, append-nil, arith, length-append}
 use Rattle.std.proofs.Common.{inl, inr}
 use Rattle.std.proofs.lemmas.Bool.{cases_lt}
 use Rattle.std.proofs.lemmas.List.Elements.{All-append}
-use Rattle.std.specs.Prelude.{All, Ok, Err}
+use Rattle.std.specs.Prelude.{Ok, Err}
 use Rattle.ct_codec.specs.declared.item.Item.{Item}
 use Rattle.ct_codec.specs.declared.refusal.Refusal.{Refusal}
-use Rattle.ct_codec.specs.declared.refusal.Refusal.TheVariants.{Late}
-use Rattle.ct_core.specs.Core.{Begins, clock_of, settle_refusal}
+use Rattle.ct_core.specs.Core.{clock_of, settle_refusal}
 use Rattle.ct_core.specs.Replies.{a_settled_count, refused}
 use Rattle.ct_core.proofs.CoreLemmas.{Begins-refl, Begins-trans, Grows-more}
 use Rattle.ct_house.specs.House.{HouseState, SettlesMore}
@@ -81,7 +80,7 @@ in_time_before front now a b xs s late = elim (cases_lt now (clock_of a.core)) [
   | inr after ↦ after
 ]
 
--- after turns that settled nothing: a turn that is refused, one that settles some, one more that settles none, and the last one
+-- after turns that settled nothing: a turn that is refused, one that settles some, and one more that settles none
 pub some_refused : (front most now : ℕ) (a b c : HouseState) (ys : List Item) (e : Refusal) → front < length a.lanes → Settling front now a b [] → Takes b c front ys now
     → (now < clock_of b.core → c ≡ b) → e ≡ settle_refusal b.core now → SettlesSome front most now a (Err e) c
 some_refused front most now a b c ys e inside s t early why = record {
@@ -102,9 +101,6 @@ pub still_none : (front now : ℕ) (a b c : HouseState) (ys : List Item) (n : �
     → (now < clock_of b.core → c ≡ b) → n ≡ length ys → n ≡ 0 → Settling front now a c []
 still_none front now a b c [] n inside s t early count none = settling_take front now a b c [] [] inside s t early
 still_none front now a b c (y ∷ ys) n inside s t early count none = absurd (omega arith)
-
-pub some_late : (front most now : ℕ) (a b : HouseState) → Settling front now a b [] → SettlesSome front most now a (Err Late) b
-some_late front most now a b s = record { items = []; settling = s; answer = inl refl }
 
 -- some items were settled, and left more are to be
 pub record Underway (front count now left : ℕ) (old new : HouseState) : Type 0 where

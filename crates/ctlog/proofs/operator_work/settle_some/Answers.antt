@@ -1,5 +1,5 @@
 use Rattle.std.proofs.Common.{arith}
-use Rattle.ctlog.proofs.OperatorLemmas.{some_refused, some_settled, still_none, some_late}
+use Rattle.ctlog.proofs.OperatorLemmas.{some_refused, some_settled, still_none}
 use Rattle.ctlog.proofs.operator_work.settle_some.Goals as goal
 
 pub returns-in-Err : goal.returns-in-Err
