@@ -42,13 +42,13 @@ fronts_grow : (lists : List (Vec FrontTask Global)) (ts : List Task) (f : ℕ) (
     → (k : ℕ) (v : Vec FrontTask Global) → slice_get (set lists f new) k ≡ Some v → map front_asked v.items ≡ front_parts k (ts ++ for_front f (front_asked t) ∷ [])
 fronts_grow lists ts f old new t there grown each k v at = elim (eqb_tells k f) [
   | inl same ↦ (
-    let here : slice_get (set lists f new) k ≡ Some new = ap (slice_get (set lists f new)) same.1 ∙ set_there lists f old new there in
-    let is : v ≡ new = same_Some v new (sym at ∙ here) in
-    let before : map front_asked old.items ≡ front_parts f ts = each f old there in
-    ap (λ (w : Vec FrontTask Global). map front_asked w.items) is ∙ ap (map front_asked) grown ∙ map-append front_asked old.items (t ∷ [])
-    ∙ part_grows (front_part f) ts (for_front f (front_asked t)) (map front_asked old.items) (front_asked t) before (own_part f (front_asked t))
-    ∙ ap (λ (n : ℕ). front_parts n (ts ++ for_front f (front_asked t) ∷ [])) (sym same.1)
-  )
+      let here : slice_get (set lists f new) k ≡ Some new = ap (slice_get (set lists f new)) same.1 ∙ set_there lists f old new there in
+      let is : v ≡ new = same_Some v new (sym at ∙ here) in
+      let before : map front_asked old.items ≡ front_parts f ts = each f old there in
+      ap (λ (w : Vec FrontTask Global). map front_asked w.items) is ∙ ap (map front_asked) grown ∙ map-append front_asked old.items (t ∷ [])
+      ∙ part_grows (front_part f) ts (for_front f (front_asked t)) (map front_asked old.items) (front_asked t) before (own_part f (front_asked t))
+      ∙ ap (λ (n : ℕ). front_parts n (ts ++ for_front f (front_asked t) ∷ [])) (sym same.1)
+      )
   | inr apart ↦ part_kept (front_part k) ts (for_front f (front_asked t)) (map front_asked v.items) (each k v (sym (set_elsewhere lists f k new apart.1) ∙ at))
       (no_part f k (front_asked t) (λ e. apart.1 (sym e)))
 ]

@@ -27,7 +27,15 @@ fn outcome_of<'a, H: Threads + Wait + Sync>(
     let mut input = input;
     let mut output = Vec::new(alloc);
     let mut faults = Vec::new(alloc);
-    let status = run(rt, alloc, words, turns, &mut input, &mut output, &mut faults);
+    let status = run(
+        rt,
+        alloc,
+        words,
+        turns,
+        &mut input,
+        &mut output,
+        &mut faults,
+    );
     Outcome {
         status,
         output,
@@ -259,7 +267,8 @@ fn two_fronts(rt: HostRuntime) {
 {\"who\":0,\"op\":\"get-sth\"}
 {\"who\":\"operator\",\"op\":\"sequence\",\"from\":5,\"count\":0,\"now\":1}
 ";
-    let output = "{\"sha256_root_hash\":\"47DEQpj8HBSa+/TImW+5JCeuQeRkm5NMpJWZG3hSuFU=\",\"timestamp\":0,\"tree_size\":0}
+    let output =
+        "{\"sha256_root_hash\":\"47DEQpj8HBSa+/TImW+5JCeuQeRkm5NMpJWZG3hSuFU=\",\"timestamp\":0,\"tree_size\":0}
 {\"ticket\":0}
 {\"error\":\"bad-line\"}
 {\"error\":\"bad-line\"}
@@ -279,7 +288,8 @@ fn three_fronts_with_one_certificate(rt: HostRuntime) {
 {\"who\":\"frozen\",\"op\":\"receipt\",\"ticket\":0}
 {\"who\":\"frozen\",\"op\":\"receipt\",\"ticket\":2}
 ";
-    let frozen = "{\"sha256_root_hash\":\"fV9+kfNWc6WhrBC4FWQ8cnZ9Z8PW7wGOv6AnRvHlwco=\",\"timestamp\":7,\"tree_size\":1}
+    let frozen =
+        "{\"sha256_root_hash\":\"fV9+kfNWc6WhrBC4FWQ8cnZ9Z8PW7wGOv6AnRvHlwco=\",\"timestamp\":7,\"tree_size\":1}
 {\"extensions\":\"\",\"leaf_index\":0,\"sct_version\":0,\"timestamp\":7}
 {\"extensions\":\"\",\"leaf_index\":0,\"sct_version\":0,\"timestamp\":7}
 ";
@@ -420,7 +430,15 @@ fn an_input_that_fails(rt: HostRuntime) {
     let words = ["ctlog", "--fronts", "1", "--ring", "4"];
     let mut output: Vec<u8> = Vec::new(alloc);
     let mut faults: Vec<u8> = Vec::new(alloc);
-    let status = run(&rt, alloc, &words, 9, &mut NoInput, &mut output, &mut faults);
+    let status = run(
+        &rt,
+        alloc,
+        &words,
+        9,
+        &mut NoInput,
+        &mut output,
+        &mut faults,
+    );
     assert!(rt; status == 1 && output.is_empty());
     assert!(rt; faults.as_slice() == b"ctlog: read\n".as_slice());
 }
@@ -441,7 +459,15 @@ fn an_output_that_fails(rt: HostRuntime) {
 {\"who\":0,\"op\":\"add-chain\",\"chain\":[\"QQ==\"]}
 ";
         let mut faults: Vec<u8> = Vec::new(alloc);
-        let status = run(&rt, alloc, &words, 9, &mut input, &mut Room(room), &mut faults);
+        let status = run(
+            &rt,
+            alloc,
+            &words,
+            9,
+            &mut input,
+            &mut Room(room),
+            &mut faults,
+        );
         assert_eq!(rt; status, wanted, "with room {room}");
         assert!(rt;
             faults.as_slice()
