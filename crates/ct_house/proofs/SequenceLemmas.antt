@@ -1,17 +1,14 @@
 -- Taking keeps 'received is settled followed by in hand', and at the end the settled items are a merge.
-use Rattle.std.proofs.Common.{◌≡◌, ◌≢◌, ℕ, zero, suc, ◌+◌, ◌-◌, ◌<◌, ◌≤◌, List, [], ◌∷◌, ◌++◌, length, refl, ap, sym, ◌∙◌, subst, arith, append_assoc, inl, inr}
+use Rattle.std.proofs.Common.{◌≡◌, ◌≢◌, ℕ, suc, ◌<◌, List, [], ◌∷◌, ◌++◌, length, refl, ap, sym, ◌∙◌, subst, arith, append_assoc, inl, inr}
 use Rattle.std.proofs.lemmas.List.{append-nil}
 use Rattle.std.proofs.lemmas.List.Elements.{All-append, All-weaker, filter-append}
 use Rattle.std.proofs.lemmas.Bool.Decides.{eqb_tells}
-use Rattle.std.proofs.lemmas.Option.{same_Some, slice_get_within}
-use Rattle.std.proofs.Math.Dec.{eqb}
+use Rattle.std.proofs.lemmas.Option.{slice_get_within}
 use Rattle.std.specs.Prelude.{Bool, true, false, cond, ◌==◌, All, Some, slice_get}
 use Rattle.ct_codec.specs.declared.item.Item.{Item}
 use Rattle.ct_codec.specs.Items.{items_of, Merge}
-use Rattle.ct_core.specs.Settlement.{Settled_as}
-use Rattle.ct_core.specs.Core.{CoreState, IsSettled, Grows}
 use Rattle.ct_core.proofs.SettlementLemmas.{slice_get_is}
-use Rattle.ct_house.specs.Sequence.{Lane, SequencerState, IsSequence, Sequences, Takes, IsDrained}
+use Rattle.ct_house.specs.Sequence.{Lane, SequencerState, Sequences, Takes, IsDrained}
 
 own_items : (f : ℕ) (xs : List Item) → All (λ (x : Item). x.front ≡ f) xs → items_of f xs ≡ xs
 own_items f [] h = refl
