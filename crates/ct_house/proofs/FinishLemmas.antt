@@ -10,7 +10,7 @@ use Rattle.ct_core.specs.Leaf.{Entry}
 use Rattle.ct_core.specs.Settlement.{Lawful, Settled_as, IsFinal}
 use Rattle.ct_core.specs.Core.{IsCovered}
 use Rattle.ct_codec.specs.Items.{Tickets, tickets_of}
-use Rattle.ct_core.proofs.SettlementLemmas.{slice_get_is}
+use Rattle.ct_house.proofs.GrowingLemmas.{slice_get_is}
 use Rattle.ct_gate.specs.Ends.{IntakeView}
 use Rattle.ct_house.specs.Sequence.{Lane, Sequences, IsDrained}
 use Rattle.ct_house.proofs.SequenceLemmas.{drained_merge}

@@ -5,7 +5,7 @@ use Rattle.std.proofs.lemmas.List.Elements.{All-append, All-weaker}
 use Rattle.std.specs.Prelude.{All}
 use Rattle.ct_codec.specs.declared.item.Item.{Item}
 use Rattle.ct_core.specs.Core.{CoreState, IsSettled, Begins, Grows}
-use Rattle.ct_core.proofs.CoreLemmas.{Grows-none, Grows-more, Begins-refl, Begins-trans}
+use Rattle.ct_house.proofs.GrowingLemmas.{Grows-none, Grows-more, Begins-refl, Begins-trans}
 use Rattle.ct_core.specs.Core.{clock_of}
 use Rattle.std.specs.VecDeque.{deque_capacity}
 use Rattle.std.specs.Prelude.{drop}

@@ -9,7 +9,7 @@ use Rattle.std.specs.List.{range_with_len}
 use Rattle.atomic_table.specs.Seated.{TableId}
 use Rattle.ct_codec.specs.declared.item.Item.{Item}
 use Rattle.ct_core.specs.Core.{CoreState, new_core, IsSettled}
-use Rattle.ct_core.proofs.SettlementLemmas.{slice_get_is}
+use Rattle.ct_house.proofs.GrowingLemmas.{slice_get_is}
 use Rattle.ct_gate.specs.Ring.{RingName}
 use Rattle.ct_gate.specs.Ends.{IntakeView, OutletView}
 use Rattle.ct_gate.specs.Opening.{IsNewFront, AreNewFronts}

@@ -23,7 +23,7 @@ use Rattle.std.proofs.lemmas.Option.{none-some, slice_get_past}
 use Rattle.std.proofs.lemmas.List.{map-id, map-append}
 use Rattle.std.proofs.lemmas.List.FromFn.{map-range_with_len_more}
 use Rattle.ct_core.specs.Core.{clock_of}
-use Rattle.ct_core.proofs.CoreLemmas.{Grows-none, Grows-more, Begins-refl, Begins-trans}
+use Rattle.ct_house.proofs.GrowingLemmas.{Grows-none, Grows-more, Begins-refl, Begins-trans}
 use Rattle.ct_gate.specs.Ends.{IntakeView}
 use Rattle.ct_house.specs.Sequence.{Sequences}
 use Rattle.ct_house.proofs.SequenceLemmas.{takes_sequence}
