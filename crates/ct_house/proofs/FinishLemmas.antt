@@ -1,8 +1,8 @@
 -- The end of a house.
-use Rattle.std.proofs.Common.{◌≡◌, ℕ, ◌+◌, ◌<◌, ◌≤◌, List, [], ◌∷◌, ◌++◌, length, map, reverse, refl, ap, sym, ◌∙◌, subst, arith, Global}
-use Rattle.std.proofs.lemmas.List.{length-map, map-append, reverse-append, append_assoc, append-nil}
+use Rattle.std.proofs.Common.{◌≡◌, ℕ, ◌<◌, List, [], ◌∷◌, ◌++◌, length, map, reverse, ap, sym, ◌∙◌, subst, arith}
+use Rattle.std.proofs.lemmas.List.{length-map, map-append, reverse-append, append_assoc}
 use Rattle.std.proofs.lemmas.Option.{same_Some, slice_get_within, slice_get-map}
-use Rattle.std.specs.Prelude.{Option, Some, None, slice_get, All}
+use Rattle.std.specs.Prelude.{All}
 use Rattle.std.specs.Option.{option_map}
 use Rattle.ct_codec.specs.declared.item.Item.{Item}
 use Rattle.ct_core.specs.declared.settled.Settled.{Settled}
@@ -10,7 +10,7 @@ use Rattle.ct_core.specs.Leaf.{Entry}
 use Rattle.ct_core.specs.Settlement.{Lawful, Settled_as, IsFinal}
 use Rattle.ct_core.specs.Core.{IsCovered}
 use Rattle.ct_codec.specs.Items.{Tickets, tickets_of}
-use Rattle.ct_core.proofs.SettlementLemmas.{slice_get_is}
+use Rattle.ct_house.proofs.GrowingLemmas.{slice_get_is}
 use Rattle.ct_gate.specs.Ends.{IntakeView}
 use Rattle.ct_house.specs.Sequence.{Lane, Sequences, IsDrained}
 use Rattle.ct_house.proofs.SequenceLemmas.{drained_merge}

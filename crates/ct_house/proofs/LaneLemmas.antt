@@ -1,14 +1,12 @@
 -- How what a lane received and settled grows.
-use Rattle.std.proofs.Common.{◌≡◌, ℕ, zero, suc, ◌+◌, ◌-◌, ◌<◌, ◌≤◌, List, [], ◌∷◌, ◌++◌, length, map, take, refl, ap, sym, ◌∙◌, subst, arith, append_assoc, Vec, Global}
+use Rattle.std.proofs.Common.{◌≡◌, ℕ, zero, suc, ◌+◌, ◌≤◌, List, [], ◌∷◌, ◌++◌, length, take, refl, ap, sym, ◌∙◌, subst, arith, append_assoc}
 use Rattle.std.proofs.lemmas.List.{append-nil, length-append, nil_from_length}
 use Rattle.std.proofs.lemmas.List.Elements.{All-append, All-weaker}
 use Rattle.std.specs.Prelude.{All}
 use Rattle.ct_codec.specs.declared.item.Item.{Item}
 use Rattle.ct_core.specs.Core.{CoreState, IsSettled, Begins, Grows}
-use Rattle.ct_core.proofs.CoreLemmas.{Grows-none, Grows-more, Begins-refl, Begins-trans}
+use Rattle.ct_house.proofs.GrowingLemmas.{Grows-none, Grows-more, Begins-refl, Begins-trans}
 use Rattle.ct_core.specs.Core.{clock_of}
-use Rattle.ct_core.specs.Leaf.{leaf_at}
-use Rattle.ct_core.specs.Tree.{hash_leaf}
 use Rattle.std.specs.VecDeque.{deque_capacity}
 use Rattle.std.specs.Prelude.{drop}
 use Rattle.ct_house.specs.House.{LaneView, LaneTakes, LaneFills}
@@ -103,20 +101,6 @@ pub record SettlesFirst (old : Inside) (core : CoreState) (new : Inside) (after 
   pub outlet : new.outlet ≡ old.outlet
   pub lane : IsLane new
   pub time : clock_of after ≤ now
-
--- the hashes of the leaf texts of items
-pub hashed_texts : (hashes : List (List ℕ)) (seen leaves : List (Vec ℕ Global)) (xs : List Item) (now : ℕ) → hashes ≡ map (λ (l : Vec ℕ Global). hash_leaf l.items) seen → seen ≡ leaves
-    → map (λ (l : Vec ℕ Global). l.items) leaves ≡ map (λ (x : Item). leaf_at x.submission now) xs → hashes ≡ map (λ (x : Item). hash_leaf (leaf_at x.submission now)) xs
-hashed_texts hashes seen leaves xs now e same texts =
-    e ∙ ap (map (λ (l : Vec ℕ Global). hash_leaf l.items)) same ∙ sym (twice leaves) ∙ ap (map hash_leaf) texts ∙ again xs
-  where
-    twice : (ls : List (Vec ℕ Global)) → map hash_leaf (map (λ (l : Vec ℕ Global). l.items) ls) ≡ map (λ (l : Vec ℕ Global). hash_leaf l.items) ls
-    twice [] = refl
-    twice (l ∷ ls) = ap (λ (zs : List (List ℕ)). hash_leaf l.items ∷ zs) (twice ls)
-
-    again : (ys : List Item) → map hash_leaf (map (λ (x : Item). leaf_at x.submission now) ys) ≡ map (λ (x : Item). hash_leaf (leaf_at x.submission now)) ys
-    again [] = refl
-    again (y ∷ ys) = ap (λ (zs : List (List ℕ)). hash_leaf (leaf_at y.submission now) ∷ zs) (again ys)
 
 -- the element behind the first n
 pub next_of : {X : Type 0} (n : ℕ) (xs ys : List X) (x : X) → drop n xs ≡ x ∷ ys → (take (suc n) xs ≡ take n xs ++ x ∷ []) × (drop (suc n) xs ≡ ys)

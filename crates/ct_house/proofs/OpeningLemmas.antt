@@ -1,21 +1,20 @@
 -- A new house.
-use Rattle.std.proofs.Common.{◌≡◌, ℕ, zero, suc, ◌+◌, ◌-◌, ◌<◌, ◌≤◌, List, [], ◌∷◌, ◌++◌, length, map, replicate, refl, ap, sym, ◌∙◌, subst, subst₂, arith, Global, get_or}
+use Rattle.std.proofs.Common.{◌≡◌, ℕ, ◌+◌, ◌<◌, List, [], ◌∷◌, length, map, replicate, refl, ap, sym, ◌∙◌, subst, arith, get_or}
 use Rattle.std.proofs.lemmas.List.{same_lists, length-map, get_or-map, get_or-replicate, length-replicate}
 use Rattle.std.proofs.lemmas.List.FromFn.{length-range_with_len, get_or-range_with_len}
-use Rattle.std.proofs.lemmas.Option.{same_Some, slice_get_within, get_or_from_slice_get, slice_get-get_or, slice_get-map}
-use Rattle.std.specs.Prelude.{Option, Some, None, slice_get, All}
+use Rattle.std.proofs.lemmas.Option.{same_Some, slice_get_within, get_or_from_slice_get, slice_get-map}
+use Rattle.std.specs.Prelude.{Option, Some, None, slice_get}
 use Rattle.std.specs.Option.{option_map}
 use Rattle.std.specs.List.{range_with_len}
 use Rattle.atomic_table.specs.Seated.{TableId}
 use Rattle.ct_codec.specs.declared.item.Item.{Item}
-use Rattle.ct_codec.specs.Items.{items_of}
 use Rattle.ct_core.specs.Core.{CoreState, new_core, IsSettled}
-use Rattle.ct_core.proofs.SettlementLemmas.{slice_get_is}
+use Rattle.ct_house.proofs.GrowingLemmas.{slice_get_is}
 use Rattle.ct_gate.specs.Ring.{RingName}
 use Rattle.ct_gate.specs.Ends.{IntakeView, OutletView}
 use Rattle.ct_gate.specs.Opening.{IsNewFront, AreNewFronts}
-use Rattle.ct_house.specs.Sequence.{Lane, SequencerState, IsSequence, Sequences}
-use Rattle.ct_house.specs.House.{HouseName, HouseState, FrontView, LaneView, IsNewHouse, IsFreshFront, IsOfHouse, empty_lane, lane_of, new_lane, new_front}
+use Rattle.ct_house.specs.Sequence.{Lane, Sequences}
+use Rattle.ct_house.specs.House.{HouseState, FrontView, LaneView, IsNewHouse, IsFreshFront, empty_lane, lane_of, new_lane, new_front}
 
 pub map_twice : {A B C : Type 0} (g : B → C) (f : A → B) (xs : List A) → map g (map f xs) ≡ map (λ x. g (f x)) xs
 map_twice g f [] = refl

@@ -1,17 +1,17 @@
 -- The sequencer, where one lane changes.
-use Rattle.std.proofs.Common.{◌≡◌, ◌≢◌, ℕ, zero, suc, ◌+◌, ◌-◌, ◌<◌, ◌≤◌, List, [], ◌∷◌, ◌++◌, length, map, set, refl, ap, sym, ◌∙◌, subst, arith, Global, get_or}
+use Rattle.std.proofs.Common.{◌≡◌, ◌≢◌, ℕ, zero, suc, ◌+◌, ◌<◌, ◌≤◌, List, [], ◌∷◌, ◌++◌, length, map, set, refl, ap, sym, ◌∙◌, subst, arith, get_or}
 use Rattle.std.proofs.lemmas.List.{length-map}
 use Rattle.std.proofs.lemmas.List.FromFn.{length-range_with_len, get_or-range_with_len}
 use Rattle.std.proofs.lemmas.List.Elements.{All-weaker}
-use Rattle.std.proofs.lemmas.Option.{same_Some, slice_get_within, get_or_from_slice_get, slice_get-get_or, slice_get-map}
-use Rattle.std.specs.Prelude.{Option, Some, None, slice_get, All}
+use Rattle.std.proofs.lemmas.Option.{same_Some, slice_get_within, get_or_from_slice_get, slice_get-map}
+use Rattle.std.specs.Prelude.{Option, Some, None, slice_get}
 use Rattle.std.specs.Option.{option_map}
 use Rattle.std.specs.List.{range_with_len}
 use Rattle.atomic_table.specs.Seated.{TableId}
 use Rattle.ct_codec.specs.declared.item.Item.{Item}
 use Rattle.ct_core.specs.Core.{CoreState}
 use Rattle.ct_gate.specs.Ring.{RingName}
-use Rattle.ct_house.specs.Sequence.{Lane, SequencerState, Takes}
+use Rattle.ct_house.specs.Sequence.{Lane, Takes}
 use Rattle.std.proofs.lemmas.Option.{slice_get_read}
 use Rattle.std.proofs.lemmas.List.{append-nil}
 use Rattle.std.proofs.Common.{append_assoc, inl, inr}
@@ -22,8 +22,8 @@ use Rattle.std.specs.Prelude.{IsTrue, true, false}
 use Rattle.std.proofs.lemmas.Option.{none-some, slice_get_past}
 use Rattle.std.proofs.lemmas.List.{map-id, map-append}
 use Rattle.std.proofs.lemmas.List.FromFn.{map-range_with_len_more}
-use Rattle.ct_core.specs.Core.{IsSettled, clock_of}
-use Rattle.ct_core.proofs.CoreLemmas.{Grows-none, Grows-more, Begins-refl, Begins-trans}
+use Rattle.ct_core.specs.Core.{clock_of}
+use Rattle.ct_house.proofs.GrowingLemmas.{Grows-none, Grows-more, Begins-refl, Begins-trans}
 use Rattle.ct_gate.specs.Ends.{IntakeView}
 use Rattle.ct_house.specs.Sequence.{Sequences}
 use Rattle.ct_house.proofs.SequenceLemmas.{takes_sequence}

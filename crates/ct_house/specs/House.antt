@@ -1,6 +1,5 @@
 -- What contracts see of a house: its name, its fronts, and its sequencer.
-use Rattle.std.specs.Prelude.{◌≡◌, ℕ, ◌<◌, ◌≤◌, List, [], ◌∷◌, ◌++◌, length, map, replicate, Option, Some, None, All, Bool, false, slice_get}
-use Rattle.std.specs.Global.{Global}
+use Rattle.std.specs.Prelude.{◌≡◌, ℕ, List, [], ◌++◌, length, map, replicate, Some, None, All, false, slice_get}
 use Rattle.std.specs.List.{range_with_len, slice_index_or}
 use Rattle.atomic_table.specs.Seated.{TableId}
 use Rattle.ct_codec.specs.declared.item.Item.{Item}
@@ -8,7 +7,7 @@ use Rattle.ct_core.specs.Settlement.{Log}
 use Rattle.ct_core.specs.Core.{CoreState, IsSettled, Begins, Grows, new_core}
 use Rattle.ct_gate.specs.Ring.{RingName}
 use Rattle.ct_gate.specs.Ends.{IntakeView, OutletView}
-use Rattle.ct_house.specs.Sequence.{Lane, SequencerState, Sequences, Takes}
+use Rattle.ct_house.specs.Sequence.{Lane, SequencerState, Sequences}
 
 -- which house it is: its gate, and the ring of each front, in order
 pub record HouseName : Type 0 where

@@ -1,8 +1,7 @@
 -- What the sequencer's fields stand for.
-use Rattle.std.specs.Prelude.{◌≡◌, ℕ, ◌≤◌, All, length, map, vec_len, vec_capacity}
+use Rattle.std.specs.Prelude.{◌≡◌, ◌≤◌, length, map, vec_len, vec_capacity}
 use Rattle.std.specs.List.{range_with_len}
 use Rattle.ct_core.specs.Settlement.{Lawful}
-use Rattle.ct_house.specs.Sequence.{SequencerState}
 use Rattle.ct_house.specs.House.{LaneView, HouseState, lane_of}
 use Rattle.ct_house.specs.declared.sequencer.Sequencer.TheInside.{Inside}
 

@@ -1,4 +1,4 @@
-// A new house.
+//! A new house.
 ghost use Rattle.std.specs.Prelude.{◌≡◌, ◌≤◌, [], map, IfOk, IfErr};
 ghost use Rattle.ct_house.specs.Sequence.{Sequences};
 ghost use Rattle.ct_house.specs.House.{IsNewHouse, new_lane, new_front};
@@ -13,7 +13,11 @@ use std::alloc::Global;
 use std::collections::VecDeque;
 use std::sync::{Arc, RwLock};
 
-/// Opens a house with so many fronts, each with a ring of so many places.
+/// Opens a house with 1 to 16 fronts, each with a ring of 1 to 4,096 places, whose log has one head of size 0 at the moment
+/// `now`, in milliseconds. It answers the sequencer, and the fronts in the order of their numbers, from 0 on.
+///
+/// Nothing is accepted, received, settled or shut. For each front a hand of 256 items is reserved, so that receiving needs no memory, and the
+/// room that `finish` needs. `Memory` is the only refusal, and then there is no house. It doesn't wait.
 pub fn open(
     alloc: Global,
     fronts: u16,

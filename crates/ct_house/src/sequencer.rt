@@ -17,7 +17,13 @@ use std::marker::Model;
 use std::sync::{Arc, RwLock, Wait};
 use std::thread::Threads;
 
-/// Settles what the fronts accept, and publishes it.
+/// Settles what the fronts accept, publishes it, shuts the house and closes it. It can move to a thread of its own.
+///
+/// Contracts see which house it is, the answer of the shutdown once it was made, the core, and for each front its lane: the items
+/// that were received from the front, and those of them in hand, which aren't settled yet. `Sequences s items` says that `items`
+/// are the settled items, in the order of settling: it holds of no items after `open`, and each call below says how the list grows.
+/// So at every exit of every call, refusals too, what was received of a front is what was settled of it followed by what is in hand. The
+/// settlement, the entries with their timestamps, and the heads begin with what they were.
 #[derive(Drop)]
 pub struct Sequencer {
     pub(crate) core: Core,
@@ -40,7 +46,10 @@ impl Model for Sequencer {
 }
 
 impl Sequencer {
-    /// Shuts the house, and answers how many submissions were accepted in all.
+    /// Shuts the house, and answers how many submissions were accepted in all. From this step on none is accepted. It takes no
+    /// memory and waits for nobody.
+    ///
+    /// `Shutdown` is the only refusal, from the second time on, and changes nothing.
     pub fn shutdown(&mut self) -> Result<u64, Refusal>
         ensures same { self.new ≡ record self.old { accepted = self.new.accepted } }
         ensures answer { MatchResult result (λ n. (self.old.accepted ≡ None) × (self.new.accepted ≡ Some n)) (λ r. (r ≡ Refusal.Shutdown) × (self.old.accepted ≢ None) × (self.new ≡ self.old)) }
@@ -48,14 +57,19 @@ impl Sequencer {
         self.shutter.shut()
     }
 
-    /// Whether the house was shut.
+    /// Whether the house was shut. It takes no memory and waits for nobody.
     pub fn is_shut(&self) -> bool
         ensures { IsTrue result ↔ (self.now.accepted ≢ None) }
     {
         self.shutter.accepted().is_some()
     }
 
-    /// Settles items of a front at this moment, so many at most, and answers how many.
+    /// Settles the next items of a front, 1 to 256 at most, at the moment `now`, in milliseconds, and answers how many: at least all that were in
+    /// hand, up to that many. The first with an identity gets a leaf with this timestamp, each later one that leaf's index.
+    ///
+    /// The hand is filled from the front's ring, which needs no memory and waits for nobody. Then the leaves are hashed and settled, which
+    /// takes memory, and may start threads that it joins. The refusals, in order: `ClockBack` where `now` is before the clock,
+    /// which changes nothing; `Memory`, after which some may be settled, and all else that was received stays in hand, in order.
     pub fn take<R: Threads + Sync>(
         &mut self,
         rt: &R,
@@ -97,7 +111,12 @@ impl Sequencer {
         lane.settle(&mut self.core, rt, alloc, intake, now)
     }
 
-    /// Settles all that the fronts had accepted, at this moment. It needs the ends of all fronts, in order.
+    /// Settles all that the fronts had accepted and that isn't settled yet, front by front, at the moment `now`, in milliseconds. It
+    /// needs the ends of all fronts of this house, in the order of their numbers, and leaves them as they were.
+    ///
+    /// The refusals, in order: `MissingFront` exactly where the ends are others, and `ClockBack` where `now` is before the clock, also
+    /// where nothing is left: both change nothing; `Memory`, after which some may be settled, and all else that was received stays in hand.
+    /// The call may then be made again. It takes memory, and may start threads that it joins.
     pub fn settle<R: Threads + Sync>(
         &mut self,
         rt: &R,
@@ -138,7 +157,8 @@ impl Sequencer {
         lane.is_settled(intake)
     }
 
-    /// Whether these are the ends of all fronts, in order, and all that they had accepted is settled.
+    /// Whether these are the ends of all fronts, in order, and all that they had accepted is settled. It looks into the rings and takes
+    /// nothing out. It takes no memory and waits for nobody.
     pub fn is_settled(&mut self, ends: &mut [Retired]) -> bool
         requires { All (IsOfHouse self.old.house) ends.old }
         ensures same { (self.new ≡ self.old) × (ends.new ≡ ends.old) }
@@ -156,7 +176,7 @@ impl Sequencer {
         true
     }
 
-    /// Whether the last head covers all entries and records.
+    /// Whether the last head covers all entries and records. It takes no memory and waits for nobody.
     pub fn is_covered(&self) -> bool
         ensures { IsTrue result ↔ IsCovered self.now.core }
     {
@@ -164,7 +184,12 @@ impl Sequencer {
         core.is_covered()
     }
 
-    /// Publishes a head of all entries, and shows it to the fronts.
+    /// Publishes a head of all entries settled so far, with timestamp `now`, in milliseconds, and shows the state to the fronts. It
+    /// answers that head. A publication with nothing new is lawful.
+    ///
+    /// The refusals, in order: `ClockBack` where `now` is before the newest leaf's timestamp, or not after the last head's; `Memory`. Both
+    /// change nothing. Two states are made first, one for the fronts and one for the core, and share the submissions. Then it
+    /// waits until no front reads, and puts them in place.
     pub fn publish<R: Wait>(&mut self, rt: &R, alloc: Global, now: u64) -> Result<Head, Refusal>
         ensures head { IfOk result (λ h. IsNextHead self.old.core now h × (self.new ≡ record self.old { core = after_publishing self.old.core h })) }
         ensures in_time { OnOk result (IsInTime self.old.core now) }
@@ -177,7 +202,13 @@ impl Sequencer {
         Ok(self.core.adopt(own))
     }
 
-    /// Closes the house, whose fronts have all retired.
+    /// Closes the house, whose fronts have all retired: it was shut, all is settled, and the last head covers it. A caller tests
+    /// these three by `is_shut`, `is_settled` and `is_covered`. It takes no memory, and may wait until no front's end is in use.
+    ///
+    /// The clause `closes` is what a house is for. Where `items` are the settled items: they are a merge of the lists that the
+    /// fronts accepted, each in its front's order; the entries hold the first of each identity; the settlement is theirs; the
+    /// state is lawful, and its last head covers all entries; and the tickets are 0 to n - 1, each once, rising in each front, where n is
+    /// the answer of the shutdown.
     pub fn finish<R: Wait>(self, rt: &R, ends: Vec<Retired>) -> FinalLog
         requires of_house { All (IsOfHouse self.house) ends.items }
         requires shut { self.accepted ≢ None }
@@ -198,7 +229,7 @@ impl Sequencer {
         FinalLog { core, accepted }
     }
 
-    /// Gives the house up.
+    /// Gives the house up, and promises nothing. It takes no memory.
     pub fn abandon(self, ends: Vec<Retired>) {
         let mut ends = ends;
         while let Some(end) = ends.pop() {
@@ -241,7 +272,7 @@ fn are_all(ends: &[Retired], count: usize) -> bool
     true
 }
 
-/// What a closed house leaves.
+/// What a closed house leaves: the log as it was last published, and the answer of the shutdown.
 #[derive(Drop)]
 pub struct FinalLog {
     core: Core,
@@ -257,21 +288,21 @@ impl Model for FinalLog {
 }
 
 impl FinalLog {
-    /// How many submissions were accepted.
+    /// How many submissions were accepted: the answer of the shutdown.
     pub fn accepted(&self) -> u64
         ensures { result ≡ self.now.accepted }
     {
         self.accepted
     }
 
-    /// The final published state.
+    /// The final published state, which answers queries.
     pub fn published(&self) -> &Published
         ensures { result.now ≡ self.now.log }
     {
         self.core.published()
     }
 
-    /// Where each accepted submission settled, in the order of settling.
+    /// Where each accepted submission settled, in the order of settling: one record each.
     pub fn settlement(&self) -> &[Settled]
         ensures { result.now ≡ self.now.log.settlement }
     {

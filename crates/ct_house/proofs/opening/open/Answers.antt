@@ -1,6 +1,4 @@
-use Rattle.std.proofs.Common.{◌≡◌, ◌∙◌, sym, ap, length, arith, subst}
-use Rattle.ct_core.specs.Settlement.{Lawful}
-use Rattle.ct_house.specs.House.{IsNewHouse}
+use Rattle.std.proofs.Common.{◌∙◌, sym, arith}
 use Rattle.ct_house.proofs.OpeningLemmas.{opened, new_numbers, sequences_none}
 use Rattle.ct_house.proofs.opening.open.Goals as goal
 

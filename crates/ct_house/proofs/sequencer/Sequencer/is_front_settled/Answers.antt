@@ -1,9 +1,7 @@
-use Rattle.std.proofs.Common.{◌≡◌, ◌≤◌, ◌<◌, ℕ, List, length, sym, ap, ◌∙◌, arith, min, subst, map, refl}
-use Rattle.std.proofs.lemmas.Result.{on_ok_weaker}
+use Rattle.std.proofs.Common.{◌≡◌, sym, ap, ◌∙◌}
 use Rattle.std.specs.Prelude.{Some, slice_get}
-use Rattle.ct_core.specs.Settlement.{Lawful}
-use Rattle.ct_house.specs.House.{HouseState, FrontView, lane_of, drained_lane}
-use Rattle.ct_house.proofs.SequencerLemmas.{lane_takes, lane_there, lane_ends, numbers_kept, length_set, drained_there, drained_says}
+use Rattle.ct_house.specs.House.{FrontView}
+use Rattle.ct_house.proofs.SequencerLemmas.{lane_there, lane_ends, drained_says}
 use Rattle.ct_house.proofs.sequencer.Sequencer.is_front_settled.Goals as goal
 
 pub is_settled-requires : goal.is_settled-requires

@@ -1,8 +1,5 @@
-use Rattle.std.proofs.Common.{◌≡◌, List, ap}
-use Rattle.ct_codec.specs.declared.item.Item.{Item}
-use Rattle.ct_core.specs.Core.{CoreState, after_publishing}
-use Rattle.ct_house.specs.Sequence.{Sequences}
-use Rattle.ct_house.specs.House.{HouseState}
+use Rattle.std.proofs.Common.{ap}
+use Rattle.ct_core.specs.Core.{CoreState}
 use Rattle.ct_house.proofs.SequencerLemmas.{make_house}
 use Rattle.ct_house.proofs.PublishingLemmas.{adopted_head, still_sequences}
 use Rattle.ct_house.proofs.sequencer.Sequencer.publish.Goals as goal

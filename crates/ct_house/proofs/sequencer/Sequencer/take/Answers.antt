@@ -1,13 +1,12 @@
-use Rattle.std.proofs.Common.{◌≡◌, ◌≤◌, ℕ, length, sym, ap, ◌∙◌, arith, min, subst, map, refl}
+use Rattle.std.proofs.Common.{◌≡◌, ◌≤◌, length, sym, ap, ◌∙◌, arith, min, subst, map, refl}
 use Rattle.std.proofs.lemmas.Option.{slice_get_read}
 use Rattle.std.proofs.lemmas.Result.{IfOk-weaker}
 use Rattle.std.proofs.lemmas.List.{length-map}
 use Rattle.std.specs.Prelude.{Some, slice_get}
 use Rattle.ct_core.specs.Settlement.{Lawful}
-use Rattle.ct_house.specs.Sequence.{Takes}
 use Rattle.ct_house.specs.House.{HouseState, lane_of, hand_count}
 use Rattle.ct_house.specs.SequencerFields.{sequencer_state}
-use Rattle.ct_house.proofs.SequencerLemmas.{lane_takes, hand_at, numbers_kept, length_set, make_house}
+use Rattle.ct_house.proofs.SequencerLemmas.{lane_takes, hand_at, numbers_kept, length_set}
 use Rattle.ct_house.proofs.sequencer.Sequencer.take.Goals as goal
 
 pub invariant_of-self : goal.invariant_of-self
