@@ -1,4 +1,4 @@
-use Rattle.std.proofs.Common.{◌≡◌, All, vec_len}
+use Rattle.std.proofs.Common.{All, vec_len}
 use Rattle.ct_house.specs.House.{IsOfHouse}
 use Rattle.house_tests.specs.declared.sixteen_fronts.Party.{Party}
 use Rattle.house_tests.proofs.sixteen_fronts.parties_of.Given as goal

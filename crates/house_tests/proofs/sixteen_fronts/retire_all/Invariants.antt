@@ -1,4 +1,4 @@
-use Rattle.std.proofs.Common.{◌≡◌, ◌≤◌, ◌+◌, All, vec_len, vec_capacity}
+use Rattle.std.proofs.Common.{◌≤◌, ◌+◌, All, vec_len, vec_capacity}
 use Rattle.ct_house.specs.House.{IsOfHouse}
 use Rattle.house_tests.specs.declared.sixteen_fronts.Party.{Party}
 use Rattle.house_tests.proofs.sixteen_fronts.retire_all.Given as goal

@@ -1,4 +1,3 @@
-use Rattle.std.proofs.Common.{◌≡◌}
 use Rattle.ct_gate.specs.Ends.{SameIntake}
 use Rattle.house_tests.proofs.sixteen_fronts.Party.submit_all.Given as goal
 
