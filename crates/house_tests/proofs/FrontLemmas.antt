@@ -1,0 +1,36 @@
+-- Fronts of one house, seen together.
+use Rattle.std.proofs.Common.{◌≡◌, ℕ, zero, suc, ◌<◌, List, [], ◌∷◌, length, refl, sym, ap, ◌∙◌, subst, arith}
+use Rattle.std.proofs.lemmas.List.{length-replicate}
+use Rattle.std.proofs.lemmas.Option.{get_or_from_slice_get}
+use Rattle.std.specs.Prelude.{All, Some, slice_get, slice_index_or}
+use Rattle.ct_gate.specs.Ends.{SameIntake}
+use Rattle.ct_house.specs.House.{HouseName, HouseState, FrontView, IsOfHouse, IsNewHouse, empty_lane}
+
+-- what stands at a place that a list has
+slice_get_is : {X : Type 0} (xs : List X) (i : ℕ) → i < length xs → (x : X) × (slice_get xs i ≡ Some x)
+slice_get_is [] i h = absurd (omega arith)
+slice_get_is (x ∷ xs) zero h = (x, refl)
+slice_get_is (x ∷ xs) (suc i) h = slice_get_is xs i (omega arith)
+
+-- the fronts of a new house are of it
+pub of_new_house : (s : HouseState) (fronts : List FrontView) (n places now : ℕ) → IsNewHouse s fronts n places now → All (IsOfHouse s.house) fronts
+of_new_house s fronts n places now f k d below =
+    let (x, at) = slice_get_is fronts k below in
+    subst (IsOfHouse s.house) (sym (get_or_from_slice_get fronts k x d at)) (f.each k x at).of_house
+
+pub lanes_of_new_house : (s : HouseState) (fronts : List FrontView) (n places now : ℕ) → IsNewHouse s fronts n places now → length s.lanes ≡ n
+lanes_of_new_house s fronts n places now f = ap length f.lanes ∙ length-replicate n empty_lane
+
+-- a front of the same gate, number and ring is of the same house
+pub same_front : (a b : HouseName) (old new : FrontView) → b ≡ a → SameIntake old.intake new.intake → IsOfHouse a old → IsOfHouse b new
+same_front a b old new e s o = subst (λ (h : HouseName). IsOfHouse h new) (sym e) (record {
+  gate = s.0 ∙ o.gate;
+  ring = ap (slice_get a.rings) s.1 ∙ o.ring ∙ ap Some (sym s.2);
+})
+
+-- the fronts that stand in a list's elements stay of the house
+pub still_of_house : {X : Type 0} (f : X → FrontView) (a b : HouseName) (old new : List X) → b ≡ a → length new ≡ length old
+    → ((k : ℕ) (d : X) → k < length old → SameIntake (f (slice_index_or old k d)).intake (f (slice_index_or new k d)).intake) → All (λ x. IsOfHouse a (f x)) old → All (λ x. IsOfHouse b (f x)) new
+still_of_house f a b old new e count same all k d below =
+    let within : k < length old = omega arith in
+    same_front a b (f (slice_index_or old k d)) (f (slice_index_or new k d)) e (same k d within) (all k d within)

@@ -1,0 +1,16 @@
+use Rattle.std.proofs.Common.{◌≡◌, ℕ, [], ◌∷◌, ◌++◌, List, length, refl, ap, ◌∙◌, subst, arith, length-append}
+use Rattle.std.specs.Prelude.{Some, slice_get}
+use Rattle.ct_house.specs.House.{FrontView, IsFreshFront}
+use Rattle.house_tests.proofs.two_fronts.TwoFronts.open.Goals as goal
+
+-- a list of two whose last two elements were taken off
+two_last : {X : Type 0} (l l1 l2 : List X) (last first : X) → length l ≡ 2 → l ≡ l1 ++ last ∷ [] → l1 ≡ l2 ++ first ∷ [] → l ≡ first ∷ last ∷ []
+two_last {X} l l1 [] last first two e f = e ∙ ap (λ (m : List X). m ++ last ∷ []) f
+two_last {X} l l1 (x ∷ xs) last first two e f = absurd (omega (arith, ap length e, ap length f, length-append l1 (last ∷ []), length-append xs (first ∷ [])))
+
+pub invariant_of-result : goal.invariant_of-result
+invariant_of-result c =
+    let f = c.in_ok-house.ensures.fresh in
+    let i = two_last c.in_ok-house.fronts.items c.pop.new.self.items c.pop-2.new.self.items c.in-Some-Some.one c.in-Some-Some.zero f.count c.in-Some-Some.ensures.items c.in-Some-Some.ensures'.items in
+    let each = subst (λ (fs : List FrontView). (k : ℕ) (x : FrontView) → slice_get fs k ≡ Some x → IsFreshFront c.in_ok-house.house.house c.args.ring k x) i f.each in
+    record { lanes = ap length f.lanes; of_house = ((each 0 c.in-Some-Some.zero refl).of_house, (each 1 c.in-Some-Some.one refl).of_house) }

@@ -1,0 +1,378 @@
+ghost use Rattle.std.specs.Prelude.{◌≡◌, ◌≤◌, ◌<◌, ◌+◌, ℕ, length, All, IfOk, slice_index_or, vec_len, vec_capacity};
+ghost use Rattle.ct_gate.specs.Ends.{SameIntake};
+ghost use Rattle.ct_house.specs.House.{IsOfHouse};
+ghost use Rattle.house_tests.specs.declared.sixteen_fronts.Party.{Party};
+
+use crate::common::{closed, head_of, submission};
+use ct_codec::{Refusal, Submission};
+use ct_core::{Query, Settled};
+use ct_house::{FinalLog, Front, Retired, Sequencer, open};
+use ct_tree::Head;
+use std::alloc::Global;
+use std::process::Abort;
+use std::sync::Wait;
+use std::test::Fail;
+use std::thread;
+use std::thread::{Threads, join_mut};
+
+// How often a submission that meets a full ring is made again, before it is given up.
+const TRIES: u32 = 100_000;
+
+// How many rounds the sequencer makes at most, and after how many items it shuts the house.
+const ROUNDS: u64 = 100_000;
+
+const ENOUGH: u64 = 6_000;
+
+// A front, and what its thread saw: the tickets, each with the byte that is its certificate, and the heads.
+#[derive(Drop)]
+struct Party {
+    front: Front,
+    tickets: Vec<(u64, u8)>,
+    heads: Vec<Head>,
+    end: Result<(), Refusal>,
+}
+
+impl Party {
+    fn new(alloc: Global, front: Front) -> Party
+        ensures { result.front ≡ front }
+    {
+        Party {
+            front,
+            tickets: Vec::new(alloc),
+            heads: Vec::new(alloc),
+            end: Ok(()),
+        }
+    }
+
+    // Submits once. Where the ring is full, the submission comes back.
+    fn attempt(
+        &mut self,
+        waiting: Submission,
+        certificate: u8,
+    ) -> Result<Option<Submission>, Refusal>
+        ensures { SameIntake self.old.front.intake self.new.front.intake }
+    {
+        match self.front.submit(waiting) {
+            Ok(ticket) => {
+                self.tickets.push((ticket, certificate))?;
+                Ok(None)
+            }
+            Err((Refusal::Full, back)) => Ok(Some(back)),
+            Err((refusal, _)) => Err(refusal),
+        }
+    }
+
+    // Submits a certificate until it is taken or given up.
+    fn submit(&mut self, alloc: Global, certificate: u8) -> Result<(), Refusal>
+        ensures { SameIntake self.old.front.intake self.new.front.intake }
+    {
+        let mut waiting = submission(alloc, &[certificate])?;
+        for _ in 0..TRIES {
+            match self.attempt(waiting, certificate)? {
+                Some(back) => waiting = back,
+                None => return Ok(()),
+            }
+            thread::yield_now();
+        }
+        Ok(())
+    }
+
+    // Asks for the last head.
+    fn look<R: Wait>(&mut self, rt: &R, alloc: Global) -> Result<(), Refusal>
+        ensures { self.new.front ≡ self.old.front }
+    {
+        let head = head_of(self.front.ask(rt, alloc, &Query::GetSth))?;
+        self.heads.push(head)?;
+        Ok(())
+    }
+
+    // Submits 1,000 certificates, of which 250 differ, and looks at the head now and then.
+    fn submit_all<R: Wait>(&mut self, rt: &R, alloc: Global, first: usize) -> Result<(), Refusal>
+        ensures { SameIntake self.old.front.intake self.new.front.intake }
+    {
+        for number in 0..1000usize {
+            if number % 50 == 0 {
+                self.look(rt, alloc)?;
+            }
+            self.submit(alloc, ((first % 16 * 61 + number * 7) % 250) as u8)?;
+        }
+        Ok(())
+    }
+
+    fn run<R: Wait>(&mut self, rt: &R, alloc: Global, first: usize)
+        ensures { SameIntake self.old.front.intake self.new.front.intake }
+    {
+        self.end = self.submit_all(rt, alloc, first);
+    }
+}
+
+// Each front in a thread of its own.
+fn run_fronts<R: Threads + Wait + Sync>(rt: &R, alloc: Global, parties: &mut [Party])
+    ensures count { length parties.new ≡ length parties.old }
+    ensures same { (k : ℕ) (d : Party) → k < length parties.old
+        → SameIntake (slice_index_or parties.old k d).front.intake (slice_index_or parties.new k d).front.intake }
+{
+    thread::for_each_mut(rt, parties, 16, &|first, party| party.run(rt, alloc, first));
+}
+
+// Takes from each front, and answers how many items.
+fn take_round<R: Threads + Sync>(
+    rt: &R,
+    alloc: Global,
+    house: &mut Sequencer,
+    now: u64,
+) -> Result<u64, Refusal>
+    requires { length house.old.lanes ≡ 16 }
+    ensures same { (house.new.house ≡ house.old.house) × (length house.new.lanes ≡ length house.old.lanes) }
+{
+    let mut taken = 0u64;
+    for front in 0..16u16 {
+        let count = house.take(rt, alloc, front, 64, now)?;
+        taken = taken.saturating_add(u64::from(count));
+    }
+    Ok(taken)
+}
+
+// Takes until it is enough, publishes now and then, and shuts the house. The answer of the shutdown.
+fn sequence<R: Threads + Wait + Sync>(
+    rt: &R,
+    alloc: Global,
+    house: &mut Sequencer,
+) -> Result<u64, Refusal>
+    requires { length house.old.lanes ≡ 16 }
+    ensures same { (house.new.house ≡ house.old.house) × (length house.new.lanes ≡ length house.old.lanes) }
+{
+    let mut taken = 0u64;
+    let mut published = 0u64;
+    for round in 1..ROUNDS {
+        let more = take_round(rt, alloc, house, round)?;
+        taken = taken.saturating_add(more);
+        if taken >= published.saturating_add(250) {
+            house.publish(rt, alloc, round)?;
+            published = taken;
+        }
+        if taken >= ENOUGH {
+            break;
+        }
+        thread::yield_now();
+    }
+    house.shutdown()
+}
+
+// The fronts and the sequencer at once. The answer of the shutdown.
+fn run_together<R: Threads + Wait + Sync>(
+    rt: &R,
+    alloc: Global,
+    house: &mut Sequencer,
+    parties: &mut [Party],
+) -> Result<u64, Refusal>
+    requires { length house.old.lanes ≡ 16 }
+    ensures house { (house.new.house ≡ house.old.house) × (length house.new.lanes ≡ length house.old.lanes) }
+    ensures count { length parties.new ≡ length parties.old }
+    ensures same { (k : ℕ) (d : Party) → k < length parties.old
+        → SameIntake (slice_index_or parties.old k d).front.intake (slice_index_or parties.new k d).front.intake }
+{
+    let (_, shut) = join_mut(
+        rt,
+        &mut ||
+            ensures { (length parties.exit.now ≡ length parties.entry.now) × ((k : ℕ) (d : Party) → k < length parties.entry.now
+                → SameIntake (slice_index_or parties.entry.now k d).front.intake (slice_index_or parties.exit.now k d).front.intake) }
+        { run_fronts(rt, alloc, parties) },
+        &mut ||
+            requires { length house.now.lanes ≡ 16 }
+            ensures { (house.exit.now.house ≡ house.entry.now.house) × (length house.exit.now.lanes ≡ length house.entry.now.lanes) }
+        { sequence(rt, alloc, house) },
+    );
+    shut
+}
+
+// What a front's thread saw.
+#[derive(Drop)]
+struct Seen {
+    tickets: Vec<(u64, u8)>,
+    heads: Vec<Head>,
+    end: Result<(), Refusal>,
+}
+
+// The fronts with room for what their threads will see, the last one first.
+fn parties_of(
+    alloc: Global,
+    _house: &Sequencer,
+    mut fronts: Vec<Front>,
+) -> Result<Vec<Party>, Refusal>
+    requires { All (IsOfHouse _house.now.house) fronts.items }
+    ensures { IfOk result (λ v. All (λ (p : Party). IsOfHouse _house.now.house p.front) v.items) }
+{
+    let mut parties = Vec::new(alloc);
+    while let Some(front) = fronts.pop() {
+        parties.push(Party::new(alloc, front))?;
+    }
+    Ok(parties)
+}
+
+// The fronts retire, the last one first. Each list has room for all.
+fn retire_all(
+    _house: &Sequencer,
+    mut parties: Vec<Party>,
+    mut ends: Vec<Retired>,
+    mut seen: Vec<Seen>,
+) -> (Vec<Retired>, Vec<Seen>)
+    requires of_house { All (λ (p : Party). IsOfHouse _house.now.house p.front) parties.items × All (IsOfHouse _house.now.house) ends.items }
+    requires room { (vec_len ends + vec_len parties ≤ vec_capacity ends) × (vec_len seen + vec_len parties ≤ vec_capacity seen) }
+    ensures { All (IsOfHouse _house.now.house) result.0.items }
+{
+    while let Some(party) = parties.pop() {
+        let Party {
+            front,
+            tickets,
+            heads,
+            end,
+        } = party;
+        ends.push_reserved(front.retire());
+        seen.push_reserved(Seen {
+            tickets,
+            heads,
+            end,
+        });
+    }
+    (ends, seen)
+}
+
+// A house with sixteen fronts.
+#[derive(Drop)]
+struct Crowd {
+    alloc: Global,
+    house: Sequencer,
+    parties: Vec<Party>,
+    ghost lanes: { length house.lanes ≡ 16 },
+    ghost of_house: { All (λ (p : Party). IsOfHouse house.house p.front) parties.items },
+}
+
+impl Crowd {
+    #[tactic(auto, using(crate::proofs::FrontLemmas::of_new_house, crate::proofs::FrontLemmas::lanes_of_new_house))]
+    fn open(alloc: Global) -> Result<Crowd, Refusal> {
+        let (house, fronts) = open(alloc, 16, 64, 0)?;
+        let parties = parties_of(alloc, &house, fronts)?;
+        Ok(Crowd {
+            alloc,
+            house,
+            parties,
+        })
+    }
+
+    #[tactic(auto, using(crate::proofs::FrontLemmas::still_of_house))]
+    fn run<R: Threads + Wait + Sync>(&mut self, rt: &R) -> Result<u64, Refusal> {
+        run_together(rt, self.alloc, &mut self.house, &mut self.parties)
+    }
+
+    // The final log, and what the threads saw, front by front.
+    fn finish<R: Threads + Wait + Abort + Sync>(self, rt: &R) -> (FinalLog, Vec<Seen>) {
+        let Crowd {
+            alloc,
+            mut house,
+            parties,
+        } = self;
+        let room = Vec::with_capacity(alloc, parties.len()).expect(rt, "memory");
+        let seen = Vec::with_capacity(alloc, parties.len()).expect(rt, "memory");
+        let (mut ends, seen) = retire_all(&house, parties, room, seen);
+        assert_eq!(rt; house.settle(rt, alloc, &mut ends, ROUNDS), Ok(()));
+        assert!(rt; house.publish(rt, alloc, ROUNDS).is_ok());
+        (closed(rt, house, ends), seen)
+    }
+}
+
+// Whether the records of this front have its tickets, in order.
+fn are_recorded(settlement: &[Settled], front: u16, tickets: &[(u64, u8)]) -> bool {
+    let mut place = 0usize;
+    for record in settlement {
+        if record.front != front {
+            continue;
+        }
+        match tickets.get(place) {
+            Some((ticket, _)) if *ticket == record.ticket => place = place.saturating_add(1),
+            _ => return false,
+        }
+    }
+    place == tickets.len()
+}
+
+// The place of the head.
+fn place_of(heads: &[Head], head: &Head) -> Option<usize> {
+    for place in 0..heads.len() {
+        if heads[place] == *head {
+            return Some(place);
+        }
+    }
+    None
+}
+
+// Whether the heads that were seen are heads of the log, in order.
+fn are_published(heads: &[Head], seen: &[Head]) -> bool {
+    let mut least = 0usize;
+    for head in seen {
+        match place_of(heads, head) {
+            Some(place) if place >= least => least = place,
+            _ => return false,
+        }
+    }
+    true
+}
+
+// Notes the certificate of each ticket. False where a ticket has another certificate already, or isn't below their number.
+fn note_tickets(certificates: &mut [Option<u8>], tickets: &[(u64, u8)]) -> bool {
+    for (ticket, certificate) in tickets {
+        match certificates.get_mut(*ticket as usize) {
+            Some(place) if place.is_none() => *place = Some(*certificate),
+            _ => return false,
+        }
+    }
+    true
+}
+
+// Whether the first record of each certificate got a leaf, and each later one that leaf.
+fn are_first_occurrences(settlement: &[Settled], certificates: &[Option<u8>]) -> bool {
+    let mut leaves = [None; 256];
+    let mut count = 0u64;
+    for record in settlement {
+        let Some(Some(certificate)) = certificates.get(record.ticket as usize) else {
+            return false;
+        };
+        let place = usize::from(*certificate);
+        let index = leaves[place].unwrap_or(count);
+        if record.index != index || record.first != leaves[place].is_none() {
+            return false;
+        }
+        if record.first {
+            leaves[place] = Some(count);
+            count = count.saturating_add(1);
+        }
+    }
+    true
+}
+
+#[test]
+fn sixteen_fronts_and_a_shutdown_among_them(rt: HostRuntime) -> Result<(), Fail> {
+    let mut crowd = Crowd::open(rt.alloc())?;
+    let shut = crowd.run(&rt);
+    let (log, seen) = crowd.finish(&rt);
+    assert_eq!(rt; shut, Ok(log.accepted()));
+    assert_eq!(rt; log.settlement().len() as u64, log.accepted());
+    let mut certificates = vec![in rt.alloc(); None; log.settlement().len()]?;
+    for (front, seen) in (0..16u16).zip(&seen) {
+        assert!(rt;
+            matches!(seen.end, Ok(()) | Err(Refusal::Shutdown)),
+            "{front}"
+        );
+        assert!(rt;
+            are_recorded(log.settlement(), front, &seen.tickets),
+            "{front}"
+        );
+        assert!(rt;
+            are_published(log.published().heads(), &seen.heads),
+            "{front}"
+        );
+        assert!(rt; note_tickets(&mut certificates, &seen.tickets), "{front}");
+    }
+    assert!(rt; are_first_occurrences(log.settlement(), &certificates));
+    Ok(())
+}

@@ -1,0 +1,560 @@
+ghost use Rattle.std.specs.Prelude.{◌≡◌, ◌<◌, ◌≤◌, length, All};
+ghost use Rattle.ct_house.specs.House.{IsOfHouse};
+
+use crate::common::{closed, head_of, submission};
+use ct_codec::{Refusal, identity};
+use ct_core::{Query, Reply, Settled, ShownEntry};
+use ct_house::{FinalLog, Front, Retired, Sequencer, open};
+use ct_tree::Head;
+use std::alloc::Global;
+use std::process::Abort;
+use std::sync::Wait;
+use std::test::Fail;
+use std::thread::Threads;
+
+// The root of the leaves of the certificates 41 and 42 at the moment 10.
+const A_B_AT_10: [u8; 32] = [
+    0x2d, 0xd5, 0xef, 0x2a, 0x16, 0xf7, 0x90, 0x88, 0x95, 0x66, 0x45, 0x81, 0x83, 0xf2, 0x4d, 0x6c,
+    0xc3, 0xdc, 0x96, 0x3b, 0x75, 0xd4, 0x7f, 0x64, 0xbe, 0xbe, 0x67, 0x27, 0x3e, 0xdf, 0x4e, 0xcb,
+];
+
+// Of the leaves of the certificates 41 and 42 at the moment 1, and 43, 44 and 45 at the moment 3: the hashes of the leaves 0, 1
+// and 4, and of the node over the leaves 2 and 3.
+const LEAF_0: [u8; 32] = [
+    0x20, 0x0a, 0x76, 0x64, 0xe4, 0x32, 0x80, 0x58, 0x30, 0x1c, 0xda, 0xdf, 0xf3, 0xe6, 0x2a, 0x0f,
+    0x91, 0x2f, 0x80, 0x7c, 0xa1, 0xd4, 0x51, 0x3f, 0x8a, 0x10, 0xa7, 0x4c, 0x4c, 0x87, 0x35, 0x69,
+];
+
+const LEAF_1: [u8; 32] = [
+    0x78, 0xef, 0x67, 0x41, 0x4b, 0x70, 0xd2, 0xba, 0x2f, 0x65, 0x10, 0x9f, 0x9f, 0xe7, 0x07, 0x14,
+    0x05, 0x09, 0x4c, 0x1b, 0x57, 0x55, 0x9a, 0x4a, 0x14, 0x46, 0x80, 0xdb, 0x9b, 0xeb, 0xb5, 0x80,
+];
+
+const NODE_23: [u8; 32] = [
+    0xe5, 0x56, 0xb7, 0xcf, 0x7d, 0x7b, 0x72, 0x1d, 0x55, 0x55, 0x48, 0x9b, 0xab, 0xa1, 0xe7, 0xaa,
+    0x67, 0x08, 0x46, 0x0e, 0xb1, 0x29, 0xdd, 0x74, 0xea, 0x5a, 0xcd, 0x7b, 0x55, 0x81, 0x6e, 0xdb,
+];
+
+const LEAF_4: [u8; 32] = [
+    0x8d, 0xa0, 0x3f, 0x11, 0x5f, 0x29, 0xab, 0x45, 0x37, 0x2d, 0x93, 0xac, 0xba, 0xef, 0x82, 0xcb,
+    0x8e, 0xa2, 0xb3, 0x10, 0xcb, 0xec, 0x90, 0xbc, 0x94, 0xfa, 0xba, 0x95, 0xed, 0xef, 0x45, 0xd4,
+];
+
+// The root of 40 leaves at the moment 1, whose certificates are 2,000 bytes 0, 2,000 bytes 1 and so on.
+const LARGE: [u8; 32] = [
+    0xa7, 0xd5, 0x89, 0x5c, 0xa9, 0x22, 0x52, 0x2f, 0x44, 0x22, 0x26, 0xf1, 0xa6, 0xde, 0x1c, 0xc3,
+    0x76, 0x22, 0xd2, 0x3c, 0x0e, 0x2c, 0x95, 0x68, 0x3f, 0x29, 0xc5, 0xe2, 0x07, 0x1e, 0x6b, 0xe6,
+];
+
+// What a call answers: a ticket, a count or a size, or the refusal.
+type Answer = Result<u64, Refusal>;
+
+// A call of a house whose fronts are open.
+#[derive(Clone, Copy)]
+enum Call {
+    // Front, and the byte that is the certificate.
+    Submit(u16, u8),
+    // Front, number of items at most, moment.
+    Take(u16, u32, u64),
+    // Moment.
+    Publish(u64),
+}
+
+// A call of a house whose fronts have retired.
+#[derive(Clone, Copy)]
+enum Ending {
+    Shutdown,
+    // Moment.
+    Settle(u64),
+    // Moment.
+    Publish(u64),
+    // Answers 1 for yes.
+    IsSettled,
+}
+
+// A house with two fronts.
+#[derive(Drop)]
+struct TwoFronts {
+    alloc: Global,
+    house: Sequencer,
+    zero: Front,
+    one: Front,
+    ghost lanes: { length house.lanes ≡ 2 },
+    ghost of_house: { IsOfHouse house.house zero × IsOfHouse house.house one },
+}
+
+impl TwoFronts {
+    fn open(alloc: Global, ring: usize, now: u64) -> Result<TwoFronts, Refusal>
+        requires { (1 ≤ ring) × (ring ≤ 4096) }
+    {
+        let (house, mut fronts) = open(alloc, 2, ring, now)?;
+        let (Some(one), Some(zero)) = (fronts.pop(), fronts.pop()) else {
+            return Err(Refusal::MissingFront);
+        };
+        Ok(TwoFronts {
+            alloc,
+            house,
+            zero,
+            one,
+        })
+    }
+
+    // The ticket, or the refusal with the identity of the submission that is handed back.
+    fn submit(
+        &mut self,
+        front: u16,
+        certificate: &[u8],
+    ) -> Result<Result<u64, (Refusal, Vec<u8>)>, Refusal> {
+        let submission = submission(self.alloc, certificate)?;
+        let answer = match front {
+            0 => self.zero.submit(submission),
+            _ => self.one.submit(submission),
+        };
+        match answer {
+            Ok(ticket) => Ok(Ok(ticket)),
+            Err((refusal, back)) => Ok(Err((refusal, identity(self.alloc, &back)?))),
+        }
+    }
+
+    fn ticket(&mut self, front: u16, certificate: &[u8]) -> Answer {
+        match self.submit(front, certificate)? {
+            Ok(ticket) => Ok(ticket),
+            Err((refusal, _)) => Err(refusal),
+        }
+    }
+
+    fn take<R: Threads + Sync>(&mut self, rt: &R, front: u16, max: u32, now: u64) -> Answer {
+        if front >= 2 || max == 0 || max > 256 {
+            return Err(Refusal::BadRange);
+        }
+        let count = self.house.take(rt, self.alloc, front, max, now)?;
+        Ok(u64::from(count))
+    }
+
+    fn publish<R: Wait>(&mut self, rt: &R, now: u64) -> Result<Head, Refusal> {
+        self.house.publish(rt, self.alloc, now)
+    }
+
+    fn call<R: Threads + Wait + Sync>(&mut self, rt: &R, call: Call) -> Answer {
+        match call {
+            Call::Submit(front, certificate) => self.ticket(front, &[certificate]),
+            Call::Take(front, max, now) => self.take(rt, front, max, now),
+            Call::Publish(now) => Ok(self.publish(rt, now)?.tree_size),
+        }
+    }
+
+    // Makes the calls, and answers how many answered as they should before the first that didn't.
+    fn calls<R: Threads + Wait + Sync>(&mut self, rt: &R, calls: &[(Call, Answer)]) -> usize {
+        for place in 0..calls.len() {
+            let (call, answer) = calls[place];
+            if self.call(rt, call) != answer {
+                return place;
+            }
+        }
+        calls.len()
+    }
+
+    fn ask<R: Wait>(&mut self, rt: &R, front: u16, query: Query) -> Result<Reply, Refusal> {
+        match front {
+            0 => self.zero.ask(rt, self.alloc, &query),
+            _ => self.one.ask(rt, self.alloc, &query),
+        }
+    }
+
+    fn entries<R: Wait>(
+        &mut self,
+        rt: &R,
+        start: u64,
+        end: u64,
+    ) -> Result<Vec<ShownEntry>, Refusal> {
+        match self.ask(rt, 0, Query::Entries { start, end })? {
+            Reply::Entries(entries) => Ok(entries),
+            _ => Err(Refusal::BadLine),
+        }
+    }
+
+    fn retire(self) -> Closing {
+        let TwoFronts {
+            alloc,
+            house,
+            zero,
+            one,
+        } = self;
+        Closing {
+            alloc,
+            house,
+            ends: [zero.retire(), one.retire()],
+        }
+    }
+}
+
+// A house whose two fronts have retired.
+struct Closing {
+    alloc: Global,
+    house: Sequencer,
+    ends: [Retired; 2],
+    ghost of_house: { All (IsOfHouse house.house) ends },
+}
+
+impl Closing {
+    fn settle<R: Threads + Sync>(&mut self, rt: &R, now: u64) -> Answer {
+        self.house.settle(rt, self.alloc, &mut self.ends, now)?;
+        Ok(0)
+    }
+
+    fn is_settled(&mut self) -> bool {
+        self.house.is_settled(&mut self.ends)
+    }
+
+    fn publish<R: Wait>(&mut self, rt: &R, now: u64) -> Result<Head, Refusal> {
+        self.house.publish(rt, self.alloc, now)
+    }
+
+    fn call<R: Threads + Wait + Sync>(&mut self, rt: &R, call: Ending) -> Answer {
+        match call {
+            Ending::Shutdown => self.house.shutdown(),
+            Ending::Settle(now) => self.settle(rt, now),
+            Ending::Publish(now) => Ok(self.publish(rt, now)?.tree_size),
+            Ending::IsSettled => Ok(u64::from(self.is_settled())),
+        }
+    }
+
+    // Makes the calls, and answers how many answered as they should before the first that didn't.
+    fn calls<R: Threads + Wait + Sync>(&mut self, rt: &R, calls: &[(Ending, Answer)]) -> usize {
+        for place in 0..calls.len() {
+            let (call, answer) = calls[place];
+            if self.call(rt, call) != answer {
+                return place;
+            }
+        }
+        calls.len()
+    }
+
+    fn finish<R: Wait + Abort>(self, rt: &R) -> FinalLog {
+        let mut room = Vec::with_capacity(self.alloc, 2).expect(rt, "memory");
+        let Closing {
+            alloc: _,
+            house,
+            ends: [zero, one],
+        } = self;
+        room.push_reserved(zero);
+        room.push_reserved(one);
+        closed(rt, house, room)
+    }
+}
+
+// The final log after these calls, each of which has to answer as it should.
+fn log_of<R: Threads + Wait + Abort + Sync>(
+    rt: &R,
+    mut house: TwoFronts,
+    calls: &[(Call, Answer)],
+    endings: &[(Ending, Answer)],
+) -> FinalLog {
+    assert_eq!(rt; house.calls(rt, calls), calls.len());
+    let mut house = house.retire();
+    assert_eq!(rt; house.calls(rt, endings), endings.len());
+    house.finish(rt)
+}
+
+// The proof or path that was replied.
+fn path_of(reply: Result<Reply, Refusal>) -> Result<Vec<[u8; 32]>, Refusal> {
+    match reply? {
+        Reply::Consistency(path) => Ok(path),
+        Reply::ProofByHash {
+            leaf_index: 1,
+            audit_path,
+        } => Ok(audit_path),
+        _ => Err(Refusal::BadLine),
+    }
+}
+
+// The index and the timestamp of a ticket's receipt.
+fn receipt(alloc: Global, log: &FinalLog, ticket: u64) -> Result<(u64, u64), Refusal> {
+    match log.published().answer(alloc, &Query::Receipt { ticket })? {
+        Reply::Receipt {
+            leaf_index,
+            timestamp,
+        } => Ok((leaf_index, timestamp)),
+        _ => Err(Refusal::BadLine),
+    }
+}
+
+fn record(front: u16, ticket: u64, index: u64, first: bool) -> Settled {
+    Settled {
+        front,
+        ticket,
+        index,
+        first,
+    }
+}
+
+#[test]
+fn repeats_in_one_take(rt: HostRuntime) -> Result<(), Fail> {
+    let calls = [
+        (Call::Submit(0, b'A'), Ok(0)),
+        (Call::Submit(0, b'B'), Ok(1)),
+        (Call::Submit(0, b'A'), Ok(2)),
+        (Call::Take(0, 256, 10), Ok(3)),
+        (Call::Publish(10), Ok(2)),
+    ];
+    let house = TwoFronts::open(rt.alloc(), 4, 0)?;
+    let log = log_of(&rt, house, &calls, &[(Ending::Shutdown, Ok(3))]);
+    let records = [
+        record(0, 0, 0, true),
+        record(0, 1, 1, true),
+        record(0, 2, 0, false),
+    ];
+    assert_eq!(rt; log.settlement(), records.as_slice());
+    assert_eq!(rt; log.published().last_head().root, A_B_AT_10);
+    Ok(())
+}
+
+#[test]
+fn two_fronts_with_one_certificate(rt: HostRuntime) -> Result<(), Fail> {
+    let calls = [
+        (Call::Submit(0, b'A'), Ok(0)),
+        (Call::Submit(1, b'A'), Ok(1)),
+        (Call::Take(1, 1, 5), Ok(1)),
+        (Call::Take(0, 1, 6), Ok(1)),
+        (Call::Publish(6), Ok(1)),
+    ];
+    let house = TwoFronts::open(rt.alloc(), 4, 0)?;
+    let log = log_of(&rt, house, &calls, &[(Ending::Shutdown, Ok(2))]);
+    let records = [record(1, 1, 0, true), record(0, 0, 0, false)];
+    assert_eq!(rt; log.settlement(), records.as_slice());
+    for ticket in [0, 1] {
+        assert_eq!(rt; receipt(rt.alloc(), &log, ticket), Ok((0, 5)));
+    }
+    Ok(())
+}
+
+#[test]
+fn a_full_ring_hands_the_submission_back(rt: HostRuntime) -> Result<(), Fail> {
+    let mut house = TwoFronts::open(rt.alloc(), 2, 0)?;
+    let full = [
+        (Call::Submit(0, b'A'), Ok(0)),
+        (Call::Submit(0, b'B'), Ok(1)),
+    ];
+    assert_eq!(rt; house.calls(&rt, &full), full.len());
+    let (refusal, back) = house.submit(0, b"A")?.err().ok_or("a refusal")?;
+    assert_eq!(rt; refusal, Refusal::Full);
+    assert_eq!(rt; back.as_slice(), [0, 0, 0, 0, 1, 0x41].as_slice());
+    Ok(())
+}
+
+#[test]
+fn a_full_ring_takes_again(rt: HostRuntime) -> Result<(), Fail> {
+    let mut house = TwoFronts::open(rt.alloc(), 2, 0)?;
+    for round in 0..1000u64 {
+        let calls = [
+            (Call::Submit(0, b'A'), Ok(2 * round)),
+            (Call::Submit(0, b'B'), Ok(2 * round + 1)),
+            (Call::Submit(0, b'A'), Err(Refusal::Full)),
+            (Call::Take(0, 2, 1), Ok(2)),
+        ];
+        assert_eq!(rt; house.calls(&rt, &calls), calls.len());
+    }
+    Ok(())
+}
+
+// A house with heads of the sizes 0, 2 and 5.
+fn three_heads<R: Threads + Wait + Abort + Sync>(
+    rt: &R,
+    alloc: Global,
+) -> Result<TwoFronts, Refusal> {
+    let mut house = TwoFronts::open(alloc, 4, 0)?;
+    let calls = [
+        (Call::Submit(0, b'A'), Ok(0)),
+        (Call::Submit(0, b'B'), Ok(1)),
+        (Call::Take(0, 256, 1), Ok(2)),
+        (Call::Publish(2), Ok(2)),
+        (Call::Submit(1, b'C'), Ok(2)),
+        (Call::Submit(1, b'D'), Ok(3)),
+        (Call::Submit(1, b'E'), Ok(4)),
+        (Call::Take(1, 256, 3), Ok(3)),
+        (Call::Publish(4), Ok(5)),
+    ];
+    assert_eq!(rt; house.calls(rt, &calls), calls.len());
+    Ok(house)
+}
+
+#[test]
+fn consistency_between_published_sizes(rt: HostRuntime) -> Result<(), Fail> {
+    let mut house = three_heads(&rt, rt.alloc())?;
+    let refused = [
+        (2, 2, Refusal::BadRange),
+        (0, 5, Refusal::BadRange),
+        (3, 5, Refusal::UnknownSize),
+    ];
+    for (first, second, refusal) in refused {
+        let reply = house.ask(&rt, 0, Query::Consistency { first, second });
+        assert_eq!(rt; reply.err(), Some(refusal));
+    }
+    let query = Query::Consistency {
+        first: 2,
+        second: 5,
+    };
+    let proof = path_of(house.ask(&rt, 1, query))?;
+    assert_eq!(rt; proof.as_slice(), [NODE_23, LEAF_4].as_slice());
+    Ok(())
+}
+
+#[test]
+fn a_proof_by_hash(rt: HostRuntime) -> Result<(), Fail> {
+    let mut house = three_heads(&rt, rt.alloc())?;
+    let query = Query::ProofByHash {
+        hash: LEAF_1,
+        tree_size: 5,
+    };
+    let path = path_of(house.ask(&rt, 0, query))?;
+    assert_eq!(rt; path.as_slice(), [LEAF_0, NODE_23, LEAF_4].as_slice());
+    Ok(())
+}
+
+// The leaf of the certificate that is the two bytes of 255, at the moment 1.
+const LEAF_255: [u8; 19] = [0, 0, 0, 0, 0, 0, 0, 0, 0, 1, 0, 0, 0, 0, 2, 0, 255, 0, 0];
+
+// A house with 300 published entries, whose certificates are the two bytes of 0 to 299.
+fn three_hundred<R: Threads + Wait + Abort + Sync>(
+    rt: &R,
+    alloc: Global,
+) -> Result<TwoFronts, Refusal> {
+    let mut house = TwoFronts::open(alloc, 300, 0)?;
+    for number in 0..300u16 {
+        house.ticket(0, &number.to_be_bytes())?;
+    }
+    let calls = [
+        (Call::Take(0, 256, 1), Ok(256)),
+        (Call::Take(0, 256, 1), Ok(44)),
+        (Call::Publish(1), Ok(300)),
+    ];
+    assert_eq!(rt; house.calls(rt, &calls), calls.len());
+    Ok(house)
+}
+
+#[test]
+fn entries_of_three_hundred(rt: HostRuntime) -> Result<(), Fail> {
+    let mut house = three_hundred(&rt, rt.alloc())?;
+    let first = house.entries(&rt, 0, 999)?;
+    assert_eq!(rt; first.len(), 256);
+    assert_eq!(rt; first[255].leaf_input.as_slice(), LEAF_255.as_slice());
+    assert_eq!(rt; house.entries(&rt, 299, 299)?.len(), 1);
+    for (start, end) in [(300, 300), (2, 1)] {
+        assert_eq!(rt;
+            house.entries(&rt, start, end).err(),
+            Some(Refusal::BadRange)
+        );
+    }
+    Ok(())
+}
+
+#[test]
+fn moments_that_the_clock_refuses(rt: HostRuntime) -> Result<(), Fail> {
+    let mut house = TwoFronts::open(rt.alloc(), 4, 5)?;
+    let calls = [
+        (Call::Publish(5), Err(Refusal::ClockBack)),
+        (Call::Submit(0, b'A'), Ok(0)),
+        (Call::Submit(0, b'B'), Ok(1)),
+        (Call::Take(0, 1, 8), Ok(1)),
+        (Call::Publish(7), Err(Refusal::ClockBack)),
+        (Call::Publish(8), Ok(1)),
+        (Call::Take(0, 1, 7), Err(Refusal::ClockBack)),
+        (Call::Publish(8), Err(Refusal::ClockBack)),
+        (Call::Publish(9), Ok(1)),
+    ];
+    assert_eq!(rt; house.calls(&rt, &calls), calls.len());
+    Ok(())
+}
+
+#[test]
+fn a_front_sees_what_was_published(rt: HostRuntime) -> Result<(), Fail> {
+    let mut house = TwoFronts::open(rt.alloc(), 4, 0)?;
+    let calls = [(Call::Submit(0, b'A'), Ok(0)), (Call::Take(0, 1, 3), Ok(1))];
+    assert_eq!(rt; house.calls(&rt, &calls), calls.len());
+    assert_eq!(rt; head_of(house.ask(&rt, 1, Query::GetSth))?.tree_size, 0);
+    let head = house.publish(&rt, 4);
+    assert_eq!(rt; head_of(house.ask(&rt, 1, Query::GetSth)), head);
+    Ok(())
+}
+
+#[test]
+fn many_workers_hash_a_large_batch(rt: HostRuntime) -> Result<(), Fail> {
+    let mut house = TwoFronts::open(rt.alloc(), 64, 0)?;
+    for number in 0..40u8 {
+        house.ticket(0, &[number; 2000])?;
+    }
+    assert_eq!(rt; house.take(&rt, 0, 256, 1), Ok(40));
+    assert_eq!(rt; house.publish(&rt, 1)?.root, LARGE);
+    Ok(())
+}
+
+#[test]
+fn what_is_left_settles_after_the_shutdown(rt: HostRuntime) -> Result<(), Fail> {
+    let calls = [
+        (Call::Submit(0, b'A'), Ok(0)),
+        (Call::Submit(0, b'B'), Ok(1)),
+        (Call::Take(0, 1, 5), Ok(1)),
+    ];
+    let endings = [
+        (Ending::Shutdown, Ok(2)),
+        (Ending::Shutdown, Err(Refusal::Shutdown)),
+        (Ending::Settle(4), Err(Refusal::ClockBack)),
+        (Ending::IsSettled, Ok(0)),
+        (Ending::Settle(6), Ok(0)),
+        (Ending::IsSettled, Ok(1)),
+        (Ending::Settle(5), Err(Refusal::ClockBack)),
+        (Ending::Publish(6), Ok(2)),
+    ];
+    let house = TwoFronts::open(rt.alloc(), 4, 0)?;
+    let log = log_of(&rt, house, &calls, &endings);
+    assert_eq!(rt; log.accepted(), 2);
+    assert_eq!(rt; receipt(rt.alloc(), &log, 0), Ok((0, 5)));
+    assert_eq!(rt; receipt(rt.alloc(), &log, 1), Ok((1, 6)));
+    Ok(())
+}
+
+// The fronts retire. The answers to `settle` with their ends in the other order, and with the end of front 0 alone.
+fn with_wrong_ends<R: Threads + Sync>(
+    rt: &R,
+    fronts: TwoFronts,
+    now: u64,
+) -> (Closing, [Result<(), Refusal>; 2]) {
+    let TwoFronts {
+        alloc,
+        mut house,
+        zero,
+        one,
+    } = fronts;
+    let mut swapped = [one.retire(), zero.retire()];
+    let first = house.settle(rt, alloc, &mut swapped, now);
+    let [one, zero] = swapped;
+    let mut alone = [zero];
+    let second = house.settle(rt, alloc, &mut alone, now);
+    let [zero] = alone;
+    let ends = [zero, one];
+    (Closing { alloc, house, ends }, [first, second])
+}
+
+#[test]
+fn ends_that_are_not_all_fronts_in_order(rt: HostRuntime) -> Result<(), Fail> {
+    let mut house = TwoFronts::open(rt.alloc(), 4, 0)?;
+    let calls = [
+        (Call::Submit(0, b'A'), Ok(0)),
+        (Call::Submit(1, b'B'), Ok(1)),
+    ];
+    assert_eq!(rt; house.calls(&rt, &calls), calls.len());
+    let (mut house, answers) = with_wrong_ends(&rt, house, 3);
+    assert_eq!(rt; answers, [Err(Refusal::MissingFront); 2]);
+    let endings = [
+        (Ending::IsSettled, Ok(0)),
+        (Ending::Shutdown, Ok(2)),
+        (Ending::Settle(7), Ok(0)),
+        (Ending::Publish(7), Ok(2)),
+    ];
+    assert_eq!(rt; house.calls(&rt, &endings), endings.len());
+    let log = house.finish(&rt);
+    for ticket in [0, 1] {
+        assert_eq!(rt; receipt(rt.alloc(), &log, ticket), Ok((ticket, 7)));
+    }
+    Ok(())
+}
