@@ -18,10 +18,11 @@ use std::thread::{Threads, join_mut};
 // How often a submission that meets a full ring is made again, before it is given up.
 const TRIES: u32 = 100_000;
 
-// How many rounds the sequencer makes at most, and after how many items it shuts the house.
-const ROUNDS: u64 = 100_000;
-
+// After how many items the sequencer shuts the house. The rings hold 1,024 more, so it is before all 16,000 submissions were made.
 const ENOUGH: u64 = 6_000;
+
+// The moment at which what is left settles, and the last head is made. The rounds before it, one moment each, end long before.
+const LAST: u64 = u64::MAX;
 
 // A front, and what its thread saw: the tickets, each with the byte that is its certificate, and the heads.
 #[derive(Drop)]
@@ -144,7 +145,7 @@ fn sequence<R: Threads + Wait + Sync>(
 {
     let mut taken = 0u64;
     let mut published = 0u64;
-    for round in 1..ROUNDS {
+    for round in 1..LAST {
         let more = take_round(rt, alloc, house, round)?;
         taken = taken.saturating_add(more);
         if taken >= published.saturating_add(250) {
@@ -275,8 +276,8 @@ impl Crowd {
         let room = Vec::with_capacity(alloc, parties.len()).expect(rt, "memory");
         let seen = Vec::with_capacity(alloc, parties.len()).expect(rt, "memory");
         let (mut ends, seen) = retire_all(&house, parties, room, seen);
-        assert_eq!(rt; house.settle(rt, alloc, &mut ends, ROUNDS), Ok(()));
-        assert!(rt; house.publish(rt, alloc, ROUNDS).is_ok());
+        assert_eq!(rt; house.settle(rt, alloc, &mut ends, LAST), Ok(()));
+        assert!(rt; house.publish(rt, alloc, LAST).is_ok());
         (closed(rt, house, ends), seen)
     }
 }
@@ -356,6 +357,7 @@ fn sixteen_fronts_and_a_shutdown_among_them(rt: HostRuntime) -> Result<(), Fail>
     let shut = crowd.run(&rt);
     let (log, seen) = crowd.finish(&rt);
     assert_eq!(rt; shut, Ok(log.accepted()));
+    assert!(rt; (ENOUGH..16_000).contains(&log.accepted()));
     assert_eq!(rt; log.settlement().len() as u64, log.accepted());
     let mut certificates = vec![in rt.alloc(); None; log.settlement().len()]?;
     for (front, seen) in (0..16u16).zip(&seen) {
