@@ -11,8 +11,7 @@ use Rattle.ct_tree.specs.declared.head.Head.{Head}
 use Rattle.ct_core.specs.Core.{CoreState, IsCore, IsInTime, IsNextHead, published_with, after_publishing, new_core}
 use Rattle.ct_core.proofs.LawfulLemmas.{IsCore-publish, IsCore-open}
 use Rattle.ct_core.proofs.SettlementLemmas.{slice_get-end}
-use Rattle.ct_core.proofs.SettleSteps.{identities_of}
-use Rattle.ct_core.specs.Parts.{with_rest}
+use Rattle.ct_core.specs.Parts.{with_all}
 
 pub log_is : (es gs : List Entry) (ss ts : List Settled) (hs ks : List Head) → es ≡ gs → ss ≡ ts → hs ≡ ks
     → (let a : Log = record { entries = es; settlement = ss; heads = hs } in let b : Log = record { entries = gs; settlement = ts; heads = ks } in a ≡ b)
@@ -38,35 +37,27 @@ lawful_next core now h is time next = let all = IsCore-publish core now h is tim
 pub lawful_open : (now : ℕ) → Lawful (let p = new_core now in p.published)
 lawful_open now = let all = IsCore-open now in all.lawful
 
--- a core with nothing behind its published state
-rest_none : (log : Log) (es : List Entry) (ss : List Settled) → es ≡ [] → ss ≡ [] → with_rest log es ss ≡ (let c : CoreState = record { published = log; entries = log.entries; settlement = log.settlement } in c)
-rest_none log es ss a b =
-    let make : List Entry → List Settled → CoreState = λ x y. record { published = log; entries = x; settlement = y } in
-    ap (λ (x : List Entry). make (log.entries ++ x) (log.settlement ++ ss)) a ∙ ap (λ (y : List Settled). make (log.entries ++ []) (log.settlement ++ y)) b
-    ∙ ap (λ (x : List Entry). make x (log.settlement ++ [])) (append-nil log.entries) ∙ ap (make log.entries) (append-nil log.settlement)
-
 last-push : (hs : List Head) (h r : Head) → slice_get (hs ++ h ∷ []) (length (hs ++ h ∷ []) - 1) ≡ Some r → h ≡ r
 last-push hs h r at =
     let n : length (hs ++ h ∷ []) - 1 ≡ length hs = let l = length_push hs h in omega arith in
     same_Some h r (sym (slice_get-end hs h) ∙ ap (slice_get (hs ++ h ∷ [])) (sym n) ∙ at)
 
 -- the adopted state
-pub record Adopts (core : CoreState) (next : Log) (es : List Entry) (ss : List Settled) (head : Head) : Type 0 where
+pub record Adopts (core : CoreState) (next : Log) (ss : List Settled) (head : Head) : Type 0 where
   pub state : next ≡ published_with core head
-  pub after : with_rest next es ss ≡ after_publishing core head
-  pub holds : IsCore (with_rest next es ss)
-  pub known : identities_of (next.entries ++ es) ≡ identities_of core.entries
+  pub after : with_all next core.entries ss ≡ after_publishing core head
+  pub holds : IsCore (with_all next core.entries ss)
 
-pub adopts : (core : CoreState) (next : Log) (es : List Entry) (ss : List Settled) (head : Head) → IsCore core → ((h : Head) × IsNextHead core h.timestamp h × IsInTime core h.timestamp × (next ≡ published_with core h))
-    → slice_get next.heads (length next.heads - 1) ≡ Some head → es ≡ [] → ss ≡ [] → Adopts core next es ss head
-adopts core next es ss head is (h, is_next, time, e) last none nothing =
+pub adopts : (core : CoreState) (next : Log) (ss : List Settled) (head : Head) → IsCore core → ((h : Head) × IsNextHead core h.timestamp h × IsInTime core h.timestamp × (next ≡ published_with core h))
+    → slice_get next.heads (length next.heads - 1) ≡ Some head → ss ≡ [] → Adopts core next ss head
+adopts core next ss head is (h, is_next, time, e) last none =
     let same : h ≡ head = last-push core.published.heads h head (subst (λ (p : Log). slice_get p.heads (length p.heads - 1) ≡ Some head) e last) in
     let e' : next ≡ published_with core head = e ∙ ap (published_with core) same in
-    let after : with_rest next es ss ≡ after_publishing core head =
-    rest_none next es ss none nothing ∙ ap (λ (p : Log). let c : CoreState = record { published = p; entries = p.entries; settlement = p.settlement } in c) e' in
+    let make : Log → List Settled → CoreState = λ p records. record { published = p; entries = core.entries; settlement = records } in
+    let after : with_all next core.entries ss ≡ after_publishing core head =
+    ap (λ (records : List Settled). make next (next.settlement ++ records)) none ∙ ap (make next) (append-nil next.settlement) ∙ ap (λ (p : Log). make p p.settlement) e' in
     record {
       state = e';
       after = after;
       holds = subst IsCore (sym after) (subst (λ (k : Head). IsCore (after_publishing core k)) same (IsCore-publish core h.timestamp h is time is_next));
-      known = ap (λ (c : CoreState). identities_of c.entries) after;
     }
