@@ -1,6 +1,7 @@
 //! The bytes of identities, leaves and chains (RFC 6962 sections 3.1, 3.4 and 4.6).
 
 ghost use Rattle.std.specs.Prelude.{◌≡◌, ◌<◌, ◌^◌, ◌++◌, [], List, map, length, IfOk, OnOk, IsOkUnless};
+ghost use Rattle.std.specs.Str.{bytes_eq};
 ghost use Rattle.ct_codec.specs.Bytes.{vec};
 ghost use Rattle.ct_codec.specs.Leaf.{chain_bytes, LeafText, IsEntry};
 ghost use Rattle.ct_codec.specs.Submitted.{entry_of, identity_of, ExtraData};
@@ -39,6 +40,14 @@ pub fn identity(alloc: Global, submission: &Submission) -> Result<Vec<u8>, Refus
     let mut text = Vec::new(alloc);
     push_entry(&mut text, submission)?;
     Ok(text)
+}
+
+/// Whether two submissions have one identity. No byte of either is copied.
+#[tactic(auto, using(crate::proofs::Identities::same_identities))]
+pub fn same_identity(a: &Submission, b: &Submission) -> bool
+    ensures { result ≡ bytes_eq (identity_of a.now) (identity_of b.now) }
+{
+    a.end_entity() == b.end_entity()
 }
 
 /// The bytes of the submission's leaf (MerkleTreeLeaf, RFC 6962 section 3.4) at this moment, in milliseconds, with no extensions.

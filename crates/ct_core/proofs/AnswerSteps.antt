@@ -12,8 +12,7 @@ use Rattle.ct_core.specs.Replies.{Answer, a_proof, an_index, refused}
 use Rattle.ct_core.specs.Settlement.{Log}
 use Rattle.ct_core.specs.Tree.{hash_leaf, path_of, proof_of, PATH, PROOF}
 use Rattle.ct_codec.specs.declared.refusal.Refusal.TheVariants.{UnknownSize, BadRange, UnknownLeaf}
-use Rattle.ct_core.proofs.SettleSteps.{place-map}
-use Rattle.ct_core.proofs.CoreSteps.{place_at_most}
+use Rattle.ct_core.proofs.Places.{place-map, place_at_most}
 
 take_map : {X Y : Type 0} (f : X → Y) (n : ℕ) (xs : List X) → take n (map f xs) ≡ map f (take n xs)
 take_map f zero xs = refl

@@ -20,7 +20,6 @@
 mod answer_tests;
 mod answers;
 mod entry;
-mod identity;
 mod leaf_table;
 mod published;
 mod query;

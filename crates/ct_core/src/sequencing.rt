@@ -10,9 +10,8 @@ ghost use Rattle.ct_core.specs.Settlement.{record_of, Lawful};
 ghost use Rattle.ct_core.specs.Core.{IsSettled, Begins, Grows, clock_of, newest_leaf, last_moment, settle_refusal, publish_refusal, new_core, IsNextHead, IsInTime, IsCovered, published_with, after_publishing};
 
 use crate::entry::StoredEntry;
-use crate::identity::{Identity, identity_key, place_reserved};
 use crate::published::Published;
-use crate::room::push_reserved;
+use crate::room::{place_reserved, push_reserved};
 use crate::settled::Settled;
 use ct_codec::{Item, Refusal};
 use ct_tree::Head;
@@ -21,13 +20,13 @@ use std::alloc::Global;
 use std::marker::Model;
 use std::sync::Arc;
 
-/// The sequencing core: the published state, and what was settled after it.
+/// The sequencing core: the published state, all entries so far, and the records settled after it. The entries stand in a table by
+/// their identities: an entry's index there is its leaf's index.
 #[derive(Drop)]
 pub struct Core {
     published: Published,
-    entries: Vec<StoredEntry>,
+    entries: IndexSet<StoredEntry>,
     settlement: Vec<Settled>,
-    identities: IndexSet<Identity>,
 }
 
 impl Model for Core {
@@ -55,19 +54,24 @@ impl Core {
         let published = Published::open(alloc, now)?;
         Ok(Core {
             published,
-            entries: Vec::new(alloc),
+            entries: IndexSet::new(alloc),
             settlement: Vec::new(alloc),
-            identities: IndexSet::new(alloc),
         })
     }
 
+    // The newest leaf's timestamp, or 0 where there is no leaf.
     fn newest_leaf(&self) -> u64
         ensures { result ≡ newest_leaf self.now.entries }
     {
-        match self.entries.last() {
-            Some(entry) => entry.timestamp(),
-            None => self.published.newest_leaf(),
-        }
+        let entries = self.entries.as_slice();
+        entries.last().map_or(0, |e| e.timestamp())
+    }
+
+    // The entries past the last head.
+    fn pending(&self) -> &[StoredEntry]
+        ensures { self.now.published.entries ++ result.now ≡ self.now.entries }
+    {
+        self.published.rest(self.entries.as_slice())
     }
 
     /// The clock: the greater of the last head's timestamp and the newest leaf's, in milliseconds.
@@ -100,13 +104,7 @@ impl Core {
         if now < self.clock() {
             return Err((Refusal::ClockBack, item));
         }
-        let Ok(identity) = identity_key(alloc, &item.submission) else {
-            return Err((Refusal::Memory, item));
-        };
-        if self.settlement.reserve(1).is_err()
-            || self.entries.reserve(1).is_err()
-            || self.identities.reserve(1).is_err()
-        {
+        if self.settlement.reserve(1).is_err() || self.entries.reserve(1).is_err() {
             return Err((Refusal::Memory, item));
         }
         let Item {
@@ -125,7 +123,8 @@ impl Core {
                 return Err((Refusal::Memory, item));
             }
         };
-        let (index, first) = place_reserved(&mut self.identities, identity);
+        let entry = StoredEntry::new(shared, now, hash);
+        let (index, first) = place_reserved(&mut self.entries, entry);
         let record = Settled {
             front,
             ticket,
@@ -133,10 +132,6 @@ impl Core {
             first,
         };
         push_reserved(&mut self.settlement, record);
-        if !first {
-            return Ok(record);
-        }
-        push_reserved(&mut self.entries, StoredEntry::new(shared, now, hash));
         Ok(record)
     }
 
@@ -160,7 +155,7 @@ impl Core {
             return Err(Refusal::ClockBack);
         }
         self.published
-            .extended(alloc, &self.entries, &self.settlement, now)
+            .extended(alloc, self.pending(), &self.settlement, now)
     }
 
     /// Makes the publication of the state that `next` gave, with nothing settled or published since, and answers its last head.
@@ -171,7 +166,6 @@ impl Core {
         ensures after { self.new ≡ after_publishing self.old result }
     {
         let head = next.last_head();
-        self.entries.clear();
         self.settlement.clear();
         self.published = next;
         head
@@ -197,7 +191,7 @@ impl Core {
     pub fn is_covered(&self) -> bool
         ensures { IsTrue result ↔ IsCovered self.now }
     {
-        self.entries.is_empty() && self.settlement.is_empty()
+        self.pending().is_empty() && self.settlement.is_empty()
     }
 
     /// The published state.
