@@ -2,7 +2,8 @@
 //!
 //! - `read_line` answers the `Request` that a line is, or `BadLine` exactly where it is none.
 //! - `reply_text` answers the text of a `Reply` or of a refusal, with the end of the line.
-//! - `serve_frozen` reads request lines from a reader, and writes the replies of a closed log to a writer.
+//! - `serve_frozen` reads request lines from a reader, and writes the replies of a closed log to a writer. `write_whole` writes bytes, for
+//!   it and for the program.
 //!
 //! What a line asks and how a reply is written are defined in `specs/`, over `serde_json`'s own words for the value
 //! of a text and the text of a value, and over `base64`'s strict decoding and encoding: `Fields` says what stands
@@ -27,5 +28,6 @@ mod writing;
 pub use laws::{bytes_read_back, line_is_one_request, replies_by_lines, request_is_found};
 pub use reading::read_line;
 pub use request::{Audit, FrontRequest, FrozenRequest, OperatorRequest, Request};
+pub use sending::write_whole;
 pub use serving::{ServeFault, serve_frozen};
 pub use writing::reply_text;

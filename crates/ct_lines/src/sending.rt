@@ -5,8 +5,8 @@ ghost use Rattle.std.specs.Io.KnownBytes.{Appends};
 
 use std::io::Write;
 
-// Writes all of the bytes, and answers whether it did. Every error of the writer, and a write of no bytes, ends it.
-pub(crate) fn write_whole<W: Write>(writer: &mut W, bytes: &[u8]) -> bool
+/// Writes all of the bytes, and answers whether it did. Every error of the writer, and a write of no bytes, ends it.
+pub fn write_whole<W: Write>(writer: &mut W, bytes: &[u8]) -> bool
     ensures all { result ≡ true → Appends (W.contents writer.old) (W.contents writer.new) bytes.now }
     ensures some { result ≡ false → (n : ℕ) × (n < length bytes.now) × Appends (W.contents writer.old) (W.contents writer.new) (take n bytes.now) }
 {

@@ -23,7 +23,8 @@ use Rattle.ctlog.specs.Plans.{IsPlanOf}
 use Rattle.ctlog.specs.Parties.{PartiesServe, IsPartyFault}
 use Rattle.ctlog.specs.Sends.{SendsSome}
 use Rattle.ctlog.specs.Tasks.{Task, AllAskFor}
-use Rattle.ctlog.proofs.Sent.{appends_nothing, appends_more, appends_kept, sends_all}
+use Rattle.std.proofs.KnownBytes.{Appends-nil, Appends-trans, Appends-kept}
+use Rattle.ctlog.proofs.Sent.{sends_all}
 
 -- the tasks of the bytes that were read are those of the input
 pub tasks_read : (n : ℕ) (input : Option (List ℕ)) (bytes : List ℕ) (ts : List Task) → IfSome input (λ xs. bytes ≡ [] ++ xs) → AllAskFor n (lines_of bytes) ts → AreTasksOf n input ts
@@ -67,10 +68,10 @@ pub writes_all : (operator : OperatorParty) (parties : List FrontParty) (lines :
     (text : List ℕ) (log : Log) → PartiesServe operator parties sequencer after text → IsClosed after close_at log → Appends old mid text → Appends mid new (frozen_text log lines)
     → WritesAll operator parties lines close_at old new
 writes_all operator parties lines close_at old mid new sequencer after text log served closed first second =
-    (after, text, log, (sequencer, served), closed, appends_more old mid new text (frozen_text log lines) first second)
+    (after, text, log, (sequencer, served), closed, Appends-trans old mid new text (frozen_text log lines) first second)
 
 pub writes_none : (operator : OperatorParty) (parties : List FrontParty) (lines : List ℕ) (close_at : ℕ) (same : Option (List ℕ)) → WritesSome operator parties lines close_at same same
-writes_none operator parties lines close_at same = inl (appends_nothing same)
+writes_none operator parties lines close_at same = inl (Appends-nil same)
 
 pub writes_first : (operator : OperatorParty) (parties : List FrontParty) (lines : List ℕ) (close_at : ℕ) (old new : Option (List ℕ)) (sequencer : HouseState) (after : List FrontView)
     (text : List ℕ) → PartiesServe operator parties sequencer after text → SendsSome old new text → WritesSome operator parties lines close_at old new
@@ -80,7 +81,7 @@ pub writes_last : (operator : OperatorParty) (parties : List FrontParty) (lines 
     (text : List ℕ) (log : Log) → PartiesServe operator parties sequencer after text → IsClosed after close_at log → Appends old mid text
     → (written : List ℕ) × SomeReplies log lines written × Appends mid new written → WritesSome operator parties lines close_at old new
 writes_last operator parties lines close_at old mid new sequencer after text log served closed first (written, some, second) =
-    inr (inr (after, text, log, written, (sequencer, served), closed, some, appends_more old mid new text written first second))
+    inr (inr (after, text, log, written, (sequencer, served), closed, some, Appends-trans old mid new text written first second))
 
 -- all lines were read
 all_read : (lines rest input : List ℕ) → lines ≡ input ++ rest → rest ≡ [] → input ≡ lines
@@ -89,7 +90,7 @@ all_read lines rest input e none = sym (e ∙ ap (λ (l : List ℕ). input ++ l)
 pub frozen_all : (log : Log) (lines rest : List ℕ) (old mid new : Option (List ℕ)) → (input : List ℕ) × Consumes (Some lines) (Some rest) input × IsAtEnd (Some rest) × Appends old mid (frozen_text log input)
     → Keeps mid new → Appends old new (frozen_text log lines)
 frozen_all log lines rest old mid new (input, consumed, end, written) k =
-    subst (λ (l : List ℕ). Appends old new (frozen_text log l)) (all_read lines rest input consumed end) (appends_kept old mid new (frozen_text log input) written k)
+    subst (λ (l : List ℕ). Appends old new (frozen_text log l)) (all_read lines rest input consumed end) (Appends-kept old mid new (frozen_text log input) written k)
 
 pub frozen_some : (log : Log) (lines rest : List ℕ) (k : ℕ) (old new : Option (List ℕ)) → (input : List ℕ) × (written : List ℕ) × Consumes (Some lines) (Some rest) input × Appends old new written
     × IsCutOff (frozen_replies log input) written k → (written : List ℕ) × SomeReplies log lines written × Appends old new written

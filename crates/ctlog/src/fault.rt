@@ -6,7 +6,7 @@ ghost use Rattle.ctlog.specs.Sends.{SendsSome};
 ghost use Rattle.ctlog.specs.declared.fault.Fault.TheVariants.{Memory};
 ghost use Rattle.ctlog.specs.Faults.{fault_line};
 
-use crate::sending::write_whole;
+use ct_lines::write_whole;
 use std::alloc::{AllocError, AllocFailed};
 use std::io::Write;
 

@@ -11,7 +11,7 @@
 //! - `party` has the fronts and the operator with what they do, and `threads` has each of them work in a thread of its
 //!   own.
 //! - `closing` closes the log.
-//! - `sending` writes bytes, and `fault` names what ends the program before all is written.
+//! - `fault` names what ends the program before all is written.
 //! - `program` has `run`, which does all this over any reader and any two writers.
 #![tactic(auto)]
 
@@ -26,7 +26,6 @@ mod party_tests;
 mod plan;
 mod program;
 mod replying;
-mod sending;
 mod task;
 #[cfg(test)]
 mod tests;
