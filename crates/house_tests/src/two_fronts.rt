@@ -66,6 +66,10 @@ enum Ending {
     Shutdown,
     // Moment.
     Settle(u64),
+    // With the ends in the other order. Moment.
+    SettleSwapped(u64),
+    // With the end of front 0 alone. Moment.
+    SettleAlone(u64),
     // Moment.
     Publish(u64),
     // Answers 1 for yes.
@@ -161,13 +165,24 @@ impl TwoFronts {
         }
     }
 
+    // Asks front 0, and answers how many queries were refused as they should before the first that wasn't.
+    fn refusals<R: Wait>(&mut self, rt: &R, queries: &[(Query, Refusal)]) -> usize {
+        for place in 0..queries.len() {
+            let (query, refusal) = queries[place];
+            if self.ask(rt, 0, query).err() != Some(refusal) {
+                return place;
+            }
+        }
+        queries.len()
+    }
+
     fn entries<R: Wait>(
         &mut self,
         rt: &R,
         start: u64,
         end: u64,
     ) -> Result<Vec<ShownEntry>, Refusal> {
-        match self.ask(rt, 0, Query::Entries { start, end })? {
+        match self.ask(rt, 0, entries(start, end))? {
             Reply::Entries(entries) => Ok(entries),
             _ => Err(Refusal::BadLine),
         }
@@ -202,6 +217,18 @@ impl Closing {
         Ok(0)
     }
 
+    fn settle_swapped<R: Threads + Sync>(&mut self, rt: &R, now: u64) -> Answer {
+        self.ends.reverse();
+        let answer = self.settle(rt, now);
+        self.ends.reverse();
+        answer
+    }
+
+    fn settle_alone<R: Threads + Sync>(&mut self, rt: &R, now: u64) -> Answer {
+        self.house.settle(rt, self.alloc, &mut self.ends[..1], now)?;
+        Ok(0)
+    }
+
     fn is_settled(&mut self) -> bool {
         self.house.is_settled(&mut self.ends)
     }
@@ -214,6 +241,8 @@ impl Closing {
         match call {
             Ending::Shutdown => self.house.shutdown(),
             Ending::Settle(now) => self.settle(rt, now),
+            Ending::SettleSwapped(now) => self.settle_swapped(rt, now),
+            Ending::SettleAlone(now) => self.settle_alone(rt, now),
             Ending::Publish(now) => Ok(self.publish(rt, now)?.tree_size),
             Ending::IsSettled => Ok(u64::from(self.is_settled())),
         }
@@ -254,6 +283,18 @@ fn log_of<R: Threads + Wait + Abort + Sync>(
     let mut house = house.retire();
     assert_eq!(rt; house.calls(rt, endings), endings.len());
     house.finish(rt)
+}
+
+fn consistency(first: u64, second: u64) -> Query {
+    Query::Consistency { first, second }
+}
+
+fn proof_by_hash(hash: [u8; 32], tree_size: u64) -> Query {
+    Query::ProofByHash { hash, tree_size }
+}
+
+fn entries(start: u64, end: u64) -> Query {
+    Query::Entries { start, end }
 }
 
 // The proof or path that was replied.
@@ -381,20 +422,7 @@ fn three_heads<R: Threads + Wait + Abort + Sync>(
 #[test]
 fn consistency_between_published_sizes(rt: HostRuntime) -> Result<(), Fail> {
     let mut house = three_heads(&rt, rt.alloc())?;
-    let refused = [
-        (2, 2, Refusal::BadRange),
-        (0, 5, Refusal::BadRange),
-        (3, 5, Refusal::UnknownSize),
-    ];
-    for (first, second, refusal) in refused {
-        let reply = house.ask(&rt, 0, Query::Consistency { first, second });
-        assert_eq!(rt; reply.err(), Some(refusal));
-    }
-    let query = Query::Consistency {
-        first: 2,
-        second: 5,
-    };
-    let proof = path_of(house.ask(&rt, 1, query))?;
+    let proof = path_of(house.ask(&rt, 1, consistency(2, 5)))?;
     assert_eq!(rt; proof.as_slice(), [NODE_23, LEAF_4].as_slice());
     Ok(())
 }
@@ -402,12 +430,22 @@ fn consistency_between_published_sizes(rt: HostRuntime) -> Result<(), Fail> {
 #[test]
 fn a_proof_by_hash(rt: HostRuntime) -> Result<(), Fail> {
     let mut house = three_heads(&rt, rt.alloc())?;
-    let query = Query::ProofByHash {
-        hash: LEAF_1,
-        tree_size: 5,
-    };
-    let path = path_of(house.ask(&rt, 0, query))?;
+    let path = path_of(house.ask(&rt, 0, proof_by_hash(LEAF_1, 5)))?;
     assert_eq!(rt; path.as_slice(), [LEAF_0, NODE_23, LEAF_4].as_slice());
+    Ok(())
+}
+
+#[test]
+fn proofs_that_are_refused(rt: HostRuntime) -> Result<(), Fail> {
+    let mut house = three_heads(&rt, rt.alloc())?;
+    let queries = [
+        (consistency(2, 2), Refusal::BadRange),
+        (consistency(0, 5), Refusal::BadRange),
+        (consistency(3, 5), Refusal::UnknownSize),
+        (proof_by_hash(LEAF_1, 3), Refusal::UnknownSize),
+        (proof_by_hash(LEAF_4, 2), Refusal::UnknownLeaf),
+    ];
+    assert_eq!(rt; house.refusals(&rt, &queries), queries.len());
     Ok(())
 }
 
@@ -439,12 +477,11 @@ fn entries_of_three_hundred(rt: HostRuntime) -> Result<(), Fail> {
     assert_eq!(rt; first.len(), 256);
     assert_eq!(rt; first[255].leaf_input.as_slice(), LEAF_255.as_slice());
     assert_eq!(rt; house.entries(&rt, 299, 299)?.len(), 1);
-    for (start, end) in [(300, 300), (2, 1)] {
-        assert_eq!(rt;
-            house.entries(&rt, start, end).err(),
-            Some(Refusal::BadRange)
-        );
-    }
+    let queries = [
+        (entries(300, 300), Refusal::BadRange),
+        (entries(2, 1), Refusal::BadRange),
+    ];
+    assert_eq!(rt; house.refusals(&rt, &queries), queries.len());
     Ok(())
 }
 
@@ -513,46 +550,25 @@ fn what_is_left_settles_after_the_shutdown(rt: HostRuntime) -> Result<(), Fail> 
     Ok(())
 }
 
-// The fronts retire. The answers to `settle` with their ends in the other order, and with the end of front 0 alone.
-fn with_wrong_ends<R: Threads + Sync>(
-    rt: &R,
-    fronts: TwoFronts,
-    now: u64,
-) -> (Closing, [Result<(), Refusal>; 2]) {
-    let TwoFronts {
-        alloc,
-        mut house,
-        zero,
-        one,
-    } = fronts;
-    let mut swapped = [one.retire(), zero.retire()];
-    let first = house.settle(rt, alloc, &mut swapped, now);
-    let [one, zero] = swapped;
-    let mut alone = [zero];
-    let second = house.settle(rt, alloc, &mut alone, now);
-    let [zero] = alone;
-    let ends = [zero, one];
-    (Closing { alloc, house, ends }, [first, second])
-}
-
 #[test]
 fn ends_that_are_not_all_fronts_in_order(rt: HostRuntime) -> Result<(), Fail> {
-    let mut house = TwoFronts::open(rt.alloc(), 4, 0)?;
     let calls = [
         (Call::Submit(0, b'A'), Ok(0)),
         (Call::Submit(1, b'B'), Ok(1)),
     ];
-    assert_eq!(rt; house.calls(&rt, &calls), calls.len());
-    let (mut house, answers) = with_wrong_ends(&rt, house, 3);
-    assert_eq!(rt; answers, [Err(Refusal::MissingFront); 2]);
     let endings = [
+        (Ending::SettleSwapped(6), Err(Refusal::MissingFront)),
+        (Ending::SettleAlone(6), Err(Refusal::MissingFront)),
+        (Ending::SettleSwapped(4), Err(Refusal::MissingFront)),
+        (Ending::SettleAlone(4), Err(Refusal::MissingFront)),
+        (Ending::Settle(4), Err(Refusal::ClockBack)),
         (Ending::IsSettled, Ok(0)),
         (Ending::Shutdown, Ok(2)),
         (Ending::Settle(7), Ok(0)),
         (Ending::Publish(7), Ok(2)),
     ];
-    assert_eq!(rt; house.calls(&rt, &endings), endings.len());
-    let log = house.finish(&rt);
+    let house = TwoFronts::open(rt.alloc(), 4, 5)?;
+    let log = log_of(&rt, house, &calls, &endings);
     for ticket in [0, 1] {
         assert_eq!(rt; receipt(rt.alloc(), &log, ticket), Ok((ticket, 7)));
     }
