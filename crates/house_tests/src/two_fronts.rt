@@ -12,10 +12,20 @@ use std::sync::Wait;
 use std::test::Fail;
 use std::thread::Threads;
 
+// The hashes below come from Python's hashlib, over the bytes of the leaves. A leaf is the bytes 00 00, the moment in eight bytes,
+// 00 00, the length of the certificate in three bytes, the certificate, and 00 00. The hash of a leaf is SHA-256 of 00 and its
+// bytes, and that of a node SHA-256 of 01 and the two hashes below it.
+
 // The root of the leaves of the certificates 41 and 42 at the moment 10.
 const A_B_AT_10: [u8; 32] = [
     0x2d, 0xd5, 0xef, 0x2a, 0x16, 0xf7, 0x90, 0x88, 0x95, 0x66, 0x45, 0x81, 0x83, 0xf2, 0x4d, 0x6c,
     0xc3, 0xdc, 0x96, 0x3b, 0x75, 0xd4, 0x7f, 0x64, 0xbe, 0xbe, 0x67, 0x27, 0x3e, 0xdf, 0x4e, 0xcb,
+];
+
+// The root of the leaf of the certificate 41 at the moment 3.
+const A_AT_3: [u8; 32] = [
+    0xe7, 0x06, 0x86, 0x70, 0x67, 0xa4, 0x2e, 0xd4, 0x83, 0xcf, 0x26, 0xcc, 0xd4, 0xdc, 0xc3, 0x54,
+    0x63, 0xbb, 0x63, 0x5f, 0x1a, 0xfe, 0xe2, 0x3d, 0xb5, 0x46, 0xb7, 0x2f, 0x19, 0xf2, 0x80, 0xe6,
 ];
 
 // Of the leaves of the certificates 41 and 42 at the moment 1, and 43, 44 and 45 at the moment 3: the hashes of the leaves 0, 1
@@ -58,6 +68,10 @@ enum Call {
     Take(u16, u32, u64),
     // Moment.
     Publish(u64),
+    // Front: answers the size of the head that it sees.
+    Size(u16),
+    // First and last: answers how many entries front 0 shows.
+    Entries(u64, u64),
 }
 
 // A call of a house whose fronts have retired.
@@ -66,6 +80,10 @@ enum Ending {
     Shutdown,
     // Moment.
     Settle(u64),
+    // With the ends in the other order. Moment.
+    SettleSwapped(u64),
+    // With the end of front 0 alone. Moment.
+    SettleAlone(u64),
     // Moment.
     Publish(u64),
     // Answers 1 for yes.
@@ -123,6 +141,14 @@ impl TwoFronts {
         }
     }
 
+    // The refusal, with the identity of the submission that is handed back.
+    fn refused(&mut self, front: u16, certificate: &[u8]) -> Result<(Refusal, Vec<u8>), Refusal> {
+        match self.submit(front, certificate)? {
+            Ok(_) => Err(Refusal::BadLine),
+            Err(refused) => Ok(refused),
+        }
+    }
+
     fn take<R: Threads + Sync>(&mut self, rt: &R, front: u16, max: u32, now: u64) -> Answer {
         if front >= 2 || max == 0 || max > 256 {
             return Err(Refusal::BadRange);
@@ -140,6 +166,8 @@ impl TwoFronts {
             Call::Submit(front, certificate) => self.ticket(front, &[certificate]),
             Call::Take(front, max, now) => self.take(rt, front, max, now),
             Call::Publish(now) => Ok(self.publish(rt, now)?.tree_size),
+            Call::Size(front) => Ok(self.head(rt, front)?.tree_size),
+            Call::Entries(start, end) => Ok(self.entries(rt, start, end)?.len() as u64),
         }
     }
 
@@ -161,6 +189,22 @@ impl TwoFronts {
         }
     }
 
+    // The head that the front sees.
+    fn head<R: Wait>(&mut self, rt: &R, front: u16) -> Result<Head, Refusal> {
+        head_of(self.ask(rt, front, Query::GetSth))
+    }
+
+    // Asks front 0, and answers how many queries were refused as they should before the first that wasn't.
+    fn refusals<R: Wait>(&mut self, rt: &R, queries: &[(Query, Refusal)]) -> usize {
+        for place in 0..queries.len() {
+            let (query, refusal) = queries[place];
+            if self.ask(rt, 0, query).err() != Some(refusal) {
+                return place;
+            }
+        }
+        queries.len()
+    }
+
     fn entries<R: Wait>(
         &mut self,
         rt: &R,
@@ -170,6 +214,14 @@ impl TwoFronts {
         match self.ask(rt, 0, Query::Entries { start, end })? {
             Reply::Entries(entries) => Ok(entries),
             _ => Err(Refusal::BadLine),
+        }
+    }
+
+    // The leaf of the last entry of the reply.
+    fn last_leaf<R: Wait>(&mut self, rt: &R, start: u64, end: u64) -> Result<Vec<u8>, Refusal> {
+        match self.entries(rt, start, end)?.pop() {
+            Some(ShownEntry { leaf_input, .. }) => Ok(leaf_input),
+            None => Err(Refusal::BadLine),
         }
     }
 
@@ -202,6 +254,18 @@ impl Closing {
         Ok(0)
     }
 
+    fn settle_swapped<R: Threads + Sync>(&mut self, rt: &R, now: u64) -> Answer {
+        self.ends.reverse();
+        let answer = self.settle(rt, now);
+        self.ends.reverse();
+        answer
+    }
+
+    fn settle_alone<R: Threads + Sync>(&mut self, rt: &R, now: u64) -> Answer {
+        self.house.settle(rt, self.alloc, &mut self.ends[..1], now)?;
+        Ok(0)
+    }
+
     fn is_settled(&mut self) -> bool {
         self.house.is_settled(&mut self.ends)
     }
@@ -214,6 +278,8 @@ impl Closing {
         match call {
             Ending::Shutdown => self.house.shutdown(),
             Ending::Settle(now) => self.settle(rt, now),
+            Ending::SettleSwapped(now) => self.settle_swapped(rt, now),
+            Ending::SettleAlone(now) => self.settle_alone(rt, now),
             Ending::Publish(now) => Ok(self.publish(rt, now)?.tree_size),
             Ending::IsSettled => Ok(u64::from(self.is_settled())),
         }
@@ -243,17 +309,139 @@ impl Closing {
     }
 }
 
+// A house that was opened at this moment, after these calls, each of which has to answer as it should.
+fn house_after<R: Threads + Wait + Abort + Sync>(
+    rt: &R,
+    alloc: Global,
+    now: u64,
+    calls: &[(Call, Answer)],
+) -> Result<TwoFronts, Refusal> {
+    let mut house = TwoFronts::open(alloc, 4, now)?;
+    assert_eq!(rt; house.calls(rt, calls), calls.len());
+    Ok(house)
+}
+
 // The final log after these calls, each of which has to answer as it should.
 fn log_of<R: Threads + Wait + Abort + Sync>(
     rt: &R,
-    mut house: TwoFronts,
+    alloc: Global,
+    now: u64,
     calls: &[(Call, Answer)],
     endings: &[(Ending, Answer)],
-) -> FinalLog {
-    assert_eq!(rt; house.calls(rt, calls), calls.len());
-    let mut house = house.retire();
+) -> Result<FinalLog, Refusal> {
+    let mut house = house_after(rt, alloc, now, calls)?.retire();
     assert_eq!(rt; house.calls(rt, endings), endings.len());
-    house.finish(rt)
+    Ok(house.finish(rt))
+}
+
+// The index and the timestamp of a ticket's receipt.
+fn receipt(alloc: Global, log: &FinalLog, ticket: u64) -> Result<(u64, u64), Refusal> {
+    match log.published().answer(alloc, &Query::Receipt { ticket })? {
+        Reply::Receipt {
+            leaf_index,
+            timestamp,
+        } => Ok((leaf_index, timestamp)),
+        _ => Err(Refusal::BadLine),
+    }
+}
+
+// The receipts of the tickets from 0 on have to be these.
+fn expect_receipts<R: Abort>(rt: &R, alloc: Global, log: &FinalLog, receipts: &[(u64, u64)]) {
+    for ticket in 0..receipts.len() {
+        assert_eq!(rt; receipt(alloc, log, ticket as u64), Ok(receipts[ticket]));
+    }
+}
+
+fn record(front: u16, ticket: u64, index: u64, first: bool) -> Settled {
+    Settled {
+        front,
+        ticket,
+        index,
+        first,
+    }
+}
+
+// The settlement has to be these records.
+fn expect_records<R: Abort>(rt: &R, log: &FinalLog, records: &[Settled]) {
+    assert_eq!(rt; log.settlement(), records);
+}
+
+#[test]
+fn repeats_in_one_take(rt: HostRuntime) -> Result<(), Fail> {
+    let calls = [
+        (Call::Submit(0, b'A'), Ok(0)),
+        (Call::Submit(0, b'B'), Ok(1)),
+        (Call::Submit(0, b'A'), Ok(2)),
+        (Call::Take(0, 256, 10), Ok(3)),
+        (Call::Publish(10), Ok(2)),
+    ];
+    let log = log_of(&rt, rt.alloc(), 0, &calls, &[(Ending::Shutdown, Ok(3))])?;
+    let records = [
+        record(0, 0, 0, true),
+        record(0, 1, 1, true),
+        record(0, 2, 0, false),
+    ];
+    expect_records(&rt, &log, &records);
+    assert_eq!(rt; log.published().last_head().root, A_B_AT_10);
+    Ok(())
+}
+
+#[test]
+fn two_fronts_with_one_certificate(rt: HostRuntime) -> Result<(), Fail> {
+    let calls = [
+        (Call::Submit(0, b'A'), Ok(0)),
+        (Call::Submit(1, b'A'), Ok(1)),
+        (Call::Take(1, 1, 5), Ok(1)),
+        (Call::Take(0, 1, 6), Ok(1)),
+        (Call::Publish(6), Ok(1)),
+    ];
+    let log = log_of(&rt, rt.alloc(), 0, &calls, &[(Ending::Shutdown, Ok(2))])?;
+    expect_records(&rt, &log, &[record(1, 1, 0, true), record(0, 0, 0, false)]);
+    expect_receipts(&rt, rt.alloc(), &log, &[(0, 5), (0, 5)]);
+    Ok(())
+}
+
+#[test]
+fn a_full_ring_hands_the_submission_back(rt: HostRuntime) -> Result<(), Fail> {
+    let mut house = TwoFronts::open(rt.alloc(), 2, 0)?;
+    let full = [
+        (Call::Submit(0, b'A'), Ok(0)),
+        (Call::Submit(0, b'B'), Ok(1)),
+    ];
+    assert_eq!(rt; house.calls(&rt, &full), full.len());
+    let (refusal, back) = house.refused(0, b"A")?;
+    assert_eq!(rt; refusal, Refusal::Full);
+    assert_eq!(rt; back.as_slice(), [0, 0, 0, 0, 1, 0x41].as_slice());
+    Ok(())
+}
+
+// A full ring of two, taken whole.
+fn round<R: Threads + Wait + Sync>(house: &mut TwoFronts, rt: &R, round: u32) -> bool {
+    let ticket = 2 * u64::from(round);
+    let calls = [
+        (Call::Submit(0, b'A'), Ok(ticket)),
+        (Call::Submit(0, b'B'), Ok(ticket + 1)),
+        (Call::Submit(0, b'A'), Err(Refusal::Full)),
+        (Call::Take(0, 2, 1), Ok(2)),
+    ];
+    house.calls(rt, &calls) == calls.len()
+}
+
+#[test]
+fn a_full_ring_takes_again(rt: HostRuntime) -> Result<(), Fail> {
+    let mut house = TwoFronts::open(rt.alloc(), 2, 0)?;
+    for number in 0..1000 {
+        assert!(rt; round(&mut house, &rt, number), "round {number}");
+    }
+    Ok(())
+}
+
+fn consistency(first: u64, second: u64) -> Query {
+    Query::Consistency { first, second }
+}
+
+fn proof_by_hash(hash: [u8; 32], tree_size: u64) -> Query {
+    Query::ProofByHash { hash, tree_size }
 }
 
 // The proof or path that was replied.
@@ -268,101 +456,11 @@ fn path_of(reply: Result<Reply, Refusal>) -> Result<Vec<[u8; 32]>, Refusal> {
     }
 }
 
-// The index and the timestamp of a ticket's receipt.
-fn receipt(alloc: Global, log: &FinalLog, ticket: u64) -> Result<(u64, u64), Refusal> {
-    match log.published().answer(alloc, &Query::Receipt { ticket })? {
-        Reply::Receipt {
-            leaf_index,
-            timestamp,
-        } => Ok((leaf_index, timestamp)),
-        _ => Err(Refusal::BadLine),
-    }
-}
-
-fn record(front: u16, ticket: u64, index: u64, first: bool) -> Settled {
-    Settled {
-        front,
-        ticket,
-        index,
-        first,
-    }
-}
-
-#[test]
-fn repeats_in_one_take(rt: HostRuntime) -> Result<(), Fail> {
-    let calls = [
-        (Call::Submit(0, b'A'), Ok(0)),
-        (Call::Submit(0, b'B'), Ok(1)),
-        (Call::Submit(0, b'A'), Ok(2)),
-        (Call::Take(0, 256, 10), Ok(3)),
-        (Call::Publish(10), Ok(2)),
-    ];
-    let house = TwoFronts::open(rt.alloc(), 4, 0)?;
-    let log = log_of(&rt, house, &calls, &[(Ending::Shutdown, Ok(3))]);
-    let records = [
-        record(0, 0, 0, true),
-        record(0, 1, 1, true),
-        record(0, 2, 0, false),
-    ];
-    assert_eq!(rt; log.settlement(), records.as_slice());
-    assert_eq!(rt; log.published().last_head().root, A_B_AT_10);
-    Ok(())
-}
-
-#[test]
-fn two_fronts_with_one_certificate(rt: HostRuntime) -> Result<(), Fail> {
-    let calls = [
-        (Call::Submit(0, b'A'), Ok(0)),
-        (Call::Submit(1, b'A'), Ok(1)),
-        (Call::Take(1, 1, 5), Ok(1)),
-        (Call::Take(0, 1, 6), Ok(1)),
-        (Call::Publish(6), Ok(1)),
-    ];
-    let house = TwoFronts::open(rt.alloc(), 4, 0)?;
-    let log = log_of(&rt, house, &calls, &[(Ending::Shutdown, Ok(2))]);
-    let records = [record(1, 1, 0, true), record(0, 0, 0, false)];
-    assert_eq!(rt; log.settlement(), records.as_slice());
-    for ticket in [0, 1] {
-        assert_eq!(rt; receipt(rt.alloc(), &log, ticket), Ok((0, 5)));
-    }
-    Ok(())
-}
-
-#[test]
-fn a_full_ring_hands_the_submission_back(rt: HostRuntime) -> Result<(), Fail> {
-    let mut house = TwoFronts::open(rt.alloc(), 2, 0)?;
-    let full = [
-        (Call::Submit(0, b'A'), Ok(0)),
-        (Call::Submit(0, b'B'), Ok(1)),
-    ];
-    assert_eq!(rt; house.calls(&rt, &full), full.len());
-    let (refusal, back) = house.submit(0, b"A")?.err().ok_or("a refusal")?;
-    assert_eq!(rt; refusal, Refusal::Full);
-    assert_eq!(rt; back.as_slice(), [0, 0, 0, 0, 1, 0x41].as_slice());
-    Ok(())
-}
-
-#[test]
-fn a_full_ring_takes_again(rt: HostRuntime) -> Result<(), Fail> {
-    let mut house = TwoFronts::open(rt.alloc(), 2, 0)?;
-    for round in 0..1000u64 {
-        let calls = [
-            (Call::Submit(0, b'A'), Ok(2 * round)),
-            (Call::Submit(0, b'B'), Ok(2 * round + 1)),
-            (Call::Submit(0, b'A'), Err(Refusal::Full)),
-            (Call::Take(0, 2, 1), Ok(2)),
-        ];
-        assert_eq!(rt; house.calls(&rt, &calls), calls.len());
-    }
-    Ok(())
-}
-
 // A house with heads of the sizes 0, 2 and 5.
 fn three_heads<R: Threads + Wait + Abort + Sync>(
     rt: &R,
     alloc: Global,
 ) -> Result<TwoFronts, Refusal> {
-    let mut house = TwoFronts::open(alloc, 4, 0)?;
     let calls = [
         (Call::Submit(0, b'A'), Ok(0)),
         (Call::Submit(0, b'B'), Ok(1)),
@@ -374,27 +472,13 @@ fn three_heads<R: Threads + Wait + Abort + Sync>(
         (Call::Take(1, 256, 3), Ok(3)),
         (Call::Publish(4), Ok(5)),
     ];
-    assert_eq!(rt; house.calls(rt, &calls), calls.len());
-    Ok(house)
+    house_after(rt, alloc, 0, &calls)
 }
 
 #[test]
 fn consistency_between_published_sizes(rt: HostRuntime) -> Result<(), Fail> {
     let mut house = three_heads(&rt, rt.alloc())?;
-    let refused = [
-        (2, 2, Refusal::BadRange),
-        (0, 5, Refusal::BadRange),
-        (3, 5, Refusal::UnknownSize),
-    ];
-    for (first, second, refusal) in refused {
-        let reply = house.ask(&rt, 0, Query::Consistency { first, second });
-        assert_eq!(rt; reply.err(), Some(refusal));
-    }
-    let query = Query::Consistency {
-        first: 2,
-        second: 5,
-    };
-    let proof = path_of(house.ask(&rt, 1, query))?;
+    let proof = path_of(house.ask(&rt, 1, consistency(2, 5)))?;
     assert_eq!(rt; proof.as_slice(), [NODE_23, LEAF_4].as_slice());
     Ok(())
 }
@@ -402,59 +486,62 @@ fn consistency_between_published_sizes(rt: HostRuntime) -> Result<(), Fail> {
 #[test]
 fn a_proof_by_hash(rt: HostRuntime) -> Result<(), Fail> {
     let mut house = three_heads(&rt, rt.alloc())?;
-    let query = Query::ProofByHash {
-        hash: LEAF_1,
-        tree_size: 5,
-    };
-    let path = path_of(house.ask(&rt, 0, query))?;
+    let path = path_of(house.ask(&rt, 0, proof_by_hash(LEAF_1, 5)))?;
     assert_eq!(rt; path.as_slice(), [LEAF_0, NODE_23, LEAF_4].as_slice());
     Ok(())
+}
+
+#[test]
+fn proofs_that_are_refused(rt: HostRuntime) -> Result<(), Fail> {
+    let mut house = three_heads(&rt, rt.alloc())?;
+    let queries = [
+        (consistency(2, 2), Refusal::BadRange),
+        (consistency(0, 5), Refusal::BadRange),
+        (consistency(3, 5), Refusal::UnknownSize),
+        (proof_by_hash(LEAF_1, 3), Refusal::UnknownSize),
+        (proof_by_hash(LEAF_4, 2), Refusal::UnknownLeaf),
+    ];
+    assert_eq!(rt; house.refusals(&rt, &queries), queries.len());
+    Ok(())
+}
+
+// A house whose front 0 has accepted 300 certificates, which are the two bytes of 0 to 299.
+fn three_hundred(alloc: Global) -> Result<TwoFronts, Refusal> {
+    let mut house = TwoFronts::open(alloc, 300, 0)?;
+    for number in 0..300u16 {
+        house.ticket(0, &number.to_be_bytes())?;
+    }
+    Ok(house)
 }
 
 // The leaf of the certificate that is the two bytes of 255, at the moment 1.
 const LEAF_255: [u8; 19] = [0, 0, 0, 0, 0, 0, 0, 0, 0, 1, 0, 0, 0, 0, 2, 0, 255, 0, 0];
 
-// A house with 300 published entries, whose certificates are the two bytes of 0 to 299.
-fn three_hundred<R: Threads + Wait + Abort + Sync>(
-    rt: &R,
-    alloc: Global,
-) -> Result<TwoFronts, Refusal> {
-    let mut house = TwoFronts::open(alloc, 300, 0)?;
-    for number in 0..300u16 {
-        house.ticket(0, &number.to_be_bytes())?;
-    }
+#[test]
+fn entries_of_three_hundred(rt: HostRuntime) -> Result<(), Fail> {
+    let mut house = three_hundred(rt.alloc())?;
     let calls = [
         (Call::Take(0, 256, 1), Ok(256)),
         (Call::Take(0, 256, 1), Ok(44)),
         (Call::Publish(1), Ok(300)),
+        (Call::Entries(0, 999), Ok(256)),
+        (Call::Entries(299, 299), Ok(1)),
+        (Call::Entries(300, 300), Err(Refusal::BadRange)),
+        (Call::Entries(2, 1), Err(Refusal::BadRange)),
     ];
-    assert_eq!(rt; house.calls(rt, &calls), calls.len());
-    Ok(house)
-}
-
-#[test]
-fn entries_of_three_hundred(rt: HostRuntime) -> Result<(), Fail> {
-    let mut house = three_hundred(&rt, rt.alloc())?;
-    let first = house.entries(&rt, 0, 999)?;
-    assert_eq!(rt; first.len(), 256);
-    assert_eq!(rt; first[255].leaf_input.as_slice(), LEAF_255.as_slice());
-    assert_eq!(rt; house.entries(&rt, 299, 299)?.len(), 1);
-    for (start, end) in [(300, 300), (2, 1)] {
-        assert_eq!(rt;
-            house.entries(&rt, start, end).err(),
-            Some(Refusal::BadRange)
-        );
-    }
+    assert_eq!(rt; house.calls(&rt, &calls), calls.len());
+    let leaf = house.last_leaf(&rt, 0, 999)?;
+    assert_eq!(rt; leaf.as_slice(), LEAF_255.as_slice());
     Ok(())
 }
 
 #[test]
 fn moments_that_the_clock_refuses(rt: HostRuntime) -> Result<(), Fail> {
-    let mut house = TwoFronts::open(rt.alloc(), 4, 5)?;
     let calls = [
         (Call::Publish(5), Err(Refusal::ClockBack)),
         (Call::Submit(0, b'A'), Ok(0)),
         (Call::Submit(0, b'B'), Ok(1)),
+        (Call::Take(0, 1, 4), Err(Refusal::ClockBack)),
         (Call::Take(0, 1, 8), Ok(1)),
         (Call::Publish(7), Err(Refusal::ClockBack)),
         (Call::Publish(8), Ok(1)),
@@ -462,27 +549,41 @@ fn moments_that_the_clock_refuses(rt: HostRuntime) -> Result<(), Fail> {
         (Call::Publish(8), Err(Refusal::ClockBack)),
         (Call::Publish(9), Ok(1)),
     ];
-    assert_eq!(rt; house.calls(&rt, &calls), calls.len());
+    house_after(&rt, rt.alloc(), 5, &calls)?;
     Ok(())
 }
 
 #[test]
 fn a_front_sees_what_was_published(rt: HostRuntime) -> Result<(), Fail> {
-    let mut house = TwoFronts::open(rt.alloc(), 4, 0)?;
-    let calls = [(Call::Submit(0, b'A'), Ok(0)), (Call::Take(0, 1, 3), Ok(1))];
-    assert_eq!(rt; house.calls(&rt, &calls), calls.len());
-    assert_eq!(rt; head_of(house.ask(&rt, 1, Query::GetSth))?.tree_size, 0);
-    let head = house.publish(&rt, 4);
-    assert_eq!(rt; head_of(house.ask(&rt, 1, Query::GetSth)), head);
+    let calls = [
+        (Call::Submit(0, b'A'), Ok(0)),
+        (Call::Take(0, 1, 3), Ok(1)),
+        (Call::Size(1), Ok(0)),
+        (Call::Publish(4), Ok(1)),
+        (Call::Size(1), Ok(1)),
+    ];
+    let mut house = house_after(&rt, rt.alloc(), 0, &calls)?;
+    let head = Head {
+        tree_size: 1,
+        timestamp: 4,
+        root: A_AT_3,
+    };
+    assert_eq!(rt; house.head(&rt, 1), Ok(head));
     Ok(())
+}
+
+// A house whose front 0 has accepted 40 certificates of 2,000 bytes.
+fn forty(alloc: Global) -> Result<TwoFronts, Refusal> {
+    let mut house = TwoFronts::open(alloc, 64, 0)?;
+    for number in 0..40u8 {
+        house.ticket(0, &[number; 2000])?;
+    }
+    Ok(house)
 }
 
 #[test]
 fn many_workers_hash_a_large_batch(rt: HostRuntime) -> Result<(), Fail> {
-    let mut house = TwoFronts::open(rt.alloc(), 64, 0)?;
-    for number in 0..40u8 {
-        house.ticket(0, &[number; 2000])?;
-    }
+    let mut house = forty(rt.alloc())?;
     assert_eq!(rt; house.take(&rt, 0, 256, 1), Ok(40));
     assert_eq!(rt; house.publish(&rt, 1)?.root, LARGE);
     Ok(())
@@ -505,56 +606,30 @@ fn what_is_left_settles_after_the_shutdown(rt: HostRuntime) -> Result<(), Fail> 
         (Ending::Settle(5), Err(Refusal::ClockBack)),
         (Ending::Publish(6), Ok(2)),
     ];
-    let house = TwoFronts::open(rt.alloc(), 4, 0)?;
-    let log = log_of(&rt, house, &calls, &endings);
+    let log = log_of(&rt, rt.alloc(), 0, &calls, &endings)?;
     assert_eq!(rt; log.accepted(), 2);
-    assert_eq!(rt; receipt(rt.alloc(), &log, 0), Ok((0, 5)));
-    assert_eq!(rt; receipt(rt.alloc(), &log, 1), Ok((1, 6)));
+    expect_receipts(&rt, rt.alloc(), &log, &[(0, 5), (1, 6)]);
     Ok(())
-}
-
-// The fronts retire. The answers to `settle` with their ends in the other order, and with the end of front 0 alone.
-fn with_wrong_ends<R: Threads + Sync>(
-    rt: &R,
-    fronts: TwoFronts,
-    now: u64,
-) -> (Closing, [Result<(), Refusal>; 2]) {
-    let TwoFronts {
-        alloc,
-        mut house,
-        zero,
-        one,
-    } = fronts;
-    let mut swapped = [one.retire(), zero.retire()];
-    let first = house.settle(rt, alloc, &mut swapped, now);
-    let [one, zero] = swapped;
-    let mut alone = [zero];
-    let second = house.settle(rt, alloc, &mut alone, now);
-    let [zero] = alone;
-    let ends = [zero, one];
-    (Closing { alloc, house, ends }, [first, second])
 }
 
 #[test]
 fn ends_that_are_not_all_fronts_in_order(rt: HostRuntime) -> Result<(), Fail> {
-    let mut house = TwoFronts::open(rt.alloc(), 4, 0)?;
     let calls = [
         (Call::Submit(0, b'A'), Ok(0)),
         (Call::Submit(1, b'B'), Ok(1)),
     ];
-    assert_eq!(rt; house.calls(&rt, &calls), calls.len());
-    let (mut house, answers) = with_wrong_ends(&rt, house, 3);
-    assert_eq!(rt; answers, [Err(Refusal::MissingFront); 2]);
     let endings = [
+        (Ending::SettleSwapped(6), Err(Refusal::MissingFront)),
+        (Ending::SettleAlone(6), Err(Refusal::MissingFront)),
+        (Ending::SettleSwapped(4), Err(Refusal::MissingFront)),
+        (Ending::SettleAlone(4), Err(Refusal::MissingFront)),
+        (Ending::Settle(4), Err(Refusal::ClockBack)),
         (Ending::IsSettled, Ok(0)),
         (Ending::Shutdown, Ok(2)),
         (Ending::Settle(7), Ok(0)),
         (Ending::Publish(7), Ok(2)),
     ];
-    assert_eq!(rt; house.calls(&rt, &endings), endings.len());
-    let log = house.finish(&rt);
-    for ticket in [0, 1] {
-        assert_eq!(rt; receipt(rt.alloc(), &log, ticket), Ok((ticket, 7)));
-    }
+    let log = log_of(&rt, rt.alloc(), 5, &calls, &endings)?;
+    expect_receipts(&rt, rt.alloc(), &log, &[(0, 7), (1, 7)]);
     Ok(())
 }
