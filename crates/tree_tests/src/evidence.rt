@@ -1,15 +1,13 @@
 // Evidence under hash functions that fail.
-use crate::consistency_evidence::explain_consistency;
-use crate::evidence::{Evidence, EvidenceFault};
-use crate::fault::ProofFault;
-use crate::inclusion::verify_inclusion;
-use crate::inclusion_evidence::explain_inclusion;
-use crate::test_hashes::{WeakHash, ZeroHash};
+use crate::weak_hashes::{WeakHash, ZeroHash};
 use ct_tree::{NodeHash, Sha256Hash, leaf_hash, reference};
+use ct_verify::{
+    Evidence, EvidenceFault, ProofFault, explain_consistency, explain_inclusion, verify_inclusion,
+};
 use std::alloc::{AllocError, Global};
 
 // A leaf of one byte for each byte.
-fn leaves_of(alloc: Global, bytes: &[u8]) -> Result<Vec<Vec<u8>>, AllocError> {
+pub(crate) fn leaves_of(alloc: Global, bytes: &[u8]) -> Result<Vec<Vec<u8>>, AllocError> {
     let mut leaves = Vec::new(alloc);
     for byte in bytes {
         leaves.push(vec![in alloc; *byte]?)?;
@@ -29,21 +27,25 @@ fn hashes_of<H: NodeHash>(
     Ok(hashes)
 }
 
-fn is_holding(answer: &Result<Evidence, EvidenceFault>) -> bool {
+pub(crate) fn is_holding(answer: &Result<Evidence, EvidenceFault>) -> bool {
     match answer {
         Ok(Evidence::Holds) => true,
         _ => false,
     }
 }
 
-fn is_collision_of(answer: &Result<Evidence, EvidenceFault>, first: &[u8], second: &[u8]) -> bool {
+pub(crate) fn is_collision_of(
+    answer: &Result<Evidence, EvidenceFault>,
+    first: &[u8],
+    second: &[u8],
+) -> bool {
     match answer {
         Ok(Evidence::Collision(a, b)) => a.as_slice() == first && b.as_slice() == second,
         _ => false,
     }
 }
 
-fn is_refused_with(answer: &Result<Evidence, EvidenceFault>, fault: ProofFault) -> bool {
+pub(crate) fn is_refused_with(answer: &Result<Evidence, EvidenceFault>, fault: ProofFault) -> bool {
     match answer {
         Err(EvidenceFault::ProofRefused(refusal)) => *refusal == fault,
         _ => false,
