@@ -16,8 +16,6 @@
 //! first occurrences, settlement and lawful states, `specs/Core.antt` the steps, `specs/Answers.antt` the answers.
 #![tactic(auto)]
 
-#[cfg(test)]
-mod answer_tests;
 mod answers;
 mod entry;
 mod identity;
@@ -27,11 +25,8 @@ mod query;
 mod room;
 mod sequencing;
 mod settled;
-#[cfg(test)]
-mod test_log;
-#[cfg(test)]
-mod tests;
 
+pub use leaf_table::LeafTable;
 pub use published::Published;
 pub use query::{Query, Reply, ShownEntry};
 pub use sequencing::Core;
