@@ -64,6 +64,34 @@ fn is_true_collision<H: NodeHash>(h: &H, answer: &Result<Evidence, EvidenceFault
     }
 }
 
+// Why evidence for the leaf 41 is refused, where it is.
+fn path_refusal<H: NodeHash>(
+    alloc: Global,
+    h: &H,
+    leaves: &[Vec<u8>],
+    index: u64,
+    path: &[[u8; 32]],
+) -> Option<ProofFault> {
+    match explain_inclusion(alloc, h, leaves, &[0x41], index, path) {
+        Err(EvidenceFault::ProofRefused(refusal)) => Some(refusal),
+        _ => None,
+    }
+}
+
+// Why evidence for a longer list is refused, where it is.
+fn proof_refusal<H: NodeHash>(
+    alloc: Global,
+    h: &H,
+    old: &[Vec<u8>],
+    new: &[Vec<u8>],
+    path: &[[u8; 32]],
+) -> Option<ProofFault> {
+    match explain_consistency(alloc, h, old, new, path) {
+        Err(EvidenceFault::ProofRefused(refusal)) => Some(refusal),
+        _ => None,
+    }
+}
+
 #[test]
 fn paths_under_the_hash_of_zeros(rt: HostRuntime) -> std::io::Result<()> {
     let heap = rt.alloc();
@@ -82,16 +110,16 @@ fn paths_under_the_hash_of_zeros(rt: HostRuntime) -> std::io::Result<()> {
 
     let true_path = explain_inclusion(heap, &ZeroHash, &two, &[0x41], 0, &[[0; 32]]);
     assert!(rt; is_holding(&true_path));
-    let no_such_leaf = explain_inclusion(heap, &ZeroHash, &two, &[0x41], 2, &[[0; 32]]);
-    assert!(rt; is_refused_with(&no_such_leaf, ProofFault::IndexOutOfRange));
-    let no_leaf = explain_inclusion(heap, &ZeroHash, &[], &[0x41], 0, &[]);
-    assert!(rt; is_refused_with(&no_leaf, ProofFault::IndexOutOfRange));
-    let too_long = explain_inclusion(heap, &ZeroHash, &one, &[0x41], 0, &[[0; 32]]);
-    assert!(rt; is_refused_with(&too_long, ProofFault::PathTooLong));
-    let too_short = explain_inclusion(heap, &ZeroHash, &two, &[0x41], 0, &[]);
-    assert!(rt; is_refused_with(&too_short, ProofFault::PathTooShort));
-    let other_root = explain_inclusion(heap, &Sha256Hash, &two, &[0x41], 0, &[[0; 32]]);
-    assert!(rt; is_refused_with(&other_root, ProofFault::RootMismatch));
+    let no_such_leaf = path_refusal(heap, &ZeroHash, &two, 2, &[[0; 32]]);
+    assert!(rt; no_such_leaf == Some(ProofFault::IndexOutOfRange));
+    let no_leaf = path_refusal(heap, &ZeroHash, &[], 0, &[]);
+    assert!(rt; no_leaf == Some(ProofFault::IndexOutOfRange));
+    let too_long = path_refusal(heap, &ZeroHash, &one, 0, &[[0; 32]]);
+    assert!(rt; too_long == Some(ProofFault::PathTooLong));
+    let too_short = path_refusal(heap, &ZeroHash, &two, 0, &[]);
+    assert!(rt; too_short == Some(ProofFault::PathTooShort));
+    let other_root = path_refusal(heap, &Sha256Hash, &two, 0, &[[0; 32]]);
+    assert!(rt; other_root == Some(ProofFault::RootMismatch));
     Ok(())
 }
 
@@ -105,14 +133,14 @@ fn proofs_under_the_hash_of_zeros(rt: HostRuntime) -> std::io::Result<()> {
     assert!(rt; is_holding(&extended));
     let rewritten = explain_consistency(heap, &ZeroHash, &old, &other, &[[0; 32]]);
     assert!(rt; is_true_collision(&ZeroHash, &rewritten));
-    let no_path = explain_consistency(heap, &ZeroHash, &old, &new, &[]);
-    assert!(rt; is_refused_with(&no_path, ProofFault::EmptyPath));
-    let too_long = explain_consistency(heap, &ZeroHash, &old, &new, &[[0; 32], [0; 32]]);
-    assert!(rt; is_refused_with(&too_long, ProofFault::PathTooLong));
-    let same_size = explain_consistency(heap, &ZeroHash, &new, &other, &[[0; 32]]);
-    assert!(rt; is_refused_with(&same_size, ProofFault::SizesOutOfRange));
-    let other_root = explain_consistency(heap, &Sha256Hash, &old, &other, &[[0; 32]]);
-    assert!(rt; is_refused_with(&other_root, ProofFault::RootMismatch));
+    let no_path = proof_refusal(heap, &ZeroHash, &old, &new, &[]);
+    assert!(rt; no_path == Some(ProofFault::EmptyPath));
+    let too_long = proof_refusal(heap, &ZeroHash, &old, &new, &[[0; 32], [0; 32]]);
+    assert!(rt; too_long == Some(ProofFault::PathTooLong));
+    let same_size = proof_refusal(heap, &ZeroHash, &new, &other, &[[0; 32]]);
+    assert!(rt; same_size == Some(ProofFault::SizesOutOfRange));
+    let other_root = proof_refusal(heap, &Sha256Hash, &old, &other, &[[0; 32]]);
+    assert!(rt; other_root == Some(ProofFault::RootMismatch));
     Ok(())
 }
 
