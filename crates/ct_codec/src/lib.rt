@@ -33,6 +33,3 @@ pub use reading::{Leaf, LeafEntry, decode_chain, decode_leaf};
 pub use refusal::Refusal;
 pub use submission::Submission;
 pub use writing::{extra_data, identity, leaf_input, same_identity};
-
-#[cfg(test)]
-mod tests;

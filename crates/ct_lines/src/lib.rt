@@ -18,11 +18,7 @@ mod reading;
 mod request;
 mod sending;
 mod serving;
-#[cfg(test)]
-mod serving_tests;
 mod standing;
-#[cfg(test)]
-mod tests;
 mod writing;
 
 pub use laws::{bytes_read_back, line_is_one_request, replies_by_lines, request_is_found};

@@ -15,8 +15,6 @@ mod extension;
 mod fault;
 mod monitor;
 mod order;
-#[cfg(test)]
-mod tests;
 
 pub use auditor::Auditor;
 pub use fault::MonitorFault;

@@ -7,7 +7,7 @@
 //!   beginning of the list.
 //! - `hash_batch` hashes many leaves by several threads.
 //! - [`Head`] is a tree head without its signature.
-//! - [`reference`] computes roots, paths and proofs as the RFC writes them, slowly. The tests compare with it.
+//! - [`reference`] computes roots, paths and proofs as the RFC writes them, slowly. `tree_tests` compares with it.
 //! - [`laws`] shows that the definitions of `specs/Tree.antt`, which all the contracts name, are the RFC's equations.
 //!
 //! A tree is a list of leaf hashes, the leftmost first. Leaf indexes begin at 0, and sizes count leaves.
@@ -20,8 +20,6 @@ pub mod laws;
 mod nodes;
 pub mod reference;
 mod stack;
-#[cfg(test)]
-mod tests;
 
 pub use batch::{hash_batch, hash_batch_parts};
 pub use hash::{NodeHash, Sha256Hash, leaf_hash, leaf_hash_parts, node_hash};

@@ -1,5 +1,5 @@
 //! The reference program: MTH, PATH and PROOF of a list of leaf hashes, by the recursions of RFC 6962, section 2.1, as
-//! they are written there. It is slow, and what `Stack` and `Nodes` answer is tested against it.
+//! they are written there. It is slow, and `tree_tests` compares what `Stack` and `Nodes` answer with it.
 ghost use Rattle.std.specs.Prelude.{◌≡◌, ◌-◌, ◌<◌, ◌≤◌, Bool, List, length, IfOk};
 ghost use Rattle.ct_tree.specs.Tree.{split, mth, path as path_of, subproof as subproof_of, proof as proof_of};
 

@@ -20,20 +20,12 @@ mod children;
 mod consistency;
 mod consistency_evidence;
 mod evidence;
-#[cfg(test)]
-mod evidence_tests;
 mod fault;
 mod halves;
 mod inclusion;
 mod inclusion_evidence;
 pub mod laws;
 mod place;
-#[cfg(test)]
-mod sweep_tests;
-#[cfg(test)]
-mod test_hashes;
-#[cfg(test)]
-mod tests;
 
 pub use consistency::verify_consistency;
 pub use consistency_evidence::explain_consistency;

@@ -1,4 +1,4 @@
-// Hash functions for the tests.
+// Hash functions that fail.
 ghost use Rattle.std.specs.Prelude.{ℕ, List, [], ◌∷◌, replicate, get_or, length, ◌≡◌};
 ghost use Rattle.std.proofs.Common.{refl};
 ghost use Rattle.std.proofs.lemmas.List.{length-replicate};

@@ -4,8 +4,8 @@ ghost use Rattle.std.specs.Prelude.{◌≡◌, IfOk};
 ghost use Rattle.ct_core.specs.Leaf.{leaf_at};
 ghost use Rattle.ct_core.specs.Tree.{hash_leaf};
 
-use crate::{Core, Query, Reply, Settled};
 use ct_codec::{Item, Refusal, Submission, leaf_input};
+use ct_core::{Core, Query, Reply, Settled};
 use ct_tree::{Head, Sha256Hash, leaf_hash};
 use std::alloc::Global;
 use std::test::Fail;
@@ -18,7 +18,7 @@ pub(crate) fn submission(heap: Global, certificate: &[u8]) -> Result<Submission,
 }
 
 // The hash of the submission's leaf at that moment.
-#[tactic(auto, unfolding(crate::specs::Leaf::leaf_at, crate::specs::Tree::hash_leaf))]
+#[tactic(auto, unfolding(ct_core::specs::Leaf::leaf_at, ct_core::specs::Tree::hash_leaf))]
 fn hashed(rt: &HostRuntime, submission: &Submission, now: u64) -> Result<[u8; 32], Refusal>
     ensures { IfOk result (λ h. h ≡ hash_leaf (leaf_at submission.now now)) }
 {

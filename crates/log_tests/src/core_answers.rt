@@ -1,6 +1,6 @@
-use crate::test_log::{asked, opened, publish, settle};
-use crate::{Core, Query, Reply, ShownEntry};
+use crate::settled_log::{asked, opened, publish, settle};
 use ct_codec::Refusal;
+use ct_core::{Core, Query, Reply, ShownEntry};
 use std::test::Fail;
 
 // The hashes of five leaves by Python's hashlib: the certificates 41 and 42 at the moment 1, and 43 to 45 at 2. The

@@ -1,5 +1,5 @@
 use Rattle.std.proofs.Common.{length}
-use Rattle.ct_verify.proofs.sweep_tests.+plain_subproof.Given as goal
+use Rattle.tree_tests.proofs.sweeps.+plain_subproof.Given as goal
 
 abbrev pub decreases-plain_subproof : goal.decreases-plain_subproof
 decreases-plain_subproof l = length l.leaves.now

@@ -1,6 +1,6 @@
-use super::*;
 use ct_codec::Refusal;
-use ct_core::{Query, Reply, ShownEntry};
+use ct_core::{Reply, ShownEntry};
+use ct_lines::{read_line, reply_text};
 use ct_tree::Head;
 use std::test::*;
 

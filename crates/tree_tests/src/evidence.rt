@@ -1,15 +1,13 @@
 // Evidence under hash functions that fail.
-use crate::consistency_evidence::explain_consistency;
-use crate::evidence::{Evidence, EvidenceFault};
-use crate::fault::ProofFault;
-use crate::inclusion::verify_inclusion;
-use crate::inclusion_evidence::explain_inclusion;
-use crate::test_hashes::{WeakHash, ZeroHash};
+use crate::weak_hashes::{WeakHash, ZeroHash};
 use ct_tree::{NodeHash, Sha256Hash, leaf_hash, reference};
+use ct_verify::{
+    Evidence, EvidenceFault, ProofFault, explain_consistency, explain_inclusion, verify_inclusion,
+};
 use std::alloc::{AllocError, Global};
 
 // A leaf of one byte for each byte.
-fn leaves_of(alloc: Global, bytes: &[u8]) -> Result<Vec<Vec<u8>>, AllocError> {
+pub(crate) fn leaves_of(alloc: Global, bytes: &[u8]) -> Result<Vec<Vec<u8>>, AllocError> {
     let mut leaves = Vec::new(alloc);
     for byte in bytes {
         leaves.push(vec![in alloc; *byte]?)?;
@@ -29,21 +27,25 @@ fn hashes_of<H: NodeHash>(
     Ok(hashes)
 }
 
-fn is_holding(answer: &Result<Evidence, EvidenceFault>) -> bool {
+pub(crate) fn is_holding(answer: &Result<Evidence, EvidenceFault>) -> bool {
     match answer {
         Ok(Evidence::Holds) => true,
         _ => false,
     }
 }
 
-fn is_collision_of(answer: &Result<Evidence, EvidenceFault>, first: &[u8], second: &[u8]) -> bool {
+pub(crate) fn is_collision_of(
+    answer: &Result<Evidence, EvidenceFault>,
+    first: &[u8],
+    second: &[u8],
+) -> bool {
     match answer {
         Ok(Evidence::Collision(a, b)) => a.as_slice() == first && b.as_slice() == second,
         _ => false,
     }
 }
 
-fn is_refused_with(answer: &Result<Evidence, EvidenceFault>, fault: ProofFault) -> bool {
+pub(crate) fn is_refused_with(answer: &Result<Evidence, EvidenceFault>, fault: ProofFault) -> bool {
     match answer {
         Err(EvidenceFault::ProofRefused(refusal)) => *refusal == fault,
         _ => false,
@@ -59,6 +61,34 @@ fn is_true_collision<H: NodeHash>(h: &H, answer: &Result<Evidence, EvidenceFault
             a.as_slice() != b.as_slice() && first == second
         }
         _ => false,
+    }
+}
+
+// Why evidence for the leaf 41 is refused, where it is.
+fn path_refusal<H: NodeHash>(
+    alloc: Global,
+    h: &H,
+    leaves: &[Vec<u8>],
+    index: u64,
+    path: &[[u8; 32]],
+) -> Option<ProofFault> {
+    match explain_inclusion(alloc, h, leaves, &[0x41], index, path) {
+        Err(EvidenceFault::ProofRefused(refusal)) => Some(refusal),
+        _ => None,
+    }
+}
+
+// Why evidence for a longer list is refused, where it is.
+fn proof_refusal<H: NodeHash>(
+    alloc: Global,
+    h: &H,
+    old: &[Vec<u8>],
+    new: &[Vec<u8>],
+    path: &[[u8; 32]],
+) -> Option<ProofFault> {
+    match explain_consistency(alloc, h, old, new, path) {
+        Err(EvidenceFault::ProofRefused(refusal)) => Some(refusal),
+        _ => None,
     }
 }
 
@@ -80,16 +110,16 @@ fn paths_under_the_hash_of_zeros(rt: HostRuntime) -> std::io::Result<()> {
 
     let true_path = explain_inclusion(heap, &ZeroHash, &two, &[0x41], 0, &[[0; 32]]);
     assert!(rt; is_holding(&true_path));
-    let no_such_leaf = explain_inclusion(heap, &ZeroHash, &two, &[0x41], 2, &[[0; 32]]);
-    assert!(rt; is_refused_with(&no_such_leaf, ProofFault::IndexOutOfRange));
-    let no_leaf = explain_inclusion(heap, &ZeroHash, &[], &[0x41], 0, &[]);
-    assert!(rt; is_refused_with(&no_leaf, ProofFault::IndexOutOfRange));
-    let too_long = explain_inclusion(heap, &ZeroHash, &one, &[0x41], 0, &[[0; 32]]);
-    assert!(rt; is_refused_with(&too_long, ProofFault::PathTooLong));
-    let too_short = explain_inclusion(heap, &ZeroHash, &two, &[0x41], 0, &[]);
-    assert!(rt; is_refused_with(&too_short, ProofFault::PathTooShort));
-    let other_root = explain_inclusion(heap, &Sha256Hash, &two, &[0x41], 0, &[[0; 32]]);
-    assert!(rt; is_refused_with(&other_root, ProofFault::RootMismatch));
+    let no_such_leaf = path_refusal(heap, &ZeroHash, &two, 2, &[[0; 32]]);
+    assert!(rt; no_such_leaf == Some(ProofFault::IndexOutOfRange));
+    let no_leaf = path_refusal(heap, &ZeroHash, &[], 0, &[]);
+    assert!(rt; no_leaf == Some(ProofFault::IndexOutOfRange));
+    let too_long = path_refusal(heap, &ZeroHash, &one, 0, &[[0; 32]]);
+    assert!(rt; too_long == Some(ProofFault::PathTooLong));
+    let too_short = path_refusal(heap, &ZeroHash, &two, 0, &[]);
+    assert!(rt; too_short == Some(ProofFault::PathTooShort));
+    let other_root = path_refusal(heap, &Sha256Hash, &two, 0, &[[0; 32]]);
+    assert!(rt; other_root == Some(ProofFault::RootMismatch));
     Ok(())
 }
 
@@ -103,14 +133,14 @@ fn proofs_under_the_hash_of_zeros(rt: HostRuntime) -> std::io::Result<()> {
     assert!(rt; is_holding(&extended));
     let rewritten = explain_consistency(heap, &ZeroHash, &old, &other, &[[0; 32]]);
     assert!(rt; is_true_collision(&ZeroHash, &rewritten));
-    let no_path = explain_consistency(heap, &ZeroHash, &old, &new, &[]);
-    assert!(rt; is_refused_with(&no_path, ProofFault::EmptyPath));
-    let too_long = explain_consistency(heap, &ZeroHash, &old, &new, &[[0; 32], [0; 32]]);
-    assert!(rt; is_refused_with(&too_long, ProofFault::PathTooLong));
-    let same_size = explain_consistency(heap, &ZeroHash, &new, &other, &[[0; 32]]);
-    assert!(rt; is_refused_with(&same_size, ProofFault::SizesOutOfRange));
-    let other_root = explain_consistency(heap, &Sha256Hash, &old, &other, &[[0; 32]]);
-    assert!(rt; is_refused_with(&other_root, ProofFault::RootMismatch));
+    let no_path = proof_refusal(heap, &ZeroHash, &old, &new, &[]);
+    assert!(rt; no_path == Some(ProofFault::EmptyPath));
+    let too_long = proof_refusal(heap, &ZeroHash, &old, &new, &[[0; 32], [0; 32]]);
+    assert!(rt; too_long == Some(ProofFault::PathTooLong));
+    let same_size = proof_refusal(heap, &ZeroHash, &new, &other, &[[0; 32]]);
+    assert!(rt; same_size == Some(ProofFault::SizesOutOfRange));
+    let other_root = proof_refusal(heap, &Sha256Hash, &old, &other, &[[0; 32]]);
+    assert!(rt; other_root == Some(ProofFault::RootMismatch));
     Ok(())
 }
 

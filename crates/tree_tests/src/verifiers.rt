@@ -2,12 +2,9 @@
 // the bytes of the leaves: none, 00, 10, 20 21, 30 31, 40 41 42 43, 50 51 52 53 54 55 56 57. `N01` is the node over
 // leaves 0 and 1, and so on; `MTH_3` is the root of the first three leaves.
 
-use crate::consistency::verify_consistency;
-use crate::fault::ProofFault;
-use crate::inclusion::verify_inclusion;
-use crate::laws;
-use crate::test_hashes::ZeroHash;
+use crate::weak_hashes::ZeroHash;
 use ct_tree::Sha256Hash;
+use ct_verify::{ProofFault, laws, verify_consistency, verify_inclusion};
 
 const L0: [u8; 32] = [
     0x6e, 0x34, 0x0b, 0x9c, 0xff, 0xb3, 0x7a, 0x98, 0x9c, 0xa5, 0x44, 0xe6, 0xbb, 0x78, 0x0a, 0x2c,

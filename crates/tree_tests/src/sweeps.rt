@@ -2,11 +2,9 @@
 // the verifiers have to answer is read off the lists that the recursions of RFC 6962 give over the leaf hashes.
 ghost use Rattle.std.specs.Prelude.{◌≡◌, ◌<◌, IfOk};
 
-use crate::consistency::verify_consistency;
-use crate::fault::ProofFault;
-use crate::inclusion::verify_inclusion;
 use ct_tree::reference::root;
 use ct_tree::{Sha256Hash, leaf_hash};
+use ct_verify::{ProofFault, verify_consistency, verify_inclusion};
 use std::alloc::{AllocError, Global};
 
 // The largest power of two smaller than `n`.

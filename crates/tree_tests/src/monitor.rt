@@ -1,11 +1,8 @@
-ghost use Rattle.std.specs.Prelude.{ℕ, List, replicate};
-ghost use Rattle.std.proofs.lemmas.List.{length-replicate};
-
-use crate::auditor::Auditor;
-use crate::fault::MonitorFault;
-use crate::monitor::Monitor;
-use ct_tree::{Head, NodeHash, Sha256Hash};
-use ct_verify::{Evidence, EvidenceFault, ProofFault};
+use crate::evidence::{is_collision_of, is_holding, is_refused_with, leaves_of};
+use crate::weak_hashes::ZeroHash;
+use ct_monitor::{Auditor, Monitor, MonitorFault};
+use ct_tree::{Head, Sha256Hash};
+use ct_verify::ProofFault;
 use std::alloc::{AllocError, Global};
 use std::test::Fail;
 
@@ -39,29 +36,6 @@ const LEAF_2: [u8; 32] = [
     0x5c, 0x39, 0x57, 0x7e, 0x12, 0xa7, 0x2e, 0x84, 0x91, 0x5e, 0xdd, 0x66, 0x33, 0xcb, 0x97, 0xf2,
 ];
 
-// The digest of every message is 32 bytes 00.
-#[derive(Clone, Copy)]
-struct ZeroHash;
-
-impl NodeHash for ZeroHash {
-    ghost digest = { λ _. replicate 32 0 };
-
-    fn hash(&self, _parts: &[&[u8]]) -> [u8; 32] {
-        [0; 32]
-    }
-
-    ghost length_digest = { λ _. length-replicate {A = ℕ} 32 0 };
-}
-
-// A leaf of one byte for each byte.
-fn leaves_of(alloc: Global, bytes: &[u8]) -> Result<Vec<Vec<u8>>, AllocError> {
-    let mut leaves = Vec::new(alloc);
-    for byte in bytes {
-        leaves.push(vec![in alloc; *byte]?)?;
-    }
-    Ok(leaves)
-}
-
 fn head(tree_size: u64, timestamp: u64, root: [u8; 32]) -> Head {
     Head {
         tree_size,
@@ -82,27 +56,6 @@ fn is_at(monitor: &Monitor<Sha256Hash>, bytes: &[u8], last: Head) -> bool {
         }
     }
     true
-}
-
-fn is_holding(answer: &Result<Evidence, EvidenceFault>) -> bool {
-    match answer {
-        Ok(Evidence::Holds) => true,
-        _ => false,
-    }
-}
-
-fn is_collision_of(answer: &Result<Evidence, EvidenceFault>, first: &[u8], second: &[u8]) -> bool {
-    match answer {
-        Ok(Evidence::Collision(a, b)) => a.as_slice() == first && b.as_slice() == second,
-        _ => false,
-    }
-}
-
-fn is_refused_with(answer: &Result<Evidence, EvidenceFault>, fault: ProofFault) -> bool {
-    match answer {
-        Err(EvidenceFault::ProofRefused(refusal)) => *refusal == fault,
-        _ => false,
-    }
 }
 
 #[test]

@@ -1,7 +1,6 @@
-use crate::leaf_table::LeafTable;
-use crate::test_log::{opened, publish, receipt, record, settle, settle_submission, submission};
-use crate::{Core, Published};
+use crate::settled_log::{opened, publish, receipt, record, settle, settle_submission};
 use ct_codec::{Refusal, Submission, extra_data, identity};
+use ct_core::{Core, LeafTable, Published};
 use ct_tree::Head;
 use std::test::Fail;
 

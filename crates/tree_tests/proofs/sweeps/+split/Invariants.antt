@@ -1,4 +1,4 @@
-use Rattle.ct_verify.proofs.sweep_tests.+split.Given as goal
+use Rattle.tree_tests.proofs.sweeps.+split.Given as goal
 
 abbrev pub decreases-split : goal.decreases-split
 decreases-split l = l.n

@@ -1,47 +1,19 @@
-ghost use Rattle.std.specs.Prelude.{◌≡◌, IfOk};
-ghost use Rattle.ct_core.specs.Leaf.{leaf_at};
-ghost use Rattle.ct_core.specs.Tree.{hash_leaf};
-
-use super::*;
-use ct_codec::{Item, Refusal, Submission, leaf_input};
+use crate::settled_log::{publish, settle};
+use ct_codec::Refusal;
 use ct_core::{Core, Published};
-use ct_tree::{Sha256Hash, leaf_hash};
+use ct_lines::{ServeFault, serve_frozen};
 use std::io;
 use std::io::{ErrorKind, Read, Write};
 use std::test::*;
 
-// The hash of the submission's leaf at that moment.
-#[tactic(auto, unfolding(ct_core::specs::Leaf::leaf_at, ct_core::specs::Tree::hash_leaf))]
-fn hashed(rt: &HostRuntime, submission: &Submission, now: u64) -> Result<[u8; 32], Refusal>
-    ensures { IfOk result (λ h. h ≡ hash_leaf (leaf_at submission.now now)) }
-{
-    let leaf = leaf_input(rt.alloc(), submission, now)?;
-    Ok(leaf_hash(&Sha256Hash, &leaf))
-}
-
-// Settles the certificate of the one byte 41 at that moment.
-fn settle(rt: &HostRuntime, core: &mut Core, ticket: u64, now: u64) -> Result<(), Refusal> {
-    let certificate = Vec::from_slice(rt.alloc(), b"A")?;
-    let submission = Submission::x509(vec![in rt.alloc(); certificate]?)?;
-    let hash = hashed(rt, &submission, now)?;
-    let item = Item {
-        front: 0,
-        ticket,
-        submission,
-    };
-    match core.settle_one(rt.alloc(), item, hash, now) {
-        Ok(_) => Ok(()),
-        Err((refusal, _)) => Err(refusal),
-    }
-}
-
-// A log opened at 0, in which that certificate was settled so often at one moment, and which was closed at another.
+// A log opened at 0, in which the certificate of the one byte 41 was settled so often at one moment, and which was closed
+// at another.
 fn closed_log(rt: &HostRuntime, count: u64, now: u64, close_at: u64) -> Result<Core, Refusal> {
     let mut core = Core::open(rt.alloc(), 0)?;
     for ticket in 0..count {
-        settle(rt, &mut core, ticket, now)?;
+        settle(rt, &mut core, (0, ticket), b"A", now)?;
     }
-    core.publish(rt.alloc(), close_at)?;
+    publish(rt, &mut core, close_at)?;
     Ok(core)
 }
 

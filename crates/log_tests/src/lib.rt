@@ -1,0 +1,15 @@
+//! Tests of `ct_codec`, `ct_core` and `ct_lines`, in a crate of their own so that each of those crates is proved once.
+#![tactic(auto)]
+
+#[cfg(test)]
+mod core_answers;
+#[cfg(test)]
+mod core_log;
+#[cfg(test)]
+mod request_lines;
+#[cfg(test)]
+mod serving;
+#[cfg(test)]
+mod settled_log;
+#[cfg(test)]
+mod submissions;

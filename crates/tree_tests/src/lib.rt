@@ -1,0 +1,15 @@
+//! Tests of `ct_tree`, `ct_verify` and `ct_monitor`, in a crate of their own so that each of those crates is proved once.
+#![tactic(auto)]
+
+#[cfg(test)]
+mod evidence;
+#[cfg(test)]
+mod monitor;
+#[cfg(test)]
+mod sweeps;
+#[cfg(test)]
+mod tree;
+#[cfg(test)]
+mod verifiers;
+#[cfg(test)]
+mod weak_hashes;
