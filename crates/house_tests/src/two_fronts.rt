@@ -64,6 +64,10 @@ type Answer = Result<u64, Refusal>;
 enum Call {
     // Front, and the byte that is the certificate.
     Submit(u16, u8),
+    // To front 0, so many certificates, which are the two bytes of 0, of 1 and so on: answers how many it accepts.
+    SubmitNumbers(u16),
+    // To front 0, so many certificates, which are 2,000 bytes 0, 2,000 bytes 1 and so on: answers how many it accepts.
+    SubmitLarge(u8),
     // Front, number of items at most, moment.
     Take(u16, u32, u64),
     // Moment.
@@ -141,6 +145,24 @@ impl TwoFronts {
         }
     }
 
+    fn submit_numbers(&mut self, count: u16) -> u16 {
+        for number in 0..count {
+            if self.ticket(0, &number.to_be_bytes()).is_err() {
+                return number;
+            }
+        }
+        count
+    }
+
+    fn submit_large(&mut self, count: u8) -> u8 {
+        for number in 0..count {
+            if self.ticket(0, &[number; 2000]).is_err() {
+                return number;
+            }
+        }
+        count
+    }
+
     // The refusal, with the identity of the submission that is handed back.
     fn refused(&mut self, front: u16, certificate: &[u8]) -> Result<(Refusal, Vec<u8>), Refusal> {
         match self.submit(front, certificate)? {
@@ -164,6 +186,8 @@ impl TwoFronts {
     fn call<R: Threads + Wait + Sync>(&mut self, rt: &R, call: Call) -> Answer {
         match call {
             Call::Submit(front, certificate) => self.ticket(front, &[certificate]),
+            Call::SubmitNumbers(count) => Ok(u64::from(self.submit_numbers(count))),
+            Call::SubmitLarge(count) => Ok(u64::from(self.submit_large(count))),
             Call::Take(front, max, now) => self.take(rt, front, max, now),
             Call::Publish(now) => Ok(self.publish(rt, now)?.tree_size),
             Call::Size(front) => Ok(self.head(rt, front)?.tree_size),
@@ -309,14 +333,25 @@ impl Closing {
     }
 }
 
-// A house that was opened at this moment, after these calls, each of which has to answer as it should.
+fn head(tree_size: u64, timestamp: u64, root: [u8; 32]) -> Head {
+    Head {
+        tree_size,
+        timestamp,
+        root,
+    }
+}
+
+// A house with rings of this size that was opened at this moment, after these calls, each of which has to answer as it should.
 fn house_after<R: Threads + Wait + Abort + Sync>(
     rt: &R,
     alloc: Global,
+    ring: usize,
     now: u64,
     calls: &[(Call, Answer)],
-) -> Result<TwoFronts, Refusal> {
-    let mut house = TwoFronts::open(alloc, 4, now)?;
+) -> Result<TwoFronts, Refusal>
+    requires { (1 ≤ ring) × (ring ≤ 4096) }
+{
+    let mut house = TwoFronts::open(alloc, ring, now)?;
     assert_eq!(rt; house.calls(rt, calls), calls.len());
     Ok(house)
 }
@@ -329,7 +364,7 @@ fn log_of<R: Threads + Wait + Abort + Sync>(
     calls: &[(Call, Answer)],
     endings: &[(Ending, Answer)],
 ) -> Result<FinalLog, Refusal> {
-    let mut house = house_after(rt, alloc, now, calls)?.retire();
+    let mut house = house_after(rt, alloc, 4, now, calls)?.retire();
     assert_eq!(rt; house.calls(rt, endings), endings.len());
     Ok(house.finish(rt))
 }
@@ -403,12 +438,11 @@ fn two_fronts_with_one_certificate(rt: HostRuntime) -> Result<(), Fail> {
 
 #[test]
 fn a_full_ring_hands_the_submission_back(rt: HostRuntime) -> Result<(), Fail> {
-    let mut house = TwoFronts::open(rt.alloc(), 2, 0)?;
-    let full = [
+    let calls = [
         (Call::Submit(0, b'A'), Ok(0)),
         (Call::Submit(0, b'B'), Ok(1)),
     ];
-    assert_eq!(rt; house.calls(&rt, &full), full.len());
+    let mut house = house_after(&rt, rt.alloc(), 2, 0, &calls)?;
     let (refusal, back) = house.refused(0, b"A")?;
     assert_eq!(rt; refusal, Refusal::Full);
     assert_eq!(rt; back.as_slice(), [0, 0, 0, 0, 1, 0x41].as_slice());
@@ -472,7 +506,7 @@ fn three_heads<R: Threads + Wait + Abort + Sync>(
         (Call::Take(1, 256, 3), Ok(3)),
         (Call::Publish(4), Ok(5)),
     ];
-    house_after(rt, alloc, 0, &calls)
+    house_after(rt, alloc, 4, 0, &calls)
 }
 
 #[test]
@@ -505,22 +539,13 @@ fn proofs_that_are_refused(rt: HostRuntime) -> Result<(), Fail> {
     Ok(())
 }
 
-// A house whose front 0 has accepted 300 certificates, which are the two bytes of 0 to 299.
-fn three_hundred(alloc: Global) -> Result<TwoFronts, Refusal> {
-    let mut house = TwoFronts::open(alloc, 300, 0)?;
-    for number in 0..300u16 {
-        house.ticket(0, &number.to_be_bytes())?;
-    }
-    Ok(house)
-}
-
 // The leaf of the certificate that is the two bytes of 255, at the moment 1.
 const LEAF_255: [u8; 19] = [0, 0, 0, 0, 0, 0, 0, 0, 0, 1, 0, 0, 0, 0, 2, 0, 255, 0, 0];
 
 #[test]
 fn entries_of_three_hundred(rt: HostRuntime) -> Result<(), Fail> {
-    let mut house = three_hundred(rt.alloc())?;
     let calls = [
+        (Call::SubmitNumbers(300), Ok(300)),
         (Call::Take(0, 256, 1), Ok(256)),
         (Call::Take(0, 256, 1), Ok(44)),
         (Call::Publish(1), Ok(300)),
@@ -529,7 +554,7 @@ fn entries_of_three_hundred(rt: HostRuntime) -> Result<(), Fail> {
         (Call::Entries(300, 300), Err(Refusal::BadRange)),
         (Call::Entries(2, 1), Err(Refusal::BadRange)),
     ];
-    assert_eq!(rt; house.calls(&rt, &calls), calls.len());
+    let mut house = house_after(&rt, rt.alloc(), 300, 0, &calls)?;
     let leaf = house.last_leaf(&rt, 0, 999)?;
     assert_eq!(rt; leaf.as_slice(), LEAF_255.as_slice());
     Ok(())
@@ -549,7 +574,7 @@ fn moments_that_the_clock_refuses(rt: HostRuntime) -> Result<(), Fail> {
         (Call::Publish(8), Err(Refusal::ClockBack)),
         (Call::Publish(9), Ok(1)),
     ];
-    house_after(&rt, rt.alloc(), 5, &calls)?;
+    house_after(&rt, rt.alloc(), 4, 5, &calls)?;
     Ok(())
 }
 
@@ -562,30 +587,20 @@ fn a_front_sees_what_was_published(rt: HostRuntime) -> Result<(), Fail> {
         (Call::Publish(4), Ok(1)),
         (Call::Size(1), Ok(1)),
     ];
-    let mut house = house_after(&rt, rt.alloc(), 0, &calls)?;
-    let head = Head {
-        tree_size: 1,
-        timestamp: 4,
-        root: A_AT_3,
-    };
-    assert_eq!(rt; house.head(&rt, 1), Ok(head));
+    let mut house = house_after(&rt, rt.alloc(), 4, 0, &calls)?;
+    assert_eq!(rt; house.head(&rt, 1), Ok(head(1, 4, A_AT_3)));
     Ok(())
-}
-
-// A house whose front 0 has accepted 40 certificates of 2,000 bytes.
-fn forty(alloc: Global) -> Result<TwoFronts, Refusal> {
-    let mut house = TwoFronts::open(alloc, 64, 0)?;
-    for number in 0..40u8 {
-        house.ticket(0, &[number; 2000])?;
-    }
-    Ok(house)
 }
 
 #[test]
 fn many_workers_hash_a_large_batch(rt: HostRuntime) -> Result<(), Fail> {
-    let mut house = forty(rt.alloc())?;
-    assert_eq!(rt; house.take(&rt, 0, 256, 1), Ok(40));
-    assert_eq!(rt; house.publish(&rt, 1)?.root, LARGE);
+    let calls = [
+        (Call::SubmitLarge(40), Ok(40)),
+        (Call::Take(0, 256, 1), Ok(40)),
+        (Call::Publish(1), Ok(40)),
+    ];
+    let mut house = house_after(&rt, rt.alloc(), 64, 0, &calls)?;
+    assert_eq!(rt; house.head(&rt, 0), Ok(head(40, 1, LARGE)));
     Ok(())
 }
 
