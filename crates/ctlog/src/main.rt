@@ -21,8 +21,6 @@ mod fault;
 mod front_work;
 mod operator_work;
 mod party;
-#[cfg(test)]
-mod party_tests;
 mod plan;
 mod program;
 mod replying;

@@ -300,15 +300,40 @@ fn three_fronts_with_one_certificate(rt: HostRuntime) {
     assert_eq!(rt; outcome.output.len(), 3 * 13 + frozen.len());
 }
 
+// With three turns to wait: what is there at once is answered, and what never comes is late.
 #[test]
-fn a_wait_that_is_too_long(rt: HostRuntime) {
+fn waits_that_are_too_long(rt: HostRuntime) {
     let words = ["ctlog", "--fronts", "1", "--ring", "4"];
-    let input = b"{\"who\":0,\"op\":\"await-size\",\"tree_size\":1}\n";
+    let input = b"{\"who\":0,\"op\":\"await-size\",\"tree_size\":0}
+{\"who\":0,\"op\":\"await-size\",\"tree_size\":1}
+{\"who\":\"operator\",\"op\":\"sequence\",\"from\":0,\"count\":0,\"now\":0}
+{\"who\":\"operator\",\"op\":\"sequence\",\"from\":0,\"count\":1,\"now\":1}
+";
+    let output = "{\"reached\":0}
+{\"error\":\"late\"}
+{\"settled\":0}
+{\"error\":\"late\"}
+";
     let outcome = outcome_of(&rt, rt.alloc(), &words, 3, input);
-    assert!(rt; wrote(&outcome, "{\"error\":\"late\"}\n"));
-    let input = b"{\"who\":\"operator\",\"op\":\"sequence\",\"from\":0,\"count\":1,\"now\":1}\n";
-    let outcome = outcome_of(&rt, rt.alloc(), &words, 3, input);
-    assert!(rt; wrote(&outcome, "{\"error\":\"late\"}\n"));
+    assert!(rt; wrote(&outcome, output));
+}
+
+// The clock stands at 0, the moment at which the log was opened, and then at 5. To settle nothing asks for no moment.
+#[test]
+fn moments_that_the_clock_refuses(rt: HostRuntime) {
+    let input = "{\"who\":\"operator\",\"op\":\"publish\",\"now\":0}
+{\"who\":\"operator\",\"op\":\"publish\",\"now\":5}
+{\"who\":\"operator\",\"op\":\"sequence\",\"from\":0,\"count\":1,\"now\":4}
+{\"who\":\"operator\",\"op\":\"sequence\",\"from\":0,\"count\":0,\"now\":4}
+{\"who\":\"operator\",\"op\":\"sequence\",\"from\":1,\"count\":0,\"now\":9}
+";
+    let output = "{\"error\":\"clock-back\"}
+{\"timestamp\":5,\"tree_size\":0}
+{\"error\":\"clock-back\"}
+{\"settled\":0}
+{\"error\":\"bad-line\"}
+";
+    assert!(rt; writes(&rt, rt.alloc(), "4", input, output));
 }
 
 #[test]
