@@ -1,4 +1,4 @@
-ghost use Rattle.std.specs.Prelude.{◌≡◌, ◌<◌, ◌≤◌, length, All};
+ghost use Rattle.std.specs.Prelude.{◌≡◌, ◌≤◌, length, All};
 ghost use Rattle.ct_house.specs.House.{IsOfHouse};
 
 use crate::common::{closed, head_of, submission};
