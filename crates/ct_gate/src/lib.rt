@@ -63,6 +63,3 @@ pub use intake::Intake;
 pub use open::open_gate;
 pub use outlet::Outlet;
 pub use shutter::Shutter;
-
-#[cfg(test)]
-mod tests;

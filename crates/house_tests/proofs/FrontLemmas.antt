@@ -1,5 +1,5 @@
--- Fronts of one house, seen together.
-use Rattle.std.proofs.Common.{◌≡◌, ℕ, zero, suc, ◌<◌, List, [], ◌∷◌, length, refl, sym, ap, ◌∙◌, subst, arith}
+-- Fronts of one house, seen together, and those of a list of two.
+use Rattle.std.proofs.Common.{◌≡◌, ℕ, zero, suc, ◌<◌, List, [], ◌∷◌, ◌++◌, length, refl, sym, ap, ◌∙◌, subst, arith, length-append}
 use Rattle.std.proofs.lemmas.List.{length-replicate}
 use Rattle.std.proofs.lemmas.Option.{get_or_from_slice_get}
 use Rattle.std.specs.Prelude.{All, Some, slice_get, slice_index_or}
@@ -34,3 +34,8 @@ pub still_of_house : {X : Type 0} (f : X → FrontView) (a b : HouseName) (old n
 still_of_house f a b old new e count same all k d below =
     let within : k < length old = omega arith in
     same_front a b (f (slice_index_or old k d)) (f (slice_index_or new k d)) e (same k d within) (all k d within)
+
+-- a list of two whose last two elements were taken off
+pub two_last : {X : Type 0} (l l1 l2 : List X) (last first : X) → length l ≡ 2 → l ≡ l1 ++ last ∷ [] → l1 ≡ l2 ++ first ∷ [] → l ≡ first ∷ last ∷ []
+two_last {X} l l1 [] last first two e f = e ∙ ap (λ (m : List X). m ++ last ∷ []) f
+two_last {X} l l1 (x ∷ xs) last first two e f = absurd (omega (arith, ap length e, ap length f, length-append l1 (last ∷ []), length-append xs (first ∷ [])))

@@ -1,11 +1,14 @@
-//! The tests of `ct_house`, in a crate of their own so that the house is proved once.
+//! Tests of `ct_gate` and `ct_house`, in a crate of their own so that each of those crates is proved once.
 //!
-//! `two_fronts` makes the calls of small logs in one thread, step by step, and compares each answer. `sixteen_fronts` runs sixteen
-//! fronts in threads of their own beside a sequencer that takes, publishes and shuts the house in the middle.
+//! `gate` opens a gate of two fronts, and sends, receives and shuts. `two_fronts` makes the calls of small logs in one thread, step by
+//! step, and compares each answer. `sixteen_fronts` runs sixteen fronts in threads of their own beside a sequencer that takes,
+//! publishes and shuts the house in the middle.
 #![tactic(auto)]
 
 #[cfg(test)]
 mod common;
+#[cfg(test)]
+mod gate;
 #[cfg(test)]
 mod sixteen_fronts;
 #[cfg(test)]

@@ -1,12 +1,8 @@
-use Rattle.std.proofs.Common.{◌≡◌, ℕ, [], ◌∷◌, ◌++◌, List, length, refl, ap, ◌∙◌, subst, arith, length-append}
+use Rattle.std.proofs.Common.{◌≡◌, ℕ, List, length, refl, ap, subst}
 use Rattle.std.specs.Prelude.{Some, slice_get}
 use Rattle.ct_house.specs.House.{FrontView, IsFreshFront}
+use Rattle.house_tests.proofs.FrontLemmas.{two_last}
 use Rattle.house_tests.proofs.two_fronts.TwoFronts.open.Goals as goal
-
--- a list of two whose last two elements were taken off
-two_last : {X : Type 0} (l l1 l2 : List X) (last first : X) → length l ≡ 2 → l ≡ l1 ++ last ∷ [] → l1 ≡ l2 ++ first ∷ [] → l ≡ first ∷ last ∷ []
-two_last {X} l l1 [] last first two e f = e ∙ ap (λ (m : List X). m ++ last ∷ []) f
-two_last {X} l l1 (x ∷ xs) last first two e f = absurd (omega (arith, ap length e, ap length f, length-append l1 (last ∷ []), length-append xs (first ∷ [])))
 
 pub invariant_of-result : goal.invariant_of-result
 invariant_of-result c =

@@ -1,23 +1,15 @@
 ghost use Rattle.std.specs.Prelude.{◌≡◌};
 ghost use Rattle.ct_gate.specs.Ends.{AreEnds};
 
-use crate::{Intake, Outlet, Shutter, close_gate, open_gate};
+use crate::common::submission;
 use ct_codec::{Item, Refusal, Submission, identity};
+use ct_gate::{Intake, Outlet, Shutter, close_gate, open_gate};
 use std::alloc::Global;
 use std::sync::Wait;
 use std::test::Fail;
 use std::thread;
 
-// The submission of a chain with one certificate of one byte.
-fn submission(alloc: Global, byte: u8) -> Result<Submission, Refusal> {
-    let mut certificate = Vec::new(alloc);
-    certificate.push(byte)?;
-    let mut chain = Vec::new(alloc);
-    chain.push(certificate)?;
-    Submission::x509(chain)
-}
-
-// The byte of such a submission: the last of its identity, `00 00 00 00 01` and the certificate.
+// The byte of a submission of one certificate of one byte: the last of its identity, `00 00 00 00 01` and the certificate.
 fn byte_of(alloc: Global, submission: &Submission) -> Result<Option<u8>, Refusal> {
     Ok(identity(alloc, submission)?.last().copied())
 }
@@ -60,7 +52,7 @@ impl TwoFronts {
         alloc: Global,
         byte: u8,
     ) -> Result<Result<u64, (Refusal, Option<u8>)>, Refusal> {
-        let submission = submission(alloc, byte)?;
+        let submission = submission(alloc, &[byte])?;
         let sent = match front {
             0 => self.zero.send(submission),
             _ => self.one.send(submission),
@@ -151,7 +143,7 @@ fn two_fronts_and_a_shutdown(rt: HostRuntime) -> Result<(), Fail> {
 fn send_all(alloc: Global, mut intake: Intake, count: u32) -> Result<u64, Refusal> {
     let mut accepted = 0u64;
     for _ in 0..count {
-        match intake.send(submission(alloc, 0x41)?) {
+        match intake.send(submission(alloc, &[0x41])?) {
             Ok(_) => accepted = accepted.saturating_add(1),
             Err((Refusal::Shutdown, _)) => {}
             Err((refusal, _)) => return Err(refusal),
@@ -241,8 +233,8 @@ fn a_full_ring_takes_again_after_a_take(rt: HostRuntime) -> Result<(), Fail> {
         panic!(rt; "one front")
     };
     for round in 0..100u64 {
-        assert_eq!(rt; intake.send(submission(alloc, 0x41)?).ok(), Some(round));
-        let refused = intake.send(submission(alloc, 0x42)?).err();
+        assert_eq!(rt; intake.send(submission(alloc, &[0x41])?).ok(), Some(round));
+        let refused = intake.send(submission(alloc, &[0x42])?).err();
         assert_eq!(rt; refused.map(|(refusal, _)| refusal), Some(Refusal::Full));
         assert_eq!(rt; outlet.take().map(|item| item.ticket), Some(round));
         assert!(rt; outlet.take().is_none());

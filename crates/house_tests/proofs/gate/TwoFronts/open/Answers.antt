@@ -1,11 +1,7 @@
-use Rattle.std.proofs.Common.{◌≡◌, [], ◌∷◌, ◌++◌, List, length, refl, ap, ◌∙◌, subst₂, arith, length-append}
+use Rattle.std.proofs.Common.{refl, subst₂}
+use Rattle.house_tests.proofs.FrontLemmas.{two_last}
 use Rattle.ct_gate.specs.Opening.{AreNewFronts}
-use Rattle.ct_gate.proofs.tests.TwoFronts.open.Goals as goal
-
--- a list of two whose last two elements were taken off
-two_last : {X : Type 0} (l l1 l2 : List X) (last first : X) → length l ≡ 2 → l ≡ l1 ++ last ∷ [] → l1 ≡ l2 ++ first ∷ [] → l ≡ first ∷ last ∷ []
-two_last {X} l l1 [] last first two e f = e ∙ ap (λ (m : List X). m ++ last ∷ []) f
-two_last {X} l l1 (x ∷ xs) last first two e f = absurd (omega (arith, ap length e, ap length f, length-append l1 (last ∷ []), length-append xs (first ∷ [])))
+use Rattle.house_tests.proofs.gate.TwoFronts.open.Goals as goal
 
 pub invariant_of-result : goal.invariant_of-result
 invariant_of-result c =
