@@ -1,6 +1,6 @@
 -- The fronts of a house, before and after they did their tasks.
-use Rattle.std.proofs.Common.{◌≡◌, ◌<◌, ◌+◌, ℕ, List, [], ◌∷◌, ◌++◌, length, map, refl, sym, ap, subst, ◌∙◌, arith, Vec, Global, get_or}
-use Rattle.std.specs.Prelude.{Option, Some, All, slice_get}
+use Rattle.std.proofs.Common.{◌≡◌, ◌<◌, ◌+◌, ℕ, List, length, map, sym, ap, subst, ◌∙◌, arith, Vec, Global, get_or}
+use Rattle.std.specs.Prelude.{Some, All, slice_get}
 use Rattle.std.specs.Option.{option_map}
 use Rattle.std.specs.List.{range_with_len}
 use Rattle.std.proofs.lemmas.List.{same_lists, length-map, get_or-map, length-replicate}

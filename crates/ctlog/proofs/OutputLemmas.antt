@@ -1,9 +1,8 @@
 -- What was written, piece by piece.
-use Rattle.std.proofs.Common.{◌≡◌, ◌⊎◌, ◌<◌, ◌≤◌, ℕ, List, [], ◌∷◌, ◌++◌, length, refl, sym, ap, subst, ◌∙◌, append-nil, inl, inr}
+use Rattle.std.proofs.Common.{◌≡◌, ◌⊎◌, ℕ, List, [], ◌++◌, refl, sym, ap, subst, ◌∙◌, append-nil, inl, inr}
 use Rattle.std.specs.Prelude.{Option, Some, None, IfSome, Result, Ok, Err, OnErr, OnOk, IsErrOf, IfErr}
 use Rattle.std.specs.Io.KnownBytes.{Appends, Keeps, Consumes, IsAtEnd}
 use Rattle.ct_codec.specs.declared.item.Item.{Item}
-use Rattle.ct_tree.specs.declared.head.Head.{Head}
 use Rattle.ct_core.specs.Settlement.{Log, IsFinal}
 use Rattle.ct_house.specs.House.{HouseState, FrontView, accepted_lists}
 use Rattle.ct_house.specs.Sequence.{Sequences}
@@ -18,13 +17,12 @@ use Rattle.std.proofs.lemmas.Result.{IfErr-at_err}
 use Rattle.ctlog.specs.ClosedLog.{EndsAt}
 use Rattle.ctlog.specs.Lines.{lines_of}
 use Rattle.ctlog.specs.OperatorWork.{GoesOn}
-use Rattle.ctlog.specs.Output.{AreTasksOf, AreGiven, AreServed, IsClosed, SomeReplies, WritesAll, WritesParties, WritesSome}
+use Rattle.ctlog.specs.Output.{AreTasksOf, AreGiven, IsClosed, SomeReplies, WritesAll, WritesSome}
 use Rattle.ctlog.specs.Plans.{IsPlanOf}
 use Rattle.ctlog.specs.Parties.{PartiesServe, IsPartyFault}
 use Rattle.ctlog.specs.Sends.{SendsSome}
 use Rattle.ctlog.specs.Tasks.{Task, AllAskFor}
 use Rattle.std.proofs.KnownBytes.{Appends-nil, Appends-trans, Appends-kept}
-use Rattle.ctlog.proofs.Sent.{sends_all}
 
 -- the tasks of the bytes that were read are those of the input
 pub tasks_read : (n : ℕ) (input : Option (List ℕ)) (bytes : List ℕ) (ts : List Task) → IfSome input (λ xs. bytes ≡ [] ++ xs) → AllAskFor n (lines_of bytes) ts → AreTasksOf n input ts

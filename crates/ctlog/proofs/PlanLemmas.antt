@@ -1,6 +1,6 @@
 -- A plan, task by task.
 use Rattle.std.proofs.Common.{◌≡◌, ◌≢◌, ◌<◌, ℕ, zero, suc, List, [], ◌∷◌, ◌++◌, length, map, set, refl, sym, ap, subst, ◌∙◌, arith, inl, inr, append-nil, get_or, Vec, Global, true, false}
-use Rattle.std.specs.Prelude.{Option, Some, None, slice_get, nat_eq}
+use Rattle.std.specs.Prelude.{Some, slice_get, nat_eq}
 use Rattle.std.specs.List.{filter_map}
 use Rattle.std.specs.Vec.{with_item}
 use Rattle.std.proofs.lemmas.List.{map-append}

@@ -5,7 +5,7 @@ use Rattle.ct_codec.specs.declared.refusal.Refusal.{Refusal}
 use Rattle.ct_codec.specs.declared.refusal.Refusal.TheVariants.{ClockBack, Memory}
 use Rattle.ct_tree.specs.declared.head.Head.{Head}
 use Rattle.ct_core.specs.Settlement.{Log}
-use Rattle.ct_core.specs.Core.{CoreState, IsCovered, Begins, clock_of, last_moment}
+use Rattle.ct_core.specs.Core.{CoreState, IsCovered, clock_of, last_moment}
 use Rattle.ct_house.specs.Sequence.{Sequences}
 use Rattle.ct_house.specs.House.{HouseState, FrontView, IsAllSettled}
 

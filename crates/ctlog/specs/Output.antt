@@ -2,7 +2,6 @@
 use Rattle.std.specs.Prelude.{◌≡◌, ◌⊎◌, ◌<◌, ◌≤◌, ℕ, List, [], ◌∷◌, ◌++◌, map, slice_get, Option, Some, IfSome, Vec}
 use Rattle.std.specs.Global.{Global}
 use Rattle.std.specs.Io.KnownBytes.{Appends}
-use Rattle.ct_codec.specs.declared.item.Item.{Item}
 use Rattle.ct_tree.specs.declared.head.Head.{Head}
 use Rattle.ct_core.specs.Core.{Begins}
 use Rattle.ct_core.specs.Settlement.{Log, IsFinal}

@@ -1,5 +1,5 @@
 -- What the lines have the program do.
-use Rattle.std.specs.Prelude.{◌≡◌, ◌<◌, ℕ, List, [], ◌∷◌, ◌++◌, Option, Some, None, map, nat_lt, nat_eq, ◌⊎◌, if◌then◌else◌}
+use Rattle.std.specs.Prelude.{◌≡◌, ◌<◌, ℕ, List, [], ◌∷◌, ◌++◌, Option, Some, None, nat_lt, nat_eq, ◌⊎◌, if◌then◌else◌}
 use Rattle.std.specs.List.{filter_map, flat_map}
 use Rattle.ct_lines.specs.Asked.{Asked, by_front, by_operator, by_frozen, FrontAsked, OperatorAsked, sequence, publish, shutdown, IsRequest}
 use Rattle.ctlog.specs.declared.task.OperatorTask.{OperatorTask}

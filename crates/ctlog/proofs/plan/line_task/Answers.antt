@@ -1,4 +1,4 @@
-use Rattle.std.proofs.Common.{◌≡◌, refl, inr, ap, Err}
+use Rattle.std.proofs.Common.{refl, inr, ap, Err}
 use Rattle.ctlog.proofs.plan.line_task.Goals as goal
 
 pub returns-in-Err-BadLine-clause-asked : goal.returns-in-Err-BadLine-clause-asked

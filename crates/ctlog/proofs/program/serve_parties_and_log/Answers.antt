@@ -1,12 +1,11 @@
-use Rattle.std.proofs.Common.{◌≡◌, ◌⊎◌, List, ℕ, ap, subst, sym, ◌∙◌}
-use Rattle.std.specs.Prelude.{Err, IfErr}
+use Rattle.std.proofs.Common.{◌≡◌, ◌⊎◌, List, ℕ, subst}
 use Rattle.std.specs.Io.KnownBytes.{Appends}
 use Rattle.std.proofs.lemmas.Result.{on_ok_weaker, on_err_weaker}
 use Rattle.ct_core.specs.Settlement.{Log}
 use Rattle.ct_lines.specs.Frozen.{frozen_text}
 use Rattle.ctlog.specs.declared.fault.Fault.{Fault}
-use Rattle.ctlog.specs.declared.fault.Fault.TheVariants.{ClockBack, Read, Write, Memory}
-use Rattle.ctlog.specs.Output.{fronts_of, SomeReplies, IsClosed}
+use Rattle.ctlog.specs.declared.fault.Fault.TheVariants.{Read, Write, Memory}
+use Rattle.ctlog.specs.Output.{fronts_of, SomeReplies}
 use Rattle.ctlog.specs.Sends.{SendsSome}
 use Rattle.ctlog.proofs.HouseLemmas.{went_of_house, went_in_order}
 use Rattle.ctlog.proofs.Sent.{sends_all}

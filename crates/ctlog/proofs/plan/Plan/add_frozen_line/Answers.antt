@@ -1,4 +1,4 @@
-use Rattle.std.proofs.Common.{◌≡◌, ◌++◌, [], ◌∷◌, ap, ◌∙◌, append_assoc, List, ℕ}
+use Rattle.std.proofs.Common.{◌++◌, [], ◌∷◌, ap, ◌∙◌, append_assoc, List, ℕ}
 use Rattle.ctlog.proofs.PlanLemmas.{frozen_added}
 use Rattle.ctlog.proofs.plan.Plan.add_frozen_line.Goals as goal
 
