@@ -33,10 +33,6 @@ refused_set [] id v w e = absurd (some-ne-none v (sym e))
 refused_set (u ∷ us) zero v w e = omega (arith, ap (λ (y : SeatView). y.refused) (some-injective u v e))
 refused_set (u ∷ us) (suc id) v w e = omega (arith, refused_set us id v w e)
 
-pub refused_snoc : (views : List SeatView) (v : SeatView) → refused_draws (views ++ v ∷ []) ≡ refused_draws views + v.refused
-refused_snoc [] v = omega arith
-refused_snoc (u ∷ us) v = omega (arith, refused_snoc us v)
-
 pub each_set : (P : ℕ → SeatView → Type 0) (views : List SeatView) (id : ℕ) (w : SeatView) → ((j : ℕ) (u : SeatView) → j ≢ id → get_elem? views j ≡ some u → P j u) → P id w → EachView P (set views id w)
 each_set P views id w others mine j u e =
     ⊎_elim

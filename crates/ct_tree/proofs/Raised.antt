@@ -106,11 +106,6 @@ module _ (H : List ℕ → List ℕ) where
 pub pow_more : (j : ℕ) → 2 ^ (j + 1) ≡ 2 * 2 ^ j
 pow_more j = rw add-one (omega (arith, pow-suc 2 j))
 
-pub pow_less : (j : ℕ) → 0 < j → 2 ^ j ≡ 2 * 2 ^ (j - 1)
-pow_less j h =
-    let e : j - 1 + 1 ≡ j = omega arith in
-    rw e at (pow_more (j - 1))
-
 inside_at : (q r n p : ℕ) → (2 * q + r + 1) * p < n + p → (q + 1) * (2 * p) < n + 2 * p
 inside_at q r n p h = omega arith
 
@@ -119,23 +114,6 @@ inside_up l n j h =
     let e : l ≡ 2 * (l / 2) + l % 2 = omega arith in
     let k : (2 * (l / 2) + l % 2 + 1) * 2 ^ j < n + 2 ^ j = subst (λ (u : ℕ). (u + 1) * 2 ^ j < n + 2 ^ j) e h in
     rw (pow_more j) (inside_at (l / 2) (l % 2) n (2 ^ j) k)
-
-pub left_inside : (i n j : ℕ) → 0 < j → (i + 1) * 2 ^ j ≤ n → (2 * i + 1) * 2 ^ (j - 1) ≤ n
-left_inside i n j z h = left_at i n (2 ^ (j - 1)) (rw (pow_less j z) at h)
-  where
-    left_at : (i n p : ℕ) → (i + 1) * (2 * p) ≤ n → (2 * i + 1) * p ≤ n
-    left_at i n p h = omega arith
-
-pub right_inside : (i n j : ℕ) → 0 < j → (i + 1) * 2 ^ j ≤ n → (2 * i + 1 + 1) * 2 ^ (j - 1) ≤ n
-right_inside i n j z h = right_at i n (2 ^ (j - 1)) (rw (pow_less j z) at h)
-  where
-    right_at : (i n p : ℕ) → (i + 1) * (2 * p) ≤ n → (2 * i + 1 + 1) * p ≤ n
-    right_at i n p h = omega arith
-
-pub subtree-more : (H : List ℕ → List ℕ) (j i : ℕ) (D : List (List ℕ)) → 0 < j → subtree H j i D ≡ hash_node H (subtree H (j - 1) (2 * i) D) (subtree H (j - 1) (2 * i + 1) D)
-unfolding subtree
-subtree-more H zero i D h = absurd (omega arith)
-subtree-more H (suc j) i D h = let e : suc j - 1 ≡ j = omega arith in rw e refl
 
 pub subtree-zero : (H : List ℕ → List ℕ) (j i : ℕ) (D : List (List ℕ)) → j ≡ 0 → subtree H j i D ≡ get_or D i []
 unfolding subtree

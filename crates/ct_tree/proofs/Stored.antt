@@ -82,13 +82,6 @@ leaves_of-none = refl
 twice_suc : (j : ℕ) → 2 * suc j ≡ suc (suc (2 * j))
 twice_suc j = omega arith
 
-pub length-leaves_of : (n : ℕ) (nodes : List (List ℕ)) → length nodes ≡ 2 * n → length (leaves_of nodes) ≡ n
-unfolding leaves_of
-length-leaves_of n [] e = omega arith
-length-leaves_of n (x ∷ []) e = absurd (omega arith)
-length-leaves_of zero (x ∷ y ∷ nodes) e = absurd (omega arith)
-length-leaves_of (suc n) (x ∷ y ∷ nodes) e = ap suc (length-leaves_of n nodes (omega arith))
-
 leaves_of-push : (n : ℕ) (nodes : List (List ℕ)) (x y : List ℕ) → length nodes ≡ 2 * n → leaves_of (nodes ++ x ∷ y ∷ []) ≡ leaves_of nodes ++ x ∷ []
 unfolding leaves_of
 leaves_of-push n [] x y e = refl

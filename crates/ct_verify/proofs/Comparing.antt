@@ -1,8 +1,5 @@
 -- What the comparison of a path with a list of leaves finds, one level up.
-use Rattle.std.proofs.Common.{refl, ◌≡◌, ℕ, ◌+◌, ◌-◌, ◌<◌, ◌≤◌, sym, ◌∙◌, ap, arith, List, reverse, [], ◌∷◌, ◌++◌, length, take, drop, get_or, map, Option, Some, None, true, false, length-drop, ⊎_elim}
-use Rattle.std.specs.Str.{bytes_eq}
-use Rattle.std.proofs.lemmas.Bool.{cases_Bool, cond-true, cond-false}
-use Rattle.std.proofs.lemmas.Slice.Eq.{bytes_eq-Decides}
+use Rattle.std.proofs.Common.{refl, ◌≡◌, ℕ, ◌+◌, ◌-◌, ◌<◌, ◌≤◌, sym, ◌∙◌, ap, arith, List, reverse, [], ◌∷◌, ◌++◌, length, take, drop, get_or, map, Option, Some, None, length-drop}
 use Rattle.std.proofs.lemmas.List.{length-map, take-map, drop-map, take_rest, get_or-take, get_or-drop, length-take-le}
 use Rattle.ct_tree.proofs.Split.{split_lt}
 use Rattle.ct_tree.specs.Tree.{split, hash_leaf, hash_node, mth_of_leaves}
@@ -12,16 +9,6 @@ use Rattle.ct_verify.proofs.RebuildLaws.{rebuild-left, rebuild-right}
 use Rattle.ct_verify.proofs.Shown.{tail_same, parts, evid_left, evid_right, evid_leaf}
 use Rattle.ct_verify.specs.Rebuild.{rebuild, rebuild_down}
 use Rattle.ct_verify.specs.Evidence.{compared, evid}
-
--- ---- two strings
-pub equal_strings : (x y : List ℕ) (below : Option (List ℕ × List ℕ)) → x ≡ y → compared x y below ≡ below
-equal_strings x y below e = cond-true (bytes_eq x y) below (Some (x, y)) ((bytes_eq-Decides x y).1 e)
-
-pub other_strings : (x y : List ℕ) (below : Option (List ℕ × List ℕ)) → (x ≡ y → ⊥) → compared x y below ≡ Some (x, y)
-other_strings x y below differ =
-    ⊎_elim (λ (t : bytes_eq x y ≡ true). absurd (differ ((bytes_eq-Decides x y).0 t)))
-    (λ (f : bytes_eq x y ≡ false). cond-false (bytes_eq x y) below (Some (x, y)) f)
-    (cases_Bool (bytes_eq x y))
 
 pub same_parts : (n : ℕ) (a b c d : List ℕ) → length a ≡ n → length c ≡ n → 1 ∷ a ++ b ≡ 1 ∷ c ++ d → (a ≡ c) × (b ≡ d)
 same_parts n a b c d l m e = parts a c b d (l ∙ sym m) (tail_same 1 1 (a ++ b) (c ++ d) e)

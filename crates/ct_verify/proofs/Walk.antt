@@ -20,9 +20,6 @@ pub lifted_inside : (a b n l : ℕ) → Lifted a b n l → a ≤ b → n ≤ l
 lifted_inside a b n l here h = h
 lifted_inside a b n l (above n' l' w e s m) h = omega arith
 
-pub lifted_positive : (a b n l : ℕ) → Lifted a b n l → 0 < b → n % 2 ≡ 1 → n ≤ l → 0 < l
-lifted_positive a b n l w h o i = omega arith
-
 pub lifted_rebuild : (H : List ℕ → List ℕ) (x : List ℕ) (p : List (List ℕ)) (a b n l : ℕ) → Lifted a b n l
     → rebuild H a (b + 1) x p ≡ rebuild H n (l + 1) x p
 lifted_rebuild H x p a b n l here = refl

@@ -23,9 +23,6 @@ use Rattle.ctlog.proofs.PartyLemmas.{are_of_house, same_numbers}
 pub lanes_of_new : (s : HouseState) (fronts : List FrontView) (n places now : ℕ) → IsNewHouse s fronts n places now → length s.lanes ≡ n
 lanes_of_new s fronts n places now i = ap length i.lanes ∙ length-replicate n empty_lane
 
-pub counted_new : (s : HouseState) (fronts : List FrontView) (n places now count : ℕ) → IsNewHouse s fronts n places now → count ≡ length fronts → count ≡ length s.lanes
-counted_new s fronts n places now count i e = e ∙ i.count ∙ sym (lanes_of_new s fronts n places now i)
-
 -- the fronts of a new house are of it
 pub new_of_house : (s : HouseState) (fronts : List FrontView) (n places now : ℕ) → IsNewHouse s fronts n places now → All (IsOfHouse s.house) fronts
 new_of_house s fronts n places now i k d below = let f = i.each k (get_or fronts k d) (slice_get-get_or fronts k d below) in f.of_house

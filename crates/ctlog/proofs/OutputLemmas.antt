@@ -1,13 +1,12 @@
 -- What was written, piece by piece.
 use Rattle.std.proofs.Common.{◌≡◌, ◌⊎◌, ℕ, List, [], ◌++◌, refl, sym, ap, subst, ◌∙◌, append-nil, inl, inr}
-use Rattle.std.specs.Prelude.{Option, Some, None, IfSome, Result, Ok, Err, OnErr, OnOk, IsErrOf, IfErr}
+use Rattle.std.specs.Prelude.{Option, Some, Result, Ok, Err, OnErr, IsErrOf, IfErr}
 use Rattle.std.specs.Io.KnownBytes.{Appends, Keeps, Consumes, IsAtEnd}
 use Rattle.ct_codec.specs.declared.item.Item.{Item}
 use Rattle.ct_core.specs.Settlement.{Log, IsFinal}
 use Rattle.ct_house.specs.House.{HouseState, FrontView, accepted_lists}
 use Rattle.ct_house.specs.Sequence.{Sequences}
-use Rattle.ct_lines.specs.Frozen.{frozen_replies, frozen_text}
-use Rattle.ct_lines.specs.Serving.{IsCutOff}
+use Rattle.ct_lines.specs.Frozen.{frozen_text}
 use Rattle.ctlog.specs.declared.party.FrontParty.{FrontParty}
 use Rattle.ctlog.specs.declared.party.OperatorParty.{OperatorParty}
 use Rattle.ctlog.specs.declared.fault.Fault.{Fault}
@@ -15,37 +14,18 @@ use Rattle.ctlog.specs.declared.fault.Fault.TheVariants.{ClockBack, Read, Write,
 use Rattle.ctlog.specs.declared.plan.Plan.{Plan}
 use Rattle.std.proofs.lemmas.Result.{IfErr-at_err}
 use Rattle.ctlog.specs.ClosedLog.{EndsAt}
-use Rattle.ctlog.specs.Lines.{lines_of}
 use Rattle.ctlog.specs.OperatorWork.{GoesOn}
-use Rattle.ctlog.specs.Output.{AreTasksOf, AreGiven, IsClosed, SomeReplies, WritesAll, WritesSome}
+use Rattle.ctlog.specs.Output.{AreGiven, IsClosed, SomeReplies, WritesAll, WritesSome}
 use Rattle.ctlog.specs.Plans.{IsPlanOf}
-use Rattle.ctlog.specs.Parties.{PartiesServe, IsPartyFault}
+use Rattle.ctlog.specs.Parties.{PartiesServe}
 use Rattle.ctlog.specs.Sends.{SendsSome}
-use Rattle.ctlog.specs.Tasks.{Task, AllAskFor}
-use Rattle.std.proofs.KnownBytes.{Appends-nil, Appends-trans, Appends-kept}
-
--- the tasks of the bytes that were read are those of the input
-pub tasks_read : (n : ℕ) (input : Option (List ℕ)) (bytes : List ℕ) (ts : List Task) → IfSome input (λ xs. bytes ≡ [] ++ xs) → AllAskFor n (lines_of bytes) ts → AreTasksOf n input ts
-tasks_read n None bytes ts e all = tt
-tasks_read n (Some xs) bytes ts e all = subst (λ (l : List ℕ). AllAskFor n (lines_of l) ts) e all
+use Rattle.ctlog.specs.Tasks.{Task}
+use Rattle.std.proofs.KnownBytes.{Appends-trans, Appends-kept}
 
 -- what holds in any case holds where there is an error, and where there is none
 pub on_err : {T E : Type 0} (r : Result T E) (P : Type 0) → P → OnErr r P
 on_err (Ok x) P p = tt
 on_err (Err e) P p = p
-
-pub on_ok : {T E : Type 0} (r : Result T E) (P : Type 0) → P → OnOk r P
-on_ok (Ok x) P p = p
-on_ok (Err e) P p = tt
-
--- the error of a result that is this error
-error_or : {T E : Type 0} → E → Result T E → E
-error_or d (Ok x) = d
-error_or d (Err e) = e
-
-pub error_is : {T E : Type 0} (e f : E) → IsErrOf {T = T} {E = E} (Err e) f → e ≡ f
-unfolding error_or
-error_is e f h = ap (error_or e) h
 
 -- the log that the closing leaves is closed
 pub log_closed : (old new : HouseState) (after : List FrontView) (close_at accepted : ℕ) (log : Log) → GoesOn old new → Sequences old []
@@ -68,9 +48,6 @@ pub writes_all : (operator : OperatorParty) (parties : List FrontParty) (lines :
 writes_all operator parties lines close_at old mid new sequencer after text log served closed first second =
     (after, text, log, (sequencer, served), closed, Appends-trans old mid new text (frozen_text log lines) first second)
 
-pub writes_none : (operator : OperatorParty) (parties : List FrontParty) (lines : List ℕ) (close_at : ℕ) (same : Option (List ℕ)) → WritesSome operator parties lines close_at same same
-writes_none operator parties lines close_at same = inl (Appends-nil same)
-
 pub writes_first : (operator : OperatorParty) (parties : List FrontParty) (lines : List ℕ) (close_at : ℕ) (old new : Option (List ℕ)) (sequencer : HouseState) (after : List FrontView)
     (text : List ℕ) → PartiesServe operator parties sequencer after text → SendsSome old new text → WritesSome operator parties lines close_at old new
 writes_first operator parties lines close_at old new sequencer after text served s = inr (inl (after, text, (sequencer, served), s))
@@ -90,10 +67,6 @@ pub frozen_all : (log : Log) (lines rest : List ℕ) (old mid new : Option (List
 frozen_all log lines rest old mid new (input, consumed, end, written) k =
     subst (λ (l : List ℕ). Appends old new (frozen_text log l)) (all_read lines rest input consumed end) (Appends-kept old mid new (frozen_text log input) written k)
 
-pub frozen_some : (log : Log) (lines rest : List ℕ) (k : ℕ) (old new : Option (List ℕ)) → (input : List ℕ) × (written : List ℕ) × Consumes (Some lines) (Some rest) input × Appends old new written
-    × IsCutOff (frozen_replies log input) written k → (written : List ℕ) × SomeReplies log lines written × Appends old new written
-frozen_some log lines rest k old new (input, written, consumed, sent, cut) = (written, inr (input, k, (rest, consumed), cut), sent)
-
 pub frozen_whole : (log : Log) (lines : List ℕ) (old new : Option (List ℕ)) → Appends old new (frozen_text log lines) → (written : List ℕ) × SomeReplies log lines written × Appends old new written
 frozen_whole log lines old new sent = (frozen_text log lines, inl refl, sent)
 
@@ -104,22 +77,6 @@ plan_given n p ts i = record { each = i.fronts; operated = i.operator }
 -- a fault of another kind is no refusal of the clock
 pub never_clock_back : {T : Type 0} (r : Result T Fault) (Q : Fault → Type 0) (P : Type 0) → (Q ClockBack → ⊥) → IfErr r Q → IsErrOf r ClockBack → P
 never_clock_back r Q P never q e = absurd (never (IfErr-at_err Q {r = r} {y = ClockBack} e q))
-
--- the fault with which a call ended at a `?` is that of the call
-pub fault_kept : {T : Type 0} (r : Result T Fault) (f : Fault) → r ≡ Err f → IsErrOf r ClockBack → f ≡ ClockBack
-fault_kept r f e h = let same : Err f ≡ Err ClockBack = sym e ∙ h in cc
-
-pub not_party_fault : IsPartyFault ClockBack → ⊥
-not_party_fault h = elim h [ inl e ↦ cc | inr e ↦ cc ]
-
-pub not_write : ClockBack ≡ Write → ⊥
-not_write e = cc
-
-pub not_memory : ClockBack ≡ Memory → ⊥
-not_memory e = cc
-
-pub not_reading_fault : (ClockBack ≡ Read) ⊎ (ClockBack ≡ Memory) → ⊥
-not_reading_fault h = elim h [ inl e ↦ cc | inr e ↦ cc ]
 
 pub not_frozen_fault : (ClockBack ≡ Read) ⊎ ((ClockBack ≡ Write) ⊎ (ClockBack ≡ Memory)) → ⊥
 not_frozen_fault h = elim h [ inl e ↦ cc | inr rest ↦ elim rest [ inl e ↦ cc | inr e ↦ cc ] ]

@@ -1,7 +1,6 @@
 -- What the fronts and the operator leave, one front after the other.
-use Rattle.std.proofs.Common.{◌≡◌, ℕ, suc, List, [], ◌∷◌, ◌++◌, length, map, refl, sym, ap, subst, ◌∙◌, append_assoc, append-nil, arith, length-append, reverse}
+use Rattle.std.proofs.Common.{◌≡◌, ℕ, suc, List, [], ◌∷◌, ◌++◌, length, map, refl, sym, ap, subst, ◌∙◌, append_assoc, append-nil, arith, reverse}
 use Rattle.std.proofs.lemmas.List.Elements.{All-cons}
-use Rattle.std.proofs.lemmas.List.{reverse-append}
 use Rattle.std.specs.Global.{Global}
 use Rattle.std.specs.Prelude.{All, Some, Vec, slice_get}
 use Rattle.ct_gate.specs.Ends.{IntakeView, SameIntake}
@@ -56,19 +55,3 @@ pub record Pairing (fronts left : List FrontView) (tasks own : List (Vec FrontTa
   pub all_fronts : fronts ≡ left ++ map (λ (p : FrontParty). p.front) (reverse parties)
   pub all_tasks : tasks ≡ own ++ map (λ (p : FrontParty). p.tasks) (reverse parties)
   pub count : length own ≡ length left
-
-pub unpaired : (fronts : List FrontView) (tasks : List (Vec FrontTask Global)) → length tasks ≡ length fronts → Pairing fronts fronts tasks tasks []
-unpaired fronts tasks e = record { all_fronts = sym (append-nil fronts); all_tasks = sym (append-nil tasks); count = e }
-
-pub pair_more : (fronts left fewer : List FrontView) (tasks own rest : List (Vec FrontTask Global)) (parties more : List FrontParty) (p : FrontParty) → Pairing fronts left tasks own parties
-    → left ≡ fewer ++ p.front ∷ [] → own ≡ rest ++ p.tasks ∷ [] → more ≡ parties ++ p ∷ [] → Pairing fronts fewer tasks rest more
-pair_more fronts left fewer tasks own rest parties more p i f t m = record {
-  all_fronts = i.all_fronts ∙ ap (λ (l : List FrontView). l ++ map (λ (q : FrontParty). q.front) (reverse parties)) f
-      ∙ append_assoc fewer (p.front ∷ []) (map (λ (q : FrontParty). q.front) (reverse parties)) ∙ ap (λ (l : List FrontParty). fewer ++ map (λ (q : FrontParty). q.front) l) (sym turned);
-  all_tasks = i.all_tasks ∙ ap (λ (l : List (Vec FrontTask Global)). l ++ map (λ (q : FrontParty). q.tasks) (reverse parties)) t
-      ∙ append_assoc rest (p.tasks ∷ []) (map (λ (q : FrontParty). q.tasks) (reverse parties)) ∙ ap (λ (l : List FrontParty). rest ++ map (λ (q : FrontParty). q.tasks) l) (sym turned);
-  count = (let one = ap length f in let two = ap length t in let same = i.count in omega (arith, length-append fewer (p.front ∷ []), length-append rest (p.tasks ∷ [])));
-}
-  where
-    turned : reverse more ≡ p ∷ reverse parties
-    turned = ap reverse m ∙ reverse-append parties (p ∷ [])
