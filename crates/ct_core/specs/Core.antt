@@ -1,11 +1,11 @@
 -- The sequencing core as plain data, its clock, and its steps.
-use Rattle.std.specs.Prelude.{◌≡◌, ℕ, ◌+◌, ◌-◌, ◌<◌, ◌≤◌, max, List, [], ◌∷◌, ◌++◌, length, map, slice_index, nat_lt, ◌||◌, if◌then◌else◌}
+use Rattle.std.specs.Prelude.{◌≡◌, ℕ, ◌+◌, ◌-◌, ◌<◌, ◌≤◌, max, List, [], ◌∷◌, ◌++◌, length, map, slice_index, nat_lt, ◌||◌, if◌then◌else◌, All}
 use Rattle.std.specs.List.Sorted.{IsNonDecreasingBy}
 use Rattle.ct_codec.specs.declared.item.Item.{Item}
 use Rattle.ct_codec.specs.declared.refusal.Refusal.{Refusal}
 use Rattle.ct_codec.specs.declared.refusal.Refusal.TheVariants.{Memory, ClockBack}
 use Rattle.ct_core.specs.declared.settled.Settled.{Settled}
-use Rattle.ct_core.specs.Leaf.{Entry, leaves_of}
+use Rattle.ct_core.specs.Leaf.{Entry, HasText, leaves_of}
 use Rattle.ct_tree.specs.declared.head.Head.{Head}
 use Rattle.ct_core.specs.Tree.{MTH}
 use Rattle.ct_core.specs.Settlement.{Log, Lawful, Settled_as, firsts_after}
@@ -30,6 +30,7 @@ pub record IsCore (core : CoreState) : Type 0 where
   pub settled : (items : List Item) × IsSettled core items
   pub entries : Begins core.published.entries core.entries
   pub settlement : Begins core.published.settlement core.settlement
+  pub texts : All HasText core.entries
   pub never_fall : IsNonDecreasingBy (λ (e : Entry). e.timestamp) core.entries
 
 -- the newest leaf's timestamp, or 0 where there is no leaf
