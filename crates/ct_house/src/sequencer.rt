@@ -1,8 +1,9 @@
 //! The sequencer: what it settles, publishes and closes.
 ghost use Rattle.std.specs.Prelude.{◌≡◌, ◌≢◌, ◌≤◌, ◌<◌, ◌-◌, ◌++◌, ◌↔◌, ℕ, List, [], None, Some, MatchResult, IsTrue, IfOk, IfErr, OnOk, OnErr, ◌⊎◌, All, slice_get, length, map, vec_len, vec_capacity, min};
 ghost use Rattle.ct_core.specs.Core.{clock_of, settle_refusal, IsCovered, IsNextHead, IsInTime, after_publishing, publish_refusal};
-ghost use Rattle.ct_core.specs.Settlement.{IsFinal};
+ghost use Rattle.ct_core.specs.Settlement.{IsFinal, Settled_as};
 ghost use Rattle.ct_codec.specs.declared.item.Item.{Item};
+ghost use Rattle.ct_codec.specs.Items.{Merge};
 ghost use Rattle.ct_house.specs.Sequence.{Takes, Sequences};
 ghost use Rattle.ct_house.specs.House.{FrontView, accepted_lists, hand_count, IsOfHouse, AreInOrder, IsAllSettled, SettlesMore, drained_lane};
 
@@ -53,6 +54,7 @@ impl Sequencer {
     pub fn shutdown(&mut self) -> Result<u64, Refusal>
         ensures same { self.new ≡ record self.old { accepted = self.new.accepted } }
         ensures answer { MatchResult result (λ n. (self.old.accepted ≡ None) × (self.new.accepted ≡ Some n)) (λ r. (r ≡ Refusal.Shutdown) × (self.old.accepted ≢ None) × (self.new ≡ self.old)) }
+        ensures listed { (items : List Item) × Sequences self.old items }
     {
         self.shutter.shut()
     }
@@ -80,6 +82,7 @@ impl Sequencer {
     ) -> Result<u32, Refusal>
         requires limits { (front < length self.old.lanes) × (0 < max) × (max ≤ 256) }
         ensures taken { (xs : List Item) × Takes self.old self.new front xs now × IfOk result (λ c. (c ≡ length xs) × (c ≤ max) × (min max (hand_count self.old front) ≤ c)) }
+        ensures listed { (xs : List Item) → Takes self.old self.new front xs now → SettlesMore self.old self.new xs now }
         ensures in_time { OnOk result (clock_of self.old.core ≤ now) }
         ensures refused { IfErr result (λ e. e ≡ settle_refusal self.old.core now) }
         ensures early { now < clock_of self.old.core → self.new ≡ self.old }
@@ -129,6 +132,7 @@ impl Sequencer {
         ensures all { OnOk result (IsAllSettled self.new ends.old) }
         ensures ends { ends.new ≡ ends.old }
         ensures in_time { OnOk result (clock_of self.old.core ≤ now) }
+        ensures time { clock_of self.old.core ≤ now → clock_of self.new.core ≤ now }
         ensures refused { IfErr result (λ e. ((AreInOrder (length self.old.lanes) ends.old → ⊥) × (e ≡ Refusal.MissingFront)) ⊎ (AreInOrder (length self.old.lanes) ends.old × (e ≡ settle_refusal self.old.core now))) }
         ensures early { OnErr result ((AreInOrder (length self.old.lanes) ends.old × (clock_of self.old.core ≤ now)) ⊎ (self.new ≡ self.old)) }
     {
@@ -215,7 +219,8 @@ impl Sequencer {
         requires settled { IsAllSettled self ends.items }
         requires covered { IsCovered self.core }
         ensures same { (result.log ≡ self.core.published) × (self.accepted ≡ Some result.accepted) }
-        ensures closes { (items : List Item) → Sequences self items → IsFinal (accepted_lists ends.items) result.accepted result.log }
+        ensures closes { IsFinal (accepted_lists ends.items) result.accepted result.log }
+        ensures settled { (items : List Item) → Sequences self items → Merge (accepted_lists ends.items) items × Settled_as items result.log.entries result.log.settlement }
     {
         let Sequencer {
             core,
