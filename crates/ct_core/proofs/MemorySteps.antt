@@ -6,17 +6,17 @@ use Rattle.ct_core.specs.Answers.{is_size, last_size, proof_answer, index_answer
 use Rattle.ct_core.specs.Leaf.{Entry, leaves_of}
 use Rattle.ct_core.specs.Replies.{takes_memory}
 use Rattle.ct_core.specs.Settlement.{Log}
-use Rattle.ct_core.specs.Tree.{hash_leaf, proof_of}
+use Rattle.ct_core.specs.Tree.{sha256_leaf, proof_of}
 use Rattle.ct_core.proofs.AnswerSteps.{proof_shown, index_shown}
 use Rattle.ct_core.proofs.EntrySteps.{window_shown, entry_at_shown}
 
 pub proof_taken : (log : Log) (first second : ℕ) → 0 < first → first < second → is_size log first ≡ true → is_size log second ≡ true
     → takes_memory (proof_answer log first second) ≡ true
 proof_taken log first second low below a b =
-    let nodes : List (List ℕ) = map hash_leaf (leaves_of log.entries) in
+    let nodes : List (List ℕ) = map sha256_leaf (leaves_of log.entries) in
     sym (ap takes_memory (proof_shown nodes (proof_of first (take second nodes)) log first second refl low below a b refl))
 
-pub index_taken : (nodes : List (List ℕ)) (log : Log) (hash : List ℕ) (n i : ℕ) → nodes ≡ map hash_leaf (leaves_of log.entries) → is_size log n ≡ true → position (bytes_eq hash) (take n nodes) ≡ Some i
+pub index_taken : (nodes : List (List ℕ)) (log : Log) (hash : List ℕ) (n i : ℕ) → nodes ≡ map sha256_leaf (leaves_of log.entries) → is_size log n ≡ true → position (bytes_eq hash) (take n nodes) ≡ Some i
     → takes_memory (index_answer log hash n) ≡ true
 index_taken nodes log hash n i e a at = sym (ap takes_memory (index_shown nodes log hash n (Some i) e a at))
 
