@@ -1,7 +1,7 @@
 //! The sequencer: what it settles, publishes and closes.
 ghost use Rattle.std.specs.Prelude.{◌≡◌, ◌≢◌, ◌≤◌, ◌<◌, ◌-◌, ◌++◌, ◌↔◌, ℕ, List, [], None, Some, MatchResult, IsTrue, IfOk, IfErr, OnOk, OnErr, ◌⊎◌, All, slice_get, length, map, vec_len, vec_capacity, min};
 ghost use Rattle.ct_core.specs.Core.{clock_of, settle_refusal, IsCovered, IsNextHead, IsInTime, after_publishing, publish_refusal};
-ghost use Rattle.ct_core.specs.Settlement.{IsFinal, Settled_as};
+ghost use Rattle.ct_core.specs.Settlement.{IsFinal, SettlesAs};
 ghost use Rattle.ct_codec.specs.declared.item.Item.{Item};
 ghost use Rattle.ct_codec.specs.Items.{Merge};
 ghost use Rattle.ct_house.specs.Sequence.{Takes, Sequences};
@@ -220,7 +220,7 @@ impl Sequencer {
         requires covered { IsCovered self.core }
         ensures same { (result.log ≡ self.core.published) × (self.accepted ≡ Some result.accepted) }
         ensures closes { IsFinal (accepted_lists ends.items) result.accepted result.log }
-        ensures settled { (items : List Item) → Sequences self items → Merge (accepted_lists ends.items) items × Settled_as items result.log.entries result.log.settlement }
+        ensures settled { (items : List Item) → Sequences self items → Merge (accepted_lists ends.items) items × SettlesAs items result.log.entries result.log.settlement }
     {
         let Sequencer {
             core,
