@@ -166,12 +166,12 @@ pub record Draining (old new : HouseState) (ends : List FrontView) (k now : ℕ)
 -- a take leaves what was received of each front, or adds to it
 takes_received : (old new : HouseState) (f : ℕ) (xs : List Item) (now : ℕ) → Takes old new f xs now → (g : ℕ) (was is : Lane) → slice_get old.lanes g ≡ Some was → slice_get new.lanes g ≡ Some is → Begins was.received is.received
 takes_received old new f xs now t g was is at there = elim (eqb_tells g f) [
-  | inl same ↦ (
-    let here : slice_get old.lanes f ≡ Some was = ap (slice_get old.lanes) (sym same.1) ∙ at in
-    let (more, grown, moved) = t.lane was is here (ap (slice_get new.lanes) (sym same.1) ∙ there) in (more, grown)
-  )
+  | inl same ↦ own same.1
   | inr apart ↦ Begins-from was.received is.received (ap (λ (l : Lane). l.received) (same_Some was is (sym at ∙ sym (t.others g apart.1) ∙ there)))
 ]
+  where
+    own : g ≡ f → Begins was.received is.received
+    own e = let (more, grown, moved) = t.lane was is (ap (slice_get old.lanes) (sym e) ∙ at) (ap (slice_get new.lanes) (sym e) ∙ there) in (more, grown)
 
 pub SettlesMore-none : (s : HouseState) (now : ℕ) → SettlesMore s s [] now
 SettlesMore-none s now = record {

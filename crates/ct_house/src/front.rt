@@ -72,7 +72,8 @@ impl Front {
     /// head and a receipt are never refused for memory. The front stays as it was.
     pub fn ask<R: Wait>(&mut self, rt: &R, alloc: Global, query: &Query) -> Result<Reply, Refusal>
         ensures same { self.new ≡ self.old }
-        ensures answer { (p : Log) × Lawful p × MatchResult result (λ r. shown r ≡ answer p query.now) (λ e. (e ≡ Refusal.Memory) ⊎ (refused e ≡ answer p query.now))
+        ensures answer { (p : Log) × Lawful p
+            × MatchResult result (λ r. shown r ≡ answer p query.now) (λ e. (e ≡ Refusal.Memory) ⊎ (refused e ≡ answer p query.now))
             × IfErr result (λ e. e ≡ Refusal.Memory → takes_memory (answer p query.now) ≡ true) }
     {
         let shown = &self.shown;

@@ -17,7 +17,11 @@ pub(crate) fn submission(alloc: Global, certificate: &[u8]) -> Result<Submission
 }
 
 // The final log of a house whose fronts have retired.
-pub(crate) fn closed<R: Wait + Abort>(rt: &R, mut house: Sequencer, mut ends: Vec<Retired>) -> FinalLog
+pub(crate) fn closed<R: Wait + Abort>(
+    rt: &R,
+    mut house: Sequencer,
+    mut ends: Vec<Retired>,
+) -> FinalLog
     requires { All (IsOfHouse house.house) ends.items }
 {
     if !house.is_settled(&mut ends) {

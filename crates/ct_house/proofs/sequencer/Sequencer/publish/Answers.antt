@@ -15,8 +15,11 @@ invariant_of-self g c =
     let same = one_next a.core c.args.now h k is (adopted_head a.core c.args.now c.in_ok-own.own k c.in_ok-own.ensures.state c.adopt.ensures.state) in
     record {
       lawful = subst Lawful (c.shown.view_is ∙ state ∙ ap (published_with a.core) same ∙ sym (ap (λ (core : CoreState). core.published) c.adopt.ensures.after)) c.shown.invariant.lawful;
-      listed = (i.listed.0, subst (λ (core : CoreState). Sequences (make_house a.shutter.gate a.shutter.accepted core a.lanes.items) i.listed.0) (sym c.adopt.ensures.after)
-          (still_sequences (make_house a.shutter.gate a.shutter.accepted a.core a.lanes.items) k i.listed.0 i.listed.1));
+      listed = (
+        i.listed.0,
+        subst (λ (core : CoreState). Sequences (make_house a.shutter.gate a.shutter.accepted core a.lanes.items) i.listed.0) (sym c.adopt.ensures.after)
+            (still_sequences (make_house a.shutter.gate a.shutter.accepted a.core a.lanes.items) k i.listed.0 i.listed.1),
+      );
       fronts = i.fronts;
       numbers = i.numbers;
       few = i.few;
