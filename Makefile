@@ -1,7 +1,12 @@
 # make demo   builds ctlog and runs it on real certificates
 # make test   the gate: proves every crate from nothing, and runs the tests and the program
 # make check  for daily work: proves what changed
-.PHONY: demo test check kit
+# make fuzz   runs ctlog on random and damaged lines for SECONDS=60, and compares it with an independent program
+# make load   runs ctlog with 16 fronts and a shutdown among them RUNS=20 times, and judges each output
+.PHONY: demo test check fuzz load kit
+
+SECONDS ?= 60
+RUNS ?= 20
 
 demo: kit
 	@examples/demo.sh
@@ -11,6 +16,13 @@ test: kit
 
 check: kit
 	rt all check
+
+# After `rt run -- --help` in crates/ctlog, which builds it.
+fuzz:
+	@PYTHONDONTWRITEBYTECODE=1 python3 bench/fuzz.py --seconds $(SECONDS)
+
+load:
+	@PYTHONDONTWRITEBYTECODE=1 python3 bench/load.py --runs $(RUNS)
 
 kit:
 	@command -v rt >/dev/null || { echo "The Rattle kit's command rt isn't on the PATH: add the kit's folder bin to it." >&2; exit 1; }

@@ -4,10 +4,13 @@
     check.py FRONTS INPUT OUTPUT
 
 It takes the log at its word in nothing: roots are computed from the entries that `get-entries` returns, proofs are checked
-by the steps of RFC 9162, section 2.1.3, receipts against the entries and the submissions. What it prints doesn't depend on
-how the threads ran. The input asks the frozen log for all entries, at most 256.
+by the steps of RFC 9162, section 2.1.3, receipts against the entries and the submissions, and the order of the entries
+against the operator's settlements. What it prints doesn't depend on how the threads ran. The input asks the frozen log for
+all entries, page by page, and for its tree head at the end.
 """
 import base64
+import collections
+import functools
 import json
 import sys
 
@@ -51,14 +54,19 @@ class Checker:
         self.pairs = pairs
         self.submissions = [(request, reply["ticket"]) for request, reply in self.replies_to("add-chain")]
         self.heads = [reply["tree_size"] for _, reply in self.replies_to("publish")]
-        final = [reply for request, reply in self.replies_to("get-entries") if request["who"] == "frozen"]
-        self.entries = final[-1]["entries"]
+        self.entries = []
+        for request, reply in self.replies_to("get-entries"):
+            if request["who"] == "frozen" and request["start"] == len(self.entries):
+                self.entries += reply["entries"]
         self.leaves = all_bytes(entry["leaf_input"] for entry in self.entries)
+        self.final = self.replies_to("get-sth")[-1][1]
+        self.indexes = {}  # from ticket to index, once the order is known
 
     def replies_to(self, op):
         """The requests of this op that weren't refused, with their replies."""
         return [(request, reply) for request, reply in self.pairs if request["op"] == op and "error" not in reply]
 
+    @functools.lru_cache(maxsize=None)
     def root_at(self, size):
         return merkle.root(self.leaves[:size])
 
@@ -71,10 +79,36 @@ class Checker:
         accepted = [reply["accepted"] for _, reply in self.replies_to("shutdown")]
         claim(accepted == [len(numbers)], "the shutdown counted other submissions")
         fronts = len({request["who"] for request, _ in self.submissions})
-        return f"{len(numbers)} submissions of {fronts} fronts: the tickets are 0 to {numbers[-1]}, each once, and rise at each front"
+        return f"{len(numbers)} submissions of {fronts} fronts: the tickets are 0 to {len(numbers) - 1}, each once, and rise at each front"
 
     def certificate_at(self, index):
         return self.leaves[index][15:-2]
+
+    def settlement_order(self):
+        """Settles anew what the operator's replies say was settled, and then the rest front by front."""
+        waiting = collections.defaultdict(collections.deque)
+        for request, ticket in self.submissions:
+            waiting[request["who"]].append((ticket, bytes_of(request["chain"][0])))
+        entries, firsts = [], {}
+
+        def settle(front, count, now):
+            for _ in range(count):
+                ticket, certificate = waiting[front].popleft()
+                if certificate not in firsts:
+                    firsts[certificate] = len(entries)
+                    entries.append(leaf_of(certificate, now))
+                self.indexes[ticket] = firsts[certificate]
+
+        for request, reply in self.pairs:
+            claim(reply.get("error") != "late", "a line waited in vain")
+            if "settled" in reply:
+                settle(request["from"], reply["settled"], request["now"])
+            if request["op"] == "publish" and "tree_size" in reply:
+                claim(reply["tree_size"] == len(entries), "a head doesn't cover what was settled")
+        for front in sorted(waiting):
+            settle(front, len(waiting[front]), self.final["timestamp"])
+        claim(entries == self.leaves, "the entries aren't in the order in which they were settled")
+        return f"{len(self.indexes)} settlements give these {len(entries)} entries, in their order and with their timestamps"
 
     def entries_are_submissions(self):
         submitted = [bytes_of(request["chain"][0]) for request, _ in self.submissions]
@@ -92,7 +126,9 @@ class Checker:
         for reply in heads:
             claim(bytes_of(reply["sha256_root_hash"]) == self.root_at(reply["tree_size"]), "a head has another root")
         claim(self.heads == sorted(self.heads), "the sizes of the heads fall")
-        final = heads[-1]
+        final = self.final
+        published = {(reply["tree_size"], reply["timestamp"]) for reply in [final, *(head for _, head in self.replies_to("publish"))]}
+        claim({(head["tree_size"], head["timestamp"]) for head in heads if head["tree_size"]} <= published, "a head wasn't published")
         claim(final["tree_size"] == len(self.leaves), "the final head doesn't cover all entries")
         sizes = ", ".join(map(str, self.heads + [final["tree_size"]]))
         return f"{len(self.heads) + 1} tree heads, of sizes {sizes}; the final root {final['sha256_root_hash']} is that of the entries"
@@ -127,6 +163,7 @@ class Checker:
         asked = self.replies_to("receipt")
         for request, reply in asked:
             index = reply["leaf_index"]
+            claim(index == self.indexes[request["ticket"]], "a receipt names another index")
             claim(certificates[request["ticket"]] == self.certificate_at(index), "a receipt names another entry")
             claim(reply["timestamp"] == int.from_bytes(self.leaves[index][2:10], "big"), "a receipt has another timestamp")
         return f"{len(asked)} receipts agree with the entries and with what the tickets were given for"
@@ -146,32 +183,35 @@ class Checker:
         return f"{len(names)} refusals: {', '.join(sorted(names))}"
 
 
+def leaf_of(certificate, timestamp):
+    """The MerkleTreeLeaf of a certificate (RFC 6962, section 3.4)."""
+    return bytes(2) + timestamp.to_bytes(8, "big") + bytes(2) + len(certificate).to_bytes(3, "big") + certificate + bytes(2)
+
+
 def chain_bytes(chain):
     """The certificates after the first, as extra_data has them (RFC 6962, section 4.6)."""
     issuers = b"".join(len(issuer).to_bytes(3, "big") + issuer for issuer in all_bytes(chain[1:]))
     return len(issuers).to_bytes(3, "big") + issuers
 
 
+def checked(fronts, given, written):
+    """What was found to hold of the replies to an input, kind by kind."""
+    requests = requests_of(given.split("\n"), fronts)
+    replies = [json.loads(line) for line in written.splitlines()]
+    claim(len(requests) == len(replies), f"{len(requests)} requests, but {len(replies)} replies")
+    checker = Checker(list(zip(requests, replies)))
+    checks = [checker.tickets, checker.settlement_order, checker.entries_are_submissions, checker.tree_heads, checker.inclusion_proofs]
+    return [check() for check in [*checks, checker.consistency_proofs, checker.receipts, checker.audits, checker.refusals]]
+
+
 def main():
     with open(sys.argv[2], encoding="utf-8") as given, open(sys.argv[3], encoding="utf-8") as written:
-        requests = requests_of(given.read().split("\n"), int(sys.argv[1]))
-        replies = [json.loads(line) for line in written]
-    try:
-        claim(len(requests) == len(replies), f"{len(requests)} requests, but {len(replies)} replies")
-        checker = Checker(list(zip(requests, replies)))
-        for check in (
-            checker.tickets,
-            checker.entries_are_submissions,
-            checker.tree_heads,
-            checker.inclusion_proofs,
-            checker.consistency_proofs,
-            checker.receipts,
-            checker.audits,
-            checker.refusals,
-        ):
-            print(f"  {check()}")
-    except (Wrong, KeyError, IndexError, ValueError) as fault:
-        sys.exit(f"check.py: {fault!r}")
+        try:
+            for found in checked(int(sys.argv[1]), given.read(), written.read()):
+                print(f"  {found}")
+        except (Wrong, KeyError, IndexError, ValueError) as fault:
+            sys.exit(f"check.py: {fault!r}")
 
 
-main()
+if __name__ == "__main__":
+    main()

@@ -5,15 +5,20 @@
 
 An independent program: it shares no code with ctlog. The fronts and the operator take turns, each doing its lines until
 it has to wait, which is one of the schedules that threads may take. Tickets are written as `_` where there are several fronts: all else
-has to come from any schedule, if the input is made so that it can. Waits that nothing ends, lines that are too long and collisions aren't known to it.
+has to come from any schedule, if the input is made so that it can. Waits that nothing ends and collisions aren't known to it.
+Where the clock refuses the closing it prints what ctlog has written by then, names the fault, and ends with status 1.
 """
 import base64
 import json
+import math
+import re
 import sys
 
 import merkle
 
 LIMIT = 1 << 24
+LONGEST_LINE = 1 << 20
+DEEPEST = 127
 
 
 def text(value):
@@ -30,6 +35,10 @@ def vector(value):
 
 class Refused(Exception):
     """A refusal, by its name."""
+
+
+class WaitsInVain(Exception):
+    """A wait that no line ends."""
 
 
 def check_chain(chain):
@@ -73,9 +82,12 @@ class Log:
     def newest(self):
         return self.entries[-1][0] if self.entries else 0
 
-    def settle(self, front, count, now):
+    def check_clock(self, now):
         if now < max(self.newest(), self.heads[-1][1]):
             raise Refused("clock-back")
+
+    def settle(self, front, count, now):
+        self.check_clock(now)
         for ticket, chain in self.rings[front][:count]:
             identity = b"\x00\x00" + vector(chain[0])
             if identity not in self.indexes:
@@ -173,9 +185,10 @@ def do_operator(log, request):
     if op == "publish":
         return log.publish(keys["now"])
     front, count = keys["from"], keys["count"]
-    if len(log.rings[front]) < count:
-        return None
     if count > 0:
+        log.check_clock(keys["now"])
+        if len(log.rings[front]) < count:
+            return None
         log.settle(front, count, keys["now"])
     return {"settled": count}
 
@@ -237,15 +250,59 @@ OTHER_OPS = {
 }
 
 
+def fraction(digits):
+    """A number with a fraction or an exponent. Where it is too large for a float, the line is no request."""
+    if math.isinf(float(digits)):
+        raise ValueError("a number that is too large")
+    return float(digits)
+
+
 def whole_number(digits):
     """A number without fraction and exponent; one with a sign is no number of a request."""
+    fraction(digits)
     return int(digits) if digits[0] != "-" else -1
+
+
+def no_number(name):
+    raise ValueError(f"{name} is no number of JSON")
+
+
+def texts_in(value):
+    """The texts in an array, or the text itself."""
+    if isinstance(value, list):
+        return [text for element in value for text in texts_in(element)]
+    return [value] if isinstance(value, str) else []
+
+
+def object_of(pairs):
+    """An object, of which the last value of a key counts. A text with half a character, which an escape can write, is refused."""
+    for key, value in pairs:
+        "".join([key, *texts_in(value)]).encode()
+    return dict(pairs)
+
+
+def nesting(text):
+    """How deep the arrays and objects of a text nest."""
+    deepest = depth = 0
+    for bracket in re.sub(r'"(?:[^"\\]|\\.)*"|[^]["{}]', "", text):
+        depth += {"[": 1, "{": 1, "]": -1, "}": -1}.get(bracket, 0)
+        deepest = max(deepest, depth)
+    return deepest
+
+
+def json_of(line):
+    """The JSON value that a line is."""
+    text = line.decode()
+    if len(line) > LONGEST_LINE or nesting(text) > DEEPEST:
+        raise ValueError("too long, or nested too deep")
+    kinds = {"parse_int": whole_number, "parse_float": fraction, "parse_constant": no_number}
+    return json.loads(text, object_pairs_hook=object_of, **kinds)
 
 
 def read_line(line, fronts):
     """Who does the line, and the request. What is no request is the operator's, as None."""
     try:
-        value = json.loads(line, parse_int=whole_number)
+        value = json_of(line)
         who = value["who"]
         keys = (FRONT_OPS if is_number(who) else OTHER_OPS[who])[value["op"]]
         request = {key: value[key] for key in keys}
@@ -266,8 +323,8 @@ def give_out(lines, fronts):
     return parties
 
 
-def expected(fronts, ring, open_at, close_at, given):
-    """The lines of the output for this input, which ends as the program does at status 0."""
+def outcome(fronts, ring, open_at, close_at, given):
+    """The lines of the output for this input, and the name of the fault where one ends the program."""
     parties = give_out(filter(None, given.split(b"\n")), fronts)
     log = Log(fronts, ring, open_at)
     doers = [lambda request, front=front: do_front(log, front, request) for front in range(fronts)]
@@ -278,12 +335,24 @@ def expected(fronts, ring, open_at, close_at, given):
         done = sum(map(len, replies))
         for party, do in enumerate(doers):
             do_lines(do, parties[party], replies[party])
+    if any(len(replies[party]) < len(parties[party]) for party in range(len(doers))):
+        raise WaitsInVain("a line waits, and nothing ends the wait")
+    fault = close(log, fronts, ring, close_at)
+    if fault is None:
+        do_lines(lambda request: log.answer(*request), parties[-1], replies[-1])
+    return [line_of(reply, fronts) for reply in sum(replies, [])], fault
+
+
+def close(log, fronts, ring, close_at):
+    """Closes the log, and answers the fault where the clock refuses the moment."""
     log.shut = True
-    for front in range(fronts):
-        log.settle(front, ring, close_at)
-    log.publish(close_at)
-    do_lines(lambda request: log.answer(*request), parties[-1], replies[-1])
-    return [line_of(reply, fronts) for reply in sum(replies, [])]
+    try:
+        for front in range(fronts):
+            log.settle(front, ring, close_at)
+        log.publish(close_at)
+    except Refused as refused:
+        return str(refused)
+    return None
 
 
 def line_of(reply, fronts):
@@ -293,8 +362,11 @@ def line_of(reply, fronts):
 
 
 def main():
-    for line in expected(*map(int, sys.argv[1:]), sys.stdin.buffer.read()):
+    lines, fault = outcome(*map(int, sys.argv[1:]), sys.stdin.buffer.read())
+    for line in lines:
         print(line)
+    if fault:
+        sys.exit(f"ctlog: {fault}")
 
 
 if __name__ == "__main__":

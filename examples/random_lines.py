@@ -15,7 +15,7 @@ import subprocess
 import sys
 
 import merkle
-from expected import Log, Refused, expected
+from expected import Log, Refused, outcome
 
 RING = 4096
 CLOSE_AT = 1000
@@ -144,15 +144,19 @@ class Script:
             self.lines.append(self.random.choice(BAD_LINES))
         self.now += self.random.randint(1, 3)
 
+    def close(self):
+        """Plays the closing."""
+        self.log.shut = True
+        for front in range(self.fronts):
+            self.log.settle(front, RING, CLOSE_AT)
+        self.log.publish(CLOSE_AT)
+
     def text(self):
         for _ in range(self.random.randint(1, 6)):
             self.round()
         if self.random.random() < 0.5:
             self.shut_down()
-        self.log.shut = True
-        for front in range(self.fronts):
-            self.log.settle(front, RING, CLOSE_AT)
-        self.log.publish(CLOSE_AT)
+        self.close()
         self.say("frozen", "get-sth")
         for _ in range(12):
             self.ask("frozen", self.log.size())
@@ -169,19 +173,24 @@ class Script:
         self.say("operator", "shutdown")
 
 
+def is_written(written, fronts, lines):
+    """Whether a program wrote these lines, in which `_` stands for a ticket where there are several fronts."""
+    tickets = sorted(int(number) for number in re.findall(rb'"ticket":(\d+)', written))
+    if fronts > 1:
+        written = re.sub(rb'"ticket":\d+', b'"ticket":_', written)
+    wanted = "".join(line + "\n" for line in lines).encode()
+    return written == wanted and tickets == list(range(len(tickets)))
+
+
 def check(program, seed):
     script = Script(seed)
     given = script.text()
     words = ["--fronts", str(script.fronts), "--ring", str(RING), "--close-at", str(CLOSE_AT)]
     done = subprocess.run([program, *words], input=given, capture_output=True, check=True)
-    tickets = sorted(int(number) for number in re.findall(rb'"ticket":(\d+)', done.stdout))
-    written = done.stdout.decode()
-    if script.fronts > 1:
-        written = re.sub(r'"ticket":\d+', '"ticket":_', written)
-    wanted = "".join(line + "\n" for line in expected(script.fronts, RING, 0, CLOSE_AT, given))
-    if written != wanted or tickets != list(range(len(tickets))):
+    lines, _ = outcome(script.fronts, RING, 0, CLOSE_AT, given)
+    if not is_written(done.stdout, script.fronts, lines):
         sys.exit(f"random_lines.py: other replies to input {seed}, of {script.fronts} fronts:\n{given.decode(errors='replace')}")
-    return len(wanted.splitlines())
+    return len(lines)
 
 
 def main():
@@ -190,4 +199,5 @@ def main():
     print(f"{inputs} inputs, {replies} replies: the same as expected.py's")
 
 
-main()
+if __name__ == "__main__":
+    main()

@@ -1,0 +1,125 @@
+#!/usr/bin/env python3
+"""Runs ctlog with many fronts at once and a shutdown by the operator at a random place, and judges each output by examples/check.py.
+
+    load.py [PROGRAM] [--runs N] [--fronts N] [--lines N] [--seed S]
+
+Each front has so many lines, nine in ten of them submissions of some 500 certificates, the others questions for tree heads and receipts.
+The operator settles a random number of submissions, in small batches of the fronts by turns, publishes now and then, shuts the log twice and
+publishes once more. Nothing orders the fronts' lines and the shutdown, so it falls where the threads have come to: before all
+submissions, behind all, or in the middle. check.py judges the tickets, the order of the settlement and of the entries, the receipts, and each
+root. At the first output that it refuses, the lines and the output are kept, and the status is 1.
+"""
+import argparse
+import base64
+import collections
+import json
+import os
+import pathlib
+import random
+import subprocess
+import sys
+import tempfile
+
+HERE = pathlib.Path(__file__).resolve().parent
+sys.path.insert(0, str(HERE.parent / "examples"))
+
+from check import Wrong, checked  # noqa: E402
+
+RING = 4096
+OPEN_AT, CLOSE_AT = 1000, 1_000_000_000
+CERTIFICATES = 500
+LONGEST_RUN = 120
+
+
+def line_of(who, op, **keys):
+    return json.dumps({"who": who, "op": op, **keys}, separators=(",", ":"))
+
+
+def certificate(number):
+    return base64.b64encode(number.to_bytes(2, "big") * (number % 300 + 1)).decode()
+
+
+def front_line(source, front, lines):
+    kind = source.random()
+    if kind < 0.9:
+        return line_of(front, "add-chain", chain=[certificate(source.randrange(CERTIFICATES)) for _ in range(source.choice([1, 1, 2]))])
+    if kind < 0.95:
+        return line_of(front, "get-sth")
+    return line_of(front, "receipt", ticket=source.randrange(lines))
+
+
+def operator_lines(source, submissions):
+    """Settles a random number of what the fronts submit, shuts the log, and publishes. Each order of magnitude is as frequent."""
+    total = int(sum(submissions) ** source.random()) - 1
+    left, now = dict(enumerate(submissions)), OPEN_AT
+    while total > 0:
+        front = source.choice([front for front, count in left.items() if count])
+        count = min(total, left[front], source.randint(1, 256))
+        total, left[front], now = total - count, left[front] - count, now + source.randint(0, 2)
+        yield line_of("operator", "sequence", **{"from": front}, count=count, now=now)
+        if source.random() < 0.2:
+            now += 1
+            yield line_of("operator", "publish", now=now)
+    yield line_of("operator", "shutdown")
+    yield line_of("operator", "shutdown")
+    yield line_of("operator", "publish", now=now + 1)
+
+
+def input_of(seed, fronts, lines):
+    source = random.Random(seed)
+    texts = [[front_line(source, front, lines * fronts) for _ in range(lines)] for front in range(fronts)]
+    operator = list(operator_lines(source, [sum('"add-chain"' in line for line in text) for text in texts]))
+    pages = [line_of("frozen", "get-entries", start=start, end=start + 255) for start in range(0, CERTIFICATES, 256)]
+    receipts = [line_of("frozen", "receipt", ticket=source.randrange(lines * fronts)) for _ in range(200)]
+    return "\n".join([*operator, *sum(texts, []), line_of("frozen", "get-sth"), *pages, *receipts]) + "\n"
+
+
+def told(written):
+    """How many submissions were accepted, and how many were told the shutdown. The operator is told it once."""
+    replies = collections.Counter(line[:10] for line in written.splitlines())
+    shutdowns = written.count('{"error":"shutdown"}') - 1
+    return replies['{"ticket":'], shutdowns
+
+
+def judge(program, seed, fronts, lines):
+    """Runs the program once, and answers what its submissions were told."""
+    given = input_of(seed, fronts, lines)
+    words = ["--fronts", str(fronts), "--ring", str(RING), "--open-at", str(OPEN_AT), "--close-at", str(CLOSE_AT)]
+    done = subprocess.run([program, *words], input=given.encode(), capture_output=True, timeout=LONGEST_RUN, check=False)
+    written = done.stdout.decode()
+    try:
+        if done.returncode != 0 or done.stderr:
+            raise Wrong(f"status {done.returncode} with {done.stderr[:200]!r} on standard error")
+        checked(fronts, given, written)
+        accepted, shut = told(written)
+        if accepted + shut != given.count('"add-chain"'):
+            raise Wrong("a submission was told neither a ticket nor the shutdown")
+    except (Wrong, KeyError, IndexError, ValueError) as fault:
+        kept = pathlib.Path(tempfile.mkdtemp(prefix=f"load-{seed}-"))
+        (kept / "lines.jsonl").write_text(given)
+        (kept / "output.jsonl").write_text(written)
+        sys.exit(f"load.py: seed {seed}: {fault!r}\nThe lines and the output are in {kept}")
+    return accepted, shut
+
+
+def main():
+    words = argparse.ArgumentParser(description="Judges ctlog's output under load, with a shutdown at a random place.")
+    words.add_argument("program", nargs="?", default=str(HERE.parent / "crates/ctlog/out/ctlog"))
+    words.add_argument("--runs", type=int, default=20)
+    words.add_argument("--fronts", type=int, default=16)
+    words.add_argument("--lines", type=int, default=2000)
+    words.add_argument("--seed", type=int, default=int.from_bytes(os.urandom(4), "big"))
+    given = words.parse_args()
+    if not os.access(given.program, os.X_OK):
+        sys.exit(f"load.py: {given.program} isn't there: build it by 'rt run -- --help' in crates/ctlog")
+    fell = collections.Counter()
+    for run in range(given.runs):
+        accepted, shut = judge(given.program, given.seed + run, given.fronts, given.lines)
+        fell["in the middle" if accepted and shut else "before all" if shut else "behind all"] += 1
+        print(f"seed {given.seed + run}: {accepted:,} submissions accepted, {shut:,} told the shutdown", flush=True)
+    places = ", ".join(f"{place} of the submissions {count} times" for place, count in sorted(fell.items()))
+    print(f"{given.runs} runs of {given.fronts} fronts with {given.lines:,} lines each: check.py refuses none. The shutdown fell {places}.")
+
+
+if __name__ == "__main__":
+    main()
