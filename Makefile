@@ -3,7 +3,7 @@
 # make check  for daily work: proves what changed
 # make fuzz   runs ctlog on random and damaged lines for SECONDS=60, and compares it with an independent program
 # make load   runs ctlog with 16 fronts and a shutdown among them RUNS=20 times, and judges each output
-.PHONY: demo test check fuzz load kit
+.PHONY: demo test check fuzz load kit sources
 
 SECONDS ?= 60
 RUNS ?= 20
@@ -11,10 +11,10 @@ RUNS ?= 20
 demo: kit
 	@examples/demo.sh
 
-test: kit
+test: kit sources
 	rt ci
 
-check: kit
+check: kit sources
 	rt all check
 
 # After `rt run -- --help` in crates/ctlog, which builds it.
@@ -23,6 +23,11 @@ fuzz:
 
 load:
 	@PYTHONDONTWRITEBYTECODE=1 python3 bench/load.py --runs $(RUNS)
+
+# What no contract can say of the sources, and what docs/DEFINITIONS.md has to name.
+sources:
+	@PYTHONDONTWRITEBYTECODE=1 python3 checks/want_of_memory.py
+	@PYTHONDONTWRITEBYTECODE=1 python3 checks/definitions.py
 
 kit:
 	@command -v rt >/dev/null || { echo "The Rattle kit's command rt isn't on the PATH: add the kit's folder bin to it." >&2; exit 1; }

@@ -1,0 +1,65 @@
+#!/usr/bin/env python3
+"""Each word of a public clause is in docs/DEFINITIONS.md.
+
+A word is a name that a source file brings in from the specs/ of a crate of this repository and that a clause of a public function cites.
+(Names of types and of their cases and fields are Rust's own, and are left out.) The script prints each word that no code span of the
+page names, and each file of specs/ that the page names and that isn't there; it ends with status 1 where there is one.
+"""
+import re
+import sys
+
+from source import CRATES, ROOT, blanked, closing, crates, is_for_tests, sources
+
+IMPORT = re.compile(r"\bghost use Rattle\.(\w+)\.specs\.([\w.]+)\.\{([^}]*)\};")
+FUNCTION = re.compile(r"^ *pub (?:const |final )?fn (\w+)", re.M)
+CLAUSE = re.compile(r"\b(?:ensures|requires)\b\s*\w*\s*\{")
+
+
+def words_of(text, own):
+    """The words that a file brings in from specs/ of this repository's crates."""
+    words = {}
+    for crate, module, names in IMPORT.findall(text):
+        if crate in own and not module.startswith("declared"):
+            for name in names.split(","):
+                words[name.split(" as ")[-1].strip()] = f"{crate}/specs/{module.replace('.', '/')}.antt"
+    return words
+
+
+def clauses(text):
+    """Each public function of a file, with the text of its clauses."""
+    for found in FUNCTION.finditer(text):
+        at, parts = found.end(), []
+        body = re.compile(r"\b(?:ensures|requires)\b\s*\w*\s*\{|\{|;")
+        while (place := body.search(text, at)) and CLAUSE.match(text, place.start()):
+            end = closing(text, place.end() - 1)
+            parts.append(text[place.end() : end - 1])
+            at = end
+        yield found.group(1), " ".join(parts)
+
+
+def main():
+    page = (ROOT / "docs" / "DEFINITIONS.md").read_text()
+    named = set(re.findall(r"[\w◌]+", " ".join(re.findall(r"`([^`]*)`", page))))
+    own, missing = set(crates()), {}
+    for crate in crates():
+        if is_for_tests(crate):
+            continue
+        for path in sources(crate):
+            text = path.read_text()
+            words = words_of(text, own)
+            for function, clause in clauses(blanked(text)):
+                for word in re.findall(r"\w+", clause):
+                    if word in words and word not in named:
+                        missing.setdefault((words[word], word), set()).add(f"{crate}::{function}")
+    for (file, word), functions in sorted(missing.items()):
+        print(f"{word} ({file}), of {', '.join(sorted(functions))}, isn't in docs/DEFINITIONS.md")
+    files = {path.name for path in CRATES.rglob("specs/*.antt")}
+    absent = sorted(set(re.findall(r"`(\w+\.antt)`", page)) - files)
+    for file in absent:
+        print(f"docs/DEFINITIONS.md names {file}, which is in no specs/")
+    if missing or absent:
+        sys.exit(1)
+
+
+if __name__ == "__main__":
+    main()

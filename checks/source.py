@@ -1,0 +1,59 @@
+"""What the checks share: the repository's Rattle sources, without comments and texts, and the parts of a source file."""
+import pathlib
+import re
+
+ROOT = pathlib.Path(__file__).resolve().parent.parent
+CRATES = ROOT / "crates"
+
+
+def crates():
+    """The names of all listed crates."""
+    lines = (ROOT / "crates.txt").read_text().splitlines()
+    return [re.split(r"[ :]", line)[0] for line in lines if line and not line.startswith("#")]
+
+
+def is_for_tests(crate):
+    """Whether a crate has tests or measurements alone."""
+    return crate.endswith(("_tests", "_bench"))
+
+
+def sources(crate):
+    """The source files of a crate, tests left out."""
+    return [path for path in sorted((CRATES / crate / "src").rglob("*.rt")) if path.stem != "tests"]
+
+
+def blanked(text):
+    """The text with comments and the insides of string literals blanked; every other byte and every line break stays where it is."""
+    pattern = re.compile(r"//[^\n]*|/\*.*?\*/|\"(?:\\.|[^\"\\])*\"|'(?:\\.|[^'\\])'", re.S)
+    return pattern.sub(lambda found: re.sub(r"[^\n]", " ", found.group()), text)
+
+
+def closing(text, at):
+    """The place behind the bracket that closes the one at `at`."""
+    pairs = {"{": "}", "(": ")", "[": "]"}
+    opened, closed = text[at], pairs[text[at]]
+    depth = 0
+    for place in range(at, len(text)):
+        depth += (text[place] == opened) - (text[place] == closed)
+        if depth == 0:
+            return place + 1
+    raise ValueError(f"no closing {closed}")
+
+
+CLAUSE = re.compile(r"\b(?:ensures|requires|ghost)\b[^{};]*\{")
+
+
+def without_clauses(text):
+    """The text without what is ghost: clauses, ghost items and ghost imports are blanked."""
+    text = re.sub(r"\bghost use [^;]*;", lambda found: re.sub(r"[^\n]", " ", found.group()), text)
+    at = 0
+    while found := CLAUSE.search(text, at):
+        end = closing(text, found.end() - 1)
+        text = text[: found.start()] + re.sub(r"[^\n]", " ", text[found.start() : end]) + text[end:]
+        at = end
+    return text
+
+
+def line_of(text, at):
+    """The number of the line in which a place lies, from 1 on."""
+    return text.count("\n", 0, at) + 1
