@@ -321,8 +321,12 @@ fn evidence_for<H: NodeHash>(
 /// Explains a consistency proof against both lists of leaves: their roots and their numbers stand for the tree heads.
 ///
 /// `Holds` says that the old list is the beginning of the new one. `Collision` says that it isn't, and gives two strings
-/// that differ and have one hash, each the string of a leaf or of a node. This holds for every hash function. Memory is
-/// taken for the strings alone.
+/// that differ and have one hash: the first such pair, from the leaves up and from the left, of what the proof, the old
+/// list and the new list hash at one place (`00` and the leaf for a leaf, `01` and two hashes for a node). The proof's
+/// string comes before a list's, and the old list's before the new one's. This holds for every hash function.
+///
+/// Each leaf is hashed once, and once more where the proof is accepted and the old list doesn't begin the new one.
+/// Memory is taken for such strings alone.
 ///
 /// # Errors
 /// `ProofRefused` with the fault of [`verify_consistency`](crate::verify_consistency) where that refuses the proof, and
