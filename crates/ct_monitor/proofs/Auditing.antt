@@ -5,11 +5,11 @@ use Rattle.ct_verify.proofs.Defined.{accepted_not_refused}
 use Rattle.ct_verify.specs.declared.evidence.Evidence.{Evidence}
 use Rattle.ct_verify.specs.declared.evidence.EvidenceFault.{EvidenceFault}
 use Rattle.ct_verify.specs.declared.evidence.EvidenceFault.TheVariants.{ProofRefused, Memory}
-use Rattle.ct_monitor.specs.Audited.{AcceptsInclusion, InclusionEvidence, InclusionFault, IsRefused}
+use Rattle.ct_monitor.specs.Audited.{AcceptsInclusion, InclusionEvidence, InclusionFault, IsProofRefused}
 
 pub not_refused : (H : List ℕ → List ℕ) (D : List (List ℕ)) (leaf : List ℕ) (m : ℕ) (p : List (List ℕ)) (result : Result Evidence EvidenceFault)
     → MatchResult result (InclusionEvidence H D leaf m p) (InclusionFault H D leaf m p)
-    → AcceptsInclusion H (hash_leaf H leaf) m (length D) p (mth_of_leaves H D) → IsRefused result → ⊥
+    → AcceptsInclusion H (hash_leaf H leaf) m (length D) p (mth_of_leaves H D) → IsProofRefused result → ⊥
 not_refused H D leaf m p (Ok e) x a r = r
 not_refused H D leaf m p (Err (ProofRefused v)) x a r = accepted_not_refused H (hash_leaf H leaf) m (length D) p (mth_of_leaves H D) v a x
 not_refused H D leaf m p (Err Memory) x a r = r

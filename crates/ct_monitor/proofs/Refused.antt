@@ -5,7 +5,7 @@ use Rattle.std.proofs.Math.Seq.{drop-append_seam}
 use Rattle.ct_tree.specs.declared.head.Head.{Head}
 use Rattle.ct_monitor.specs.Followed.{Followed}
 use Rattle.ct_monitor.specs.Extended.{IsNoRoot}
-use Rattle.ct_monitor.specs.Observed.{IsInOrder, IsCounted, Refuses}
+use Rattle.ct_monitor.specs.Observed.{IsInOrder, IsCounted, RefusesHead}
 use Rattle.ct_monitor.specs.declared.fault.MonitorFault.{MonitorFault}
 use Rattle.ct_monitor.specs.declared.fault.MonitorFault.TheVariants.{RootMismatch, Shrunk, Fork, TimeNotLater, CountMismatch, Memory}
 
@@ -14,7 +14,7 @@ pub rest_of_joined : {V : Type 0} (xs a b : List V) (n : ℕ) → xs ≡ a ++ b 
 rest_of_joined xs a b n e m = rw (e, m) (take_rest (a ++ b) (length a) ∙ drop-append_seam a b)
 
 pub refused_at_last : (H : List ℕ → List ℕ) (old : Followed) (head : Head) (E D : List (List ℕ)) (fault : MonitorFault) → IsInOrder old head × IsCounted old head E
-    → D ≡ old.leaves ++ E → IsNoRoot H D head.root fault → Refuses H old head E fault
+    → D ≡ old.leaves ++ E → IsNoRoot H D head.root fault → RefusesHead H old head E fault
 refused_at_last H old head E D RootMismatch o e n = (o.0, o.1, λ r. n (rw e r))
 refused_at_last H old head E D Shrunk o e n = absurd n
 refused_at_last H old head E D Fork o e n = absurd n

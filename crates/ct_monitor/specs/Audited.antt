@@ -9,7 +9,7 @@ pub use Rattle.ct_verify.specs.InclusionEvidence.{InclusionEvidence, InclusionFa
 pub use Rattle.ct_verify.specs.Evidence.{IsAudited}
 
 -- the answer is that the verifier refuses the proof
-abbrev pub IsRefused : Result Evidence EvidenceFault → Type 0
-IsRefused (Ok evidence) = ⊥
-IsRefused (Err (ProofRefused fault)) = ⊤
-IsRefused (Err Memory) = ⊥
+abbrev pub IsProofRefused : Result Evidence EvidenceFault → Type 0
+IsProofRefused (Ok evidence) = ⊥
+IsProofRefused (Err (ProofRefused fault)) = ⊤
+IsProofRefused (Err Memory) = ⊥

@@ -2,7 +2,7 @@
 use Rattle.std.specs.Prelude.{◌≡◌, ℕ, List, [], Some, None}
 use Rattle.std.specs.declared.option.Option.{Option}
 use Rattle.ct_tree.specs.declared.head.Head.{Head}
-use Rattle.ct_monitor.specs.Heads.{IsHeadOf}
+use Rattle.ct_monitor.specs.Heads.{IsHeadOfAll}
 
 -- The leaves that it keeps, and the last head that it took.
 pub record Followed : Type 0 where
@@ -12,4 +12,4 @@ pub record Followed : Type 0 where
 -- the last head is that of the kept leaves; before the first head none is kept
 abbrev pub IsFollowing : (List ℕ → List ℕ) → List (List ℕ) → Option Head → Type 0
 IsFollowing H D None = D ≡ []
-IsFollowing H D (Some head) = IsHeadOf H D head
+IsFollowing H D (Some head) = IsHeadOfAll H D head

@@ -4,5 +4,5 @@ use Rattle.ct_tree.specs.Tree.{mth_of_leaves}
 use Rattle.ct_tree.specs.declared.head.Head.{Head}
 
 -- the head is that of the leaves D: their number, and MTH of them
-abbrev pub IsHeadOf : (List ℕ → List ℕ) → List (List ℕ) → Head → Type 0
-IsHeadOf H D head = (head.tree_size ≡ length D) × (head.root ≡ mth_of_leaves H D)
+abbrev pub IsHeadOfAll : (List ℕ → List ℕ) → List (List ℕ) → Head → Type 0
+IsHeadOfAll H D head = (head.tree_size ≡ length D) × (head.root ≡ mth_of_leaves H D)

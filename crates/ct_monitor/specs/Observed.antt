@@ -27,10 +27,10 @@ IsCounted old head E = length old.leaves + length E ≡ head.tree_size
 
 -- when each fault is answered to a head with the new leaves E. Each excludes those before it in the order Shrunk, Fork,
 -- TimeNotLater, CountMismatch, Memory, RootMismatch; Memory can't be told from what is handed in
-abbrev pub Refuses : (List ℕ → List ℕ) → Followed → Head → List (List ℕ) → MonitorFault → Type 0
-Refuses H old head E Shrunk = head.tree_size < length old.leaves
-Refuses H old head E Fork = (length old.leaves ≤ head.tree_size) × Forks old.last_head head
-Refuses H old head E TimeNotLater = (length old.leaves ≤ head.tree_size) × (¬ Forks old.last_head head) × IsNotLater old.last_head head
-Refuses H old head E CountMismatch = IsInOrder old head × (¬ IsCounted old head E)
-Refuses H old head E Memory = IsInOrder old head × IsCounted old head E
-Refuses H old head E RootMismatch = IsInOrder old head × IsCounted old head E × (¬ (head.root ≡ mth_of_leaves H (old.leaves ++ E)))
+abbrev pub RefusesHead : (List ℕ → List ℕ) → Followed → Head → List (List ℕ) → MonitorFault → Type 0
+RefusesHead H old head E Shrunk = head.tree_size < length old.leaves
+RefusesHead H old head E Fork = (length old.leaves ≤ head.tree_size) × Forks old.last_head head
+RefusesHead H old head E TimeNotLater = (length old.leaves ≤ head.tree_size) × (¬ Forks old.last_head head) × IsNotLater old.last_head head
+RefusesHead H old head E CountMismatch = IsInOrder old head × (¬ IsCounted old head E)
+RefusesHead H old head E Memory = IsInOrder old head × IsCounted old head E
+RefusesHead H old head E RootMismatch = IsInOrder old head × IsCounted old head E × (¬ (head.root ≡ mth_of_leaves H (old.leaves ++ E)))

@@ -3,8 +3,8 @@ ghost use Rattle.std.specs.Prelude.{◌≡◌, List, ℕ, map, MatchResult, Ok};
 ghost use Rattle.ct_tree.specs.Tree.{hash_leaf};
 ghost use Rattle.ct_tree.specs.declared.head.Head.{Head};
 ghost use Rattle.ct_verify.specs.declared.evidence.Evidence.TheVariants.{Holds};
-ghost use Rattle.ct_monitor.specs.Audited.{AcceptsInclusion, RefusesInclusion, AcceptsConsistency, RefusesConsistency, InclusionEvidence, InclusionFault, IsAudited, IsRefused};
-ghost use Rattle.ct_monitor.specs.Heads.{IsHeadOf};
+ghost use Rattle.ct_monitor.specs.Audited.{AcceptsInclusion, RefusesInclusion, AcceptsConsistency, RefusesConsistency, InclusionEvidence, InclusionFault, IsAudited, IsProofRefused};
+ghost use Rattle.ct_monitor.specs.Heads.{IsHeadOfAll};
 
 use ct_tree::{Head, NodeHash, leaf_hash};
 use ct_verify::{
@@ -87,8 +87,8 @@ impl<H: NodeHash + Drop> Auditor<H> {
         ensures explained { MatchResult result (InclusionEvidence H.digest (map (λ l. l.items) leaves.now) leaf.now index path.now)
             (InclusionFault H.digest (map (λ l. l.items) leaves.now) leaf.now index path.now) }
         ensures holds { IsAudited H.digest (map (λ l. l.items) leaves.now) leaf.now index path.now → result ≡ Ok Holds }
-        ensures accepted { (head : Head) → IsHeadOf H.digest (map (λ l. l.items) leaves.now) head
-            → AcceptsInclusion H.digest (hash_leaf H.digest leaf.now) index head.tree_size path.now head.root → ¬ (IsRefused result) }
+        ensures accepted { (head : Head) → IsHeadOfAll H.digest (map (λ l. l.items) leaves.now) head
+            → AcceptsInclusion H.digest (hash_leaf H.digest leaf.now) index head.tree_size path.now head.root → ¬ (IsProofRefused result) }
     {
         explain_inclusion(alloc, &self.h, leaves, leaf, index, path)
     }

@@ -5,7 +5,6 @@ ghost use Rattle.ct_tree.specs.Tree.{hash_leaf};
 ghost use Rattle.ct_monitor.specs.Extended.{Extends, IsNoRoot};
 
 use crate::fault::MonitorFault;
-use crate::order::is_same_root;
 use ct_tree::{NodeHash, Stack, leaf_hash};
 use std::alloc::AllocError;
 
@@ -34,7 +33,7 @@ pub(crate) fn extend<H: NodeHash + Drop>(
 {
     push_all(stack, leaves)?;
     let extended = stack.root();
-    if is_same_root(&extended, root) {
+    if extended == *root {
         Ok(())
     } else {
         Err(MonitorFault::RootMismatch)

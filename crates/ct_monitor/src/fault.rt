@@ -3,21 +3,28 @@ ghost use Rattle.std.specs.Prelude.{◌≡◌};
 ghost use Rattle.ct_monitor.specs.declared.fault.MonitorFault.TheVariants.{Memory};
 
 use std::alloc::AllocError;
+use thiserror::Error;
 
 /// Why a monitor refuses a head.
-#[derive(Clone, Copy, PartialEq, Eq, Debug)]
+#[derive(Clone, Copy, PartialEq, Eq, Debug, Error)]
 pub enum MonitorFault {
     /// The root is not that of the kept and the new leaves.
+    #[error("the root is not that of the kept and the new leaves")]
     RootMismatch,
     /// The head has fewer leaves than are kept.
+    #[error("the head has fewer leaves than are kept")]
     Shrunk,
     /// The last head has this size and another root.
+    #[error("the last head has this size and another root")]
     Fork,
     /// The head is not later than the last one, and not that same head again.
+    #[error("the head is not later than the last one")]
     TimeNotLater,
     /// The kept and the new leaves together are not as many as the head says.
+    #[error("the kept and the new leaves are not as many as the head says")]
     CountMismatch,
     /// A growth was refused.
+    #[error("there is no memory for the new leaves")]
     Memory,
 }
 

@@ -3,8 +3,8 @@ ghost use Rattle.std.specs.Prelude.{◌≡◌, List, ℕ, [], ◌++◌, map, IfE
 ghost use Rattle.ct_tree.specs.Stack.{Stands};
 ghost use Rattle.ct_tree.specs.Tree.{hash_leaf};
 ghost use Rattle.ct_monitor.specs.Followed.{Followed, IsFollowing};
-ghost use Rattle.ct_monitor.specs.Heads.{IsHeadOf};
-ghost use Rattle.ct_monitor.specs.Observed.{IsCounted, IsInOrder, Refuses};
+ghost use Rattle.ct_monitor.specs.Heads.{IsHeadOfAll};
+ghost use Rattle.ct_monitor.specs.Observed.{IsCounted, IsInOrder, RefusesHead};
 
 use crate::extension::extend;
 use crate::fault::MonitorFault;
@@ -61,7 +61,7 @@ impl<H: NodeHash + Drop> Monitor<H> {
     // The faults that are found before anything is hashed, in their order.
     fn check_order(&self, head: &Head, new_entries: &[Vec<u8>]) -> Result<(), MonitorFault>
         ensures { MatchResult result (λ _. IsInOrder self.now head.now × IsCounted self.now head.now (map (λ l. l.items) new_entries.now))
-            (Refuses H.digest self.now head.now (map (λ l. l.items) new_entries.now)) }
+            (RefusesHead H.digest self.now head.now (map (λ l. l.items) new_entries.now)) }
     {
         let count = self.kept.len() as u64;
         if head.tree_size < count {
@@ -91,9 +91,9 @@ impl<H: NodeHash + Drop> Monitor<H> {
     pub fn observe(&mut self, head: Head, new_entries: Vec<Vec<u8>>) -> Result<(), MonitorFault>
         ensures leaves { OnOk result (self.new.leaves ≡ self.old.leaves ++ map (λ l. l.items) new_entries.items) }
         ensures last_head { OnOk result (self.new.last_head ≡ Some head) }
-        ensures root { OnOk result (IsHeadOf H.digest self.new.leaves head) }
+        ensures root { OnOk result (IsHeadOfAll H.digest self.new.leaves head) }
         ensures in_order { OnOk result (IsInOrder self.old head) }
-        ensures refused { IfErr result (Refuses H.digest self.old head (map (λ l. l.items) new_entries.items)) }
+        ensures refused { IfErr result (RefusesHead H.digest self.old head (map (λ l. l.items) new_entries.items)) }
         ensures unchanged { OnErr result (self.new ≡ self.old) }
     {
         self.check_order(&head, &new_entries)?;

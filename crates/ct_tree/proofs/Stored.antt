@@ -7,7 +7,7 @@ use Rattle.std.proofs.Math.Nat.{pow-suc, pow-le-pow_right}
 use Rattle.ct_tree.proofs.Raised.{pow_more}
 use Rattle.ct_tree.specs.Tree.{hash_node}
 use Rattle.ct_tree.specs.Levels.{subtree}
-use Rattle.ct_tree.specs.Stored.{place, leaves_of, Stores}
+use Rattle.ct_tree.specs.Stored.{place, stored_leaves, Stores}
 
 -- ---- numbers
 pow_twice : (j : ℕ) → 2 ^ suc j ≡ 2 * 2 ^ j
@@ -75,35 +75,35 @@ level_small i j h =
     (cases_lt j 64)
 
 -- ---- the leaves among the nodes
-pub leaves_of-none : leaves_of [] ≡ []
-unfolding leaves_of
-leaves_of-none = refl
+pub stored_leaves-none : stored_leaves [] ≡ []
+unfolding stored_leaves
+stored_leaves-none = refl
 
 twice_suc : (j : ℕ) → 2 * suc j ≡ suc (suc (2 * j))
 twice_suc j = omega arith
 
-leaves_of-push : (n : ℕ) (nodes : List (List ℕ)) (x y : List ℕ) → length nodes ≡ 2 * n → leaves_of (nodes ++ x ∷ y ∷ []) ≡ leaves_of nodes ++ x ∷ []
-unfolding leaves_of
-leaves_of-push n [] x y e = refl
-leaves_of-push n (u ∷ []) x y e = absurd (omega arith)
-leaves_of-push zero (u ∷ v ∷ nodes) x y e = absurd (omega arith)
-leaves_of-push (suc n) (u ∷ v ∷ nodes) x y e = ap (λ r. u ∷ r) (leaves_of-push n nodes x y (omega arith))
+stored_leaves-push : (n : ℕ) (nodes : List (List ℕ)) (x y : List ℕ) → length nodes ≡ 2 * n → stored_leaves (nodes ++ x ∷ y ∷ []) ≡ stored_leaves nodes ++ x ∷ []
+unfolding stored_leaves
+stored_leaves-push n [] x y e = refl
+stored_leaves-push n (u ∷ []) x y e = absurd (omega arith)
+stored_leaves-push zero (u ∷ v ∷ nodes) x y e = absurd (omega arith)
+stored_leaves-push (suc n) (u ∷ v ∷ nodes) x y e = ap (λ r. u ∷ r) (stored_leaves-push n nodes x y (omega arith))
 
-leaves_of-set : (k : ℕ) (nodes : List (List ℕ)) (v : List ℕ) → leaves_of (set nodes (suc (2 * k)) v) ≡ leaves_of nodes
-unfolding leaves_of
-leaves_of-set k [] v = refl
-leaves_of-set zero (x ∷ []) v = refl
-leaves_of-set (suc k) (x ∷ []) v = refl
-leaves_of-set zero (x ∷ y ∷ nodes) v = refl
-leaves_of-set (suc k) (x ∷ y ∷ nodes) v = rw (twice_suc k) (ap (λ r. x ∷ r) (leaves_of-set k nodes v))
+stored_leaves-set : (k : ℕ) (nodes : List (List ℕ)) (v : List ℕ) → stored_leaves (set nodes (suc (2 * k)) v) ≡ stored_leaves nodes
+unfolding stored_leaves
+stored_leaves-set k [] v = refl
+stored_leaves-set zero (x ∷ []) v = refl
+stored_leaves-set (suc k) (x ∷ []) v = refl
+stored_leaves-set zero (x ∷ y ∷ nodes) v = refl
+stored_leaves-set (suc k) (x ∷ y ∷ nodes) v = rw (twice_suc k) (ap (λ r. x ∷ r) (stored_leaves-set k nodes v))
 
-get-leaves_of : (i : ℕ) (nodes : List (List ℕ)) (d : List ℕ) → get_or nodes (2 * i) d ≡ get_or (leaves_of nodes) i d
-unfolding leaves_of
-get-leaves_of i [] d = refl
-get-leaves_of zero (x ∷ []) d = refl
-get-leaves_of (suc i) (x ∷ []) d = rw (twice_suc i) refl
-get-leaves_of zero (x ∷ y ∷ nodes) d = refl
-get-leaves_of (suc i) (x ∷ y ∷ nodes) d = rw (twice_suc i) (get-leaves_of i nodes d)
+get-stored_leaves : (i : ℕ) (nodes : List (List ℕ)) (d : List ℕ) → get_or nodes (2 * i) d ≡ get_or (stored_leaves nodes) i d
+unfolding stored_leaves
+get-stored_leaves i [] d = refl
+get-stored_leaves zero (x ∷ []) d = refl
+get-stored_leaves (suc i) (x ∷ []) d = rw (twice_suc i) refl
+get-stored_leaves zero (x ∷ y ∷ nodes) d = refl
+get-stored_leaves (suc i) (x ∷ y ∷ nodes) d = rw (twice_suc i) (get-stored_leaves i nodes d)
 
 two_inside : (i p n : ℕ) → (i + 1) * (2 * p) ≤ n → (2 * i + 1) * p ≤ n
 two_inside i p n h = omega arith
@@ -122,13 +122,13 @@ module _ (H : List ℕ → List ℕ) where
   at_none : (i p : ℕ) → 0 < p → (i + 1) * p ≤ 0 → ⊥
   at_none i p z h = omega arith
 
-  pub stores_none : (nodes : List (List ℕ)) → nodes ≡ [] → Stores H nodes (leaves_of nodes)
-  unfolding leaves_of
+  pub stores_none : (nodes : List (List ℕ)) → nodes ≡ [] → Stores H nodes (stored_leaves nodes)
+  unfolding stored_leaves
   stores_none nodes e = rw e (record { places = refl; subtrees = λ j i h. absurd (at_none i (2 ^ j) (pow_pos j) h) })
 
   -- the nodes of the leaves D, where above a level those that end with the last leaf are missing
   pub record Filled (nodes D : List (List ℕ)) (level : ℕ) : Type 0 where
-    pub leaves : leaves_of nodes ≡ D
+    pub leaves : stored_leaves nodes ≡ D
     pub places : length nodes ≡ 2 * length D
     pub earlier : (j i : ℕ) → (i + 1) * 2 ^ j < length D → get_or nodes (place j i) [] ≡ subtree H j i D
     pub newest : (j i : ℕ) → (i + 1) * 2 ^ j ≡ length D → j ≤ level → get_or nodes (place j i) [] ≡ subtree H j i D
@@ -136,14 +136,14 @@ module _ (H : List ℕ → List ℕ) where
   zero_place : (i : ℕ) → place 0 i ≡ 2 * i
   zero_place i = omega arith
 
-  get-zero : (nodes D : List (List ℕ)) (j i : ℕ) → j ≡ 0 → leaves_of nodes ≡ D → get_or nodes (place j i) [] ≡ subtree H j i D
+  get-zero : (nodes D : List (List ℕ)) (j i : ℕ) → j ≡ 0 → stored_leaves nodes ≡ D → get_or nodes (place j i) [] ≡ subtree H j i D
   unfolding subtree
-  get-zero nodes D j i e f = rw (e, zero_place i) (get-leaves_of i nodes [] ∙ ap (λ (q : List (List ℕ)). get_or q i []) f)
+  get-zero nodes D j i e f = rw (e, zero_place i) (get-stored_leaves i nodes [] ∙ ap (λ (q : List (List ℕ)). get_or q i []) f)
 
-  pub fill_first : (nodes D : List (List ℕ)) (x : List ℕ) → leaves_of nodes ≡ D → Stores H nodes (leaves_of nodes) → Filled (nodes ++ x ∷ x ∷ []) (D ++ x ∷ []) 0
+  pub fill_first : (nodes D : List (List ℕ)) (x : List ℕ) → stored_leaves nodes ≡ D → Stores H nodes (stored_leaves nodes) → Filled (nodes ++ x ∷ x ∷ []) (D ++ x ∷ []) 0
   fill_first nodes D x e t =
       let s : Stores H nodes D = subst (λ (q : List (List ℕ)). Stores H nodes q) e t in
-      let l : leaves_of (nodes ++ x ∷ x ∷ []) ≡ D ++ x ∷ [] = leaves_of-push (length D) nodes x x s.places ∙ ap (λ (q : List (List ℕ)). q ++ x ∷ []) e in
+      let l : stored_leaves (nodes ++ x ∷ x ∷ []) ≡ D ++ x ∷ [] = stored_leaves-push (length D) nodes x x s.places ∙ ap (λ (q : List (List ℕ)). q ++ x ∷ []) e in
       let n : length (D ++ x ∷ []) ≡ length D + 1 = length-append D (x ∷ []) in
       record {
         leaves = l;
@@ -176,7 +176,7 @@ module _ (H : List ℕ → List ℕ) where
   pub fill_up : (nodes D : List (List ℕ)) (j k : ℕ) (v : List ℕ) → Filled nodes D j → (k + 1) * 2 ^ (j + 1) ≡ length D
       → v ≡ subtree H (j + 1) k D → Filled (set nodes (place (j + 1) k) v) D (j + 1)
   fill_up nodes D j k v f e g = record {
-    leaves = ap (λ (q : ℕ). leaves_of (set nodes q v)) (odd_place j k) ∙ leaves_of-set (place j k) nodes v ∙ f.leaves;
+    leaves = ap (λ (q : ℕ). stored_leaves (set nodes q v)) (odd_place j k) ∙ stored_leaves-set (place j k) nodes v ∙ f.leaves;
     places = length-set nodes (place (j + 1) k) v ∙ f.places;
     earlier = λ a i h.
         get_or-set_other nodes (place (j + 1) k) (place a i) v []

@@ -6,7 +6,7 @@
 //! - [`Nodes`] keeps every node of such a tree, and answers the root, the audit paths and the consistency proofs of each
 //!   beginning of the list.
 //! - `hash_batch` hashes many leaves by several threads.
-//! - [`Head`] is a tree head without its signature.
+//! - `largest_power_below` is where a tree is split, and [`Head`] is a tree head without its signature.
 //! - [`reference`] computes roots, paths and proofs as the RFC writes them, slowly. `tree_tests` compares with it.
 //! - [`laws`] shows that the definitions of `specs/Tree.antt`, which all the contracts name, are the RFC's equations.
 //!
@@ -18,6 +18,7 @@ mod hash;
 mod head;
 pub mod laws;
 mod nodes;
+mod power;
 pub mod reference;
 mod stack;
 
@@ -25,6 +26,7 @@ pub use batch::{hash_batch, hash_batch_parts};
 pub use hash::{NodeHash, Sha256Hash, leaf_hash, leaf_hash_parts, node_hash};
 pub use head::Head;
 pub use nodes::Nodes;
+pub use power::largest_power_below;
 pub use stack::{Snapshot, Stack};
 use std::alloc::AllocError;
 

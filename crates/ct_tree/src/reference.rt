@@ -1,24 +1,11 @@
 //! The reference program: MTH, PATH and PROOF of a list of leaf hashes, by the recursions of RFC 6962, section 2.1, as
 //! they are written there. It is slow, and `tree_tests` compares what `Stack` and `Nodes` answer with it.
 ghost use Rattle.std.specs.Prelude.{◌≡◌, ◌-◌, ◌<◌, ◌≤◌, Bool, List, length, IfOk};
-ghost use Rattle.ct_tree.specs.Tree.{split, mth, path as path_of, subproof as subproof_of, proof as proof_of};
+ghost use Rattle.ct_tree.specs.Tree.{mth, path as path_of, subproof as subproof_of, proof as proof_of};
 
 use crate::hash::{NodeHash, empty_root, node_hash};
+use crate::power::largest_power_below;
 use std::alloc::{AllocError, Global};
-
-// The largest power of two smaller than `n`.
-fn largest_power_below(n: usize) -> usize
-    requires { 1 < n }
-    ensures split { result ≡ split n }
-    ensures positive { 0 < result }
-    ensures below { result < n }
-{
-    let mut power = 1;
-    while power < n - power {
-        power *= 2;
-    }
-    power
-}
 
 /// MTH of a list of leaf hashes (RFC 6962, section 2.1).
 pub fn root<H: NodeHash>(h: &H, leaves: &[[u8; 32]]) -> [u8; 32]

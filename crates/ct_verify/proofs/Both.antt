@@ -7,7 +7,7 @@ use Rattle.ct_tree.specs.Tree.{split}
 use Rattle.ct_verify.proofs.Along.{along-left, along-right, along-end, along-one, along-past, along-up_odd, along-up_even, along-up_lone}
 use Rattle.ct_verify.proofs.Options.{reverse_first}
 use Rattle.ct_verify.specs.Climb.{along, pair_left, pair_right, pair_up}
-use Rattle.ct_verify.specs.Rebuild.{both_down, both, same_pair}
+use Rattle.ct_verify.specs.Rebuild.{both_down, both_roots, same_pair}
 
 module _ (H : List ℕ → List ℕ) where
   pub both-left : (m n k : ℕ) (b : Bool) (r s : List ℕ) (q : List (List ℕ)) → m < n → split n ≡ k → m ≤ k
@@ -121,17 +121,17 @@ module _ (H : List ℕ → List ℕ) where
 
 -- ---- the same for a path in its own order
 module _ (H : List ℕ → List ℕ) where
-  pub both-halved : (m n : ℕ) (b : Bool) (r : List ℕ) (p : List (List ℕ)) → m % 2 ≡ 0 → 0 < m → m < n → both H m n b r p ≡ both H (m / 2) (up n) b r p
-  unfolding both
+  pub both-halved : (m n : ℕ) (b : Bool) (r : List ℕ) (p : List (List ℕ)) → m % 2 ≡ 0 → 0 < m → m < n → both_roots H m n b r p ≡ both_roots H (m / 2) (up n) b r p
+  unfolding both_roots
   both-halved m n b r p e z l = both-up H r (reverse p) m n b e z (inside l)
 
-  pub both-begin_known : (n : ℕ) (r : List ℕ) (p : List (List ℕ)) → both H 1 n true r p ≡ pair_up H 0 n (r, r) p
-  unfolding both pair_up
+  pub both-begin_known : (n : ℕ) (r : List ℕ) (p : List (List ℕ)) → both_roots H 1 n true r p ≡ pair_up H 0 n (r, r) p
+  unfolding both_roots pair_up
   both-begin_known n r p = both-first H r (reverse p) n
 
   pub both-begin : (m n : ℕ) (b : Bool) (r c : List ℕ) (p : List (List ℕ)) → m % 2 ≡ 1 → 1 < m → m < n
-      → both H m n b r (c ∷ p) ≡ pair_up H (m - 1) n (c, c) p
-  unfolding both pair_up
+      → both_roots H m n b r (c ∷ p) ≡ pair_up H (m - 1) n (c, c) p
+  unfolding both_roots pair_up
   both-begin m n b r c p o g l = rw (reverse_first c p) (both-odd H c (reverse p) r m n b o (inr g) (inside l))
 
   pub pair_up-one : (m : ℕ) (z : List ℕ × List ℕ) → pair_up H m 1 z [] ≡ Some z

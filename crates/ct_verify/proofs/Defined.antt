@@ -11,7 +11,7 @@ use Rattle.ct_verify.proofs.Options.{none_some, same_some, mapped, some_mapped}
 use Rattle.ct_verify.proofs.Rebuild.{rebuild_left, rebuild_right, rebuild_past, rebuild_short, rebuild_leaf}
 use Rattle.ct_verify.proofs.Both.{both-left, both-right, both-end, both-end_whole, both-whole}
 use Rattle.ct_verify.specs.Climb.{pair_left, pair_right}
-use Rattle.ct_verify.specs.Rebuild.{rebuild, rebuild_down, both, both_down, same_pair}
+use Rattle.ct_verify.specs.Rebuild.{rebuild, rebuild_down, both_roots, both_down, same_pair}
 use Rattle.ct_verify.specs.Verdict.{AcceptsInclusion, RefusesInclusion, AcceptsConsistency, RefusesConsistency}
 use Rattle.ct_verify.specs.declared.fault.ProofFault.{ProofFault}
 use Rattle.ct_verify.specs.declared.fault.ProofFault.TheVariants.{IndexOutOfRange, PathTooLong, PathTooShort, RootMismatch, EmptyPath, FirstMismatch, SizesOutOfRange}
@@ -153,19 +153,19 @@ module _ (H : List ℕ → List ℕ) where
       (λ (g : n ≤ m). whole_enough (s ∷ q) m n b r g (e ∙ subproof_length-whole m n b p (omega arith)))
       (cases_lt m n)
 
-  pub both_defined_length : (m n : ℕ) (b : Bool) (r : List ℕ) (p : List (List ℕ)) (z : List ℕ × List ℕ) → 0 < m → m ≤ n → both H m n b r p ≡ Some z
+  pub both_defined_length : (m n : ℕ) (b : Bool) (r : List ℕ) (p : List (List ℕ)) (z : List ℕ × List ℕ) → 0 < m → m ≤ n → both_roots H m n b r p ≡ Some z
       → length p ≡ subproof_length m n b
-  unfolding both
+  unfolding both_roots
   both_defined_length m n b r p z s w e = sym (length-reverse p) ∙ both_defined_down (reverse p) m n b r z s w e
 
   pub proof_long_enough : (m n : ℕ) (b : Bool) (r : List ℕ) (p : List (List ℕ)) → 0 < m → m ≤ n → length p ≡ subproof_length m n b
-      → is_some (both H m n b r p) ≡ true
-  unfolding both
+      → is_some (both_roots H m n b r p) ≡ true
+  unfolding both_roots
   proof_long_enough m n b r p z w e = both_long_enough (reverse p) m n b r z w (length-reverse p ∙ e)
 
-  not_empty : (m n : ℕ) (r : List ℕ) (p : List (List ℕ)) (z : List ℕ × List ℕ) → m < n → p ≡ [] → both H m n true r p ≡ Some z → ⊥
-  unfolding both
-  not_empty m n r p z l f e = none_some z (sym (both-end H m n true r l) ∙ sym (ap (both H m n true r) f) ∙ e)
+  not_empty : (m n : ℕ) (r : List ℕ) (p : List (List ℕ)) (z : List ℕ × List ℕ) → m < n → p ≡ [] → both_roots H m n true r p ≡ Some z → ⊥
+  unfolding both_roots
+  not_empty m n r p z l f e = none_some z (sym (both-end H m n true r l) ∙ sym (ap (both_roots H m n true r) f) ∙ e)
 
   pub accepted_proof_not_refused : (m n : ℕ) (x y : List ℕ) (p : List (List ℕ)) (fault : ProofFault) → AcceptsConsistency H m n x y p
       → RefusesConsistency H m n x y p fault → ⊥

@@ -1,10 +1,10 @@
--- The laws of `rebuild` and `both`.
+-- The laws of `rebuild` and `both_roots`.
 use Rattle.std.proofs.Common.{refl, sym, arith, length, true}
 use Rattle.ct_verify.proofs.Options.{held}
 use Rattle.ct_verify.proofs.Rebuild.{rebuild-one}
 use Rattle.ct_verify.proofs.RebuildLaws.{rebuild-left, rebuild-right, both_left, both_right, both_whole_known, both_whole_given, path_rebuilds_at, proof_rebuilds_at}
 use Rattle.ct_verify.proofs.Defined.{defined_length, path_long_enough, both_defined_length, proof_long_enough, accepted_not_refused, accepted_proof_not_refused}
-use Rattle.ct_verify.specs.Rebuild.{rebuild, both}
+use Rattle.ct_verify.specs.Rebuild.{rebuild, both_roots}
 use Rattle.ct_verify.specs.Laws.{RebuildOfOne, RebuildInLeft, RebuildInRight, RebuildDefined, BothOfKnown, BothOfUnknown, BothInLeft, BothInRight, BothDefined, PathRebuilds, PathAccepted, PathNotRefused, ProofRebuilds, ProofAccepted, ProofNotRefused}
 
 pub rebuild_of_one : RebuildOfOne
@@ -36,7 +36,7 @@ both_in_right H m n k b r s q l e high = both_right H m n k b r r s q l (sym e) 
 
 pub both_defined : BothDefined
 both_defined H m n b r p z w = (
-  λ s. let x = held (both H m n b r p) s in both_defined_length H m n b r p x.0 z w x.1,
+  λ s. let x = held (both_roots H m n b r p) s in both_defined_length H m n b r p x.0 z w x.1,
   λ e. proof_long_enough H m n b r p z w e,
 )
 

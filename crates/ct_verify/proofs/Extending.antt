@@ -10,7 +10,7 @@ use Rattle.std.proofs.lemmas.List.{length-map, take-map}
 use Rattle.ct_tree.specs.Tree.{mth_of_leaves}
 use Rattle.ct_verify.proofs.Defined.{accepted_proof_not_refused}
 use Rattle.ct_verify.specs.Verdict.{AcceptsConsistency, RefusesConsistency}
-use Rattle.ct_verify.specs.ConsistencyEvidence.{IsAcceptedFor, Begins, ConsistencyEvidence, ConsistencyFault}
+use Rattle.ct_verify.specs.ConsistencyEvidence.{IsAcceptedFor, IsBeginning, ConsistencyEvidence, ConsistencyFault}
 use Rattle.ct_verify.specs.declared.fault.ProofFault.{ProofFault}
 use Rattle.ct_verify.specs.declared.evidence.Evidence.{Evidence}
 use Rattle.ct_verify.specs.declared.evidence.Evidence.TheVariants.{Holds, Collision}
@@ -23,7 +23,7 @@ answered (Ok x) P Q e i j q = absurd (both_ways false refl i)
 answered (Err x) P Q e i j q = subst Q (sym j) q
 
 -- a list of lists of bytes compared with the beginning of another
-pub begins_decides : {V : Type 0} (f : V → List ℕ) (xs ys : List V) → Decides (pointwise (λ x y. pointwise eqb (f x) (f y)) xs (take (length xs) ys)) (Begins (map f xs) (map f ys))
+pub begins_decides : {V : Type 0} (f : V → List ℕ) (xs ys : List V) → Decides (pointwise (λ x y. pointwise eqb (f x) (f y)) xs (take (length xs) ys)) (IsBeginning (map f xs) (map f ys))
 begins_decides f xs ys =
     let d : Decides (pointwise (pointwise eqb) (map f xs) (map f (take (length xs) ys))) (map f xs ≡ map f (take (length xs) ys)) =
     pointwise_decides bytes_eq-Decides (map f xs) (map f (take (length xs) ys)) in
@@ -44,7 +44,7 @@ module _ (H : List ℕ → List ℕ) {V : Type 0} (f : V → List ℕ) where
 module _ (H : List ℕ → List ℕ) where
   -- where the old list begins the new one, an accepted proof is answered by Holds alone
   pub extension_holds : (E D p : List (List ℕ)) (result : Result Evidence EvidenceFault)
-      → MatchResult result (ConsistencyEvidence H E D p) (ConsistencyFault H E D p) → IsAcceptedFor H E D p → Begins E D → result ≡ Ok Holds
+      → MatchResult result (ConsistencyEvidence H E D p) (ConsistencyFault H E D p) → IsAcceptedFor H E D p → IsBeginning E D → result ≡ Ok Holds
   extension_holds E D p (Ok Holds) e a b = refl
   extension_holds E D p (Ok (Collision x y)) e a b = absurd (e.1 b)
   extension_holds E D p (Err (ProofRefused v)) e a b =

@@ -14,3 +14,4 @@ pub mod Explaining
 pub mod Prefix
 pub mod Walking
 pub mod Extending
+pub mod Clashes

@@ -9,7 +9,7 @@ use Rattle.ct_tree.specs.Lengths.{path_length, subproof_length}
 use Rattle.ct_verify.proofs.Both.{both-halved, both-begin_known, both-begin, pair_up-one, pair_up-odd, pair_up-even, pair_up-lone}
 use Rattle.ct_verify.proofs.Walk.{up_last, lifted_inside}
 use Rattle.ct_verify.specs.Climb.{pair_up, pair_left, pair_right}
-use Rattle.ct_verify.specs.Rebuild.{both}
+use Rattle.ct_verify.specs.Rebuild.{both_roots}
 use Rattle.ct_verify.specs.Place.{Lifted, here, above, Halved, start, higher}
 use Rattle.ct_verify.specs.Verdict.{RefusesConsistency}
 use Rattle.ct_verify.specs.CheckFrom.{WalkRefuses}
@@ -50,7 +50,7 @@ module _ (H : List ℕ → List ℕ) where
       let i = halved_inside a b n' l' w h in omega arith
 
   pub halved_both : (d : Bool) (r : List ℕ) (p : List (List ℕ)) (a b n l : ℕ) → Halved a b n l → a < b
-      → both H (a + 1) (b + 1) d r p ≡ both H (n + 1) (l + 1) d r p
+      → both_roots H (a + 1) (b + 1) d r p ≡ both_roots H (n + 1) (l + 1) d r p
   halved_both d r p a b n l start h = refl
   halved_both d r p a b n l (higher n' l' w o) h =
       let i = halved_inside a b n' l' w h in
@@ -72,7 +72,7 @@ halved_length d a b n l (higher n' l' w o) h =
 -- what the walk from the first value refuses is refused
 pub refused : (H : List ℕ → List ℕ) (m n : ℕ) (x y : List ℕ) (p : List (List ℕ)) (a l : ℕ) (v : List ℕ) (q : List (List ℕ))
     → 0 < m → m < n → 0 < length p
-    → both H m n true x p ≡ pair_up H a (l + 1) (v, v) q
+    → both_roots H m n true x p ≡ pair_up H a (l + 1) (v, v) q
     → subproof_length m n true + length q ≡ path_length a (l + 1) + length p
     → (fault : ProofFault) → WalkRefuses H a l v x y q fault → RefusesConsistency H m n x y p fault
 refused H m n x y p a l v q z i s e f PathTooLong w = (z, i, omega arith)
@@ -91,7 +91,7 @@ answer_carried (Err e) f g h = g e h
 
 -- the first root is the first value
 pub begin_known : (H : List ℕ → List ℕ) (m n : ℕ) (x : List ℕ) (p : List (List ℕ)) (a l : ℕ) → 0 < m → m < n → Halved (m - 1) (n - 1) a l → a ≡ 0
-    → both H m n true x p ≡ pair_up H a (l + 1) (x, x) p
+    → both_roots H m n true x p ≡ pair_up H a (l + 1) (x, x) p
 begin_known H m n x p a l z i w e =
     let f : m - 1 + 1 ≡ m = omega arith in
     let g : n - 1 + 1 ≡ n = omega arith in
@@ -107,7 +107,7 @@ begin_known_length m n a l z i w e =
 
 -- the first element is the first value
 pub begin : (H : List ℕ → List ℕ) (m n : ℕ) (x v : List ℕ) (p : List (List ℕ)) (a l : ℕ) → 0 < m → m < n → Halved (m - 1) (n - 1) a l → a % 2 ≡ 0 → (a ≡ 0 → ⊥)
-    → both H m n true x (v ∷ p) ≡ pair_up H a (l + 1) (v, v) p
+    → both_roots H m n true x (v ∷ p) ≡ pair_up H a (l + 1) (v, v) p
 begin H m n x v p a l z i w o e =
     let f : m - 1 + 1 ≡ m = omega arith in
     let g : n - 1 + 1 ≡ n = omega arith in
@@ -134,8 +134,8 @@ first_rest [] h = absurd (omega arith)
 first_rest (x ∷ xs) h = ap (λ q. x ∷ q) (sym (take_all (length (x ∷ xs) - 1) xs (omega arith)))
 
 pub begin_at : (H : List ℕ → List ℕ) (m n : ℕ) (x v : List ℕ) (p q : List (List ℕ)) (a l : ℕ) → p ≡ v ∷ q → 0 < m → m < n → Halved (m - 1) (n - 1) a l → a % 2 ≡ 0 → (a ≡ 0 → ⊥)
-    → both H m n true x p ≡ pair_up H a (l + 1) (v, v) q
-begin_at H m n x v p q a l f z i w o e = ap (both H m n true x) f ∙ begin H m n x v q a l z i w o e
+    → both_roots H m n true x p ≡ pair_up H a (l + 1) (v, v) q
+begin_at H m n x v p q a l f z i w o e = ap (both_roots H m n true x) f ∙ begin H m n x v q a l z i w o e
 
 pub begin_at_length : (m n a l : ℕ) (v : List ℕ) (p q : List (List ℕ)) → p ≡ v ∷ q → 0 < m → m < n → Halved (m - 1) (n - 1) a l → a % 2 ≡ 0 → (a ≡ 0 → ⊥)
     → subproof_length m n true + length q ≡ path_length a (l + 1) + length p

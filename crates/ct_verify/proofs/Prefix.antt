@@ -9,9 +9,8 @@ use Rattle.ct_verify.proofs.RebuildLaws.{both_left, both_right}
 use Rattle.ct_verify.proofs.Options.{none_some, same_some}
 use Rattle.ct_verify.proofs.Shown.{leaves_split, leaves_one}
 use Rattle.ct_verify.specs.Climb.{pair_left, pair_right}
-use Rattle.ct_verify.specs.Rebuild.{both}
-use Rattle.ct_verify.specs.declared.consistency_evidence.Pair.{Pair}
-use Rattle.ct_verify.specs.Search.{FoundOr, NodesApart, SameRoot, Begun}
+use Rattle.ct_verify.specs.Rebuild.{both_roots}
+use Rattle.ct_verify.specs.Search.{NodesApart, SameRoot, Begun}
 
 parts_make : {X : Type 0} (k : ℕ) (xs ys : List X) → take k xs ≡ take k ys → drop k xs ≡ drop k ys → xs ≡ ys
 parts_make k xs ys a b = sym (take-append-drop k xs) ∙ rw (a, b) (take-append-drop k ys)
@@ -38,79 +37,44 @@ module _ (H : List ℕ → List ℕ) where
       parts_make k E D (left z.0) (right z.1)
 
   pub begun_whole : (b : Bool) (r : List ℕ) (p E D : List (List ℕ)) → length E ≡ length D
-      → ((x y : List ℕ) → both H (length E) (length D) b r p ≡ Some (x, y) → x ≡ y) → SameRoot H E D → Begun H b r p E D
+      → ((x y : List ℕ) → both_roots H (length E) (length D) b r p ≡ Some (x, y) → x ≡ y) → SameRoot H E D → Begun H b r p E D
   begun_whole b r p E D n one same e =
       same (one (mth_of_leaves H E) (mth_of_leaves H D) e) ∙ sym (take_all (length E) D (omega arith))
 
   -- the old list lies in the left part: x, y are the roots that the proof gives there
   pub begun_left : (b : Bool) (r s x y : List ℕ) (p q E D : List (List ℕ)) (k : ℕ) → length E < length D → 1 < length D → split (length D) ≡ k → length E ≤ k
-      → p ≡ q ++ s ∷ [] → both H (length E) k b r q ≡ Some (x, y)
+      → p ≡ q ++ s ∷ [] → both_roots H (length E) k b r q ≡ Some (x, y)
       → NodesApart H y s (mth_of_leaves H (take k D)) (mth_of_leaves H (drop k D))
       → Begun H b r q E (take k D) → Begun H b r p E D
   begun_left b r s x y p q E D k l more f low w two apart under e =
       let c : length (take k D) ≡ k = length-take-le k D (omega (arith, split_lt (length D) more)) in
-      let z : both H (length E) (length D) b r p ≡ Some (x, hash_node H y s) =
-      ap (both H (length E) (length D) b r) w ∙ both_left H (length E) (length D) k b r s q l f low ∙ ap (option_map (λ z. pair_left H z s)) two in
+      let z : both_roots H (length E) (length D) b r p ≡ Some (x, hash_node H y s) =
+      ap (both_roots H (length E) (length D) b r) w ∙ both_left H (length E) (length D) k b r s q l f low ∙ ap (option_map (λ z. pair_left H z s)) two in
       let v = pair_parts (x, hash_node H y s) (mth_of_leaves H E, mth_of_leaves H D) (same_some (x, hash_node H y s) (mth_of_leaves H E, mth_of_leaves H D) (sym z ∙ e)) in
       let a = apart (v.1 ∙ halves D k more f) in
-      under (ap (λ u. both H (length E) u b r q) c ∙ two ∙ rw (v.0, a.0) refl)
+      under (ap (λ u. both_roots H (length E) u b r q) c ∙ two ∙ rw (v.0, a.0) refl)
       ∙ take-take (length E) k D low
 
   -- it goes into the right part
   pub begun_right : (b : Bool) (r t s x y : List ℕ) (p q E D : List (List ℕ)) (k : ℕ) → length E < length D → 1 < length E → split (length D) ≡ k → split (length E) ≡ k → k < length E
-      → p ≡ q ++ s ∷ [] → both H (length E - k) (length D - k) false t q ≡ Some (x, y)
+      → p ≡ q ++ s ∷ [] → both_roots H (length E - k) (length D - k) false t q ≡ Some (x, y)
       → NodesApart H s x (mth_of_leaves H (take k E)) (mth_of_leaves H (drop k E))
       → NodesApart H s y (mth_of_leaves H (take k D)) (mth_of_leaves H (drop k D))
       → SameRoot H (take k E) (take k D) → Begun H false t q (drop k E) (drop k D) → Begun H b r p E D
   begun_right b r t s x y p q E D k l more f g high w two apart_old apart_new left right e =
       let m : length (drop k E) ≡ length E - k = length-drop k E in
       let n : length (drop k D) ≡ length D - k = length-drop k D in
-      let z : both H (length E) (length D) b r p ≡ Some (hash_node H s x, hash_node H s y) =
-      ap (both H (length E) (length D) b r) w ∙ both_right H (length E) (length D) k b r t s q l f high ∙ ap (option_map (λ z. pair_right H z s)) two in
+      let z : both_roots H (length E) (length D) b r p ≡ Some (hash_node H s x, hash_node H s y) =
+      ap (both_roots H (length E) (length D) b r) w ∙ both_right H (length E) (length D) k b r t s q l f high ∙ ap (option_map (λ z. pair_right H z s)) two in
       let v = pair_parts (hash_node H s x, hash_node H s y) (mth_of_leaves H E, mth_of_leaves H D)
       (same_some (hash_node H s x, hash_node H s y) (mth_of_leaves H E, mth_of_leaves H D) (sym z ∙ e)) in
       let a = apart_old (v.0 ∙ halves E k more g) in
       let c = apart_new (v.1 ∙ halves D k (omega arith) f) in
       let h : take k E ≡ take k D = left (sym a.0 ∙ c.0) in
-      let o : both H (length (drop k E)) (length (drop k D)) false t q ≡ Some (x, y) = rw (m, n) two in
+      let o : both_roots H (length (drop k E)) (length (drop k D)) false t q ≡ Some (x, y) = rw (m, n) two in
       let u : Some (x, y) ≡ Some (mth_of_leaves H (drop k E), mth_of_leaves H (drop k D)) = rw (a.1, c.1) refl in
       let i : drop k E ≡ take (length (drop k E)) (drop k D) = right (o ∙ u) in
       let j : k + (length E - k) ≡ length E = omega arith in
       parts_make k E (take (length E) D)
       (h ∙ sym (take-take k (length E) D (omega arith)))
       (i ∙ ap (λ u. take u (drop k D)) m ∙ sym (drop-take k (length E - k) D) ∙ ap (λ u. drop k (take u D)) j)
-
-  -- ---- what was found, or else a law
-  pub found_map : (P Q : Type 0) (o : Option Pair) → (P → Q) → FoundOr H P o → FoundOr H Q o
-  found_map P Q None f s = f s
-  found_map P Q (Some z) f s = s
-
-  pub found_both : (P Q : Type 0) (a b r : Option Pair) → ((a ≡ None) × (r ≡ b)) ⊎ ((a ≡ None → ⊥) × (r ≡ a)) → FoundOr H P a → FoundOr H Q b → FoundOr H (P × Q) r
-  found_both P Q None b r (inl e) s t = subst (FoundOr H (P × Q)) (sym e.1) (found_map Q (P × Q) b (λ q. (s, q)) t)
-  found_both P Q None b r (inr e) s t = absurd (e.0 refl)
-  found_both P Q (Some z) b r (inl e) s t = absurd (some_none z e.0)
-  found_both P Q (Some z) b r (inr e) s t = subst (FoundOr H (P × Q)) (sym e.1) s
-
-  pub diverged : {V : Type 0} (f : V → List ℕ) (xs ys : List V) (k : ℕ) (a b c d : List ℕ) → length xs ≡ length ys → 1 < length xs → k ≡ split (length xs)
-      → a ≡ mth_of_leaves H (map f (take k xs)) → b ≡ mth_of_leaves H (map f (take (length xs - k) (drop k xs)))
-      → c ≡ mth_of_leaves H (map f (take k ys)) → d ≡ mth_of_leaves H (map f (take (length ys - k) (drop k ys)))
-      → (SameRoot H (map f (take k xs)) (map f (take k ys)) × SameRoot H (map f (take (length xs - k) (drop k xs))) (map f (take (length ys - k) (drop k ys)))) × NodesApart H a b c d
-      → SameRoot H (map f xs) (map f ys)
-  diverged f xs ys k a b c d n more e ea eb ec ed s =
-      let m : length (map f xs) ≡ length xs = length-map xs f in
-      let o : length (map f ys) ≡ length ys = length-map ys f in
-      let apart : NodesApart H (mth_of_leaves H (map f (take k xs))) (mth_of_leaves H (map f (drop k xs))) (mth_of_leaves H (map f (take k ys))) (mth_of_leaves H (map f (drop k ys))) =
-      rw (ea, eb, ec, ed, take_rest xs k, take_rest ys k) at s.1 in
-      let right : SameRoot H (map f (drop k xs)) (map f (drop k ys)) = rw (take_rest xs k, take_rest ys k) at s.0.1 in
-      same_halves (map f xs) (map f ys) k (omega arith) (omega arith) (ap split o ∙ ap split (sym n) ∙ sym e)
-      (rw (take-map f k xs, drop-map f k xs, take-map f k ys, drop-map f k ys) apart)
-      (rw (take-map f k xs, take-map f k ys) s.0.0)
-      (rw (drop-map f k xs, drop-map f k ys) right)
-
-  pub diverged_one : {V : Type 0} (f : V → List ℕ) (xs ys : List V) (x y : V) → length xs ≡ 1 → length ys ≡ 1
-      → (hash_leaf H (f (get_or xs 0 x)) ≡ hash_leaf H (f (get_or ys 0 y)) → f (get_or xs 0 x) ≡ f (get_or ys 0 y)) → SameRoot H (map f xs) (map f ys)
-  diverged_one f [] ys x y l m apart = absurd (omega arith)
-  diverged_one f (u ∷ v ∷ xs) ys x y l m apart = absurd (omega arith)
-  diverged_one f (u ∷ []) [] x y l m apart = absurd (omega arith)
-  diverged_one f (u ∷ []) (v ∷ w ∷ ys) x y l m apart = absurd (omega arith)
-  diverged_one f (u ∷ []) (v ∷ []) x y l m apart = same_one (f u) (f v) apart

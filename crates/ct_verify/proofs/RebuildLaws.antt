@@ -12,7 +12,7 @@ use Rattle.ct_verify.proofs.Options.{reverse_last}
 use Rattle.ct_verify.proofs.Rebuild.{rebuild-one, rebuild_left, rebuild_right}
 use Rattle.ct_verify.proofs.Both.{both-left, both-right, both-end_whole, both-whole}
 use Rattle.ct_verify.specs.Climb.{pair_left, pair_right}
-use Rattle.ct_verify.specs.Rebuild.{rebuild, both, both_down}
+use Rattle.ct_verify.specs.Rebuild.{rebuild, both_roots, both_down}
 
 module _ (H : List ℕ → List ℕ) where
   pub rebuild-left : (m n k : ℕ) (h s : List ℕ) (q : List (List ℕ)) → 1 < n → split n ≡ k → m < k
@@ -62,26 +62,26 @@ module _ (H : List ℕ → List ℕ) where
   both_any r t (s ∷ q) m n = rw (both_any r t q (m - split n) (n - split n), both_any r t q m (split n)) refl
 
   pub both_left : (m n k : ℕ) (b : Bool) (r s : List ℕ) (q : List (List ℕ)) → m < n → split n ≡ k → m ≤ k
-      → both H m n b r (q ++ s ∷ []) ≡ option_map (λ z. pair_left H z s) (both H m k b r q)
-  unfolding both
+      → both_roots H m n b r (q ++ s ∷ []) ≡ option_map (λ z. pair_left H z s) (both_roots H m k b r q)
+  unfolding both_roots
   both_left m n k b r s q l e low = rw (reverse_last q s) (both-left H m n k b r s (reverse q) l e low)
 
   pub both_right : (m n k : ℕ) (b : Bool) (r t s : List ℕ) (q : List (List ℕ)) → m < n → split n ≡ k → k < m
-      → both H m n b r (q ++ s ∷ []) ≡ option_map (λ z. pair_right H z s) (both H (m - k) (n - k) false t q)
-  unfolding both
+      → both_roots H m n b r (q ++ s ∷ []) ≡ option_map (λ z. pair_right H z s) (both_roots H (m - k) (n - k) false t q)
+  unfolding both_roots
   both_right m n k b r t s q l e high =
       rw (reverse_last q s) (both-right H m n k b r s (reverse q) l e high ∙ ap (option_map (λ z. pair_right H z s)) (both_any r t (reverse q) (m - k) (n - k)))
 
-  both_whole : (n : ℕ) (b : Bool) (x : List ℕ) → both H n n b x (cond b [] (x ∷ [])) ≡ Some (x, x)
-  unfolding both
+  both_whole : (n : ℕ) (b : Bool) (x : List ℕ) → both_roots H n n b x (cond b [] (x ∷ [])) ≡ Some (x, x)
+  unfolding both_roots
   both_whole n true x = both-end_whole H n n true x (omega arith)
   both_whole n false x = both-whole H n n false x x [] (omega arith)
 
-  pub both_whole_known : (n : ℕ) (x : List ℕ) → both H n n true x [] ≡ Some (x, x)
+  pub both_whole_known : (n : ℕ) (x : List ℕ) → both_roots H n n true x [] ≡ Some (x, x)
   both_whole_known n x = both_whole n true x
 
-  pub both_whole_given : (n : ℕ) (r x : List ℕ) → both H n n false r (x ∷ []) ≡ Some (x, x)
-  unfolding both
+  pub both_whole_given : (n : ℕ) (r x : List ℕ) → both_roots H n n false r (x ∷ []) ≡ Some (x, x)
+  unfolding both_roots
   both_whole_given n r x = both-whole H n n false r x [] (omega arith)
 
   -- MTH of more than k of the leaves
@@ -97,9 +97,9 @@ module _ (H : List ℕ → List ℕ) where
       ∙ rw (take-take k m D (omega arith)) (ap (λ r. hash_node H (mth H (take k D)) (mth H r)) (ap (λ u. drop k (take u D)) (sym j) ∙ drop-take k (m - k) D))
 
   pub proof_rebuilds_at : (n m : ℕ) (D : List (List ℕ)) (b : Bool) → length D ≡ n → 0 < m → m ≤ n
-      → both H m n b (mth H (take m D)) (subproof H m D b) ≡ Some (mth H (take m D), mth H D)
+      → both_roots H m n b (mth H (take m D)) (subproof H m D b) ≡ Some (mth H (take m D), mth H D)
   proof_rebuilds_at =
-      split_induct (λ n. (m : ℕ) (D : List (List ℕ)) (b : Bool) → length D ≡ n → 0 < m → m ≤ n → both H m n b (mth H (take m D)) (subproof H m D b) ≡ Some (mth H (take m D), mth H D))
+      split_induct (λ n. (m : ℕ) (D : List (List ℕ)) (b : Bool) → length D ≡ n → 0 < m → m ≤ n → both_roots H m n b (mth H (take m D)) (subproof H m D b) ≡ Some (mth H (take m D), mth H D))
       (λ m D b e z i. absurd (omega arith))
       (λ m D b e z i. all 1 m D b e z (omega arith))
       (λ n h left right m D b e z i. ⊎_elim
@@ -126,7 +126,7 @@ module _ (H : List ℕ → List ℕ) where
       (λ (g : n ≤ m). all n m D b e z (omega arith))
       (cases_lt m n))
     where
-      all : (n m : ℕ) (D : List (List ℕ)) (b : Bool) → length D ≡ n → 0 < m → m ≡ n → both H m n b (mth H (take m D)) (subproof H m D b) ≡ Some (mth H (take m D), mth H D)
+      all : (n m : ℕ) (D : List (List ℕ)) (b : Bool) → length D ≡ n → 0 < m → m ≡ n → both_roots H m n b (mth H (take m D)) (subproof H m D b) ≡ Some (mth H (take m D), mth H D)
       all n m D b e z g =
           let t : take m D ≡ D = take_all m D (omega arith) in
           rw (t, subproof-whole H m D b z (omega arith), g) (both_whole n b (mth H D))

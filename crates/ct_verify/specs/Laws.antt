@@ -1,11 +1,11 @@
--- The laws of the verifiers' definitions: the equations of `rebuild` and `both`, where they are defined, that every
+-- The laws of the verifiers' definitions: the equations of `rebuild` and `both_roots`, where they are defined, that every
 -- proof of RFC 6962 is accepted, and that no accepted proof is refused. H is any hash function on byte lists, k the
 -- largest power of two smaller than n, and q : s is the path q ++ s ∷ [].
 use Rattle.std.specs.Prelude.{◌≡◌, ℕ, ◌-◌, ◌<◌, ◌≤◌, ◌↔◌, Bool, true, false, List, [], ◌∷◌, ◌++◌, length, take, get_or, Some, IsSome}
 use Rattle.std.specs.Option.{option_map}
 use Rattle.ct_tree.specs.Tree.{split, hash_node, mth, path, proof}
 use Rattle.ct_tree.specs.Lengths.{path_length, subproof_length}
-use Rattle.ct_verify.specs.Rebuild.{rebuild, both}
+use Rattle.ct_verify.specs.Rebuild.{rebuild, both_roots}
 use Rattle.ct_verify.specs.Verdict.{AcceptsInclusion, RefusesInclusion, AcceptsConsistency, RefusesConsistency}
 use Rattle.ct_verify.specs.declared.fault.ProofFault.{ProofFault}
 
@@ -30,32 +30,32 @@ abbrev pub RebuildDefined : Type 0
 RebuildDefined =
     (H : List ℕ → List ℕ) (m n : ℕ) (h : List ℕ) (p : List (List ℕ)) → m < n → IsSome (rebuild H m n h p) ↔ (length p ≡ path_length m n)
 
--- both(n, n, true, r, {}) = (r, r)
+-- both_roots(n, n, true, r, {}) = (r, r)
 abbrev pub BothOfKnown : Type 0
-BothOfKnown = (H : List ℕ → List ℕ) (n : ℕ) (r : List ℕ) → both H n n true r [] ≡ Some (r, r)
+BothOfKnown = (H : List ℕ → List ℕ) (n : ℕ) (r : List ℕ) → both_roots H n n true r [] ≡ Some (r, r)
 
--- both(n, n, false, r, {c}) = (c, c)
+-- both_roots(n, n, false, r, {c}) = (c, c)
 abbrev pub BothOfUnknown : Type 0
-BothOfUnknown = (H : List ℕ → List ℕ) (n : ℕ) (r c : List ℕ) → both H n n false r (c ∷ []) ≡ Some (c, c)
+BothOfUnknown = (H : List ℕ → List ℕ) (n : ℕ) (r c : List ℕ) → both_roots H n n false r (c ∷ []) ≡ Some (c, c)
 
--- for m < n and m <= k both(m, n, b, r, q : s) = (x, H(01 || y || s)), where (x, y) = both(m, k, b, r, q)
+-- for m < n and m <= k both_roots(m, n, b, r, q : s) = (x, H(01 || y || s)), where (x, y) = both_roots(m, k, b, r, q)
 abbrev pub BothInLeft : Type 0
 BothInLeft =
     (H : List ℕ → List ℕ) (m n k : ℕ) (b : Bool) (r s : List ℕ) (q : List (List ℕ)) → m < n → k ≡ split n → m ≤ k
-    → both H m n b r (q ++ s ∷ []) ≡ option_map (λ (x, y). (x, hash_node H y s)) (both H m k b r q)
+    → both_roots H m n b r (q ++ s ∷ []) ≡ option_map (λ (x, y). (x, hash_node H y s)) (both_roots H m k b r q)
 
--- for k < m < n both(m, n, b, r, q : s) = (H(01 || s || x), H(01 || s || y)), where
--- (x, y) = both(m - k, n - k, false, r, q)
+-- for k < m < n both_roots(m, n, b, r, q : s) = (H(01 || s || x), H(01 || s || y)), where
+-- (x, y) = both_roots(m - k, n - k, false, r, q)
 abbrev pub BothInRight : Type 0
 BothInRight =
     (H : List ℕ → List ℕ) (m n k : ℕ) (b : Bool) (r s : List ℕ) (q : List (List ℕ)) → m < n → k ≡ split n → k < m
-    → both H m n b r (q ++ s ∷ []) ≡ option_map (λ (x, y). (hash_node H s x, hash_node H s y)) (both H (m - k) (n - k) false r q)
+    → both_roots H m n b r (q ++ s ∷ []) ≡ option_map (λ (x, y). (hash_node H s x, hash_node H s y)) (both_roots H (m - k) (n - k) false r q)
 
 -- for 0 < m <= n two roots are rebuilt exactly from a path as long as SUBPROOF(m, D[n], b)
 abbrev pub BothDefined : Type 0
 BothDefined =
     (H : List ℕ → List ℕ) (m n : ℕ) (b : Bool) (r : List ℕ) (p : List (List ℕ)) → 0 < m → m ≤ n
-    → IsSome (both H m n b r p) ↔ (length p ≡ subproof_length m n b)
+    → IsSome (both_roots H m n b r p) ↔ (length p ≡ subproof_length m n b)
 
 -- a PATH leads from its leaf to MTH
 abbrev pub PathRebuilds : Type 0
@@ -78,7 +78,7 @@ PathNotRefused =
 abbrev pub ProofRebuilds : Type 0
 ProofRebuilds =
     (H : List ℕ → List ℕ) (m : ℕ) (D : List (List ℕ)) → 0 < m → m < length D
-    → both H m (length D) true (mth H (take m D)) (proof H m D) ≡ Some (mth H (take m D), mth H D)
+    → both_roots H m (length D) true (mth H (take m D)) (proof H m D) ≡ Some (mth H (take m D), mth H D)
 
 -- so every PROOF is accepted
 abbrev pub ProofAccepted : Type 0

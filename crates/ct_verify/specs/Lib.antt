@@ -10,3 +10,4 @@ pub mod CheckFrom
 pub mod Strings
 pub mod Difference
 pub mod Search
+pub mod Clash

@@ -38,5 +38,5 @@ both_down H m n b r (s ∷ q) =
 
 -- the roots of the first m leaves and of all n that the path p gives, for 0 < m, m ≤ n; where b is true, r is
 -- the root of the first m
-unfoldable pub both : (List ℕ → List ℕ) → ℕ → ℕ → Bool → List ℕ → List (List ℕ) → Option (List ℕ × List ℕ)
-both H m n b r p = both_down H m n b r (reverse p)
+unfoldable pub both_roots : (List ℕ → List ℕ) → ℕ → ℕ → Bool → List ℕ → List (List ℕ) → Option (List ℕ × List ℕ)
+both_roots H m n b r p = both_down H m n b r (reverse p)

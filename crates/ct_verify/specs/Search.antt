@@ -1,14 +1,13 @@
 -- What the search for a collision between two lists finds, as the contracts of its helper functions cite it.
-use Rattle.std.specs.Prelude.{◌≡◌, ℕ, Bool, List, length, take, Option, Some, None}
+use Rattle.std.specs.Prelude.{◌≡◌, ℕ, Bool, List, length, take, Option, Some}
+use Rattle.std.specs.Option.{option_map}
 use Rattle.ct_tree.specs.Tree.{mth_of_leaves, hash_node}
-use Rattle.ct_verify.specs.Evidence.{Collides}
-use Rattle.ct_verify.specs.Rebuild.{both}
+use Rattle.ct_verify.specs.Rebuild.{both_roots}
 use Rattle.ct_verify.specs.declared.consistency_evidence.Pair.{Pair}
 
--- a collision, or else P
-abbrev pub FoundOr : (List ℕ → List ℕ) → Type 0 → Option Pair → Type 0
-FoundOr H P None = P
-FoundOr H P (Some z) = Collides H z.first.items z.second.items
+-- the strings that were found
+abbrev pub found_strings : Option Pair → Option (List ℕ × List ℕ)
+found_strings o = option_map (λ z. (z.first.items, z.second.items)) o
 
 -- the hashes of two nodes, where they are equal, are made from equal parts
 abbrev pub NodesApart : (List ℕ → List ℕ) → List ℕ → List ℕ → List ℕ → List ℕ → Type 0
@@ -20,4 +19,4 @@ SameRoot H E D = mth_of_leaves H E ≡ mth_of_leaves H D → E ≡ D
 
 -- the proof's roots are those of the lists only where the old list begins the new one
 abbrev pub Begun : (List ℕ → List ℕ) → Bool → List ℕ → List (List ℕ) → List (List ℕ) → List (List ℕ) → Type 0
-Begun H b r p E D = both H (length E) (length D) b r p ≡ Some (mth_of_leaves H E, mth_of_leaves H D) → E ≡ take (length E) D
+Begun H b r p E D = both_roots H (length E) (length D) b r p ≡ Some (mth_of_leaves H E, mth_of_leaves H D) → E ≡ take (length E) D

@@ -1,7 +1,7 @@
 -- What the verifiers' answers say.
 use Rattle.std.specs.Prelude.{◌≡◌, ℕ, ◌<◌, ◌≤◌, List, [], length, Some, true}
 use Rattle.ct_tree.specs.Lengths.{path_length, subproof_length}
-use Rattle.ct_verify.specs.Rebuild.{rebuild, both}
+use Rattle.ct_verify.specs.Rebuild.{rebuild, both_roots}
 use Rattle.ct_verify.specs.declared.fault.ProofFault.{ProofFault}
 use Rattle.ct_verify.specs.declared.fault.ProofFault.TheVariants.{IndexOutOfRange, PathTooLong, PathTooShort, RootMismatch, EmptyPath, FirstMismatch, SizesOutOfRange}
 
@@ -21,7 +21,7 @@ RefusesInclusion H h m n p root SizesOutOfRange = ⊥
 
 -- the path p leads to the root x of the first m leaves and to the root y of all n
 abbrev pub AcceptsConsistency : (List ℕ → List ℕ) → ℕ → ℕ → List ℕ → List ℕ → List (List ℕ) → Type 0
-AcceptsConsistency H m n x y p = (0 < m) × (m < n) × (both H m n true x p ≡ Some (x, y))
+AcceptsConsistency H m n x y p = (0 < m) × (m < n) × (both_roots H m n true x p ≡ Some (x, y))
 
 -- when each refusal of a consistency proof comes
 abbrev pub RefusesConsistency : (List ℕ → List ℕ) → ℕ → ℕ → List ℕ → List ℕ → List (List ℕ) → ProofFault → Type 0
@@ -30,7 +30,7 @@ RefusesConsistency H m n x y p EmptyPath = (0 < m) × (m < n) × (p ≡ [])
 RefusesConsistency H m n x y p PathTooLong = (0 < m) × (m < n) × (subproof_length m n true < length p)
 RefusesConsistency H m n x y p PathTooShort = (0 < m) × (m < n) × (0 < length p) × (length p < subproof_length m n true)
 RefusesConsistency H m n x y p FirstMismatch =
-    (0 < m) × (m < n) × ((first second : List ℕ) × (both H m n true x p ≡ Some (first, second)) × (¬ (first ≡ x)))
+    (0 < m) × (m < n) × ((first second : List ℕ) × (both_roots H m n true x p ≡ Some (first, second)) × (¬ (first ≡ x)))
 RefusesConsistency H m n x y p RootMismatch =
-    (0 < m) × (m < n) × ((second : List ℕ) × (both H m n true x p ≡ Some (x, second)) × (¬ (second ≡ y)))
+    (0 < m) × (m < n) × ((second : List ℕ) × (both_roots H m n true x p ≡ Some (x, second)) × (¬ (second ≡ y)))
 RefusesConsistency H m n x y p IndexOutOfRange = ⊥

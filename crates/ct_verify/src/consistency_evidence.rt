@@ -1,17 +1,19 @@
 //! Evidence for an accepted consistency proof: the old list begins the new one, or two strings have one hash.
-ghost use Rattle.std.specs.Prelude.{◌≡◌, ◌+◌, ◌-◌, ◌<◌, ◌≤◌, ◌⊎◌, ◌↔◌, ℕ, List, [], length, map, take, IfOk, IsTrue, MatchResult, Some, None, Ok, cond};
-ghost use Rattle.ct_tree.specs.Tree.{hash_leaf, mth_of_leaves};
-ghost use Rattle.ct_verify.specs.Rebuild.{both};
+ghost use Rattle.std.specs.Prelude.{◌≡◌, ◌+◌, ◌-◌, ◌<◌, ◌≤◌, ◌⊎◌, ◌↔◌, ℕ, List, [], ◌∷◌, ◌++◌, length, map, take, IfOk, IsTrue, MatchResult, Some, None, Ok, cond};
+ghost use Rattle.std.specs.Option.{option_or};
+ghost use Rattle.ct_tree.specs.Tree.{hash_leaf, hash_node, mth_of_leaves};
+ghost use Rattle.ct_verify.specs.Rebuild.{both_roots};
 ghost use Rattle.ct_verify.specs.Strings.{children_string};
-ghost use Rattle.ct_verify.specs.Search.{FoundOr, NodesApart, SameRoot, Begun};
-ghost use Rattle.ct_verify.specs.ConsistencyEvidence.{IsAcceptedFor, Begins, ConsistencyEvidence, ConsistencyFault};
+ghost use Rattle.ct_verify.specs.Search.{found_strings};
+ghost use Rattle.ct_verify.specs.Clash.{clash_by, clash, ClashOfLists, ClashAlong};
+ghost use Rattle.ct_verify.specs.ConsistencyEvidence.{IsAcceptedFor, IsBeginning, ConsistencyEvidence, ConsistencyFault};
 ghost use Rattle.ct_verify.specs.declared.evidence.Evidence.TheVariants.{Holds};
 
 use crate::children::{Children, is_same, is_same_string, under_node};
 use crate::consistency::verify_consistency;
-use crate::evidence::{Evidence, EvidenceFault, joined};
-use crate::halves::{largest_power_below, last_and_rest, root_of_leaves};
-use ct_tree::{NodeHash, leaf_hash, node_hash};
+use crate::evidence::{Evidence, EvidenceFault, hashed_string};
+use crate::halves::{last_and_rest, root_of_leaves};
+use ct_tree::{NodeHash, largest_power_below, leaf_hash, node_hash};
 use std::alloc::{AllocError, Global};
 
 // Two different strings with one hash.
@@ -39,54 +41,51 @@ struct Walked {
     found: Option<Pair>,
 }
 
-// The strings of two nodes, where they differ and have one hash.
-fn meet<H: NodeHash>(
+// The strings of two nodes with these hashes, where they differ and the hashes are equal.
+fn meet(
     alloc: Global,
-    h: &H,
     a: &Children,
     b: &Children,
+    hash: &[u8; 32],
+    other: &[u8; 32],
 ) -> Result<Option<Pair>, AllocError>
-    ensures { IfOk result (FoundOr H.digest (NodesApart H.digest a.now.left a.now.right b.now.left b.now.right)) }
+    ensures { IfOk result (λ o. found_strings o ≡ clash_by hash.now other.now (children_string a.now) (children_string b.now)) }
 {
     if is_same_string(a, b) {
         return Ok(None);
     }
-    let one = node_hash(h, &a.left, &a.right);
-    let other = node_hash(h, &b.left, &b.right);
-    if is_same(&one, &other) {
-        let first = joined(alloc, 1, &a.left, &a.right)?;
-        let second = joined(alloc, 1, &b.left, &b.right)?;
-        Ok(Some(Pair { first, second }))
-    } else {
-        Ok(None)
+    if !is_same(hash, other) {
+        return Ok(None);
     }
+    let first = hashed_string(alloc, 1, &a.left, &a.right)?;
+    let second = hashed_string(alloc, 1, &b.left, &b.right)?;
+    Ok(Some(Pair { first, second }))
 }
 
-// The strings of two leaves, where they differ and have one hash.
-fn meet_leaves<H: NodeHash>(
+// The strings of two leaves with these hashes, where they differ and the hashes are equal.
+fn meet_leaves(
     alloc: Global,
-    h: &H,
     a: &[u8],
     b: &[u8],
+    hash: &[u8; 32],
+    other: &[u8; 32],
 ) -> Result<Option<Pair>, AllocError>
-    ensures { IfOk result (FoundOr H.digest (hash_leaf H.digest a.now ≡ hash_leaf H.digest b.now → a.now ≡ b.now)) }
+    ensures { IfOk result (λ o. found_strings o ≡ clash_by hash.now other.now (0 ∷ a.now) (0 ∷ b.now)) }
 {
     if a == b {
         return Ok(None);
     }
-    let one = leaf_hash(h, a);
-    let other = leaf_hash(h, b);
-    if !is_same(&one, &other) {
+    if !is_same(hash, other) {
         return Ok(None);
     }
-    let first = joined(alloc, 0, a, &[])?;
-    let second = joined(alloc, 0, b, &[])?;
+    let first = hashed_string(alloc, 0, a, &[])?;
+    let second = hashed_string(alloc, 0, b, &[])?;
     Ok(Some(Pair { first, second }))
 }
 
 // The first pair that was found.
 fn first_found(a: Option<Pair>, b: Option<Pair>) -> Option<Pair>
-    ensures { ((a ≡ None) × (result ≡ b)) ⊎ ((¬ (a ≡ None)) × (result ≡ a)) }
+    ensures { found_strings result ≡ option_or (found_strings a) (found_strings b) }
 {
     match a {
         Some(pair) => Some(pair),
@@ -94,7 +93,53 @@ fn first_found(a: Option<Pair>, b: Option<Pair>) -> Option<Pair>
     }
 }
 
-// The roots of two lists of one length, and a collision where they are equal and the lists are not.
+// Two leaves beside each other.
+fn beside_leaves<H: NodeHash>(
+    alloc: Global,
+    h: &H,
+    old: &[u8],
+    new: &[u8],
+) -> Result<Sides, AllocError>
+    ensures old { IfOk result (λ s. s.old_root ≡ hash_leaf H.digest old.now) }
+    ensures new { IfOk result (λ s. s.new_root ≡ hash_leaf H.digest new.now) }
+    ensures found { IfOk result (λ s. found_strings s.found ≡ clash H.digest (0 ∷ old.now) (0 ∷ new.now)) }
+{
+    let old_root = leaf_hash(h, old);
+    let new_root = leaf_hash(h, new);
+    let found = meet_leaves(alloc, old, new, &old_root, &new_root)?;
+    Ok(Sides {
+        old_root,
+        new_root,
+        found,
+    })
+}
+
+// The node over two parts of each list.
+fn over_parts<H: NodeHash>(
+    alloc: Global,
+    h: &H,
+    left: Sides,
+    right: Sides,
+) -> Result<Sides, AllocError>
+    ensures old { IfOk result (λ s. s.old_root ≡ hash_node H.digest left.old_root right.old_root) }
+    ensures new { IfOk result (λ s. s.new_root ≡ hash_node H.digest left.new_root right.new_root) }
+    ensures found { IfOk result (λ s. found_strings s.found ≡ option_or (option_or (found_strings left.found) (found_strings right.found))
+        (clash H.digest (1 ∷ left.old_root ++ right.old_root) (1 ∷ left.new_root ++ right.new_root))) }
+{
+    let a = under_node(left.old_root, right.old_root);
+    let b = under_node(left.new_root, right.new_root);
+    let old_root = node_hash(h, &a.left, &a.right);
+    let new_root = node_hash(h, &b.left, &b.right);
+    let met = meet(alloc, &a, &b, &old_root, &new_root)?;
+    let found = first_found(first_found(left.found, right.found), met);
+    Ok(Sides {
+        old_root,
+        new_root,
+        found,
+    })
+}
+
+// The roots of two lists of one length, and what is found in them. Each leaf is hashed once.
 fn diverge<H: NodeHash>(
     alloc: Global,
     h: &H,
@@ -105,32 +150,15 @@ fn diverge<H: NodeHash>(
     requires same { length old.now ≡ length new.now }
     ensures old { IfOk result (λ s. s.old_root ≡ mth_of_leaves H.digest (map (λ l. l.items) old.now)) }
     ensures new { IfOk result (λ s. s.new_root ≡ mth_of_leaves H.digest (map (λ l. l.items) new.now)) }
-    ensures found { IfOk result (λ s. FoundOr H.digest (SameRoot H.digest (map (λ l. l.items) old.now) (map (λ l. l.items) new.now)) s.found) }
+    ensures found { IfOk result (λ s. ClashOfLists H.digest (map (λ l. l.items) old.now) (map (λ l. l.items) new.now) (found_strings s.found)) }
 {
     if old.len() == 1 {
-        let found = meet_leaves(alloc, h, &old[0], &new[0])?;
-        let old_root = leaf_hash(h, &old[0]);
-        let new_root = leaf_hash(h, &new[0]);
-        return Ok(Sides {
-            old_root,
-            new_root,
-            found,
-        });
+        return beside_leaves(alloc, h, &old[0], &new[0]);
     }
     let middle = largest_power_below(old.len());
     let left = diverge(alloc, h, &old[..middle], &new[..middle])?;
     let right = diverge(alloc, h, &old[middle..], &new[middle..])?;
-    let a = under_node(left.old_root, right.old_root);
-    let b = under_node(left.new_root, right.new_root);
-    let met = meet(alloc, h, &a, &b)?;
-    let old_root = node_hash(h, &a.left, &a.right);
-    let new_root = node_hash(h, &b.left, &b.right);
-    let found = first_found(first_found(left.found, right.found), met);
-    Ok(Sides {
-        old_root,
-        new_root,
-        found,
-    })
+    over_parts(alloc, h, left, right)
 }
 
 // One of two digests.
@@ -140,7 +168,76 @@ fn chosen(known: bool, a: &[u8; 32], b: &[u8; 32]) -> [u8; 32]
     if known { *a } else { *b }
 }
 
-// Goes along a consistency proof through both lists.
+// The node over the part with the old list, at the left, and a part of the new list alone: the proof has `sibling` for
+// it, and `other` is its root.
+fn over_left<H: NodeHash>(
+    alloc: Global,
+    h: &H,
+    part: Walked,
+    sibling: &[u8; 32],
+    other: &[u8; 32],
+) -> Result<Walked, AllocError>
+    ensures proof { IfOk result (λ w. (w.first ≡ part.first) × (w.second ≡ hash_node H.digest part.second sibling.now)) }
+    ensures old { IfOk result (λ w. w.old_root ≡ part.old_root) }
+    ensures new { IfOk result (λ w. w.new_root ≡ hash_node H.digest part.new_root other.now) }
+    ensures found { IfOk result (λ w. found_strings w.found ≡ option_or (found_strings part.found)
+        (clash H.digest (1 ∷ part.second ++ sibling.now) (1 ∷ part.new_root ++ other.now))) }
+{
+    let a = under_node(part.second, *sibling);
+    let b = under_node(part.new_root, *other);
+    let second = node_hash(h, &a.left, &a.right);
+    let new_root = node_hash(h, &b.left, &b.right);
+    let met = meet(alloc, &a, &b, &second, &new_root)?;
+    let first = part.first;
+    let old_root = part.old_root;
+    let found = first_found(part.found, met);
+    Ok(Walked {
+        first,
+        second,
+        old_root,
+        new_root,
+        found,
+    })
+}
+
+// The nodes over a part that both lists have, at the left, and the part in which the old list ends: the proof has
+// `sibling` for the first of them.
+fn over_right<H: NodeHash>(
+    alloc: Global,
+    h: &H,
+    sides: Sides,
+    part: Walked,
+    sibling: &[u8; 32],
+) -> Result<Walked, AllocError>
+    ensures proof { IfOk result (λ w. (w.first ≡ hash_node H.digest sibling.now part.first) × (w.second ≡ hash_node H.digest sibling.now part.second)) }
+    ensures old { IfOk result (λ w. w.old_root ≡ hash_node H.digest sides.old_root part.old_root) }
+    ensures new { IfOk result (λ w. w.new_root ≡ hash_node H.digest sides.new_root part.new_root) }
+    ensures found { IfOk result (λ w. found_strings w.found ≡ option_or (option_or (found_strings sides.found) (found_strings part.found))
+        (option_or (clash H.digest (1 ∷ sibling.now ++ part.first) (1 ∷ sides.old_root ++ part.old_root))
+        (clash H.digest (1 ∷ sibling.now ++ part.second) (1 ∷ sides.new_root ++ part.new_root)))) }
+{
+    let a = under_node(*sibling, part.first);
+    let b = under_node(sides.old_root, part.old_root);
+    let first = node_hash(h, &a.left, &a.right);
+    let old_root = node_hash(h, &b.left, &b.right);
+    let met_old = meet(alloc, &a, &b, &first, &old_root)?;
+    let c = under_node(*sibling, part.second);
+    let d = under_node(sides.new_root, part.new_root);
+    let second = node_hash(h, &c.left, &c.right);
+    let new_root = node_hash(h, &d.left, &d.right);
+    let met_new = meet(alloc, &c, &d, &second, &new_root)?;
+    let below = first_found(sides.found, part.found);
+    let found = first_found(below, first_found(met_old, met_new));
+    Ok(Walked {
+        first,
+        second,
+        old_root,
+        new_root,
+        found,
+    })
+}
+
+// Goes along a consistency proof through both lists. Each leaf is hashed once.
 fn walk<H: NodeHash>(
     alloc: Global,
     h: &H,
@@ -154,9 +251,10 @@ fn walk<H: NodeHash>(
     requires within { length old.now ≤ length new.now }
     ensures old { IfOk result (λ w. w.old_root ≡ mth_of_leaves H.digest (map (λ l. l.items) old.now)) }
     ensures new { IfOk result (λ w. w.new_root ≡ mth_of_leaves H.digest (map (λ l. l.items) new.now)) }
-    ensures rebuilt { IfOk result (λ w. (x y : List ℕ) → both H.digest (length old.now) (length new.now) known first_root.now path.now ≡ Some (x, y)
+    ensures rebuilt { IfOk result (λ w. (x y : List ℕ) → both_roots H.digest (length old.now) (length new.now) known first_root.now path.now ≡ Some (x, y)
         → (w.first ≡ x) × (w.second ≡ y)) }
-    ensures found { IfOk result (λ w. FoundOr H.digest (Begun H.digest known first_root.now path.now (map (λ l. l.items) old.now) (map (λ l. l.items) new.now)) w.found) }
+    ensures found { IfOk result (λ w. (x y : List ℕ) → both_roots H.digest (length old.now) (length new.now) known first_root.now path.now ≡ Some (x, y)
+        → ClashAlong H.digest known first_root.now (map (λ l. l.items) old.now) (map (λ l. l.items) new.now) path.now (found_strings w.found)) }
 {
     let (sibling, rest) = last_and_rest(path);
     if old.len() == new.len() {
@@ -176,60 +274,18 @@ fn walk<H: NodeHash>(
     if old.len() <= middle {
         let part = walk(alloc, h, old, &new[..middle], known, first_root, rest)?;
         let other = root_of_leaves(h, &new[middle..]);
-        let a = under_node(part.second, sibling);
-        let b = under_node(part.new_root, other);
-        let met = meet(alloc, h, &a, &b)?;
-        let first = part.first;
-        let second = node_hash(h, &a.left, &a.right);
-        let old_root = part.old_root;
-        let new_root = node_hash(h, &b.left, &b.right);
-        let found = first_found(part.found, met);
-        Ok(Walked {
-            first,
-            second,
-            old_root,
-            new_root,
-            found,
-        })
-    } else {
-        let sides = diverge(alloc, h, &old[..middle], &new[..middle])?;
-        let part = walk(
-            alloc,
-            h,
-            &old[middle..],
-            &new[middle..],
-            false,
-            first_root,
-            rest,
-        )?;
-        let a = under_node(sibling, part.first);
-        let b = under_node(sides.old_root, part.old_root);
-        let c = under_node(sibling, part.second);
-        let d = under_node(sides.new_root, part.new_root);
-        let met_old = meet(alloc, h, &a, &b)?;
-        let met_new = meet(alloc, h, &c, &d)?;
-        let first = node_hash(h, &a.left, &a.right);
-        let second = node_hash(h, &c.left, &c.right);
-        let old_root = node_hash(h, &b.left, &b.right);
-        let new_root = node_hash(h, &d.left, &d.right);
-        let found = first_found(
-            first_found(sides.found, part.found),
-            first_found(met_old, met_new),
-        );
-        Ok(Walked {
-            first,
-            second,
-            old_root,
-            new_root,
-            found,
-        })
+        return over_left(alloc, h, part, &sibling, &other);
     }
+    let sides = diverge(alloc, h, &old[..middle], &new[..middle])?;
+    let (ending, beyond) = (&old[middle..], &new[middle..]);
+    let part = walk(alloc, h, ending, beyond, false, first_root, rest)?;
+    over_right(alloc, h, sides, part, &sibling)
 }
 
 // Whether the old list is the beginning of the new one.
 fn begins(old: &[Vec<u8>], new: &[Vec<u8>]) -> bool
     requires { length old.now ≤ length new.now }
-    ensures { IsTrue result ↔ Begins (map (λ l. l.items) old.now) (map (λ l. l.items) new.now) }
+    ensures { IsTrue result ↔ IsBeginning (map (λ l. l.items) old.now) (map (λ l. l.items) new.now) }
 {
     let beginning = &new[..old.len()];
     old == beginning
@@ -265,8 +321,12 @@ fn evidence_for<H: NodeHash>(
 /// Explains a consistency proof against both lists of leaves: their roots and their numbers stand for the tree heads.
 ///
 /// `Holds` says that the old list is the beginning of the new one. `Collision` says that it isn't, and gives two strings
-/// that differ and have one hash, each the string of a leaf or of a node. This holds for every hash function. Memory is
-/// taken for the strings alone.
+/// that differ and have one hash: the first such pair, from the leaves up and from the left, of what the proof, the old
+/// list and the new list hash at one place (`00` and the leaf for a leaf, `01` and two hashes for a node). The proof's
+/// string comes before a list's, and the old list's before the new one's. This holds for every hash function.
+///
+/// Each leaf is hashed once, and once more where the proof is accepted and the old list doesn't begin the new one.
+/// Memory is taken for such strings alone.
 ///
 /// # Errors
 /// `ProofRefused` with the fault of [`verify_consistency`](crate::verify_consistency) where that refuses the proof, and
@@ -281,7 +341,7 @@ pub fn explain_consistency<H: NodeHash>(
     ensures explained { MatchResult result (ConsistencyEvidence H.digest (map (λ l. l.items) old.now) (map (λ l. l.items) new.now) path.now)
         (ConsistencyFault H.digest (map (λ l. l.items) old.now) (map (λ l. l.items) new.now) path.now) }
     ensures holds { IsAcceptedFor H.digest (map (λ l. l.items) old.now) (map (λ l. l.items) new.now) path.now
-        → Begins (map (λ l. l.items) old.now) (map (λ l. l.items) new.now) → result ≡ Ok Holds }
+        → IsBeginning (map (λ l. l.items) old.now) (map (λ l. l.items) new.now) → result ≡ Ok Holds }
 {
     evidence_for(alloc, h, old, new, path)
 }

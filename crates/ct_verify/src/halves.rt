@@ -1,22 +1,8 @@
 //! The two halves of a list of leaves and of the path that belongs to one of them.
 ghost use Rattle.std.specs.Prelude.{◌≡◌, ◌+◌, ◌-◌, ◌*◌, ◌<◌, ◌≤◌, ◌^◌, ℕ, List, [], ◌∷◌, ◌++◌, length, map};
-ghost use Rattle.ct_tree.specs.Tree.{mth_of_leaves, split};
+ghost use Rattle.ct_tree.specs.Tree.{mth_of_leaves};
 
-use ct_tree::{NodeHash, leaf_hash, node_hash};
-
-// The largest power of two smaller than `n`.
-pub(crate) fn largest_power_below(n: usize) -> usize
-    requires { 1 < n }
-    ensures split { result ≡ split n }
-    ensures positive { 0 < result }
-    ensures below { result < n }
-{
-    let mut power = 1;
-    while power < n - power {
-        power *= 2;
-    }
-    power
-}
+use ct_tree::{NodeHash, largest_power_below, leaf_hash, node_hash};
 
 // The root of a list of leaves, each hashed once.
 pub(crate) fn root_of_leaves<H: NodeHash>(h: &H, leaves: &[Vec<u8>]) -> [u8; 32]
@@ -36,7 +22,8 @@ pub(crate) fn root_of_leaves<H: NodeHash>(h: &H, leaves: &[Vec<u8>]) -> [u8; 32]
 
 // The last element of a path, which is nearest the root, and the ones before it.
 pub(crate) fn last_and_rest(path: &[[u8; 32]]) -> ([u8; 32], &[[u8; 32]])
-    ensures { 0 < length path.now → path.now ≡ result.1.now ++ result.0 ∷ [] }
+    ensures parts { 0 < length path.now → path.now ≡ result.1.now ++ result.0 ∷ [] }
+    ensures length { length result.0 ≡ 32 }
 {
     match path.split_last() {
         Some((last, rest)) => (*last, rest),

@@ -10,11 +10,11 @@ ghost use Rattle.ct_verify.specs.InclusionEvidence.{InclusionEvidence, Inclusion
 ghost use Rattle.ct_verify.specs.declared.evidence.Evidence.TheVariants.{Holds};
 
 use crate::children::{Children, is_same_string, under_node};
-use crate::evidence::{Evidence, EvidenceFault, joined};
+use crate::evidence::{Evidence, EvidenceFault, hashed_string};
 use crate::fault::ProofFault;
-use crate::halves::{largest_power_below, last_and_rest, root_of_leaves};
+use crate::halves::{last_and_rest, root_of_leaves};
 use crate::inclusion::verify_inclusion;
-use ct_tree::{NodeHash, leaf_hash, node_hash};
+use ct_tree::{NodeHash, largest_power_below, leaf_hash, node_hash};
 use std::alloc::{AllocError, Global};
 
 // Where the strings of a path and those of a list differ.
@@ -141,13 +141,13 @@ fn collision(
 {
     match difference {
         Difference::AtLeaf => {
-            let proved = joined(alloc, 0, leaf, &[])?;
-            let other = joined(alloc, 0, listed, &[])?;
+            let proved = hashed_string(alloc, 0, leaf, &[])?;
+            let other = hashed_string(alloc, 0, listed, &[])?;
             Ok(Evidence::Collision(proved, other))
         }
         Difference::AtNode(proved, listed) => {
-            let first = joined(alloc, 1, &proved.left, &proved.right)?;
-            let second = joined(alloc, 1, &listed.left, &listed.right)?;
+            let first = hashed_string(alloc, 1, &proved.left, &proved.right)?;
+            let second = hashed_string(alloc, 1, &listed.left, &listed.right)?;
             Ok(Evidence::Collision(first, second))
         }
     }

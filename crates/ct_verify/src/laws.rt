@@ -13,7 +13,7 @@ pub fn rebuild()
 
 /// The two roots that a consistency proof gives, from the root of the tree down.
 #[tactic(auto, using(crate::proofs::Equations::both_of_known, crate::proofs::Equations::both_of_unknown, crate::proofs::Equations::both_in_left, crate::proofs::Equations::both_in_right, crate::proofs::Equations::both_defined))]
-pub fn both()
+pub fn both_roots()
     ensures known { BothOfKnown }
     ensures unknown { BothOfUnknown }
     ensures left { BothInLeft }

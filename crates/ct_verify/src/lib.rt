@@ -6,10 +6,10 @@
 //!
 //! What an answer means is said from the root of the tree down to the leaf, as RFC 6962, sections 2.1.1 and 2.1.2, says
 //! which hashes a proof has. A path is accepted exactly where `rebuild` (`specs/Rebuild.antt`) gives the root, and a
-//! consistency proof exactly where `both` gives the two roots. A refusal names the first fault in a fixed order
+//! consistency proof exactly where `both_roots` gives the two roots. A refusal names the first fault in a fixed order
 //! ([`ProofFault`], `specs/Verdict.antt`). The walk of the code, from the leaf up by the bits of two numbers, appears in
 //! neither. The module [`laws`] shows that every true path and every true proof is accepted, and the
-//! equations of `rebuild` and `both`.
+//! equations of `rebuild` and `both_roots`.
 //!
 //! [`explain_inclusion`] and [`explain_consistency`] say what an accepted proof means without the assumption that the
 //! hash function has no collisions. Handed the lists themselves, they answer that the proof tells the truth about them,

@@ -7,7 +7,7 @@ use ct_verify::{
 use std::alloc::{AllocError, Global};
 
 // A leaf of one byte for each byte.
-pub(crate) fn leaves_of(alloc: Global, bytes: &[u8]) -> Result<Vec<Vec<u8>>, AllocError> {
+pub(crate) fn one_byte_leaves(alloc: Global, bytes: &[u8]) -> Result<Vec<Vec<u8>>, AllocError> {
     let mut leaves = Vec::new(alloc);
     for byte in bytes {
         leaves.push(vec![in alloc; *byte]?)?;
@@ -95,8 +95,8 @@ fn proof_refusal<H: NodeHash>(
 #[test]
 fn paths_under_the_hash_of_zeros(rt: HostRuntime) -> std::io::Result<()> {
     let heap = rt.alloc();
-    let one = leaves_of(heap, &[0x41])?;
-    let two = leaves_of(heap, &[0x41, 0x42])?;
+    let one = one_byte_leaves(heap, &[0x41])?;
+    let two = one_byte_leaves(heap, &[0x41, 0x42])?;
     let other_leaf = explain_inclusion(heap, &ZeroHash, &one, &[0x42], 0, &[]);
     assert!(rt; is_collision_of(&other_leaf, &[0, 0x42], &[0, 0x41]));
 
@@ -126,9 +126,9 @@ fn paths_under_the_hash_of_zeros(rt: HostRuntime) -> std::io::Result<()> {
 #[test]
 fn proofs_under_the_hash_of_zeros(rt: HostRuntime) -> std::io::Result<()> {
     let heap = rt.alloc();
-    let old = leaves_of(heap, &[0x41])?;
-    let new = leaves_of(heap, &[0x41, 0x42])?;
-    let other = leaves_of(heap, &[0x42, 0x43])?;
+    let old = one_byte_leaves(heap, &[0x41])?;
+    let new = one_byte_leaves(heap, &[0x41, 0x42])?;
+    let other = one_byte_leaves(heap, &[0x42, 0x43])?;
     let extended = explain_consistency(heap, &ZeroHash, &old, &new, &[[1; 32]]);
     assert!(rt; is_holding(&extended));
     let rewritten = explain_consistency(heap, &ZeroHash, &old, &other, &[[0; 32]]);
@@ -168,7 +168,7 @@ fn differ_in_one_hash(answer: &Result<Evidence, EvidenceFault>) -> bool {
 // Whether each path of a list, with each element changed in turn, is accepted and gives a collision at that element,
 // and the true path with another leaf gives the two leaves.
 fn are_changes_shown(alloc: Global, bytes: &[u8]) -> Result<bool, AllocError> {
-    let leaves = leaves_of(alloc, bytes)?;
+    let leaves = one_byte_leaves(alloc, bytes)?;
     let hashes = hashes_of(alloc, &ZeroHash, &leaves)?;
     let root = reference::root(&ZeroHash, &hashes);
     let size = leaves.len() as u64;
@@ -213,7 +213,7 @@ fn every_changed_element_is_shown(rt: HostRuntime) -> std::io::Result<()> {
 // Whether one of many false paths of five leaves is accepted under the weak hash, and whether each that is gives a true
 // collision, and each other one the refusal.
 fn accepted_false_paths(alloc: Global, trials: u32) -> Result<(bool, bool), AllocError> {
-    let leaves = leaves_of(alloc, &[1, 2, 3, 4, 5])?;
+    let leaves = one_byte_leaves(alloc, &[1, 2, 3, 4, 5])?;
     let hashes = hashes_of(alloc, &WeakHash, &leaves)?;
     let root = reference::root(&WeakHash, &hashes);
     if hashes.len() < 5 {
@@ -253,7 +253,7 @@ fn accepted_false_paths_under_a_weak_hash(rt: HostRuntime) -> std::io::Result<()
 // Whether one of many lists that don't begin five leaves is accepted as their beginning under the weak hash, by the true
 // proof of the beginning, and whether each that is gives a true collision, and each other one the refusal.
 fn accepted_false_proofs(alloc: Global, trials: u32) -> Result<(bool, bool), AllocError> {
-    let new = leaves_of(alloc, &[1, 2, 3, 4, 5])?;
+    let new = one_byte_leaves(alloc, &[1, 2, 3, 4, 5])?;
     let hashes = hashes_of(alloc, &WeakHash, &new)?;
     if hashes.len() < 5 {
         return Ok((false, false));
@@ -262,7 +262,7 @@ fn accepted_false_proofs(alloc: Global, trials: u32) -> Result<(bool, bool), All
     let mut is_one_accepted = false;
     let mut right = true;
     for trial in 0..trials {
-        let mut old = leaves_of(alloc, &[1, 2])?;
+        let mut old = one_byte_leaves(alloc, &[1, 2])?;
         let mut made_up = Vec::new(alloc);
         made_up.extend_from_slice(&trial.to_be_bytes())?;
         old.push(made_up)?;

@@ -1,4 +1,4 @@
-use crate::evidence::{is_collision_of, is_holding, is_refused_with, leaves_of};
+use crate::evidence::{is_collision_of, is_holding, is_refused_with, one_byte_leaves};
 use crate::weak_hashes::ZeroHash;
 use ct_monitor::{Auditor, Monitor, MonitorFault};
 use ct_tree::{Head, Sha256Hash};
@@ -63,9 +63,9 @@ fn a_monitor_follows_three_heads(rt: HostRuntime) -> Result<(), Fail> {
     let heap = rt.alloc();
     let mut monitor = Monitor::new(heap, Sha256Hash);
     assert!(rt; monitor.last_head() == None && monitor.leaves().is_empty());
-    assert!(rt; monitor.observe(head(1, 5, ROOT_1), leaves_of(heap, &[0x41])?) == Ok(()));
-    assert!(rt; monitor.observe(head(2, 6, ROOT_2), leaves_of(heap, &[0x42])?) == Ok(()));
-    assert!(rt; monitor.observe(head(3, 7, ROOT_3), leaves_of(heap, &[0x43])?) == Ok(()));
+    assert!(rt; monitor.observe(head(1, 5, ROOT_1), one_byte_leaves(heap, &[0x41])?) == Ok(()));
+    assert!(rt; monitor.observe(head(2, 6, ROOT_2), one_byte_leaves(heap, &[0x42])?) == Ok(()));
+    assert!(rt; monitor.observe(head(3, 7, ROOT_3), one_byte_leaves(heap, &[0x43])?) == Ok(()));
     assert!(rt; is_at(&monitor, &[0x41, 0x42, 0x43], head(3, 7, ROOT_3)));
     Ok(())
 }
@@ -91,7 +91,7 @@ fn an_auditor_checks_and_explains_paths(rt: HostRuntime) -> Result<(), Fail> {
     let heap = rt.alloc();
     let auditor = Auditor::new(Sha256Hash);
     let third = head(3, 7, ROOT_3);
-    let leaves = leaves_of(heap, &[0x41, 0x42, 0x43])?;
+    let leaves = one_byte_leaves(heap, &[0x41, 0x42, 0x43])?;
     assert!(rt; auditor.check(&third, &[0x42], 1, &[ROOT_1, LEAF_2]) == Ok(()));
     assert!(rt; is_holding(&auditor.explain(heap, &leaves, &[0x42], 1, &[ROOT_1, LEAF_2])));
     let other_leaf = auditor.check(&third, &[0x43], 1, &[ROOT_1, LEAF_2]);
@@ -105,8 +105,8 @@ fn an_auditor_checks_and_explains_paths(rt: HostRuntime) -> Result<(), Fail> {
 fn an_auditor_explains_paths_under_the_hash_of_zeros(rt: HostRuntime) -> Result<(), Fail> {
     let heap = rt.alloc();
     let auditor = Auditor::new(ZeroHash);
-    let one = leaves_of(heap, &[0x41])?;
-    let two = leaves_of(heap, &[0x41, 0x42])?;
+    let one = one_byte_leaves(heap, &[0x41])?;
+    let two = one_byte_leaves(heap, &[0x41, 0x42])?;
     assert!(rt; auditor.check(&head(1, 5, [0; 32]), &[0x42], 0, &[]) == Ok(()));
     let other_leaf = auditor.explain(heap, &one, &[0x42], 0, &[]);
     assert!(rt; is_collision_of(&other_leaf, &[0, 0x42], &[0, 0x41]));
@@ -127,14 +127,14 @@ fn faults_beside_one_leaf(rt: HostRuntime) -> Result<(), Fail> {
     let heap = rt.alloc();
     let held = head(1, 5, ROOT_1);
     let mut monitor = Monitor::new(heap, Sha256Hash);
-    assert!(rt; monitor.observe(held, leaves_of(heap, &[0x41])?) == Ok(()));
+    assert!(rt; monitor.observe(held, one_byte_leaves(heap, &[0x41])?) == Ok(()));
     let fork = monitor.observe(head(1, 6, [7; 32]), Vec::new(heap));
     assert!(rt; fork == Err(MonitorFault::Fork) && is_at(&monitor, &[0x41], held));
     let shrunk = monitor.observe(head(0, 6, ROOT_1), Vec::new(heap));
     assert!(rt; shrunk == Err(MonitorFault::Shrunk) && is_at(&monitor, &[0x41], held));
     let early = monitor.observe(head(1, 4, ROOT_1), Vec::new(heap));
     assert!(rt; early == Err(MonitorFault::TimeNotLater) && is_at(&monitor, &[0x41], held));
-    let miscounted = monitor.observe(head(3, 6, ROOT_3), leaves_of(heap, &[0x42])?);
+    let miscounted = monitor.observe(head(3, 6, ROOT_3), one_byte_leaves(heap, &[0x42])?);
     assert!(rt; miscounted == Err(MonitorFault::CountMismatch) && is_at(&monitor, &[0x41], held));
     let again = monitor.observe(held, Vec::new(heap));
     assert!(rt; again == Ok(()) && is_at(&monitor, &[0x41], held));
@@ -146,14 +146,14 @@ fn faults_beside_two_leaves(rt: HostRuntime) -> Result<(), Fail> {
     let heap = rt.alloc();
     let held = head(2, 5, ROOT_2);
     let mut monitor = Monitor::new(heap, Sha256Hash);
-    assert!(rt; monitor.observe(held, leaves_of(heap, &[0x41, 0x42])?) == Ok(()));
+    assert!(rt; monitor.observe(held, one_byte_leaves(heap, &[0x41, 0x42])?) == Ok(()));
     let shrunk = monitor.observe(head(1, 4, ROOT_1), Vec::new(heap));
     assert!(rt; shrunk == Err(MonitorFault::Shrunk) && is_at(&monitor, &[0x41, 0x42], held));
     let fork = monitor.observe(head(2, 4, ROOT_1), Vec::new(heap));
     assert!(rt; fork == Err(MonitorFault::Fork) && is_at(&monitor, &[0x41, 0x42], held));
-    let forged = monitor.observe(head(3, 6, ROOT_2), leaves_of(heap, &[0x43])?);
+    let forged = monitor.observe(head(3, 6, ROOT_2), one_byte_leaves(heap, &[0x43])?);
     assert!(rt; forged == Err(MonitorFault::RootMismatch) && is_at(&monitor, &[0x41, 0x42], held));
-    let third = monitor.observe(head(3, 6, ROOT_3), leaves_of(heap, &[0x43])?);
+    let third = monitor.observe(head(3, 6, ROOT_3), one_byte_leaves(heap, &[0x43])?);
     assert!(rt; third == Ok(()) && is_at(&monitor, &[0x41, 0x42, 0x43], head(3, 6, ROOT_3)));
     Ok(())
 }
@@ -167,12 +167,12 @@ fn taken_at_last(
 ) -> Result<bool, AllocError> {
     let last = monitor.last_head();
     let count = monitor.leaves().len();
-    let mut answer = monitor.observe(next, leaves_of(alloc, &[leaf])?);
+    let mut answer = monitor.observe(next, one_byte_leaves(alloc, &[leaf])?);
     if answer == Err(MonitorFault::Memory) {
         if monitor.last_head() != last || monitor.leaves().len() != count {
             return Ok(false);
         }
-        answer = monitor.observe(next, leaves_of(alloc, &[leaf])?);
+        answer = monitor.observe(next, one_byte_leaves(alloc, &[leaf])?);
     }
     Ok(answer == Ok(()))
 }

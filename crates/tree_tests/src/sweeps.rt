@@ -88,7 +88,7 @@ fn variants(alloc: Global, path: &[[u8; 32]]) -> Result<Vec<Vec<[u8; 32]>>, Allo
 }
 
 // `size` different leaf hashes.
-fn leaves_of(alloc: Global, size: u8) -> Result<Vec<[u8; 32]>, AllocError> {
+fn numbered_hashes(alloc: Global, size: u8) -> Result<Vec<[u8; 32]>, AllocError> {
     let mut leaves = Vec::new(alloc);
     for i in 0..size {
         leaves.push(leaf_hash(&Sha256Hash, &[i]))?;
@@ -122,7 +122,7 @@ fn answer_to_path(
 
 // Whether each path of a size is answered rightly: with each index, and each of its variants.
 fn are_paths_answered(alloc: Global, size: u8) -> Result<bool, AllocError> {
-    let leaves = leaves_of(alloc, size)?;
+    let leaves = numbered_hashes(alloc, size)?;
     let tree_root = root(&Sha256Hash, &leaves);
     let mut paths = Vec::new(alloc);
     for m in 0..leaves.len() {
@@ -223,7 +223,7 @@ fn with_one_mismatch(answer: Result<(), ProofFault>) -> Result<(), ProofFault> {
 
 // Whether each proof up to a size is answered rightly: with each first size, and each of its variants.
 fn are_proofs_answered(alloc: Global, size: u8) -> Result<bool, AllocError> {
-    let leaves = leaves_of(alloc, size)?;
+    let leaves = numbered_hashes(alloc, size)?;
     let tree_root = root(&Sha256Hash, &leaves);
     let all = proofs_of(alloc, &leaves)?;
     let mut right = true;

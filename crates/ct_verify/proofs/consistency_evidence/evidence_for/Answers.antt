@@ -1,7 +1,10 @@
-use Rattle.std.proofs.Common.{Vec, Global, ℕ, List, map, true, subst}
+use Rattle.std.proofs.Common.{Vec, Global, ℕ, List, map, true, subst, refl, Some, None}
 use Rattle.std.proofs.lemmas.Bool.{both_ways}
 use Rattle.ct_verify.proofs.Extending.{answered, accepted_for, refused_for}
-use Rattle.ct_verify.specs.Search.{FoundOr, Begun}
+use Rattle.ct_tree.specs.Tree.{mth_of_leaves}
+use Rattle.ct_verify.proofs.Clashes.{along_collides, along_begins}
+use Rattle.ct_verify.specs.Search.{found_strings}
+use Rattle.ct_verify.specs.Clash.{ClashAlong}
 use Rattle.ct_verify.specs.ConsistencyEvidence.{ConsistencyEvidence, ConsistencyFault}
 use Rattle.ct_verify.specs.declared.evidence.EvidenceFault.TheVariants.{ProofRefused, Memory}
 use Rattle.ct_verify.proofs.consistency_evidence.evidence_for.Goals as goal
@@ -43,9 +46,29 @@ returns-in-Some g c =
     let H = g.H.NodeHash.digest in
     let E = map bytes c.args.old.now in
     let D = map bytes c.args.new.now in
+    let pair = c.in-Some.pair in
+    let a = c.in_ok-verify_consistency.ensures in
+    let w : ClashAlong H true c.root_of_leaves-old_root.result E D c.args.path.now (Some (pair.first.items, pair.second.items)) =
+    subst (λ o. ClashAlong H true c.root_of_leaves-old_root.result E D c.args.path.now (found_strings o)) c.in-Some.is
+    (c.in_ok-walked.ensures.found c.root_of_leaves-old_root.result c.root_of_leaves-new_root.result a.2) in
     rw c.in-Some.pair-is (
       accepted_for H bytes c.args.old.now c.args.new.now c.root_of_leaves-old_root.result c.root_of_leaves-new_root.result c.args.path.now
-          c.root_of_leaves-old_root.ensures c.root_of_leaves-new_root.ensures c.in_ok-verify_consistency.ensures,
+          c.root_of_leaves-old_root.ensures c.root_of_leaves-new_root.ensures a,
       λ b. both_ways c.begins.result c.if-begins.false (c.begins.ensures.1 b),
-      subst (FoundOr H (Begun H true c.root_of_leaves-old_root.result c.args.path.now E D)) c.in-Some.is c.in_ok-walked.ensures.found,
+      along_collides H true c.root_of_leaves-old_root.result E D c.args.path.now (Some (pair.first.items, pair.second.items)) (pair.first.items, pair.second.items) w refl,
+      rw c.root_of_leaves-old_root.ensures at w,
     )
+
+pub returns-in-None : goal.returns-in-None
+returns-in-None g c =
+    let H = g.H.NodeHash.digest in
+    let E = map bytes c.args.old.now in
+    let D = map bytes c.args.new.now in
+    let a = c.in_ok-verify_consistency.ensures in
+    let old = c.root_of_leaves-old_root.ensures in
+    let new = c.root_of_leaves-new_root.ensures in
+    let accepted = accepted_for H bytes c.args.old.now c.args.new.now c.root_of_leaves-old_root.result c.root_of_leaves-new_root.result c.args.path.now old new a in
+    let w : ClashAlong H true c.root_of_leaves-old_root.result E D c.args.path.now None =
+    subst (λ o. ClashAlong H true c.root_of_leaves-old_root.result E D c.args.path.now (found_strings o)) c.in-None.is
+    (c.in_ok-walked.ensures.found c.root_of_leaves-old_root.result c.root_of_leaves-new_root.result a.2) in
+    (accepted, along_begins H g.met.H.NodeHash.length_digest true (mth_of_leaves H E) E D c.args.path.now None accepted.0 (rw old at w) refl accepted.2)

@@ -38,7 +38,7 @@ returns-then-index-middle-clause-rebuilt g t c =
     left_rebuilt g.H.NodeHash.digest bytes c.args.leaves.now (hash_leaf g.H.NodeHash.digest c.args.leaf.now) c.args.index c.largest_power_below-middle.result c.args.path.now c.last_and_rest.result.1.now
     c.last_and_rest.result.0 c.compare-side.result.rebuilt c.join.result.rebuilt
     (omega (arith, c.largest_power_below-middle.ensures.positive, c.largest_power_below-middle.ensures.below))
-    c.largest_power_below-middle.ensures.split c.if-index-middle.true c.last_and_rest.ensures c.compare-side.ensures.rebuilt
+    c.largest_power_below-middle.ensures.split c.if-index-middle.true c.last_and_rest.ensures.parts c.compare-side.ensures.rebuilt
     (rw (c.under_node.ensures.left, c.under_node.ensures.right) at c.join.ensures.rebuilt)
 
 pub returns-then-index-middle-clause-difference : goal.returns-then-index-middle-clause-difference
@@ -47,7 +47,7 @@ returns-then-index-middle-clause-difference g t c r l a =
     c.last_and_rest.result.0 c.compare-side.result.rebuilt c.compare-side.result.listed c.root_of_leaves-other.result
     (λ o. option_map (strings c.args.leaf.now o) c.compare-side.result.difference) (λ o. option_map (strings c.args.leaf.now o) c.join.result.difference)
     (omega (arith, c.largest_power_below-middle.ensures.positive, c.largest_power_below-middle.ensures.below))
-    c.largest_power_below-middle.ensures.split c.if-index-middle.true c.last_and_rest.ensures c.compare-side.ensures.rebuilt
+    c.largest_power_below-middle.ensures.split c.if-index-middle.true c.last_and_rest.ensures.parts c.compare-side.ensures.rebuilt
     c.compare-side.ensures.listed c.root_of_leaves-other.ensures c.compare-side.ensures.difference
     (λ o. rw (c.under_node.ensures.left, c.under_node.ensures.right, c.under_node-then-index-middle.ensures.left, c.under_node-then-index-middle.ensures.right) at c.join.ensures.difference c.args.leaf.now o)
     r a
@@ -64,7 +64,7 @@ returns-else-index-middle-clause-rebuilt g t c =
     right_rebuilt g.H.NodeHash.digest bytes c.args.leaves.now (hash_leaf g.H.NodeHash.digest c.args.leaf.now) c.args.index c.largest_power_below-middle.result c.args.path.now c.last_and_rest.result.1.now
     c.last_and_rest.result.0 c.compare-side-else-index-middle.result.rebuilt c.join-else-index-middle.result.rebuilt
     (omega (arith, c.largest_power_below-middle.ensures.positive, c.largest_power_below-middle.ensures.below))
-    c.largest_power_below-middle.ensures.split (omega arith) c.last_and_rest.ensures c.compare-side-else-index-middle.ensures.rebuilt
+    c.largest_power_below-middle.ensures.split (omega arith) c.last_and_rest.ensures.parts c.compare-side-else-index-middle.ensures.rebuilt
     (rw (c.under_node-else-index-middle.ensures.left, c.under_node-else-index-middle.ensures.right) at c.join-else-index-middle.ensures.rebuilt)
 
 pub returns-else-index-middle-clause-difference : goal.returns-else-index-middle-clause-difference
@@ -73,7 +73,7 @@ returns-else-index-middle-clause-difference g t c r l a =
     c.last_and_rest.result.0 c.compare-side-else-index-middle.result.rebuilt c.root_of_leaves-other-else-index-middle.result c.compare-side-else-index-middle.result.listed
     (λ o. option_map (strings c.args.leaf.now o) c.compare-side-else-index-middle.result.difference) (λ o. option_map (strings c.args.leaf.now o) c.join-else-index-middle.result.difference)
     (omega (arith, c.largest_power_below-middle.ensures.positive, c.largest_power_below-middle.ensures.below))
-    c.largest_power_below-middle.ensures.split (omega arith) c.last_and_rest.ensures c.compare-side-else-index-middle.ensures.rebuilt
+    c.largest_power_below-middle.ensures.split (omega arith) c.last_and_rest.ensures.parts c.compare-side-else-index-middle.ensures.rebuilt
     c.root_of_leaves-other-else-index-middle.ensures c.compare-side-else-index-middle.ensures.listed c.compare-side-else-index-middle.ensures.difference
     (λ o. rw (c.under_node-else-index-middle.ensures.left, c.under_node-else-index-middle.ensures.right, c.under_node-else-index-middle-2.ensures.left, c.under_node-else-index-middle-2.ensures.right) at c.join-else-index-middle.ensures.difference c.args.leaf.now o)
     r l a

@@ -1,6 +1,6 @@
 use Rattle.std.proofs.Common.{arith}
 use Rattle.ct_tree.proofs.Split.{power_one, power_pos, split_is, split_unique, mul_two}
-use Rattle.ct_verify.proofs.halves.largest_power_below.Goals as goal
+use Rattle.ct_tree.proofs.power.largest_power_below.Goals as goal
 
 pub loop-power-init : goal.loop-power-init
 loop-power-init c = record { power = power_one; below = c.requires }
