@@ -1,5 +1,5 @@
 -- What the frozen log replies to its input.
-use Rattle.std.specs.Prelude.{◌≡◌, ◌⊎◌, ℕ, List, [], ◌∷◌, ◌++◌, length, Option, Some, None, option_and_then, ◌&&◌, ◌==◌, nat_le, if◌then◌else◌, Result, MatchResult}
+use Rattle.std.specs.Prelude.{◌≡◌, ◌⊎◌, Bool, true, false, ◌||◌, ℕ, List, [], ◌∷◌, ◌++◌, length, Option, Some, None, option_and_then, ◌&&◌, ◌==◌, nat_le, if◌then◌else◌, Result, MatchResult}
 use Rattle.std.specs.List.{concat}
 use Rattle.std.specs.Str.{is_utf8}
 use Rattle.serde_json.specs.Read.{read}
@@ -8,7 +8,7 @@ use Rattle.ct_codec.specs.declared.refusal.Refusal.TheVariants.{Memory, BadLine}
 use Rattle.ct_core.specs.declared.query.Reply.{Reply}
 use Rattle.ct_core.specs.Settlement.{Log}
 use Rattle.ct_core.specs.Answers.{answer}
-use Rattle.ct_core.specs.Replies.{Answer, refused, shown}
+use Rattle.ct_core.specs.Replies.{Answer, proof_holds, proof_refused, a_collision, refused, shown, takes_memory}
 use Rattle.ct_lines.specs.Asked.{Asked, by_front, by_operator, by_frozen, FrozenAsked, frozen_query, frozen_audit, asked_in}
 use Rattle.ct_lines.specs.ReplyText.{reply_line}
 use Rattle.ct_lines.specs.Verdicts.{audit_answer}
@@ -20,6 +20,21 @@ request_of line = if nat_le (length line) 1048576 && is_utf8 line then option_an
 -- the result says this answer, or that a growth was refused
 abbrev pub Answers : Result Reply Refusal → Answer → Type 0
 Answers result a = MatchResult result (λ reply. shown reply ≡ a) (λ e. (e ≡ Memory) ⊎ (refused e ≡ a))
+
+-- whether it is a verdict
+abbrev pub is_verdict : Answer → Bool
+is_verdict proof_holds = true
+is_verdict proof_refused = true
+is_verdict (a_collision left right) = true
+is_verdict a = false
+
+-- whether an answer takes memory before it is written: a verdict, for which the leaves are listed, a proof, a path or entries
+abbrev pub is_built : Answer → Bool
+is_built a = takes_memory a || is_verdict a
+
+-- the same, and no growth is refused where the answer takes no memory
+abbrev pub AnswersBuilt : Result Reply Refusal → Answer → Type 0
+AnswersBuilt result a = MatchResult result (λ reply. shown reply ≡ a) (λ e. ((e ≡ Memory) × (is_built a ≡ true)) ⊎ (refused e ≡ a))
 
 -- the answer to a reader of the frozen log
 abbrev pub frozen_answer : Log → FrozenAsked → Answer

@@ -6,7 +6,7 @@ ghost use Rattle.ct_core.specs.Answers.{is_size};
 ghost use Rattle.ct_core.specs.Replies.{shown};
 ghost use Rattle.ct_lines.specs.Requests.{audit_of, frozen_asked};
 ghost use Rattle.ct_lines.specs.Verdicts.{evidence_answer, audit_answer, verdict};
-ghost use Rattle.ct_lines.specs.Frozen.{Answers, frozen_answer, line_answer, frozen_reply};
+ghost use Rattle.ct_lines.specs.Frozen.{Answers, AnswersBuilt, frozen_answer, line_answer, frozen_reply};
 
 use crate::reading::read_line;
 use crate::request::{Audit, FrozenRequest, Request};
@@ -61,7 +61,7 @@ fn verdict(alloc: Global, leaves: &[Vec<u8>], audit: &Audit) -> Result<Reply, Re
 
 // The verdict on a proof of inclusion, against the leaves of a published size.
 fn audit_reply(alloc: Global, log: &Published, audit: &Audit) -> Result<Reply, Refusal>
-    ensures { Answers result (audit_answer log.now (audit_of audit.now)) }
+    ensures { AnswersBuilt result (audit_answer log.now (audit_of audit.now)) }
 {
     if !is_size(log, audit.tree_size) {
         return Err(Refusal::UnknownSize);
@@ -71,8 +71,9 @@ fn audit_reply(alloc: Global, log: &Published, audit: &Audit) -> Result<Reply, R
 }
 
 // The answer to a reader of the frozen log.
+#[tactic(auto, using(crate::proofs::Built::query_answers))]
 fn request_reply(alloc: Global, log: &Published, request: &FrozenRequest) -> Result<Reply, Refusal>
-    ensures { Answers result (frozen_answer log.now (frozen_asked request.now)) }
+    ensures { AnswersBuilt result (frozen_answer log.now (frozen_asked request.now)) }
 {
     match request {
         FrozenRequest::Ask(query) => log.answer(alloc, query),
