@@ -71,8 +71,8 @@ class Woven(Script):
     def round(self):
         if self.random.random() < 0.02:
             self.now = max(self.now, self.random.choice(LIMITS))
-        self.now = min(self.now, LAST_MOMENT)
         super().round()
+        self.now = min(self.now, LAST_MOMENT)
 
     def close(self):
         try:

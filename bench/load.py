@@ -4,8 +4,8 @@
     load.py [PROGRAM] [--runs N] [--fronts N] [--lines N] [--seed S]
 
 Each front has so many lines, nine in ten of them submissions of some 500 certificates, the others questions for tree heads and receipts.
-The operator settles a random number of submissions, in small batches of the fronts by turns, publishes now and then, shuts the log twice and
-publishes once more. Nothing orders the fronts' lines and the shutdown, so it falls where the threads have come to: before all
+The operator settles a random number of submissions, in small batches of some fronts by turns, publishes now and then, shuts the log
+twice and publishes once more. Nothing orders the fronts' lines and the shutdown, so it falls where the threads have come to: before all
 submissions, behind all, or in the middle. check.py judges the tickets, the order of the settlement and of the entries, the receipts, and each
 root. At the first output that it refuses, the lines and the output are kept, and the status is 1.
 """
@@ -49,9 +49,10 @@ def front_line(source, front, lines):
 
 
 def operator_lines(source, submissions):
-    """Settles a random number of what the fronts submit, shuts the log, and publishes. Each order of magnitude is as frequent."""
-    total = int(sum(submissions) ** source.random()) - 1
-    left, now = dict(enumerate(submissions)), OPEN_AT
+    """Settles some submissions of the first fronts, an eighth of all at most and mostly less, shuts the log, and publishes."""
+    left = dict(enumerate(submissions[: source.randint(1, len(submissions))]))
+    total = min(int((sum(submissions) / 8) ** source.random()) - 1, sum(left.values()))
+    now = OPEN_AT
     while total > 0:
         front = source.choice([front for front, count in left.items() if count])
         count = min(total, left[front], source.randint(1, 256))

@@ -49,6 +49,7 @@ class Script:
         self.fronts = self.random.choice([1, 1, 2, 3, 4, 16])
         self.lines = []
         self.log = Log(self.fronts, RING, 0)
+        self.seen = []  # the tickets that are covered by the last head that the fronts have waited for
         self.now = 1
 
     def say(self, who, op, **keys):
@@ -109,7 +110,7 @@ class Script:
         elif op == "entry":
             self.say(who, "get-entry-and-proof", leaf_index=index, tree_size=some_size)
         elif op == "receipt" and self.fronts == 1:
-            tickets = sorted(self.log.covered) if who != "frozen" else range(self.log.accepted + 2)
+            tickets = self.seen if who != "frozen" else range(self.log.accepted + 2)
             if tickets:
                 self.say(who, "receipt", ticket=self.random.choice(tickets))
 
@@ -135,6 +136,8 @@ class Script:
             self.sequence(front)
         self.publish()
         size = self.log.size()
+        if size > before:
+            self.seen = sorted(self.log.covered)
         for front in range(self.fronts):
             if size > before:
                 self.say(front, "await-size", tree_size=size)
