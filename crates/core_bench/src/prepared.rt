@@ -2,7 +2,7 @@
 
 ghost use Rattle.std.specs.Prelude.{◌≡◌};
 ghost use Rattle.ct_core.specs.Leaf.{leaf_at};
-ghost use Rattle.ct_core.specs.Tree.{hash_leaf};
+ghost use Rattle.ct_core.specs.Tree.{sha256_leaf};
 
 use ct_codec::{Item, Refusal, Submission, leaf_input};
 use ct_tree::{Sha256Hash, leaf_hash};
@@ -14,7 +14,7 @@ pub(crate) struct ReadyItem {
     pub(crate) item: Item,
     pub(crate) hash: [u8; 32],
     pub(crate) moment: u64,
-    ghost hashed: { hash ≡ hash_leaf (leaf_at item.submission moment) },
+    ghost hashed: { hash ≡ sha256_leaf (leaf_at item.submission moment) },
 }
 
 // The certificate with that number, of 1,500 bytes.
@@ -26,7 +26,7 @@ fn certificate(heap: Global, number: u64) -> Result<Vec<u8>, Refusal> {
 }
 
 // The item of the certificate with that number, for that moment.
-#[tactic(auto, unfolding(ct_core::specs::Leaf::leaf_at, ct_core::specs::Tree::hash_leaf))]
+#[tactic(auto, unfolding(ct_core::specs::Leaf::leaf_at, ct_core::specs::Tree::sha256_leaf))]
 pub(crate) fn prepare(heap: Global, number: u64, moment: u64) -> Result<ReadyItem, Refusal> {
     let mut chain = Vec::new(heap);
     chain.push(certificate(heap, number)?)?;

@@ -1,14 +1,14 @@
 -- The sequencing core as plain data, its clock, and its steps.
-use Rattle.std.specs.Prelude.{◌≡◌, ℕ, ◌+◌, ◌-◌, ◌<◌, ◌≤◌, max, List, [], ◌∷◌, ◌++◌, length, map, slice_index, nat_lt, ◌||◌, if◌then◌else◌}
+use Rattle.std.specs.Prelude.{◌≡◌, ℕ, ◌+◌, ◌-◌, ◌<◌, ◌≤◌, max, List, [], ◌∷◌, ◌++◌, length, map, slice_index, nat_lt, ◌||◌, if◌then◌else◌, All}
 use Rattle.std.specs.List.Sorted.{IsNonDecreasingBy}
 use Rattle.ct_codec.specs.declared.item.Item.{Item}
 use Rattle.ct_codec.specs.declared.refusal.Refusal.{Refusal}
 use Rattle.ct_codec.specs.declared.refusal.Refusal.TheVariants.{Memory, ClockBack}
 use Rattle.ct_core.specs.declared.settled.Settled.{Settled}
-use Rattle.ct_core.specs.Leaf.{Entry, leaves_of}
+use Rattle.ct_core.specs.Leaf.{Entry, HasTexts, leaves_of}
 use Rattle.ct_tree.specs.declared.head.Head.{Head}
 use Rattle.ct_core.specs.Tree.{MTH}
-use Rattle.ct_core.specs.Settlement.{Log, Lawful, Settled_as, firsts_after}
+use Rattle.ct_core.specs.Settlement.{Log, Lawful, SettlesAs, firsts_after}
 
 -- the published state, and all entries and records so far
 pub record CoreState : Type 0 where
@@ -18,7 +18,7 @@ pub record CoreState : Type 0 where
 
 -- the core has settled these items, in this order
 abbrev pub IsSettled : CoreState → List Item → Type 0
-IsSettled core items = Settled_as items core.entries core.settlement
+IsSettled core items = SettlesAs items core.entries core.settlement
 
 -- xs begins ys
 abbrev pub Begins : {X : Type 0} → List X → List X → Type 0
@@ -30,6 +30,7 @@ pub record IsCore (core : CoreState) : Type 0 where
   pub settled : (items : List Item) × IsSettled core items
   pub entries : Begins core.published.entries core.entries
   pub settlement : Begins core.published.settlement core.settlement
+  pub texts : All HasTexts core.entries
   pub never_fall : IsNonDecreasingBy (λ (e : Entry). e.timestamp) core.entries
 
 -- the newest leaf's timestamp, or 0 where there is no leaf

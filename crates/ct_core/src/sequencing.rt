@@ -4,14 +4,14 @@ ghost use Rattle.std.specs.Prelude.{◌≡◌, ◌≤◌, ◌<◌, List, ℕ, []
 ghost use Rattle.std.specs.Bool.{OnTrue};
 ghost use Rattle.ct_codec.specs.declared.item.Item.{Item};
 ghost use Rattle.ct_tree.specs.declared.head.Head.{Head};
-ghost use Rattle.ct_core.specs.Tree.{hash_leaf};
+ghost use Rattle.ct_core.specs.Tree.{sha256_leaf};
 ghost use Rattle.ct_core.specs.Leaf.{leaf_at};
 ghost use Rattle.ct_core.specs.Settlement.{record_of, Lawful};
 ghost use Rattle.ct_core.specs.Core.{IsSettled, Begins, Grows, clock_of, newest_leaf, last_moment, settle_refusal, publish_refusal, new_core, IsNextHead, IsInTime, IsCovered, published_with, after_publishing};
 
 use crate::entry::StoredEntry;
 use crate::published::Published;
-use crate::room::{place_reserved, push_reserved};
+use crate::room::{Unshared, place_reserved, push_reserved};
 use crate::settled::Settled;
 use ct_codec::{Item, Refusal};
 use ct_tree::Head;
@@ -94,7 +94,7 @@ impl Core {
         hash: [u8; 32],
         now: u64,
     ) -> Result<Settled, (Refusal, Item)>
-        requires { hash ≡ hash_leaf (leaf_at item.submission now) }
+        requires { hash ≡ sha256_leaf (leaf_at item.submission now) }
         ensures settled { IfOk result (λ r. (items : List Item) → IsSettled self.old items → Grows self.old items (item ∷ []) now self.new × (r ≡ record_of (items ++ item ∷ []) (length items) item)) }
         ensures in_time { OnOk result ((clock_of self.old ≤ now) × (clock_of self.new ≤ now)) }
         ensures published { self.new.published ≡ self.old.published }
@@ -104,8 +104,11 @@ impl Core {
         if now < self.clock() {
             return Err((Refusal::ClockBack, item));
         }
-        if self.settlement.reserve(1).is_err() || self.entries.reserve(1).is_err() {
-            return Err((Refusal::Memory, item));
+        if let Err(refused) = self.settlement.reserve(1) {
+            return Err((refused.into(), item));
+        }
+        if let Err(refused) = self.entries.reserve(1) {
+            return Err((refused.into(), item));
         }
         let Item {
             front,
@@ -115,12 +118,16 @@ impl Core {
         let shared = match Arc::new(alloc, submission) {
             Ok(shared) => shared,
             Err(refused) => {
+                let Unshared {
+                    refusal,
+                    submission,
+                } = refused.into();
                 let item = Item {
                     front,
                     ticket,
-                    submission: refused.value,
+                    submission,
                 };
-                return Err((Refusal::Memory, item));
+                return Err((refusal, item));
             }
         };
         let entry = StoredEntry::new(shared, now, hash);
@@ -182,6 +189,7 @@ impl Core {
         ensures lawful { Lawful self.new.published }
         ensures refused { IfErr result (λ e. (e ≡ publish_refusal self.old now) × (self.new ≡ self.old)) }
     {
+        // The clause `lawful` follows from the invariant of the type, which a look at a field brings in.
         let _ = &self.published;
         let next = self.next(alloc, now)?;
         Ok(self.adopt(next))

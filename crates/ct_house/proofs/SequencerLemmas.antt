@@ -12,7 +12,7 @@ use Rattle.ct_codec.specs.declared.item.Item.{Item}
 use Rattle.ct_core.specs.Core.{CoreState}
 use Rattle.ct_gate.specs.Ring.{RingName}
 use Rattle.ct_house.specs.Sequence.{Lane, Takes}
-use Rattle.std.proofs.lemmas.Option.{slice_get_read}
+use Rattle.std.proofs.lemmas.Option.{slice_get_read, slice_get-get_or}
 use Rattle.std.proofs.lemmas.List.{append-nil}
 use Rattle.std.proofs.Common.{append_assoc, inl, inr}
 use Rattle.std.proofs.lemmas.Bool.Decides.{eqb_tells}
@@ -23,7 +23,8 @@ use Rattle.std.proofs.lemmas.Option.{none-some, slice_get_past}
 use Rattle.std.proofs.lemmas.List.{map-id, map-append}
 use Rattle.std.proofs.lemmas.List.FromFn.{map-range_with_len_more}
 use Rattle.ct_core.specs.Core.{clock_of}
-use Rattle.ct_house.proofs.GrowingLemmas.{Grows-none, Grows-more, Begins-refl, Begins-trans}
+use Rattle.ct_core.specs.Core.{Begins}
+use Rattle.ct_house.proofs.GrowingLemmas.{CoreGrows-none, CoreGrows-join, Begins-from, Begins-trans}
 use Rattle.ct_gate.specs.Ends.{IntakeView}
 use Rattle.ct_house.specs.Sequence.{Sequences}
 use Rattle.ct_house.proofs.SequenceLemmas.{takes_sequence}
@@ -96,10 +97,7 @@ lane_takes gate count core after lanes f old new xs now numbers at t = record {
         ap (λ (l : Lane). l.received) i ∙ received ∙ ap (λ (l : Lane). l.received ++ more) (sym w),
         ap (λ (l : Lane). l.hand ++ more) w ∙ moved ∙ ap (λ (l : Lane). xs ++ l.hand) (sym i),
       );
-  grows = t.grows;
-  published = t.published;
-  entries = t.entries;
-  settlement = t.settlement;
+  core = t.core;
 }
   where
     name : List RingName → HouseName
@@ -165,16 +163,24 @@ pub record Draining (old new : HouseState) (ends : List FrontView) (k now : ℕ)
   pub drained : (j : ℕ) (e : FrontView) → j < k → slice_get ends j ≡ Some e → slice_get new.lanes j ≡ Some (drained_lane e)
   pub time : clock_of new.core ≤ now
 
+-- a take leaves what was received of each front, or adds to it
+takes_received : (old new : HouseState) (f : ℕ) (xs : List Item) (now : ℕ) → Takes old new f xs now → (g : ℕ) (was is : Lane) → slice_get old.lanes g ≡ Some was → slice_get new.lanes g ≡ Some is → Begins was.received is.received
+takes_received old new f xs now t g was is at there = elim (eqb_tells g f) [
+  | inl same ↦ own same.1
+  | inr apart ↦ Begins-from was.received is.received (ap (λ (l : Lane). l.received) (same_Some was is (sym at ∙ sym (t.others g apart.1) ∙ there)))
+]
+  where
+    own : g ≡ f → Begins was.received is.received
+    own e = let (more, grown, moved) = t.lane was is (ap (slice_get old.lanes) (sym e) ∙ at) (ap (slice_get new.lanes) (sym e) ∙ there) in (more, grown)
+
 pub SettlesMore-none : (s : HouseState) (now : ℕ) → SettlesMore s s [] now
 SettlesMore-none s now = record {
   house = refl;
   accepted = refl;
   count = refl;
+  received = λ f was is at there. Begins-from was.received is.received (ap (λ (l : Lane). l.received) (same_Some was is (sym at ∙ there)));
   sequences = λ items q. subst (Sequences s) (sym (append-nil items)) q;
-  grows = λ items q. Grows-none s.core items now q;
-  published = refl;
-  entries = Begins-refl s.core.entries;
-  settlement = Begins-refl s.core.settlement;
+  core = CoreGrows-none s.core now;
 }
 
 pub SettlesMore-one : (a b c : HouseState) (xs ys : List Item) (f now : ℕ) → f < length b.lanes → SettlesMore a b xs now → Takes b c f ys now → SettlesMore a c (xs ++ ys) now
@@ -182,11 +188,13 @@ SettlesMore-one a b c xs ys f now below s t = record {
   house = t.house ∙ s.house;
   accepted = t.accepted ∙ s.accepted;
   count = t.count ∙ s.count;
+  received = λ g was is at there.
+      let inside = slice_get_within a.lanes g was at in
+      let count = s.count in
+      let mid : slice_get b.lanes g ≡ Some (get_or b.lanes g was) = slice_get-get_or b.lanes g was (omega arith) in
+      Begins-trans was.received (get_or b.lanes g was).received is.received (s.received g was (get_or b.lanes g was) at mid) (takes_received b c f ys now t g (get_or b.lanes g was) is mid there);
   sequences = λ items q. subst (Sequences c) (append_assoc items xs ys) (takes_sequence b c f ys now below t (items ++ xs) (s.sequences items q));
-  grows = λ items q. let one = s.grows items q in Grows-more a.core b.core c.core items xs ys now one (t.grows (items ++ xs) one.settled);
-  published = t.published ∙ s.published;
-  entries = Begins-trans a.core.entries b.core.entries c.core.entries s.entries t.entries;
-  settlement = Begins-trans a.core.settlement b.core.settlement c.core.settlement s.settlement t.settlement;
+  core = CoreGrows-join a.core b.core c.core xs ys now s.core t.core;
 }
 
 pub Draining-none : (s : HouseState) (ends : List FrontView) (now : ℕ) → clock_of s.core ≤ now → Draining s s ends 0 now

@@ -4,10 +4,10 @@ use Rattle.std.specs.List.{range_with_len, slice_index_or}
 use Rattle.atomic_table.specs.Seated.{TableId}
 use Rattle.ct_codec.specs.declared.item.Item.{Item}
 use Rattle.ct_core.specs.Settlement.{Log}
-use Rattle.ct_core.specs.Core.{CoreState, IsSettled, Begins, Grows, new_core}
+use Rattle.ct_core.specs.Core.{CoreState, Begins, new_core}
 use Rattle.ct_gate.specs.Ring.{RingName}
 use Rattle.ct_gate.specs.Ends.{IntakeView, OutletView}
-use Rattle.ct_house.specs.Sequence.{Lane, SequencerState, Sequences}
+use Rattle.ct_house.specs.Sequence.{Lane, SequencerState, Sequences, CoreGrows}
 
 -- which house it is: its gate, and the ring of each front, in order
 pub record HouseName : Type 0 where
@@ -47,16 +47,14 @@ pub record IsAllSettled (s : HouseState) (ends : List FrontView) : Type 0 where
   pub in_order : AreInOrder (length s.lanes) ends
   pub drained : (k : ℕ) (e : FrontView) → slice_get ends k ≡ Some e → slice_get s.lanes k ≡ Some (drained_lane e)
 
--- more items, xs, were settled at now
+-- more items, xs, were settled at now, and what was received of each front begins with what it was
 pub record SettlesMore (old new : HouseState) (xs : List Item) (now : ℕ) : Type 0 where
   pub house : new.house ≡ old.house
   pub accepted : new.accepted ≡ old.accepted
   pub count : length new.lanes ≡ length old.lanes
+  pub received : (f : ℕ) (was is : Lane) → slice_get old.lanes f ≡ Some was → slice_get new.lanes f ≡ Some is → Begins was.received is.received
   pub sequences : (items : List Item) → Sequences old items → Sequences new (items ++ xs)
-  pub grows : (items : List Item) → IsSettled old.core items → Grows old.core items xs now new.core
-  pub published : new.core.published ≡ old.core.published
-  pub entries : Begins old.core.entries new.core.entries
-  pub settlement : Begins old.core.settlement new.core.settlement
+  pub core : CoreGrows old.core new.core xs now
 
 -- the k-th front of a new house, with so many places
 pub record IsFreshFront (house : HouseName) (room k : ℕ) (f : FrontView) : Type 0 where
@@ -88,15 +86,12 @@ abbrev pub lane_of : LaneView → Lane
 lane_of l = record { received = l.received; hand = l.hand }
 
 -- a lane receives more items, and the first of its waiting items, xs, are settled at now
-pub record LaneTakes (old : LaneView) (core : CoreState) (new : LaneView) (after : CoreState) (xs : List Item) (now : ℕ) : Type 0 where
+pub record LaneTakes (old : LaneView) (before : CoreState) (new : LaneView) (after : CoreState) (xs : List Item) (now : ℕ) : Type 0 where
   pub number : new.number ≡ old.number
   pub ring : new.ring ≡ old.ring
   pub of_front : All (λ (x : Item). x.front ≡ old.number) xs
   pub moved : (more : List Item) × (new.received ≡ old.received ++ more) × (old.hand ++ more ≡ xs ++ new.hand)
-  pub grows : (items : List Item) → IsSettled core items → Grows core items xs now after
-  pub published : after.published ≡ core.published
-  pub entries : Begins core.entries after.entries
-  pub settlement : Begins core.settlement after.settlement
+  pub core : CoreGrows before after xs now
 
 -- nothing settled: more was received into the hand
 pub record LaneFills (old new : LaneView) : Type 0 where

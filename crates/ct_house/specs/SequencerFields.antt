@@ -1,7 +1,9 @@
 -- What the sequencer's fields stand for.
-use Rattle.std.specs.Prelude.{◌≡◌, ◌≤◌, length, map, vec_len, vec_capacity}
+use Rattle.std.specs.Prelude.{◌≡◌, ◌≤◌, List, length, map, vec_len, vec_capacity}
 use Rattle.std.specs.List.{range_with_len}
 use Rattle.ct_core.specs.Settlement.{Lawful}
+use Rattle.ct_codec.specs.declared.item.Item.{Item}
+use Rattle.ct_house.specs.Sequence.{Sequences}
 use Rattle.ct_house.specs.House.{LaneView, HouseState, lane_of}
 use Rattle.ct_house.specs.declared.sequencer.Sequencer.TheInside.{Inside}
 
@@ -15,6 +17,7 @@ sequencer_state a = record {
 
 pub record IsSequencer (a : Inside) : Type 0 where
   pub lawful : Lawful a.core.published
+  pub listed : (items : List Item) × Sequences (sequencer_state a) items
   pub fronts : a.shutter.fronts ≡ length a.lanes.items
   pub numbers : map (λ (l : LaneView). l.number) a.lanes.items ≡ range_with_len 0 (length a.lanes.items)
   pub few : length a.lanes.items ≤ 16

@@ -1,8 +1,8 @@
 //! A front, before and after it retired.
-ghost use Rattle.std.specs.Prelude.{◌≡◌, true, MatchResult, ◌⊎◌};
+ghost use Rattle.std.specs.Prelude.{◌≡◌, true, MatchResult, IfErr, ◌⊎◌};
 ghost use Rattle.ct_core.specs.Settlement.{Log, Lawful};
 ghost use Rattle.ct_core.specs.Answers.{answer};
-ghost use Rattle.ct_core.specs.Replies.{shown, refused};
+ghost use Rattle.ct_core.specs.Replies.{shown, refused, takes_memory};
 ghost use Rattle.ct_gate.specs.Ends.{SameIntake};
 ghost use Rattle.ct_gate.specs.Sending.{Accepts, Refuses};
 
@@ -68,10 +68,13 @@ impl Front {
     /// The reply to a query (RFC 6962, section 4) at a published state, or its refusal there. It takes memory, and may wait while
     /// a publication is put in place.
     ///
-    /// The refusals are those of `Published::answer`, in its order, `Memory` last. The front stays as it was.
+    /// The refusals are those of `Published::answer`, in its order, and `Memory` last, where the reply has a proof, a path or entries: a
+    /// head and a receipt are never refused for memory. The front stays as it was.
     pub fn ask<R: Wait>(&mut self, rt: &R, alloc: Global, query: &Query) -> Result<Reply, Refusal>
         ensures same { self.new ≡ self.old }
-        ensures answer { (p : Log) × Lawful p × MatchResult result (λ r. shown r ≡ answer p query.now) (λ e. (e ≡ Refusal.Memory) ⊎ (refused e ≡ answer p query.now)) }
+        ensures answer { (p : Log) × Lawful p
+            × MatchResult result (λ r. shown r ≡ answer p query.now) (λ e. (e ≡ Refusal.Memory) ⊎ (refused e ≡ answer p query.now))
+            × IfErr result (λ e. e ≡ Refusal.Memory → takes_memory (answer p query.now) ≡ true) }
     {
         let shown = &self.shown;
         let state = shown.read(rt);

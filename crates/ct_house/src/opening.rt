@@ -1,5 +1,5 @@
 //! A new house.
-ghost use Rattle.std.specs.Prelude.{◌≡◌, ◌≤◌, [], map, IfOk, IfErr};
+ghost use Rattle.std.specs.Prelude.{◌≡◌, ◌≤◌, [], map, vec_len, vec_capacity, IfOk, IfErr};
 ghost use Rattle.ct_house.specs.Sequence.{Sequences};
 ghost use Rattle.ct_house.specs.House.{IsNewHouse, new_lane, new_front};
 
@@ -35,10 +35,8 @@ pub fn open(
     let first = core.published().copy(alloc)?;
     let shown = Arc::new(alloc, RwLock::new(first))?;
     let lanes = new_lanes(alloc, outlets)?;
+    let room = room_for(alloc, lanes.len())?;
     let fronts = new_fronts(alloc, intakes, &shown)?;
-    let Ok(room) = Vec::with_capacity(alloc, lanes.len()) else {
-        return Err(Refusal::Memory);
-    };
     Ok((
         Sequencer {
             core,
@@ -58,14 +56,19 @@ fn new_lanes(alloc: Global, outlets: Vec<Outlet>) -> Result<Vec<LaneOwner>, Refu
 {
     let mut lanes = Vec::new(alloc);
     for outlet in outlets {
-        let Ok(hand) = VecDeque::with_capacity(alloc, HAND) else {
-            return Err(Refusal::Memory);
-        };
-        if lanes.push(LaneOwner { hand, outlet }).is_err() {
-            return Err(Refusal::Memory);
-        }
+        let hand = VecDeque::with_capacity(alloc, HAND)?;
+        lanes.push(LaneOwner { hand, outlet })?;
     }
     Ok(lanes)
+}
+
+// Room for so many fronts' ends of the gate.
+fn room_for(alloc: Global, count: usize) -> Result<Vec<Intake>, Refusal>
+    ensures room { IfOk result (λ v. (vec_len v ≡ 0) × (count ≤ vec_capacity v)) }
+    ensures err { IfErr result (λ e. e ≡ Refusal.Memory) }
+{
+    let room = Vec::with_capacity(alloc, count)?;
+    Ok(room)
 }
 
 // A front for each intake.

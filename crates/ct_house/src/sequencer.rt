@@ -1,8 +1,9 @@
 //! The sequencer: what it settles, publishes and closes.
 ghost use Rattle.std.specs.Prelude.{◌≡◌, ◌≢◌, ◌≤◌, ◌<◌, ◌-◌, ◌++◌, ◌↔◌, ℕ, List, [], None, Some, MatchResult, IsTrue, IfOk, IfErr, OnOk, OnErr, ◌⊎◌, All, slice_get, length, map, vec_len, vec_capacity, min};
 ghost use Rattle.ct_core.specs.Core.{clock_of, settle_refusal, IsCovered, IsNextHead, IsInTime, after_publishing, publish_refusal};
-ghost use Rattle.ct_core.specs.Settlement.{IsFinal};
+ghost use Rattle.ct_core.specs.Settlement.{IsFinal, SettlesAs};
 ghost use Rattle.ct_codec.specs.declared.item.Item.{Item};
+ghost use Rattle.ct_codec.specs.Items.{Merge};
 ghost use Rattle.ct_house.specs.Sequence.{Takes, Sequences};
 ghost use Rattle.ct_house.specs.House.{FrontView, accepted_lists, hand_count, IsOfHouse, AreInOrder, IsAllSettled, SettlesMore, drained_lane};
 
@@ -21,7 +22,8 @@ use std::thread::Threads;
 ///
 /// Contracts see which house it is, the answer of the shutdown once it was made, the core, and for each front its lane: the items
 /// that were received from the front, and those of them in hand, which aren't settled yet. `Sequences s items` says that `items`
-/// are the settled items, in the order of settling: it holds of no items after `open`, and each call below says how the list grows.
+/// are the settled items, in the order of settling: it holds of no items after `open`, and each call below says how the list grows
+/// (`SettlesMore`, the clause `listed`). Some list is always there: the type's invariant carries it.
 /// So at every exit of every call, refusals too, what was received of a front is what was settled of it followed by what is in hand. The
 /// settlement, the entries with their timestamps, and the heads begin with what they were.
 #[derive(Drop)]
@@ -49,10 +51,14 @@ impl Sequencer {
     /// Shuts the house, and answers how many submissions were accepted in all. From this step on none is accepted. It takes no
     /// memory and waits for nobody.
     ///
-    /// `Shutdown` is the only refusal, from the second time on, and changes nothing.
+    /// `Shutdown` is the only refusal, from the second time on, and changes nothing. The clause `listed` tells a caller who kept no
+    /// list that there is one of the settled items.
     pub fn shutdown(&mut self) -> Result<u64, Refusal>
         ensures same { self.new ≡ record self.old { accepted = self.new.accepted } }
-        ensures answer { MatchResult result (λ n. (self.old.accepted ≡ None) × (self.new.accepted ≡ Some n)) (λ r. (r ≡ Refusal.Shutdown) × (self.old.accepted ≢ None) × (self.new ≡ self.old)) }
+        ensures answer { MatchResult result
+            (λ n. (self.old.accepted ≡ None) × (self.new.accepted ≡ Some n))
+            (λ r. (r ≡ Refusal.Shutdown) × (self.old.accepted ≢ None) × (self.new ≡ self.old)) }
+        ensures listed { (items : List Item) × Sequences self.old items }
     {
         self.shutter.shut()
     }
@@ -79,7 +85,9 @@ impl Sequencer {
         now: u64,
     ) -> Result<u32, Refusal>
         requires limits { (front < length self.old.lanes) × (0 < max) × (max ≤ 256) }
-        ensures taken { (xs : List Item) × Takes self.old self.new front xs now × IfOk result (λ c. (c ≡ length xs) × (c ≤ max) × (min max (hand_count self.old front) ≤ c)) }
+        ensures taken { (xs : List Item) × Takes self.old self.new front xs now
+            × IfOk result (λ c. (c ≡ length xs) × (c ≤ max) × (min max (hand_count self.old front) ≤ c)) }
+        ensures listed { (xs : List Item) → Takes self.old self.new front xs now → SettlesMore self.old self.new xs now }
         ensures in_time { OnOk result (clock_of self.old.core ≤ now) }
         ensures refused { IfErr result (λ e. e ≡ settle_refusal self.old.core now) }
         ensures early { now < clock_of self.old.core → self.new ≡ self.old }
@@ -116,7 +124,8 @@ impl Sequencer {
     ///
     /// The refusals, in order: `MissingFront` exactly where the ends are others, and `ClockBack` where `now` is before the clock, also
     /// where nothing is left: both change nothing; `Memory`, after which some may be settled, and all else that was received stays in hand.
-    /// The call may then be made again. It takes memory, and may start threads that it joins.
+    /// The call may then be made again. It takes memory, and may start threads that it joins. It moves the clock to `now` at most
+    /// (clause `time`).
     pub fn settle<R: Threads + Sync>(
         &mut self,
         rt: &R,
@@ -129,7 +138,9 @@ impl Sequencer {
         ensures all { OnOk result (IsAllSettled self.new ends.old) }
         ensures ends { ends.new ≡ ends.old }
         ensures in_time { OnOk result (clock_of self.old.core ≤ now) }
-        ensures refused { IfErr result (λ e. ((AreInOrder (length self.old.lanes) ends.old → ⊥) × (e ≡ Refusal.MissingFront)) ⊎ (AreInOrder (length self.old.lanes) ends.old × (e ≡ settle_refusal self.old.core now))) }
+        ensures time { clock_of self.old.core ≤ now → clock_of self.new.core ≤ now }
+        ensures refused { IfErr result (λ e. ((AreInOrder (length self.old.lanes) ends.old → ⊥) × (e ≡ Refusal.MissingFront))
+            ⊎ (AreInOrder (length self.old.lanes) ends.old × (e ≡ settle_refusal self.old.core now))) }
         ensures early { OnErr result ((AreInOrder (length self.old.lanes) ends.old × (clock_of self.old.core ≤ now)) ⊎ (self.new ≡ self.old)) }
     {
         if !are_all(ends, self.lanes.len()) {
@@ -205,17 +216,19 @@ impl Sequencer {
     /// Closes the house, whose fronts have all retired: it was shut, all is settled, and the last head covers it. A caller tests
     /// these three by `is_shut`, `is_settled` and `is_covered`. It takes no memory, and may wait until no front's end is in use.
     ///
-    /// The clause `closes` is what a house is for. Where `items` are the settled items: they are a merge of the lists that the
-    /// fronts accepted, each in its front's order; the entries hold the first of each identity; the settlement is theirs; the
-    /// state is lawful, and its last head covers all entries; and the tickets are 0 to n - 1, each once, rising in each front, where n is
-    /// the answer of the shutdown.
+    /// The clause `closes` is what a house is for. The settled items are a merge of the lists that the fronts accepted, each in its
+    /// front's order; the entries hold the first of each identity; the settlement is theirs; the state is lawful, and its last
+    /// head covers all entries; and the tickets are 0 to n - 1, each once, rising in each front, where n is the answer of the
+    /// shutdown. The clause `settled` names that list: each list of settled items that `Sequences` tells is such a merge.
     pub fn finish<R: Wait>(self, rt: &R, ends: Vec<Retired>) -> FinalLog
         requires of_house { All (IsOfHouse self.house) ends.items }
         requires shut { self.accepted ≢ None }
         requires settled { IsAllSettled self ends.items }
         requires covered { IsCovered self.core }
         ensures same { (result.log ≡ self.core.published) × (self.accepted ≡ Some result.accepted) }
-        ensures closes { (items : List Item) → Sequences self items → IsFinal (accepted_lists ends.items) result.accepted result.log }
+        ensures closes { IsFinal (accepted_lists ends.items) result.accepted result.log }
+        ensures settled { (items : List Item) → Sequences self items
+            → Merge (accepted_lists ends.items) items × SettlesAs items result.log.entries result.log.settlement }
     {
         let Sequencer {
             core,

@@ -1,22 +1,14 @@
 -- Fronts of one house, seen together, and those of a list of two.
-use Rattle.std.proofs.Common.{◌≡◌, ℕ, zero, suc, ◌<◌, List, [], ◌∷◌, ◌++◌, length, refl, sym, ap, ◌∙◌, subst, arith, length-append}
+use Rattle.std.proofs.Common.{◌≡◌, ℕ, ◌<◌, List, [], ◌∷◌, ◌++◌, length, sym, ap, ◌∙◌, subst, arith, get_or, length-append}
 use Rattle.std.proofs.lemmas.List.{length-replicate}
-use Rattle.std.proofs.lemmas.Option.{get_or_from_slice_get}
+use Rattle.std.proofs.lemmas.Option.{slice_get-get_or}
 use Rattle.std.specs.Prelude.{All, Some, slice_get, slice_index_or}
 use Rattle.ct_gate.specs.Ends.{SameIntake}
 use Rattle.ct_house.specs.House.{HouseName, HouseState, FrontView, IsOfHouse, IsNewHouse, empty_lane}
 
--- what stands at a place that a list has
-slice_get_is : {X : Type 0} (xs : List X) (i : ℕ) → i < length xs → (x : X) × (slice_get xs i ≡ Some x)
-slice_get_is [] i h = absurd (omega arith)
-slice_get_is (x ∷ xs) zero h = (x, refl)
-slice_get_is (x ∷ xs) (suc i) h = slice_get_is xs i (omega arith)
-
 -- the fronts of a new house are of it
 pub of_new_house : (s : HouseState) (fronts : List FrontView) (n places now : ℕ) → IsNewHouse s fronts n places now → All (IsOfHouse s.house) fronts
-of_new_house s fronts n places now f k d below =
-    let (x, at) = slice_get_is fronts k below in
-    subst (IsOfHouse s.house) (sym (get_or_from_slice_get fronts k x d at)) (f.each k x at).of_house
+of_new_house s fronts n places now f k d below = (f.each k (get_or fronts k d) (slice_get-get_or fronts k d below)).of_house
 
 pub lanes_of_new_house : (s : HouseState) (fronts : List FrontView) (n places now : ℕ) → IsNewHouse s fronts n places now → length s.lanes ≡ n
 lanes_of_new_house s fronts n places now f = ap length f.lanes ∙ length-replicate n empty_lane

@@ -10,14 +10,18 @@ use std::process::Abort;
 use std::sync::Wait;
 
 // The submission of a chain with one certificate.
-pub fn submission(alloc: Global, certificate: &[u8]) -> Result<Submission, Refusal> {
+pub(crate) fn submission(alloc: Global, certificate: &[u8]) -> Result<Submission, Refusal> {
     let mut chain = Vec::new(alloc);
     chain.push(Vec::from_slice(alloc, certificate)?)?;
     Submission::x509(chain)
 }
 
 // The final log of a house whose fronts have retired.
-pub fn closed<R: Wait + Abort>(rt: &R, mut house: Sequencer, mut ends: Vec<Retired>) -> FinalLog
+pub(crate) fn closed<R: Wait + Abort>(
+    rt: &R,
+    mut house: Sequencer,
+    mut ends: Vec<Retired>,
+) -> FinalLog
     requires { All (IsOfHouse house.house) ends.items }
 {
     if !house.is_settled(&mut ends) {
@@ -33,7 +37,7 @@ pub fn closed<R: Wait + Abort>(rt: &R, mut house: Sequencer, mut ends: Vec<Retir
 }
 
 // The head that was replied.
-pub fn head_of(reply: Result<Reply, Refusal>) -> Result<Head, Refusal> {
+pub(crate) fn head_of(reply: Result<Reply, Refusal>) -> Result<Head, Refusal> {
     match reply? {
         Reply::Sth(head) => Ok(head),
         _ => Err(Refusal::BadLine),

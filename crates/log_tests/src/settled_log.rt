@@ -2,7 +2,7 @@
 
 ghost use Rattle.std.specs.Prelude.{◌≡◌, IfOk};
 ghost use Rattle.ct_core.specs.Leaf.{leaf_at};
-ghost use Rattle.ct_core.specs.Tree.{hash_leaf};
+ghost use Rattle.ct_core.specs.Tree.{sha256_leaf};
 
 use ct_codec::{Item, Refusal, Submission, leaf_input};
 use ct_core::{Core, Query, Reply, Settled};
@@ -18,9 +18,9 @@ pub(crate) fn submission(heap: Global, certificate: &[u8]) -> Result<Submission,
 }
 
 // The hash of the submission's leaf at that moment.
-#[tactic(auto, unfolding(ct_core::specs::Leaf::leaf_at, ct_core::specs::Tree::hash_leaf))]
+#[tactic(auto, unfolding(ct_core::specs::Leaf::leaf_at, ct_core::specs::Tree::sha256_leaf))]
 fn hashed(rt: &HostRuntime, submission: &Submission, now: u64) -> Result<[u8; 32], Refusal>
-    ensures { IfOk result (λ h. h ≡ hash_leaf (leaf_at submission.now now)) }
+    ensures { IfOk result (λ h. h ≡ sha256_leaf (leaf_at submission.now now)) }
 {
     let leaf = leaf_input(rt.alloc(), submission, now)?;
     Ok(leaf_hash(&Sha256Hash, &leaf))

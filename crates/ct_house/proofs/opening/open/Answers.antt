@@ -1,4 +1,4 @@
-use Rattle.std.proofs.Common.{◌∙◌, sym, arith}
+use Rattle.std.proofs.Common.{◌∙◌, sym, arith, []}
 use Rattle.ct_house.proofs.OpeningLemmas.{opened, new_numbers, sequences_none}
 use Rattle.ct_house.proofs.opening.open.Goals as goal
 
@@ -9,14 +9,16 @@ invariant_of-result c =
     let count = n.1 in
     let s = g.ensures.shutter.0 in
     let few = c.requires.fronts in
-    let capacity = c.in-Ok.ensures.exact in
+    let room = c.in_ok-room.ensures.room in
+    let new = opened g.shutter.gate c.args.ring c.args.fronts c.args.now g.intakes.items g.outlets.items c.in_ok-lanes.lanes.items c.in_ok-fronts.fronts.items c.in_ok-core.core g.shutter.accepted g.ensures.fronts c.in_ok-lanes.ensures.ok c.in_ok-fronts.ensures.ok c.in_ok-core.ensures.fresh g.ensures.shutter.1 in
     let size = c.len.ensures in
     record {
       lawful = c.in_ok-core.ensures.lawful;
+      listed = ([], sequences_none _ c.args.fronts c.in_ok-core.ensures.settled new.lanes);
       fronts = s ∙ sym count;
       numbers = n.0;
       few = omega arith;
-      nothing = c.in-Ok.ensures.len;
+      nothing = room.0;
       room = omega arith;
     }
 

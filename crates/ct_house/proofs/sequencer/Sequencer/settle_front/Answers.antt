@@ -1,9 +1,10 @@
-use Rattle.std.proofs.Common.{◌≡◌, sym, ap, ◌∙◌, arith, subst}
+use Rattle.std.proofs.Common.{◌≡◌, ◌<◌, ◌++◌, length, set, sym, ap, ◌∙◌, arith, subst}
 use Rattle.std.proofs.lemmas.Result.{on_ok_weaker}
 use Rattle.std.specs.Prelude.{Some, slice_get}
 use Rattle.ct_core.specs.Settlement.{Lawful}
-use Rattle.ct_house.specs.House.{FrontView}
-use Rattle.ct_house.proofs.SequencerLemmas.{lane_takes, lane_there, lane_ends, numbers_kept, length_set, drained_there}
+use Rattle.ct_house.specs.House.{FrontView, HouseState}
+use Rattle.ct_house.proofs.SequencerLemmas.{lane_takes, make_house, lane_there, lane_ends, numbers_kept, length_set, drained_there}
+use Rattle.ct_house.proofs.SequenceLemmas.{takes_sequence}
 use Rattle.ct_house.proofs.sequencer.Sequencer.settle_front.Goals as goal
 
 pub settle-requires-clause-ends : goal.settle-requires-clause-ends
@@ -27,7 +28,13 @@ invariant_of-self g c =
     let (xs, t) = c.settle.ensures.settled in
     let n = length_set a.lanes.items c.args.front c.settle.new.self in
     record {
-      lawful = subst Lawful (sym t.published) i.lawful;
+      lawful = subst Lawful (sym t.core.published) i.lawful;
+      listed = (
+        i.listed.0 ++ xs,
+        takes_sequence (make_house a.shutter.gate a.shutter.accepted a.core a.lanes.items) (make_house a.shutter.gate a.shutter.accepted c.settle.new.core (set a.lanes.items c.args.front c.settle.new.self)) c.args.front xs c.args.now
+            (subst (λ (z : HouseState). c.args.front < length z.lanes) (sym c.self.view_is) c.requires.front.0)
+            (lane_takes a.shutter.gate a.shutter.accepted a.core c.settle.new.core a.lanes.items c.args.front old c.settle.new.self xs c.args.now i.numbers at t) i.listed.0 i.listed.1,
+      );
       fronts = i.fronts ∙ sym n;
       numbers = numbers_kept a.lanes.items c.args.front old c.settle.new.self i.numbers at t.number;
       few = let f = i.few in omega arith;

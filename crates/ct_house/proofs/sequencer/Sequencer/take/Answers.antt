@@ -1,4 +1,4 @@
-use Rattle.std.proofs.Common.{◌≡◌, ◌≤◌, length, sym, ap, ◌∙◌, arith, min, subst, map, refl}
+use Rattle.std.proofs.Common.{◌≡◌, ◌≤◌, length, sym, ap, ◌∙◌, arith, min, subst, map, refl, [], ◌++◌, set}
 use Rattle.std.proofs.lemmas.Option.{slice_get_read}
 use Rattle.std.proofs.lemmas.Result.{IfOk-weaker}
 use Rattle.std.proofs.lemmas.List.{length-map}
@@ -6,7 +6,8 @@ use Rattle.std.specs.Prelude.{Some, slice_get}
 use Rattle.ct_core.specs.Settlement.{Lawful}
 use Rattle.ct_house.specs.House.{HouseState, lane_of, hand_count}
 use Rattle.ct_house.specs.SequencerFields.{sequencer_state}
-use Rattle.ct_house.proofs.SequencerLemmas.{lane_takes, hand_at, numbers_kept, length_set}
+use Rattle.ct_house.proofs.SequencerLemmas.{lane_takes, hand_at, make_house, numbers_kept, length_set, SettlesMore-none, SettlesMore-one}
+use Rattle.ct_house.proofs.SequenceLemmas.{takes_sequence}
 use Rattle.ct_house.proofs.sequencer.Sequencer.take.Goals as goal
 
 pub invariant_of-self : goal.invariant_of-self
@@ -21,13 +22,21 @@ invariant_of-self g c =
     let at : slice_get a.lanes.items c.args.front ≡ Some old = slice_get_read a.lanes.items (length a.lanes.items) c.args.front old refl (omega arith) c.index_mut-lane.ensures.value in
     let n = length_set a.lanes.items c.args.front c.take.new.self in
     record {
-      lawful = subst Lawful (sym t.published) i.lawful;
+      lawful = subst Lawful (sym t.core.published) i.lawful;
+      listed = (
+        i.listed.0 ++ xs,
+        takes_sequence (sequencer_state a) (make_house a.shutter.gate a.shutter.accepted c.take.new.core (set a.lanes.items c.args.front c.take.new.self)) c.args.front xs c.args.now (omega arith)
+            (lane_takes a.shutter.gate a.shutter.accepted a.core c.take.new.core a.lanes.items c.args.front old c.take.new.self xs c.args.now i.numbers at t) i.listed.0 i.listed.1,
+      );
       fronts = i.fronts ∙ sym n;
       numbers = numbers_kept a.lanes.items c.args.front old c.take.new.self i.numbers at t.number;
       few = let f = i.few in omega arith;
       nothing = i.nothing;
       room = let r = i.room in omega arith;
     }
+
+pub returns-clause-listed : goal.returns-clause-listed
+returns-clause-listed g c xs t = SettlesMore-one _ _ _ [] xs _ _ c.requires.limits.0 (SettlesMore-none _ _) t
 
 pub returns-clause-taken : goal.returns-clause-taken
 returns-clause-taken g c =
