@@ -1,6 +1,6 @@
 -- What a line asks, as a relation and as a function.
 use Rattle.std.proofs.Common.{inl, inr, ◌≡◌, ◌<◌, ℕ, List, [], ◌∷◌, length, Vec, Global, Option, Some, None, Result, Ok, Err, Bool, true, false, ◌&&◌, nat_le, cond, refl, sym, ap, subst, ◌∙◌, arith}
-use Rattle.std.specs.Prelude.{option_and_then, IfOk}
+use Rattle.std.specs.Prelude.{◌≢◌, option_and_then, IfOk, MatchResult}
 use Rattle.std.specs.declared.alloc.AllocError.{AllocError}
 use Rattle.std.specs.Str.{is_utf8}
 use Rattle.std.proofs.lemmas.Bool.Decides.{nat_tests}
@@ -16,7 +16,7 @@ use Rattle.ct_core.specs.Replies.{refused}
 use Rattle.ct_lines.specs.ReplyText.{answered, reply_line}
 use Rattle.ct_lines.specs.declared.standing.StandingLine.{StandingLine}
 use Rattle.ct_lines.specs.Serving.{reply_if}
-use Rattle.ct_lines.specs.Progress.{Stands, StandsAs}
+use Rattle.ct_lines.specs.Progress.{StandsFor, StandsAs}
 use Rattle.ct_lines.specs.Frozen.{request_of, asked_answer, answer_if, line_answer, Answers, frozen_reply}
 
 -- what a text asks
@@ -69,10 +69,19 @@ pub reply_ok : (log : Log) (line : List ℕ) (t : Result (Vec ℕ Global) AllocE
 reply_ok log line (Ok b) r e a h = reply_as log line b.items r a h e
 reply_ok log line (Err f) r e a h = tt
 
+-- of what is told where no growth was refused
+pub reply_told : (log : Log) (line : List ℕ) (t : Result (Vec ℕ Global) AllocError) (r told : Result Reply Refusal) (o : Result (Result Reply Refusal) AllocError) → o ≡ Ok told
+    → MatchResult o (λ x. (x ≡ r) × (r ≢ Err Memory)) (λ _. r ≡ Err Memory) → IfOk t (λ b. b.items ≡ reply_line (answered told)) → Answers r (line_answer log line)
+    → IfOk t (λ b. b.items ≡ frozen_reply log line)
+reply_told log line t r told o e said text a =
+    let same : (told ≡ r) × (r ≢ Err Memory) =
+    subst (λ (x : Result (Result Reply Refusal) AllocError). MatchResult x (λ y. (y ≡ r) × (r ≢ Err Memory)) (λ _. r ≡ Err Memory)) e said in
+    reply_ok log line t r (subst (λ (x : Result Reply Refusal). IfOk t (λ b. b.items ≡ reply_line (answered x))) same.0 text) a same.1
+
 pub reply_too_long : (log : Log) (line : List ℕ) → 1048576 < length line → reply_line (refused BadLine) ≡ frozen_reply log line
 unfolding frozen_reply
 reply_too_long log line h = ap reply_line (sym (ap (answer_if log) (too_long line h)))
 
-pub too_long_stands : (log : Log) (held : StandingLine) (line text : List ℕ) → held.too_long ≡ true → text ≡ reply_line (refused BadLine) → Stands held line → text ∷ [] ≡ reply_if (frozen_reply log) line
+pub too_long_stands : (log : Log) (held : StandingLine) (line text : List ℕ) → held.too_long ≡ true → text ≡ reply_line (refused BadLine) → StandsFor held line → text ∷ [] ≡ reply_if (frozen_reply log) line
 too_long_stands log held [] text e same s = absurd (omega (arith, subst (λ t. StandsAs t held.bytes.items []) e s))
 too_long_stands log held (b ∷ bs) text e same s = ap (λ t. t ∷ []) (same ∙ reply_too_long log (b ∷ bs) (subst (λ t. StandsAs t held.bytes.items (b ∷ bs)) e s))

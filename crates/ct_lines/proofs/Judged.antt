@@ -1,5 +1,5 @@
 -- Verdicts on proofs of inclusion.
-use Rattle.std.proofs.Common.{◌≡◌, ◌<◌, ℕ, List, length, Option, Some, None, Bool, true, false, ◌&&◌, nat_lt, cond, refl, sym, ap, ◌∙◌, arith}
+use Rattle.std.proofs.Common.{◌≡◌, ◌<◌, ℕ, List, length, Option, Some, None, Result, Ok, Err, Bool, true, false, ◌&&◌, nat_lt, cond, refl, sym, ap, ◌∙◌, arith}
 use Rattle.std.proofs.lemmas.Bool.Decides.{nat_tests}
 use Rattle.std.proofs.lemmas.Bool.{false≢true}
 use Rattle.std.proofs.lemmas.Slice.Eq.{bytes_eq-Decides}
@@ -8,12 +8,19 @@ use Rattle.ct_tree.specs.Tree.{hash_leaf, mth_of_leaves}
 use Rattle.ct_verify.specs.Rebuild.{rebuild}
 use Rattle.ct_verify.specs.Evidence.{evid}
 use Rattle.ct_verify.specs.Verdict.{RefusesInclusion}
-use Rattle.ct_verify.specs.InclusionEvidence.{IsAccepted, InclusionEvidence}
+use Rattle.std.specs.Prelude.{◌≢◌, MatchResult}
+use Rattle.ct_verify.specs.InclusionEvidence.{IsAccepted, InclusionEvidence, InclusionFault}
+use Rattle.ct_verify.specs.declared.evidence.EvidenceFault.{EvidenceFault}
+use Rattle.ct_verify.specs.declared.evidence.EvidenceFault.TheVariants.{ProofRefused, Memory as NoEvidence}
 use Rattle.ct_verify.specs.declared.evidence.Evidence.{Evidence}
 use Rattle.ct_verify.specs.declared.evidence.Evidence.TheVariants.{Holds, Collision}
 use Rattle.ct_verify.specs.Laws.{PathNotRefused}
 use Rattle.ct_verify.specs.declared.fault.ProofFault.{ProofFault}
-use Rattle.ct_core.specs.Replies.{proof_refused}
+use Rattle.ct_codec.specs.declared.refusal.Refusal.{Refusal}
+use Rattle.ct_codec.specs.declared.refusal.Refusal.TheVariants.{Memory}
+use Rattle.ct_core.specs.declared.query.Reply.{Reply}
+use Rattle.ct_core.specs.declared.query.Reply.TheVariants.{Refused}
+use Rattle.ct_core.specs.Replies.{proof_refused, shown}
 use Rattle.ct_lines.specs.Verdicts.{is_root, is_accepted, verdict_on, verdict, evidence_answer}
 
 is_root-true : (o : Option (List ℕ)) (root : List ℕ) → is_root o root ≡ true → o ≡ Some root
@@ -52,3 +59,10 @@ verdict-refused D leaf m p fault law r = go (is_accepted D leaf m p) refl
     go : (t : Bool) → is_accepted D leaf m p ≡ t → proof_refused ≡ cond (is_accepted D leaf m p) (verdict_on (evid sha256 D leaf m p)) proof_refused
     go false e = sym (ap (λ t. cond t (verdict_on (evid sha256 D leaf m p)) proof_refused) e)
     go true e = absurd (law sha256 (hash_leaf sha256 leaf) m (length D) p (mth_of_leaves sha256 D) fault (accepts D leaf m p e) r)
+
+-- what is said where there is no evidence
+pub verdict-fault : (D : List (List ℕ)) (leaf : List ℕ) (m : ℕ) (p : List (List ℕ)) (fault : EvidenceFault) (r : Result Reply Refusal) → PathNotRefused → InclusionFault sha256 D leaf m p fault
+    → MatchResult r (λ x. (x ≡ Refused) × (fault ≢ NoEvidence)) (λ e. (e ≡ Memory) × (fault ≡ NoEvidence)) → MatchResult r (λ x. shown x ≡ verdict D leaf m p) (λ e. e ≡ Memory)
+verdict-fault D leaf m p fault (Err e) law f said = said.0
+verdict-fault D leaf m p (ProofRefused v) (Ok x) law f said = ap shown said.0 ∙ verdict-refused D leaf m p v law f
+verdict-fault D leaf m p NoEvidence (Ok x) law f said = absurd (said.1 refl)

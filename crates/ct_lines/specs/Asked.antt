@@ -91,9 +91,13 @@ front_asks op d =
     else (if bytes_eq op (codes "await-size") then option_map await_size (number_at (codes "tree_size") d)
     else option_map front_query (query_asked op d))
 
+-- what f gives for three values, where each is there
+abbrev pub with_three : {A : Type 0} → (ℕ → ℕ → ℕ → A) → Option ℕ → Option ℕ → Option ℕ → Option A
+with_three f a b c = option_and_then (λ x. option_and_then (λ y. option_map (λ z. f x y z) c) b) a
+
 -- the op sequence
 abbrev pub sequence_asked : Data → Option OperatorAsked
-sequence_asked d = option_and_then (λ from. option_and_then (λ count. option_map (λ now. sequence from count now) (number_at (codes "now") d)) (number_at (codes "count") d)) (number_at (codes "from") d)
+sequence_asked d = with_three sequence (number_at (codes "from") d) (number_at (codes "count") d) (number_at (codes "now") d)
 
 -- what the operator asks by an op
 abbrev pub operator_asks : List ℕ → Data → Option OperatorAsked

@@ -1,6 +1,6 @@
 -- What the frozen log replies to its input.
 use Rattle.std.specs.Prelude.{◌≡◌, ◌⊎◌, ℕ, List, [], ◌∷◌, ◌++◌, length, Option, Some, None, option_and_then, ◌&&◌, ◌==◌, nat_le, if◌then◌else◌, Result, MatchResult}
-use Rattle.std.specs.List.{flat_map}
+use Rattle.std.specs.List.{concat}
 use Rattle.std.specs.Str.{is_utf8}
 use Rattle.serde_json.specs.Read.{read}
 use Rattle.ct_codec.specs.declared.refusal.Refusal.{Refusal}
@@ -59,10 +59,6 @@ replies reply ((b ∷ bs) ∷ lines) = reply (b ∷ bs) ∷ replies reply lines
 abbrev pub frozen_replies : Log → List ℕ → List (List ℕ)
 frozen_replies log input = replies (frozen_reply log) (cut [] input)
 
--- texts one after the other
-abbrev pub joined : List (List ℕ) → List ℕ
-joined texts = flat_map (λ text. text) texts
-
 -- all that the frozen log writes for an input
 abbrev pub frozen_text : Log → List ℕ → List ℕ
-frozen_text log input = joined (frozen_replies log input)
+frozen_text log input = concat (frozen_replies log input)

@@ -1,9 +1,12 @@
 -- How far serving has come within the input.
-use Rattle.std.specs.Prelude.{◌≡◌, ◌<◌, ◌+◌, ℕ, List, ◌++◌, length, Option, Bool, true, false}
+use Rattle.std.specs.Prelude.{◌≡◌, ◌<◌, ◌+◌, ℕ, List, [], ◌++◌, length, Option, Bool, true, false}
+use Rattle.std.specs.List.{concat}
 use Rattle.std.specs.Io.KnownBytes.{Appends}
 use Rattle.ct_lines.specs.declared.standing.StandingLine.{StandingLine}
-use Rattle.ct_lines.specs.Frozen.{cut, replies, joined}
-use Rattle.ct_lines.specs.Serving.{IsShort}
+use Rattle.ct_lines.specs.declared.fault.ServeFault.{ServeFault}
+use Rattle.ct_lines.specs.declared.fault.ServeFault.TheVariants.{Read, Write, Memory, Endless}
+use Rattle.ct_lines.specs.Frozen.{cut, replies}
+use Rattle.ct_lines.specs.Serving.{count_in, ended, IsShort}
 
 -- a line that may be too long, of which these bytes are kept
 abbrev pub StandsAs : Bool → List ℕ → List ℕ → Type 0
@@ -11,32 +14,41 @@ StandsAs false kept line = kept ≡ line
 StandsAs true kept line = 1048576 < length line
 
 -- the line that stands
-abbrev pub Stands : StandingLine → List ℕ → Type 0
-Stands standing line = StandsAs standing.too_long standing.bytes.items line
+abbrev pub StandsFor : StandingLine → List ℕ → Type 0
+StandsFor standing line = StandsAs standing.too_long standing.bytes.items line
 
 -- from `line`, a piece of the input gives these replies, and `line2` stands behind it
-pub record IsServed (reply : List ℕ → List ℕ) (line piece : List ℕ) (texts : List (List ℕ)) (line2 : List ℕ) : Type 0 where
+pub record ServesPiece (reply : List ℕ → List ℕ) (line piece : List ℕ) (texts : List (List ℕ)) (line2 : List ℕ) : Type 0 where
   pub goes_on : (more : List ℕ) → replies reply (cut line (piece ++ more)) ≡ texts ++ replies reply (cut line2 more)
+  pub ends_on : (more : List ℕ) → replies reply (ended line (piece ++ more)) ≡ texts ++ replies reply (ended line2 more)
+
+-- how serving stops before the texts: memory is refused before one is begun, and a writer fails at one
+abbrev pub StopsBefore : ServeFault → List ℕ → List (List ℕ) → Type 0
+StopsBefore (Read k) next texts = ⊥
+StopsBefore (Write k) next texts = 0 < length texts
+StopsBefore (Memory k) next texts = next ≡ []
+StopsBefore (Endless k) next texts = ⊥
 
 -- from `line`, a piece of the input gives these replies and others, of the first of which `next` is at most a proper beginning
-pub record IsStopped (reply : List ℕ → List ℕ) (line piece : List ℕ) (texts : List (List ℕ)) (next : List ℕ) : Type 0 where
+pub record IsStopped (reply : List ℕ → List ℕ) (line piece : List ℕ) (texts : List (List ℕ)) (next : List ℕ) (fault : ServeFault) : Type 0 where
   pub later : List (List ℕ)
   pub order : replies reply (cut line piece) ≡ texts ++ later
   pub short : IsShort next later
+  pub why : StopsBefore fault next later
 
 -- a piece was served from `line`: its replies are written and counted, and the line behind it stands
 pub record Goes (reply : List ℕ → List ℕ) (old new : Option (List ℕ)) (standing : StandingLine) (count n : ℕ) (line piece : List ℕ) : Type 0 where
   pub texts : List (List ℕ)
   pub line2 : List ℕ
-  pub stands : Stands standing line2
-  pub served : IsServed reply line piece texts line2
-  pub written : Appends old new (joined texts)
+  pub stands : StandsFor standing line2
+  pub served : ServesPiece reply line piece texts line2
+  pub written : Appends old new (concat texts)
   pub counted : n ≡ count + length texts
 
 -- serving stopped within a piece: replies are written whole and counted, and then less than one more
-pub record Stops (reply : List ℕ → List ℕ) (old new : Option (List ℕ)) (count n : ℕ) (line piece : List ℕ) : Type 0 where
+pub record StopsWithin (reply : List ℕ → List ℕ) (old new : Option (List ℕ)) (count : ℕ) (fault : ServeFault) (line piece : List ℕ) : Type 0 where
   pub texts : List (List ℕ)
   pub next : List ℕ
-  pub stopped : IsStopped reply line piece texts next
-  pub written : Appends old new (joined texts ++ next)
-  pub counted : n ≡ count + length texts
+  pub stopped : IsStopped reply line piece texts next fault
+  pub written : Appends old new (concat texts ++ next)
+  pub counted : count_in fault ≡ count + length texts

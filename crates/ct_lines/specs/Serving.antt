@@ -1,15 +1,17 @@
 -- Serving that goes on, and serving that stops.
-use Rattle.std.specs.Prelude.{◌≡◌, ◌<◌, ◌≤◌, ℕ, List, [], ◌∷◌, ◌++◌, length, take, drop, Option, Some, None, Vec}
+use Rattle.std.specs.Prelude.{◌≡◌, ◌<◌, ◌≤◌, ◌^◌, ◌==◌, ℕ, List, [], ◌∷◌, ◌++◌, length, take, drop, Option, Some, None, Vec, if◌then◌else◌}
+use Rattle.std.specs.List.{concat}
 use Rattle.std.specs.Global.{Global}
-use Rattle.ct_lines.specs.declared.serving.ServeFault.{ServeFault}
-use Rattle.ct_lines.specs.declared.serving.ServeFault.TheVariants.{Read, Write, Memory}
-use Rattle.ct_lines.specs.Frozen.{joined}
+use Rattle.ct_lines.specs.declared.fault.ServeFault.{ServeFault}
+use Rattle.ct_lines.specs.declared.fault.ServeFault.TheVariants.{Read, Write, Memory, Endless}
+use Rattle.ct_lines.specs.Frozen.{cut, replies}
 
 -- how many replies were written whole
 abbrev pub count_in : ServeFault → ℕ
 count_in (Read k) = k
 count_in (Write k) = k
 count_in (Memory k) = k
+count_in (Endless k) = k
 
 -- nothing, or a proper beginning of the first of the texts
 abbrev pub IsShort : List ℕ → List (List ℕ) → Type 0
@@ -21,8 +23,25 @@ IsShort (b ∷ bs) (text ∷ texts) = (length (b ∷ bs) < length text) × (b �
 pub record IsCutOff (texts : List (List ℕ)) (written : List ℕ) (k : ℕ) : Type 0 where
   pub within : k ≤ length texts
   pub next : List ℕ
-  pub order : written ≡ joined (take k texts) ++ next
+  pub order : written ≡ concat (take k texts) ++ next
   pub short : IsShort next (drop k texts)
+
+-- the lines that end in the input, where `line` stands before it: those of `cut` but the last
+abbrev pub ended : List ℕ → List ℕ → List (List ℕ)
+ended line [] = []
+ended line (b ∷ bs) = if b == 10 then line ∷ ended [] bs else ended (line ++ b ∷ []) bs
+
+-- the k whole replies to the lines that ended are written, and nothing else
+abbrev pub RepliedToEnded : (List ℕ → List ℕ) → List ℕ → List ℕ → ℕ → Type 0
+RepliedToEnded reply input written k = (written ≡ concat (replies reply (ended [] input))) × (k ≡ length (replies reply (ended [] input)))
+
+-- what each fault says where `input` was read and `written` written. Read: no reply is owed to a line that ended.
+-- Write: a reply is owed that isn't whole. Memory: no reply is begun that isn't whole. Endless: none is owed, and 2^50 bytes were read
+abbrev pub IsEndedBy : (List ℕ → List ℕ) → List ℕ → List ℕ → ServeFault → Type 0
+IsEndedBy reply input written (Read k) = RepliedToEnded reply input written k
+IsEndedBy reply input written (Write k) = k < length (replies reply (cut [] input))
+IsEndedBy reply input written (Memory k) = written ≡ concat (take k (replies reply (cut [] input)))
+IsEndedBy reply input written (Endless k) = RepliedToEnded reply input written k × (2 ^ 50 ≤ length input)
 
 -- the reply to a line, or none to an empty one
 abbrev pub reply_if : (List ℕ → List ℕ) → List ℕ → List (List ℕ)

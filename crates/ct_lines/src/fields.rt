@@ -4,7 +4,7 @@ ghost use Rattle.std.specs.Prelude.{◌≡◌, ◌++◌, IfOk, option_map, map};
 ghost use Rattle.serde_json.specs.View.{view, items_view};
 ghost use Rattle.ct_lines.specs.Fields.{text_at, number_at, bytes_of, bytes_in, bytes_at, bytes_of_items, bytes_list_at, hash_in, hash_at, hashes_of_items, hashes_at};
 
-use base64::DecodeAllocError;
+use crate::wanting::Undecoded;
 use base64::engine::general_purpose::STANDARD;
 use serde_json::Value;
 use std::alloc::{AllocError, Global};
@@ -36,8 +36,7 @@ fn decode(alloc: Global, text: &str) -> Result<Option<Vec<u8>>, AllocError>
 {
     match STANDARD.decode(alloc, text.as_bytes()) {
         Ok(bytes) => Ok(Some(bytes)),
-        Err(DecodeAllocError::DecodeError(_)) => Ok(None),
-        Err(DecodeAllocError::OutOfMemory) => Err(AllocError),
+        Err(error) => Undecoded::from(error).bytes,
     }
 }
 

@@ -1,6 +1,6 @@
 //! Replies of the frozen log.
 
-ghost use Rattle.std.specs.Prelude.{◌≡◌, ◌≢◌, ◌≤◌, false, Err, length, map, IfOk, MatchResult};
+ghost use Rattle.std.specs.Prelude.{◌≡◌, ◌≤◌, length, map, IfOk, MatchResult};
 ghost use Rattle.std.specs.Bool.{OnTrue};
 ghost use Rattle.ct_core.specs.Answers.{is_size};
 ghost use Rattle.ct_core.specs.Replies.{shown};
@@ -10,19 +10,21 @@ ghost use Rattle.ct_lines.specs.Frozen.{Answers, frozen_answer, line_answer, fro
 
 use crate::reading::read_line;
 use crate::request::{Audit, FrozenRequest, Request};
+use crate::wanting::{Told, Unproved};
 use crate::writing::reply_text;
 use ct_codec::Refusal;
 use ct_core::{Published, Reply};
 use ct_monitor::Auditor;
 use ct_tree::{Memory, Sha256Hash};
-use ct_verify::{Evidence, EvidenceFault};
-use std::alloc::{AllocError, Global};
+use ct_verify::Evidence;
+use std::alloc::Global;
 
 // Whether a published head has that size.
 fn is_size(log: &Published, size: u64) -> bool
     ensures size { result ≡ is_size log.now size }
     ensures within { OnTrue result (size ≤ length log.now.entries) }
 {
+    // Its contract tells the prover that the sizes of the heads rise to that of the last one.
     let _ = log.last_head();
     log.heads().iter().any(|h| h.tree_size == size)
 }
@@ -42,6 +44,7 @@ fn verdict(alloc: Global, leaves: &[Vec<u8>], audit: &Audit) -> Result<Reply, Re
     ensures { MatchResult result (λ r. shown r ≡ verdict (map (λ l. l.items) leaves.now) audit.now.leaf_input.items audit.now.leaf_index audit.now.audit_path.items)
         (λ e. e ≡ Refusal.Memory) }
 {
+    // A law for the prover: a path that leads to the root isn't refused.
     ct_verify::laws::path();
     let auditor = Auditor::new(Sha256Hash);
     match auditor.explain(
@@ -52,8 +55,7 @@ fn verdict(alloc: Global, leaves: &[Vec<u8>], audit: &Audit) -> Result<Reply, Re
         &audit.audit_path,
     ) {
         Ok(evidence) => Ok(evidence_reply(evidence)),
-        Err(EvidenceFault::ProofRefused(_)) => Ok(Reply::Refused),
-        Err(EvidenceFault::Memory) => Err(Refusal::Memory),
+        Err(fault) => Unproved::from(fault).reply,
     }
 }
 
@@ -90,20 +92,10 @@ fn line_reply(alloc: Global, log: &Published, line: &[u8]) -> Result<Reply, Refu
     }
 }
 
-// Whether a growth was refused.
-fn is_memory(reply: &Result<Reply, Refusal>) -> bool
-    ensures { result ≡ false → reply.now ≢ Err Refusal.Memory }
-{
-    matches!(reply, Err(Refusal::Memory))
-}
-
 // The reply to a line.
 pub(crate) fn frozen_reply(alloc: Global, log: &Published, line: &[u8]) -> Result<Vec<u8>, Memory>
     ensures { IfOk result (λ b. b.items ≡ frozen_reply log.now line.now) }
 {
-    let reply = line_reply(alloc, log, line);
-    if is_memory(&reply) {
-        return Err(AllocError);
-    }
-    reply_text(alloc, &reply)
+    let answer = Told::from(line_reply(alloc, log, line)).answer?;
+    reply_text(alloc, &answer)
 }

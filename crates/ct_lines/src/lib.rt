@@ -8,22 +8,25 @@
 //! What a line asks and how a reply is written are defined in `specs/`, over `serde_json`'s own words for the value
 //! of a text and the text of a value, and over `base64`'s strict decoding and encoding: `Fields` says what stands
 //! under a key, `Asked` what a line asks, `ReplyText` how an answer is written. `Verdicts` says what an audit answers,
-//! `Frozen` what a closed log writes for its input, and `Serving` what is written where serving ends early.
+//! `Frozen` what a closed log writes for its input, and `Serving` what is written where serving ends early. The laws of
+//! these definitions are in `laws`.
 #![tactic(auto)]
 
+mod fault;
 mod fields;
 mod frozen;
-mod laws;
+pub mod laws;
 mod reading;
 mod request;
 mod sending;
 mod serving;
 mod standing;
+mod wanting;
 mod writing;
 
-pub use laws::{bytes_read_back, line_is_one_request, replies_by_lines, request_is_found};
+pub use fault::ServeFault;
 pub use reading::read_line;
 pub use request::{Audit, FrontRequest, FrozenRequest, OperatorRequest, Request};
 pub use sending::write_whole;
-pub use serving::{ServeFault, serve_frozen};
+pub use serving::serve_frozen;
 pub use writing::reply_text;

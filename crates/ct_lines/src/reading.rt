@@ -1,12 +1,13 @@
 //! Requests read from lines.
 
-ghost use Rattle.std.specs.Prelude.{◌≡◌, ◌⊎◌, IfOk, IfErr, IsErrOf, option_map};
+ghost use Rattle.std.specs.Prelude.{◌≡◌, ◌⊎◌, ◌≤◌, length, IfOk, IfErr, IsErrOf, option_map};
 ghost use Rattle.serde_json.specs.View.{view};
 ghost use Rattle.ct_lines.specs.Asked.{Asked, IsRequest, asked_in, consistency_asked, proof_by_hash_asked, entries_asked, entry_and_proof_asked, receipt_asked, query_asked, sequence_asked, audit_asked, front_asks, operator_asks, frozen_asks, party_at};
 ghost use Rattle.ct_lines.specs.Requests.{asked, front_asked, operator_asked, frozen_asked, audit_of, party};
 
 use crate::fields;
 use crate::request::{Audit, FrontRequest, FrozenRequest, OperatorRequest, Request};
+use crate::wanting::Unread;
 use ct_codec::Refusal;
 use ct_core::Query;
 use serde_json::Value;
@@ -214,27 +215,22 @@ fn request_in(alloc: Global, value: &Value) -> Result<Option<Request>, AllocErro
 }
 
 /// The request that the line is, without the byte that ends it. `BadLine`: the line is no request. `Memory`: a growth
-/// was refused before the request was read, or known to be none.
+/// was refused before the request was read, or known to be none; a line of more than 1,048,576 bytes takes no memory.
 pub fn read_line(alloc: Global, line: &[u8]) -> Result<Request, Refusal>
     ensures found { IfOk result (λ r. IsRequest line.now (asked r)) }
     ensures bad { IsErrOf result Refusal.BadLine → (a : Asked) → IsRequest line.now a → ⊥ }
     ensures refusals { IfErr result (λ e. (e ≡ Refusal.BadLine) ⊎ (e ≡ Refusal.Memory)) }
+    ensures memory { IfErr result (λ e. e ≡ Refusal.Memory → length line.now ≤ 1048576) }
 {
     if line.len() > LONGEST {
         return Err(Refusal::BadLine);
     }
     let value = match Value::from_slice(alloc, line) {
         Ok(value) => value,
-        Err(error) => {
-            if error.is_memory() {
-                return Err(Refusal::Memory);
-            }
-            return Err(Refusal::BadLine);
-        }
+        Err(error) => return Err(Unread::from(error).refusal),
     };
-    match request_in(alloc, &value) {
-        Ok(Some(request)) => Ok(request),
-        Ok(None) => Err(Refusal::BadLine),
-        Err(_) => Err(Refusal::Memory),
+    match request_in(alloc, &value)? {
+        Some(request) => Ok(request),
+        None => Err(Refusal::BadLine),
     }
 }

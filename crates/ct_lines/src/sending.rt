@@ -1,25 +1,38 @@
 //! Bytes written to a writer.
 
-ghost use Rattle.std.specs.Prelude.{◌≡◌, ◌<◌, ℕ, length, take, true, false};
+ghost use Rattle.std.specs.Prelude.{◌≡◌, ◌<◌, ℕ, length, take, true, false, OnOk, OnErr};
 ghost use Rattle.std.specs.Io.KnownBytes.{Appends};
 
-use std::io::Write;
+use std::io;
+use std::io::{ErrorKind, Write};
 
-/// Writes all of the bytes, and answers whether it did. Every error of the writer, and a write of no bytes, ends it.
-pub fn write_whole<W: Write>(writer: &mut W, bytes: &[u8]) -> bool
-    ensures all { result ≡ true → Appends (W.contents writer.old) (W.contents writer.new) bytes.now }
-    ensures some { result ≡ false → (n : ℕ) × (n < length bytes.now) × Appends (W.contents writer.old) (W.contents writer.new) (take n bytes.now) }
+// Writes all of the bytes. The error is the writer's, or `WriteZero` where the writer took no bytes.
+pub(crate) fn write_bytes<W: Write>(writer: &mut W, bytes: &[u8]) -> io::Result<()>
+    ensures all { OnOk result (Appends (W.contents writer.old) (W.contents writer.new) bytes.now) }
+    ensures some { OnErr result ((n : ℕ) × (n < length bytes.now) × Appends (W.contents writer.old) (W.contents writer.new) (take n bytes.now)) }
 {
     let mut rest = bytes;
     while !rest.is_empty() {
         match writer.write(rest) {
-            Ok(0) => return false,
+            Ok(0) => return Err(io::Error::from(ErrorKind::WriteZero)),
             Ok(n) => {
                 let (_, left) = rest.split_at(n);
                 rest = left;
             }
-            Err(_) => return false,
+            Err(error) => return Err(error),
         }
     }
-    true
+    Ok(())
+}
+
+/// Writes all of the bytes, and answers whether it did.
+///
+/// It answers false only where the writer failed or took no bytes, and then some of the bytes may be written, but not
+/// all. That it doesn't give up before is no clause (what a writer tells of its bytes is the same before and after a
+/// failed call), and shown by tests. The writer isn't flushed.
+pub fn write_whole<W: Write>(writer: &mut W, bytes: &[u8]) -> bool
+    ensures all { result ≡ true → Appends (W.contents writer.old) (W.contents writer.new) bytes.now }
+    ensures some { result ≡ false → (n : ℕ) × (n < length bytes.now) × Appends (W.contents writer.old) (W.contents writer.new) (take n bytes.now) }
+{
+    write_bytes(writer, bytes).is_ok()
 }

@@ -1,13 +1,15 @@
 //! The frozen log over a reader of request lines and a writer of replies.
 
-ghost use Rattle.std.specs.Prelude.{◌≡◌, ◌<◌, ◌≤◌, ◌+◌, ◌^◌, ℕ, List, [], length, IfOk, OnOk, IfErr, OnErr};
+ghost use Rattle.std.specs.Prelude.{◌≡◌, ◌<◌, ◌≤◌, ◌+◌, ◌^◌, ℕ, List, [], length, IfOk, OnOk, IfErr};
 ghost use Rattle.std.specs.Io.KnownBytes.{Appends, Consumes, IsAtEnd};
-ghost use Rattle.ct_lines.specs.Frozen.{frozen_reply, frozen_replies, frozen_text, joined};
-ghost use Rattle.ct_lines.specs.Serving.{count_in, reply_if, as_list, IsShort, IsCutOff};
-ghost use Rattle.ct_lines.specs.Progress.{Stands, Goes, Stops};
+ghost use Rattle.std.specs.List.{concat};
+ghost use Rattle.ct_lines.specs.Frozen.{frozen_reply, frozen_replies, frozen_text};
+ghost use Rattle.ct_lines.specs.Serving.{count_in, reply_if, as_list, IsShort, IsCutOff, IsEndedBy};
+ghost use Rattle.ct_lines.specs.Progress.{StandsFor, Goes, StopsBefore, StopsWithin};
 
+use crate::fault::{GrowthRefused, ReadFailed, ServeFault, WriteFailed};
 use crate::frozen::frozen_reply;
-use crate::sending::write_whole;
+use crate::sending::write_bytes;
 use crate::standing::StandingLine;
 use crate::writing::reply_text;
 use ct_codec::Refusal;
@@ -16,19 +18,8 @@ use ct_tree::Memory;
 use std::alloc::Global;
 use std::io::{Read, Write};
 
-// How often the reader is called at most: so many pieces have fewer lines than a u64 can count.
+// How often the reader is called at most: so many pieces have fewer lines than a u64 counts, and the loop ends.
 const READS: u64 = 1 << 50;
-
-/// Why serving ended early, and how many replies were written whole.
-#[derive(Clone, Copy, Debug, PartialEq, Eq)]
-pub enum ServeFault {
-    /// The reader failed.
-    Read(u64),
-    /// The writer failed, or wrote no bytes.
-    Write(u64),
-    /// A growth was refused.
-    Memory(u64),
-}
 
 // The reply to the line that stands, or none where it is empty.
 fn standing_reply(
@@ -36,7 +27,7 @@ fn standing_reply(
     log: &Published,
     standing: &StandingLine,
 ) -> Result<Option<Vec<u8>>, Memory>
-    ensures { IfOk result (λ o. (line : List ℕ) → Stands standing.now line → as_list o ≡ reply_if (frozen_reply log.now) line) }
+    ensures { IfOk result (λ o. (line : List ℕ) → StandsFor standing.now line → as_list o ≡ reply_if (frozen_reply log.now) line) }
 {
     if standing.too_long {
         let reply = reply_text(alloc, &Err(Refusal::BadLine))?;
@@ -59,27 +50,28 @@ fn end_line<W: Write>(
     count: u64,
 ) -> Result<u64, ServeFault>
     requires { count + 1 < 2 ^ 64 }
-    ensures written { IfOk result (λ n. (line : List ℕ) → Stands standing.old line
-        → Appends (W.contents writer.old) (W.contents writer.new) (joined (reply_if (frozen_reply log.now) line))
+    ensures written { IfOk result (λ n. (line : List ℕ) → StandsFor standing.old line
+        → Appends (W.contents writer.old) (W.contents writer.new) (concat (reply_if (frozen_reply log.now) line))
         × (n ≡ count + length (reply_if (frozen_reply log.now) line))) }
     ensures bounded { IfOk result (λ n. n ≤ count + 1) }
-    ensures forgotten { OnOk result (Stands standing.new []) }
+    ensures forgotten { OnOk result (StandsFor standing.new []) }
     ensures counted { IfErr result (λ f. count_in f ≡ count) }
-    ensures stopped { OnErr result ((line : List ℕ) → Stands standing.old line
+    ensures stopped { IfErr result (λ f. (line : List ℕ) → StandsFor standing.old line
         → (next : List ℕ) × IsShort next (reply_if (frozen_reply log.now) line)
+        × StopsBefore f next (reply_if (frozen_reply log.now) line)
         × Appends (W.contents writer.old) (W.contents writer.new) next) }
 {
-    let Ok(reply) = standing_reply(alloc, log, standing) else {
-        return Err(ServeFault::Memory(count));
+    let reply = match standing_reply(alloc, log, standing) {
+        Ok(reply) => reply,
+        Err(error) => return Err(ServeFault::from(GrowthRefused { count, error })),
     };
     standing.clear();
     let Some(bytes) = reply else {
         return Ok(count);
     };
-    if write_whole(writer, &bytes) {
-        Ok(count + 1)
-    } else {
-        Err(ServeFault::Write(count))
+    match write_bytes(writer, &bytes) {
+        Ok(()) => Ok(count + 1),
+        Err(error) => Err(ServeFault::from(WriteFailed { count, error })),
     }
 }
 
@@ -94,10 +86,10 @@ fn feed<W: Write>(
 ) -> Result<u64, ServeFault>
     requires { count + length piece.now < 2 ^ 64 }
     ensures bounded { IfOk result (λ n. n ≤ count + length piece.now) }
-    ensures served { IfOk result (λ n. (line : List ℕ) → Stands standing.old line
+    ensures served { IfOk result (λ n. (line : List ℕ) → StandsFor standing.old line
         → Goes (frozen_reply log.now) (W.contents writer.old) (W.contents writer.new) standing.new count n line piece.now) }
-    ensures stopped { IfErr result (λ f. (line : List ℕ) → Stands standing.old line
-        → Stops (frozen_reply log.now) (W.contents writer.old) (W.contents writer.new) count (count_in f) line piece.now) }
+    ensures stopped { IfErr result (λ f. (line : List ℕ) → StandsFor standing.old line
+        → StopsWithin (frozen_reply log.now) (W.contents writer.old) (W.contents writer.new) count f line piece.now) }
 {
     let mut total = count;
     for byte in piece {
@@ -109,7 +101,10 @@ fn feed<W: Write>(
         } else {
             match standing.push(*byte) {
                 Ok(()) => {}
-                Err(_) => return Err(ServeFault::Memory(total)),
+                Err(error) => {
+                    let count = total;
+                    return Err(ServeFault::from(GrowthRefused { count, error }));
+                }
             }
         }
     }
@@ -121,13 +116,18 @@ fn feed<W: Write>(
 /// A line ends at the byte 0A, and the last one may end with the input. An empty line has no reply. A line that is no
 /// request, one of more than 1,048,576 bytes among them, and a request of a front or of the operator are replied to with
 /// `bad-line`. Each whole line that was read is replied to before the reader is called again. Memory is taken for one
-/// line and one reply at a time, and of a line that is too long no more is kept than of the longest line.
+/// line and its reply at a time, an audit's leaves with it, and of a line that is too long no more is kept than of the
+/// longest line. The writer isn't flushed.
 ///
 /// # Errors
 ///
 /// With the number k of the replies that were written whole; behind these at most a proper beginning of the next one is
-/// written. `Read`: the reader failed (or was called 2^50 times). `Write`: the writer failed or took no bytes. `Memory`:
-/// a growth was refused. Each ends the call at once.
+/// written. `Read`: the reader failed, and each line that had ended has its reply. `Write`: the writer failed or took no
+/// bytes, before a reply was whole. `Memory`: a growth was refused, and no reply is begun that isn't whole. `Endless`:
+/// the reader gave bytes 2^50 times, and each line that had ended has its reply. Each ends the call at once.
+///
+/// That the reader or the writer failed is no clause, since what they tell of their bytes is the same before and after
+/// a failed call: both faults are made of the error that came. Tests show it.
 pub fn serve_frozen<R: Read, W: Write>(
     alloc: Global,
     log: &Published,
@@ -142,6 +142,10 @@ pub fn serve_frozen<R: Read, W: Write>(
         × Consumes (R.remaining reader.old) (R.remaining reader.new) input
         × Appends (W.contents writer.old) (W.contents writer.new) written
         × IsCutOff (frozen_replies log.now input) written (count_in f)) }
+    ensures ended { IfErr result (λ f. (input : List ℕ) × (written : List ℕ)
+        × Consumes (R.remaining reader.old) (R.remaining reader.new) input
+        × Appends (W.contents writer.old) (W.contents writer.new) written
+        × IsEndedBy (frozen_reply log.now) input written f) }
 {
     let mut standing = StandingLine::new(alloc);
     let mut count = 0;
@@ -162,8 +166,8 @@ pub fn serve_frozen<R: Read, W: Write>(
                     Err(fault) => return Err(fault),
                 }
             }
-            Err(_) => return Err(ServeFault::Read(count)),
+            Err(error) => return Err(ServeFault::from(ReadFailed { count, error })),
         }
     }
-    Err(ServeFault::Read(count))
+    Err(ServeFault::Endless(count))
 }

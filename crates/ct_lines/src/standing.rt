@@ -15,11 +15,11 @@ pub(crate) struct StandingLine {
 }
 
 impl StandingLine {
-    ghost use Rattle.ct_lines.specs.Progress.{Stands};
+    ghost use Rattle.ct_lines.specs.Progress.{StandsFor};
 
     // A line of which nothing is read.
     pub(crate) fn new(alloc: Global) -> StandingLine
-        ensures { Stands result [] }
+        ensures { StandsFor result [] }
     {
         StandingLine {
             bytes: Vec::new(alloc),
@@ -29,7 +29,7 @@ impl StandingLine {
 
     // Takes in one more byte of the line.
     pub(crate) fn push(&mut self, byte: u8) -> Result<(), AllocError>
-        ensures { OnOk result ((line : List ℕ) → Stands self.old line → Stands self.new (line ++ byte ∷ [])) }
+        ensures { OnOk result ((line : List ℕ) → StandsFor self.old line → StandsFor self.new (line ++ byte ∷ [])) }
     {
         if self.bytes.len() < LONGEST {
             self.bytes.push(byte)?;
@@ -41,7 +41,7 @@ impl StandingLine {
 
     // Forgets the line.
     pub(crate) fn clear(&mut self)
-        ensures { Stands self.new [] }
+        ensures { StandsFor self.new [] }
     {
         self.bytes.clear();
         self.too_long = false;

@@ -1,4 +1,3 @@
-use Rattle.std.proofs.Common.{refl}
 use Rattle.ct_lines.specs.Frozen.{frozen_reply}
 use Rattle.ct_lines.proofs.Pieces.{stop_here}
 use Rattle.ct_lines.proofs.serving.end_line.Goals as goal
@@ -7,5 +6,5 @@ pub returns-clause-stopped : goal.returns-clause-stopped
 returns-clause-stopped g c = λ line stands.
     let asked = c.in-Ok.ensures line stands in
     let one = rw c.in-Some.is at asked in
-    let some = rw c.deref.ensures.value at (c.if-write_whole.ensures.some refl) in
-    stop_here (frozen_reply c.args.log.now) line c.in-Some.bytes.items (g.W.Write.contents c.args.writer.now) (g.W.Write.contents c.write_whole.new.writer) one some
+    let some = rw c.deref.ensures.value at c.in-Err-write_bytes.ensures.some in
+    rw c.from-in-Err-write_bytes.ensures (stop_here (frozen_reply c.args.log.now) line c.in-Some.bytes.items (g.W.Write.contents c.args.writer.now) (g.W.Write.contents c.write_bytes.new.writer) c.args.count one some)

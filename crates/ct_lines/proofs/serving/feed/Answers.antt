@@ -10,13 +10,13 @@ loop-byte-init g c = record { within = omega arith; goes = λ line s. goes_none 
 pub returns-in-Err-clause-stopped : goal.returns-in-Err-clause-stopped
 returns-in-Err-clause-stopped g c = λ line s.
     stops_end_at (frozen_reply c.args.log.now) (g.W.Write.contents c.args.writer.now) (g.W.Write.contents c.loop-byte.writer) (g.W.Write.contents c.end_line.new.writer)
-    c.loop-byte.standing c.args.count c.loop-byte.total _ c.loop-byte.byte-index line c.args.piece.now
+    c.loop-byte.standing c.args.count c.loop-byte.total c.loop-byte.byte-index c.in-Err.fault line c.args.piece.now
     c.loop-byte-test.true c.if-byte-eq10.true (c.loop-byte.invariant.goes line s) c.in-Err.ensures.stopped c.in-Err.ensures.counted
 
 pub returns-in-Err-push-clause-stopped : goal.returns-in-Err-push-clause-stopped
-returns-in-Err-push-clause-stopped g c = λ line s.
+returns-in-Err-push-clause-stopped g c = λ line s. rw c.from.ensures (
     stops_between_at (frozen_reply c.args.log.now) (g.W.Write.contents c.args.writer.now) (g.W.Write.contents c.loop-byte.writer)
-    c.loop-byte.standing c.args.count c.loop-byte.total c.loop-byte.byte-index line c.args.piece.now (c.loop-byte.invariant.goes line s)
+    c.loop-byte.standing c.args.count c.loop-byte.total c.loop-byte.byte-index line c.args.piece.now (c.loop-byte.invariant.goes line s))
 
 pub loop-byte-preserved : goal.loop-byte-preserved
 loop-byte-preserved g c = elim c.if-byte-eq10.branch [

@@ -1,7 +1,7 @@
 use Rattle.std.proofs.Common.{◌<◌, length, arith, drop, length-drop, refl}
 use Rattle.std.proofs.lemmas.Grind.{common_steps}
 use Rattle.ct_lines.proofs.Sent.{sending_more, sending_stops, sending_kept}
-use Rattle.ct_lines.proofs.sending.write_whole.Goals as goal
+use Rattle.ct_lines.proofs.sending.write_bytes.Goals as goal
 
 pub returns-in-Ok-eq0-clause-some : goal.returns-in-Ok-eq0-clause-some
 returns-in-Ok-eq0-clause-some g c =
@@ -10,7 +10,7 @@ returns-in-Ok-eq0-clause-some g c =
     let left : 0 < length rest = grind (arith, common_steps) in
     let more : 0 < length (drop n rest) = omega (arith, length-drop n rest, c.in-Ok-eq0.field-0-test) in
     let sent = sending_more _ _ _ c.args.bytes.now rest (drop n rest) n c.loop-rest.invariant c.in-Ok-eq0.ensures.bytes refl in
-    λ _. sending_stops _ _ _ (drop n rest) sent more
+    sending_stops _ _ _ (drop n rest) sent more
 
 pub loop-rest-preserved : goal.loop-rest-preserved
 loop-rest-preserved g c =
@@ -21,4 +21,4 @@ returns-in-Err-clause-some g c =
     let rest = c.loop-rest.rest.now in
     let left : 0 < length rest = grind (arith, common_steps) in
     let sent = sending_kept _ _ _ c.args.bytes.now rest c.loop-rest.invariant c.in-Err.ensures.bytes in
-    λ _. sending_stops _ _ _ rest sent left
+    sending_stops _ _ _ rest sent left
