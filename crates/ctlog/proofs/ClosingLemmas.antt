@@ -1,6 +1,6 @@
 -- What the closing leaves.
 use Rattle.std.proofs.Common.{◌≡◌, ◌⊎◌, ◌<◌, ◌≤◌, ◌+◌, ℕ, List, [], ◌∷◌, ◌++◌, map, Bool, true, false, refl, sym, ap, subst, ◌∙◌, arith, append_assoc, append-nil, inl, inr}
-use Rattle.std.specs.Prelude.{◌||◌, if◌then◌else◌, nat_lt, Result, Ok, Err, IfErr}
+use Rattle.std.specs.Prelude.{◌||◌, if◌then◌else◌, nat_lt, Result, Ok, Err, IfErr, IfOk, OnOk}
 use Rattle.std.proofs.lemmas.Grind.{common_steps}
 use Rattle.std.proofs.lemmas.Bool.{ltb-true}
 use Rattle.ct_codec.specs.declared.item.Item.{Item}
@@ -9,10 +9,11 @@ use Rattle.ct_codec.specs.declared.refusal.Refusal.TheVariants.{ClockBack, Memor
 use Rattle.ct_tree.specs.declared.head.Head.{Head}
 use Rattle.ct_core.specs.Leaf.{Entry}
 use Rattle.ct_core.specs.Settlement.{Log, firsts_after}
-use Rattle.ct_core.specs.Core.{CoreState, IsSettled, newest_leaf, last_moment, clock_of, entry_at, publish_refusal}
+use Rattle.ct_core.specs.declared.settled.Settled.{Settled}
+use Rattle.ct_core.specs.Core.{Begins, CoreState, IsNextHead, after_publishing, IsSettled, newest_leaf, last_moment, clock_of, entry_at, publish_refusal}
 use Rattle.ct_house.specs.Sequence.{Sequences}
-use Rattle.ct_house.specs.House.{HouseState, SettlesMore}
-use Rattle.ctlog.specs.ClosedLog.{IsLate, IsRefused}
+use Rattle.ct_house.specs.House.{FrontView, HouseState, SettlesMore}
+use Rattle.ctlog.specs.ClosedLog.{EndsAt, IsLate, IsReady, IsRefusedAtClosing, KeepsSettled}
 
 newest-push : (es : List Entry) (e : Entry) → newest_leaf (es ++ e ∷ []) ≡ e.timestamp
 newest-push es e = grind (arith, common_steps)
@@ -53,9 +54,32 @@ late_head old shut settled xs now e s time late items q =
     inr (subst (λ (l : Log). now ≤ last_moment l.heads) (s.published ∙ ap (λ (c : CoreState). c.published) same) (late newest))
 
 pub closing_refused : (r : Result Head Refusal) (old shut settled after : HouseState) (xs : List Item) (now : ℕ) → shut ≡ record old { accepted = shut.accepted } → SettlesMore shut settled xs now
-    → clock_of shut.core ≤ now → IfErr r (λ e. (e ≡ publish_refusal settled.core now) × (after ≡ settled)) → IfErr r (λ e. IsRefused old now e)
+    → clock_of shut.core ≤ now → IfErr r (λ e. (e ≡ publish_refusal settled.core now) × (after ≡ settled)) → IfErr r (λ e. IsRefusedAtClosing old now e)
 closing_refused (Ok h) old shut settled after xs now e s time p = tt
 closing_refused (Err r) old shut settled after xs now e s time p = elim (publish_refused settled.core now r p.0) [
   | inl c ↦ inl (c.0, late_head old shut settled xs now e s time c.1)
   | inr m ↦ inr m
 ]
+
+-- the closing keeps what was settled
+pub closing_keeps : (r : Result Head Refusal) (old shut settled after : HouseState) (xs : List Item) (now : ℕ) → shut ≡ record old { accepted = shut.accepted } → SettlesMore shut settled xs now
+    → IfOk r (λ h. IsNextHead settled.core now h × (after ≡ record settled { core = after_publishing settled.core h })) → OnOk r (KeepsSettled old.core after.core)
+closing_keeps (Err e) old shut settled after xs now same s p = tt
+closing_keeps (Ok h) old shut settled after xs now same s p =
+    let before : shut.core ≡ old.core = ap (λ (t : HouseState). t.core) same in
+    let behind : after.core ≡ after_publishing settled.core h = ap (λ (t : HouseState). t.core) p.1 in
+    let kept : KeepsSettled shut.core (after_publishing settled.core h) = (s.entries, s.settlement) in
+    subst (λ (c : CoreState). KeepsSettled c after.core) before (subst (λ (c : CoreState). KeepsSettled shut.core c) (sym behind) kept)
+
+-- the log that the closing leaves goes on from what there was
+pub ends_at : (old new : HouseState) (ends : List FrontView) (now : ℕ) (h : Head) (log : Log) → IsReady old ends now h new → KeepsSettled old.core new.core
+    → log ≡ new.core.published → EndsAt old now log
+ends_at old new ends now h log r kept same =
+    let last : EndsAt old now new.core.published = record {
+      last = h;
+      moment = r.moment;
+      heads = r.heads;
+      entries = subst (λ (es : List Entry). Begins old.core.entries es) (sym (r.covered.0)) kept.0;
+      settlement = subst (λ (ts : List Settled). Begins old.core.settlement ts) (sym (r.covered.1)) kept.1;
+    } in
+    subst (λ (l : Log). EndsAt old now l) (sym same) last

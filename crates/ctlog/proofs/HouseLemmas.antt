@@ -14,7 +14,7 @@ use Rattle.ctlog.specs.declared.party.FrontParty.{FrontParty}
 use Rattle.ctlog.specs.declared.party.OperatorParty.{OperatorParty}
 use Rattle.ctlog.specs.OperatorWork.{GoesOn}
 use Rattle.ctlog.specs.Parties.{AreSame}
-use Rattle.ctlog.specs.Plans.{front_asked}
+use Rattle.ctlog.specs.Plans.{task_asked}
 use Rattle.ctlog.specs.Tasks.{Task, front_parts}
 use Rattle.ctlog.specs.Output.{AreGiven, AreParties, fronts_of}
 use Rattle.ctlog.proofs.PartyLemmas.{are_of_house, same_numbers}
@@ -51,8 +51,8 @@ went_in_order old new xs ys g same o = same_numbers xs ys same ∙ o ∙ ap (ran
 
 -- what each party does is what its list has
 parties_have : (parties : List FrontParty) (lists : List (Vec FrontTask Global)) (ts : List Task) → map (λ (p : FrontParty). p.tasks) parties ≡ lists
-    → ((k : ℕ) (v : Vec FrontTask Global) → slice_get lists k ≡ Some v → map front_asked v.items ≡ front_parts k ts)
-    → (k : ℕ) (p : FrontParty) → slice_get parties k ≡ Some p → map front_asked p.tasks.items ≡ front_parts k ts
+    → ((k : ℕ) (v : Vec FrontTask Global) → slice_get lists k ≡ Some v → map task_asked v.items ≡ front_parts k ts)
+    → (k : ℕ) (p : FrontParty) → slice_get parties k ≡ Some p → map task_asked p.tasks.items ≡ front_parts k ts
 parties_have parties lists ts e each k p at =
     each k p.tasks (ap (λ (l : List (Vec FrontTask Global)). slice_get l k) (sym e) ∙ slice_get-map (λ (q : FrontParty). q.tasks) parties k ∙ ap (option_map (λ (q : FrontParty). q.tasks)) at)
 

@@ -8,3 +8,6 @@ pub mod OperatorLemmas
 pub mod PartyLemmas
 pub mod HouseLemmas
 pub mod OutputLemmas
+pub mod CommandLemmas
+pub mod OptionLemmas
+pub mod FaultKinds

@@ -1,6 +1,6 @@
 -- What was written, piece by piece.
 use Rattle.std.proofs.Common.{◌≡◌, ◌⊎◌, ℕ, List, [], ◌++◌, refl, sym, ap, subst, ◌∙◌, append-nil, inl, inr}
-use Rattle.std.specs.Prelude.{Option, Some, Result, Ok, Err, OnErr, IsErrOf, IfErr}
+use Rattle.std.specs.Prelude.{Option, Some, Result, Ok, Err, OnErr, IsErrAnd, IfErr}
 use Rattle.std.specs.Io.KnownBytes.{Appends, Keeps, Consumes, IsAtEnd}
 use Rattle.ct_codec.specs.declared.item.Item.{Item}
 use Rattle.ct_core.specs.Settlement.{Log, IsFinal}
@@ -10,53 +10,52 @@ use Rattle.ct_lines.specs.Frozen.{frozen_text}
 use Rattle.ctlog.specs.declared.party.FrontParty.{FrontParty}
 use Rattle.ctlog.specs.declared.party.OperatorParty.{OperatorParty}
 use Rattle.ctlog.specs.declared.fault.Fault.{Fault}
-use Rattle.ctlog.specs.declared.fault.Fault.TheVariants.{ClockBack, Read, Write, Memory}
 use Rattle.ctlog.specs.declared.plan.Plan.{Plan}
-use Rattle.std.proofs.lemmas.Result.{IfErr-at_err}
 use Rattle.ctlog.specs.ClosedLog.{EndsAt}
 use Rattle.ctlog.specs.OperatorWork.{GoesOn}
-use Rattle.ctlog.specs.Output.{AreGiven, IsClosed, SomeReplies, WritesAll, WritesSome}
+use Rattle.ctlog.specs.Faults.{IsFrozenFault}
+use Rattle.ctlog.specs.Output.{AreGiven, IsBrokenOff, IsClosed, IsDone, SomeReplies, WritesAll, WritesSome, log_begun, not_begun}
+use Rattle.clap.specs.declared.error.kind.ErrorKind.{ErrorKind}
+use Rattle.clap.specs.declared.error.kind.ErrorKind.TheVariants as kind
+use Rattle.ctlog.specs.CommandLine.{CommandLine, IsRefusalOf, IsUnanswered, log_with, help, nothing}
 use Rattle.ctlog.specs.Plans.{IsPlanOf}
 use Rattle.ctlog.specs.Parties.{PartiesServe}
-use Rattle.ctlog.specs.Sends.{SendsSome}
 use Rattle.ctlog.specs.Tasks.{Task}
 use Rattle.std.proofs.KnownBytes.{Appends-trans, Appends-kept}
 
--- what holds in any case holds where there is an error, and where there is none
-pub on_err : {T E : Type 0} (r : Result T E) (P : Type 0) → P → OnErr r P
-on_err (Ok x) P p = tt
-on_err (Err e) P p = p
+-- what holds of the fault holds of the error that it became
+pub if_err_is : {T E : Type 0} (P : E → Type 0) (r : Result T E) (x : E) → IsErrAnd r (λ e. e ≡ x) → P x → IfErr r P
+if_err_is P (Ok o) x none p = absurd none
+if_err_is P (Err e) x is p = subst P (sym is) p
+
+-- what holds of the error, and in that case
+pub if_err_both : {T E : Type 0} (P : E → Type 0) (Q : Type 0) (R : E → Type 0) (r : Result T E) → ((e : E) → P e → Q → R e) → IfErr r P → OnErr r Q → IfErr r R
+if_err_both P Q R (Ok o) f p q = tt
+if_err_both P Q R (Err e) f p q = f e p q
 
 -- the log that the closing leaves is closed
 pub log_closed : (old new : HouseState) (after : List FrontView) (close_at accepted : ℕ) (log : Log) → GoesOn old new → Sequences old []
-    → ((items : List Item) → Sequences new items → IsFinal (accepted_lists after) accepted log) → EndsAt new.core.published close_at log → IsClosed after close_at log
+    → ((items : List Item) → Sequences new items → IsFinal (accepted_lists after) accepted log) → EndsAt new close_at log → IsClosed new after close_at log
 log_closed old new after close_at accepted log g q closes e =
     let more = g.sequences [] q in
     record {
       accepted = accepted;
       final = closes ([] ++ more.0) more.1;
-      earlier = new.core.published.heads;
-      last = e.0;
-      heads = e.2;
-      moment = e.1;
+      ends = e;
     }
 
 -- all replies: the parties', and then those of the closed log
 pub writes_all : (operator : OperatorParty) (parties : List FrontParty) (lines : List ℕ) (close_at : ℕ) (old mid new : Option (List ℕ)) (sequencer : HouseState) (after : List FrontView)
-    (text : List ℕ) (log : Log) → PartiesServe operator parties sequencer after text → IsClosed after close_at log → Appends old mid text → Appends mid new (frozen_text log lines)
+    (text : List ℕ) (log : Log) → PartiesServe operator parties sequencer after text → IsClosed sequencer after close_at log → Appends old mid text → Appends mid new (frozen_text log lines)
     → WritesAll operator parties lines close_at old new
 writes_all operator parties lines close_at old mid new sequencer after text log served closed first second =
-    (after, text, log, (sequencer, served), closed, Appends-trans old mid new text (frozen_text log lines) first second)
-
-pub writes_first : (operator : OperatorParty) (parties : List FrontParty) (lines : List ℕ) (close_at : ℕ) (old new : Option (List ℕ)) (sequencer : HouseState) (after : List FrontView)
-    (text : List ℕ) → PartiesServe operator parties sequencer after text → SendsSome old new text → WritesSome operator parties lines close_at old new
-writes_first operator parties lines close_at old new sequencer after text served s = inr (inl (after, text, (sequencer, served), s))
+    record { sequencer = sequencer; after = after; text = text; log = log; served = served; closed = closed; written = Appends-trans old mid new text (frozen_text log lines) first second }
 
 pub writes_last : (operator : OperatorParty) (parties : List FrontParty) (lines : List ℕ) (close_at : ℕ) (old mid new : Option (List ℕ)) (sequencer : HouseState) (after : List FrontView)
-    (text : List ℕ) (log : Log) → PartiesServe operator parties sequencer after text → IsClosed after close_at log → Appends old mid text
-    → (written : List ℕ) × SomeReplies log lines written × Appends mid new written → WritesSome operator parties lines close_at old new
-writes_last operator parties lines close_at old mid new sequencer after text log served closed first (written, some, second) =
-    inr (inr (after, text, log, written, (sequencer, served), closed, some, Appends-trans old mid new text written first second))
+    (text : List ℕ) (log : Log) (f : Fault) → PartiesServe operator parties sequencer after text → IsClosed sequencer after close_at log → Appends old mid text → IsFrozenFault f
+    → (written : List ℕ) × SomeReplies log lines written × Appends mid new written → WritesSome operator parties lines close_at f old new
+writes_last operator parties lines close_at old mid new sequencer after text log f served closed first fault (written, some, second) =
+    log_begun sequencer after text log written fault served closed some (Appends-trans old mid new text written first second)
 
 -- all lines were read
 all_read : (lines rest input : List ℕ) → lines ≡ input ++ rest → rest ≡ [] → input ≡ lines
@@ -74,9 +73,40 @@ frozen_whole log lines old new sent = (frozen_text log lines, inl refl, sent)
 pub plan_given : (n : ℕ) (p : Plan) (ts : List Task) → IsPlanOf n p ts → AreGiven ts p.fronts.items p.operator.items
 plan_given n p ts i = record { each = i.fronts; operated = i.operator }
 
--- a fault of another kind is no refusal of the clock
-pub never_clock_back : {T : Type 0} (r : Result T Fault) (Q : Fault → Type 0) (P : Type 0) → (Q ClockBack → ⊥) → IfErr r Q → IsErrOf r ClockBack → P
-never_clock_back r Q P never q e = absurd (never (IfErr-at_err Q {r = r} {y = ClockBack} e q))
+-- ---- by what the command line asks for
 
-pub not_frozen_fault : (ClockBack ≡ Read) ⊎ ((ClockBack ≡ Write) ⊎ (ClockBack ≡ Memory)) → ⊥
-not_frozen_fault h = elim h [ inl e ↦ cc | inr rest ↦ elim rest [ inl e ↦ cc | inr e ↦ cc ] ]
+not_both : {P : Type 0} (k : ErrorKind) → k ≡ kind.OutOfMemory → k ≡ kind.DisplayHelp → P
+not_both k memory is = absurd (other (sym memory ∙ is))
+  where
+    other : kind.OutOfMemory ≡ kind.DisplayHelp → ⊥
+    other e = cc
+
+-- help was asked for, and its text was written
+pub helped : (k : ErrorKind) (a : CommandLine) (input old new : Option (List ℕ)) → IsRefusalOf a k → k ≡ kind.DisplayHelp → (text : List ℕ) × Appends old new text → IsDone a input old new
+helped k a input old new r is text = elim r [
+  | inl memory ↦ not_both k memory is
+  | inr (inl h) ↦ subst (λ (b : CommandLine). IsDone b input old new) (sym h.1) text
+  | inr (inr h) ↦ absurd (h.0 is)
+]
+
+-- a beginning of help's text was written, or nothing
+pub unanswered : (k : ErrorKind) (a : CommandLine) (f : Fault) (input old new : Option (List ℕ)) → IsRefusalOf a k → IsUnanswered k f old new → IsBrokenOff a f input old new
+unanswered k a f input old new r (inl h) = elim r [
+  | inl memory ↦ not_both k memory h.0
+  | inr (inl x) ↦ subst (λ (b : CommandLine). IsBrokenOff b f input old new) (sym x.1) (h.1, h.2)
+  | inr (inr x) ↦ absurd (x.0 h.0)
+]
+unanswered k a f input old new r (inr none) = go a
+  where
+    go : (b : CommandLine) → IsBrokenOff b f input old new
+    go (log_with n places open_at close_at) = not_begun (inr (inr none.0)) none.1
+    go help = (inr none.0, ([], none.1))
+    go nothing = none
+
+-- there is nothing that the words ask for
+pub refused_words : (k : ErrorKind) (a : CommandLine) → IsRefusalOf a k → (k ≡ kind.DisplayHelp → ⊥) → (k ≡ kind.OutOfMemory → ⊥) → a ≡ nothing
+refused_words k a r not_help not_memory = elim r [
+  | inl memory ↦ absurd (not_memory memory)
+  | inr (inl h) ↦ absurd (not_help h.0)
+  | inr (inr h) ↦ h.1
+]

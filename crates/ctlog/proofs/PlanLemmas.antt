@@ -12,7 +12,7 @@ use Rattle.ctlog.specs.declared.task.FrontTask.{FrontTask}
 use Rattle.ctlog.specs.declared.task.OperatorTask.{OperatorTask}
 use Rattle.ctlog.specs.declared.plan.Plan.{Plan}
 use Rattle.ctlog.specs.Tasks.{Task, for_front, for_operator, for_frozen, front_part, front_parts, operator_part, frozen_part}
-use Rattle.ctlog.specs.Plans.{front_asked, IsPlanOf}
+use Rattle.ctlog.specs.Plans.{task_asked, IsPlanOf}
 use Rattle.ctlog.proofs.TaskLemmas.{part_kept, part_grows, text_kept, text_grows}
 
 -- what holds of each element, and of one more
@@ -38,29 +38,29 @@ no_part n k r apart = elim (eqb_tells n k) [
 
 -- the tasks of one front grow by one, and those of the others stay
 fronts_grow : (lists : List (Vec FrontTask Global)) (ts : List Task) (f : ℕ) (old new : Vec FrontTask Global) (t : FrontTask) → slice_get lists f ≡ Some old → new.items ≡ old.items ++ t ∷ []
-    → ((k : ℕ) (v : Vec FrontTask Global) → slice_get lists k ≡ Some v → map front_asked v.items ≡ front_parts k ts)
-    → (k : ℕ) (v : Vec FrontTask Global) → slice_get (set lists f new) k ≡ Some v → map front_asked v.items ≡ front_parts k (ts ++ for_front f (front_asked t) ∷ [])
+    → ((k : ℕ) (v : Vec FrontTask Global) → slice_get lists k ≡ Some v → map task_asked v.items ≡ front_parts k ts)
+    → (k : ℕ) (v : Vec FrontTask Global) → slice_get (set lists f new) k ≡ Some v → map task_asked v.items ≡ front_parts k (ts ++ for_front f (task_asked t) ∷ [])
 fronts_grow lists ts f old new t there grown each k v at = elim (eqb_tells k f) [
   | inl same ↦ (
       let here : slice_get (set lists f new) k ≡ Some new = ap (slice_get (set lists f new)) same.1 ∙ set_there lists f old new there in
       let is : v ≡ new = same_Some v new (sym at ∙ here) in
-      let before : map front_asked old.items ≡ front_parts f ts = each f old there in
-      ap (λ (w : Vec FrontTask Global). map front_asked w.items) is ∙ ap (map front_asked) grown ∙ map-append front_asked old.items (t ∷ [])
-      ∙ part_grows (front_part f) ts (for_front f (front_asked t)) (map front_asked old.items) (front_asked t) before (own_part f (front_asked t))
-      ∙ ap (λ (n : ℕ). front_parts n (ts ++ for_front f (front_asked t) ∷ [])) (sym same.1)
+      let before : map task_asked old.items ≡ front_parts f ts = each f old there in
+      ap (λ (w : Vec FrontTask Global). map task_asked w.items) is ∙ ap (map task_asked) grown ∙ map-append task_asked old.items (t ∷ [])
+      ∙ part_grows (front_part f) ts (for_front f (task_asked t)) (map task_asked old.items) (task_asked t) before (own_part f (task_asked t))
+      ∙ ap (λ (n : ℕ). front_parts n (ts ++ for_front f (task_asked t) ∷ [])) (sym same.1)
       )
-  | inr apart ↦ part_kept (front_part k) ts (for_front f (front_asked t)) (map front_asked v.items) (each k v (sym (set_elsewhere lists f k new apart.1) ∙ at))
-      (no_part f k (front_asked t) (λ e. apart.1 (sym e)))
+  | inr apart ↦ part_kept (front_part k) ts (for_front f (task_asked t)) (map task_asked v.items) (each k v (sym (set_elsewhere lists f k new apart.1) ∙ at))
+      (no_part f k (task_asked t) (λ e. apart.1 (sym e)))
 ]
 
 -- a front has one task more to do
 pub front_added : (n : ℕ) (p : Plan) (ts : List Task) (f : ℕ) (old new : Vec FrontTask Global) (t : FrontTask) → f < length p.fronts.items → old ≡ get_or p.fronts.items f old
-    → new.items ≡ old.items ++ t ∷ [] → IsPlanOf n p ts → IsPlanOf n record { fronts = with_item p.fronts f new; operator = p.operator; frozen = p.frozen } (ts ++ for_front f (front_asked t) ∷ [])
+    → new.items ≡ old.items ++ t ∷ [] → IsPlanOf n p ts → IsPlanOf n record { fronts = with_item p.fronts f new; operator = p.operator; frozen = p.frozen } (ts ++ for_front f (task_asked t) ∷ [])
 front_added n p ts f old new t below at grown i = record {
   count = length_set p.fronts.items f new ∙ i.count;
   fronts = fronts_grow p.fronts.items ts f old new t (slice_get_read p.fronts.items (length p.fronts.items) f old refl below at) grown i.fronts;
-  operator = part_kept operator_part ts (for_front f (front_asked t)) p.operator.items i.operator refl;
-  frozen = text_kept frozen_part ts (for_front f (front_asked t)) p.frozen.items i.frozen refl;
+  operator = part_kept operator_part ts (for_front f (task_asked t)) p.operator.items i.operator refl;
+  frozen = text_kept frozen_part ts (for_front f (task_asked t)) p.frozen.items i.frozen refl;
 }
 
 -- the frozen log has one line more to answer
@@ -68,7 +68,7 @@ pub frozen_added : (n : ℕ) (p : Plan) (ts : List Task) (line : List ℕ) (new 
     → IsPlanOf n record { fronts = p.fronts; operator = p.operator; frozen = new } (ts ++ for_frozen line ∷ [])
 frozen_added n p ts line new grown i = record {
   count = i.count;
-  fronts = λ k v at. part_kept (front_part k) ts (for_frozen line) (map front_asked v.items) (i.fronts k v at) refl;
+  fronts = λ k v at. part_kept (front_part k) ts (for_frozen line) (map task_asked v.items) (i.fronts k v at) refl;
   operator = part_kept operator_part ts (for_frozen line) p.operator.items i.operator refl;
   frozen = grown ∙ text_grows frozen_part ts (for_frozen line) p.frozen.items (line ++ 10 ∷ []) i.frozen (append-nil (line ++ 10 ∷ []));
 }
@@ -78,7 +78,7 @@ pub operator_added : (n : ℕ) (p : Plan) (ts : List Task) (t : OperatorTask) (n
     → IsPlanOf n record { fronts = p.fronts; operator = new; frozen = p.frozen } (ts ++ for_operator t ∷ [])
 operator_added n p ts t new grown i = record {
   count = i.count;
-  fronts = λ k v at. part_kept (front_part k) ts (for_operator t) (map front_asked v.items) (i.fronts k v at) refl;
+  fronts = λ k v at. part_kept (front_part k) ts (for_operator t) (map task_asked v.items) (i.fronts k v at) refl;
   operator = grown ∙ part_grows operator_part ts (for_operator t) p.operator.items t i.operator refl;
   frozen = text_kept frozen_part ts (for_operator t) p.frozen.items i.frozen refl;
 }

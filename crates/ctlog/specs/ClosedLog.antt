@@ -5,7 +5,7 @@ use Rattle.ct_codec.specs.declared.refusal.Refusal.{Refusal}
 use Rattle.ct_codec.specs.declared.refusal.Refusal.TheVariants.{ClockBack, Memory}
 use Rattle.ct_tree.specs.declared.head.Head.{Head}
 use Rattle.ct_core.specs.Settlement.{Log}
-use Rattle.ct_core.specs.Core.{CoreState, IsCovered, clock_of, last_moment}
+use Rattle.ct_core.specs.Core.{Begins, CoreState, IsCovered, clock_of, last_moment}
 use Rattle.ct_house.specs.Sequence.{Sequences}
 use Rattle.ct_house.specs.House.{HouseState, FrontView, IsAllSettled}
 
@@ -26,9 +26,18 @@ pub record IsReady (old : HouseState) (ends : List FrontView) (now : ℕ) (h : H
   pub sequences : (items : List Item) → Sequences old items → (more : List Item) × Sequences new (items ++ more)
 
 -- the refusal is the clock's, which refuses the moment, or memory's
-abbrev pub IsRefused : HouseState → ℕ → Refusal → Type 0
-IsRefused s now e = ((e ≡ ClockBack) × ((items : List Item) → Sequences s items → IsLate s.core now)) ⊎ (e ≡ Memory)
+abbrev pub IsRefusedAtClosing : HouseState → ℕ → Refusal → Type 0
+IsRefusedAtClosing s now e = ((e ≡ ClockBack) × ((items : List Item) → Sequences s items → IsLate s.core now)) ⊎ (e ≡ Memory)
 
--- the log has one head more, of the moment now
-abbrev pub EndsAt : Log → ℕ → Log → Type 0
-EndsAt old now new = (h : Head) × (h.timestamp ≡ now) × (new.heads ≡ old.heads ++ h ∷ [])
+-- The log goes on from what this sequencer had published and settled: its heads are those that were published so far, and
+-- one more, of the moment now, and its entries and its settlement begin with those that were settled so far.
+pub record EndsAt (s : HouseState) (now : ℕ) (log : Log) : Type 0 where
+  pub last : Head
+  pub moment : last.timestamp ≡ now
+  pub heads : log.heads ≡ s.core.published.heads ++ last ∷ []
+  pub entries : Begins s.core.entries log.entries
+  pub settlement : Begins s.core.settlement log.settlement
+
+-- all that was settled stays, in its order
+abbrev pub KeepsSettled : CoreState → CoreState → Type 0
+KeepsSettled old new = Begins old.entries new.entries × Begins old.settlement new.settlement

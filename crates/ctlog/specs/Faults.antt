@@ -1,5 +1,11 @@
 -- The lines of faults.
-use Rattle.std.specs.Prelude.{ℕ, List, [], ◌∷◌, ◌++◌, codes}
+use Rattle.std.specs.Prelude.{◌≡◌, ◌≢◌, ◌⊎◌, ℕ, List, [], ◌∷◌, ◌++◌, codes}
+use Rattle.ct_codec.specs.declared.refusal.Refusal.{Refusal}
+use Rattle.ct_codec.specs.declared.refusal.Refusal.TheVariants as refusal
+use Rattle.std.specs.declared.io.ErrorKind.{ErrorKind}
+use Rattle.std.specs.declared.io.ErrorKind.TheVariants.{OutOfMemory}
+use Rattle.ct_lines.specs.declared.serving.ServeFault.{ServeFault}
+use Rattle.ct_lines.specs.declared.serving.ServeFault.TheVariants as serving
 use Rattle.ctlog.specs.declared.fault.Fault.{Fault}
 use Rattle.ctlog.specs.declared.fault.Fault.TheVariants.{Memory, ClockBack, Threads, Read, Write}
 
@@ -14,3 +20,23 @@ fault_name Write = codes "write"
 -- the line that is written of a fault
 abbrev pub fault_line : Fault → List ℕ
 fault_line f = codes "ctlog: " ++ fault_name f ++ 10 ∷ []
+
+-- the fault that a refusal of the closing is
+pub record IsRefusalFault (r : Refusal) (f : Fault) : Type 0 where
+  pub clock_back : r ≡ refusal.ClockBack → f ≡ ClockBack
+  pub memory : r ≡ refusal.Memory → f ≡ Memory
+
+-- a fault while the closed log answers lines, and the fault that it is
+abbrev pub IsFrozenFault : Fault → Type 0
+IsFrozenFault f = (f ≡ Read) ⊎ ((f ≡ Write) ⊎ (f ≡ Memory))
+
+abbrev pub serve_fault : ServeFault → Fault
+serve_fault (serving.Read n) = Read
+serve_fault (serving.Write n) = Write
+serve_fault (serving.Memory n) = Memory
+
+-- the fault that an error of this kind is, where words or the input are read
+pub record IsReadingFault (k : ErrorKind) (f : Fault) : Type 0 where
+  pub memory : k ≡ OutOfMemory → f ≡ Memory
+  pub other : k ≢ OutOfMemory → f ≡ Read
+  pub either : (f ≡ Read) ⊎ (f ≡ Memory)

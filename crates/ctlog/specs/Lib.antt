@@ -6,6 +6,8 @@ pub mod FrontWork
 pub mod OperatorWork
 pub mod Parties
 pub mod ClosedLog
+pub mod CommandLine
+pub mod NoOptions
 pub mod Output
 pub mod Faults
 pub mod Sends

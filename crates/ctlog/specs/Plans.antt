@@ -10,20 +10,20 @@ use Rattle.ctlog.specs.declared.plan.Task.TheVariants as task_case
 use Rattle.ctlog.specs.declared.plan.Plan.{Plan}
 
 -- what a front's task asks of it
-abbrev pub front_asked : FrontTask → FrontAsked
-front_asked (front_case.Submit chain) = add_chain (map (λ c. c.items) chain.items)
-front_asked (front_case.AwaitSize n) = await_size n
-front_asked (front_case.Ask q) = front_query q
+abbrev pub task_asked : FrontTask → FrontAsked
+task_asked (front_case.Submit chain) = add_chain (map (λ c. c.items) chain.items)
+task_asked (front_case.AwaitSize n) = await_size n
+task_asked (front_case.Ask q) = front_query q
 
 -- the task
 abbrev pub task : CodeTask → Task
-task (task_case.Front n t) = for_front n (front_asked t)
+task (task_case.Front n t) = for_front n (task_asked t)
 task (task_case.Operator t) = for_operator t
 task (task_case.Frozen line) = for_frozen line.now
 
 -- the plan gives these tasks out to so many fronts, to the operator and to the frozen log, each in order
 pub record IsPlanOf (n : ℕ) (p : Plan) (ts : List Task) : Type 0 where
   pub count : length p.fronts.items ≡ n
-  pub fronts : (k : ℕ) (v : Vec FrontTask Global) → slice_get p.fronts.items k ≡ Some v → map front_asked v.items ≡ front_parts k ts
+  pub fronts : (k : ℕ) (v : Vec FrontTask Global) → slice_get p.fronts.items k ≡ Some v → map task_asked v.items ≡ front_parts k ts
   pub operator : p.operator.items ≡ operator_parts ts
   pub frozen : p.frozen.items ≡ frozen_lines ts

@@ -5,7 +5,7 @@ ghost use Rattle.ct_codec.specs.declared.item.Item.{Item};
 ghost use Rattle.ct_core.specs.Settlement.{IsFinal};
 ghost use Rattle.ct_house.specs.Sequence.{Sequences};
 ghost use Rattle.ct_house.specs.House.{IsOfHouse, AreInOrder, accepted_lists};
-ghost use Rattle.ctlog.specs.ClosedLog.{IsLate, IsReady, IsRefused, EndsAt};
+ghost use Rattle.ctlog.specs.ClosedLog.{IsLate, IsReady, IsRefusedAtClosing, EndsAt, KeepsSettled};
 
 use crate::fault::Fault;
 use ct_codec::Refusal;
@@ -38,23 +38,13 @@ fn settle_and_publish<H: Threads + Wait + Sync>(
     requires of_house { All (IsOfHouse sequencer.old.house) ends.old }
     requires in_order { AreInOrder (length sequencer.old.lanes) ends.old }
     ensures ready { IfOk result (λ h. IsReady sequencer.old ends.old now h sequencer.new) }
+    ensures kept { OnOk result (KeepsSettled sequencer.old.core sequencer.new.core) }
     ensures ends { ends.new ≡ ends.old }
-    ensures refused { IfErr result (λ e. IsRefused sequencer.old now e) }
+    ensures refused { IfErr result (λ e. IsRefusedAtClosing sequencer.old now e) }
 {
     let _ = sequencer.shutdown();
     sequencer.settle(rt, alloc, ends, now)?;
     sequencer.publish(rt, alloc, now)
-}
-
-// The fault that a refusal of the closing is.
-fn closing_fault(refusal: Refusal) -> Fault
-    ensures clock_back { refusal ≡ Refusal.ClockBack → result ≡ Fault.ClockBack }
-    ensures memory { refusal ≡ Refusal.Memory → result ≡ Fault.Memory }
-{
-    match refusal {
-        Refusal::ClockBack => Fault::ClockBack,
-        _ => Fault::Memory,
-    }
 }
 
 /// Closes the log at the moment `now`, in milliseconds, with all of its fronts in order. A fault is `ClockBack`, where
@@ -69,7 +59,7 @@ pub fn close<H: Threads + Wait + Sync>(
     requires of_house { All (IsOfHouse sequencer.house) fronts.items }
     requires in_order { AreInOrder (length sequencer.lanes) fronts.items }
     ensures closes { IfOk result (λ log. (items : List Item) → Sequences sequencer items → IsFinal (accepted_lists fronts.items) log.accepted log.log) }
-    ensures head { IfOk result (λ log. EndsAt sequencer.core.published now log.log) }
+    ensures ends { IfOk result (λ log. EndsAt sequencer now log.log) }
     ensures in_time { OnOk result (IsLate sequencer.core now → ⊥) }
     ensures clock_back { IsErrOf result Fault.ClockBack → (items : List Item) → Sequences sequencer items → IsLate sequencer.core now }
     ensures faults { IfErr result (λ f. (f ≡ Fault.ClockBack) ⊎ (f ≡ Fault.Memory)) }
@@ -79,7 +69,7 @@ pub fn close<H: Threads + Wait + Sync>(
         Ok(_) => Ok(sequencer.finish(rt, ends)),
         Err(refusal) => {
             sequencer.abandon(ends);
-            Err(closing_fault(refusal))
+            Err(Fault::from(refusal))
         }
     }
 }

@@ -1,9 +1,13 @@
 //! The command line: `ctlog --fronts N --ring K [--open-at T] [--close-at T]`.
 
-ghost use Rattle.std.specs.Prelude.{◌<◌, ◌≤◌};
+ghost use Rattle.std.specs.Prelude.{◌≡◌, ◌<◌, ◌≤◌, IfOk, IfErr, IfSome, Some, None, MatchResult, false, ℕ};
+ghost use Rattle.clap.specs.Words.{app_of, rule_of, kind_of};
+ghost use Rattle.ctlog.specs.CommandLine.{asked_by, ctlog_app, fronts_rule, ring_rule, open_at_rule, close_at_rule, log_with, IsRefusalOf};
+ghost use Rattle.ctlog.specs.NoOptions.{IsNoOptions};
 
+use crate::fault::Fault;
 use clap::error::ErrorKind;
-use clap::{Arg, Command, Error, value_parser};
+use clap::{Arg, ArgAction, Command, Error, value_parser};
 use std::alloc::Global;
 
 // The last moment that the command line takes, 2^53 - 1, in milliseconds.
@@ -26,60 +30,137 @@ pub struct Options {
     ghost few_places: { ring ≤ 4096 },
 }
 
-// The command and its arguments.
-fn command<'a>(alloc: Global) -> Result<Command<'a>, Error> {
-    let fronts = Arg::new(alloc, "fronts")
+// The option for the number of fronts.
+fn fronts_option<'a>(alloc: Global) -> Arg<'a>
+    ensures rule { rule_of result ≡ fronts_rule }
+    ensures local { result.global ≡ false }
+{
+    Arg::new(alloc, "fronts")
         .long("fronts")
         .value_name("N")
         .help("The number of fronts")
         .required(true)
-        .value_parser(value_parser!(u16).range(1..=16));
-    let ring = Arg::new(alloc, "ring")
+        .action(ArgAction::Set)
+        .value_parser(value_parser!(u16).range(1..=16))
+}
+
+// The option for the places of a ring.
+fn ring_option<'a>(alloc: Global) -> Arg<'a>
+    ensures rule { rule_of result ≡ ring_rule }
+    ensures local { result.global ≡ false }
+{
+    Arg::new(alloc, "ring")
         .long("ring")
         .value_name("K")
         .help("The places of a front's ring")
         .required(true)
-        .value_parser(value_parser!(usize).range(1..=4096));
-    let open_at = Arg::new(alloc, "open-at")
+        .action(ArgAction::Set)
+        .value_parser(value_parser!(usize).range(1..=4096))
+}
+
+// The option for the moment of opening.
+fn open_at_option<'a>(alloc: Global) -> Arg<'a>
+    ensures rule { rule_of result ≡ open_at_rule }
+    ensures local { result.global ≡ false }
+{
+    Arg::new(alloc, "open-at")
         .long("open-at")
         .value_name("T")
         .help("The moment at which the log opens, in milliseconds [default: 0]")
-        .value_parser(value_parser!(u64).range(0..=9_007_199_254_740_991));
-    let close_at = Arg::new(alloc, "close-at")
+        .action(ArgAction::Set)
+        .value_parser(value_parser!(u64).range(0..=9_007_199_254_740_991))
+}
+
+// The option for the moment of closing.
+fn close_at_option<'a>(alloc: Global) -> Arg<'a>
+    ensures rule { rule_of result ≡ close_at_rule }
+    ensures local { result.global ≡ false }
+{
+    Arg::new(alloc, "close-at")
         .long("close-at")
         .value_name("T")
         .help("The moment at which the log is closed, in milliseconds [default: 9007199254740991]")
-        .value_parser(value_parser!(u64).range(0..=9_007_199_254_740_991));
+        .action(ArgAction::Set)
+        .value_parser(value_parser!(u64).range(0..=9_007_199_254_740_991))
+}
+
+// The command and its arguments.
+fn command<'a>(alloc: Global) -> Result<Command<'a>, Error>
+    ensures app { IfOk result (λ c. app_of c ≡ ctlog_app) }
+    ensures memory { IfErr result (λ e. kind_of e ≡ ErrorKind.OutOfMemory) }
+{
     let command = Command::new(alloc, "ctlog")
-        .arg(fronts)?
-        .arg(ring)?
-        .arg(open_at)?
-        .arg(close_at)?;
+        .arg(fronts_option(alloc))?
+        .arg(ring_option(alloc))?
+        .arg(open_at_option(alloc))?
+        .arg(close_at_option(alloc))?;
     Ok(command)
 }
 
-/// What the words ask for. The first word is the program's name.
-pub fn read_options<'a>(alloc: Global, words: &'a [&'a str]) -> Result<Options, Error> {
+// The numbers, where both are there and in their ranges.
+fn in_range(fronts: Option<u16>, ring: Option<usize>) -> Option<(u16, usize)>
+    ensures some { IfSome result (λ p. (fronts ≡ Some p.0) × (ring ≡ Some p.1) × (0 < p.0) × (p.0 ≤ 16) × (0 < p.1) × (p.1 ≤ 4096)) }
+    ensures none { result ≡ None → (f k : ℕ) → fronts ≡ Some f → ring ≡ Some k → 1 ≤ f → f ≤ 16 → 1 ≤ k → k ≤ 4096 → ⊥ }
+{
+    match (fronts, ring) {
+        (Some(fronts @ 1..=16), Some(ring @ 1..=4096)) => Some((fronts, ring)),
+        _ => None,
+    }
+}
+
+/// The numbers that the words ask for. The first word is the program's name.
+///
+/// # Errors
+///
+/// Clap's error: of the kind `OutOfMemory`; of the kind `DisplayHelp`, where the words ask for help; or of another, where
+/// they ask for nothing that there is.
+pub fn read_options<'a>(alloc: Global, words: &'a [&'a str]) -> Result<Options, Error>
+    ensures { MatchResult result
+        (λ o. asked_by words.now ≡ log_with o.fronts o.ring o.open_at o.close_at)
+        (λ e. IsRefusalOf (asked_by words.now) (kind_of e)) }
+{
     let mut command = command(alloc)?;
     let matches = command.try_get_matches_from_mut(words)?;
     let open_at = matches.get_one::<u64>("open-at").unwrap_or(0);
     let close_at = matches.get_one::<u64>("close-at").unwrap_or(LAST_MOMENT);
     let fronts = matches.get_one::<u16>("fronts");
     let ring = matches.get_one::<usize>("ring");
-    match (fronts, ring) {
-        (Some(fronts @ 1..=16), Some(ring @ 1..=4096)) => Ok(Options {
-            fronts,
-            ring,
-            open_at,
-            close_at,
-        }),
-        _ => {
-            let error = command.error(ErrorKind::ValueValidation, "a number is out of range")?;
-            Err(error)
+    let Some((fronts, ring)) = in_range(fronts, ring) else {
+        let error = command.error(ErrorKind::ValueValidation, "a number is out of range")?;
+        return Err(error);
+    };
+    Ok(Options {
+        fronts,
+        ring,
+        open_at,
+        close_at,
+    })
+}
+
+/// What there is to answer where the words give no numbers.
+#[derive(Clone, Copy, Debug, PartialEq, Eq)]
+pub enum NoOptions {
+    /// There was no memory.
+    Fault(Fault),
+    /// Help, which they ask for.
+    Help,
+    /// A refusal.
+    Refusal,
+}
+
+impl From<ErrorKind> for NoOptions {
+    ghost from_gives = { λ kind n. IsNoOptions n kind };
+
+    fn from(kind: ErrorKind) -> NoOptions {
+        match kind {
+            ErrorKind::OutOfMemory => NoOptions::Fault(Fault::Memory),
+            ErrorKind::DisplayHelp => NoOptions::Help,
+            _ => NoOptions::Refusal,
         }
     }
 }
 
+// The refusal of a word that isn't UTF-8.
 fn unreadable(alloc: Global) -> Result<Error, Error> {
     let mut command = command(alloc)?;
     let error = command.error(ErrorKind::InvalidValue, "an argument isn't UTF-8")?;

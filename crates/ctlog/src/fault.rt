@@ -4,10 +4,12 @@ ghost use Rattle.std.specs.Prelude.{◌≡◌, List, ℕ};
 ghost use Rattle.std.specs.Io.KnownBytes.{Appends};
 ghost use Rattle.ctlog.specs.Sends.{SendsSome};
 ghost use Rattle.ctlog.specs.declared.fault.Fault.TheVariants.{Memory};
-ghost use Rattle.ctlog.specs.Faults.{fault_line};
+ghost use Rattle.ctlog.specs.Faults.{fault_line, serve_fault, IsFrozenFault, IsReadingFault, IsRefusalFault};
 
-use ct_lines::write_whole;
+use ct_codec::Refusal;
+use ct_lines::{ServeFault, write_whole};
 use std::alloc::{AllocError, AllocFailed};
+use std::io;
 use std::io::Write;
 
 /// What ended the program with status 1.
@@ -53,6 +55,43 @@ impl<T: Drop> From<AllocFailed<T>> for Fault {
 
     fn from(_e: AllocFailed<T>) -> Fault {
         Fault::Memory
+    }
+}
+
+// What ends the program where the closing is refused.
+impl From<Refusal> for Fault {
+    ghost from_gives = { λ refusal f. IsRefusalFault refusal f };
+
+    fn from(refusal: Refusal) -> Fault {
+        match refusal {
+            Refusal::ClockBack => Fault::ClockBack,
+            _ => Fault::Memory,
+        }
+    }
+}
+
+// What ends the program where the closed log stops answering.
+impl From<ServeFault> for Fault {
+    ghost from_gives = { λ fault f. (f ≡ serve_fault fault) × IsFrozenFault f };
+
+    fn from(fault: ServeFault) -> Fault {
+        match fault {
+            ServeFault::Read(_) => Fault::Read,
+            ServeFault::Write(_) => Fault::Write,
+            ServeFault::Memory(_) => Fault::Memory,
+        }
+    }
+}
+
+// What ends the program where words or the input can't be read.
+impl From<io::ErrorKind> for Fault {
+    ghost from_gives = { λ kind f. IsReadingFault kind f };
+
+    fn from(kind: io::ErrorKind) -> Fault {
+        match kind {
+            io::ErrorKind::OutOfMemory => Fault::Memory,
+            _ => Fault::Read,
+        }
     }
 }
 

@@ -29,14 +29,11 @@ mod task;
 mod tests;
 mod threads;
 
-use fault::Fault;
-use program::{refuse_words, run};
+use fault::{Fault, report};
+use program::{TURNS, refuse_words, run};
 use std::alloc::{AllocError, Global};
 use std::io;
 use std::process::ExitCode;
-
-// How many turns a line may wait.
-const TURNS: u64 = 50_000_000;
 
 // The texts of the words, for as long as the words stand.
 fn texts<'a>(alloc: Global, words: &'a [String]) -> Result<Vec<&'a str>, AllocError> {
@@ -60,8 +57,9 @@ fn main(rt: HostRuntime) -> ExitCode {
         Ok(words) => words,
         Err(error) => return ExitCode::from(refuse_words(alloc, &error, &mut output, &mut faults)),
     };
-    let Ok(texts) = texts(alloc, &words) else {
-        return ExitCode::from(fault::report(Fault::Memory, &mut faults));
+    let texts = match texts(alloc, &words) {
+        Ok(texts) => texts,
+        Err(error) => return ExitCode::from(report(Fault::from(error), &mut faults)),
     };
     let mut input = rt.reader();
     ExitCode::from(run(

@@ -1,19 +1,20 @@
 //! The lines of the input, and who does them.
 
-ghost use Rattle.std.specs.Prelude.{◌≡◌, ◌<◌, ◌++◌, ◌∷◌, ℕ, [], List, Vec, length, IfOk, OnOk, Some, slice_get};
+ghost use Rattle.std.specs.Prelude.{◌≡◌, ◌<◌, ◌++◌, ◌∷◌, ℕ, [], List, Vec, length, IfOk, IsOkUnless, OnOk, Some, slice_get};
 ghost use Rattle.std.specs.Global.{Global as GlobalOf};
 ghost use Rattle.ct_lines.specs.Requests.{asked, front_asked as request_of, operator_asked};
 ghost use Rattle.ctlog.specs.declared.task.FrontTask.{FrontTask as FrontTaskOf};
 ghost use Rattle.ctlog.specs.Lines.{lines_of};
 ghost use Rattle.ctlog.specs.Tasks.{Task as TaskOf, for_front, for_frozen, front_task, operator_task, task_of, AsksFor, AllAskFor, IsForThere};
-ghost use Rattle.ctlog.specs.Plans.{task, task as task_in, front_asked, IsPlanOf};
+ghost use Rattle.ctlog.specs.Plans.{task, task as task_in, task_asked, IsPlanOf};
 
+use crate::fault::Fault;
 use crate::task::{FrontTask, OperatorTask};
 use ct_codec::Refusal;
 use ct_lines::{FrontRequest, OperatorRequest, Request, read_line};
 use ct_tree::Memory;
 use memchr::memchr;
-use std::alloc::{AllocError, Global};
+use std::alloc::Global;
 
 /// What a line has the program do.
 #[derive(Debug, Drop)]
@@ -85,14 +86,15 @@ fn request_task<'a>(fronts: u16, line: &'a [u8], request: Request) -> Task<'a>
 }
 
 // What a line asks for.
-fn line_task<'a>(alloc: Global, fronts: u16, line: &'a [u8]) -> Result<Task<'a>, Memory>
+fn line_task<'a>(alloc: Global, fronts: u16, line: &'a [u8]) -> Result<Task<'a>, Fault>
     ensures asked { IfOk result (λ t. AsksFor fronts line.entry.now (task t)) }
     ensures there { IfOk result (λ t. IsForThere fronts (task t)) }
+    ensures memory { IsOkUnless result Fault.Memory }
 {
     match read_line(alloc, line) {
         Ok(request) => Ok(request_task(fronts, line, request)),
         Err(Refusal::BadLine) => Ok(Task::Operator(OperatorTask::BadLine)),
-        Err(_) => Err(AllocError),
+        Err(refusal) => Err(Fault::from(refusal)),
     }
 }
 
@@ -136,7 +138,7 @@ impl Plan {
     // Adds what a front does.
     fn add_front_task(&mut self, number: u16, task: FrontTask) -> Result<(), Memory>
         requires { number < length self.old.fronts.items }
-        ensures { OnOk result ((fronts : ℕ) (tasks : List TaskOf) → IsPlanOf fronts self.old tasks → IsPlanOf fronts self.new (tasks ++ for_front number (front_asked task) ∷ [])) }
+        ensures { OnOk result ((fronts : ℕ) (tasks : List TaskOf) → IsPlanOf fronts self.old tasks → IsPlanOf fronts self.new (tasks ++ for_front number (task_asked task) ∷ [])) }
     {
         let tasks = &mut self.fronts[number as usize];
         tasks.push(task)?;
@@ -167,8 +169,9 @@ impl Plan {
 }
 
 /// Gives the lines of the input out to so many fronts, to the operator and to the frozen log. An empty line is nobody's.
-pub fn give_out(alloc: Global, fronts: u16, input: &[u8]) -> Result<Plan, Memory>
-    ensures { IfOk result (λ p. (tasks : List TaskOf) × AllAskFor fronts (lines_of input.now) tasks × IsPlanOf fronts p tasks) }
+pub fn give_out(alloc: Global, fronts: u16, input: &[u8]) -> Result<Plan, Fault>
+    ensures memory { IsOkUnless result Fault.Memory }
+    ensures plan { IfOk result (λ p. (tasks : List TaskOf) × AllAskFor fronts (lines_of input.now) tasks × IsPlanOf fronts p tasks) }
 {
     let mut plan = Plan::new(alloc, fronts)?;
     let mut rest = input;

@@ -1,44 +1,36 @@
 //! The program over any reader and any two writers.
 
-ghost use Rattle.std.specs.Prelude.{◌≡◌, ◌⊎◌, ◌<◌, ◌≤◌, ℕ, List, [], length, All, IfOk, OnOk, OnErr, IfErr, IsErrOf};
+ghost use Rattle.std.specs.Prelude.{◌≡◌, ◌≢◌, ◌⊎◌, ◌≤◌, ℕ, List, [], length, All, IfOk, OnOk, OnErr, IfErr};
 ghost use Rattle.std.specs.Io.KnownBytes.{Appends};
 ghost use Rattle.ct_house.specs.House.{IsOfHouse, AreInOrder};
 ghost use Rattle.ct_house.specs.Sequence.{Sequences};
 ghost use Rattle.ct_lines.specs.Frozen.{frozen_text};
 ghost use Rattle.ctlog.specs.declared.fault.Fault.{Fault as FaultOf};
-ghost use Rattle.ctlog.specs.Faults.{fault_line};
-ghost use Rattle.ctlog.specs.Output.{AreTasksOf, AreGiven, AreParties, fronts_of, SomeReplies, WritesAll, WritesParties, WritesSome, IsServed, IsServedUntilClosing, IsBegun, AreOptions};
+ghost use Rattle.ctlog.specs.Faults.{fault_line, IsFrozenFault};
+ghost use Rattle.ctlog.specs.Output.{AreTasksOf, AreGiven, AreParties, fronts_of, SomeReplies, WritesAll, WritesSome, IsServed, IsBegun, IsDone, IsBrokenOff};
+ghost use Rattle.clap.specs.Words.{kind_of};
+ghost use Rattle.clap.specs.declared.error.kind.ErrorKind.TheVariants.{DisplayHelp, OutOfMemory};
+ghost use Rattle.ctlog.specs.CommandLine.{asked_by, help, nothing, IsUnanswered};
 ghost use Rattle.ctlog.specs.Plans.{IsPlanOf};
 ghost use Rattle.ctlog.specs.Sends.{SendsSome};
 ghost use Rattle.ctlog.specs.Tasks.{Task};
 
 use crate::closing::close;
-use crate::command::{Options, read_options, unreadable_word};
+use crate::command::{NoOptions, Options, read_options, unreadable_word};
 use crate::fault::{Fault, report};
 use crate::party::{FrontParty, OperatorParty};
 use crate::plan::{Plan, give_out};
 use crate::task::{FrontTask, OperatorTask};
 use crate::threads::{Served, front_parties, serve_parties};
 use clap::Error;
-use clap::error::ErrorKind;
 use ct_core::Published;
 use ct_house::open;
-use ct_lines::{ServeFault, serve_frozen, write_whole};
+use ct_lines::{serve_frozen, write_whole};
 use std::alloc::Global;
 use std::io;
 use std::io::{Read, Write};
 use std::sync::Wait;
 use std::thread::Threads;
-
-// The fault that an error of the reader is: its own, or that there was no memory for what it gave.
-fn reading_fault(error: &io::Error) -> Fault
-    ensures { (result ≡ Fault.Read) ⊎ (result ≡ Fault.Memory) }
-{
-    match error.kind() {
-        io::ErrorKind::OutOfMemory => Fault::Memory,
-        _ => Fault::Read,
-    }
-}
 
 // Reads the input whole, and gives its lines out to so many fronts, to the operator and to the frozen log.
 fn read_plan<R: Read>(alloc: Global, fronts: u16, input: &mut R) -> Result<Plan, Fault>
@@ -47,7 +39,7 @@ fn read_plan<R: Read>(alloc: Global, fronts: u16, input: &mut R) -> Result<Plan,
 {
     let mut bytes = Vec::new(alloc);
     if let Err(error) = input.read_to_end(&mut bytes) {
-        return Err(reading_fault(&error));
+        return Err(Fault::from(error.kind()));
     }
     let plan = give_out(alloc, fronts, &bytes)?;
     Ok(plan)
@@ -65,9 +57,7 @@ fn open_parties(
     ensures sequences { IfOk result (λ p. Sequences p.0.sequencer []) }
     ensures faults { IfErr result (λ f. f ≡ Fault.Memory) }
 {
-    let Ok((sequencer, fronts)) = open(alloc, options.fronts, options.ring, options.open_at) else {
-        return Err(Fault::Memory);
-    };
+    let (sequencer, fronts) = open(alloc, options.fronts, options.ring, options.open_at)?;
     let operator = OperatorParty {
         sequencer,
         fronts: fronts.len(),
@@ -101,15 +91,10 @@ fn send_frozen<W: Write>(
 ) -> Result<(), Fault>
     ensures all { OnOk result (Appends (W.contents output.old) (W.contents output.new) (frozen_text log.now lines.now)) }
     ensures some { OnErr result ((written : List ℕ) × SomeReplies log.now lines.now written × Appends (W.contents output.old) (W.contents output.new) written) }
-    ensures faults { IfErr result (λ f. (f ≡ Fault.Read) ⊎ ((f ≡ Fault.Write) ⊎ (f ≡ Fault.Memory))) }
+    ensures faults { IfErr result IsFrozenFault }
 {
     let mut reader = lines;
-    match serve_frozen(alloc, log, &mut reader, output) {
-        Ok(()) => {}
-        Err(ServeFault::Read(_)) => return Err(Fault::Read),
-        Err(ServeFault::Write(_)) => return Err(Fault::Write),
-        Err(ServeFault::Memory(_)) => return Err(Fault::Memory),
-    }
+    serve_frozen(alloc, log, &mut reader, output)?;
     match output.flush() {
         Ok(()) => Ok(()),
         Err(_) => Err(Fault::Write),
@@ -132,8 +117,7 @@ fn serve_parties_and_log<H: Threads + Wait + Sync, W: Write>(
     requires in_order { AreInOrder (length operator.sequencer.lanes) (fronts_of parties.items) }
     requires sequences { Sequences operator.sequencer [] }
     ensures all { OnOk result (WritesAll operator parties.items lines.now close_at (W.contents output.old) (W.contents output.new)) }
-    ensures some { OnErr result (WritesSome operator parties.items lines.now close_at (W.contents output.old) (W.contents output.new)) }
-    ensures until_closing { IsErrOf result Fault.ClockBack → WritesParties operator parties.items (W.contents output.old) (W.contents output.new) }
+    ensures some { IfErr result (λ f. WritesSome operator parties.items lines.now close_at f (W.contents output.old) (W.contents output.new)) }
 {
     let Served {
         sequencer,
@@ -150,8 +134,9 @@ fn serve_parties_and_log<H: Threads + Wait + Sync, W: Write>(
 ///
 /// # Errors
 ///
-/// The fault that ended the run. With `ClockBack` the replies to the fronts and to the operator are written, and none of
-/// the closed log.
+/// The fault that ended the run: `Read`, `Threads` or `Memory` before any reply was written; `Write` after a beginning of
+/// the replies of the fronts and of the operator; `ClockBack`, where the clock refuses the moment of closing, or `Memory`
+/// after all of these; and `Write` or `Memory` after some of the closed log's.
 pub fn serve<H: Threads + Wait + Sync, R: Read, W: Write>(
     rt: &H,
     alloc: Global,
@@ -161,8 +146,7 @@ pub fn serve<H: Threads + Wait + Sync, R: Read, W: Write>(
     output: &mut W,
 ) -> Result<(), Fault>
     ensures served { OnOk result (IsServed options.fronts options.ring options.open_at options.close_at (R.remaining input.old) (W.contents output.old) (W.contents output.new)) }
-    ensures begun { OnErr result (IsBegun options.fronts options.ring options.open_at options.close_at (R.remaining input.old) (W.contents output.old) (W.contents output.new)) }
-    ensures until_closing { IsErrOf result Fault.ClockBack → IsServedUntilClosing options.fronts options.ring options.open_at (R.remaining input.old) (W.contents output.old) (W.contents output.new) }
+    ensures begun { IfErr result (λ f. IsBegun options.fronts options.ring options.open_at options.close_at f (R.remaining input.old) (W.contents output.old) (W.contents output.new)) }
 {
     let Plan {
         fronts,
@@ -182,7 +166,26 @@ pub fn serve<H: Threads + Wait + Sync, R: Read, W: Write>(
     )
 }
 
-// Answers a command line that gives no options: help on the output, or a refusal among the faults.
+// Writes help on the output.
+fn send_help<W: Write>(alloc: Global, error: &Error, output: &mut W) -> Result<(), Fault>
+    ensures text { (text : List ℕ) × Appends (W.contents output.old) (W.contents output.new) text }
+    ensures faults { IfErr result (λ f. (f ≡ Fault.Write) ⊎ (f ≡ Fault.Memory)) }
+{
+    let text = format!(in alloc; "{error}")?;
+    send(output, text.as_bytes())
+}
+
+// Writes among the faults, as far as it can be written, why the words are refused.
+fn tell_refusal<E: Write>(alloc: Global, error: &Error, faults: &mut E) -> Result<(), Fault>
+    ensures memory { IfErr result (λ f. f ≡ Fault.Memory) }
+    ensures same { OnErr result (faults.new ≡ faults.old) }
+{
+    let text = format!(in alloc; "{error}")?;
+    let _ = write_whole(faults, text.as_bytes());
+    Ok(())
+}
+
+// Answers a command line that gives no numbers: help on the output, or a refusal among the faults.
 fn answer_command_line<W: Write, E: Write>(
     alloc: Global,
     error: &Error,
@@ -190,23 +193,22 @@ fn answer_command_line<W: Write, E: Write>(
     faults: &mut E,
 ) -> u8
     ensures status { result ≤ 2 }
+    ensures helped { result ≡ 0 → (kind_of error.now ≡ DisplayHelp) × ((text : List ℕ) × Appends (W.contents output.old) (W.contents output.new) text) }
+    ensures fault { result ≡ 1 → (f : FaultOf) × IsUnanswered (kind_of error.now) f (W.contents output.old) (W.contents output.new)
+        × SendsSome (E.contents faults.old) (E.contents faults.new) (fault_line f) }
+    ensures refused { result ≡ 2 → (kind_of error.now ≢ DisplayHelp) × (kind_of error.now ≢ OutOfMemory) × (output.new ≡ output.old) }
     ensures quiet { result ≡ 0 → faults.new ≡ faults.old }
-    ensures fault { result ≡ 1 → (f : FaultOf) × SendsSome (E.contents faults.old) (E.contents faults.new) (fault_line f) }
-    ensures refused { result ≡ 2 → output.new ≡ output.old }
 {
-    if error.kind() == ErrorKind::OutOfMemory {
-        return report(Fault::Memory, faults);
-    }
-    let Ok(text) = format!(in alloc; "{error}") else {
-        return report(Fault::Memory, faults);
-    };
-    if error.use_stderr() {
-        let _ = write_whole(faults, text.as_bytes());
-        return 2;
-    }
-    match send(output, text.as_bytes()) {
-        Ok(()) => 0,
-        Err(fault) => report(fault, faults),
+    match NoOptions::from(error.kind()) {
+        NoOptions::Fault(fault) => report(fault, faults),
+        NoOptions::Help => match send_help(alloc, error, output) {
+            Ok(()) => 0,
+            Err(fault) => report(fault, faults),
+        },
+        NoOptions::Refusal => match tell_refusal(alloc, error, faults) {
+            Ok(()) => 2,
+            Err(fault) => report(fault, faults),
+        },
     }
 }
 
@@ -222,15 +224,27 @@ pub fn refuse_words<W: Write, E: Write>(
     ensures fault { result ≡ 1 → (f : FaultOf) × SendsSome (E.contents faults.old) (E.contents faults.new) (fault_line f) }
     ensures refused { result ≡ 2 → output.new ≡ output.old }
 {
-    match error.kind() {
-        io::ErrorKind::OutOfMemory => report(Fault::Memory, faults),
-        _ => answer_command_line(alloc, &unreadable_word(alloc), output, faults),
+    match Fault::from(error.kind()) {
+        Fault::Read => answer_command_line(alloc, &unreadable_word(alloc), output, faults),
+        fault => report(fault, faults),
     }
 }
 
-/// Runs the program over its command line, whose first word is its name, and answers its exit status: 0 where all was
-/// written, 1 where a fault ended it, 2 where the command line was refused. Help is all that is written without the
-/// input being read. A line that waits for another party looks `turns` times.
+/// How many turns a line may wait in the process.
+pub const TURNS: u64 = 50_000_000;
+
+/// Runs the program over its command line, whose first word is its name, and answers its exit status. A line that waits
+/// for another party looks `turns` times.
+///
+/// - 0: the words ask for a log with these numbers, and all replies to the input were written; or they ask for help, which
+///   was written. Nothing was written among the faults.
+/// - 1: a fault broke it off, and its line was written among the faults, as far as it could be: a beginning of what is
+///   written at status 0 stands on the output. The fault is the one that happened as far as the library's contracts tell:
+///   which of its calls was refused memory, or whether the reader or the writer failed for good, no contract says.
+/// - 2: the words ask for nothing that there is. Nothing was written on the output.
+///
+/// Where no log is asked for, the input isn't read. Clap's contracts say nothing of texts, so that help's text, and what is
+/// written among the faults at status 2, are tested alone.
 pub fn run<'a, H: Threads + Wait + Sync, R: Read, W: Write, E: Write>(
     rt: &H,
     alloc: Global,
@@ -241,13 +255,12 @@ pub fn run<'a, H: Threads + Wait + Sync, R: Read, W: Write, E: Write>(
     faults: &mut E,
 ) -> u8
     ensures status { result ≤ 2 }
-    ensures served { result ≡ 0 → (input.new ≡ input.old) ⊎ ((fronts places open_at close_at : ℕ) × AreOptions fronts places
-        × IsServed fronts places open_at close_at (R.remaining input.old) (W.contents output.old) (W.contents output.new)) }
-    ensures begun { result ≡ 1 → (input.new ≡ input.old) ⊎ ((fronts places open_at close_at : ℕ)
-        × IsBegun fronts places open_at close_at (R.remaining input.old) (W.contents output.old) (W.contents output.new)) }
+    ensures done { result ≡ 0 → IsDone (asked_by words.now) (R.remaining input.old) (W.contents output.old) (W.contents output.new) }
+    ensures fault { result ≡ 1 → (f : FaultOf) × IsBrokenOff (asked_by words.now) f (R.remaining input.old) (W.contents output.old) (W.contents output.new)
+        × SendsSome (E.contents faults.old) (E.contents faults.new) (fault_line f) }
+    ensures refused { result ≡ 2 → (asked_by words.now ≡ nothing) × (output.new ≡ output.old) }
+    ensures unread { (asked_by words.now ≡ help) ⊎ (asked_by words.now ≡ nothing) → input.new ≡ input.old }
     ensures quiet { result ≡ 0 → faults.new ≡ faults.old }
-    ensures fault { result ≡ 1 → (f : FaultOf) × SendsSome (E.contents faults.old) (E.contents faults.new) (fault_line f) }
-    ensures refused { result ≡ 2 → (input.new ≡ input.old) × (output.new ≡ output.old) }
 {
     match read_options(alloc, words) {
         Ok(options) => match serve(rt, alloc, options, turns, input, output) {

@@ -1,4 +1,4 @@
-use crate::program::{refuse_words, run};
+use crate::program::{TURNS, refuse_words, run};
 use std::alloc::Global;
 use std::io;
 use std::io::{ErrorKind, Read, Write};
@@ -42,9 +42,6 @@ fn outcome_of<'a, H: Threads + Wait + Sync>(
         faults,
     }
 }
-
-// How many turns a line may wait, where it is not to wait in vain.
-const TURNS: u64 = 50_000_000;
 
 // What a run with so many fronts, rings of so many places and the closing at `close_at` answers and writes.
 fn run_of<H: Threads + Wait + Sync>(
@@ -277,6 +274,24 @@ fn two_fronts(rt: HostRuntime) {
     assert!(rt; wrote(&outcome, output));
 }
 
+// The first front waits for a head that covers what the second one submits: this ends as it does only where both work at
+// a time.
+#[test]
+fn a_front_that_waits_for_another(rt: HostRuntime) {
+    let input = "{\"who\":0,\"op\":\"await-size\",\"tree_size\":1}
+{\"who\":1,\"op\":\"add-chain\",\"chain\":[\"QQ==\"]}
+{\"who\":\"operator\",\"op\":\"sequence\",\"from\":1,\"count\":1,\"now\":3}
+{\"who\":\"operator\",\"op\":\"publish\",\"now\":4}
+";
+    let output = "{\"reached\":1}
+{\"ticket\":0}
+{\"settled\":1}
+{\"timestamp\":4,\"tree_size\":1}
+";
+    let outcome = run_of(&rt, rt.alloc(), "2", "4", "7", input);
+    assert!(rt; wrote(&outcome, output));
+}
+
 // Three fronts submit the same certificate. Whichever draws the first ticket, the log has one leaf, and a receipt for
 // each ticket.
 #[test]
@@ -371,6 +386,19 @@ fn the_greatest_numbers(rt: HostRuntime) {
     ];
     let outcome = outcome_of(&rt, rt.alloc(), &words, 9, b"");
     assert!(rt; outcome.status == 0 && outcome.output.is_empty() && outcome.faults.is_empty());
+}
+
+// The log opens at 5 and, where no moment is asked for, closes at 2^53 - 1.
+#[test]
+fn the_moments_of_opening_and_closing(rt: HostRuntime) {
+    let words = ["ctlog", "--fronts", "1", "--ring", "4", "--open-at", "5"];
+    let input = b"{\"who\":\"frozen\",\"op\":\"get-sth\"}\n{\"who\":0,\"op\":\"get-sth\"}\n";
+    let output =
+        "{\"sha256_root_hash\":\"47DEQpj8HBSa+/TImW+5JCeuQeRkm5NMpJWZG3hSuFU=\",\"timestamp\":5,\"tree_size\":0}
+{\"sha256_root_hash\":\"47DEQpj8HBSa+/TImW+5JCeuQeRkm5NMpJWZG3hSuFU=\",\"timestamp\":9007199254740991,\"tree_size\":0}
+";
+    let outcome = outcome_of(&rt, rt.alloc(), &words, 9, input);
+    assert!(rt; wrote(&outcome, output));
 }
 
 #[test]
@@ -508,4 +536,61 @@ fn an_output_that_fails(rt: HostRuntime) {
     let help = ["ctlog", "--help"];
     let status = run(&rt, alloc, &help, 9, &mut input, &mut Room(0), &mut faults);
     assert!(rt; status == 1 && faults.as_slice() == b"ctlog: write\n".as_slice());
+}
+
+// A writer that hands on at `flush` alone: how many bytes it keeps back, and how many it handed on.
+#[derive(Drop)]
+struct Keeping {
+    kept: usize,
+    handed_on: usize,
+    fails: bool,
+}
+
+impl Write for Keeping {
+    fn write(&mut self, buf: &[u8]) -> io::Result<usize> {
+        self.kept = self.kept.saturating_add(buf.len());
+        Ok(buf.len())
+    }
+
+    fn flush(&mut self) -> io::Result<()> {
+        if self.fails {
+            return Err(io::Error::from(ErrorKind::BrokenPipe));
+        }
+        self.handed_on = self.handed_on.saturating_add(self.kept);
+        self.kept = 0;
+        Ok(())
+    }
+}
+
+// The replies are handed on where the log is closed, and where the clock refuses to close it; and so is help. Where the
+// writer can't hand on, that is a fault.
+#[test]
+fn an_output_that_hands_on_at_flush(rt: HostRuntime) {
+    let alloc = rt.alloc();
+    let closed = ["ctlog", "--fronts", "1", "--ring", "4", "--close-at", "7"];
+    let late = ["ctlog", "--fronts", "1", "--ring", "4", "--close-at", "0"];
+    let help = ["ctlog", "--help"];
+    let table: [(&[&str], bool, u8, usize); 6] = [
+        (&closed, false, 0, 13 + EMPTY_HEAD.len()),
+        (&closed, true, 1, 0),
+        (&late, false, 1, 13),
+        (&late, true, 1, 0),
+        (&help, false, 0, 47),
+        (&help, true, 1, 0),
+    ];
+    for (words, fails, status, least) in table {
+        let mut input: &[u8] = b"{\"who\":\"frozen\",\"op\":\"get-sth\"}
+{\"who\":0,\"op\":\"add-chain\",\"chain\":[\"QQ==\"]}
+";
+        let mut output = Keeping {
+            kept: 0,
+            handed_on: 0,
+            fails,
+        };
+        let mut faults: Vec<u8> = Vec::new(alloc);
+        let answer = run(&rt, alloc, words, 9, &mut input, &mut output, &mut faults);
+        assert_eq!(rt; answer, status);
+        assert!(rt; fails || output.kept == 0);
+        assert!(rt; output.handed_on >= least);
+    }
 }

@@ -4,6 +4,7 @@ use Rattle.std.specs.Vec.{with_items}
 use Rattle.std.proofs.lemmas.List.{with_items_is}
 use Rattle.ct_core.specs.Settlement.{IsFinal}
 use Rattle.ct_house.specs.House.{HouseName, FrontView, IsOfHouse, IsAllSettled, accepted_lists}
+use Rattle.ctlog.proofs.ClosingLemmas.{ends_at}
 use Rattle.ctlog.proofs.closing.close.Goals as goal
 
 pub finish-requires-clause-of_house : goal.finish-requires-clause-of_house
@@ -30,3 +31,6 @@ returns-in-Ok-clause-closes g c = λ items q.
     let all : (with_items c.in_ok-ends.ends ends).items ≡ c.args.fronts.items = same ∙ before ∙ c.in_ok-ends.ensures in
     let more = c.in-Ok.ensures.ready.sequences items q in
     subst (λ (l : List FrontView). IsFinal (accepted_lists l) c.finish.result.accepted c.finish.result.log) all (c.finish.ensures.closes (items ++ more.0) more.1)
+
+pub returns-in-Ok-clause-ends : goal.returns-in-Ok-clause-ends
+returns-in-Ok-clause-ends g c = ends_at _ _ _ _ _ _ c.in-Ok.ensures.ready c.in-Ok.ensures.kept c.finish.ensures.same.0

@@ -15,8 +15,8 @@ loop-rest-preserved-in_ok-add c =
           c.first_line.ensures.lines some c.in_ok-line_task.ensures.asked before.2,
     )
 
-pub returns : goal.returns
-returns c =
+pub returns-clause-plan : goal.returns-clause-plan
+returns-clause-plan c =
     let before = c.loop-rest.invariant in
     let none : length c.loop-rest.rest.now ≡ 0 = grind (arith, common_steps) in
     (before.0, all_done c.args.fronts c.args.input.now c.loop-rest.rest.now before.0 none before.2, before.1)

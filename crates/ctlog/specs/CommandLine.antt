@@ -1,0 +1,80 @@
+-- The command line: what its words ask for.
+use Rattle.std.specs.Prelude.{◌≡◌, ◌≢◌, ◌⊎◌, ℕ, Bool, true, false, List, [], ◌∷◌, map, Option, Some, option_map, unwrap_or, pos, codes}
+use Rattle.std.specs.Borrow.{Bor}
+use Rattle.std.specs.Str.Parse.{digits_value, without_leading_plus}
+use Rattle.std.specs.Io.KnownBytes.{Appends}
+use Rattle.clap.specs.Words.{App, Kinds, Rule, Text, fault_of, matches_of, new_app, new_rule, one_of, with_rule}
+use Rattle.clap.specs.declared.builder.action.ArgAction.TheVariants.{Set}
+use Rattle.clap.specs.declared.builder.value_parser.ValueParser.{ValueParser}
+use Rattle.clap.specs.declared.builder.value_parser.ValueParser.TheVariants.{Signed, Unsigned}
+use Rattle.clap.specs.declared.error.kind.ErrorKind.{ErrorKind}
+use Rattle.clap.specs.declared.error.kind.ErrorKind.TheVariants.{DisplayHelp, OutOfMemory}
+use Rattle.ctlog.specs.declared.fault.Fault.{Fault}
+use Rattle.ctlog.specs.declared.fault.Fault.TheVariants.{Memory, Write}
+
+-- the option `--name VALUE`, whose value is a number that this parser takes
+abbrev pub number_rule : Text → ValueParser → Bool → Rule
+number_rule name parser required =
+    record (new_rule name) { long = Some name; action = Some Set; value_names = 1; parser = Some parser; required = required }
+
+-- the latest moment that the command line takes, 2^53 - 1, in milliseconds
+abbrev pub latest_moment : ℕ
+latest_moment = 9007199254740991
+
+-- `ctlog --fronts N --ring K [--open-at T] [--close-at T]`
+abbrev pub fronts_rule : Rule
+fronts_rule = number_rule (codes "fronts") (Signed (pos 1) (pos 16)) true
+
+abbrev pub ring_rule : Rule
+ring_rule = number_rule (codes "ring") (Unsigned 1 4096) true
+
+abbrev pub open_at_rule : Rule
+open_at_rule = number_rule (codes "open-at") (Unsigned 0 latest_moment) false
+
+abbrev pub close_at_rule : Rule
+close_at_rule = number_rule (codes "close-at") (Unsigned 0 latest_moment) false
+
+abbrev pub ctlog_app : App
+ctlog_app = with_rule (with_rule (with_rule (with_rule (new_app (codes "ctlog")) fronts_rule) ring_rule) open_at_rule) close_at_rule
+
+-- the number that the words give to the option with this name
+abbrev pub number_given : Text → List Text → Option ℕ
+number_given name words = option_map (λ (t : Text). digits_value 10 (without_leading_plus t)) (one_of name (matches_of ctlog_app words))
+
+-- What a command line asks for: a log with so many fronts, each with so many places in its ring, opened and closed at these
+-- moments, in milliseconds; help; or nothing that there is.
+pub data CommandLine : Type 0 where
+  log_with : ℕ → ℕ → ℕ → ℕ → CommandLine
+  help : CommandLine
+  nothing : CommandLine
+
+-- what is asked for where clap finds a fault of this kind
+abbrev pub by_kind : ErrorKind → CommandLine
+by_kind DisplayHelp = help
+by_kind _ = nothing
+
+-- what is asked for, by the first fault that clap finds
+abbrev pub by_fault : Kinds → CommandLine → CommandLine
+by_fault [] ok = ok
+by_fault (k ∷ ks) ok = by_kind k
+
+-- what the words ask for; the first word is the program's name
+abbrev pub command_line : List Text → CommandLine
+command_line words = by_fault (fault_of ctlog_app words) (log_with (unwrap_or (number_given (codes "fronts") words) 0)
+    (unwrap_or (number_given (codes "ring") words) 0)
+    (unwrap_or (number_given (codes "open-at") words) 0)
+    (unwrap_or (number_given (codes "close-at") words) latest_moment))
+
+-- what these words ask for, as the program has them
+abbrev pub asked_by : List (Bor Text) → CommandLine
+asked_by words = command_line (map (λ (w : Bor Text). w.now) words)
+
+-- what an error of clap's of this kind says of a command line: memory was refused; help is asked for; or nothing that there is
+abbrev pub IsRefusalOf : CommandLine → ErrorKind → Type 0
+IsRefusalOf a k = (k ≡ OutOfMemory) ⊎ (((k ≡ DisplayHelp) × (a ≡ help)) ⊎ ((k ≢ DisplayHelp) × (a ≡ nothing)))
+
+-- What was written where the words give no numbers and this fault came, by the kind of clap's error: a beginning of help's
+-- text; or nothing, where there was no memory.
+abbrev pub IsUnanswered : ErrorKind → Fault → Option (List ℕ) → Option (List ℕ) → Type 0
+IsUnanswered k f old new =
+    ((k ≡ DisplayHelp) × ((f ≡ Write) ⊎ (f ≡ Memory)) × ((text : List ℕ) × Appends old new text)) ⊎ ((f ≡ Memory) × Appends old new [])
