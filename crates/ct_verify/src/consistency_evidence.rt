@@ -1,5 +1,5 @@
 //! Evidence for an accepted consistency proof: the old list begins the new one, or two strings have one hash.
-ghost use Rattle.std.specs.Prelude.{◌≡◌, ◌+◌, ◌-◌, ◌<◌, ◌≤◌, ◌⊎◌, ◌↔◌, ℕ, List, [], ◌∷◌, ◌++◌, length, map, take, IfOk, IsTrue, MatchResult, Some, None, Ok, cond};
+ghost use Rattle.std.specs.Prelude.{◌≡◌, ◌<◌, ◌≤◌, ◌↔◌, ℕ, List, ◌∷◌, ◌++◌, length, map, IfOk, IsTrue, MatchResult, Some, Ok, cond};
 ghost use Rattle.std.specs.Option.{option_or};
 ghost use Rattle.ct_tree.specs.Tree.{hash_leaf, hash_node, mth_of_leaves};
 ghost use Rattle.ct_verify.specs.Rebuild.{both_roots};

@@ -13,7 +13,8 @@
 //!
 //! [`explain_inclusion`] and [`explain_consistency`] say what an accepted proof means without the assumption that the
 //! hash function has no collisions. Handed the lists themselves, they answer that the proof tells the truth about them,
-//! or give two strings that differ and have one hash (`specs/Evidence.antt`).
+//! or give two strings that differ and have one hash: for an audit path those nearest the root (`specs/Evidence.antt`),
+//! for a consistency proof those nearest the leaves (`specs/Clash.antt`).
 #![tactic(auto)]
 
 mod children;

@@ -27,13 +27,6 @@ fn hashes_of<H: NodeHash>(
     Ok(hashes)
 }
 
-pub(crate) fn is_holding(answer: &Result<Evidence, EvidenceFault>) -> bool {
-    match answer {
-        Ok(Evidence::Holds) => true,
-        _ => false,
-    }
-}
-
 pub(crate) fn is_collision_of(
     answer: &Result<Evidence, EvidenceFault>,
     first: &[u8],
@@ -41,13 +34,6 @@ pub(crate) fn is_collision_of(
 ) -> bool {
     match answer {
         Ok(Evidence::Collision(a, b)) => a.as_slice() == first && b.as_slice() == second,
-        _ => false,
-    }
-}
-
-pub(crate) fn is_refused_with(answer: &Result<Evidence, EvidenceFault>, fault: ProofFault) -> bool {
-    match answer {
-        Err(EvidenceFault::ProofRefused(refusal)) => *refusal == fault,
         _ => false,
     }
 }
@@ -64,32 +50,8 @@ fn is_true_collision<H: NodeHash>(h: &H, answer: &Result<Evidence, EvidenceFault
     }
 }
 
-// Why evidence for the leaf 41 is refused, where it is.
-fn path_refusal<H: NodeHash>(
-    alloc: Global,
-    h: &H,
-    leaves: &[Vec<u8>],
-    index: u64,
-    path: &[[u8; 32]],
-) -> Option<ProofFault> {
-    match explain_inclusion(alloc, h, leaves, &[0x41], index, path) {
-        Err(EvidenceFault::ProofRefused(refusal)) => Some(refusal),
-        _ => None,
-    }
-}
-
-// Why evidence for a longer list is refused, where it is.
-fn proof_refusal<H: NodeHash>(
-    alloc: Global,
-    h: &H,
-    old: &[Vec<u8>],
-    new: &[Vec<u8>],
-    path: &[[u8; 32]],
-) -> Option<ProofFault> {
-    match explain_consistency(alloc, h, old, new, path) {
-        Err(EvidenceFault::ProofRefused(refusal)) => Some(refusal),
-        _ => None,
-    }
+fn refused(fault: ProofFault) -> Result<Evidence, EvidenceFault> {
+    Err(EvidenceFault::ProofRefused(fault))
 }
 
 #[test]
@@ -109,17 +71,17 @@ fn paths_under_the_hash_of_zeros(rt: HostRuntime) -> std::io::Result<()> {
     assert!(rt; is_collision_of(&other_path, &proved, &listed));
 
     let true_path = explain_inclusion(heap, &ZeroHash, &two, &[0x41], 0, &[[0; 32]]);
-    assert!(rt; is_holding(&true_path));
-    let no_such_leaf = path_refusal(heap, &ZeroHash, &two, 2, &[[0; 32]]);
-    assert!(rt; no_such_leaf == Some(ProofFault::IndexOutOfRange));
-    let no_leaf = path_refusal(heap, &ZeroHash, &[], 0, &[]);
-    assert!(rt; no_leaf == Some(ProofFault::IndexOutOfRange));
-    let too_long = path_refusal(heap, &ZeroHash, &one, 0, &[[0; 32]]);
-    assert!(rt; too_long == Some(ProofFault::PathTooLong));
-    let too_short = path_refusal(heap, &ZeroHash, &two, 0, &[]);
-    assert!(rt; too_short == Some(ProofFault::PathTooShort));
-    let other_root = path_refusal(heap, &Sha256Hash, &two, 0, &[[0; 32]]);
-    assert!(rt; other_root == Some(ProofFault::RootMismatch));
+    assert!(rt; true_path == Ok(Evidence::Holds));
+    let no_such_leaf = explain_inclusion(heap, &ZeroHash, &two, &[0x41], 2, &[[0; 32]]);
+    assert!(rt; no_such_leaf == refused(ProofFault::IndexOutOfRange));
+    let no_leaf = explain_inclusion(heap, &ZeroHash, &[], &[0x41], 0, &[]);
+    assert!(rt; no_leaf == refused(ProofFault::IndexOutOfRange));
+    let too_long = explain_inclusion(heap, &ZeroHash, &one, &[0x41], 0, &[[0; 32]]);
+    assert!(rt; too_long == refused(ProofFault::PathTooLong));
+    let too_short = explain_inclusion(heap, &ZeroHash, &two, &[0x41], 0, &[]);
+    assert!(rt; too_short == refused(ProofFault::PathTooShort));
+    let other_root = explain_inclusion(heap, &Sha256Hash, &two, &[0x41], 0, &[[0; 32]]);
+    assert!(rt; other_root == refused(ProofFault::RootMismatch));
     Ok(())
 }
 
@@ -130,17 +92,17 @@ fn proofs_under_the_hash_of_zeros(rt: HostRuntime) -> std::io::Result<()> {
     let new = one_byte_leaves(heap, &[0x41, 0x42])?;
     let other = one_byte_leaves(heap, &[0x42, 0x43])?;
     let extended = explain_consistency(heap, &ZeroHash, &old, &new, &[[1; 32]]);
-    assert!(rt; is_holding(&extended));
+    assert!(rt; extended == Ok(Evidence::Holds));
     let rewritten = explain_consistency(heap, &ZeroHash, &old, &other, &[[0; 32]]);
-    assert!(rt; is_true_collision(&ZeroHash, &rewritten));
-    let no_path = proof_refusal(heap, &ZeroHash, &old, &new, &[]);
-    assert!(rt; no_path == Some(ProofFault::EmptyPath));
-    let too_long = proof_refusal(heap, &ZeroHash, &old, &new, &[[0; 32], [0; 32]]);
-    assert!(rt; too_long == Some(ProofFault::PathTooLong));
-    let same_size = proof_refusal(heap, &ZeroHash, &new, &other, &[[0; 32]]);
-    assert!(rt; same_size == Some(ProofFault::SizesOutOfRange));
-    let other_root = proof_refusal(heap, &Sha256Hash, &old, &other, &[[0; 32]]);
-    assert!(rt; other_root == Some(ProofFault::RootMismatch));
+    assert!(rt; is_collision_of(&rewritten, &[0, 0x41], &[0, 0x42]));
+    let no_path = explain_consistency(heap, &ZeroHash, &old, &new, &[]);
+    assert!(rt; no_path == refused(ProofFault::EmptyPath));
+    let too_long = explain_consistency(heap, &ZeroHash, &old, &new, &[[0; 32], [0; 32]]);
+    assert!(rt; too_long == refused(ProofFault::PathTooLong));
+    let same_size = explain_consistency(heap, &ZeroHash, &new, &other, &[[0; 32]]);
+    assert!(rt; same_size == refused(ProofFault::SizesOutOfRange));
+    let other_root = explain_consistency(heap, &Sha256Hash, &old, &other, &[[0; 32]]);
+    assert!(rt; other_root == refused(ProofFault::RootMismatch));
     Ok(())
 }
 
@@ -194,7 +156,7 @@ fn are_changes_shown(alloc: Global, bytes: &[u8]) -> Result<bool, AllocError> {
         listed.push(0)?;
         listed.extend_from_slice(leaf)?;
         right = right
-            && is_holding(&true_path)
+            && true_path == Ok(Evidence::Holds)
             && is_collision_of(&other_leaf, &[0, 7, 7], &listed);
     }
     Ok(right)
@@ -235,7 +197,7 @@ fn accepted_false_paths(alloc: Global, trials: u32) -> Result<(bool, bool), Allo
                     is_one_accepted = true;
                     right = right && is_true_collision(&WeakHash, &evidence);
                 }
-                Err(fault) => right = right && is_refused_with(&evidence, fault),
+                Err(fault) => right = right && evidence == refused(fault),
             }
             path[j] = kept;
         }
@@ -270,7 +232,7 @@ fn accepted_false_proofs(alloc: Global, trials: u32) -> Result<(bool, bool), All
         if is_true_collision(&WeakHash, &evidence) {
             is_one_accepted = true;
         } else {
-            right = right && is_refused_with(&evidence, ProofFault::FirstMismatch);
+            right = right && evidence == refused(ProofFault::FirstMismatch);
         }
     }
     Ok((is_one_accepted, right))

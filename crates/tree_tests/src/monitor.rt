@@ -1,8 +1,8 @@
-use crate::evidence::{is_collision_of, is_holding, is_refused_with, one_byte_leaves};
+use crate::evidence::{is_collision_of, one_byte_leaves};
 use crate::weak_hashes::ZeroHash;
 use ct_monitor::{Auditor, Monitor, MonitorFault};
-use ct_tree::{Head, Sha256Hash};
-use ct_verify::ProofFault;
+use ct_tree::{Head, Sha256Hash, leaf_hash, reference};
+use ct_verify::{Evidence, EvidenceFault, ProofFault};
 use std::alloc::{AllocError, Global};
 use std::test::Fail;
 
@@ -93,11 +93,12 @@ fn an_auditor_checks_and_explains_paths(rt: HostRuntime) -> Result<(), Fail> {
     let third = head(3, 7, ROOT_3);
     let leaves = one_byte_leaves(heap, &[0x41, 0x42, 0x43])?;
     assert!(rt; auditor.check(&third, &[0x42], 1, &[ROOT_1, LEAF_2]) == Ok(()));
-    assert!(rt; is_holding(&auditor.explain(heap, &leaves, &[0x42], 1, &[ROOT_1, LEAF_2])));
+    let explained = auditor.explain(heap, &leaves, &[0x42], 1, &[ROOT_1, LEAF_2]);
+    assert!(rt; explained == Ok(Evidence::Holds));
     let other_leaf = auditor.check(&third, &[0x43], 1, &[ROOT_1, LEAF_2]);
     assert!(rt; other_leaf == Err(ProofFault::RootMismatch));
     let explained = auditor.explain(heap, &leaves, &[0x43], 1, &[ROOT_1, LEAF_2]);
-    assert!(rt; is_refused_with(&explained, ProofFault::RootMismatch));
+    assert!(rt; explained == Err(EvidenceFault::ProofRefused(ProofFault::RootMismatch)));
     Ok(())
 }
 
@@ -118,7 +119,8 @@ fn an_auditor_explains_paths_under_the_hash_of_zeros(rt: HostRuntime) -> Result<
     proved.extend_from_slice(&[1; 32])?;
     let other_path = auditor.explain(heap, &two, &[0x41], 0, &[[1; 32]]);
     assert!(rt; is_collision_of(&other_path, &proved, &listed));
-    assert!(rt; is_holding(&auditor.explain(heap, &two, &[0x41], 0, &[[0; 32]])));
+    let true_path = auditor.explain(heap, &two, &[0x41], 0, &[[0; 32]]);
+    assert!(rt; true_path == Ok(Evidence::Holds));
     Ok(())
 }
 
@@ -185,5 +187,56 @@ fn a_refused_growth_changes_nothing(rt: HostRuntime) -> Result<(), Fail> {
     assert!(rt; taken_at_last(heap, &mut monitor, head(2, 6, ROOT_2), 0x42)?);
     assert!(rt; taken_at_last(heap, &mut monitor, head(3, 7, ROOT_3), 0x43)?);
     assert!(rt; is_at(&monitor, &[0x41, 0x42, 0x43], head(3, 7, ROOT_3)));
+    Ok(())
+}
+
+// Of the 3,000 leaves that are the numbers from 0 on, in four bytes each. It was computed by another program (Python's
+// hashlib).
+const ROOT_3000: [u8; 32] = [
+    0xf9, 0xfc, 0x8d, 0xfe, 0x4d, 0x2f, 0x23, 0xf0, 0x5c, 0x67, 0x60, 0x8f, 0x61, 0x0b, 0xa5, 0x57,
+    0xdc, 0x44, 0x80, 0xa7, 0x2b, 0xe9, 0x2b, 0x9c, 0x96, 0xaa, 0xfb, 0xe1, 0xa7, 0x48, 0x96, 0xef,
+];
+
+// Ten of these leaves, from a number on, and their hashes behind those of the leaves before them.
+fn ten_leaves(
+    alloc: Global,
+    first: u16,
+    hashes: &mut Vec<[u8; 32]>,
+) -> Result<Vec<Vec<u8>>, AllocError> {
+    let mut leaves = Vec::new(alloc);
+    for i in 0..10 {
+        let number = u32::from(first) + i;
+        let mut leaf = Vec::new(alloc);
+        leaf.extend_from_slice(&number.to_be_bytes())?;
+        hashes.push(leaf_hash(&Sha256Hash, &leaf))?;
+        leaves.push(leaf)?;
+    }
+    Ok(leaves)
+}
+
+// Whether the monitor takes each of 300 heads with ten new leaves, whose roots the reference program gives.
+fn takes_300_heads(alloc: Global, monitor: &mut Monitor<Sha256Hash>) -> Result<bool, AllocError> {
+    let mut hashes = Vec::new(alloc);
+    for count in 0..300 {
+        let leaves = ten_leaves(alloc, 10 * count, &mut hashes)?;
+        let root = reference::root(&Sha256Hash, &hashes);
+        let next = head(u64::from(10 * count + 10), u64::from(count), root);
+        if monitor.observe(next, leaves) != Ok(()) {
+            return Ok(false);
+        }
+    }
+    Ok(true)
+}
+
+#[test]
+fn a_monitor_follows_300_heads(rt: HostRuntime) -> Result<(), Fail> {
+    let heap = rt.alloc();
+    let mut monitor = Monitor::new(heap, Sha256Hash);
+    assert!(rt; takes_300_heads(heap, &mut monitor)?);
+    let last = head(3_000, 299, ROOT_3000);
+    assert!(rt; monitor.last_head() == Some(last) && monitor.leaves().len() == 3_000);
+    assert!(rt; monitor.observe(last, Vec::new(heap)) == Ok(()));
+    let fork = monitor.observe(head(3_000, 300, ROOT_3), Vec::new(heap));
+    assert!(rt; fork == Err(MonitorFault::Fork));
     Ok(())
 }

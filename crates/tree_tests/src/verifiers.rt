@@ -1,10 +1,12 @@
-// Worked proofs over seven leaves under SHA-256. The values were computed by another program (Python's hashlib) from
-// the bytes of the leaves: none, 00, 10, 20 21, 30 31, 40 41 42 43, 50 51 52 53 54 55 56 57. `N01` is the node over
-// leaves 0 and 1, and so on; `MTH_3` is the root of the first three leaves.
+// Worked proofs under SHA-256 over the leaves of the Certificate Transparency reference tree (the tests of Google's
+// reference implementation): none, 00, 10, 20 21, 30 31, 40 to 43, 50 to 57, 60 to 6f. The roots are the published ones,
+// and all values were computed anew by another program (Python's hashlib). `N01` is the node over leaves 0 and 1, and so
+// on; `MTH_3` is the root of the first three leaves.
 
 use crate::weak_hashes::ZeroHash;
-use ct_tree::Sha256Hash;
+use ct_tree::{Sha256Hash, Stack, leaf_hash};
 use ct_verify::{ProofFault, laws, verify_consistency, verify_inclusion};
+use std::test::Fail;
 
 const L0: [u8; 32] = [
     0x6e, 0x34, 0x0b, 0x9c, 0xff, 0xb3, 0x7a, 0x98, 0x9c, 0xa5, 0x44, 0xe6, 0xbb, 0x78, 0x0a, 0x2c,
@@ -39,6 +41,11 @@ const L5: [u8; 32] = [
 const L6: [u8; 32] = [
     0xb0, 0x86, 0x93, 0xec, 0x2e, 0x72, 0x15, 0x97, 0x13, 0x06, 0x41, 0xe8, 0x21, 0x1e, 0x7e, 0xed,
     0xcc, 0xb4, 0xc2, 0x64, 0x13, 0x96, 0x3e, 0xee, 0x6c, 0x1e, 0x2e, 0xd1, 0x6f, 0xfb, 0x1a, 0x5f,
+];
+
+const L7: [u8; 32] = [
+    0x46, 0xf6, 0xff, 0xad, 0xd3, 0xd0, 0x6a, 0x09, 0xff, 0x3c, 0x58, 0x60, 0xd2, 0x75, 0x5c, 0x8b,
+    0x98, 0x19, 0xdb, 0x7d, 0xf4, 0x42, 0x51, 0x78, 0x8c, 0x7d, 0x8e, 0x31, 0x80, 0xde, 0x8e, 0xb1,
 ];
 
 const N01: [u8; 32] = [
@@ -86,6 +93,11 @@ const MTH_7: [u8; 32] = [
     0x9c, 0x29, 0x42, 0xb7, 0x94, 0x2a, 0x34, 0xb7, 0x7e, 0x12, 0x2c, 0x95, 0x94, 0xa7, 0x4c, 0x8c,
 ];
 
+const MTH_8: [u8; 32] = [
+    0x5d, 0xc9, 0xda, 0x79, 0xa7, 0x06, 0x59, 0xa9, 0xad, 0x55, 0x9c, 0xb7, 0x01, 0xde, 0xd9, 0xa2,
+    0xab, 0x9d, 0x82, 0x3a, 0xad, 0x2f, 0x49, 0x60, 0xcf, 0xe3, 0x70, 0xef, 0xf4, 0x60, 0x43, 0x28,
+];
+
 const ZEROS: [u8; 32] = [0; 32];
 
 fn inclusion(
@@ -109,9 +121,41 @@ fn consistency(
 }
 
 #[test]
+fn published_roots_of_the_reference_tree(rt: HostRuntime) -> Result<(), Fail> {
+    let leaves: [&[u8]; 8] = [
+        b"",
+        b"\x00",
+        b"\x10",
+        b"\x20\x21",
+        b"\x30\x31",
+        b"\x40\x41\x42\x43",
+        b"\x50\x51\x52\x53\x54\x55\x56\x57",
+        b"\x60\x61\x62\x63\x64\x65\x66\x67\x68\x69\x6a\x6b\x6c\x6d\x6e\x6f",
+    ];
+    let roots = [L0, N01, MTH_3, N0123, MTH_5, MTH_6, MTH_7, MTH_8];
+    let mut stack = Stack::new(rt.alloc(), Sha256Hash);
+    for n in 0..leaves.len() {
+        assert!(rt; stack.size() == n as u64);
+        stack.push(&leaf_hash(&Sha256Hash, leaves[n]))?;
+        assert!(rt; stack.root() == roots[n], "root of {n} and one more");
+    }
+    Ok(())
+}
+
+#[test]
+fn eight_leaves(rt: HostRuntime) {
+    assert!(rt; inclusion(&L7, 7, 8, &[L6, N45, N0123], &MTH_8) == Ok(()));
+    assert!(rt; consistency(7, 8, &MTH_7, &MTH_8, &[L6, L7, N45, N0123]) == Ok(()));
+}
+
+// The example of RFC 6962, section 2.1.3: the paths of d0 [b, h, l], d3 [c, g, l], d4 [f, j, k] and d6 [i, k], and the
+// proofs from three leaves [c, d, g, l], from four [l] and from six [i, j, k].
+#[test]
 fn seven_leaves_paths(rt: HostRuntime) {
-    assert!(rt; inclusion(&L6, 6, 7, &[N45, N0123], &MTH_7) == Ok(()));
     assert!(rt; inclusion(&L0, 0, 7, &[L1, N23, N456], &MTH_7) == Ok(()));
+    assert!(rt; inclusion(&L3, 3, 7, &[L2, N01, N456], &MTH_7) == Ok(()));
+    assert!(rt; inclusion(&L4, 4, 7, &[L5, L6, N0123], &MTH_7) == Ok(()));
+    assert!(rt; inclusion(&L6, 6, 7, &[N45, N0123], &MTH_7) == Ok(()));
     assert!(rt; inclusion(&L6, 6, 7, &[N45], &MTH_7) == Err(ProofFault::PathTooShort));
     assert!(rt; inclusion(&L6, 6, 7, &[N45, N0123, N0123], &MTH_7) == Err(ProofFault::PathTooLong));
     assert!(rt; inclusion(&L6, 7, 7, &[N45, N0123], &MTH_7) == Err(ProofFault::IndexOutOfRange));
@@ -191,7 +235,7 @@ fn another_hash(rt: HostRuntime) {
     assert!(rt; verify_inclusion(&ZeroHash, &ZEROS, 0, size, &path, &ZEROS) == Ok(()));
     assert!(rt; verify_consistency(&ZeroHash, 1, size, &ZEROS, &ZEROS, &path) == Ok(()));
     laws::rebuild();
-    laws::both();
+    laws::both_roots();
     laws::path();
     laws::proof();
 }
