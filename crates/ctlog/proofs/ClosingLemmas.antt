@@ -11,19 +11,10 @@ use Rattle.ct_core.specs.Leaf.{Entry}
 use Rattle.ct_core.specs.Settlement.{Log, firsts_after}
 use Rattle.ct_core.specs.declared.settled.Settled.{Settled}
 use Rattle.ct_core.specs.Core.{Begins, CoreState, IsNextHead, after_publishing, IsSettled, newest_leaf, last_moment, clock_of, entry_at, publish_refusal}
-use Rattle.ct_house.specs.Sequence.{Sequences}
 use Rattle.ct_house.specs.House.{FrontView, HouseState, SettlesMore}
-use Rattle.ctlog.specs.ClosedLog.{EndsAt, IsLate, IsReady, IsRefusedAtClosing, KeepsSettled}
-
-newest-push : (es : List Entry) (e : Entry) → newest_leaf (es ++ e ∷ []) ≡ e.timestamp
-newest-push es e = grind (arith, common_steps)
-
--- entries of the moment now don't move the newest leaf past it
-newest-entered : (es : List Entry) (xs : List Item) (now : ℕ) → newest_leaf es ≤ now → newest_leaf (es ++ map (entry_at now) xs) ≤ now
-newest-entered es [] now h = subst (λ (l : List Entry). newest_leaf l ≤ now) (sym (append-nil es)) h
-newest-entered es (x ∷ xs) now h =
-    let last : newest_leaf (es ++ entry_at now x ∷ []) ≡ now = newest-push es (entry_at now x) in
-    subst (λ (l : List Entry). newest_leaf l ≤ now) (append_assoc es (entry_at now x ∷ []) (map (entry_at now) xs)) (newest-entered (es ++ entry_at now x ∷ []) xs now (omega arith))
+use Rattle.ctlog.specs.ClosedLog.{EndsAt, IsClosingFault, IsLate, IsReady, IsRefusedAtClosing, KeepsSettled}
+use Rattle.ctlog.specs.Faults.{IsRefusalFault}
+use Rattle.ctlog.specs.declared.fault.Fault.{Fault}
 
 newest_in_time : (core : CoreState) (now : ℕ) → clock_of core ≤ now → newest_leaf core.entries ≤ now
 newest_in_time core now h = omega arith
@@ -44,22 +35,23 @@ publish_refused core now e h =
     (λ t newest. let l : now < last_moment core.published.heads + 1 = ltb-true now (last_moment core.published.heads + 1) t in omega arith) h
 
 -- after all was settled at now, the last head alone can be too late
-late_head : (old shut settled : HouseState) (xs : List Item) (now : ℕ) → shut ≡ record old { accepted = shut.accepted } → SettlesMore shut settled xs now → clock_of shut.core ≤ now
-    → (newest_leaf settled.core.entries ≤ now → now ≤ last_moment settled.core.published.heads) → (items : List Item) → Sequences old items → IsLate old.core now
-late_head old shut settled xs now e s time late items q =
-    let same : shut.core ≡ old.core = ap (λ (h : HouseState). h.core) e in
-    let grown = s.grows items (subst (λ (c : CoreState). IsSettled c items) (sym same) q.settled) in
-    let newest : newest_leaf settled.core.entries ≤ now =
-    subst (λ (l : List Entry). newest_leaf l ≤ now) (sym grown.entries) (newest-entered shut.core.entries (firsts_after items xs) now (newest_in_time shut.core now time)) in
-    inr (subst (λ (l : Log). now ≤ last_moment l.heads) (s.published ∙ ap (λ (c : CoreState). c.published) same) (late newest))
+late_head : (old shut settled : HouseState) (xs : List Item) (now : ℕ) → shut ≡ record old { accepted = shut.accepted } → SettlesMore shut settled xs now → clock_of settled.core ≤ now
+    → (newest_leaf settled.core.entries ≤ now → now ≤ last_moment settled.core.published.heads) → IsLate old.core now
+late_head old shut settled xs now e s time late =
+    inr (subst (λ (l : Log). now ≤ last_moment l.heads) (s.core.published ∙ ap (λ (h : HouseState). h.core.published) e) (late (newest_in_time settled.core now time)))
 
 pub closing_refused : (r : Result Head Refusal) (old shut settled after : HouseState) (xs : List Item) (now : ℕ) → shut ≡ record old { accepted = shut.accepted } → SettlesMore shut settled xs now
-    → clock_of shut.core ≤ now → IfErr r (λ e. (e ≡ publish_refusal settled.core now) × (after ≡ settled)) → IfErr r (λ e. IsRefusedAtClosing old now e)
+    → clock_of settled.core ≤ now → IfErr r (λ e. (e ≡ publish_refusal settled.core now) × (after ≡ settled)) → IfErr r (λ e. IsRefusedAtClosing old now e)
 closing_refused (Ok h) old shut settled after xs now e s time p = tt
 closing_refused (Err r) old shut settled after xs now e s time p = elim (publish_refused settled.core now r p.0) [
   | inl c ↦ inl (c.0, late_head old shut settled xs now e s time c.1)
   | inr m ↦ inr m
 ]
+
+-- a refusal of the closing is a fault of the closing
+pub closing_fault : (s : HouseState) (now : ℕ) (e : Refusal) (f : Fault) → IsRefusedAtClosing s now e → IsRefusalFault e f → IsClosingFault s.core now f
+closing_fault s now e f (inl late) i = inl (i.clock_back late.0, late.1)
+closing_fault s now e f (inr memory) i = inr (i.memory memory)
 
 -- the closing keeps what was settled
 pub closing_keeps : (r : Result Head Refusal) (old shut settled after : HouseState) (xs : List Item) (now : ℕ) → shut ≡ record old { accepted = shut.accepted } → SettlesMore shut settled xs now
@@ -68,7 +60,7 @@ closing_keeps (Err e) old shut settled after xs now same s p = tt
 closing_keeps (Ok h) old shut settled after xs now same s p =
     let before : shut.core ≡ old.core = ap (λ (t : HouseState). t.core) same in
     let behind : after.core ≡ after_publishing settled.core h = ap (λ (t : HouseState). t.core) p.1 in
-    let kept : KeepsSettled shut.core (after_publishing settled.core h) = (s.entries, s.settlement) in
+    let kept : KeepsSettled shut.core (after_publishing settled.core h) = (s.core.entries, s.core.settlement) in
     subst (λ (c : CoreState). KeepsSettled c after.core) before (subst (λ (c : CoreState). KeepsSettled shut.core c) (sym behind) kept)
 
 -- the log that the closing leaves goes on from what there was

@@ -1,25 +1,23 @@
 -- The operator's work, step by step.
-use Rattle.std.proofs.Common.{◌≡◌, ◌<◌, ◌≤◌, ◌+◌, ℕ, List, [], ◌∷◌, ◌++◌, length, refl, sym, subst, ◌∙◌, append_assoc, append-nil, arith, length-append}
-use Rattle.std.proofs.Common.{inl, inr}
+use Rattle.std.proofs.Common.{◌≡◌, ◌<◌, ◌≤◌, ◌+◌, ℕ, List, [], ◌∷◌, ◌++◌, length, refl, sym, subst, ◌∙◌, append_assoc, append-nil, arith, length-append, get_or, inl, inr}
 use Rattle.std.proofs.lemmas.Bool.{cases_lt}
 use Rattle.std.proofs.lemmas.List.Elements.{All-append}
-use Rattle.std.specs.Prelude.{Ok, Err}
+use Rattle.std.specs.Prelude.{Ok, Err, Some, slice_get}
+use Rattle.std.proofs.lemmas.Option.{same_Some, slice_get-get_or, slice_get_within}
 use Rattle.ct_codec.specs.declared.item.Item.{Item}
 use Rattle.ct_codec.specs.declared.refusal.Refusal.{Refusal}
-use Rattle.ct_core.specs.Core.{clock_of, settle_refusal}
+use Rattle.ct_core.specs.Core.{Begins, CoreState, clock_of, settle_refusal}
 use Rattle.ct_core.specs.Replies.{a_settled_count, refused}
-use Rattle.ct_core.proofs.CoreLemmas.{Begins-refl, Begins-trans, Grows-more}
+use Rattle.ct_core.proofs.CoreLemmas.{Begins-refl, Begins-trans, Grows-more, Grows-none}
 use Rattle.ct_house.specs.House.{HouseState, SettlesMore}
-use Rattle.ct_house.specs.Sequence.{Sequences, Takes}
-use Rattle.ct_house.proofs.SequencerLemmas.{SettlesMore-none, SettlesMore-one}
-use Rattle.ctlog.specs.OperatorWork.{GoesOn, Settling, Stops, SettlesSome, SequencesFront}
+use Rattle.ct_house.specs.Sequence.{CoreGrows, Lane, Sequences, Takes}
+use Rattle.ctlog.specs.OperatorWork.{GoesOn, Settling, StopsSettling, SettlesSome, SequencesFront}
 
 pub goes_on_nothing : (s : HouseState) → GoesOn s s
 goes_on_nothing s = record {
   house = refl;
   count = refl;
   accepted = λ n e. e;
-  sequences = λ items q. ([], subst (Sequences s) (sym (append-nil items)) q);
   entries = Begins-refl s.core.entries;
   settlement = Begins-refl s.core.settlement;
   heads = Begins-refl s.core.published.heads;
@@ -30,13 +28,33 @@ goes_on_both a b c p q = record {
   house = q.house ∙ p.house;
   count = q.count ∙ p.count;
   accepted = λ n e. q.accepted n (p.accepted n e);
-  sequences = λ items s.
-      let (one, first) = p.sequences items s in
-      let (two, second) = q.sequences (items ++ one) first in
-      (one ++ two, subst (Sequences c) (append_assoc items one two) second);
   entries = Begins-trans a.core.entries b.core.entries c.core.entries p.entries q.entries;
   settlement = Begins-trans a.core.settlement b.core.settlement c.core.settlement p.settlement q.settlement;
   heads = Begins-trans a.core.published.heads b.core.published.heads c.core.published.heads p.heads q.heads;
+}
+
+-- nothing was settled
+settles_none : (s : HouseState) (now : ℕ) → SettlesMore s s [] now
+settles_none s now = record {
+  house = refl;
+  accepted = refl;
+  count = refl;
+  received = λ f was is at there. subst (λ (l : Lane). Begins was.received l.received) (same_Some was is (sym at ∙ there)) (Begins-refl was.received);
+  sequences = λ items q. subst (Sequences s) (sym (append-nil items)) q;
+  core = record {
+    grows = λ items q. Grows-none s.core items now q;
+    published = refl;
+    entries = Begins-refl s.core.entries;
+    settlement = Begins-refl s.core.settlement;
+  };
+}
+
+core_grows_both : (a b c : CoreState) (xs ys : List Item) (now : ℕ) → CoreGrows a b xs now → CoreGrows b c ys now → CoreGrows a c (xs ++ ys) now
+core_grows_both a b c xs ys now s t = record {
+  grows = λ items q. let one = s.grows items q in Grows-more a b c items xs ys now one (t.grows (items ++ xs) one.settled);
+  published = t.published ∙ s.published;
+  entries = Begins-trans a.entries b.entries c.entries s.entries t.entries;
+  settlement = Begins-trans a.settlement b.settlement c.settlement s.settlement t.settlement;
 }
 
 -- two settlings at one moment
@@ -45,24 +63,26 @@ settles_both a b c xs ys now s t = record {
   house = t.house ∙ s.house;
   accepted = t.accepted ∙ s.accepted;
   count = t.count ∙ s.count;
+  received = λ f was is at there.
+      let inside = slice_get_within a.lanes f was at in
+      let count = s.count in
+      let mid : slice_get b.lanes f ≡ Some (get_or b.lanes f was) = slice_get-get_or b.lanes f was (omega arith) in
+      Begins-trans was.received (get_or b.lanes f was).received is.received (s.received f was (get_or b.lanes f was) at mid) (t.received f (get_or b.lanes f was) is mid there);
   sequences = λ items q. subst (Sequences c) (append_assoc items xs ys) (t.sequences (items ++ xs) (s.sequences items q));
-  grows = λ items q. let one = s.grows items q in Grows-more a.core b.core c.core items xs ys now one (t.grows (items ++ xs) one.settled);
-  published = t.published ∙ s.published;
-  entries = Begins-trans a.core.entries b.core.entries c.core.entries s.entries t.entries;
-  settlement = Begins-trans a.core.settlement b.core.settlement c.core.settlement s.settlement t.settlement;
+  core = core_grows_both a.core b.core c.core xs ys now s.core t.core;
 }
 
-pub settling_none : (front now : ℕ) (s : HouseState) → Settling front now s s []
-settling_none front now s = record { of_front = λ k d below. absurd (omega arith); settled = SettlesMore-none s now; early = λ e. refl }
+settling_none : (front now : ℕ) (s : HouseState) → Settling front now s s []
+settling_none front now s = record { of_front = λ k d below. absurd (omega arith); settled = settles_none s now; early = λ e. refl }
 
 early_both : (a b c : HouseState) (now : ℕ) → (now < clock_of a.core → b ≡ a) → (now < clock_of b.core → c ≡ b) → now < clock_of a.core → c ≡ a
 early_both a b c now p q before = let same = p before in q (subst (λ (s : HouseState). now < clock_of s.core) (sym same) before) ∙ same
 
-pub settling_take : (front now : ℕ) (a b c : HouseState) (xs ys : List Item) → front < length a.lanes → Settling front now a b xs → Takes b c front ys now
+pub settling_take : (front now : ℕ) (a b c : HouseState) (xs ys : List Item) → Settling front now a b xs → Takes b c front ys now → SettlesMore b c ys now
     → (now < clock_of b.core → c ≡ b) → Settling front now a c (xs ++ ys)
-settling_take front now a b c xs ys inside s t early = record {
+settling_take front now a b c xs ys s t more early = record {
   of_front = All-append (λ (x : Item). x.front ≡ front) xs ys s.of_front t.of_front;
-  settled = SettlesMore-one a b c xs ys front now (let n = s.settled.count in omega arith) s.settled t;
+  settled = settles_both a b c xs ys now s.settled more;
   early = early_both a b c now s.early early;
 }
 
@@ -81,26 +101,26 @@ in_time_before front now a b xs s late = elim (cases_lt now (clock_of a.core)) [
 ]
 
 -- after turns that settled nothing: a turn that is refused, one that settles some, and one more that settles none
-pub some_refused : (front most now : ℕ) (a b c : HouseState) (ys : List Item) (e : Refusal) → front < length a.lanes → Settling front now a b [] → Takes b c front ys now
+pub some_refused : (front most now : ℕ) (a b c : HouseState) (ys : List Item) (e : Refusal) → Settling front now a b [] → Takes b c front ys now → SettlesMore b c ys now
     → (now < clock_of b.core → c ≡ b) → e ≡ settle_refusal b.core now → SettlesSome front most now a (Err e) c
-some_refused front most now a b c ys e inside s t early why = record {
+some_refused front most now a b c ys e s t more early why = record {
   items = ys;
-  settling = settling_take front now a b c [] ys inside s t early;
+  settling = settling_take front now a b c [] ys s t more early;
   answer = inr (b, [], s.settled, why);
 }
 
-pub some_settled : (front most now : ℕ) (a b c : HouseState) (ys : List Item) (n : ℕ) → front < length a.lanes → Settling front now a b [] → Takes b c front ys now
+pub some_settled : (front most now : ℕ) (a b c : HouseState) (ys : List Item) (n : ℕ) → Settling front now a b [] → Takes b c front ys now → SettlesMore b c ys now
     → (now < clock_of b.core → c ≡ b) → n ≡ length ys → 0 < n → n ≤ most → clock_of b.core ≤ now → SettlesSome front most now a (Ok n) c
-some_settled front most now a b c ys n inside s t early count some few time = record {
+some_settled front most now a b c ys n s t more early count some few time = record {
   items = ys;
-  settling = settling_take front now a b c [] ys inside s t early;
+  settling = settling_take front now a b c [] ys s t more early;
   answer = (count, some, few, in_time_before front now a b [] s time);
 }
 
-pub still_none : (front now : ℕ) (a b c : HouseState) (ys : List Item) (n : ℕ) → front < length a.lanes → Settling front now a b [] → Takes b c front ys now
+pub still_none : (front now : ℕ) (a b c : HouseState) (ys : List Item) (n : ℕ) → Settling front now a b [] → Takes b c front ys now → SettlesMore b c ys now
     → (now < clock_of b.core → c ≡ b) → n ≡ length ys → n ≡ 0 → Settling front now a c []
-still_none front now a b c [] n inside s t early count none = settling_take front now a b c [] [] inside s t early
-still_none front now a b c (y ∷ ys) n inside s t early count none = absurd (omega arith)
+still_none front now a b c [] n s t more early count none = settling_take front now a b c [] [] s t more early
+still_none front now a b c (y ∷ ys) n s t more early count none = absurd (omega arith)
 
 -- some items were settled, and left more are to be
 pub record Underway (front count now left : ℕ) (old new : HouseState) : Type 0 where
@@ -126,7 +146,7 @@ goes_further front most count now left rest n a b c u s few less =
       none = λ e. (let some = answer.1 in absurd (omega arith));
     }
 
-stops_later : (now : ℕ) (a b : HouseState) (xs : List Item) (e : Refusal) → SettlesMore a b xs now → Stops now b e → Stops now a e
+stops_later : (now : ℕ) (a b : HouseState) (xs : List Item) (e : Refusal) → SettlesMore a b xs now → StopsSettling now b e → StopsSettling now a e
 stops_later now a b xs e s (inl late) = inl late
 stops_later now a b xs e s (inr (m, ys, t, why)) = inr (m, xs ++ ys, settles_both a b m xs ys now s t, why)
 

@@ -2,17 +2,13 @@
 use Rattle.std.proofs.Common.{◌≡◌, ◌⊎◌, ℕ, List, [], ◌++◌, refl, sym, ap, subst, ◌∙◌, append-nil, inl, inr}
 use Rattle.std.specs.Prelude.{Option, Some, Result, Ok, Err, OnErr, IsErrAnd, IfErr}
 use Rattle.std.specs.Io.KnownBytes.{Appends, Keeps, Consumes, IsAtEnd}
-use Rattle.ct_codec.specs.declared.item.Item.{Item}
 use Rattle.ct_core.specs.Settlement.{Log, IsFinal}
 use Rattle.ct_house.specs.House.{HouseState, FrontView, accepted_lists}
-use Rattle.ct_house.specs.Sequence.{Sequences}
 use Rattle.ct_lines.specs.Frozen.{frozen_text}
 use Rattle.ctlog.specs.declared.party.FrontParty.{FrontParty}
 use Rattle.ctlog.specs.declared.party.OperatorParty.{OperatorParty}
 use Rattle.ctlog.specs.declared.fault.Fault.{Fault}
 use Rattle.ctlog.specs.declared.plan.Plan.{Plan}
-use Rattle.ctlog.specs.ClosedLog.{EndsAt}
-use Rattle.ctlog.specs.OperatorWork.{GoesOn}
 use Rattle.ctlog.specs.Faults.{IsFrozenFault}
 use Rattle.ctlog.specs.Output.{AreGiven, IsBrokenOff, IsClosed, IsDone, SomeReplies, WritesAll, WritesSome, log_begun, not_begun}
 use Rattle.clap.specs.declared.error.kind.ErrorKind.{ErrorKind}
@@ -32,17 +28,6 @@ if_err_is P (Err e) x is p = subst P (sym is) p
 pub if_err_both : {T E : Type 0} (P : E → Type 0) (Q : Type 0) (R : E → Type 0) (r : Result T E) → ((e : E) → P e → Q → R e) → IfErr r P → OnErr r Q → IfErr r R
 if_err_both P Q R (Ok o) f p q = tt
 if_err_both P Q R (Err e) f p q = f e p q
-
--- the log that the closing leaves is closed
-pub log_closed : (old new : HouseState) (after : List FrontView) (close_at accepted : ℕ) (log : Log) → GoesOn old new → Sequences old []
-    → ((items : List Item) → Sequences new items → IsFinal (accepted_lists after) accepted log) → EndsAt new close_at log → IsClosed new after close_at log
-log_closed old new after close_at accepted log g q closes e =
-    let more = g.sequences [] q in
-    record {
-      accepted = accepted;
-      final = closes ([] ++ more.0) more.1;
-      ends = e;
-    }
 
 -- all replies: the parties', and then those of the closed log
 pub writes_all : (operator : OperatorParty) (parties : List FrontParty) (lines : List ℕ) (close_at : ℕ) (old mid new : Option (List ℕ)) (sequencer : HouseState) (after : List FrontView)

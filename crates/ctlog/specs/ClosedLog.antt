@@ -1,12 +1,12 @@
 -- The closing of a log.
 use Rattle.std.specs.Prelude.{◌≡◌, ◌≢◌, ◌⊎◌, ◌<◌, ◌≤◌, ℕ, List, [], ◌∷◌, ◌++◌, None}
-use Rattle.ct_codec.specs.declared.item.Item.{Item}
 use Rattle.ct_codec.specs.declared.refusal.Refusal.{Refusal}
 use Rattle.ct_codec.specs.declared.refusal.Refusal.TheVariants.{ClockBack, Memory}
 use Rattle.ct_tree.specs.declared.head.Head.{Head}
+use Rattle.ctlog.specs.declared.fault.Fault.{Fault}
+use Rattle.ctlog.specs.declared.fault.Fault.TheVariants as fault
 use Rattle.ct_core.specs.Settlement.{Log}
 use Rattle.ct_core.specs.Core.{Begins, CoreState, IsCovered, clock_of, last_moment}
-use Rattle.ct_house.specs.Sequence.{Sequences}
 use Rattle.ct_house.specs.House.{HouseState, FrontView, IsAllSettled}
 
 -- the clock refuses to close the log at now: leaves are newer, or the last head isn't older
@@ -23,11 +23,10 @@ pub record IsReady (old : HouseState) (ends : List FrontView) (now : ℕ) (h : H
   pub heads : new.core.published.heads ≡ old.core.published.heads ++ h ∷ []
   pub moment : h.timestamp ≡ now
   pub in_time : IsLate old.core now → ⊥
-  pub sequences : (items : List Item) → Sequences old items → (more : List Item) × Sequences new (items ++ more)
 
 -- the refusal is the clock's, which refuses the moment, or memory's
 abbrev pub IsRefusedAtClosing : HouseState → ℕ → Refusal → Type 0
-IsRefusedAtClosing s now e = ((e ≡ ClockBack) × ((items : List Item) → Sequences s items → IsLate s.core now)) ⊎ (e ≡ Memory)
+IsRefusedAtClosing s now e = ((e ≡ ClockBack) × IsLate s.core now) ⊎ (e ≡ Memory)
 
 -- The log goes on from what this sequencer had published and settled: its heads are those that were published so far, and
 -- one more, of the moment now, and its entries and its settlement begin with those that were settled so far.
@@ -37,6 +36,10 @@ pub record EndsAt (s : HouseState) (now : ℕ) (log : Log) : Type 0 where
   pub heads : log.heads ≡ s.core.published.heads ++ last ∷ []
   pub entries : Begins s.core.entries log.entries
   pub settlement : Begins s.core.settlement log.settlement
+
+-- a fault of the closing at now: the clock's, which refuses the moment, or memory's
+abbrev pub IsClosingFault : CoreState → ℕ → Fault → Type 0
+IsClosingFault core now f = ((f ≡ fault.ClockBack) × IsLate core now) ⊎ (f ≡ fault.Memory)
 
 -- all that was settled stays, in its order
 abbrev pub KeepsSettled : CoreState → CoreState → Type 0

@@ -4,8 +4,8 @@ use Rattle.ct_codec.specs.declared.refusal.Refusal.{Refusal}
 use Rattle.ct_codec.specs.declared.refusal.Refusal.TheVariants as refusal
 use Rattle.std.specs.declared.io.ErrorKind.{ErrorKind}
 use Rattle.std.specs.declared.io.ErrorKind.TheVariants.{OutOfMemory}
-use Rattle.ct_lines.specs.declared.serving.ServeFault.{ServeFault}
-use Rattle.ct_lines.specs.declared.serving.ServeFault.TheVariants as serving
+use Rattle.ct_lines.specs.declared.fault.ServeFault.{ServeFault}
+use Rattle.ct_lines.specs.declared.fault.ServeFault.TheVariants as serving
 use Rattle.ctlog.specs.declared.fault.Fault.{Fault}
 use Rattle.ctlog.specs.declared.fault.Fault.TheVariants.{Memory, ClockBack, Threads, Read, Write}
 
@@ -34,6 +34,7 @@ abbrev pub serve_fault : ServeFault → Fault
 serve_fault (serving.Read n) = Read
 serve_fault (serving.Write n) = Write
 serve_fault (serving.Memory n) = Memory
+serve_fault (serving.Endless n) = Read
 
 -- the fault that an error of this kind is, where words or the input are read
 pub record IsReadingFault (k : ErrorKind) (f : Fault) : Type 0 where

@@ -8,12 +8,12 @@ use Rattle.ct_house.specs.House.{FrontView, HouseState, IsNewHouse, accepted_lis
 use Rattle.ct_lines.specs.Frozen.{frozen_replies, frozen_text}
 use Rattle.ct_lines.specs.Serving.{IsCutOff}
 use Rattle.ctlog.specs.declared.fault.Fault.{Fault}
-use Rattle.ctlog.specs.declared.fault.Fault.TheVariants.{Memory, ClockBack, Read, Write}
+use Rattle.ctlog.specs.declared.fault.Fault.TheVariants.{Memory, Read, Write}
 use Rattle.ctlog.specs.declared.task.FrontTask.{FrontTask}
 use Rattle.ctlog.specs.declared.task.OperatorTask.{OperatorTask}
 use Rattle.ctlog.specs.declared.party.FrontParty.{FrontParty}
 use Rattle.ctlog.specs.declared.party.OperatorParty.{OperatorParty}
-use Rattle.ctlog.specs.ClosedLog.{EndsAt}
+use Rattle.ctlog.specs.ClosedLog.{EndsAt, IsClosingFault, IsLate}
 use Rattle.ctlog.specs.CommandLine.{CommandLine, log_with, help, nothing}
 use Rattle.ctlog.specs.Faults.{IsFrozenFault}
 use Rattle.ctlog.specs.Lines.{lines_of}
@@ -45,6 +45,7 @@ pub record AreParties (n places open_at : ℕ) (ts : List Task) (operator : Oper
 pub record IsClosed (sequencer : HouseState) (after : List FrontView) (close_at : ℕ) (log : Log) : Type 0 where
   pub accepted : ℕ
   pub final : IsFinal (accepted_lists after) accepted log
+  pub in_time : IsLate sequencer.core close_at → ⊥
   pub ends : EndsAt sequencer close_at log
 
 -- some of the replies of the closed log to these lines: those to a beginning of the lines, and of these so many whole ones
@@ -64,17 +65,13 @@ pub record WritesAll (operator : OperatorParty) (parties : List FrontParty) (lin
   pub closed : IsClosed sequencer after close_at log
   pub written : Appends old new (text ++ frozen_text log lines)
 
--- a fault of the closing: the clock's, or memory's
-abbrev pub IsClosingFault : Fault → Type 0
-IsClosingFault f = (f ≡ ClockBack) ⊎ (f ≡ Memory)
-
 -- What was written before this fault: nothing, where the parties didn't end; a beginning of their replies, where the writer
 -- failed; all of these, where the log wasn't closed; or all of these, and some of the closed log's.
 pub data WritesSome (operator : OperatorParty) (parties : List FrontParty) (lines : List ℕ) (close_at : ℕ) (f : Fault) (old new : Option (List ℕ)) : Type 0 where
   nothing_written : IsPartyFault f → Appends old new [] → WritesSome operator parties lines close_at f old new
   parties_begun : (sequencer : HouseState) (after : List FrontView) (text : List ℕ) → f ≡ Write → PartiesServe operator parties sequencer after text
       → SendsSome old new text → WritesSome operator parties lines close_at f old new
-  parties_done : (sequencer : HouseState) (after : List FrontView) (text : List ℕ) → IsClosingFault f → PartiesServe operator parties sequencer after text
+  parties_done : (sequencer : HouseState) (after : List FrontView) (text : List ℕ) → IsClosingFault sequencer.core close_at f → PartiesServe operator parties sequencer after text
       → Appends old new text → WritesSome operator parties lines close_at f old new
   log_begun : (sequencer : HouseState) (after : List FrontView) (text : List ℕ) (log : Log) (written : List ℕ) → IsFrozenFault f
       → PartiesServe operator parties sequencer after text → IsClosed sequencer after close_at log → SomeReplies log lines written

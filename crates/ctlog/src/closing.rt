@@ -1,11 +1,9 @@
 //! The closing of the log.
 
-ghost use Rattle.std.specs.Prelude.{◌≡◌, ◌⊎◌, List, length, All, IfOk, OnOk, IfErr, IsErrOf};
-ghost use Rattle.ct_codec.specs.declared.item.Item.{Item};
+ghost use Rattle.std.specs.Prelude.{◌≡◌, ◌⊎◌, List, length, All, IfOk, OnOk, IfErr};
 ghost use Rattle.ct_core.specs.Settlement.{IsFinal};
-ghost use Rattle.ct_house.specs.Sequence.{Sequences};
 ghost use Rattle.ct_house.specs.House.{IsOfHouse, AreInOrder, accepted_lists};
-ghost use Rattle.ctlog.specs.ClosedLog.{IsLate, IsReady, IsRefusedAtClosing, EndsAt, KeepsSettled};
+ghost use Rattle.ctlog.specs.ClosedLog.{IsLate, IsReady, IsRefusedAtClosing, IsClosingFault, EndsAt, KeepsSettled};
 
 use crate::fault::Fault;
 use ct_codec::Refusal;
@@ -58,11 +56,10 @@ pub fn close<H: Threads + Wait + Sync>(
 ) -> Result<FinalLog, Fault>
     requires of_house { All (IsOfHouse sequencer.house) fronts.items }
     requires in_order { AreInOrder (length sequencer.lanes) fronts.items }
-    ensures closes { IfOk result (λ log. (items : List Item) → Sequences sequencer items → IsFinal (accepted_lists fronts.items) log.accepted log.log) }
+    ensures closes { IfOk result (λ log. IsFinal (accepted_lists fronts.items) log.accepted log.log) }
     ensures ends { IfOk result (λ log. EndsAt sequencer now log.log) }
     ensures in_time { OnOk result (IsLate sequencer.core now → ⊥) }
-    ensures clock_back { IsErrOf result Fault.ClockBack → (items : List Item) → Sequences sequencer items → IsLate sequencer.core now }
-    ensures faults { IfErr result (λ f. (f ≡ Fault.ClockBack) ⊎ (f ≡ Fault.Memory)) }
+    ensures faults { IfErr result (IsClosingFault sequencer.core now) }
 {
     let mut ends = retire_all(alloc, fronts)?;
     match settle_and_publish(rt, alloc, &mut sequencer, &mut ends, now) {

@@ -76,7 +76,7 @@ impl From<ServeFault> for Fault {
 
     fn from(fault: ServeFault) -> Fault {
         match fault {
-            ServeFault::Read(_) => Fault::Read,
+            ServeFault::Read(_) | ServeFault::Endless(_) => Fault::Read,
             ServeFault::Write(_) => Fault::Write,
             ServeFault::Memory(_) => Fault::Memory,
         }

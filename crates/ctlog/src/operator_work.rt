@@ -3,7 +3,7 @@
 ghost use Rattle.std.specs.Prelude.{◌≡◌, ◌++◌, ◌≤◌, ◌<◌, length, OnOk};
 ghost use Rattle.ct_core.specs.Replies.{Answer};
 ghost use Rattle.ct_lines.specs.ReplyText.{answered, reply_line};
-ghost use Rattle.ctlog.specs.OperatorWork.{GoesOn, SettlesSome, SequencesFront, Publishes, Shuts, OperatorDoes, OperatorServes};
+ghost use Rattle.ctlog.specs.OperatorWork.{GoesOn, SettlesSome, SequencesFront, Publishes, ShutsTheLog, OperatorDoes, OperatorServes};
 
 use crate::replying::{give_way, push_reply};
 use crate::task::OperatorTask;
@@ -93,7 +93,7 @@ fn publish<R: Wait>(
 
 // Shuts the log.
 fn shut(sequencer: &mut Sequencer) -> Result<Reply, Refusal>
-    ensures { Shuts sequencer.old (answered result) sequencer.new }
+    ensures { ShutsTheLog sequencer.old (answered result) sequencer.new }
 {
     let accepted = sequencer.shutdown()?;
     Ok(Reply::Accepted(accepted))

@@ -3,7 +3,6 @@
 ghost use Rattle.std.specs.Prelude.{◌≡◌, ◌≢◌, ◌⊎◌, ◌≤◌, ℕ, List, [], length, All, IfOk, OnOk, OnErr, IfErr};
 ghost use Rattle.std.specs.Io.KnownBytes.{Appends};
 ghost use Rattle.ct_house.specs.House.{IsOfHouse, AreInOrder};
-ghost use Rattle.ct_house.specs.Sequence.{Sequences};
 ghost use Rattle.ct_lines.specs.Frozen.{frozen_text};
 ghost use Rattle.ctlog.specs.declared.fault.Fault.{Fault as FaultOf};
 ghost use Rattle.ctlog.specs.Faults.{fault_line, IsFrozenFault};
@@ -54,7 +53,6 @@ fn open_parties(
 ) -> Result<(OperatorParty, Vec<FrontParty>), Fault>
     requires { length tasks.items ≡ options.fronts }
     ensures parties { IfOk result (λ p. (ts : List Task) → AreGiven ts tasks.items operator.items → AreParties options.fronts options.ring options.open_at ts p.0 p.1.items) }
-    ensures sequences { IfOk result (λ p. Sequences p.0.sequencer []) }
     ensures faults { IfErr result (λ f. f ≡ Fault.Memory) }
 {
     let (sequencer, fronts) = open(alloc, options.fronts, options.ring, options.open_at)?;
@@ -115,7 +113,6 @@ fn serve_parties_and_log<H: Threads + Wait + Sync, W: Write>(
 ) -> Result<(), Fault>
     requires of_house { All (IsOfHouse operator.sequencer.house) (fronts_of parties.items) }
     requires in_order { AreInOrder (length operator.sequencer.lanes) (fronts_of parties.items) }
-    requires sequences { Sequences operator.sequencer [] }
     ensures all { OnOk result (WritesAll operator parties.items lines.now close_at (W.contents output.old) (W.contents output.new)) }
     ensures some { IfErr result (λ f. WritesSome operator parties.items lines.now close_at f (W.contents output.old) (W.contents output.new)) }
 {

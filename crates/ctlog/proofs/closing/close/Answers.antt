@@ -4,7 +4,7 @@ use Rattle.std.specs.Vec.{with_items}
 use Rattle.std.proofs.lemmas.List.{with_items_is}
 use Rattle.ct_core.specs.Settlement.{IsFinal}
 use Rattle.ct_house.specs.House.{HouseName, FrontView, IsOfHouse, IsAllSettled, accepted_lists}
-use Rattle.ctlog.proofs.ClosingLemmas.{ends_at}
+use Rattle.ctlog.proofs.ClosingLemmas.{closing_fault, ends_at}
 use Rattle.ctlog.proofs.closing.close.Goals as goal
 
 pub finish-requires-clause-of_house : goal.finish-requires-clause-of_house
@@ -24,13 +24,15 @@ finish-requires-clause-settled g c =
     subst (λ (l : List FrontView). IsAllSettled c.settle_and_publish.new.sequencer l) (c.deref_mut.ensures.value ∙ sym before ∙ sym same) c.in-Ok.ensures.ready.settled
 
 pub returns-in-Ok-clause-closes : goal.returns-in-Ok-clause-closes
-returns-in-Ok-clause-closes g c = λ items q.
+returns-in-Ok-clause-closes g c =
     let ends = c.settle_and_publish.new.ends in
     let before : ends ≡ c.in_ok-ends.ends.items = c.settle_and_publish.ensures.ends ∙ c.deref_mut.ensures.value in
     let same : (with_items c.in_ok-ends.ends ends).items ≡ ends = with_items_is c.in_ok-ends.ends ends (ap length before ∙ sym c.in_ok-ends.ends.ok.0) in
     let all : (with_items c.in_ok-ends.ends ends).items ≡ c.args.fronts.items = same ∙ before ∙ c.in_ok-ends.ensures in
-    let more = c.in-Ok.ensures.ready.sequences items q in
-    subst (λ (l : List FrontView). IsFinal (accepted_lists l) c.finish.result.accepted c.finish.result.log) all (c.finish.ensures.closes (items ++ more.0) more.1)
+    subst (λ (l : List FrontView). IsFinal (accepted_lists l) c.finish.result.accepted c.finish.result.log) all c.finish.ensures.closes
 
 pub returns-in-Ok-clause-ends : goal.returns-in-Ok-clause-ends
 returns-in-Ok-clause-ends g c = ends_at _ _ _ _ _ _ c.in-Ok.ensures.ready c.in-Ok.ensures.kept c.finish.ensures.same.0
+
+pub returns-in-Err-clause-faults : goal.returns-in-Err-clause-faults
+returns-in-Err-clause-faults g c = closing_fault c.args.sequencer c.args.now c.in-Err.refusal c.from.result c.in-Err.ensures.refused c.from.ensures

@@ -4,7 +4,7 @@ use Rattle.ctlog.proofs.closing.settle_and_publish.Goals as goal
 pub returns-clause-refused : goal.returns-clause-refused
 returns-clause-refused g c =
     closing_refused c.publish.result c.args.sequencer.now c.shutdown.new.self c.settle.new.self c.publish.new.self c.settle.ensures.settled.0 c.args.now
-    c.shutdown.ensures.same c.settle.ensures.settled.1 c.in_ok-settle.ensures.in_time c.publish.ensures.refused
+    c.shutdown.ensures.same c.settle.ensures.settled.1 (c.settle.ensures.time c.in_ok-settle.ensures.in_time) c.publish.ensures.refused
 
 pub returns-clause-kept : goal.returns-clause-kept
 returns-clause-kept g c =

@@ -4,10 +4,10 @@ use Rattle.std.proofs.lemmas.Result.{on_ok_weaker}
 use Rattle.ct_core.specs.Settlement.{Log}
 use Rattle.ct_lines.specs.Frozen.{frozen_text}
 use Rattle.ctlog.specs.Faults.{IsFrozenFault}
-use Rattle.ctlog.specs.Output.{fronts_of, SomeReplies, parties_begun, parties_done}
+use Rattle.ctlog.specs.Output.{fronts_of, IsClosed, SomeReplies, parties_begun, parties_done}
 use Rattle.ctlog.specs.Sends.{SendsSome}
 use Rattle.ctlog.proofs.HouseLemmas.{went_of_house, went_in_order}
-use Rattle.ctlog.proofs.OutputLemmas.{if_err_is, if_err_both, log_closed, writes_all, writes_last}
+use Rattle.ctlog.proofs.OutputLemmas.{if_err_is, if_err_both, writes_all, writes_last}
 use Rattle.ctlog.proofs.program.serve_parties_and_log.Goals as goal
 
 pub close-requires-clause-of_house : goal.close-requires-clause-of_house
@@ -39,8 +39,12 @@ returns-clause-all g c =
     let mid = g.W.Write.contents c.send.new.output in
     let new = g.W.Write.contents c.send_frozen.new.output in
     let first : Appends old mid text = subst (λ (l : List ℕ). Appends old mid l) c.deref.ensures.value c.in_ok-send.ensures.all in
-    let closed = log_closed c.args.operator.sequencer c.in_ok-sequencer.field-0.sequencer c.in_ok-sequencer.field-0.fronts.items c.args.close_at c.in_ok-log.log.accepted c.in_ok-log.log.log
-    c.in_ok-sequencer.ensures.house c.requires.sequences c.in_ok-log.ensures.closes c.in_ok-log.ensures.ends in
+    let closed : IsClosed c.in_ok-sequencer.field-0.sequencer c.in_ok-sequencer.field-0.fronts.items c.args.close_at c.in_ok-log.log.log = record {
+      accepted = c.in_ok-log.log.accepted;
+      final = c.in_ok-log.ensures.closes;
+      in_time = c.in_ok-log.ensures.in_time;
+      ends = c.in_ok-log.ensures.ends;
+    } in
     on_ok_weaker c.send_frozen.result (λ whole. writes_all c.args.operator c.args.parties.items c.args.lines.now c.args.close_at old mid new c.in_ok-sequencer.field-0.sequencer
     c.in_ok-sequencer.field-0.fronts.items text c.in_ok-log.log.log c.in_ok-sequencer.ensures.serves closed first
     (subst (λ (l : Log). Appends mid new (frozen_text l c.args.lines.now)) c.published.ensures whole)) c.send_frozen.ensures.all
@@ -52,8 +56,12 @@ returns-clause-some g c =
     let mid = g.W.Write.contents c.send.new.output in
     let new = g.W.Write.contents c.send_frozen.new.output in
     let first : Appends old mid text = subst (λ (l : List ℕ). Appends old mid l) c.deref.ensures.value c.in_ok-send.ensures.all in
-    let closed = log_closed c.args.operator.sequencer c.in_ok-sequencer.field-0.sequencer c.in_ok-sequencer.field-0.fronts.items c.args.close_at c.in_ok-log.log.accepted c.in_ok-log.log.log
-    c.in_ok-sequencer.ensures.house c.requires.sequences c.in_ok-log.ensures.closes c.in_ok-log.ensures.ends in
+    let closed : IsClosed c.in_ok-sequencer.field-0.sequencer c.in_ok-sequencer.field-0.fronts.items c.args.close_at c.in_ok-log.log.log = record {
+      accepted = c.in_ok-log.log.accepted;
+      final = c.in_ok-log.ensures.closes;
+      in_time = c.in_ok-log.ensures.in_time;
+      ends = c.in_ok-log.ensures.ends;
+    } in
     if_err_both IsFrozenFault _ _ c.send_frozen.result (λ f fault some. writes_last c.args.operator c.args.parties.items c.args.lines.now c.args.close_at old mid new c.in_ok-sequencer.field-0.sequencer
     c.in_ok-sequencer.field-0.fronts.items text c.in_ok-log.log.log f c.in_ok-sequencer.ensures.serves closed first fault
     (subst (λ (l : Log). (written : List ℕ) × SomeReplies l c.args.lines.now written × Appends mid new written) c.published.ensures some)) c.send_frozen.ensures.faults c.send_frozen.ensures.some
