@@ -58,14 +58,14 @@ impl<T: Drop> From<AllocFailed<T>> for Fault {
     }
 }
 
-// What ends the program where the closing is refused.
+// What ends the program where the opening or the closing is refused: by their contracts no other refusal comes.
 impl From<Refusal> for Fault {
     ghost from_gives = { λ refusal f. IsRefusalFault refusal f };
 
     fn from(refusal: Refusal) -> Fault {
         match refusal {
-            Refusal::ClockBack => Fault::ClockBack,
-            _ => Fault::Memory,
+            Refusal::Memory => Fault::Memory,
+            _ => Fault::ClockBack,
         }
     }
 }
