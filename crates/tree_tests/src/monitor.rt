@@ -170,7 +170,7 @@ fn taken_at_last(
     let last = monitor.last_head();
     let count = monitor.leaves().len();
     let mut answer = monitor.observe(next, one_byte_leaves(alloc, &[leaf])?);
-    if answer == Err(MonitorFault::Memory) {
+    if let Err(MonitorFault::Memory) = answer {
         if monitor.last_head() != last || monitor.leaves().len() != count {
             return Ok(false);
         }
