@@ -5,6 +5,7 @@ pub mod PlanLemmas
 pub mod ClosingLemmas
 pub mod TurnLemmas
 pub mod OperatorLemmas
+pub mod FrontLemmas
 pub mod PartyLemmas
 pub mod HouseLemmas
 pub mod OutputLemmas

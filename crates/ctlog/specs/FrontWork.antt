@@ -1,11 +1,11 @@
 -- What a front does for its lines, and what it answers.
-use Rattle.std.specs.Prelude.{◌≡◌, ◌≤◌, ◌⊎◌, ℕ, List, map, Option, Some, None}
+use Rattle.std.specs.Prelude.{◌≡◌, ◌≤◌, ◌⊎◌, ℕ, List, map, Option, Some, None, true}
 use Rattle.ct_codec.specs.Submitted.{Submitted, x509, refusal_of}
 use Rattle.ct_codec.specs.declared.refusal.Refusal.{Refusal}
 use Rattle.ct_codec.specs.declared.refusal.Refusal.TheVariants.{Memory, Late}
 use Rattle.ct_core.specs.Settlement.{Log, Lawful}
 use Rattle.ct_core.specs.Answers.{answer}
-use Rattle.ct_core.specs.Replies.{Answer, a_head, a_ticket, a_reached_size, refused}
+use Rattle.ct_core.specs.Replies.{Answer, a_head, a_ticket, a_reached_size, refused, takes_memory}
 use Rattle.ct_core.specs.declared.query.Query.{Query}
 use Rattle.ct_core.specs.declared.query.Query.TheVariants.{GetSth}
 use Rattle.ct_gate.specs.Ends.{IntakeView, SameIntake}
@@ -31,14 +31,14 @@ SendsUnless None a s r b = Sends a.intake s r b.intake
 abbrev pub Submits : FrontView → List (List ℕ) → Answer → FrontView → Type 0
 Submits a chain r b = SendsUnless (refusal_of (x509 chain)) a (x509 chain) r b
 
--- the defined answer to a query at a lawful published state, or that there was no memory for it
+-- the defined answer to a query at a lawful published state, or that there was no memory for it, where it takes memory
 abbrev pub Shows : Query → Answer → Type 0
-Shows q r = (p : Log) × Lawful p × ((r ≡ refused Memory) ⊎ (r ≡ answer p q))
+Shows q r = (p : Log) × Lawful p × (((r ≡ refused Memory) × (takes_memory (answer p q) ≡ true)) ⊎ (r ≡ answer p q))
 
--- a head of at least this size was shown, and the size is the answer; or the wait was too long, or the head was refused
+-- a head of at least this size was shown, and the size is the answer; or the wait was too long
 abbrev pub Awaits : ℕ → Answer → Type 0
 Awaits n (a_reached_size m) = (m ≡ n) × ((h : Head) × Shows GetSth (a_head h) × (n ≤ h.tree_size))
-Awaits n (refused e) = (e ≡ Late) ⊎ Shows GetSth (refused e)
+Awaits n (refused e) = e ≡ Late
 Awaits n _ = ⊥
 
 -- a front does a task, with this answer

@@ -1,7 +1,7 @@
 //! The lines of a front, done in order.
 
-ghost use Rattle.std.specs.Prelude.{◌≡◌, ◌++◌, map, IfOk, IfErr, OnOk};
-ghost use Rattle.ct_core.specs.Replies.{Answer, a_head, refused};
+ghost use Rattle.std.specs.Prelude.{◌≡◌, ◌++◌, map, IfOk, OnOk, OnErr};
+ghost use Rattle.ct_core.specs.Replies.{Answer, a_head};
 ghost use Rattle.ct_core.specs.declared.query.Query.TheVariants.{GetSth};
 ghost use Rattle.ct_gate.specs.Ends.{SameIntake};
 ghost use Rattle.ct_lines.specs.ReplyText.{answered, reply_line};
@@ -37,11 +37,11 @@ fn ask<R: Wait>(rt: &R, alloc: Global, front: &mut Front, query: &Query) -> Resu
     front.ask(rt, alloc, query)
 }
 
-// The size of the published log.
+// The size of the published log. A head is never refused.
 fn published_size<R: Wait>(rt: &R, alloc: Global, front: &mut Front) -> Result<u64, Refusal>
     ensures same { front.new ≡ front.old }
     ensures size { IfOk result (λ n. (h : Head) × Shows GetSth (a_head h) × (n ≡ h.tree_size)) }
-    ensures refused { IfErr result (λ e. Shows GetSth (refused e)) }
+    ensures refused { OnErr result ⊥ }
 {
     match ask(rt, alloc, front, &Query::GetSth)? {
         Reply::Sth(head) => Ok(head.tree_size),

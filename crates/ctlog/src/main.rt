@@ -33,7 +33,10 @@ use fault::{Fault, report};
 use program::{TURNS, refuse_words, run};
 use std::alloc::{AllocError, Global};
 use std::io;
+use std::io::{Read, Write};
 use std::process::ExitCode;
+use std::sync::Wait;
+use std::thread::Threads;
 
 // The texts of the words, for as long as the words stand.
 fn texts<'a>(alloc: Global, words: &'a [String]) -> Result<Vec<&'a str>, AllocError> {
@@ -49,26 +52,29 @@ fn collected(rt: &HostRuntime) -> io::Result<Vec<String>> {
     Ok(words)
 }
 
+// Runs the program over these words, and answers its exit status.
+fn run_words<H: Threads + Wait + Sync, R: Read, W: Write, E: Write>(
+    rt: &H,
+    alloc: Global,
+    words: &[String],
+    input: &mut R,
+    output: &mut W,
+    faults: &mut E,
+) -> u8 {
+    match texts(alloc, words) {
+        Ok(texts) => run(rt, alloc, &texts, TURNS, input, output, faults),
+        Err(error) => report(Fault::from(error), faults),
+    }
+}
+
 fn main(rt: HostRuntime) -> ExitCode {
     let alloc = rt.alloc();
+    let mut input = rt.reader();
     let mut output = std::io::writer(&rt);
     let mut faults = rt.stderr();
-    let words = match collected(&rt) {
-        Ok(words) => words,
-        Err(error) => return ExitCode::from(refuse_words(alloc, &error, &mut output, &mut faults)),
+    let status = match collected(&rt) {
+        Ok(words) => run_words(&rt, alloc, &words, &mut input, &mut output, &mut faults),
+        Err(error) => refuse_words(alloc, &error, &mut output, &mut faults),
     };
-    let texts = match texts(alloc, &words) {
-        Ok(texts) => texts,
-        Err(error) => return ExitCode::from(report(Fault::from(error), &mut faults)),
-    };
-    let mut input = rt.reader();
-    ExitCode::from(run(
-        &rt,
-        alloc,
-        &texts,
-        TURNS,
-        &mut input,
-        &mut output,
-        &mut faults,
-    ))
+    ExitCode::from(status)
 }
