@@ -157,6 +157,7 @@ impl Core {
     pub fn next(&self, alloc: Global, now: u64) -> Result<Published, Refusal>
         ensures state { IfOk result (λ p. (h : Head) × IsNextHead self.now now h × (p ≡ published_with self.now h)) }
         ensures extends { IfOk result (λ p. Extends self.now.published p) }
+        ensures newer { IfOk result (λ p. length self.now.published.heads < length p.heads) }
         ensures lawful { IfOk result (λ p. Lawful p) }
         ensures in_time { OnOk result (IsInTime self.now now) }
         ensures refused { IfErr result (λ e. e ≡ publish_refusal self.now now) }
