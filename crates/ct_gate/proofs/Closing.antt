@@ -14,13 +14,13 @@ use Rattle.ct_gate.specs.declared.view.SeatView.{SeatView}
 use Rattle.ct_gate.specs.Ends.{IntakeView}
 use Rattle.ct_gate.specs.Seats.{tickets_in, fronts_in}
 use Rattle.ct_gate.specs.Word.{HasTickets, IsSound, IsOpen, IsShut, GateHolds}
-use Rattle.ct_gate.specs.Closing.{both, spent, front_tickets}
+use Rattle.ct_gate.specs.Closing.{gathered, spent, front_tickets}
 use Rattle.ct_gate.proofs.Counts.{off, times-append, times_set, refused_set, each_set, length_once}
 
-fronts_both : (x : ℕ) (v w : SeatView) → times x (fronts_in (both v w)) ≡ times x (fronts_in v) + times x (fronts_in w)
+fronts_both : (x : ℕ) (v w : SeatView) → times x (fronts_in (gathered v w)) ≡ times x (fronts_in v) + times x (fronts_in w)
 fronts_both x v w = ap (λ (l : List ℕ). times x l) (map-append (λ (f : FrontTickets). f.front) v.fronts w.fronts) ∙ times-append x (fronts_in v) (fronts_in w)
 
-tickets_both : (x : ℕ) (v w : SeatView) → times x (tickets_in (both v w)) ≡ times x (tickets_in v) + times x (tickets_in w)
+tickets_both : (x : ℕ) (v w : SeatView) → times x (tickets_in (gathered v w)) ≡ times x (tickets_in v) + times x (tickets_in w)
 tickets_both x v w = ap (λ (l : List ℕ). times x l) (flat_map-append (λ (f : FrontTickets). f.tickets) v.fronts w.fronts) ∙ times-append x (tickets_in v) (tickets_in w)
 
 neither : (a b : Bool) → (a || b) ≡ false → (a ≡ false) × (b ≡ false)
@@ -29,9 +29,9 @@ neither false true e = absurd (true≢false e)
 neither true b e = absurd (true≢false e)
 
 -- A seat takes in the fronts of one that is not the shutter's.
-pub gathers : (fronts id : ℕ) (v : SeatView) (other : ℕ) (w : SeatView) → w.is_shutter ≡ false → Joins (GateHolds fronts) id v other w (both v w) spent
+pub gathers : (fronts id : ℕ) (v : SeatView) (other : ℕ) (w : SeatView) → w.is_shutter ≡ false → Joins (GateHolds fronts) id v other w (gathered v w) spent
 gathers fronts id v other w front s h at apart there =
-    let b = both v w in
+    let b = gathered v w in
     let mine = h.seats id v at in
     let place = ⊎_elim
     (λ (t : (other ≡ id) × (b ≡ w)). absurd (apart t.0))

@@ -1,7 +1,8 @@
 -- What was received, beside what was sent.
-use Rattle.std.proofs.Common.{◌≡◌, ℕ, suc, List, [], ◌∷◌, ◌++◌, length, All, refl, sym, ap, ◌∙◌, subst, arith, length-append, append-nil, append_assoc, IsTrue, nat_eq}
+use Rattle.std.proofs.Common.{◌≡◌, ◌<◌, ℕ, suc, List, [], ◌∷◌, ◌++◌, length, All, refl, sym, ap, ◌∙◌, subst, arith, length-append, append-nil, append_assoc, IsTrue, nat_eq}
 use Rattle.std.proofs.lemmas.Bool.Decides.{nat_tests}
 use Rattle.std.proofs.lemmas.List.{map-append, length-map, nil_from_length}
+use mathlib.Core.List.{IsPrefix}
 use Rattle.ct_codec.specs.declared.item.Item.{Item}
 use Rattle.ct_gate.specs.Ends.{numbered, made_item}
 
@@ -28,3 +29,14 @@ popped before after known left sent x grown first all =
 
 pub is_zero : (n : ℕ) → IsTrue (nat_eq n 0) → n ≡ 0
 is_zero n h = grind (arith, nat_tests)
+
+-- what was in sight, and what is now
+pub still_seen : (n : ℕ) (before after : List Item) → IsPrefix before after → IsPrefix (numbered n before) (numbered n after)
+still_seen n before after (more, e) = (numbered n more, sym (map-append (λ (t : Item). made_item n t.ticket t.submission) before more) ∙ ap (numbered n) e)
+
+pub taken_first : (n : ℕ) (before after : List Item) (x i : Item) → IsPrefix before (x ∷ after) → i ≡ made_item n x.ticket x.submission → IsPrefix (numbered n before) (i ∷ numbered n after)
+taken_first n before after x i first e = subst (λ (y : Item). IsPrefix (numbered n before) (y ∷ numbered n after)) (sym e) (still_seen n before (x ∷ after) first)
+
+pub none_before : (known : List Item) → (0 < length known → ⊥) → known ≡ []
+none_before [] h = refl
+none_before (x ∷ xs) h = absurd (h (omega arith))

@@ -12,7 +12,7 @@ use Rattle.ct_gate.specs.declared.view.SeatView.{SeatView}
 use Rattle.ct_gate.specs.Ends.{IntakeView, OutletView}
 use Rattle.ct_gate.specs.Seats.{EachView, tickets_in, fronts_in, front_view, shutter_view}
 use Rattle.ct_gate.specs.Word.{HasTickets, IsSound, IsOpen, IsShut, GateHolds}
-use Rattle.ct_gate.specs.Opening.{stands_for, new_fronts, all_in_one, rest_of, first_of, without_first, first_alone, IsNewFront, AreNewFronts}
+use Rattle.ct_gate.specs.Opening.{stands_for, new_fronts, all_in_one, rest_of, first_seat, without_first, first_alone, IsNewFront, AreNewFronts}
 use Rattle.ct_gate.proofs.Counts.{off, times-append, times_set, times_snoc, each_set, each_snoc, below_more}
 
 fronts_cut : (x : ℕ) (fs : List FrontTickets)
@@ -38,11 +38,11 @@ tickets_first (f ∷ fs) h = λ k d lt. at k d lt
     at (suc k) d lt = absurd (omega arith)
 
 -- The first front of those that the opener still stands for gets a seat.
-deals : (fronts id : ℕ) (fs : List FrontTickets) → Splits (GateHolds fronts) id (stands_for fs true) (rest_of (stands_for fs true)) (first_of (stands_for fs true))
+deals : (fronts id : ℕ) (fs : List FrontTickets) → Splits (GateHolds fronts) id (stands_for fs true) (rest_of (stands_for fs true)) (first_seat (stands_for fs true))
 deals fronts id fs s h at =
     let v = stands_for fs true in
     let left = rest_of v in
-    let right = first_of v in
+    let right = first_seat v in
     let was = (h.seats id v at).0 in
     let rest : IsSound left = record { tickets = tickets_rest fs was.tickets; refused = omega arith; unknown = λ _. refl; others = λ k. absurd (true≢false k) } in
     let first : IsSound right = record { tickets = tickets_first fs was.tickets; refused = omega arith; unknown = λ _. refl; others = λ _. refl } in
@@ -66,8 +66,8 @@ deals fronts id fs s h at =
           h.phase;
     }
 
-pub deals_as : (fronts id : ℕ) (v : SeatView) (fs : List FrontTickets) → v ≡ stands_for fs true → Splits (GateHolds fronts) id v (rest_of v) (first_of v)
-deals_as fronts id v fs is = subst (λ (v : SeatView). Splits (GateHolds fronts) id v (rest_of v) (first_of v)) (sym is) (deals fronts id fs)
+pub deals_as : (fronts id : ℕ) (v : SeatView) (fs : List FrontTickets) → v ≡ stands_for fs true → Splits (GateHolds fronts) id v (rest_of v) (first_seat v)
+deals_as fronts id v fs is = subst (λ (v : SeatView). Splits (GateHolds fronts) id v (rest_of v) (first_seat v)) (sym is) (deals fronts id fs)
 
 below_at : (x m n : ℕ) → m ≡ n → ◌≡◌ {A = ℕ} (if nat_lt x m then 1 else 0) (if nat_lt x n then 1 else 0)
 below_at x m n e = ap (λ (k : ℕ). if nat_lt x k then 1 else 0) e
@@ -118,8 +118,8 @@ pub rest_left : (k n : ℕ) (m : Me (Unit {0}) SeatView) → k < n → m ≡ (st
     → ◌≡◌ {A = Me (Unit {0}) SeatView} (rest_of m.0, m.1) (stands_for (new_fronts (k + 1) (n - (k + 1))) true, [])
 rest_left k n m lt is = ap (λ (m : Me (Unit {0}) SeatView). (rest_of m.0, m.1)) is ∙ ap (λ (fs : List FrontTickets). (rest_of (stands_for fs true), [])) (next_front k n lt)
 
-pub first_given : (k n : ℕ) (m : Me (Unit {0}) SeatView) → k < n → m ≡ (stands_for (new_fronts k (n - k)) true, []) → ◌≡◌ {A = Me (Unit {0}) SeatView} (first_of m.0, []) (front_view k [] false 0, [])
-first_given k n m lt is = ap (λ (m : Me (Unit {0}) SeatView). (first_of m.0, [])) is ∙ ap (λ (fs : List FrontTickets). (first_of (stands_for fs true), [])) (next_front k n lt)
+pub first_given : (k n : ℕ) (m : Me (Unit {0}) SeatView) → k < n → m ≡ (stands_for (new_fronts k (n - k)) true, []) → ◌≡◌ {A = Me (Unit {0}) SeatView} (first_seat m.0, []) (front_view k [] false 0, [])
+first_given k n m lt is = ap (λ (m : Me (Unit {0}) SeatView). (first_seat m.0, [])) is ∙ ap (λ (fs : List FrontTickets). (first_seat (stands_for fs true), [])) (next_front k n lt)
 
 pub no_front_left : (n : ℕ) (m : Me (Unit {0}) SeatView) → m ≡ (stands_for (new_fronts n (n - n)) true, []) → m ≡ (shutter_view None, [])
 no_front_left n m is = let e : n - n ≡ 0 = omega arith in is ∙ ap (λ (j : ℕ). (stands_for (new_fronts n j) true, [])) e

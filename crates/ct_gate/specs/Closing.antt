@@ -6,9 +6,9 @@ use Rattle.ct_gate.specs.declared.view.SeatView.{SeatView}
 use Rattle.ct_gate.specs.Ends.{IntakeView}
 use Rattle.ct_gate.specs.Opening.{stands_for}
 
--- the fronts of both, and the first one's place as shutter
-abbrev pub both : SeatView → SeatView → SeatView
-both v w =
+-- the fronts of gathered, and the first one's place as shutter
+abbrev pub gathered : SeatView → SeatView → SeatView
+gathered v w =
     record { fronts = v.fronts ++ w.fronts; knows_shutdown = v.knows_shutdown || w.knows_shutdown; refused = v.refused + w.refused; is_shutter = v.is_shutter; accepted = v.accepted }
 
 -- what is left of a seat that was taken in

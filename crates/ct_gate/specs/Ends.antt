@@ -11,7 +11,8 @@ pub record ShutterView : Type 0 where
   pub fronts : ℕ
   pub accepted : Option ℕ
 
--- Of an intake: its gate, its front's number, its ring, the ring's places, the items accepted so far, and whether the shutdown is known.
+-- Of an intake: its gate, its front's number, its ring, the ring's places, the items accepted so far, whether the shutdown is known, and
+-- how many places of the ring it knows to be free.
 pub record IntakeView : Type 0 where
   pub gate : TableId
   pub number : ℕ
@@ -19,12 +20,14 @@ pub record IntakeView : Type 0 where
   pub places : ℕ
   pub accepted : List Item
   pub knows_shutdown : Bool
+  pub free : ℕ
 
--- Of an outlet: its front's number, its ring, and the items received so far.
+-- Of an outlet: its front's number, its ring, the items received so far, and those that it has seen in the ring and not yet taken.
 pub record OutletView : Type 0 where
   pub number : ℕ
   pub ring : RingName
   pub received : List Item
+  pub in_sight : List Item
 
 -- the item of a submission, with its front's number and its ticket
 abbrev pub made_item : ℕ → ℕ → Submitted → Item

@@ -31,16 +31,17 @@ abbrev pub rest_of : SeatView → SeatView
 rest_of v = record { fronts = without_first v.fronts; knows_shutdown = v.knows_shutdown; refused = v.refused; is_shutter = v.is_shutter; accepted = v.accepted }
 
 -- the view of its first front
-abbrev pub first_of : SeatView → SeatView
-first_of v = record { fronts = first_alone v.fronts; knows_shutdown = v.knows_shutdown; refused = 0; is_shutter = false; accepted = None }
+abbrev pub first_seat : SeatView → SeatView
+first_seat v = record { fronts = first_alone v.fronts; knows_shutdown = v.knows_shutdown; refused = 0; is_shutter = false; accepted = None }
 
--- The ends of the k-th front of a new gate, of one ring with so many places, through which nothing has gone.
+-- The ends of the k-th front of a new gate, of one ring with so many places, all known to be free, through which nothing has gone.
 pub record IsNewFront (of_gate : TableId) (with_places k : ℕ) (i : IntakeView) (o : OutletView) : Type 0 where
   pub gate : i.gate ≡ of_gate
   pub number : i.number ≡ k
   pub places : i.places ≡ with_places
   pub accepted : i.accepted ≡ []
   pub knows_shutdown : i.knows_shutdown ≡ false
+  pub free : i.free ≡ with_places
   pub ends : AreEnds i o
   pub received : o.received ≡ []
 

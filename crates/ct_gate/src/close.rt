@@ -51,6 +51,7 @@ fn give_up(table: &Arc<Gate>, seat: &mut Place, intake: Intake)
         producer: _,
         number: _,
         tickets: _,
+        room: _,
         knows_shutdown: _,
     } = intake;
     table.shared.join_seat::<Gather>(seat, place);

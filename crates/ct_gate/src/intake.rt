@@ -1,6 +1,6 @@
 //! A front's end of the gate, which accepts submissions.
 
-ghost use Rattle.std.specs.Prelude.{◌≡◌, true, MatchResult};
+ghost use Rattle.std.specs.Prelude.{◌≡◌, ◌<◌, ◌≤◌, true, MatchBool, MatchResult};
 ghost use Rattle.ct_gate.specs.Ends.{SameIntake};
 ghost use Rattle.ct_gate.specs.Sending.{Accepts, Refuses};
 
@@ -16,7 +16,7 @@ const MOST: u64 = 1 << 32;
 /// Accepts the submissions of one front. It can move to a thread of its own.
 ///
 /// Contracts see its gate, its front's number, its ring and the ring's places, the items accepted so far,
-/// and whether it knows of the shutdown.
+/// whether it knows of the shutdown, and how many places of the ring it knows to be free.
 #[derive(Drop)]
 pub struct Intake {
     pub(crate) table: Arc<Gate>,
@@ -24,6 +24,8 @@ pub struct Intake {
     pub(crate) producer: Producer<Item>,
     pub(crate) number: u16,
     pub(crate) tickets: u64,
+    // How many places were free at the last look at the ring, less those filled since.
+    pub(crate) room: usize,
     pub(crate) knows_shutdown: bool,
 }
 
@@ -45,16 +47,19 @@ impl Model for Intake {
       places = producer_capacity i.producer;
       accepted = sent i.producer;
       knows_shutdown = i.knows_shutdown;
+      free = i.room;
     } };
 
     // The seat is of the table. Its view has the front's number and, in order, the tickets of the items that were
-    // pushed. As many were pushed as the ring has places, or a free place is known.
+    // pushed. The places that are counted as free are free. As many items were pushed as the ring has places, or a place
+    // is free.
     ghost invariant = { λ i.
         (i.seat.table_id ≡ (arc_value i.table).shared.table_id) × (i.seat.table_id.words ≡ 1)
         × (i.seat.me ≡ (front_view i.number (tickets_of (sent i.producer)) i.knows_shutdown i.seat.me.0.refused, []))
         × (i.tickets ≡ length (sent i.producer)) × (i.tickets ≤ 2 ^ 32)
         × All (λ t. t.front ≡ i.number) (sent i.producer)
-        × (producer_capacity i.producer ≤ known_free i.producer + length (sent i.producer)) };
+        × (i.room ≤ known_free i.producer)
+        × (producer_capacity i.producer ≤ i.room + length (sent i.producer)) };
 }
 
 impl Intake {
@@ -67,7 +72,8 @@ impl Intake {
 
     // One glance at the word, unless the shutdown is known.
     fn is_shut(&mut self) -> bool
-        ensures same { SameIntake self.old self.new × (self.new.accepted ≡ self.old.accepted) }
+        ensures same { SameIntake self.old self.new × (self.new.accepted ≡ self.old.accepted)
+            × (self.new.free ≡ self.old.free) }
         ensures knows_shutdown { (result ≡ self.new.knows_shutdown)
             × (self.old.knows_shutdown ≡ true → self.new.knows_shutdown ≡ true) }
     {
@@ -78,12 +84,25 @@ impl Intake {
         self.knows_shutdown
     }
 
+    // Whether there is room in the ring. Where none is known, it looks once.
+    fn has_room(&mut self) -> bool
+        ensures same { SameIntake self.old self.new × (self.new.accepted ≡ self.old.accepted)
+            × (self.new.knows_shutdown ≡ self.old.knows_shutdown) }
+        ensures free { MatchBool result (0 < self.new.free) ((self.old.free ≡ 0) × (self.new.free ≡ 0)) }
+        ensures kept { self.old.free ≤ self.new.free }
+    {
+        if self.room == 0 {
+            self.room = self.producer.slots();
+        }
+        self.room > 0
+    }
+
     /// Accepts a submission and answers its ticket, or hands it back with the reason. It takes no memory and waits
     /// for nobody.
     ///
     /// The refusals, in order: `Shutdown` where a glance at the gate word, or an earlier refused draw, showed the
     /// shutdown; `FrontSpent` where 2^32 submissions of this front were accepted; `Full` where no free place of the
-    /// ring is known. Then one draw is made, which is `Shutdown` too where the gate was shut in between.
+    /// ring was known and one look showed none. Then one draw is made, which is `Shutdown` too where the gate was shut in between.
     pub fn send(&mut self, submission: Submission) -> Result<u64, (Refusal, Submission)>
         ensures same { SameIntake self.old self.new }
         ensures shutdown { self.old.knows_shutdown ≡ true → self.new.knows_shutdown ≡ true }
@@ -98,7 +117,7 @@ impl Intake {
         if self.tickets == MOST {
             return Err((Refusal::FrontSpent, submission));
         }
-        if self.producer.is_full() {
+        if !self.has_room() {
             return Err((Refusal::Full, submission));
         }
         let ticket = self.table.shared.fetch_add::<Draw>(&mut self.seat, 0, 1);
@@ -107,6 +126,7 @@ impl Intake {
             return Err((Refusal::Shutdown, submission));
         }
         self.tickets += 1;
+        self.room -= 1;
         self.producer.push_reserved(Item {
             front: self.number,
             ticket,

@@ -73,6 +73,7 @@ fn new_front(
         producer,
         number,
         tickets: 0,
+        room: ring,
         knows_shutdown: false,
     };
     Ok((intake, Outlet { consumer, number }))

@@ -11,7 +11,8 @@ use std::marker::Model;
 
 /// Takes out the accepted submissions of one front, in order. It can move to a thread of its own.
 ///
-/// Contracts see its front's number, its ring, and the items received so far.
+/// Contracts see its front's number, its ring, the items received so far, and those that it has seen in the ring
+/// and not yet taken.
 #[derive(Drop)]
 pub struct Outlet {
     pub(crate) consumer: Consumer<Item>,
@@ -19,7 +20,7 @@ pub struct Outlet {
 }
 
 impl Model for Outlet {
-    ghost use Rattle.rtrb.specs.Ring.{received as taken};
+    ghost use Rattle.rtrb.specs.Ring.{received as taken, known_items};
     ghost use Rattle.ct_gate.specs.Ring.{consumer_ring};
     ghost use Rattle.ct_gate.specs.Ends.{OutletView, numbered};
 
@@ -29,18 +30,23 @@ impl Model for Outlet {
       number = o.number;
       ring = consumer_ring o.consumer;
       received = numbered o.number (taken o.consumer);
+      in_sight = numbered o.number (known_items o.consumer);
     } };
 }
 
 impl Outlet {
     /// The next item of the front, where one is seen. It takes no memory and waits for nobody.
     ///
-    /// `None` says nothing of what the front has sent: an item may come into sight later.
+    /// `None` where no item was in sight and one look into the ring showed none. It says nothing of what the front has
+    /// sent: an item may come into sight later.
     pub fn take(&mut self) -> Option<Item>
         ensures same { SameOutlet self.old self.new }
         ensures next { MatchOption result
             (self.new.received ≡ self.old.received)
             (λ i. self.new.received ≡ self.old.received ++ i ∷ []) }
+        ensures in_sight { MatchOption result
+            ((self.old.in_sight ≡ []) × (self.new.in_sight ≡ []))
+            (λ i. IsPrefix self.old.in_sight (i ∷ self.new.in_sight)) }
         ensures numbered { IfSome result (λ i. i.front ≡ self.old.number) }
     {
         match self.consumer.pop() {
@@ -71,7 +77,9 @@ impl Outlet {
     /// Whether all that was accepted has been received. It takes nothing out, and no memory.
     pub fn is_drained(&mut self, intake: &mut Intake) -> bool
         requires { AreEnds intake.old self.old }
-        ensures same { (self.new ≡ self.old) × (intake.new ≡ intake.old) }
+        ensures same { SameOutlet self.old self.new × (intake.new ≡ intake.old) }
+        ensures received { self.new.received ≡ self.old.received }
+        ensures in_sight { IsPrefix self.old.in_sight self.new.in_sight }
         ensures answer { IsTrue result ↔ (self.old.received ≡ intake.old.accepted) }
     {
         self.consumer.slots_beside(&mut intake.producer) == 0

@@ -56,20 +56,20 @@ impl Play<(), SeatView> for Shut {
 pub struct Deal;
 
 impl Split<SeatView> for Deal {
-    ghost use Rattle.ct_gate.specs.Opening.{rest_of, first_of};
+    ghost use Rattle.ct_gate.specs.Opening.{rest_of, first_seat};
 
     ghost left = { rest_of };
 
-    ghost right = { first_of };
+    ghost right = { first_seat };
 }
 
 /// A view takes in another's fronts.
 pub struct Gather;
 
 impl Join<SeatView> for Gather {
-    ghost use Rattle.ct_gate.specs.Closing.{both, spent};
+    ghost use Rattle.ct_gate.specs.Closing.{gathered, spent};
 
-    ghost both = { both };
+    ghost both = { gathered };
 
     ghost spent = { spent };
 }

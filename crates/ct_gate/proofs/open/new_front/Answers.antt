@@ -36,5 +36,6 @@ invariant_of-intake c =
       ap length (sym nothing),
       omega arith,
       (λ k d lt. absurd (omega (arith, ap length nothing))),
-      omega (arith, p.1, p.2),
+      omega (arith, p.1),
+      omega (arith, p.2),
     )

@@ -9,11 +9,14 @@ use Rattle.ct_gate.proofs.intake.Intake.send.Goals as goal
 
 pub fetch_add-ticket-requires : goal.fetch_add-ticket-requires
 fetch_add-ticket-requires c =
-    let i = c.self.invariant in
-    let f = c.self.inside in
+    let i = c.self-2.invariant in
+    let f = c.self-2.inside in
     let ts = tickets_of (sent f.producer) in
-    let unknown : f.knows_shutdown ≡ false = ap (λ v. v.knows_shutdown) c.self.view_is ∙ sym c.is_shut.ensures.knows_shutdown.0 ∙ c.if-is_shut.false in
-    let few : length ts < 2 ^ 32 = omega (arith, length-map (sent f.producer) (λ (t : Item). t.ticket)) in
+    let kept = c.has_room.ensures.same in
+    let unknown : f.knows_shutdown ≡ false = ap (λ v. v.knows_shutdown) c.self-2.view_is ∙ kept.2 ∙ sym c.is_shut.ensures.knows_shutdown.0 ∙ c.if-is_shut.false in
+    let sent_now = ap (λ v. length v.accepted) c.self-2.view_is in
+    let sent_then = ap (λ v. length v.accepted) c.self.view_is in
+    let few : length ts < 2 ^ 32 = omega (arith, length-map (sent f.producer) (λ (t : Item). t.ticket), sent_now, ap length kept.1, sent_then) in
     let table = i.0 ∙ ap (λ t. t.shared.table_id) (sym c.deref.ensures) in
     let one : c.deref.result.now.shared.table_id.words ≡ 1 = ap (λ z. z.words) (sym table) ∙ i.1 in (
       table,
