@@ -24,7 +24,7 @@ fn is_size(log: &Published, size: u64) -> bool
     ensures size { result ≡ is_size log.now size }
     ensures within { OnTrue result (size ≤ length log.now.entries) }
 {
-    // Its contract tells the prover that the sizes of the heads rise to that of the last one.
+    // The clause `lawful` of this call tells the prover that no head has a size past the entries.
     let _ = log.last_head();
     log.heads().iter().any(|h| h.tree_size == size)
 }

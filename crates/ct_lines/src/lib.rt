@@ -2,8 +2,8 @@
 //!
 //! - `read_line` answers the `Request` that a line is, or `BadLine` exactly where it is none.
 //! - `reply_text` answers the text of a `Reply` or of a refusal, with the end of the line.
-//! - `serve_frozen` reads request lines from a reader, and writes the replies of a closed log to a writer. `write_whole` writes bytes, for
-//!   it and for the program.
+//! - `serve_frozen` reads request lines from a reader, and writes the replies of a closed log to a writer. `write_whole` writes bytes,
+//!   for the program.
 //!
 //! What a line asks and how a reply is written are defined in `specs/`, over `serde_json`'s own words for the value
 //! of a text and the text of a value, and over `base64`'s strict decoding and encoding: `Fields` says what stands

@@ -1,6 +1,6 @@
-use crate::settled_log::{asked, opened, publish, settle};
-use ct_codec::Refusal;
-use ct_core::{Core, Query, Reply, ShownEntry};
+use crate::settled_log::{asked, opened, publish, receipt, settle};
+use ct_codec::{Refusal, decode_chain, decode_leaf};
+use ct_core::{Core, Query, Reply, ShownEntry, shown_entries_are_read};
 use std::test::Fail;
 
 // The hashes of five leaves by Python's hashlib: the certificates 41 and 42 at the moment 1, and 43 to 45 at 2. The
@@ -108,6 +108,9 @@ fn an_entry_with_its_path_in_an_older_tree(rt: HostRuntime) -> Result<(), Fail> 
     };
     assert!(rt; is_leaf_0(&entry));
     assert!(rt; audit_path.as_slice() == [LEAF_1].as_slice());
+    shown_entries_are_read();
+    assert_eq!(rt; decode_leaf(rt.alloc(), &entry.leaf_input)?.timestamp, 1);
+    assert_eq!(rt; decode_chain(rt.alloc(), &entry.extra_data)?.len(), 0);
     Ok(())
 }
 
@@ -155,15 +158,13 @@ fn refusals_in_their_order(rt: HostRuntime) -> Result<(), Fail> {
     Ok(())
 }
 
-// A core with 300 published entries, of the certificates 00 00 to 01 2b.
-fn three_hundred(rt: &HostRuntime) -> Result<Core, Fail> {
-    let mut core = opened(rt, 0)?;
-    for number in 0..300u16 {
-        let certificate = number.to_be_bytes();
-        settle(rt, &mut core, (0, u64::from(number)), &certificate, 1)?;
+// Settles so many certificates of two bytes, from 00 00 on, at the moment 1. The first of them has this ticket.
+fn count_up(rt: &HostRuntime, core: &mut Core, ticket: u64, count: u16) -> Result<(), Refusal> {
+    for number in 0..count {
+        let by = (0, ticket.saturating_add(u64::from(number)));
+        settle(rt, core, by, &number.to_be_bytes(), 1)?;
     }
-    publish(rt, &mut core, 1)?;
-    Ok(core)
+    Ok(())
 }
 
 // The number that is the certificate of an entry, which has two bytes.
@@ -195,15 +196,33 @@ fn window(
 
 #[test]
 fn at_most_256_entries(rt: HostRuntime) -> Result<(), Fail> {
-    let core = three_hundred(&rt)?;
-    assert_eq!(rt; window(&rt, &core, 0, 999), Ok((256, Some(0), Some(255))));
-    assert_eq!(rt; window(&rt, &core, 10, 11), Ok((2, Some(10), Some(11))));
-    assert_eq!(rt;
-        window(&rt, &core, 200, u64::MAX),
-        Ok((100, Some(200), Some(299)))
-    );
-    assert_eq!(rt; window(&rt, &core, 299, 299), Ok((1, Some(299), Some(299))));
-    assert_eq!(rt; window(&rt, &core, 300, 300), Err(Refusal::BadRange));
-    assert_eq!(rt; window(&rt, &core, 2, 1), Err(Refusal::BadRange));
+    let mut core = opened(&rt, 0)?;
+    count_up(&rt, &mut core, 0, 300)?;
+    publish(&rt, &mut core, 1)?;
+    for (start, end, shown) in [
+        (0, 999, Ok((256, Some(0), Some(255)))),
+        (10, 11, Ok((2, Some(10), Some(11)))),
+        (200, u64::MAX, Ok((100, Some(200), Some(299)))),
+        (299, 299, Ok((1, Some(299), Some(299)))),
+        (300, 300, Err(Refusal::BadRange)),
+        (2, 1, Err(Refusal::BadRange)),
+    ] {
+        assert_eq!(rt; window(&rt, &core, start, end), shown);
+    }
+    Ok(())
+}
+
+// Of 5,000 items the last 1,000 are repeats of the first ones.
+#[test]
+fn five_thousand_records_before_a_head(rt: HostRuntime) -> Result<(), Fail> {
+    let mut core = opened(&rt, 0)?;
+    count_up(&rt, &mut core, 0, 4000)?;
+    count_up(&rt, &mut core, 4000, 1000)?;
+    publish(&rt, &mut core, 1)?;
+    for (ticket, index) in [(0, 0), (3999, 3999), (4000, 0), (4999, 999)] {
+        assert_eq!(rt; receipt(&rt, &core, ticket), Ok(Some((index, 1))));
+    }
+    let shown = window(&rt, &core, 3990, 4999);
+    assert_eq!(rt; shown, Ok((10, Some(3990), Some(3999))));
     Ok(())
 }

@@ -1,7 +1,6 @@
 use crate::settled_log::{opened, publish, receipt, record, settle, settle_submission};
 use ct_codec::{Refusal, Submission, extra_data, identity};
 use ct_core::{Core, LeafTable, Published};
-use ct_tree::Head;
 use std::sync::Arc;
 use std::test::Fail;
 
@@ -16,32 +15,6 @@ const ROOT_OF_A_AND_B: [u8; 32] = [
     0xc3, 0xdc, 0x96, 0x3b, 0x75, 0xd4, 0x7f, 0x64, 0xbe, 0xbe, 0x67, 0x27, 0x3e, 0xdf, 0x4e, 0xcb,
 ];
 
-#[test]
-fn a_repeat_has_the_first_ones_leaf(rt: HostRuntime) -> Result<(), Fail> {
-    let mut core = opened(&rt, 0)?;
-    assert_eq!(rt;
-        settle(&rt, &mut core, (0, 0), b"A", 10),
-        record(0, 0, 0, true)
-    );
-    assert_eq!(rt;
-        settle(&rt, &mut core, (0, 1), b"B", 10),
-        record(0, 1, 1, true)
-    );
-    assert_eq!(rt;
-        settle(&rt, &mut core, (0, 2), b"A", 10),
-        record(0, 2, 0, false)
-    );
-    assert_eq!(rt; receipt(&rt, &core, 2), Err(Refusal::NotYet));
-    let head = Head {
-        tree_size: 2,
-        timestamp: 10,
-        root: ROOT_OF_A_AND_B,
-    };
-    assert_eq!(rt; publish(&rt, &mut core, 10), Ok(head));
-    assert_eq!(rt; receipt(&rt, &core, 2), Ok(Some((0, 10))));
-    Ok(())
-}
-
 // A core that has settled the certificates A, B and A again at the moment 10, and published a head of them.
 fn repeated(rt: &HostRuntime) -> Result<Core, Fail> {
     let mut core = opened(rt, 0)?;
@@ -52,21 +25,80 @@ fn repeated(rt: &HostRuntime) -> Result<Core, Fail> {
     Ok(core)
 }
 
+// A step of a core, and what it has to answer.
+#[derive(Clone, Copy)]
+enum Step {
+    // A front's ticket, a certificate of one byte and a moment; the index, and whether it is the first with its leaf.
+    Settles(u16, u64, u8, u64, Result<(u64, bool), Refusal>),
+    // A moment; the size of the head.
+    Publishes(u64, Result<u64, Refusal>),
+    // A ticket; where it settled, and its leaf's timestamp.
+    Receipt(u64, Result<(u64, u64), Refusal>),
+}
+
+// Whether a core answers a step so.
+fn answers(rt: &HostRuntime, core: &mut Core, step: &Step) -> bool {
+    match *step {
+        Step::Settles(front, ticket, byte, now, wanted) => {
+            let answer = settle(rt, core, (front, ticket), &[byte], now);
+            match wanted {
+                Ok((index, first)) => answer == record(front, ticket, index, first),
+                Err(refusal) => answer == Err(refusal),
+            }
+        }
+        Step::Publishes(now, wanted) => match publish(rt, core, now) {
+            Ok(head) => head.timestamp == now && wanted == Ok(head.tree_size),
+            Err(refusal) => wanted == Err(refusal),
+        },
+        Step::Receipt(ticket, wanted) => match receipt(rt, core, ticket) {
+            Ok(Some(place)) => wanted == Ok(place),
+            Ok(None) => false,
+            Err(refusal) => wanted == Err(refusal),
+        },
+    }
+}
+
+// The number of the first step that a core answers otherwise.
+fn first_other(rt: &HostRuntime, core: &mut Core, steps: &[Step]) -> Option<usize> {
+    for number in 0..steps.len() {
+        if !answers(rt, core, &steps[number]) {
+            return Some(number);
+        }
+    }
+    None
+}
+
+#[test]
+fn a_repeat_has_the_first_ones_leaf(rt: HostRuntime) -> Result<(), Fail> {
+    let mut core = opened(&rt, 0)?;
+    let steps = [
+        Step::Settles(0, 0, b'A', 10, Ok((0, true))),
+        Step::Settles(0, 1, b'B', 10, Ok((1, true))),
+        Step::Settles(0, 2, b'A', 10, Ok((0, false))),
+        Step::Receipt(2, Err(Refusal::NotYet)),
+        Step::Publishes(10, Ok(2)),
+        Step::Receipt(2, Ok((0, 10))),
+    ];
+    assert_eq!(rt; first_other(&rt, &mut core, &steps), None);
+    assert!(rt; core.published().last_head().root == ROOT_OF_A_AND_B);
+    Ok(())
+}
+
 #[test]
 fn two_fronts_with_one_certificate(rt: HostRuntime) -> Result<(), Fail> {
     let mut core = opened(&rt, 0)?;
-    assert_eq!(rt;
-        settle(&rt, &mut core, (1, 1), b"A", 5),
-        record(1, 1, 0, true)
-    );
-    assert_eq!(rt;
-        settle(&rt, &mut core, (0, 0), b"A", 6),
-        record(0, 0, 0, false)
-    );
+    let steps = [
+        Step::Settles(1, 1, b'A', 5, Ok((0, true))),
+        Step::Settles(0, 0, b'A', 6, Ok((0, false))),
+    ];
+    assert_eq!(rt; first_other(&rt, &mut core, &steps), None);
     assert_eq!(rt; core.clock(), 5);
-    assert_eq!(rt; receipt(&rt, &core, 0), Err(Refusal::NotYet));
-    assert_eq!(rt; publish(&rt, &mut core, 6).map(|h| h.tree_size), Ok(1));
-    assert_eq!(rt; receipt(&rt, &core, 0), Ok(Some((0, 5))));
+    let steps = [
+        Step::Receipt(0, Err(Refusal::NotYet)),
+        Step::Publishes(6, Ok(1)),
+        Step::Receipt(0, Ok((0, 5))),
+    ];
+    assert_eq!(rt; first_other(&rt, &mut core, &steps), None);
     Ok(())
 }
 
@@ -74,37 +106,32 @@ fn two_fronts_with_one_certificate(rt: HostRuntime) -> Result<(), Fail> {
 fn settling_goes_on_behind_a_publication(rt: HostRuntime) -> Result<(), Fail> {
     let mut core = repeated(&rt)?;
     assert!(rt; core.is_covered());
-    assert_eq!(rt;
-        settle(&rt, &mut core, (0, 3), b"B", 11),
-        record(0, 3, 1, false)
-    );
+    let steps = [Step::Settles(0, 3, b'B', 11, Ok((1, false)))];
+    assert_eq!(rt; first_other(&rt, &mut core, &steps), None);
     assert!(rt; !core.is_covered());
-    assert_eq!(rt;
-        settle(&rt, &mut core, (1, 4), b"C", 11),
-        record(1, 4, 2, true)
-    );
-    assert_eq!(rt; publish(&rt, &mut core, 11).map(|h| h.tree_size), Ok(3));
-    assert_eq!(rt; receipt(&rt, &core, 3), Ok(Some((1, 10))));
-    assert_eq!(rt; receipt(&rt, &core, 4), Ok(Some((2, 11))));
+    let steps = [
+        Step::Settles(1, 4, b'C', 11, Ok((2, true))),
+        Step::Publishes(11, Ok(3)),
+        Step::Receipt(3, Ok((1, 10))),
+        Step::Receipt(4, Ok((2, 11))),
+    ];
+    assert_eq!(rt; first_other(&rt, &mut core, &steps), None);
     Ok(())
 }
 
 #[test]
 fn moments_that_the_clock_refuses(rt: HostRuntime) -> Result<(), Fail> {
     let mut core = opened(&rt, 5)?;
-    assert_eq!(rt; publish(&rt, &mut core, 5), Err(Refusal::ClockBack));
-    assert_eq!(rt;
-        settle(&rt, &mut core, (0, 0), b"A", 8),
-        record(0, 0, 0, true)
-    );
-    assert_eq!(rt; publish(&rt, &mut core, 7), Err(Refusal::ClockBack));
-    assert_eq!(rt; publish(&rt, &mut core, 8).map(|h| h.tree_size), Ok(1));
-    assert_eq!(rt;
-        settle(&rt, &mut core, (0, 1), b"B", 7),
-        Err(Refusal::ClockBack)
-    );
-    assert_eq!(rt; publish(&rt, &mut core, 8), Err(Refusal::ClockBack));
-    assert_eq!(rt; publish(&rt, &mut core, 9).map(|h| h.tree_size), Ok(1));
+    let steps = [
+        Step::Publishes(5, Err(Refusal::ClockBack)),
+        Step::Settles(0, 0, b'A', 8, Ok((0, true))),
+        Step::Publishes(7, Err(Refusal::ClockBack)),
+        Step::Publishes(8, Ok(1)),
+        Step::Settles(0, 1, b'B', 7, Err(Refusal::ClockBack)),
+        Step::Publishes(8, Err(Refusal::ClockBack)),
+        Step::Publishes(9, Ok(1)),
+    ];
+    assert_eq!(rt; first_other(&rt, &mut core, &steps), None);
     Ok(())
 }
 

@@ -34,83 +34,138 @@ const BAD_LINE: &[u8] = b"{\"error\":\"bad-line\"}\n";
 const THREE_BAD_LINES: &[u8] =
     b"{\"error\":\"bad-line\"}\n{\"error\":\"bad-line\"}\n{\"error\":\"bad-line\"}\n";
 
+// What logs write for their input. Each row has how often the certificate was settled and when, when the log was closed,
+// the lines, and the replies: a head; receipts of a repeat and of no ticket; an entry and an audit of its proof; audits at
+// another index, of another leaf, at a size that no head has, and at size 0; no line, and lines that are not of the log.
 #[test]
-fn the_head_of_an_empty_log(rt: HostRuntime) -> Result<(), Fail> {
-    let log = closed_log(&rt, 0, 0, 7)?;
-    assert!(rt; writes(&rt, log.published(), GET_STH, EMPTY_HEAD));
+fn what_the_frozen_log_writes(rt: HostRuntime) -> Result<(), Fail> {
+    let rows: [(u64, u64, u64, &[u8], &[u8]); 8] = [
+        (0, 0, 7, GET_STH, EMPTY_HEAD),
+        (
+            2,
+            3,
+            9,
+            b"{\"who\":\"frozen\",\"op\":\"receipt\",\"ticket\":1}\n{\"who\":\"frozen\",\"op\":\"receipt\",\"ticket\":2}\n",
+            b"{\"extensions\":\"\",\"leaf_index\":0,\"sct_version\":0,\"timestamp\":3}\n{\"error\":\"not-yet\"}\n",
+        ),
+        (
+            1,
+            1,
+            9,
+            b"{\"who\":\"frozen\",\"op\":\"get-entry-and-proof\",\"leaf_index\":0,\"tree_size\":1}\n{\"who\":\"frozen\",\"op\":\"audit\",\"leaf_input\":\"AAAAAAAAAAAAAQAAAAABQQAA\",\"leaf_index\":0,\"tree_size\":1,\"audit_path\":[]}\n",
+            b"{\"audit_path\":[],\"extra_data\":\"AAAA\",\"leaf_input\":\"AAAAAAAAAAAAAQAAAAABQQAA\"}\n{\"verdict\":\"holds\"}\n",
+        ),
+        (
+            1,
+            1,
+            9,
+            b"{\"who\":\"frozen\",\"op\":\"audit\",\"leaf_input\":\"AAAAAAAAAAAAAQAAAAABQQAA\",\"leaf_index\":1,\"tree_size\":1,\"audit_path\":[]}\n{\"who\":\"frozen\",\"op\":\"audit\",\"leaf_input\":\"AAAAAAAAAAAAAQAAAAABQgAA\",\"leaf_index\":0,\"tree_size\":1,\"audit_path\":[]}\n{\"who\":\"frozen\",\"op\":\"audit\",\"leaf_input\":\"AAAAAAAAAAAAAQAAAAABQQAA\",\"leaf_index\":0,\"tree_size\":2,\"audit_path\":[]}\n{\"who\":\"frozen\",\"op\":\"audit\",\"leaf_input\":\"AAAAAAAAAAAAAQAAAAABQQAA\",\"leaf_index\":0,\"tree_size\":0,\"audit_path\":[]}\n",
+            b"{\"verdict\":\"refused\"}\n{\"verdict\":\"refused\"}\n{\"error\":\"unknown-size\"}\n{\"verdict\":\"refused\"}\n",
+        ),
+        (0, 0, 9, b"", b""),
+        (0, 0, 9, b"\n", b""),
+        (
+            0,
+            0,
+            9,
+            b"{}\n\n{\"who\":1,\"op\":\"get-sth\"}\n{\"who\":\"operator\",\"op\":\"publish\",\"now\":-1}",
+            THREE_BAD_LINES,
+        ),
+        (
+            0,
+            0,
+            9,
+            b"\n\r\n \n{\"who\":\"operator\",\"op\":\"shutdown\"}\n\n",
+            THREE_BAD_LINES,
+        ),
+    ];
+    for (count, now, close_at, lines, replies) in rows {
+        let log = closed_log(&rt, count, now, close_at)?;
+        assert!(rt; writes(&rt, log.published(), lines, replies));
+    }
     Ok(())
 }
 
+// Each refusal of the frozen log, with a question that is answered behind it.
 #[test]
-fn receipts_of_a_repeat_and_of_no_ticket(rt: HostRuntime) -> Result<(), Fail> {
-    let log = closed_log(&rt, 2, 3, 9)?;
-    let lines =
-        b"{\"who\":\"frozen\",\"op\":\"receipt\",\"ticket\":1}\n{\"who\":\"frozen\",\"op\":\"receipt\",\"ticket\":2}\n";
-    let replies =
-        b"{\"extensions\":\"\",\"leaf_index\":0,\"sct_version\":0,\"timestamp\":3}\n{\"error\":\"not-yet\"}\n";
-    assert!(rt; writes(&rt, log.published(), lines, replies));
-    Ok(())
-}
-
-#[test]
-fn an_entry_and_an_audit_of_its_proof(rt: HostRuntime) -> Result<(), Fail> {
+fn a_refusal_and_then_an_answer(rt: HostRuntime) -> Result<(), Fail> {
     let log = closed_log(&rt, 1, 1, 9)?;
-    let lines =
-        b"{\"who\":\"frozen\",\"op\":\"get-entry-and-proof\",\"leaf_index\":0,\"tree_size\":1}\n{\"who\":\"frozen\",\"op\":\"audit\",\"leaf_input\":\"AAAAAAAAAAAAAQAAAAABQQAA\",\"leaf_index\":0,\"tree_size\":1,\"audit_path\":[]}\n";
-    let replies =
-        b"{\"audit_path\":[],\"extra_data\":\"AAAA\",\"leaf_input\":\"AAAAAAAAAAAAAQAAAAABQQAA\"}\n{\"verdict\":\"holds\"}\n";
-    assert!(rt; writes(&rt, log.published(), lines, replies));
+    let question = r#"{"who":"frozen","op":"receipt","ticket":0}"#;
+    let answer = r#"{"extensions":"","leaf_index":0,"sct_version":0,"timestamp":1}"#;
+    for (line, name) in [
+        (
+            r#"{"who":"frozen","op":"get-sth-consistency","first":1,"second":2}"#,
+            "unknown-size",
+        ),
+        (
+            r#"{"who":"frozen","op":"get-sth-consistency","first":0,"second":1}"#,
+            "bad-range",
+        ),
+        (
+            r#"{"who":"frozen","op":"get-proof-by-hash","hash":"AAAAAAAAAAAAAAAAAAAAAAAAAAAAAAAAAAAAAAAAAAA=","tree_size":2}"#,
+            "unknown-size",
+        ),
+        (
+            r#"{"who":"frozen","op":"get-proof-by-hash","hash":"AAAAAAAAAAAAAAAAAAAAAAAAAAAAAAAAAAAAAAAAAAA=","tree_size":1}"#,
+            "unknown-leaf",
+        ),
+        (
+            r#"{"who":"frozen","op":"get-entries","start":1,"end":1}"#,
+            "bad-range",
+        ),
+        (
+            r#"{"who":"frozen","op":"get-entry-and-proof","leaf_index":0,"tree_size":3}"#,
+            "unknown-size",
+        ),
+        (
+            r#"{"who":"frozen","op":"get-entry-and-proof","leaf_index":1,"tree_size":1}"#,
+            "bad-range",
+        ),
+        (r#"{"who":"frozen","op":"receipt","ticket":1}"#, "not-yet"),
+        (
+            r#"{"who":"frozen","op":"audit","leaf_input":"","leaf_index":0,"tree_size":2,"audit_path":[]}"#,
+            "unknown-size",
+        ),
+        (r#"{"who":"frozen","op":"await-size"}"#, "bad-line"),
+    ] {
+        let lines = format!(in rt.alloc(); "{line}\n{question}\n")?;
+        let replies = format!(in rt.alloc(); "{{\"error\":\"{name}\"}}\n{answer}\n")?;
+        assert!(rt;
+            writes(&rt, log.published(), lines.as_bytes(), replies.as_bytes()),
+            "{line}"
+        );
+    }
     Ok(())
 }
 
-// At another index, of another leaf, at a size that no head has, and at size 0.
-#[test]
-fn audits_that_do_not_hold(rt: HostRuntime) -> Result<(), Fail> {
-    let log = closed_log(&rt, 1, 1, 9)?;
-    let lines =
-        b"{\"who\":\"frozen\",\"op\":\"audit\",\"leaf_input\":\"AAAAAAAAAAAAAQAAAAABQQAA\",\"leaf_index\":1,\"tree_size\":1,\"audit_path\":[]}\n{\"who\":\"frozen\",\"op\":\"audit\",\"leaf_input\":\"AAAAAAAAAAAAAQAAAAABQgAA\",\"leaf_index\":0,\"tree_size\":1,\"audit_path\":[]}\n{\"who\":\"frozen\",\"op\":\"audit\",\"leaf_input\":\"AAAAAAAAAAAAAQAAAAABQQAA\",\"leaf_index\":0,\"tree_size\":2,\"audit_path\":[]}\n{\"who\":\"frozen\",\"op\":\"audit\",\"leaf_input\":\"AAAAAAAAAAAAAQAAAAABQQAA\",\"leaf_index\":0,\"tree_size\":0,\"audit_path\":[]}\n";
-    let replies =
-        b"{\"verdict\":\"refused\"}\n{\"verdict\":\"refused\"}\n{\"error\":\"unknown-size\"}\n{\"verdict\":\"refused\"}\n";
-    assert!(rt; writes(&rt, log.published(), lines, replies));
-    Ok(())
-}
-
-#[test]
-fn lines_that_are_not_of_the_frozen_log(rt: HostRuntime) -> Result<(), Fail> {
-    let log = closed_log(&rt, 0, 0, 9)?;
-    assert!(rt; writes(&rt, log.published(), b"", b""));
-    assert!(rt; writes(&rt, log.published(), b"\n", b""));
-    let refused =
-        b"{}\n\n{\"who\":1,\"op\":\"get-sth\"}\n{\"who\":\"operator\",\"op\":\"publish\",\"now\":-1}";
-    assert!(rt; writes(&rt, log.published(), refused, THREE_BAD_LINES));
-    let elsewhere = b"\n\r\n \n{\"who\":\"operator\",\"op\":\"shutdown\"}\n\n";
-    assert!(rt; writes(&rt, log.published(), elsewhere, THREE_BAD_LINES));
-    Ok(())
-}
-
-// A question for the head, of so many bytes with blanks at the end, and then these bytes.
-fn padded(rt: &HostRuntime, len: usize, behind: &[u8]) -> Result<Vec<u8>, Fail> {
-    let mut line = Vec::from_slice(rt.alloc(), b"{\"who\":\"frozen\",\"op\":\"get-sth\"}")?;
+// A line that begins so, of so many bytes with blanks at the end, and then these bytes.
+fn padded(rt: &HostRuntime, start: &[u8], len: usize, behind: &[u8]) -> Result<Vec<u8>, Fail> {
+    let mut line = Vec::from_slice(rt.alloc(), start)?;
     line.resize(len, b' ')?;
     line.extend_from_slice(behind)?;
     Ok(line)
 }
 
+// The longest line that is a request, the longest one that is no JSON and a question behind it, and longer ones.
 #[test]
-fn the_longest_line(rt: HostRuntime) -> Result<(), Fail> {
+fn long_lines(rt: HostRuntime) -> Result<(), Fail> {
     let log = closed_log(&rt, 0, 0, 7)?;
-    let line = padded(&rt, 1_048_576, b"")?;
-    assert!(rt; writes(&rt, log.published(), &line, EMPTY_HEAD));
-    Ok(())
-}
-
-#[test]
-fn a_line_that_is_too_long(rt: HostRuntime) -> Result<(), Fail> {
-    let log = closed_log(&rt, 0, 0, 7)?;
-    let line = padded(&rt, 1_048_577, b"")?;
-    assert!(rt; writes(&rt, log.published(), &line, BAD_LINE));
-    let lines = padded(&rt, 1_048_599, b"\n{}\n\n[]")?;
-    assert!(rt; writes(&rt, log.published(), &lines, THREE_BAD_LINES));
+    let question = GET_STH.trim_ascii_end();
+    let rows: [(&[u8], usize, &[u8], &[u8]); 4] = [
+        (question, 1_048_576, b"", EMPTY_HEAD),
+        (
+            b"{\"who\":",
+            1_048_576,
+            b"\n{\"who\":\"frozen\",\"op\":\"get-sth\"}\n",
+            b"{\"error\":\"bad-line\"}\n{\"sha256_root_hash\":\"47DEQpj8HBSa+/TImW+5JCeuQeRkm5NMpJWZG3hSuFU=\",\"timestamp\":7,\"tree_size\":0}\n",
+        ),
+        (question, 1_048_577, b"", BAD_LINE),
+        (question, 1_048_599, b"\n{}\n\n[]", THREE_BAD_LINES),
+    ];
+    for (start, len, behind, replies) in rows {
+        let lines = padded(&rt, start, len, behind)?;
+        assert!(rt; writes(&rt, log.published(), &lines, replies), "{len}");
+    }
     Ok(())
 }
 
@@ -150,30 +205,22 @@ fn broken_end(
     }
 }
 
+// One of them fails after 8,195 reads of one byte.
 #[test]
 fn a_reader_that_fails(rt: HostRuntime) -> Result<(), Fail> {
     let log = closed_log(&rt, 0, 0, 9)?;
-    let one = Breaking {
-        text: b"{}\n",
-        step: 9,
-    };
-    assert_eq!(rt;
-        broken_end(&rt, log.published(), one, BAD_LINE),
-        Some(ServeFault::Read(1))
-    );
-    let bytewise = Breaking {
-        text: b"\n{}\n\n[]\n{\n{",
-        step: 1,
-    };
-    assert_eq!(rt;
-        broken_end(&rt, log.published(), bytewise, THREE_BAD_LINES),
-        Some(ServeFault::Read(3))
-    );
-    let nothing = Breaking { text: b"", step: 9 };
-    assert_eq!(rt;
-        broken_end(&rt, log.published(), nothing, b""),
-        Some(ServeFault::Read(0))
-    );
+    let mut long = vec![in rt.alloc(); b'\n'; 8_192]?;
+    long.extend_from_slice(b"{}\n")?;
+    let rows: [(&[u8], usize, &[u8], u64); 4] = [
+        (b"{}\n", 9, BAD_LINE, 1),
+        (b"\n{}\n\n[]\n{\n{", 1, THREE_BAD_LINES, 3),
+        (b"", 9, b"", 0),
+        (&long, 1, BAD_LINE, 1),
+    ];
+    for (text, step, replies, count) in rows {
+        let end = broken_end(&rt, log.published(), Breaking { text, step }, replies);
+        assert_eq!(rt; end, Some(ServeFault::Read(count)));
+    }
     Ok(())
 }
 
@@ -224,29 +271,38 @@ fn cramped_end(
 }
 
 #[test]
-fn a_writer_that_fails(rt: HostRuntime) -> Result<(), Fail> {
+fn writers_that_fail_or_take_no_bytes(rt: HostRuntime) -> Result<(), Fail> {
     let log = closed_log(&rt, 0, 0, 9)?;
-    let short = cramped_end(&rt, log.published(), 20, true, b"{\"error\":\"bad-line\"}");
-    assert_eq!(rt; short, Some(ServeFault::Write(0)));
-    let whole = cramped_end(&rt, log.published(), 21, true, BAD_LINE);
-    assert_eq!(rt; whole, Some(ServeFault::Write(1)));
-    let begun = cramped_end(
-        &rt,
-        log.published(),
-        25,
-        true,
-        b"{\"error\":\"bad-line\"}\n{\"sh",
-    );
-    assert_eq!(rt; begun, Some(ServeFault::Write(1)));
+    let rows: [(usize, bool, &[u8], u64); 5] = [
+        (20, true, b"{\"error\":\"bad-line\"}", 0),
+        (21, true, BAD_LINE, 1),
+        (25, true, b"{\"error\":\"bad-line\"}\n{\"sh", 1),
+        (0, false, b"", 0),
+        (21, false, BAD_LINE, 1),
+    ];
+    for (left, fails, text, count) in rows {
+        let end = cramped_end(&rt, log.published(), left, fails, text);
+        assert_eq!(rt; end, Some(ServeFault::Write(count)));
+    }
     Ok(())
 }
 
 #[test]
-fn a_writer_that_takes_no_bytes(rt: HostRuntime) -> Result<(), Fail> {
-    let log = closed_log(&rt, 0, 0, 9)?;
-    let none = cramped_end(&rt, log.published(), 0, false, b"");
-    assert_eq!(rt; none, Some(ServeFault::Write(0)));
-    let whole = cramped_end(&rt, log.published(), 21, false, BAD_LINE);
-    assert_eq!(rt; whole, Some(ServeFault::Write(1)));
+fn faults_are_sentences(rt: HostRuntime) -> Result<(), Fail> {
+    for (fault, text) in [
+        (ServeFault::Read(1), "the reader failed after 1 replies"),
+        (
+            ServeFault::Write(2),
+            "the writer failed or took no bytes after 2 replies",
+        ),
+        (ServeFault::Memory(3), "memory was refused after 3 replies"),
+        (
+            ServeFault::Endless(4),
+            "the input had not ended after 4 replies and 2^50 reads",
+        ),
+    ] {
+        let told = format!(in rt.alloc(); "{fault}")?;
+        assert_eq!(rt; told.as_str(), text);
+    }
     Ok(())
 }
