@@ -6,6 +6,10 @@ mod core_answers;
 #[cfg(test)]
 mod core_log;
 #[cfg(test)]
+mod failing_calls;
+#[cfg(test)]
+mod hostile_bytes;
+#[cfg(test)]
 mod request_lines;
 #[cfg(test)]
 mod serving;

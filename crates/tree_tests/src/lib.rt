@@ -4,6 +4,8 @@
 #[cfg(test)]
 mod evidence;
 #[cfg(test)]
+mod forged_proofs;
+#[cfg(test)]
 mod monitor;
 #[cfg(test)]
 mod sweeps;

@@ -1,0 +1,202 @@
+// The frozen log over a reader and a writer that fail at one of their calls, for each of them in turn.
+use crate::settled_log::{opened, publish};
+use ct_core::{Core, Published};
+use ct_lines::{ServeFault, serve_frozen};
+use std::io;
+use std::io::{ErrorKind, Read, Write};
+use std::test::*;
+
+// Two lines that are no request around an empty line and a question for the head.
+const LINES: &[u8] = b"{}\n\n{\"who\":\"frozen\",\"op\":\"get-sth\"}\n[]";
+
+const REPLIES: &[u8] =
+    b"{\"error\":\"bad-line\"}\n{\"sha256_root_hash\":\"47DEQpj8HBSa+/TImW+5JCeuQeRkm5NMpJWZG3hSuFU=\",\"timestamp\":7,\"tree_size\":0}\n{\"error\":\"bad-line\"}\n";
+
+// What a call that fails does.
+#[derive(Clone, Copy)]
+enum Failure {
+    Error(ErrorKind),
+    // It moves no bytes.
+    Nothing,
+}
+
+// Counts calls: which one fails, and how many have failed.
+#[derive(Clone, Copy)]
+struct Calls {
+    made: u32,
+    failing: u32,
+    failed: u32,
+    failure: Failure,
+}
+
+impl Calls {
+    fn new(failing: u32, failure: Failure) -> Calls {
+        Calls {
+            made: 0,
+            failing,
+            failed: 0,
+            failure,
+        }
+    }
+
+    // Counts a call, which is to move so many bytes: how many it moves.
+    fn next(&mut self, most: usize) -> io::Result<usize> {
+        self.made = self.made.saturating_add(1);
+        if self.made != self.failing {
+            return Ok(most);
+        }
+        self.failed = self.failed.saturating_add(1);
+        match self.failure {
+            Failure::Error(kind) => Err(io::Error::from(kind)),
+            Failure::Nothing => Ok(0),
+        }
+    }
+}
+
+// A reader that gives 7 bytes a call.
+#[derive(Drop)]
+struct Source<'a> {
+    text: &'a [u8],
+    calls: Calls,
+}
+
+impl Read for Source<'_> {
+    fn read(&mut self, buf: &mut [u8]) -> io::Result<usize> {
+        let n = self.calls.next(self.text.len().min(7).min(buf.len()))?;
+        if n > self.text.len() || n > buf.len() {
+            return Err(io::Error::from(ErrorKind::Other));
+        }
+        let (given, left) = self.text.split_at(n);
+        buf[..n].copy_from_slice(given);
+        self.text = left;
+        Ok(n)
+    }
+}
+
+// A writer that takes 10 bytes a call at most.
+#[derive(Drop)]
+struct Sink {
+    taken: Vec<u8>,
+    calls: Calls,
+}
+
+impl Write for Sink {
+    fn write(&mut self, buf: &[u8]) -> io::Result<usize> {
+        let n = self.calls.next(buf.len().min(10))?;
+        if n > buf.len() {
+            return Err(io::Error::from(ErrorKind::Other));
+        }
+        self.taken.extend_from_slice(&buf[..n])?;
+        Ok(n)
+    }
+
+    fn flush(&mut self) -> io::Result<()> {
+        Ok(())
+    }
+}
+
+// A closed log of no leaves.
+fn closed(rt: &HostRuntime) -> Result<Core, Fail> {
+    let mut core = opened(rt, 0)?;
+    publish(rt, &mut core, 7)?;
+    Ok(core)
+}
+
+// How a run ended, over a reader and a writer that count their calls so, and what it wrote.
+fn served(
+    rt: &HostRuntime,
+    log: &Published,
+    read: &mut Calls,
+    write: &mut Calls,
+) -> (Result<(), ServeFault>, Vec<u8>) {
+    let mut source = Source {
+        text: LINES,
+        calls: *read,
+    };
+    let mut sink = Sink {
+        taken: Vec::new(rt.alloc()),
+        calls: *write,
+    };
+    let end = serve_frozen(rt.alloc(), log, &mut source, &mut sink);
+    *read = source.calls;
+    *write = sink.calls;
+    let Sink { taken, calls: _ } = sink;
+    (end, taken)
+}
+
+// How many lines end in the text.
+fn ends_in(text: &[u8]) -> u64 {
+    let mut count = 0u64;
+    for byte in text {
+        if *byte == b'\n' {
+            count = count.saturating_add(1);
+        }
+    }
+    count
+}
+
+// The replies to the lines that end in the first `given` bytes of the input: the ends stand at 2, 3 and 35.
+fn replies_to(given: u32) -> u64 {
+    match given {
+        0..=2 => 0,
+        3..=35 => 1,
+        _ => 2,
+    }
+}
+
+#[test]
+fn a_reader_that_fails_at_each_call(rt: HostRuntime) -> Result<(), Fail> {
+    let log = closed(&rt)?;
+    for failing in 1..=8 {
+        for kind in [ErrorKind::BrokenPipe, ErrorKind::Interrupted] {
+            let mut read = Calls::new(failing, Failure::Error(kind));
+            let mut write = Calls::new(0, Failure::Nothing);
+            let (end, taken) = served(&rt, log.published(), &mut read, &mut write);
+            let is_whole = failing == 8;
+            let k = replies_to(7 * (failing - 1));
+            assert_eq!(rt;
+                end,
+                if is_whole {
+                    Ok(())
+                } else {
+                    Err(ServeFault::Read(k))
+                }
+            );
+            assert_eq!(rt; ends_in(&taken), if is_whole { 3 } else { k }, "{failing}");
+            assert!(rt; REPLIES.starts_with(&taken) && taken.ends_with(b"\n") == (k > 0));
+            assert_eq!(rt; (read.failed, write.failed), (u32::from(!is_whole), 0));
+        }
+    }
+    Ok(())
+}
+
+// The replies have 21, 96 and 21 bytes: 3, 10 and 3 calls.
+#[test]
+fn a_writer_that_fails_at_each_call(rt: HostRuntime) -> Result<(), Fail> {
+    let log = closed(&rt)?;
+    for failing in 1..=17 {
+        for failure in [
+            Failure::Error(ErrorKind::BrokenPipe),
+            Failure::Error(ErrorKind::Interrupted),
+            Failure::Nothing,
+        ] {
+            let mut read = Calls::new(0, Failure::Nothing);
+            let mut write = Calls::new(failing, failure);
+            let (end, taken) = served(&rt, log.published(), &mut read, &mut write);
+            let is_whole = failing == 17;
+            let k = ends_in(&taken);
+            assert_eq!(rt;
+                end,
+                if is_whole {
+                    Ok(())
+                } else {
+                    Err(ServeFault::Write(k))
+                }
+            );
+            assert!(rt; REPLIES.starts_with(&taken), "{failing}");
+            assert_eq!(rt; taken.len() == REPLIES.len(), is_whole);
+            assert_eq!(rt; (read.failed, write.failed), (0, u32::from(!is_whole)));
+        }
+    }
+    Ok(())
+}
