@@ -1,9 +1,10 @@
 #!/usr/bin/env python3
-"""Each word of a public clause is in docs/DEFINITIONS.md.
+"""Each word of a public clause is in docs/DEFINITIONS.md, and no word is defined in two crates.
 
 A word is a name that a source file brings in from the specs/ of a crate of this repository and that a clause of a public function cites.
 (Names of types and of their cases and fields are Rust's own, and are left out.) The script prints each word that no code span of the
-page names, and each file of specs/ that the page names and that isn't there; it ends with status 1 where there is one.
+page names, each file of specs/ that the page names and that isn't there, and each word that the specs/ of two crates define; it ends with
+status 1 where there is one.
 """
 import re
 import sys
@@ -37,6 +38,19 @@ def clauses(text):
         yield found.group(1), " ".join(parts)
 
 
+DEFINITION = re.compile(r"^(?:unfoldable |abbrev )*pub (?:record |data |abbrev )?(?!mod\b|use\b)(\w+)", re.M)
+
+
+def defined_twice(own):
+    """Each word that the specs/ of two crates define, with these crates."""
+    places = {}
+    for crate in own:
+        for path in (CRATES / crate / "specs").glob("*.antt"):
+            for word in DEFINITION.findall(path.read_text()):
+                places.setdefault(word, set()).add(crate)
+    return {word: sorted(crates) for word, crates in sorted(places.items()) if len(crates) > 1}
+
+
 def main():
     page = (ROOT / "docs" / "DEFINITIONS.md").read_text()
     named = set(re.findall(r"[\w◌]+", " ".join(re.findall(r"`([^`]*)`", page))))
@@ -57,7 +71,10 @@ def main():
     absent = sorted(set(re.findall(r"`(\w+\.antt)`", page)) - files)
     for file in absent:
         print(f"docs/DEFINITIONS.md names {file}, which is in no specs/")
-    if missing or absent:
+    twice = defined_twice(own)
+    for word, places in twice.items():
+        print(f"{word} is defined in {' and '.join(places)}")
+    if missing or absent or twice:
         sys.exit(1)
 
 

@@ -2,7 +2,7 @@
 ghost use Rattle.std.specs.Prelude.{◌≡◌, ◌+◌, ◌<◌, ◌^◌, List, ℕ, ◌++◌, length, map, MatchResult, OnOk};
 ghost use Rattle.ct_tree.specs.Stack.{Stands};
 ghost use Rattle.ct_tree.specs.Tree.{hash_leaf};
-ghost use Rattle.ct_monitor.specs.Extended.{Extends, IsNoRoot};
+ghost use Rattle.ct_monitor.specs.Extended.{GivesRoot, IsNoRoot};
 
 use crate::fault::MonitorFault;
 use ct_tree::{NodeHash, Stack, leaf_hash};
@@ -29,7 +29,7 @@ pub(crate) fn extend<H: NodeHash + Drop>(
 ) -> Result<(), MonitorFault>
     requires { (D : List (List ℕ)) × Stands H.digest stack.old D × (length D + length leaves.now < 2 ^ 64) }
     ensures { (D : List (List ℕ)) → Stands H.digest stack.old (map (hash_leaf H.digest) D)
-        → MatchResult result (λ _. Extends H.digest (D ++ map (λ l. l.items) leaves.now) root.now stack.new) (IsNoRoot H.digest (D ++ map (λ l. l.items) leaves.now) root.now) }
+        → MatchResult result (λ _. GivesRoot H.digest (D ++ map (λ l. l.items) leaves.now) root.now stack.new) (IsNoRoot H.digest (D ++ map (λ l. l.items) leaves.now) root.now) }
 {
     push_all(stack, leaves)?;
     let extended = stack.root();
