@@ -2,8 +2,9 @@
 # make test   the gate: proves every crate from nothing, and runs the tests and the program
 # make check  for daily work: proves what changed
 # make fuzz   runs ctlog on random and damaged lines for SECONDS=60, and compares it with an independent program
+# make sweep  refuses each growth of ctlog in turn, and judges what it then does
 # make load   runs ctlog with 16 fronts and a shutdown among them RUNS=20 times, and judges each output
-.PHONY: demo test check fuzz load kit sources
+.PHONY: demo test check fuzz load sweep kit sources
 
 SECONDS ?= 60
 RUNS ?= 20
@@ -28,6 +29,9 @@ load:
 sources:
 	@PYTHONDONTWRITEBYTECODE=1 python3 checks/want_of_memory.py
 	@PYTHONDONTWRITEBYTECODE=1 python3 checks/definitions.py
+
+sweep:
+	@PYTHONDONTWRITEBYTECODE=1 python3 bench/sweep.py
 
 kit:
 	@command -v rt >/dev/null || { echo "The Rattle kit's command rt isn't on the PATH: add the kit's folder bin to it." >&2; exit 1; }

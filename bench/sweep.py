@@ -1,0 +1,160 @@
+#!/usr/bin/env python3
+"""Refuses each growth of ctlog in turn, and judges what it then does.
+
+    sweep.py [PROGRAM] [--from N] [--most N]
+
+The script of lines has two fronts: A, B, A on front 0 and A on front 1, each kind of question, two publications, a shutdown, and the closed
+log's answers with an audit. It is run once with ample memory, and then with the first growth refused, the second, and so on, until a run makes
+fewer growths than that. `sweep/refuse.c`, which cc builds and the loader puts before the C library, refuses them, so the swept program is
+the built one as it is.
+
+Each run has to end by itself within a minute, and in one of these ways:
+
+- status 1, with `ctlog: memory` or `ctlog: threads` on standard error, or a beginning of that line, and a beginning of the ample output on standard output;
+- status 0, with the ample output, where what was refused could be done without;
+- status 0, where one line has the reply `memory`: what its party was told before is the ample run's, and the whole output is judged by
+  examples/check.py, which recomputes tickets, settlement, entries, heads, proofs and receipts from what the replies say was done. (A line that then waits in
+  vain is told `late`.)
+
+Never a signal, an abort, a hang, or another wrong reply. The counts are printed, and the status is 1 at the first run that isn't as asked.
+"""
+import argparse
+import base64
+import collections
+import json
+import os
+import pathlib
+import subprocess
+import sys
+import tempfile
+
+HERE = pathlib.Path(__file__).resolve().parent
+sys.path.insert(0, str(HERE.parent / "examples"))
+
+from check import Wrong, checked, claim, requests_of  # noqa: E402
+
+PROGRAM = HERE.parent / "crates" / "ctlog" / "out" / "ctlog"
+OPTIONS = ["--fronts", "2", "--ring", "8", "--open-at", "0", "--close-at", "7"]
+LONGEST_RUN = 60
+FAULTS = ("memory", "threads")
+MEMORY = '{"error":"memory"}'
+
+
+def line(who, op, **keys):
+    return json.dumps({"who": who, "op": op, **keys}, separators=(",", ":"))
+
+
+def chain(*certificates):
+    return [base64.b64encode(c).decode() for c in certificates]
+
+
+def script():
+    """The lines. Front 0 goes before front 1 by waiting for what it published, so that the ample run has one output."""
+    first, second = chain(b"A" * 40, b"issuer"), chain(b"B" * 50, b"issuer", b"root")
+    questions = [
+        ("get-sth", {}),
+        ("get-entries", {"start": 0, "end": 9}),
+        ("get-sth-consistency", {"first": 1, "second": 2}),
+        ("get-entry-and-proof", {"leaf_index": 1, "tree_size": 2}),
+        ("get-proof-by-hash", {"hash": base64.b64encode(bytes(32)).decode(), "tree_size": 2}),
+        ("receipt", {"ticket": 2}),
+    ]
+    yield line(0, "add-chain", chain=first)
+    yield line(0, "add-chain", chain=second)
+    yield line(0, "add-chain", chain=first)
+    yield line(0, "await-size", tree_size=2)
+    for op, keys in questions:
+        yield line(0, op, **keys)
+    yield line(1, "await-size", tree_size=2)
+    yield line(1, "add-chain", chain=first)
+    for op, keys in questions:
+        yield line(1, op, **keys)
+    yield line("operator", "sequence", **{"from": 0}, count=1, now=3)
+    yield line("operator", "publish", now=4)
+    yield line("operator", "sequence", **{"from": 0}, count=1, now=5)
+    yield line("operator", "sequence", **{"from": 0}, count=1, now=5)
+    yield line("operator", "publish", now=6)
+    yield line("operator", "sequence", **{"from": 1}, count=1, now=6)
+    yield line("operator", "shutdown")
+    yield "no request"
+    for op, keys in questions:
+        yield line("frozen", op, **keys)
+    yield line("frozen", "audit", leaf_input=base64.b64encode(b"leaf").decode(), leaf_index=0, tree_size=2, audit_path=[])
+
+
+class Sweep:
+    def __init__(self, program, folder):
+        self.program, self.folder = program, folder
+        self.lines = list(script())
+        self.given = "\n".join(self.lines) + "\n"
+        self.shim = folder / "refuse.so"
+        subprocess.run(["cc", "-shared", "-fPIC", "-O2", "-o", self.shim, HERE / "sweep" / "refuse.c", "-ldl"], check=True)
+        status, self.ample, said, self.growths = self.run(0)
+        if status or said:
+            sys.exit(f"sweep.py: with ample memory the status is {status}: {said}")
+        checked(2, self.given, self.ample)
+        self.parties = requests_of(self.lines, 2)
+        self.found = collections.Counter()
+
+    def run(self, refused):
+        count = self.folder / "count"
+        count.unlink(missing_ok=True)
+        place = dict(os.environ, LD_PRELOAD=str(self.shim), REFUSE=str(refused), COUNT=str(count))
+        ended = subprocess.run([self.program, *OPTIONS], input=self.given.encode(), capture_output=True, env=place, timeout=LONGEST_RUN)
+        growths = int.from_bytes(count.read_bytes(), sys.byteorder)
+        return ended.returncode, ended.stdout.decode(), ended.stderr.decode(), growths
+
+    def judge(self, refused):
+        """What came of it, or Wrong."""
+        try:
+            status, output, said, growths = self.run(refused)
+        except subprocess.TimeoutExpired:
+            raise Wrong("it didn't end") from None
+        if status == 1:
+            names = [name for name in FAULTS if f"ctlog: {name}\n".startswith(said)]
+            claim(names, f"standard error is {said!r}")
+            claim(self.ample.startswith(output), "standard output is no beginning of the ample one")
+            return f"status 1, {said.strip() or 'without its line'}, {'no' if not output else 'some'} output", growths
+        claim(status == 0, f"the status is {status}: {said}")
+        claim(not said, f"standard error is {said!r}")
+        if output == self.ample:
+            return "status 0, all as with ample memory", growths
+        return self.judge_replies(output), growths
+
+    def judge_replies(self, output):
+        replies, ample = output.splitlines(), self.ample.splitlines()
+        claim(len(replies) == len(ample), "there are fewer replies")
+        claim(replies.count(MEMORY) == 1, "the output differs, and not one reply is memory")
+        at = replies.index(MEMORY)
+        who = self.parties[at]["who"]
+        claim(all(r == a for r, a, p in zip(replies[:at], ample[:at], self.parties) if p["who"] == who), "a reply before the refused one differs")
+        checked(2, self.given, output.replace('"late"', '"memory"'))
+        return f"status 0, {self.parties[at]['op']} of {who} is told memory"
+
+
+def main():
+    parser = argparse.ArgumentParser()
+    parser.add_argument("program", nargs="?", default=PROGRAM)
+    parser.add_argument("--from", type=int, default=1, dest="first")
+    parser.add_argument("--most", type=int, default=1_000_000)
+    options = parser.parse_args()
+    with tempfile.TemporaryDirectory() as folder:
+        sweep = Sweep(options.program, pathlib.Path(folder))
+        print(f"with ample memory {sweep.growths} growths and {len(sweep.ample.splitlines())} replies", flush=True)
+        refused = options.first
+        while refused < options.first + options.most:
+            try:
+                what, growths = sweep.judge(refused)
+            except (Wrong, KeyError, IndexError, ValueError) as fault:
+                sys.exit(f"sweep.py: growth {refused}: {fault!r}")
+            if growths < refused and what.startswith("status 0, all"):
+                break
+            sweep.found[what] += 1
+            refused += 1
+    for what, times in sorted(sweep.found.items(), key=lambda pair: -pair[1]):
+        print(f"{times:6} {what}")
+    print(f"{sum(sweep.found.values())} growths refused, one in each run; each run was as asked")
+
+
+if __name__ == "__main__":
+    main()
