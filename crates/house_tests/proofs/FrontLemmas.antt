@@ -3,7 +3,7 @@ use Rattle.std.proofs.Common.{◌≡◌, ℕ, ◌<◌, List, [], ◌∷◌, ◌+
 use Rattle.std.proofs.lemmas.List.{length-replicate}
 use Rattle.std.proofs.lemmas.Option.{slice_get-get_or}
 use Rattle.std.specs.Prelude.{All, Some, slice_get, slice_index_or}
-use Rattle.ct_gate.specs.Ends.{SameIntake}
+use Rattle.house_tests.specs.Fronts.{SameFront}
 use Rattle.ct_house.specs.House.{HouseName, HouseState, FrontView, IsOfHouse, IsNewHouse, empty_lane}
 
 -- the fronts of a new house are of it
@@ -13,16 +13,24 @@ of_new_house s fronts n places now f k d below = (f.each k (get_or fronts k d) (
 pub lanes_of_new_house : (s : HouseState) (fronts : List FrontView) (n places now : ℕ) → IsNewHouse s fronts n places now → length s.lanes ≡ n
 lanes_of_new_house s fronts n places now f = ap length f.lanes ∙ length-replicate n empty_lane
 
--- a front of the same gate, number and ring is of the same house
-pub same_front : (a b : HouseName) (old new : FrontView) → b ≡ a → SameIntake old.intake new.intake → IsOfHouse a old → IsOfHouse b new
+-- the same front is of the same house
+pub same_front : (a b : HouseName) (old new : FrontView) → b ≡ a → SameFront old new → IsOfHouse a old → IsOfHouse b new
 same_front a b old new e s o = subst (λ (h : HouseName). IsOfHouse h new) (sym e) (record {
-  gate = s.0 ∙ o.gate;
-  ring = ap (slice_get a.rings) s.1 ∙ o.ring ∙ ap Some (sym s.2);
+  gate = s.intake.0 ∙ o.gate;
+  ring = ap (slice_get a.rings) s.intake.1 ∙ o.ring ∙ ap Some (sym s.intake.2);
+  series = s.series ∙ o.series;
 })
+
+-- two calls, one after the other
+pub same_twice : (a b c : FrontView) → SameFront a b → SameFront b c → SameFront a c
+same_twice a b c s t = record {
+  intake = (t.intake.0 ∙ s.intake.0, t.intake.1 ∙ s.intake.1, t.intake.2 ∙ s.intake.2);
+  series = t.series ∙ s.series;
+}
 
 -- the fronts that stand in a list's elements stay of the house
 pub still_of_house : {X : Type 0} (f : X → FrontView) (a b : HouseName) (old new : List X) → b ≡ a → length new ≡ length old
-    → ((k : ℕ) (d : X) → k < length old → SameIntake (f (slice_index_or old k d)).intake (f (slice_index_or new k d)).intake) → All (λ x. IsOfHouse a (f x)) old → All (λ x. IsOfHouse b (f x)) new
+    → ((k : ℕ) (d : X) → k < length old → SameFront (f (slice_index_or old k d)) (f (slice_index_or new k d))) → All (λ x. IsOfHouse a (f x)) old → All (λ x. IsOfHouse b (f x)) new
 still_of_house f a b old new e count same all k d below =
     let within : k < length old = omega arith in
     same_front a b (f (slice_index_or old k d)) (f (slice_index_or new k d)) e (same k d within) (all k d within)

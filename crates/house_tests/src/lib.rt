@@ -1,7 +1,8 @@
 //! Tests of `ct_gate` and `ct_house`, in a crate of their own so that each of those crates is proved once.
 //!
 //! `gate` opens a gate of two fronts, and sends, receives and shuts. `two_fronts` makes the calls of small logs in one thread, step by
-//! step, and compares each answer. `sixteen_fronts` runs sixteen fronts in threads of their own beside a sequencer that takes,
+//! step, and compares each answer. `readers` looks at what fronts see: at the opening, behind a bulletin, of a long log, and beside
+//! publications in another thread. `sixteen_fronts` runs sixteen fronts in threads of their own beside a sequencer that takes,
 //! publishes and shuts the house in the middle.
 #![tactic(auto)]
 
@@ -9,6 +10,8 @@
 mod common;
 #[cfg(test)]
 mod gate;
+#[cfg(test)]
+mod readers;
 #[cfg(test)]
 mod sixteen_fronts;
 #[cfg(test)]

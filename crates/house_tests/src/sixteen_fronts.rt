@@ -1,6 +1,6 @@
 ghost use Rattle.std.specs.Prelude.{◌≡◌, ◌≤◌, ◌<◌, ◌+◌, ℕ, length, All, IfOk, slice_index_or, vec_len, vec_capacity};
-ghost use Rattle.ct_gate.specs.Ends.{SameIntake};
 ghost use Rattle.ct_house.specs.House.{IsOfHouse};
+ghost use Rattle.house_tests.specs.Fronts.{SameFront};
 ghost use Rattle.house_tests.specs.declared.sixteen_fronts.Party.{Party};
 
 use crate::common::{closed, head_of, submission};
@@ -51,7 +51,7 @@ impl Party {
         waiting: Submission,
         certificate: u8,
     ) -> Result<Option<Submission>, Refusal>
-        ensures { SameIntake self.old.front.intake self.new.front.intake }
+        ensures { SameFront self.old.front self.new.front }
     {
         match self.front.submit(waiting) {
             Ok(ticket) => {
@@ -65,7 +65,7 @@ impl Party {
 
     // Submits a certificate until it is taken or given up.
     fn submit(&mut self, alloc: Global, certificate: u8) -> Result<(), Refusal>
-        ensures { SameIntake self.old.front.intake self.new.front.intake }
+        ensures { SameFront self.old.front self.new.front }
     {
         let mut waiting = submission(alloc, &[certificate])?;
         for _ in 0..TRIES {
@@ -79,41 +79,41 @@ impl Party {
     }
 
     // Asks for the last head.
-    fn look<R: Wait>(&mut self, rt: &R, alloc: Global) -> Result<(), Refusal>
-        ensures { self.new.front ≡ self.old.front }
+    fn look(&mut self, alloc: Global) -> Result<(), Refusal>
+        ensures { SameFront self.old.front self.new.front }
     {
-        let head = head_of(self.front.ask(rt, alloc, &Query::GetSth))?;
+        let head = head_of(self.front.ask(alloc, &Query::GetSth))?;
         self.heads.push(head)?;
         Ok(())
     }
 
     // Submits 1,000 certificates, of which 250 differ, and looks at the head now and then.
-    fn submit_all<R: Wait>(&mut self, rt: &R, alloc: Global, first: usize) -> Result<(), Refusal>
-        ensures { SameIntake self.old.front.intake self.new.front.intake }
+    fn submit_all(&mut self, alloc: Global, first: usize) -> Result<(), Refusal>
+        ensures { SameFront self.old.front self.new.front }
     {
         for number in 0..1000usize {
             if number % 50 == 0 {
-                self.look(rt, alloc)?;
+                self.look(alloc)?;
             }
             self.submit(alloc, ((first % 16 * 61 + number * 7) % 250) as u8)?;
         }
         Ok(())
     }
 
-    fn run<R: Wait>(&mut self, rt: &R, alloc: Global, first: usize)
-        ensures { SameIntake self.old.front.intake self.new.front.intake }
+    fn run(&mut self, alloc: Global, first: usize)
+        ensures { SameFront self.old.front self.new.front }
     {
-        self.end = self.submit_all(rt, alloc, first);
+        self.end = self.submit_all(alloc, first);
     }
 }
 
 // Each front in a thread of its own.
-fn run_fronts<R: Threads + Wait + Sync>(rt: &R, alloc: Global, parties: &mut [Party])
+fn run_fronts<R: Threads + Sync>(rt: &R, alloc: Global, parties: &mut [Party])
     ensures count { length parties.new ≡ length parties.old }
     ensures same { (k : ℕ) (d : Party) → k < length parties.old
-        → SameIntake (slice_index_or parties.old k d).front.intake (slice_index_or parties.new k d).front.intake }
+        → SameFront (slice_index_or parties.old k d).front (slice_index_or parties.new k d).front }
 {
-    thread::for_each_mut(rt, parties, 16, &|first, party| party.run(rt, alloc, first));
+    thread::for_each_mut(rt, parties, 16, &|first, party| party.run(alloc, first));
 }
 
 // Takes from each front, and answers how many items.
@@ -171,13 +171,13 @@ fn run_together<R: Threads + Wait + Sync>(
     ensures house { (house.new.house ≡ house.old.house) × (length house.new.lanes ≡ length house.old.lanes) }
     ensures count { length parties.new ≡ length parties.old }
     ensures same { (k : ℕ) (d : Party) → k < length parties.old
-        → SameIntake (slice_index_or parties.old k d).front.intake (slice_index_or parties.new k d).front.intake }
+        → SameFront (slice_index_or parties.old k d).front (slice_index_or parties.new k d).front }
 {
     let (_, shut) = join_mut(
         rt,
         &mut ||
             ensures { (length parties.exit.now ≡ length parties.entry.now) × ((k : ℕ) (d : Party) → k < length parties.entry.now
-                → SameIntake (slice_index_or parties.entry.now k d).front.intake (slice_index_or parties.exit.now k d).front.intake) }
+                → SameFront (slice_index_or parties.entry.now k d).front (slice_index_or parties.exit.now k d).front) }
         { run_fronts(rt, alloc, parties) },
         &mut ||
             requires { length house.now.lanes ≡ 16 }
@@ -240,7 +240,6 @@ fn retire_all(
 }
 
 // A house with sixteen fronts.
-#[derive(Drop)]
 struct Crowd {
     alloc: Global,
     house: Sequencer,
@@ -251,14 +250,19 @@ struct Crowd {
 
 impl Crowd {
     #[tactic(auto, using(crate::proofs::FrontLemmas::of_new_house, crate::proofs::FrontLemmas::lanes_of_new_house))]
-    fn open(alloc: Global) -> Result<Crowd, Refusal> {
-        let (house, fronts) = open(alloc, 16, 64, 0)?;
-        let parties = parties_of(alloc, &house, fronts)?;
-        Ok(Crowd {
-            alloc,
-            house,
-            parties,
-        })
+    fn open<R: Wait>(rt: &R, alloc: Global) -> Result<Crowd, Refusal> {
+        let (house, fronts) = open(rt, alloc, 16, 64, 0)?;
+        match parties_of(alloc, &house, fronts) {
+            Ok(parties) => Ok(Crowd {
+                alloc,
+                house,
+                parties,
+            }),
+            Err(refusal) => {
+                house.abandon(rt, Vec::new(alloc));
+                Err(refusal)
+            }
+        }
     }
 
     #[tactic(auto, using(crate::proofs::FrontLemmas::still_of_house))]
@@ -353,7 +357,7 @@ fn are_first_occurrences(settlement: &[Settled], certificates: &[Option<u8>]) ->
 
 #[test]
 fn sixteen_fronts_and_a_shutdown_among_them(rt: HostRuntime) -> Result<(), Fail> {
-    let mut crowd = Crowd::open(rt.alloc())?;
+    let mut crowd = Crowd::open(&rt, rt.alloc())?;
     let shut = crowd.run(&rt);
     let (log, seen) = crowd.finish(&rt);
     assert_eq!(rt; shut, Ok(log.accepted()));

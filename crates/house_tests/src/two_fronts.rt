@@ -57,23 +57,31 @@ const LARGE: [u8; 32] = [
 ];
 
 // What a call answers: a ticket, a count or a size, or the refusal.
-type Answer = Result<u64, Refusal>;
+pub(crate) type Answer = Result<u64, Refusal>;
 
 // A call of a house whose fronts are open.
 #[derive(Clone, Copy)]
-enum Call {
+pub(crate) enum Call {
     // Front, and the byte that is the certificate.
     Submit(u16, u8),
     // To front 0, so many certificates, which are the two bytes of 0, of 1 and so on: answers how many it accepts.
     SubmitNumbers(u16),
     // To front 0, so many certificates, which are 2,000 bytes 0, 2,000 bytes 1 and so on: answers how many it accepts.
     SubmitLarge(u8),
+    // Of front 0, so many rounds of ten certificates, each round settled and published a moment later: answers the size.
+    GrowByTens(u16),
     // Front, number of items at most, moment.
     Take(u16, u32, u64),
     // Moment.
     Publish(u64),
+    // Moment. From front 0, until nothing is left: answers how many.
+    TakeAll(u64),
+    // Front: learns of all publications so far, and answers 0.
+    Learn(u16),
     // Front: answers the size of the head that it sees.
     Size(u16),
+    // Two sizes: answers how many hashes the consistency proof has that front 0 shows.
+    ProofLength(u64, u64),
     // First and last: answers how many entries front 0 shows.
     Entries(u64, u64),
 }
@@ -95,22 +103,27 @@ enum Ending {
 }
 
 // A house with two fronts.
-#[derive(Drop)]
-struct TwoFronts {
-    alloc: Global,
-    house: Sequencer,
-    zero: Front,
-    one: Front,
+pub(crate) struct TwoFronts {
+    pub(crate) alloc: Global,
+    pub(crate) house: Sequencer,
+    pub(crate) zero: Front,
+    pub(crate) one: Front,
     ghost lanes: { length house.lanes ≡ 2 },
     ghost of_house: { IsOfHouse house.house zero × IsOfHouse house.house one },
 }
 
 impl TwoFronts {
-    fn open(alloc: Global, ring: usize, now: u64) -> Result<TwoFronts, Refusal>
+    pub(crate) fn open<R: Wait>(
+        rt: &R,
+        alloc: Global,
+        ring: usize,
+        now: u64,
+    ) -> Result<TwoFronts, Refusal>
         requires { (1 ≤ ring) × (ring ≤ 4096) }
     {
-        let (house, mut fronts) = open(alloc, 2, ring, now)?;
+        let (house, mut fronts) = open(rt, alloc, 2, ring, now)?;
         let (Some(one), Some(zero)) = (fronts.pop(), fronts.pop()) else {
+            house.abandon(rt, Vec::new(alloc));
             return Err(Refusal::MissingFront);
         };
         Ok(TwoFronts {
@@ -119,6 +132,16 @@ impl TwoFronts {
             zero,
             one,
         })
+    }
+
+    pub(crate) fn abandon<R: Wait>(self, rt: &R) {
+        let TwoFronts {
+            alloc,
+            house,
+            zero: _,
+            one: _,
+        } = self;
+        house.abandon(rt, Vec::new(alloc));
     }
 
     // The ticket, or the refusal with the identity of the submission that is handed back.
@@ -138,7 +161,7 @@ impl TwoFronts {
         }
     }
 
-    fn ticket(&mut self, front: u16, certificate: &[u8]) -> Answer {
+    pub(crate) fn ticket(&mut self, front: u16, certificate: &[u8]) -> Answer {
         match self.submit(front, certificate)? {
             Ok(ticket) => Ok(ticket),
             Err((refusal, _)) => Err(refusal),
@@ -152,6 +175,25 @@ impl TwoFronts {
             }
         }
         count
+    }
+
+    // Submits ten certificates, settles and publishes them at the moment `round`, round after round.
+    fn grow_by_tens<R: Threads + Wait + Sync>(&mut self, rt: &R, rounds: u16) -> Answer {
+        let mut size = 0u64;
+        for round in 0..rounds {
+            size = self.grow_by_ten(rt, round)?;
+        }
+        Ok(size)
+    }
+
+    fn grow_by_ten<R: Threads + Wait + Sync>(&mut self, rt: &R, round: u16) -> Answer {
+        for place in 0..10u16 {
+            let number = round.wrapping_mul(10).wrapping_add(place);
+            self.ticket(0, &number.to_be_bytes())?;
+        }
+        let now = u64::from(round) + 1;
+        self.take(rt, 0, 10, now)?;
+        Ok(self.publish(rt, now)?.tree_size)
     }
 
     fn submit_large(&mut self, count: u8) -> u8 {
@@ -171,7 +213,13 @@ impl TwoFronts {
         }
     }
 
-    fn take<R: Threads + Sync>(&mut self, rt: &R, front: u16, max: u32, now: u64) -> Answer {
+    pub(crate) fn take<R: Threads + Sync>(
+        &mut self,
+        rt: &R,
+        front: u16,
+        max: u32,
+        now: u64,
+    ) -> Answer {
         if front >= 2 || max == 0 || max > 256 {
             return Err(Refusal::BadRange);
         }
@@ -179,8 +227,27 @@ impl TwoFronts {
         Ok(u64::from(count))
     }
 
-    fn publish<R: Wait>(&mut self, rt: &R, now: u64) -> Result<Head, Refusal> {
+    // Takes all that front 0 has sent, 256 at a time, and answers how many.
+    fn take_all<R: Threads + Sync>(&mut self, rt: &R, now: u64) -> Answer {
+        let mut taken = 0u64;
+        for _ in 0..32u8 {
+            taken = taken.saturating_add(self.take(rt, 0, 256, now)?);
+        }
+        Ok(taken)
+    }
+
+    pub(crate) fn publish<R: Wait>(&mut self, rt: &R, now: u64) -> Result<Head, Refusal> {
         self.house.publish(rt, self.alloc, now)
+    }
+
+    // The front learns of all publications so far.
+    pub(crate) fn learn(&mut self, front: u16) -> Answer {
+        let bulletin = self.house.bulletin()?;
+        match front {
+            0 => self.zero.learn(&bulletin),
+            _ => self.one.learn(&bulletin),
+        }
+        Ok(0)
     }
 
     fn call<R: Threads + Wait + Sync>(&mut self, rt: &R, call: Call) -> Answer {
@@ -190,8 +257,12 @@ impl TwoFronts {
             Call::SubmitLarge(count) => Ok(u64::from(self.submit_large(count))),
             Call::Take(front, max, now) => self.take(rt, front, max, now),
             Call::Publish(now) => Ok(self.publish(rt, now)?.tree_size),
-            Call::Size(front) => Ok(self.head(rt, front)?.tree_size),
-            Call::Entries(start, end) => Ok(self.entries(rt, start, end)?.len() as u64),
+            Call::GrowByTens(rounds) => self.grow_by_tens(rt, rounds),
+            Call::TakeAll(now) => self.take_all(rt, now),
+            Call::ProofLength(first, second) => self.proof_length(first, second),
+            Call::Learn(front) => self.learn(front),
+            Call::Size(front) => Ok(self.head(front)?.tree_size),
+            Call::Entries(start, end) => Ok(self.entries(start, end)?.len() as u64),
         }
     }
 
@@ -206,44 +277,60 @@ impl TwoFronts {
         calls.len()
     }
 
-    fn ask<R: Wait>(&mut self, rt: &R, front: u16, query: Query) -> Result<Reply, Refusal> {
+    pub(crate) fn ask(&mut self, front: u16, query: Query) -> Result<Reply, Refusal> {
         match front {
-            0 => self.zero.ask(rt, self.alloc, &query),
-            _ => self.one.ask(rt, self.alloc, &query),
+            0 => self.zero.ask(self.alloc, &query),
+            _ => self.one.ask(self.alloc, &query),
         }
     }
 
     // The head that the front sees.
-    fn head<R: Wait>(&mut self, rt: &R, front: u16) -> Result<Head, Refusal> {
-        head_of(self.ask(rt, front, Query::GetSth))
+    pub(crate) fn head(&mut self, front: u16) -> Result<Head, Refusal> {
+        head_of(self.ask(front, Query::GetSth))
     }
 
     // Asks front 0, and answers how many queries were refused as they should before the first that wasn't.
-    fn refusals<R: Wait>(&mut self, rt: &R, queries: &[(Query, Refusal)]) -> usize {
+    fn refusals(&mut self, queries: &[(Query, Refusal)]) -> usize {
         for place in 0..queries.len() {
             let (query, refusal) = queries[place];
-            if self.ask(rt, 0, query).err() != Some(refusal) {
+            if self.ask(0, query).err() != Some(refusal) {
                 return place;
             }
         }
         queries.len()
     }
 
-    fn entries<R: Wait>(
-        &mut self,
-        rt: &R,
-        start: u64,
-        end: u64,
-    ) -> Result<Vec<ShownEntry>, Refusal> {
-        match self.ask(rt, 0, Query::Entries { start, end })? {
+    fn entries(&mut self, start: u64, end: u64) -> Result<Vec<ShownEntry>, Refusal> {
+        match self.ask(0, Query::Entries { start, end })? {
             Reply::Entries(entries) => Ok(entries),
             _ => Err(Refusal::BadLine),
         }
     }
 
+    fn proof_length(&mut self, first: u64, second: u64) -> Answer {
+        match self.ask(0, Query::Consistency { first, second })? {
+            Reply::Consistency(path) => Ok(path.len() as u64),
+            _ => Err(Refusal::BadLine),
+        }
+    }
+
+    // The moments that front 0 sees after a publication, and again after a bulletin that is older than it.
+    pub(crate) fn moments_behind<R: Wait>(
+        &mut self,
+        rt: &R,
+        now: u64,
+    ) -> Result<(u64, u64), Refusal> {
+        let older = self.house.bulletin()?;
+        self.house.publish(rt, self.alloc, now)?;
+        let first = head_of(self.zero.ask(self.alloc, &Query::GetSth))?;
+        self.zero.learn(&older);
+        let second = head_of(self.zero.ask(self.alloc, &Query::GetSth))?;
+        Ok((first.timestamp, second.timestamp))
+    }
+
     // The leaf of the last entry of the reply.
-    fn last_leaf<R: Wait>(&mut self, rt: &R, start: u64, end: u64) -> Result<Vec<u8>, Refusal> {
-        match self.entries(rt, start, end)?.pop() {
+    fn last_leaf(&mut self, start: u64, end: u64) -> Result<Vec<u8>, Refusal> {
+        match self.entries(start, end)?.pop() {
             Some(ShownEntry { leaf_input, .. }) => Ok(leaf_input),
             None => Err(Refusal::BadLine),
         }
@@ -333,7 +420,7 @@ impl Closing {
     }
 }
 
-fn head(tree_size: u64, timestamp: u64, root: [u8; 32]) -> Head {
+pub(crate) fn head(tree_size: u64, timestamp: u64, root: [u8; 32]) -> Head {
     Head {
         tree_size,
         timestamp,
@@ -342,7 +429,7 @@ fn head(tree_size: u64, timestamp: u64, root: [u8; 32]) -> Head {
 }
 
 // A house with rings of this size that was opened at this moment, after these calls, each of which has to answer as it should.
-fn house_after<R: Threads + Wait + Abort + Sync>(
+pub(crate) fn house_after<R: Threads + Wait + Abort + Sync>(
     rt: &R,
     alloc: Global,
     ring: usize,
@@ -351,7 +438,7 @@ fn house_after<R: Threads + Wait + Abort + Sync>(
 ) -> Result<TwoFronts, Refusal>
     requires { (1 ≤ ring) × (ring ≤ 4096) }
 {
-    let mut house = TwoFronts::open(alloc, ring, now)?;
+    let mut house = TwoFronts::open(rt, alloc, ring, now)?;
     assert_eq!(rt; house.calls(rt, calls), calls.len());
     Ok(house)
 }
@@ -443,7 +530,9 @@ fn a_full_ring_hands_the_submission_back(rt: HostRuntime) -> Result<(), Fail> {
         (Call::Submit(0, b'B'), Ok(1)),
     ];
     let mut house = house_after(&rt, rt.alloc(), 2, 0, &calls)?;
-    let (refusal, back) = house.refused(0, b"A")?;
+    let refused = house.refused(0, b"A");
+    house.abandon(&rt);
+    let (refusal, back) = refused?;
     assert_eq!(rt; refusal, Refusal::Full);
     assert_eq!(rt; back.as_slice(), [0, 0, 0, 0, 1, 0x41].as_slice());
     Ok(())
@@ -463,10 +552,25 @@ fn round<R: Threads + Wait + Sync>(house: &mut TwoFronts, rt: &R, round: u32) ->
 
 #[test]
 fn a_full_ring_takes_again(rt: HostRuntime) -> Result<(), Fail> {
-    let mut house = TwoFronts::open(rt.alloc(), 2, 0)?;
+    let mut house = TwoFronts::open(&rt, rt.alloc(), 2, 0)?;
     for number in 0..1000 {
         assert!(rt; round(&mut house, &rt, number), "round {number}");
     }
+    house.abandon(&rt);
+    Ok(())
+}
+
+#[test]
+fn a_ring_of_4096_places_takes_again(rt: HostRuntime) -> Result<(), Fail> {
+    let calls = [
+        (Call::SubmitNumbers(4096), Ok(4096)),
+        (Call::Submit(0, b'A'), Err(Refusal::Full)),
+        (Call::TakeAll(1), Ok(4096)),
+        (Call::SubmitNumbers(1200), Ok(1200)),
+        (Call::TakeAll(2), Ok(1200)),
+        (Call::Publish(2), Ok(4096)),
+    ];
+    house_after(&rt, rt.alloc(), 4096, 0, &calls)?.abandon(&rt);
     Ok(())
 }
 
@@ -512,16 +616,18 @@ fn three_heads<R: Threads + Wait + Abort + Sync>(
 #[test]
 fn consistency_between_published_sizes(rt: HostRuntime) -> Result<(), Fail> {
     let mut house = three_heads(&rt, rt.alloc())?;
-    let proof = path_of(house.ask(&rt, 1, consistency(2, 5)))?;
-    assert_eq!(rt; proof.as_slice(), [NODE_23, LEAF_4].as_slice());
+    let proof = path_of(house.ask(1, consistency(2, 5)));
+    house.abandon(&rt);
+    assert_eq!(rt; proof?.as_slice(), [NODE_23, LEAF_4].as_slice());
     Ok(())
 }
 
 #[test]
 fn a_proof_by_hash(rt: HostRuntime) -> Result<(), Fail> {
     let mut house = three_heads(&rt, rt.alloc())?;
-    let path = path_of(house.ask(&rt, 0, proof_by_hash(LEAF_1, 5)))?;
-    assert_eq!(rt; path.as_slice(), [LEAF_0, NODE_23, LEAF_4].as_slice());
+    let path = path_of(house.ask(0, proof_by_hash(LEAF_1, 5)));
+    house.abandon(&rt);
+    assert_eq!(rt; path?.as_slice(), [LEAF_0, NODE_23, LEAF_4].as_slice());
     Ok(())
 }
 
@@ -535,7 +641,8 @@ fn proofs_that_are_refused(rt: HostRuntime) -> Result<(), Fail> {
         (proof_by_hash(LEAF_1, 3), Refusal::UnknownSize),
         (proof_by_hash(LEAF_4, 2), Refusal::UnknownLeaf),
     ];
-    assert_eq!(rt; house.refusals(&rt, &queries), queries.len());
+    assert_eq!(rt; house.refusals(&queries), queries.len());
+    house.abandon(&rt);
     Ok(())
 }
 
@@ -555,8 +662,9 @@ fn entries_of_three_hundred(rt: HostRuntime) -> Result<(), Fail> {
         (Call::Entries(2, 1), Err(Refusal::BadRange)),
     ];
     let mut house = house_after(&rt, rt.alloc(), 300, 0, &calls)?;
-    let leaf = house.last_leaf(&rt, 0, 999)?;
-    assert_eq!(rt; leaf.as_slice(), LEAF_255.as_slice());
+    let leaf = house.last_leaf(0, 999);
+    house.abandon(&rt);
+    assert_eq!(rt; leaf?.as_slice(), LEAF_255.as_slice());
     Ok(())
 }
 
@@ -574,7 +682,7 @@ fn moments_that_the_clock_refuses(rt: HostRuntime) -> Result<(), Fail> {
         (Call::Publish(8), Err(Refusal::ClockBack)),
         (Call::Publish(9), Ok(1)),
     ];
-    house_after(&rt, rt.alloc(), 4, 5, &calls)?;
+    house_after(&rt, rt.alloc(), 4, 5, &calls)?.abandon(&rt);
     Ok(())
 }
 
@@ -588,7 +696,8 @@ fn a_front_sees_what_was_published(rt: HostRuntime) -> Result<(), Fail> {
         (Call::Size(1), Ok(1)),
     ];
     let mut house = house_after(&rt, rt.alloc(), 4, 0, &calls)?;
-    assert_eq!(rt; house.head(&rt, 1), Ok(head(1, 4, A_AT_3)));
+    assert_eq!(rt; house.head(1), Ok(head(1, 4, A_AT_3)));
+    house.abandon(&rt);
     Ok(())
 }
 
@@ -600,7 +709,8 @@ fn many_workers_hash_a_large_batch(rt: HostRuntime) -> Result<(), Fail> {
         (Call::Publish(1), Ok(40)),
     ];
     let mut house = house_after(&rt, rt.alloc(), 64, 0, &calls)?;
-    assert_eq!(rt; house.head(&rt, 0), Ok(head(40, 1, LARGE)));
+    assert_eq!(rt; house.head(0), Ok(head(40, 1, LARGE)));
+    house.abandon(&rt);
     Ok(())
 }
 
