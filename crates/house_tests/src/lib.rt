@@ -10,6 +10,8 @@ mod common;
 #[cfg(test)]
 mod gate;
 #[cfg(test)]
+mod shutdown_under_load;
+#[cfg(test)]
 mod sixteen_fronts;
 #[cfg(test)]
 mod two_fronts;
