@@ -13,6 +13,8 @@ mod gate;
 #[cfg(test)]
 mod readers;
 #[cfg(test)]
+mod shutdown_under_load;
+#[cfg(test)]
 mod sixteen_fronts;
 #[cfg(test)]
 mod two_fronts;

@@ -1,8 +1,8 @@
 // Audit paths and consistency proofs of the sizes 1 to 9 under SHA-256, forged: an element left out, doubled, swapped with another or with
 // one bit changed; another index or size by one; a leaf or root with one bit changed. What the verifiers have to answer is computed from the
 // root down, by the recursions of RFC 6962, sections 2.1.1 and 2.1.2, while the verifiers go up from the leaf. The numbers of proofs, and of
-// those accepted, were computed by Python: the 45 true paths and 36 true proofs, and as they stand 44 and 48 more under another size, where
-// the path goes by the same sides. That the size is the head's is for the head to say.
+// those accepted, were computed by Python: the 45 true paths and 36 true proofs, and 44 and 48 times the same ones at another index or size
+// from which they go by the same sides. A path doesn't show the size of its tree: the tree head does.
 ghost use Rattle.std.specs.Prelude.{◌≡◌, ◌<◌, IfOk};
 
 use ct_tree::reference::{path, proof, root};
