@@ -1,6 +1,13 @@
 -- What was written is read again.
-use Rattle.std.proofs.Common.{◌≡◌, ℕ, List, [], ◌∷◌, Result, Ok, Err, Vec, Global, refl}
-use Rattle.ct_codec.specs.Leaf.{Entry, LeafText, ChainText}
+use Rattle.std.proofs.Common.{◌≡◌, ℕ, List, [], ◌∷◌, Result, Ok, Err, Vec, Global, refl, ◌∙◌, ◌<◌, ◌^◌, length, ◌⊎◌}
+use Rattle.std.specs.Prelude.{IfOk, IfErr}
+use Rattle.std.specs.Result.{IsErrAnd}
+use Rattle.std.specs.List.{AllByRecursion}
+use Rattle.ct_codec.specs.Bytes.{vec}
+use Rattle.ct_codec.specs.Faults.{LeafFaulty, ChainFaulty, CertificatesFaulty}
+use Rattle.ct_codec.specs.declared.fault.DecodeFault.TheVariants.{Memory}
+use Rattle.ct_codec.proofs.Chains.{chain_text_of, chain_copy}
+use Rattle.ct_codec.specs.Leaf.{SignedEntry, LeafText, ChainText, IsCertificate, AreCertificates, chain_bytes}
 use Rattle.ct_codec.specs.Decoded.{IsTextOf, IsLeaf, AnswersLeaf, AnswersChain, GivesLeaf, GivesChain, certificates_in, entry_in}
 use Rattle.ct_codec.specs.Laws.{WrittenLeavesAreRead, WrittenChainsAreRead}
 use Rattle.ct_codec.specs.Submitted.{x509, entry_of}
@@ -9,7 +16,7 @@ use Rattle.ct_codec.specs.declared.reading.Leaf.{Leaf}
 use Rattle.ct_codec.proofs.Apart.{leaves_stand_apart, chains_stand_apart}
 use Rattle.ct_codec.proofs.Verdict.{leaf_texts_have_no_fault, chain_texts_have_no_fault}
 
-pub same_leaf : (l : Leaf) (t : ℕ) (e : Entry) (x b : List ℕ) → IsTextOf l b → LeafText t e x b → IsLeaf t e x l
+pub same_leaf : (l : Leaf) (t : ℕ) (e : SignedEntry) (x b : List ℕ) → IsTextOf l b → LeafText t e x b → IsLeaf t e x l
 same_leaf l t e x b p q =
     let same = leaves_stand_apart l.timestamp t (entry_in l.entry) e l.extensions.items x b b [] [] p q refl in
     (same.0, same.1, same.2)
@@ -17,13 +24,28 @@ same_leaf l t e x b p q =
 pub same_chain : (v : Vec (Vec ℕ Global) Global) (cs : List (List ℕ)) (b : List ℕ) → ChainText (certificates_in v) b → ChainText cs b → certificates_in v ≡ cs
 same_chain v cs b p q = (chains_stand_apart (certificates_in v) cs b b [] [] p q refl).0
 
-leaf_again : (t : ℕ) (e : Entry) (x b : List ℕ) (r : Result Leaf DecodeFault) → LeafText t e x b → AnswersLeaf b r → GivesLeaf t e x r
+leaf_again : (t : ℕ) (e : SignedEntry) (x b : List ℕ) (r : Result Leaf DecodeFault) → LeafText t e x b → AnswersLeaf b r → GivesLeaf t e x r
 leaf_again t e x b (Ok l) q a = (same_leaf l t e x b a.0 q, tt)
 leaf_again t e x b (Err f) q a = (tt, leaf_texts_have_no_fault t e x b f q a.1)
 
 chain_again : (cs : List (List ℕ)) (b : List ℕ) (r : Result (Vec (Vec ℕ Global) Global) DecodeFault) → ChainText cs b → AnswersChain b r → GivesChain cs r
 chain_again cs b (Ok v) q a = (same_chain v cs b a.0 q, tt)
 chain_again cs b (Err f) q a = (tt, chain_texts_have_no_fault cs b f q a.1)
+
+-- the same at the exit of a `?`
+pub leaf_left : (r : Result Leaf DecodeFault) (f : DecodeFault) (t : ℕ) (e : SignedEntry) (x b : List ℕ) → LeafText t e x b → IsErrAnd r (λ g. g ≡ f) → LeafFaulty f b → GivesLeaf t e x r
+leaf_left (Ok l) f t e x b q met v = absurd met
+leaf_left (Err g) f t e x b q met v = (tt, met ∙ leaf_texts_have_no_fault t e x b f q v)
+
+pub chain_left : (r : Result (Vec (Vec ℕ Global) Global) DecodeFault) (f : DecodeFault) (cs : List (List ℕ)) (b : List ℕ) → ChainText cs b → IsErrAnd r (λ g. g ≡ f) → ChainFaulty f b → GivesChain cs r
+chain_left (Ok l) f cs b q met v = absurd met
+chain_left (Err g) f cs b q met v = (tt, met ∙ chain_texts_have_no_fault cs b f q v)
+
+-- the answer of who copies a chain that was walked over
+pub chain_copied : (cs : List (List ℕ)) (b y : List ℕ) (r : Result (Vec (Vec ℕ Global) Global) DecodeFault) → length y < 2 ^ 24 → b ≡ vec 3 y → AreCertificates y → ChainText cs b
+    → IfOk r (λ v. AllByRecursion IsCertificate (certificates_in v) × (y ≡ chain_bytes (certificates_in v))) → IfErr r (λ f. (f ≡ Memory) ⊎ CertificatesFaulty f y) → GivesChain cs r
+chain_copied cs b y (Ok v) h e are q ok bad = chain_again cs b (Ok v) q (chain_text_of (certificates_in v) b y ok.0 h e ok.1, tt)
+chain_copied cs b y (Err f) h e are q ok bad = chain_again cs b (Err f) q (tt, chain_copy f b y h e are bad)
 
 pub written_leaves_are_read : WrittenLeavesAreRead
 written_leaves_are_read s t b r q a = leaf_again t (entry_of s) [] b r q a

@@ -6,7 +6,7 @@ use Rattle.std.specs.List.{AllByRecursion}
 use Rattle.byteorder.specs.Endian.{big_from}
 use Rattle.byteorder.specs.Numbers.{big_number-reads_back}
 use Rattle.ct_codec.specs.Bytes.{num, vec}
-use Rattle.ct_codec.specs.Leaf.{Entry, certificate, precertificate, IsEntry, IsCertificate, LeafText, ChainText, entry_text, leaf_text, chain_bytes, entry_fields, leaf_fields, entry_front}
+use Rattle.ct_codec.specs.Leaf.{SignedEntry, certificate, precertificate, IsEntry, IsCertificate, LeafText, ChainText, entry_text, leaf_text, chain_bytes, entry_fields, leaf_fields, entry_front}
 use Rattle.ct_codec.specs.Faults.{IsCut, VectorFaulty, LeafFaulty, CertificatesFaulty, WithinFaulty, ChainFaulty}
 use Rattle.ct_codec.specs.Laws.{LeavesHaveOneFault, LeafTextsHaveNoFault, ChainsHaveOneFault, ChainTextsHaveNoFault}
 use Rattle.ct_codec.specs.declared.fault.DecodeFault.{DecodeFault}
@@ -103,14 +103,14 @@ certificate_here c r b h e =
 certificate_empty : (r b : List ℕ) → b ≡ num 3 0 ++ r → certificate_at b ≡ Err EmptyVector
 certificate_empty r b e = number_here 3 0 r b certificate_of (omega arith) e
 
-entry_here : (e : Entry) (r b : List ℕ) → IsEntry e → b ≡ entry_text e ++ r → entry_at b ≡ Ok r
+entry_here : (e : SignedEntry) (r b : List ℕ) → IsEntry e → b ≡ entry_text e ++ r → entry_at b ≡ Ok r
 entry_here (certificate c) r b h e =
     number_here 2 0 (vec 3 c ++ r) b entry_of (omega arith) (e ∙ append_assoc (num 2 0) (vec 3 c) r) ∙ certificate_here c r (vec 3 c ++ r) h refl
 entry_here (precertificate k c) r b h e =
     number_here 2 1 ((k ++ vec 3 c) ++ r) b entry_of (omega arith) (e ∙ append_assoc (num 2 1) (k ++ vec 3 c) r)
     ∙ ap (λ x. then_read x certificate_at) (bytes_here 32 k (vec 3 c ++ r) ((k ++ vec 3 c) ++ r) h.0 (append_assoc k (vec 3 c) r)) ∙ certificate_here c r (vec 3 c ++ r) h.1 refl
 
-entry_empty : (e : Entry) (r b : List ℕ) → IsEntry e → b ≡ entry_front e ++ (num 3 0 ++ r) → entry_at b ≡ Err EmptyVector
+entry_empty : (e : SignedEntry) (r b : List ℕ) → IsEntry e → b ≡ entry_front e ++ (num 3 0 ++ r) → entry_at b ≡ Err EmptyVector
 entry_empty (certificate c) r b h e = number_here 2 0 (num 3 0 ++ r) b entry_of (omega arith) e ∙ certificate_empty r (num 3 0 ++ r) refl
 entry_empty (precertificate k c) r b h e =
     number_here 2 1 (k ++ (num 3 0 ++ r)) b entry_of (omega arith) (e ∙ append_assoc (num 2 1) k (num 3 0 ++ r))
@@ -160,7 +160,7 @@ certificate_cut c gs r h v =
 vector_cut : (w : ℕ) (x : List ℕ) (gs : List (List ℕ)) (r : List ℕ) → length x < 256 ^ w → IsCut (num w (length x) ∷ x ∷ gs) r → Cut gs (number_at w r bytes_at)
 vector_cut w x gs r h v = number_cut w (length x) (x ∷ gs) gs r bytes_at h v (λ s cut. bytes_cut (length x) x gs s refl cut)
 
-entry_cut : (e : Entry) (gs : List (List ℕ)) (r : List ℕ) → IsEntry e → IsCut (entry_fields e ++ gs) r → Cut gs (entry_at r)
+entry_cut : (e : SignedEntry) (gs : List (List ℕ)) (r : List ℕ) → IsEntry e → IsCut (entry_fields e ++ gs) r → Cut gs (entry_at r)
 entry_cut (certificate c) gs r h v = number_cut 2 0 (num 3 (length c) ∷ c ∷ gs) gs r entry_of (omega arith) v (λ s cut. certificate_cut c gs s h cut)
 entry_cut (precertificate k c) gs r h v =
     number_cut 2 1 (k ∷ num 3 (length c) ∷ c ∷ gs) gs r entry_of (omega arith) v (λ s cut.
@@ -173,23 +173,23 @@ cut_at_last x (inr v) = absurd v.2
 cut_behind_entry : (x s : List ℕ) → length x < 2 ^ 16 → IsCut (num 2 (length x) ∷ x ∷ []) s → Cut [] (extensions_at s)
 cut_behind_entry x s short v = then_cut (number_at 2 s bytes_at) end_at [] [] (vector_cut 2 x [] s short v) (λ u none. absurd none)
 
-cut_behind_time : (e : Entry) (x s : List ℕ) → IsEntry e → length x < 2 ^ 16 → IsCut (entry_fields e ++ (num 2 (length x) ∷ x ∷ [])) s → Cut [] (after_time s)
+cut_behind_time : (e : SignedEntry) (x s : List ℕ) → IsEntry e → length x < 2 ^ 16 → IsCut (entry_fields e ++ (num 2 (length x) ∷ x ∷ [])) s → Cut [] (after_time s)
 cut_behind_time e x s fine short v =
     let end : List (List ℕ) = num 2 (length x) ∷ x ∷ [] in
     then_cut (entry_at s) extensions_at end [] (entry_cut e end s fine v) (λ u cut. cut_behind_entry x u short cut)
 
-cut_behind_types : (t : ℕ) (e : Entry) (x s : List ℕ) → IsEntry e → length x < 2 ^ 16 → IsCut (num 8 t ∷ (entry_fields e ++ (num 2 (length x) ∷ x ∷ []))) s → Cut [] (after_types s)
+cut_behind_types : (t : ℕ) (e : SignedEntry) (x s : List ℕ) → IsEntry e → length x < 2 ^ 16 → IsCut (num 8 t ∷ (entry_fields e ++ (num 2 (length x) ∷ x ∷ []))) s → Cut [] (after_types s)
 cut_behind_types t e x s fine short v =
     let end : List (List ℕ) = entry_fields e ++ (num 2 (length x) ∷ x ∷ []) in
     then_cut (bytes_at 8 s) after_time end [] (bytes_cut 8 (num 8 t) end s (length-num 8 t) v) (λ u cut. cut_behind_time e x u fine short cut)
 
-leaf_cut : (t : ℕ) (e : Entry) (x b : List ℕ) → IsEntry e → length x < 2 ^ 16 → IsCut (leaf_fields t e x) b → leaf_read b ≡ Err Truncated
+leaf_cut : (t : ℕ) (e : SignedEntry) (x b : List ℕ) → IsEntry e → length x < 2 ^ 16 → IsCut (leaf_fields t e x) b → leaf_read b ≡ Err Truncated
 leaf_cut t e x b fine short v =
     let end : List (List ℕ) = num 8 t ∷ (entry_fields e ++ (num 2 (length x) ∷ x ∷ [])) in
     cut_at_last (leaf_read b) (then_cut (zero_at BadVersion b) (λ r. then_read (zero_at BadLeafType r) after_types) ((0 ∷ []) ∷ end) [] (zero_cut BadVersion ((0 ∷ []) ∷ end) b v) (λ s rest.
     then_cut (zero_at BadLeafType s) after_types end [] (zero_cut BadLeafType end s rest) (λ u cut. cut_behind_types t e x u fine short cut)))
 
-leaf_here : (t : ℕ) (e : Entry) (x b r : List ℕ) → IsEntry e → length x < 2 ^ 16 → b ≡ leaf_text t e x ++ r → leaf_read b ≡ end_at r
+leaf_here : (t : ℕ) (e : SignedEntry) (x b r : List ℕ) → IsEntry e → length x < 2 ^ 16 → b ≡ leaf_text t e x ++ r → leaf_read b ≡ end_at r
 leaf_here t e x b r fine short same =
     ap leaf_read (same ∙ regrouped t e x r) ∙ time_here t (entry_text e ++ (vec 2 x ++ r))
     ∙ ap (λ y. then_read y extensions_at) (entry_here e (vec 2 x ++ r) (entry_text e ++ (vec 2 x ++ r)) fine refl)
@@ -199,7 +199,7 @@ trailing_here : (r : List ℕ) → 0 < length r → end_at r ≡ Err Trailing
 trailing_here [] h = absurd (omega arith)
 trailing_here (x ∷ r) h = refl
 
-text_read : (t : ℕ) (e : Entry) (x b : List ℕ) → LeafText t e x b → leaf_read b ≡ Ok []
+text_read : (t : ℕ) (e : SignedEntry) (x b : List ℕ) → LeafText t e x b → leaf_read b ≡ Ok []
 text_read t e x b p = leaf_here t e x b [] p.entry p.extensions (p.text ∙ sym (append-nil (leaf_text t e x)))
 
 -- each fault of a leaf is the one that reading finds

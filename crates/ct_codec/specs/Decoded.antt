@@ -1,7 +1,7 @@
 -- What is read from bytes: leaves and chains.
 use Rattle.std.specs.Prelude.{◌≡◌, ℕ, List, map, Vec, Result, IfOk, IfErr, IsOkUnless}
 use Rattle.std.specs.Global.{Global}
-use Rattle.ct_codec.specs.Leaf.{Entry, certificate, precertificate, LeafText, ChainText}
+use Rattle.ct_codec.specs.Leaf.{SignedEntry, certificate, precertificate, LeafText, ChainText}
 use Rattle.ct_codec.specs.Faults.{LeafFaulty, ChainFaulty}
 use Rattle.ct_codec.specs.declared.fault.DecodeFault.{DecodeFault}
 use Rattle.ct_codec.specs.declared.fault.DecodeFault.TheVariants.{Memory}
@@ -12,12 +12,12 @@ use Rattle.ct_codec.specs.declared.reading.LentEntry.{LentEntry}
 use Rattle.ct_codec.specs.declared.reading.LentEntry.TheVariants as lent
 
 -- the entry of a leaf that was read
-abbrev pub entry_in : LeafEntry → Entry
+abbrev pub entry_in : LeafEntry → SignedEntry
 entry_in (owned.X509 c) = certificate c.items
 entry_in (owned.Precert k c) = precertificate k c.items
 
 -- the entry of a leaf that stands in the input
-abbrev pub entry_lent : LentEntry → Entry
+abbrev pub entry_lent : LentEntry → SignedEntry
 entry_lent (lent.X509 c) = certificate c.now
 entry_lent (lent.Precert k c) = precertificate k c.now
 
@@ -30,11 +30,11 @@ abbrev pub IsTextOf : Leaf → List ℕ → Type 0
 IsTextOf l b = LeafText l.timestamp (entry_in l.entry) l.extensions.items b
 
 -- the leaf has timestamp t, entry e and extensions x
-abbrev pub IsLeaf : ℕ → Entry → List ℕ → Leaf → Type 0
+abbrev pub IsLeaf : ℕ → SignedEntry → List ℕ → Leaf → Type 0
 IsLeaf t e x l = (l.timestamp ≡ t) × (entry_in l.entry ≡ e) × (l.extensions.items ≡ x)
 
 -- the answer is the leaf with timestamp t, entry e and extensions x, unless memory was refused
-abbrev pub GivesLeaf : ℕ → Entry → List ℕ → Result Leaf DecodeFault → Type 0
+abbrev pub GivesLeaf : ℕ → SignedEntry → List ℕ → Result Leaf DecodeFault → Type 0
 GivesLeaf t e x r = IfOk r (IsLeaf t e x) × IsOkUnless r Memory
 
 -- the answer is the chain of these certificates, unless memory was refused

@@ -4,29 +4,29 @@ use Rattle.std.specs.List.{AllByRecursion, flat_map}
 use Rattle.ct_codec.specs.Bytes.{num, vec}
 
 -- What a leaf is about: a certificate, or a precertificate by the hash of its issuer's key and its TBSCertificate.
-pub data Entry : Type 0 where
-  certificate : List ℕ → Entry
-  precertificate : List ℕ → List ℕ → Entry
+pub data SignedEntry : Type 0 where
+  certificate : List ℕ → SignedEntry
+  precertificate : List ℕ → List ℕ → SignedEntry
 
 -- a certificate or TBSCertificate of 1 to 2^24 - 1 bytes
 abbrev pub IsCertificate : List ℕ → Type 0
 IsCertificate c = (0 < length c) × (length c < 2 ^ 24)
 
-abbrev pub IsEntry : Entry → Type 0
+abbrev pub IsEntry : SignedEntry → Type 0
 IsEntry (certificate c) = IsCertificate c
 IsEntry (precertificate k c) = (length k ≡ 32) × IsCertificate c
 
 -- the entry type and the signed entry
-abbrev pub entry_text : Entry → List ℕ
+abbrev pub entry_text : SignedEntry → List ℕ
 entry_text (certificate c) = num 2 0 ++ vec 3 c
 entry_text (precertificate k c) = num 2 1 ++ (k ++ vec 3 c)
 
 -- the bytes of the leaf with timestamp t, entry e and extensions x
-abbrev pub leaf_text : ℕ → Entry → List ℕ → List ℕ
+abbrev pub leaf_text : ℕ → SignedEntry → List ℕ → List ℕ
 leaf_text t e x = 0 ∷ 0 ∷ (num 8 t ++ (entry_text e ++ vec 2 x))
 
 -- b is the text of the leaf with timestamp t, entry e and extensions x
-pub record LeafText (t : ℕ) (e : Entry) (x b : List ℕ) : Type 0 where
+pub record LeafText (t : ℕ) (e : SignedEntry) (x b : List ℕ) : Type 0 where
   pub timestamp : t < 2 ^ 64
   pub entry : IsEntry e
   pub extensions : length x < 2 ^ 16
@@ -51,14 +51,14 @@ pub record ChainText (cs : List (List ℕ)) (b : List ℕ) : Type 0 where
   pub text : b ≡ chain_text cs
 
 -- The fields of a leaf's text, in order: a length and the bytes that it counts are two fields.
-abbrev pub entry_fields : Entry → List (List ℕ)
+abbrev pub entry_fields : SignedEntry → List (List ℕ)
 entry_fields (certificate c) = num 2 0 ∷ num 3 (length c) ∷ c ∷ []
 entry_fields (precertificate k c) = num 2 1 ∷ k ∷ num 3 (length c) ∷ c ∷ []
 
-abbrev pub leaf_fields : ℕ → Entry → List ℕ → List (List ℕ)
+abbrev pub leaf_fields : ℕ → SignedEntry → List ℕ → List (List ℕ)
 leaf_fields t e x = (0 ∷ []) ∷ (0 ∷ []) ∷ num 8 t ∷ (entry_fields e ++ (num 2 (length x) ∷ x ∷ []))
 
 -- the entry type, and what stands before the length of the certificate or TBSCertificate
-abbrev pub entry_front : Entry → List ℕ
+abbrev pub entry_front : SignedEntry → List ℕ
 entry_front (certificate c) = num 2 0
 entry_front (precertificate k c) = num 2 1 ++ k

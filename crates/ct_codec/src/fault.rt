@@ -1,5 +1,9 @@
 //! Why bytes are no leaf or no chain.
 
+ghost use Rattle.std.specs.Prelude.{◌≡◌};
+ghost use Rattle.ct_codec.specs.declared.fault.DecodeFault.TheVariants.{Memory};
+
+use std::alloc::{AllocError, AllocFailed};
 use thiserror::Error;
 
 /// Why bytes are no leaf or no chain: the first fault from the left. A fault's text is its name.
@@ -8,7 +12,7 @@ pub enum DecodeFault {
     /// The input, or the chain that a certificate stands in, ends before a field is whole.
     #[error("Truncated")]
     Truncated,
-    /// The version is not 0, which stands for v1 (RFC 6962 section 3.4).
+    /// The version is not 0, which stands for v1 (RFC 6962 section 3.2).
     #[error("BadVersion")]
     BadVersion,
     /// The leaf type is not 0, which stands for timestamped_entry (RFC 6962 section 3.4).
@@ -26,4 +30,20 @@ pub enum DecodeFault {
     /// A growth was refused. The bytes have no fault.
     #[error("Memory")]
     Memory,
+}
+
+impl From<AllocError> for DecodeFault {
+    ghost from_gives = { λ _ e. e ≡ Memory };
+
+    fn from(_e: AllocError) -> DecodeFault {
+        DecodeFault::Memory
+    }
+}
+
+impl<T: Drop> From<AllocFailed<T>> for DecodeFault {
+    ghost from_gives = { λ _ e. e ≡ Memory };
+
+    fn from(_e: AllocFailed<T>) -> DecodeFault {
+        DecodeFault::Memory
+    }
 }

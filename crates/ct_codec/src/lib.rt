@@ -6,14 +6,14 @@
 //! - `decode_leaf` and `decode_chain` read a leaf of either entry type and a chain from bytes. Where the bytes are none they answer
 //!   the first fault from the left, before any memory is taken: the walk over the input (`leaf_at`, `last_chain`) has no allocator.
 //! - `Refusal` has every reason for which a call of the log is refused.
-//! - The functions of `laws` do nothing: their contracts are laws of the formats.
+//! - The functions of [`laws`] do nothing: their contracts are laws of the formats.
 //!
 //! What the bytes are stands in `specs`: `Bytes` (numbers and vectors), `Leaf` (leaves and chains), `Submitted`, `Faults`, `Items`, `Laws`.
 #![tactic(auto)]
 
 mod fault;
 mod item;
-mod laws;
+pub mod laws;
 mod numbers;
 mod parts;
 mod reader;
@@ -24,10 +24,6 @@ mod writing;
 
 pub use fault::DecodeFault;
 pub use item::Item;
-pub use laws::{
-    chain_texts_have_no_fault, chains_have_one_fault, chains_stand_apart, leaf_texts_have_no_fault,
-    leaves_have_one_fault, leaves_stand_apart, written_chains_are_read, written_leaves_are_read,
-};
 pub use parts::{LeafParts, leaf_parts};
 pub use reading::{Leaf, LeafEntry, decode_chain, decode_leaf};
 pub use refusal::Refusal;

@@ -4,7 +4,7 @@ ghost use Rattle.std.specs.Prelude.{◌≡◌, ◌<◌, ◌≤◌, ◌^◌, ◌+
 ghost use Rattle.std.specs.Prelude.{OnOk, ◌⊎◌};
 ghost use Rattle.std.specs.List.{AllByRecursion};
 ghost use Rattle.ct_codec.specs.Bytes.{num, vec};
-ghost use Rattle.ct_codec.specs.Leaf.{Entry, IsCertificate, IsEntry, LeafText, entry_text, chain_bytes, AreCertificates, ChainText};
+ghost use Rattle.ct_codec.specs.Leaf.{SignedEntry, IsCertificate, IsEntry, LeafText, entry_text, chain_bytes, AreCertificates, ChainText};
 ghost use Rattle.ct_codec.specs.Faults.{EntryFaulty, LeafFaulty, CertificatesFaulty, ChainFaulty};
 ghost use Rattle.ct_codec.specs.declared.fault.DecodeFault.TheVariants.{Memory};
 ghost use Rattle.ct_codec.specs.Decoded.{entry_in, entry_lent, certificates_in, IsTextOf, GivesLeaf, GivesChain};
@@ -14,7 +14,7 @@ use crate::reader::Reader;
 use std::alloc::{AllocError, Global};
 
 /// What a leaf is about (RFC 6962 sections 3.1 and 3.2).
-#[derive(Debug, Drop)]
+#[derive(Debug, PartialEq, Eq, Drop)]
 pub enum LeafEntry {
     /// A certificate.
     X509(Vec<u8>),
@@ -23,7 +23,7 @@ pub enum LeafEntry {
 }
 
 /// A leaf as it was read (RFC 6962 section 3.4).
-#[derive(Debug, Drop)]
+#[derive(Debug, PartialEq, Eq, Drop)]
 pub struct Leaf {
     /// The moment, in milliseconds.
     pub timestamp: u64,
@@ -80,18 +80,12 @@ fn entry_at<'a>(reader: &mut Reader<'a>) -> Result<LentEntry<'a>, DecodeFault>
         return Err(DecodeFault::Truncated);
     };
     match entry_type {
-        0 => match reader.certificate() {
-            Ok(certificate) => Ok(LentEntry::X509(certificate)),
-            Err(fault) => Err(fault),
-        },
+        0 => Ok(LentEntry::X509(reader.certificate()?)),
         1 => {
             let Some(key_hash) = reader.key_hash() else {
                 return Err(DecodeFault::Truncated);
             };
-            match reader.certificate() {
-                Ok(certificate) => Ok(LentEntry::Precert(*key_hash, certificate)),
-                Err(fault) => Err(fault),
-            }
+            Ok(LentEntry::Precert(*key_hash, reader.certificate()?))
         }
         _ => Err(DecodeFault::BadEntryType),
     }
@@ -103,14 +97,8 @@ fn leaf_at(bytes: &[u8]) -> Result<LentLeaf<'_>, DecodeFault>
     ensures fault { IfErr result (λ f. LeafFaulty f bytes.now) }
 {
     let mut input = Reader::new(bytes);
-    let timestamp = match timestamp_at(&mut input) {
-        Ok(timestamp) => timestamp,
-        Err(fault) => return Err(fault),
-    };
-    let entry = match entry_at(&mut input) {
-        Ok(entry) => entry,
-        Err(fault) => return Err(fault),
-    };
+    let timestamp = timestamp_at(&mut input)?;
+    let entry = entry_at(&mut input)?;
     let Some(extensions) = input.vector_2() else {
         return Err(DecodeFault::Truncated);
     };
@@ -145,20 +133,13 @@ pub fn decode_leaf(alloc: Global, bytes: &[u8]) -> Result<Leaf, DecodeFault>
     // What is read is what the bytes are the text of.
     ensures found { IfOk result (λ l. IsTextOf l bytes.now) }
     // A leaf's text is read, unless memory is refused.
-    ensures every { (t : ℕ) (e : Entry) (x : List ℕ) → LeafText t e x bytes.now → GivesLeaf t e x result }
+    ensures every { (t : ℕ) (e : SignedEntry) (x : List ℕ) → LeafText t e x bytes.now → GivesLeaf t e x result }
     // Which fault it is.
     ensures fault { IfErr result (λ f. LeafFaulty f bytes.now) }
 {
-    let leaf = match leaf_at(bytes) {
-        Ok(leaf) => leaf,
-        Err(fault) => return Err(fault),
-    };
-    let Ok(entry) = copy_entry(alloc, leaf.entry) else {
-        return Err(DecodeFault::Memory);
-    };
-    let Ok(extensions) = Vec::from_slice(alloc, leaf.extensions) else {
-        return Err(DecodeFault::Memory);
-    };
+    let leaf = leaf_at(bytes)?;
+    let entry = copy_entry(alloc, leaf.entry)?;
+    let extensions = Vec::from_slice(alloc, leaf.extensions)?;
     Ok(Leaf {
         timestamp: leaf.timestamp,
         entry,
@@ -173,9 +154,7 @@ fn check_certificates(bytes: &[u8]) -> Result<(), DecodeFault>
 {
     let mut reader = Reader::new(bytes);
     'certificates: while !reader.is_at_end() {
-        if let Err(fault) = reader.certificate() {
-            return Err(fault);
-        }
+        reader.certificate()?;
     }
     Ok(())
 }
@@ -188,16 +167,9 @@ fn copy_certificates(alloc: Global, bytes: &[u8]) -> Result<Vec<Vec<u8>>, Decode
     let mut certificates = Vec::new(alloc);
     let mut reader = Reader::new(bytes);
     'certificates: while !reader.is_at_end() {
-        let certificate = match reader.certificate() {
-            Ok(certificate) => certificate,
-            Err(fault) => return Err(fault),
-        };
-        let Ok(copy) = Vec::from_slice(alloc, certificate) else {
-            return Err(DecodeFault::Memory);
-        };
-        let Ok(()) = certificates.push(copy) else {
-            return Err(DecodeFault::Memory);
-        };
+        let certificate = reader.certificate()?;
+        let copy = Vec::from_slice(alloc, certificate)?;
+        certificates.push(copy)?;
     }
     Ok(certificates)
 }
@@ -210,9 +182,7 @@ fn last_chain<'a>(reader: &mut Reader<'a>) -> Result<&'a [u8], DecodeFault>
     let Some(certificates) = reader.vector_3() else {
         return Err(DecodeFault::Truncated);
     };
-    if let Err(fault) = check_certificates(certificates) {
-        return Err(fault);
-    }
+    check_certificates(certificates)?;
     if !reader.is_at_end() {
         return Err(DecodeFault::Trailing);
     }
@@ -229,12 +199,6 @@ pub fn decode_chain(alloc: Global, bytes: &[u8]) -> Result<Vec<Vec<u8>>, DecodeF
     ensures fault { IfErr result (λ f. ChainFaulty f bytes.now) }
 {
     let mut reader = Reader::new(bytes);
-    let certificates = match last_chain(&mut reader) {
-        Ok(certificates) => certificates,
-        Err(fault) => return Err(fault),
-    };
-    match copy_certificates(alloc, certificates) {
-        Ok(copies) => Ok(copies),
-        Err(fault) => Err(fault),
-    }
+    let certificates = last_chain(&mut reader)?;
+    copy_certificates(alloc, certificates)
 }

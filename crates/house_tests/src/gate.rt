@@ -152,6 +152,18 @@ fn send_all(alloc: Global, mut intake: Intake, count: u32) -> Result<u64, Refusa
     Ok(accepted)
 }
 
+// How many submissions are accepted before the first refusal, and which that is. At most so many are sent.
+fn fill(alloc: Global, intake: &mut Intake, most: u32) -> Result<(u64, Option<Refusal>), Refusal> {
+    let mut accepted = 0u64;
+    for _ in 0..most {
+        match intake.send(submission(alloc, &[0x41])?) {
+            Ok(_) => accepted = accepted.saturating_add(1),
+            Err((refusal, _)) => return Ok((accepted, Some(refusal))),
+        }
+    }
+    Ok((accepted, None))
+}
+
 // How many of at most so many items the outlet gives. Their tickets rise and are below the bound.
 fn take_all(outlet: &mut Outlet, most: u32, bound: u64) -> Option<u64> {
     let mut taken = 0u64;
@@ -238,6 +250,24 @@ fn a_full_ring_takes_again_after_a_take(rt: HostRuntime) -> Result<(), Fail> {
         assert_eq!(rt; refused.map(|(refusal, _)| refusal), Some(Refusal::Full));
         assert_eq!(rt; outlet.take().map(|item| item.ticket), Some(round));
         assert!(rt; outlet.take().is_none());
+    }
+    Ok(())
+}
+
+#[test]
+fn a_ring_of_4096_places_is_filled_twice(rt: HostRuntime) -> Result<(), Fail> {
+    let alloc = rt.alloc();
+    let (_shutter, mut intakes, mut outlets) = open_gate(alloc, 1, 4096)?;
+    let (Some(mut intake), Some(mut outlet)) = (intakes.pop(), outlets.pop()) else {
+        panic!(rt; "one front")
+    };
+    for round in 1..3u64 {
+        assert_eq!(rt;
+            fill(alloc, &mut intake, 5000)?,
+            (4096, Some(Refusal::Full))
+        );
+        let tickets = round.saturating_mul(4096);
+        assert_eq!(rt; take_all(&mut outlet, 5000, tickets), Some(4096));
     }
     Ok(())
 }
