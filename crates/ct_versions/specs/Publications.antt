@@ -1,6 +1,7 @@
 -- The book of publications, and the rule that it keeps.
--- A book has a line for each shelf. Each publication stands in a line, and says at whose turn the next one of that line is made: the key of a word that isn't at home. The right to write that word is the right to make the next publication, and making it brings
--- the word home. So nobody else adds to a line.
+-- A book has a line for each shelf. Each publication stands in a line, and says at whose turn the next one of that line is made: the key
+-- of a word that isn't at home. The right to write that word is the right to make the next publication, and making it brings the word home.
+-- So nobody else adds to a line.
 use Rattle.std.specs.Prelude.{◌≡◌, ℕ, ◌-◌, ◌<◌, true, List, [], length, slice_get, slice_index_or, Some}
 use Rattle.logbook.specs.Pages.{Cell, Step, View, Book, Named, Nib, cell, may_make, may_write}
 use Rattle.ct_core.specs.Settlement.{Log, Lawful}

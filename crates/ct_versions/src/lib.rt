@@ -18,7 +18,5 @@ mod shelf;
 mod version;
 mod viewer;
 
-pub use publications::{Announcer, Law, Publication, Reached};
 pub use shelf::Shelf;
-pub use version::{Notes, OfOneLine, Sees, Version, VersionReader, VersionWriter};
 pub use viewer::{Bulletin, Viewer};
