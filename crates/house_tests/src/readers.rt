@@ -1,4 +1,4 @@
-ghost use Rattle.std.specs.Prelude.{◌≡◌, ◌<◌, length};
+ghost use Rattle.std.specs.Prelude.{◌≡◌, length};
 
 use crate::common::{head_of, submission};
 use crate::two_fronts::{Call, TwoFronts, head, house_after};
@@ -157,75 +157,70 @@ fn sizes_rise(alloc: Global, front: &mut Front) -> bool {
     fine
 }
 
-// A certificate is submitted, settled and published at a moment.
-fn grow<R: Threads + Wait + Sync>(
-    rt: &R,
-    alloc: Global,
-    house: &mut Sequencer,
-    front: &mut Front,
-    now: u8,
-) -> Result<(), Refusal>
-    requires { 0 < length house.old.lanes }
-    ensures { length house.new.lanes ≡ length house.old.lanes }
-{
-    match front.submit(submission(alloc, &[now])?) {
-        Ok(_) => {}
-        Err((refusal, _)) => return Err(refusal),
+// Submits a hundred certificates, of which each is one byte.
+fn submit_hundred(alloc: Global, front: &mut Front) -> Result<(), Refusal> {
+    for byte in 0..100u8 {
+        match front.submit(submission(alloc, &[byte])?) {
+            Ok(_) => {}
+            Err((refusal, _)) => return Err(refusal),
+        }
     }
-    house.take(rt, alloc, 0, 256, u64::from(now))?;
-    house.publish(rt, alloc, u64::from(now))?;
     Ok(())
 }
 
-// Publishes heads of sizes 1 to 100.
+// Settles one item and publishes it, at each of the moments 1 to 100. The size of the last head.
 fn publish_hundred<R: Threads + Wait + Sync>(
     rt: &R,
     alloc: Global,
     house: &mut Sequencer,
-    front: &mut Front,
-) -> Result<(), Refusal>
-    requires { 0 < length house.old.lanes }
+) -> Result<u64, Refusal>
+    requires { length house.old.lanes ≡ 2 }
 {
-    for now in 1..101u8 {
-        grow(rt, alloc, house, front, now)?;
+    let mut size = 0u64;
+    for now in 1..101u64 {
+        house.take(rt, alloc, 0, 1, now)?;
+        size = house.publish(rt, alloc, now)?.tree_size;
     }
-    Ok(())
+    Ok(size)
 }
 
-// Publishes a hundred heads in one thread beside 10,000 questions in another. Whether the sizes never fell.
+// Publishes a hundred heads in one thread beside 10,000 questions in another. Whether the sizes never fell, and the last size.
 fn reads_beside_publications<R: Threads + Wait + Sync>(
     rt: &R,
     alloc: Global,
     house: &mut Sequencer,
-    writing: &mut Front,
-    reading: &mut Front,
-) -> Result<bool, Refusal>
-    requires { 0 < length house.old.lanes }
+    front: &mut Front,
+) -> (bool, Result<u64, Refusal>)
+    requires { length house.old.lanes ≡ 2 }
 {
-    let (fine, ended) = join_mut(
+    join_mut(
         rt,
-        &mut || { sizes_rise(alloc, reading) },
+        &mut || { sizes_rise(alloc, front) },
         &mut ||
-            requires { 0 < length house.now.lanes }
-        { publish_hundred(rt, alloc, house, writing) },
-    );
-    ended?;
-    Ok(fine)
+            requires { length house.now.lanes ≡ 2 }
+        { publish_hundred(rt, alloc, house) },
+    )
 }
 
-fn reads_in_a_house<R: Threads + Wait + Sync>(rt: &R, alloc: Global) -> Result<bool, Refusal> {
-    let (mut house, mut fronts) = open(rt, alloc, 2, 4, 0)?;
+#[tactic(auto, using(crate::proofs::FrontLemmas::lanes_of_new_house))]
+fn reads_in_a_house<R: Threads + Wait + Sync>(
+    rt: &R,
+    alloc: Global,
+) -> Result<(bool, u64), Refusal> {
+    let (mut house, mut fronts) = open(rt, alloc, 2, 128, 0)?;
     let (Some(mut one), Some(mut zero)) = (fronts.pop(), fronts.pop()) else {
         house.abandon(rt, Vec::new(alloc));
         return Err(Refusal::MissingFront);
     };
-    let fine = reads_beside_publications(rt, alloc, &mut house, &mut zero, &mut one);
+    let submitted = submit_hundred(alloc, &mut zero);
+    let (fine, size) = reads_beside_publications(rt, alloc, &mut house, &mut one);
     house.abandon(rt, Vec::new(alloc));
-    fine
+    submitted?;
+    Ok((fine, size?))
 }
 
 #[test]
 fn sizes_never_fall_beside_publications(rt: HostRuntime) -> Result<(), Fail> {
-    assert_eq!(rt; reads_in_a_house(&rt, rt.alloc()), Ok(true));
+    assert_eq!(rt; reads_in_a_house(&rt, rt.alloc()), Ok((true, 100)));
     Ok(())
 }
