@@ -24,6 +24,12 @@ IsSettled core items = SettlesAs items core.entries core.settlement
 abbrev pub Begins : {X : Type 0} → List X → List X → Type 0
 Begins {X} xs ys = (rest : List X) × (ys ≡ xs ++ rest)
 
+-- the older state begins the newer one, in entries, settlement and heads
+pub record Extends (older newer : Log) : Type 0 where
+  pub entries : Begins older.entries newer.entries
+  pub settlement : Begins older.settlement newer.settlement
+  pub heads : Begins older.heads newer.heads
+
 -- what holds of every core
 pub record IsCore (core : CoreState) : Type 0 where
   pub lawful : Lawful core.published

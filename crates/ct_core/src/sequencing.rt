@@ -1,13 +1,14 @@
 //! The sequencing core.
 
 ghost use Rattle.std.specs.Prelude.{◌≡◌, ◌≤◌, ◌<◌, List, ℕ, [], ◌∷◌, ◌++◌, length, max, IfOk, IfErr, IsOkUnless, OnOk, OnErr, IsTrue, ◌↔◌, if◌then◌else◌, slice_get, Some, ◌-◌};
+ghost use Rattle.std.specs.Arc.{arc_value};
 ghost use Rattle.std.specs.Bool.{OnTrue};
 ghost use Rattle.ct_codec.specs.declared.item.Item.{Item};
 ghost use Rattle.ct_tree.specs.declared.head.Head.{Head};
 ghost use Rattle.ct_core.specs.Tree.{sha256_leaf};
 ghost use Rattle.ct_core.specs.Leaf.{leaf_at};
 ghost use Rattle.ct_core.specs.Settlement.{record_of, Lawful};
-ghost use Rattle.ct_core.specs.Core.{IsSettled, Begins, Grows, clock_of, newest_leaf, last_moment, settle_refusal, publish_refusal, new_core, IsNextHead, IsInTime, IsCovered, published_with, after_publishing};
+ghost use Rattle.ct_core.specs.Core.{IsSettled, Begins, Grows, clock_of, newest_leaf, last_moment, settle_refusal, publish_refusal, new_core, IsNextHead, IsInTime, IsCovered, Extends, published_with, after_publishing};
 
 use crate::entry::StoredEntry;
 use crate::published::Published;
@@ -24,7 +25,7 @@ use std::sync::Arc;
 /// their identities: an entry's index there is its leaf's index.
 #[derive(Drop)]
 pub struct Core {
-    published: Published,
+    published: Arc<Published>,
     entries: IndexSet<StoredEntry>,
     settlement: Vec<Settled>,
 }
@@ -51,7 +52,7 @@ impl Core {
         ensures lawful { IfOk result (λ c. Lawful c.published) }
         ensures memory { IsOkUnless result Refusal.Memory }
     {
-        let published = Published::open(alloc, now)?;
+        let published = Arc::new(alloc, Published::open(alloc, now)?)?;
         Ok(Core {
             published,
             entries: IndexSet::new(alloc),
@@ -155,6 +156,9 @@ impl Core {
     /// Refused as `publish` is.
     pub fn next(&self, alloc: Global, now: u64) -> Result<Published, Refusal>
         ensures state { IfOk result (λ p. (h : Head) × IsNextHead self.now now h × (p ≡ published_with self.now h)) }
+        ensures extends { IfOk result (λ p. Extends self.now.published p) }
+        ensures newer { IfOk result (λ p. length self.now.published.heads < length p.heads) }
+        ensures lawful { IfOk result (λ p. Lawful p) }
         ensures in_time { OnOk result (IsInTime self.now now) }
         ensures refused { IfErr result (λ e. e ≡ publish_refusal self.now now) }
     {
@@ -167,9 +171,9 @@ impl Core {
 
     /// Makes the publication of the state that `next` gave, with nothing settled or published since, and answers its last head.
     /// It takes no memory.
-    pub fn adopt(&mut self, next: Published) -> Head
-        requires { (h : Head) × IsNextHead self.old h.timestamp h × IsInTime self.old h.timestamp × (next ≡ published_with self.old h) }
-        ensures state { next ≡ published_with self.old result }
+    pub fn adopt(&mut self, next: Arc<Published>) -> Head
+        requires { (h : Head) × IsNextHead self.old h.timestamp h × IsInTime self.old h.timestamp × (arc_value next ≡ published_with self.old h) }
+        ensures state { arc_value next ≡ published_with self.old result }
         ensures after { self.new ≡ after_publishing self.old result }
     {
         let head = next.last_head();
@@ -191,7 +195,7 @@ impl Core {
     {
         // The clause `lawful` follows from the invariant of the type, which a look at a field brings in.
         let _ = &self.published;
-        let next = self.next(alloc, now)?;
+        let next = Arc::new(alloc, self.next(alloc, now)?)?;
         Ok(self.adopt(next))
     }
 
@@ -200,6 +204,18 @@ impl Core {
         ensures { IsTrue result ↔ IsCovered self.now }
     {
         self.pending().is_empty() && self.settlement.is_empty()
+    }
+
+    /// The published state, to be shared with others: nothing of it is copied.
+    ///
+    /// Refused with `Memory`.
+    pub fn share(&self) -> Result<Arc<Published>, Refusal>
+        ensures same { IfOk result (λ p. arc_value p ≡ self.now.published) }
+        ensures lawful { Lawful self.now.published }
+        ensures memory { IsOkUnless result Refusal.Memory }
+    {
+        let published = Arc::try_clone(&self.published)?;
+        Ok(published)
     }
 
     /// The published state.

@@ -2,6 +2,7 @@ use crate::settled_log::{opened, publish, receipt, record, settle, settle_submis
 use ct_codec::{Refusal, Submission, extra_data, identity};
 use ct_core::{Core, LeafTable, Published};
 use ct_tree::Head;
+use std::sync::Arc;
 use std::test::Fail;
 
 // The leaves of the certificates 41 and 42 at the moment 10 (RFC 6962, section 3.4).
@@ -110,7 +111,7 @@ fn moments_that_the_clock_refuses(rt: HostRuntime) -> Result<(), Fail> {
 #[test]
 fn the_next_state_is_adopted(rt: HostRuntime) -> Result<(), Fail> {
     let mut core = repeated(&rt)?;
-    let next = core.next(rt.alloc(), 11)?;
+    let next = Arc::new(rt.alloc(), core.next(rt.alloc(), 11)?)?;
     assert!(rt; next.heads().len() == 3 && core.published().heads().len() == 2);
     let head = core.adopt(next);
     assert!(rt; head.tree_size == 2 && head.timestamp == 11 && core.clock() == 11);

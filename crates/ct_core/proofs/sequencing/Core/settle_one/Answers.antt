@@ -1,4 +1,5 @@
 use Rattle.std.proofs.Common.{◌≡◌, List, [], ◌∷◌, ◌++◌, ap, sym, ◌∙◌, subst, ◌≤◌, ℕ}
+use Rattle.std.specs.Arc.{arc_value}
 use Rattle.ct_codec.specs.Submitted.{Submitted}
 use Rattle.ct_core.specs.declared.settled.Settled.{Settled}
 use Rattle.ct_core.specs.Core.{clock_of, entry_at}
@@ -13,7 +14,7 @@ invariant_of-self-2 c =
     let clock = c.clock.ensures ∙ ap clock_of (sym c.self.view_is) in
     let entry : c.new-entry.result ≡ entry_at c.args.now c.args.item = c.new-entry.ensures.value ∙ ap (λ (s : Submitted). let e : Entry = record { submission = s; timestamp = c.args.now } in e) c.in-Ok.ensures.ok in
     let later : c.push_reserved.new.list.items ≡ a.settlement.items ++ placed_record c.args.item p.result.0 p.result.1 ∷ [] = c.push_reserved.ensures ∙ ap (λ (rs : List Settled). rs ++ placed_record c.args.item p.result.0 p.result.1 ∷ []) c.reserve.ensures.items in
-    let all = settles a.published a.entries.keys c.reserve-2.new.self.keys p.new.known.keys a.settlement.items c.push_reserved.new.list.items c.args.item c.new-entry.result c.args.now c.clock.result p.result.0 p.result.1 c.self.invariant c.new-entry.ensures.texts clock c.if-now-clock.false c.reserve-2.ensures.keys entry p.ensures.place p.ensures.first p.ensures.added later in
+    let all = settles (arc_value a.published) a.entries.keys c.reserve-2.new.self.keys p.new.known.keys a.settlement.items c.push_reserved.new.list.items c.args.item c.new-entry.result c.args.now c.clock.result p.result.0 p.result.1 c.self.invariant c.new-entry.ensures.texts clock c.if-now-clock.false c.reserve-2.ensures.keys entry p.ensures.place p.ensures.first p.ensures.added later in
     all.core
 
 pub returns-clause-settled : goal.returns-clause-settled
@@ -23,7 +24,7 @@ returns-clause-settled c =
     let clock = c.clock.ensures ∙ ap clock_of (sym c.self.view_is) in
     let entry : c.new-entry.result ≡ entry_at c.args.now c.args.item = c.new-entry.ensures.value ∙ ap (λ (s : Submitted). let e : Entry = record { submission = s; timestamp = c.args.now } in e) c.in-Ok.ensures.ok in
     let later : c.push_reserved.new.list.items ≡ a.settlement.items ++ placed_record c.args.item p.result.0 p.result.1 ∷ [] = c.push_reserved.ensures ∙ ap (λ (rs : List Settled). rs ++ placed_record c.args.item p.result.0 p.result.1 ∷ []) c.reserve.ensures.items in
-    let all = settles a.published a.entries.keys c.reserve-2.new.self.keys p.new.known.keys a.settlement.items c.push_reserved.new.list.items c.args.item c.new-entry.result c.args.now c.clock.result p.result.0 p.result.1 c.self.invariant c.new-entry.ensures.texts clock c.if-now-clock.false c.reserve-2.ensures.keys entry p.ensures.place p.ensures.first p.ensures.added later in
+    let all = settles (arc_value a.published) a.entries.keys c.reserve-2.new.self.keys p.new.known.keys a.settlement.items c.push_reserved.new.list.items c.args.item c.new-entry.result c.args.now c.clock.result p.result.0 p.result.1 c.self.invariant c.new-entry.ensures.texts clock c.if-now-clock.false c.reserve-2.ensures.keys entry p.ensures.place p.ensures.first p.ensures.added later in
     rw (← c.self.view_is) all.grows
 
 pub returns-clause-in_time : goal.returns-clause-in_time
@@ -33,7 +34,7 @@ returns-clause-in_time c =
     let clock = c.clock.ensures ∙ ap clock_of (sym c.self.view_is) in
     let entry : c.new-entry.result ≡ entry_at c.args.now c.args.item = c.new-entry.ensures.value ∙ ap (λ (s : Submitted). let e : Entry = record { submission = s; timestamp = c.args.now } in e) c.in-Ok.ensures.ok in
     let later : c.push_reserved.new.list.items ≡ a.settlement.items ++ placed_record c.args.item p.result.0 p.result.1 ∷ [] = c.push_reserved.ensures ∙ ap (λ (rs : List Settled). rs ++ placed_record c.args.item p.result.0 p.result.1 ∷ []) c.reserve.ensures.items in
-    let all = settles a.published a.entries.keys c.reserve-2.new.self.keys p.new.known.keys a.settlement.items c.push_reserved.new.list.items c.args.item c.new-entry.result c.args.now c.clock.result p.result.0 p.result.1 c.self.invariant c.new-entry.ensures.texts clock c.if-now-clock.false c.reserve-2.ensures.keys entry p.ensures.place p.ensures.first p.ensures.added later in
+    let all = settles (arc_value a.published) a.entries.keys c.reserve-2.new.self.keys p.new.known.keys a.settlement.items c.push_reserved.new.list.items c.args.item c.new-entry.result c.args.now c.clock.result p.result.0 p.result.1 c.self.invariant c.new-entry.ensures.texts clock c.if-now-clock.false c.reserve-2.ensures.keys entry p.ensures.place p.ensures.first p.ensures.added later in
     rw (← c.self.view_is) (subst (λ (n : ℕ). n ≤ c.args.now) clock c.if-now-clock.false, all.clock)
 
 pub returns-clause-begins : goal.returns-clause-begins
@@ -43,5 +44,5 @@ returns-clause-begins c =
     let clock = c.clock.ensures ∙ ap clock_of (sym c.self.view_is) in
     let entry : c.new-entry.result ≡ entry_at c.args.now c.args.item = c.new-entry.ensures.value ∙ ap (λ (s : Submitted). let e : Entry = record { submission = s; timestamp = c.args.now } in e) c.in-Ok.ensures.ok in
     let later : c.push_reserved.new.list.items ≡ a.settlement.items ++ placed_record c.args.item p.result.0 p.result.1 ∷ [] = c.push_reserved.ensures ∙ ap (λ (rs : List Settled). rs ++ placed_record c.args.item p.result.0 p.result.1 ∷ []) c.reserve.ensures.items in
-    let all = settles a.published a.entries.keys c.reserve-2.new.self.keys p.new.known.keys a.settlement.items c.push_reserved.new.list.items c.args.item c.new-entry.result c.args.now c.clock.result p.result.0 p.result.1 c.self.invariant c.new-entry.ensures.texts clock c.if-now-clock.false c.reserve-2.ensures.keys entry p.ensures.place p.ensures.first p.ensures.added later in
+    let all = settles (arc_value a.published) a.entries.keys c.reserve-2.new.self.keys p.new.known.keys a.settlement.items c.push_reserved.new.list.items c.args.item c.new-entry.result c.args.now c.clock.result p.result.0 p.result.1 c.self.invariant c.new-entry.ensures.texts clock c.if-now-clock.false c.reserve-2.ensures.keys entry p.ensures.place p.ensures.first p.ensures.added later in
     rw (← c.self.view_is) all.begins

@@ -1,0 +1,39 @@
+use Rattle.std.proofs.Common.{◌≡◌, List, [], ◌∷◌, ◌++◌, map, reverse, length, ap, sym, ◌∙◌, subst, arith}
+use Rattle.std.proofs.lemmas.List.{nil_from_length}
+use Rattle.std.proofs.lemmas.List.Elements.{All-pop, All-cons, All-same}
+use Rattle.std.specs.Prelude.{Some}
+use Rattle.ct_gate.specs.Ends.{IntakeView}
+use Rattle.ct_house.specs.House.{FrontView, AreConsistent}
+use Rattle.ct_house.proofs.FinishLemmas.{moved_more, done_more, where_none}
+use Rattle.ct_house.proofs.sequencer.intakes_of.Goals as goal
+
+pub loop-end-preserved : goal.loop-end-preserved
+loop-end-preserved c =
+    let l = c.loop-end in
+    let (same, room, series, moved) = l.invariant in
+    let (done, all, fine) = moved in
+    let rest = c.pop.new.self.items in
+    let x : FrontView = c.in-Some.end in
+    let e : l.ends.items ≡ rest ++ x ∷ [] = c.in-Some.ensures.items in
+    let intake = ap (λ (f : FrontView). f.intake) c.end.view_is in
+    let is : AreConsistent x.sight.seen c.args.bulletin.now.seen = subst (λ (f : FrontView). AreConsistent f.sight.seen c.args.bulletin.now.seen) c.end.view_is c.learn.ensures.one in
+    let left = c.in-Some.ensures.cases in
+    let size = c.push_reserved.ensures.len in
+    let capacity = c.push_reserved.ensures.capacity in (
+      ap (λ (is : List IntakeView). map (λ (f : FrontView). f.intake) rest ++ reverse is) (c.push_reserved.ensures.items ∙ ap (λ (i : IntakeView). l.room.items ++ i ∷ []) intake)
+          ∙ moved_more c.args.ends.items l.ends.items rest l.room.items x e same,
+      omega arith,
+      (All-pop (λ (f : FrontView). f.sight.series ≡ c.args.bulletin.now.series) l.ends.items rest (Some x) e series).0,
+      (x ∷ done, done_more c.args.ends.items l.ends.items rest done x e all, All-cons (λ (f : FrontView). AreConsistent f.sight.seen c.args.bulletin.now.seen) x done is fine),
+    )
+
+pub returns-clause-consistent : goal.returns-clause-consistent
+returns-clause-consistent c =
+    let l = c.loop-end in
+    let (same, room, series, moved) = l.invariant in
+    let (done, all, fine) = moved in
+    let none = where_none _ _ c.pop.result c.in_default.not-Some c.in_default.ensures.cases in
+    let stored = l.ends.ok.0 in
+    let size = none.0 in
+    let empty : l.ends.items ≡ [] = nil_from_length l.ends.items (omega arith) in
+    All-same (λ (f : FrontView). AreConsistent f.sight.seen c.args.bulletin.now.seen) c.args.ends.items done (all ∙ ap (λ (es : List FrontView). es ++ done) empty) fine

@@ -1,0 +1,148 @@
+//! The writer: it announces what is published, and shows it.
+
+ghost use Rattle.std.specs.Prelude.{◌≡◌, ◌<◌, ◌^◌, drop, length, IfOk, IsOkUnless, MatchResult, Some};
+ghost use Rattle.std.specs.Arc.{arc_value};
+ghost use Rattle.left_right.specs.Sides.{view};
+ghost use Rattle.ct_core.specs.Settlement.{Lawful};
+ghost use Rattle.ct_core.specs.Core.{Extends};
+ghost use Rattle.ct_versions.specs.Publications.{series_of};
+ghost use Rattle.ct_versions.specs.Sights.{last_of};
+
+use crate::publications::Announcer;
+use crate::version::{Notes, Sees, Version, VersionWriter};
+use crate::viewer::{Bulletin, Viewer};
+use core::mem::replace_with;
+use ct_codec::Refusal;
+use ct_core::Published;
+use std::alloc::{AllocError, Global};
+use std::marker::Model;
+use std::sync::{Arc, Wait};
+
+/// Where published states are shown. It can't be dropped: `close` ends it. Contracts see whose publications these are, and the newest
+/// state.
+pub struct Shelf {
+    writer: VersionWriter,
+    announcer: Announcer,
+}
+
+impl Model for Shelf {
+    ghost use Rattle.std.specs.Prelude.{◌≡◌};
+    ghost use Rattle.left_right.specs.Sides.{view as view_of};
+    ghost use Rattle.ct_versions.specs.Publications.{series_of};
+    ghost use Rattle.ct_versions.specs.Sights.{Sight, sight_of, Knows};
+
+    ghost Value = { Sight };
+
+    ghost view = { λ s. sight_of s.announcer };
+
+    ghost invariant = { λ s. (series_of s.writer.desk.shown.value ≡ series_of s.announcer) × Knows (series_of s.announcer) (view_of s.writer.desk.place) };
+}
+
+// Shows what was taken in, unless memory is refused.
+fn turn<R: Wait>(writer: VersionWriter, rt: &R) -> (VersionWriter, Result<(), AllocError>)
+    requires { series_of (last_of writer.desk.shown.value (drop writer.behind writer.log.items)) ≡ series_of writer.desk.shown.value }
+    ensures series { series_of result.0.desk.shown.value ≡ series_of writer.desk.shown.value }
+    ensures view { MatchResult result.1 (λ _. view result.0.desk.place ≡ Some result.0.desk.shown.value) (λ _. view result.0.desk.place ≡ view writer.desk.place) }
+{
+    writer.publish_as::<Sees, R>(rt)
+}
+
+impl Shelf {
+    /// Shows a first state, with room for so many viewers. It waits for nobody, since there is no viewer yet.
+    ///
+    /// Refused with `Memory`.
+    pub fn open<R: Wait>(
+        rt: &R,
+        alloc: Global,
+        state: Arc<Published>,
+        viewers: usize,
+    ) -> Result<Shelf, Refusal>
+        requires viewers { (0 < viewers) × (viewers < 2 ^ 32) }
+        requires lawful { Lawful (arc_value state) }
+        ensures seen { IfOk result (λ s. s.seen ≡ arc_value state) }
+        ensures memory { IsOkUnless result Refusal.Memory }
+    {
+        let other = Arc::try_clone(&state)?;
+        let third = Arc::try_clone(&state)?;
+        let announcer = Announcer::open(&state);
+        let first = Version::new(state, announcer.reached());
+        let second = Version::new(other, announcer.reached());
+        let again = Version::new(third, announcer.reached());
+        let mut writer = VersionWriter::new(alloc, first, second, viewers)?;
+        // This makes the room that later publications take. Where it is refused, they ask for it again.
+        let _ = writer.append(again);
+        let (writer, done) = turn(writer, rt);
+        match done {
+            Ok(()) => Ok(Shelf { writer, announcer }),
+            Err(refused) => {
+                writer.take(rt);
+                Err(refused.into())
+            }
+        }
+    }
+
+    /// One more that looks, and has seen the newest state.
+    ///
+    /// Refused with `Memory`, also where there are as many viewers as there is room for.
+    pub fn viewer(&mut self) -> Result<Viewer, Refusal>
+        ensures same { self.new ≡ self.old }
+        ensures viewer { IfOk result (λ v. v ≡ self.old) }
+        ensures memory { IsOkUnless result Refusal.Memory }
+    {
+        let mut reader = self.writer.factory().reader()?;
+        reader.learn::<Notes>(self.writer.tell::<Notes>());
+        Ok(Viewer::new(reader, self.announcer.reached()))
+    }
+
+    /// A token of all publications so far.
+    pub fn bulletin(&self) -> Bulletin
+        ensures { result ≡ self.now }
+    {
+        Bulletin::new(self.announcer.reached())
+    }
+
+    // Shows a version of this line.
+    fn show<R: Wait>(&mut self, rt: &R, version: Version)
+        requires { series_of version ≡ self.old.series }
+        ensures { self.new ≡ self.old }
+    {
+        if self.writer.append(version).is_ok() {
+            let _ = replace_with(
+                &mut self.writer,
+                rt,
+                |writer: VersionWriter, rt: &R| -> (VersionWriter, Result<(), AllocError>)
+                    requires { series_of (last_of writer.desk.shown.value (drop writer.behind writer.log.items)) ≡ series_of writer.desk.shown.value }
+                    ensures series { series_of result.0.desk.shown.value ≡ series_of writer.desk.shown.value }
+                    ensures view { MatchResult result.1 (λ _. view result.0.desk.place ≡ Some result.0.desk.shown.value) (λ _. view result.0.desk.place ≡ view writer.desk.place) }
+                { turn(writer, rt) },
+            );
+        }
+    }
+
+    /// Publishes a state that the newest one begins, with a head more, and shows it. It waits for those that still look at the state
+    /// before the newest one.
+    ///
+    /// The state is published in any case. Where memory is refused for showing it, it is shown with the next one; there is room for
+    /// it from `open` on.
+    pub fn publish<R: Wait>(&mut self, rt: &R, next: Arc<Published>)
+        requires extends { Extends self.old.seen (arc_value next) }
+        requires newer { length self.old.seen.heads < length (arc_value next).heads }
+        requires lawful { Lawful (arc_value next) }
+        ensures series { self.new.series ≡ self.old.series }
+        ensures seen { self.new.seen ≡ arc_value next }
+    {
+        let announcer = &mut self.announcer;
+        announcer.announce(&next);
+        let version = Version::new(next, announcer.reached());
+        self.show(rt, version);
+    }
+
+    /// Waits until nobody looks, and ends it.
+    pub fn close<R: Wait>(self, rt: &R) {
+        let Shelf {
+            writer,
+            announcer: _,
+        } = self;
+        writer.take(rt);
+    }
+}
