@@ -4,7 +4,7 @@ use Rattle.std.proofs.lemmas.List.Elements.{All-pop, All-cons, All-same}
 use Rattle.std.specs.Prelude.{Some}
 use Rattle.ct_gate.specs.Ends.{IntakeView}
 use Rattle.ct_house.specs.House.{FrontView, AreConsistent}
-use Rattle.ct_house.proofs.FinishLemmas.{moved_more, done_more, where_none}
+use Rattle.ct_house.proofs.FinishLemmas.{moved_more, done_more}
 use Rattle.ct_house.proofs.sequencer.intakes_of.Goals as goal
 
 pub loop-end-preserved : goal.loop-end-preserved
@@ -32,8 +32,7 @@ returns-clause-consistent c =
     let l = c.loop-end in
     let (same, room, series, moved) = l.invariant in
     let (done, all, fine) = moved in
-    let none = where_none _ _ c.pop.result c.in_default.not-Some c.in_default.ensures.cases in
     let stored = l.ends.ok.0 in
-    let size = none.0 in
+    let size = c.in_default.ensures.cases.0 in
     let empty : l.ends.items ≡ [] = nil_from_length l.ends.items (omega arith) in
     All-same (λ (f : FrontView). AreConsistent f.sight.seen c.args.bulletin.now.seen) c.args.ends.items done (all ∙ ap (λ (es : List FrontView). es ++ done) empty) fine
