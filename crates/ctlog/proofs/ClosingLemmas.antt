@@ -1,16 +1,15 @@
 -- What the closing leaves.
-use Rattle.std.proofs.Common.{◌≡◌, ◌⊎◌, ◌<◌, ◌≤◌, ◌+◌, ℕ, List, [], ◌∷◌, ◌++◌, map, Bool, true, false, refl, sym, ap, subst, ◌∙◌, arith, append_assoc, append-nil, inl, inr}
+use Rattle.std.proofs.Common.{◌≡◌, ◌⊎◌, ◌<◌, ◌≤◌, ◌+◌, ℕ, List, Bool, true, false, refl, sym, ap, subst, ◌∙◌, arith, inl, inr}
 use Rattle.std.specs.Prelude.{◌||◌, if◌then◌else◌, nat_lt, Result, Ok, Err, IfErr, IfOk, OnOk}
-use Rattle.std.proofs.lemmas.Grind.{common_steps}
 use Rattle.std.proofs.lemmas.Bool.{ltb-true}
 use Rattle.ct_codec.specs.declared.item.Item.{Item}
 use Rattle.ct_codec.specs.declared.refusal.Refusal.{Refusal}
 use Rattle.ct_codec.specs.declared.refusal.Refusal.TheVariants.{ClockBack, Memory}
 use Rattle.ct_tree.specs.declared.head.Head.{Head}
 use Rattle.ct_core.specs.Leaf.{Entry}
-use Rattle.ct_core.specs.Settlement.{Log, firsts_after}
+use Rattle.ct_core.specs.Settlement.{Log}
 use Rattle.ct_core.specs.declared.settled.Settled.{Settled}
-use Rattle.ct_core.specs.Core.{Begins, CoreState, IsNextHead, after_publishing, IsSettled, newest_leaf, last_moment, clock_of, entry_at, publish_refusal}
+use Rattle.ct_core.specs.Core.{Begins, CoreState, IsNextHead, after_publishing, newest_leaf, last_moment, clock_of, publish_refusal}
 use Rattle.ct_house.specs.House.{FrontView, HouseState, SettlesMore}
 use Rattle.ctlog.specs.ClosedLog.{EndsAt, IsClosingFault, IsLate, IsReady, IsRefusedAtClosing, KeepsSettled}
 use Rattle.ctlog.specs.Faults.{IsRefusalFault}

@@ -1,29 +1,17 @@
 -- What a parse of the command line gives.
-use Rattle.std.proofs.Common.{◌==◌, ◌++◌, ◌||◌, ◌&&◌, ◌≡◌, ◌⊎◌, ◌∙◌, ◌<◌, ◌≤◌, ap, ℕ, ℤ, Bool, true, false, not, List, [], ◌∷◌, length, is_some, Option, Some, None, refl, sym, subst, inl, inr, arith, ◌^◌, zero, suc, map, true≢false}
-use Rattle.std.specs.List.{All, slice_index_or}
+use Rattle.std.proofs.Common.{◌==◌, ◌&&◌, ◌≡◌, ◌⊎◌, ◌∙◌, ◌<◌, ap, ℕ, Bool, true, false, not, List, [], ◌∷◌, length, is_some, Option, Some, None, refl, sym, subst, inl, inr, arith, zero, suc, map, true≢false}
+use Rattle.std.specs.List.{slice_index_or}
 use Rattle.std.specs.Str.{bytes_eq}
-use Rattle.std.specs.Prelude.{option_map, slice_get, unwrap_or, pos, Ok, Err, Result, codes}
-use Rattle.std.specs.Borrow.{Bor}
-use Rattle.std.specs.Str.Parse.{ParsesUnsigned, digits_value, without_leading_plus}
+use Rattle.std.specs.Prelude.{codes}
 use Rattle.std.proofs.lemmas.Bool.{eqb-true, eq-eqb}
-use Rattle.std.proofs.lemmas.List.Elements.{All-get_or}
-use Rattle.clap.specs.Lexer.{without_minus}
-use Rattle.clap.specs.Facts.{args_of, groups_of, Entry, EntryPasses, ValuesPass, PassesArg, HasReading, least_values, parser_of, parser_of_value}
-use Rattle.clap.specs.Built.{IsPlain, IsPlainArg, IsParsedFrom, IsAuto, SameRules}
-use Rattle.clap.specs.Matches.{matched_of, first_value, one_text, found_of, ReadsOne}
+use Rattle.clap.specs.Facts.{args_of, groups_of}
+use Rattle.clap.specs.Built.{IsPlain, IsPlainArg, IsAuto}
 use Rattle.clap.specs.Walk.{is_empty, is_simple_arg, is_free_arg}
 use Rattle.clap.specs.Simple.{has_plain_fields}
 use Rattle.clap.specs.Words.{App, Rule, app_of, rule_of}
-use Rattle.clap.specs.declared.parser.matches.Found.{Found}
-use Rattle.clap.specs.declared.parser.matches.MatchedArg.{MatchedArg}
-use Rattle.clap.specs.declared.parser.matches.ArgMatches.{ArgMatches}
-use Rattle.clap.specs.Values.{Accepts, read_as, reading_of}
-use Rattle.clap.specs.declared.builder.value_parser.Reading.{Reading}
-use Rattle.clap.specs.declared.builder.value_parser.ValueParser.{ValueParser}
 use Rattle.clap.specs.declared.builder.arg.Arg.{Arg}
 use Rattle.clap.specs.declared.builder.command.Command.{Command}
 use Rattle.clap.specs.declared.builder.command.Command.TheViews.{out-Command}
-use Rattle.clap.proofs.CallerLemmas.{entry_by_id, same_rules_by_id}
 use Rattle.ctlog.specs.CommandLine.{ctlog_app, fronts_rule, ring_rule, open_at_rule, close_at_rule}
 
 -- ---- what the command's rules say of its arguments

@@ -1,18 +1,18 @@
 -- What a parse reads of the options, and which number that is.
-use Rattle.std.proofs.Common.{◌++◌, ◌||◌, ◌≡◌, ◌⊎◌, ◌∙◌, ◌<◌, ◌≤◌, ap, ℕ, ℤ, Bool, true, false, List, [], ◌∷◌, length, is_some, Option, Some, None, refl, sym, subst, inl, inr, arith, ◌^◌, zero, suc, map}
+use Rattle.std.proofs.Common.{◌≡◌, ◌⊎◌, ◌∙◌, ◌<◌, ◌≤◌, ap, ℕ, Bool, true, false, List, [], ◌∷◌, length, is_some, Option, Some, None, refl, sym, subst, inl, inr, arith, ◌^◌, zero, suc}
 use Rattle.std.specs.List.{All, slice_index_or}
 use Rattle.std.specs.Str.{bytes_eq}
 use Rattle.std.specs.Prelude.{option_map, slice_get, unwrap_or, pos, Ok, Err, Result, codes}
 use Rattle.std.specs.Borrow.{Bor}
-use Rattle.std.specs.Str.Parse.{ParsesUnsigned, ExplainsUnsignedError, HasUnsignedDigitsIfOk, digits_value, without_leading_plus}
+use Rattle.std.specs.Str.Parse.{ParsesUnsigned, digits_value, without_leading_plus}
 use Rattle.std.proofs.lemmas.Slice.Eq.{bytes_eq-Decides}
 use Rattle.std.proofs.lemmas.List.Elements.{All-get_or}
 use Rattle.clap.specs.Lexer.{without_minus}
 use Rattle.clap.specs.Facts.{args_of, groups_of, Entry, EntryPasses, ValuesPass, PassesArg, HasReading, least_values, parser_of, parser_of_value, unwrap_or_range}
 use Rattle.clap.specs.declared.builder.range.ValueRange.{ValueRange}
-use Rattle.clap.specs.Built.{IsPlain, IsParsedFrom, IsAuto, SameRules}
+use Rattle.clap.specs.Built.{IsParsedFrom, IsAuto, SameRules}
 use Rattle.clap.specs.Matches.{matched_of, first_value, one_text, found_of, ReadsOne}
-use Rattle.clap.specs.Words.{App, Rule, Text, app_of, rule_of, rows_of, matches_of, one_of}
+use Rattle.clap.specs.Words.{Rule, Text, app_of, rule_of, rows_of, matches_of, one_of}
 use Rattle.clap.specs.declared.parser.matches.Found.{Found}
 use Rattle.clap.specs.declared.parser.matches.MatchedArg.{MatchedArg}
 use Rattle.clap.specs.declared.parser.matches.ArgMatches.{ArgMatches}
@@ -23,11 +23,10 @@ use Rattle.clap.specs.declared.builder.value_parser.ValueParser.{ValueParser}
 use Rattle.clap.specs.declared.builder.value_parser.ValueParser.TheVariants.{Signed, Unsigned}
 use Rattle.clap.specs.declared.builder.arg.Arg.{Arg}
 use Rattle.clap.specs.declared.builder.command.Command.{Command}
-use Rattle.clap.specs.declared.builder.command.Command.TheViews.{out-Command}
 use Rattle.clap.proofs.CallerLemmas.{entry_by_id, same_rules_by_id}
 use Rattle.clap.proofs.CallerReads.{required_reads, signed_reads}
 use Rattle.clap.proofs.WalkLemmas.{one_text-rows}
-use Rattle.ctlog.specs.CommandLine.{ctlog_app, fronts_rule, ring_rule, open_at_rule, close_at_rule, number_given, latest_moment}
+use Rattle.ctlog.specs.CommandLine.{ctlog_app, number_given, latest_moment}
 use Rattle.ctlog.proofs.CommandLemmas.{option_rules, many, rule_at, all_plain, plain_fields, unique_ids, own_id, has_name, no_delimiter}
 
 -- ---- what an entry of the matches says of its text

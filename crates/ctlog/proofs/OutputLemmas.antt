@@ -1,9 +1,9 @@
 -- What was written, piece by piece.
-use Rattle.std.proofs.Common.{◌≡◌, ◌⊎◌, ℕ, List, [], ◌++◌, refl, sym, ap, subst, ◌∙◌, append-nil, inl, inr}
+use Rattle.std.proofs.Common.{◌≡◌, ℕ, List, [], ◌++◌, refl, sym, ap, subst, ◌∙◌, append-nil, inl, inr}
 use Rattle.std.specs.Prelude.{Option, Some, Result, Ok, Err, OnErr, IsErrAnd, IfErr}
 use Rattle.std.specs.Io.KnownBytes.{Appends, Keeps, Consumes, IsAtEnd}
-use Rattle.ct_core.specs.Settlement.{Log, IsFinal}
-use Rattle.ct_house.specs.House.{HouseState, FrontView, accepted_lists}
+use Rattle.ct_core.specs.Settlement.{Log}
+use Rattle.ct_house.specs.House.{HouseState, FrontView}
 use Rattle.ct_lines.specs.Frozen.{frozen_text}
 use Rattle.ctlog.specs.declared.party.FrontParty.{FrontParty}
 use Rattle.ctlog.specs.declared.party.OperatorParty.{OperatorParty}

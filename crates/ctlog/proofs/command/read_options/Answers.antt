@@ -1,11 +1,11 @@
-use Rattle.std.proofs.Common.{◌≡◌, ◌⊎◌, ◌∙◌, ◌≤◌, ap, sym, subst, refl, arith, codes, inl, inr, map, true, ℕ, List, [], Option, Some, None}
-use Rattle.std.specs.Prelude.{Result, Ok, Err, MatchResult, IsErrAnd, unwrap_or, option_map}
+use Rattle.std.proofs.Common.{◌≡◌, ◌∙◌, ap, sym, subst, refl, arith, codes, inl, inr, map, true, ℕ, List, [], Option, Some, None}
+use Rattle.std.specs.Prelude.{Result, Ok, Err, MatchResult, IsErrAnd, unwrap_or}
 use Rattle.std.specs.Str.Parse.{ParsesUnsigned, ExplainsUnsignedError, HasUnsignedDigitsIfOk}
 use Rattle.clap.specs.Built.{IsParsedFrom}
 use Rattle.clap.specs.Lexer.{without_minus}
 use Rattle.clap.specs.Kinds.{IsAmong, Kinds}
 use Rattle.clap.specs.declared.error.Error.{Error}
-use Rattle.clap.specs.Words.{App, Text, app_of, fault_of, found_of, is_simple, is_simple_and_free, kind_of, matches_of, rows_of}
+use Rattle.clap.specs.Words.{App, Text, fault_of, found_of, is_simple, is_simple_and_free, kind_of, matches_of, rows_of}
 use Rattle.ctlog.specs.CommandLine.{CommandLine, IsRefusalOf, command_line, by_fault, ctlog_app, latest_moment, log_with, number_given}
 use Rattle.ctlog.proofs.OptionLemmas.{close_at_text, fronts_text, given_is, number, open_at_text, ring_text, signed_read, unsigned_read}
 use Rattle.ctlog.proofs.FaultKinds.{error_says}
