@@ -3,16 +3,17 @@ use Rattle.std.proofs.Common.{◌≡◌, ℕ, suc, List, [], ◌∷◌, ◌++◌
 use Rattle.std.proofs.lemmas.List.Elements.{All-cons}
 use Rattle.std.specs.Global.{Global}
 use Rattle.std.specs.Prelude.{All, Some, Vec, slice_get}
-use Rattle.ct_gate.specs.Ends.{IntakeView, SameIntake}
+use Rattle.ctlog.specs.FrontWork.{FrontGoesOn}
 use Rattle.ct_house.specs.House.{HouseName, FrontView, IsOfHouse, numbers_of}
 use Rattle.ctlog.specs.Parties.{AreSame, FrontIsServed, FrontsServe}
 use Rattle.ctlog.specs.declared.party.FrontParty.{FrontParty}
 use Rattle.ctlog.specs.declared.task.FrontTask.{FrontTask}
 
-of_house : (house : HouseName) (a b : FrontView) → SameIntake a.intake b.intake → IsOfHouse house a → IsOfHouse house b
-of_house house a b same own = record {
-  gate = same.0 ∙ own.gate;
-  ring = ap (slice_get house.rings) (same.1) ∙ own.ring ∙ ap Some (sym (same.2));
+of_house : (house : HouseName) (a b : FrontView) → FrontGoesOn a b → IsOfHouse house a → IsOfHouse house b
+of_house house a b on own = record {
+  gate = on.same.0 ∙ own.gate;
+  ring = ap (slice_get house.rings) (on.same.1) ∙ own.ring ∙ ap Some (sym (on.same.2));
+  series = on.moves.series ∙ own.series;
 }
 
 pub are_of_house : (house : HouseName) (xs ys : List FrontView) → AreSame xs ys → All (IsOfHouse house) xs → All (IsOfHouse house) ys
@@ -26,13 +27,13 @@ pub same_numbers : (xs ys : List FrontView) → AreSame xs ys → numbers_of ys 
 same_numbers [] [] same = refl
 same_numbers [] (b ∷ ys) same = absurd same
 same_numbers (a ∷ xs) [] same = absurd same
-same_numbers (a ∷ xs) (b ∷ ys) (same, rest) = ap (λ (n : ℕ). n ∷ numbers_of ys) (same.1) ∙ ap (λ (ns : List ℕ). a.intake.number ∷ ns) (same_numbers xs ys rest)
+same_numbers (a ∷ xs) (b ∷ ys) (on, rest) = ap (λ (n : ℕ). n ∷ numbers_of ys) (on.same.1) ∙ ap (λ (ns : List ℕ). a.intake.number ∷ ns) (same_numbers xs ys rest)
 
 pub fronts_same : (ps : List FrontParty) (fs : List FrontView) (text : List ℕ) → FrontsServe ps fs text → AreSame (map (λ (p : FrontParty). p.front) ps) fs
 fronts_same [] [] text s = tt
 fronts_same [] (f ∷ fs) text s = absurd s
 fronts_same (p ∷ ps) [] text s = absurd s
-fronts_same (p ∷ ps) (f ∷ fs) text (own, rest, one, others, e) = (one.same, fronts_same ps fs rest others)
+fronts_same (p ∷ ps) (f ∷ fs) text (own, rest, one, others, e) = (one.goes_on, fronts_same ps fs rest others)
 
 fronts_serve_one : (ps : List FrontParty) (fs : List FrontView) (text own more : List ℕ) (p : FrontParty) (f : FrontView)
     → FrontsServe ps fs text → FrontIsServed p f own → more ≡ text ++ own → FrontsServe (ps ++ p ∷ []) (fs ++ f ∷ []) more
@@ -46,9 +47,6 @@ fronts_serve_one (q ∷ ps) (g ∷ fs) text own more p f (first, rest, this, oth
 pub fronts_serve_more : (ps : List FrontParty) (fs all : List FrontView) (text own more : List ℕ) (p : FrontParty) (f : FrontView)
     → FrontsServe ps fs text → FrontIsServed p f own → all ≡ fs ++ f ∷ [] → more ≡ text ++ own → FrontsServe (ps ++ p ∷ []) all more
 fronts_serve_more ps fs all text own more p f s one is e = subst (λ (l : List FrontView). FrontsServe (ps ++ p ∷ []) l more) (sym is) (fronts_serve_one ps fs text own more p f s one e)
-
-pub same_both : (a b c : IntakeView) → SameIntake a b → SameIntake b c → SameIntake a c
-same_both a b c p q = (q.0 ∙ p.0, q.1 ∙ p.1, q.2 ∙ p.2, q.3 ∙ p.3)
 
 -- the fronts and the tasks that are left, and the parties that were made of the others, the last one first
 pub record Pairing (fronts left : List FrontView) (tasks own : List (Vec FrontTask Global)) (parties : List FrontParty) : Type 0 where

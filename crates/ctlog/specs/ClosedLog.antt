@@ -1,13 +1,13 @@
 -- The closing of a log.
-use Rattle.std.specs.Prelude.{◌≡◌, ◌≢◌, ◌⊎◌, ◌<◌, ◌≤◌, ℕ, List, [], ◌∷◌, ◌++◌, None}
+use Rattle.std.specs.Prelude.{All, ◌≡◌, ◌≢◌, ◌⊎◌, ◌<◌, ◌≤◌, ℕ, List, [], ◌∷◌, ◌++◌, None}
 use Rattle.ct_codec.specs.declared.refusal.Refusal.{Refusal}
 use Rattle.ct_codec.specs.declared.refusal.Refusal.TheVariants.{ClockBack, Memory}
 use Rattle.ct_tree.specs.declared.head.Head.{Head}
 use Rattle.ctlog.specs.declared.fault.Fault.{Fault}
 use Rattle.ctlog.specs.declared.fault.Fault.TheVariants as fault
-use Rattle.ct_core.specs.Settlement.{Log}
+use Rattle.ct_core.specs.Settlement.{Log, IsFinal}
 use Rattle.ct_core.specs.Core.{Begins, CoreState, IsCovered, clock_of, last_moment}
-use Rattle.ct_house.specs.House.{HouseState, FrontView, IsAllSettled}
+use Rattle.ct_house.specs.House.{HouseState, FrontView, FinalState, IsAllSettled, AreConsistent, accepted_lists}
 
 -- the clock refuses to close the log at now: leaves are newer, or the last head isn't older
 abbrev pub IsLate : CoreState → ℕ → Type 0
@@ -44,3 +44,11 @@ IsClosingFault core now f = ((f ≡ fault.ClockBack) × IsLate core now) ⊎ (f 
 -- all that was settled stays, in its order
 abbrev pub KeepsSettled : CoreState → CoreState → Type 0
 KeepsSettled old new = Begins old.entries new.entries × Begins old.settlement new.settlement
+
+-- What a house with these fronts leaves that was closed at now: the log is final for what they accepted, goes on from what the
+-- sequencer left, and no front was shown another log: what each has seen begins it, or is begun by it.
+pub record Closes (s : HouseState) (fronts : List FrontView) (now : ℕ) (left : FinalState) : Type 0 where
+  pub final : IsFinal (accepted_lists fronts) left.accepted left.log
+  pub in_time : IsLate s.core now → ⊥
+  pub ends : EndsAt s now left.log
+  pub consistent : All (λ (f : FrontView). AreConsistent f.sight.seen left.log) fronts

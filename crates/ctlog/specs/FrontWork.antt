@@ -2,7 +2,7 @@
 use Rattle.std.specs.Prelude.{◌≡◌, ◌≤◌, ◌⊎◌, ℕ, List, map, Option, Some, None, true}
 use Rattle.ct_codec.specs.Submitted.{Submitted, x509, refusal_of}
 use Rattle.ct_codec.specs.declared.refusal.Refusal.{Refusal}
-use Rattle.ct_codec.specs.declared.refusal.Refusal.TheVariants.{Memory, Late}
+use Rattle.ct_codec.specs.declared.refusal.Refusal.TheVariants.{Memory, Late, Closed}
 use Rattle.ct_core.specs.Settlement.{Log, Lawful}
 use Rattle.ct_core.specs.Answers.{answer}
 use Rattle.ct_core.specs.Replies.{Answer, a_head, a_ticket, a_reached_size, refused, takes_memory}
@@ -11,6 +11,7 @@ use Rattle.ct_core.specs.declared.query.Query.TheVariants.{GetSth}
 use Rattle.ct_gate.specs.Ends.{IntakeView, SameIntake}
 use Rattle.ct_gate.specs.Sending.{Accepts, Refuses}
 use Rattle.ct_house.specs.House.{FrontView}
+use Rattle.ct_versions.specs.Sights.{Moves}
 use Rattle.ct_tree.specs.declared.head.Head.{Head}
 use Rattle.ctlog.specs.InTurn.{Serves}
 use Rattle.ctlog.specs.declared.task.FrontTask.{FrontTask}
@@ -31,21 +32,33 @@ SendsUnless None a s r b = Sends a.intake s r b.intake
 abbrev pub Submits : FrontView → List (List ℕ) → Answer → FrontView → Type 0
 Submits a chain r b = SendsUnless (refusal_of (x509 chain)) a (x509 chain) r b
 
--- the defined answer to a query at a lawful published state, or that there was no memory for it, where it takes memory
-abbrev pub Shows : Query → Answer → Type 0
-Shows q r = (p : Log) × Lawful p × (((r ≡ refused Memory) × (takes_memory (answer p q) ≡ true)) ⊎ (r ≡ answer p q))
+-- the front looked at the published log: it is the same, and what it had seen begins what it has seen now
+pub record Looks (a b : FrontView) : Type 0 where
+  pub intake : b.intake ≡ a.intake
+  pub moves : Moves a.sight b.sight
 
--- a head of at least this size was shown, and the size is the answer; or the wait was too long
-abbrev pub Awaits : ℕ → Answer → Type 0
-Awaits n (a_reached_size m) = (m ≡ n) × ((h : Head) × Shows GetSth (a_head h) × (n ≤ h.tree_size))
-Awaits n (refused e) = e ≡ Late
-Awaits n _ = ⊥
+-- The defined answer to a query at this lawful state; or that there was no memory for it, where it takes memory; or that no
+-- state is shown.
+pub record Shows (p : Log) (q : Query) (r : Answer) : Type 0 where
+  pub lawful : Lawful p
+  pub shown : ((r ≡ refused Memory) × (takes_memory (answer p q) ≡ true)) ⊎ ((r ≡ refused Closed) ⊎ (r ≡ answer p q))
 
--- a front does a task, with this answer
+-- the head of this lawful state is of at least this size, and the size is the answer; or the wait was too long, or no state is shown
+abbrev pub Awaits : Log → ℕ → Answer → Type 0
+Awaits p n (a_reached_size m) = (m ≡ n) × ((h : Head) × Shows p GetSth (a_head h) × (n ≤ h.tree_size))
+Awaits p n (refused e) = (e ≡ Late) ⊎ (e ≡ Closed)
+Awaits p n _ = ⊥
+
+-- a front does a task, with this answer: to submit leaves what it has seen, and the state that it has seen is what it answers from
 abbrev pub FrontDoes : FrontView → FrontTask → Answer → FrontView → Type 0
-FrontDoes a (Submit chain) r b = Submits a (map (λ c. c.items) chain.items) r b
-FrontDoes a (AwaitSize n) r b = Awaits n r × (b ≡ a)
-FrontDoes a (Ask q) r b = Shows q r × (b ≡ a)
+FrontDoes a (Submit chain) r b = Submits a (map (λ c. c.items) chain.items) r b × (b.sight ≡ a.sight)
+FrontDoes a (AwaitSize n) r b = Awaits b.sight.seen n r × Looks a b
+FrontDoes a (Ask q) r b = Shows b.sight.seen q r × Looks a b
+
+-- the front is of the same ring, and never went back: what it had seen begins what it has seen now
+pub record FrontGoesOn (a b : FrontView) : Type 0 where
+  pub same : SameIntake a.intake b.intake
+  pub moves : Moves a.sight b.sight
 
 -- a front does its tasks in turn, and the lines of its answers stand behind what was written before
 abbrev pub FrontServes : FrontView → List FrontTask → List ℕ → FrontView → List ℕ → Type 0

@@ -3,8 +3,8 @@ use Rattle.std.specs.Prelude.{◌≡◌, ◌⊎◌, ℕ, List, [], ◌++◌, map
 use Rattle.std.specs.Global.{Global}
 use Rattle.std.specs.Io.KnownBytes.{Appends}
 use Rattle.ct_core.specs.Core.{Begins}
-use Rattle.ct_core.specs.Settlement.{Log, IsFinal}
-use Rattle.ct_house.specs.House.{FrontView, HouseState, IsNewHouse, accepted_lists}
+use Rattle.ct_core.specs.Settlement.{Log}
+use Rattle.ct_house.specs.House.{FrontView, HouseState, IsNewHouse}
 use Rattle.ct_lines.specs.Frozen.{frozen_replies, frozen_text}
 use Rattle.ct_lines.specs.Serving.{IsCutOff}
 use Rattle.ctlog.specs.declared.fault.Fault.{Fault}
@@ -13,7 +13,7 @@ use Rattle.ctlog.specs.declared.task.FrontTask.{FrontTask}
 use Rattle.ctlog.specs.declared.task.OperatorTask.{OperatorTask}
 use Rattle.ctlog.specs.declared.party.FrontParty.{FrontParty}
 use Rattle.ctlog.specs.declared.party.OperatorParty.{OperatorParty}
-use Rattle.ctlog.specs.ClosedLog.{EndsAt, IsClosingFault, IsLate}
+use Rattle.ctlog.specs.ClosedLog.{Closes, IsClosingFault}
 use Rattle.ctlog.specs.CommandLine.{CommandLine, log_with, help, nothing}
 use Rattle.ctlog.specs.Faults.{IsFrozenFault}
 use Rattle.ctlog.specs.Lines.{lines_of}
@@ -41,12 +41,10 @@ pub record AreParties (n places open_at : ℕ) (ts : List Task) (operator : Oper
   pub fronts : (k : ℕ) (p : FrontParty) → slice_get parties k ≡ Some p → map task_asked p.tasks.items ≡ front_parts k ts
   pub operated : operator.tasks.items ≡ operator_parts ts
 
--- the log is final for what these fronts accepted, and goes on from what this sequencer left, closed at this moment
+-- the log is what this sequencer and these fronts leave, closed at this moment, after so many submissions were accepted
 pub record IsClosed (sequencer : HouseState) (after : List FrontView) (close_at : ℕ) (log : Log) : Type 0 where
   pub accepted : ℕ
-  pub final : IsFinal (accepted_lists after) accepted log
-  pub in_time : IsLate sequencer.core close_at → ⊥
-  pub ends : EndsAt sequencer close_at log
+  pub closes : Closes sequencer after close_at (record { log = log; accepted = accepted })
 
 -- some of the replies of the closed log to these lines: those to a beginning of the lines, and of these so many whole ones
 -- and at most a proper beginning of the next; or all

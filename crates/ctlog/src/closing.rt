@@ -1,9 +1,8 @@
 //! The closing of the log.
 
 ghost use Rattle.std.specs.Prelude.{◌≡◌, ◌⊎◌, List, length, All, IfOk, OnOk, IfErr};
-ghost use Rattle.ct_core.specs.Settlement.{IsFinal};
-ghost use Rattle.ct_house.specs.House.{IsOfHouse, AreInOrder, accepted_lists};
-ghost use Rattle.ctlog.specs.ClosedLog.{IsLate, IsReady, IsRefusedAtClosing, IsClosingFault, EndsAt, KeepsSettled};
+ghost use Rattle.ct_house.specs.House.{IsOfHouse, AreInOrder};
+ghost use Rattle.ctlog.specs.ClosedLog.{IsReady, IsRefusedAtClosing, IsClosingFault, Closes, KeepsSettled};
 
 use crate::fault::Fault;
 use ct_codec::Refusal;
@@ -45,28 +44,47 @@ fn settle_and_publish<H: Threads + Wait + Sync>(
     sequencer.publish(rt, alloc, now)
 }
 
-/// Closes the log at the moment `now`, in milliseconds, with all of its fronts in order. A fault is `ClockBack`, where
-/// the clock refuses the moment, or `Memory`.
-pub fn close<H: Threads + Wait + Sync>(
+// Closes the log at the moment `now`, with the ends of all of its fronts in order.
+fn close_ends<H: Threads + Wait + Sync>(
     rt: &H,
     alloc: Global,
     mut sequencer: Sequencer,
+    mut ends: Vec<Retired>,
+    now: u64,
+) -> Result<FinalLog, Fault>
+    requires of_house { All (IsOfHouse sequencer.house) ends.items }
+    requires in_order { AreInOrder (length sequencer.lanes) ends.items }
+    ensures closes { IfOk result (λ log. Closes sequencer ends.items now log) }
+    ensures faults { IfErr result (IsClosingFault sequencer.core now) }
+{
+    match settle_and_publish(rt, alloc, &mut sequencer, &mut ends, now) {
+        Ok(_) => Ok(sequencer.finish(rt, ends)),
+        Err(refusal) => {
+            sequencer.abandon(rt, ends);
+            Err(Fault::from(refusal))
+        }
+    }
+}
+
+/// Closes the log at the moment `now`, in milliseconds, with all of its fronts in order. A fault is `ClockBack`, where
+/// the clock refuses the moment, or `Memory`, and gives the house up.
+pub fn close<H: Threads + Wait + Sync>(
+    rt: &H,
+    alloc: Global,
+    sequencer: Sequencer,
     fronts: Vec<Front>,
     now: u64,
 ) -> Result<FinalLog, Fault>
     requires of_house { All (IsOfHouse sequencer.house) fronts.items }
     requires in_order { AreInOrder (length sequencer.lanes) fronts.items }
-    ensures closes { IfOk result (λ log. IsFinal (accepted_lists fronts.items) log.accepted log.log) }
-    ensures ends { IfOk result (λ log. EndsAt sequencer now log.log) }
-    ensures in_time { OnOk result (IsLate sequencer.core now → ⊥) }
+    ensures closes { IfOk result (λ log. Closes sequencer fronts.items now log) }
     ensures faults { IfErr result (IsClosingFault sequencer.core now) }
 {
-    let mut ends = retire_all(alloc, fronts)?;
-    match settle_and_publish(rt, alloc, &mut sequencer, &mut ends, now) {
-        Ok(_) => Ok(sequencer.finish(rt, ends)),
-        Err(refusal) => {
-            sequencer.abandon(ends);
-            Err(Fault::from(refusal))
+    match retire_all(alloc, fronts) {
+        Ok(ends) => close_ends(rt, alloc, sequencer, ends, now),
+        Err(error) => {
+            sequencer.abandon(rt, Vec::new(alloc));
+            Err(Fault::from(error))
         }
     }
 }

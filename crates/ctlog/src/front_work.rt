@@ -1,12 +1,12 @@
 //! The lines of a front, done in order.
 
-ghost use Rattle.std.specs.Prelude.{◌≡◌, ◌++◌, map, IfOk, OnOk, OnErr};
+ghost use Rattle.std.specs.Prelude.{◌≡◌, ◌++◌, map, IfOk, IfErr, OnOk};
 ghost use Rattle.ct_core.specs.Replies.{Answer, a_head};
 ghost use Rattle.ct_core.specs.declared.query.Query.TheVariants.{GetSth};
 ghost use Rattle.ct_gate.specs.Ends.{SameIntake};
 ghost use Rattle.ct_lines.specs.ReplyText.{answered, reply_line};
 ghost use Rattle.ct_tree.specs.declared.head.Head.{Head};
-ghost use Rattle.ctlog.specs.FrontWork.{Submits, Shows, Awaits, FrontDoes, FrontServes};
+ghost use Rattle.ctlog.specs.FrontWork.{Submits, Looks, Shows, Awaits, FrontDoes, FrontGoesOn, FrontServes};
 
 use crate::replying::{give_way, push_reply};
 use crate::task::FrontTask;
@@ -15,12 +15,12 @@ use ct_core::{Query, Reply};
 use ct_house::Front;
 use ct_tree::Memory;
 use std::alloc::Global;
-use std::sync::Wait;
 
 // Submits a chain.
 fn submit_chain(front: &mut Front, chain: Vec<Vec<u8>>) -> Result<Reply, Refusal>
     ensures submits { Submits front.old (map (λ c. c.items) chain.items) (answered result) front.new }
     ensures same { SameIntake front.old.intake front.new.intake }
+    ensures sight { front.new.sight ≡ front.old.sight }
 {
     let submission = Submission::x509(chain)?;
     match front.submit(submission) {
@@ -30,38 +30,33 @@ fn submit_chain(front: &mut Front, chain: Vec<Vec<u8>>) -> Result<Reply, Refusal
 }
 
 // Asks the published log.
-fn ask<R: Wait>(rt: &R, alloc: Global, front: &mut Front, query: &Query) -> Result<Reply, Refusal>
-    ensures same { front.new ≡ front.old }
-    ensures shows { Shows query.now (answered result) }
+fn ask(alloc: Global, front: &mut Front, query: &Query) -> Result<Reply, Refusal>
+    ensures looks { Looks front.old front.new }
+    ensures shows { Shows front.new.sight.seen query.now (answered result) }
 {
-    front.ask(rt, alloc, query)
+    front.ask(alloc, query)
 }
 
-// The size of the published log. A head is never refused.
-fn published_size<R: Wait>(rt: &R, alloc: Global, front: &mut Front) -> Result<u64, Refusal>
-    ensures same { front.new ≡ front.old }
-    ensures size { IfOk result (λ n. (h : Head) × Shows GetSth (a_head h) × (n ≡ h.tree_size)) }
-    ensures refused { OnErr result ⊥ }
+// The size of the published log. A head isn't refused, but where no state is shown.
+fn published_size(alloc: Global, front: &mut Front) -> Result<u64, Refusal>
+    ensures looks { Looks front.old front.new }
+    ensures size { IfOk result (λ n. (h : Head) × Shows front.new.sight.seen GetSth (a_head h) × (n ≡ h.tree_size)) }
+    ensures refused { IfErr result (λ e. e ≡ Refusal.Closed) }
 {
-    match ask(rt, alloc, front, &Query::GetSth)? {
+    match ask(alloc, front, &Query::GetSth)? {
         Reply::Sth(head) => Ok(head.tree_size),
         _ => unreachable!(),
     }
 }
 
 // Waits until the published log has at least this size.
-fn await_size<R: Wait>(
-    rt: &R,
-    alloc: Global,
-    front: &mut Front,
-    size: u64,
-    turns: u64,
-) -> Result<Reply, Refusal>
-    ensures same { front.new ≡ front.old }
-    ensures awaits { Awaits size (answered result) }
+#[tactic(auto, using(crate::proofs::FrontLemmas::looks_none, crate::proofs::FrontLemmas::looks_both))]
+fn await_size(alloc: Global, front: &mut Front, size: u64, turns: u64) -> Result<Reply, Refusal>
+    ensures looks { Looks front.old front.new }
+    ensures awaits { Awaits front.new.sight.seen size (answered result) }
 {
     for turn in 0..turns {
-        if size <= published_size(rt, alloc, front)? {
+        if size <= published_size(alloc, front)? {
             return Ok(Reply::Reached(size));
         }
         give_way(turn);
@@ -70,26 +65,20 @@ fn await_size<R: Wait>(
 }
 
 // Does what a line asks for.
-fn do_task<R: Wait>(
-    rt: &R,
-    alloc: Global,
-    front: &mut Front,
-    task: FrontTask,
-    turns: u64,
-) -> Result<Reply, Refusal>
+#[tactic(auto, using(crate::proofs::FrontLemmas::looks_on, crate::proofs::FrontLemmas::submits_on))]
+fn do_task(alloc: Global, front: &mut Front, task: FrontTask, turns: u64) -> Result<Reply, Refusal>
     ensures does { FrontDoes front.old task (answered result) front.new }
-    ensures same { SameIntake front.old.intake front.new.intake }
+    ensures goes_on { FrontGoesOn front.old front.new }
 {
     match task {
         FrontTask::Submit(chain) => submit_chain(front, chain),
-        FrontTask::AwaitSize(size) => await_size(rt, alloc, front, size, turns),
-        FrontTask::Ask(query) => ask(rt, alloc, front, &query),
+        FrontTask::AwaitSize(size) => await_size(alloc, front, size, turns),
+        FrontTask::Ask(query) => ask(alloc, front, &query),
     }
 }
 
 // Does what a line asks for, and adds the reply.
-fn reply_to<R: Wait>(
-    rt: &R,
+fn reply_to(
     alloc: Global,
     front: &mut Front,
     task: FrontTask,
@@ -97,15 +86,14 @@ fn reply_to<R: Wait>(
     replies: &mut Vec<u8>,
 ) -> Result<(), Memory>
     ensures does { OnOk result ((r : Answer) × FrontDoes front.old task r front.new × (replies.new.items ≡ replies.old.items ++ reply_line r)) }
-    ensures same { SameIntake front.old.intake front.new.intake }
+    ensures goes_on { FrontGoesOn front.old front.new }
 {
-    let reply = do_task(rt, alloc, front, task, turns);
+    let reply = do_task(alloc, front, task, turns);
     push_reply(alloc, replies, &reply)
 }
 
 /// Does a front's tasks in order, and adds the replies. A line that waits looks `turns` times at most.
-pub fn serve_front<R: Wait>(
-    rt: &R,
+pub fn serve_front(
     alloc: Global,
     front: &mut Front,
     tasks: Vec<FrontTask>,
@@ -113,10 +101,10 @@ pub fn serve_front<R: Wait>(
     replies: &mut Vec<u8>,
 ) -> Result<(), Memory>
     ensures serves { OnOk result (FrontServes front.old tasks.items replies.old.items front.new replies.new.items) }
-    ensures same { OnOk result (SameIntake front.old.intake front.new.intake) }
+    ensures goes_on { OnOk result (FrontGoesOn front.old front.new) }
 {
     for task in tasks {
-        reply_to(rt, alloc, front, task, turns, replies)?;
+        reply_to(alloc, front, task, turns, replies)?;
     }
     Ok(())
 }

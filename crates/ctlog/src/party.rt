@@ -14,8 +14,7 @@ pub struct FrontParty {
     pub tasks: Vec<FrontTask>,
 }
 
-/// The operator, and what it does.
-#[derive(Drop)]
+/// The operator, and what it does. Its sequencer ends the house, or gives it up.
 pub struct OperatorParty {
     /// The sequencer of the house.
     pub sequencer: Sequencer,

@@ -45,7 +45,8 @@ fn read_plan<R: Read>(alloc: Global, fronts: u16, input: &mut R) -> Result<Plan,
 }
 
 // The parties of a new house: its fronts and its sequencer, each with what it does.
-fn open_parties(
+fn open_parties<H: Wait>(
+    rt: &H,
     alloc: Global,
     options: Options,
     tasks: Vec<Vec<FrontTask>>,
@@ -55,14 +56,22 @@ fn open_parties(
     ensures parties { IfOk result (λ p. (ts : List Task) → AreGiven ts tasks.items operator.items → AreParties options.fronts options.ring options.open_at ts p.0 p.1.items) }
     ensures faults { IfErr result (λ f. f ≡ Fault.Memory) }
 {
-    let (sequencer, fronts) = open(alloc, options.fronts, options.ring, options.open_at)?;
-    let operator = OperatorParty {
-        sequencer,
-        fronts: fronts.len(),
-        tasks: operator,
-    };
-    let parties = front_parties(alloc, fronts, tasks)?;
-    Ok((operator, parties))
+    let (sequencer, fronts) = open(rt, alloc, options.fronts, options.ring, options.open_at)?;
+    let count = fronts.len();
+    match front_parties(alloc, fronts, tasks) {
+        Ok(parties) => {
+            let operator = OperatorParty {
+                sequencer,
+                fronts: count,
+                tasks: operator,
+            };
+            Ok((operator, parties))
+        }
+        Err(error) => {
+            sequencer.abandon(rt, Vec::new(alloc));
+            Err(Fault::from(error))
+        }
+    }
 }
 
 // Writes the bytes whole.
@@ -121,7 +130,13 @@ fn serve_parties_and_log<H: Threads + Wait + Sync, W: Write>(
         fronts,
         replies,
     } = serve_parties(rt, alloc, operator, parties, turns)?;
-    send(output, &replies)?;
+    match send(output, &replies) {
+        Ok(()) => {}
+        Err(fault) => {
+            sequencer.abandon(rt, Vec::new(alloc));
+            return Err(fault);
+        }
+    }
     let log = close(rt, alloc, sequencer, fronts, close_at)?;
     send_frozen(alloc, log.published(), lines, output)
 }
@@ -150,7 +165,7 @@ pub fn serve<H: Threads + Wait + Sync, R: Read, W: Write>(
         operator,
         frozen,
     } = read_plan(alloc, options.fronts, input)?;
-    let (operator, parties) = open_parties(alloc, options, fronts, operator)?;
+    let (operator, parties) = open_parties(rt, alloc, options, fronts, operator)?;
     serve_parties_and_log(
         rt,
         alloc,

@@ -1,25 +1,27 @@
 //! The fronts and the operator, each in a thread of its own.
 
-ghost use Rattle.std.specs.Prelude.{◌≡◌, [], ◌∷◌, ◌++◌, length, map, IfOk, IfErr, OnOk};
+ghost use Rattle.std.specs.Prelude.{◌≡◌, ◌≢◌, [], ◌∷◌, ◌++◌, length, map, IfOk, IfErr, OnOk, Some, None, Vec as VecOf};
+ghost use Rattle.std.specs.Global.{Global as GlobalOf};
 ghost use Rattle.ctlog.specs.OperatorWork.{GoesOn};
-ghost use Rattle.ctlog.specs.Parties.{AreSame, FrontIsServed, OperatorIsServed, FrontsServe, PartiesServe, IsPartyFault};
+ghost use Rattle.ctlog.specs.Parties.{AreSame, AllServe, FrontIsServed, FrontsServe, PartiesServe, SequencerIsServed, IsPartyFault};
+ghost use Rattle.ctlog.specs.declared.party.FrontParty.{FrontParty as FrontPartyOf};
+ghost use Rattle.ctlog.specs.declared.task.OperatorTask.{OperatorTask as OperatorTaskOf};
 
 use crate::fault::Fault;
 use crate::front_work::serve_front;
 use crate::operator_work::serve_operator;
 use crate::party::{FrontParty, OperatorParty};
-use crate::task::FrontTask;
+use crate::task::{FrontTask, OperatorTask};
 use ct_house::{Front, Sequencer};
 use ct_tree::Memory;
 use std::alloc::Global;
 use std::snapshot::Snapshot;
 use std::sync::Wait;
 use std::thread;
-use std::thread::{Promise, PromisedHandle, Scope, Threads};
+use std::thread::{Promise, PromisedHandle, Scope, Threads, join_mut};
 
 // Does a front's tasks. It answers the front and the replies.
-fn serve_front_party<R: Wait>(
-    rt: &R,
+fn serve_front_party(
     alloc: Global,
     party: FrontParty,
     turns: u64,
@@ -28,35 +30,8 @@ fn serve_front_party<R: Wait>(
 {
     let FrontParty { mut front, tasks } = party;
     let mut replies = Vec::new(alloc);
-    serve_front(rt, alloc, &mut front, tasks, turns, &mut replies)?;
+    serve_front(alloc, &mut front, tasks, turns, &mut replies)?;
     Ok((front, replies))
-}
-
-// Does the operator's tasks. It answers the sequencer and the replies.
-fn serve_operator_party<R: Threads + Wait + Sync>(
-    rt: &R,
-    alloc: Global,
-    party: OperatorParty,
-    turns: u64,
-) -> Result<(Sequencer, Vec<u8>), Memory>
-    ensures { IfOk result (λ d. OperatorIsServed party d.0 d.1.items) }
-{
-    let OperatorParty {
-        mut sequencer,
-        fronts,
-        tasks,
-    } = party;
-    let mut replies = Vec::new(alloc);
-    serve_operator(
-        rt,
-        alloc,
-        &mut sequencer,
-        fronts,
-        tasks,
-        turns,
-        &mut replies,
-    )?;
-    Ok((sequencer, replies))
 }
 
 /// Gives each front its tasks, in order.
@@ -90,38 +65,8 @@ impl Promise<Result<(Front, Vec<u8>), Memory>> for FrontPromise {
 
 type FrontThread = PromisedHandle<Result<(Front, Vec<u8>), Memory>, FrontPromise>;
 
-// What the operator's thread promises.
-#[derive(Drop)]
-struct OperatorPromise(Snapshot<OperatorParty>);
-
-impl Promise<Result<(Sequencer, Vec<u8>), Memory>> for OperatorPromise {
-    ghost kept_by = { λ p r. IfOk r (λ d. OperatorIsServed p.0.value d.0 d.1.items) };
-}
-
-type OperatorThread = PromisedHandle<Result<(Sequencer, Vec<u8>), Memory>, OperatorPromise>;
-
-// Starts the operator's thread.
-fn start_operator<'e: 's, 's, R: Threads + Wait + Sync>(
-    rt: &'e R,
-    alloc: Global,
-    scope: &'s Scope<'s, &'e ()>,
-    party: OperatorParty,
-    turns: u64,
-) -> Result<OperatorThread, Fault>
-    ensures started { IfOk result (λ t. t.promise.0.value ≡ party) }
-    ensures faults { IfErr result IsPartyFault }
-{
-    let promise = OperatorPromise(Snapshot::of(&party));
-    let work = move || serve_operator_party(rt, alloc, party, turns);
-    match scope.spawn_with(promise, work) {
-        Ok(thread) => Ok(thread),
-        Err(_) => Err(Fault::Threads),
-    }
-}
-
 // Starts a thread for each front.
-fn start_fronts<'e: 's, 's, R: Wait + Sync>(
-    rt: &'e R,
+fn start_fronts<'e: 's, 's>(
     alloc: Global,
     scope: &'s Scope<'s, &'e ()>,
     parties: Vec<FrontParty>,
@@ -133,7 +78,7 @@ fn start_fronts<'e: 's, 's, R: Wait + Sync>(
     let mut threads = Vec::new(alloc);
     for party in parties {
         let promise = FrontPromise(Snapshot::of(&party));
-        let work = move || serve_front_party(rt, alloc, party, turns);
+        let work = move || serve_front_party(alloc, party, turns);
         let Ok(thread) = scope.spawn_with(promise, work) else {
             return Err(Fault::Threads);
         };
@@ -183,69 +128,146 @@ fn join_fronts<R: Threads>(
     Ok((fronts, replies))
 }
 
+// Starts a thread for each front, and joins them all.
+fn serve_in_threads<'e: 's, 's, R: Threads + Wait>(
+    rt: &'e R,
+    alloc: Global,
+    scope: &'s Scope<'s, &'e ()>,
+    fronts: Vec<FrontParty>,
+    turns: u64,
+) -> Result<(Vec<Front>, Vec<u8>), Fault>
+    ensures served { IfOk result (λ d. FrontsServe fronts.items d.0.items d.1.items) }
+    ensures faults { IfErr result IsPartyFault }
+{
+    let threads = start_fronts(alloc, scope, fronts, turns)?;
+    join_fronts(rt, alloc, threads)
+}
+
+// Does the fronts' tasks, each front's in a thread of its own. It answers the fronts and their replies, both in order.
+fn serve_fronts<R: Threads + Wait>(
+    rt: &R,
+    alloc: Global,
+    fronts: Vec<FrontParty>,
+    turns: u64,
+) -> Result<(Vec<Front>, Vec<u8>), Fault>
+    ensures served { IfOk result (λ d. FrontsServe fronts.items d.0.items d.1.items) }
+    ensures faults { IfErr result IsPartyFault }
+{
+    thread::scope(
+        thread::scope_env(),
+        rt,
+        move |scope| -> Result<(Vec<Front>, Vec<u8>), Fault>
+            ensures served { IfOk result (λ d. FrontsServe fronts.items d.0.items d.1.items) }
+            ensures faults { IfErr result IsPartyFault }
+        { serve_in_threads(rt, alloc, scope, fronts, turns) },
+    )
+}
+
+// Does the operator's tasks over the sequencer that it is lent. It answers the replies.
+fn serve_lent<R: Threads + Wait + Sync>(
+    rt: &R,
+    alloc: Global,
+    sequencer: &mut Sequencer,
+    fronts: usize,
+    tasks: Vec<OperatorTask>,
+    turns: u64,
+) -> Result<Vec<u8>, Fault>
+    requires { fronts ≡ length sequencer.old.lanes }
+    ensures served { IfOk result (λ told. SequencerIsServed sequencer.old tasks.items sequencer.new told.items) }
+    ensures faults { IfErr result IsPartyFault }
+{
+    let mut replies = Vec::new(alloc);
+    serve_operator(rt, alloc, sequencer, fronts, tasks, turns, &mut replies)?;
+    Ok(replies)
+}
+
+// Does the operator's tasks over the sequencer that it is lent, in a thread of its own, beside the fronts' tasks. It
+// answers the fronts and all replies: the fronts' in order, and then the operator's.
+fn serve_beside<R: Threads + Wait + Sync>(
+    rt: &R,
+    alloc: Global,
+    sequencer: &mut Sequencer,
+    count: usize,
+    tasks: Vec<OperatorTask>,
+    fronts: Vec<FrontParty>,
+    turns: u64,
+) -> Result<(Vec<Front>, Vec<u8>), Fault>
+    requires { count ≡ length sequencer.old.lanes }
+    ensures served { IfOk result (λ d. AllServe sequencer.old tasks.items fronts.items sequencer.new d.0.items d.1.items) }
+    ensures faults { IfErr result IsPartyFault }
+{
+    let mut tasks = Some(tasks);
+    let mut fronts = Some(fronts);
+    let (told, served) = join_mut(
+        rt,
+        &mut || -> Result<Vec<u8>, Fault>
+            requires { (count ≡ length sequencer.now.lanes) × (tasks ≢ None) }
+            ensures served { IfOk result (λ told. (v : VecOf OperatorTaskOf GlobalOf) → tasks.entry ≡ Some v → SequencerIsServed sequencer.entry.now v.items sequencer.exit.now told.items) }
+            ensures faults { IfErr result IsPartyFault }
+        {
+            let Some(tasks) = tasks.take() else {
+                unreachable!()
+            };
+            serve_lent(rt, alloc, sequencer, count, tasks, turns)
+        },
+        &mut || -> Result<(Vec<Front>, Vec<u8>), Fault>
+            requires { fronts ≢ None }
+            ensures served { IfOk result (λ d. (v : VecOf FrontPartyOf GlobalOf) → fronts.entry ≡ Some v → FrontsServe v.items d.0.items d.1.items) }
+            ensures faults { IfErr result IsPartyFault }
+        {
+            let Some(fronts) = fronts.take() else {
+                unreachable!()
+            };
+            serve_fronts(rt, alloc, fronts, turns)
+        },
+    );
+    let told = told?;
+    let (fronts, mut replies) = served?;
+    add_text(&mut replies, told)?;
+    Ok((fronts, replies))
+}
+
 /// What the parties leave: the sequencer, the fronts in order, and all replies.
-#[derive(Drop)]
 pub struct Served {
     pub sequencer: Sequencer,
     pub fronts: Vec<Front>,
     pub replies: Vec<u8>,
 }
 
-// Starts a thread for each party, and joins them all.
-#[tactic(auto, using(crate::proofs::PartyLemmas::fronts_same))]
-fn serve_in_threads<'e: 's, 's, R: Threads + Wait + Sync>(
-    rt: &'e R,
-    alloc: Global,
-    scope: &'s Scope<'s, &'e ()>,
-    operator: OperatorParty,
-    fronts: Vec<FrontParty>,
-    turns: u64,
-) -> Result<Served, Fault>
-    ensures serves { IfOk result (λ s. PartiesServe operator fronts.items s.sequencer s.fronts.items s.replies.items) }
-    ensures house { IfOk result (λ s. GoesOn operator.sequencer s.sequencer) }
-    ensures same { IfOk result (λ s. AreSame (map (λ p. p.front) fronts.items) s.fronts.items) }
-    ensures faults { IfErr result IsPartyFault }
-{
-    let operator = start_operator(rt, alloc, scope, operator, turns)?;
-    let threads = start_fronts(rt, alloc, scope, fronts, turns)?;
-    let (fronts, mut replies) = join_fronts(rt, alloc, threads)?;
-    let (sequencer, told) = operator.join(rt)?;
-    match add_text(&mut replies, told) {
-        Ok(()) => Ok(Served {
-            sequencer,
-            fronts,
-            replies,
-        }),
-        Err(fault) => Err(fault),
-    }
-}
-
 /// Does the tasks of all parties, each in a thread of its own, and answers what they leave and all replies: the fronts'
-/// in order, and then the operator's. A line that waits for another party looks `turns` times.
+/// in order, and then the operator's. A line that waits for another party looks `turns` times. Where the operator's thread
+/// doesn't start, its tasks are done after the fronts'.
 ///
 /// # Errors
 ///
-/// `Threads` where a thread doesn't start, after those that did have ended, and `Memory`.
+/// `Threads` where a front's thread doesn't start, after those that did have ended, and `Memory`. The house is given up.
+#[tactic(auto, using(crate::proofs::PartyLemmas::fronts_same))]
 pub fn serve_parties<R: Threads + Wait + Sync>(
     rt: &R,
     alloc: Global,
     operator: OperatorParty,
-    fronts: Vec<FrontParty>,
+    parties: Vec<FrontParty>,
     turns: u64,
 ) -> Result<Served, Fault>
-    ensures serves { IfOk result (λ s. PartiesServe operator fronts.items s.sequencer s.fronts.items s.replies.items) }
+    ensures serves { IfOk result (λ s. PartiesServe operator parties.items s.sequencer s.fronts.items s.replies.items) }
     ensures house { IfOk result (λ s. GoesOn operator.sequencer s.sequencer) }
-    ensures same { IfOk result (λ s. AreSame (map (λ p. p.front) fronts.items) s.fronts.items) }
+    ensures same { IfOk result (λ s. AreSame (map (λ p. p.front) parties.items) s.fronts.items) }
     ensures faults { IfErr result IsPartyFault }
 {
-    thread::scope(
-        thread::scope_env(),
-        rt,
-        move |scope| -> Result<Served, Fault>
-            ensures serves { IfOk result (λ s. PartiesServe operator fronts.items s.sequencer s.fronts.items s.replies.items) }
-            ensures house { IfOk result (λ s. GoesOn operator.sequencer s.sequencer) }
-            ensures same { IfOk result (λ s. AreSame (map (λ p. p.front) fronts.items) s.fronts.items) }
-            ensures faults { IfErr result IsPartyFault }
-        { serve_in_threads(rt, alloc, scope, operator, fronts, turns) },
-    )
+    let OperatorParty {
+        mut sequencer,
+        fronts: count,
+        tasks,
+    } = operator;
+    match serve_beside(rt, alloc, &mut sequencer, count, tasks, parties, turns) {
+        Ok((fronts, replies)) => Ok(Served {
+            sequencer,
+            fronts,
+            replies,
+        }),
+        Err(fault) => {
+            sequencer.abandon(rt, Vec::new(alloc));
+            Err(fault)
+        }
+    }
 }

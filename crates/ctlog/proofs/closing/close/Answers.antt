@@ -1,38 +1,15 @@
-use Rattle.std.proofs.Common.{◌≡◌, List, length, sym, ap, subst, ◌∙◌}
-use Rattle.std.specs.Prelude.{All}
-use Rattle.std.specs.Vec.{with_items}
-use Rattle.std.proofs.lemmas.List.{with_items_is}
-use Rattle.ct_core.specs.Settlement.{IsFinal}
-use Rattle.ct_house.specs.House.{HouseName, FrontView, IsOfHouse, IsAllSettled, accepted_lists}
-use Rattle.ctlog.proofs.ClosingLemmas.{closing_fault, ends_at}
+use Rattle.std.proofs.Common.{List, length, sym, subst}
+use Rattle.std.specs.Prelude.{All, IfOk}
+use Rattle.ct_house.specs.House.{AreInOrder, FinalState, FrontView, IsOfHouse}
+use Rattle.ctlog.specs.ClosedLog.{Closes}
 use Rattle.ctlog.proofs.closing.close.Goals as goal
 
-pub finish-requires-clause-of_house : goal.finish-requires-clause-of_house
-finish-requires-clause-of_house g c =
-    let ends = c.settle_and_publish.new.ends in
-    let before : ends ≡ c.in_ok-ends.ends.items = c.settle_and_publish.ensures.ends ∙ c.deref_mut.ensures.value in
-    let same : (with_items c.in_ok-ends.ends ends).items ≡ ends = with_items_is c.in_ok-ends.ends ends (ap length before ∙ sym c.in_ok-ends.ends.ok.0) in
-    let all : (with_items c.in_ok-ends.ends ends).items ≡ c.args.fronts.items = same ∙ before ∙ c.in_ok-ends.ensures in
-    subst (λ (l : List FrontView). All (IsOfHouse c.settle_and_publish.new.sequencer.house) l) (sym all)
-    (subst (λ (h : HouseName). All (IsOfHouse h) c.args.fronts.items) (sym c.in-Ok.ensures.ready.house) c.requires.of_house)
+pub close_ends-requires-clause-of_house : goal.close_ends-requires-clause-of_house
+close_ends-requires-clause-of_house g c κs within = subst (λ (l : List FrontView). All (IsOfHouse c.args.sequencer.house) l) (sym c.in-Ok.ensures) c.requires.of_house
 
-pub finish-requires-clause-settled : goal.finish-requires-clause-settled
-finish-requires-clause-settled g c =
-    let ends = c.settle_and_publish.new.ends in
-    let before : ends ≡ c.in_ok-ends.ends.items = c.settle_and_publish.ensures.ends ∙ c.deref_mut.ensures.value in
-    let same : (with_items c.in_ok-ends.ends ends).items ≡ ends = with_items_is c.in_ok-ends.ends ends (ap length before ∙ sym c.in_ok-ends.ends.ok.0) in
-    subst (λ (l : List FrontView). IsAllSettled c.settle_and_publish.new.sequencer l) (c.deref_mut.ensures.value ∙ sym before ∙ sym same) c.in-Ok.ensures.ready.settled
+pub close_ends-requires-clause-in_order : goal.close_ends-requires-clause-in_order
+close_ends-requires-clause-in_order g c κs within = subst (AreInOrder (length c.args.sequencer.lanes)) (sym c.in-Ok.ensures) c.requires.in_order
 
 pub returns-in-Ok-clause-closes : goal.returns-in-Ok-clause-closes
 returns-in-Ok-clause-closes g c =
-    let ends = c.settle_and_publish.new.ends in
-    let before : ends ≡ c.in_ok-ends.ends.items = c.settle_and_publish.ensures.ends ∙ c.deref_mut.ensures.value in
-    let same : (with_items c.in_ok-ends.ends ends).items ≡ ends = with_items_is c.in_ok-ends.ends ends (ap length before ∙ sym c.in_ok-ends.ends.ok.0) in
-    let all : (with_items c.in_ok-ends.ends ends).items ≡ c.args.fronts.items = same ∙ before ∙ c.in_ok-ends.ensures in
-    subst (λ (l : List FrontView). IsFinal (accepted_lists l) c.finish.result.accepted c.finish.result.log) all c.finish.ensures.closes
-
-pub returns-in-Ok-clause-ends : goal.returns-in-Ok-clause-ends
-returns-in-Ok-clause-ends g c = ends_at _ _ _ _ _ _ c.in-Ok.ensures.ready c.in-Ok.ensures.kept c.finish.ensures.same.0
-
-pub returns-in-Err-clause-faults : goal.returns-in-Err-clause-faults
-returns-in-Err-clause-faults g c = closing_fault c.args.sequencer c.args.now c.in-Err.refusal c.from.result c.in-Err.ensures.refused c.from.ensures
+    subst (λ (l : List FrontView). IfOk c.close_ends.result (λ log. Closes c.args.sequencer l c.args.now log)) c.in-Ok.ensures c.close_ends.ensures.closes

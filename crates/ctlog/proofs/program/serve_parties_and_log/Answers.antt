@@ -20,17 +20,16 @@ close-requires-clause-in_order g c κs within =
     went_in_order c.args.operator.sequencer c.in_ok-sequencer.field-0.sequencer (fronts_of c.args.parties.items) c.in_ok-sequencer.field-0.fronts.items
     c.in_ok-sequencer.ensures.house c.in_ok-sequencer.ensures.same c.requires.in_order
 
-pub returns-in_err-send-clause-some : goal.returns-in_err-send-clause-some
-returns-in_err-send-clause-some g c =
-    if_err_is _ _ c.in_err-send.field-0.0 c.from_residual-in_err-send.ensures.1
-    (parties_begun c.in_ok-sequencer.field-0.sequencer c.in_ok-sequencer.field-0.fronts.items c.in_ok-sequencer.field-0.replies.items c.in_err-send.ensures.fault c.in_ok-sequencer.ensures.serves
-    (subst (λ (l : List ℕ). SendsSome (g.W.Write.contents c.args.output.now) (g.W.Write.contents c.send.new.output) l) c.deref.ensures.value c.in_err-send.ensures.some))
+pub returns-in-Err-clause-some : goal.returns-in-Err-clause-some
+returns-in-Err-clause-some g c =
+    parties_begun c.in_ok-sequencer.field-0.sequencer c.in_ok-sequencer.field-0.fronts.items c.in_ok-sequencer.field-0.replies.items c.in-Err.ensures.fault c.in_ok-sequencer.ensures.serves
+    (subst (λ (l : List ℕ). SendsSome (g.W.Write.contents c.args.output.now) (g.W.Write.contents c.send.new.output) l) c.deref.ensures.value c.in-Err.ensures.some)
 
 pub returns-in_err-log-clause-some : goal.returns-in_err-log-clause-some
 returns-in_err-log-clause-some g c =
     if_err_is _ _ c.in_err-log.field-0.0 c.from_residual-in_err-log.ensures.1
     (parties_done c.in_ok-sequencer.field-0.sequencer c.in_ok-sequencer.field-0.fronts.items c.in_ok-sequencer.field-0.replies.items c.in_err-log.ensures.faults c.in_ok-sequencer.ensures.serves
-    (subst (λ (l : List ℕ). Appends (g.W.Write.contents c.args.output.now) (g.W.Write.contents c.send.new.output) l) c.deref.ensures.value c.in_ok-send.ensures.all))
+    (subst (λ (l : List ℕ). Appends (g.W.Write.contents c.args.output.now) (g.W.Write.contents c.send.new.output) l) c.deref.ensures.value c.in-Ok.ensures.all))
 
 pub returns-clause-all : goal.returns-clause-all
 returns-clause-all g c =
@@ -38,12 +37,10 @@ returns-clause-all g c =
     let old = g.W.Write.contents c.args.output.now in
     let mid = g.W.Write.contents c.send.new.output in
     let new = g.W.Write.contents c.send_frozen.new.output in
-    let first : Appends old mid text = subst (λ (l : List ℕ). Appends old mid l) c.deref.ensures.value c.in_ok-send.ensures.all in
+    let first : Appends old mid text = subst (λ (l : List ℕ). Appends old mid l) c.deref.ensures.value c.in-Ok.ensures.all in
     let closed : IsClosed c.in_ok-sequencer.field-0.sequencer c.in_ok-sequencer.field-0.fronts.items c.args.close_at c.in_ok-log.log.log = record {
       accepted = c.in_ok-log.log.accepted;
-      final = c.in_ok-log.ensures.closes;
-      in_time = c.in_ok-log.ensures.in_time;
-      ends = c.in_ok-log.ensures.ends;
+      closes = c.in_ok-log.ensures.closes;
     } in
     on_ok_weaker c.send_frozen.result (λ whole. writes_all c.args.operator c.args.parties.items c.args.lines.now c.args.close_at old mid new c.in_ok-sequencer.field-0.sequencer
     c.in_ok-sequencer.field-0.fronts.items text c.in_ok-log.log.log c.in_ok-sequencer.ensures.serves closed first
@@ -55,12 +52,10 @@ returns-clause-some g c =
     let old = g.W.Write.contents c.args.output.now in
     let mid = g.W.Write.contents c.send.new.output in
     let new = g.W.Write.contents c.send_frozen.new.output in
-    let first : Appends old mid text = subst (λ (l : List ℕ). Appends old mid l) c.deref.ensures.value c.in_ok-send.ensures.all in
+    let first : Appends old mid text = subst (λ (l : List ℕ). Appends old mid l) c.deref.ensures.value c.in-Ok.ensures.all in
     let closed : IsClosed c.in_ok-sequencer.field-0.sequencer c.in_ok-sequencer.field-0.fronts.items c.args.close_at c.in_ok-log.log.log = record {
       accepted = c.in_ok-log.log.accepted;
-      final = c.in_ok-log.ensures.closes;
-      in_time = c.in_ok-log.ensures.in_time;
-      ends = c.in_ok-log.ensures.ends;
+      closes = c.in_ok-log.ensures.closes;
     } in
     if_err_both IsFrozenFault _ _ c.send_frozen.result (λ f fault some. writes_last c.args.operator c.args.parties.items c.args.lines.now c.args.close_at old mid new c.in_ok-sequencer.field-0.sequencer
     c.in_ok-sequencer.field-0.fronts.items text c.in_ok-log.log.log f c.in_ok-sequencer.ensures.serves closed first fault
