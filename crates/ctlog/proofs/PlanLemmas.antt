@@ -3,10 +3,9 @@ use Rattle.std.proofs.Common.{◌≡◌, ◌≢◌, ◌<◌, ℕ, zero, suc, Lis
 use Rattle.std.specs.Prelude.{Some, slice_get, nat_eq}
 use Rattle.std.specs.List.{filter_map}
 use Rattle.std.specs.Vec.{with_item}
-use Rattle.std.proofs.lemmas.List.{map-append}
+use Rattle.std.proofs.lemmas.List.{map-append, length-set, get_or-set_same}
 use Rattle.std.proofs.lemmas.Bool.Decides.{eqb_tells}
-use Rattle.std.proofs.lemmas.Option.{same_Some, slice_get_within, slice_get_read}
-use Rattle.ct_house.proofs.SequencerLemmas.{length_set, set_there, set_elsewhere}
+use Rattle.std.proofs.lemmas.Option.{same_Some, slice_get_within, slice_get_read, slice_get-get_or}
 use Rattle.ct_lines.specs.Asked.{FrontAsked}
 use Rattle.ctlog.specs.declared.task.FrontTask.{FrontTask}
 use Rattle.ctlog.specs.declared.task.OperatorTask.{OperatorTask}
@@ -36,20 +35,35 @@ no_part n k r apart = elim (eqb_tells n k) [
   | inr other ↦ (let e : nat_eq n k ≡ false = other.0 in rw e refl)
 ]
 
+-- the element that was put there, and the others
+put_there : {A : Type 0} (xs : List A) (i : ℕ) (x y : A) → slice_get xs i ≡ Some x → slice_get (set xs i y) i ≡ Some y
+put_there xs i x y at =
+    let below = slice_get_within xs i x at in
+    let inside : i < length (set xs i y) = subst (λ (n : ℕ). i < n) (sym (length-set xs i y)) below in
+    slice_get-get_or (set xs i y) i y inside ∙ ap (λ (z : A). Some z) (get_or-set_same xs i y y below)
+
+put_elsewhere : {A : Type 0} (xs : List A) (i j : ℕ) (y : A) → j ≢ i → slice_get (set xs i y) j ≡ slice_get xs j
+put_elsewhere [] zero j y apart = refl
+put_elsewhere [] (suc i) j y apart = refl
+put_elsewhere (z ∷ zs) zero zero y apart = absurd (apart refl)
+put_elsewhere (z ∷ zs) zero (suc j) y apart = refl
+put_elsewhere (z ∷ zs) (suc i) zero y apart = refl
+put_elsewhere (z ∷ zs) (suc i) (suc j) y apart = put_elsewhere zs i j y (λ e. apart (ap (λ (n : ℕ). suc n) e))
+
 -- the tasks of one front grow by one, and those of the others stay
 fronts_grow : (lists : List (Vec FrontTask Global)) (ts : List Task) (f : ℕ) (old new : Vec FrontTask Global) (t : FrontTask) → slice_get lists f ≡ Some old → new.items ≡ old.items ++ t ∷ []
     → ((k : ℕ) (v : Vec FrontTask Global) → slice_get lists k ≡ Some v → map task_asked v.items ≡ front_parts k ts)
     → (k : ℕ) (v : Vec FrontTask Global) → slice_get (set lists f new) k ≡ Some v → map task_asked v.items ≡ front_parts k (ts ++ for_front f (task_asked t) ∷ [])
 fronts_grow lists ts f old new t there grown each k v at = elim (eqb_tells k f) [
   | inl same ↦ (
-      let here : slice_get (set lists f new) k ≡ Some new = ap (slice_get (set lists f new)) same.1 ∙ set_there lists f old new there in
+      let here : slice_get (set lists f new) k ≡ Some new = ap (slice_get (set lists f new)) same.1 ∙ put_there lists f old new there in
       let is : v ≡ new = same_Some v new (sym at ∙ here) in
       let before : map task_asked old.items ≡ front_parts f ts = each f old there in
       ap (λ (w : Vec FrontTask Global). map task_asked w.items) is ∙ ap (map task_asked) grown ∙ map-append task_asked old.items (t ∷ [])
       ∙ part_grows (front_part f) ts (for_front f (task_asked t)) (map task_asked old.items) (task_asked t) before (own_part f (task_asked t))
       ∙ ap (λ (n : ℕ). front_parts n (ts ++ for_front f (task_asked t) ∷ [])) (sym same.1)
       )
-  | inr apart ↦ part_kept (front_part k) ts (for_front f (task_asked t)) (map task_asked v.items) (each k v (sym (set_elsewhere lists f k new apart.1) ∙ at))
+  | inr apart ↦ part_kept (front_part k) ts (for_front f (task_asked t)) (map task_asked v.items) (each k v (sym (put_elsewhere lists f k new apart.1) ∙ at))
       (no_part f k (task_asked t) (λ e. apart.1 (sym e)))
 ]
 
@@ -57,7 +71,7 @@ fronts_grow lists ts f old new t there grown each k v at = elim (eqb_tells k f) 
 pub front_added : (n : ℕ) (p : Plan) (ts : List Task) (f : ℕ) (old new : Vec FrontTask Global) (t : FrontTask) → f < length p.fronts.items → old ≡ get_or p.fronts.items f old
     → new.items ≡ old.items ++ t ∷ [] → IsPlanOf n p ts → IsPlanOf n record { fronts = with_item p.fronts f new; operator = p.operator; frozen = p.frozen } (ts ++ for_front f (task_asked t) ∷ [])
 front_added n p ts f old new t below at grown i = record {
-  count = length_set p.fronts.items f new ∙ i.count;
+  count = length-set p.fronts.items f new ∙ i.count;
   fronts = fronts_grow p.fronts.items ts f old new t (slice_get_read p.fronts.items (length p.fronts.items) f old refl below at) grown i.fronts;
   operator = part_kept operator_part ts (for_front f (task_asked t)) p.operator.items i.operator refl;
   frozen = text_kept frozen_part ts (for_front f (task_asked t)) p.frozen.items i.frozen refl;

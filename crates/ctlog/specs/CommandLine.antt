@@ -66,8 +66,8 @@ command_line words = by_fault (fault_of ctlog_app words) (log_with (unwrap_or (n
     (unwrap_or (number_given (codes "close-at") words) latest_moment))
 
 -- what these words ask for, as the program has them
-abbrev pub asked_by : List (Bor Text) → CommandLine
-asked_by words = command_line (map (λ (w : Bor Text). w.now) words)
+abbrev pub asked_for : List (Bor Text) → CommandLine
+asked_for words = command_line (map (λ (w : Bor Text). w.now) words)
 
 -- what an error of clap's of this kind says of a command line: memory was refused; help is asked for; or nothing that there is
 abbrev pub IsRefusalOf : CommandLine → ErrorKind → Type 0

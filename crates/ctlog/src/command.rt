@@ -2,7 +2,7 @@
 
 ghost use Rattle.std.specs.Prelude.{◌≡◌, ◌<◌, ◌≤◌, IfOk, IfErr, IfSome, Some, None, MatchResult, false, ℕ};
 ghost use Rattle.clap.specs.Words.{app_of, rule_of, kind_of};
-ghost use Rattle.ctlog.specs.CommandLine.{asked_by, ctlog_app, fronts_rule, ring_rule, open_at_rule, close_at_rule, log_with, IsRefusalOf};
+ghost use Rattle.ctlog.specs.CommandLine.{asked_for, ctlog_app, fronts_rule, ring_rule, open_at_rule, close_at_rule, log_with, IsRefusalOf};
 ghost use Rattle.ctlog.specs.NoOptions.{IsNoOptions};
 
 use crate::fault::Fault;
@@ -116,8 +116,8 @@ fn in_range(fronts: Option<u16>, ring: Option<usize>) -> Option<(u16, usize)>
 /// they ask for nothing that there is.
 pub fn read_options<'a>(alloc: Global, words: &'a [&'a str]) -> Result<Options, Error>
     ensures { MatchResult result
-        (λ o. asked_by words.now ≡ log_with o.fronts o.ring o.open_at o.close_at)
-        (λ e. IsRefusalOf (asked_by words.now) (kind_of e)) }
+        (λ o. asked_for words.now ≡ log_with o.fronts o.ring o.open_at o.close_at)
+        (λ e. IsRefusalOf (asked_for words.now) (kind_of e)) }
 {
     let mut command = command(alloc)?;
     let matches = command.try_get_matches_from_mut(words)?;

@@ -9,7 +9,7 @@ ghost use Rattle.ctlog.specs.Faults.{fault_line, IsFrozenFault};
 ghost use Rattle.ctlog.specs.Output.{AreTasksOf, AreGiven, AreParties, fronts_of, SomeReplies, WritesAll, WritesSome, IsServed, IsBegun, IsDone, IsBrokenOff};
 ghost use Rattle.clap.specs.Words.{kind_of};
 ghost use Rattle.clap.specs.declared.error.kind.ErrorKind.TheVariants.{DisplayHelp, OutOfMemory};
-ghost use Rattle.ctlog.specs.CommandLine.{asked_by, help, nothing, IsUnanswered};
+ghost use Rattle.ctlog.specs.CommandLine.{asked_for, help, nothing, IsUnanswered};
 ghost use Rattle.ctlog.specs.Plans.{IsPlanOf};
 ghost use Rattle.ctlog.specs.Sends.{SendsSome};
 ghost use Rattle.ctlog.specs.Tasks.{Task};
@@ -267,11 +267,11 @@ pub fn run<'a, H: Threads + Wait + Sync, R: Read, W: Write, E: Write>(
     faults: &mut E,
 ) -> u8
     ensures status { result ≤ 2 }
-    ensures done { result ≡ 0 → IsDone (asked_by words.now) (R.remaining input.old) (W.contents output.old) (W.contents output.new) }
-    ensures fault { result ≡ 1 → (f : FaultOf) × IsBrokenOff (asked_by words.now) f (R.remaining input.old) (W.contents output.old) (W.contents output.new)
+    ensures done { result ≡ 0 → IsDone (asked_for words.now) (R.remaining input.old) (W.contents output.old) (W.contents output.new) }
+    ensures fault { result ≡ 1 → (f : FaultOf) × IsBrokenOff (asked_for words.now) f (R.remaining input.old) (W.contents output.old) (W.contents output.new)
         × SendsSome (E.contents faults.old) (E.contents faults.new) (fault_line f) }
-    ensures refused { result ≡ 2 → (asked_by words.now ≡ nothing) × (output.new ≡ output.old) }
-    ensures unread { (asked_by words.now ≡ help) ⊎ (asked_by words.now ≡ nothing) → input.new ≡ input.old }
+    ensures refused { result ≡ 2 → (asked_for words.now ≡ nothing) × (output.new ≡ output.old) }
+    ensures unread { (asked_for words.now ≡ help) ⊎ (asked_for words.now ≡ nothing) → input.new ≡ input.old }
     ensures quiet { result ≡ 0 → faults.new ≡ faults.old }
 {
     match read_options(alloc, words) {
