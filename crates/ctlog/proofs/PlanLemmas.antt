@@ -37,7 +37,7 @@ no_part n k r apart = elim (eqb_tells n k) [
 
 -- the element that was put there, and the others
 put_there : {A : Type 0} (xs : List A) (i : ℕ) (x y : A) → slice_get xs i ≡ Some x → slice_get (set xs i y) i ≡ Some y
-put_there xs i x y at =
+put_there {A = A} xs i x y at =
     let below = slice_get_within xs i x at in
     let inside : i < length (set xs i y) = subst (λ (n : ℕ). i < n) (sym (length-set xs i y)) below in
     slice_get-get_or (set xs i y) i y inside ∙ ap (λ (z : A). Some z) (get_or-set_same xs i y y below)
