@@ -3,7 +3,6 @@ use Rattle.std.proofs.Common.{◌≡◌, ◌⊎◌, ◌∙◌, true, false, inl,
 use Rattle.std.specs.Prelude.{Result, Ok, Err, MatchResult, IfErr}
 use Rattle.ct_codec.specs.declared.refusal.Refusal.{Refusal}
 use Rattle.ct_codec.specs.declared.refusal.Refusal.TheVariants.{Memory, Closed}
-use Rattle.ct_core.specs.Core.{Extends}
 use Rattle.ct_core.specs.Settlement.{Log, Lawful}
 use Rattle.ct_core.specs.Answers.{answer}
 use Rattle.ct_core.specs.Replies.{Answer, a_head, refused, shown, takes_memory}

@@ -1,6 +1,6 @@
 use Rattle.std.proofs.Common.{List, length, sym, subst}
 use Rattle.std.specs.Prelude.{All, IfOk}
-use Rattle.ct_house.specs.House.{AreInOrder, FinalState, FrontView, IsOfHouse}
+use Rattle.ct_house.specs.House.{AreInOrder, FrontView, IsOfHouse}
 use Rattle.ctlog.specs.ClosedLog.{Closes}
 use Rattle.ctlog.proofs.closing.close.Goals as goal
 
