@@ -16,17 +16,10 @@ lanes_of_new_house s fronts n places now f = ap length f.lanes ∙ length-replic
 -- the same front is of the same house
 pub same_front : (a b : HouseName) (old new : FrontView) → b ≡ a → SameFront old new → IsOfHouse a old → IsOfHouse b new
 same_front a b old new e s o = subst (λ (h : HouseName). IsOfHouse h new) (sym e) (record {
-  gate = s.intake.0 ∙ o.gate;
-  ring = ap (slice_get a.rings) s.intake.1 ∙ o.ring ∙ ap Some (sym s.intake.2);
-  series = s.series ∙ o.series;
+  gate = s.0.0 ∙ o.gate;
+  ring = ap (slice_get a.rings) s.0.1 ∙ o.ring ∙ ap Some (sym s.0.2);
+  series = s.1 ∙ o.series;
 })
-
--- two calls, one after the other
-pub same_twice : (a b c : FrontView) → SameFront a b → SameFront b c → SameFront a c
-same_twice a b c s t = record {
-  intake = (t.intake.0 ∙ s.intake.0, t.intake.1 ∙ s.intake.1, t.intake.2 ∙ s.intake.2);
-  series = t.series ∙ s.series;
-}
 
 -- the fronts that stand in a list's elements stay of the house
 pub still_of_house : {X : Type 0} (f : X → FrontView) (a b : HouseName) (old new : List X) → b ≡ a → length new ≡ length old

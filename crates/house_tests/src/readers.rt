@@ -7,6 +7,7 @@ use ct_core::{Query, Reply};
 use ct_house::{Front, Sequencer, open};
 use ct_tree::Head;
 use std::alloc::Global;
+use std::process::Abort;
 use std::sync::Wait;
 use std::test::Fail;
 use std::thread::{Threads, join_mut};
@@ -141,20 +142,18 @@ fn a_refused_publication_is_made_again(rt: HostRuntime) -> Result<(), Fail> {
     Ok(())
 }
 
-// Asks for the last head 10,000 times. Whether its size never fell and no answer was a refusal.
-fn sizes_rise(alloc: Global, front: &mut Front) -> bool {
+// Asks for the last head 10,000 times: no answer is a refusal, and the size never falls.
+fn expect_sizes_rise<R: Abort>(rt: &R, alloc: Global, front: &mut Front) {
     let mut last = 0;
-    let mut fine = true;
     for _ in 0..10_000u32 {
         match front.ask(alloc, &Query::GetSth) {
             Ok(Reply::Sth(head)) => {
-                fine = fine && last <= head.tree_size;
+                assert!(rt; last <= head.tree_size);
                 last = head.tree_size;
             }
-            _ => fine = false,
+            _ => panic!(rt; "no head"),
         }
     }
-    fine
 }
 
 // Submits a hundred certificates, of which each is one byte.
@@ -184,43 +183,44 @@ fn publish_hundred<R: Threads + Wait + Sync>(
     Ok(size)
 }
 
-// Publishes a hundred heads in one thread beside 10,000 questions in another. Whether the sizes never fell, and the last size.
-fn reads_beside_publications<R: Threads + Wait + Sync>(
+// Publishes a hundred heads in one thread beside 10,000 questions in another. The size of the last head.
+fn reads_beside_publications<R: Threads + Wait + Abort + Sync>(
     rt: &R,
     alloc: Global,
     house: &mut Sequencer,
     front: &mut Front,
-) -> (bool, Result<u64, Refusal>)
+) -> Result<u64, Refusal>
     requires { length house.old.lanes ≡ 2 }
 {
-    join_mut(
+    let (_, size) = join_mut(
         rt,
-        &mut || { sizes_rise(alloc, front) },
+        &mut || { expect_sizes_rise(rt, alloc, front) },
         &mut ||
             requires { length house.now.lanes ≡ 2 }
         { publish_hundred(rt, alloc, house) },
-    )
+    );
+    size
 }
 
 #[tactic(auto, using(crate::proofs::FrontLemmas::lanes_of_new_house))]
-fn reads_in_a_house<R: Threads + Wait + Sync>(
+fn reads_in_a_house<R: Threads + Wait + Abort + Sync>(
     rt: &R,
     alloc: Global,
-) -> Result<(bool, u64), Refusal> {
+) -> Result<u64, Refusal> {
     let (mut house, mut fronts) = open(rt, alloc, 2, 128, 0)?;
     let (Some(mut one), Some(mut zero)) = (fronts.pop(), fronts.pop()) else {
         house.abandon(rt, Vec::new(alloc));
         return Err(Refusal::MissingFront);
     };
     let submitted = submit_hundred(alloc, &mut zero);
-    let (fine, size) = reads_beside_publications(rt, alloc, &mut house, &mut one);
+    let size = reads_beside_publications(rt, alloc, &mut house, &mut one);
     house.abandon(rt, Vec::new(alloc));
     submitted?;
-    Ok((fine, size?))
+    size
 }
 
 #[test]
 fn sizes_never_fall_beside_publications(rt: HostRuntime) -> Result<(), Fail> {
-    assert_eq!(rt; reads_in_a_house(&rt, rt.alloc()), Ok((true, 100)));
+    assert_eq!(rt; reads_in_a_house(&rt, rt.alloc()), Ok(100));
     Ok(())
 }
