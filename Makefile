@@ -1,13 +1,16 @@
 # make demo   builds ctlog and runs it on real certificates
 # make test   the gate: proves every crate from nothing, and runs the tests and the program
 # make check  for daily work: proves what changed
+# make link   builds libwagtenib, the proof checkers for C, and runs programs in C, Rust and Python over it
+# make install PREFIX=/usr/local   installs libwagtenib, its header and its pkg-config file
 # make fuzz   runs ctlog on random and damaged lines for SECONDS=60, and compares it with an independent program
 # make sweep  refuses each growth of ctlog in turn, and judges what it then does
 # make load   runs ctlog with 16 fronts and a shutdown among them RUNS=20 times, and judges each output
-.PHONY: demo test check fuzz load sweep kit sources
+.PHONY: demo test check link install fuzz load sweep kit sources
 
 SECONDS ?= 60
 RUNS ?= 20
+PREFIX ?= /usr/local
 
 demo: kit
 	@examples/demo.sh
@@ -17,6 +20,19 @@ test: kit sources
 
 check: kit sources
 	rt all check
+
+link: kit
+	@examples/link/link.sh
+
+install: crates/wagtenib/out/link/libwagtenib.a
+	install -d $(DESTDIR)$(PREFIX)/include $(DESTDIR)$(PREFIX)/lib/pkgconfig
+	install -m 644 include/wagtenib.h $(DESTDIR)$(PREFIX)/include
+	install -m 644 crates/wagtenib/out/link/libwagtenib.a $(DESTDIR)$(PREFIX)/lib
+	install -m 755 crates/wagtenib/out/link/libwagtenib.so $(DESTDIR)$(PREFIX)/lib
+	sed 's|@PREFIX@|$(PREFIX)|' include/wagtenib.pc.in > $(DESTDIR)$(PREFIX)/lib/pkgconfig/wagtenib.pc
+
+crates/wagtenib/out/link/libwagtenib.a:
+	@$(MAKE) --silent link
 
 # After `rt run -- --help` in crates/ctlog, which builds it.
 fuzz:

@@ -12,22 +12,24 @@ import sys
 from source import CRATES, ROOT, blanked, closing, crates, is_for_tests, sources
 
 IMPORT = re.compile(r"\bghost use Rattle\.(\w+)\.specs\.([\w.]+)\.\{([^}]*)\};")
-FUNCTION = re.compile(r"^ *pub (?:const |final )?fn (\w+)", re.M)
+FUNCTION = re.compile(r'^ *pub (?:const |final |extern +)?fn (\w+)', re.M)
 CLAUSE = re.compile(r"\b(?:ensures|requires)\b\s*\w*\s*\{")
 
 
 def words_of(text, own):
-    """The words that a file brings in from specs/ of this repository's crates."""
+    """The words that a file brings in from specs/ of this repository's crates: the name there and the file, by the name here."""
     words = {}
     for crate, module, names in IMPORT.findall(text):
         if crate in own and not module.startswith("declared"):
             for name in names.split(","):
-                words[name.split(" as ")[-1].strip()] = f"{crate}/specs/{module.replace('.', '/')}.antt"
+                there, here = name.split(" as ")[0].strip(), name.split(" as ")[-1].strip()
+                words[here] = (there, f"{crate}/specs/{module.replace('.', '/')}.antt")
     return words
 
 
 def clauses(text):
-    """Each public function of a file, with the text of its clauses."""
+    """Each public function of a file, with the text of its clauses. (The `;` of an array's type doesn't end a signature.)"""
+    text = re.sub(r";(?= *[\w:]+\])", " ", text)
     for found in FUNCTION.finditer(text):
         at, parts = found.end(), []
         body = re.compile(r"\b(?:ensures|requires)\b\s*\w*\s*\{|\{|;")
@@ -63,9 +65,9 @@ def main():
             words = words_of(text, own)
             for function, clause in clauses(blanked(text)):
                 for word in re.findall(r"\w+", clause):
-                    if word in words and word not in named:
-                        missing.setdefault((words[word], word), set()).add(f"{crate}::{function}")
-    for (file, word), functions in sorted(missing.items()):
+                    if word in words and words[word][0] not in named:
+                        missing.setdefault(words[word], set()).add(f"{crate}::{function}")
+    for (word, file), functions in sorted(missing.items()):
         print(f"{word} ({file}), of {', '.join(sorted(functions))}, isn't in docs/DEFINITIONS.md")
     files = {path.name for path in CRATES.rglob("specs/*.antt")}
     absent = sorted(set(re.findall(r"`(\w+\.antt)`", page)) - files)

@@ -1,6 +1,6 @@
 //! Leaves and chains read from bytes (RFC 6962 sections 3.4 and 4.6).
 
-ghost use Rattle.std.specs.Prelude.{◌≡◌, ◌<◌, ◌≤◌, ◌^◌, ◌++◌, [], ◌∷◌, ℕ, List, map, length, IfOk, IfErr};
+ghost use Rattle.std.specs.Prelude.{◌≡◌, ◌≢◌, ◌<◌, ◌≤◌, ◌^◌, ◌++◌, [], ◌∷◌, ℕ, List, map, length, IfOk, IfErr};
 ghost use Rattle.std.specs.Prelude.{OnOk, ◌⊎◌};
 ghost use Rattle.std.specs.List.{AllByRecursion};
 ghost use Rattle.ct_codec.specs.Bytes.{num, vec};
@@ -33,25 +33,31 @@ pub struct Leaf {
     pub extensions: Vec<u8>,
 }
 
-// An entry that stands in the input.
+/// What a leaf is about, where it stands in the input (RFC 6962 sections 3.1 and 3.2).
 #[derive(Clone, Copy)]
-enum LentEntry<'a> {
+pub enum LentEntry<'a> {
+    /// A certificate.
     X509(&'a [u8]),
+    /// The hash of the issuer's key, and a TBSCertificate.
     Precert([u8; 32], &'a [u8]),
 }
 
-// A leaf that stands in the input.
+/// A leaf, where it stands in the input (RFC 6962 section 3.4).
 #[derive(Clone, Copy)]
-struct LentLeaf<'a> {
-    timestamp: u64,
-    entry: LentEntry<'a>,
-    extensions: &'a [u8],
+pub struct LentLeaf<'a> {
+    /// The moment, in milliseconds.
+    pub timestamp: u64,
+    /// What the leaf is about.
+    pub entry: LentEntry<'a>,
+    /// The extensions, 0 to 65,535 bytes.
+    pub extensions: &'a [u8],
 }
 
 // The version, the leaf type and the timestamp.
 fn timestamp_at(reader: &mut Reader<'_>) -> Result<u64, DecodeFault>
     ensures found { IfOk result (λ t. (t < 2 ^ 64) × (reader.old ≡ 0 ∷ 0 ∷ (num 8 t ++ reader.new))) }
     ensures fault { IfErr result (λ f. LeafFaulty f reader.old) }
+    ensures named { IfErr result (λ f. f ≢ Memory) }
 {
     let Some(version) = reader.number_1() else {
         return Err(DecodeFault::Truncated);
@@ -75,6 +81,7 @@ fn timestamp_at(reader: &mut Reader<'_>) -> Result<u64, DecodeFault>
 fn entry_at<'a>(reader: &mut Reader<'a>) -> Result<LentEntry<'a>, DecodeFault>
     ensures found { IfOk result (λ e. IsEntry (entry_lent e) × (reader.old ≡ entry_text (entry_lent e) ++ reader.new)) }
     ensures fault { IfErr result (λ f. EntryFaulty f reader.old) }
+    ensures named { IfErr result (λ f. f ≢ Memory) }
 {
     let Some(entry_type) = reader.number_2() else {
         return Err(DecodeFault::Truncated);
@@ -91,10 +98,16 @@ fn entry_at<'a>(reader: &mut Reader<'a>) -> Result<LentEntry<'a>, DecodeFault>
     }
 }
 
-// The leaf that the bytes are, where they stand. It takes no memory.
-fn leaf_at(bytes: &[u8]) -> Result<LentLeaf<'_>, DecodeFault>
+/// The leaf that the bytes are, all of them, where they stand. It takes no memory.
+///
+/// The fault is the first from the left, and never `Memory`.
+pub fn lend_leaf(bytes: &[u8]) -> Result<LentLeaf<'_>, DecodeFault>
+    // What is read is what the bytes are the text of.
     ensures found { IfOk result (λ l. LeafText l.timestamp (entry_lent l.entry) l.extensions.now bytes.now) }
+    // Which fault it is.
     ensures fault { IfErr result (λ f. LeafFaulty f bytes.now) }
+    // A leaf's text is read, since no memory can be refused.
+    ensures named { IfErr result (λ f. f ≢ Memory) }
 {
     let mut input = Reader::new(bytes);
     let timestamp = timestamp_at(&mut input)?;
@@ -137,7 +150,7 @@ pub fn decode_leaf(alloc: Global, bytes: &[u8]) -> Result<Leaf, DecodeFault>
     // Which fault it is.
     ensures fault { IfErr result (λ f. LeafFaulty f bytes.now) }
 {
-    let leaf = leaf_at(bytes)?;
+    let leaf = lend_leaf(bytes)?;
     let entry = copy_entry(alloc, leaf.entry)?;
     let extensions = Vec::from_slice(alloc, leaf.extensions)?;
     Ok(Leaf {

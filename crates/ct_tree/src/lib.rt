@@ -3,6 +3,7 @@
 //! - [`NodeHash`] is a hash function with digests of 32 bytes, and [`Sha256Hash`] is SHA-256. Everything else here holds
 //!   for every `NodeHash`. `leaf_hash` and `node_hash` are the tree's two uses of it.
 //! - [`Stack`] keeps the perfect subtrees of a list of leaves that only grows: enough for its root.
+//!   `with_leaf` and `root_of_subtrees` are its two steps, for who keeps the subtrees elsewhere.
 //! - [`Nodes`] keeps every node of such a tree, and answers the root, the audit paths and the consistency proofs of each
 //!   beginning of the list.
 //! - `hash_batch` hashes many leaves by several threads.
@@ -21,6 +22,7 @@ mod nodes;
 mod power;
 pub mod reference;
 mod stack;
+mod subtrees;
 
 pub use batch::{hash_batch, hash_batch_parts};
 pub use hash::{NodeHash, Sha256Hash, leaf_hash, leaf_hash_parts, node_hash};
@@ -28,6 +30,7 @@ pub use head::Head;
 pub use nodes::Nodes;
 pub use power::largest_power_below;
 pub use stack::{Snapshot, Stack};
+pub use subtrees::{root_of_subtrees, with_leaf};
 use std::alloc::AllocError;
 
 /// A growth was refused.

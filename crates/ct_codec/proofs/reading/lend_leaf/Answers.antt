@@ -3,7 +3,7 @@ use Rattle.ct_codec.specs.Decoded.{entry_lent}
 use Rattle.ct_codec.specs.Faults.{LeafFaulty}
 use Rattle.ct_codec.proofs.Exits.{left_with}
 use Rattle.ct_codec.proofs.Leaves.{leaf_entry_fault, leaf_extensions_cut}
-use Rattle.ct_codec.proofs.reading.leaf_at.Goals as goal
+use Rattle.ct_codec.proofs.reading.lend_leaf.Goals as goal
 
 pub returns-in_err-entry-clause-fault : goal.returns-in_err-entry-clause-fault
 returns-in_err-entry-clause-fault c =

@@ -1,0 +1,54 @@
+-- The numbers by which the exported functions answer.
+use Rattle.std.specs.Prelude.{◌≡◌, ◌≢◌, ◌⊎◌, ℕ, List, length}
+use Rattle.ct_codec.specs.Leaf.{SignedEntry, certificate, precertificate, LeafText}
+use Rattle.ct_codec.specs.Faults.{LeafFaulty}
+use Rattle.ct_codec.specs.declared.fault.DecodeFault.{DecodeFault}
+use Rattle.ct_codec.specs.declared.fault.DecodeFault.TheVariants.{Truncated, BadVersion, BadLeafType, BadEntryType, EmptyVector, Trailing, Memory}
+use Rattle.ct_verify.specs.declared.fault.ProofFault.{ProofFault}
+use Rattle.ct_verify.specs.declared.fault.ProofFault.TheVariants.{IndexOutOfRange, PathTooLong, PathTooShort, RootMismatch, EmptyPath, FirstMismatch, SizesOutOfRange}
+use Rattle.wagtenib.specs.declared.leaf.LeafInfo.{LeafInfo}
+
+-- the number of a proof's fault
+abbrev pub proof_code : ProofFault → ℕ
+proof_code IndexOutOfRange = 1
+proof_code PathTooLong = 2
+proof_code PathTooShort = 3
+proof_code RootMismatch = 4
+proof_code EmptyPath = 5
+proof_code FirstMismatch = 6
+proof_code SizesOutOfRange = 7
+
+-- 0 where the proof is accepted, and elsewhere the number of the fault that stands against it
+abbrev pub Judges : ℕ → Type 0 → (ProofFault → Type 0) → Type 0
+Judges code accepts refuses = ((code ≡ 0) × accepts) ⊎ ((f : ProofFault) × (code ≡ proof_code f) × refuses f)
+
+-- the number of a leaf's fault
+abbrev pub leaf_code : DecodeFault → ℕ
+leaf_code Memory = 8
+leaf_code Truncated = 17
+leaf_code BadVersion = 18
+leaf_code BadLeafType = 19
+leaf_code BadEntryType = 20
+leaf_code EmptyVector = 21
+leaf_code Trailing = 22
+
+-- the number of an entry's type
+abbrev pub type_of : SignedEntry → ℕ
+type_of (certificate c) = 0
+type_of (precertificate k c) = 1
+
+-- the length of an entry's certificate or TBSCertificate
+abbrev pub certificate_length : SignedEntry → ℕ
+certificate_length (certificate c) = length c
+certificate_length (precertificate k c) = length c
+
+-- the bytes are a leaf's, and the information is of that leaf
+abbrev pub Describes : LeafInfo → List ℕ → Type 0
+Describes info bytes = (e : SignedEntry) × (x : List ℕ) × LeafText info.timestamp e x bytes × (info.entry_type ≡ type_of e)
+    × (info.certificate_length ≡ certificate_length e) × (info.extensions_length ≡ length x)
+
+-- 0 where the bytes are a leaf's, which the new information describes; elsewhere the number of the first fault that they have, and
+-- the information is the old one
+abbrev pub DecodesLeaf : ℕ → LeafInfo → LeafInfo → List ℕ → Type 0
+DecodesLeaf code before after bytes = ((code ≡ 0) × Describes after bytes)
+    ⊎ ((f : DecodeFault) × (code ≡ leaf_code f) × (f ≢ Memory) × LeafFaulty f bytes × (after ≡ before))

@@ -1,0 +1,63 @@
+#!/usr/bin/env bash
+# Builds libwagtenib.a and libwagtenib.so into crates/wagtenib/out/link, and runs programs in C, Rust and Python over them.
+set -eu
+cd "$(dirname "$0")/../.."
+out=$PWD/crates/wagtenib/out/link
+compiler=${CC:-cc}
+for tool in "$compiler" ar nm python3; do
+  command -v "$tool" >/dev/null || { echo "link: $tool isn't here" >&2; exit 1; }
+done
+work=$(mktemp -d)
+trap 'rm -rf "$work"' EXIT
+
+echo "Building libwagtenib (the first time this proves it and the crates below it, which takes some minutes) .."
+if ! (cd crates/wagtenib && rt lib) >"$work/log" 2>&1; then
+  cat "$work/log" >&2
+  exit 1
+fi
+
+# The archive gets the kit's three functions over malloc inside, so that it needs the C library alone.
+heap=$(dirname "$(rt doc)")/c/liblibc_c.a
+proved=$PWD/crates/wagtenib/out/libwagtenib.a
+(cd "$work" && ar x "$heap" heap.pic.o && ar x "$proved")
+mkdir -p "$out"
+rm -f "$out"/libwagtenib.*
+ar rcs "$out/libwagtenib.a" "$work"/*.o
+"$compiler" -shared -o "$out/libwagtenib.so" -Wl,-soname,libwagtenib.so -Wl,--whole-archive "$out/libwagtenib.a" -Wl,--no-whole-archive
+nm "$out/libwagtenib.a" >"$work/names" 2>/dev/null
+python3 examples/link/names.py "$work/names"
+
+echo
+python3 examples/link/cases.py >"$work/cases"
+python3 examples/link/cases.py --header >"$work/hashes.h"
+flags="-std=c99 -Wall -Wextra -Werror -O1 -Iinclude -I$work"
+sanitize=-fsanitize=address,undefined
+echo 'int main(void) { return 0; }' >"$work/empty.c"
+if ! "$compiler" $sanitize "$work/empty.c" -o "$work/empty" 2>/dev/null; then
+  echo "C: without the address sanitizer, which $compiler hasn't got here"
+  sanitize=
+fi
+"$compiler" $flags $sanitize examples/link/verify.c "$out/libwagtenib.a" -o "$work/verify"
+"$work/verify" <"$work/cases"
+"$compiler" $flags examples/link/follow.c "$out/libwagtenib.a" -Wl,--wrap=malloc,--wrap=realloc -o "$work/follow"
+"$work/follow"
+if command -v "${CXX:-c++}" >/dev/null; then
+  echo '#include "wagtenib.h"' >"$work/header.cc"
+  "${CXX:-c++}" -Wall -Wextra -Werror -Iinclude -c "$work/header.cc" -o "$work/header.o"
+  echo "C++: the header compiles"
+else
+  echo "C++: not tried, no ${CXX:-c++} here"
+fi
+if command -v rustc >/dev/null; then
+  rustc --edition 2024 -O -D warnings -L "$out" -l static=wagtenib examples/link/verify.rs -o "$work/verify-rust"
+  "$work/verify-rust" <"$work/cases"
+else
+  echo "Rust: not tried, no rustc here"
+fi
+python3 examples/link/verify.py "$out/libwagtenib.so" <"$work/cases"
+if command -v valgrind >/dev/null; then
+  "$compiler" $flags -g examples/link/verify.c "$out/libwagtenib.a" -o "$work/plain"
+  valgrind --quiet --leak-check=full --error-exitcode=3 "$work/plain" <"$work/cases" | sed 's/^C:/C under valgrind:/'
+fi
+echo
+echo "libwagtenib.a and libwagtenib.so stand in crates/wagtenib/out/link; make install PREFIX=.. copies them and the header."

@@ -1,0 +1,21 @@
+"""Compares what the header declares with what the library exports, and its answers' numbers with those of the contracts.
+Called with the output of nm."""
+import os
+import re
+import sys
+
+here = os.path.dirname(os.path.abspath(__file__))
+header = open(os.path.join(here, "../../include/wagtenib.h"), encoding="utf-8").read()
+codes = open(os.path.join(here, "../../crates/wagtenib/specs/Codes.antt"), encoding="utf-8").read()
+
+declared = set(re.findall(r"\b(wagtenib_\w+)\(", re.sub(r"/\*.*?\*/", "", header, flags=re.S)))
+exported = {line.split()[-1] for line in open(sys.argv[1], encoding="utf-8") if " T " in line and "::" not in line}
+exported = {name for name in exported if not name.startswith("rattle_")}
+answers = {name.replace("_", "").lower(): int(number) for name, number in re.findall(r"WAGTENIB_(\w+) = (\d+)", header)}
+promised = {name.lower(): int(number) for name, number in re.findall(r"^(?:proof_code|leaf_code) (\w+) = (\d+)$", codes, re.M)}
+promised |= {"ok": 0, "full": 9}
+
+for what, one, other in (("functions", declared, exported), ("answers", answers, promised)):
+    if one != other or not one:
+        sys.exit(f"The header and the library have other {what}: {sorted(set(one) ^ set(other)) or (one, other)}")
+print(f"The header and the library have the same {len(declared)} functions and {len(answers)} answers.")
