@@ -3,9 +3,9 @@
 //! - `Submission` is what is submitted: a chain of certificates whose lengths are in range. `Item` is one that was accepted.
 //! - `identity`, `leaf_input` and `extra_data` write its bytes (RFC 6962 sections 3.1, 3.4 and 4.6), numbers by `byteorder`.
 //!   `same_identity` compares two submissions by their identities, and writes none.
-//! - `decode_leaf`, `decode_chain` and `decode_pre_chain` read a leaf of either entry type, a chain, and a precertificate with its chain from
-//!   bytes. Where the bytes are none they answer
-//!   the first fault from the left, before any memory is taken: the walk over the input (`leaf_at`, `last_chain`) has no allocator.
+//! - `decode_leaf`, `decode_chain` and `decode_pre_chain` read a leaf of either entry type, a chain, and a precertificate with its chain
+//!   from bytes. Where the bytes are none they answer the first fault from the left, before any memory is taken: the walk over the input
+//!   (`leaf_at`, `last_chain`) has no allocator.
 //! - `Refusal` has every reason for which a call of the log is refused.
 //! - The functions of [`laws`] do nothing: their contracts are laws of the formats.
 //!
