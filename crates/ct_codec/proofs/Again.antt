@@ -4,17 +4,17 @@ use Rattle.std.specs.Prelude.{IfOk, IfErr}
 use Rattle.std.specs.Result.{IsErrAnd}
 use Rattle.std.specs.List.{AllByRecursion}
 use Rattle.ct_codec.specs.Bytes.{vec}
-use Rattle.ct_codec.specs.Faults.{LeafFaulty, ChainFaulty, CertificatesFaulty}
+use Rattle.ct_codec.specs.Faults.{LeafFaulty, ChainFaulty, CertificatesFaulty, PreChainFaulty}
 use Rattle.ct_codec.specs.declared.fault.DecodeFault.TheVariants.{Memory}
 use Rattle.ct_codec.proofs.Chains.{chain_text_of, chain_copy}
-use Rattle.ct_codec.specs.Leaf.{SignedEntry, LeafText, ChainText, IsCertificate, AreCertificates, chain_bytes}
-use Rattle.ct_codec.specs.Decoded.{IsTextOf, IsLeaf, AnswersLeaf, AnswersChain, GivesLeaf, GivesChain, certificates_in, entry_in}
+use Rattle.ct_codec.specs.Leaf.{SignedEntry, LeafText, ChainText, PreChainText, IsCertificate, AreCertificates, chain_bytes}
+use Rattle.ct_codec.specs.Decoded.{IsTextOf, IsLeaf, AnswersLeaf, AnswersChain, AnswersPreChain, GivesLeaf, GivesChain, GivesPreChain, certificates_in, entry_in}
 use Rattle.ct_codec.specs.Laws.{WrittenLeavesAreRead, WrittenChainsAreRead}
 use Rattle.ct_codec.specs.Submitted.{x509, entry_of}
 use Rattle.ct_codec.specs.declared.fault.DecodeFault.{DecodeFault}
 use Rattle.ct_codec.specs.declared.reading.Leaf.{Leaf}
-use Rattle.ct_codec.proofs.Apart.{leaves_stand_apart, chains_stand_apart}
-use Rattle.ct_codec.proofs.Verdict.{leaf_texts_have_no_fault, chain_texts_have_no_fault}
+use Rattle.ct_codec.proofs.Apart.{leaves_stand_apart, chains_stand_apart, pre_chains_stand_apart}
+use Rattle.ct_codec.proofs.Verdict.{leaf_texts_have_no_fault, chain_texts_have_no_fault, pre_chain_texts_have_no_fault}
 
 pub same_leaf : (l : Leaf) (t : ℕ) (e : SignedEntry) (x b : List ℕ) → IsTextOf l b → LeafText t e x b → IsLeaf t e x l
 same_leaf l t e x b p q =
@@ -46,6 +46,20 @@ pub chain_copied : (cs : List (List ℕ)) (b y : List ℕ) (r : Result (Vec (Vec
     → IfOk r (λ v. AllByRecursion IsCertificate (certificates_in v) × (y ≡ chain_bytes (certificates_in v))) → IfErr r (λ f. (f ≡ Memory) ⊎ CertificatesFaulty f y) → GivesChain cs r
 chain_copied cs b y (Ok v) h e are q ok bad = chain_again cs b (Ok v) q (chain_text_of (certificates_in v) b y ok.0 h e ok.1, tt)
 chain_copied cs b y (Err f) h e are q ok bad = chain_again cs b (Err f) q (tt, chain_copy f b y h e are bad)
+
+same_pre_chain : (v : Vec ℕ Global × Vec (Vec ℕ Global) Global) (c : List ℕ) (cs : List (List ℕ)) (b : List ℕ) → PreChainText v.0.items (certificates_in v.1) b → PreChainText c cs b → (v.0.items ≡ c) × (certificates_in v.1 ≡ cs)
+same_pre_chain v c cs b p q =
+    let same = pre_chains_stand_apart v.0.items c (certificates_in v.1) cs b b [] [] p q refl in
+    (same.0, same.1)
+
+-- what answers a text with a reading of it, or with a fault of it, gives what it is the text of
+pub pre_chain_again : (c : List ℕ) (cs : List (List ℕ)) (b : List ℕ) (r : Result (Vec ℕ Global × Vec (Vec ℕ Global) Global) DecodeFault) → PreChainText c cs b → AnswersPreChain b r → GivesPreChain c cs r
+pre_chain_again c cs b (Ok v) q a = (same_pre_chain v c cs b a.0 q, tt)
+pre_chain_again c cs b (Err f) q a = (tt, pre_chain_texts_have_no_fault c cs b f q a.1)
+
+pub pre_chain_left : (r : Result (Vec ℕ Global × Vec (Vec ℕ Global) Global) DecodeFault) (f : DecodeFault) (c : List ℕ) (cs : List (List ℕ)) (b : List ℕ) → PreChainText c cs b → IsErrAnd r (λ g. g ≡ f) → PreChainFaulty f b → GivesPreChain c cs r
+pre_chain_left (Ok v) f c cs b q met holds = absurd met
+pre_chain_left (Err g) f c cs b q met holds = (tt, met ∙ pre_chain_texts_have_no_fault c cs b f q holds)
 
 pub written_leaves_are_read : WrittenLeavesAreRead
 written_leaves_are_read s t b r q a = leaf_again t (entry_of s) [] b r q a

@@ -1,10 +1,10 @@
 -- Certificates one after the other, step by step along the bytes.
-use Rattle.std.proofs.Common.{◌≡◌, ◌<◌, ◌^◌, ℕ, List, [], ◌∷◌, ◌++◌, length, ◌⊎◌, inl, inr, sym, ap, ◌∙◌, append_assoc, append-nil}
+use Rattle.std.proofs.Common.{◌≡◌, ◌<◌, ◌^◌, ℕ, List, [], ◌∷◌, ◌++◌, length, ◌⊎◌, inl, inr, refl, sym, ap, ◌∙◌, append_assoc, append-nil}
 use Rattle.std.specs.List.{AllByRecursion}
 use Rattle.std.proofs.lemmas.Grind.{flat_map-append}
 use Rattle.ct_codec.specs.Bytes.{vec}
-use Rattle.ct_codec.specs.Leaf.{IsCertificate, AreCertificates, ChainText, chain_bytes}
-use Rattle.ct_codec.specs.Faults.{CertificatesFaulty, ChainFaulty}
+use Rattle.ct_codec.specs.Leaf.{IsCertificate, AreCertificates, ChainText, PreChainText, chain_bytes, chain_text}
+use Rattle.ct_codec.specs.Faults.{VectorFaulty, CertificatesFaulty, ChainFaulty, PreChainFaulty}
 use Rattle.ct_codec.specs.declared.fault.DecodeFault.{DecodeFault}
 use Rattle.ct_codec.specs.declared.fault.DecodeFault.TheVariants.{Truncated, BadVersion, BadLeafType, BadEntryType, EmptyVector, Trailing, Memory}
 
@@ -50,3 +50,20 @@ chain_memory b y h e are = (are.0, chain_text_of are.0 b y are.1 h e are.2)
 pub chain_copy : (f : DecodeFault) (b y : List ℕ) → length y < 2 ^ 24 → b ≡ vec 3 y → AreCertificates y → (f ≡ Memory) ⊎ CertificatesFaulty f y → ChainFaulty f b
 chain_copy f b y h e are (inl same) = rw same (chain_memory b y h e are)
 chain_copy f b y h e are (inr v) = within_chain f b y [] h (e ∙ sym (append-nil (vec 3 y))) v
+
+-- a precertificate, and behind it the chain's text
+pub pre_chain_text_of : (c : List ℕ) (cs : List (List ℕ)) (b r y : List ℕ) → IsCertificate c → b ≡ vec 3 c ++ r → AllByRecursion IsCertificate cs → length y < 2 ^ 24 → r ≡ vec 3 y → y ≡ chain_bytes cs → PreChainText c cs b
+pre_chain_text_of c cs b r y one front all h e f =
+    let text = chain_text_of cs r y all h e f in
+    record {
+      precertificate = one;
+      chain = record { certificates = all; fits = text.fits; text = refl };
+      text = front ∙ ap (λ l. vec 3 c ++ l) text.text;
+    }
+
+-- what stands against the chain stands against the whole
+pub behind : (f : DecodeFault) (b c r : List ℕ) → IsCertificate c → b ≡ vec 3 c ++ r → ChainFaulty f r → PreChainFaulty f b
+behind f b c r one front v = inr (c, r, one, front, v)
+
+pub before : (f : DecodeFault) (b : List ℕ) → VectorFaulty f b → PreChainFaulty f b
+before f b v = inl v

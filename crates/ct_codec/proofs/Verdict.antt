@@ -6,9 +6,9 @@ use Rattle.std.specs.List.{AllByRecursion}
 use Rattle.byteorder.specs.Endian.{big_from}
 use Rattle.byteorder.specs.Numbers.{big_number-reads_back}
 use Rattle.ct_codec.specs.Bytes.{num, vec}
-use Rattle.ct_codec.specs.Leaf.{SignedEntry, certificate, precertificate, IsEntry, IsCertificate, LeafText, ChainText, entry_text, leaf_text, chain_bytes, entry_fields, leaf_fields, entry_front}
-use Rattle.ct_codec.specs.Faults.{IsCut, VectorFaulty, LeafFaulty, CertificatesFaulty, WithinFaulty, ChainFaulty}
-use Rattle.ct_codec.specs.Laws.{LeavesHaveOneFault, LeafTextsHaveNoFault, ChainsHaveOneFault, ChainTextsHaveNoFault}
+use Rattle.ct_codec.specs.Leaf.{SignedEntry, certificate, precertificate, IsEntry, IsCertificate, LeafText, ChainText, PreChainText, chain_text, entry_text, leaf_text, chain_bytes, entry_fields, leaf_fields, entry_front}
+use Rattle.ct_codec.specs.Faults.{IsCut, VectorFaulty, LeafFaulty, CertificatesFaulty, WithinFaulty, ChainFaulty, PreChainFaulty}
+use Rattle.ct_codec.specs.Laws.{LeavesHaveOneFault, LeafTextsHaveNoFault, ChainsHaveOneFault, ChainTextsHaveNoFault, PreChainsHaveOneFault, PreChainTextsHaveNoFault}
 use Rattle.ct_codec.specs.declared.fault.DecodeFault.{DecodeFault}
 use Rattle.ct_codec.specs.declared.fault.DecodeFault.TheVariants.{Truncated, BadVersion, BadLeafType, BadEntryType, EmptyVector, Trailing, Memory}
 use Rattle.ct_codec.proofs.Refusals.{length-num, length-vec}
@@ -326,3 +326,24 @@ chains_have_one_fault f g b v w = sym (chain_verdict f b v) ∙ chain_verdict g 
 
 pub chain_texts_have_no_fault : ChainTextsHaveNoFault
 chain_texts_have_no_fault cs b f p v = sym (chain_verdict f b v) ∙ ap fault_of (chain_text_read cs b b [] p (sym (append-nil b)))
+
+-- precertificates with their chains
+
+abbrev pub pre_chain_read : List ℕ → Read
+pre_chain_read b = then_read (certificate_at b) chain_read
+
+-- each fault of a precertificate with its chain is the one that reading finds
+pre_chain_verdict : (f : DecodeFault) (b : List ℕ) → PreChainFaulty f b → fault_of (pre_chain_read b) ≡ f
+pre_chain_verdict f b (inl v) = ap (λ x. fault_of (then_read x chain_read)) (certificate_verdict f b v)
+pre_chain_verdict f b (inr v) = ap (λ x. fault_of (then_read x chain_read)) (certificate_here v.0 v.1 b v.2 v.3) ∙ chain_verdict f v.1 v.4
+
+pre_chain_text_read : (c : List ℕ) (cs : List (List ℕ)) (b : List ℕ) → PreChainText c cs b → pre_chain_read b ≡ Ok []
+pre_chain_text_read c cs b p =
+    ap (λ x. then_read x chain_read) (certificate_here c (chain_text cs) b p.precertificate p.text)
+    ∙ chain_text_read cs (chain_text cs) (chain_text cs) [] p.chain (sym (append-nil (chain_text cs)))
+
+pub pre_chains_have_one_fault : PreChainsHaveOneFault
+pre_chains_have_one_fault f g b v w = sym (pre_chain_verdict f b v) ∙ pre_chain_verdict g b w
+
+pub pre_chain_texts_have_no_fault : PreChainTextsHaveNoFault
+pre_chain_texts_have_no_fault c cs b f p v = sym (pre_chain_verdict f b v) ∙ ap fault_of (pre_chain_text_read c cs b p)

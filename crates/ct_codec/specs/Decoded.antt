@@ -1,8 +1,8 @@
 -- What is read from bytes: leaves and chains.
 use Rattle.std.specs.Prelude.{◌≡◌, ℕ, List, map, Vec, Result, IfOk, IfErr, IsOkUnless}
 use Rattle.std.specs.Global.{Global}
-use Rattle.ct_codec.specs.Leaf.{SignedEntry, certificate, precertificate, LeafText, ChainText}
-use Rattle.ct_codec.specs.Faults.{LeafFaulty, ChainFaulty}
+use Rattle.ct_codec.specs.Leaf.{SignedEntry, certificate, precertificate, LeafText, ChainText, PreChainText}
+use Rattle.ct_codec.specs.Faults.{LeafFaulty, ChainFaulty, PreChainFaulty}
 use Rattle.ct_codec.specs.declared.fault.DecodeFault.{DecodeFault}
 use Rattle.ct_codec.specs.declared.fault.DecodeFault.TheVariants.{Memory}
 use Rattle.ct_codec.specs.declared.reading.Leaf.{Leaf}
@@ -48,3 +48,11 @@ AnswersLeaf b r = IfOk r (λ l. IsTextOf l b) × IfErr r (λ f. LeafFaulty f b)
 -- the answer is a chain of which b is the text, or a fault of b
 abbrev pub AnswersChain : List ℕ → Result (Vec (Vec ℕ Global) Global) DecodeFault → Type 0
 AnswersChain b r = IfOk r (λ v. ChainText (certificates_in v) b) × IfErr r (λ f. ChainFaulty f b)
+
+-- the answer is this precertificate and the chain of these certificates, unless memory was refused
+abbrev pub GivesPreChain : List ℕ → List (List ℕ) → Result (Vec ℕ Global × Vec (Vec ℕ Global) Global) DecodeFault → Type 0
+GivesPreChain c cs r = IfOk r (λ v. (v.0.items ≡ c) × (certificates_in v.1 ≡ cs)) × IsOkUnless r Memory
+
+-- the answer is a precertificate and a chain of which b is the text, or a fault of b
+abbrev pub AnswersPreChain : List ℕ → Result (Vec ℕ Global × Vec (Vec ℕ Global) Global) DecodeFault → Type 0
+AnswersPreChain b r = IfOk r (λ v. PreChainText v.0.items (certificates_in v.1) b) × IfErr r (λ f. PreChainFaulty f b)

@@ -50,6 +50,13 @@ pub record ChainText (cs : List (List ℕ)) (b : List ℕ) : Type 0 where
   pub fits : length (chain_bytes cs) < 2 ^ 24
   pub text : b ≡ chain_text cs
 
+-- b is the text of a precertificate c and of the chain behind it (PrecertChainEntry, RFC 6962, 3.1 and 4.6): the certificate
+-- vector of c, which is not empty, followed by the chain's text
+pub record PreChainText (c : List ℕ) (cs : List (List ℕ)) (b : List ℕ) : Type 0 where
+  pub precertificate : IsCertificate c
+  pub chain : ChainText cs (chain_text cs)
+  pub text : b ≡ vec 3 c ++ chain_text cs
+
 -- The fields of a leaf's text, in order: a length and the bytes that it counts are two fields.
 abbrev pub entry_fields : SignedEntry → List (List ℕ)
 entry_fields (certificate c) = num 2 0 ∷ num 3 (length c) ∷ c ∷ []

@@ -3,9 +3,9 @@
 //! - `Submission` is what is submitted: a chain of certificates whose lengths are in range. `Item` is one that was accepted.
 //! - `identity`, `leaf_input` and `extra_data` write its bytes (RFC 6962 sections 3.1, 3.4 and 4.6), numbers by `byteorder`.
 //!   `same_identity` compares two submissions by their identities, and writes none.
-//! - `decode_leaf` and `decode_chain` read a leaf of either entry type and a chain from bytes. Where the bytes are none they answer
-//!   the first fault from the left, before any memory is taken: the walk over the input (`lend_leaf`, `last_chain`) has no allocator.
-//!   `lend_leaf` reads a leaf where it stands, for who needs no copy.
+//! - `decode_leaf`, `decode_chain` and `decode_pre_chain` read a leaf of either entry type, a chain, and a precertificate with its
+//!   chain from bytes. Where the bytes are none they answer the first fault from the left, before any memory is taken: the walk over
+//!   the input (`lend_leaf`, `last_chain`) has no allocator. `lend_leaf` reads a leaf where it stands, for who needs no copy.
 //! - `Refusal` has every reason for which a call of the log is refused.
 //! - The functions of [`laws`] do nothing: their contracts are laws of the formats.
 //!
@@ -26,7 +26,9 @@ mod writing;
 pub use fault::DecodeFault;
 pub use item::Item;
 pub use parts::{LeafParts, leaf_parts};
-pub use reading::{Leaf, LeafEntry, LentEntry, LentLeaf, decode_chain, decode_leaf, lend_leaf};
+pub use reading::{
+    Leaf, LeafEntry, LentEntry, LentLeaf, decode_chain, decode_leaf, decode_pre_chain, lend_leaf,
+};
 pub use refusal::Refusal;
 pub use submission::Submission;
 pub use writing::{extra_data, identity, leaf_input, same_identity};

@@ -1,13 +1,13 @@
-//! Leaves and chains read from bytes (RFC 6962 sections 3.4 and 4.6).
+//! Leaves, chains and chains of precertificates read from bytes (RFC 6962 sections 3.1, 3.4 and 4.6).
 
 ghost use Rattle.std.specs.Prelude.{◌≡◌, ◌≢◌, ◌<◌, ◌≤◌, ◌^◌, ◌++◌, [], ◌∷◌, ℕ, List, map, length, IfOk, IfErr};
 ghost use Rattle.std.specs.Prelude.{OnOk, ◌⊎◌};
 ghost use Rattle.std.specs.List.{AllByRecursion};
 ghost use Rattle.ct_codec.specs.Bytes.{num, vec};
-ghost use Rattle.ct_codec.specs.Leaf.{SignedEntry, IsCertificate, IsEntry, LeafText, entry_text, chain_bytes, AreCertificates, ChainText};
-ghost use Rattle.ct_codec.specs.Faults.{EntryFaulty, LeafFaulty, CertificatesFaulty, ChainFaulty};
+ghost use Rattle.ct_codec.specs.Leaf.{SignedEntry, IsCertificate, IsEntry, LeafText, entry_text, chain_bytes, AreCertificates, ChainText, PreChainText};
+ghost use Rattle.ct_codec.specs.Faults.{EntryFaulty, LeafFaulty, CertificatesFaulty, ChainFaulty, PreChainFaulty};
 ghost use Rattle.ct_codec.specs.declared.fault.DecodeFault.TheVariants.{Memory};
-ghost use Rattle.ct_codec.specs.Decoded.{entry_in, entry_lent, certificates_in, IsTextOf, GivesLeaf, GivesChain};
+ghost use Rattle.ct_codec.specs.Decoded.{entry_in, entry_lent, certificates_in, IsTextOf, GivesLeaf, GivesChain, GivesPreChain};
 
 use crate::fault::DecodeFault;
 use crate::reader::Reader;
@@ -214,4 +214,22 @@ pub fn decode_chain(alloc: Global, bytes: &[u8]) -> Result<Vec<Vec<u8>>, DecodeF
     let mut reader = Reader::new(bytes);
     let certificates = last_chain(&mut reader)?;
     copy_certificates(alloc, certificates)
+}
+
+/// The precertificate that the bytes begin with, and the certificates of the chain behind it (PrecertChainEntry, RFC 6962 sections 3.1
+/// and 4.6), all of the bytes. The faults of the bytes are found before memory is taken.
+pub fn decode_pre_chain(alloc: Global, bytes: &[u8]) -> Result<(Vec<u8>, Vec<Vec<u8>>), DecodeFault>
+    // What is read is what the bytes are the text of.
+    ensures found { IfOk result (λ v. PreChainText v.0.items (certificates_in v.1) bytes.now) }
+    // The text of a precertificate with its chain is read, unless memory is refused.
+    ensures every { (c : List ℕ) (cs : List (List ℕ)) → PreChainText c cs bytes.now → GivesPreChain c cs result }
+    // Which fault it is.
+    ensures fault { IfErr result (λ f. PreChainFaulty f bytes.now) }
+{
+    let mut reader = Reader::new(bytes);
+    let first = reader.certificate()?;
+    let others = last_chain(&mut reader)?;
+    let precertificate = Vec::from_slice(alloc, first)?;
+    let certificates = copy_certificates(alloc, others)?;
+    Ok((precertificate, certificates))
 }

@@ -1,5 +1,5 @@
 // Leaves and chains cut off, changed and made longer. What each is answered was worked out by hand from RFC 6962, sections 3.4 and 4.6.
-use ct_codec::{DecodeFault, decode_chain, decode_leaf};
+use ct_codec::{DecodeFault, decode_chain, decode_leaf, decode_pre_chain};
 use std::test::*;
 
 // The leaf of the certificate 41 at moment 1.
@@ -15,11 +15,15 @@ const PRECERT: [u8; 52] = [
 // The chain of the certificates 42 and 41 42.
 const CHAIN: [u8; 12] = [0, 0, 9, 0, 0, 1, 0x42, 0, 0, 2, 0x41, 0x42];
 
+// The precertificate 42, and behind it the chain of the certificates 42 and 41 42.
+const PRE_CHAIN: [u8; 16] = [0, 0, 1, 0x42, 0, 0, 9, 0, 0, 1, 0x42, 0, 0, 2, 0x41, 0x42];
+
 // What is read from the bytes.
 #[derive(Clone, Copy)]
 enum Kind {
     Leaf,
     Chain,
+    PreChain,
 }
 
 // One sign for what reading the bytes answers.
@@ -27,6 +31,7 @@ fn sign(rt: &HostRuntime, kind: Kind, bytes: &[u8]) -> char {
     let fault = match kind {
         Kind::Leaf => decode_leaf(rt.alloc(), bytes).err(),
         Kind::Chain => decode_chain(rt.alloc(), bytes).err(),
+        Kind::PreChain => decode_pre_chain(rt.alloc(), bytes).err(),
     };
     match fault {
         None => '.',
@@ -66,7 +71,7 @@ fn changed(rt: &HostRuntime, kind: Kind, bytes: &[u8], byte: u8) -> Result<Strin
 
 #[test]
 fn leaves_and_chains_cut_off_and_changed(rt: HostRuntime) -> Result<(), Fail> {
-    let table: [(Kind, &[u8], &str, &str, &str); 3] = [
+    let table: [(Kind, &[u8], &str, &str, &str); 4] = [
         (
             Kind::Leaf,
             &LEAF,
@@ -87,6 +92,13 @@ fn leaves_and_chains_cut_off_and_changed(rt: HostRuntime) -> Result<(), Fail> {
             "TTTTTTTTTTTT.X",
             "..X..E...E..",
             "TTTTTT.TTT..",
+        ),
+        (
+            Kind::PreChain,
+            &PRE_CHAIN,
+            "TTTTTTTTTTTTTTTT.X",
+            "..E...X..E...E..",
+            "TTT.TTTTTT.TTT..",
         ),
     ];
     for (kind, bytes, cuts, zeros, ones) in table {
