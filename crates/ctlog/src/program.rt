@@ -2,6 +2,8 @@
 
 ghost use Rattle.std.specs.Prelude.{◌≡◌, ◌≢◌, ◌⊎◌, ◌≤◌, ℕ, List, [], length, All, IfOk, OnOk, OnErr, IfErr};
 ghost use Rattle.std.specs.Io.KnownBytes.{Appends};
+ghost use Rattle.std.specs.IoError.{error_kind};
+ghost use Rattle.std.specs.declared.io.ErrorKind.TheVariants.{OutOfMemory as NoMemory};
 ghost use Rattle.ct_house.specs.House.{IsOfHouse, AreInOrder};
 ghost use Rattle.ct_lines.specs.Frozen.{frozen_text};
 ghost use Rattle.ctlog.specs.declared.fault.Fault.{Fault as FaultOf};
@@ -224,16 +226,21 @@ fn answer_command_line<W: Write, E: Write>(
     }
 }
 
-/// Answers a command line whose words couldn't be read: 1 where there was no memory for them, and 2 where a word isn't
-/// UTF-8.
+/// Answers a command line whose words couldn't be read, which is never the status 0.
+///
+/// - 1: there was no memory, for the words or for the refusal: the fault's line was written among the faults, as far as it
+///   could be, and nothing on the output.
+/// - 2: a word isn't UTF-8, and the refusal was written among the faults, as far as it could be. Its text is tested alone.
 pub fn refuse_words<W: Write, E: Write>(
     alloc: Global,
     error: &io::Error,
     output: &mut W,
     faults: &mut E,
 ) -> u8
-    ensures status { result ≤ 2 }
-    ensures fault { result ≡ 1 → (f : FaultOf) × SendsSome (E.contents faults.old) (E.contents faults.new) (fault_line f) }
+    ensures status { (result ≡ 1) ⊎ (result ≡ 2) }
+    ensures memory { error_kind error.now ≡ NoMemory → result ≡ 1 }
+    ensures fault { result ≡ 1 → Appends (W.contents output.old) (W.contents output.new) []
+        × SendsSome (E.contents faults.old) (E.contents faults.new) (fault_line Fault.Memory) }
     ensures refused { result ≡ 2 → output.new ≡ output.old }
 {
     match Fault::from(error.kind()) {
