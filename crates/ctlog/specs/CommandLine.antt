@@ -71,8 +71,8 @@ abbrev pub asked_for : List (Bor Text) → CommandLine
 asked_for words = command_line (map (λ (w : Bor Text). w.now) words)
 
 -- the same, of words that the program owns
-abbrev pub asked_in : List (String Global) → CommandLine
-asked_in words = command_line (map string_bytes words)
+abbrev pub asked_of : List (String Global) → CommandLine
+asked_of words = command_line (map string_bytes words)
 
 -- what an error of clap's of this kind says of a command line: memory was refused; help is asked for; or nothing that there is
 abbrev pub IsRefusalOf : CommandLine → ErrorKind → Type 0

@@ -19,7 +19,7 @@ ghost use Rattle.std.specs.Prelude.{◌≡◌, ◌⊎◌, ◌≤◌, IfOk, map, 
 ghost use Rattle.ctlog.specs.declared.fault.Fault.{Fault as FaultOf};
 ghost use Rattle.ctlog.specs.Faults.{fault_line};
 ghost use Rattle.ctlog.specs.Output.{IsDone, IsBrokenOff};
-ghost use Rattle.ctlog.specs.CommandLine.{asked_in, help, nothing};
+ghost use Rattle.ctlog.specs.CommandLine.{asked_of, help, nothing};
 ghost use Rattle.ctlog.specs.Sends.{SendsSome};
 
 mod closing;
@@ -72,11 +72,11 @@ fn run_words<H: Threads + Wait + Sync, R: Read, W: Write, E: Write>(
     faults: &mut E,
 ) -> u8
     ensures status { result ≤ 2 }
-    ensures done { result ≡ 0 → IsDone (asked_in words.now) (R.remaining input.old) (W.contents output.old) (W.contents output.new) }
-    ensures fault { result ≡ 1 → (f : FaultOf) × IsBrokenOff (asked_in words.now) f (R.remaining input.old) (W.contents output.old) (W.contents output.new)
+    ensures done { result ≡ 0 → IsDone (asked_of words.now) (R.remaining input.old) (W.contents output.old) (W.contents output.new) }
+    ensures fault { result ≡ 1 → (f : FaultOf) × IsBrokenOff (asked_of words.now) f (R.remaining input.old) (W.contents output.old) (W.contents output.new)
         × SendsSome (E.contents faults.old) (E.contents faults.new) (fault_line f) }
-    ensures refused { result ≡ 2 → (asked_in words.now ≡ nothing) × (output.new ≡ output.old) }
-    ensures unread { (asked_in words.now ≡ help) ⊎ (asked_in words.now ≡ nothing) → input.new ≡ input.old }
+    ensures refused { result ≡ 2 → (asked_of words.now ≡ nothing) × (output.new ≡ output.old) }
+    ensures unread { (asked_of words.now ≡ help) ⊎ (asked_of words.now ≡ nothing) → input.new ≡ input.old }
     ensures quiet { result ≡ 0 → faults.new ≡ faults.old }
 {
     match texts(alloc, words) {

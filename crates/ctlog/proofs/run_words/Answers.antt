@@ -3,7 +3,7 @@ use Rattle.std.specs.Borrow.{Bor}
 use Rattle.std.specs.Global.{Global}
 use Rattle.std.proofs.KnownBytes.{Appends-nil}
 use Rattle.clap.specs.declared.error.kind.ErrorKind.TheVariants as kind
-use Rattle.ctlog.specs.CommandLine.{CommandLine, asked_for, asked_in, command_line, help, nothing}
+use Rattle.ctlog.specs.CommandLine.{CommandLine, asked_for, asked_of, command_line, help, nothing}
 use Rattle.ctlog.specs.Faults.{fault_line}
 use Rattle.ctlog.specs.Output.{IsDone, IsBrokenOff}
 use Rattle.ctlog.specs.Sends.{SendsSome}
@@ -13,7 +13,7 @@ use Rattle.ctlog.proofs.run_words.Goals as goal
 
 -- the texts of the words ask for what the words do
 same_words : (texts shown : List (Bor (List ℕ))) (words : List (String Global)) → shown ≡ texts → map (λ (w : Bor (List ℕ)). w.now) texts ≡ map string_bytes words
-    → asked_for shown ≡ asked_in words
+    → asked_for shown ≡ asked_of words
 same_words texts shown words e f = ap asked_for e ∙ ap command_line f
 
 pub returns-in-Ok-clause-done : goal.returns-in-Ok-clause-done
@@ -40,7 +40,7 @@ returns-in-Ok-clause-unread g c =
 pub returns-in-Err-clause-fault : goal.returns-in-Err-clause-fault
 returns-in-Err-clause-fault g c = λ e. (
   c.from.result,
-  unanswered kind.OutOfMemory (asked_in c.args.words.now) c.from.result (g.R.Read.remaining c.args.input.now) (g.W.Write.contents c.args.output.now)
+  unanswered kind.OutOfMemory (asked_of c.args.words.now) c.from.result (g.R.Read.remaining c.args.input.now) (g.W.Write.contents c.args.output.now)
       (g.W.Write.contents c.args.output.now) (inl refl) (inr (c.from.ensures, Appends-nil (g.W.Write.contents c.args.output.now))),
   c.report.ensures.line,
 )
