@@ -73,7 +73,8 @@ fn run_words<H: Threads + Wait + Sync, R: Read, W: Write, E: Write>(
 ) -> u8
     ensures status { result ≤ 2 }
     ensures done { result ≡ 0 → IsDone (asked_of words.now) (R.remaining input.old) (W.contents output.old) (W.contents output.new) }
-    ensures fault { result ≡ 1 → (f : FaultOf) × IsBrokenOff (asked_of words.now) f (R.remaining input.old) (W.contents output.old) (W.contents output.new)
+    ensures fault { result ≡ 1 → (f : FaultOf)
+        × IsBrokenOff (asked_of words.now) f (R.remaining input.old) (W.contents output.old) (W.contents output.new)
         × SendsSome (E.contents faults.old) (E.contents faults.new) (fault_line f) }
     ensures refused { result ≡ 2 → (asked_of words.now ≡ nothing) × (output.new ≡ output.old) }
     ensures unread { (asked_of words.now ≡ help) ⊎ (asked_of words.now ≡ nothing) → input.new ≡ input.old }

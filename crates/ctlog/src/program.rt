@@ -55,7 +55,8 @@ fn open_parties<H: Wait>(
     operator: Vec<OperatorTask>,
 ) -> Result<(OperatorParty, Vec<FrontParty>), Fault>
     requires { length tasks.items ≡ options.fronts }
-    ensures parties { IfOk result (λ p. (ts : List Task) → AreGiven ts tasks.items operator.items → AreParties options.fronts options.ring options.open_at ts p.0 p.1.items) }
+    ensures parties { IfOk result (λ p. (ts : List Task) → AreGiven ts tasks.items operator.items
+        → AreParties options.fronts options.ring options.open_at ts p.0 p.1.items) }
     ensures faults { IfErr result (λ f. f ≡ Fault.Memory) }
 {
     let (sequencer, fronts) = open(rt, alloc, options.fronts, options.ring, options.open_at)?;
@@ -99,7 +100,8 @@ fn send_frozen<W: Write>(
     output: &mut W,
 ) -> Result<(), Fault>
     ensures all { OnOk result (Appends (W.contents output.old) (W.contents output.new) (frozen_text log.now lines.now)) }
-    ensures some { OnErr result ((written : List ℕ) × SomeReplies log.now lines.now written × Appends (W.contents output.old) (W.contents output.new) written) }
+    ensures some { OnErr result ((written : List ℕ) × SomeReplies log.now lines.now written
+        × Appends (W.contents output.old) (W.contents output.new) written) }
     ensures faults { IfErr result IsFrozenFault }
 {
     let mut reader = lines;
@@ -159,8 +161,10 @@ pub fn serve<H: Threads + Wait + Sync, R: Read, W: Write>(
     input: &mut R,
     output: &mut W,
 ) -> Result<(), Fault>
-    ensures served { OnOk result (IsServed options.fronts options.ring options.open_at options.close_at (R.remaining input.old) (W.contents output.old) (W.contents output.new)) }
-    ensures begun { IfErr result (λ f. IsBegun options.fronts options.ring options.open_at options.close_at f (R.remaining input.old) (W.contents output.old) (W.contents output.new)) }
+    ensures served { OnOk result (IsServed options.fronts options.ring options.open_at options.close_at
+        (R.remaining input.old) (W.contents output.old) (W.contents output.new)) }
+    ensures begun { IfErr result (λ f. IsBegun options.fronts options.ring options.open_at options.close_at f
+        (R.remaining input.old) (W.contents output.old) (W.contents output.new)) }
 {
     let Plan {
         fronts,
@@ -207,7 +211,8 @@ fn answer_command_line<W: Write, E: Write>(
     faults: &mut E,
 ) -> u8
     ensures status { result ≤ 2 }
-    ensures helped { result ≡ 0 → (kind_of error.now ≡ DisplayHelp) × ((text : List ℕ) × Appends (W.contents output.old) (W.contents output.new) text) }
+    ensures helped { result ≡ 0 → (kind_of error.now ≡ DisplayHelp)
+        × ((text : List ℕ) × Appends (W.contents output.old) (W.contents output.new) text) }
     ensures fault { result ≡ 1 → (f : FaultOf) × IsUnanswered (kind_of error.now) f (W.contents output.old) (W.contents output.new)
         × SendsSome (E.contents faults.old) (E.contents faults.new) (fault_line f) }
     ensures refused { result ≡ 2 → (kind_of error.now ≢ DisplayHelp) × (kind_of error.now ≢ OutOfMemory) × (output.new ≡ output.old) }
@@ -275,7 +280,8 @@ pub fn run<'a, H: Threads + Wait + Sync, R: Read, W: Write, E: Write>(
 ) -> u8
     ensures status { result ≤ 2 }
     ensures done { result ≡ 0 → IsDone (asked_for words.now) (R.remaining input.old) (W.contents output.old) (W.contents output.new) }
-    ensures fault { result ≡ 1 → (f : FaultOf) × IsBrokenOff (asked_for words.now) f (R.remaining input.old) (W.contents output.old) (W.contents output.new)
+    ensures fault { result ≡ 1 → (f : FaultOf)
+        × IsBrokenOff (asked_for words.now) f (R.remaining input.old) (W.contents output.old) (W.contents output.new)
         × SendsSome (E.contents faults.old) (E.contents faults.new) (fault_line f) }
     ensures refused { result ≡ 2 → (asked_for words.now ≡ nothing) × (output.new ≡ output.old) }
     ensures unread { (asked_for words.now ≡ help) ⊎ (asked_for words.now ≡ nothing) → input.new ≡ input.old }
