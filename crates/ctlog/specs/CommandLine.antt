@@ -1,6 +1,7 @@
 -- The command line: what its words ask for.
-use Rattle.std.specs.Prelude.{◌≡◌, ◌≢◌, ◌⊎◌, ℕ, Bool, true, false, List, [], ◌∷◌, map, Option, Some, option_map, unwrap_or, pos, codes}
+use Rattle.std.specs.Prelude.{◌≡◌, ◌≢◌, ◌⊎◌, ℕ, Bool, true, false, List, [], ◌∷◌, map, Option, Some, option_map, unwrap_or, pos, codes, String, string_bytes}
 use Rattle.std.specs.Borrow.{Bor}
+use Rattle.std.specs.Global.{Global}
 use Rattle.std.specs.Str.Parse.{digits_value, without_leading_plus}
 use Rattle.std.specs.Io.KnownBytes.{Appends}
 use Rattle.clap.specs.Words.{App, Kinds, Rule, Text, fault_of, matches_of, new_app, new_rule, one_of, with_rule}
@@ -68,6 +69,10 @@ command_line words = by_fault (fault_of ctlog_app words) (log_with (unwrap_or (n
 -- what these words ask for, as the program has them
 abbrev pub asked_for : List (Bor Text) → CommandLine
 asked_for words = command_line (map (λ (w : Bor Text). w.now) words)
+
+-- the same, of words that the program owns
+abbrev pub asked_of : List (String Global) → CommandLine
+asked_of words = command_line (map string_bytes words)
 
 -- what an error of clap's of this kind says of a command line: memory was refused; help is asked for; or nothing that there is
 abbrev pub IsRefusalOf : CommandLine → ErrorKind → Type 0

@@ -1,6 +1,6 @@
 //! The command line: `ctlog --fronts N --ring K [--open-at T] [--close-at T]`.
 
-ghost use Rattle.std.specs.Prelude.{◌≡◌, ◌<◌, ◌≤◌, IfOk, IfErr, IfSome, Some, None, MatchResult, false, ℕ};
+ghost use Rattle.std.specs.Prelude.{◌≡◌, ◌<◌, ◌≤◌, ◌⊎◌, IfOk, IfErr, IfSome, Some, None, MatchResult, false, ℕ};
 ghost use Rattle.clap.specs.Words.{app_of, rule_of, kind_of};
 ghost use Rattle.ctlog.specs.CommandLine.{asked_for, ctlog_app, fronts_rule, ring_rule, open_at_rule, close_at_rule, log_with, IsRefusalOf};
 ghost use Rattle.ctlog.specs.NoOptions.{IsNoOptions};
@@ -161,14 +161,20 @@ impl From<ErrorKind> for NoOptions {
 }
 
 // The refusal of a word that isn't UTF-8.
-fn unreadable(alloc: Global) -> Result<Error, Error> {
+fn unreadable(alloc: Global) -> Result<Error, Error>
+    ensures refusal { IfOk result (λ e. kind_of e ≡ ErrorKind.InvalidValue) }
+    ensures memory { IfErr result (λ e. kind_of e ≡ ErrorKind.OutOfMemory) }
+{
     let mut command = command(alloc)?;
     let error = command.error(ErrorKind::InvalidValue, "an argument isn't UTF-8")?;
     Ok(error)
 }
 
-/// The refusal of a command line with a word that isn't UTF-8.
-pub fn unreadable_word(alloc: Global) -> Error {
+/// The refusal of a command line with a word that isn't UTF-8: clap's error, of the kind `InvalidValue`, or `OutOfMemory`
+/// where there was no memory for it.
+pub fn unreadable_word(alloc: Global) -> Error
+    ensures { (kind_of result ≡ ErrorKind.InvalidValue) ⊎ (kind_of result ≡ ErrorKind.OutOfMemory) }
+{
     match unreadable(alloc) {
         Ok(error) => error,
         Err(error) => error,

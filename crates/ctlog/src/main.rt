@@ -15,6 +15,13 @@
 //! - `program` has `run`, which does all this over any reader and any two writers.
 #![tactic(auto)]
 
+ghost use Rattle.std.specs.Prelude.{◌≡◌, ◌⊎◌, ◌≤◌, IfOk, map, string_bytes};
+ghost use Rattle.ctlog.specs.declared.fault.Fault.{Fault as FaultOf};
+ghost use Rattle.ctlog.specs.Faults.{fault_line};
+ghost use Rattle.ctlog.specs.Output.{IsDone, IsBrokenOff};
+ghost use Rattle.ctlog.specs.CommandLine.{asked_of, help, nothing};
+ghost use Rattle.ctlog.specs.Sends.{SendsSome};
+
 mod closing;
 mod command;
 mod fault;
@@ -39,7 +46,9 @@ use std::sync::Wait;
 use std::thread::Threads;
 
 // The texts of the words, for as long as the words stand.
-fn texts<'a>(alloc: Global, words: &'a [String]) -> Result<Vec<&'a str>, AllocError> {
+fn texts<'a>(alloc: Global, words: &'a [String]) -> Result<Vec<&'a str>, AllocError>
+    ensures { IfOk result (λ v. map (λ w. w.now) v.items ≡ map string_bytes words.now) }
+{
     let mut texts = Vec::new(alloc);
     for word in words {
         texts.push(word.as_str())?;
@@ -47,12 +56,13 @@ fn texts<'a>(alloc: Global, words: &'a [String]) -> Result<Vec<&'a str>, AllocEr
     Ok(texts)
 }
 
+// The words of the command line. Std's contracts don't say which these are.
 fn collected(rt: &HostRuntime) -> io::Result<Vec<String>> {
     let words = std::env::args(rt)?.collect(rt.alloc())?;
     Ok(words)
 }
 
-// Runs the program over these words, and answers its exit status.
+// Runs the program over these words, and answers its exit status: it does what `run` promises.
 fn run_words<H: Threads + Wait + Sync, R: Read, W: Write, E: Write>(
     rt: &H,
     alloc: Global,
@@ -60,7 +70,16 @@ fn run_words<H: Threads + Wait + Sync, R: Read, W: Write, E: Write>(
     input: &mut R,
     output: &mut W,
     faults: &mut E,
-) -> u8 {
+) -> u8
+    ensures status { result ≤ 2 }
+    ensures done { result ≡ 0 → IsDone (asked_of words.now) (R.remaining input.old) (W.contents output.old) (W.contents output.new) }
+    ensures fault { result ≡ 1 → (f : FaultOf)
+        × IsBrokenOff (asked_of words.now) f (R.remaining input.old) (W.contents output.old) (W.contents output.new)
+        × SendsSome (E.contents faults.old) (E.contents faults.new) (fault_line f) }
+    ensures refused { result ≡ 2 → (asked_of words.now ≡ nothing) × (output.new ≡ output.old) }
+    ensures unread { (asked_of words.now ≡ help) ⊎ (asked_of words.now ≡ nothing) → input.new ≡ input.old }
+    ensures quiet { result ≡ 0 → faults.new ≡ faults.old }
+{
     match texts(alloc, words) {
         Ok(texts) => run(rt, alloc, &texts, TURNS, input, output, faults),
         Err(error) => report(Fault::from(error), faults),

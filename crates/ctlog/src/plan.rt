@@ -138,7 +138,8 @@ impl Plan {
     // Adds what a front does.
     fn add_front_task(&mut self, number: u16, task: FrontTask) -> Result<(), Memory>
         requires { number < length self.old.fronts.items }
-        ensures { OnOk result ((fronts : ℕ) (tasks : List TaskOf) → IsPlanOf fronts self.old tasks → IsPlanOf fronts self.new (tasks ++ for_front number (task_asked task) ∷ [])) }
+        ensures { OnOk result ((fronts : ℕ) (tasks : List TaskOf) → IsPlanOf fronts self.old tasks
+            → IsPlanOf fronts self.new (tasks ++ for_front number (task_asked task) ∷ [])) }
     {
         let tasks = &mut self.fronts[number as usize];
         tasks.push(task)?;
@@ -147,7 +148,8 @@ impl Plan {
 
     // Adds a line that the frozen log answers.
     fn add_frozen_line(&mut self, line: &[u8]) -> Result<(), Memory>
-        ensures { OnOk result ((fronts : ℕ) (tasks : List TaskOf) → IsPlanOf fronts self.old tasks → IsPlanOf fronts self.new (tasks ++ for_frozen line.now ∷ [])) }
+        ensures { OnOk result ((fronts : ℕ) (tasks : List TaskOf) → IsPlanOf fronts self.old tasks
+            → IsPlanOf fronts self.new (tasks ++ for_frozen line.now ∷ [])) }
     {
         self.frozen.extend_from_slice(line)?;
         self.frozen.push(b'\n')?;
@@ -157,7 +159,8 @@ impl Plan {
     // Adds what a line asks for.
     fn add(&mut self, task: Task<'_>) -> Result<(), Memory>
         requires { IsForThere (length self.old.fronts.items) (task_in task) }
-        ensures { OnOk result ((fronts : ℕ) (tasks : List TaskOf) → IsPlanOf fronts self.old tasks → IsPlanOf fronts self.new (tasks ++ task_in task.entry ∷ [])) }
+        ensures { OnOk result ((fronts : ℕ) (tasks : List TaskOf) → IsPlanOf fronts self.old tasks
+            → IsPlanOf fronts self.new (tasks ++ task_in task.entry ∷ [])) }
     {
         match task {
             Task::Front(number, task) => self.add_front_task(number, task)?,

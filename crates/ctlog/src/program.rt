@@ -2,6 +2,8 @@
 
 ghost use Rattle.std.specs.Prelude.{◌≡◌, ◌≢◌, ◌⊎◌, ◌≤◌, ℕ, List, [], length, All, IfOk, OnOk, OnErr, IfErr};
 ghost use Rattle.std.specs.Io.KnownBytes.{Appends};
+ghost use Rattle.std.specs.IoError.{error_kind};
+ghost use Rattle.std.specs.declared.io.ErrorKind.TheVariants.{OutOfMemory as NoMemory};
 ghost use Rattle.ct_house.specs.House.{IsOfHouse, AreInOrder};
 ghost use Rattle.ct_lines.specs.Frozen.{frozen_text};
 ghost use Rattle.ctlog.specs.declared.fault.Fault.{Fault as FaultOf};
@@ -53,7 +55,8 @@ fn open_parties<H: Wait>(
     operator: Vec<OperatorTask>,
 ) -> Result<(OperatorParty, Vec<FrontParty>), Fault>
     requires { length tasks.items ≡ options.fronts }
-    ensures parties { IfOk result (λ p. (ts : List Task) → AreGiven ts tasks.items operator.items → AreParties options.fronts options.ring options.open_at ts p.0 p.1.items) }
+    ensures parties { IfOk result (λ p. (ts : List Task) → AreGiven ts tasks.items operator.items
+        → AreParties options.fronts options.ring options.open_at ts p.0 p.1.items) }
     ensures faults { IfErr result (λ f. f ≡ Fault.Memory) }
 {
     let (sequencer, fronts) = open(rt, alloc, options.fronts, options.ring, options.open_at)?;
@@ -97,7 +100,8 @@ fn send_frozen<W: Write>(
     output: &mut W,
 ) -> Result<(), Fault>
     ensures all { OnOk result (Appends (W.contents output.old) (W.contents output.new) (frozen_text log.now lines.now)) }
-    ensures some { OnErr result ((written : List ℕ) × SomeReplies log.now lines.now written × Appends (W.contents output.old) (W.contents output.new) written) }
+    ensures some { OnErr result ((written : List ℕ) × SomeReplies log.now lines.now written
+        × Appends (W.contents output.old) (W.contents output.new) written) }
     ensures faults { IfErr result IsFrozenFault }
 {
     let mut reader = lines;
@@ -157,8 +161,10 @@ pub fn serve<H: Threads + Wait + Sync, R: Read, W: Write>(
     input: &mut R,
     output: &mut W,
 ) -> Result<(), Fault>
-    ensures served { OnOk result (IsServed options.fronts options.ring options.open_at options.close_at (R.remaining input.old) (W.contents output.old) (W.contents output.new)) }
-    ensures begun { IfErr result (λ f. IsBegun options.fronts options.ring options.open_at options.close_at f (R.remaining input.old) (W.contents output.old) (W.contents output.new)) }
+    ensures served { OnOk result (IsServed options.fronts options.ring options.open_at options.close_at
+        (R.remaining input.old) (W.contents output.old) (W.contents output.new)) }
+    ensures begun { IfErr result (λ f. IsBegun options.fronts options.ring options.open_at options.close_at f
+        (R.remaining input.old) (W.contents output.old) (W.contents output.new)) }
 {
     let Plan {
         fronts,
@@ -205,7 +211,8 @@ fn answer_command_line<W: Write, E: Write>(
     faults: &mut E,
 ) -> u8
     ensures status { result ≤ 2 }
-    ensures helped { result ≡ 0 → (kind_of error.now ≡ DisplayHelp) × ((text : List ℕ) × Appends (W.contents output.old) (W.contents output.new) text) }
+    ensures helped { result ≡ 0 → (kind_of error.now ≡ DisplayHelp)
+        × ((text : List ℕ) × Appends (W.contents output.old) (W.contents output.new) text) }
     ensures fault { result ≡ 1 → (f : FaultOf) × IsUnanswered (kind_of error.now) f (W.contents output.old) (W.contents output.new)
         × SendsSome (E.contents faults.old) (E.contents faults.new) (fault_line f) }
     ensures refused { result ≡ 2 → (kind_of error.now ≢ DisplayHelp) × (kind_of error.now ≢ OutOfMemory) × (output.new ≡ output.old) }
@@ -224,16 +231,21 @@ fn answer_command_line<W: Write, E: Write>(
     }
 }
 
-/// Answers a command line whose words couldn't be read: 1 where there was no memory for them, and 2 where a word isn't
-/// UTF-8.
+/// Answers a command line whose words couldn't be read, which is never the status 0.
+///
+/// - 1: there was no memory, for the words or for the refusal: the fault's line was written among the faults, as far as it
+///   could be, and nothing on the output.
+/// - 2: a word isn't UTF-8, and the refusal was written among the faults, as far as it could be. Its text is tested alone.
 pub fn refuse_words<W: Write, E: Write>(
     alloc: Global,
     error: &io::Error,
     output: &mut W,
     faults: &mut E,
 ) -> u8
-    ensures status { result ≤ 2 }
-    ensures fault { result ≡ 1 → (f : FaultOf) × SendsSome (E.contents faults.old) (E.contents faults.new) (fault_line f) }
+    ensures status { (result ≡ 1) ⊎ (result ≡ 2) }
+    ensures memory { error_kind error.now ≡ NoMemory → result ≡ 1 }
+    ensures fault { result ≡ 1 → Appends (W.contents output.old) (W.contents output.new) []
+        × SendsSome (E.contents faults.old) (E.contents faults.new) (fault_line Fault.Memory) }
     ensures refused { result ≡ 2 → output.new ≡ output.old }
 {
     match Fault::from(error.kind()) {
@@ -268,7 +280,8 @@ pub fn run<'a, H: Threads + Wait + Sync, R: Read, W: Write, E: Write>(
 ) -> u8
     ensures status { result ≤ 2 }
     ensures done { result ≡ 0 → IsDone (asked_for words.now) (R.remaining input.old) (W.contents output.old) (W.contents output.new) }
-    ensures fault { result ≡ 1 → (f : FaultOf) × IsBrokenOff (asked_for words.now) f (R.remaining input.old) (W.contents output.old) (W.contents output.new)
+    ensures fault { result ≡ 1 → (f : FaultOf)
+        × IsBrokenOff (asked_for words.now) f (R.remaining input.old) (W.contents output.old) (W.contents output.new)
         × SendsSome (E.contents faults.old) (E.contents faults.new) (fault_line f) }
     ensures refused { result ≡ 2 → (asked_for words.now ≡ nothing) × (output.new ≡ output.old) }
     ensures unread { (asked_for words.now ≡ help) ⊎ (asked_for words.now ≡ nothing) → input.new ≡ input.old }

@@ -594,3 +594,110 @@ fn an_output_that_hands_on_at_flush(rt: HostRuntime) {
         assert!(rt; output.handed_on >= least);
     }
 }
+
+// A reader that gives 7 bytes a call, and fails behind so many calls.
+#[derive(Drop)]
+struct Source<'a> {
+    text: &'a [u8],
+    calls: usize,
+}
+
+impl Read for Source<'_> {
+    fn read(&mut self, buf: &mut [u8]) -> io::Result<usize> {
+        if self.calls == 0 {
+            return Err(io::Error::from(ErrorKind::BrokenPipe));
+        }
+        self.calls -= 1;
+        let n = self.text.len().min(7).min(buf.len());
+        let (given, left) = self.text.split_at(n);
+        buf[..n].copy_from_slice(given);
+        self.text = left;
+        Ok(n)
+    }
+}
+
+// A writer that takes 10 bytes a call, and fails behind so many calls, to write or to flush.
+#[derive(Drop)]
+struct Sink {
+    taken: Vec<u8>,
+    calls: usize,
+}
+
+impl Write for Sink {
+    fn write(&mut self, buf: &[u8]) -> io::Result<usize> {
+        self.flush()?;
+        let n = buf.len().min(10);
+        self.taken.extend_from_slice(&buf[..n])?;
+        Ok(n)
+    }
+
+    fn flush(&mut self) -> io::Result<()> {
+        if self.calls == 0 {
+            return Err(io::Error::from(ErrorKind::BrokenPipe));
+        }
+        self.calls -= 1;
+        Ok(())
+    }
+}
+
+// What a run answers and writes whose reader fails behind so many calls, and its writer behind so many.
+fn outcome_behind<H: Threads + Wait + Sync>(
+    rt: &H,
+    alloc: Global,
+    reads: usize,
+    writes: usize,
+) -> Outcome {
+    let words = ["ctlog", "--fronts", "1", "--ring", "4", "--close-at", "7"];
+    let mut input = Source {
+        text: b"{\"who\":\"frozen\",\"op\":\"get-sth\"}
+{\"who\":0,\"op\":\"add-chain\",\"chain\":[\"QQ==\"]}
+",
+        calls: reads,
+    };
+    let mut output = Sink {
+        taken: Vec::new(alloc),
+        calls: writes,
+    };
+    let mut faults = Vec::new(alloc);
+    let status = run(rt, alloc, &words, 9, &mut input, &mut output, &mut faults);
+    let Sink { taken, calls: _ } = output;
+    Outcome {
+        status,
+        output: taken,
+        faults,
+    }
+}
+
+// The input has 76 bytes: 11 calls, and one that finds its end. The replies have 13 and 96 bytes: 2 calls and 10, and each
+// has a flush behind it. Each of these calls fails in turn, and behind the last of them nothing does.
+#[test]
+fn calls_that_fail_in_turn(rt: HostRuntime) {
+    let whole = "{\"ticket\":0}
+{\"sha256_root_hash\":\"fV9+kfNWc6WhrBC4FWQ8cnZ9Z8PW7wGOv6AnRvHlwco=\",\"timestamp\":7,\"tree_size\":1}
+";
+    for calls in 0..=14usize {
+        for (reads, writes, is_whole, line) in [
+            (calls, 99, calls >= 12, "ctlog: read\n"),
+            (99, calls, calls == 14, "ctlog: write\n"),
+        ] {
+            let outcome = outcome_behind(&rt, rt.alloc(), reads, writes);
+            let Outcome {
+                status,
+                output,
+                faults,
+            } = &outcome;
+            assert_eq!(rt; *status, u8::from(!is_whole), "{reads} {writes}");
+            assert!(rt; whole.as_bytes().starts_with(output));
+            assert!(rt; !is_whole || output.len() == whole.len());
+            assert_eq!(rt; output.is_empty(), reads < 12 || writes == 0);
+            assert!(rt;
+                faults.as_slice()
+                    == (if is_whole {
+                        b"".as_slice()
+                    } else {
+                        line.as_bytes()
+                    })
+            );
+        }
+    }
+}

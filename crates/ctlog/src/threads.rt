@@ -202,7 +202,8 @@ fn serve_beside<R: Threads + Wait + Sync>(
         rt,
         &mut || -> Result<Vec<u8>, Fault>
             requires { (count ≡ length sequencer.now.lanes) × (tasks ≢ None) }
-            ensures served { IfOk result (λ told. (v : VecOf OperatorTaskOf GlobalOf) → tasks.entry ≡ Some v → SequencerIsServed sequencer.entry.now v.items sequencer.exit.now told.items) }
+            ensures served { IfOk result (λ told. (v : VecOf OperatorTaskOf GlobalOf) → tasks.entry ≡ Some v
+                → SequencerIsServed sequencer.entry.now v.items sequencer.exit.now told.items) }
             ensures faults { IfErr result IsPartyFault }
         {
             let Some(tasks) = tasks.take() else {

@@ -2,8 +2,8 @@
 //!
 //! `gate` opens a gate of two fronts, and sends, receives and shuts. `two_fronts` makes the calls of small logs in one thread, step by
 //! step, and compares each answer. `readers` looks at what fronts see: at the opening, behind a bulletin, of a long log, and beside
-//! publications in another thread. `sixteen_fronts` runs sixteen fronts in threads of their own beside a sequencer that takes,
-//! publishes and shuts the house in the middle.
+//! publications in another thread. `shutdown_under_load` runs sixteen ends of a gate in threads of their own, and `sixteen_fronts`
+//! sixteen fronts beside a sequencer that takes and publishes: both are shut before the first submission, in the middle, and behind the last.
 #![tactic(auto)]
 
 #[cfg(test)]

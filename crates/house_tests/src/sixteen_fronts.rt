@@ -1,3 +1,5 @@
+// Sixteen fronts in threads of their own beside a sequencer, in a house that is shut before their first submission, in the middle, and behind the
+// last.
 ghost use Rattle.std.specs.Prelude.{◌≡◌, ◌≤◌, ◌<◌, ◌+◌, ℕ, length, All, IfOk, slice_index_or, vec_len, vec_capacity};
 ghost use Rattle.ct_house.specs.House.{IsOfHouse};
 ghost use Rattle.house_tests.specs.Fronts.{SameFront};
@@ -18,18 +20,28 @@ use std::thread::{Threads, join_mut};
 // How often a submission that meets a full ring is made again, before it is given up.
 const TRIES: u32 = 100_000;
 
-// After how many items the sequencer shuts the house. The rings hold 1,024 more, so it is before all 16,000 submissions were made.
+// When the house is shut.
+#[derive(Clone, Copy, Debug)]
+enum When {
+    BeforeAll,
+    // After `ENOUGH` items were taken.
+    InTheMiddle,
+    BehindAll,
+}
+
+// After how many items the house is shut in the middle. Rings of 64 places hold 1,024 more, so it is before all 16,000 submissions were made.
 const ENOUGH: u64 = 6_000;
 
 // The moment at which what is left settles, and the last head is made. The rounds before it, one moment each, end long before.
 const LAST: u64 = u64::MAX;
 
-// A front, and what its thread saw: the tickets, each with the byte that is its certificate, and the heads.
+// A front, and what its thread saw: the tickets, each with the byte that is its certificate, the heads, and whether it was told the shutdown.
 #[derive(Drop)]
 struct Party {
     front: Front,
     tickets: Vec<(u64, u8)>,
     heads: Vec<Head>,
+    is_shut: bool,
     end: Result<(), Refusal>,
 }
 
@@ -41,11 +53,12 @@ impl Party {
             front,
             tickets: Vec::new(alloc),
             heads: Vec::new(alloc),
+            is_shut: false,
             end: Ok(()),
         }
     }
 
-    // Submits once. Where the ring is full, the submission comes back.
+    // Submits once. Where the ring is full, the submission comes back. Behind the first shutdown that it is told, all but that is an error.
     fn attempt(
         &mut self,
         waiting: Submission,
@@ -55,10 +68,22 @@ impl Party {
     {
         match self.front.submit(waiting) {
             Ok(ticket) => {
+                if self.is_shut {
+                    return Err(Refusal::BadLine);
+                }
                 self.tickets.push((ticket, certificate))?;
                 Ok(None)
             }
-            Err((Refusal::Full, back)) => Ok(Some(back)),
+            Err((Refusal::Shutdown, _)) => {
+                self.is_shut = true;
+                Ok(None)
+            }
+            Err((Refusal::Full, back)) => {
+                if self.is_shut {
+                    return Err(Refusal::Full);
+                }
+                Ok(Some(back))
+            }
             Err((refusal, _)) => Err(refusal),
         }
     }
@@ -134,6 +159,17 @@ fn take_round<R: Threads + Sync>(
     Ok(taken)
 }
 
+// Shuts the house, and shuts it once more, which is to be refused. The answer of the first shutdown.
+fn shut_twice(house: &mut Sequencer) -> Result<u64, Refusal>
+    ensures same { (house.new.house ≡ house.old.house) × (length house.new.lanes ≡ length house.old.lanes) }
+{
+    let answer = house.shutdown();
+    match house.shutdown() {
+        Err(Refusal::Shutdown) => answer,
+        _ => Err(Refusal::BadLine),
+    }
+}
+
 // Takes until it is enough, publishes now and then, and shuts the house. The answer of the shutdown.
 fn sequence<R: Threads + Wait + Sync>(
     rt: &R,
@@ -157,7 +193,7 @@ fn sequence<R: Threads + Wait + Sync>(
         }
         thread::yield_now();
     }
-    house.shutdown()
+    shut_twice(house)
 }
 
 // The fronts and the sequencer at once. The answer of the shutdown.
@@ -185,6 +221,34 @@ fn run_together<R: Threads + Wait + Sync>(
         { sequence(rt, alloc, house) },
     );
     shut
+}
+
+// The fronts, and the shutdown. Its answer.
+fn run_and_shut<R: Threads + Wait + Sync>(
+    rt: &R,
+    alloc: Global,
+    house: &mut Sequencer,
+    parties: &mut [Party],
+    when: When,
+) -> Result<u64, Refusal>
+    requires { length house.old.lanes ≡ 16 }
+    ensures house { (house.new.house ≡ house.old.house) × (length house.new.lanes ≡ length house.old.lanes) }
+    ensures count { length parties.new ≡ length parties.old }
+    ensures same { (k : ℕ) (d : Party) → k < length parties.old
+        → SameFront (slice_index_or parties.old k d).front (slice_index_or parties.new k d).front }
+{
+    match when {
+        When::BeforeAll => {
+            let shut = shut_twice(house);
+            run_fronts(rt, alloc, parties);
+            shut
+        }
+        When::InTheMiddle => run_together(rt, alloc, house, parties),
+        When::BehindAll => {
+            run_fronts(rt, alloc, parties);
+            shut_twice(house)
+        }
+    }
 }
 
 // What a front's thread saw.
@@ -227,6 +291,7 @@ fn retire_all(
             front,
             tickets,
             heads,
+            is_shut: _,
             end,
         } = party;
         ends.push_reserved(front.retire());
@@ -239,24 +304,36 @@ fn retire_all(
     (ends, seen)
 }
 
-// A house with sixteen fronts.
+// The places of a ring: fewer than the submissions where others are taken meanwhile.
+fn places(when: When) -> usize
+    ensures { (0 < result) × (result ≤ 4096) }
+{
+    match when {
+        When::InTheMiddle => 64,
+        _ => 1024,
+    }
+}
+
+// A house with sixteen fronts, and when it is to be shut.
 struct Crowd {
     alloc: Global,
     house: Sequencer,
     parties: Vec<Party>,
+    when: When,
     ghost lanes: { length house.lanes ≡ 16 },
     ghost of_house: { All (λ (p : Party). IsOfHouse house.house p.front) parties.items },
 }
 
 impl Crowd {
     #[tactic(auto, using(crate::proofs::FrontLemmas::of_new_house, crate::proofs::FrontLemmas::lanes_of_new_house))]
-    fn open<R: Wait>(rt: &R, alloc: Global) -> Result<Crowd, Refusal> {
-        let (house, fronts) = open(rt, alloc, 16, 64, 0)?;
+    fn open<R: Wait>(rt: &R, alloc: Global, when: When) -> Result<Crowd, Refusal> {
+        let (house, fronts) = open(rt, alloc, 16, places(when), 0)?;
         match parties_of(alloc, &house, fronts) {
             Ok(parties) => Ok(Crowd {
                 alloc,
                 house,
                 parties,
+                when,
             }),
             Err(refusal) => {
                 house.abandon(rt, Vec::new(alloc));
@@ -267,7 +344,13 @@ impl Crowd {
 
     #[tactic(auto, using(crate::proofs::FrontLemmas::still_of_house))]
     fn run<R: Threads + Wait + Sync>(&mut self, rt: &R) -> Result<u64, Refusal> {
-        run_together(rt, self.alloc, &mut self.house, &mut self.parties)
+        run_and_shut(
+            rt,
+            self.alloc,
+            &mut self.house,
+            &mut self.parties,
+            self.when,
+        )
     }
 
     // The final log, and what the threads saw, front by front.
@@ -276,6 +359,7 @@ impl Crowd {
             alloc,
             mut house,
             parties,
+            when: _,
         } = self;
         let room = Vec::with_capacity(alloc, parties.len()).expect(rt, "memory");
         let seen = Vec::with_capacity(alloc, parties.len()).expect(rt, "memory");
@@ -286,15 +370,19 @@ impl Crowd {
     }
 }
 
-// Whether the records of this front have its tickets, in order.
+// Whether the records of this front have its tickets, in order, and these rise.
 fn are_recorded(settlement: &[Settled], front: u16, tickets: &[(u64, u8)]) -> bool {
     let mut place = 0usize;
+    let mut least = 0u64;
     for record in settlement {
         if record.front != front {
             continue;
         }
         match tickets.get(place) {
-            Some((ticket, _)) if *ticket == record.ticket => place = place.saturating_add(1),
+            Some((ticket, _)) if *ticket == record.ticket && *ticket >= least => {
+                place = place.saturating_add(1);
+                least = ticket.saturating_add(1);
+            }
             _ => return false,
         }
     }
@@ -355,20 +443,20 @@ fn are_first_occurrences(settlement: &[Settled], certificates: &[Option<u8>]) ->
     true
 }
 
-#[test]
-fn sixteen_fronts_and_a_shutdown_among_them(rt: HostRuntime) -> Result<(), Fail> {
-    let mut crowd = Crowd::open(&rt, rt.alloc())?;
-    let shut = crowd.run(&rt);
-    let (log, seen) = crowd.finish(&rt);
+// How many submissions were accepted, where all is right.
+fn accepted<R: Threads + Wait + Abort + Sync>(
+    rt: &R,
+    alloc: Global,
+    when: When,
+) -> Result<u64, Fail> {
+    let mut crowd = Crowd::open(rt, alloc, when)?;
+    let shut = crowd.run(rt);
+    let (log, seen) = crowd.finish(rt);
     assert_eq!(rt; shut, Ok(log.accepted()));
-    assert!(rt; (ENOUGH..16_000).contains(&log.accepted()));
     assert_eq!(rt; log.settlement().len() as u64, log.accepted());
-    let mut certificates = vec![in rt.alloc(); None; log.settlement().len()]?;
+    let mut certificates = vec![in alloc; None; log.settlement().len()]?;
     for (front, seen) in (0..16u16).zip(&seen) {
-        assert!(rt;
-            matches!(seen.end, Ok(()) | Err(Refusal::Shutdown)),
-            "{front}"
-        );
+        assert_eq!(rt; seen.end, Ok(()), "{front}");
         assert!(rt;
             are_recorded(log.settlement(), front, &seen.tickets),
             "{front}"
@@ -380,5 +468,13 @@ fn sixteen_fronts_and_a_shutdown_among_them(rt: HostRuntime) -> Result<(), Fail>
         assert!(rt; note_tickets(&mut certificates, &seen.tickets), "{front}");
     }
     assert!(rt; are_first_occurrences(log.settlement(), &certificates));
+    Ok(log.accepted())
+}
+
+#[test]
+fn sixteen_fronts_and_a_shutdown_at_three_moments(rt: HostRuntime) -> Result<(), Fail> {
+    assert_eq!(rt; accepted(&rt, rt.alloc(), When::BeforeAll)?, 0);
+    assert!(rt; (ENOUGH..16_000).contains(&accepted(&rt, rt.alloc(), When::InTheMiddle)?));
+    assert_eq!(rt; accepted(&rt, rt.alloc(), When::BehindAll)?, 16_000);
     Ok(())
 }
