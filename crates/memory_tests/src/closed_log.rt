@@ -1,5 +1,5 @@
 // A house whose fronts have retired, and its closed log.
-ghost use Rattle.std.specs.Prelude.{◌≡◌, All};
+ghost use Rattle.std.specs.Prelude.{◌≡◌, ◌≤◌, All, vec_len, vec_capacity};
 ghost use Rattle.ct_house.specs.House.{IsOfHouse};
 
 use crate::page::Page;
@@ -38,18 +38,24 @@ impl ClosedHouse {
         }
     }
 
+    fn publish_once<R: Wait>(&mut self, rt: &R, now: u64) -> Result<Head, Refusal> {
+        self.house.publish(rt, self.alloc, now)
+    }
+
     pub(crate) fn publish<R: Wait>(&mut self, rt: &R, now: u64) -> Result<Head, Refusal> {
-        match self.house.publish(rt, self.alloc, now) {
+        match self.publish_once(rt, now) {
             Err(Refusal::Memory) => {
                 self.refused.tell("publish");
-                self.house.publish(rt, self.alloc, now)
+                self.publish_once(rt, now)
             }
             answer => answer,
         }
     }
 
     // Room for the ends. It is the test's own.
-    fn room<R: Abort>(&mut self, rt: &R) -> Vec<Retired> {
+    fn room<R: Abort>(&mut self, rt: &R) -> Vec<Retired>
+        ensures { (vec_len result ≡ 0) × (2 ≤ vec_capacity result) }
+    {
         match Vec::with_capacity(self.alloc, 2) {
             Ok(room) => room,
             Err(_) => {

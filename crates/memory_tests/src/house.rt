@@ -1,5 +1,5 @@
 // A house with two fronts, whose calls are made again where they are refused memory.
-ghost use Rattle.std.specs.Prelude.{◌≡◌, ◌≤◌, ◌<◌, length, IfOk};
+ghost use Rattle.std.specs.Prelude.{◌≡◌, ◌≤◌, length, IfOk, IfErr};
 ghost use Rattle.ct_house.specs.House.{IsNewHouse, IsOfHouse};
 
 use crate::closed_log::ClosedHouse;
@@ -38,7 +38,8 @@ fn opened<R: Wait>(
     refused: &mut Refused,
 ) -> Result<(Sequencer, Vec<Front>), Refusal>
     requires { (1 ≤ ring) × (ring ≤ 4096) }
-    ensures { IfOk result (λ h. IsNewHouse h.0 h.1.items 2 ring 0) }
+    ensures fresh { IfOk result (λ h. IsNewHouse h.0 h.1.items 2 ring 0) }
+    ensures err { IfErr result (λ e. e ≡ Refusal.Memory) }
 {
     match open(rt, alloc, 2, ring, 0) {
         Err(Refusal::Memory) => {
@@ -91,11 +92,15 @@ impl House {
         }
     }
 
+    fn take_once<R: Threads + Sync>(&mut self, rt: &R, now: u64) -> Result<u32, Refusal> {
+        self.house.take(rt, self.alloc, 0, 256, now)
+    }
+
     // Takes the items of front 0 until none is left, and counts those that were told. A refused call tells none of those that it settled.
     pub(crate) fn take_all<R: Threads + Sync>(&mut self, rt: &R, now: u64) -> Result<u32, Refusal> {
         let mut told = 0u32;
         for _ in 0..4u32 {
-            match self.house.take(rt, self.alloc, 0, 256, now) {
+            match self.take_once(rt, now) {
                 Ok(0) => return Ok(told),
                 Ok(count) => told = told.saturating_add(count),
                 Err(Refusal::Memory) => self.refused.tell("take"),
@@ -105,28 +110,36 @@ impl House {
         Err(Refusal::Full)
     }
 
+    fn publish_once<R: Wait>(&mut self, rt: &R, now: u64) -> Result<Head, Refusal> {
+        self.house.publish(rt, self.alloc, now)
+    }
+
     pub(crate) fn publish<R: Wait>(&mut self, rt: &R, now: u64) -> Result<Head, Refusal> {
-        match self.house.publish(rt, self.alloc, now) {
+        match self.publish_once(rt, now) {
             Err(Refusal::Memory) => {
                 self.refused.tell("publish");
-                self.house.publish(rt, self.alloc, now)
+                self.publish_once(rt, now)
             }
             answer => answer,
         }
     }
 
-    // Both fronts learn of all publications so far.
-    pub(crate) fn learn(&mut self) -> Result<(), Refusal> {
-        let bulletin = match self.house.bulletin() {
-            Err(Refusal::Memory) => {
-                self.refused.tell("bulletin");
-                self.house.bulletin()?
-            }
-            answer => answer?,
-        };
+    fn learn_once(&mut self) -> Result<(), Refusal> {
+        let bulletin = self.house.bulletin()?;
         self.zero.learn(&bulletin);
         self.one.learn(&bulletin);
         Ok(())
+    }
+
+    // Both fronts learn of all publications so far.
+    pub(crate) fn learn(&mut self) -> Result<(), Refusal> {
+        match self.learn_once() {
+            Err(Refusal::Memory) => {
+                self.refused.tell("bulletin");
+                self.learn_once()
+            }
+            answer => answer,
+        }
     }
 
     fn ask_once(&mut self, front: u16, query: &Query) -> Result<Reply, Refusal> {

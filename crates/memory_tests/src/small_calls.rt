@@ -104,13 +104,12 @@ fn head(tree_size: u64, timestamp: u64, root: [u8; 32]) -> Head {
 fn a_monitor_takes_three_heads(rt: HostRuntime) -> Result<(), Fail> {
     let mut refused = Refused::new();
     let mut monitor = Monitor::new(rt.alloc(), Sha256Hash);
-    let heads = [
-        (0, head(1, 5, ROOT_1)),
-        (1, head(2, 6, ROOT_2)),
-        (2, head(3, 7, ROOT_3)),
+    let shown: [(&[u8], usize, Head); 3] = [
+        (b"A", 0, head(1, 5, ROOT_1)),
+        (b"AB", 1, head(2, 6, ROOT_2)),
+        (b"ABC", 2, head(3, 7, ROOT_3)),
     ];
-    for (kept, head) in heads {
-        let bytes = &b"ABC"[..kept + 1];
+    for (bytes, kept, head) in shown {
         expect_taken(
             &rt,
             rt.alloc(),
@@ -223,8 +222,13 @@ fn decoding_a_chain(rt: HostRuntime) -> Result<(), Fail> {
         answer = decode_chain(rt.alloc(), &CHAIN);
     }
     let chain = answer?;
-    assert_eq!(rt; chain.len(), 2);
-    assert!(rt; chain[0].as_slice() == b"B".as_slice() && chain[1].as_slice() == b"AB".as_slice());
+    match chain.as_slice() {
+        [first, second] => {
+            assert!(rt; first.as_slice() == b"B".as_slice());
+            assert!(rt; second.as_slice() == b"AB".as_slice());
+        }
+        _ => panic!(rt; "another number of certificates"),
+    }
     let call = refused.at_most_one().ok_or("two calls were refused")?;
     println!(rt; "refused: {call}")?;
     Ok(())
