@@ -4,7 +4,7 @@
 # make link   builds libwagtenib, the proof checkers for C, and runs programs in C, Rust and Python over it
 # make install PREFIX=/usr/local   installs libwagtenib, its header and its pkg-config file
 # make fuzz   runs ctlog on random and damaged lines for SECONDS=60, and compares it with an independent program
-# make sweep  refuses each growth of ctlog in turn, and judges what it then does
+# make sweep  refuses each growth of ctlog and of the library's calls in turn, and judges what they then do
 # make load   runs ctlog with 16 fronts and a shutdown among them RUNS=20 times, and judges each output
 .PHONY: demo test check link install fuzz load sweep kit sources
 
@@ -46,7 +46,9 @@ sources:
 	@PYTHONDONTWRITEBYTECODE=1 python3 checks/want_of_memory.py
 	@PYTHONDONTWRITEBYTECODE=1 python3 checks/definitions.py
 
+# After `rt run -- --help` in crates/ctlog and `rt test` in crates/memory_tests, which build what is swept.
 sweep:
+	@PYTHONDONTWRITEBYTECODE=1 python3 bench/memory.py
 	@PYTHONDONTWRITEBYTECODE=1 python3 bench/sweep.py
 
 kit:

@@ -15,8 +15,6 @@ Each run has to end by itself within a minute, and in one of these ways:
 - status 0, where one line has the reply `memory`: what its party was told before is the ample run's, and the whole output is judged by
   examples/check.py, which recomputes tickets, settlement, entries, heads, proofs and receipts from what the replies say was done. (A line that then waits in
   vain is told `late`.)
-- status 0, where the operator's own thread didn't start: its lines are done after the fronts', so that each front's waits are told `late`; the operator's and the
-  closed log's replies are the ample run's, and the whole output is judged in the same way.
 
 Never a signal, an abort, a hang, or another wrong reply. The counts are printed, and the status is 1 at the first run that isn't as asked.
 """
@@ -40,7 +38,6 @@ OPTIONS = ["--fronts", "2", "--ring", "8", "--open-at", "0", "--close-at", "7"]
 LONGEST_RUN = 60
 FAULTS = ("memory", "threads")
 MEMORY = '{"error":"memory"}'
-LATE = '{"error":"late"}'
 
 
 def line(who, op, **keys):
@@ -127,23 +124,12 @@ class Sweep:
     def judge_replies(self, output):
         replies, ample = output.splitlines(), self.ample.splitlines()
         claim(len(replies) == len(ample), "there are fewer replies")
-        if MEMORY not in replies:
-            return self.judge_late(replies, ample)
-        claim(replies.count(MEMORY) == 1, "more than one reply is memory")
+        claim(replies.count(MEMORY) == 1, "not one reply is memory")
         at = replies.index(MEMORY)
         who = self.parties[at]["who"]
         claim(all(r == a for r, a, p in zip(replies[:at], ample[:at], self.parties) if p["who"] == who), "a reply before the refused one differs")
         checked(2, self.given, output.replace('"late"', '"memory"'))
         return f"status 0, {self.parties[at]['op']} of {who} is told memory"
-
-    def judge_late(self, replies, ample):
-        for reply, expected, party in zip(replies, ample, self.parties):
-            if party["op"] == "await-size":
-                claim(reply == LATE, "the output differs, and a wait isn't late")
-            elif party["who"] in ("operator", "frozen"):
-                claim(reply == expected, "a reply of the operator or of the closed log differs")
-        checked(2, self.given, "\n".join(replies).replace('"late"', '"memory"'))
-        return "status 0, the operator's thread didn't start, and the fronts' waits are late"
 
 
 def main():

@@ -30,9 +30,9 @@ def is_pattern(text, found):
 
 
 def tells_of_a_refusal(text, start, end):
-    """Whether a conversion is from a refused growth: from std's errors for it, from a struct that holds one, or where the error tells it."""
+    """Whether a conversion is from a refused growth: from std's errors for it, from a struct that holds one, from what left_right's `append` hands back, or where the error tells it."""
     source = re.search(r"From<(.*)> for", text[start:end]).group(1)
-    if re.match(r"(?:AllocError|AllocFailed|TryReserveError)\b", source):
+    if re.match(r"(?:AllocError|AllocFailed|TryReserveError|NotAppended)\b", source):
         return True
     held = re.search(rf"\bstruct {re.escape(source)} \{{[^}}]*\bAllocError\b", text)
     told = any(is_pattern(text, found) or "==" in text[found.start() - 24 : found.start()] for found in NAMES.finditer(text, start, end))

@@ -3,6 +3,7 @@
 ghost use Rattle.std.specs.Prelude.{◌≡◌, ◌<◌, ◌^◌, drop, length, IfOk, IsOkUnless, MatchResult, Some};
 ghost use Rattle.std.specs.Arc.{arc_value};
 ghost use Rattle.left_right.specs.Sides.{view};
+ghost use Rattle.ct_codec.specs.declared.refusal.Refusal.TheVariants.{Memory};
 ghost use Rattle.ct_core.specs.Settlement.{Lawful};
 ghost use Rattle.ct_core.specs.Core.{Extends};
 ghost use Rattle.ct_versions.specs.Publications.{series_of};
@@ -38,6 +39,21 @@ impl Model for Shelf {
     ghost invariant = { λ s. (series_of s.writer.desk.shown.value ≡ series_of s.announcer) × Knows (series_of s.announcer) (view_of s.writer.desk.place) };
 }
 
+// A version that the writer handed back: it does so exactly where there is no memory for it, and tells it in no other way.
+#[derive(Drop)]
+struct NotAppended {
+    version: Version,
+}
+
+impl From<NotAppended> for Refusal {
+    ghost from_gives = { λ _ e. e ≡ Memory };
+
+    fn from(refused: NotAppended) -> Refusal {
+        let NotAppended { version: _ } = refused;
+        Refusal::Memory
+    }
+}
+
 // Shows what was taken in, unless memory is refused.
 fn turn<R: Wait>(writer: VersionWriter, rt: &R) -> (VersionWriter, Result<(), AllocError>)
     requires { series_of (last_of writer.desk.shown.value (drop writer.behind writer.log.items)) ≡ series_of writer.desk.shown.value }
@@ -69,8 +85,11 @@ impl Shelf {
         let second = Version::new(other, announcer.reached());
         let again = Version::new(third, announcer.reached());
         let mut writer = VersionWriter::new(alloc, first, second, viewers)?;
-        // This makes the room that later publications take. Where it is refused, they ask for it again.
-        let _ = writer.append(again);
+        // This makes the room that later publications take.
+        if let Err(version) = writer.append(again) {
+            writer.take(rt);
+            return Err(Refusal::from(NotAppended { version }));
+        }
         let (writer, done) = turn(writer, rt);
         match done {
             Ok(()) => Ok(Shelf { writer, announcer }),

@@ -11,12 +11,14 @@ use crate::fault::Fault;
 use crate::front_work::serve_front;
 use crate::operator_work::serve_operator;
 use crate::party::{FrontParty, OperatorParty};
+use crate::replying::give_way;
 use crate::task::{FrontTask, OperatorTask};
 use ct_house::{Front, Sequencer};
 use ct_tree::Memory;
 use std::alloc::Global;
 use std::snapshot::Snapshot;
 use std::sync::Wait;
+use std::sync::atomic::{AtomicBool, Ordering};
 use std::thread;
 use std::thread::{Promise, PromisedHandle, Scope, Threads, join_mut};
 
@@ -181,8 +183,24 @@ fn serve_lent<R: Threads + Wait + Sync>(
     Ok(replies)
 }
 
+// How often the fronts' part looks whether the operator's thread has begun.
+const START_TURNS: u64 = 50_000_000;
+
+// Whether the operator's thread begins, as far as it is waited for.
+fn begins(begun: &AtomicBool) -> bool {
+    for turn in 0..START_TURNS {
+        if begun.load(Ordering::SeqCst) {
+            return true;
+        }
+        give_way(turn);
+    }
+    false
+}
+
 // Does the operator's tasks over the sequencer that it is lent, in a thread of its own, beside the fronts' tasks. It
-// answers the fronts and all replies: the fronts' in order, and then the operator's.
+// answers the fronts and all replies: the fronts' in order, and then the operator's. Where no thread can be made for it,
+// `join_mut` calls the operator's part last, so no front starts before that part has begun, and neither does anything
+// where it doesn't begin.
 fn serve_beside<R: Threads + Wait + Sync>(
     rt: &R,
     alloc: Global,
@@ -196,6 +214,8 @@ fn serve_beside<R: Threads + Wait + Sync>(
     ensures served { IfOk result (λ d. AllServe sequencer.old tasks.items fronts.items sequencer.new d.0.items d.1.items) }
     ensures faults { IfErr result IsPartyFault }
 {
+    let begun = AtomicBool::new(false);
+    let given_up = AtomicBool::new(false);
     let mut tasks = Some(tasks);
     let mut fronts = Some(fronts);
     let (told, served) = join_mut(
@@ -206,6 +226,10 @@ fn serve_beside<R: Threads + Wait + Sync>(
                 → SequencerIsServed sequencer.entry.now v.items sequencer.exit.now told.items) }
             ensures faults { IfErr result IsPartyFault }
         {
+            begun.store(true, Ordering::SeqCst);
+            if given_up.load(Ordering::SeqCst) {
+                return Err(Fault::Threads);
+            }
             let Some(tasks) = tasks.take() else {
                 unreachable!()
             };
@@ -216,6 +240,10 @@ fn serve_beside<R: Threads + Wait + Sync>(
             ensures served { IfOk result (λ d. (v : VecOf FrontPartyOf GlobalOf) → fronts.entry ≡ Some v → FrontsServe v.items d.0.items d.1.items) }
             ensures faults { IfErr result IsPartyFault }
         {
+            if !begins(&begun) {
+                given_up.store(true, Ordering::SeqCst);
+                return Err(Fault::Threads);
+            }
             let Some(fronts) = fronts.take() else {
                 unreachable!()
             };
@@ -236,12 +264,12 @@ pub struct Served {
 }
 
 /// Does the tasks of all parties, each in a thread of its own, and answers what they leave and all replies: the fronts'
-/// in order, and then the operator's. A line that waits for another party looks `turns` times. Where the operator's thread
-/// doesn't start, its tasks are done after the fronts'.
+/// in order, and then the operator's. A line that waits for another party looks `turns` times.
 ///
 /// # Errors
 ///
-/// `Threads` where a front's thread doesn't start, after those that did have ended, and `Memory`. The house is given up.
+/// `Threads` where the operator's thread doesn't start, before any front's does, or a front's, after those that did have
+/// ended; and `Memory`. The house is given up.
 #[tactic(auto, using(crate::proofs::PartyLemmas::fronts_same))]
 pub fn serve_parties<R: Threads + Wait + Sync>(
     rt: &R,

@@ -1,0 +1,157 @@
+// A house whose fronts have retired, and its closed log.
+ghost use Rattle.std.specs.Prelude.{◌≡◌, ◌≤◌, All, vec_len, vec_capacity};
+ghost use Rattle.ct_house.specs.House.{IsOfHouse};
+
+use crate::page::Page;
+use crate::refused::Refused;
+use ct_codec::Refusal;
+use ct_core::{Published, Query, Reply};
+use ct_house::{FinalLog, Retired, Sequencer};
+use ct_lines::{ServeFault, serve_frozen};
+use ct_tree::Head;
+use std::alloc::Global;
+use std::process::Abort;
+use std::sync::Wait;
+use std::thread::Threads;
+
+// A house whose two fronts have retired, and the calls that were refused memory.
+pub(crate) struct ClosedHouse {
+    pub(crate) alloc: Global,
+    pub(crate) house: Sequencer,
+    pub(crate) ends: [Retired; 2],
+    pub(crate) refused: Refused,
+    ghost of_house: { All (IsOfHouse house.house) ends },
+}
+
+impl ClosedHouse {
+    fn settle_once<R: Threads + Sync>(&mut self, rt: &R, now: u64) -> Result<(), Refusal> {
+        self.house.settle(rt, self.alloc, &mut self.ends, now)
+    }
+
+    pub(crate) fn settle<R: Threads + Sync>(&mut self, rt: &R, now: u64) -> Result<(), Refusal> {
+        match self.settle_once(rt, now) {
+            Err(Refusal::Memory) => {
+                self.refused.tell("settle");
+                self.settle_once(rt, now)
+            }
+            answer => answer,
+        }
+    }
+
+    fn publish_once<R: Wait>(&mut self, rt: &R, now: u64) -> Result<Head, Refusal> {
+        self.house.publish(rt, self.alloc, now)
+    }
+
+    pub(crate) fn publish<R: Wait>(&mut self, rt: &R, now: u64) -> Result<Head, Refusal> {
+        match self.publish_once(rt, now) {
+            Err(Refusal::Memory) => {
+                self.refused.tell("publish");
+                self.publish_once(rt, now)
+            }
+            answer => answer,
+        }
+    }
+
+    // Room for the ends. It is the test's own.
+    fn room<R: Abort>(&mut self, rt: &R) -> Vec<Retired>
+        ensures { (vec_len result ≡ 0) × (2 ≤ vec_capacity result) }
+    {
+        match Vec::with_capacity(self.alloc, 2) {
+            Ok(room) => room,
+            Err(_) => {
+                self.refused.tell("a growth of the test's own");
+                Vec::with_capacity(self.alloc, 2).expect(rt, "memory")
+            }
+        }
+    }
+
+    // The final log, once `is_settled`, `is_shut` and `is_covered` say so, and what was refused.
+    pub(crate) fn finish<R: Wait + Abort>(mut self, rt: &R) -> (FinalLog, Refused) {
+        let mut room = self.room(rt);
+        let ClosedHouse {
+            alloc: _,
+            house,
+            ends: [zero, one],
+            refused,
+        } = self;
+        room.push_reserved(zero);
+        room.push_reserved(one);
+        (closed(rt, house, room), refused)
+    }
+}
+
+// The final log of a house whose fronts have retired.
+fn closed<R: Wait + Abort>(rt: &R, mut house: Sequencer, mut ends: Vec<Retired>) -> FinalLog
+    requires { All (IsOfHouse house.house) ends.items }
+{
+    if !house.is_settled(&mut ends) {
+        panic!(rt; "not settled");
+    }
+    if !house.is_shut() {
+        panic!(rt; "not shut");
+    }
+    if !house.is_covered() {
+        panic!(rt; "not covered");
+    }
+    house.finish(rt, ends)
+}
+
+// The answer of the closed log.
+pub(crate) fn ask_log(
+    alloc: Global,
+    log: &Published,
+    query: &Query,
+    refused: &mut Refused,
+) -> Result<Reply, Refusal> {
+    match log.answer(alloc, query) {
+        Err(Refusal::Memory) => {
+            refused.tell("answer");
+            log.answer(alloc, query)
+        }
+        answer => answer,
+    }
+}
+
+// How many lines end in the text.
+fn ends_in(text: &[u8]) -> u64 {
+    let mut count = 0u64;
+    for byte in text {
+        if *byte == b'\n' {
+            count = count.saturating_add(1);
+        }
+    }
+    count
+}
+
+// Whether these are the first replies, so many, each of them whole.
+fn are_first(written: &[u8], count: u64, replies: &[u8]) -> bool {
+    replies.starts_with(written)
+        && ends_in(written) == count
+        && (count == 0 || written.ends_with(b"\n"))
+        && (count > 0 || written.is_empty())
+}
+
+// Serves the lines, and once more over a new reader and writer where it is refused memory. The replies have to be these.
+pub(crate) fn expect_served<R: Abort>(
+    rt: &R,
+    alloc: Global,
+    log: &Published,
+    lines: &[u8],
+    replies: &[u8],
+    refused: &mut Refused,
+) {
+    let mut first = Page::new();
+    let mut reader = lines;
+    match serve_frozen(alloc, log, &mut reader, &mut first) {
+        Ok(()) => assert!(rt; first.written() == replies),
+        Err(ServeFault::Memory(count)) => {
+            refused.tell("serve_frozen");
+            assert!(rt; are_first(first.written(), count, replies), "{count}");
+            let mut second = Page::new();
+            let mut again = lines;
+            assert!(rt; serve_frozen(alloc, log, &mut again, &mut second).is_ok());
+            assert!(rt; second.written() == replies);
+        }
+        Err(fault) => panic!(rt; "{fault}"),
+    }
+}
