@@ -1,0 +1,3 @@
+pub mod Concatenated
+pub mod Chunks
+pub mod Blocks

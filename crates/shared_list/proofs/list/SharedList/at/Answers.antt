@@ -1,0 +1,44 @@
+use Rattle.std.proofs.Common.{◌≡◌, ◌<◌, ◌≤◌, ◌/◌, ◌%◌, List, ◌++◌, length, get_or, ap, sym, ◌∙◌, arith}
+use Rattle.std.proofs.lemmas.Grind.{common_steps}
+use Rattle.shared_list.specs.Flat.{concatenated}
+use Rattle.shared_list.proofs.Blocks.{in_chunks, in_rest, in_rest-below, full_at}
+use Rattle.shared_list.proofs.list.SharedList.at.Goals as goal
+
+pub at-requires : goal.at-requires
+at-requires g c =
+    let cs = c.self.inside.blocks.items in
+    let k = c.args.index / 16384 in
+    let below : k < length cs = grind (arith, common_steps) in
+    let size : length (get_or cs k c.index.result.now) ≡ 16384 = full_at cs k c.index.result.now c.self.invariant.each below in
+    let same : length c.index.result.now ≡ length (get_or cs k c.index.result.now) = ap length c.index.ensures in
+    omega arith
+
+pub at-requires-else-block-len : goal.at-requires-else-block-len
+at-requires-else-block-len g c =
+    let cs = c.self.inside.blocks.items in
+    let past : length cs ≤ c.args.index / 16384 = grind (arith, common_steps) in
+    let inside : c.args.index < length (concatenated cs ++ c.self.inside.row) = rw c.self.view_is c.requires in
+    let at : c.args.index % 16384 < length c.self.inside.row = in_rest-below cs c.self.inside.row c.args.index c.self.invariant.each c.self.invariant.short past inside in
+    at
+
+pub returns-then-block-len : goal.returns-then-block-len
+returns-then-block-len g c =
+    let cs = c.self.inside.blocks.items in
+    let i = c.args.index in
+    let d = c.at.result.now in
+    let below : i / 16384 < length cs = grind (arith, common_steps) in
+    c.at.ensures
+    ∙ ap (λ (l : List _). get_or l (i % 16384) d) c.index.ensures
+    ∙ sym (in_chunks cs c.self.inside.row i c.index.result.now d c.self.invariant.each below)
+    ∙ ap (λ (l : List _). get_or l i d) c.self.view_is
+
+pub returns-else-block-len : goal.returns-else-block-len
+returns-else-block-len g c =
+    let cs = c.self.inside.blocks.items in
+    let i = c.args.index in
+    let d = c.at-else-block-len.result.now in
+    let past : length cs ≤ i / 16384 = grind (arith, common_steps) in
+    let inside : i < length (concatenated cs ++ c.self.inside.row) = rw c.self.view_is c.requires in
+    c.at-else-block-len.ensures
+    ∙ sym (in_rest cs c.self.inside.row i d c.self.invariant.each c.self.invariant.short past inside)
+    ∙ ap (λ (l : List _). get_or l i d) c.self.view_is

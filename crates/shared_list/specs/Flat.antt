@@ -1,0 +1,18 @@
+-- Lists that lie in parts of one size.
+use Rattle.std.specs.Prelude.{◌≡◌, ℕ, ◌≤◌, List, [], ◌∷◌, ◌++◌, length}
+
+-- the parts, one after another
+abbrev pub concatenated : {X : Type 0} → List (List X) → List X
+concatenated [] = []
+concatenated (c ∷ cs) = c ++ concatenated cs
+
+-- each part has that size
+abbrev pub AllOf : {X : Type 0} → ℕ → List (List X) → Type 0
+AllOf n [] = Unit {0}
+AllOf n (c ∷ cs) = (length c ≡ n) × AllOf n cs
+
+-- parts of one size, a rest that is no longer than a part, and the number of elements
+pub record IsInParts {X : Type 0} (size : ℕ) (parts : List (List X)) (rest : List X) (n : ℕ) : Type 0 where
+  pub each : AllOf size parts
+  pub short : length rest ≤ size
+  pub all : length (concatenated parts ++ rest) ≡ n
