@@ -1,5 +1,5 @@
 -- The places that a tree has at an address.
-use Rattle.std.specs.Prelude.{◌≡◌, ℕ, ◌/◌, ◌%◌, ◌==◌, List, [], ◌∷◌, ◌++◌, Bool, if◌then◌else◌, Option, Some, None}
+use Rattle.std.specs.Prelude.{◌≡◌, ℕ, ◌+◌, ◌/◌, ◌%◌, ◌==◌, List, [], ◌∷◌, ◌++◌, Bool, if◌then◌else◌, Option, Some, None}
 use Rattle.place_table.specs.declared.trie.Slot.{Slot}
 use Rattle.place_table.specs.declared.trie.Trie.{Trie, Bucket, Fork'}
 
@@ -25,3 +25,8 @@ looked (Fork' p zero zeros q one ones) a = side a (looked zero (a / 2) ++ places
 abbrev pub first_where : (ℕ → Bool) → List ℕ → Option ℕ
 first_where q [] = None
 first_where q (k ∷ ks) = if q k then Some k else first_where q ks
+
+-- where an address stands in a list of addresses whose first place is k
+abbrev pub places_from : ℕ → List ℕ → ℕ → List ℕ
+places_from k [] a = []
+places_from k (x ∷ xs) a = if_at x k a ++ places_from (k + 1) xs a

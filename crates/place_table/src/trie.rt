@@ -91,7 +91,8 @@ fn grown(alloc: Global, slots: Vec<Slot>, levels: u64) -> Result<Trie, AllocErro
     Ok(Trie::Fork(zero, Vec::new(alloc), one, Vec::new(alloc)))
 }
 
-// A side of a fork with places more: they wait, or all that wait go down.
+// A side of a fork with places more: they wait, or all that wait go down together. Each place so goes down with some 64 others, and
+// the nodes on its way are made once for all of them.
 #[cycle(with_all)]
 fn side_with(
     alloc: Global,
@@ -143,7 +144,8 @@ pub fn with(alloc: Global, trie: &Trie, address: u64, place: u64) -> Result<Trie
     Ok(tree)
 }
 
-/// An equal tree, which shares what is below its first fork. A tree without a fork has few places.
+/// A tree with the same places, which shares what is below its first fork. It copies at most 128 slots, or those of a tree that has no
+/// fork: 512 at most, unless all have one address.
 ///
 /// Refused where memory is.
 pub fn copy(alloc: Global, trie: &Trie) -> Result<Trie, AllocError>
