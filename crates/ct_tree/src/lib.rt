@@ -30,8 +30,8 @@ pub use head::Head;
 pub use nodes::Nodes;
 pub use power::largest_power_below;
 pub use stack::{Snapshot, Stack};
-pub use subtrees::{root_of_subtrees, with_leaf};
 use std::alloc::AllocError;
+pub use subtrees::{root_of_subtrees, with_leaf};
 
 /// A growth was refused.
 pub type Memory = AllocError;
