@@ -5,7 +5,7 @@
 # make install PREFIX=/usr/local   installs libwagtenib, its header and its pkg-config file
 # make fuzz   runs ctlog on random and damaged lines for SECONDS=60, and compares it with an independent program
 # make sweep  refuses each growth of ctlog and of the library's calls in turn, and judges what they then do
-# make load   runs ctlog with 16 fronts and a shutdown among them RUNS=20 times, and judges each output
+# make load   runs the tests with sixteen threads and a shutdown among them 50 times, and ctlog so RUNS=20 times, and judges each output
 .PHONY: demo test check link install fuzz load sweep kit sources
 
 SECONDS ?= 60
@@ -38,7 +38,9 @@ crates/wagtenib/out/link/libwagtenib.a:
 fuzz:
 	@PYTHONDONTWRITEBYTECODE=1 python3 bench/fuzz.py --seconds $(SECONDS)
 
+# After the same, and after `rt test` in crates/house_tests.
 load:
+	@PYTHONDONTWRITEBYTECODE=1 python3 bench/repeat.py
 	@PYTHONDONTWRITEBYTECODE=1 python3 bench/load.py --runs $(RUNS)
 
 # What no contract can say of the sources, and what docs/DEFINITIONS.md has to name.
