@@ -1,5 +1,5 @@
 // A house whose fronts have retired, and its closed log.
-ghost use Rattle.std.specs.Prelude.{◌≡◌, ◌≤◌, All, vec_len, vec_capacity};
+ghost use Rattle.std.specs.Prelude.{◌≡◌, [], ◌∷◌, All};
 ghost use Rattle.ct_house.specs.House.{IsOfHouse};
 
 use crate::page::Page;
@@ -52,32 +52,39 @@ impl ClosedHouse {
         }
     }
 
-    // Room for the ends. It is the test's own.
-    fn room<R: Abort>(&mut self, rt: &R) -> Vec<Retired>
-        ensures { (vec_len result ≡ 0) × (2 ≤ vec_capacity result) }
-    {
-        match Vec::with_capacity(self.alloc, 2) {
-            Ok(room) => room,
-            Err(_) => {
-                self.refused.tell("a growth of the test's own");
-                Vec::with_capacity(self.alloc, 2).expect(rt, "memory")
-            }
-        }
-    }
-
     // The final log, once `is_settled`, `is_shut` and `is_covered` say so, and what was refused.
-    pub(crate) fn finish<R: Wait + Abort>(mut self, rt: &R) -> (FinalLog, Refused) {
-        let mut room = self.room(rt);
+    pub(crate) fn finish<R: Wait + Abort>(self, rt: &R) -> (FinalLog, Refused) {
         let ClosedHouse {
-            alloc: _,
+            alloc,
             house,
             ends: [zero, one],
-            refused,
+            mut refused,
         } = self;
-        room.push_reserved(zero);
-        room.push_reserved(one);
-        (closed(rt, house, room), refused)
+        let ends = listed(rt, alloc, zero, one, &mut refused);
+        (closed(rt, house, ends), refused)
     }
+}
+
+// The two ends as a list. Its growth is the test's own.
+fn listed<R: Abort>(
+    rt: &R,
+    alloc: Global,
+    zero: Retired,
+    one: Retired,
+    refused: &mut Refused,
+) -> Vec<Retired>
+    ensures { result.items ≡ zero ∷ one ∷ [] }
+{
+    let mut list = match Vec::with_capacity(alloc, 2) {
+        Ok(list) => list,
+        Err(_) => {
+            refused.tell("a growth of the test's own");
+            Vec::with_capacity(alloc, 2).expect(rt, "memory")
+        }
+    };
+    list.push_reserved(zero);
+    list.push_reserved(one);
+    list
 }
 
 // The final log of a house whose fronts have retired.

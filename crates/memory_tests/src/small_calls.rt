@@ -1,7 +1,7 @@
 // Calls of the monitor, the verifiers, the decoders and `read_line`.
 use crate::refused::Refused;
 use crate::weak_hash::ZeroHash;
-use ct_codec::{DecodeFault, LeafEntry, Refusal, decode_chain, decode_leaf};
+use ct_codec::{DecodeFault, Leaf, LeafEntry, Refusal, decode_chain, decode_leaf};
 use ct_lines::{FrozenRequest, Request, read_line};
 use ct_monitor::{Monitor, MonitorFault};
 use ct_tree::{Head, Sha256Hash};
@@ -184,6 +184,24 @@ const LEAF: [u8; 20] = [
     0, 0, 0, 0, 0, 0, 0, 0, 0, 1, 0, 0, 0, 0, 1, 0x41, 0, 2, 0xaa, 0xbb,
 ];
 
+fn is_that_leaf(leaf: &Leaf) -> bool {
+    let is_that_entry = match &leaf.entry {
+        LeafEntry::X509(certificate) => certificate.as_slice() == b"A".as_slice(),
+        LeafEntry::Precert(_, _) => false,
+    };
+    is_that_entry && leaf.timestamp == 1 && leaf.extensions.as_slice() == [0xaa, 0xbb].as_slice()
+}
+
+fn decode_again(alloc: Global, refused: &mut Refused) -> Result<Leaf, DecodeFault> {
+    match decode_leaf(alloc, &LEAF) {
+        Err(DecodeFault::Memory) => {
+            refused.tell("decode_leaf");
+            decode_leaf(alloc, &LEAF)
+        }
+        answer => answer,
+    }
+}
+
 #[test]
 fn decoding_a_leaf(rt: HostRuntime) -> Result<(), Fail> {
     let mut refused = Refused::new();
@@ -193,17 +211,8 @@ fn decoding_a_leaf(rt: HostRuntime) -> Result<(), Fail> {
     ] {
         assert!(rt; decode_leaf(rt.alloc(), bytes).err() == Some(fault));
     }
-    let mut answer = decode_leaf(rt.alloc(), &LEAF);
-    if answer == Err(DecodeFault::Memory) {
-        refused.tell("decode_leaf");
-        answer = decode_leaf(rt.alloc(), &LEAF);
-    }
-    let leaf = answer?;
-    assert!(rt; leaf.timestamp == 1 && leaf.extensions.as_slice() == [0xaa, 0xbb].as_slice());
-    match leaf.entry {
-        LeafEntry::X509(certificate) => assert!(rt; certificate.as_slice() == b"A".as_slice()),
-        LeafEntry::Precert { .. } => panic!(rt; "a precertificate"),
-    }
+    let leaf = decode_again(rt.alloc(), &mut refused)?;
+    assert!(rt; is_that_leaf(&leaf));
     let call = refused.at_most_one().ok_or("two calls were refused")?;
     println!(rt; "refused: {call}")?;
     Ok(())
