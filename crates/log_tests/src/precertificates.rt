@@ -3,8 +3,8 @@
 use crate::settled_log::{asked, opened, publish, record, settle, settle_submission};
 use ct_codec::laws::identities_are_entries;
 use ct_codec::{
-    LeafEntry, Refusal, Submission, decode_leaf, decode_pre_chain, extra_data, identity, leaf_input,
-    leaf_parts, same_identity,
+    LeafEntry, Refusal, Submission, decode_leaf, decode_pre_chain, extra_data, identity,
+    leaf_input, leaf_parts, same_identity,
 };
 use ct_core::{Core, Query, Reply, Settled};
 use std::test::*;
@@ -58,7 +58,10 @@ fn precertificates_written(rt: HostRuntime) -> Result<(), Fail> {
     for (certificates, extra) in rows {
         let one = precert(&rt, KEY_HASH, &[A], certificates)?.copy(rt.alloc())?;
         assert_eq!(rt; identity(rt.alloc(), &one)?.as_slice(), IDENTITY.as_slice());
-        assert_eq!(rt; leaf_input(rt.alloc(), &one, 1)?.as_slice(), LEAF.as_slice());
+        assert_eq!(rt;
+            leaf_input(rt.alloc(), &one, 1)?.as_slice(),
+            LEAF.as_slice()
+        );
         assert_eq!(rt; extra_data(rt.alloc(), &one)?.as_slice(), extra);
     }
     Ok(())
@@ -128,10 +131,22 @@ fn extra_data_of_the_first(rt: &HostRuntime, core: &Core) -> Result<Vec<u8>, Fai
 #[test]
 fn a_precertificate_beside_certificates(rt: HostRuntime) -> Result<(), Fail> {
     let mut core = opened(&rt, 0)?;
-    assert_eq!(rt; settled(&rt, &mut core, 0, KEY_HASH, &[&[B]]), record(0, 0, 0, true));
-    assert_eq!(rt; settled(&rt, &mut core, 1, KEY_HASH, &[&[A]]), record(0, 1, 0, false));
-    assert_eq!(rt; settle(&rt, &mut core, (0, 2), &[A], 1), record(0, 2, 1, true));
-    assert_eq!(rt; settled(&rt, &mut core, 3, [0x22; 32], &[&[B]]), record(0, 3, 2, true));
+    assert_eq!(rt;
+        settled(&rt, &mut core, 0, KEY_HASH, &[&[B]]),
+        record(0, 0, 0, true)
+    );
+    assert_eq!(rt;
+        settled(&rt, &mut core, 1, KEY_HASH, &[&[A]]),
+        record(0, 1, 0, false)
+    );
+    assert_eq!(rt;
+        settle(&rt, &mut core, (0, 2), &[A], 1),
+        record(0, 2, 1, true)
+    );
+    assert_eq!(rt;
+        settled(&rt, &mut core, 3, [0x22; 32], &[&[B]]),
+        record(0, 3, 2, true)
+    );
     assert!(rt; publish(&rt, &mut core, 2)?.root == ROOT);
     let extra = extra_data_of_the_first(&rt, &core)?;
     let (precertificate, others) = decode_pre_chain(rt.alloc(), &extra)?;
