@@ -1,6 +1,7 @@
 //! Precertificates, written out by hand from RFC 6962, sections 3.1, 3.2, 3.4 and 4.6; the root is of Python's hashlib.
 
 use crate::settled_log::{asked, opened, publish, record, settle, settle_submission};
+use crate::submissions::chain;
 use ct_codec::laws::identities_are_entries;
 use ct_codec::{
     LeafEntry, Refusal, Submission, decode_leaf, decode_pre_chain, extra_data, identity,
@@ -86,20 +87,20 @@ fn what_is_signed_of_a_precertificate(rt: HostRuntime) -> Result<(), Fail> {
 
 #[test]
 fn refusals_of_precertificates(rt: HostRuntime) -> Result<(), Fail> {
-    let long = vec![in rt.alloc(); A; 0x100_0000]?;
-    let most = &long[..0xff_ffff];
-    let rows: [(&[u8], &[&[u8]], Option<Refusal>); 8] = [
-        (&[], &[], Some(Refusal::EmptyChain)),
-        (&[], &[&[B]], Some(Refusal::EmptyCertificate)),
-        (&long, &[&[]], Some(Refusal::CertificateTooLong)),
-        (&[A], &[&[]], Some(Refusal::EmptyCertificate)),
-        (&[A], &[&[B], &long], Some(Refusal::CertificateTooLong)),
-        (&[A], &[&[B], most], Some(Refusal::ChainTooLong)),
-        (most, &[most], None),
-        (&[A], &[&[B], &long[..0xff_fffc]], None),
+    let rows: [(usize, &[usize], Option<Refusal>); 8] = [
+        (0, &[], Some(Refusal::EmptyChain)),
+        (0, &[1], Some(Refusal::EmptyCertificate)),
+        (16777216, &[0], Some(Refusal::CertificateTooLong)),
+        (1, &[0], Some(Refusal::EmptyCertificate)),
+        (1, &[1, 16777216], Some(Refusal::CertificateTooLong)),
+        (1, &[1, 16777213], Some(Refusal::ChainTooLong)),
+        (16777215, &[16777215, 16777212], None),
+        (1, &[1], None),
     ];
-    for (tbs, certificates, refusal) in rows {
-        assert_eq!(rt; precert(&rt, KEY_HASH, tbs, certificates).err(), refusal);
+    for (size, sizes, refusal) in rows {
+        let tbs = vec![in rt.alloc(); A; size]?;
+        let submission = Submission::precert(KEY_HASH, tbs, chain(&rt, sizes)?);
+        assert_eq!(rt; submission.err(), refusal);
     }
     Ok(())
 }
