@@ -8,7 +8,7 @@ use Rattle.ct_codec.specs.declared.refusal.Refusal.TheVariants.{Memory, BadLine}
 use Rattle.ct_core.specs.declared.query.Reply.{Reply}
 use Rattle.ct_core.specs.Settlement.{Log}
 use Rattle.ct_core.specs.Answers.{answer}
-use Rattle.ct_core.specs.Replies.{Answer, proof_holds, proof_refused, a_collision, refused, shown, takes_memory}
+use Rattle.ct_core.specs.Replies.{Answer, proof_holds, a_collision, refused, shown, takes_memory}
 use Rattle.ct_lines.specs.Asked.{Asked, by_front, by_operator, by_frozen, FrozenAsked, frozen_query, frozen_audit, asked_in}
 use Rattle.ct_lines.specs.ReplyText.{reply_line}
 use Rattle.ct_lines.specs.Verdicts.{audit_answer}
@@ -21,14 +21,14 @@ request_of line = if nat_le (length line) 1048576 && is_utf8 line then option_an
 abbrev pub Answers : Result Reply Refusal → Answer → Type 0
 Answers result a = MatchResult result (λ reply. shown reply ≡ a) (λ e. (e ≡ Memory) ⊎ (refused e ≡ a))
 
--- whether it is a verdict
+-- whether it is the verdict on an accepted proof
 abbrev pub is_verdict : Answer → Bool
 is_verdict proof_holds = true
-is_verdict proof_refused = true
 is_verdict (a_collision left right) = true
 is_verdict a = false
 
--- whether an answer takes memory before it is written: a verdict, for which the leaves are listed, a proof, a path or entries
+-- whether an answer takes memory before it is written: a proof, a path, entries, or the verdict on an accepted proof, which is compared with the
+-- log's own
 abbrev pub is_built : Answer → Bool
 is_built a = takes_memory a || is_verdict a
 

@@ -12,6 +12,7 @@
 //! these definitions are in `laws`.
 #![tactic(auto)]
 
+mod auditing;
 mod fault;
 mod fields;
 mod frozen;

@@ -9,6 +9,7 @@ use Rattle.ct_verify.specs.Rebuild.{rebuild}
 use Rattle.ct_verify.specs.Verdict.{AcceptsInclusion}
 use Rattle.ct_verify.specs.Evidence.{Collides, evid, IsAudited}
 use Rattle.ct_verify.specs.Difference.{IsCollision}
+use Rattle.ct_verify.specs.Laws.{PathHolds}
 use Rattle.ct_verify.specs.InclusionEvidence.{IsAccepted, InclusionEvidence, InclusionFault}
 use Rattle.ct_verify.specs.declared.evidence.Evidence.{Evidence}
 use Rattle.ct_verify.specs.declared.evidence.Evidence.TheVariants.{Holds, Collision}
@@ -42,3 +43,6 @@ module _ (H : List ℕ → List ℕ) (hash_length : (x : List ℕ) → length (H
   holds D leaf m p (Ok (Collision x y)) e a = absurd (none_some (x.items, y.items) (sym (audited_none H hash_length D leaf m p a) ∙ e.1))
   holds D leaf m p (Err (ProofRefused v)) e a = absurd (accepted_not_refused H (hash_leaf H leaf) m (length D) p (mth_of_leaves H D) v (a.0, audited_accepted H hash_length D leaf m p a) e)
   holds D leaf m p (Err Memory) e a = absurd (none_some (e.1.0, e.1.1) (sym (audited_none H hash_length D leaf m p a) ∙ e.1.2))
+
+pub path_holds : PathHolds
+path_holds H hash_length D leaf m p a = ((a.0, audited_accepted H hash_length D leaf m p a), audited_none H hash_length D leaf m p a)

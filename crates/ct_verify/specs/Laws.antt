@@ -1,11 +1,12 @@
 -- The laws of the verifiers' definitions: the equations of `rebuild` and `both_roots`, where they are defined, that every
 -- proof of RFC 6962 is accepted, and that no accepted proof is refused. H is any hash function on byte lists, k the
 -- largest power of two smaller than n, and q : s is the path q ++ s ∷ [].
-use Rattle.std.specs.Prelude.{◌≡◌, ℕ, ◌-◌, ◌<◌, ◌≤◌, ◌↔◌, Bool, true, false, List, [], ◌∷◌, ◌++◌, length, take, get_or, Some, IsSome}
+use Rattle.std.specs.Prelude.{◌≡◌, ℕ, ◌-◌, ◌<◌, ◌≤◌, ◌↔◌, Bool, true, false, List, [], ◌∷◌, ◌++◌, length, take, get_or, Some, None, IsSome}
 use Rattle.std.specs.Option.{option_map}
-use Rattle.ct_tree.specs.Tree.{split, hash_node, mth, path, proof}
+use Rattle.ct_tree.specs.Tree.{split, hash_leaf, hash_node, mth, mth_of_leaves, path, proof}
 use Rattle.ct_tree.specs.Lengths.{path_length, subproof_length}
 use Rattle.ct_verify.specs.Rebuild.{rebuild, both_roots}
+use Rattle.ct_verify.specs.Evidence.{evid, IsAudited}
 use Rattle.ct_verify.specs.Verdict.{AcceptsInclusion, RefusesInclusion, AcceptsConsistency, RefusesConsistency}
 use Rattle.ct_verify.specs.declared.fault.ProofFault.{ProofFault}
 
@@ -73,6 +74,12 @@ abbrev pub PathNotRefused : Type 0
 PathNotRefused =
     (H : List ℕ → List ℕ) (h : List ℕ) (m n : ℕ) (p : List (List ℕ)) (root : List ℕ) (fault : ProofFault)
     → AcceptsInclusion H h m n p root → ¬ (RefusesInclusion H h m n p root fault)
+
+-- a leaf of the list D with its PATH is accepted, and its strings are the list's
+abbrev pub PathHolds : Type 0
+PathHolds =
+    (H : List ℕ → List ℕ) → ((x : List ℕ) → length (H x) ≡ 32) → (D : List (List ℕ)) (leaf : List ℕ) (m : ℕ) (p : List (List ℕ)) → IsAudited H D leaf m p
+    → AcceptsInclusion H (hash_leaf H leaf) m (length D) p (mth_of_leaves H D) × (evid H D leaf m p ≡ None)
 
 -- a PROOF leads to MTH of the first m leaves and of all
 abbrev pub ProofRebuilds : Type 0

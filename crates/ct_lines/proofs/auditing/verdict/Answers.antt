@@ -1,6 +1,6 @@
 use Rattle.std.proofs.Common.{map, ◌∙◌}
 use Rattle.ct_lines.proofs.Judged.{verdict-evidence, verdict-fault}
-use Rattle.ct_lines.proofs.frozen.verdict.Goals as goal
+use Rattle.ct_lines.proofs.auditing.verdict.Goals as goal
 
 pub returns-in-Ok : goal.returns-in-Ok
 returns-in-Ok c =

@@ -1,0 +1,104 @@
+-- What an audit stands on: the head of a size, the log's own leaf and path, and what the verdict is then.
+use Rattle.std.proofs.Common.{◌≡◌, suc, ◌<◌, ◌≤◌, ℕ, List, [], ◌∷◌, length, map, take, get_or, Option, Some, None, Result, Ok, Err, Bool, true, false, cond, refl, sym, ap, ◌∙◌, subst, arith, rules, inl, inr}
+use Rattle.std.specs.Prelude.{not, ◌==◌, ◌||◌, ◌⊎◌, IfSome, MatchResult, IsOkUnless, option_map, is_some, slice_get, if◌then◌else◌}
+use Rattle.std.specs.List.{find, list_any, All, Contains}
+use Rattle.std.proofs.lemmas.Bool.Decides.{nat_tests}
+use Rattle.std.proofs.lemmas.Bool.{false≢true}
+use Rattle.std.proofs.lemmas.List.{length-map, length-take-le, get_or-map}
+use Rattle.std.proofs.lemmas.List.Elements.{All-contains}
+use Rattle.std.proofs.lemmas.Option.{slice_get_within, get_or_from_slice_get}
+use Rattle.sha2.specs.Sha256.{sha256}
+use Rattle.ct_tree.specs.Tree.{hash_leaf, mth_of_leaves, path}
+use Rattle.ct_tree.specs.declared.head.Head.{Head}
+use Rattle.ct_verify.specs.Evidence.{evid, IsAudited}
+use Rattle.ct_verify.specs.Verdict.{AcceptsInclusion}
+use Rattle.ct_core.specs.Tree.{sha256_leaf, path_of, tree_hash}
+use Rattle.ct_core.specs.Leaf.{Entry, leaf_at, leaves_of}
+use Rattle.ct_core.specs.Settlement.{Log, Lawful, IsHeadOf}
+use Rattle.ct_core.specs.Answers.{is_size, first_leaves, answer, text_of, entry_found}
+use Rattle.ct_codec.specs.declared.refusal.Refusal.TheVariants.{UnknownSize}
+use Rattle.ct_core.specs.declared.query.Query.TheVariants.{EntryAndProof}
+use Rattle.ct_core.specs.Replies.{EntryText, an_entry, proof_holds, proof_refused, refused}
+use Rattle.ct_lines.specs.Asked.{audit}
+use Rattle.ct_lines.specs.Verdicts.{is_accepted, verdict_on, verdict, audit_answer}
+
+-- a look for an element finds one exactly where there is any
+is_some-any : {X : Type 0} (p : X → Bool) (xs : List X) → is_some (find p xs) ≡ list_any p xs
+is_some-any p [] = refl
+is_some-any {X} p (x ∷ xs) = by (p x) (is_some-any p xs)
+  where
+    by : (b : Bool) → is_some (find p xs) ≡ list_any p xs → is_some (cond b (Some x) (find p xs)) ≡ (b || list_any p xs)
+    by true later = refl
+    by false later = later
+
+found_is : {X : Type 0} (p : X → Bool) (xs : List X) (y : X) → find p xs ≡ Some y → (p y ≡ true) × Contains xs y
+found_is p [] y e = cc
+found_is {X} p (x ∷ xs) y e = by (p x) refl e (found_is p xs y)
+  where
+    by : (b : Bool) → p x ≡ b → cond b (Some x) (find p xs) ≡ Some y → (find p xs ≡ Some y → (p y ≡ true) × Contains xs y) → (p y ≡ true) × Contains (x ∷ xs) y
+    by true t s later = let same : x ≡ y = cc in (ap p (sym same) ∙ t, (0, omega arith, same))
+    by false t s later = let found = later s in (found.0, (suc found.1.0, omega (arith, found.1.1), found.1.2))
+
+-- the head that a look by size finds
+head_some : (log : Log) (n : ℕ) (h : Head) → Lawful log → find (λ (h : Head). h.tree_size == n) log.heads ≡ Some h
+    → (is_size log n ≡ true) × (n ≤ length log.entries) × (h.tree_size ≡ n) × (h.root ≡ mth_of_leaves sha256 (first_leaves log n))
+unfolding tree_hash sha256_leaf
+head_some log n h lawful e =
+    let (passes, inside) = found_is (λ (h : Head). h.tree_size == n) log.heads h e in
+    let size : h.tree_size ≡ n = grind (arith, nat_tests, passes) in
+    let is = All-contains (IsHeadOf log.entries) log.heads h lawful.true_heads inside in (
+      sym (is_some-any (λ (h : Head). h.tree_size == n) log.heads) ∙ ap is_some e,
+      subst (λ (k : ℕ). k ≤ length log.entries) size is.within,
+      size,
+      is.root ∙ ap (λ (k : ℕ). mth_of_leaves sha256 (first_leaves log k)) size,
+    )
+
+pub head_found : (log : Log) (n : ℕ) (o : Option Head) → Lawful log → o ≡ find (λ (h : Head). h.tree_size == n) log.heads
+    → IfSome o (λ h. (is_size log n ≡ true) × (n ≤ length log.entries) × (h.tree_size ≡ n) × (h.root ≡ mth_of_leaves sha256 (first_leaves log n)))
+head_found log n None lawful e = search rules
+head_found log n (Some h) lawful e = head_some log n h lawful (sym e)
+
+pub head_none : (log : Log) (n : ℕ) → find (λ (h : Head). h.tree_size == n) log.heads ≡ None → is_size log n ≡ false
+head_none log n e = sym (is_some-any (λ (h : Head). h.tree_size == n) log.heads) ∙ ap is_some e
+
+-- the log's own leaf and path at an index below a published size
+pub own_audited : (log : Log) (m n : ℕ) (t : EntryText) (v : List (List ℕ)) → is_size log n ≡ true → m < n → an_entry t v ≡ answer log (EntryAndProof m n)
+    → IsAudited sha256 (first_leaves log n) t.leaf_input m v
+unfolding path_of sha256_leaf
+own_audited log m n t v sized below e =
+    let shown : an_entry t v ≡ entry_found log m n (slice_get (take n log.entries) m) =
+    e ∙ ap (λ b. cond (not b) (refused UnknownSize) (entry_found log m n (slice_get (take n log.entries) m))) sized in
+    go (slice_get (take n log.entries) m) refl shown
+  where
+    go : (o : Option Entry) → slice_get (take n log.entries) m ≡ o → an_entry t v ≡ entry_found log m n o → IsAudited sha256 (first_leaves log n) t.leaf_input m v
+    go None at s = cc
+    go (Some x) at s =
+        let text : t ≡ text_of x = cc in
+        let way : v ≡ path sha256 m (map (hash_leaf sha256) (first_leaves log n)) = cc in
+        let leaf : Entry → List ℕ = λ y. leaf_at y.submission y.timestamp in
+        let within : m < length (take n log.entries) = slice_get_within (take n log.entries) m x at in
+        let count : length (first_leaves log n) ≡ length (take n log.entries) = length-map (take n log.entries) leaf in (
+          omega (arith, within, count),
+          ap (λ (z : EntryText). z.leaf_input) text ∙ sym (ap leaf (get_or_from_slice_get (take n log.entries) m x x at)) ∙ sym (get_or-map leaf (take n log.entries) m x [] within),
+          way,
+        )
+
+-- what the verdict on it is
+pub own_holds : (D : List (List ℕ)) (leaf : List ℕ) (m : ℕ) (p : List (List ℕ)) → is_accepted D leaf m p ≡ true → evid sha256 D leaf m p ≡ None → verdict D leaf m p ≡ proof_holds
+unfolding verdict
+own_holds D leaf m p e none = ap (λ t. cond t (verdict_on (evid sha256 D leaf m p)) proof_refused) e ∙ ap verdict_on none
+
+pub not_accepted : (D : List (List ℕ)) (leaf : List ℕ) (m : ℕ) (p : List (List ℕ)) → is_accepted D leaf m p ≡ false → verdict D leaf m p ≡ proof_refused
+unfolding verdict
+not_accepted D leaf m p e = ap (λ t. cond t (verdict_on (evid sha256 D leaf m p)) proof_refused) e
+
+-- the whole: the answer to an audit against a published size
+pub size_unknown : (log : Log) (leaf : List ℕ) (m n : ℕ) (p : List (List ℕ)) → is_size log n ≡ false → audit_answer log (audit leaf m n p) ≡ refused UnknownSize
+size_unknown log leaf m n p e = ap (λ t. cond (not t) (refused UnknownSize) (verdict (first_leaves log n) leaf m p)) e
+
+pub size_known : (log : Log) (leaf : List ℕ) (m n : ℕ) (p : List (List ℕ)) → is_size log n ≡ true → audit_answer log (audit leaf m n p) ≡ verdict (first_leaves log n) leaf m p
+size_known log leaf m n p e = ap (λ t. cond (not t) (refused UnknownSize) (verdict (first_leaves log n) leaf m p)) e
+
+pub leaves_counted : (log : Log) (n : ℕ) → n ≤ length log.entries → length (first_leaves log n) ≡ n
+leaves_counted log n within =
+    length-map (take n log.entries) (λ (e : Entry). leaf_at e.submission e.timestamp) ∙ length-take-le n log.entries within
