@@ -8,23 +8,28 @@ ghost use Rattle.ct_lines.specs.ReplyText.{answered, reply_line};
 ghost use Rattle.ct_tree.specs.declared.head.Head.{Head};
 ghost use Rattle.ctlog.specs.FrontWork.{Submits, Looks, Shows, Awaits, FrontDoes, FrontGoesOn, FrontServes};
 
-use crate::replying::{give_way, push_reply};
+use crate::replying::push_reply;
 use crate::task::FrontTask;
+use crate::waiting::{Bell, Waiting};
 use ct_codec::{Refusal, Submission};
 use ct_core::{Query, Reply};
 use ct_house::Front;
 use ct_tree::Memory;
 use std::alloc::Global;
+use std::sync::Wait;
 
-// Submits a chain.
-fn submit_chain(front: &mut Front, chain: Vec<Vec<u8>>) -> Result<Reply, Refusal>
+// Submits a chain, and rings where it is accepted.
+fn submit_chain(front: &mut Front, chain: Vec<Vec<u8>>, accepted: &Bell) -> Result<Reply, Refusal>
     ensures submits { Submits front.old (map (λ c. c.items) chain.items) (answered result) front.new }
     ensures same { SameIntake front.old.intake front.new.intake }
     ensures sight { front.new.sight ≡ front.old.sight }
 {
     let submission = Submission::x509(chain)?;
     match front.submit(submission) {
-        Ok(ticket) => Ok(Reply::Ticket(ticket)),
+        Ok(ticket) => {
+            accepted.ring();
+            Ok(Reply::Ticket(ticket))
+        }
         Err((refusal, _)) => Err(refusal),
     }
 }
@@ -51,60 +56,77 @@ fn published_size(alloc: Global, front: &mut Front) -> Result<u64, Refusal>
 
 // Waits until the published log has at least this size.
 #[tactic(auto, using(crate::proofs::FrontLemmas::looks_none, crate::proofs::FrontLemmas::looks_both))]
-fn await_size(alloc: Global, front: &mut Front, size: u64, turns: u64) -> Result<Reply, Refusal>
+fn await_size<R: Wait>(
+    rt: &R,
+    alloc: Global,
+    front: &mut Front,
+    size: u64,
+    waiting: &Waiting,
+) -> Result<Reply, Refusal>
     ensures looks { Looks front.old front.new }
     ensures awaits { Awaits front.new.sight.seen size (answered result) }
 {
-    for turn in 0..turns {
+    let turns = waiting.turns;
+    let mut turn = 0;
+    while turn < turns {
+        let seen = waiting.heads.rung();
         if size <= published_size(alloc, front)? {
             return Ok(Reply::Reached(size));
         }
-        give_way(turn);
+        turn = waiting.heads.wait_turn(rt, turn, seen);
     }
     Err(Refusal::Late)
 }
 
 // Does what a line asks for.
 #[tactic(auto, using(crate::proofs::FrontLemmas::looks_on, crate::proofs::FrontLemmas::submits_on))]
-fn do_task(alloc: Global, front: &mut Front, task: FrontTask, turns: u64) -> Result<Reply, Refusal>
+fn do_task<R: Wait>(
+    rt: &R,
+    alloc: Global,
+    front: &mut Front,
+    task: FrontTask,
+    waiting: &Waiting,
+) -> Result<Reply, Refusal>
     ensures does { FrontDoes front.old task (answered result) front.new }
     ensures goes_on { FrontGoesOn front.old front.new }
 {
     match task {
-        FrontTask::Submit(chain) => submit_chain(front, chain),
-        FrontTask::AwaitSize(size) => await_size(alloc, front, size, turns),
+        FrontTask::Submit(chain) => submit_chain(front, chain, &waiting.accepted),
+        FrontTask::AwaitSize(size) => await_size(rt, alloc, front, size, waiting),
         FrontTask::Ask(query) => ask(alloc, front, &query),
     }
 }
 
 // Does what a line asks for, and adds the reply.
-fn reply_to(
+fn reply_to<R: Wait>(
+    rt: &R,
     alloc: Global,
     front: &mut Front,
     task: FrontTask,
-    turns: u64,
+    waiting: &Waiting,
     replies: &mut Vec<u8>,
 ) -> Result<(), Memory>
     ensures does { OnOk result ((r : Answer) × FrontDoes front.old task r front.new × (replies.new.items ≡ replies.old.items ++ reply_line r)) }
     ensures goes_on { FrontGoesOn front.old front.new }
 {
-    let reply = do_task(alloc, front, task, turns);
+    let reply = do_task(rt, alloc, front, task, waiting);
     push_reply(alloc, replies, &reply)
 }
 
-/// Does a front's tasks in order, and adds the replies. A line that waits looks `turns` times at most.
-pub fn serve_front(
+/// Does a front's tasks in order, and adds the replies. A line that waits ends after `waiting.turns` turns.
+pub fn serve_front<R: Wait>(
+    rt: &R,
     alloc: Global,
     front: &mut Front,
     tasks: Vec<FrontTask>,
-    turns: u64,
+    waiting: &Waiting,
     replies: &mut Vec<u8>,
 ) -> Result<(), Memory>
     ensures serves { OnOk result (FrontServes front.old tasks.items replies.old.items front.new replies.new.items) }
     ensures goes_on { OnOk result (FrontGoesOn front.old front.new) }
 {
     for task in tasks {
-        reply_to(alloc, front, task, turns, replies)?;
+        reply_to(rt, alloc, front, task, waiting, replies)?;
     }
     Ok(())
 }

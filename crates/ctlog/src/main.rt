@@ -7,7 +7,8 @@
 //!
 //! - `command` reads the command line.
 //! - `plan` cuts the input into lines and gives them out, and `task` says what a front and the operator do for a line.
-//! - `front_work` and `operator_work` do the lines of a front and of the operator, and `replying` adds their replies.
+//! - `front_work` and `operator_work` do the lines of a front and of the operator, `replying` adds their replies, and
+//!   `waiting` is how a line waits for another party.
 //! - `party` has the fronts and the operator with what they do, and `threads` has each of them work in a thread of its
 //!   own.
 //! - `closing` closes the log.
@@ -35,6 +36,7 @@ mod task;
 #[cfg(test)]
 mod tests;
 mod threads;
+mod waiting;
 
 use fault::{Fault, report};
 use program::{TURNS, refuse_words, run};

@@ -11,8 +11,8 @@ use crate::fault::Fault;
 use crate::front_work::serve_front;
 use crate::operator_work::serve_operator;
 use crate::party::{FrontParty, OperatorParty};
-use crate::replying::give_way;
 use crate::task::{FrontTask, OperatorTask};
+use crate::waiting::{Bell, Waiting};
 use ct_house::{Front, Sequencer};
 use ct_tree::Memory;
 use std::alloc::Global;
@@ -23,16 +23,17 @@ use std::thread;
 use std::thread::{Promise, PromisedHandle, Scope, Threads, join_mut};
 
 // Does a front's tasks. It answers the front and the replies.
-fn serve_front_party(
+fn serve_front_party<R: Wait>(
+    rt: &R,
     alloc: Global,
     party: FrontParty,
-    turns: u64,
+    waiting: &Waiting,
 ) -> Result<(Front, Vec<u8>), Memory>
     ensures { IfOk result (λ d. FrontIsServed party d.0 d.1.items) }
 {
     let FrontParty { mut front, tasks } = party;
     let mut replies = Vec::new(alloc);
-    serve_front(alloc, &mut front, tasks, turns, &mut replies)?;
+    serve_front(rt, alloc, &mut front, tasks, waiting, &mut replies)?;
     Ok((front, replies))
 }
 
@@ -68,11 +69,12 @@ impl Promise<Result<(Front, Vec<u8>), Memory>> for FrontPromise {
 type FrontThread = PromisedHandle<Result<(Front, Vec<u8>), Memory>, FrontPromise>;
 
 // Starts a thread for each front.
-fn start_fronts<'e: 's, 's>(
+fn start_fronts<'e: 's, 's, R: Threads + Wait + Sync>(
+    rt: &'e R,
     alloc: Global,
     scope: &'s Scope<'s, &'e ()>,
     parties: Vec<FrontParty>,
-    turns: u64,
+    waiting: &'e Waiting,
 ) -> Result<Vec<FrontThread>, Fault>
     ensures started { IfOk result (λ v. map (λ t. t.promise.0.value) v.items ≡ parties.items) }
     ensures faults { IfErr result IsPartyFault }
@@ -80,7 +82,9 @@ fn start_fronts<'e: 's, 's>(
     let mut threads = Vec::new(alloc);
     for party in parties {
         let promise = FrontPromise(Snapshot::of(&party));
-        let work = move || serve_front_party(alloc, party, turns);
+        let work = move || -> Result<(Front, Vec<u8>), Memory>
+            ensures { IfOk result (λ d. FrontIsServed party d.0 d.1.items) }
+        { serve_front_party(rt, alloc, party, waiting) };
         let Ok(thread) = scope.spawn_with(promise, work) else {
             return Err(Fault::Threads);
         };
@@ -131,26 +135,26 @@ fn join_fronts<R: Threads>(
 }
 
 // Starts a thread for each front, and joins them all.
-fn serve_in_threads<'e: 's, 's, R: Threads + Wait>(
+fn serve_in_threads<'e: 's, 's, R: Threads + Wait + Sync>(
     rt: &'e R,
     alloc: Global,
     scope: &'s Scope<'s, &'e ()>,
     fronts: Vec<FrontParty>,
-    turns: u64,
+    waiting: &'e Waiting,
 ) -> Result<(Vec<Front>, Vec<u8>), Fault>
     ensures served { IfOk result (λ d. FrontsServe fronts.items d.0.items d.1.items) }
     ensures faults { IfErr result IsPartyFault }
 {
-    let threads = start_fronts(alloc, scope, fronts, turns)?;
+    let threads = start_fronts(rt, alloc, scope, fronts, waiting)?;
     join_fronts(rt, alloc, threads)
 }
 
 // Does the fronts' tasks, each front's in a thread of its own. It answers the fronts and their replies, both in order.
-fn serve_fronts<R: Threads + Wait>(
+fn serve_fronts<R: Threads + Wait + Sync>(
     rt: &R,
     alloc: Global,
     fronts: Vec<FrontParty>,
-    turns: u64,
+    waiting: &Waiting,
 ) -> Result<(Vec<Front>, Vec<u8>), Fault>
     ensures served { IfOk result (λ d. FrontsServe fronts.items d.0.items d.1.items) }
     ensures faults { IfErr result IsPartyFault }
@@ -161,7 +165,7 @@ fn serve_fronts<R: Threads + Wait>(
         move |scope| -> Result<(Vec<Front>, Vec<u8>), Fault>
             ensures served { IfOk result (λ d. FrontsServe fronts.items d.0.items d.1.items) }
             ensures faults { IfErr result IsPartyFault }
-        { serve_in_threads(rt, alloc, scope, fronts, turns) },
+        { serve_in_threads(rt, alloc, scope, fronts, waiting) },
     )
 }
 
@@ -172,27 +176,27 @@ fn serve_lent<R: Threads + Wait + Sync>(
     sequencer: &mut Sequencer,
     fronts: usize,
     tasks: Vec<OperatorTask>,
-    turns: u64,
+    waiting: &Waiting,
 ) -> Result<Vec<u8>, Fault>
     requires { fronts ≡ length sequencer.old.lanes }
     ensures served { IfOk result (λ told. SequencerIsServed sequencer.old tasks.items sequencer.new told.items) }
     ensures faults { IfErr result IsPartyFault }
 {
     let mut replies = Vec::new(alloc);
-    serve_operator(rt, alloc, sequencer, fronts, tasks, turns, &mut replies)?;
+    serve_operator(rt, alloc, sequencer, fronts, tasks, waiting, &mut replies)?;
     Ok(replies)
 }
 
-// How often the fronts' part looks whether the operator's thread has begun.
-const START_TURNS: u64 = 50_000_000;
+// How often the fronts' part sleeps for a millisecond at most, until the operator's part has begun.
+const START_NAPS: u64 = 10_000;
 
-// Whether the operator's thread begins, as far as it is waited for.
-fn begins(begun: &AtomicBool) -> bool {
-    for turn in 0..START_TURNS {
-        if begun.load(Ordering::SeqCst) {
+// Whether the operator's part begins, which it tells by the bell, as far as it is waited for.
+fn begins<R: Wait>(rt: &R, begun: &Bell) -> bool {
+    for _ in 0..START_NAPS {
+        if begun.rung() > 0 {
             return true;
         }
-        give_way(turn);
+        begun.sleep(rt, 0);
     }
     false
 }
@@ -214,8 +218,9 @@ fn serve_beside<R: Threads + Wait + Sync>(
     ensures served { IfOk result (λ d. AllServe sequencer.old tasks.items fronts.items sequencer.new d.0.items d.1.items) }
     ensures faults { IfErr result IsPartyFault }
 {
-    let begun = AtomicBool::new(false);
+    let begun = Bell::new();
     let given_up = AtomicBool::new(false);
+    let waiting = Waiting::new(turns);
     let mut tasks = Some(tasks);
     let mut fronts = Some(fronts);
     let (told, served) = join_mut(
@@ -226,28 +231,28 @@ fn serve_beside<R: Threads + Wait + Sync>(
                 → SequencerIsServed sequencer.entry.now v.items sequencer.exit.now told.items) }
             ensures faults { IfErr result IsPartyFault }
         {
-            begun.store(true, Ordering::SeqCst);
+            begun.ring();
             if given_up.load(Ordering::SeqCst) {
                 return Err(Fault::Threads);
             }
             let Some(tasks) = tasks.take() else {
                 unreachable!()
             };
-            serve_lent(rt, alloc, sequencer, count, tasks, turns)
+            serve_lent(rt, alloc, sequencer, count, tasks, &waiting)
         },
         &mut || -> Result<(Vec<Front>, Vec<u8>), Fault>
             requires { fronts ≢ None }
             ensures served { IfOk result (λ d. (v : VecOf FrontPartyOf GlobalOf) → fronts.entry ≡ Some v → FrontsServe v.items d.0.items d.1.items) }
             ensures faults { IfErr result IsPartyFault }
         {
-            if !begins(&begun) {
+            if !begins(rt, &begun) {
                 given_up.store(true, Ordering::SeqCst);
                 return Err(Fault::Threads);
             }
             let Some(fronts) = fronts.take() else {
                 unreachable!()
             };
-            serve_fronts(rt, alloc, fronts, turns)
+            serve_fronts(rt, alloc, fronts, &waiting)
         },
     );
     let told = told?;

@@ -4,10 +4,10 @@ use Rattle.ctlog.proofs.TurnLemmas.{serves_none, serves_more}
 use Rattle.ctlog.proofs.front_work.serve_front.Goals as goal
 
 pub loop-task-init : goal.loop-task-init
-loop-task-init c = (serves_none FrontDoes c.args.front.now c.args.replies.now.items, front_goes_on_nothing c.args.front.now)
+loop-task-init g c = (serves_none FrontDoes c.args.front.now c.args.replies.now.items, front_goes_on_nothing c.args.front.now)
 
 pub loop-task-preserved : goal.loop-task-preserved
-loop-task-preserved c =
+loop-task-preserved g c =
     let (serves, on) = c.loop-task.invariant in
     let (r, does, text) = c.in_ok-reply_to.ensures.does in (
       serves_more FrontDoes c.args.front.now c.loop-task.front c.reply_to.new.front c.loop-task.yielded c.in-Some.task c.args.replies.now.items

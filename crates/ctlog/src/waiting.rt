@@ -1,0 +1,95 @@
+//! How a line waits for another party: it looks again at once for some turns, and then sleeps between looks until that
+//! party rings.
+
+ghost use Rattle.std.specs.Prelude.{◌<◌, ◌-◌, ◌^◌};
+
+use std::sync::Wait;
+use std::sync::atomic::{AtomicU64, Ordering};
+use std::thread::yield_now;
+use std::time::Duration;
+
+// So many turns are looks, each right after the other.
+const LOOKS: u64 = 1_024;
+
+// A line that looks gives way to the other threads after so many turns.
+const TURNS_IN_A_ROW: u64 = 256;
+
+// A turn asleep that nobody ended counts as so many, since so many looks take about as long.
+const TURNS_ASLEEP: u64 = 16_384;
+
+/// A bell that some threads ring, and on which others sleep until it is rung.
+#[derive(Drop)]
+pub struct Bell {
+    rung: AtomicU64,
+    asleep: AtomicU64,
+}
+
+impl Bell {
+    /// A bell that wasn't rung.
+    pub fn new() -> Bell {
+        Bell {
+            rung: AtomicU64::new(0),
+            asleep: AtomicU64::new(0),
+        }
+    }
+
+    /// How often it was rung.
+    pub fn rung(&self) -> u64 {
+        self.rung.load(Ordering::SeqCst)
+    }
+
+    /// Rings, and wakes who sleeps. Where nobody sleeps it is one step on a word, and no call of the system.
+    pub fn ring(&self) {
+        self.rung.fetch_add(1, Ordering::SeqCst);
+        if self.asleep.load(Ordering::SeqCst) > 0 {
+            self.rung.wake_all();
+        }
+    }
+
+    /// Sleeps until the bell was rung more than `seen` times, for a millisecond at most. A ring between the look at its
+    /// number and the sleep isn't missed.
+    pub fn sleep<R: Wait>(&self, rt: &R, seen: u64) {
+        self.asleep.fetch_add(1, Ordering::SeqCst);
+        self.rung
+            .park_timeout(rt, (seen & 0xffff_ffff) as u32, Duration::from_millis(1));
+        self.asleep.fetch_sub(1, Ordering::SeqCst);
+    }
+
+    /// Ends a turn of a line that waits, and answers the next turn's number. `seen` is how often the bell was rung before
+    /// the line looked.
+    pub fn wait_turn<R: Wait>(&self, rt: &R, turn: u64, seen: u64) -> u64
+        ensures { turn < 2 ^ 64 - 1 → turn < result }
+    {
+        if turn < LOOKS {
+            if turn % TURNS_IN_A_ROW == TURNS_IN_A_ROW - 1 {
+                yield_now();
+            }
+            return turn + 1;
+        }
+        self.sleep(rt, seen);
+        let turns = if self.rung() == seen { TURNS_ASLEEP } else { 1 };
+        turn.saturating_add(turns)
+    }
+}
+
+/// How the lines of a run wait for one another.
+#[derive(Drop)]
+pub struct Waiting {
+    /// How many turns a line waits at most.
+    pub turns: u64,
+    /// Rung when a head was published.
+    pub heads: Bell,
+    /// Rung when a front accepted a submission.
+    pub accepted: Bell,
+}
+
+impl Waiting {
+    /// Lines that wait so many turns, with bells that weren't rung.
+    pub fn new(turns: u64) -> Waiting {
+        Waiting {
+            turns,
+            heads: Bell::new(),
+            accepted: Bell::new(),
+        }
+    }
+}
