@@ -10,7 +10,7 @@ use Rattle.ct_codec.proofs.Chains.{chain_text_of, chain_copy}
 use Rattle.ct_codec.specs.Leaf.{SignedEntry, LeafText, ChainText, PreChainText, IsCertificate, AreCertificates, chain_bytes}
 use Rattle.ct_codec.specs.Decoded.{IsTextOf, IsLeaf, AnswersLeaf, AnswersChain, AnswersPreChain, GivesLeaf, GivesChain, GivesPreChain, certificates_in, entry_in}
 use Rattle.ct_codec.specs.Laws.{WrittenLeavesAreRead, WrittenChainsAreRead}
-use Rattle.ct_codec.specs.Submitted.{x509, entry_of}
+use Rattle.ct_codec.specs.Submitted.{x509, precert, entry_of, first_of, others_of}
 use Rattle.ct_codec.specs.declared.fault.DecodeFault.{DecodeFault}
 use Rattle.ct_codec.specs.declared.reading.Leaf.{Leaf}
 use Rattle.ct_codec.proofs.Apart.{leaves_stand_apart, chains_stand_apart, pre_chains_stand_apart}
@@ -65,5 +65,5 @@ pub written_leaves_are_read : WrittenLeavesAreRead
 written_leaves_are_read s t b r q a = leaf_again t (entry_of s) [] b r q a
 
 pub written_chains_are_read : WrittenChainsAreRead
-written_chains_are_read (x509 []) b r q a = chain_again [] b r q a
-written_chains_are_read (x509 (c ∷ cs)) b r q a = chain_again cs b r q a
+written_chains_are_read (x509 cs) b q r a = chain_again (others_of cs) b r q a
+written_chains_are_read (precert k t cs) b q r a = pre_chain_again (first_of cs) (others_of cs) b r q a

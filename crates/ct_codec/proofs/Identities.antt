@@ -1,33 +1,29 @@
--- Identities, and the certificates that they are of.
-use Rattle.std.proofs.Common.{◌≡◌, ◌++◌, ℕ, List, length, refl, sym, ap, ◌∙◌}
-use Rattle.std.specs.Prelude.{Bool, true, false}
+-- Identities, and the entries that they are of.
+use Rattle.std.proofs.Common.{◌≡◌, ◌++◌, [], ℕ, List, length, refl, sym, ap, ◌∙◌, arith, append-nil}
+use Rattle.std.specs.Prelude.{Bool, true, false, ◌&&◌, ◌==◌}
 use Rattle.std.specs.Str.{bytes_eq}
 use Rattle.std.specs.Cmp.Lexicographic.{bytes_decides}
+use Rattle.std.proofs.lemmas.Bool.Decides.{nat_tests}
 use Rattle.ct_codec.specs.Bytes.{num, vec}
-use Rattle.ct_codec.specs.Submitted.{Submitted, x509, certificates_of, first_of, identity_of}
-use Rattle.ct_codec.proofs.Refusals.{length-num}
-use Rattle.ct_codec.proofs.Apart.{split_equal}
+use Rattle.ct_codec.specs.Leaf.{SignedEntry, certificate, precertificate, IsEntry, entry_text, type_of, key_hash_of, signed_of}
+use Rattle.ct_codec.specs.Laws.{IdentitiesAreEntries}
+use Rattle.ct_codec.specs.Submitted.{Submitted, entry_of, identity_of}
+use Rattle.ct_codec.proofs.Apart.{entry_split}
 
--- submissions of one identity are of one certificate, whatever its length
-pub one_certificate : (s t : Submitted) → identity_of s ≡ identity_of t → first_of (certificates_of s) ≡ first_of (certificates_of t)
-one_certificate (x509 cs) (x509 ds) e =
-    let c = first_of cs in
-    let d = first_of ds in
-    let signed = split_equal (num 2 0) (num 2 0) (vec 3 c) (vec 3 d) refl e in
-    let text = split_equal (num 3 (length c)) (num 3 (length d)) c d (length-num 3 (length c) ∙ sym (length-num 3 (length d))) signed.1 in
-    text.1
+-- an entry's text in parts
+pub entry_parts : (e : SignedEntry) → entry_text e ≡ num 2 (type_of e) ++ (key_hash_of e ++ vec 3 (signed_of e))
+entry_parts (certificate c) = refl
+entry_parts (precertificate k c) = refl
 
-one_identity : (s t : Submitted) → first_of (certificates_of s) ≡ first_of (certificates_of t) → identity_of s ≡ identity_of t
-one_identity (x509 cs) (x509 ds) e = ap (λ (c : List ℕ). num 2 0 ++ vec 3 c) e
+-- an entry is its type, its key hash and what is signed
+pub same_parts : (d e : SignedEntry) → type_of d ≡ type_of e → key_hash_of d ≡ key_hash_of e → signed_of d ≡ signed_of e → d ≡ e
+same_parts (certificate c) (certificate f) t k s = ap certificate s
+same_parts (precertificate k c) (precertificate l f) t key s = cc
+same_parts (certificate c) (precertificate l f) t k s = absurd (omega (arith, t))
+same_parts (precertificate k c) (certificate f) t key s = absurd (omega (arith, t))
 
--- to compare the certificates is to compare the identities
-pub same_identities : (s t : Submitted) → bytes_eq (first_of (certificates_of s)) (first_of (certificates_of t)) ≡ bytes_eq (identity_of s) (identity_of t)
-same_identities s t =
-    let c = bytes_decides (first_of (certificates_of s)) (first_of (certificates_of t)) in
-    let i = bytes_decides (identity_of s) (identity_of t) in
-    alike _ _ (λ h. i.1 (one_identity s t (c.0 h))) (λ h. c.1 (one_certificate s t (i.0 h)))
-  where
-    alike : (a b : Bool) → (a ≡ true → b ≡ true) → (b ≡ true → a ≡ true) → a ≡ b
-    alike true b f g = sym (f refl)
-    alike false true f g = g refl
-    alike false false f g = refl
+pub identities_are_entries : IdentitiesAreEntries
+identities_are_entries s t p q = (
+  λ e. (entry_split (entry_of s) (entry_of t) [] [] p q (append-nil (identity_of s) ∙ e ∙ sym (append-nil (identity_of t)))).0,
+  λ e. ap entry_text e,
+)

@@ -21,6 +21,21 @@ abbrev pub entry_text : SignedEntry → List ℕ
 entry_text (certificate c) = num 2 0 ++ vec 3 c
 entry_text (precertificate k c) = num 2 1 ++ (k ++ vec 3 c)
 
+-- the number of an entry's type
+abbrev pub type_of : SignedEntry → ℕ
+type_of (certificate c) = 0
+type_of (precertificate k c) = 1
+
+-- the hash of the issuer's key, or no bytes where the entry has none
+abbrev pub key_hash_of : SignedEntry → List ℕ
+key_hash_of (certificate c) = []
+key_hash_of (precertificate k c) = k
+
+-- an entry's certificate or TBSCertificate
+abbrev pub signed_of : SignedEntry → List ℕ
+signed_of (certificate c) = c
+signed_of (precertificate k c) = c
+
 -- the bytes of the leaf with timestamp t, entry e and extensions x
 abbrev pub leaf_text : ℕ → SignedEntry → List ℕ → List ℕ
 leaf_text t e x = 0 ∷ 0 ∷ (num 8 t ++ (entry_text e ++ vec 2 x))

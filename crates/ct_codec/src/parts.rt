@@ -8,6 +8,7 @@ ghost use Rattle.ct_codec.specs.Parts.{joined};
 
 use crate::numbers::{number_bytes_2, number_bytes_3, number_bytes_8};
 use crate::submission::Submission;
+use crate::writing::type_and_key_hash;
 use std::marker::Model;
 
 /// The bytes of a submission's leaf in five parts. Contracts see it as the list of the parts.
@@ -28,11 +29,14 @@ impl<'a> Model for LeafParts<'a> {
 
 // What stands before the signed entry: the version, the leaf type, the timestamp and the entry type.
 #[tactic(auto, unfolding(crate::specs::Bytes::num))]
-fn leaf_head(timestamp: u64) -> [u8; 12]
-    ensures { result ≡ 0 ∷ 0 ∷ (num 8 timestamp ++ num 2 0) }
+fn leaf_head(timestamp: u64, entry_type: u16) -> [u8; 12]
+    ensures { result ≡ 0 ∷ 0 ∷ (num 8 timestamp ++ num 2 entry_type) }
 {
     let t = number_bytes_8(timestamp);
-    [0, 0, t[0], t[1], t[2], t[3], t[4], t[5], t[6], t[7], 0, 0]
+    let e = number_bytes_2(entry_type);
+    [
+        0, 0, t[0], t[1], t[2], t[3], t[4], t[5], t[6], t[7], e[0], e[1],
+    ]
 }
 
 /// The parts of the submission's leaf at this moment, in milliseconds, with no extensions: joined they are what `leaf_input` writes. It
@@ -40,13 +44,15 @@ fn leaf_head(timestamp: u64) -> [u8; 12]
 pub fn leaf_parts(submission: &Submission, timestamp: u64) -> LeafParts<'_>
     ensures { LeafText timestamp (entry_of submission.now) [] (joined result) }
 {
-    let certificate = submission.certificates()[0].as_slice();
-    let head = leaf_head(timestamp);
+    submission.in_range();
+    let (entry_type, key_hash) = type_and_key_hash(submission);
+    let certificate = submission.signed();
+    let head = leaf_head(timestamp, entry_type);
     let size = number_bytes_3(certificate.len() as u32);
     let end = number_bytes_2(0);
     LeafParts {
         head,
-        key_hash: &[],
+        key_hash,
         size,
         certificate,
         end,

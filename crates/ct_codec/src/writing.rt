@@ -3,8 +3,8 @@
 ghost use Rattle.std.specs.Prelude.{◌≡◌, ◌<◌, ◌^◌, ◌++◌, [], List, map, length, IfOk, OnOk, IsOkUnless};
 ghost use Rattle.std.specs.Str.{bytes_eq};
 ghost use Rattle.ct_codec.specs.Bytes.{vec};
-ghost use Rattle.ct_codec.specs.Leaf.{chain_bytes, LeafText, IsEntry};
-ghost use Rattle.ct_codec.specs.Submitted.{entry_of, identity_of, ExtraData};
+ghost use Rattle.ct_codec.specs.Leaf.{chain_bytes, LeafText, type_of, key_hash_of};
+ghost use Rattle.ct_codec.specs.Submitted.{entry_of, identity_of, precertificate_text, ExtraData};
 
 use crate::numbers::{number_bytes_2, number_bytes_3, number_bytes_8};
 use crate::refusal::Refusal;
@@ -22,17 +22,30 @@ fn push_vector(out: &mut Vec<u8>, bytes: &[u8]) -> Result<(), Refusal>
     Ok(())
 }
 
+// The number of the entry type, and the hash of the issuer's key, which is no bytes where a certificate was submitted.
+pub(crate) fn type_and_key_hash(submission: &Submission) -> (u16, &[u8])
+    ensures number { result.0 ≡ type_of (entry_of submission.now) }
+    ensures key_hash { result.1.now ≡ key_hash_of (entry_of submission.now) }
+{
+    match submission.issuer_key_hash() {
+        None => (0, &[]),
+        Some(key_hash) => (1, key_hash),
+    }
+}
+
 // Writes the entry type and the signed entry.
 fn push_entry(out: &mut Vec<u8>, submission: &Submission) -> Result<(), Refusal>
     ensures written { OnOk result (out.new.items ≡ out.old.items ++ identity_of submission.now) }
-    ensures in_range { OnOk result (IsEntry (entry_of submission.now)) }
     ensures memory { IsOkUnless result Refusal.Memory }
 {
-    out.extend_from_slice(&number_bytes_2(0))?;
-    push_vector(out, &submission.certificates()[0])
+    let (entry_type, key_hash) = type_and_key_hash(submission);
+    out.extend_from_slice(&number_bytes_2(entry_type))?;
+    out.extend_from_slice(key_hash)?;
+    push_vector(out, submission.signed())
 }
 
-/// The submission's identity: the entry type and the signed entry, without timestamp and chain.
+/// The submission's identity: the entry type and the signed entry, without timestamp and chain. Of a precertificate these are the hash of
+/// its issuer's key and its TBSCertificate, so the precertificate itself does not count.
 pub fn identity(alloc: Global, submission: &Submission) -> Result<Vec<u8>, Refusal>
     ensures text { IfOk result (λ b. b.items ≡ identity_of submission.now) }
     ensures memory { IsOkUnless result Refusal.Memory }
@@ -43,11 +56,12 @@ pub fn identity(alloc: Global, submission: &Submission) -> Result<Vec<u8>, Refus
 }
 
 /// Whether two submissions have one identity. No byte of either is copied.
-#[tactic(auto, using(crate::proofs::Identities::same_identities))]
 pub fn same_identity(a: &Submission, b: &Submission) -> bool
     ensures { result ≡ bytes_eq (identity_of a.now) (identity_of b.now) }
 {
-    a.end_entity() == b.end_entity()
+    let (a_type, a_key_hash) = type_and_key_hash(a);
+    let (b_type, b_key_hash) = type_and_key_hash(b);
+    a_type == b_type && a_key_hash == b_key_hash && a.signed() == b.signed()
 }
 
 /// The bytes of the submission's leaf (MerkleTreeLeaf, RFC 6962 section 3.4) at this moment, in milliseconds, with no extensions.
@@ -59,6 +73,7 @@ pub fn leaf_input(
     ensures text { IfOk result (λ b. LeafText timestamp (entry_of submission.now) [] b.items) }
     ensures memory { IsOkUnless result Refusal.Memory }
 {
+    submission.in_range();
     let mut bytes = Vec::new(alloc);
     bytes.extend_from_slice(&[0, 0])?;
     bytes.extend_from_slice(&number_bytes_8(timestamp))?;
@@ -92,12 +107,25 @@ fn push_chain(out: &mut Vec<u8>, certificates: &[Vec<u8>]) -> Result<(), Refusal
     Ok(())
 }
 
-/// The bytes that go with the submission's leaf (RFC 6962 section 4.6): the certificates behind the first, as a chain.
+// Writes the precertificate as a vector, where one was submitted.
+fn push_precertificate(out: &mut Vec<u8>, submission: &Submission) -> Result<(), Refusal>
+    ensures written { OnOk result (out.new.items ≡ out.old.items ++ precertificate_text submission.now) }
+    ensures memory { IsOkUnless result Refusal.Memory }
+{
+    if submission.issuer_key_hash().is_some() {
+        push_vector(out, submission.end_entity())?;
+    }
+    Ok(())
+}
+
+/// The bytes that go with the submission's leaf (RFC 6962 section 4.6): the certificates behind the first, as a chain, and before them the
+/// precertificate as a vector, where one was submitted (PrecertChainEntry).
 pub fn extra_data(alloc: Global, submission: &Submission) -> Result<Vec<u8>, Refusal>
     ensures text { IfOk result (λ b. ExtraData submission.now b.items) }
     ensures memory { IsOkUnless result Refusal.Memory }
 {
     let mut bytes = Vec::new(alloc);
+    push_precertificate(&mut bytes, submission)?;
     push_chain(&mut bytes, &submission.certificates()[1..])?;
     Ok(bytes)
 }
