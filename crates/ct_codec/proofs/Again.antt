@@ -1,5 +1,5 @@
 -- What was written is read again.
-use Rattle.std.proofs.Common.{◌≡◌, ℕ, List, [], ◌∷◌, Result, Ok, Err, Vec, Global, refl, ◌∙◌, ◌<◌, ◌^◌, length, ◌⊎◌}
+use Rattle.std.proofs.Common.{◌≡◌, ℕ, List, [], Result, Ok, Err, Vec, Global, refl, ◌∙◌, ◌<◌, ◌^◌, length, ◌⊎◌}
 use Rattle.std.specs.Prelude.{IfOk, IfErr}
 use Rattle.std.specs.Result.{IsErrAnd}
 use Rattle.std.specs.List.{AllByRecursion}
@@ -65,5 +65,5 @@ pub written_leaves_are_read : WrittenLeavesAreRead
 written_leaves_are_read s t b r q a = leaf_again t (entry_of s) [] b r q a
 
 pub written_chains_are_read : WrittenChainsAreRead
-written_chains_are_read (x509 cs) b q r a = chain_again (others_of cs) b r q a
-written_chains_are_read (precert k t cs) b q r a = pre_chain_again (first_of cs) (others_of cs) b r q a
+written_chains_are_read (x509 cs) b q = λ r a. chain_again (others_of cs) b r q a
+written_chains_are_read (precert k t cs) b q = λ r a. pre_chain_again (first_of cs) (others_of cs) b r q a

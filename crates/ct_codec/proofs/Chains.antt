@@ -3,7 +3,7 @@ use Rattle.std.proofs.Common.{◌≡◌, ◌<◌, ◌^◌, ℕ, List, [], ◌∷
 use Rattle.std.specs.List.{AllByRecursion}
 use Rattle.std.proofs.lemmas.Grind.{flat_map-append}
 use Rattle.ct_codec.specs.Bytes.{vec}
-use Rattle.ct_codec.specs.Leaf.{IsCertificate, AreCertificates, ChainText, PreChainText, chain_bytes, chain_text}
+use Rattle.ct_codec.specs.Leaf.{IsCertificate, AreCertificates, ChainText, PreChainText, chain_bytes}
 use Rattle.ct_codec.specs.Faults.{VectorFaulty, CertificatesFaulty, ChainFaulty, PreChainFaulty}
 use Rattle.ct_codec.specs.declared.fault.DecodeFault.{DecodeFault}
 use Rattle.ct_codec.specs.declared.fault.DecodeFault.TheVariants.{Truncated, BadVersion, BadLeafType, BadEntryType, EmptyVector, Trailing, Memory}

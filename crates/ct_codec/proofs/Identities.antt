@@ -1,9 +1,8 @@
 -- Identities, and the entries that they are of.
-use Rattle.std.proofs.Common.{◌≡◌, ◌++◌, [], ℕ, List, length, refl, sym, ap, ◌∙◌, arith, append-nil}
-use Rattle.std.specs.Prelude.{Bool, true, false, ◌&&◌, ◌==◌}
+use Rattle.std.proofs.Common.{◌≡◌, ◌++◌, [], refl, sym, ap, ◌∙◌, arith, append-nil}
+use Rattle.std.specs.Prelude.{Bool, true, false}
 use Rattle.std.specs.Str.{bytes_eq}
 use Rattle.std.specs.Cmp.Lexicographic.{bytes_decides}
-use Rattle.std.proofs.lemmas.Bool.Decides.{nat_tests}
 use Rattle.ct_codec.specs.Bytes.{num, vec}
 use Rattle.ct_codec.specs.Leaf.{SignedEntry, certificate, precertificate, IsEntry, entry_text, type_of, key_hash_of, signed_of}
 use Rattle.ct_codec.specs.Laws.{IdentitiesAreEntries}
@@ -27,3 +26,32 @@ identities_are_entries s t p q = (
   λ e. (entry_split (entry_of s) (entry_of t) [] [] p q (append-nil (identity_of s) ∙ e ∙ sym (append-nil (identity_of t)))).0,
   λ e. ap entry_text e,
 )
+
+alike : (a b : Bool) → (a ≡ true → b ≡ true) → (b ≡ true → a ≡ true) → a ≡ b
+alike true b f g = sym (f refl)
+alike false true f g = g refl
+alike false false f g = refl
+
+refuted : (b : Bool) → (b ≡ true → ⊥) → false ≡ b
+refuted true f = absurd (f refl)
+refuted false f = refl
+
+-- entries of one type and of one key hash are of one identity where the same is signed
+pub same_signed : (s t : Submitted) → IsEntry (entry_of s) → IsEntry (entry_of t) → type_of (entry_of s) ≡ type_of (entry_of t) → key_hash_of (entry_of s) ≡ key_hash_of (entry_of t)
+    → bytes_eq (signed_of (entry_of s)) (signed_of (entry_of t)) ≡ bytes_eq (identity_of s) (identity_of t)
+same_signed s t p q types keys =
+    let signed = bytes_decides (signed_of (entry_of s)) (signed_of (entry_of t)) in
+    let whole = bytes_decides (identity_of s) (identity_of t) in
+    let law = identities_are_entries s t p q in
+    alike _ _ (λ h. whole.1 (law.1 (same_parts (entry_of s) (entry_of t) types keys (signed.0 h)))) (λ h. signed.1 (ap signed_of (law.0 (whole.0 h))))
+
+-- entries of two types, or of two key hashes, are of two identities
+pub other_type : (s t : Submitted) → IsEntry (entry_of s) → IsEntry (entry_of t) → (type_of (entry_of s) ≡ type_of (entry_of t) → ⊥) → false ≡ bytes_eq (identity_of s) (identity_of t)
+other_type s t p q differ = refuted _ (λ h. differ (ap type_of ((identities_are_entries s t p q).0 ((bytes_decides (identity_of s) (identity_of t)).0 h))))
+
+pub other_key : (s t : Submitted) → IsEntry (entry_of s) → IsEntry (entry_of t) → false ≡ bytes_eq (key_hash_of (entry_of s)) (key_hash_of (entry_of t)) → false ≡ bytes_eq (identity_of s) (identity_of t)
+other_key s t p q differ =
+    refuted _ (λ h. absurd (apart (differ ∙ (bytes_decides (key_hash_of (entry_of s)) (key_hash_of (entry_of t))).1 (ap key_hash_of ((identities_are_entries s t p q).0 ((bytes_decides (identity_of s) (identity_of t)).0 h))))))
+  where
+    apart : false ≡ true → ⊥
+    apart e = cc

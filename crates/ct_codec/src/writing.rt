@@ -59,6 +59,8 @@ pub fn identity(alloc: Global, submission: &Submission) -> Result<Vec<u8>, Refus
 pub fn same_identity(a: &Submission, b: &Submission) -> bool
     ensures { result ≡ bytes_eq (identity_of a.now) (identity_of b.now) }
 {
+    a.in_range();
+    b.in_range();
     let (a_type, a_key_hash) = type_and_key_hash(a);
     let (b_type, b_key_hash) = type_and_key_hash(b);
     a_type == b_type && a_key_hash == b_key_hash && a.signed() == b.signed()
@@ -113,6 +115,7 @@ fn push_precertificate(out: &mut Vec<u8>, submission: &Submission) -> Result<(),
     ensures memory { IsOkUnless result Refusal.Memory }
 {
     if submission.issuer_key_hash().is_some() {
+        submission.in_range();
         push_vector(out, submission.end_entity())?;
     }
     Ok(())

@@ -1,6 +1,6 @@
 -- The numbers by which the exported functions answer.
 use Rattle.std.specs.Prelude.{◌≡◌, ◌≢◌, ◌⊎◌, ℕ, List, length}
-use Rattle.ct_codec.specs.Leaf.{SignedEntry, certificate, precertificate, LeafText}
+use Rattle.ct_codec.specs.Leaf.{SignedEntry, LeafText, type_of, signed_of}
 use Rattle.ct_codec.specs.Faults.{LeafFaulty}
 use Rattle.ct_codec.specs.declared.fault.DecodeFault.{DecodeFault}
 use Rattle.ct_codec.specs.declared.fault.DecodeFault.TheVariants.{Truncated, BadVersion, BadLeafType, BadEntryType, EmptyVector, Trailing, Memory}
@@ -32,15 +32,9 @@ leaf_code BadEntryType = 20
 leaf_code EmptyVector = 21
 leaf_code Trailing = 22
 
--- the number of an entry's type
-abbrev pub type_of : SignedEntry → ℕ
-type_of (certificate c) = 0
-type_of (precertificate k c) = 1
-
 -- the length of an entry's certificate or TBSCertificate
 abbrev pub certificate_length : SignedEntry → ℕ
-certificate_length (certificate c) = length c
-certificate_length (precertificate k c) = length c
+certificate_length e = length (signed_of e)
 
 -- the bytes are a leaf's, and the information is of that leaf
 abbrev pub Describes : LeafInfo → List ℕ → Type 0
