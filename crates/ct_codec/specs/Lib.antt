@@ -2,6 +2,7 @@ pub mod Bytes
 pub mod Submitted
 pub mod Leaf
 pub mod View
+pub mod Hashed
 pub mod Faults
 pub mod Decoded
 pub mod Parts

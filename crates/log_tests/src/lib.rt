@@ -10,6 +10,8 @@ mod failing_calls;
 #[cfg(test)]
 mod hostile_bytes;
 #[cfg(test)]
+mod precertificates;
+#[cfg(test)]
 mod request_lines;
 #[cfg(test)]
 mod serving;

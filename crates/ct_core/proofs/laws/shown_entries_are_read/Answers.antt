@@ -5,5 +5,5 @@ returns c log lawful k e below =
     let texts = lawful.texts k e below in
     record {
       leaf = λ r read. c.written_leaves_are_read.ensures _ _ _ r texts.leaf read;
-      chain = λ r read. c.written_chains_are_read.ensures _ _ r texts.chain read;
+      chain = c.written_chains_are_read.ensures _ _ texts.chain;
     }
