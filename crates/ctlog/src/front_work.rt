@@ -1,12 +1,13 @@
 //! The lines of a front, done in order.
 
 ghost use Rattle.std.specs.Prelude.{◌≡◌, ◌++◌, map, IfOk, IfErr, OnOk};
+ghost use Rattle.ct_codec.specs.Submitted.{x509, precert};
 ghost use Rattle.ct_core.specs.Replies.{Answer, a_head};
 ghost use Rattle.ct_core.specs.declared.query.Query.TheVariants.{GetSth};
 ghost use Rattle.ct_gate.specs.Ends.{SameIntake};
 ghost use Rattle.ct_lines.specs.ReplyText.{answered, reply_line};
 ghost use Rattle.ct_tree.specs.declared.head.Head.{Head};
-ghost use Rattle.ctlog.specs.FrontWork.{Submits, Looks, Shows, Awaits, FrontDoes, FrontGoesOn, FrontServes};
+ghost use Rattle.ctlog.specs.FrontWork.{Sends, Submits, Looks, Shows, Awaits, FrontDoes, FrontGoesOn, FrontServes};
 
 use crate::replying::{give_way, push_reply};
 use crate::task::FrontTask;
@@ -16,17 +17,41 @@ use ct_house::Front;
 use ct_tree::Memory;
 use std::alloc::Global;
 
-// Submits a chain.
-fn submit_chain(front: &mut Front, chain: Vec<Vec<u8>>) -> Result<Reply, Refusal>
-    ensures submits { Submits front.old (map (λ c. c.items) chain.items) (answered result) front.new }
+// Sends a submission against which nothing stands.
+fn send(front: &mut Front, submission: Submission) -> Result<Reply, Refusal>
+    ensures sends { Sends front.old.intake submission (answered result) front.new.intake }
     ensures same { SameIntake front.old.intake front.new.intake }
     ensures sight { front.new.sight ≡ front.old.sight }
 {
-    let submission = Submission::x509(chain)?;
     match front.submit(submission) {
         Ok(ticket) => Ok(Reply::Ticket(ticket)),
         Err((refusal, _)) => Err(refusal),
     }
+}
+
+// Submits a chain.
+fn submit_chain(front: &mut Front, chain: Vec<Vec<u8>>) -> Result<Reply, Refusal>
+    ensures submits { Submits front.old (x509 (map (λ c. c.items) chain.items)) (answered result) front.new }
+    ensures same { SameIntake front.old.intake front.new.intake }
+    ensures sight { front.new.sight ≡ front.old.sight }
+{
+    let submission = Submission::x509(chain)?;
+    send(front, submission)
+}
+
+// Submits a precertificate.
+fn submit_precert(
+    front: &mut Front,
+    issuer_key_hash: [u8; 32],
+    tbs: Vec<u8>,
+    chain: Vec<Vec<u8>>,
+) -> Result<Reply, Refusal>
+    ensures submits { Submits front.old (precert issuer_key_hash tbs.items (map (λ c. c.items) chain.items)) (answered result) front.new }
+    ensures same { SameIntake front.old.intake front.new.intake }
+    ensures sight { front.new.sight ≡ front.old.sight }
+{
+    let submission = Submission::precert(issuer_key_hash, tbs, chain)?;
+    send(front, submission)
 }
 
 // Asks the published log.
@@ -72,6 +97,11 @@ fn do_task(alloc: Global, front: &mut Front, task: FrontTask, turns: u64) -> Res
 {
     match task {
         FrontTask::Submit(chain) => submit_chain(front, chain),
+        FrontTask::SubmitPrecert {
+            issuer_key_hash,
+            tbs,
+            chain,
+        } => submit_precert(front, issuer_key_hash, tbs, chain),
         FrontTask::AwaitSize(size) => await_size(alloc, front, size, turns),
         FrontTask::Ask(query) => ask(alloc, front, &query),
     }
