@@ -1,6 +1,7 @@
 //! Submissions to the log, the bytes of leaves and chains, and the refusals.
 //!
-//! - `Submission` is what is submitted: a chain of certificates whose lengths are in range. `Item` is one that was accepted.
+//! - `Submission` is what is submitted: a chain of certificates whose lengths are in range, or that of a precertificate with the hash of
+//!   its issuer's key and its TBSCertificate. `Item` is one that was accepted.
 //! - `identity`, `leaf_input` and `extra_data` write its bytes (RFC 6962 sections 3.1, 3.4 and 4.6), numbers by `byteorder`.
 //!   `same_identity` compares two submissions by their identities, and writes none.
 //! - `decode_leaf`, `decode_chain` and `decode_pre_chain` read a leaf of either entry type, a chain, and a precertificate with its
@@ -9,7 +10,8 @@
 //! - `Refusal` has every reason for which a call of the log is refused.
 //! - The functions of [`laws`] do nothing: their contracts are laws of the formats.
 //!
-//! What the bytes are stands in `specs`: `Bytes` (numbers and vectors), `Leaf` (leaves and chains), `Submitted`, `Faults`, `Items`, `Laws`.
+//! What the bytes are stands in `specs`: `Bytes` (numbers and vectors), `Leaf` (leaves and chains), `Submitted`, `Hashed`, `Faults`,
+//! `Items`, `Laws`.
 #![tactic(auto)]
 
 mod fault;

@@ -1,10 +1,11 @@
 //! Precertificates, written out by hand from RFC 6962, sections 3.1, 3.2, 3.4 and 4.6; the root is of Python's hashlib.
 
 use crate::settled_log::{asked, opened, publish, record, settle, settle_submission};
+use crate::submissions::chain;
 use ct_codec::laws::identities_are_entries;
 use ct_codec::{
-    LeafEntry, Refusal, Submission, decode_leaf, decode_pre_chain, extra_data, identity, leaf_input,
-    leaf_parts, same_identity,
+    LeafEntry, Refusal, Submission, decode_leaf, decode_pre_chain, extra_data, identity,
+    leaf_input, leaf_parts, same_identity,
 };
 use ct_core::{Core, Query, Reply, Settled};
 use std::test::*;
@@ -58,7 +59,10 @@ fn precertificates_written(rt: HostRuntime) -> Result<(), Fail> {
     for (certificates, extra) in rows {
         let one = precert(&rt, KEY_HASH, &[A], certificates)?.copy(rt.alloc())?;
         assert_eq!(rt; identity(rt.alloc(), &one)?.as_slice(), IDENTITY.as_slice());
-        assert_eq!(rt; leaf_input(rt.alloc(), &one, 1)?.as_slice(), LEAF.as_slice());
+        assert_eq!(rt;
+            leaf_input(rt.alloc(), &one, 1)?.as_slice(),
+            LEAF.as_slice()
+        );
         assert_eq!(rt; extra_data(rt.alloc(), &one)?.as_slice(), extra);
     }
     Ok(())
@@ -83,20 +87,20 @@ fn what_is_signed_of_a_precertificate(rt: HostRuntime) -> Result<(), Fail> {
 
 #[test]
 fn refusals_of_precertificates(rt: HostRuntime) -> Result<(), Fail> {
-    let long = vec![in rt.alloc(); A; 0x100_0000]?;
-    let most = &long[..0xff_ffff];
-    let rows: [(&[u8], &[&[u8]], Option<Refusal>); 8] = [
-        (&[], &[], Some(Refusal::EmptyChain)),
-        (&[], &[&[B]], Some(Refusal::EmptyCertificate)),
-        (&long, &[&[]], Some(Refusal::CertificateTooLong)),
-        (&[A], &[&[]], Some(Refusal::EmptyCertificate)),
-        (&[A], &[&[B], &long], Some(Refusal::CertificateTooLong)),
-        (&[A], &[&[B], most], Some(Refusal::ChainTooLong)),
-        (most, &[most], None),
-        (&[A], &[&[B], &long[..0xff_fffc]], None),
+    let rows: [(usize, &[usize], Option<Refusal>); 8] = [
+        (0, &[], Some(Refusal::EmptyChain)),
+        (0, &[1], Some(Refusal::EmptyCertificate)),
+        (16777216, &[0], Some(Refusal::CertificateTooLong)),
+        (1, &[0], Some(Refusal::EmptyCertificate)),
+        (1, &[1, 16777216], Some(Refusal::CertificateTooLong)),
+        (1, &[1, 16777213], Some(Refusal::ChainTooLong)),
+        (16777215, &[16777215, 16777212], None),
+        (1, &[1], None),
     ];
-    for (tbs, certificates, refusal) in rows {
-        assert_eq!(rt; precert(&rt, KEY_HASH, tbs, certificates).err(), refusal);
+    for (size, sizes, refusal) in rows {
+        let tbs = vec![in rt.alloc(); A; size]?;
+        let submission = Submission::precert(KEY_HASH, tbs, chain(&rt, sizes)?);
+        assert_eq!(rt; submission.err(), refusal);
     }
     Ok(())
 }
@@ -128,10 +132,22 @@ fn extra_data_of_the_first(rt: &HostRuntime, core: &Core) -> Result<Vec<u8>, Fai
 #[test]
 fn a_precertificate_beside_certificates(rt: HostRuntime) -> Result<(), Fail> {
     let mut core = opened(&rt, 0)?;
-    assert_eq!(rt; settled(&rt, &mut core, 0, KEY_HASH, &[&[B]]), record(0, 0, 0, true));
-    assert_eq!(rt; settled(&rt, &mut core, 1, KEY_HASH, &[&[A]]), record(0, 1, 0, false));
-    assert_eq!(rt; settle(&rt, &mut core, (0, 2), &[A], 1), record(0, 2, 1, true));
-    assert_eq!(rt; settled(&rt, &mut core, 3, [0x22; 32], &[&[B]]), record(0, 3, 2, true));
+    assert_eq!(rt;
+        settled(&rt, &mut core, 0, KEY_HASH, &[&[B]]),
+        record(0, 0, 0, true)
+    );
+    assert_eq!(rt;
+        settled(&rt, &mut core, 1, KEY_HASH, &[&[A]]),
+        record(0, 1, 0, false)
+    );
+    assert_eq!(rt;
+        settle(&rt, &mut core, (0, 2), &[A], 1),
+        record(0, 2, 1, true)
+    );
+    assert_eq!(rt;
+        settled(&rt, &mut core, 3, [0x22; 32], &[&[B]]),
+        record(0, 3, 2, true)
+    );
     assert!(rt; publish(&rt, &mut core, 2)?.root == ROOT);
     let extra = extra_data_of_the_first(&rt, &core)?;
     let (precertificate, others) = decode_pre_chain(rt.alloc(), &extra)?;
