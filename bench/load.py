@@ -3,7 +3,8 @@
 
     load.py [PROGRAM] [--runs N] [--fronts N] [--lines N] [--seed S]
 
-Each front has so many lines, nine in ten of them submissions of some 500 certificates, the others questions for tree heads and receipts.
+Each front has so many lines, nine in ten of them submissions of some 250 certificates and 500 precertificates, the others questions for
+tree heads and receipts.
 The operator settles a random number of submissions, in small batches of some fronts by turns, publishes now and then, shuts the log
 twice and publishes once more. Nothing orders the fronts' lines and the shutdown, so it falls where the threads have come to: before all
 submissions, behind all, or in the middle. check.py judges the tickets, the order of the settlement and of the entries, the receipts, and each
@@ -27,7 +28,9 @@ from check import Wrong, checked  # noqa: E402
 
 RING = 4096
 OPEN_AT, CLOSE_AT = 1000, 1_000_000_000
-CERTIFICATES = 500
+CERTIFICATES = 250
+KEY_HASHES = ["A" * 43 + "=", "E" * 43 + "="]
+SUBMISSION = '"op":"add-'
 LONGEST_RUN = 120
 
 
@@ -41,8 +44,11 @@ def certificate(number):
 
 def front_line(source, front, lines):
     kind = source.random()
+    chain = [certificate(source.randrange(CERTIFICATES)) for _ in range(source.choice([1, 1, 2]))]
+    if kind < 0.45:
+        return line_of(front, "add-chain", chain=chain)
     if kind < 0.9:
-        return line_of(front, "add-chain", chain=[certificate(source.randrange(CERTIFICATES)) for _ in range(source.choice([1, 1, 2]))])
+        return line_of(front, "add-pre-chain", issuer_key_hash=source.choice(KEY_HASHES), tbs=certificate(source.randrange(CERTIFICATES)), chain=chain)
     if kind < 0.95:
         return line_of(front, "get-sth")
     return line_of(front, "receipt", ticket=source.randrange(lines))
@@ -69,8 +75,8 @@ def operator_lines(source, submissions):
 def input_of(seed, fronts, lines):
     source = random.Random(seed)
     texts = [[front_line(source, front, lines * fronts) for _ in range(lines)] for front in range(fronts)]
-    operator = list(operator_lines(source, [sum('"add-chain"' in line for line in text) for text in texts]))
-    pages = [line_of("frozen", "get-entries", start=start, end=start + 255) for start in range(0, CERTIFICATES, 256)]
+    operator = list(operator_lines(source, [sum(SUBMISSION in line for line in text) for text in texts]))
+    pages = [line_of("frozen", "get-entries", start=start, end=start + 255) for start in range(0, 3 * CERTIFICATES, 256)]
     receipts = [line_of("frozen", "receipt", ticket=source.randrange(lines * fronts)) for _ in range(200)]
     return "\n".join([*operator, *sum(texts, []), line_of("frozen", "get-sth"), *pages, *receipts]) + "\n"
 
@@ -93,7 +99,7 @@ def judge(program, seed, fronts, lines):
             raise Wrong(f"status {done.returncode} with {done.stderr[:200]!r} on standard error")
         checked(fronts, given, written)
         accepted, shut = told(written)
-        if accepted + shut != given.count('"add-chain"'):
+        if accepted + shut != given.count(SUBMISSION):
             raise Wrong("a submission was told neither a ticket nor the shutdown")
     except (Wrong, KeyError, IndexError, ValueError) as fault:
         kept = pathlib.Path(tempfile.mkdtemp(prefix=f"load-{seed}-"))

@@ -21,7 +21,7 @@ PIECES = [
     *[b"\xff", b"\xc0\x80", b"\xc3", b"\xe2\x82", b"\xed\xa0\x80", b"\xed\xbf\xbf", b"\xf4\x90\x80\x80", b"\xf8\x88\x80\x80\x80", b"\x80", b"\xe0\x80\xaf"],
 ]
 BLANKS = [b" ", b"\t", b"\r", b"  \t\r ", b"\n", b"\x0b", b"\x0c", b"\x00", b"\xc2\xa0", b"\xe2\x80\xa8", b"\xef\xbb\xbf", b"/**/", b"#"]
-KEYS = [b"who", b"op", b"chain", b"tree_size", b"now", b"from", b"count", b"hash", b"ticket", b"start", b"leaf_input", b"ignored", b"", rb"\u0077ho"]
+KEYS = [b"who", b"op", b"chain", b"tbs", b"issuer_key_hash", b"tree_size", b"now", b"from", b"count", b"hash", b"ticket", b"start", b"leaf_input", b"ignored", b"", rb"\u0077ho"]
 TOKEN = re.compile(rb'"(?:[^"\\]|\\.)*"|-?\d+|[][{}:,]|\w+', re.DOTALL)
 
 

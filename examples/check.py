@@ -16,6 +16,8 @@ import sys
 
 import merkle
 
+X509_ENTRY, PRECERT_ENTRY = b"\x00\x00", b"\x00\x01"
+
 
 def bytes_of(text):
     return base64.b64decode(text, validate=True)
@@ -52,7 +54,7 @@ class Checker:
 
     def __init__(self, pairs):
         self.pairs = pairs
-        self.submissions = [(request, reply["ticket"]) for request, reply in self.replies_to("add-chain")]
+        self.submissions = [(request, reply["ticket"]) for request, reply in self.replies_to("add-chain", "add-pre-chain")]
         self.heads = [reply["tree_size"] for _, reply in self.replies_to("publish")]
         self.entries = []
         for request, reply in self.replies_to("get-entries"):
@@ -62,9 +64,9 @@ class Checker:
         self.final = self.replies_to("get-sth")[-1][1]
         self.indexes = {}  # from ticket to index, once the order is known
 
-    def replies_to(self, op):
-        """The requests of this op that weren't refused, with their replies."""
-        return [(request, reply) for request, reply in self.pairs if request["op"] == op and "error" not in reply]
+    def replies_to(self, *ops):
+        """The requests of these ops that weren't refused, with their replies."""
+        return [(request, reply) for request, reply in self.pairs if request["op"] in ops and "error" not in reply]
 
     @functools.lru_cache(maxsize=None)
     def root_at(self, size):
@@ -81,23 +83,24 @@ class Checker:
         fronts = len({request["who"] for request, _ in self.submissions})
         return f"{len(numbers)} submissions of {fronts} fronts: the tickets are 0 to {len(numbers) - 1}, each once, and rise at each front"
 
-    def certificate_at(self, index):
-        return self.leaves[index][15:-2]
+    def entry_at(self, index):
+        """The entry type and the signed entry of a leaf."""
+        return self.leaves[index][10:-2]
 
     def settlement_order(self):
         """Settles anew what the operator's replies say was settled, and then the rest front by front."""
         waiting = collections.defaultdict(collections.deque)
         for request, ticket in self.submissions:
-            waiting[request["who"]].append((ticket, bytes_of(request["chain"][0])))
+            waiting[request["who"]].append((ticket, entry_of(request)))
         entries, firsts = [], {}
 
         def settle(front, count, now):
             for _ in range(count):
-                ticket, certificate = waiting[front].popleft()
-                if certificate not in firsts:
-                    firsts[certificate] = len(entries)
-                    entries.append(leaf_of(certificate, now))
-                self.indexes[ticket] = firsts[certificate]
+                ticket, entry = waiting[front].popleft()
+                if entry not in firsts:
+                    firsts[entry] = len(entries)
+                    entries.append(bytes(2) + now.to_bytes(8, "big") + entry + bytes(2))
+                self.indexes[ticket] = firsts[entry]
 
         for request, reply in self.pairs:
             claim(reply.get("error") != "late", "a line waited in vain")
@@ -111,15 +114,15 @@ class Checker:
         return f"{len(self.indexes)} settlements give these {len(entries)} entries, in their order and with their timestamps"
 
     def entries_are_submissions(self):
-        submitted = [bytes_of(request["chain"][0]) for request, _ in self.submissions]
-        logged = [self.certificate_at(index) for index in range(len(self.leaves))]
+        submitted = [entry_of(request) for request, _ in self.submissions]
+        logged = [self.entry_at(index) for index in range(len(self.leaves))]
         claim(len(set(logged)) == len(logged), "a certificate has two leaves")
         claim(set(logged) == set(submitted), "the leaves aren't those of the submitted certificates")
-        chains = {(bytes_of(request["chain"][0]), chain_bytes(request["chain"])) for request, _ in self.submissions}
+        chains = {(entry_of(request), extra_data_of(request)) for request, _ in self.submissions}
         for index, entry in enumerate(self.entries):
-            claim((self.certificate_at(index), bytes_of(entry["extra_data"])) in chains, f"entry {index} has another chain")
-        repeats = len(submitted) - len(logged)
-        return f"{len(logged)} entries: each submitted certificate has one leaf; {repeats} submissions were repeats"
+            claim((self.entry_at(index), bytes_of(entry["extra_data"])) in chains, f"entry {index} has another chain")
+        repeats, precerts = len(submitted) - len(logged), sum(entry.startswith(PRECERT_ENTRY) for entry in logged)
+        return f"{len(logged)} entries, {precerts} of precertificates: each submitted one has one leaf; {repeats} submissions were repeats"
 
     def tree_heads(self):
         heads = [reply for _, reply in self.replies_to("get-sth")]
@@ -159,12 +162,12 @@ class Checker:
         return f"{len(asked)} consistency proofs verify: {'; '.join(said)}"
 
     def receipts(self):
-        certificates = {ticket: bytes_of(request["chain"][0]) for request, ticket in self.submissions}
+        entries = {ticket: entry_of(request) for request, ticket in self.submissions}
         asked = self.replies_to("receipt")
         for request, reply in asked:
             index = reply["leaf_index"]
             claim(index == self.indexes[request["ticket"]], "a receipt names another index")
-            claim(certificates[request["ticket"]] == self.certificate_at(index), "a receipt names another entry")
+            claim(entries[request["ticket"]] == self.entry_at(index), "a receipt names another entry")
             claim(reply["timestamp"] == int.from_bytes(self.leaves[index][2:10], "big"), "a receipt has another timestamp")
         return f"{len(asked)} receipts agree with the entries and with what the tickets were given for"
 
@@ -183,15 +186,25 @@ class Checker:
         return f"{len(names)} refusals: {', '.join(sorted(names))}"
 
 
-def leaf_of(certificate, timestamp):
-    """The MerkleTreeLeaf of a certificate (RFC 6962, section 3.4)."""
-    return bytes(2) + timestamp.to_bytes(8, "big") + bytes(2) + len(certificate).to_bytes(3, "big") + certificate + bytes(2)
+def vector(value):
+    return len(value).to_bytes(3, "big") + value
 
 
-def chain_bytes(chain):
-    """The certificates after the first, as extra_data has them (RFC 6962, section 4.6)."""
-    issuers = b"".join(len(issuer).to_bytes(3, "big") + issuer for issuer in all_bytes(chain[1:]))
-    return len(issuers).to_bytes(3, "big") + issuers
+def is_precert(request):
+    return request["op"] == "add-pre-chain"
+
+
+def entry_of(request):
+    """The entry type and the signed entry of a submission (RFC 6962, section 3.1)."""
+    if is_precert(request):
+        return PRECERT_ENTRY + bytes_of(request["issuer_key_hash"]) + vector(bytes_of(request["tbs"]))
+    return X509_ENTRY + vector(bytes_of(request["chain"][0]))
+
+
+def extra_data_of(request):
+    """The certificates after the first as a chain, and a precertificate in front of it (section 4.6)."""
+    first, *issuers = all_bytes(request["chain"])
+    return (vector(first) if is_precert(request) else b"") + vector(b"".join(map(vector, issuers)))
 
 
 def checked(fronts, given, written):

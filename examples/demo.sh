@@ -71,7 +71,7 @@ lines_of() {
 echo "One front: $program --fronts 1 --ring $ring --open-at $open_at --close-at $close_at < examples/real-chains.jsonl"
 run 1 real-chains
 compare 1 real-chains
-echo "$(grep -c '"add-chain"' examples/real-chains.jsonl) chains, some twice, one empty; settled, shut down, and closed. The tree head:"
+echo "$(grep -c '"add-chain"' examples/real-chains.jsonl) chains of certificates and $(grep -c '"add-pre-chain"' examples/real-chains.jsonl) of precertificates, some twice, two empty; settled, shut down, and closed. The tree head:"
 tail -n 1 "$work/real-chains"
 echo "Each of the $(grep -c . "$work/real-chains") replies is the expected one."
 recompute 1 real-chains

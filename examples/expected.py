@@ -41,16 +41,31 @@ class WaitsInVain(Exception):
     """A wait that no line ends."""
 
 
-def check_chain(chain):
+def check_submission(precert, chain):
+    """Refuses what stands against a chain; of a precertificate first what stands against the TBSCertificate."""
     if not chain:
         raise Refused("empty-chain")
-    for certificate in chain:
+    for certificate in [precert[1], *chain] if precert else chain:
         if not certificate:
             raise Refused("empty-certificate")
         if len(certificate) >= LIMIT:
             raise Refused("certificate-too-long")
     if sum(3 + len(issuer) for issuer in chain[1:]) >= LIMIT:
         raise Refused("chain-too-long")
+
+
+def signed_entry(precert, chain):
+    """The entry type and the signed entry, by which submissions are told apart (RFC 6962, section 3.1)."""
+    if precert is None:
+        return b"\x00\x00" + vector(chain[0])
+    issuer_key_hash, tbs = precert
+    return b"\x00\x01" + issuer_key_hash + vector(tbs)
+
+
+def extra_data(precert, chain):
+    """The chain, and in front of it the precertificate where it is one (section 4.6)."""
+    issuers = vector(b"".join(map(vector, chain[1:])))
+    return issuers if precert is None else vector(chain[0]) + issuers
 
 
 class Log:
@@ -69,13 +84,14 @@ class Log:
     def leaves(self, size):
         return [leaf for _, leaf, _ in self.entries[:size]]
 
-    def submit(self, front, chain):
-        check_chain(chain)
+    def submit(self, front, chain, precert=None):
+        """Submits a chain. Of a precertificate, the first of the chain, there is the issuer's key hash and the TBSCertificate."""
+        check_submission(precert, chain)
         if self.shut:
             raise Refused("shutdown")
         if len(self.rings[front]) == self.ring:
             raise Refused("full")
-        self.rings[front].append((self.accepted, chain))
+        self.rings[front].append((self.accepted, precert, chain))
         self.accepted += 1
         return {"ticket": self.accepted - 1}
 
@@ -88,12 +104,12 @@ class Log:
 
     def settle(self, front, count, now):
         self.check_clock(now)
-        for ticket, chain in self.rings[front][:count]:
-            identity = b"\x00\x00" + vector(chain[0])
+        for ticket, precert, chain in self.rings[front][:count]:
+            identity = signed_entry(precert, chain)
             if identity not in self.indexes:
                 self.indexes[identity] = len(self.entries)
                 leaf = b"\x00\x00" + now.to_bytes(8, "big") + identity + b"\x00\x00"
-                self.entries.append((now, leaf, vector(b"".join(map(vector, chain[1:])))))
+                self.entries.append((now, leaf, extra_data(precert, chain)))
             self.settled[ticket] = self.indexes[identity]
         del self.rings[front][:count]
 
@@ -168,8 +184,10 @@ class Log:
 def do_front(log, front, request):
     """The reply to a line of a front; None where it has to wait."""
     op, keys = request
-    if op == "add-chain":
-        return log.submit(front, [base64.b64decode(text) for text in keys["chain"]])
+    if op in ("add-chain", "add-pre-chain"):
+        chain = [base64.b64decode(text) for text in keys["chain"]]
+        precert = tuple(base64.b64decode(keys[key]) for key in PRECERT) if op == "add-pre-chain" else None
+        return log.submit(front, chain, precert)
     if op == "await-size":
         return {"reached": keys["tree_size"]} if log.size() >= keys["tree_size"] else None
     return log.answer(op, keys)
@@ -239,7 +257,13 @@ AUDIT = {
     "tree_size": is_number,
     "audit_path": is_list_of(is_hash),
 }
-FRONT_OPS = {"add-chain": {"chain": is_list_of(is_bytes)}, "await-size": {"tree_size": is_number}, **QUERIES}
+PRECERT = {"issuer_key_hash": is_hash, "tbs": is_bytes}
+FRONT_OPS = {
+    "add-chain": {"chain": is_list_of(is_bytes)},
+    "add-pre-chain": {**PRECERT, "chain": is_list_of(is_bytes)},
+    "await-size": {"tree_size": is_number},
+    **QUERIES,
+}
 OTHER_OPS = {
     "operator": {
         "sequence": {"from": is_number, "count": is_number, "now": is_number},

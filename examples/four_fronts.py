@@ -1,5 +1,5 @@
 #!/usr/bin/env python3
-"""Writes four-fronts.jsonl from the chains of real-chains.jsonl: what four fronts, the operator and a reader ask.
+"""Writes four-fronts.jsonl from the submissions of real-chains.jsonl: what four fronts, the operator and a reader ask.
 
     four_fronts.py < real-chains.jsonl > four-fronts.jsonl
 
@@ -19,10 +19,12 @@ def text(value):
     return base64.b64encode(value).decode()
 
 
-def leaf(chain, timestamp):
-    certificate = base64.b64decode(chain[0])
-    size = len(certificate).to_bytes(3, "big")
-    return bytes(2) + timestamp.to_bytes(8, "big") + bytes(2) + size + certificate + bytes(2)
+def signed_entry(submission):
+    """The entry type and the signed entry of a submission's leaf (RFC 6962, section 3.1)."""
+    precert = "tbs" in submission
+    head = b"\x00\x01" + base64.b64decode(submission["issuer_key_hash"]) if precert else b"\x00\x00"
+    signed = base64.b64decode(submission["tbs"] if precert else submission["chain"][0])
+    return head + len(signed).to_bytes(3, "big") + signed
 
 
 def say(who, op, **keys):
@@ -36,25 +38,32 @@ class Script:
         self.waiting = [[] for _ in range(4)]
         self.leaves, self.known = [], set()
 
-    def submit(self, front, *chains):
-        for chain in chains:
-            say(front, "add-chain", chain=chain)
-            self.waiting[front].append(chain)
+    def submit(self, front, *submissions):
+        for submission in submissions:
+            say(front, "add-pre-chain" if "tbs" in submission else "add-chain", **submission)
+            self.waiting[front].append(submission)
 
     def sequence(self, front, now):
-        chains, self.waiting[front] = self.waiting[front], []
-        for chain in chains:
-            if chain[0] not in self.known:
-                self.known.add(chain[0])
-                self.leaves.append(leaf(chain, now))
-        say("operator", "sequence", **{"from": front}, count=len(chains), now=now)
+        submissions, self.waiting[front] = self.waiting[front], []
+        for entry in map(signed_entry, submissions):
+            if entry not in self.known:
+                self.known.add(entry)
+                self.leaves.append(bytes(2) + now.to_bytes(8, "big") + entry + bytes(2))
+        say("operator", "sequence", **{"from": front}, count=len(submissions), now=now)
+
+
+def submissions_of(lines):
+    """The certificates' submissions and the precertificates', without those of an empty chain."""
+    requests = [json.loads(line) for line in lines if '"op":"add-' in line]
+    kept = [{key: request[key] for key in request if key not in ("who", "op")} for request in requests if request["chain"]]
+    return [kind for kind in kept if "tbs" not in kind], [kind for kind in kept if "tbs" in kind]
 
 
 def main():
-    requests = [json.loads(line) for line in sys.stdin if '"add-chain"' in line]
-    chains = [request["chain"] for request in requests if request["chain"]]
+    chains, (precert, precert_again) = submissions_of(sys.stdin)
     signers, roots = chains[:5], chains[5:9] + chains[11:20]
     isrg_x1, isrg_x2 = roots[:2]
+    website = chains[-1]
     script = Script()
 
     # front 0 begins alone
@@ -66,8 +75,8 @@ def main():
     for front in range(4):
         say(front, "await-size", tree_size=3)
     script.submit(0, *signers[3:], isrg_x1)
-    script.submit(1, isrg_x1, isrg_x2, *roots[2:5])
-    script.submit(2, *roots[5:9], isrg_x2)
+    script.submit(1, isrg_x1, isrg_x2, *roots[2:5], precert)
+    script.submit(2, *roots[5:9], isrg_x2, precert_again)
     script.submit(3, *roots[9:12], chains[10])
     say(3, "add-chain", chain=[])
     for front in range(4):
@@ -75,10 +84,10 @@ def main():
     say("operator", "publish", now=OPEN_AT + 7000)
     middle = len(script.leaves)
 
-    # one more, and the shutdown
+    # two more, and the shutdown
     for front in range(4):
         say(front, "await-size", tree_size=middle)
-    script.submit(2, roots[12])
+    script.submit(2, roots[12], website)
     script.sequence(2, OPEN_AT + 8000)
     say("operator", "shutdown")
     say("operator", "publish", now=OPEN_AT + 9000)
@@ -93,7 +102,7 @@ def main():
     say(1, "get-proof-by-hash", hash=text(merkle.leaf_hash(script.leaves[5])), tree_size=middle)
     say(2, "get-entry-and-proof", leaf_index=2, tree_size=3)
     say(3, "get-sth-consistency", first=5, second=middle)
-    say(3, "add-chain", chain=signers[0])
+    say(3, "add-chain", **signers[0])
     print("this line is no request")
 
     # what the frozen log is asked
@@ -102,9 +111,9 @@ def main():
     say("frozen", "get-sth-consistency", first=middle, second=size)
     say("frozen", "receipt", ticket=2)
     say("frozen", "receipt", ticket=1000)
-    for index in (9, 10):
-        audited = {"leaf_input": text(script.leaves[9]), "leaf_index": index, "tree_size": size}
-        say("frozen", "audit", **audited, audit_path=[text(hash) for hash in merkle.path(9, script.leaves)])
+    for index in (10, 11):  # the precertificate's leaf
+        audited = {"leaf_input": text(script.leaves[10]), "leaf_index": index, "tree_size": size}
+        say("frozen", "audit", **audited, audit_path=[text(hash) for hash in merkle.path(10, script.leaves)])
 
 
 main()

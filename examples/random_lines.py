@@ -30,6 +30,8 @@ BAD_LINES = [
     b'{"who":"operator","op":"sequence","from":99,"count":0,"now":0}',
     b'{"who":0,"op":"add-chain","chain":["QR=="]}',
     b'{"who":0,"op":"add-chain","chain":"QQ=="}',
+    b'{"who":0,"op":"add-pre-chain","issuer_key_hash":"QQ==","tbs":"QQ==","chain":["QQ=="]}',
+    b'{"who":0,"op":"add-pre-chain","tbs":"QQ==","chain":["QQ=="]}',
     b'{"who":"front","op":"get-sth"}',
     b'{"who":null,"op":"get-sth"}',
     b'{"who":0,"op":["get-sth"]}',
@@ -66,11 +68,22 @@ class Script:
             sizes[-1] = 0
         return [bytes([self.random.randrange(40)]) * size for size in sizes]
 
+    def precert(self):
+        """An issuer's key hash, one of three, and a TBSCertificate, seldom empty and often one that a certificate is as well."""
+        size = 0 if self.random.random() < 0.05 else self.random.choice([1, 1, 1, 2, 100])
+        return bytes([self.random.randrange(3)]) * 32, bytes([self.random.randrange(40)]) * size
+
     def submit(self, front):
-        chain = self.chain()
-        self.say(front, "add-chain", chain=[base64.b64encode(certificate).decode() for certificate in chain])
+        chain, precert = self.chain(), None
+        texts = [base64.b64encode(certificate).decode() for certificate in chain]
+        if self.random.random() < 0.5:
+            self.say(front, "add-chain", chain=texts)
+        else:
+            precert = self.precert()
+            issuer_key_hash, tbs = (base64.b64encode(part).decode() for part in precert)
+            self.say(front, "add-pre-chain", issuer_key_hash=issuer_key_hash, tbs=tbs, chain=texts)
         try:
-            self.log.submit(front, chain)
+            self.log.submit(front, chain, precert)
         except Refused:
             pass
 

@@ -29,6 +29,12 @@ def leaf(timestamp, certificate):
     return bytes(2) + timestamp.to_bytes(8, "big") + bytes(2) + size + certificate + bytes(2)
 
 
+def precert_leaf(timestamp, issuer_key_hash, tbs):
+    """The leaf input of a precertificate."""
+    size = len(tbs).to_bytes(3, "big")
+    return bytes(2) + timestamp.to_bytes(8, "big") + b"\0\1" + issuer_key_hash + size + tbs + bytes(2)
+
+
 def leaf_hash(timestamp, certificate):
     return sha256(b"\0" + leaf(timestamp, certificate))
 
@@ -38,6 +44,8 @@ A, B = text(b"A"), text(b"B")
 LEAF_A = text(leaf(1, b"A"))
 ADD_A = '{"who":0,"op":"add-chain","chain":["%s"]}\n' % A
 ADD_B = '{"who":0,"op":"add-chain","chain":["%s"]}\n' % B
+ADD_PRE = '{"who":0,"op":"add-pre-chain","issuer_key_hash":"%s","tbs":"%s","chain":[%s]}\n'
+ZEROS, ONES = text(bytes(32)), text(b"\1" * 32)
 OPERATOR = '{"who":"operator","op":%s}\n'
 FROZEN = '{"who":"frozen","op":%s}\n'
 SEQUENCE = OPERATOR % '"sequence","from":%d,"count":%d,"now":%d'
@@ -84,6 +92,18 @@ ROWS = [
         ticket(0) + ticket(1) + '{"reached":1}\n' + error("shutdown") * 2
         + '{"settled":2}\n{"accepted":2}\n{"timestamp":4,"tree_size":1}\n' + error("shutdown")
         + '{"extensions":"","leaf_index":0,"sct_version":0,"timestamp":3}\n' + error("not-yet"),
+        0,
+    ),
+    (
+        "precertificates",
+        "--fronts 1 --ring 8 --close-at 7",
+        ADD_PRE % (ZEROS, A, '"Qg=="') + ADD_PRE % (ZEROS, A, '"Qw==","QQ=="') + ADD_PRE % (ONES, A, '"Qg=="') + ADD_A
+        + ADD_PRE % (ZEROS, "", "") + ADD_PRE % (ZEROS, "", '"Qg=="') + ADD_PRE % (ZEROS, A, '""') + ADD_PRE % ("QQ==", A, '"Qg=="')
+        + FROZEN % '"get-entries","start":0,"end":9',
+        ticket(0) + ticket(1) + ticket(2) + ticket(3) + error("empty-chain") + error("empty-certificate") * 2 + BAD
+        + '{"entries":[{"extra_data":"AAABQgAAAA==","leaf_input":"%s"},{"extra_data":"AAABQgAAAA==","leaf_input":"%s"},'
+        % (text(precert_leaf(7, bytes(32), b"A")), text(precert_leaf(7, b"\1" * 32, b"A")))
+        + '{"extra_data":"AAAA","leaf_input":"%s"}]}\n' % text(leaf(7, b"A")),
         0,
     ),
     (

@@ -65,6 +65,12 @@ pub fn front_replies(mut front: Front, requests: Vec<FrontRequest>) -> Vec<u8> {
             FrontRequest::AddChain(chain) => {
                 Submission::x509(chain).and_then(|submission| front.submit(submission))
             }
+            FrontRequest::AddPreChain {
+                issuer_key_hash,
+                tbs,
+                chain,
+            } => Submission::precert(issuer_key_hash, tbs, chain)
+                .and_then(|submission| front.submit(submission)),
             FrontRequest::AwaitSize(size) => front.await_size(size),
             FrontRequest::Ask(query) => front.ask(&query),
         };

@@ -19,6 +19,11 @@ pub enum Query {
 
 pub enum FrontRequest {
     AddChain(Vec<Vec<u8>>),
+    AddPreChain {
+        issuer_key_hash: Hash,
+        tbs: Vec<u8>,
+        chain: Vec<Vec<u8>>,
+    },
     AwaitSize(u64),
     Ask(Query),
 }
@@ -68,6 +73,11 @@ pub fn read_line(line: &[u8]) -> Option<Request> {
 fn front_request(op: &str, value: &Value) -> Option<FrontRequest> {
     match op {
         "add-chain" => Some(FrontRequest::AddChain(bytes_list(value, "chain")?)),
+        "add-pre-chain" => Some(FrontRequest::AddPreChain {
+            issuer_key_hash: hash(value.get("issuer_key_hash")?)?,
+            tbs: bytes(value.get("tbs")?)?,
+            chain: bytes_list(value, "chain")?,
+        }),
         "await-size" => Some(FrontRequest::AwaitSize(number(value, "tree_size")?)),
         _ => Some(FrontRequest::Ask(query(op, value)?)),
     }

@@ -14,9 +14,10 @@ pub data Party : Type 0 where
   operator : Party
   frozen : Party
 
--- what a front asks
+-- what a front asks; a precertificate is submitted with its issuer's key hash, its TBSCertificate and its chain
 pub data FrontAsked : Type 0 where
   add_chain : List (List ℕ) → FrontAsked
+  add_pre_chain : List ℕ → List ℕ → List (List ℕ) → FrontAsked
   await_size : ℕ → FrontAsked
   front_query : Query → FrontAsked
 
@@ -84,16 +85,28 @@ query_asked op d =
     else (if bytes_eq op (codes "get-entry-and-proof") then entry_and_proof_asked d
     else (if bytes_eq op (codes "receipt") then receipt_asked d else None)))))
 
+-- what f gives for three values, where each is there
+abbrev pub with_three : {A B C D : Type 0} → (A → B → C → D) → Option A → Option B → Option C → Option D
+with_three f a b c = option_and_then (λ x. option_and_then (λ y. option_map (λ z. f x y z) c) b) a
+
+-- the certificates under `chain`, as both submissions have them
+abbrev pub chain_at : Data → Option (List (List ℕ))
+chain_at d = bytes_list_at (codes "chain") d
+
+-- the ops add-chain and add-pre-chain
+abbrev pub chain_asked : Data → Option FrontAsked
+chain_asked d = option_map add_chain (chain_at d)
+
+abbrev pub pre_chain_asked : Data → Option FrontAsked
+pre_chain_asked d = with_three add_pre_chain (hash_at (codes "issuer_key_hash") d) (bytes_at (codes "tbs") d) (chain_at d)
+
 -- what a front asks by an op
 abbrev pub front_asks : List ℕ → Data → Option FrontAsked
 front_asks op d =
-    if bytes_eq op (codes "add-chain") then option_map add_chain (bytes_list_at (codes "chain") d)
+    if bytes_eq op (codes "add-chain") then chain_asked d
+    else (if bytes_eq op (codes "add-pre-chain") then pre_chain_asked d
     else (if bytes_eq op (codes "await-size") then option_map await_size (number_at (codes "tree_size") d)
-    else option_map front_query (query_asked op d))
-
--- what f gives for three values, where each is there
-abbrev pub with_three : {A : Type 0} → (ℕ → ℕ → ℕ → A) → Option ℕ → Option ℕ → Option ℕ → Option A
-with_three f a b c = option_and_then (λ x. option_and_then (λ y. option_map (λ z. f x y z) c) b) a
+    else option_map front_query (query_asked op d)))
 
 -- the op sequence
 abbrev pub sequence_asked : Data → Option OperatorAsked

@@ -1,6 +1,6 @@
 -- The requests as the code has them.
 use Rattle.std.specs.Prelude.{map}
-use Rattle.ct_lines.specs.Asked.{Asked, by_front, by_operator, by_frozen, FrontAsked, add_chain, await_size, front_query, OperatorAsked, sequence, publish, shutdown, AuditAsked, audit, FrozenAsked, frozen_query, frozen_audit, Party, front, operator, frozen}
+use Rattle.ct_lines.specs.Asked.{Asked, by_front, by_operator, by_frozen, FrontAsked, add_chain, add_pre_chain, await_size, front_query, OperatorAsked, sequence, publish, shutdown, AuditAsked, audit, FrozenAsked, frozen_query, frozen_audit, Party, front, operator, frozen}
 use Rattle.ct_lines.specs.declared.reading.Party.{Party as CodeParty}
 use Rattle.ct_lines.specs.declared.reading.Party.TheVariants as party_case
 use Rattle.ct_lines.specs.declared.request.FrontRequest.{FrontRequest}
@@ -16,6 +16,7 @@ use Rattle.ct_lines.specs.declared.request.Request.TheVariants as request_case
 -- what a front's request asks
 abbrev pub front_asked : FrontRequest → FrontAsked
 front_asked (front_case.AddChain chain) = add_chain (map (λ c. c.items) chain.items)
+front_asked (front_case.AddPreChain hash tbs chain) = add_pre_chain hash tbs.items (map (λ c. c.items) chain.items)
 front_asked (front_case.AwaitSize n) = await_size n
 front_asked (front_case.Ask q) = front_query q
 

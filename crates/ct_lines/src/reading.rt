@@ -2,7 +2,7 @@
 
 ghost use Rattle.std.specs.Prelude.{◌≡◌, ◌⊎◌, ◌≤◌, length, IfOk, IfErr, IsErrOf, option_map};
 ghost use Rattle.serde_json.specs.View.{view};
-ghost use Rattle.ct_lines.specs.Asked.{Asked, IsRequest, asked_in, consistency_asked, proof_by_hash_asked, entries_asked, entry_and_proof_asked, receipt_asked, query_asked, sequence_asked, audit_asked, front_asks, operator_asks, frozen_asks, party_at};
+ghost use Rattle.ct_lines.specs.Asked.{Asked, IsRequest, asked_in, consistency_asked, proof_by_hash_asked, entries_asked, entry_and_proof_asked, receipt_asked, query_asked, chain_asked, pre_chain_asked, sequence_asked, audit_asked, front_asks, operator_asks, frozen_asks, party_at};
 ghost use Rattle.ct_lines.specs.Requests.{asked, front_asked, operator_asked, frozen_asked, audit_of, party};
 
 use crate::fields;
@@ -101,15 +101,43 @@ fn query(alloc: Global, op: &str, value: &Value) -> Result<Option<Query>, AllocE
     }
 }
 
+// The submission of a certificate.
+fn chain_request(alloc: Global, value: &Value) -> Result<Option<FrontRequest>, AllocError>
+    ensures { IfOk result (λ o. option_map front_asked o ≡ chain_asked (view value.now)) }
+{
+    match fields::bytes_list(alloc, value, "chain")? {
+        Some(chain) => Ok(Some(FrontRequest::AddChain { chain })),
+        None => Ok(None),
+    }
+}
+
+// The submission of a precertificate.
+fn pre_chain_request(alloc: Global, value: &Value) -> Result<Option<FrontRequest>, AllocError>
+    ensures { IfOk result (λ o. option_map front_asked o ≡ pre_chain_asked (view value.now)) }
+{
+    let Some(issuer_key_hash) = fields::hash(alloc, value, "issuer_key_hash")? else {
+        return Ok(None);
+    };
+    let Some(tbs) = fields::bytes(alloc, value, "tbs")? else {
+        return Ok(None);
+    };
+    let Some(chain) = fields::bytes_list(alloc, value, "chain")? else {
+        return Ok(None);
+    };
+    Ok(Some(FrontRequest::AddPreChain {
+        issuer_key_hash,
+        tbs,
+        chain,
+    }))
+}
+
 // What a front asks by an op.
 fn front_request(alloc: Global, op: &str, value: &Value) -> Result<Option<FrontRequest>, AllocError>
     ensures { IfOk result (λ o. option_map front_asked o ≡ front_asks op.now (view value.now)) }
 {
     match op {
-        "add-chain" => match fields::bytes_list(alloc, value, "chain")? {
-            Some(chain) => Ok(Some(FrontRequest::AddChain { chain })),
-            None => Ok(None),
-        },
+        "add-chain" => chain_request(alloc, value),
+        "add-pre-chain" => pre_chain_request(alloc, value),
         "await-size" => match fields::number(value, "tree_size") {
             Some(tree_size) => Ok(Some(FrontRequest::AwaitSize { tree_size })),
             None => Ok(None),

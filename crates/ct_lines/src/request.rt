@@ -17,9 +17,20 @@ pub enum Request {
 #[derive(Debug, Drop)]
 pub enum FrontRequest {
     /// To take in a certificate, by its chain in DER, the end entity first.
-    AddChain { chain: Vec<Vec<u8>> },
+    AddChain {
+        chain: Vec<Vec<u8>>,
+    },
+    /// To take in a precertificate (RFC 6962, section 3.1): the SHA-256 of the issuer's public key, the TBSCertificate in DER
+    /// without the poison extension, and the chain in DER, the precertificate first.
+    AddPreChain {
+        issuer_key_hash: [u8; 32],
+        tbs: Vec<u8>,
+        chain: Vec<Vec<u8>>,
+    },
     /// To wait until a tree head of at least this size is published.
-    AwaitSize { tree_size: u64 },
+    AwaitSize {
+        tree_size: u64,
+    },
     /// An answer of the published state.
     Ask(Query),
 }

@@ -1,6 +1,6 @@
 -- What a front does for its lines, and what it answers.
 use Rattle.std.specs.Prelude.{◌≡◌, ◌≤◌, ◌⊎◌, ℕ, List, map, Option, Some, None, true}
-use Rattle.ct_codec.specs.Submitted.{Submitted, x509, refusal_of}
+use Rattle.ct_codec.specs.Submitted.{Submitted, x509, precert, refusal_of}
 use Rattle.ct_codec.specs.declared.refusal.Refusal.{Refusal}
 use Rattle.ct_codec.specs.declared.refusal.Refusal.TheVariants.{Memory, Late, Closed}
 use Rattle.ct_core.specs.Settlement.{Log, Lawful}
@@ -15,7 +15,7 @@ use Rattle.ct_versions.specs.Sights.{Moves}
 use Rattle.ct_tree.specs.declared.head.Head.{Head}
 use Rattle.ctlog.specs.InTurn.{Serves}
 use Rattle.ctlog.specs.declared.task.FrontTask.{FrontTask}
-use Rattle.ctlog.specs.declared.task.FrontTask.TheVariants.{Submit, AwaitSize, Ask}
+use Rattle.ctlog.specs.declared.task.FrontTask.TheVariants.{Submit, SubmitPrecert, AwaitSize, Ask}
 
 -- a submission is accepted, and its ticket is the answer; or its refusal is, and nothing was accepted
 abbrev pub Sends : IntakeView → Submitted → Answer → IntakeView → Type 0
@@ -28,9 +28,9 @@ abbrev pub SendsUnless : Option Refusal → FrontView → Submitted → Answer �
 SendsUnless (Some e) a s r b = (r ≡ refused e) × (b ≡ a)
 SendsUnless None a s r b = Sends a.intake s r b.intake
 
--- a chain is submitted
-abbrev pub Submits : FrontView → List (List ℕ) → Answer → FrontView → Type 0
-Submits a chain r b = SendsUnless (refusal_of (x509 chain)) a (x509 chain) r b
+-- it is submitted: a certificate or a precertificate, with its chain
+abbrev pub Submits : FrontView → Submitted → Answer → FrontView → Type 0
+Submits a s r b = SendsUnless (refusal_of s) a s r b
 
 -- the front looked at the published log: it is the same, and what it had seen begins what it has seen now
 pub record Looks (a b : FrontView) : Type 0 where
@@ -51,7 +51,8 @@ Awaits p n _ = ⊥
 
 -- a front does a task, with this answer: to submit leaves what it has seen, and the state that it has seen is what it answers from
 abbrev pub FrontDoes : FrontView → FrontTask → Answer → FrontView → Type 0
-FrontDoes a (Submit chain) r b = Submits a (map (λ c. c.items) chain.items) r b × (b.sight ≡ a.sight)
+FrontDoes a (Submit chain) r b = Submits a (x509 (map (λ c. c.items) chain.items)) r b × (b.sight ≡ a.sight)
+FrontDoes a (SubmitPrecert hash tbs chain) r b = Submits a (precert hash tbs.items (map (λ c. c.items) chain.items)) r b × (b.sight ≡ a.sight)
 FrontDoes a (AwaitSize n) r b = Awaits b.sight.seen n r × Looks a b
 FrontDoes a (Ask q) r b = Shows b.sight.seen q r × Looks a b
 

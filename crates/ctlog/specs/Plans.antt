@@ -1,7 +1,7 @@
 -- The tasks and the plan as the code has them.
 use Rattle.std.specs.Prelude.{◌≡◌, ℕ, List, length, map, slice_get, Some, Vec}
 use Rattle.std.specs.Global.{Global}
-use Rattle.ct_lines.specs.Asked.{FrontAsked, add_chain, await_size, front_query}
+use Rattle.ct_lines.specs.Asked.{FrontAsked, add_chain, add_pre_chain, await_size, front_query}
 use Rattle.ctlog.specs.Tasks.{Task, for_front, for_operator, for_frozen, front_parts, operator_parts, frozen_lines}
 use Rattle.ctlog.specs.declared.task.FrontTask.{FrontTask}
 use Rattle.ctlog.specs.declared.task.FrontTask.TheVariants as front_case
@@ -12,6 +12,7 @@ use Rattle.ctlog.specs.declared.plan.Plan.{Plan}
 -- what a front's task asks of it
 abbrev pub task_asked : FrontTask → FrontAsked
 task_asked (front_case.Submit chain) = add_chain (map (λ c. c.items) chain.items)
+task_asked (front_case.SubmitPrecert hash tbs chain) = add_pre_chain hash tbs.items (map (λ c. c.items) chain.items)
 task_asked (front_case.AwaitSize n) = await_size n
 task_asked (front_case.Ask q) = front_query q
 

@@ -1,12 +1,13 @@
 //! The lines of a front, done in order.
 
 ghost use Rattle.std.specs.Prelude.{◌≡◌, ◌++◌, map, IfOk, IfErr, OnOk};
+ghost use Rattle.ct_codec.specs.Submitted.{x509, precert};
 ghost use Rattle.ct_core.specs.Replies.{Answer, a_head};
 ghost use Rattle.ct_core.specs.declared.query.Query.TheVariants.{GetSth};
 ghost use Rattle.ct_gate.specs.Ends.{SameIntake};
 ghost use Rattle.ct_lines.specs.ReplyText.{answered, reply_line};
 ghost use Rattle.ct_tree.specs.declared.head.Head.{Head};
-ghost use Rattle.ctlog.specs.FrontWork.{Submits, Looks, Shows, Awaits, FrontDoes, FrontGoesOn, FrontServes};
+ghost use Rattle.ctlog.specs.FrontWork.{Sends, Submits, Looks, Shows, Awaits, FrontDoes, FrontGoesOn, FrontServes};
 
 use crate::replying::push_reply;
 use crate::task::FrontTask;
@@ -18,13 +19,12 @@ use ct_tree::Memory;
 use std::alloc::Global;
 use std::sync::Wait;
 
-// Submits a chain, and rings where it is accepted.
-fn submit_chain(front: &mut Front, chain: Vec<Vec<u8>>, accepted: &Bell) -> Result<Reply, Refusal>
-    ensures submits { Submits front.old (map (λ c. c.items) chain.items) (answered result) front.new }
+// Sends a submission against which nothing stands, and rings where it is accepted.
+fn send(front: &mut Front, submission: Submission, accepted: &Bell) -> Result<Reply, Refusal>
+    ensures sends { Sends front.old.intake submission (answered result) front.new.intake }
     ensures same { SameIntake front.old.intake front.new.intake }
     ensures sight { front.new.sight ≡ front.old.sight }
 {
-    let submission = Submission::x509(chain)?;
     match front.submit(submission) {
         Ok(ticket) => {
             accepted.ring();
@@ -32,6 +32,32 @@ fn submit_chain(front: &mut Front, chain: Vec<Vec<u8>>, accepted: &Bell) -> Resu
         }
         Err((refusal, _)) => Err(refusal),
     }
+}
+
+// Submits a chain.
+fn submit_chain(front: &mut Front, chain: Vec<Vec<u8>>, accepted: &Bell) -> Result<Reply, Refusal>
+    ensures submits { Submits front.old (x509 (map (λ c. c.items) chain.items)) (answered result) front.new }
+    ensures same { SameIntake front.old.intake front.new.intake }
+    ensures sight { front.new.sight ≡ front.old.sight }
+{
+    let submission = Submission::x509(chain)?;
+    send(front, submission, accepted)
+}
+
+// Submits a precertificate.
+fn submit_precert(
+    front: &mut Front,
+    issuer_key_hash: [u8; 32],
+    tbs: Vec<u8>,
+    chain: Vec<Vec<u8>>,
+    accepted: &Bell,
+) -> Result<Reply, Refusal>
+    ensures submits { Submits front.old (precert issuer_key_hash tbs.items (map (λ c. c.items) chain.items)) (answered result) front.new }
+    ensures same { SameIntake front.old.intake front.new.intake }
+    ensures sight { front.new.sight ≡ front.old.sight }
+{
+    let submission = Submission::precert(issuer_key_hash, tbs, chain)?;
+    send(front, submission, accepted)
 }
 
 // Asks the published log.
@@ -92,6 +118,11 @@ fn do_task<R: Wait>(
 {
     match task {
         FrontTask::Submit(chain) => submit_chain(front, chain, &waiting.accepted),
+        FrontTask::SubmitPrecert {
+            issuer_key_hash,
+            tbs,
+            chain,
+        } => submit_precert(front, issuer_key_hash, tbs, chain, &waiting.accepted),
         FrontTask::AwaitSize(size) => await_size(rt, alloc, front, size, waiting),
         FrontTask::Ask(query) => ask(alloc, front, &query),
     }

@@ -49,6 +49,18 @@ fn front_request_task<'a>(fronts: u16, number: u64, request: FrontRequest) -> Ta
     let number = number as u16;
     match request {
         FrontRequest::AddChain { chain } => Task::Front(number, FrontTask::Submit(chain)),
+        FrontRequest::AddPreChain {
+            issuer_key_hash,
+            tbs,
+            chain,
+        } => Task::Front(
+            number,
+            FrontTask::SubmitPrecert {
+                issuer_key_hash,
+                tbs,
+                chain,
+            },
+        ),
         FrontRequest::AwaitSize { tree_size } => {
             Task::Front(number, FrontTask::AwaitSize(tree_size))
         }

@@ -105,6 +105,26 @@ fn chains_that_are_refused(rt: HostRuntime) {
     assert!(rt; writes(&rt, rt.alloc(), "4", input, output));
 }
 
+// The leaf is version and type, the moment 7 in eight bytes, 00 01, the key's hash, the TBSCertificate 41 behind its length in three bytes,
+// and 00 00; the precertificate 42 stands before an empty chain. A repeat has another chain.
+#[test]
+fn a_precertificate_submitted_twice(rt: HostRuntime) {
+    let input =
+        "{\"who\":0,\"op\":\"add-pre-chain\",\"issuer_key_hash\":\"AAAAAAAAAAAAAAAAAAAAAAAAAAAAAAAAAAAAAAAAAAA=\",\"tbs\":\"QQ==\",\"chain\":[\"Qg==\"]}
+{\"who\":0,\"op\":\"add-pre-chain\",\"issuer_key_hash\":\"AAAAAAAAAAAAAAAAAAAAAAAAAAAAAAAAAAAAAAAAAAA=\",\"tbs\":\"QQ==\",\"chain\":[\"QQ==\",\"QQ==\"]}
+{\"who\":0,\"op\":\"add-pre-chain\",\"issuer_key_hash\":\"AAAAAAAAAAAAAAAAAAAAAAAAAAAAAAAAAAAAAAAAAAA=\",\"tbs\":\"\",\"chain\":[\"Qg==\"]}
+{\"who\":\"frozen\",\"op\":\"get-entries\",\"start\":0,\"end\":0}
+{\"who\":\"frozen\",\"op\":\"get-entries\",\"start\":1,\"end\":1}
+";
+    let output = "{\"ticket\":0}
+{\"ticket\":1}
+{\"error\":\"empty-certificate\"}
+{\"entries\":[{\"extra_data\":\"AAABQgAAAA==\",\"leaf_input\":\"AAAAAAAAAAAABwABAAAAAAAAAAAAAAAAAAAAAAAAAAAAAAAAAAAAAAAAAAAAAAFBAAA=\"}]}
+{\"error\":\"bad-range\"}
+";
+    assert!(rt; writes(&rt, rt.alloc(), "4", input, output));
+}
+
 // The root is SHA-256 of 00, of the leaf's version and type, of the moment 7 in eight bytes, of 00 00, of the
 // certificate 41 behind its length in three bytes, and of 00 00.
 #[test]
