@@ -2,7 +2,7 @@
 //!
 //! `gate` opens a gate of two fronts, and sends, receives and shuts. `two_fronts` makes the calls of small logs in one thread, step by
 //! step, and compares each answer. `readers` looks at what fronts see: at the opening, behind a bulletin, of a long log, and beside
-//! publications in another thread. `shutdown_under_load` runs sixteen ends of a gate in threads of their own, and `sixteen_fronts`
+//! publications in another thread. `succession` lets a front go on, with a full ring, before the clock and after the shutdown. `shutdown_under_load` runs sixteen ends of a gate in threads of their own, and `sixteen_fronts`
 //! sixteen fronts beside a sequencer that takes and publishes: both are shut before the first submission, in the middle, and behind the last.
 #![tactic(auto)]
 
@@ -16,5 +16,7 @@ mod readers;
 mod shutdown_under_load;
 #[cfg(test)]
 mod sixteen_fronts;
+#[cfg(test)]
+mod succession;
 #[cfg(test)]
 mod two_fronts;

@@ -74,6 +74,7 @@ pub(crate) enum Call {
     Take(u16, u32, u64),
     // Moment.
     Publish(u64),
+    Shutdown,
     // Moment. From front 0, until nothing is left: answers how many.
     TakeAll(u64),
     // Front: learns of all publications so far, and answers 0.
@@ -88,7 +89,7 @@ pub(crate) enum Call {
 
 // A call of a house whose fronts have retired.
 #[derive(Clone, Copy)]
-enum Ending {
+pub(crate) enum Ending {
     Shutdown,
     // Moment.
     Settle(u64),
@@ -257,6 +258,7 @@ impl TwoFronts {
             Call::SubmitLarge(count) => Ok(u64::from(self.submit_large(count))),
             Call::Take(front, max, now) => self.take(rt, front, max, now),
             Call::Publish(now) => Ok(self.publish(rt, now)?.tree_size),
+            Call::Shutdown => self.house.shutdown(),
             Call::GrowByTens(rounds) => self.grow_by_tens(rt, rounds),
             Call::TakeAll(now) => self.take_all(rt, now),
             Call::ProofLength(first, second) => self.proof_length(first, second),
@@ -267,7 +269,11 @@ impl TwoFronts {
     }
 
     // Makes the calls, and answers how many answered as they should before the first that didn't.
-    fn calls<R: Threads + Wait + Sync>(&mut self, rt: &R, calls: &[(Call, Answer)]) -> usize {
+    pub(crate) fn calls<R: Threads + Wait + Sync>(
+        &mut self,
+        rt: &R,
+        calls: &[(Call, Answer)],
+    ) -> usize {
         for place in 0..calls.len() {
             let (call, answer) = calls[place];
             if self.call(rt, call) != answer {
@@ -334,6 +340,35 @@ impl TwoFronts {
             Some(ShownEntry { leaf_input, .. }) => Ok(leaf_input),
             None => Err(Refusal::BadLine),
         }
+    }
+
+    // Front 0 retires, and goes on at the moment `now`; where that is refused, it goes on at the moment `later`. It answers the refusal.
+    pub(crate) fn succeed<R: Threads + Abort + Sync>(
+        self,
+        rt: &R,
+        now: u64,
+        later: u64,
+    ) -> (TwoFronts, Option<Refusal>) {
+        let TwoFronts {
+            alloc,
+            mut house,
+            zero,
+            one,
+        } = self;
+        let (zero, refused) = match house.succeed(rt, alloc, zero.retire(), now) {
+            Ok(zero) => (zero, None),
+            Err((refusal, end)) => match house.succeed(rt, alloc, end, later) {
+                Ok(zero) => (zero, Some(refusal)),
+                Err((refusal, _end)) => panic!(rt; "{refusal:?}"),
+            },
+        };
+        let fronts = TwoFronts {
+            alloc,
+            house,
+            zero,
+            one,
+        };
+        (fronts, refused)
     }
 
     fn retire(self) -> Closing {
@@ -451,9 +486,19 @@ fn log_of<R: Threads + Wait + Abort + Sync>(
     calls: &[(Call, Answer)],
     endings: &[(Ending, Answer)],
 ) -> Result<FinalLog, Refusal> {
-    let mut house = house_after(rt, alloc, 4, now, calls)?.retire();
+    let house = house_after(rt, alloc, 4, now, calls)?;
+    Ok(closed_after(rt, house, endings))
+}
+
+// The final log of a house whose fronts retire, after these calls, each of which has to answer as it should.
+pub(crate) fn closed_after<R: Threads + Wait + Abort + Sync>(
+    rt: &R,
+    house: TwoFronts,
+    endings: &[(Ending, Answer)],
+) -> FinalLog {
+    let mut house = house.retire();
     assert_eq!(rt; house.calls(rt, endings), endings.len());
-    Ok(house.finish(rt))
+    house.finish(rt)
 }
 
 // The index and the timestamp of a ticket's receipt.
@@ -468,7 +513,12 @@ fn receipt(alloc: Global, log: &FinalLog, ticket: u64) -> Result<(u64, u64), Ref
 }
 
 // The receipts of the tickets from 0 on have to be these.
-fn expect_receipts<R: Abort>(rt: &R, alloc: Global, log: &FinalLog, receipts: &[(u64, u64)]) {
+pub(crate) fn expect_receipts<R: Abort>(
+    rt: &R,
+    alloc: Global,
+    log: &FinalLog,
+    receipts: &[(u64, u64)],
+) {
     for ticket in 0..receipts.len() {
         assert_eq!(rt; receipt(alloc, log, ticket as u64), Ok(receipts[ticket]));
     }

@@ -1,5 +1,5 @@
 // A house with two fronts, whose calls are made again where they are refused memory.
-ghost use Rattle.std.specs.Prelude.{◌≡◌, ◌≤◌, length, IfOk, IfErr};
+ghost use Rattle.std.specs.Prelude.{◌≡◌, ◌<◌, ◌≤◌, length, IfOk, IfErr};
 ghost use Rattle.ct_house.specs.House.{IsNewHouse, IsOfHouse};
 
 use crate::closed_log::ClosedHouse;
@@ -9,6 +9,7 @@ use ct_core::{Query, Reply};
 use ct_house::{Front, Sequencer, open};
 use ct_tree::Head;
 use std::alloc::Global;
+use std::process::Abort;
 use std::sync::Wait;
 use std::thread::Threads;
 
@@ -92,15 +93,28 @@ impl House {
         }
     }
 
-    fn take_once<R: Threads + Sync>(&mut self, rt: &R, now: u64) -> Result<u32, Refusal> {
-        self.house.take(rt, self.alloc, 0, 256, now)
+    fn take_once<R: Threads + Sync>(&mut self, rt: &R, max: u32, now: u64) -> Result<u32, Refusal>
+        requires { (0 < max) × (max ≤ 256) }
+    {
+        self.house.take(rt, self.alloc, 0, max, now)
+    }
+
+    // Takes two items of front 0 at most, and answers how many were told.
+    pub(crate) fn take_two<R: Threads + Sync>(&mut self, rt: &R, now: u64) -> Result<u32, Refusal> {
+        match self.take_once(rt, 2, now) {
+            Err(Refusal::Memory) => {
+                self.refused.tell("take");
+                self.take_once(rt, 2, now)
+            }
+            answer => answer,
+        }
     }
 
     // Takes the items of front 0 until none is left, and counts those that were told. A refused call tells none of those that it settled.
     pub(crate) fn take_all<R: Threads + Sync>(&mut self, rt: &R, now: u64) -> Result<u32, Refusal> {
         let mut told = 0u32;
         for _ in 0..4u32 {
-            match self.take_once(rt, now) {
+            match self.take_once(rt, 256, now) {
                 Ok(0) => return Ok(told),
                 Ok(count) => told = told.saturating_add(count),
                 Err(Refusal::Memory) => self.refused.tell("take"),
@@ -156,6 +170,35 @@ impl House {
                 self.ask_once(front, query)
             }
             answer => answer,
+        }
+    }
+
+    // Front 0 retires and goes on.
+    pub(crate) fn succeed<R: Threads + Abort + Sync>(self, rt: &R, now: u64) -> House {
+        let House {
+            alloc,
+            mut house,
+            zero,
+            one,
+            mut refused,
+        } = self;
+        let zero = match house.succeed(rt, alloc, zero.retire(), now) {
+            Ok(zero) => zero,
+            Err((refusal, end)) => {
+                assert_eq!(rt; refusal, Refusal::Memory);
+                refused.tell("succeed");
+                match house.succeed(rt, alloc, end, now) {
+                    Ok(zero) => zero,
+                    Err((refusal, _end)) => panic!(rt; "{refusal:?}"),
+                }
+            }
+        };
+        House {
+            alloc,
+            house,
+            zero,
+            one,
+            refused,
         }
     }
 
