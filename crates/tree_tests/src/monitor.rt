@@ -3,6 +3,7 @@ use crate::weak_hashes::ZeroHash;
 use ct_monitor::{Auditor, Follower, Monitor, MonitorFault};
 use ct_tree::{Head, Sha256Hash, leaf_hash, reference};
 use ct_verify::{Evidence, EvidenceFault, ProofFault};
+use ct_watch::{Verdict, Watcher};
 use std::alloc::{AllocError, Global};
 use std::test::Fail;
 
@@ -237,6 +238,45 @@ fn a_follower_answers_as_a_monitor(rt: HostRuntime) -> Result<(), Fail> {
     let peaks = follower.peaks();
     assert!(rt; peaks.size() == 3 && peaks.subtrees() == [ROOT_2, LEAF_2].as_slice());
     assert!(rt; peaks.root(&Sha256Hash) == ROOT_3);
+    Ok(())
+}
+
+#[test]
+fn a_watcher_takes_answers(rt: HostRuntime) -> Result<(), Fail> {
+    let heap = rt.alloc();
+    let third = head(3, 7, ROOT_3);
+    let leaves = one_byte_leaves(heap, b"ABC")?;
+    let mut watcher = Watcher::new(heap, Sha256Hash);
+    assert!(rt; watcher.take_head(head(1, 5, ROOT_1))? == Verdict::Pending);
+    assert!(rt; watcher.take_entries(0, &leaves)? == Verdict::Accepted);
+    assert!(rt; watcher.take_head(third)? == Verdict::Pending);
+    assert!(rt; watcher.take_proof(&[LEAF_1, LEAF_2]) == Verdict::Consistent);
+    assert!(rt; watcher.take_entries(2, &leaves[2..])? == Verdict::Gap);
+    assert!(rt; watcher.take_entries(1, &leaves[1..2])? == Verdict::Pending);
+    let (accepted, waiting) = (watcher.accepted(), watcher.waiting());
+    let (sure, all) = (watcher.sure().copied()?, watcher.all().copied()?);
+    let mut again = Watcher::from_parts(Sha256Hash, accepted, waiting, sure, all);
+    assert!(rt; again.take_entries(2, &leaves[2..])? == Verdict::Accepted);
+    assert!(rt; again.accepted() == Some(third) && again.waiting() == None);
+    Ok(())
+}
+
+#[test]
+fn a_watcher_tells_what_speaks_against_a_log(rt: HostRuntime) -> Result<(), Fail> {
+    let heap = rt.alloc();
+    let third = head(3, 7, ROOT_3);
+    let leaves = one_byte_leaves(heap, b"ABC")?;
+    let mut watcher = Watcher::new(heap, Sha256Hash);
+    assert!(rt; watcher.take_head(third)? == Verdict::Pending);
+    assert!(rt; watcher.take_entries(0, &leaves)? == Verdict::Accepted);
+    assert!(rt; watcher.take_head(head(2, 6, ROOT_2))? == Verdict::Stale);
+    assert!(rt; watcher.take_head(head(2, 7, ROOT_2))? == Verdict::Shrunk);
+    assert!(rt; watcher.take_head(head(3, 9, ROOT_3))? == Verdict::Again);
+    assert!(rt; watcher.take_head(head(3, 9, ROOT_1))? == Verdict::Fork(third));
+    assert!(rt; watcher.take_head(head(4, 9, ROOT_3))? == Verdict::Pending);
+    let mismatch = watcher.take_entries(3, &one_byte_leaves(heap, b"D")?)?;
+    assert!(rt; matches!(&mismatch, Verdict::RootMismatch(_)) && mismatch.accuses());
+    assert!(rt; watcher.all().size() == 3 && watcher.waiting() == None);
     Ok(())
 }
 
