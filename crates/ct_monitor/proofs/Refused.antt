@@ -1,23 +1,46 @@
--- Why a head that was in order is refused at last.
-use Rattle.std.proofs.Common.{◌≡◌, ◌∙◌, ℕ, ◌-◌, List, ◌++◌, length, take, drop}
-use Rattle.std.proofs.lemmas.List.{take_rest}
-use Rattle.std.proofs.Math.Seq.{drop-append_seam}
+-- What subtrees that are extended, or aren't, say of a follower.
+use Rattle.std.proofs.Common.{◌≡◌, ◌∙◌, ◌+◌, ◌<◌, ◌^◌, ℕ, List, ◌++◌, length, map, Ok, Err, Result, IfOk, IfErr, sym}
+use Rattle.std.proofs.lemmas.List.{length-append}
+use Rattle.ct_tree.specs.Stack.{Stands}
+use Rattle.ct_tree.specs.Tree.{hash_leaf, mth_of_leaves}
 use Rattle.ct_tree.specs.declared.head.Head.{Head}
 use Rattle.ct_monitor.specs.Followed.{Followed}
+use Rattle.ct_monitor.specs.FollowerState.{FollowerState, Follows, keeping}
 use Rattle.ct_monitor.specs.Extended.{IsNoRoot}
+use Rattle.ct_monitor.specs.Heads.{IsHeadOfAll}
 use Rattle.ct_monitor.specs.Observed.{IsInOrder, IsCounted, RefusesHead}
 use Rattle.ct_monitor.specs.declared.fault.MonitorFault.{MonitorFault}
 use Rattle.ct_monitor.specs.declared.fault.MonitorFault.TheVariants.{RootMismatch, Shrunk, Fork, TimeNotLater, CountMismatch, Memory}
 
--- the part of a list behind its beginning a
-pub rest_of_joined : {V : Type 0} (xs a b : List V) (n : ℕ) → xs ≡ a ++ b → n ≡ length a → take (length xs - n) (drop n xs) ≡ b
-rest_of_joined xs a b n e m = rw (e, m) (take_rest (a ++ b) (length a) ∙ drop-append_seam a b)
+pub refused_at_last : (H : List ℕ → List ℕ) (old : Followed) (head : Head) (E : List (List ℕ)) (fault : MonitorFault) → IsInOrder old head × IsCounted old head E
+    → IsNoRoot H (old.leaves ++ E) head.root fault → RefusesHead H old head E fault
+refused_at_last H old head E RootMismatch o n = (o.0, o.1, n)
+refused_at_last H old head E Shrunk o n = absurd n
+refused_at_last H old head E Fork o n = absurd n
+refused_at_last H old head E TimeNotLater o n = absurd n
+refused_at_last H old head E CountMismatch o n = absurd n
+refused_at_last H old head E Memory o n = o
 
-pub refused_at_last : (H : List ℕ → List ℕ) (old : Followed) (head : Head) (E D : List (List ℕ)) (fault : MonitorFault) → IsInOrder old head × IsCounted old head E
-    → D ≡ old.leaves ++ E → IsNoRoot H D head.root fault → RefusesHead H old head E fault
-refused_at_last H old head E D RootMismatch o e n = (o.0, o.1, λ r. n (rw e r))
-refused_at_last H old head E D Shrunk o e n = absurd n
-refused_at_last H old head E D Fork o e n = absurd n
-refused_at_last H old head E D TimeNotLater o e n = absurd n
-refused_at_last H old head E D CountMismatch o e n = absurd n
-refused_at_last H old head E D Memory o e n = o
+-- The three answers of `longer`, where n is the number of the new leaves E, as a slice counts them.
+pub stands_for_all : {P F : Type 0} (H : List ℕ → List ℕ) (state : FollowerState) (E : List (List ℕ)) (n : ℕ) (seen : P → ℕ × List (List ℕ)) (r : Result P F)
+    → ((D : List (List ℕ)) → Follows H state D → length D + n < 2 ^ 64)
+    → IfOk r (λ p. (D : List (List ℕ)) → length D + n < 2 ^ 64 → Stands H state.peaks (map (hash_leaf H) D) → Stands H (seen p) (map (hash_leaf H) (D ++ E)))
+    → IfOk r (λ p. (D : List (List ℕ)) → Follows H state D → Stands H (seen p) (map (hash_leaf H) (D ++ E)))
+stands_for_all H state E n seen (Ok p) few s = λ D f. s D (few D f) f.0
+stands_for_all H state E n seen (Err e) few s = s
+
+pub head_of_all : {P F : Type 0} (H : List ℕ → List ℕ) (state : FollowerState) (head : Head) (E : List (List ℕ)) (n : ℕ) (r : Result P F)
+    → ((D : List (List ℕ)) → Follows H state D → length D + n < 2 ^ 64)
+    → ((D : List (List ℕ)) → Follows H state D → IsCounted (keeping D state) head E)
+    → IfOk r (λ p. (D : List (List ℕ)) → length D + n < 2 ^ 64 → Stands H state.peaks (map (hash_leaf H) D) → head.root ≡ mth_of_leaves H (D ++ E))
+    → IfOk r (λ p. (D : List (List ℕ)) → Follows H state D → IsHeadOfAll H (D ++ E) head)
+head_of_all H state head E n (Ok p) few counted s = λ D f. (sym (length-append D E ∙ counted D f), s D (few D f) f.0)
+head_of_all H state head E n (Err e) few counted s = s
+
+pub refused_for_all : {P : Type 0} (H : List ℕ → List ℕ) (state : FollowerState) (head : Head) (E : List (List ℕ)) (n : ℕ) (r : Result P MonitorFault)
+    → ((D : List (List ℕ)) → Follows H state D → length D + n < 2 ^ 64)
+    → ((D : List (List ℕ)) → Follows H state D → IsInOrder (keeping D state) head × IsCounted (keeping D state) head E)
+    → IfErr r (λ v. (D : List (List ℕ)) → length D + n < 2 ^ 64 → Stands H state.peaks (map (hash_leaf H) D) → IsNoRoot H (D ++ E) head.root v)
+    → IfErr r (λ v. (D : List (List ℕ)) → Follows H state D → RefusesHead H (keeping D state) head E v)
+refused_for_all H state head E n (Ok p) few o s = s
+refused_for_all H state head E n (Err v) few o s = λ D f. refused_at_last H (keeping D state) head E v (o D f) (s D (few D f) f.0)

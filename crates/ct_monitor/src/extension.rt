@@ -1,40 +1,39 @@
-//! The new leaves of a head, on a stack of perfect subtrees.
-ghost use Rattle.std.specs.Prelude.{◌≡◌, ◌+◌, ◌<◌, ◌^◌, List, ℕ, ◌++◌, length, map, MatchResult, OnOk};
+//! The new leaves of a head, behind those that some perfect subtrees stand for.
+ghost use Rattle.std.specs.Prelude.{◌≡◌, ◌↔◌, ◌+◌, ◌<◌, ◌^◌, List, ℕ, ◌++◌, length, map, IfOk, IfErr, IsTrue};
 ghost use Rattle.ct_tree.specs.Stack.{Stands};
-ghost use Rattle.ct_tree.specs.Tree.{hash_leaf};
-ghost use Rattle.ct_monitor.specs.Extended.{GivesRoot, IsNoRoot};
+ghost use Rattle.ct_tree.specs.Tree.{hash_leaf, mth_of_leaves};
+ghost use Rattle.ct_monitor.specs.Extended.{IsNoRoot};
 
 use crate::fault::MonitorFault;
-use ct_tree::{NodeHash, Stack, leaf_hash};
-use std::alloc::AllocError;
+use crate::peaks::Peaks;
+use ct_tree::NodeHash;
 
-// Appends the hashes of leaves to a stack.
-fn push_all<H: NodeHash + Drop>(stack: &mut Stack<H>, leaves: &[Vec<u8>]) -> Result<(), AllocError>
-    requires { (D : List (List ℕ)) × Stands H.digest stack.old D × (length D + length leaves.now < 2 ^ 64) }
-    ensures { OnOk result ((D : List (List ℕ)) → Stands H.digest stack.old D
-        → Stands H.digest stack.new (D ++ map (hash_leaf H.digest) (map (λ l. l.items) leaves.now))) }
+// Whether two roots are equal.
+fn is_same_root(a: &[u8; 32], b: &[u8; 32]) -> bool
+    ensures { IsTrue result ↔ (a.now ≡ b.now) }
 {
-    for leaf in leaves {
-        let hash = leaf_hash(stack.hash_function(), leaf);
-        stack.push(&hash)?;
-    }
-    Ok(())
+    *a == *b
 }
 
-// Appends the hashes of leaves to a stack, and compares its root with the one that a head has.
-pub(crate) fn extend<H: NodeHash + Drop>(
-    stack: &mut Stack<H>,
+// The perfect subtrees with new leaves behind those that they stand for, where the root is that of all of them.
+pub(crate) fn extended<H: NodeHash>(
+    h: &H,
+    peaks: &Peaks,
     leaves: &[Vec<u8>],
     root: &[u8; 32],
-) -> Result<(), MonitorFault>
-    requires { (D : List (List ℕ)) × Stands H.digest stack.old D × (length D + length leaves.now < 2 ^ 64) }
-    ensures { (D : List (List ℕ)) → Stands H.digest stack.old (map (hash_leaf H.digest) D)
-        → MatchResult result (λ _. GivesRoot H.digest (D ++ map (λ l. l.items) leaves.now) root.now stack.new) (IsNoRoot H.digest (D ++ map (λ l. l.items) leaves.now) root.now) }
+) -> Result<Peaks, MonitorFault>
+    ensures stands { IfOk result (λ p. (D : List (List ℕ)) → length D + length leaves.now < 2 ^ 64 → Stands H.digest peaks.now (map (hash_leaf H.digest) D)
+        → Stands H.digest p (map (hash_leaf H.digest) (D ++ map (λ l. l.items) leaves.now))) }
+    ensures root { IfOk result (λ p. (D : List (List ℕ)) → length D + length leaves.now < 2 ^ 64 → Stands H.digest peaks.now (map (hash_leaf H.digest) D)
+        → root.now ≡ mth_of_leaves H.digest (D ++ map (λ l. l.items) leaves.now)) }
+    ensures no_root { IfErr result (λ f. (D : List (List ℕ)) → length D + length leaves.now < 2 ^ 64 → Stands H.digest peaks.now (map (hash_leaf H.digest) D)
+        → IsNoRoot H.digest (D ++ map (λ l. l.items) leaves.now) root.now f) }
 {
-    push_all(stack, leaves)?;
-    let extended = stack.root();
-    if extended == *root {
-        Ok(())
+    let mut longer = peaks.copied()?;
+    longer.push_leaves(h, leaves)?;
+    let computed = longer.root(h);
+    if is_same_root(&computed, root) {
+        Ok(longer)
     } else {
         Err(MonitorFault::RootMismatch)
     }

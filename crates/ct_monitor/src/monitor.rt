@@ -1,33 +1,29 @@
 //! A monitor, who keeps all leaves of a log and follows its tree heads.
-ghost use Rattle.std.specs.Prelude.{◌≡◌, List, ℕ, [], ◌++◌, map, IfErr, MatchResult, OnErr, OnOk, Some, None};
-ghost use Rattle.ct_tree.specs.Stack.{Stands};
-ghost use Rattle.ct_tree.specs.Tree.{hash_leaf};
+ghost use Rattle.std.specs.Prelude.{◌≡◌, List, ℕ, [], ◌++◌, map, IfErr, OnErr, OnOk, Some, None};
 ghost use Rattle.ct_monitor.specs.Followed.{Followed, IsFollowing};
+ghost use Rattle.ct_monitor.specs.FollowerState.{Follows};
 ghost use Rattle.ct_monitor.specs.Heads.{IsHeadOfAll};
-ghost use Rattle.ct_monitor.specs.Observed.{IsCounted, IsInOrder, RefusesHead};
+ghost use Rattle.ct_monitor.specs.Observed.{IsInOrder, RefusesHead};
 
-use crate::extension::extend;
 use crate::fault::MonitorFault;
-use crate::order::{forks, is_not_later};
-use ct_tree::{Head, NodeHash, Stack};
+use crate::follower::Follower;
+use ct_tree::{Head, NodeHash};
 use std::alloc::Global;
 use std::marker::Model;
 
 /// Who follows a log's tree heads and keeps all its leaves, under one hash function.
 #[derive(Drop)]
 pub struct Monitor<H: NodeHash + Drop> {
-    stack: Stack<H>,
+    follower: Follower<H>,
     kept: Vec<Vec<u8>>,
-    last: Option<Head>,
 }
 
 impl<H: NodeHash + Drop> Model for Monitor<H> {
     ghost Value = { Followed };
 
-    ghost view = { λ m. record { leaves = map (λ l. l.items) m.kept.items; last_head = m.last } };
+    ghost view = { λ m. record { leaves = map (λ l. l.items) m.kept.items; last_head = m.follower.last_head } };
 
-    ghost invariant = { λ m. Stands H.digest m.stack (map (hash_leaf H.digest) (map (λ l. l.items) m.kept.items))
-        × IsFollowing H.digest (map (λ l. l.items) m.kept.items) m.last };
+    ghost invariant = { λ m. Follows H.digest m.follower (map (λ l. l.items) m.kept.items) };
 }
 
 impl<H: NodeHash + Drop> Monitor<H> {
@@ -37,9 +33,8 @@ impl<H: NodeHash + Drop> Monitor<H> {
         ensures last_head { result.last_head ≡ None }
     {
         Monitor {
-            stack: Stack::new(alloc, h),
+            follower: Follower::new(alloc, h),
             kept: Vec::new(alloc),
-            last: None,
         }
     }
 
@@ -55,28 +50,7 @@ impl<H: NodeHash + Drop> Monitor<H> {
         ensures last { result ≡ self.now.last_head }
         ensures following { IsFollowing H.digest self.now.leaves result }
     {
-        self.last
-    }
-
-    // The faults that are found before anything is hashed, in their order.
-    fn check_order(&self, head: &Head, new_entries: &[Vec<u8>]) -> Result<(), MonitorFault>
-        ensures { MatchResult result (λ _. IsInOrder self.now head.now × IsCounted self.now head.now (map (λ l. l.items) new_entries.now))
-            (RefusesHead H.digest self.now head.now (map (λ l. l.items) new_entries.now)) }
-    {
-        let count = self.kept.len() as u64;
-        if head.tree_size < count {
-            return Err(MonitorFault::Shrunk);
-        }
-        if forks(&self.last, head) {
-            return Err(MonitorFault::Fork);
-        }
-        if is_not_later(&self.last, head) {
-            return Err(MonitorFault::TimeNotLater);
-        }
-        if head.tree_size - count != new_entries.len() as u64 {
-            return Err(MonitorFault::CountMismatch);
-        }
-        Ok(())
+        self.follower.last_head()
     }
 
     /// Takes in a tree head and the leaves that are new in it, in order. The leaves are kept without a copy of their
@@ -96,17 +70,32 @@ impl<H: NodeHash + Drop> Monitor<H> {
         ensures refused { IfErr result (RefusesHead H.digest self.old head (map (λ l. l.items) new_entries.items)) }
         ensures unchanged { OnErr result (self.new ≡ self.old) }
     {
-        self.check_order(&head, &new_entries)?;
-        let count = self.kept.len();
-        let before = self.stack.snapshot()?;
         let mut entries = new_entries;
-        self.kept.append(&mut entries)?;
-        if let Err(fault) = extend(&mut self.stack, &self.kept[count..], &head.root) {
-            self.kept.truncate(count);
-            self.stack.restore(before);
-            return Err(fault);
-        }
-        self.last = Some(head);
+        self.observe_from(head, &mut entries)
+    }
+
+    /// As [`observe`](Monitor::observe), with the new leaves in a list of the caller's. They are moved out of it where the
+    /// head is taken; an error leaves them there.
+    ///
+    /// # Errors
+    /// Those of `observe`.
+    pub fn observe_from(
+        &mut self,
+        head: Head,
+        new_entries: &mut Vec<Vec<u8>>,
+    ) -> Result<(), MonitorFault>
+        ensures leaves { OnOk result (self.new.leaves ≡ self.old.leaves ++ map (λ l. l.items) new_entries.old.items) }
+        ensures last_head { OnOk result (self.new.last_head ≡ Some head) }
+        ensures root { OnOk result (IsHeadOfAll H.digest self.new.leaves head) }
+        ensures in_order { OnOk result (IsInOrder self.old head) }
+        ensures moved { OnOk result (new_entries.new.items ≡ []) }
+        ensures refused { IfErr result (RefusesHead H.digest self.old head (map (λ l. l.items) new_entries.old.items)) }
+        ensures unchanged { OnErr result (self.new ≡ self.old) }
+        ensures left { OnErr result (new_entries.new.items ≡ new_entries.old.items) }
+    {
+        let longer = self.follower.longer(&head, new_entries)?;
+        self.kept.append(new_entries)?;
+        self.follower.go_on(longer, head);
         Ok(())
     }
 }

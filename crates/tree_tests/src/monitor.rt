@@ -1,8 +1,9 @@
 use crate::evidence::{is_collision_of, one_byte_leaves};
 use crate::weak_hashes::ZeroHash;
-use ct_monitor::{Auditor, Monitor, MonitorFault};
+use ct_monitor::{Auditor, Follower, Monitor, MonitorFault};
 use ct_tree::{Head, Sha256Hash, leaf_hash, reference};
 use ct_verify::{Evidence, EvidenceFault, ProofFault};
+use ct_watch::{Verdict, Watcher};
 use std::alloc::{AllocError, Global};
 use std::test::Fail;
 
@@ -187,6 +188,97 @@ fn a_refused_growth_changes_nothing(rt: HostRuntime) -> Result<(), Fail> {
     assert!(rt; taken_at_last(heap, &mut monitor, head(2, 6, ROOT_2), 0x42)?);
     assert!(rt; taken_at_last(heap, &mut monitor, head(3, 7, ROOT_3), 0x43)?);
     assert!(rt; is_at(&monitor, &[0x41, 0x42, 0x43], head(3, 7, ROOT_3)));
+    Ok(())
+}
+
+// Shows a head and its new leaves to a monitor and to a follower. What both answer, where they answer the same, have the
+// same last head, and the leaves are left where the head is refused.
+fn both_answer(
+    alloc: Global,
+    monitor: &mut Monitor<Sha256Hash>,
+    follower: &mut Follower<Sha256Hash>,
+    next: Head,
+    bytes: &[u8],
+) -> Result<Option<Result<(), MonitorFault>>, AllocError> {
+    let mut leaves = one_byte_leaves(alloc, bytes)?;
+    let followed = follower.observe(next, &leaves);
+    let observed = monitor.observe_from(next, &mut leaves);
+    let left = if observed.is_ok() { 0 } else { bytes.len() };
+    let agree = followed == observed && follower.last_head() == monitor.last_head();
+    if agree && leaves.len() == left {
+        Ok(Some(observed))
+    } else {
+        Ok(None)
+    }
+}
+
+#[test]
+fn a_follower_answers_as_a_monitor(rt: HostRuntime) -> Result<(), Fail> {
+    let heap = rt.alloc();
+    let mut monitor = Monitor::new(heap, Sha256Hash);
+    let mut follower = Follower::new(heap, Sha256Hash);
+    let shown: [(Head, &[u8], Result<(), MonitorFault>); 9] = [
+        (head(1, 5, ROOT_1), b"A", Ok(())),
+        (head(1, 6, [7; 32]), b"", Err(MonitorFault::Fork)),
+        (head(0, 6, ROOT_1), b"", Err(MonitorFault::Shrunk)),
+        (head(1, 4, ROOT_1), b"", Err(MonitorFault::TimeNotLater)),
+        (head(3, 6, ROOT_3), b"B", Err(MonitorFault::CountMismatch)),
+        (head(2, 6, ROOT_3), b"B", Err(MonitorFault::RootMismatch)),
+        (head(2, 6, ROOT_2), b"B", Ok(())),
+        (head(2, 6, ROOT_2), b"", Ok(())),
+        (head(3, 7, ROOT_3), b"C", Ok(())),
+    ];
+    for (next, bytes, wanted) in shown {
+        let answer = both_answer(heap, &mut monitor, &mut follower, next, bytes)?;
+        assert!(rt; answer == Some(wanted));
+        let saved = follower.peaks().copied()?;
+        follower = Follower::from_parts(Sha256Hash, saved, follower.last_head());
+    }
+    assert!(rt; is_at(&monitor, &[0x41, 0x42, 0x43], head(3, 7, ROOT_3)));
+    let peaks = follower.peaks();
+    assert!(rt; peaks.size() == 3 && peaks.subtrees() == [ROOT_2, LEAF_2].as_slice());
+    assert!(rt; peaks.root(&Sha256Hash) == ROOT_3);
+    Ok(())
+}
+
+#[test]
+fn a_watcher_takes_answers(rt: HostRuntime) -> Result<(), Fail> {
+    let heap = rt.alloc();
+    let third = head(3, 7, ROOT_3);
+    let leaves = one_byte_leaves(heap, b"ABC")?;
+    let second_leaf = one_byte_leaves(heap, b"B")?;
+    let last_leaf = one_byte_leaves(heap, b"C")?;
+    let mut watcher = Watcher::new(heap, Sha256Hash);
+    assert!(rt; watcher.take_head(head(1, 5, ROOT_1))? == Verdict::Pending);
+    assert!(rt; watcher.take_entries(0, &leaves)? == Verdict::Accepted);
+    assert!(rt; watcher.take_head(third)? == Verdict::Pending);
+    assert!(rt; watcher.take_proof(&[LEAF_1, LEAF_2]) == Verdict::Consistent);
+    assert!(rt; watcher.take_entries(2, &last_leaf)? == Verdict::Gap);
+    assert!(rt; watcher.take_entries(1, &second_leaf)? == Verdict::Pending);
+    let (accepted, waiting) = (watcher.accepted(), watcher.waiting());
+    let (sure, all) = (watcher.sure().copied()?, watcher.all().copied()?);
+    let mut again = Watcher::from_parts(Sha256Hash, accepted, waiting, sure, all);
+    assert!(rt; again.take_entries(2, &last_leaf)? == Verdict::Accepted);
+    assert!(rt; again.accepted() == Some(third) && again.waiting() == None);
+    Ok(())
+}
+
+#[test]
+fn a_watcher_tells_what_speaks_against_a_log(rt: HostRuntime) -> Result<(), Fail> {
+    let heap = rt.alloc();
+    let third = head(3, 7, ROOT_3);
+    let leaves = one_byte_leaves(heap, b"ABC")?;
+    let mut watcher = Watcher::new(heap, Sha256Hash);
+    assert!(rt; watcher.take_head(third)? == Verdict::Pending);
+    assert!(rt; watcher.take_entries(0, &leaves)? == Verdict::Accepted);
+    assert!(rt; watcher.take_head(head(2, 6, ROOT_2))? == Verdict::Stale);
+    assert!(rt; watcher.take_head(head(2, 7, ROOT_2))? == Verdict::Shrunk);
+    assert!(rt; watcher.take_head(head(3, 9, ROOT_3))? == Verdict::Again);
+    assert!(rt; watcher.take_head(head(3, 9, ROOT_1))? == Verdict::Fork(third));
+    assert!(rt; watcher.take_head(head(4, 9, ROOT_3))? == Verdict::Pending);
+    let mismatch = watcher.take_entries(3, &one_byte_leaves(heap, b"D")?)?;
+    assert!(rt; matches!(&mismatch, Verdict::RootMismatch(_)) && mismatch.accuses());
+    assert!(rt; watcher.all().size() == 3 && watcher.waiting() == None);
     Ok(())
 }
 

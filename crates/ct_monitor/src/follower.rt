@@ -1,0 +1,135 @@
+//! A follower, who keeps none of a log's leaves and follows its tree heads.
+ghost use Rattle.std.specs.Prelude.{◌≡◌, ◌+◌, ◌<◌, ◌^◌, List, ℕ, [], ◌++◌, length, map, IfErr, IfOk, MatchResult, OnErr, OnOk, Some, None};
+ghost use Rattle.ct_tree.specs.Stack.{Stands};
+ghost use Rattle.ct_tree.specs.Tree.{hash_leaf};
+ghost use Rattle.ct_monitor.specs.Heads.{IsHeadOfAll};
+ghost use Rattle.ct_monitor.specs.Observed.{IsCounted, IsInOrder, RefusesHead};
+ghost use Rattle.ct_monitor.specs.FollowerState.{FollowerState, Follows, keeping};
+
+use crate::extension::extended;
+use crate::fault::MonitorFault;
+use crate::order::{forks, is_not_later};
+use crate::peaks::Peaks;
+use ct_tree::{Head, NodeHash};
+use std::alloc::Global;
+use std::marker::Model;
+
+/// Who follows a log's tree heads and keeps the roots of the perfect subtrees in place of its leaves, under one hash
+/// function: at most 64 hashes and a head, whatever the size of the log. The state can be saved, and handed in again.
+#[derive(Drop)]
+pub struct Follower<H: NodeHash + Drop> {
+    h: H,
+    peaks: Peaks,
+    last: Option<Head>,
+}
+
+impl<H: NodeHash + Drop> Model for Follower<H> {
+    ghost Value = { FollowerState };
+
+    ghost view = { λ f. record { peaks = f.peaks; last_head = f.last } };
+}
+
+impl<H: NodeHash + Drop> Follower<H> {
+    /// A follower of no leaves, who took no head. Takes no memory.
+    pub fn new(alloc: Global, h: H) -> Follower<H>
+        ensures follows { Follows H.digest result [] }
+        ensures last_head { result.last_head ≡ None }
+    {
+        Follower {
+            h,
+            peaks: Peaks::from_parts(0, Vec::new(alloc)),
+            last: None,
+        }
+    }
+
+    /// A follower in the state that is handed in, whatever that is.
+    pub fn from_parts(h: H, peaks: Peaks, last: Option<Head>) -> Follower<H>
+        ensures peaks { result.peaks ≡ peaks }
+        ensures last_head { result.last_head ≡ last }
+    {
+        Follower { h, peaks, last }
+    }
+
+    /// The number of leaves, and the roots of their perfect subtrees.
+    pub fn peaks(&self) -> &Peaks
+        ensures { result.now ≡ self.now.peaks }
+    {
+        &self.peaks
+    }
+
+    /// The last head that was taken.
+    pub fn last_head(&self) -> Option<Head>
+        ensures { result ≡ self.now.last_head }
+    {
+        self.last
+    }
+
+    // The faults that are found before anything is hashed, in their order.
+    fn check_order(&self, head: &Head, new_entries: &[Vec<u8>]) -> Result<(), MonitorFault>
+        ensures few { OnOk result ((D : List (List ℕ)) → Follows H.digest self.now D → length D + length new_entries.now < 2 ^ 64) }
+        ensures in_order { (D : List (List ℕ)) → Follows H.digest self.now D
+            → MatchResult result (λ _. IsInOrder (keeping D self.now) head.now × IsCounted (keeping D self.now) head.now (map (λ l. l.items) new_entries.now))
+            (RefusesHead H.digest (keeping D self.now) head.now (map (λ l. l.items) new_entries.now)) }
+    {
+        let count = self.peaks.size();
+        if head.tree_size < count {
+            return Err(MonitorFault::Shrunk);
+        }
+        if forks(&self.last, head) {
+            return Err(MonitorFault::Fork);
+        }
+        if is_not_later(&self.last, head) {
+            return Err(MonitorFault::TimeNotLater);
+        }
+        if head.tree_size - count != new_entries.len() as u64 {
+            return Err(MonitorFault::CountMismatch);
+        }
+        Ok(())
+    }
+
+    // The subtrees of the leaves with the new ones, where nothing speaks against the head.
+    pub(crate) fn longer(&self, head: &Head, new_entries: &[Vec<u8>]) -> Result<Peaks, MonitorFault>
+        ensures in_order { OnOk result ((D : List (List ℕ)) → Follows H.digest self.now D
+            → IsInOrder (keeping D self.now) head.now × IsCounted (keeping D self.now) head.now (map (λ l. l.items) new_entries.now)) }
+        ensures stands { IfOk result (λ p. (D : List (List ℕ)) → Follows H.digest self.now D
+            → Stands H.digest p (map (hash_leaf H.digest) (D ++ map (λ l. l.items) new_entries.now))) }
+        ensures root { IfOk result (λ p. (D : List (List ℕ)) → Follows H.digest self.now D
+            → IsHeadOfAll H.digest (D ++ map (λ l. l.items) new_entries.now) head.now) }
+        ensures refused { IfErr result (λ f. (D : List (List ℕ)) → Follows H.digest self.now D
+            → RefusesHead H.digest (keeping D self.now) head.now (map (λ l. l.items) new_entries.now) f) }
+    {
+        self.check_order(head, new_entries)?;
+        extended(&self.h, &self.peaks, new_entries, &head.root)
+    }
+
+    // Goes on to these subtrees and this head.
+    pub(crate) fn go_on(&mut self, longer: Peaks, head: Head)
+        ensures peaks { self.new.peaks ≡ longer }
+        ensures last_head { self.new.last_head ≡ Some head }
+    {
+        self.peaks = longer;
+        self.last = Some(head);
+    }
+
+    /// Takes in a tree head and the leaves that are new in it, in order. Hashes each new leaf and one node on average for
+    /// each, and at most 64 nodes for the root. The same head again, without new leaves, is taken.
+    ///
+    /// # Errors
+    /// Those that [`Monitor::observe`](crate::Monitor::observe) answers where it keeps the leaves, in its order. An error
+    /// changes nothing.
+    pub fn observe(&mut self, head: Head, new_entries: &[Vec<u8>]) -> Result<(), MonitorFault>
+        ensures follows { OnOk result ((D : List (List ℕ)) → Follows H.digest self.old D
+            → Follows H.digest self.new (D ++ map (λ l. l.items) new_entries.now)) }
+        ensures last_head { OnOk result (self.new.last_head ≡ Some head) }
+        ensures root { OnOk result ((D : List (List ℕ)) → Follows H.digest self.old D
+            → IsHeadOfAll H.digest (D ++ map (λ l. l.items) new_entries.now) head) }
+        ensures in_order { OnOk result ((D : List (List ℕ)) → Follows H.digest self.old D → IsInOrder (keeping D self.old) head) }
+        ensures refused { IfErr result (λ f. (D : List (List ℕ)) → Follows H.digest self.old D
+            → RefusesHead H.digest (keeping D self.old) head (map (λ l. l.items) new_entries.now) f) }
+        ensures unchanged { OnErr result (self.new ≡ self.old) }
+    {
+        let longer = self.longer(&head, new_entries)?;
+        self.go_on(longer, head);
+        Ok(())
+    }
+}

@@ -1,0 +1,97 @@
+//! The perfect subtrees of a list of leaves, as a state that was saved names them.
+ghost use Rattle.std.specs.Prelude.{◌≡◌, ◌+◌, ◌<◌, ◌^◌, ℕ, List, [], ◌∷◌, ◌++◌, length, map, OnOk, OnErr, IfOk};
+ghost use Rattle.ct_tree.specs.Tree.{hash_leaf, mth};
+ghost use Rattle.ct_tree.specs.Stack.{Stands};
+
+use ct_tree::{NodeHash, leaf_hash, root_of_subtrees, with_leaf};
+use std::alloc::AllocError;
+use std::marker::Model;
+
+/// A number of leaves, and the roots of their perfect subtrees, largest first: at most 64 hashes. Any number and any
+/// hashes can be handed in, so nothing is known of them by themselves: each contract speaks of every list of leaf hashes
+/// that they stand for. (`ct_tree`'s `Stack` stands for some list at any time, and so can't be made of what was saved.)
+#[derive(Drop)]
+pub struct Peaks {
+    size: u64,
+    subtrees: Vec<[u8; 32]>,
+}
+
+impl Model for Peaks {
+    ghost Value = { ℕ × List (List ℕ) };
+
+    ghost view = { λ p. (p.size, p.subtrees.items) };
+}
+
+impl Peaks {
+    /// Those that are handed in. Later growths take memory as `subtrees` does.
+    pub fn from_parts(size: u64, subtrees: Vec<[u8; 32]>) -> Peaks
+        ensures { result ≡ (size, subtrees.items) }
+    {
+        Peaks { size, subtrees }
+    }
+
+    /// The number of leaves.
+    pub fn size(&self) -> u64
+        ensures { result ≡ self.now.0 }
+    {
+        self.size
+    }
+
+    /// The subtrees' roots, largest first.
+    pub fn subtrees(&self) -> &[[u8; 32]]
+        ensures { result.now ≡ self.now.1 }
+    {
+        &self.subtrees
+    }
+
+    /// The same again. Takes memory once.
+    pub fn copied(&self) -> Result<Peaks, AllocError>
+        ensures { IfOk result (λ p. p ≡ self.now) }
+    {
+        let alloc = *self.subtrees.allocator();
+        let mut subtrees = Vec::with_capacity(alloc, self.subtrees.len())?;
+        subtrees.extend_from_slice(&self.subtrees)?;
+        Ok(Peaks {
+            size: self.size,
+            subtrees,
+        })
+    }
+
+    /// Appends a leaf hash. Hashes as many nodes as the number before it has trailing ones in binary, so less than one
+    /// a push on average. Where memory is refused nothing changes.
+    pub fn push<H: NodeHash>(&mut self, h: &H, leaf_hash: &[u8; 32]) -> Result<(), AllocError>
+        ensures ok { OnOk result ((D : List (List ℕ)) → length D + 1 < 2 ^ 64 → Stands H.digest self.old D
+            → Stands H.digest self.new (D ++ leaf_hash.now ∷ [])) }
+        ensures err { OnErr result (self.new ≡ self.old) }
+    {
+        let (kept, root) = with_leaf(h, &self.subtrees, self.size, leaf_hash);
+        if kept == self.subtrees.len() {
+            self.subtrees.push(root)?;
+        } else {
+            self.subtrees[kept] = root;
+            self.subtrees.truncate(kept + 1);
+        }
+        self.size = self.size.wrapping_add(1);
+        Ok(())
+    }
+
+    /// Appends the hashes of leaves, in order. Where memory is refused some of them may have been appended.
+    pub fn push_leaves<H: NodeHash>(&mut self, h: &H, leaves: &[Vec<u8>]) -> Result<(), AllocError>
+        ensures { OnOk result ((D : List (List ℕ)) → length D + length leaves.now < 2 ^ 64 → Stands H.digest self.old D
+            → Stands H.digest self.new (D ++ map (hash_leaf H.digest) (map (λ l. l.items) leaves.now))) }
+    {
+        for leaf in leaves {
+            let hash = leaf_hash(h, leaf);
+            self.push(h, &hash)?;
+        }
+        Ok(())
+    }
+
+    /// The root of the leaves (MTH of RFC 6962, section 2.1). Takes no memory, and hashes one node less than there are
+    /// subtrees.
+    pub fn root<H: NodeHash>(&self, h: &H) -> [u8; 32]
+        ensures { (D : List (List ℕ)) → Stands H.digest self.now D → result ≡ mth H.digest D }
+    {
+        root_of_subtrees(h, &self.subtrees)
+    }
+}

@@ -1,0 +1,89 @@
+-- What a watcher stands for after a step.
+use Rattle.std.proofs.Common.{◌≡◌, ◌⊎◌, ◌∙◌, ◌≤◌, ◌-◌, ℕ, List, ◌++◌, length, map, take, Option, Some, None, Vec, Global, arith, sym, refl, ap, subst, inl, inr, Ok, Err, Result, IfOk}
+use Rattle.std.proofs.lemmas.List.{append_assoc, map-append, take-map, take_all, length-map}
+use Rattle.ct_tree.specs.Stack.{Stands}
+use Rattle.ct_tree.specs.Tree.{hash_leaf}
+use Rattle.ct_tree.specs.declared.head.Head.{Head}
+use Rattle.ct_watch.specs.Watched.{Watched, leaves_read, read_on, after_verdict}
+use Rattle.ct_watch.specs.Verdicts.{IsSaid, WaitingSays, EntriesSay, after_entries}
+use Rattle.ct_watch.specs.WatcherState.{WatcherState, Keeps}
+use Rattle.ct_watch.specs.declared.verdict.Verdict.{Verdict}
+use Rattle.ct_watch.specs.declared.verdict.Verdict.TheVariants.{Accepted, Pending, Again, Stale, Shrunk, Fork, RootMismatch, Gap, Consistent, Inconsistent}
+
+-- a verdict that stands against a head at once changes nothing
+pub said_changes_nothing : (w : Watched) (waiting : Head) (known : Option Head) (head : Head) (v : Verdict) → IsSaid known head v → after_verdict w waiting v ≡ w
+said_changes_nothing w waiting None head v s = absurd s
+said_changes_nothing w waiting (Some known) head Accepted s = absurd s
+said_changes_nothing w waiting (Some known) head Pending s = absurd s
+said_changes_nothing w waiting (Some known) head Again s = refl
+said_changes_nothing w waiting (Some known) head Stale s = refl
+said_changes_nothing w waiting (Some known) head Shrunk s = refl
+said_changes_nothing w waiting (Some known) head (Fork other) s = refl
+said_changes_nothing w waiting (Some known) head (RootMismatch root) s = absurd s
+said_changes_nothing w waiting (Some known) head Gap s = absurd s
+said_changes_nothing w waiting (Some known) head Consistent s = absurd s
+said_changes_nothing w waiting (Some known) head (Inconsistent fault) s = absurd s
+
+-- subtrees of the leaves A ++ B, and then of T behind them
+pub joined : (H : List ℕ → List ℕ) (A B T : List (List ℕ)) (subtrees : ℕ × List (List ℕ)) → Stands H subtrees (map (hash_leaf H) (A ++ B) ++ map (hash_leaf H) T)
+    → Stands H subtrees (map (hash_leaf H) (A ++ (B ++ T)))
+joined H A B T subtrees s = rw (← append_assoc A B T, map-append (hash_leaf H) (A ++ B) T) s
+
+abbrev bytes : Vec ℕ Global → List ℕ
+bytes l = l.items
+
+-- the leaves up to a count, where that is the room or all there are
+pub as_far_as : (leaves : List (Vec ℕ Global)) (count room : ℕ) → (count ≡ room) ⊎ ((length leaves ≤ room) × (count ≡ length leaves)) → map bytes (take count leaves) ≡ take room (map bytes leaves)
+as_far_as leaves count room (inl e) = rw e (sym (take-map bytes room leaves))
+as_far_as leaves count room (inr e) =
+    rw (e.1, take_all (length leaves) leaves (omega arith), take_all room (map bytes leaves) (omega (arith, e.0, length-map leaves bytes))) refl
+
+-- the subtrees with T behind them, where T is what there is of the leaves E as far as the head goes
+pub keeps_read_on : (H : List ℕ → List ℕ) (old : WatcherState) (w : Watched) (head : Head) (E T : List (List ℕ)) (longer : ℕ × List (List ℕ)) → Keeps H old w
+    → T ≡ take (head.tree_size - old.all.0) E → Stands H longer (map (hash_leaf H) (leaves_read w) ++ map (hash_leaf H) T)
+    → Keeps H (record old { all = longer }) (read_on w head E)
+keeps_read_on H old w head E T longer k t s =
+    let size : old.all.0 ≡ length (leaves_read w) = k.all.size ∙ length-map (leaves_read w) (hash_leaf H) in
+    let e : T ≡ take (head.tree_size - length (leaves_read w)) E = t ∙ ap (λ n. take (head.tree_size - n) E) size in
+    record {
+      accepted = k.accepted;
+      waiting = k.waiting;
+      sure = k.sure;
+      all = joined H w.sure w.ahead (take (head.tree_size - length (leaves_read w)) E) longer (rw (← e) s)
+    }
+
+-- what is left after entries, where they began in the right place
+after_read : (H : List ℕ → List ℕ) (w : Watched) (head : Head) (E : List (List ℕ)) (v : Verdict) → WaitingSays H (read_on w head E) head v
+    → after_verdict (read_on w head E) head v ≡ after_entries w (Some head) E v
+after_read H w head E Accepted s = refl
+after_read H w head E (RootMismatch root) s = refl
+after_read H w head E Pending s = refl
+after_read H w head E Again s = absurd s
+after_read H w head E Stale s = absurd s
+after_read H w head E Shrunk s = absurd s
+after_read H w head E (Fork known) s = absurd s
+after_read H w head E Gap s = absurd s
+after_read H w head E Consistent s = absurd s
+after_read H w head E (Inconsistent fault) s = absurd s
+
+pub entries_say : {F : Type 0} (H : List ℕ → List ℕ) (old : WatcherState) (head : Head) (start : ℕ) (E : List (List ℕ)) (longer : ℕ × List (List ℕ)) (r : Result Verdict F)
+    → old.waiting ≡ Some head → start ≡ old.all.0 → ((w : Watched) → Keeps H old w → Keeps H (record old { all = longer }) (read_on w head E))
+    → IfOk r (λ v. (w : Watched) → Keeps H (record old { all = longer }) w → WaitingSays H w head v)
+    → IfOk r (λ v. (w : Watched) → Keeps H old w → EntriesSay H w w.waiting start E v)
+entries_say H old head start E longer (Ok v) waits starts keeps says = λ w k.
+    let e : w.waiting ≡ Some head = sym k.waiting ∙ waits in
+    let here : start ≡ length (leaves_read w) = starts ∙ k.all.size ∙ length-map (leaves_read w) (hash_leaf H) in
+    rw e (inr (here, says (read_on w head E) (keeps w k)))
+entries_say H old head start E longer (Err f) waits starts keeps says = says
+
+pub entries_keep : {F : Type 0} (H : List ℕ → List ℕ) (old new : WatcherState) (head : Head) (E : List (List ℕ)) (longer : ℕ × List (List ℕ)) (r : Result Verdict F)
+    → old.waiting ≡ Some head → ((w : Watched) → Keeps H old w → Keeps H (record old { all = longer }) (read_on w head E))
+    → IfOk r (λ v. (w : Watched) → Keeps H (record old { all = longer }) w → WaitingSays H w head v)
+    → IfOk r (λ v. (w : Watched) → Keeps H (record old { all = longer }) w → Keeps H new (after_verdict w head v))
+    → IfOk r (λ v. (w : Watched) → Keeps H old w → Keeps H new (after_entries w w.waiting E v))
+entries_keep H old new head E longer (Ok v) waits keeps says stands = λ w k.
+    let e : w.waiting ≡ Some head = sym k.waiting ∙ waits in
+    let next = read_on w head E in
+    subst (λ o. Keeps H new (after_entries w o E v)) (sym e)
+    (subst (Keeps H new) (after_read H w head E v (says next (keeps w k))) (stands next (keeps w k)))
+entries_keep H old new head E longer (Err f) waits keeps says stands = says

@@ -1,0 +1,32 @@
+-- What a watcher accepted over many answers, those of later runs that began with the saved state among them.
+use Rattle.std.specs.Prelude.{◌≡◌, ◌⊎◌, ⊤, ℕ, List, [], ◌∷◌, take, Some, All}
+use Rattle.ct_tree.specs.declared.head.Head.{Head}
+use Rattle.ct_monitor.specs.Heads.{IsHeadOfAll}
+use Rattle.ct_watch.specs.Watched.{Watched, waiting_or, after_verdict, nothing_seen}
+use Rattle.ct_watch.specs.Verdicts.{HeadSays, EntriesSay, after_entries}
+use Rattle.ct_watch.specs.declared.verdict.Verdict.{Verdict}
+use Rattle.ct_watch.specs.declared.verdict.Verdict.TheVariants.{Accepted}
+
+-- the verdict is that the waiting head is accepted
+abbrev pub SaysAccepted : Verdict → Type 0
+SaysAccepted Accepted = ⊤
+SaysAccepted v = ⊥
+
+-- a head or entries, their verdict v, and what has been handed out then (a proof changes nothing)
+abbrev pub IsStep : (List ℕ → List ℕ) → Watched → Verdict → Watched → Type 0
+IsStep H w v next = ((head : Head) × HeadSays H w head v × (next ≡ after_verdict w (waiting_or w.waiting head) v))
+    ⊎ ((start : ℕ) × (E : List (List ℕ)) × EntriesSay H w w.waiting start E v × (next ≡ after_entries w w.waiting E v))
+
+-- steps, one after the other
+unfoldable pub AreSteps : (List ℕ → List ℕ) → Watched → List (Verdict × Watched) → Type 0
+AreSteps H w [] = ⊤
+AreSteps H w (s ∷ steps) = IsStep H w s.0 s.1 × AreSteps H s.1 steps
+
+-- where a head was accepted by a step, it is that of the first leaves of D
+abbrev pub IsOfBeginning : (List ℕ → List ℕ) → List (List ℕ) → Verdict × Watched → Type 0
+IsOfBeginning H D s = SaysAccepted s.0 → (head : Head) × (n : ℕ) × (s.1.accepted ≡ Some head) × IsHeadOfAll H (take n D) head
+
+-- from the first answer on there is one list of leaves, so that each head that is accepted is that of a beginning of it
+abbrev pub AcceptedHeadsAgree : Type 0
+AcceptedHeadsAgree = (H : List ℕ → List ℕ) (steps : List (Verdict × Watched)) → AreSteps H nothing_seen steps
+    → (D : List (List ℕ)) × All (IsOfBeginning H D) steps

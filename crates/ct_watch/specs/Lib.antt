@@ -1,0 +1,4 @@
+pub mod Watched
+pub mod Verdicts
+pub mod WatcherState
+pub mod History

@@ -1,0 +1,59 @@
+-- What each verdict says.
+use Rattle.std.specs.Prelude.{◌≡◌, ◌⊎◌, ⊤, ℕ, ◌<◌, ◌≤◌, List, length, Some, None}
+use Rattle.std.specs.declared.option.Option.{Option}
+use Rattle.ct_tree.specs.Tree.{mth_of_leaves}
+use Rattle.ct_tree.specs.declared.head.Head.{Head}
+use Rattle.ct_verify.specs.Verdict.{AcceptsConsistency, RefusesConsistency}
+use Rattle.ct_watch.specs.Watched.{Watched, leaves_read, waiting_or, read_on, after_verdict}
+use Rattle.ct_watch.specs.declared.verdict.Verdict.{Verdict}
+use Rattle.ct_watch.specs.declared.verdict.Verdict.TheVariants.{Accepted, Pending, Again, Stale, Shrunk, Fork, RootMismatch, Gap, Consistent, Inconsistent}
+
+-- a head beside a known one that has as many leaves or more
+abbrev pub IsBeside : Head → Head → Verdict → Type 0
+IsBeside known head Stale = (head.tree_size < known.tree_size) × (head.timestamp < known.timestamp)
+IsBeside known head Shrunk = (head.tree_size < known.tree_size) × (known.timestamp ≤ head.timestamp)
+IsBeside known head Again = (head.tree_size ≡ known.tree_size) × (head.root ≡ known.root)
+IsBeside known head (Fork other) = (other ≡ known) × (head.tree_size ≡ known.tree_size) × (¬ (head.root ≡ known.root))
+IsBeside known head v = ⊥
+
+-- the verdict that stands against a head beside the known one, if any is
+abbrev pub IsSaid : Option Head → Head → Verdict → Type 0
+IsSaid None head v = ⊥
+IsSaid (Some known) head v = IsBeside known head v
+
+-- the head has more leaves than the known one, if any is
+abbrev pub IsLarger : Option Head → Head → Type 0
+IsLarger None head = ⊤
+IsLarger (Some known) head = known.tree_size < head.tree_size
+
+-- the waiting head beside all leaves that were read
+abbrev pub WaitingSays : (List ℕ → List ℕ) → Watched → Head → Verdict → Type 0
+WaitingSays H w head Accepted = (head.tree_size ≡ length (leaves_read w)) × (head.root ≡ mth_of_leaves H (leaves_read w))
+WaitingSays H w head (RootMismatch root) = (head.tree_size ≡ length (leaves_read w)) × (root ≡ mth_of_leaves H (leaves_read w)) × (¬ (head.root ≡ root))
+WaitingSays H w head Pending = ¬ (head.tree_size ≡ length (leaves_read w))
+WaitingSays H w head v = ⊥
+
+-- a head: beside the accepted one, then beside the waiting one; where it is larger than both, the one that waits now settles
+abbrev pub HeadSays : (List ℕ → List ℕ) → Watched → Head → Verdict → Type 0
+HeadSays H w head v = IsSaid w.accepted head v
+    ⊎ (IsLarger w.accepted head × (IsSaid w.waiting head v ⊎ (IsLarger w.waiting head × WaitingSays H w (waiting_or w.waiting head) v)))
+
+-- the leaves E from the index start on, where this head waits
+abbrev pub EntriesSay : (List ℕ → List ℕ) → Watched → Option Head → ℕ → List (List ℕ) → Verdict → Type 0
+EntriesSay H w None start E v = v ≡ Gap
+EntriesSay H w (Some head) start E v = ((v ≡ Gap) × (¬ (start ≡ length (leaves_read w))))
+    ⊎ ((start ≡ length (leaves_read w)) × WaitingSays H (read_on w head E) head v)
+
+-- what they leave
+abbrev pub after_entries : Watched → Option Head → List (List ℕ) → Verdict → Watched
+after_entries w None E v = w
+after_entries w (Some head) E Gap = w
+after_entries w (Some head) E v = after_verdict (read_on w head E) head v
+
+-- a consistency proof from the accepted head to the waiting one
+abbrev pub ProofSays : (List ℕ → List ℕ) → Option Head → Option Head → List (List ℕ) → Verdict → Type 0
+ProofSays H (Some first) (Some second) p Consistent = AcceptsConsistency H first.tree_size second.tree_size first.root second.root p
+ProofSays H (Some first) (Some second) p (Inconsistent fault) = RefusesConsistency H first.tree_size second.tree_size first.root second.root p fault
+ProofSays H (Some first) (Some second) p v = ⊥
+ProofSays H (Some first) None p v = v ≡ Gap
+ProofSays H None second p v = v ≡ Gap
