@@ -6,6 +6,7 @@ use Rattle.ct_tree.specs.declared.head.Head.{Head}
 use Rattle.ctlog.specs.declared.fault.Fault.{Fault}
 use Rattle.ctlog.specs.declared.fault.Fault.TheVariants as fault
 use Rattle.ct_core.specs.Settlement.{Log, IsFinal}
+use Rattle.ct_core.specs.Leaf.{Entry}
 use Rattle.ct_core.specs.Core.{Begins, CoreState, IsCovered, clock_of, last_moment}
 use Rattle.ct_house.specs.House.{HouseState, FrontView, FinalState, IsAllSettled, AreConsistent, accepted_lists}
 
@@ -28,22 +29,27 @@ pub record IsReady (old : HouseState) (ends : List FrontView) (now : ℕ) (h : H
 abbrev pub IsRefusedAtClosing : HouseState → ℕ → Refusal → Type 0
 IsRefusedAtClosing s now e = ((e ≡ ClockBack) × IsLate s.core now) ⊎ (e ≡ Memory)
 
+-- the entries go on with leaves of the moment now
+abbrev pub EntersAt : ℕ → List Entry → List Entry → Type 0
+EntersAt now old new = (late : List Entry) × (new ≡ old ++ late) × All (λ (e : Entry). e.timestamp ≡ now) late
+
 -- The log goes on from what this sequencer had published and settled: its heads are those that were published so far, and
--- one more, of the moment now, and its entries and its settlement begin with those that were settled so far.
+-- one more, of the moment now; its entries are those that were settled so far, and behind them leaves of the moment now; and
+-- its settlement begins with the one so far.
 pub record EndsAt (s : HouseState) (now : ℕ) (log : Log) : Type 0 where
   pub last : Head
   pub moment : last.timestamp ≡ now
   pub heads : log.heads ≡ s.core.published.heads ++ last ∷ []
-  pub entries : Begins s.core.entries log.entries
+  pub entries : EntersAt now s.core.entries log.entries
   pub settlement : Begins s.core.settlement log.settlement
 
 -- a fault of the closing at now: the clock's, which refuses the moment, or memory's
 abbrev pub IsClosingFault : CoreState → ℕ → Fault → Type 0
 IsClosingFault core now f = ((f ≡ fault.ClockBack) × IsLate core now) ⊎ (f ≡ fault.Memory)
 
--- all that was settled stays, in its order
-abbrev pub KeepsSettled : CoreState → CoreState → Type 0
-KeepsSettled old new = Begins old.entries new.entries × Begins old.settlement new.settlement
+-- all that was settled stays, in its order, and what settled behind it has leaves of the moment now
+abbrev pub KeepsSettled : ℕ → CoreState → CoreState → Type 0
+KeepsSettled now old new = EntersAt now old.entries new.entries × Begins old.settlement new.settlement
 
 -- What a house with these fronts leaves that was closed at now: the log is final for what they accepted, goes on from what the
 -- sequencer left, and no front was shown another log: what each has seen begins it, or is begun by it.

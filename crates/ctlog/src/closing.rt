@@ -35,7 +35,7 @@ fn settle_and_publish<H: Threads + Wait + Sync>(
     requires of_house { All (IsOfHouse sequencer.old.house) ends.old }
     requires in_order { AreInOrder (length sequencer.old.lanes) ends.old }
     ensures ready { IfOk result (λ h. IsReady sequencer.old ends.old now h sequencer.new) }
-    ensures kept { OnOk result (KeepsSettled sequencer.old.core sequencer.new.core) }
+    ensures kept { OnOk result (KeepsSettled now sequencer.old.core sequencer.new.core) }
     ensures ends { ends.new ≡ ends.old }
     ensures refused { IfErr result (λ e. IsRefusedAtClosing sequencer.old now e) }
 {
