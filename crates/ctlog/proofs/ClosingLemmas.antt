@@ -1,18 +1,19 @@
 -- What the closing leaves.
 use Rattle.std.proofs.Common.{◌≡◌, ◌⊎◌, ◌<◌, ◌≤◌, ◌+◌, ℕ, List, Bool, true, false, refl, sym, ap, subst, ◌∙◌, arith, inl, inr}
-use Rattle.std.specs.Prelude.{◌||◌, ◌++◌, All, map, if◌then◌else◌, nat_lt, Result, Ok, Err, IfErr, IfOk, OnOk}
+use Rattle.std.specs.Prelude.{◌≢◌, ◌||◌, All, map, if◌then◌else◌, nat_lt, None, Some, Result, Ok, Err, IfErr, IfOk, MatchResult, OnOk}
 use Rattle.std.proofs.lemmas.Bool.{ltb-true}
 use Rattle.std.proofs.lemmas.List.Elements.{All-map}
+use Rattle.std.proofs.lemmas.Option.{none-some}
 use Rattle.ct_codec.specs.declared.item.Item.{Item}
 use Rattle.ct_codec.specs.declared.refusal.Refusal.{Refusal}
-use Rattle.ct_codec.specs.declared.refusal.Refusal.TheVariants.{ClockBack, Memory}
+use Rattle.ct_codec.specs.declared.refusal.Refusal.TheVariants.{ClockBack, Memory, Shutdown}
 use Rattle.ct_tree.specs.declared.head.Head.{Head}
 use Rattle.ct_core.specs.Leaf.{Entry}
 use Rattle.ct_core.specs.Settlement.{Log, firsts_after}
 use Rattle.ct_core.specs.declared.settled.Settled.{Settled}
 use Rattle.ct_core.specs.Core.{Begins, CoreState, IsNextHead, after_publishing, entry_at, newest_leaf, last_moment, clock_of, publish_refusal, IsSettled}
 use Rattle.ct_house.specs.House.{FrontView, HouseState, SettlesMore}
-use Rattle.ctlog.specs.ClosedLog.{EndsAt, EntersAt, IsClosingFault, IsLate, IsReady, IsRefusedAtClosing, KeepsSettled}
+use Rattle.ctlog.specs.ClosedLog.{EndsAt, EntersAt, IsClosingFault, IsLate, IsReady, IsRefusedAtClosing, KeepsCount, KeepsSettled}
 use Rattle.ctlog.specs.Faults.{IsRefusalFault}
 use Rattle.ctlog.specs.declared.fault.Fault.{Fault}
 
@@ -72,6 +73,15 @@ closing_keeps (Ok h) old shut settled after items xs now same known s p =
     let there : IsSettled shut.core items = subst (λ (c : CoreState). IsSettled c items) (sym before) known in
     let kept : KeepsSettled now shut.core (after_publishing settled.core h) = (enters_at shut settled items xs now there s, s.core.settlement) in
     subst (λ (c : CoreState). KeepsSettled now c after.core) before (subst (λ (c : CoreState). KeepsSettled now shut.core c) (sym behind) kept)
+
+-- a shutdown that was made before stays, with its number
+pub closing_counts : (told : Result ℕ Refusal) (r : Result Head Refusal) (old shut settled after : HouseState) (xs : List Item) (now : ℕ)
+    → MatchResult told (λ n. (old.accepted ≡ None) × (shut.accepted ≡ Some n)) (λ e. (e ≡ Shutdown) × (old.accepted ≢ None) × (shut ≡ old))
+    → SettlesMore shut settled xs now → IfOk r (λ h. IsNextHead settled.core now h × (after ≡ record settled { core = after_publishing settled.core h })) → OnOk r (KeepsCount old after)
+closing_counts told (Err e) old shut settled after xs now t s p = tt
+closing_counts (Ok m) (Ok h) old shut settled after xs now t s p = λ n is. absurd (none-some n (sym t.0 ∙ is))
+closing_counts (Err e) (Ok h) old shut settled after xs now t s p =
+    λ n is. ap (λ (k : HouseState). k.accepted) p.1 ∙ s.accepted ∙ ap (λ (k : HouseState). k.accepted) t.2 ∙ is
 
 -- the log that the closing leaves goes on from what there was
 pub ends_at : (old new : HouseState) (ends : List FrontView) (now : ℕ) (h : Head) (log : Log) → IsReady old ends now h new → KeepsSettled now old.core new.core

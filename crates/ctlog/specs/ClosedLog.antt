@@ -1,5 +1,5 @@
 -- The closing of a log.
-use Rattle.std.specs.Prelude.{All, ◌≡◌, ◌≢◌, ◌⊎◌, ◌<◌, ◌≤◌, ℕ, List, [], ◌∷◌, ◌++◌, None}
+use Rattle.std.specs.Prelude.{All, ◌≡◌, ◌≢◌, ◌⊎◌, ◌<◌, ◌≤◌, ℕ, List, [], ◌∷◌, ◌++◌, Some, None}
 use Rattle.ct_codec.specs.declared.refusal.Refusal.{Refusal}
 use Rattle.ct_codec.specs.declared.refusal.Refusal.TheVariants.{ClockBack, Memory}
 use Rattle.ct_tree.specs.declared.head.Head.{Head}
@@ -51,10 +51,16 @@ IsClosingFault core now f = ((f ≡ fault.ClockBack) × IsLate core now) ⊎ (f 
 abbrev pub KeepsSettled : ℕ → CoreState → CoreState → Type 0
 KeepsSettled now old new = EntersAt now old.entries new.entries × Begins old.settlement new.settlement
 
+-- a shutdown stays, with the number that it found
+abbrev pub KeepsCount : HouseState → HouseState → Type 0
+KeepsCount old new = (n : ℕ) → old.accepted ≡ Some n → new.accepted ≡ Some n
+
 -- What a house with these fronts leaves that was closed at now: the log is final for what they accepted, goes on from what the
--- sequencer left, and no front was shown another log: what each has seen begins it, or is begun by it.
+-- sequencer left, and no front was shown another log: what each has seen begins it, or is begun by it. Where the sequencer was
+-- shut before, the number that its shutdown found is that of what was accepted.
 pub record Closes (s : HouseState) (fronts : List FrontView) (now : ℕ) (left : FinalState) : Type 0 where
   pub final : IsFinal (accepted_lists fronts) left.accepted left.log
+  pub counted : (n : ℕ) → s.accepted ≡ Some n → left.accepted ≡ n
   pub in_time : IsLate s.core now → ⊥
   pub ends : EndsAt s now left.log
   pub consistent : All (λ (f : FrontView). AreConsistent f.sight.seen left.log) fronts
