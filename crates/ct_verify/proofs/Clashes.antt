@@ -1,20 +1,20 @@
 -- The first clash of two lists and of a proof between them: where there is none the old list begins the new one, and
 -- where there is one it is a collision.
-use Rattle.std.proofs.Common.{refl, subst, ◌⊎◌, inl, inr, ⊎_elim, ◌≡◌, ℕ, ◌+◌, ◌-◌, ◌<◌, ◌≤◌, sym, ◌∙◌, ap, ap₂, arith, Bool, true, false, cond, List, [], ◌∷◌, ◌++◌, reverse, length, take, drop, map, get_or, Option, Some, None, length-drop}
-use Rattle.std.specs.Option.{option_or, option_map}
+use Rattle.std.proofs.Common.{refl, subst, ◌⊎◌, inl, inr, ⊎_elim, ◌≡◌, ℕ, ◌-◌, ◌<◌, ◌≤◌, sym, ◌∙◌, ap, ap₂, arith, Bool, true, false, cond, List, [], ◌∷◌, ◌++◌, reverse, length, take, drop, map, get_or, Option, Some, None, length-drop}
+use Rattle.std.specs.Option.{option_or}
 use Rattle.std.specs.Str.{bytes_eq}
 use Rattle.std.proofs.lemmas.Bool.{cases_Bool, cond-true, cond-false, both_ways}
 use Rattle.std.proofs.lemmas.Slice.Eq.{bytes_eq-Decides}
 use Rattle.std.proofs.lemmas.List.{length-map, take-map, drop-map, take_rest, length-take-le}
 use Rattle.ct_tree.proofs.Split.{split_pos, split_lt}
-use Rattle.ct_tree.specs.Tree.{split, hash_leaf, hash_node, mth_of_leaves}
+use Rattle.ct_tree.specs.Tree.{split, mth_of_leaves}
 use Rattle.ct_verify.proofs.Options.{none_some, same_some}
 use Rattle.ct_verify.proofs.Both.{both-end_whole, both-whole}
 use Rattle.ct_verify.proofs.Comparing.{same_parts}
 use Rattle.ct_verify.proofs.Shown.{tail_same, parts_right, leaves_length}
 use Rattle.ct_verify.proofs.Prefix.{same_one, same_halves, begun_whole, begun_left, begun_right}
 use Rattle.ct_verify.proofs.Walking.{split_within, one_pair, inner_left, inner_right, short}
-use Rattle.ct_verify.specs.Rebuild.{both_roots, both_down, same_pair}
+use Rattle.ct_verify.specs.Rebuild.{both_roots, both_down}
 use Rattle.ct_verify.specs.Evidence.{Collides}
 use Rattle.ct_verify.specs.Search.{NodesApart, SameRoot, Begun}
 use Rattle.ct_verify.specs.Clash.{clash_by, clash, root_string, ClashOfLists, leaf, node, ClashAlong, whole, left, right}

@@ -1,8 +1,8 @@
 -- What a consistency proof shows of two lists: the old one begins the new one, where no two strings
 -- that are compared on the way have one hash and differ. Each law is one step from the parts to the whole.
-use Rattle.std.proofs.Common.{refl, subst, ◌⊎◌, inl, inr, ◌≡◌, ℕ, ◌+◌, ◌-◌, ◌<◌, ◌≤◌, sym, ◌∙◌, ap, arith, Bool, false, List, [], ◌∷◌, ◌++◌, length, take, drop, get_or, map, Option, Some, None, length-drop}
+use Rattle.std.proofs.Common.{refl, ◌≡◌, ℕ, ◌+◌, ◌-◌, ◌<◌, ◌≤◌, sym, ◌∙◌, ap, arith, Bool, false, List, [], ◌∷◌, ◌++◌, length, take, drop, Some, None, length-drop}
 use Rattle.std.specs.Option.{option_map}
-use Rattle.std.proofs.lemmas.List.{length-map, take-map, drop-map, take_rest, length-take-le, take-append-drop, take-take, drop-take, take_all}
+use Rattle.std.proofs.lemmas.List.{length-take-le, take-append-drop, take-take, drop-take, take_all}
 use Rattle.ct_tree.proofs.Split.{split_lt}
 use Rattle.ct_tree.specs.Tree.{split, hash_leaf, hash_node, mth_of_leaves}
 use Rattle.ct_verify.proofs.RebuildLaws.{both_left, both_right}

@@ -1,15 +1,12 @@
 -- The steps of the walk through two lists along a consistency proof, as the code sees its slices.
-use Rattle.std.proofs.Common.{subst, ◌≡◌, ℕ, ◌-◌, ◌<◌, ◌≤◌, sym, ◌∙◌, ap, arith, Bool, true, false, cond, List, [], ◌∷◌, ◌++◌, reverse, length, take, drop, map, Some, length-drop}
-use Rattle.std.proofs.lemmas.List.{length-map, take-map, drop-map, take_rest, length-take-le}
-use Rattle.ct_tree.proofs.Split.{IsPower, IsSplit, split_is, split_unique, split_lt}
-use Rattle.ct_tree.specs.Tree.{split, hash_node, mth_of_leaves}
+use Rattle.std.proofs.Common.{subst, ◌≡◌, ℕ, ◌-◌, ◌<◌, ◌≤◌, sym, ◌∙◌, ap, arith, Bool, true, false, cond, List, [], ◌∷◌, ◌++◌, reverse, length, Some}
+use Rattle.ct_tree.proofs.Split.{IsPower, IsSplit, split_is, split_unique}
+use Rattle.ct_tree.specs.Tree.{split, hash_node}
 use Rattle.ct_verify.proofs.RebuildLaws.{both_left, both_right}
 use Rattle.ct_verify.proofs.Both.{both-end, both-end_whole, both-whole}
 use Rattle.ct_verify.proofs.Options.{none_some, same_some, mapped, reverse_last}
-use Rattle.ct_verify.proofs.Prefix.{begun_whole, begun_left, begun_right}
 use Rattle.ct_verify.specs.Climb.{pair_left, pair_right}
 use Rattle.ct_verify.specs.Rebuild.{both_roots, both_down, same_pair}
-use Rattle.ct_verify.specs.Search.{NodesApart, SameRoot, Begun}
 
 module _ (H : List ℕ → List ℕ) where
   pub short : (m n : ℕ) (b : Bool) (r : List ℕ) (p : List (List ℕ)) (z : List ℕ × List ℕ) → m < n → both_roots H m n b r p ≡ Some z → 0 < length p

@@ -67,3 +67,7 @@ pub record Reach : Type 0 where
 
 abbrev pub series_of : Reach → Series
 series_of r = record { book = r.book; line = r.last.line }
+
+-- what was reached here is behind what was reached there: its newest state has fewer heads
+abbrev pub IsBehind : Reach → Reach → Type 0
+IsBehind here there = length here.last.state.heads < length there.last.state.heads

@@ -5,7 +5,7 @@ ghost use Rattle.std.specs.Arc.{arc_value};
 ghost use Rattle.logbook.specs.Pages.{may_write};
 ghost use Rattle.ct_core.specs.Settlement.{Lawful};
 ghost use Rattle.ct_core.specs.Core.{Extends};
-ghost use Rattle.ct_versions.specs.Publications.{head_of, series_of, IsRight};
+ghost use Rattle.ct_versions.specs.Publications.{head_of, series_of, IsBehind, IsRight};
 
 use ct_core::Published;
 use logbook::{Gain, Pen, Plain, Play, Rule, Seen, Start, Word};
@@ -187,10 +187,10 @@ impl Reached {
         }
     }
 
-    /// Moves on to what was reached elsewhere, unless that is less. It says whether it did.
+    /// Moves on to what was reached elsewhere, unless that is behind. It says whether it did.
     pub fn follow(&mut self, other: &Reached) -> bool
         requires { series_of other.now ≡ series_of self.old }
-        ensures { MatchBool result (Extends self.old.last.state other.now.last.state × (self.new ≡ other.now)) (self.new ≡ self.old) }
+        ensures { MatchBool result (Extends self.old.last.state other.now.last.state × (self.new ≡ other.now)) (IsBehind other.now self.old × (self.new ≡ self.old)) }
     {
         let mut both = self.seen.again();
         both.learn(&other.seen);

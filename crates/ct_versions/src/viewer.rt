@@ -6,7 +6,7 @@ ghost use Rattle.ct_core.specs.Answers.{answer};
 ghost use Rattle.ct_core.specs.Replies.{shown, refused, takes_memory};
 ghost use Rattle.ct_core.specs.Settlement.{Lawful};
 ghost use Rattle.ct_core.specs.Core.{Extends};
-ghost use Rattle.ct_versions.specs.Publications.{Reach, series_of};
+ghost use Rattle.ct_versions.specs.Publications.{Reach, series_of, IsBehind};
 ghost use Rattle.ct_versions.specs.Sights.{Moves, sight_of};
 
 use crate::publications::Reached;
@@ -68,7 +68,7 @@ fn answer_at(
 ) -> Result<Reply, Refusal>
     requires { series_of version.now ≡ series_of reached.old }
     ensures moves { Moves (sight_of reached.old) (sight_of reached.new) }
-    ensures answer { MatchResult result (λ r. shown r ≡ answer reached.new.last.state query.now) (λ e. (e ≡ Refusal.Memory) ⊎ ((e ≡ Refusal.Closed) ⊎ (refused e ≡ answer reached.new.last.state query.now))) }
+    ensures answer { MatchResult result (λ r. shown r ≡ answer reached.new.last.state query.now) (λ e. (e ≡ Refusal.Memory) ⊎ (((e ≡ Refusal.Closed) × IsBehind version.now reached.old) ⊎ (refused e ≡ answer reached.new.last.state query.now))) }
     ensures memory { IfErr result (λ e. e ≡ Refusal.Memory → takes_memory (answer reached.new.last.state query.now) ≡ true) }
 {
     if reached.follow(version.reached()) {

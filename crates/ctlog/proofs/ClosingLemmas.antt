@@ -1,17 +1,19 @@
 -- What the closing leaves.
 use Rattle.std.proofs.Common.{◌≡◌, ◌⊎◌, ◌<◌, ◌≤◌, ◌+◌, ℕ, List, Bool, true, false, refl, sym, ap, subst, ◌∙◌, arith, inl, inr}
-use Rattle.std.specs.Prelude.{◌||◌, if◌then◌else◌, nat_lt, Result, Ok, Err, IfErr, IfOk, OnOk}
+use Rattle.std.specs.Prelude.{◌≢◌, ◌||◌, All, map, if◌then◌else◌, nat_lt, None, Some, Result, Ok, Err, IfErr, IfOk, MatchResult, OnOk}
 use Rattle.std.proofs.lemmas.Bool.{ltb-true}
+use Rattle.std.proofs.lemmas.List.Elements.{All-map}
+use Rattle.std.proofs.lemmas.Option.{none-some}
 use Rattle.ct_codec.specs.declared.item.Item.{Item}
 use Rattle.ct_codec.specs.declared.refusal.Refusal.{Refusal}
-use Rattle.ct_codec.specs.declared.refusal.Refusal.TheVariants.{ClockBack, Memory}
+use Rattle.ct_codec.specs.declared.refusal.Refusal.TheVariants.{ClockBack, Memory, Shutdown}
 use Rattle.ct_tree.specs.declared.head.Head.{Head}
 use Rattle.ct_core.specs.Leaf.{Entry}
-use Rattle.ct_core.specs.Settlement.{Log}
+use Rattle.ct_core.specs.Settlement.{Log, firsts_after}
 use Rattle.ct_core.specs.declared.settled.Settled.{Settled}
-use Rattle.ct_core.specs.Core.{Begins, CoreState, IsNextHead, after_publishing, newest_leaf, last_moment, clock_of, publish_refusal}
+use Rattle.ct_core.specs.Core.{Begins, CoreState, IsNextHead, after_publishing, entry_at, newest_leaf, last_moment, clock_of, publish_refusal, IsSettled}
 use Rattle.ct_house.specs.House.{FrontView, HouseState, SettlesMore}
-use Rattle.ctlog.specs.ClosedLog.{EndsAt, IsClosingFault, IsLate, IsReady, IsRefusedAtClosing, KeepsSettled}
+use Rattle.ctlog.specs.ClosedLog.{EndsAt, EntersAt, IsClosingFault, IsLate, IsReady, IsRefusedAtClosing, KeepsCount, KeepsSettled}
 use Rattle.ctlog.specs.Faults.{IsRefusalFault}
 use Rattle.ctlog.specs.declared.fault.Fault.{Fault}
 
@@ -52,25 +54,44 @@ pub closing_fault : (s : HouseState) (now : ℕ) (e : Refusal) (f : Fault) → I
 closing_fault s now e f (inl late) i = inl (i.clock_back late.0, late.1)
 closing_fault s now e f (inr memory) i = inr (i.memory memory)
 
--- the closing keeps what was settled
-pub closing_keeps : (r : Result Head Refusal) (old shut settled after : HouseState) (xs : List Item) (now : ℕ) → shut ≡ record old { accepted = shut.accepted } → SettlesMore shut settled xs now
-    → IfOk r (λ h. IsNextHead settled.core now h × (after ≡ record settled { core = after_publishing settled.core h })) → OnOk r (KeepsSettled old.core after.core)
-closing_keeps (Err e) old shut settled after xs now same s p = tt
-closing_keeps (Ok h) old shut settled after xs now same s p =
+-- the entries of items that are settled at now are of that moment
+of_moment : (now : ℕ) (xs : List Item) → All (λ (e : Entry). e.timestamp ≡ now) (map (entry_at now) xs)
+of_moment now xs = All-map (λ (e : Entry). e.timestamp ≡ now) (entry_at now) xs (λ k d within. refl)
+
+-- so are those by which a house settles more
+enters_at : (old new : HouseState) (items xs : List Item) (now : ℕ) → IsSettled old.core items → SettlesMore old new xs now → EntersAt now old.core.entries new.core.entries
+enters_at old new items xs now settled s = (map (entry_at now) (firsts_after items xs), (s.core.grows items settled).entries, of_moment now (firsts_after items xs))
+
+-- the closing keeps what was settled, and what it settles is of its moment
+pub closing_keeps : (r : Result Head Refusal) (old shut settled after : HouseState) (items xs : List Item) (now : ℕ) → shut ≡ record old { accepted = shut.accepted }
+    → IsSettled old.core items → SettlesMore shut settled xs now
+    → IfOk r (λ h. IsNextHead settled.core now h × (after ≡ record settled { core = after_publishing settled.core h })) → OnOk r (KeepsSettled now old.core after.core)
+closing_keeps (Err e) old shut settled after items xs now same known s p = tt
+closing_keeps (Ok h) old shut settled after items xs now same known s p =
     let before : shut.core ≡ old.core = ap (λ (t : HouseState). t.core) same in
     let behind : after.core ≡ after_publishing settled.core h = ap (λ (t : HouseState). t.core) p.1 in
-    let kept : KeepsSettled shut.core (after_publishing settled.core h) = (s.core.entries, s.core.settlement) in
-    subst (λ (c : CoreState). KeepsSettled c after.core) before (subst (λ (c : CoreState). KeepsSettled shut.core c) (sym behind) kept)
+    let there : IsSettled shut.core items = subst (λ (c : CoreState). IsSettled c items) (sym before) known in
+    let kept : KeepsSettled now shut.core (after_publishing settled.core h) = (enters_at shut settled items xs now there s, s.core.settlement) in
+    subst (λ (c : CoreState). KeepsSettled now c after.core) before (subst (λ (c : CoreState). KeepsSettled now shut.core c) (sym behind) kept)
+
+-- a shutdown that was made before stays, with its number
+pub closing_counts : (told : Result ℕ Refusal) (r : Result Head Refusal) (old shut settled after : HouseState) (xs : List Item) (now : ℕ)
+    → MatchResult told (λ n. (old.accepted ≡ None) × (shut.accepted ≡ Some n)) (λ e. (e ≡ Shutdown) × (old.accepted ≢ None) × (shut ≡ old))
+    → SettlesMore shut settled xs now → IfOk r (λ h. IsNextHead settled.core now h × (after ≡ record settled { core = after_publishing settled.core h })) → OnOk r (KeepsCount old after)
+closing_counts told (Err e) old shut settled after xs now t s p = tt
+closing_counts (Ok m) (Ok h) old shut settled after xs now t s p = λ n is. absurd (none-some n (sym t.0 ∙ is))
+closing_counts (Err e) (Ok h) old shut settled after xs now t s p =
+    λ n is. ap (λ (k : HouseState). k.accepted) p.1 ∙ s.accepted ∙ ap (λ (k : HouseState). k.accepted) t.2 ∙ is
 
 -- the log that the closing leaves goes on from what there was
-pub ends_at : (old new : HouseState) (ends : List FrontView) (now : ℕ) (h : Head) (log : Log) → IsReady old ends now h new → KeepsSettled old.core new.core
+pub ends_at : (old new : HouseState) (ends : List FrontView) (now : ℕ) (h : Head) (log : Log) → IsReady old ends now h new → KeepsSettled now old.core new.core
     → log ≡ new.core.published → EndsAt old now log
 ends_at old new ends now h log r kept same =
     let last : EndsAt old now new.core.published = record {
       last = h;
       moment = r.moment;
       heads = r.heads;
-      entries = subst (λ (es : List Entry). Begins old.core.entries es) (sym (r.covered.0)) kept.0;
+      entries = subst (λ (es : List Entry). EntersAt now old.core.entries es) (sym (r.covered.0)) kept.0;
       settlement = subst (λ (ts : List Settled). Begins old.core.settlement ts) (sym (r.covered.1)) kept.1;
     } in
     subst (λ (l : Log). EndsAt old now l) (sym same) last

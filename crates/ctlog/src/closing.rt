@@ -2,7 +2,7 @@
 
 ghost use Rattle.std.specs.Prelude.{◌≡◌, ◌⊎◌, List, length, All, IfOk, OnOk, IfErr};
 ghost use Rattle.ct_house.specs.House.{IsOfHouse, AreInOrder};
-ghost use Rattle.ctlog.specs.ClosedLog.{IsReady, IsRefusedAtClosing, IsClosingFault, Closes, KeepsSettled};
+ghost use Rattle.ctlog.specs.ClosedLog.{IsReady, IsRefusedAtClosing, IsClosingFault, Closes, KeepsCount, KeepsSettled};
 
 use crate::fault::Fault;
 use ct_codec::Refusal;
@@ -35,7 +35,8 @@ fn settle_and_publish<H: Threads + Wait + Sync>(
     requires of_house { All (IsOfHouse sequencer.old.house) ends.old }
     requires in_order { AreInOrder (length sequencer.old.lanes) ends.old }
     ensures ready { IfOk result (λ h. IsReady sequencer.old ends.old now h sequencer.new) }
-    ensures kept { OnOk result (KeepsSettled sequencer.old.core sequencer.new.core) }
+    ensures kept { OnOk result (KeepsSettled now sequencer.old.core sequencer.new.core) }
+    ensures counted { OnOk result (KeepsCount sequencer.old sequencer.new) }
     ensures ends { ends.new ≡ ends.old }
     ensures refused { IfErr result (λ e. IsRefusedAtClosing sequencer.old now e) }
 {

@@ -225,7 +225,7 @@ fn a_second_shutdown(rt: HostRuntime) {
 
 // The front's third line waits for the operator's head, and the operator's first for the front's items: this ends as it
 // does only where both work at a time. Every submission is told the shutdown, which comes before the head that the front
-// waited for.
+// waited for. A front that knows of the shutdown still answers.
 #[test]
 fn a_front_and_the_operator_that_wait_for_each_other(rt: HostRuntime) {
     let input = "{\"who\":0,\"op\":\"add-chain\",\"chain\":[\"QQ==\"]}
@@ -233,6 +233,7 @@ fn a_front_and_the_operator_that_wait_for_each_other(rt: HostRuntime) {
 {\"who\":0,\"op\":\"await-size\",\"tree_size\":1}
 {\"who\":0,\"op\":\"add-chain\",\"chain\":[\"Qg==\"]}
 {\"who\":0,\"op\":\"add-chain\",\"chain\":[\"Qg==\"]}
+{\"who\":0,\"op\":\"await-size\",\"tree_size\":1}
 {\"who\":\"operator\",\"op\":\"sequence\",\"from\":0,\"count\":2,\"now\":3}
 {\"who\":\"operator\",\"op\":\"shutdown\"}
 {\"who\":\"operator\",\"op\":\"publish\",\"now\":4}
@@ -245,6 +246,7 @@ fn a_front_and_the_operator_that_wait_for_each_other(rt: HostRuntime) {
 {\"reached\":1}
 {\"error\":\"shutdown\"}
 {\"error\":\"shutdown\"}
+{\"reached\":1}
 {\"settled\":2}
 {\"accepted\":2}
 {\"timestamp\":4,\"tree_size\":1}
@@ -335,7 +337,7 @@ fn three_fronts_with_one_certificate(rt: HostRuntime) {
     assert_eq!(rt; outcome.output.len(), 3 * 13 + frozen.len());
 }
 
-// With three turns to wait: what is there at once is answered, and what never comes is late.
+// With one turn to wait: what is there at once is answered, and what never comes is late.
 #[test]
 fn waits_that_are_too_long(rt: HostRuntime) {
     let words = ["ctlog", "--fronts", "1", "--ring", "4"];
@@ -349,7 +351,7 @@ fn waits_that_are_too_long(rt: HostRuntime) {
 {\"settled\":0}
 {\"error\":\"late\"}
 ";
-    let outcome = outcome_of(&rt, rt.alloc(), &words, 3, input);
+    let outcome = outcome_of(&rt, rt.alloc(), &words, 1, input);
     assert!(rt; wrote(&outcome, output));
 }
 
@@ -468,13 +470,13 @@ fn words_that_cannot_be_read(rt: HostRuntime) {
     assert!(rt; output.is_empty() && faults.as_slice() == b"ctlog: memory\n".as_slice());
 }
 
-// A reader that fails.
+// A reader that fails with this.
 #[derive(Drop)]
-struct NoInput;
+struct NoInput(ErrorKind);
 
 impl Read for NoInput {
     fn read(&mut self, _buf: &mut [u8]) -> io::Result<usize> {
-        Err(io::Error::from(ErrorKind::BrokenPipe))
+        Err(io::Error::from(self.0))
     }
 }
 
@@ -501,19 +503,24 @@ impl Write for Room {
 fn an_input_that_fails(rt: HostRuntime) {
     let alloc = rt.alloc();
     let words = ["ctlog", "--fronts", "1", "--ring", "4"];
-    let mut output: Vec<u8> = Vec::new(alloc);
-    let mut faults: Vec<u8> = Vec::new(alloc);
-    let status = run(
-        &rt,
-        alloc,
-        &words,
-        9,
-        &mut NoInput,
-        &mut output,
-        &mut faults,
-    );
-    assert!(rt; status == 1 && output.is_empty());
-    assert!(rt; faults.as_slice() == b"ctlog: read\n".as_slice());
+    for (kind, line) in [
+        (ErrorKind::BrokenPipe, "ctlog: read\n"),
+        (ErrorKind::OutOfMemory, "ctlog: memory\n"),
+    ] {
+        let mut output: Vec<u8> = Vec::new(alloc);
+        let mut faults: Vec<u8> = Vec::new(alloc);
+        let status = run(
+            &rt,
+            alloc,
+            &words,
+            9,
+            &mut NoInput(kind),
+            &mut output,
+            &mut faults,
+        );
+        assert!(rt; status == 1 && output.is_empty());
+        assert!(rt; faults.as_slice() == line.as_bytes());
+    }
 }
 
 // The replies have 13 and 109 bytes.

@@ -1,5 +1,5 @@
 -- The places that a tree has at an address.
-use Rattle.std.specs.Prelude.{◌≡◌, ℕ, ◌+◌, ◌/◌, ◌%◌, ◌==◌, List, [], ◌∷◌, ◌++◌, Bool, if◌then◌else◌, Option, Some, None}
+use Rattle.std.specs.Prelude.{ℕ, ◌+◌, ◌/◌, ◌%◌, ◌==◌, List, [], ◌∷◌, ◌++◌, Bool, if◌then◌else◌, Option, Some, None}
 use Rattle.place_table.specs.declared.trie.Slot.{Slot}
 use Rattle.place_table.specs.declared.trie.Trie.{Trie, Bucket, Fork'}
 

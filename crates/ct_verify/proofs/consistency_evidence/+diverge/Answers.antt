@@ -1,4 +1,4 @@
-use Rattle.std.proofs.Common.{length, arith, sym, ◌∙◌, ap, Vec, Global, ℕ, List}
+use Rattle.std.proofs.Common.{arith, sym, ◌∙◌, ap, Vec, Global, ℕ, List}
 use Rattle.std.proofs.lemmas.Result.{IfOk-weaker}
 use Rattle.ct_verify.proofs.Leaves.{leaves_single, leaves_joined}
 use Rattle.ct_verify.proofs.Clashes.{clash_of_leaves, clash_of_parts}

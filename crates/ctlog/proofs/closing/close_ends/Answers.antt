@@ -2,6 +2,7 @@ use Rattle.std.proofs.Common.{◌≡◌, List, length, sym, ap, subst, ◌∙◌
 use Rattle.std.specs.Prelude.{All}
 use Rattle.std.specs.Vec.{with_items}
 use Rattle.std.proofs.lemmas.List.{with_items_is}
+use Rattle.std.proofs.lemmas.Option.{same_Some}
 use Rattle.ct_core.specs.Settlement.{IsFinal}
 use Rattle.ct_house.specs.House.{AreConsistent, HouseName, FrontView, IsOfHouse, IsAllSettled, accepted_lists}
 use Rattle.ctlog.proofs.ClosingLemmas.{closing_fault, ends_at}
@@ -29,6 +30,7 @@ returns-in-Ok-clause-closes g c =
     let same : (with_items c.args.ends ends).items ≡ ends = with_items_is c.args.ends ends (ap length before ∙ sym c.args.ends.ok.0) in
     record {
       final = subst (λ (l : List FrontView). IsFinal (accepted_lists l) c.finish.result.accepted c.finish.result.log) (same ∙ before) c.finish.ensures.closes;
+      counted = λ n is. same_Some c.finish.result.accepted n (sym c.finish.ensures.same.1 ∙ c.in-Ok.ensures.counted n is);
       in_time = c.in-Ok.ensures.ready.in_time;
       ends = ends_at _ _ _ _ _ _ c.in-Ok.ensures.ready c.in-Ok.ensures.kept c.finish.ensures.same.0;
       consistent = subst (λ (l : List FrontView). All (λ (f : FrontView). AreConsistent f.sight.seen c.finish.result.log) l) (same ∙ before) c.finish.ensures.consistent;

@@ -1,4 +1,4 @@
-use Rattle.std.proofs.Common.{◌≡◌, sym, ◌∙◌}
+use Rattle.std.proofs.Common.{sym, ◌∙◌}
 use Rattle.place_table.specs.Looked.{places_in}
 use Rattle.place_table.proofs.Firsts.{first_where-keep, first_where-skip}
 use Rattle.place_table.proofs.search.first_or_later.Goals as goal
