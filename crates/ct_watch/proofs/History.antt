@@ -96,9 +96,11 @@ agree_from H w [] s = ([], λ k d h. absurd (omega (arith, h)))
 agree_from H w ((v, next) ∷ steps) s =
     let g = step_grows H w v next s.0 in
     let rest = agree_from H next steps s.1 in
-    let e : w.sure ++ (g.0.0 ++ rest.0) ≡ next.sure ++ rest.0 = sym (append_assoc w.sure g.0.0 rest.0) ∙ ap (λ x. x ++ rest.0) (sym g.0.1) in
-    (g.0.0 ++ rest.0, subst (λ D. All (IsOfBeginning H D) ((v, next) ∷ steps)) (sym e)
-    (All-cons (IsOfBeginning H (next.sure ++ rest.0)) (v, next) steps (of_beginning H v next rest.0 g.1) rest.1))
+    let e : w.sure ++ (g.0.0 ++ rest.0) ≡ next.sure ++ rest.0 = sym (append_assoc w.sure g.0.0 rest.0) ∙ ap (λ x. x ++ rest.0) (sym g.0.1) in (
+      g.0.0 ++ rest.0,
+      subst (λ D. All (IsOfBeginning H D) ((v, next) ∷ steps)) (sym e)
+          (All-cons (IsOfBeginning H (next.sure ++ rest.0)) (v, next) steps (of_beginning H v next rest.0 g.1) rest.1),
+    )
 
 pub accepted_heads_agree : AcceptedHeadsAgree
 accepted_heads_agree H steps s = agree_from H nothing_seen steps s

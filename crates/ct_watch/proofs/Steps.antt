@@ -49,7 +49,7 @@ keeps_read_on H old w head E T longer k t s =
       accepted = k.accepted;
       waiting = k.waiting;
       sure = k.sure;
-      all = joined H w.sure w.ahead (take (head.tree_size - length (leaves_read w)) E) longer (rw (← e) s)
+      all = joined H w.sure w.ahead (take (head.tree_size - length (leaves_read w)) E) longer (rw (← e) s);
     }
 
 -- what is left after entries, where they began in the right place
