@@ -113,6 +113,30 @@ pub(crate) struct TwoFronts {
     ghost of_house: { IsOfHouse house.house zero × IsOfHouse house.house one },
 }
 
+// Lets a retired front go on at the moment `now`; where that is refused, at the moment `later`. It answers the successor and the refusal.
+fn go_on<R: Threads + Abort + Sync>(
+    rt: &R,
+    alloc: Global,
+    house: &mut Sequencer,
+    end: Retired,
+    now: u64,
+    later: u64,
+) -> (Front, Option<Refusal>)
+    requires { IsOfHouse house.old.house end }
+    ensures house { house.new.house ≡ house.old.house }
+    ensures lanes { length house.new.lanes ≡ length house.old.lanes }
+    ensures front { result.0 ≡ end }
+{
+    let (refusal, end) = match house.succeed(rt, alloc, end, now) {
+        Ok(front) => return (front, None),
+        Err(refused) => refused,
+    };
+    match house.succeed(rt, alloc, end, later) {
+        Ok(front) => (front, Some(refusal)),
+        Err((refusal, _end)) => panic!(rt; "{refusal:?}"),
+    }
+}
+
 impl TwoFronts {
     pub(crate) fn open<R: Wait>(
         rt: &R,
@@ -355,13 +379,7 @@ impl TwoFronts {
             zero,
             one,
         } = self;
-        let (zero, refused) = match house.succeed(rt, alloc, zero.retire(), now) {
-            Ok(zero) => (zero, None),
-            Err((refusal, end)) => match house.succeed(rt, alloc, end, later) {
-                Ok(zero) => (zero, Some(refusal)),
-                Err((refusal, _end)) => panic!(rt; "{refusal:?}"),
-            },
-        };
+        let (zero, refused) = go_on(rt, alloc, &mut house, zero.retire(), now, later);
         let fronts = TwoFronts {
             alloc,
             house,
