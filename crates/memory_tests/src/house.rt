@@ -6,7 +6,7 @@ use crate::closed_log::ClosedHouse;
 use crate::refused::Refused;
 use ct_codec::{Refusal, Submission};
 use ct_core::{Query, Reply};
-use ct_house::{Front, Sequencer, open};
+use ct_house::{Front, Retired, Sequencer, open};
 use ct_tree::Head;
 use std::alloc::Global;
 use std::process::Abort;
@@ -48,6 +48,32 @@ fn opened<R: Wait>(
             open(rt, alloc, 2, ring, 0)
         }
         answer => answer,
+    }
+}
+
+// Lets a retired front go on.
+fn go_on<R: Threads + Abort + Sync>(
+    rt: &R,
+    alloc: Global,
+    house: &mut Sequencer,
+    end: Retired,
+    now: u64,
+    refused: &mut Refused,
+) -> Front
+    requires { IsOfHouse house.old.house end }
+    ensures house { house.new.house ≡ house.old.house }
+    ensures lanes { length house.new.lanes ≡ length house.old.lanes }
+    ensures front { result ≡ end }
+{
+    let (refusal, end) = match house.succeed(rt, alloc, end, now) {
+        Ok(front) => return front,
+        Err(refused) => refused,
+    };
+    assert_eq!(rt; refusal, Refusal::Memory);
+    refused.tell("succeed");
+    match house.succeed(rt, alloc, end, now) {
+        Ok(front) => front,
+        Err((refusal, _end)) => panic!(rt; "{refusal:?}"),
     }
 }
 
@@ -182,17 +208,7 @@ impl House {
             one,
             mut refused,
         } = self;
-        let zero = match house.succeed(rt, alloc, zero.retire(), now) {
-            Ok(zero) => zero,
-            Err((refusal, end)) => {
-                assert_eq!(rt; refusal, Refusal::Memory);
-                refused.tell("succeed");
-                match house.succeed(rt, alloc, end, now) {
-                    Ok(zero) => zero,
-                    Err((refusal, _end)) => panic!(rt; "{refusal:?}"),
-                }
-            }
-        };
+        let zero = go_on(rt, alloc, &mut house, zero.retire(), now, &mut refused);
         House {
             alloc,
             house,
