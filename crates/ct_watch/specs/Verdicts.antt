@@ -1,5 +1,5 @@
 -- What each verdict says.
-use Rattle.std.specs.Prelude.{◌≡◌, ◌⊎◌, ⊤, ℕ, ◌<◌, ◌≤◌, List, length, Some, None}
+use Rattle.std.specs.Prelude.{◌≡◌, ◌⊎◌, ⊤, Bool, true, false, ℕ, ◌<◌, ◌≤◌, List, length, Some, None}
 use Rattle.std.specs.declared.option.Option.{Option}
 use Rattle.ct_tree.specs.Tree.{mth_of_leaves}
 use Rattle.ct_tree.specs.declared.head.Head.{Head}
@@ -7,6 +7,14 @@ use Rattle.ct_verify.specs.Verdict.{AcceptsConsistency, RefusesConsistency}
 use Rattle.ct_watch.specs.Watched.{Watched, leaves_read, waiting_or, read_on, after_verdict}
 use Rattle.ct_watch.specs.declared.verdict.Verdict.{Verdict}
 use Rattle.ct_watch.specs.declared.verdict.Verdict.TheVariants.{Accepted, Pending, Again, Stale, Shrunk, Fork, RootMismatch, Gap, Consistent, Inconsistent}
+
+-- a verdict speaks against the log: a shrunk log, a fork, a root that isn't that of the leaves, an inconsistent proof
+abbrev pub accuses : Verdict → Bool
+accuses Shrunk = true
+accuses (Fork known) = true
+accuses (RootMismatch root) = true
+accuses (Inconsistent fault) = true
+accuses v = false
 
 -- a head beside a known one that has as many leaves or more
 abbrev pub IsBeside : Head → Head → Verdict → Type 0

@@ -1,4 +1,6 @@
 //! What is said of an answer of a log.
+ghost use Rattle.std.specs.Prelude.{◌≡◌};
+ghost use Rattle.ct_watch.specs.Verdicts.{accuses};
 
 use ct_tree::Head;
 use ct_verify::ProofFault;
@@ -30,7 +32,9 @@ pub enum Verdict {
 
 impl Verdict {
     /// Whether it speaks against the log.
-    pub fn accuses(&self) -> bool {
+    pub fn accuses(&self) -> bool
+        ensures { result ≡ accuses self.now }
+    {
         match self {
             Verdict::Shrunk
             | Verdict::Fork(_)
