@@ -1,30 +1,31 @@
-# make demo   builds ctlog and runs it on real certificates
-# make test   the gate: proves every crate from nothing, and runs the tests and the program
-# make check  for daily work: proves what changed
-# make link   builds libwagtenib, the proof checkers for C, and runs programs in C, Rust and Python over it
-# make install PREFIX=/usr/local   installs libwagtenib, its header and its pkg-config file
-# make fuzz   runs ctlog on random and damaged lines for SECONDS=60, and compares it with an independent program
-# make sweep  refuses each growth of ctlog and of the library's calls in turn, and judges what they then do
-# make load   runs the tests with sixteen threads and a shutdown among them 50 times, and ctlog so RUNS=20 times, and judges each output
-.PHONY: demo test check link install fuzz load sweep kit sources
+.PHONY: help demo test check link install fuzz load sweep sources
 
 SECONDS ?= 60
 RUNS ?= 20
 PREFIX ?= /usr/local
 
-demo: kit
+help: ## says what each target does
+	@sed -n 's/^\([a-z]*\):.*## /make \1	/p' Makefile | expand -t 15
+
+demo: ## builds ctlog, and runs it on a first session and on real certificates
+	@checks/needs.sh demo
 	@examples/demo.sh
 
-test: kit sources
+test: ## the gate: proves every crate from nothing, and runs the tests and the program
+	@checks/needs.sh test
+	@$(MAKE) --silent sources
 	rt ci
 
-check: kit sources
+check: ## for daily work: proves what changed
+	@checks/needs.sh check
+	@$(MAKE) --silent sources
 	rt all check
 
-link: kit
+link: ## builds libwagtenib, the proof checkers for C, and runs programs in C, Rust and Python over it
+	@checks/needs.sh link
 	@examples/link/link.sh
 
-install: crates/wagtenib/out/link/libwagtenib.a
+install: crates/wagtenib/out/link/libwagtenib.a ## installs libwagtenib, its header and its pkg-config file below PREFIX=/usr/local
 	install -d $(DESTDIR)$(PREFIX)/include $(DESTDIR)$(PREFIX)/lib/pkgconfig
 	install -m 644 include/wagtenib.h $(DESTDIR)$(PREFIX)/include
 	install -m 644 crates/wagtenib/out/link/libwagtenib.a $(DESTDIR)$(PREFIX)/lib
@@ -35,23 +36,22 @@ crates/wagtenib/out/link/libwagtenib.a:
 	@$(MAKE) --silent link
 
 # After `rt run -- --help` in crates/ctlog, which builds it.
-fuzz:
+fuzz: ## runs ctlog on random and damaged lines for SECONDS=60, and compares it with an independent program
 	@PYTHONDONTWRITEBYTECODE=1 python3 bench/fuzz.py --seconds $(SECONDS)
 
 # After the same, and after `rt test` in crates/house_tests.
-load:
+load: ## runs the tests with sixteen threads and a shutdown among them 50 times, and ctlog so RUNS=20 times, and judges each output
 	@PYTHONDONTWRITEBYTECODE=1 python3 bench/repeat.py
 	@PYTHONDONTWRITEBYTECODE=1 python3 bench/load.py --runs $(RUNS)
 
-# What no contract can say of the sources, and what docs/DEFINITIONS.md has to name.
-sources:
-	@PYTHONDONTWRITEBYTECODE=1 python3 checks/want_of_memory.py
-	@PYTHONDONTWRITEBYTECODE=1 python3 checks/definitions.py
-
 # After `rt run -- --help` in crates/ctlog and `rt test` in crates/memory_tests, which build what is swept.
-sweep:
+sweep: ## refuses each growth of ctlog and of the library's calls in turn, and judges what they then do
 	@PYTHONDONTWRITEBYTECODE=1 python3 bench/memory.py
 	@PYTHONDONTWRITEBYTECODE=1 python3 bench/sweep.py
 
-kit:
-	@command -v rt >/dev/null || { echo "The Rattle kit's command rt isn't on the PATH: add the kit's folder bin to it." >&2; exit 1; }
+# What no contract can say of the sources, what docs/DEFINITIONS.md has to name, and what the documents name.
+sources: ## looks through the sources, the documents and the scripts of examples/, in seconds and without a proof
+	@PYTHONDONTWRITEBYTECODE=1 python3 checks/want_of_memory.py
+	@PYTHONDONTWRITEBYTECODE=1 python3 checks/definitions.py
+	@docs/check.sh
+	@examples/scripts.sh

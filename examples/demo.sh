@@ -1,6 +1,6 @@
 #!/usr/bin/env bash
-# Builds ctlog, runs it on real certificate chains, through one front and through four at once, and compares what it
-# writes with what is expected. With CTLOG=PATH another program with the same command line is run in its place.
+# Builds ctlog, runs it on the first session of README.md and on real certificate chains, through one front and through four at once, and
+# compares what it writes with what is expected. With CTLOG=PATH another program with the same command line is run in its place.
 set -eu
 program=${CTLOG:+$(realpath "$CTLOG")}
 cd "$(dirname "$0")/.."
@@ -17,11 +17,8 @@ fail() {
 }
 
 build() {
-  echo "Building ctlog (the first time this proves it and the crates below it, which takes some minutes) .."
-  if ! (cd crates/ctlog && rt run -- --help) >"$work/log" 2>&1; then
-    cat "$work/log" >&2
-    fail "ctlog was not built"
-  fi
+  echo "Building ctlog: rt proves it and the crates below it, and says which it is at."
+  examples/build.py ctlog run -- --help || fail "ctlog was not built"
   echo
 }
 
@@ -67,6 +64,12 @@ lines_of() {
 }
 
 [ -n "${CTLOG:-}" ] || build
+
+echo "The first session of README.md: $program --fronts 1 --ring 4 --close-at 7 < examples/first-session.jsonl"
+"$program" --fronts 1 --ring 4 --close-at 7 <examples/first-session.jsonl >"$work/first-session" || fail "$program ended with status $?"
+cat "$work/first-session"
+diff "$work/first-session" examples/first-session.expected.jsonl >&2 || fail "the replies differ from examples/first-session.expected.jsonl"
+echo
 
 echo "One front: $program --fronts 1 --ring $ring --open-at $open_at --close-at $close_at < examples/real-chains.jsonl"
 run 1 real-chains

@@ -1,5 +1,5 @@
 #!/usr/bin/env bash
-# Tries the two scripts that stand beside ctlog, bad_lines.py and pem_lines.py, on stored input. It takes a second, and runs no ctlog.
+# Tries the scripts that stand beside ctlog, bad_lines.py, pem_lines.py and expected.py, on stored input. It takes some seconds, and runs no ctlog.
 set -eu
 cd "$(dirname "$0")"
 export PYTHONDONTWRITEBYTECODE=1
@@ -31,7 +31,7 @@ from mutations import mutated
 chance = random.Random(1)
 lines = [line for name in ("first-session", "four-fronts", "bad-lines") for line in pathlib.Path(f"{name}.jsonl").read_bytes().split(b"\n")]
 lines = [line for line in lines if 0 < len(line) < 2000]
-damaged = [piece for _ in range(4000) for piece in mutated(chance, chance.choice(lines), chance.choice(lines))[1].split(b"\n")]
+damaged = [piece for _ in range(1000) for piece in mutated(chance, chance.choice(lines), chance.choice(lines))[1].split(b"\n")]
 for line in filter(None, lines + damaged):
     if (reason(line, 4) is None) != (read_line(line, 4)[1] is not None):
         sys.exit(f"{line[:400]!r}: {reason(line, 4)}")
@@ -69,4 +69,11 @@ refuses "$work/precertificate" "a precertificate" "is a precertificate"
 refuses real-chains.jsonl "a file of no certificate" "no certificate"
 head -n 5 "$work/10.pem" >"$work/cut" && echo "-----END CERTIFICATE-----" >>"$work/cut"
 refuses "$work/cut" "a certificate that is cut off" "one value of DER"
-echo "bad_lines.py and pem_lines.py: as expected, over $(grep -c . bad-lines.jsonl) stored lines, 4000 damaged ones and $(grep -c . "$work/wanted") chains."
+# The stored replies are what expected.py computes.
+computes() {
+  python3 expected.py "$2" "$3" "$4" "$5" <"$1.jsonl" | cmp -s - "$1.expected.jsonl" || fail "expected.py computes other replies than $1.expected.jsonl"
+}
+computes first-session 1 4 0 7
+computes real-chains 1 32 1767225600000 1767225660000
+computes four-fronts 4 32 1767225600000 1767225660000
+echo "bad_lines.py and pem_lines.py: as expected, over $(grep -c . bad-lines.jsonl) stored lines, 1000 damaged ones and $(grep -c . "$work/wanted") chains."

@@ -1,0 +1,49 @@
+#!/usr/bin/env bash
+# Says what a target of the Makefile lacks here, and how long it takes on so many processors: needs.sh demo|test|check|link.
+# The times are those that docs/GATE.md has, shared out over the processors; more than eight gain little, since the crates wait for one another.
+set -u
+cd "$(dirname "$0")/.."
+what=$1
+missing=0
+
+lacks() {
+  echo "make $what lacks $1" >&2
+  missing=1
+}
+
+command -v rt >/dev/null || lacks "rt, the command of the Rattle kit: put the kit's folder bin on the PATH (README.md, 'The kit')"
+command -v python3 >/dev/null || lacks "python3, 3.8 or later"
+if command -v python3 >/dev/null && ! python3 -c 'import sys; sys.exit(sys.version_info < (3, 8))'; then
+  lacks "a python3 of 3.8 or later: this one is $(python3 --version 2>&1)"
+fi
+case $what in
+  demo) tools="cmp cut diff grep mktemp realpath sed seq sort tail uniq wc" ;;
+  link) tools="${CC:-cc} ar mktemp nm sed" ;;
+  *) tools="cmp diff grep mktemp" ;;
+esac
+for tool in $tools; do
+  command -v "$tool" >/dev/null || lacks "$tool"
+done
+[ "$missing" = 0 ] || exit 1
+
+kit=$(rt version)
+grep -qF "$kit" README.md || echo "This kit is $kit, and another than README.md names: proofs made with that one may fail here." >&2
+
+processors=$(python3 -c 'import os; print(len(os.sched_getaffinity(0)))')
+# The minutes that so many processor minutes take here, a third added where several share them, rounded up to five.
+minutes() {
+  python3 - "$1" "$processors" <<'END'
+import sys
+
+work, processors = map(int, sys.argv[1:])
+taken = work if processors == 1 else work * 4 / 3 / min(processors, 8)
+print(-(-int(taken) // 5) * 5)
+END
+}
+case $what in
+  demo) work=DEMO_MINUTES of="ctlog and the crates below it" ;;
+  link) work=LINK_MINUTES of="the crates below the library" ;;
+  test) work=155 of="everything, from nothing" ;;
+  *) exit 0 ;;
+esac
+echo "make $what proves $of. Where nothing was proved before that takes some $(minutes $work) minutes on $processors processors ($work of one processor)."
