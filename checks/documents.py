@@ -1,0 +1,175 @@
+#!/usr/bin/env python3
+"""What the documents name is there: links, files, functions, words of the code, and targets of the Makefile.
+
+It reads README.md, docs/*.md and the README.md of bench/ and examples/. A link has to lead to a file, and its # to a heading there. In code
+(spans and blocks) a path has to be a file of this repository, `Type::name` a function or a case, `name()` a function, a name with a capital inside or an
+underscore a word of the code, `make name` a target; and `make help` has to tell each target. A block below a comment `<!-- from FILE -->` has
+only text of that file, in its order (a line of `..` stands for what is left out, and lines may be broken otherwise). It prints each thing that isn't so, and ends with
+status 1 where there is one. Before that it tries itself on a page where each of these is wrong.
+"""
+import pathlib
+import re
+import sys
+
+from source import ROOT
+
+LINK = re.compile(r"\[[^\]]*\]\(([^)\s]+)\)")
+BLOCK = re.compile(r"^```.*?^```$|(?:^(?: {4}|\t)[^\n]*\n)+", re.M | re.S)
+SPAN = re.compile(r"`([^`]+)`")
+PATH = re.compile(r"(?<![\w/.<-])(?:[\w.-]+/)*[\w-]+(?:\.[\w-]+)*\.(?:rt|antt|py|sh|md|jsonl|txt|c|h|rs|in|edit)\b(?![\w/])|(?<![\w/.<:-])(?:[\w.-]+/)+(?![\w*])")
+PAIR = re.compile(r"\b([A-Za-z]\w*)::([A-Za-z]\w*)")
+CALL = re.compile(r"(?<![\w.])([a-z]\w*)\(\)")
+NAME = re.compile(r"\b(?:[A-Z][a-z0-9]+(?:[A-Z][a-z0-9]*)+|[a-z]+(?:_[a-z0-9]+)+)\b")
+MAKE = re.compile(r"\bmake ([a-z]+)")
+QUOTED = re.compile(r"^<!-- from (\S+) -->\n+(```.*?^```$|(?:^ {4}[^\n]*\n)+)", re.M | re.S)
+# The code: what the names have to stand in. The documents aren't code.
+CODE = ["crates/**/*.rt", "crates/**/*.antt", "crates/*/must-fail/*", "crates.txt", "HANDLES", "Makefile", "checks/*", "examples/*.py", "examples/*.sh"]
+CODE += ["examples/*.jsonl", "examples/link/*", "bench/*.py", "bench/*.sh", "bench/baseline/**/*", "bench/sweep/*", "include/*", "docs/*.sh"]
+# Words of the kit, of std, of the C library, of other crates and of standards, which stand in no code here.
+ELSEWHERE = set((ROOT / "checks" / "elsewhere.txt").read_text().split())
+
+
+def is_made(path):
+    """Whether a file is made by a build, or is git's."""
+    return {"out", ".git", "__pycache__"} & set(path.parts)
+
+
+def files():
+    return [path for path in ROOT.rglob("*") if path.is_file() and not is_made(path.relative_to(ROOT))]
+
+
+def pages():
+    return [ROOT / "README.md", *sorted((ROOT / "docs").glob("*.md")), ROOT / "bench" / "README.md", ROOT / "examples" / "README.md"]
+
+
+def words_of_code():
+    """Each word of the code, the names of its files and folders among them."""
+    found, own = set(), pathlib.Path(__file__).name
+    for pattern in CODE:
+        for path in ROOT.glob(pattern):
+            if path.is_file() and not is_made(path.relative_to(ROOT)) and path.name not in (own, "elsewhere.txt"):
+                found.update(re.findall(r"\w+", path.read_text(errors="replace")))
+    for path in files():
+        found.update(part.split(".")[0] for part in path.relative_to(ROOT).parts)
+    return found
+
+
+def functions_of_code():
+    """The names of functions, cases and fields, of definitions in specs/, and of targets: what may stand behind `::`."""
+    found = set()
+    for path in (ROOT / "crates").rglob("*.rt"):
+        text = path.read_text()
+        found.update(re.findall(r"\bfn (\w+)", text))
+        found.update(re.findall(r"^ *(\w+)(?:,|\(.*\),|\s*\{)$", text, re.M))
+        found.update(re.findall(r"\b(?:struct|enum|trait|mod|type|const) (\w+)", text))
+    return found
+
+
+def anchors(text):
+    """The anchors of a page's headings."""
+    titles = re.findall(r"^#+ (.*)$", re.sub(BLOCK, "", text), re.M)
+    return {re.sub(r"[^\w -]", "", title.lower()).replace(" ", "-") for title in titles}
+
+
+def targets():
+    text = (ROOT / "Makefile").read_text()
+    return set(re.findall(r"^([a-z]+):", text, re.M)), set(re.findall(r"^([a-z]+):.*## ", text, re.M))
+
+
+class Repository:
+    """What there is to be named."""
+
+    def __init__(self):
+        self.files, self.words, self.functions = files(), words_of_code(), functions_of_code()
+        self.names = {path.name for path in self.files}
+        self.targets, self.told = targets()
+
+    def has_path(self, path, page):
+        """Whether a path stands in the repository: from its top, the page's folder, crates/ or a crate, or at the end of some file's path."""
+        path = re.sub(r"^(?:\.\./)+", "", path)
+        if path.startswith(("out/", "/")) or "/out/" in f"/{path}":
+            return True
+        if "/" not in path:
+            return path in self.names
+        if path.endswith("/"):
+            return any(f"/{path}" in f"/{file.relative_to(ROOT)}" for file in self.files)
+        return any(f"/{file.relative_to(ROOT)}".endswith(f"/{path}") for file in self.files) or (page.parent / path).exists()
+
+    def faults_of_links(self, text, page):
+        for link in LINK.findall(text):
+            file, _, anchor = link.partition("#")
+            target = (page.parent / file).resolve() if file else page
+            if re.match(r"\w+:", link):
+                continue
+            if not target.exists():
+                yield f"the link {link} leads nowhere"
+            elif anchor and anchor not in anchors(text if target == page else target.read_text()):
+                yield f"the link {link} leads to no heading"
+
+    def faults_of_code(self, code, page):
+        """What a span or a block names that isn't there."""
+        for path in PATH.findall(code):
+            if not self.has_path(path, page) and path not in ELSEWHERE:
+                yield f"{path} is no file here"
+        for left, right in PAIR.findall(code):
+            if left not in ELSEWHERE and (left not in self.words or right not in self.functions):
+                yield f"{left}::{right} stands nowhere in the code"
+        for name in CALL.findall(code):
+            if name not in self.functions | ELSEWHERE:
+                yield f"{name}() is no function here"
+        for name in NAME.findall(code):
+            if name not in self.words | ELSEWHERE:
+                yield f"{name} stands nowhere in the code"
+        for name in MAKE.findall(code):
+            if name not in self.targets:
+                yield f"make {name} is no target"
+
+    def faults_of_quotations(self, text):
+        for file, block in QUOTED.findall(text):
+            if not (ROOT / file).is_file():
+                yield f"{file}, which is quoted, isn't here"
+                continue
+            left = " ".join((ROOT / file).read_text().split())
+            for part in re.split(r"^ *\.\.$|^```.*$", block, flags=re.M):
+                part = " ".join(part.split())
+                if part not in left:
+                    yield f"not in {file}, in this order: {part[:80]} .."
+                    break
+                left = left[left.index(part) + len(part) :]
+
+    def faults(self, text, page):
+        yield from self.faults_of_quotations(text)
+        yield from self.faults_of_links(re.sub(BLOCK, "", text), page)
+        prose = re.sub(BLOCK, "", text)
+        for code in BLOCK.findall(text) + SPAN.findall(re.sub(r"\s*\n(?:> )?\s*", " ", prose)):
+            yield from self.faults_of_code(code, page)
+
+
+WRONG = """# A page
+[a](no-such-page.md) and [b](#no-such-heading), `crates/ct_tree/src/absent.rt`, `Front::absent`, `absent()`, `AbsentWord`, `make nothing`.
+
+    make neither
+
+<!-- from Makefile -->
+    no line of it
+"""
+WRONG_IN = ["no-such-page.md leads", "#no-such-heading leads", "src/absent.rt is", "Front::absent stands", "absent() is", "AbsentWord stands"]
+WRONG_IN += ["make nothing is", "make neither is", "not in Makefile"]
+
+
+def main():
+    repository = Repository()
+    told = "\n".join(repository.faults(WRONG, ROOT / "README.md"))
+    missed = [fault for fault in WRONG_IN if fault not in told]
+    if missed:
+        sys.exit(f"checks/documents.py doesn't find what is wrong on a page of its own: {', '.join(missed)}")
+    found = [f"make help doesn't tell of {name}" for name in sorted(repository.targets - repository.told)]
+    for page in pages():
+        found += [f"{page.relative_to(ROOT)}: {fault}" for fault in dict.fromkeys(repository.faults(page.read_text(), page))]
+    for fault in found:
+        print(fault)
+    sys.exit(1 if found else 0)
+
+
+if __name__ == "__main__":
+    main()
