@@ -1,5 +1,5 @@
-"""Writes the cases for verify.c, verify.rs and verify.py: every true path and proof of the classical tree of eight leaves,
-and damaged ones, with the answer that the damage calls for. The tree is computed by ../merkle.py, and none of libwagtenib.
+"""Writes the cases for verify.c, verify.rs and verify.py: every true path and proof of the Certificate Transparency reference
+tree of eight leaves, and damaged ones, with the answer that the damage calls for. The tree is computed by ../merkle.py, and none of libwagtenib.
 With --header it writes C tables of the leaves and roots instead.
 """
 import os
@@ -8,7 +8,7 @@ import sys
 sys.path.insert(0, os.path.join(os.path.dirname(__file__), ".."))
 from merkle import leaf_hash, path, proof, root  # noqa: E402
 
-# The leaves that the tests of the public implementations of RFC 6962 share, and the root of all eight.
+# The published vectors of the Certificate Transparency reference tree: its eight leaves, and the root of all eight.
 LEAVES = [bytes.fromhex(text) for text in (
     "", "00", "10", "2021", "3031", "40414243", "5051525354555657", "606162636465666768696a6b6c6d6e6f")]
 ROOT = "5dc9da79a70659a9ad559cb701ded9a2ab9d823aad2f4960cfe370eff4604328"

@@ -10,11 +10,8 @@ done
 work=$(mktemp -d)
 trap 'rm -rf "$work"' EXIT
 
-echo "Building libwagtenib (the first time this proves it and the crates below it, which takes some minutes) .."
-if ! (cd crates/wagtenib && rt lib) >"$work/log" 2>&1; then
-  cat "$work/log" >&2
-  exit 1
-fi
+echo "Building libwagtenib: rt proves it and the crates below it, and says which it is at."
+examples/build.py wagtenib lib
 
 # The archive gets the kit's three functions over malloc inside, so that it needs the C library alone.
 heap=$(dirname "$(rt doc)")/c/liblibc_c.a
