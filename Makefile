@@ -54,4 +54,4 @@ sources: ## looks through the sources, the documents and the scripts of examples
 	@PYTHONDONTWRITEBYTECODE=1 python3 checks/want_of_memory.py
 	@PYTHONDONTWRITEBYTECODE=1 python3 checks/definitions.py
 	@docs/check.sh
-	@examples/scripts.sh
+	@PYTHONDONTWRITEBYTECODE=1 python3 examples/scripts.py

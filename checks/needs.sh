@@ -19,7 +19,7 @@ fi
 case $what in
   demo) tools="cmp cut diff grep mktemp realpath sed seq sort tail uniq wc" ;;
   link) tools="${CC:-cc} ar mktemp nm sed" ;;
-  *) tools="cmp diff grep mktemp" ;;
+  *) tools= ;;
 esac
 for tool in $tools; do
   command -v "$tool" >/dev/null || lacks "$tool"
@@ -27,23 +27,24 @@ done
 [ "$missing" = 0 ] || exit 1
 
 kit=$(rt version)
-grep -qF "$kit" README.md || echo "This kit is $kit, and another than README.md names: proofs made with that one may fail here." >&2
+[[ $(<README.md) == *"$kit"* ]] || echo "This kit is $kit, and another than README.md names: proofs made with that one may fail here." >&2
 
 processors=$(python3 -c 'import os; print(len(os.sched_getaffinity(0)))')
-# The minutes that so many processor minutes take here, a third added where several share them, rounded up to five.
+# The minutes that so many processor minutes take here, a third added where several share them, rounded to five.
 minutes() {
   python3 - "$1" "$processors" <<'END'
 import sys
 
 work, processors = map(int, sys.argv[1:])
 taken = work if processors == 1 else work * 4 / 3 / min(processors, 8)
-print(-(-int(taken) // 5) * 5)
+print(max(5, round(taken / 5) * 5))
 END
 }
+[ "$processors" = 1 ] && on="one processor" || on="$processors processors"
 case $what in
-  demo) work=30 of="ctlog and the crates below it" ;;
-  link) work=6 of="the crates below the library" ;;
-  test) work=155 of="everything, from nothing" ;;
+  demo) work=30 first="ctlog and the crates below it. Where nothing was proved before, that" ;;
+  link) work=6 first="the library and the crates below it. Where nothing was proved before, that" ;;
+  test) work=155 first="everything, from nothing. That" ;;
   *) exit 0 ;;
 esac
-echo "make $what proves $of. Where nothing was proved before that takes some $(minutes $work) minutes on $processors processors ($work of one processor)."
+echo "make $what proves $first takes some $(minutes $work) minutes on $on ($work of one processor)."
