@@ -1,6 +1,6 @@
 #!/usr/bin/env bash
 # Says what a target of the Makefile lacks here, and how long it takes on so many processors: needs.sh demo|test|check|link.
-# The times are those that docs/GATE.md has, shared out over the processors; more than eight gain little, since the crates wait for one another.
+# The times are those that docs/GATE.md has, shared out over the processors.
 set -u
 cd "$(dirname "$0")/.."
 what=$1
@@ -30,13 +30,16 @@ kit=$(rt version)
 [[ $(<README.md) == *"$kit"* ]] || echo "This kit is $kit, and another than README.md names: proofs made with that one may fail here." >&2
 
 processors=$(python3 -c 'import os; print(len(os.sched_getaffinity(0)))')
-# The minutes that so many processor minutes take here, a third added where several share them, rounded to five.
+# The minutes that so many processor minutes take here, rounded to five. The gate proves crates side by side: a third is added where processors share
+# them, and more than eight gain little. The others prove crate after crate, so that four processors are taken to halve the time.
 minutes() {
-  python3 - "$1" "$processors" <<'END'
+  python3 - "$1" "$processors" "$what" <<'END'
 import sys
 
-work, processors = map(int, sys.argv[1:])
-taken = work if processors == 1 else work * 4 / 3 / min(processors, 8)
+work, processors, what = int(sys.argv[1]), int(sys.argv[2]), sys.argv[3]
+taken = work / min(processors, 4) ** 0.5
+if what == "test" and processors > 1:
+    taken = work * 4 / 3 / min(processors, 8)
 print(max(5, round(taken / 5) * 5))
 END
 }
@@ -44,7 +47,7 @@ END
 case $what in
   demo) work=30 first="ctlog and the crates below it. Where nothing was proved before, that" ;;
   link) work=6 first="the library and the crates below it. Where nothing was proved before, that" ;;
-  test) work=155 first="everything, from nothing. That" ;;
+  test) work=175 first="everything, from nothing. That" ;;
   *) exit 0 ;;
 esac
 echo "make $what proves $first takes some $(minutes $work) minutes on $on ($work of one processor)."
