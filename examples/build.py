@@ -60,8 +60,7 @@ class Progress:
 
     def beat(self):
         """Says where it is, now and then."""
-        if self.crate:
-            self.say(f"{self.crate} .. {self.functions}".rstrip())
+        self.say(f"{self.crate} .. {self.functions}".rstrip() if self.crate else "rt looks through the sources, or puts the program together")
 
 
 def main():
