@@ -2,11 +2,13 @@
 """What the documents name is there: links, files, functions, words of the code, and targets of the Makefile.
 
 It reads README.md, docs/*.md and the README.md of bench/ and examples/. A link has to lead to a file, and its # to a heading there. In code
-(spans and blocks) a path has to be a file of this repository, `Type::name` a function or a case, `name()` a function, a name with a capital inside or an
-underscore a word of the code, `make name` a target; and `make help` has to tell each target. A block below a comment `<!-- from FILE -->` has
-only text of that file, in its order (a line of `..` stands for what is left out, and lines may be broken otherwise). It prints each thing that isn't so, and ends with
-status 1 where there is one. Before that it tries itself on a page where each of these is wrong.
+(spans and blocks) a path has to be a file of this repository, `Type::name` a function or a case, `name()` a function, `make name` a target; a
+name with a capital inside or an underscore, and a span of one word, have to stand in the code outside of comments, or in elsewhere.txt. And
+`make help` has to tell each target. A block below a comment `<!-- from FILE -->` has only text of that file, in its order (a line of `..` stands
+for what is left out, and lines may be broken otherwise). It prints each thing that isn't so, and ends with status 1 where there is one.
+Before that it tries itself on a page where each of these is wrong.
 """
+import os
 import pathlib
 import re
 import sys
@@ -22,9 +24,8 @@ CALL = re.compile(r"(?<![\w.])([a-z]\w*)\(\)")
 NAME = re.compile(r"\b(?:[A-Z][a-z0-9]+(?:[A-Z][a-z0-9]*)+|[a-z]+(?:_[a-z0-9]+)+)\b")
 MAKE = re.compile(r"\bmake ([a-z]+)")
 QUOTED = re.compile(r"^<!-- from (\S+) -->\n+(```.*?^```$|(?:^ {4}[^\n]*\n)+)", re.M | re.S)
-# The code: what the names have to stand in. The documents aren't code.
-CODE = ["crates/**/*.rt", "crates/**/*.antt", "crates/*/must-fail/*", "crates.txt", "HANDLES", "Makefile", "checks/*", "examples/*.py", "examples/*.sh"]
-CODE += ["examples/*.jsonl", "examples/link/*", "bench/*.py", "bench/*.sh", "bench/baseline/**/*", "bench/sweep/*", "include/*", "docs/*.sh"]
+# No code: this script's own page of faults, and the words of elsewhere.
+OWN = ("documents.py", "elsewhere.txt")
 # Words of the kit, of std, of the C library, of other crates and of standards, which stand in no code here.
 ELSEWHERE = set((ROOT / "checks" / "elsewhere.txt").read_text().split())
 
@@ -35,29 +36,35 @@ def is_made(path):
 
 
 def files():
-    return [path for path in ROOT.rglob("*") if path.is_file() and not is_made(path.relative_to(ROOT))]
+    """The paths of all files of the repository, from its top."""
+    found = []
+    for folder, below, names in os.walk(ROOT):
+        below[:] = [name for name in below if not is_made(pathlib.PurePath(name))]
+        found += [(pathlib.PurePath(folder) / name).relative_to(ROOT) for name in names if name != ".git"]
+    return found
 
 
 def pages():
     return [ROOT / "README.md", *sorted((ROOT / "docs").glob("*.md")), ROOT / "bench" / "README.md", ROOT / "examples" / "README.md"]
 
 
-def words_of_code():
-    """Each word of the code, the names of its files and folders among them."""
-    found, own = set(), pathlib.Path(__file__).name
-    for pattern in CODE:
-        for path in ROOT.glob(pattern):
-            if path.is_file() and not is_made(path.relative_to(ROOT)) and path.name not in (own, "elsewhere.txt"):
-                found.update(re.findall(r"\w+", path.read_text(errors="replace")))
-    for path in files():
-        found.update(part.split(".")[0] for part in path.relative_to(ROOT).parts)
+def words_of_code(paths):
+    """Each word of the code, comments of the crates left out, and the names of all files and folders."""
+    found = set()
+    for path in paths:
+        found.update(part.split(".")[0] for part in path.parts)
+        if path.suffix == ".md" or path.name in OWN:
+            continue
+        text = (ROOT / path).read_text(errors="replace")
+        comment = {".rt": r"//[^\n]*", ".antt": r"--[^\n]*"}.get(path.suffix)
+        found.update(re.findall(r"\w+", re.sub(comment, "", text) if comment else text))
     return found
 
 
 def functions_of_code():
     """The names of functions, cases and fields, of definitions in specs/, and of targets: what may stand behind `::`."""
     found = set()
-    for path in (ROOT / "crates").rglob("*.rt"):
+    for path in (ROOT / "crates").glob("*/src/**/*.rt"):
         text = path.read_text()
         found.update(re.findall(r"\bfn (\w+)", text))
         found.update(re.findall(r"^ *(\w+)(?:,|\(.*\),|\s*\{)$", text, re.M))
@@ -80,8 +87,9 @@ class Repository:
     """What there is to be named."""
 
     def __init__(self):
-        self.files, self.words, self.functions = files(), words_of_code(), functions_of_code()
-        self.names = {path.name for path in self.files}
+        paths = files()
+        self.files, self.names = [f"/{path}" for path in paths], {path.name for path in paths}
+        self.words, self.functions = words_of_code(paths), functions_of_code()
         self.targets, self.told = targets()
 
     def has_path(self, path, page):
@@ -92,8 +100,8 @@ class Repository:
         if "/" not in path:
             return path in self.names
         if path.endswith("/"):
-            return any(f"/{path}" in f"/{file.relative_to(ROOT)}" for file in self.files)
-        return any(f"/{file.relative_to(ROOT)}".endswith(f"/{path}") for file in self.files) or (page.parent / path).exists()
+            return any(f"/{path}" in file for file in self.files)
+        return any(file.endswith(f"/{path}") for file in self.files) or (page.parent / path).exists()
 
     def faults_of_links(self, text, page):
         for link in LINK.findall(text):
@@ -117,7 +125,8 @@ class Repository:
         for name in CALL.findall(code):
             if name not in self.functions | ELSEWHERE:
                 yield f"{name}() is no function here"
-        for name in NAME.findall(code):
+        names = NAME.findall(code) + [code] * bool(re.fullmatch(r"[A-Za-z]\w+", code))
+        for name in dict.fromkeys(names):
             if name not in self.words | ELSEWHERE:
                 yield f"{name} stands nowhere in the code"
         for name in MAKE.findall(code):
