@@ -75,9 +75,13 @@ def main():
     how = {"stdout": subprocess.PIPE, "stderr": subprocess.STDOUT, "stdin": subprocess.DEVNULL, "errors": "replace"}
     # (rt is a Python program: with this its own lines come as they are written)
     ran = subprocess.Popen(["rt", *words], cwd=ROOT / "crates" / crate, env={**os.environ, "PYTHONUNBUFFERED": "1"}, **how)
-    for line in ran.stdout:
-        progress.take(line)
-    status = ran.wait()
+    try:
+        for line in ran.stdout:
+            progress.take(line)
+        status = ran.wait()
+    except KeyboardInterrupt:
+        ran.wait()
+        sys.exit("stopped; what was proved is kept")
     ended.set()
     if status:
         sys.stderr.write("".join(progress.log))
