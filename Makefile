@@ -42,6 +42,7 @@ fuzz:
 load:
 	@PYTHONDONTWRITEBYTECODE=1 python3 bench/repeat.py
 	@PYTHONDONTWRITEBYTECODE=1 python3 bench/load.py --runs $(RUNS)
+	@PYTHONDONTWRITEBYTECODE=1 python3 bench/load.py --runs $(RUNS) --shifts 3
 
 # What no contract can say of the sources, and what docs/DEFINITIONS.md has to name.
 sources:
