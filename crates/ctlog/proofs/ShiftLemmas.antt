@@ -163,16 +163,19 @@ lanes_count s parties i = sym (length-map parties (λ (p : FrontParty). p.front)
 pub shift_refused : (start begun end : Parties) (shifts done : List Shift) (s : Shift) (rest : List Shift) (e : Fault) → DoShifts 1 start done begun → DoesShift begun s.work end → shifts ≡ done ++ s ∷ rest
     → IsEndRefused end.house s.now e → IsShiftFault start shifts e
 shift_refused start begun end shifts done s rest e before work is (inl memory) = inl (inr memory)
-shift_refused start begun end shifts done s rest e before work is (inr clock) = inr (clock.0, record {
-  done = done;
-  late = s;
-  among = (rest, is ∙ sym (append_assoc done (s ∷ []) rest));
-  begun = begun;
-  end = end;
-  shifts_done = before;
-  work = work;
-  refused = clock.1;
-})
+shift_refused start begun end shifts done s rest e before work is (inr clock) = inr (
+  clock.0,
+  record {
+    done = done;
+    late = s;
+    among = (rest, is ∙ sym (append_assoc done (s ∷ []) rest));
+    begun = begun;
+    end = end;
+    shifts_done = before;
+    work = work;
+    refused = clock.1;
+  },
+)
 
 -- ---- what is done, and what is left
 

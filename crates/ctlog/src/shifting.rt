@@ -177,7 +177,9 @@ fn serve_lent_house<R: Threads + Wait + Sync>(
     ensures faults { IfErr result (IsShiftFault (record { house = sequencer.old; told = []; fronts = parties.items }) shifts.items) }
 {
     let mut told = Vec::new(alloc);
-    let begun = serve_shifts(rt, alloc, sequencer, &mut told, parties, shifts, ends, turns)?;
+    let begun = serve_shifts(
+        rt, alloc, sequencer, &mut told, parties, shifts, ends, turns,
+    )?;
     let done = serve_shift(rt, alloc, sequencer, &mut told, begun, last, turns)?;
     let served = join_replies(alloc, done, &told)?;
     Ok(served)
