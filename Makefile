@@ -43,6 +43,7 @@ fuzz: ## runs ctlog on random and damaged lines for SECONDS=60, and compares it 
 load: ## runs the tests with sixteen threads and a shutdown among them 50 times, and ctlog so RUNS=20 times, and judges each output
 	@PYTHONDONTWRITEBYTECODE=1 python3 bench/repeat.py
 	@PYTHONDONTWRITEBYTECODE=1 python3 bench/load.py --runs $(RUNS)
+	@PYTHONDONTWRITEBYTECODE=1 python3 bench/load.py --runs $(RUNS) --shifts 3
 
 # After `rt run -- --help` in crates/ctlog and `rt test` in crates/memory_tests, which build what is swept.
 sweep: ## refuses each growth of ctlog and of the library's calls in turn, and judges what they then do

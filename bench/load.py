@@ -1,13 +1,14 @@
 #!/usr/bin/env python3
 """Runs ctlog with many fronts at once and a shutdown by the operator at a random place, and judges each output by examples/check.py.
 
-    load.py [PROGRAM] [--runs N] [--fronts N] [--lines N] [--seed S]
+    load.py [PROGRAM] [--runs N] [--fronts N] [--lines N] [--shifts N] [--seed S]
 
 Each front has so many lines, nine in ten of them submissions of some 250 certificates and 500 precertificates, the others questions for
-tree heads and receipts.
-The operator settles a random number of submissions, in small batches of some fronts by turns, publishes now and then, shuts the log
-twice and publishes once more. Nothing orders the fronts' lines and the shutdown, so it falls where the threads have come to: before all
-submissions, behind all, or in the middle. check.py judges the tickets, the order of the settlement and of the entries, the receipts, and each
+tree heads and receipts, and they fall into so many shifts of the same length.
+In the last shift the operator settles a random number of submissions, in small batches of some fronts by turns, publishes now and then, shuts
+the log twice and publishes once more; in the others it publishes once, and what the fronts submit settles as the shift ends. Nothing orders
+the fronts' lines of a shift and the shutdown, so it falls where the threads have come to: before all submissions of the last shift, behind
+all, or in the middle. check.py judges the tickets, the order of the settlement and of the entries, the receipts, and each
 root. At the first output that it refuses, the lines and the output are kept, and the status is 1.
 """
 import argparse
@@ -54,11 +55,10 @@ def front_line(source, front, lines):
     return line_of(front, "receipt", ticket=source.randrange(lines))
 
 
-def operator_lines(source, submissions):
+def operator_lines(source, submissions, now):
     """Settles some submissions of the first fronts, an eighth of all at most and mostly less, shuts the log, and publishes."""
     left = dict(enumerate(submissions[: source.randint(1, len(submissions))]))
     total = min(int((sum(submissions) / 8) ** source.random()) - 1, sum(left.values()))
-    now = OPEN_AT
     while total > 0:
         front = source.choice([front for front, count in left.items() if count])
         count = min(total, left[front], source.randint(1, 256))
@@ -72,13 +72,25 @@ def operator_lines(source, submissions):
     yield line_of("operator", "publish", now=now + 1)
 
 
-def input_of(seed, fronts, lines):
+def submissions_of(text):
+    return sum(SUBMISSION in line for line in text)
+
+
+def input_of(seed, fronts, lines, shifts):
+    """The lines of a run, and how many submissions stand in its last shift."""
     source = random.Random(seed)
-    texts = [[front_line(source, front, lines * fronts) for _ in range(lines)] for front in range(fronts)]
-    operator = list(operator_lines(source, [sum(SUBMISSION in line for line in text) for text in texts]))
+    given, now = [], OPEN_AT
+    for shift in range(1, shifts + 1):
+        texts = [[front_line(source, front, lines * fronts) for _ in range(lines // shifts)] for front in range(fronts)]
+        given += sum(texts, [])
+        if shift < shifts:
+            now += 2
+            given += [line_of("operator", "publish", now=now - 1), line_of("operator", "shift", now=now)]
+    counts = [submissions_of(text) for text in texts]
+    given += operator_lines(source, counts, now)
     pages = [line_of("frozen", "get-entries", start=start, end=start + 255) for start in range(0, 3 * CERTIFICATES, 256)]
     receipts = [line_of("frozen", "receipt", ticket=source.randrange(lines * fronts)) for _ in range(200)]
-    return "\n".join([*operator, *sum(texts, []), line_of("frozen", "get-sth"), *pages, *receipts]) + "\n"
+    return "\n".join([*given, line_of("frozen", "get-sth"), *pages, *receipts]) + "\n", sum(counts)
 
 
 def told(written):
@@ -88,9 +100,9 @@ def told(written):
     return replies['{"ticket":'], shutdowns
 
 
-def judge(program, seed, fronts, lines):
-    """Runs the program once, and answers what its submissions were told."""
-    given = input_of(seed, fronts, lines)
+def judge(program, seed, fronts, lines, shifts):
+    """Runs the program once, and answers what its submissions were told, and how many of the last shift were accepted."""
+    given, last = input_of(seed, fronts, lines, shifts)
     words = ["--fronts", str(fronts), "--ring", str(RING), "--open-at", str(OPEN_AT), "--close-at", str(CLOSE_AT)]
     done = subprocess.run([program, *words], input=given.encode(), capture_output=True, timeout=LONGEST_RUN, check=False)
     written = done.stdout.decode()
@@ -106,7 +118,7 @@ def judge(program, seed, fronts, lines):
         (kept / "lines.jsonl").write_text(given)
         (kept / "output.jsonl").write_text(written)
         sys.exit(f"load.py: seed {seed}: {fault!r}\nThe lines and the output are in {kept}")
-    return accepted, shut
+    return accepted, shut, last - shut
 
 
 def main():
@@ -115,17 +127,18 @@ def main():
     words.add_argument("--runs", type=int, default=20)
     words.add_argument("--fronts", type=int, default=16)
     words.add_argument("--lines", type=int, default=2000)
+    words.add_argument("--shifts", type=int, default=1)
     words.add_argument("--seed", type=int, default=int.from_bytes(os.urandom(4), "big"))
     given = words.parse_args()
     if not os.access(given.program, os.X_OK):
         sys.exit(f"load.py: {given.program} isn't there: build it by 'rt run -- --help' in crates/ctlog")
     fell = collections.Counter()
     for run in range(given.runs):
-        accepted, shut = judge(given.program, given.seed + run, given.fronts, given.lines)
-        fell["in the middle" if accepted and shut else "before all" if shut else "behind all"] += 1
+        accepted, shut, late = judge(given.program, given.seed + run, given.fronts, given.lines, given.shifts)
+        fell["in the middle" if late and shut else "before all" if shut else "behind all"] += 1
         print(f"seed {given.seed + run}: {accepted:,} submissions accepted, {shut:,} told the shutdown", flush=True)
     places = ", ".join(f"{place} of the submissions {count} times" for place, count in sorted(fell.items()))
-    print(f"{given.runs} runs of {given.fronts} fronts with {given.lines:,} lines each: check.py refuses none. The shutdown fell {places}.")
+    print(f"{given.runs} runs of {given.fronts} fronts with {given.lines:,} lines each, in {given.shifts} shifts: check.py refuses none. The last shift's shutdown fell {places}.")
 
 
 if __name__ == "__main__":

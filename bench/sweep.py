@@ -3,8 +3,8 @@
 
     sweep.py [PROGRAM] [--from N] [--most N]
 
-The script of lines has two fronts: A, B, A on front 0 and A on front 1, each kind of question, two publications, a shutdown, and the closed
-log's answers with an audit. It is run once with ample memory, and then with the first growth refused, the second, and so on, until a run makes
+The script of lines has two fronts and three shifts: A, B, A on front 0 and A on front 1, each kind of question and two publications; B and C on
+front 0, which settle as the second shift ends; then a question of each front, a shutdown, and the closed log's answers with an audit. It is run once with ample memory, and then with the first growth refused, the second, and so on, until a run makes
 fewer growths than that. `sweep/refuse.c`, which cc builds and the loader puts before the C library, refuses them, so the swept program is
 the built one as it is.
 
@@ -75,6 +75,13 @@ def script():
     yield line("operator", "sequence", **{"from": 0}, count=1, now=5)
     yield line("operator", "publish", now=6)
     yield line("operator", "sequence", **{"from": 1}, count=1, now=6)
+    yield line("operator", "shift", now=6)
+    yield line(0, "add-chain", chain=second)
+    yield line(0, "add-chain", chain=chain(b"C" * 60))
+    yield line(1, "await-size", tree_size=2)
+    yield line("operator", "shift", now=6)
+    yield line(1, "get-sth")
+    yield line(0, "get-sth")
     yield line("operator", "shutdown")
     yield "no request"
     for op, keys in questions:

@@ -40,9 +40,10 @@ def requests_of(lines, fronts):
     """The requests in the order of their replies: front 0's, front 1's and so on, the operator's, the frozen log's."""
     parties = [[] for _ in range(fronts + 2)]
     places = {**{front: front for front in range(fronts)}, "operator": fronts, "frozen": fronts + 1}
-    for line in filter(None, lines):
+    for number, line in enumerate(filter(None, lines)):
         try:
             request = json.loads(line)
+            request["line"] = number
             parties[places[request["who"]]].append(request)
         except (ValueError, KeyError, TypeError):
             parties[fronts].append({"who": "operator", "op": "no request"})
@@ -88,15 +89,16 @@ class Checker:
         return self.leaves[index][10:-2]
 
     def settlement_order(self):
-        """Settles anew what the operator's replies say was settled, and then the rest front by front."""
+        """Settles anew what the operator's replies say was settled: some of a front's, or at a shift's end all that was submitted
+        before it, front by front; and then the rest, front by front."""
         waiting = collections.defaultdict(collections.deque)
         for request, ticket in self.submissions:
-            waiting[request["who"]].append((ticket, entry_of(request)))
+            waiting[request["who"]].append((ticket, entry_of(request), request["line"]))
         entries, firsts = [], {}
 
         def settle(front, count, now):
             for _ in range(count):
-                ticket, entry = waiting[front].popleft()
+                ticket, entry, _ = waiting[front].popleft()
                 if entry not in firsts:
                     firsts[entry] = len(entries)
                     entries.append(bytes(2) + now.to_bytes(8, "big") + entry + bytes(2))
@@ -106,6 +108,9 @@ class Checker:
             claim(reply.get("error") != "late", "a line waited in vain")
             if "settled" in reply:
                 settle(request["from"], reply["settled"], request["now"])
+            if "shift" in reply:
+                for front in sorted(waiting):
+                    settle(front, sum(line < request["line"] for _, _, line in waiting[front]), request["now"])
             if request["op"] == "publish" and "tree_size" in reply:
                 claim(reply["tree_size"] == len(entries), "a head doesn't cover what was settled")
         for front in sorted(waiting):
@@ -181,6 +186,11 @@ class Checker:
         verdicts = ", ".join(reply["verdict"] for _, reply in asked)
         return f"{len(asked)} audits have the right verdict: {verdicts}"
 
+    def shifts(self):
+        numbers = [reply["shift"] for _, reply in self.replies_to("shift")]
+        claim(numbers == list(range(1, len(numbers) + 1)), "the shifts aren't numbered in order")
+        return f"{len(numbers) + 1} shifts, numbered in order"
+
     def refusals(self):
         names = [reply["error"] for _, reply in self.pairs if "error" in reply]
         return f"{len(names)} refusals: {', '.join(sorted(names))}"
@@ -214,7 +224,7 @@ def checked(fronts, given, written):
     claim(len(requests) == len(replies), f"{len(requests)} requests, but {len(replies)} replies")
     checker = Checker(list(zip(requests, replies)))
     checks = [checker.tickets, checker.settlement_order, checker.entries_are_submissions, checker.tree_heads, checker.inclusion_proofs]
-    return [check() for check in [*checks, checker.consistency_proofs, checker.receipts, checker.audits, checker.refusals]]
+    return [check() for check in [*checks, checker.consistency_proofs, checker.receipts, checker.audits, checker.shifts, checker.refusals]]
 
 
 def main():

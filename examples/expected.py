@@ -3,10 +3,11 @@
 
     expected.py FRONTS RING OPEN_AT CLOSE_AT < real-chains.jsonl
 
-An independent program: it shares no code with ctlog. The fronts and the operator take turns, each doing its lines until
-it has to wait, which is one of the schedules that threads may take. Tickets are written as `_` where there are several fronts: all else
+An independent program: it shares no code with ctlog. The fronts and the operator take turns, shift by shift, each doing its
+lines until it has to wait, which is one of the schedules that threads may take. Tickets are written as `_` where there are several fronts: all else
 has to come from any schedule, if the input is made so that it can. Waits that nothing ends and collisions aren't known to it.
-Where the clock refuses the closing it prints what ctlog has written by then, names the fault, and ends with status 1.
+Where the clock refuses the closing it prints what ctlog has written by then, and where it refuses the end of a shift
+nothing; it names the fault, and ends with status 1.
 """
 import base64
 import json
@@ -112,6 +113,11 @@ class Log:
                 self.entries.append((now, leaf, extra_data(precert, chain)))
             self.settled[ticket] = self.indexes[identity]
         del self.rings[front][:count]
+
+    def settle_all(self, now):
+        """Settles all that waits, front by front, and where nothing waits asks the clock all the same."""
+        for front in range(len(self.rings)):
+            self.settle(front, self.ring, now)
 
     def publish(self, now):
         if now < self.newest() or now <= self.heads[-1][1]:
@@ -269,6 +275,7 @@ OTHER_OPS = {
         "sequence": {"from": is_number, "count": is_number, "now": is_number},
         "publish": {"now": is_number},
         "shutdown": {},
+        "shift": {"now": is_number},
     },
     "frozen": {"audit": AUDIT, **QUERIES},
 }
@@ -338,41 +345,63 @@ def read_line(line, fronts):
 
 
 def give_out(lines, fronts):
-    """The requests of each party: front 0's first, the operator's and the frozen log's last."""
-    parties = [[] for _ in range(fronts + 2)]
-    places = {**{front: front for front in range(fronts)}, "operator": fronts, "frozen": fronts + 1}
+    """The shifts, and the frozen log's requests. A shift is the requests of each front and of the operator, who is the last of them,
+    and the moment at which it ends, which the last shift hasn't."""
+    shifts, frozen = [], []
+    parties = [[] for _ in range(fronts + 1)]
     for line in lines:
         who, request = read_line(line, fronts)
-        parties[places[who]].append(request)
-    return parties
+        if who == "frozen":
+            frozen.append(request)
+        elif who == "operator" and request and request[0] == "shift":
+            shifts.append((parties, request[1]["now"]))
+            parties = [[] for _ in range(fronts + 1)]
+        else:
+            parties[fronts if who == "operator" else who].append(request)
+    return [*shifts, (parties, None)], frozen
 
 
-def outcome(fronts, ring, open_at, close_at, given):
-    """The lines of the output for this input, and the name of the fault where one ends the program."""
-    parties = give_out(filter(None, given.split(b"\n")), fronts)
-    log = Log(fronts, ring, open_at)
-    doers = [lambda request, front=front: do_front(log, front, request) for front in range(fronts)]
-    doers.append(lambda request: do_operator(log, request))
+def do_shift(doers, parties):
+    """The replies of each party to its lines of one shift."""
     replies = [[] for _ in parties]
     done = -1
     while done < sum(map(len, replies)):
         done = sum(map(len, replies))
-        for party, do in enumerate(doers):
-            do_lines(do, parties[party], replies[party])
-    if any(len(replies[party]) < len(parties[party]) for party in range(len(doers))):
+        for do, lines, own in zip(doers, parties, replies):
+            do_lines(do, lines, own)
+    if any(len(own) < len(lines) for own, lines in zip(replies, parties)):
         raise WaitsInVain("a line waits, and nothing ends the wait")
-    fault = close(log, fronts, ring, close_at)
+    return replies
+
+
+def outcome(fronts, ring, open_at, close_at, given):
+    """The lines of the output for this input, and the name of the fault where one ends the program."""
+    shifts, asked = give_out(filter(None, given.split(b"\n")), fronts)
+    log = Log(fronts, ring, open_at)
+    doers = [lambda request, front=front: do_front(log, front, request) for front in range(fronts)]
+    doers.append(lambda request: do_operator(log, request))
+    replies = [[] for _ in doers]
+    for number, (parties, end) in enumerate(shifts, 1):
+        for all_replies, own in zip(replies, do_shift(doers, parties)):
+            all_replies += own
+        if end is not None:
+            try:
+                log.settle_all(end)
+            except Refused as refused:
+                return [], str(refused)
+            replies[-1].append({"shift": number})
+    frozen = []
+    fault = close(log, close_at)
     if fault is None:
-        do_lines(lambda request: log.answer(*request), parties[-1], replies[-1])
-    return [line_of(reply, fronts) for reply in sum(replies, [])], fault
+        do_lines(lambda request: log.answer(*request), asked, frozen)
+    return [line_of(reply, fronts) for reply in sum(replies, []) + frozen], fault
 
 
-def close(log, fronts, ring, close_at):
+def close(log, close_at):
     """Closes the log, and answers the fault where the clock refuses the moment."""
     log.shut = True
     try:
-        for front in range(fronts):
-            log.settle(front, ring, close_at)
+        log.settle_all(close_at)
         log.publish(close_at)
     except Refused as refused:
         return str(refused)

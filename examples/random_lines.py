@@ -28,6 +28,8 @@ BAD_LINES = [
     b'{"who":"frozen","op":"shutdown"}',
     b'{"who":"operator","op":"publish","now":1.0}',
     b'{"who":"operator","op":"sequence","from":99,"count":0,"now":0}',
+    b'{"who":"operator","op":"shift"}',
+    b'{"who":0,"op":"shift","now":0}',
     b'{"who":0,"op":"add-chain","chain":["QR=="]}',
     b'{"who":0,"op":"add-chain","chain":"QQ=="}',
     b'{"who":0,"op":"add-pre-chain","issuer_key_hash":"QQ==","tbs":"QQ==","chain":["QQ=="]}',
@@ -158,13 +160,19 @@ class Script:
                 self.ask(front, size)
         if self.random.random() < 0.3:
             self.lines.append(self.random.choice(BAD_LINES))
+        while self.random.random() < 0.3:
+            self.end_shift()
         self.now += self.random.randint(1, 3)
+
+    def end_shift(self):
+        """Ends a shift, at a moment that the clock takes."""
+        self.say("operator", "shift", now=self.now)
+        self.log.settle_all(self.now)
 
     def close(self):
         """Plays the closing."""
         self.log.shut = True
-        for front in range(self.fronts):
-            self.log.settle(front, RING, CLOSE_AT)
+        self.log.settle_all(CLOSE_AT)
         self.log.publish(CLOSE_AT)
 
     def text(self):

@@ -51,6 +51,7 @@ FROZEN = '{"who":"frozen","op":%s}\n'
 SEQUENCE = OPERATOR % '"sequence","from":%d,"count":%d,"now":%d'
 PUBLISH = OPERATOR % '"publish","now":%d'
 SHUTDOWN = OPERATOR % '"shutdown"'
+SHIFT = OPERATOR % '"shift","now":%d'
 STH = FROZEN % '"get-sth"'
 BAD = '{"error":"bad-line"}\n'
 HEAD = '{"sha256_root_hash":"%s","timestamp":%d,"tree_size":%d}\n'
@@ -187,6 +188,29 @@ ROWS = [
         error("late") * 2 + '{"settled":0}\n',
         0,
     ),
+    (
+        "a front with one place, over three shifts",
+        "--fronts 1 --ring 1 --close-at 9",
+        ADD_A + ADD_B + SHIFT % 3 + ADD_B + PUBLISH % 4 + '{"who":0,"op":"await-size","tree_size":1}\n' + SHIFT % 5
+        + '{"who":0,"op":"get-entry-and-proof","leaf_index":0,"tree_size":1}\n' + FROZEN % '"receipt","ticket":1',
+        ticket(0) + error("full") + ticket(1) + '{"reached":1}\n'
+        + '{"audit_path":[],"extra_data":"AAAA","leaf_input":"%s"}\n' % text(leaf(3, b"A"))
+        + '{"shift":1}\n{"timestamp":4,"tree_size":1}\n{"shift":2}\n'
+        + '{"extensions":"","leaf_index":1,"sct_version":0,"timestamp":5}\n',
+        0,
+    ),
+    (
+        "two fronts that were shut, and a shift behind it",
+        "--fronts 2 --ring 1 --close-at 9",
+        ADD_A.replace(":0,", ":1,") + SHIFT % 2 + ADD_B + SHIFT % 3 + SHUTDOWN + OPERATOR % '"shift","now":-4' + SHIFT % 4
+        + ADD_A.replace(":0,", ":1,") + '{"who":0,"op":"await-size","tree_size":2}\n' + PUBLISH % 5 + SHIFT % 6
+        + FROZEN % '"receipt","ticket":1',
+        ticket(1) + '{"reached":2}\n' + ticket(0) + error("shutdown")
+        + '{"shift":1}\n{"shift":2}\n{"accepted":2}\n' + BAD + '{"shift":3}\n{"timestamp":5,"tree_size":2}\n{"shift":4}\n'
+        + '{"extensions":"","leaf_index":1,"sct_version":0,"timestamp":3}\n',
+        0,
+    ),
+    ("a shift that the clock refuses", "--fronts 1 --ring 4", ADD_A + SHIFT % 3 + SHIFT % 2 + STH, "", 1),
     (
         "the real chains of the examples",
         "--fronts 1 --ring 32 --open-at 1767225600000 --close-at 1767225660000",

@@ -74,6 +74,11 @@ impl Front {
         }
     }
 
+    /// How many submissions were accepted.
+    pub fn accepted(&self) -> u64 {
+        self.accepted
+    }
+
     pub fn ask(&self, query: &Query) -> Result<Reply, Refusal> {
         let published = self.shared.published.read().expect("no thread panics");
         published.answer(query)
@@ -98,6 +103,7 @@ impl Front {
 /// The one who settles and publishes.
 pub struct Sequencer {
     shared: Arc<Shared>,
+    ring: usize,
     queues: Vec<Receiver<Item>>,
     indexes: HashMap<Identity, u64>,
     // What was settled since the last head: entries, and (ticket, index) for each settlement.
@@ -129,6 +135,7 @@ pub fn open(fronts: usize, ring: usize, now: u64) -> (Sequencer, Vec<Front>) {
     let fronts = fronts.collect();
     let sequencer = Sequencer {
         shared,
+        ring,
         queues,
         indexes: HashMap::new(),
         entries: Vec::new(),
@@ -217,16 +224,40 @@ impl Sequencer {
         Ok(Reply::Accepted(gate.accepted))
     }
 
+    // Settles what waits in the queue of a front that has gone.
+    fn settle_rest(&mut self, queue: Receiver<Item>, now: u64) {
+        let mut items = queue.into_iter().peekable();
+        while items.peek().is_some() {
+            let batch = items.by_ref().take(BATCH as usize).collect();
+            self.settle_batch(batch, now);
+        }
+    }
+
+    /// Ends a shift at this moment: settles what waits, and answers the fronts' successors. The fronts have gone, and had accepted so
+    /// many submissions.
+    pub fn succeed(&mut self, accepted: Vec<u64>, now: u64) -> Result<Vec<Front>, Refusal> {
+        self.check_clock(now)?;
+        self.progress(|progress| progress.over = false);
+        let (senders, queues): (Vec<_>, Vec<_>) =
+            accepted.iter().map(|_| sync_channel(self.ring)).unzip();
+        for queue in std::mem::replace(&mut self.queues, queues) {
+            self.settle_rest(queue, now);
+        }
+        let fronts = senders.into_iter().zip(accepted);
+        let fronts = fronts.map(|(queue, accepted)| Front {
+            shared: self.shared.clone(),
+            queue,
+            accepted,
+        });
+        Ok(fronts.collect())
+    }
+
     /// Shuts the log, settles what waits, and publishes the last head. The fronts have gone.
     pub fn close(mut self, now: u64) -> Result<Published, Refusal> {
         let _ = self.shutdown();
         self.check_clock(now)?;
         for queue in std::mem::take(&mut self.queues) {
-            let mut items = queue.into_iter().peekable();
-            while items.peek().is_some() {
-                let batch = items.by_ref().take(BATCH as usize).collect();
-                self.settle_batch(batch, now);
-            }
+            self.settle_rest(queue, now);
         }
         self.publish(now)?;
         let shared = Arc::into_inner(self.shared).expect("the fronts have gone");

@@ -65,6 +65,7 @@ pub enum Reply {
     Settled(u64),
     Published { timestamp: u64, tree_size: u64 },
     Accepted(u64),
+    Shift(u64),
     Holds,
     Refused,
 }
@@ -113,6 +114,7 @@ fn push_members(reply: &Reply, text: &mut Vec<u8>) {
             tree_size,
         } => push_published(*timestamp, *tree_size, text),
         Reply::Accepted(count) => push_number("accepted", *count, text),
+        Reply::Shift(number) => push_number("shift", *number, text),
         Reply::Holds => push_text("verdict", "holds", text),
         Reply::Refused => push_text("verdict", "refused", text),
     }

@@ -32,6 +32,7 @@ pub enum OperatorRequest {
     Sequence { from: u64, count: u64, now: u64 },
     Publish { now: u64 },
     Shutdown,
+    Shift { now: u64 },
 }
 
 /// A proof of inclusion to be checked.
@@ -94,6 +95,9 @@ fn operator_request(op: &str, value: &Value) -> Option<OperatorRequest> {
             now: number(value, "now")?,
         }),
         "shutdown" => Some(OperatorRequest::Shutdown),
+        "shift" => Some(OperatorRequest::Shift {
+            now: number(value, "now")?,
+        }),
         _ => None,
     }
 }

@@ -21,11 +21,12 @@ pub data FrontAsked : Type 0 where
   await_size : ℕ → FrontAsked
   front_query : Query → FrontAsked
 
--- what the operator asks; to sequence has a front, a count and a moment, to publish a moment
+-- what the operator asks; to sequence has a front, a count and a moment, to publish and to end a shift a moment
 pub data OperatorAsked : Type 0 where
   sequence : ℕ → ℕ → ℕ → OperatorAsked
   publish : ℕ → OperatorAsked
   shutdown : OperatorAsked
+  shift : ℕ → OperatorAsked
 
 -- a proof of inclusion: a leaf, its index, a tree size and an audit path
 pub data AuditAsked : Type 0 where
@@ -117,7 +118,8 @@ abbrev pub operator_asks : List ℕ → Data → Option OperatorAsked
 operator_asks op d =
     if bytes_eq op (codes "sequence") then sequence_asked d
     else (if bytes_eq op (codes "publish") then option_map publish (number_at (codes "now") d)
-    else (if bytes_eq op (codes "shutdown") then Some shutdown else None))
+    else (if bytes_eq op (codes "shutdown") then Some shutdown
+    else (if bytes_eq op (codes "shift") then option_map shift (number_at (codes "now") d) else None)))
 
 -- the op audit
 abbrev pub audit_asked : Data → Option AuditAsked

@@ -8,7 +8,7 @@ use Rattle.base64.specs.GeneralPurpose.{encode_of}
 use Rattle.ct_codec.specs.declared.refusal.Refusal.{Refusal}
 use Rattle.ct_codec.specs.declared.refusal.Refusal.TheVariants.{Memory, Full, Shutdown, FrontSpent, EmptyChain, EmptyCertificate, CertificateTooLong, ChainTooLong, ClockBack, UnknownSize, BadRange, UnknownLeaf, MissingFront, BadLine, NotYet, Late, Closed}
 use Rattle.ct_core.specs.declared.query.Reply.{Reply}
-use Rattle.ct_core.specs.Replies.{EntryText, Answer, a_head, a_proof, an_index, some_entries, an_entry, a_receipt, a_ticket, a_reached_size, a_settled_count, a_published_head, an_accepted_count, proof_holds, proof_refused, a_collision, refused, shown}
+use Rattle.ct_core.specs.Replies.{EntryText, Answer, a_head, a_proof, an_index, some_entries, an_entry, a_receipt, a_ticket, a_reached_size, a_settled_count, a_published_head, an_accepted_count, a_shift, proof_holds, proof_refused, a_collision, refused, shown}
 
 -- the name of a refusal
 abbrev pub refusal_name : Refusal → List ℕ
@@ -75,6 +75,7 @@ reply_data (a_reached_size n) = count_data (codes "reached") n
 reply_data (a_settled_count n) = count_data (codes "settled") n
 reply_data (a_published_head h) = object (member (codes "timestamp") (number_data h.timestamp) (member (codes "tree_size") (number_data h.tree_size) no_members))
 reply_data (an_accepted_count n) = count_data (codes "accepted") n
+reply_data (a_shift k) = count_data (codes "shift") k
 reply_data proof_holds = verdict_data (codes "holds")
 reply_data proof_refused = verdict_data (codes "refused")
 reply_data (a_collision left right) = object (member (codes "left") (bytes_data left) (member (codes "right") (bytes_data right) (member (codes "verdict") (string (codes "collision")) no_members)))

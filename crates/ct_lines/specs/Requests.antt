@@ -1,6 +1,6 @@
 -- The requests as the code has them.
 use Rattle.std.specs.Prelude.{map}
-use Rattle.ct_lines.specs.Asked.{Asked, by_front, by_operator, by_frozen, FrontAsked, add_chain, add_pre_chain, await_size, front_query, OperatorAsked, sequence, publish, shutdown, AuditAsked, audit, FrozenAsked, frozen_query, frozen_audit, Party, front, operator, frozen}
+use Rattle.ct_lines.specs.Asked.{Asked, by_front, by_operator, by_frozen, FrontAsked, add_chain, add_pre_chain, await_size, front_query, OperatorAsked, sequence, publish, shutdown, shift, AuditAsked, audit, FrozenAsked, frozen_query, frozen_audit, Party, front, operator, frozen}
 use Rattle.ct_lines.specs.declared.reading.Party.{Party as CodeParty}
 use Rattle.ct_lines.specs.declared.reading.Party.TheVariants as party_case
 use Rattle.ct_lines.specs.declared.request.FrontRequest.{FrontRequest}
@@ -25,6 +25,7 @@ abbrev pub operator_asked : OperatorRequest → OperatorAsked
 operator_asked (operator_case.Sequence from count now) = sequence from count now
 operator_asked (operator_case.Publish now) = publish now
 operator_asked operator_case.Shutdown = shutdown
+operator_asked (operator_case.Shift now) = shift now
 
 -- the proof of inclusion that is to be audited
 abbrev pub audit_of : Audit → AuditAsked

@@ -169,6 +169,10 @@ fn operator_request(op: &str, value: &Value) -> Option<OperatorRequest>
             None => None,
         },
         "shutdown" => Some(OperatorRequest::Shutdown),
+        "shift" => match fields::number(value, "now") {
+            Some(now) => Some(OperatorRequest::Shift { now }),
+            None => None,
+        },
         _ => None,
     }
 }

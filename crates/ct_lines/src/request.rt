@@ -44,6 +44,8 @@ pub enum OperatorRequest {
     Publish { now: u64 },
     /// To accept no submission from now on.
     Shutdown,
+    /// To end a shift of the fronts at the moment `now`, in milliseconds.
+    Shift { now: u64 },
 }
 
 /// What a reader of the frozen log asks.

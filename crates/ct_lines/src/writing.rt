@@ -188,6 +188,7 @@ fn shown_value(alloc: Global, reply: &Reply) -> Result<Value, Memory>
         Reply::Settled(count) => count_value(alloc, "settled", *count),
         Reply::Published(head) => published_value(alloc, head),
         Reply::Accepted(count) => count_value(alloc, "accepted", *count),
+        Reply::Shift(number) => count_value(alloc, "shift", *number),
         Reply::Holds => verdict_value(alloc, "holds"),
         Reply::Refused => verdict_value(alloc, "refused"),
         Reply::Collision(left, right) => collision_value(alloc, left, right),

@@ -1,4 +1,4 @@
--- The fronts of a house, before and after they did their tasks.
+-- The fronts of a new house.
 use Rattle.std.proofs.Common.{◌≡◌, ◌<◌, ◌+◌, ℕ, List, length, map, sym, ap, subst, ◌∙◌, arith, Vec, Global, get_or}
 use Rattle.std.specs.Prelude.{Some, All, slice_get}
 use Rattle.std.specs.Option.{option_map}
@@ -8,16 +8,9 @@ use Rattle.std.proofs.lemmas.List.FromFn.{length-range_with_len, get_or-range_wi
 use Rattle.std.proofs.lemmas.Option.{get_or_from_slice_get, slice_get-get_or, slice_get-map}
 use Rattle.ct_core.proofs.SettlementLemmas.{slice_get_is}
 use Rattle.ct_house.specs.House.{HouseName, HouseState, FrontView, IsNewHouse, IsOfHouse, AreInOrder, numbers_of, empty_lane}
-use Rattle.ctlog.specs.declared.task.FrontTask.{FrontTask}
-use Rattle.ctlog.specs.declared.task.OperatorTask.{OperatorTask}
 use Rattle.ctlog.specs.declared.party.FrontParty.{FrontParty}
-use Rattle.ctlog.specs.declared.party.OperatorParty.{OperatorParty}
-use Rattle.ctlog.specs.OperatorWork.{GoesOn}
-use Rattle.ctlog.specs.Parties.{AreSame}
-use Rattle.ctlog.specs.Plans.{task_asked}
-use Rattle.ctlog.specs.Tasks.{Task, front_parts}
-use Rattle.ctlog.specs.Output.{AreGiven, AreParties, fronts_of}
-use Rattle.ctlog.proofs.PartyLemmas.{are_of_house, same_numbers}
+use Rattle.ctlog.specs.Parties.{AreFrontsOf, Parties, fronts_of}
+use Rattle.ctlog.specs.Output.{AreNewParties}
 
 -- a new house has as many lanes as fronts
 pub lanes_of_new : (s : HouseState) (fronts : List FrontView) (n places now : ℕ) → IsNewHouse s fronts n places now → length s.lanes ≡ n
@@ -42,25 +35,14 @@ new_in_order s fronts n places now i =
     ∙ (let f = i.each k x at in f.number) ∙ sym (get_or-range_with_len 0 n k d small ∙ z)) in
     all ∙ ap (range_with_len 0) (sym (lanes_of_new s fronts n places now i))
 
--- the same of the fronts that did their tasks, when the house has gone on
-pub went_of_house : (old new : HouseState) (xs ys : List FrontView) → GoesOn old new → AreSame xs ys → All (IsOfHouse old.house) xs → All (IsOfHouse new.house) ys
-went_of_house old new xs ys g same own = subst (λ (h : HouseName). All (IsOfHouse h) ys) (sym g.house) (are_of_house old.house xs ys same own)
-
-pub went_in_order : (old new : HouseState) (xs ys : List FrontView) → GoesOn old new → AreSame xs ys → AreInOrder (length old.lanes) xs → AreInOrder (length new.lanes) ys
-went_in_order old new xs ys g same o = same_numbers xs ys same ∙ o ∙ ap (range_with_len 0) (sym g.count)
-
--- what each party does is what its list has
-parties_have : (parties : List FrontParty) (lists : List (Vec FrontTask Global)) (ts : List Task) → map (λ (p : FrontParty). p.tasks) parties ≡ lists
-    → ((k : ℕ) (v : Vec FrontTask Global) → slice_get lists k ≡ Some v → map task_asked v.items ≡ front_parts k ts)
-    → (k : ℕ) (p : FrontParty) → slice_get parties k ≡ Some p → map task_asked p.tasks.items ≡ front_parts k ts
-parties_have parties lists ts e each k p at =
-    each k p.tasks (ap (λ (l : List (Vec FrontTask Global)). slice_get l k) (sym e) ∙ slice_get-map (λ (q : FrontParty). q.tasks) parties k ∙ ap (option_map (λ (q : FrontParty). q.tasks)) at)
-
-pub parties_are : (n places open_at : ℕ) (ts : List Task) (operator : OperatorParty) (parties : List FrontParty) (fronts : List FrontView) (lists : List (Vec FrontTask Global)) (tasks : List OperatorTask)
-    → IsNewHouse operator.sequencer fronts n places open_at → fronts_of parties ≡ fronts → map (λ (p : FrontParty). p.tasks) parties ≡ lists → operator.tasks.items ≡ tasks
-    → AreGiven ts lists tasks → AreParties n places open_at ts operator parties
-parties_are n places open_at ts operator parties fronts lists tasks i of have own given = record {
-  fresh = subst (λ (l : List FrontView). IsNewHouse operator.sequencer l n places open_at) (sym of) i;
-  fronts = parties_have parties lists ts have given.each;
-  operated = own ∙ given.operated;
+-- a new house's fronts are all its fronts
+pub new_fronts : (n places open_at : ℕ) (start : Parties) → AreNewParties n places open_at start → 0 < n → AreFrontsOf start.house (fronts_of start.fronts)
+new_fronts n places open_at start i some = record {
+  of_house = new_of_house start.house (fronts_of start.fronts) n places open_at i.fresh;
+  in_order = new_in_order start.house (fronts_of start.fronts) n places open_at i.fresh;
+  some = subst (λ (k : ℕ). 0 < k) (sym i.fresh.count) some;
 }
+
+-- and as many
+pub new_count : (n places open_at : ℕ) (start : Parties) → AreNewParties n places open_at start → n ≡ length start.fronts
+new_count n places open_at start i = sym i.fresh.count ∙ length-map start.fronts (λ (p : FrontParty). p.front)

@@ -34,7 +34,7 @@ goes_on_both a b c p q = record {
 }
 
 -- nothing was settled
-settles_none : (s : HouseState) (now : ℕ) → SettlesMore s s [] now
+pub settles_none : (s : HouseState) (now : ℕ) → SettlesMore s s [] now
 settles_none s now = record {
   house = refl;
   accepted = refl;
@@ -58,7 +58,7 @@ core_grows_both a b c xs ys now s t = record {
 }
 
 -- two settlings at one moment
-settles_both : (a b c : HouseState) (xs ys : List Item) (now : ℕ) → SettlesMore a b xs now → SettlesMore b c ys now → SettlesMore a c (xs ++ ys) now
+pub settles_both : (a b c : HouseState) (xs ys : List Item) (now : ℕ) → SettlesMore a b xs now → SettlesMore b c ys now → SettlesMore a c (xs ++ ys) now
 settles_both a b c xs ys now s t = record {
   house = t.house ∙ s.house;
   accepted = t.accepted ∙ s.accepted;

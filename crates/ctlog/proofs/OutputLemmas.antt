@@ -5,18 +5,16 @@ use Rattle.std.specs.Io.KnownBytes.{Appends, Keeps, Consumes, IsAtEnd}
 use Rattle.ct_core.specs.Settlement.{Log}
 use Rattle.ct_house.specs.House.{HouseState, FrontView}
 use Rattle.ct_lines.specs.Frozen.{frozen_text}
-use Rattle.ctlog.specs.declared.party.FrontParty.{FrontParty}
-use Rattle.ctlog.specs.declared.party.OperatorParty.{OperatorParty}
+use Rattle.ctlog.specs.declared.party.Shift.{Shift}
+use Rattle.ctlog.specs.declared.party.Work.{Work}
 use Rattle.ctlog.specs.declared.fault.Fault.{Fault}
-use Rattle.ctlog.specs.declared.plan.Plan.{Plan}
 use Rattle.ctlog.specs.Faults.{IsFrozenFault}
-use Rattle.ctlog.specs.Output.{AreGiven, IsBrokenOff, IsClosed, IsDone, SomeReplies, WritesAll, WritesSome, log_begun, not_begun}
+use Rattle.ctlog.specs.Output.{IsBrokenOff, IsClosed, IsDone, SomeReplies, WritesAll, WritesSome, log_begun, not_begun}
 use Rattle.clap.specs.declared.error.kind.ErrorKind.{ErrorKind}
 use Rattle.clap.specs.declared.error.kind.ErrorKind.TheVariants as kind
 use Rattle.ctlog.specs.CommandLine.{CommandLine, IsRefusalOf, IsUnanswered, log_with, help, nothing}
-use Rattle.ctlog.specs.Plans.{IsPlanOf}
-use Rattle.ctlog.specs.Parties.{PartiesServe}
-use Rattle.ctlog.specs.Tasks.{Task}
+use Rattle.ctlog.specs.Parties.{Parties}
+use Rattle.ctlog.specs.Shifts.{PartiesServe}
 use Rattle.std.proofs.KnownBytes.{Appends-trans, Appends-kept}
 
 -- what holds of the fault holds of the error that it became
@@ -30,16 +28,16 @@ if_err_both P Q R (Ok o) f p q = tt
 if_err_both P Q R (Err e) f p q = f e p q
 
 -- all replies: the parties', and then those of the closed log
-pub writes_all : (operator : OperatorParty) (parties : List FrontParty) (lines : List ℕ) (close_at : ℕ) (old mid new : Option (List ℕ)) (sequencer : HouseState) (after : List FrontView)
-    (text : List ℕ) (log : Log) → PartiesServe operator parties sequencer after text → IsClosed sequencer after close_at log → Appends old mid text → Appends mid new (frozen_text log lines)
-    → WritesAll operator parties lines close_at old new
-writes_all operator parties lines close_at old mid new sequencer after text log served closed first second =
+pub writes_all : (start : Parties) (shifts : List Shift) (last : Work) (lines : List ℕ) (close_at : ℕ) (old mid new : Option (List ℕ)) (sequencer : HouseState) (after : List FrontView)
+    (text : List ℕ) (log : Log) → PartiesServe start shifts last sequencer after text → IsClosed sequencer after close_at log → Appends old mid text → Appends mid new (frozen_text log lines)
+    → WritesAll start shifts last lines close_at old new
+writes_all start shifts last lines close_at old mid new sequencer after text log served closed first second =
     record { sequencer = sequencer; after = after; text = text; log = log; served = served; closed = closed; written = Appends-trans old mid new text (frozen_text log lines) first second }
 
-pub writes_last : (operator : OperatorParty) (parties : List FrontParty) (lines : List ℕ) (close_at : ℕ) (old mid new : Option (List ℕ)) (sequencer : HouseState) (after : List FrontView)
-    (text : List ℕ) (log : Log) (f : Fault) → PartiesServe operator parties sequencer after text → IsClosed sequencer after close_at log → Appends old mid text → IsFrozenFault f
-    → (written : List ℕ) × SomeReplies log lines written × Appends mid new written → WritesSome operator parties lines close_at f old new
-writes_last operator parties lines close_at old mid new sequencer after text log f served closed first fault (written, some, second) =
+pub writes_last : (start : Parties) (shifts : List Shift) (last : Work) (lines : List ℕ) (close_at : ℕ) (old mid new : Option (List ℕ)) (sequencer : HouseState) (after : List FrontView)
+    (text : List ℕ) (log : Log) (f : Fault) → PartiesServe start shifts last sequencer after text → IsClosed sequencer after close_at log → Appends old mid text → IsFrozenFault f
+    → (written : List ℕ) × SomeReplies log lines written × Appends mid new written → WritesSome start shifts last lines close_at f old new
+writes_last start shifts last lines close_at old mid new sequencer after text log f served closed first fault (written, some, second) =
     log_begun sequencer after text log written fault served closed some (Appends-trans old mid new text written first second)
 
 -- all lines were read
@@ -53,10 +51,6 @@ frozen_all log lines rest old mid new (input, consumed, end, written) k =
 
 pub frozen_whole : (log : Log) (lines : List ℕ) (old new : Option (List ℕ)) → Appends old new (frozen_text log lines) → (written : List ℕ) × SomeReplies log lines written × Appends old new written
 frozen_whole log lines old new sent = (frozen_text log lines, inl refl, sent)
-
--- the parts that a plan has are given
-pub plan_given : (n : ℕ) (p : Plan) (ts : List Task) → IsPlanOf n p ts → AreGiven ts p.fronts.items p.operator.items
-plan_given n p ts i = record { each = i.fronts; operated = i.operator }
 
 -- ---- by what the command line asks for
 

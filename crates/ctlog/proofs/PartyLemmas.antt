@@ -1,12 +1,18 @@
 -- What the fronts and the operator leave, one front after the other.
 use Rattle.std.proofs.Common.{◌≡◌, ℕ, suc, List, [], ◌∷◌, ◌++◌, length, map, refl, sym, ap, subst, ◌∙◌, append_assoc, append-nil, arith, reverse}
-use Rattle.std.proofs.lemmas.List.Elements.{All-cons}
+use Rattle.std.proofs.lemmas.List.Elements.{All-cons, length_all_zip}
 use Rattle.std.specs.Global.{Global}
-use Rattle.std.specs.Prelude.{All, Some, Vec, slice_get}
+use Rattle.std.specs.Prelude.{◌<◌, All, Some, Vec, slice_get, Result, Ok, Err, IfOk, OnOk}
+use Rattle.std.specs.List.{range_with_len}
 use Rattle.ctlog.specs.FrontWork.{FrontGoesOn}
-use Rattle.ct_house.specs.House.{HouseName, FrontView, IsOfHouse, numbers_of}
-use Rattle.ctlog.specs.Parties.{AreSame, FrontIsServed, FrontsServe}
+use Rattle.ct_house.specs.House.{HouseName, HouseState, FrontView, IsOfHouse, numbers_of}
+use Rattle.ctlog.specs.OperatorWork.{GoesOn, OperatorServes}
+use Rattle.ctlog.specs.Parties.{AreFrontsOf, AreSame, DoesShift, FrontDoesShift, FrontsDo, FrontsDoShift, fronts_of}
+use Rattle.ctlog.specs.declared.fault.Fault.{Fault}
 use Rattle.ctlog.specs.declared.party.FrontParty.{FrontParty}
+use Rattle.ctlog.specs.declared.party.FrontShift.{FrontShift}
+use Rattle.ctlog.specs.declared.party.Work.{Work}
+use Rattle.ctlog.proofs.PlanLemmas.{all_zip_more}
 use Rattle.ctlog.specs.declared.task.FrontTask.{FrontTask}
 
 of_house : (house : HouseName) (a b : FrontView) → FrontGoesOn a b → IsOfHouse house a → IsOfHouse house b
@@ -29,27 +35,51 @@ same_numbers [] (b ∷ ys) same = absurd same
 same_numbers (a ∷ xs) [] same = absurd same
 same_numbers (a ∷ xs) (b ∷ ys) (on, rest) = ap (λ (n : ℕ). n ∷ numbers_of ys) (on.same.1) ∙ ap (λ (ns : List ℕ). a.intake.number ∷ ns) (same_numbers xs ys rest)
 
-pub fronts_same : (ps : List FrontParty) (fs : List FrontView) (text : List ℕ) → FrontsServe ps fs text → AreSame (map (λ (p : FrontParty). p.front) ps) fs
-fronts_same [] [] text s = tt
-fronts_same [] (f ∷ fs) text s = absurd s
-fronts_same (p ∷ ps) [] text s = absurd s
-fronts_same (p ∷ ps) (f ∷ fs) text (own, rest, one, others, e) = (one.goes_on, fronts_same ps fs rest others)
+-- the fronts of a house stay its fronts, where the house and its lanes stay
+pub fronts_kept : (old new : HouseState) (xs ys : List FrontView) → new.house ≡ old.house → length new.lanes ≡ length old.lanes → AreSame xs ys → AreFrontsOf old xs → AreFrontsOf new ys
+fronts_kept old new xs ys house count same i = record {
+  of_house = subst (λ (h : HouseName). All (IsOfHouse h) ys) (sym house) (are_of_house old.house xs ys same i.of_house);
+  in_order = same_numbers xs ys same ∙ i.in_order ∙ ap (range_with_len 0) (sym count);
+  some = subst (λ (n : ℕ). 0 < n) (length_all_zip FrontGoesOn xs ys same) i.some;
+}
 
-fronts_serve_one : (ps : List FrontParty) (fs : List FrontView) (text own more : List ℕ) (p : FrontParty) (f : FrontView)
-    → FrontsServe ps fs text → FrontIsServed p f own → more ≡ text ++ own → FrontsServe (ps ++ p ∷ []) (fs ++ f ∷ []) more
-fronts_serve_one [] [] text own more p f s one e = (own, [], one, refl, e ∙ ap (λ (l : List ℕ). l ++ own) s ∙ sym (append-nil own))
-fronts_serve_one [] (g ∷ fs) text own more p f s one e = absurd s
-fronts_serve_one (q ∷ ps) [] text own more p f s one e = absurd s
-fronts_serve_one (q ∷ ps) (g ∷ fs) text own more p f (first, rest, this, others, is) one e =
-    (first, rest ++ own, this, fronts_serve_one ps fs rest own (rest ++ own) p f others one refl, e ∙ ap (λ (l : List ℕ). l ++ own) is ∙ append_assoc first rest own)
+-- fronts that have their tasks with them did them
+pub did_shift : (shifts : List FrontShift) (after : List FrontParty) → FrontsDo shifts after → FrontsDoShift (map (λ (s : FrontShift). s.party) shifts) (map (λ (s : FrontShift). s.tasks) shifts) after
+did_shift [] [] all = tt
+did_shift [] (b ∷ after) all = absurd all
+did_shift (s ∷ shifts) [] all = absurd all
+did_shift (s ∷ shifts) (b ∷ after) (first, rest) = (first, did_shift shifts after rest)
+
+-- and went on
+pub shift_same : (before : List FrontParty) (work : List (Vec FrontTask Global)) (after : List FrontParty) → FrontsDoShift before work after → AreSame (fronts_of before) (fronts_of after)
+shift_same [] [] [] all = tt
+shift_same [] [] (b ∷ after) all = absurd all
+shift_same [] (w ∷ work) after all = absurd all
+shift_same (a ∷ before) [] after all = absurd all
+shift_same (a ∷ before) (w ∷ work) [] all = absurd all
+shift_same (a ∷ before) (w ∷ work) (b ∷ after) (first, rest) = (first.goes_on, shift_same before work after rest)
+
+pub does_shift : (house after : HouseState) (told more : List ℕ) (parties : List FrontParty) (work : Work) (shifts : List FrontShift) (r : Result (Vec FrontParty Global) Fault)
+    → map (λ (s : FrontShift). s.party) shifts ≡ parties → map (λ (s : FrontShift). s.tasks) shifts ≡ work.fronts.items → IfOk r (λ v. FrontsDo shifts v.items)
+    → OnOk r (OperatorServes house work.operator.items told after more) → OnOk r (GoesOn house after)
+    → IfOk r (λ v. DoesShift (record { house = house; told = told; fronts = parties }) work (record { house = after; told = more; fronts = v.items }))
+does_shift house after told more parties work shifts (Err f) own tasks all serves on = tt
+does_shift house after told more parties work shifts (Ok v) own tasks all serves on = record {
+  fronts = subst (λ (l : List (Vec FrontTask Global)). FrontsDoShift parties l v.items) tasks
+      (subst (λ (l : List FrontParty). FrontsDoShift l (map (λ (s : FrontShift). s.tasks) shifts) v.items) own (did_shift shifts v.items all));
+  operated = serves;
+  goes_on = on;
+}
 
 -- one front more
-pub fronts_serve_more : (ps : List FrontParty) (fs all : List FrontView) (text own more : List ℕ) (p : FrontParty) (f : FrontView)
-    → FrontsServe ps fs text → FrontIsServed p f own → all ≡ fs ++ f ∷ [] → more ≡ text ++ own → FrontsServe (ps ++ p ∷ []) all more
-fronts_serve_more ps fs all text own more p f s one is e = subst (λ (l : List FrontView). FrontsServe (ps ++ p ∷ []) l more) (sym is) (fronts_serve_one ps fs text own more p f s one e)
+pub fronts_do_more : (shifts : List FrontShift) (after all : List FrontParty) (s : FrontShift) (b : FrontParty) → FrontsDo shifts after → FrontDoesShift s.party s.tasks.items b → all ≡ after ++ b ∷ []
+    → FrontsDo (shifts ++ s ∷ []) all
+fronts_do_more shifts after all s b done one is =
+    subst (λ (l : List FrontParty). FrontsDo (shifts ++ s ∷ []) l) (sym is)
+    (all_zip_more (λ (x : FrontShift) (y : FrontParty). FrontDoesShift x.party x.tasks.items y) shifts after s b done one)
 
--- the fronts and the tasks that are left, and the parties that were made of the others, the last one first
-pub record Pairing (fronts left : List FrontView) (tasks own : List (Vec FrontTask Global)) (parties : List FrontParty) : Type 0 where
-  pub all_fronts : fronts ≡ left ++ map (λ (p : FrontParty). p.front) (reverse parties)
-  pub all_tasks : tasks ≡ own ++ map (λ (p : FrontParty). p.tasks) (reverse parties)
+-- the fronts and the tasks that are left, and those that were put together of the others, the last one first
+pub record Pairing (parties left : List FrontParty) (tasks own : List (Vec FrontTask Global)) (shifts : List FrontShift) : Type 0 where
+  pub all_parties : parties ≡ left ++ map (λ (s : FrontShift). s.party) (reverse shifts)
+  pub all_tasks : tasks ≡ own ++ map (λ (s : FrontShift). s.tasks) (reverse shifts)
   pub count : length own ≡ length left

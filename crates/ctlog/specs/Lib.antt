@@ -5,6 +5,7 @@ pub mod InTurn
 pub mod FrontWork
 pub mod OperatorWork
 pub mod Parties
+pub mod Shifts
 pub mod ClosedLog
 pub mod CommandLine
 pub mod NoOptions

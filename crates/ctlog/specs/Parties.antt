@@ -1,47 +1,62 @@
--- What the fronts and the operator leave, when each has done its lines.
-use Rattle.std.specs.Prelude.{◌≡◌, ◌⊎◌, ℕ, List, [], ◌∷◌, ◌++◌}
-use Rattle.std.specs.List.{AllZip}
-use Rattle.ct_house.specs.House.{FrontView, HouseState}
+-- What the fronts and the operator do in a shift, and what they leave.
+use Rattle.std.specs.Prelude.{◌≡◌, ◌<◌, ◌⊎◌, ℕ, List, [], ◌∷◌, ◌++◌, length, map, All, Vec}
+use Rattle.std.specs.Global.{Global}
+use Rattle.std.specs.List.{AllZip, flat_map}
+use Rattle.ct_house.specs.House.{AreInOrder, FrontView, HouseState, IsOfHouse}
 use Rattle.ctlog.specs.declared.fault.Fault.{Fault}
 use Rattle.ctlog.specs.declared.fault.Fault.TheVariants.{Memory, Threads}
 use Rattle.ctlog.specs.FrontWork.{FrontGoesOn, FrontServes}
 use Rattle.ctlog.specs.OperatorWork.{OperatorServes, GoesOn}
 use Rattle.ctlog.specs.declared.party.FrontParty.{FrontParty}
-use Rattle.ctlog.specs.declared.party.OperatorParty.{OperatorParty}
-use Rattle.ctlog.specs.declared.task.OperatorTask.{OperatorTask}
+use Rattle.ctlog.specs.declared.party.FrontShift.{FrontShift}
+use Rattle.ctlog.specs.declared.party.Work.{Work}
+use Rattle.ctlog.specs.declared.task.FrontTask.{FrontTask}
 
--- the party's front did its tasks, and went on; the text is of its replies
-pub record FrontIsServed (p : FrontParty) (after : FrontView) (text : List ℕ) : Type 0 where
-  pub serves : FrontServes p.front p.tasks.items [] after text
-  pub goes_on : FrontGoesOn p.front after
+-- the parties between two tasks: the house, the operator's replies so far, and each front with its replies so far
+pub record Parties : Type 0 where
+  pub house : HouseState
+  pub told : List ℕ
+  pub fronts : List FrontParty
 
--- the tasks were done over this sequencer, and the house went on; the text is of the replies
-pub record SequencerIsServed (before : HouseState) (tasks : List OperatorTask) (after : HouseState) (text : List ℕ) : Type 0 where
-  pub serves : OperatorServes before tasks [] after text
-  pub goes_on : GoesOn before after
+-- the fronts of the parties
+abbrev pub fronts_of : List FrontParty → List FrontView
+fronts_of parties = map (λ (p : FrontParty). p.front) parties
+
+-- all replies so far: front by front, and then the operator's
+abbrev pub all_replies : Parties → List ℕ
+all_replies p = flat_map (λ (f : FrontParty). f.replies.items) p.fronts ++ p.told
+
+-- all fronts of the house, in order, of which there is one at least
+pub record AreFrontsOf (s : HouseState) (fronts : List FrontView) : Type 0 where
+  pub of_house : All (IsOfHouse s.house) fronts
+  pub in_order : AreInOrder (length s.lanes) fronts
+  pub some : 0 < length fronts
+
+-- a front does its tasks in turn, with its replies behind those so far, and went on
+pub record FrontDoesShift (a : FrontParty) (tasks : List FrontTask) (b : FrontParty) : Type 0 where
+  pub serves : FrontServes a.front tasks a.replies.items b.front b.replies.items
+  pub goes_on : FrontGoesOn a.front b.front
+
+-- each front does its tasks
+abbrev pub FrontsDoShift : List FrontParty → List (Vec FrontTask Global) → List FrontParty → Type 0
+FrontsDoShift [] [] [] = Unit {0}
+FrontsDoShift (a ∷ before) (ts ∷ work) (b ∷ after) = FrontDoesShift a ts.items b × FrontsDoShift before work after
+FrontsDoShift _ _ _ = ⊥
+
+-- the same of fronts that have their tasks with them
+abbrev pub FrontsDo : List FrontShift → List FrontParty → Type 0
+FrontsDo shifts after = AllZip (λ (s : FrontShift) (b : FrontParty). FrontDoesShift s.party s.tasks.items b) shifts after
+
+-- All parties do the work of a shift, whatever the order between them: each front its tasks, and the operator its own, over the
+-- house, which went on.
+pub record DoesShift (a : Parties) (work : Work) (b : Parties) : Type 0 where
+  pub fronts : FrontsDoShift a.fronts work.fronts.items b.fronts
+  pub operated : OperatorServes a.house work.operator.items a.told b.house b.told
+  pub goes_on : GoesOn a.house b.house
 
 -- the fronts went on, place by place
 abbrev pub AreSame : List FrontView → List FrontView → Type 0
 AreSame before after = AllZip FrontGoesOn before after
-
--- each front did its tasks, and the text is of all their replies, front by front
-abbrev pub FrontsServe : List FrontParty → List FrontView → List ℕ → Type 0
-FrontsServe [] [] text = text ≡ []
-FrontsServe [] (f ∷ fs) text = ⊥
-FrontsServe (p ∷ ps) [] text = ⊥
-FrontsServe (p ∷ ps) (f ∷ fs) text = (own rest : List ℕ) × FrontIsServed p f own × FrontsServe ps fs rest × (text ≡ own ++ rest)
-
--- all did their tasks: the text is of the fronts' replies, and then of the operator's
-pub record AllServe (before : HouseState) (tasks : List OperatorTask) (fronts : List FrontParty) (sequencer : HouseState) (after : List FrontView) (text : List ℕ) : Type 0 where
-  pub front_text : List ℕ
-  pub operator_text : List ℕ
-  pub served : FrontsServe fronts after front_text
-  pub operated : SequencerIsServed before tasks sequencer operator_text
-  pub replies : text ≡ front_text ++ operator_text
-
--- the same of all parties
-abbrev pub PartiesServe : OperatorParty → List FrontParty → HouseState → List FrontView → List ℕ → Type 0
-PartiesServe operator fronts sequencer after text = AllServe operator.sequencer operator.tasks.items fronts sequencer after text
 
 -- a thread didn't start, or there was no memory
 abbrev pub IsPartyFault : Fault → Type 0

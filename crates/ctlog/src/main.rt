@@ -3,14 +3,15 @@
 //! It reads standard input whole, gives its lines out to the fronts, the operator and the frozen log, and writes a
 //! reply for each line that isn't empty: each front and the operator does its lines in a thread of its own, the
 //! replies of the fronts come first, in the order of their numbers, then the operator's, then, once the log is closed,
-//! those of the frozen log.
+//! those of the frozen log. A line that ends a shift has all lines before it done, and all fronts go on, before the lines
+//! behind it are begun.
 //!
 //! - `command` reads the command line.
 //! - `plan` cuts the input into lines and gives them out, and `task` says what a front and the operator do for a line.
 //! - `front_work` and `operator_work` do the lines of a front and of the operator, `replying` adds their replies, and
 //!   `waiting` is how a line waits for another party.
-//! - `party` has the fronts and the operator with what they do, and `threads` has each of them work in a thread of its
-//!   own.
+//! - `party` has the fronts with their replies, and what they and the operator do in a shift; `threads` does the work of a
+//!   shift, each party in a thread of its own; and `shifting` ends shifts, and does them one after the other.
 //! - `closing` closes the log.
 //! - `fault` names what ends the program before all is written.
 //! - `program` has `run`, which does all this over any reader and any two writers.
@@ -32,6 +33,7 @@ mod party;
 mod plan;
 mod program;
 mod replying;
+mod shifting;
 mod task;
 #[cfg(test)]
 mod tests;

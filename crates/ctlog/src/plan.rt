@@ -5,16 +5,18 @@ ghost use Rattle.std.specs.Global.{Global as GlobalOf};
 ghost use Rattle.ct_lines.specs.Requests.{asked, front_asked as request_of, operator_asked};
 ghost use Rattle.ctlog.specs.declared.task.FrontTask.{FrontTask as FrontTaskOf};
 ghost use Rattle.ctlog.specs.Lines.{lines_of};
-ghost use Rattle.ctlog.specs.Tasks.{Task as TaskOf, for_front, for_frozen, front_task, operator_task, task_of, AsksFor, AllAskFor, IsForThere};
-ghost use Rattle.ctlog.specs.Plans.{task, task as task_in, task_asked, IsPlanOf};
+ghost use Rattle.ctlog.specs.Tasks.{Task as TaskOf, Step, does, ends_shift, for_front, for_operator, for_frozen, front_step, operator_step, step_of, AsksFor, AllAskFor, IsForThere};
+ghost use Rattle.ctlog.specs.Plans.{step, step as step_in, task_asked, IsWorkOf, IsPlanOf};
 
 use crate::fault::Fault;
+use crate::party::{Shift, Work};
 use crate::task::{FrontTask, OperatorTask};
 use ct_codec::Refusal;
 use ct_lines::{FrontRequest, OperatorRequest, Request, read_line};
 use ct_tree::Memory;
 use memchr::memchr;
 use std::alloc::Global;
+use std::mem;
 
 /// What a line has the program do.
 #[derive(Debug, Drop)]
@@ -25,23 +27,25 @@ enum Task<'a> {
     Operator(OperatorTask),
     // The frozen log answers this line.
     Frozen(&'a [u8]),
+    // The shift ends at this moment.
+    EndsShift(u64),
 }
 
 /// What the lines of an input ask for, given out to those who do it.
 #[derive(Drop)]
 pub struct Plan {
-    /// What each front does, in order.
-    pub fronts: Vec<Vec<FrontTask>>,
-    /// What the operator does, in order.
-    pub operator: Vec<OperatorTask>,
+    /// The shifts that end, in order.
+    pub shifts: Vec<Shift>,
+    /// What is done behind the last shift that ends.
+    pub last: Work,
     /// The lines that the frozen log answers, in order, each with its end.
     pub frozen: Vec<u8>,
 }
 
 // What the front with this number does. One that isn't there leaves the operator a bad line.
 fn front_request_task<'a>(fronts: u16, number: u64, request: FrontRequest) -> Task<'a>
-    ensures asked { task result ≡ front_task fronts number (request_of request) }
-    ensures there { IsForThere fronts (task result) }
+    ensures asked { step result ≡ front_step fronts number (request_of request) }
+    ensures there { IsForThere fronts (step result) }
 {
     if number >= u64::from(fronts) {
         return Task::Operator(OperatorTask::BadLine);
@@ -68,39 +72,41 @@ fn front_request_task<'a>(fronts: u16, number: u64, request: FrontRequest) -> Ta
     }
 }
 
-// What the operator does. To sequence a front that isn't there is a bad line.
-fn operator_request_task(fronts: u16, request: OperatorRequest) -> OperatorTask
-    ensures { result ≡ operator_task fronts (operator_asked request) }
+// What the operator does, or the end of a shift. To sequence a front that isn't there is a bad line.
+fn operator_request_task<'a>(fronts: u16, request: OperatorRequest) -> Task<'a>
+    ensures asked { step result ≡ operator_step fronts (operator_asked request) }
+    ensures there { IsForThere fronts (step result) }
 {
     match request {
         OperatorRequest::Sequence { from, count, now } => {
             if from >= u64::from(fronts) {
-                return OperatorTask::BadLine;
+                return Task::Operator(OperatorTask::BadLine);
             }
             let from = from as u16;
-            OperatorTask::Sequence { from, count, now }
+            Task::Operator(OperatorTask::Sequence { from, count, now })
         }
-        OperatorRequest::Publish { now } => OperatorTask::Publish { now },
-        OperatorRequest::Shutdown => OperatorTask::Shutdown,
+        OperatorRequest::Publish { now } => Task::Operator(OperatorTask::Publish { now }),
+        OperatorRequest::Shutdown => Task::Operator(OperatorTask::Shutdown),
+        OperatorRequest::Shift { now } => Task::EndsShift(now),
     }
 }
 
 // What the request that a line is asks for.
 fn request_task<'a>(fronts: u16, line: &'a [u8], request: Request) -> Task<'a>
-    ensures asked { task result ≡ task_of fronts line.entry.now (asked request) }
-    ensures there { IsForThere fronts (task result) }
+    ensures asked { step result ≡ step_of fronts line.entry.now (asked request) }
+    ensures there { IsForThere fronts (step result) }
 {
     match request {
         Request::Front(number, request) => front_request_task(fronts, number, request),
-        Request::Operator(request) => Task::Operator(operator_request_task(fronts, request)),
+        Request::Operator(request) => operator_request_task(fronts, request),
         Request::Frozen(_) => Task::Frozen(line),
     }
 }
 
 // What a line asks for.
 fn line_task<'a>(alloc: Global, fronts: u16, line: &'a [u8]) -> Result<Task<'a>, Fault>
-    ensures asked { IfOk result (λ t. AsksFor fronts line.entry.now (task t)) }
-    ensures there { IfOk result (λ t. IsForThere fronts (task t)) }
+    ensures asked { IfOk result (λ t. AsksFor fronts line.entry.now (step t)) }
+    ensures there { IfOk result (λ t. IsForThere fronts (step t)) }
     ensures memory { IsOkUnless result Fault.Memory }
 {
     match read_line(alloc, line) {
@@ -123,7 +129,7 @@ fn first_line(bytes: &[u8]) -> (&[u8], &[u8])
 }
 
 // A list for each front, with nothing to do in it.
-fn no_tasks(alloc: Global, fronts: u16) -> Result<Vec<Vec<FrontTask>>, Memory>
+fn no_tasks(alloc: Global, fronts: usize) -> Result<Vec<Vec<FrontTask>>, Memory>
     ensures count { IfOk result (λ lists. length lists.items ≡ fronts) }
     ensures empty { IfOk result (λ lists. (k : ℕ) (v : Vec FrontTaskOf GlobalOf) → slice_get lists.items k ≡ Some v → v.items ≡ []) }
 {
@@ -134,66 +140,101 @@ fn no_tasks(alloc: Global, fronts: u16) -> Result<Vec<Vec<FrontTask>>, Memory>
     Ok(lists)
 }
 
-impl Plan {
-    // A plan for so many fronts, with nothing to do.
-    fn new(alloc: Global, fronts: u16) -> Result<Plan, Memory>
-        ensures { IfOk result (λ p. IsPlanOf fronts p []) }
+impl Work {
+    // Work of so many fronts and of the operator, with nothing to do.
+    fn new(alloc: Global, fronts: usize) -> Result<Work, Memory>
+        ensures { IfOk result (λ w. IsWorkOf fronts w []) }
     {
         let fronts = no_tasks(alloc, fronts)?;
-        Ok(Plan {
+        Ok(Work {
             fronts,
             operator: Vec::new(alloc),
-            frozen: Vec::new(alloc),
         })
     }
 
     // Adds what a front does.
     fn add_front_task(&mut self, number: u16, task: FrontTask) -> Result<(), Memory>
         requires { number < length self.old.fronts.items }
-        ensures { OnOk result ((fronts : ℕ) (tasks : List TaskOf) → IsPlanOf fronts self.old tasks
-            → IsPlanOf fronts self.new (tasks ++ for_front number (task_asked task) ∷ [])) }
+        ensures { OnOk result ((fronts : ℕ) (tasks : List TaskOf) → IsWorkOf fronts self.old tasks
+            → IsWorkOf fronts self.new (tasks ++ for_front number (task_asked task) ∷ [])) }
     {
         let tasks = &mut self.fronts[number as usize];
         tasks.push(task)?;
         Ok(())
     }
 
+    // Adds what the operator does.
+    fn add_operator_task(&mut self, task: OperatorTask) -> Result<(), Memory>
+        ensures { OnOk result ((fronts : ℕ) (tasks : List TaskOf) → IsWorkOf fronts self.old tasks
+            → IsWorkOf fronts self.new (tasks ++ for_operator task ∷ [])) }
+    {
+        self.operator.push(task)?;
+        Ok(())
+    }
+}
+
+impl Plan {
+    // A plan for so many fronts, with nothing to do.
+    fn new(alloc: Global, fronts: u16) -> Result<Plan, Memory>
+        ensures { IfOk result (λ p. IsPlanOf fronts p []) }
+    {
+        let last = Work::new(alloc, usize::from(fronts))?;
+        Ok(Plan {
+            shifts: Vec::new(alloc),
+            last,
+            frozen: Vec::new(alloc),
+        })
+    }
+
     // Adds a line that the frozen log answers.
     fn add_frozen_line(&mut self, line: &[u8]) -> Result<(), Memory>
-        ensures { OnOk result ((fronts : ℕ) (tasks : List TaskOf) → IsPlanOf fronts self.old tasks
-            → IsPlanOf fronts self.new (tasks ++ for_frozen line.now ∷ [])) }
+        ensures { OnOk result ((fronts : ℕ) (steps : List Step) → IsPlanOf fronts self.old steps
+            → IsPlanOf fronts self.new (steps ++ does (for_frozen line.now) ∷ [])) }
     {
         self.frozen.extend_from_slice(line)?;
         self.frozen.push(b'\n')?;
         Ok(())
     }
 
+    // Ends the shift at this moment, so that another begins.
+    fn end_shift(&mut self, alloc: Global, now: u64) -> Result<(), Memory>
+        ensures { OnOk result ((fronts : ℕ) (steps : List Step) → IsPlanOf fronts self.old steps
+            → IsPlanOf fronts self.new (steps ++ ends_shift now ∷ [])) }
+    {
+        let next = Work::new(alloc, self.last.fronts.len())?;
+        let work = mem::replace(&mut self.last, next);
+        self.shifts.push(Shift { work, now })?;
+        Ok(())
+    }
+
     // Adds what a line asks for.
-    fn add(&mut self, task: Task<'_>) -> Result<(), Memory>
-        requires { IsForThere (length self.old.fronts.items) (task_in task) }
-        ensures { OnOk result ((fronts : ℕ) (tasks : List TaskOf) → IsPlanOf fronts self.old tasks
-            → IsPlanOf fronts self.new (tasks ++ task_in task.entry ∷ [])) }
+    fn add(&mut self, alloc: Global, task: Task<'_>) -> Result<(), Memory>
+        requires { IsForThere (length self.old.last.fronts.items) (step_in task) }
+        ensures { OnOk result ((fronts : ℕ) (steps : List Step) → IsPlanOf fronts self.old steps
+            → IsPlanOf fronts self.new (steps ++ step_in task.entry ∷ [])) }
     {
         match task {
-            Task::Front(number, task) => self.add_front_task(number, task)?,
-            Task::Operator(task) => self.operator.push(task)?,
+            Task::Front(number, task) => self.last.add_front_task(number, task)?,
+            Task::Operator(task) => self.last.add_operator_task(task)?,
             Task::Frozen(line) => self.add_frozen_line(line)?,
+            Task::EndsShift(now) => self.end_shift(alloc, now)?,
         }
         Ok(())
     }
 }
 
-/// Gives the lines of the input out to so many fronts, to the operator and to the frozen log. An empty line is nobody's.
+/// Gives the lines of the input out to so many fronts, to the operator and to the frozen log, shift by shift. An empty line
+/// is nobody's.
 pub fn give_out(alloc: Global, fronts: u16, input: &[u8]) -> Result<Plan, Fault>
     ensures memory { IsOkUnless result Fault.Memory }
-    ensures plan { IfOk result (λ p. (tasks : List TaskOf) × AllAskFor fronts (lines_of input.now) tasks × IsPlanOf fronts p tasks) }
+    ensures plan { IfOk result (λ p. (steps : List Step) × AllAskFor fronts (lines_of input.now) steps × IsPlanOf fronts p steps) }
 {
     let mut plan = Plan::new(alloc, fronts)?;
     let mut rest = input;
     while !rest.is_empty() {
         let (line, behind) = first_line(rest);
         if !line.is_empty() {
-            plan.add(line_task(alloc, fronts, line)?)?;
+            plan.add(alloc, line_task(alloc, fronts, line)?)?;
         }
         rest = behind;
     }

@@ -1,32 +1,35 @@
 //! The program over any reader and any two writers.
 
-ghost use Rattle.std.specs.Prelude.{◌≡◌, ◌≢◌, ◌⊎◌, ◌≤◌, ℕ, List, [], length, All, IfOk, OnOk, OnErr, IfErr};
+ghost use Rattle.std.specs.Prelude.{◌≡◌, ◌≢◌, ◌⊎◌, ◌≤◌, ℕ, List, [], length, IfOk, OnOk, OnErr, IfErr};
 ghost use Rattle.std.specs.Io.KnownBytes.{Appends};
+ghost use Rattle.std.specs.List.{flat_map};
 ghost use Rattle.std.specs.IoError.{error_kind};
 ghost use Rattle.std.specs.declared.io.ErrorKind.TheVariants.{OutOfMemory as NoMemory};
-ghost use Rattle.ct_house.specs.House.{IsOfHouse, AreInOrder};
 ghost use Rattle.ct_lines.specs.Frozen.{frozen_text};
 ghost use Rattle.ctlog.specs.declared.fault.Fault.{Fault as FaultOf};
 ghost use Rattle.ctlog.specs.Faults.{fault_line, IsFrozenFault};
-ghost use Rattle.ctlog.specs.Output.{AreTasksOf, AreGiven, AreParties, fronts_of, SomeReplies, WritesAll, WritesSome, IsServed, IsBegun, IsDone, IsBrokenOff};
+ghost use Rattle.ctlog.specs.Output.{AreStepsOf, AreNewParties, SomeReplies, WritesAll, WritesSome, IsServed, IsBegun, IsDone, IsBrokenOff};
 ghost use Rattle.clap.specs.Words.{kind_of};
 ghost use Rattle.clap.specs.declared.error.kind.ErrorKind.TheVariants.{DisplayHelp, OutOfMemory};
 ghost use Rattle.ctlog.specs.CommandLine.{asked_for, help, nothing, IsUnanswered};
 ghost use Rattle.ctlog.specs.Plans.{IsPlanOf};
 ghost use Rattle.ctlog.specs.Sends.{SendsSome};
-ghost use Rattle.ctlog.specs.Tasks.{Task};
+ghost use Rattle.ctlog.specs.Parties.{AreFrontsOf, fronts_of};
+ghost use Rattle.ctlog.specs.Shifts.{AreForFronts, start_of};
+ghost use Rattle.ctlog.specs.Tasks.{Step};
+ghost use Rattle.ctlog.specs.declared.party.FrontParty.{FrontParty as FrontPartyOf};
 
 use crate::closing::close;
 use crate::command::{NoOptions, Options, read_options, unreadable_word};
 use crate::fault::{Fault, report};
-use crate::party::{FrontParty, OperatorParty};
+use crate::party::{FrontParty, House, Shift, Work};
 use crate::plan::{Plan, give_out};
-use crate::task::{FrontTask, OperatorTask};
-use crate::threads::{Served, front_parties, serve_parties};
+use crate::shifting::{Served, serve_parties};
 use clap::Error;
 use ct_core::Published;
-use ct_house::open;
+use ct_house::{Front, open};
 use ct_lines::{serve_frozen, write_whole};
+use ct_tree::Memory;
 use std::alloc::Global;
 use std::io;
 use std::io::{Read, Write};
@@ -35,7 +38,7 @@ use std::thread::Threads;
 
 // Reads the input whole, and gives its lines out to so many fronts, to the operator and to the frozen log.
 fn read_plan<R: Read>(alloc: Global, fronts: u16, input: &mut R) -> Result<Plan, Fault>
-    ensures plan { IfOk result (λ p. (ts : List Task) × AreTasksOf fronts (R.remaining input.old) ts × IsPlanOf fronts p ts) }
+    ensures plan { IfOk result (λ p. (ss : List Step) × AreStepsOf fronts (R.remaining input.old) ss × IsPlanOf fronts p ss) }
     ensures faults { IfErr result (λ f. (f ≡ Fault.Read) ⊎ (f ≡ Fault.Memory)) }
 {
     let mut bytes = Vec::new(alloc);
@@ -46,33 +49,40 @@ fn read_plan<R: Read>(alloc: Global, fronts: u16, input: &mut R) -> Result<Plan,
     Ok(plan)
 }
 
-// The parties of a new house: its fronts and its sequencer, each with what it does.
-fn open_parties<H: Wait>(
-    rt: &H,
-    alloc: Global,
-    options: Options,
-    tasks: Vec<Vec<FrontTask>>,
-    operator: Vec<OperatorTask>,
-) -> Result<(OperatorParty, Vec<FrontParty>), Fault>
-    requires { length tasks.items ≡ options.fronts }
-    ensures parties { IfOk result (λ p. (ts : List Task) → AreGiven ts tasks.items operator.items
-        → AreParties options.fronts options.ring options.open_at ts p.0 p.1.items) }
+// The fronts of a new house, none of which has replied to anything.
+fn new_parties(alloc: Global, fronts: Vec<Front>) -> Result<Vec<FrontParty>, Memory>
+    ensures fronts { IfOk result (λ v. fronts_of v.items ≡ fronts.items) }
+    ensures silent { IfOk result (λ v. flat_map (λ (p : FrontPartyOf). p.replies.items) v.items ≡ []) }
+{
+    let mut parties = Vec::new(alloc);
+    for front in fronts {
+        let replies = Vec::new(alloc);
+        parties.push(FrontParty { front, replies })?;
+    }
+    Ok(parties)
+}
+
+// Opens a house.
+fn open_house<H: Wait>(rt: &H, alloc: Global, options: Options) -> Result<House, Fault>
+    ensures house { IfOk result (λ h. AreNewParties options.fronts options.ring options.open_at (start_of h)) }
     ensures faults { IfErr result (λ f. f ≡ Fault.Memory) }
 {
-    let (sequencer, fronts) = open(rt, alloc, options.fronts, options.ring, options.open_at)?;
-    let count = fronts.len();
-    match front_parties(alloc, fronts, tasks) {
-        Ok(parties) => {
-            let operator = OperatorParty {
+    let ends = Vec::with_capacity(alloc, 1)?;
+    match open(rt, alloc, options.fronts, options.ring, options.open_at) {
+        Ok((sequencer, fronts)) => match new_parties(alloc, fronts) {
+            Ok(parties) => Ok(House {
                 sequencer,
-                fronts: count,
-                tasks: operator,
-            };
-            Ok((operator, parties))
-        }
-        Err(error) => {
-            sequencer.abandon(rt, Vec::new(alloc));
-            Err(Fault::from(error))
+                parties,
+                ends,
+            }),
+            Err(error) => {
+                sequencer.abandon(rt, ends);
+                Err(Fault::from(error))
+            }
+        },
+        Err(refusal) => {
+            ends.destroy_empty();
+            Err(Fault::from(refusal))
         }
     }
 }
@@ -112,28 +122,29 @@ fn send_frozen<W: Write>(
     }
 }
 
-// Has the parties do their tasks, and writes their replies; then closes the log at the moment `close_at`, and writes
-// its replies to the lines.
+// Has the parties do the shifts and then the last work, and writes their replies; then closes the log at the moment
+// `close_at`, and writes its replies to the lines.
 fn serve_parties_and_log<H: Threads + Wait + Sync, W: Write>(
     rt: &H,
     alloc: Global,
-    operator: OperatorParty,
-    parties: Vec<FrontParty>,
+    house: House,
+    shifts: Vec<Shift>,
+    last: Work,
     turns: u64,
     close_at: u64,
     lines: &[u8],
     output: &mut W,
 ) -> Result<(), Fault>
-    requires of_house { All (IsOfHouse operator.sequencer.house) (fronts_of parties.items) }
-    requires in_order { AreInOrder (length operator.sequencer.lanes) (fronts_of parties.items) }
-    ensures all { OnOk result (WritesAll operator parties.items lines.now close_at (W.contents output.old) (W.contents output.new)) }
-    ensures some { IfErr result (λ f. WritesSome operator parties.items lines.now close_at f (W.contents output.old) (W.contents output.new)) }
+    requires fronts { AreFrontsOf house.sequencer (fronts_of house.parties.items) }
+    requires work { AreForFronts (length house.parties.items) shifts.items last }
+    ensures all { OnOk result (WritesAll (start_of house) shifts.items last lines.now close_at (W.contents output.old) (W.contents output.new)) }
+    ensures some { IfErr result (λ f. WritesSome (start_of house) shifts.items last lines.now close_at f (W.contents output.old) (W.contents output.new)) }
 {
     let Served {
         sequencer,
         fronts,
         replies,
-    } = serve_parties(rt, alloc, operator, parties, turns)?;
+    } = serve_parties(rt, alloc, house, shifts, last, turns)?;
     match send(output, &replies) {
         Ok(()) => {}
         Err(fault) => {
@@ -150,9 +161,10 @@ fn serve_parties_and_log<H: Threads + Wait + Sync, W: Write>(
 ///
 /// # Errors
 ///
-/// The fault that ended the run: `Read`, `Threads` or `Memory` before any reply was written; `Write` after a beginning of
-/// the replies of the fronts and of the operator; `ClockBack`, where the clock refuses the moment of closing, or `Memory`
-/// after all of these; and `Write` or `Memory` after some of the closed log's.
+/// The fault that ended the run: `Read`, `Threads`, `Memory`, or `ClockBack` where the clock refuses the moment at which a
+/// shift is to end, before any reply was written; `Write` after a beginning of the replies of the fronts and of the
+/// operator; `ClockBack`, where the clock refuses the moment of closing, or `Memory` after all of these; and `Write` or
+/// `Memory` after some of the closed log's.
 pub fn serve<H: Threads + Wait + Sync, R: Read, W: Write>(
     rt: &H,
     alloc: Global,
@@ -167,16 +179,17 @@ pub fn serve<H: Threads + Wait + Sync, R: Read, W: Write>(
         (R.remaining input.old) (W.contents output.old) (W.contents output.new)) }
 {
     let Plan {
-        fronts,
-        operator,
+        shifts,
+        last,
         frozen,
     } = read_plan(alloc, options.fronts, input)?;
-    let (operator, parties) = open_parties(rt, alloc, options, fronts, operator)?;
+    let house = open_house(rt, alloc, options)?;
     serve_parties_and_log(
         rt,
         alloc,
-        operator,
-        parties,
+        house,
+        shifts,
+        last,
         turns,
         options.close_at,
         &frozen,

@@ -448,6 +448,117 @@ fn a_closing_that_the_clock_refuses(rt: HostRuntime) {
     assert!(rt; outcome.faults.as_slice() == b"ctlog: clock-back\n".as_slice());
 }
 
+// One front with one place, over three shifts; two fronts, the log shut before the last shift; and lines that look three
+// times for what another shift's lines do, and come too late, or find it at once. What is left in a ring settles at the
+// moment at which its shift ends.
+#[test]
+fn shifts(rt: HostRuntime) {
+    for (fronts, places, turns, input, output) in [
+        (
+            "1",
+            "1",
+            TURNS,
+            "{\"who\":0,\"op\":\"add-chain\",\"chain\":[\"QQ==\"]}
+{\"who\":0,\"op\":\"add-chain\",\"chain\":[\"Qg==\"]}
+{\"who\":\"operator\",\"op\":\"shift\",\"now\":3}
+{\"who\":0,\"op\":\"add-chain\",\"chain\":[\"Qg==\"]}
+{\"who\":\"operator\",\"op\":\"publish\",\"now\":4}
+{\"who\":0,\"op\":\"await-size\",\"tree_size\":1}
+{\"who\":\"operator\",\"op\":\"shift\",\"now\":5}
+{\"who\":0,\"op\":\"get-entry-and-proof\",\"leaf_index\":0,\"tree_size\":1}
+{\"who\":\"frozen\",\"op\":\"receipt\",\"ticket\":1}
+",
+            "{\"ticket\":0}
+{\"error\":\"full\"}
+{\"ticket\":1}
+{\"reached\":1}
+{\"audit_path\":[],\"extra_data\":\"AAAA\",\"leaf_input\":\"AAAAAAAAAAAAAwAAAAABQQAA\"}
+{\"shift\":1}
+{\"timestamp\":4,\"tree_size\":1}
+{\"shift\":2}
+{\"extensions\":\"\",\"leaf_index\":1,\"sct_version\":0,\"timestamp\":5}
+",
+        ),
+        (
+            "2",
+            "1",
+            TURNS,
+            "{\"who\":\"frozen\",\"op\":\"receipt\",\"ticket\":1}
+{\"who\":1,\"op\":\"add-chain\",\"chain\":[\"QQ==\"]}
+{\"who\":\"operator\",\"op\":\"shift\",\"now\":2}
+{\"who\":0,\"op\":\"add-chain\",\"chain\":[\"Qg==\"]}
+{\"who\":\"operator\",\"op\":\"shift\",\"now\":3}
+{\"who\":\"operator\",\"op\":\"shutdown\"}
+{\"who\":\"operator\",\"op\":\"shift\",\"now\":-4}
+{\"who\":\"operator\",\"op\":\"shift\",\"now\":4}
+{\"who\":1,\"op\":\"add-chain\",\"chain\":[\"QQ==\"]}
+{\"who\":0,\"op\":\"await-size\",\"tree_size\":2}
+{\"who\":\"operator\",\"op\":\"publish\",\"now\":5}
+{\"who\":\"operator\",\"op\":\"shift\",\"now\":6}",
+            "{\"ticket\":1}
+{\"reached\":2}
+{\"ticket\":0}
+{\"error\":\"shutdown\"}
+{\"shift\":1}
+{\"shift\":2}
+{\"accepted\":2}
+{\"error\":\"bad-line\"}
+{\"shift\":3}
+{\"timestamp\":5,\"tree_size\":2}
+{\"shift\":4}
+{\"extensions\":\"\",\"leaf_index\":1,\"sct_version\":0,\"timestamp\":3}
+",
+        ),
+        (
+            "1",
+            "1",
+            3,
+            "{\"who\":0,\"op\":\"await-size\",\"tree_size\":1}
+{\"who\":\"operator\",\"op\":\"sequence\",\"from\":0,\"count\":1,\"now\":1}
+{\"who\":\"operator\",\"op\":\"shift\",\"now\":2}
+{\"who\":0,\"op\":\"add-chain\",\"chain\":[\"QQ==\"]}
+{\"who\":\"operator\",\"op\":\"shift\",\"now\":3}
+{\"who\":\"operator\",\"op\":\"publish\",\"now\":4}
+{\"who\":\"operator\",\"op\":\"shift\",\"now\":4}
+{\"who\":0,\"op\":\"await-size\",\"tree_size\":1}
+",
+            "{\"error\":\"late\"}
+{\"ticket\":0}
+{\"reached\":1}
+{\"error\":\"late\"}
+{\"shift\":1}
+{\"shift\":2}
+{\"timestamp\":4,\"tree_size\":1}
+{\"shift\":3}
+",
+        ),
+    ] {
+        let words = [
+            "ctlog",
+            "--fronts",
+            fronts,
+            "--ring",
+            places,
+            "--close-at",
+            "9",
+        ];
+        let outcome = outcome_of(&rt, rt.alloc(), &words, turns, input.as_bytes());
+        assert!(rt; wrote(&outcome, output));
+    }
+}
+
+#[test]
+fn a_shift_that_the_clock_refuses(rt: HostRuntime) {
+    let input = "{\"who\":0,\"op\":\"add-chain\",\"chain\":[\"QQ==\"]}
+{\"who\":\"operator\",\"op\":\"shift\",\"now\":3}
+{\"who\":\"operator\",\"op\":\"shift\",\"now\":2}
+{\"who\":\"frozen\",\"op\":\"get-sth\"}
+";
+    let outcome = run_of(&rt, rt.alloc(), "1", "4", "9", input);
+    assert!(rt; outcome.status == 1 && outcome.output.is_empty());
+    assert!(rt; outcome.faults.as_slice() == b"ctlog: clock-back\n".as_slice());
+}
+
 #[test]
 fn a_log_that_closes_as_it_opens(rt: HostRuntime) {
     let outcome = run_of(&rt, rt.alloc(), "1", "4", "0", "");

@@ -84,6 +84,10 @@ fn each_request_is_read(rt: HostRuntime) -> Result<(), Fail> {
             "Ok(Operator(Shutdown))",
         ),
         (
+            r#"{"who":"operator","op":"shift","now":18446744073709551615}"#,
+            "Ok(Operator(Shift { now: 18446744073709551615 }))",
+        ),
+        (
             " {\"op\" : \"shutdown\" ,\t\"who\":\"\\u006fperator\"}\r",
             "Ok(Operator(Shutdown))",
         ),
@@ -128,6 +132,10 @@ fn other_lines_are_bad(rt: HostRuntime) {
         r#"{"who":{},"op":"get-sth"}"#,
         r#"{"who":true,"op":"get-sth"}"#,
         r#"{"who":0,"op":"shutdown"}"#,
+        r#"{"who":0,"op":"shift","now":1}"#,
+        r#"{"who":"frozen","op":"shift","now":1}"#,
+        r#"{"who":"operator","op":"shift"}"#,
+        r#"{"who":"operator","op":"shift","now":"1"}"#,
         r#"{"who":0,"op":"audit","leaf_input":"","leaf_index":0,"tree_size":1,"audit_path":[]}"#,
         r#"{"who":"frozen","op":"await-size","tree_size":1}"#,
         r#"{"who":"frozen","op":"add-chain","chain":[]}"#,
@@ -306,6 +314,7 @@ fn other_replies_are_written(rt: HostRuntime) -> Result<(), Fail> {
             "{\"timestamp\":4,\"tree_size\":1}\n",
         ),
         (Reply::Accepted(0), "{\"accepted\":0}\n"),
+        (Reply::Shift(1), "{\"shift\":1}\n"),
         (Reply::Holds, "{\"verdict\":\"holds\"}\n"),
         (Reply::Refused, "{\"verdict\":\"refused\"}\n"),
         (

@@ -1,13 +1,13 @@
 use Rattle.std.proofs.Common.{◌≡◌, ◌<◌, length, arith, [], ◌∷◌, ◌++◌}
 use Rattle.std.proofs.lemmas.Grind.{common_steps}
-use Rattle.ctlog.specs.Plans.{task}
+use Rattle.ctlog.specs.Plans.{step}
 use Rattle.ctlog.proofs.TaskLemmas.{next_task, all_done}
 use Rattle.ctlog.proofs.plan.give_out.Goals as goal
 
 pub loop-rest-preserved-in_ok-add : goal.loop-rest-preserved-in_ok-add
 loop-rest-preserved-in_ok-add c =
     let before = c.loop-rest.invariant in
-    let t = task c.in_ok-line_task.field-0 in
+    let t = step c.in_ok-line_task.field-0 in
     let some : 0 < length c.first_line.result.0.now = grind (arith, common_steps) in (
       before.0 ++ t ∷ [],
       c.in_ok-add.ensures c.args.fronts before.0 before.1,

@@ -1,43 +1,46 @@
 use Rattle.std.proofs.Common.{List, ℕ, subst, ◌∙◌}
 use Rattle.std.proofs.lemmas.Result.{on_ok_weaker, IfErr-weaker}
-use Rattle.ctlog.specs.Output.{fronts_of, WritesAll, WritesSome, begun}
-use Rattle.ctlog.proofs.HouseLemmas.{new_of_house, new_in_order}
-use Rattle.ctlog.proofs.OutputLemmas.{plan_given}
+use Rattle.ctlog.specs.Output.{WritesAll, WritesSome, begun}
+use Rattle.ctlog.specs.Shifts.{AreForFronts, start_of}
+use Rattle.ctlog.proofs.HouseLemmas.{new_fronts, new_count}
+use Rattle.ctlog.proofs.PlanLemmas.{for_fronts}
 use Rattle.ctlog.proofs.program.serve.Goals as goal
 
-pub serve_parties_and_log-requires-clause-of_house : goal.serve_parties_and_log-requires-clause-of_house
-serve_parties_and_log-requires-clause-of_house g c κs within =
-    let (ts, tasks, i) = c.in_ok-fronts.ensures.plan in
-    let p = c.in_ok-operator.ensures.parties ts (plan_given c.args.options.fronts c.in_ok-fronts.field-0 ts i) in
-    new_of_house c.in_ok-operator.operator.sequencer (fronts_of c.in_ok-operator.parties.items) c.args.options.fronts c.args.options.ring c.args.options.open_at p.fresh
+pub serve_parties_and_log-requires-clause-fronts : goal.serve_parties_and_log-requires-clause-fronts
+serve_parties_and_log-requires-clause-fronts g c κs within =
+    new_fronts c.args.options.fronts c.args.options.ring c.args.options.open_at (start_of c.in_ok-house.house) c.in_ok-house.ensures.house c.args.options.some_fronts
 
-pub serve_parties_and_log-requires-clause-in_order : goal.serve_parties_and_log-requires-clause-in_order
-serve_parties_and_log-requires-clause-in_order g c κs within =
-    let (ts, tasks, i) = c.in_ok-fronts.ensures.plan in
-    let p = c.in_ok-operator.ensures.parties ts (plan_given c.args.options.fronts c.in_ok-fronts.field-0 ts i) in
-    new_in_order c.in_ok-operator.operator.sequencer (fronts_of c.in_ok-operator.parties.items) c.args.options.fronts c.args.options.ring c.args.options.open_at p.fresh
+pub serve_parties_and_log-requires-clause-work : goal.serve_parties_and_log-requires-clause-work
+serve_parties_and_log-requires-clause-work g c κs within =
+    let (ss, steps, i) = c.in_ok-shifts.ensures.plan in
+    subst (λ (n : ℕ). AreForFronts n c.in_ok-shifts.field-0.shifts.items c.in_ok-shifts.field-0.last)
+    (new_count c.args.options.fronts c.args.options.ring c.args.options.open_at (start_of c.in_ok-house.house) c.in_ok-house.ensures.house)
+    (for_fronts c.args.options.fronts c.in_ok-shifts.field-0.shifts.items c.in_ok-shifts.field-0.last ss i.given)
 
 pub returns-clause-served : goal.returns-clause-served
 returns-clause-served g c =
-    let (ts, tasks, i) = c.in_ok-fronts.ensures.plan in
-    let operator = c.in_ok-operator.operator in
-    let parties = c.in_ok-operator.parties.items in
+    let (ss, steps, i) = c.in_ok-shifts.ensures.plan in
+    let shifts = c.in_ok-shifts.field-0.shifts.items in
+    let last = c.in_ok-shifts.field-0.last in
+    let start = start_of c.in_ok-house.house in
     on_ok_weaker c.serve_parties_and_log.result (λ whole. record {
-      tasks = ts;
-      operator = operator;
-      parties = parties;
-      of_input = tasks;
-      of_house = c.in_ok-operator.ensures.parties ts (plan_given c.args.options.fronts c.in_ok-fronts.field-0 ts i);
-      written = subst (λ (l : List ℕ). WritesAll operator parties l c.args.options.close_at (g.W.Write.contents c.args.output.now) (g.W.Write.contents c.serve_parties_and_log.new.output))
+      steps = ss;
+      shifts = shifts;
+      last = last;
+      start = start;
+      of_input = steps;
+      given = i.given;
+      of_house = c.in_ok-house.ensures.house;
+      written = subst (λ (l : List ℕ). WritesAll start shifts last l c.args.options.close_at (g.W.Write.contents c.args.output.now) (g.W.Write.contents c.serve_parties_and_log.new.output))
           (c.deref.ensures.value ∙ i.frozen) whole;
     }) c.serve_parties_and_log.ensures.all
 
 pub returns-clause-begun : goal.returns-clause-begun
 returns-clause-begun g c =
-    let (ts, tasks, i) = c.in_ok-fronts.ensures.plan in
-    let p = c.in_ok-operator.ensures.parties ts (plan_given c.args.options.fronts c.in_ok-fronts.field-0 ts i) in
-    let operator = c.in_ok-operator.operator in
-    let parties = c.in_ok-operator.parties.items in
-    IfErr-weaker c.serve_parties_and_log.result _ _ (λ f some. begun ts operator parties tasks p
-    (subst (λ (l : List ℕ). WritesSome operator parties l c.args.options.close_at f (g.W.Write.contents c.args.output.now) (g.W.Write.contents c.serve_parties_and_log.new.output))
+    let (ss, steps, i) = c.in_ok-shifts.ensures.plan in
+    let shifts = c.in_ok-shifts.field-0.shifts.items in
+    let last = c.in_ok-shifts.field-0.last in
+    let start = start_of c.in_ok-house.house in
+    IfErr-weaker c.serve_parties_and_log.result _ _ (λ f some. begun ss shifts last start steps i.given c.in_ok-house.ensures.house
+    (subst (λ (l : List ℕ). WritesSome start shifts last l c.args.options.close_at f (g.W.Write.contents c.args.output.now) (g.W.Write.contents c.serve_parties_and_log.new.output))
     (c.deref.ensures.value ∙ i.frozen) some)) c.serve_parties_and_log.ensures.some

@@ -4,31 +4,21 @@ use Rattle.std.proofs.lemmas.Result.{on_ok_weaker}
 use Rattle.ct_core.specs.Settlement.{Log}
 use Rattle.ct_lines.specs.Frozen.{frozen_text}
 use Rattle.ctlog.specs.Faults.{IsFrozenFault}
-use Rattle.ctlog.specs.Output.{fronts_of, IsClosed, SomeReplies, parties_begun, parties_done}
+use Rattle.ctlog.specs.Shifts.{start_of}
+use Rattle.ctlog.specs.Output.{IsClosed, SomeReplies, parties_begun, parties_done}
 use Rattle.ctlog.specs.Sends.{SendsSome}
-use Rattle.ctlog.proofs.HouseLemmas.{went_of_house, went_in_order}
 use Rattle.ctlog.proofs.OutputLemmas.{if_err_is, if_err_both, writes_all, writes_last}
 use Rattle.ctlog.proofs.program.serve_parties_and_log.Goals as goal
 
-pub close-requires-clause-of_house : goal.close-requires-clause-of_house
-close-requires-clause-of_house g c κs within =
-    went_of_house c.args.operator.sequencer c.in_ok-sequencer.field-0.sequencer (fronts_of c.args.parties.items) c.in_ok-sequencer.field-0.fronts.items
-    c.in_ok-sequencer.ensures.house c.in_ok-sequencer.ensures.same c.requires.of_house
-
-pub close-requires-clause-in_order : goal.close-requires-clause-in_order
-close-requires-clause-in_order g c κs within =
-    went_in_order c.args.operator.sequencer c.in_ok-sequencer.field-0.sequencer (fronts_of c.args.parties.items) c.in_ok-sequencer.field-0.fronts.items
-    c.in_ok-sequencer.ensures.house c.in_ok-sequencer.ensures.same c.requires.in_order
-
 pub returns-in-Err-clause-some : goal.returns-in-Err-clause-some
 returns-in-Err-clause-some g c =
-    parties_begun c.in_ok-sequencer.field-0.sequencer c.in_ok-sequencer.field-0.fronts.items c.in_ok-sequencer.field-0.replies.items c.in-Err.ensures.fault c.in_ok-sequencer.ensures.serves
+    parties_begun c.in_ok-sequencer.field-0.sequencer c.in_ok-sequencer.field-0.fronts.items c.in_ok-sequencer.field-0.replies.items c.in-Err.ensures.fault c.in_ok-sequencer.ensures.serve
     (subst (λ (l : List ℕ). SendsSome (g.W.Write.contents c.args.output.now) (g.W.Write.contents c.send.new.output) l) c.deref.ensures.value c.in-Err.ensures.some)
 
 pub returns-in_err-log-clause-some : goal.returns-in_err-log-clause-some
 returns-in_err-log-clause-some g c =
     if_err_is _ _ c.in_err-log.field-0.0 c.from_residual-in_err-log.ensures.1
-    (parties_done c.in_ok-sequencer.field-0.sequencer c.in_ok-sequencer.field-0.fronts.items c.in_ok-sequencer.field-0.replies.items c.in_err-log.ensures.faults c.in_ok-sequencer.ensures.serves
+    (parties_done c.in_ok-sequencer.field-0.sequencer c.in_ok-sequencer.field-0.fronts.items c.in_ok-sequencer.field-0.replies.items c.in_err-log.ensures.faults c.in_ok-sequencer.ensures.serve
     (subst (λ (l : List ℕ). Appends (g.W.Write.contents c.args.output.now) (g.W.Write.contents c.send.new.output) l) c.deref.ensures.value c.in-Ok.ensures.all))
 
 pub returns-clause-all : goal.returns-clause-all
@@ -42,8 +32,8 @@ returns-clause-all g c =
       accepted = c.in_ok-log.log.accepted;
       closes = c.in_ok-log.ensures.closes;
     } in
-    on_ok_weaker c.send_frozen.result (λ whole. writes_all c.args.operator c.args.parties.items c.args.lines.now c.args.close_at old mid new c.in_ok-sequencer.field-0.sequencer
-    c.in_ok-sequencer.field-0.fronts.items text c.in_ok-log.log.log c.in_ok-sequencer.ensures.serves closed first
+    on_ok_weaker c.send_frozen.result (λ whole. writes_all (start_of c.args.house) c.args.shifts.items c.args.last c.args.lines.now c.args.close_at old mid new c.in_ok-sequencer.field-0.sequencer
+    c.in_ok-sequencer.field-0.fronts.items text c.in_ok-log.log.log c.in_ok-sequencer.ensures.serve closed first
     (subst (λ (l : Log). Appends mid new (frozen_text l c.args.lines.now)) c.published.ensures whole)) c.send_frozen.ensures.all
 
 pub returns-clause-some : goal.returns-clause-some
@@ -57,6 +47,6 @@ returns-clause-some g c =
       accepted = c.in_ok-log.log.accepted;
       closes = c.in_ok-log.ensures.closes;
     } in
-    if_err_both IsFrozenFault _ _ c.send_frozen.result (λ f fault some. writes_last c.args.operator c.args.parties.items c.args.lines.now c.args.close_at old mid new c.in_ok-sequencer.field-0.sequencer
-    c.in_ok-sequencer.field-0.fronts.items text c.in_ok-log.log.log f c.in_ok-sequencer.ensures.serves closed first fault
+    if_err_both IsFrozenFault _ _ c.send_frozen.result (λ f fault some. writes_last (start_of c.args.house) c.args.shifts.items c.args.last c.args.lines.now c.args.close_at old mid new c.in_ok-sequencer.field-0.sequencer
+    c.in_ok-sequencer.field-0.fronts.items text c.in_ok-log.log.log f c.in_ok-sequencer.ensures.serve closed first fault
     (subst (λ (l : Log). (written : List ℕ) × SomeReplies l c.args.lines.now written × Appends mid new written) c.published.ensures some)) c.send_frozen.ensures.faults c.send_frozen.ensures.some

@@ -1,6 +1,6 @@
 use Rattle.std.proofs.Common.{map}
-use Rattle.ctlog.specs.Parties.{FrontsServe}
+use Rattle.ctlog.specs.Parties.{FrontsDo}
 use Rattle.ctlog.proofs.threads.join_fronts.Given as goal
 
 abbrev pub invariant-loop-thread : goal.invariant-loop-thread
-invariant-loop-thread g l = FrontsServe (map (λ t. t.promise.0.value) l.yielded) l.fronts.items l.replies.items
+invariant-loop-thread g l = FrontsDo (map (λ t. t.promise.0.value) l.yielded) l.parties.items

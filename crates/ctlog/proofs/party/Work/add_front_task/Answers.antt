@@ -1,5 +1,5 @@
 use Rattle.ctlog.proofs.PlanLemmas.{front_added}
-use Rattle.ctlog.proofs.plan.Plan.add_front_task.Goals as goal
+use Rattle.ctlog.proofs.party.Work.add_front_task.Goals as goal
 
 pub returns : goal.returns
 returns c = λ n ts i.
