@@ -13,6 +13,10 @@ use std::alloc::Global;
 // The last moment that the command line takes, 2^53 - 1, in milliseconds.
 const LAST_MOMENT: u64 = 9_007_199_254_740_991;
 
+// What the program does, below the options.
+const ABOUT: &str = "Runs a Certificate Transparency log (RFC 6962). Requests come on standard input and replies go to standard output,
+a line of JSON each; docs/LINES.md has their form. The input is read whole before the log opens.";
+
 /// What the command line asks for.
 #[derive(Clone, Copy, Debug)]
 pub struct Options {
@@ -38,7 +42,7 @@ fn fronts_option<'a>(alloc: Global) -> Arg<'a>
     Arg::new(alloc, "fronts")
         .long("fronts")
         .value_name("N")
-        .help("The number of fronts")
+        .help("The number of fronts, from 1 to 16")
         .required(true)
         .action(ArgAction::Set)
         .value_parser(value_parser!(u16).range(1..=16))
@@ -52,7 +56,7 @@ fn ring_option<'a>(alloc: Global) -> Arg<'a>
     Arg::new(alloc, "ring")
         .long("ring")
         .value_name("K")
-        .help("The places of a front's ring")
+        .help("The places of a front's ring, from 1 to 4096")
         .required(true)
         .action(ArgAction::Set)
         .value_parser(value_parser!(usize).range(1..=4096))
@@ -66,7 +70,7 @@ fn open_at_option<'a>(alloc: Global) -> Arg<'a>
     Arg::new(alloc, "open-at")
         .long("open-at")
         .value_name("T")
-        .help("The moment at which the log opens, in milliseconds [default: 0]")
+        .help("The moment at which the log opens, in milliseconds, at most 9007199254740991 [default: 0]")
         .action(ArgAction::Set)
         .value_parser(value_parser!(u64).range(0..=9_007_199_254_740_991))
 }
@@ -79,9 +83,16 @@ fn close_at_option<'a>(alloc: Global) -> Arg<'a>
     Arg::new(alloc, "close-at")
         .long("close-at")
         .value_name("T")
-        .help("The moment at which the log is closed, in milliseconds [default: 9007199254740991]")
+        .help("The moment at which the log is closed, in milliseconds, at most the default [default: 9007199254740991]")
         .action(ArgAction::Set)
         .value_parser(value_parser!(u64).range(0..=9_007_199_254_740_991))
+}
+
+// The command, with what the program does below its options.
+fn with_about<'a>(command: Command<'a>) -> Command<'a>
+    ensures { app_of result ≡ app_of command.entry }
+{
+    command.after_help(ABOUT)
 }
 
 // The command and its arguments.
@@ -94,7 +105,7 @@ fn command<'a>(alloc: Global) -> Result<Command<'a>, Error>
         .arg(ring_option(alloc))?
         .arg(open_at_option(alloc))?
         .arg(close_at_option(alloc))?;
-    Ok(command)
+    Ok(with_about(command))
 }
 
 // The numbers, where both are there and in their ranges.
