@@ -144,30 +144,55 @@ fn replies_to(given: u32) -> u64 {
     }
 }
 
+// Whether the run with a read that fails so ends as it should.
+fn ends_at_read(rt: &HostRuntime, log: &Published, failing: u32, kind: ErrorKind) -> bool {
+    let mut read = Calls::new(failing, Failure::Error(kind));
+    let mut write = Calls::new(0, Failure::Nothing);
+    let (end, taken) = served(rt, log, &mut read, &mut write);
+    let calls = (read.failed, write.failed);
+    let is_whole = failing == 8;
+    if is_whole {
+        return end == Ok(()) && ends_in(&taken) == 3 && is_cut_off(&taken, 3) && calls == (0, 0);
+    }
+    let k = replies_to(failing.saturating_sub(1).saturating_mul(7));
+    end == Err(ServeFault::Read(k))
+        && ends_in(&taken) == k
+        && is_cut_off(&taken, k)
+        && calls == (1, 0)
+}
+
+// Whether so many whole replies, of which there are at most three, were written.
+fn is_cut_off(taken: &[u8], count: u64) -> bool {
+    REPLIES.starts_with(taken) && taken.ends_with(b"\n") == (count > 0)
+}
+
 #[test]
 fn a_reader_that_fails_at_each_call(rt: HostRuntime) -> Result<(), Fail> {
     let log = closed(&rt)?;
     for failing in 1..=8 {
         for kind in [ErrorKind::BrokenPipe, ErrorKind::Interrupted] {
-            let mut read = Calls::new(failing, Failure::Error(kind));
-            let mut write = Calls::new(0, Failure::Nothing);
-            let (end, taken) = served(&rt, log.published(), &mut read, &mut write);
-            let is_whole = failing == 8;
-            let k = replies_to(7 * (failing - 1));
-            assert_eq!(rt;
-                end,
-                if is_whole {
-                    Ok(())
-                } else {
-                    Err(ServeFault::Read(k))
-                }
+            assert!(rt;
+                ends_at_read(&rt, log.published(), failing, kind),
+                "{failing}"
             );
-            assert_eq!(rt; ends_in(&taken), if is_whole { 3 } else { k }, "{failing}");
-            assert!(rt; REPLIES.starts_with(&taken) && taken.ends_with(b"\n") == (k > 0));
-            assert_eq!(rt; (read.failed, write.failed), (u32::from(!is_whole), 0));
         }
     }
     Ok(())
+}
+
+// Whether the run with a write that fails so ends as it should.
+fn ends_at_write(rt: &HostRuntime, log: &Published, failing: u32, failure: Failure) -> bool {
+    let mut read = Calls::new(0, Failure::Nothing);
+    let mut write = Calls::new(failing, failure);
+    let (end, taken) = served(rt, log, &mut read, &mut write);
+    let calls = (read.failed, write.failed);
+    if failing == 17 {
+        return end == Ok(()) && taken.as_slice() == REPLIES && calls == (0, 0);
+    }
+    end == Err(ServeFault::Write(ends_in(&taken)))
+        && REPLIES.starts_with(&taken)
+        && taken.len() != REPLIES.len()
+        && calls == (0, 1)
 }
 
 // The replies have 21, 96 and 21 bytes: 3, 10 and 3 calls.
@@ -180,22 +205,10 @@ fn a_writer_that_fails_at_each_call(rt: HostRuntime) -> Result<(), Fail> {
             Failure::Error(ErrorKind::Interrupted),
             Failure::Nothing,
         ] {
-            let mut read = Calls::new(0, Failure::Nothing);
-            let mut write = Calls::new(failing, failure);
-            let (end, taken) = served(&rt, log.published(), &mut read, &mut write);
-            let is_whole = failing == 17;
-            let k = ends_in(&taken);
-            assert_eq!(rt;
-                end,
-                if is_whole {
-                    Ok(())
-                } else {
-                    Err(ServeFault::Write(k))
-                }
+            assert!(rt;
+                ends_at_write(&rt, log.published(), failing, failure),
+                "{failing}"
             );
-            assert!(rt; REPLIES.starts_with(&taken), "{failing}");
-            assert_eq!(rt; taken.len() == REPLIES.len(), is_whole);
-            assert_eq!(rt; (read.failed, write.failed), (0, u32::from(!is_whole)));
         }
     }
     Ok(())

@@ -69,6 +69,21 @@ fn changed(rt: &HostRuntime, kind: Kind, bytes: &[u8], byte: u8) -> Result<Strin
     Ok(signs)
 }
 
+// Whether cutting off the bytes, and making each of them 00 or ff, is answered by these signs.
+fn answered(
+    rt: &HostRuntime,
+    kind: Kind,
+    bytes: &[u8],
+    cuts: &str,
+    zeros: &str,
+    ones: &str,
+) -> Result<bool, Fail> {
+    let is_cut = cut(rt, kind, bytes)?.as_str() == cuts;
+    let is_zeros = changed(rt, kind, bytes, 0x00)?.as_str() == zeros;
+    let is_ones = changed(rt, kind, bytes, 0xff)?.as_str() == ones;
+    Ok(is_cut && is_zeros && is_ones)
+}
+
 #[test]
 fn leaves_and_chains_cut_off_and_changed(rt: HostRuntime) -> Result<(), Fail> {
     let table: [(Kind, &[u8], &str, &str, &str); 4] = [
@@ -102,9 +117,7 @@ fn leaves_and_chains_cut_off_and_changed(rt: HostRuntime) -> Result<(), Fail> {
         ),
     ];
     for (kind, bytes, cuts, zeros, ones) in table {
-        assert_eq!(rt; cut(&rt, kind, bytes)?.as_str(), cuts);
-        assert_eq!(rt; changed(&rt, kind, bytes, 0x00)?.as_str(), zeros);
-        assert_eq!(rt; changed(&rt, kind, bytes, 0xff)?.as_str(), ones);
+        assert!(rt; answered(&rt, kind, bytes, cuts, zeros, ones)?, "{cuts}");
     }
     Ok(())
 }

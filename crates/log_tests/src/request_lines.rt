@@ -10,14 +10,17 @@ const HASH: [u8; 32] = [
     26, 27, 28, 29, 30, 31,
 ];
 
-// What `read_line` answers, by its `Debug` text.
-fn read(rt: &HostRuntime, line: &[u8]) -> Result<String, Fail> {
-    let request = read_line(rt.alloc(), line);
-    Ok(format!(in rt.alloc(); "{request:?}")?)
+// Whether `read_line` answers so, by its `Debug` text.
+fn is_read(rt: &HostRuntime, line: &[u8], request: &str) -> bool {
+    let answer = read_line(rt.alloc(), line);
+    match format!(in rt.alloc(); "{answer:?}") {
+        Ok(text) => text.as_str() == request,
+        Err(_) => false,
+    }
 }
 
 #[test]
-fn each_request_is_read(rt: HostRuntime) -> Result<(), Fail> {
+fn each_request_is_read(rt: HostRuntime) {
     for (line, request) in [
         (
             r#"{"who":0,"op":"add-chain","chain":["QQ==","QkM=",""]}"#,
@@ -100,9 +103,13 @@ fn each_request_is_read(rt: HostRuntime) -> Result<(), Fail> {
             "Ok(Operator(Shutdown))",
         ),
     ] {
-        assert_eq!(rt; read(&rt, line.as_bytes())?.as_str(), request);
+        assert!(rt; is_read(&rt, line.as_bytes(), request), "{line}");
     }
-    Ok(())
+}
+
+// Whether a line is refused as a bad one.
+fn is_bad(rt: &HostRuntime, line: &[u8]) -> bool {
+    matches!(read_line(rt.alloc(), line), Err(Refusal::BadLine))
 }
 
 #[test]
@@ -176,14 +183,14 @@ fn other_lines_are_bad(rt: HostRuntime) {
         r#"{"who":"operator","op":"sequence","from":0,"count":1}"#,
         r#"{"who":"operator","op":"shutdown","ignored":1e400}"#,
     ] {
-        let answer = read_line(rt.alloc(), line.as_bytes());
-        assert!(rt; matches!(answer, Err(Refusal::BadLine)), "{line}");
+        assert!(rt; is_bad(&rt, line.as_bytes()), "{line}");
     }
-    let not_text = read_line(
-        rt.alloc(),
-        b"{\"who\":\"operator\",\"op\":\"shutdown\",\"\xff\":0}",
+    assert!(rt;
+        is_bad(
+            &rt,
+            b"{\"who\":\"operator\",\"op\":\"shutdown\",\"\xff\":0}"
+        )
     );
-    assert!(rt; matches!(not_text, Err(Refusal::BadLine)));
 }
 
 // A shutdown with an ignored key under which so many arrays nest.
@@ -206,20 +213,15 @@ fn padded(rt: &HostRuntime, len: usize) -> Result<Vec<u8>, Fail> {
 #[test]
 fn depth_and_length_have_limits(rt: HostRuntime) -> Result<(), Fail> {
     let shutdown = "Ok(Operator(Shutdown))";
-    assert_eq!(rt; read(&rt, &nested(&rt, 126)?)?.as_str(), shutdown);
-    assert_eq!(rt; read(&rt, &nested(&rt, 127)?)?.as_str(), "Err(BadLine)");
-    assert_eq!(rt; read(&rt, &padded(&rt, 1_048_576)?)?.as_str(), shutdown);
-    assert_eq!(rt;
-        read(&rt, &padded(&rt, 1_048_577)?)?.as_str(),
-        "Err(BadLine)"
-    );
+    for (arrays, answer) in [(126, shutdown), (127, "Err(BadLine)")] {
+        let line = nested(&rt, arrays)?;
+        assert!(rt; is_read(&rt, &line, answer), "{arrays}");
+    }
+    for (len, answer) in [(1_048_576, shutdown), (1_048_577, "Err(BadLine)")] {
+        let line = padded(&rt, len)?;
+        assert!(rt; is_read(&rt, &line, answer), "{len}");
+    }
     Ok(())
-}
-
-// The line of a reply or a refusal.
-fn line(rt: &HostRuntime, reply: &Result<Reply, Refusal>) -> Result<String, Fail> {
-    let bytes = reply_text(rt.alloc(), reply)?;
-    Ok(String::from_utf8(bytes).ok().ok_or("text")?)
 }
 
 fn entry(rt: &HostRuntime, byte: u8) -> Result<ShownEntry, Fail> {
@@ -250,53 +252,66 @@ fn proof_by_hash(rt: &HostRuntime) -> Result<Reply, Fail> {
     })
 }
 
-// Whether the line of a reply is this text.
-fn is_line(rt: &HostRuntime, reply: Reply, text: &str) -> Result<bool, Fail> {
-    Ok(line(rt, &Ok(reply))?.as_str() == text)
+fn collision(rt: &HostRuntime) -> Result<Reply, Fail> {
+    let left = Vec::from_slice(rt.alloc(), &[0, 0x42])?;
+    let right = Vec::from_slice(rt.alloc(), &[0, 0x41])?;
+    Ok(Reply::Collision(left, right))
+}
+
+// Whether the line of a reply or a refusal is this text.
+fn is_line(rt: &HostRuntime, reply: Result<Reply, Refusal>, text: &str) -> bool {
+    match reply_text(rt.alloc(), &reply) {
+        Ok(bytes) => bytes.as_slice() == text.as_bytes(),
+        Err(_) => false,
+    }
+}
+
+// The hash is the one of no leaves.
+const HEAD: Head = Head {
+    tree_size: 0,
+    timestamp: 7,
+    root: [
+        0xe3, 0xb0, 0xc4, 0x42, 0x98, 0xfc, 0x1c, 0x14, 0x9a, 0xfb, 0xf4, 0xc8, 0x99, 0x6f, 0xb9,
+        0x24, 0x27, 0xae, 0x41, 0xe4, 0x64, 0x9b, 0x93, 0x4c, 0xa4, 0x95, 0x99, 0x1b, 0x78, 0x52,
+        0xb8, 0x55,
+    ],
+};
+
+#[test]
+fn replies_of_heads_and_proofs_are_written(rt: HostRuntime) -> Result<(), Fail> {
+    let text =
+        "{\"sha256_root_hash\":\"47DEQpj8HBSa+/TImW+5JCeuQeRkm5NMpJWZG3hSuFU=\",\"timestamp\":7,\"tree_size\":0}\n";
+    assert!(rt; is_line(&rt, Ok(Reply::Sth(HEAD)), text));
+    let none = Reply::Consistency(Vec::new(rt.alloc()));
+    assert!(rt; is_line(&rt, Ok(none), "{\"consistency\":[]}\n"));
+    let one = Reply::Consistency(Vec::from_slice(rt.alloc(), &[HASH])?);
+    let text = "{\"consistency\":[\"AAECAwQFBgcICQoLDA0ODxAREhMUFRYXGBkaGxwdHh8=\"]}\n";
+    assert!(rt; is_line(&rt, Ok(one), text));
+    let text =
+        "{\"audit_path\":[\"AAECAwQFBgcICQoLDA0ODxAREhMUFRYXGBkaGxwdHh8=\",\"AAAAAAAAAAAAAAAAAAAAAAAAAAAAAAAAAAAAAAAAAAA=\"],\"leaf_index\":5}\n";
+    assert!(rt; is_line(&rt, Ok(proof_by_hash(&rt)?), text));
+    Ok(())
 }
 
 #[test]
-fn replies_to_queries_are_written(rt: HostRuntime) -> Result<(), Fail> {
-    let head = Head {
-        tree_size: 0,
-        timestamp: 7,
-        root: [
-            0xe3, 0xb0, 0xc4, 0x42, 0x98, 0xfc, 0x1c, 0x14, 0x9a, 0xfb, 0xf4, 0xc8, 0x99, 0x6f,
-            0xb9, 0x24, 0x27, 0xae, 0x41, 0xe4, 0x64, 0x9b, 0x93, 0x4c, 0xa4, 0x95, 0x99, 0x1b,
-            0x78, 0x52, 0xb8, 0x55,
-        ],
-    };
-    let text =
-        "{\"sha256_root_hash\":\"47DEQpj8HBSa+/TImW+5JCeuQeRkm5NMpJWZG3hSuFU=\",\"timestamp\":7,\"tree_size\":0}\n";
-    assert!(rt; is_line(&rt, Reply::Sth(head), text)?);
-    let none = Reply::Consistency(Vec::new(rt.alloc()));
-    assert!(rt; is_line(&rt, none, "{\"consistency\":[]}\n")?);
-    let one = Reply::Consistency(Vec::from_slice(rt.alloc(), &[HASH])?);
-    let text = "{\"consistency\":[\"AAECAwQFBgcICQoLDA0ODxAREhMUFRYXGBkaGxwdHh8=\"]}\n";
-    assert!(rt; is_line(&rt, one, text)?);
-    let text =
-        "{\"audit_path\":[\"AAECAwQFBgcICQoLDA0ODxAREhMUFRYXGBkaGxwdHh8=\",\"AAAAAAAAAAAAAAAAAAAAAAAAAAAAAAAAAAAAAAAAAAA=\"],\"leaf_index\":5}\n";
-    assert!(rt; is_line(&rt, proof_by_hash(&rt)?, text)?);
+fn replies_of_entries_are_written(rt: HostRuntime) -> Result<(), Fail> {
     let text =
         "{\"entries\":[{\"extra_data\":\"AAAA\",\"leaf_input\":\"QQ==\"},{\"extra_data\":\"AAAA\",\"leaf_input\":\"Qg==\"}]}\n";
-    assert!(rt; is_line(&rt, two_entries(&rt)?, text)?);
+    assert!(rt; is_line(&rt, Ok(two_entries(&rt)?), text));
     let text =
         "{\"audit_path\":[\"AAECAwQFBgcICQoLDA0ODxAREhMUFRYXGBkaGxwdHh8=\"],\"extra_data\":\"AAAA\",\"leaf_input\":\"QQ==\"}\n";
-    assert!(rt; is_line(&rt, entry_and_proof(&rt)?, text)?);
+    assert!(rt; is_line(&rt, Ok(entry_and_proof(&rt)?), text));
     let receipt = Reply::Receipt {
         leaf_index: 0,
         timestamp: 3,
     };
     let text = "{\"extensions\":\"\",\"leaf_index\":0,\"sct_version\":0,\"timestamp\":3}\n";
-    assert!(rt; is_line(&rt, receipt, text)?);
+    assert!(rt; is_line(&rt, Ok(receipt), text));
     Ok(())
 }
 
 #[test]
 fn other_replies_are_written(rt: HostRuntime) -> Result<(), Fail> {
-    let alloc = rt.alloc();
-    let left = Vec::from_slice(alloc, &[0, 0x42])?;
-    let right = Vec::from_slice(alloc, &[0, 0x41])?;
     let published = Head {
         tree_size: 1,
         timestamp: 4,
@@ -317,18 +332,16 @@ fn other_replies_are_written(rt: HostRuntime) -> Result<(), Fail> {
         (Reply::Shift(1), "{\"shift\":1}\n"),
         (Reply::Holds, "{\"verdict\":\"holds\"}\n"),
         (Reply::Refused, "{\"verdict\":\"refused\"}\n"),
-        (
-            Reply::Collision(left, right),
-            "{\"left\":\"AEI=\",\"right\":\"AEE=\",\"verdict\":\"collision\"}\n",
-        ),
     ] {
-        assert_eq!(rt; line(&rt, &Ok(reply))?.as_str(), text);
+        assert!(rt; is_line(&rt, Ok(reply), text), "{text}");
     }
+    let text = "{\"left\":\"AEI=\",\"right\":\"AEE=\",\"verdict\":\"collision\"}\n";
+    assert!(rt; is_line(&rt, Ok(collision(&rt)?), text));
     Ok(())
 }
 
 #[test]
-fn each_refusal_has_its_name(rt: HostRuntime) -> Result<(), Fail> {
+fn each_refusal_has_its_name(rt: HostRuntime) {
     for (refusal, text) in [
         (Refusal::Memory, "{\"error\":\"memory\"}\n"),
         (Refusal::Full, "{\"error\":\"full\"}\n"),
@@ -354,7 +367,6 @@ fn each_refusal_has_its_name(rt: HostRuntime) -> Result<(), Fail> {
         (Refusal::Late, "{\"error\":\"late\"}\n"),
         (Refusal::Closed, "{\"error\":\"closed\"}\n"),
     ] {
-        assert_eq!(rt; line(&rt, &Err(refusal))?.as_str(), text);
+        assert!(rt; is_line(&rt, Err(refusal), text), "{text}");
     }
-    Ok(())
 }

@@ -10,11 +10,16 @@ use std::test::*;
 // at another.
 fn closed_log(rt: &HostRuntime, count: u64, now: u64, close_at: u64) -> Result<Core, Refusal> {
     let mut core = Core::open(rt.alloc(), 0)?;
-    for ticket in 0..count {
-        settle(rt, &mut core, (0, ticket), b"A", now)?;
-    }
+    settle_often(rt, &mut core, count, now)?;
     publish(rt, &mut core, close_at)?;
     Ok(core)
+}
+
+fn settle_often(rt: &HostRuntime, core: &mut Core, count: u64, now: u64) -> Result<(), Refusal> {
+    for ticket in 0..count {
+        settle(rt, core, (0, ticket), b"A", now)?;
+    }
+    Ok(())
 }
 
 // Whether the log writes this text for this input.
@@ -86,12 +91,19 @@ fn what_the_frozen_log_writes(rt: HostRuntime) -> Result<(), Fail> {
     Ok(())
 }
 
+// Whether the log refuses a line by this name, and answers a question behind it.
+fn refuses(rt: &HostRuntime, log: &Published, line: &str, name: &str) -> Result<bool, Fail> {
+    let question = r#"{"who":"frozen","op":"receipt","ticket":0}"#;
+    let answer = r#"{"extensions":"","leaf_index":0,"sct_version":0,"timestamp":1}"#;
+    let lines = format!(in rt.alloc(); "{line}\n{question}\n")?;
+    let replies = format!(in rt.alloc(); "{{\"error\":\"{name}\"}}\n{answer}\n")?;
+    Ok(writes(rt, log, lines.as_bytes(), replies.as_bytes()))
+}
+
 // Each refusal of the frozen log, with a question that is answered behind it.
 #[test]
 fn a_refusal_and_then_an_answer(rt: HostRuntime) -> Result<(), Fail> {
     let log = closed_log(&rt, 1, 1, 9)?;
-    let question = r#"{"who":"frozen","op":"receipt","ticket":0}"#;
-    let answer = r#"{"extensions":"","leaf_index":0,"sct_version":0,"timestamp":1}"#;
     for (line, name) in [
         (
             r#"{"who":"frozen","op":"get-sth-consistency","first":1,"second":2}"#,
@@ -128,12 +140,7 @@ fn a_refusal_and_then_an_answer(rt: HostRuntime) -> Result<(), Fail> {
         ),
         (r#"{"who":"frozen","op":"await-size"}"#, "bad-line"),
     ] {
-        let lines = format!(in rt.alloc(); "{line}\n{question}\n")?;
-        let replies = format!(in rt.alloc(); "{{\"error\":\"{name}\"}}\n{answer}\n")?;
-        assert!(rt;
-            writes(&rt, log.published(), lines.as_bytes(), replies.as_bytes()),
-            "{line}"
-        );
+        assert!(rt; refuses(&rt, log.published(), line, name)?, "{line}");
     }
     Ok(())
 }
@@ -205,12 +212,18 @@ fn broken_end(
     }
 }
 
+// 8,192 empty lines and one that is no request.
+fn long_text(rt: &HostRuntime) -> Result<Vec<u8>, Fail> {
+    let mut long = vec![in rt.alloc(); b'\n'; 8_192]?;
+    long.extend_from_slice(b"{}\n")?;
+    Ok(long)
+}
+
 // One of them fails after 8,195 reads of one byte.
 #[test]
 fn a_reader_that_fails(rt: HostRuntime) -> Result<(), Fail> {
     let log = closed_log(&rt, 0, 0, 9)?;
-    let mut long = vec![in rt.alloc(); b'\n'; 8_192]?;
-    long.extend_from_slice(b"{}\n")?;
+    let long = long_text(&rt)?;
     let rows: [(&[u8], usize, &[u8], u64); 4] = [
         (b"{}\n", 9, BAD_LINE, 1),
         (b"\n{}\n\n[]\n{\n{", 1, THREE_BAD_LINES, 3),
@@ -219,7 +232,7 @@ fn a_reader_that_fails(rt: HostRuntime) -> Result<(), Fail> {
     ];
     for (text, step, replies, count) in rows {
         let end = broken_end(&rt, log.published(), Breaking { text, step }, replies);
-        assert_eq!(rt; end, Some(ServeFault::Read(count)));
+        assert!(rt; end == Some(ServeFault::Read(count)), "{text:?}");
     }
     Ok(())
 }
@@ -282,7 +295,7 @@ fn writers_that_fail_or_take_no_bytes(rt: HostRuntime) -> Result<(), Fail> {
     ];
     for (left, fails, text, count) in rows {
         let end = cramped_end(&rt, log.published(), left, fails, text);
-        assert_eq!(rt; end, Some(ServeFault::Write(count)));
+        assert!(rt; end == Some(ServeFault::Write(count)), "{left} {fails}");
     }
     Ok(())
 }

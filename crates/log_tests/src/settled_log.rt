@@ -101,3 +101,24 @@ pub(crate) fn receipt(
         _ => None,
     })
 }
+
+// Whether these bytes were made, and are the text.
+pub(crate) fn is_text(made: Result<Vec<u8>, Refusal>, text: &[u8]) -> bool {
+    match made {
+        Ok(bytes) => bytes.as_slice() == text,
+        Err(_) => false,
+    }
+}
+
+// Whether these are the texts.
+pub(crate) fn are_texts(made: &[Vec<u8>], texts: &[&[u8]]) -> bool {
+    if made.len() != texts.len() {
+        return false;
+    }
+    for place in 0..texts.len() {
+        if made[place].as_slice() != texts[place] {
+            return false;
+        }
+    }
+    true
+}
