@@ -1,4 +1,4 @@
-# make demo   builds ctlog and runs it on real certificates
+# make demo   builds ctlog and ctmonitor and runs them on real certificates
 # make test   the gate: proves every crate from nothing, and runs the tests and the program
 # make check  for daily work: proves what changed
 # make link   builds libwagtenib, the proof checkers for C, and runs programs in C, Rust and Python over it

@@ -1,10 +1,13 @@
 #!/usr/bin/env bash
 # Builds ctlog, runs it on real certificate chains, through one front and through four at once, and compares what it
-# writes with what is expected. With CTLOG=PATH another program with the same command line is run in its place.
+# writes with what is expected. Then builds ctmonitor, and watches with it that log, and a made-up one over three days that
+# forks, is rewritten, and shrinks. With CTLOG=PATH or CTMONITOR=PATH another program with the same command line is run in its place.
 set -eu
 program=${CTLOG:+$(realpath "$CTLOG")}
+monitor=${CTMONITOR:+$(realpath "$CTMONITOR")}
 cd "$(dirname "$0")/.."
 program=${program:-crates/ctlog/out/ctlog}
+monitor=${monitor:-crates/ctmonitor/out/ctmonitor}
 ring=32
 open_at=1767225600000
 close_at=1767225660000
@@ -17,10 +20,10 @@ fail() {
 }
 
 build() {
-  echo "Building ctlog (the first time this proves it and the crates below it, which takes some minutes) .."
-  if ! (cd crates/ctlog && rt run -- --help) >"$work/log" 2>&1; then
+  echo "Building $1 (the first time this proves it and the crates below it, which takes some minutes) .."
+  if ! (cd "crates/$1" && rt run -- --help) >"$work/log" 2>&1; then
     cat "$work/log" >&2
-    fail "ctlog was not built"
+    fail "$1 was not built"
   fi
   echo
 }
@@ -66,7 +69,15 @@ lines_of() {
   grep -c "^{\"who\":$1," examples/four-fronts.jsonl
 }
 
-[ -n "${CTLOG:-}" ] || build
+# Watches the made-up log: the lines of run $1 have to give its verdicts and its exit status.
+watch() {
+  status=0
+  "$monitor" --name microsoft.com --name debian <"$work/$1.in" >"$work/$1.told" || status=$?
+  cmp -s "$work/$1.told" "$work/$1.out" || fail "ctmonitor's verdicts on the run $1 differ from those of examples/monitor/answers.py"
+  [ "$status" = "$(cat "$work/$1.status")" ] || fail "ctmonitor ended the run $1 with status $status"
+}
+
+[ -n "${CTLOG:-}" ] || build ctlog
 
 echo "One front: $program --fronts 1 --ring $ring --open-at $open_at --close-at $close_at < examples/real-chains.jsonl"
 run 1 real-chains
@@ -93,4 +104,25 @@ recompute 4 four-fronts
 if command -v python3 >/dev/null; then
   echo "Another (examples/check.py) finds in what ctlog wrote:"
   PYTHONDONTWRITEBYTECODE=1 python3 examples/check.py 4 examples/four-fronts.jsonl "$work/four-fronts" || fail "examples/check.py finds a fault"
+fi
+echo
+
+[ -n "${CTMONITOR:-}" ] || build ctmonitor
+echo "ctlog | ctmonitor: the head and the entries of the first log, as they were replied, and a watched name"
+{ cat examples/real-chains.jsonl && echo '{"who":"frozen","op":"get-entries","start":0,"end":99}'; } |
+  "$program" --fronts 1 --ring "$ring" --open-at "$open_at" --close-at "$close_at" | tail -n 2 |
+  "$monitor" --name microsoft.com >"$work/watched" || fail "ctmonitor ended with status $?"
+grep -q '"verdict":"accepted"' "$work/watched" || fail "ctmonitor didn't accept ctlog's head"
+cut -c1-120 "$work/watched" | sed 's/^/    /'
+if command -v python3 >/dev/null; then
+  echo "A made-up log over three days, and what it does on the fourth (examples/monitor/answers.py, hashlib alone, says what is to be written):"
+  PYTHONDONTWRITEBYTECODE=1 python3 examples/monitor/answers.py "$work" || fail "examples/monitor/answers.py failed"
+  for path in "$work"/*.in; do
+    watch "$(basename "$path" .in)"
+  done
+  for run in day1 day2 day3 fork rewritten shrunk; do
+    echo "  $run: status $(cat "$work/$run.status")"
+    grep '"verdict"' "$work/$run.told" | cut -c1-120 | sed 's/^/    /'
+  done
+  echo "In each of $(ls "$work"/*.in | wc -l) runs the verdicts, the state and the exit status are those."
 fi

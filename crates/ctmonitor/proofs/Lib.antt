@@ -1,0 +1,4 @@
+pub mod NoFloat
+pub mod Told
+pub mod Lines
+pub mod Taken
