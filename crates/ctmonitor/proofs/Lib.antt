@@ -2,3 +2,4 @@ pub mod NoFloat
 pub mod Told
 pub mod Lines
 pub mod Taken
+pub mod Runs

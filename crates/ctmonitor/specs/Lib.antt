@@ -6,3 +6,4 @@ pub mod EntryText
 pub mod StateText
 pub mod Faults
 pub mod Session
+pub mod History

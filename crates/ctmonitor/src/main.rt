@@ -5,6 +5,7 @@
 //! - `names` looks for watched names, `entries` writes of them, `verdicts` writes of verdicts, and `text` writes lines.
 //! - `monitor` takes one line after the other.
 //! - `fault` names what ends the program before the state is written.
+//! - `laws` says what holds of many runs.
 //! - `program` has `run`, which does all this over any reader and any writer.
 #![tactic(auto)]
 
@@ -12,6 +13,7 @@ mod answer;
 mod command;
 mod entries;
 mod fault;
+mod laws;
 mod monitor;
 mod names;
 mod program;
