@@ -12,6 +12,7 @@ import os
 import struct
 import subprocess
 import tempfile
+import time
 from pathlib import Path
 
 ROOT = Path(__file__).resolve().parent.parent
@@ -45,6 +46,17 @@ def write(path, size):
             out.write(json.dumps({"start": start, "entries": entries}) + "\n")
 
 
+def watched(pid):
+    """The highest peak of memory that is seen until the program has ended, in KB (that of wait4 counts this script's too)."""
+    peak = 0
+    while True:
+        fields = dict(line.split(":", 1) for line in Path(f"/proc/{pid}/status").read_text().splitlines())
+        if "VmHWM" not in fields:
+            return peak
+        peak = max(peak, int(fields["VmHWM"].split()[0]))
+        time.sleep(0.005)
+
+
 def main():
     parser = argparse.ArgumentParser()
     parser.add_argument("--sizes", type=int, nargs="*", default=[1000, 10000, 100000])
@@ -56,11 +68,12 @@ def main():
             write(path, size)
             with open(path) as lines:
                 run = subprocess.Popen([args.program, "--name", "example.org"], stdin=lines, stdout=subprocess.PIPE)
+                peak = watched(run.pid)
                 text = run.stdout.read()
                 _, status, used = os.wait4(run.pid, 0)
             assert status == 0 and b'"accepted"' in text, text[-400:]
             seconds = used.ru_utime + used.ru_stime
-            print(f"{size:8} entries: {1e6 * seconds / size:6.1f} microseconds an entry, {size / seconds:8.0f} entries a second, {used.ru_maxrss / 1024:5.1f} MB")
+            print(f"{size:8} entries: {1e6 * seconds / size:6.1f} microseconds an entry, {size / seconds:8.0f} entries a second, {peak / 1024:5.1f} MB")
 
 
 if __name__ == "__main__":
