@@ -7,7 +7,7 @@ PREFIX ?= /usr/local
 help: ## says what each target does
 	@sed -n 's/^\([a-z]*\):.*## /make \1	/p' Makefile | expand -t 15
 
-demo: ## builds ctlog, and runs it on a first session and on real certificates
+demo: ## builds ctlog and ctmonitor, and runs them on a first session, real certificates and a log that forks
 	@checks/needs.sh demo
 	@examples/demo.sh
 

@@ -1,10 +1,13 @@
 #!/usr/bin/env bash
 # Builds ctlog, runs it on the first session of README.md and on real certificate chains, through one front and through four at once, and
-# compares what it writes with what is expected. With CTLOG=PATH another program with the same command line is run in its place.
+# compares what it writes with what is expected. Then builds ctmonitor, and watches with it that log, and a made-up one over three days
+# that forks, is rewritten, and shrinks. With CTLOG=PATH or CTMONITOR=PATH another program with the same command line is run in its place.
 set -eu
 program=${CTLOG:+$(realpath "$CTLOG")}
+monitor=${CTMONITOR:+$(realpath "$CTMONITOR")}
 cd "$(dirname "$0")/.."
 program=${program:-crates/ctlog/out/ctlog}
+monitor=${monitor:-crates/ctmonitor/out/ctmonitor}
 ring=32
 open_at=1767225600000
 close_at=1767225660000
@@ -17,8 +20,8 @@ fail() {
 }
 
 build() {
-  echo "Building ctlog: rt proves it and the crates below it, and says which it is at."
-  examples/build.py ctlog run -- --help || fail "ctlog was not built"
+  echo "Building $1: rt proves it and the crates below it, and says which it is at."
+  examples/build.py "$1" run -- --help || fail "$1 was not built"
   echo
 }
 
@@ -63,7 +66,15 @@ lines_of() {
   grep -c "^{\"who\":$1," examples/four-fronts.jsonl
 }
 
-[ -n "${CTLOG:-}" ] || build
+# Watches the made-up log: the lines of run $1 have to give its verdicts and its exit status.
+watch() {
+  status=0
+  "$monitor" --name microsoft.com --name debian <"$work/$1.in" >"$work/$1.told" || status=$?
+  cmp -s "$work/$1.told" "$work/$1.out" || fail "ctmonitor's verdicts on the run $1 differ from those of examples/monitor/answers.py"
+  [ "$status" = "$(cat "$work/$1.status")" ] || fail "ctmonitor ended the run $1 with status $status"
+}
+
+[ -n "${CTLOG:-}" ] || build ctlog
 
 echo "The first session of README.md: $program --fronts 1 --ring 4 --close-at 7 < examples/first-session.jsonl"
 "$program" --fronts 1 --ring 4 --close-at 7 <examples/first-session.jsonl >"$work/first-session" || fail "$program ended with status $?"
@@ -96,4 +107,25 @@ recompute 4 four-fronts
 if command -v python3 >/dev/null; then
   echo "Another (examples/check.py) finds in what ctlog wrote:"
   PYTHONDONTWRITEBYTECODE=1 python3 examples/check.py 4 examples/four-fronts.jsonl "$work/four-fronts" || fail "examples/check.py finds a fault"
+fi
+echo
+
+[ -n "${CTMONITOR:-}" ] || build ctmonitor
+echo "ctlog | ctmonitor: the head and the entries of the first log, as they were replied, and a watched name"
+{ cat examples/real-chains.jsonl && echo '{"who":"frozen","op":"get-entries","start":0,"end":99}'; } |
+  "$program" --fronts 1 --ring "$ring" --open-at "$open_at" --close-at "$close_at" | tail -n 2 |
+  "$monitor" --name microsoft.com >"$work/watched" || fail "ctmonitor ended with status $?"
+grep -q '"verdict":"accepted"' "$work/watched" || fail "ctmonitor didn't accept ctlog's head"
+cut -c1-120 "$work/watched" | sed 's/^/    /'
+if command -v python3 >/dev/null; then
+  echo "A made-up log over three days, and what it does on the fourth (examples/monitor/answers.py, hashlib alone, says what is to be written):"
+  PYTHONDONTWRITEBYTECODE=1 python3 examples/monitor/answers.py "$work" || fail "examples/monitor/answers.py failed"
+  for path in "$work"/*.in; do
+    watch "$(basename "$path" .in)"
+  done
+  for run in day1 day2 day3 fork rewritten shrunk; do
+    echo "  $run: status $(cat "$work/$run.status")"
+    grep '"verdict"' "$work/$run.told" | cut -c1-120 | sed 's/^/    /'
+  done
+  echo "In each of $(ls "$work"/*.in | wc -l) runs the verdicts, the state and the exit status are those."
 fi

@@ -19,8 +19,8 @@ pub(crate) fn text<'v>(value: &'v Value, key: &str) -> Option<&'v str>
     }
 }
 
-// The number under a key.
-pub(crate) fn number(value: &Value, key: &str) -> Option<u64>
+/// The number under a key.
+pub fn number(value: &Value, key: &str) -> Option<u64>
     ensures { result ≡ number_at key.now (view value.now) }
 {
     match value.get(key) {
@@ -50,8 +50,8 @@ fn bytes_value(alloc: Global, value: &Value) -> Result<Option<Vec<u8>>, AllocErr
     }
 }
 
-// The bytes under a key.
-pub(crate) fn bytes(alloc: Global, value: &Value, key: &str) -> Result<Option<Vec<u8>>, AllocError>
+/// The bytes under a key.
+pub fn bytes(alloc: Global, value: &Value, key: &str) -> Result<Option<Vec<u8>>, AllocError>
     ensures { IfOk result (λ o. option_map (λ b. b.items) o ≡ bytes_at key.now (view value.now)) }
 {
     match value.get(key) {
@@ -104,8 +104,8 @@ fn hash_value(alloc: Global, value: &Value) -> Result<Option<[u8; 32]>, AllocErr
     }
 }
 
-// The hash under a key.
-pub(crate) fn hash(alloc: Global, value: &Value, key: &str) -> Result<Option<[u8; 32]>, AllocError>
+/// The hash under a key.
+pub fn hash(alloc: Global, value: &Value, key: &str) -> Result<Option<[u8; 32]>, AllocError>
     ensures { IfOk result (λ o. o ≡ hash_at key.now (view value.now)) }
 {
     match value.get(key) {
@@ -128,12 +128,8 @@ fn hash_values(alloc: Global, values: &[Value]) -> Result<Option<Vec<[u8; 32]>>,
     Ok(Some(all))
 }
 
-// The array of hashes under a key.
-pub(crate) fn hashes(
-    alloc: Global,
-    value: &Value,
-    key: &str,
-) -> Result<Option<Vec<[u8; 32]>>, AllocError>
+/// The array of hashes under a key.
+pub fn hashes(alloc: Global, value: &Value, key: &str) -> Result<Option<Vec<[u8; 32]>>, AllocError>
     ensures { IfOk result (λ o. option_map (λ v. v.items) o ≡ hashes_at key.now (view value.now)) }
 {
     let Some(field) = value.get(key) else {

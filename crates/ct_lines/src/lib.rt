@@ -4,6 +4,7 @@
 //! - `reply_text` answers the text of a `Reply` or of a refusal, with the end of the line.
 //! - `serve_frozen` reads request lines from a reader, and writes the replies of a closed log to a writer. `write_whole` writes bytes,
 //!   for the program.
+//! - `fields` reads what stands under a key of a JSON object; `bytes_value` and `hashes_value` are bytes and hashes as JSON.
 //!
 //! What a line asks and how a reply is written are defined in `specs/`, over `serde_json`'s own words for the value
 //! of a text and the text of a value, and over `base64`'s strict decoding and encoding: `Fields` says what stands
@@ -14,7 +15,7 @@
 
 mod auditing;
 mod fault;
-mod fields;
+pub mod fields;
 mod frozen;
 pub mod laws;
 mod reading;
@@ -30,4 +31,4 @@ pub use reading::read_line;
 pub use request::{Audit, FrontRequest, FrozenRequest, OperatorRequest, Request};
 pub use sending::write_whole;
 pub use serving::serve_frozen;
-pub use writing::reply_text;
+pub use writing::{bytes_value, hashes_value, reply_text};

@@ -45,15 +45,15 @@ fn base64_of(alloc: Global, bytes: &[u8]) -> Result<String, Memory>
     STANDARD.encode(alloc, bytes)
 }
 
-// Bytes as a JSON string.
-fn bytes_value(alloc: Global, bytes: &[u8]) -> Result<Value, Memory>
+/// Bytes as a JSON string.
+pub fn bytes_value(alloc: Global, bytes: &[u8]) -> Result<Value, Memory>
     ensures { IfOk result (λ v. view v ≡ bytes_data bytes.now) }
 {
     Ok(Value::String(base64_of(alloc, bytes)?))
 }
 
-// Hashes as a JSON array.
-fn hashes_value(alloc: Global, hashes: &[[u8; 32]]) -> Result<Value, Memory>
+/// Hashes as a JSON array.
+pub fn hashes_value(alloc: Global, hashes: &[[u8; 32]]) -> Result<Value, Memory>
     ensures { IfOk result (λ v. view v ≡ hashes_data hashes.now) }
 {
     let mut values = Vec::with_capacity(alloc, hashes.len())?;

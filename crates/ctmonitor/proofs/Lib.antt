@@ -1,0 +1,5 @@
+pub mod NoFloat
+pub mod Told
+pub mod Lines
+pub mod Taken
+pub mod Runs

@@ -1,0 +1,8 @@
+-- Lines of JSON.
+use Rattle.std.specs.Prelude.{ℕ, List, [], ◌∷◌, ◌++◌}
+use Rattle.serde_json.specs.Data.{Data}
+use Rattle.serde_json.specs.Written.{compact_text}
+
+-- the line of a value: compact, and its end
+abbrev pub line_of : Data → List ℕ
+line_of d = compact_text d ++ 10 ∷ []

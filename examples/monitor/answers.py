@@ -1,0 +1,162 @@
+#!/usr/bin/env python3
+"""Answers of a made-up log of real certificates over three days, as a log's front end writes them, and what ctmonitor has to write.
+
+Every hash, verdict and state line here is computed by this script alone (hashlib), so it is a second program beside ctmonitor.
+It writes NAME.in and NAME.out for each run into the folder that is named.
+"""
+import base64
+import hashlib
+import json
+import struct
+import sys
+from pathlib import Path
+
+NAMES = ["microsoft.com", "debian"]
+
+
+def sha256(data):
+    return hashlib.sha256(data).digest()
+
+
+def text(data):
+    return base64.b64encode(data).decode()
+
+
+def line(value):
+    return json.dumps(value, separators=(",", ":"), sort_keys=True) + "\n"
+
+
+def mth(leaves):
+    if not leaves:
+        return sha256(b"")
+    if len(leaves) == 1:
+        return sha256(b"\0" + leaves[0])
+    k = 1
+    while 2 * k < len(leaves):
+        k *= 2
+    return sha256(b"\1" + mth(leaves[:k]) + mth(leaves[k:]))
+
+
+def subproof(m, leaves, whole):
+    if m == len(leaves):
+        return [] if whole else [mth(leaves)]
+    k = 1
+    while 2 * k < len(leaves):
+        k *= 2
+    if m <= k:
+        return subproof(m, leaves[:k], whole) + [mth(leaves[k:])]
+    return subproof(m - k, leaves[k:], False) + [mth(leaves[:k])]
+
+
+def subtrees(leaves):
+    """The perfect subtrees' roots, largest first."""
+    roots, at = [], 0
+    for bit in reversed(range(64)):
+        if len(leaves) >> bit & 1:
+            roots.append(mth(leaves[at : at + (1 << bit)]))
+            at += 1 << bit
+    return roots
+
+
+def leaf(moment, certificate, key_hash):
+    kind = b"\0\1" + key_hash if key_hash else b"\0\0"
+    return b"\0\0" + struct.pack(">Q", moment) + kind + len(certificate).to_bytes(3, "big") + certificate + b"\0\0"
+
+
+def head(leaves, moment):
+    return {"tree_size": len(leaves), "timestamp": moment, "sha256_root_hash": text(mth(leaves)), "tree_head_signature": "BAMAAA=="}
+
+
+def entries(leaves, start, end):
+    return {"start": start, "entries": [{"leaf_input": text(x), "extra_data": "AAAA"} for x in leaves[start:end]]}
+
+
+def proof(first, leaves):
+    return {"consistency": [text(x) for x in subproof(first, leaves, True)]}
+
+
+def shown(h):
+    return None if h is None else {"sha256_root_hash": h["sha256_root_hash"], "timestamp": h["timestamp"], "tree_size": h["tree_size"]}
+
+
+def peaks(leaves):
+    return {"size": len(leaves), "subtrees": [text(x) for x in subtrees(leaves)]}
+
+
+def state(accepted, waiting, sure, read):
+    value = {"accepted": shown(accepted), "waiting": shown(waiting), "sure": peaks(sure), "all": peaks(read), "state": 1, "check": None}
+    value["check"] = text(sha256(line(value)[:-1].encode()))
+    return value
+
+
+def certificates():
+    """The certificates of examples/real-chains.jsonl, each once, with the issuer's key hash of a precertificate's."""
+    found = {}
+    for row in (Path(__file__).parent.parent / "real-chains.jsonl").read_text().splitlines():
+        if '"add-chain"' in row:
+            chain = json.loads(row)["chain"]
+            if chain and chain[0]:
+                found.setdefault(base64.b64decode(chain[0]), None)
+        elif '"add-pre-chain"' in row:
+            value = json.loads(row)
+            found.setdefault(base64.b64decode(value["tbs"]), base64.b64decode(value["issuer_key_hash"]))
+    return list(found.items())
+
+
+MOMENT = 1_767_225_600_000
+CERTIFICATES = certificates()
+LOG = [leaf(MOMENT + i, certificate, key_hash) for i, (certificate, key_hash) in enumerate(CERTIFICATES)]
+# The log that others are shown: its third entry is another one.
+OTHER = LOG[:2] + [leaf(MOMENT + 2, CERTIFICATES[9][0], None)] + LOG[3:]
+
+
+def found(start, end):
+    """The lines of the entries from start up to end in which a watched name stands."""
+    for i, (certificate, key_hash) in list(enumerate(CERTIFICATES))[start:end]:
+        for name in NAMES:
+            if name.encode() in certificate.lower():
+                yield {"entry": i, "name": name, "timestamp": MOMENT + i, "type": "precert" if key_hash else "x509"}
+
+
+def runs():
+    """Each run: its name, the exit status, its lines, and what is to be written."""
+    one, two = head(LOG[:8], MOMENT + 1000), head(LOG, MOMENT + 2000)
+    pending = lambda have, size: {"verdict": "pending", "have": have, "tree_size": size}
+    accepted = lambda size: {"verdict": "accepted", "tree_size": size}
+    again, stale, shrunk = {"verdict": "again"}, {"verdict": "stale"}, {"verdict": "shrunk"}
+    gap = lambda want: {"verdict": "gap", "want": want}
+    after_one = state(one, None, LOG[:8], LOG[:8])
+    between = state(one, two, LOG[:8], LOG[:14])
+    forked = {"verdict": "fork", "known_root_hash": one["sha256_root_hash"], "known_timestamp": one["timestamp"], "tree_size": 8}
+    inconsistent = {"verdict": "inconsistent", "fault": "root-mismatch"}
+    mismatch = {"verdict": "root-mismatch", "computed_root_hash": text(mth(LOG))}
+    bad_line, bad_state = {"error": "bad-line"}, {"error": "bad-state"}
+    nothing = state(None, None, [], [])
+    yield "day1", 0, [one, entries(LOG, 0, 5), entries(LOG, 5, 8)], [pending(0, 8), *found(0, 5), pending(5, 8), *found(5, 8), accepted(8), after_one]
+    yield "day2", 0, [after_one, one, two, proof(8, LOG), entries(LOG, 8, 14)], [again, pending(8, 20), {"verdict": "consistent"}, *found(8, 14), pending(14, 20), between]
+    yield "day3", 0, [between, two, entries(LOG, 14, 20), head(LOG[:2], MOMENT)], [again, *found(14, 20), accepted(20), stale, state(two, None, LOG, LOG)]
+    yield "fork", 3, [after_one, head(OTHER[:8], MOMENT + 1500)], [forked, after_one]
+    yield "shrunk", 3, [after_one, head(LOG[:5], MOMENT + 1500)], [shrunk, after_one]
+    yield "rewritten", 3, [after_one, head(OTHER, MOMENT + 2000), proof(8, OTHER), entries(LOG, 8, 20)], [pending(8, 20), inconsistent, *found(8, 20), mismatch, after_one]
+    yield "alarm-and-bad", 3, [after_one, {"hello": 1}, head(LOG[:5], MOMENT + 1500), {"hello": 1}], [bad_line, shrunk, bad_line, after_one]
+    yield "gaps", 0, [after_one, entries(LOG, 8, 10), two, entries(LOG, 9, 11), entries(LOG, 7, 9), proof(8, LOG), head(LOG, MOMENT + 9)], [gap(8), pending(8, 20), gap(8), gap(8), {"verdict": "consistent"}, again, state(one, two, LOG[:8], LOG[:8])]
+    yield "bad", 4, [{"entries": []}, {"hello": 1}, dict(after_one, state=2), after_one, proof(1, LOG[:3])], [gap(0), bad_line, bad_state, bad_state, gap(0), nothing]
+    yield "damaged", 4, [dict(after_one, sure=peaks(LOG[:7])), two], [bad_state, pending(0, 20), state(None, two, [], [])]
+    yield "no-check", 4, [{k: v for k, v in after_one.items() if k != "check"}], [bad_state, nothing]
+    yield "no-start", 0, [one, {"entries": entries(LOG, 0, 20)["entries"]}], [pending(0, 8), *found(0, 8), accepted(8), after_one]
+    yield "bad-start", 4, [one, dict(entries(LOG, 0, 8), start="0")], [pending(0, 8), bad_line, state(None, one, [], [])]
+    yield "no-leaf", 3, [one, {"start": 0, "entries": [{"leaf_input": "AAAA"}] + entries(LOG, 1, 8)["entries"]}], [
+        pending(0, 8), {"entry": 0, "fault": "truncated"}, *found(1, 8), {"verdict": "root-mismatch", "computed_root_hash": text(mth([b"\0\0\0"] + LOG[1:8]))}, nothing]
+    yield "empty-log", 0, [head([], MOMENT), {"entries": []}], [accepted(0), gap(0), state(head([], MOMENT), None, [], [])]
+
+
+def main():
+    folder = Path(sys.argv[1])
+    for name, status, given, wanted in runs():
+        (folder / f"{name}.in").write_text("".join(line(x) for x in given))
+        (folder / f"{name}.out").write_text("".join(line(x) for x in wanted))
+        (folder / f"{name}.status").write_text(f"{status}\n")
+
+
+if __name__ == "__main__":
+    main()
