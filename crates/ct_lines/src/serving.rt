@@ -116,8 +116,8 @@ fn feed<W: Write>(
 /// A line ends at the byte 0A, and the last one may end with the input. An empty line has no reply. A line that is no
 /// request, one of more than 1,048,576 bytes among them, and a request of a front or of the operator are replied to with
 /// `bad-line`. Each whole line that was read is replied to before the reader is called again. Memory is taken for one
-/// line and its reply at a time, an audit's leaves with it, and of a line that is too long no more is kept than of the
-/// longest line. The writer isn't flushed.
+/// line and its reply at a time, for all leaves only where an audit's leaf and path are another's and lead to the head's
+/// root. Of a line that is too long no more is kept than of the longest line. The writer isn't flushed.
 ///
 /// # Errors
 ///
