@@ -14,7 +14,8 @@ use std::alloc::Global;
 const LAST_MOMENT: u64 = 9_007_199_254_740_991;
 
 // What the program does, below the options.
-const ABOUT: &str = "Runs a Certificate Transparency log (RFC 6962). Requests come on standard input and replies go to standard output,
+const ABOUT: &str =
+    "Runs a Certificate Transparency log (RFC 6962). Requests come on standard input and replies go to standard output,
 a line of JSON each; docs/LINES.md has their form. The input is read whole before the log opens.";
 
 /// What the command line asks for.
@@ -70,7 +71,9 @@ fn open_at_option<'a>(alloc: Global) -> Arg<'a>
     Arg::new(alloc, "open-at")
         .long("open-at")
         .value_name("T")
-        .help("The moment at which the log opens, in milliseconds, at most 9007199254740991 [default: 0]")
+        .help(
+            "The moment at which the log opens, in milliseconds, at most 9007199254740991 [default: 0]",
+        )
         .action(ArgAction::Set)
         .value_parser(value_parser!(u64).range(0..=9_007_199_254_740_991))
 }
@@ -83,7 +86,9 @@ fn close_at_option<'a>(alloc: Global) -> Arg<'a>
     Arg::new(alloc, "close-at")
         .long("close-at")
         .value_name("T")
-        .help("The moment at which the log is closed, in milliseconds, at most the default [default: 9007199254740991]")
+        .help(
+            "The moment at which the log is closed, in milliseconds, at most the default [default: 9007199254740991]",
+        )
         .action(ArgAction::Set)
         .value_parser(value_parser!(u64).range(0..=9_007_199_254_740_991))
 }
