@@ -93,15 +93,8 @@ fn close_at_option<'a>(alloc: Global) -> Arg<'a>
         .value_parser(value_parser!(u64).range(0..=9_007_199_254_740_991))
 }
 
-// The command, with what the program does below its options.
-fn with_about<'a>(command: Command<'a>) -> Command<'a>
-    ensures { app_of result ≡ app_of command.entry }
-{
-    command.after_help(ABOUT)
-}
-
 // The command and its arguments.
-fn command<'a>(alloc: Global) -> Result<Command<'a>, Error>
+fn arguments<'a>(alloc: Global) -> Result<Command<'a>, Error>
     ensures app { IfOk result (λ c. app_of c ≡ ctlog_app) }
     ensures memory { IfErr result (λ e. kind_of e ≡ ErrorKind.OutOfMemory) }
 {
@@ -110,6 +103,22 @@ fn command<'a>(alloc: Global) -> Result<Command<'a>, Error>
         .arg(ring_option(alloc))?
         .arg(open_at_option(alloc))?
         .arg(close_at_option(alloc))?;
+    Ok(command)
+}
+
+// The command, with what the program does below its options.
+fn with_about<'a>(command: Command<'a>) -> Command<'a>
+    ensures { app_of result ≡ app_of command.entry }
+{
+    command.after_help(ABOUT)
+}
+
+// The command, its arguments, and what help says of it.
+fn command<'a>(alloc: Global) -> Result<Command<'a>, Error>
+    ensures app { IfOk result (λ c. app_of c ≡ ctlog_app) }
+    ensures memory { IfErr result (λ e. kind_of e ≡ ErrorKind.OutOfMemory) }
+{
+    let command = arguments(alloc)?;
     Ok(with_about(command))
 }
 
