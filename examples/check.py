@@ -189,7 +189,8 @@ class Checker:
     def shifts(self):
         numbers = [reply["shift"] for _, reply in self.replies_to("shift")]
         claim(numbers == list(range(1, len(numbers) + 1)), "the shifts aren't numbered in order")
-        return f"{len(numbers) + 1} shifts, numbered in order"
+        count = len(numbers) + 1
+        return f"{count} shift{'' if count == 1 else 's'}, numbered in order"
 
     def refusals(self):
         names = [reply["error"] for _, reply in self.pairs if "error" in reply]
