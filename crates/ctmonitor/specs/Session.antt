@@ -11,7 +11,6 @@ use Rattle.ct_watch.specs.WatcherState.{WatcherState, Keeps}
 use Rattle.ctmonitor.specs.Answers.{Answered, a_head, leaves_from, a_proof, a_state, no_answer, Reads}
 use Rattle.ctmonitor.specs.EntryText.{ReadTexts}
 use Rattle.ctmonitor.specs.StateText.{state_text}
-use Rattle.ctmonitor.specs.StateText.{state_text}
 use Rattle.ctmonitor.specs.Texts.{line_of}
 use Rattle.ctmonitor.specs.VerdictText.{outcome_data, wanted_size}
 use Rattle.ctmonitor.specs.declared.monitor.Monitor.{Monitor}
@@ -122,23 +121,26 @@ pub record Runs (names : List (List ℕ)) (input text : List ℕ) (status : ℕ)
 
 -- a line was read with its end, or none is left, where the bytes are known
 abbrev pub ReadsLine : Option (Vec ℕ Global) → Option (List ℕ) → Option (List ℕ) → Type 0
-ReadsLine None R R2 = IfSome R (λ xs. (xs ≡ []) × (R2 ≡ Some []))
-ReadsLine (Some line) R R2 = IfSome R (λ xs. (0 < length xs) × (line.items ≡ take_through 10 xs) × (R2 ≡ Some (drop_through 10 xs)))
+ReadsLine None source source_next = IfSome source (λ xs. (xs ≡ []) × (source_next ≡ Some []))
+ReadsLine (Some line) source source_next = IfSome source (λ xs. (0 < length xs) × (line.items ≡ take_through 10 xs) × (source_next ≡ Some (drop_through 10 xs)))
 
 -- a line was taken, and what it gives was written; or none is left (true), and nothing has changed
-abbrev pub OneTaken : (Monitor → List ℕ → List ℕ → Monitor → Type 0) → Monitor → Monitor → Option (List ℕ) → Option (List ℕ) → Option (List ℕ) → Option (List ℕ) → Bool → Type 0
-OneTaken gives before after R R2 W W2 true = IfSome R (λ xs. (xs ≡ []) × (R2 ≡ Some [])) × (after ≡ before) × Appends W W2 []
-OneTaken gives before after R R2 W W2 false =
-    IfSome R (λ xs. (0 < length xs) × (R2 ≡ Some (drop_through 10 xs)) × ((text : List ℕ) × gives before (first_piece 10 xs) text after × Appends W W2 text))
+abbrev pub OneTaken : (Monitor → List ℕ → List ℕ → Monitor → Type 0) → Monitor → Monitor → Option (List ℕ) → Option (List ℕ)
+    → Option (List ℕ) → Option (List ℕ) → Bool → Type 0
+OneTaken gives before after source source_next sink sink_next true = IfSome source (λ xs. (xs ≡ []) × (source_next ≡ Some [])) × (after ≡ before) × Appends sink sink_next []
+OneTaken gives before after source source_next sink sink_next false =
+    IfSome source (λ xs. (0 < length xs) × (source_next ≡ Some (drop_through 10 xs)) × ((text : List ℕ) × gives before (first_piece 10 xs) text after × Appends sink sink_next text))
 
 -- what was taken where nothing is left
 abbrev pub IsTaken : List (List ℕ) → Monitor → Monitor → Option (List ℕ) → Option (List ℕ) → Option (List ℕ) → Option (List ℕ) → Type 0
-IsTaken names first last R0 R W0 W = IfSome R0 (λ input. (steps : List LineStep) × (text : List ℕ) × TakesLines names first steps input text last × Appends W0 W text × (R ≡ Some []))
+IsTaken names first last source_first source sink_first sink =
+    IfSome source_first (λ input. (steps : List LineStep) × (text : List ℕ) × TakesLines names first steps input text last × Appends sink_first sink text × (source ≡ Some []))
 
 -- what was taken with the first line, where nothing is left
 abbrev pub IsAllTaken : List (List ℕ) → Monitor → Monitor → Option (List ℕ) → Option (List ℕ) → Option (List ℕ) → Option (List ℕ) → Type 0
-IsAllTaken names before last R0 R W0 W = IfSome R0 (λ input. (text : List ℕ) × TakesAll names before input text last × Appends W0 W text × (R ≡ Some []))
+IsAllTaken names before last source_first source sink_first sink =
+    IfSome source_first (λ input. (text : List ℕ) × TakesAll names before input text last × Appends sink_first sink text × (source ≡ Some []))
 
 -- a run was written, where the bytes are known: all were read
 abbrev pub IsRun : List (List ℕ) → Option (List ℕ) → Option (List ℕ) → Option (List ℕ) → Option (List ℕ) → ℕ → Type 0
-IsRun names R R2 W W2 status = IfSome R (λ input. (text : List ℕ) × Runs names input text status × Appends W W2 text × (R2 ≡ Some []))
+IsRun names source source_next sink sink_next status = IfSome source (λ input. (text : List ℕ) × Runs names input text status × Appends sink sink_next text × (source_next ≡ Some []))

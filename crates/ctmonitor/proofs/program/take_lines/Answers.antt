@@ -10,19 +10,19 @@ loop-turn-init g c = here_first (map string_bytes c.args.names.now) c.args.monit
 pub returns-then-done : goal.returns-then-done
 returns-then-done g c =
     let names = map string_bytes c.args.names.now in
-    let R = g.B.Read.remaining c.loop-turn.reader in
-    let R2 = g.B.Read.remaining c.take_next.new.reader in
-    let W = g.W.Write.contents c.loop-turn.writer in
-    let W2 = g.W.Write.contents c.take_next.new.writer in
-    let o = subst (λ (b : Bool). OneTaken (LineGives names) c.loop-turn.monitor c.take_next.new.monitor R R2 W W2 b) c.if-done.true c.in_ok-done.ensures in
-    ends_here names c.args.monitor.now c.loop-turn.monitor c.take_next.new.monitor (g.B.Read.remaining c.args.reader.now) R R2 (g.W.Write.contents c.args.writer.now) W W2 c.loop-turn.invariant o
+    let source = g.B.Read.remaining c.loop-turn.reader in
+    let source_next = g.B.Read.remaining c.take_next.new.reader in
+    let sink = g.W.Write.contents c.loop-turn.writer in
+    let sink_next = g.W.Write.contents c.take_next.new.writer in
+    let o = subst (λ (b : Bool). OneTaken (LineGives names) c.loop-turn.monitor c.take_next.new.monitor source source_next sink sink_next b) c.if-done.true c.in_ok-done.ensures in
+    ends_here names c.args.monitor.now c.loop-turn.monitor c.take_next.new.monitor (g.B.Read.remaining c.args.reader.now) source source_next (g.W.Write.contents c.args.writer.now) sink sink_next c.loop-turn.invariant o
 
 pub loop-turn-preserved : goal.loop-turn-preserved
 loop-turn-preserved g c =
     let names = map string_bytes c.args.names.now in
-    let R = g.B.Read.remaining c.loop-turn.reader in
-    let R2 = g.B.Read.remaining c.take_next.new.reader in
-    let W = g.W.Write.contents c.loop-turn.writer in
-    let W2 = g.W.Write.contents c.take_next.new.writer in
-    let o = subst (λ (b : Bool). OneTaken (LineGives names) c.loop-turn.monitor c.take_next.new.monitor R R2 W W2 b) c.if-done.false c.in_ok-done.ensures in
-    goes_further names c.args.monitor.now c.loop-turn.monitor c.take_next.new.monitor (g.B.Read.remaining c.args.reader.now) R R2 (g.W.Write.contents c.args.writer.now) W W2 c.loop-turn.invariant o
+    let source = g.B.Read.remaining c.loop-turn.reader in
+    let source_next = g.B.Read.remaining c.take_next.new.reader in
+    let sink = g.W.Write.contents c.loop-turn.writer in
+    let sink_next = g.W.Write.contents c.take_next.new.writer in
+    let o = subst (λ (b : Bool). OneTaken (LineGives names) c.loop-turn.monitor c.take_next.new.monitor source source_next sink sink_next b) c.if-done.false c.in_ok-done.ensures in
+    goes_further names c.args.monitor.now c.loop-turn.monitor c.take_next.new.monitor (g.B.Read.remaining c.args.reader.now) source source_next (g.W.Write.contents c.args.writer.now) sink sink_next c.loop-turn.invariant o
