@@ -1,6 +1,6 @@
 -- Taking the lines of an input, one after the other.
-use Rattle.std.proofs.Common.{◌≡◌, ◌∙◌, ◌<◌, ℕ, List, [], ◌∷◌, ◌++◌, length, Bool, true, false, Option, Some, None, Vec, Global, sym, refl, ap, subst, inl, inr, arith}
-use Rattle.std.proofs.lemmas.List.{append-nil, append_assoc}
+use Rattle.std.proofs.Common.{◌≡◌, ◌∙◌, ◌<◌, ℕ, List, [], ◌∷◌, ◌++◌, length, true, false, Option, Some, None, Vec, Global, sym, refl, ap, subst, inl, inr, arith}
+use Rattle.std.proofs.lemmas.List.{append_assoc}
 use Rattle.std.proofs.lemmas.Option.{same_Some, none-some}
 use Rattle.std.specs.Prelude.{IfSome, IfOk, OnOk, Result, Ok, Err}
 use Rattle.sha2.specs.Sha256.{sha256}
@@ -9,7 +9,7 @@ use Rattle.ct_watch.specs.WatcherState.{Keeps}
 use Rattle.std.specs.Io.BufRead.{take_through, drop_through, first_piece, strip_last, DropsThrough}
 use Rattle.std.specs.Io.KnownBytes.{Appends, IsAtEnd}
 use Rattle.std.proofs.KnownBytes.{Appends-nil, Appends-trans}
-use Rattle.ctmonitor.specs.Session.{LineStep, LineGives, FirstGives, TakesLine, TakesLines, TakesAll, ReadsLine, OneTaken, IsTaken, IsAllTaken, IsRun, status_of}
+use Rattle.ctmonitor.specs.Session.{LineStep, LineGives, FirstGives, TakesLines, TakesAll, ReadsLine, OneTaken, IsTaken, IsAllTaken, IsRun, status_of}
 use Rattle.ctmonitor.specs.StateText.{state_text}
 use Rattle.ctmonitor.specs.declared.monitor.Monitor.{Monitor}
 

@@ -1,5 +1,5 @@
 -- Accepted heads over many runs.
-use Rattle.std.proofs.Common.{◌≡◌, ◌∙◌, ◌<◌, ℕ, List, [], ◌∷◌, ◌++◌, length, take, Option, Some, None, All, sym, refl, ap, subst, arith, inl, inr}
+use Rattle.std.proofs.Common.{◌≡◌, ◌∙◌, ℕ, List, [], ◌∷◌, take, Option, Some, None, All, sym, ap, subst, arith, inl, inr}
 use Rattle.std.specs.Prelude.{⊤}
 use Rattle.std.proofs.lemmas.Option.{same_Some, none-some}
 use Rattle.std.proofs.lemmas.List.Elements.{All-tail, All-get_or}
@@ -12,10 +12,10 @@ use Rattle.ct_watch.specs.Verdicts.{ProofSays}
 use Rattle.ct_watch.specs.WatcherState.{WatcherState, Keeps}
 use Rattle.ct_watch.specs.History.{SaysAccepted, IsStep, AreSteps, IsOfBeginning}
 use Rattle.ct_watch.specs.declared.verdict.Verdict.{Verdict}
-use Rattle.ct_watch.specs.declared.verdict.Verdict.TheVariants.{Accepted, Gap}
+use Rattle.ct_watch.specs.declared.verdict.Verdict.TheVariants.{Accepted}
 use Rattle.ct_watch.proofs.History.{accepted_heads_agree}
 use Rattle.ctmonitor.specs.Answers.{Answered, a_head, leaves_from, a_proof, a_state, no_answer}
-use Rattle.ctmonitor.specs.Session.{AnswerSays, LineStep, Tells, TakesLine, TakesLines}
+use Rattle.ctmonitor.specs.Session.{AnswerSays, LineStep, TakesLine, TakesLines}
 use Rattle.ctmonitor.specs.History.{RunTaken, FollowOn, IsOfFirst, AreOfFirst, RunsAreOfFirst, RunsAgree}
 use Rattle.ctmonitor.specs.declared.monitor.Monitor.{Monitor}
 use Rattle.ctmonitor.specs.declared.verdicts.Outcome.{Outcome}

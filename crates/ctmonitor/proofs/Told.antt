@@ -1,6 +1,6 @@
 -- The lines of entries, one after the other.
-use Rattle.std.proofs.Common.{◌≡◌, ◌∙◌, ◌<◌, ◌+◌, ℕ, List, [], ◌∷◌, ◌++◌, length, map, drop, get_or, Vec, Global, sym, refl, ap, subst}
-use Rattle.std.proofs.lemmas.List.{append-nil, append_assoc, drop_more}
+use Rattle.std.proofs.Common.{◌≡◌, ◌∙◌, ◌+◌, ℕ, List, [], ◌∷◌, ◌++◌, sym, refl, ap, subst}
+use Rattle.std.proofs.lemmas.List.{append-nil, append_assoc}
 use Rattle.ctmonitor.specs.EntryText.{IsEntryText, AreEntryTexts}
 
 -- behind `old` stand lines, and with the lines of the entries that are left they are those of all entries

@@ -1,6 +1,5 @@
 -- What is written of an entry.
-use Rattle.std.specs.Prelude.{◌≡◌, ◌⊎◌, ◌+◌, ℕ, List, [], ◌∷◌, ◌++◌, length, map, if◌then◌else◌, codes, String, string_bytes}
-use Rattle.std.specs.Global.{Global}
+use Rattle.std.specs.Prelude.{◌≡◌, ◌⊎◌, ◌+◌, ℕ, List, [], ◌∷◌, ◌++◌, if◌then◌else◌, codes}
 use Rattle.serde_json.specs.Data.{Data, string, object, member, no_members}
 use Rattle.ct_codec.specs.Leaf.{SignedEntry, certificate, precertificate, signed_of, LeafText}
 use Rattle.ct_codec.specs.Faults.{LeafFaulty}

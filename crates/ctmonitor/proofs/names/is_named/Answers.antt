@@ -1,6 +1,6 @@
-use Rattle.std.proofs.Common.{◌≡◌, ◌∙◌, ◌<◌, ◌≤◌, ◌+◌, ℕ, List, length, ap, subst, sym, refl, Bool, Option, Some, None, is_some, true, arith}
+use Rattle.std.proofs.Common.{◌∙◌, ℕ, List, ap, subst, sym, refl, Bool, Option, Some, None, is_some, arith}
 use Rattle.std.specs.Prelude.{IsTrue}
-use Rattle.memchr.specs.Find.{FindsNeedle, OccursAt}
+use Rattle.memchr.specs.Find.{FindsNeedle}
 use Rattle.memchr.proofs.lemmas.ValueLemmas.{FindsNeedle-value}
 use Rattle.ctmonitor.specs.Names.{StandsIn, is_in}
 use Rattle.ctmonitor.proofs.names.is_named.Goals as goal

@@ -1,4 +1,4 @@
-use Rattle.std.proofs.Common.{◌≡◌, ◌∙◌, ◌-◌, ◌⊎◌, ◌≤◌, ℕ, List, Vec, Global, length, map, take, ap, subst, sym}
+use Rattle.std.proofs.Common.{◌≡◌, ◌∙◌, ◌-◌, ℕ, List, Vec, Global, map, take, ap, subst}
 use Rattle.std.specs.Prelude.{string_bytes}
 use Rattle.ct_watch.proofs.Steps.{as_far_as}
 use Rattle.ctmonitor.specs.EntryText.{ReadTexts}

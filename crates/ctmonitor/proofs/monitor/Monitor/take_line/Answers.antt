@@ -1,4 +1,4 @@
-use Rattle.std.proofs.Common.{◌≡◌, ◌∙◌, ◌++◌, ℕ, List, map, ap, sym, subst, refl, Bool, ◌||◌, Some}
+use Rattle.std.proofs.Common.{◌∙◌, ◌++◌, ℕ, List, map, ap, sym, subst, refl, Bool, ◌||◌, Some}
 use Rattle.std.specs.Prelude.{string_bytes}
 use Rattle.ct_watch.specs.WatcherState.{WatcherState}
 use Rattle.ctmonitor.specs.Answers.{answer_read}
