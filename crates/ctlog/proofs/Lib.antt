@@ -1,15 +1,4 @@
-pub mod Sent
-pub mod LineLemmas
-pub mod TaskLemmas
-pub mod PlanLemmas
-pub mod ClosingLemmas
-pub mod TurnLemmas
-pub mod OperatorLemmas
-pub mod FrontLemmas
-pub mod PartyLemmas
-pub mod ShiftLemmas
-pub mod HouseLemmas
-pub mod OutputLemmas
 pub mod CommandLemmas
 pub mod OptionLemmas
 pub mod FaultKinds
+pub mod RunLemmas

@@ -1,14 +1,4 @@
-pub mod Lines
-pub mod Tasks
-pub mod Plans
-pub mod InTurn
-pub mod FrontWork
-pub mod OperatorWork
-pub mod Parties
-pub mod Shifts
-pub mod ClosedLog
 pub mod CommandLine
 pub mod NoOptions
-pub mod Output
-pub mod Faults
-pub mod Sends
+pub mod FaultLines
+pub mod Runs

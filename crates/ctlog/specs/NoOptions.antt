@@ -4,7 +4,7 @@ use Rattle.clap.specs.declared.error.kind.ErrorKind.{ErrorKind}
 use Rattle.clap.specs.declared.error.kind.ErrorKind.TheVariants as kind
 use Rattle.ctlog.specs.declared.command.NoOptions.{NoOptions}
 use Rattle.ctlog.specs.declared.command.NoOptions.TheVariants.{Fault, Help, Refusal}
-use Rattle.ctlog.specs.declared.fault.Fault.TheVariants.{Memory}
+use Rattle.ct_parties.specs.declared.fault.Fault.TheVariants.{Memory}
 
 -- it is answered so where clap's error is of this kind
 abbrev pub IsNoOptions : NoOptions → ErrorKind → Type 0

@@ -5,9 +5,9 @@ ghost use Rattle.clap.specs.Words.{app_of, rule_of, kind_of};
 ghost use Rattle.ctlog.specs.CommandLine.{asked_for, ctlog_app, fronts_rule, ring_rule, open_at_rule, close_at_rule, log_with, IsRefusalOf};
 ghost use Rattle.ctlog.specs.NoOptions.{IsNoOptions};
 
-use crate::fault::Fault;
 use clap::error::ErrorKind;
 use clap::{Arg, ArgAction, Command, Error, value_parser};
+use ct_parties::{Fault, Options};
 use std::alloc::Global;
 
 // The last moment that the command line takes, 2^53 - 1, in milliseconds.
@@ -17,23 +17,6 @@ const LAST_MOMENT: u64 = 9_007_199_254_740_991;
 const ABOUT: &str =
     "Runs a Certificate Transparency log (RFC 6962). Requests come on standard input and replies go to standard output,
 a line of JSON each; docs/LINES.md has their form. The input is read whole before the log opens.";
-
-/// What the command line asks for.
-#[derive(Clone, Copy, Debug)]
-pub struct Options {
-    /// The number of fronts.
-    pub fronts: u16,
-    /// The places of each front's ring.
-    pub ring: usize,
-    /// The moment at which the log opens, in milliseconds.
-    pub open_at: u64,
-    /// The moment at which it is closed, in milliseconds.
-    pub close_at: u64,
-    ghost some_fronts: { 0 < fronts },
-    ghost few_fronts: { fronts ≤ 16 },
-    ghost some_places: { 0 < ring },
-    ghost few_places: { ring ≤ 4096 },
-}
 
 // The option for the number of fronts.
 fn fronts_option<'a>(alloc: Global) -> Arg<'a>

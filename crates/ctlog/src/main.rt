@@ -7,41 +7,26 @@
 //! behind it are begun.
 //!
 //! - `command` reads the command line.
-//! - `plan` cuts the input into lines and gives them out, and `task` says what a front and the operator do for a line.
-//! - `front_work` and `operator_work` do the lines of a front and of the operator, `replying` adds their replies, and
-//!   `waiting` is how a line waits for another party.
-//! - `party` has the fronts with their replies, and what they and the operator do in a shift; `threads` does the work of a
-//!   shift, each party in a thread of its own; and `shifting` ends shifts, and does them one after the other.
-//! - `closing` closes the log.
-//! - `fault` names what ends the program before all is written.
-//! - `program` has `run`, which does all this over any reader and any two writers.
+//! - `report` has the lines of faults: what ends the program before all is written.
+//! - `program` has `run`, which does all this over any reader and any two writers, by `serve` of `ct_parties`.
 #![tactic(auto)]
 
 ghost use Rattle.std.specs.Prelude.{◌≡◌, ◌⊎◌, ◌≤◌, IfOk, map, string_bytes};
-ghost use Rattle.ctlog.specs.declared.fault.Fault.{Fault as FaultOf};
-ghost use Rattle.ctlog.specs.Faults.{fault_line};
-ghost use Rattle.ctlog.specs.Output.{IsDone, IsBrokenOff};
+ghost use Rattle.ct_parties.specs.declared.fault.Fault.{Fault as FaultOf};
 ghost use Rattle.ctlog.specs.CommandLine.{asked_of, help, nothing};
-ghost use Rattle.ctlog.specs.Sends.{SendsSome};
+ghost use Rattle.ctlog.specs.FaultLines.{fault_line};
+ghost use Rattle.ctlog.specs.Runs.{IsDone, IsBrokenOff};
+ghost use Rattle.ct_parties.specs.Sends.{SendsSome};
 
-mod closing;
 mod command;
-mod fault;
-mod front_work;
-mod operator_work;
-mod party;
-mod plan;
 mod program;
-mod replying;
-mod shifting;
-mod task;
+mod report;
 #[cfg(test)]
 mod tests;
-mod threads;
-mod waiting;
 
-use fault::{Fault, report};
+use ct_parties::Fault;
 use program::{TURNS, refuse_words, run};
+use report::report;
 use std::alloc::{AllocError, Global};
 use std::io;
 use std::io::{Read, Write};

@@ -4,11 +4,11 @@ use Rattle.std.specs.Global.{Global}
 use Rattle.std.proofs.KnownBytes.{Appends-nil}
 use Rattle.clap.specs.declared.error.kind.ErrorKind.TheVariants as kind
 use Rattle.ctlog.specs.CommandLine.{CommandLine, asked_for, asked_of, command_line, help, nothing}
-use Rattle.ctlog.specs.Faults.{fault_line}
-use Rattle.ctlog.specs.Output.{IsDone, IsBrokenOff}
-use Rattle.ctlog.specs.Sends.{SendsSome}
-use Rattle.ctlog.specs.declared.fault.Fault.{Fault}
-use Rattle.ctlog.proofs.OutputLemmas.{unanswered}
+use Rattle.ctlog.specs.FaultLines.{fault_line}
+use Rattle.ctlog.specs.Runs.{IsDone, IsBrokenOff}
+use Rattle.ct_parties.specs.Sends.{SendsSome}
+use Rattle.ct_parties.specs.declared.fault.Fault.{Fault}
+use Rattle.ctlog.proofs.RunLemmas.{unanswered}
 use Rattle.ctlog.proofs.run_words.Goals as goal
 
 -- the texts of the words ask for what the words do

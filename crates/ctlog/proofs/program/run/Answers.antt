@@ -1,6 +1,6 @@
 use Rattle.clap.specs.Words.{kind_of}
 use Rattle.ctlog.specs.CommandLine.{asked_for}
-use Rattle.ctlog.proofs.OutputLemmas.{helped, refused_words, unanswered}
+use Rattle.ctlog.proofs.RunLemmas.{helped, refused_words, unanswered}
 use Rattle.ctlog.proofs.program.run.Goals as goal
 
 pub returns-in-Err-clause-done : goal.returns-in-Err-clause-done

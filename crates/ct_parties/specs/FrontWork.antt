@@ -1,0 +1,66 @@
+-- What a front does for its lines, and what it answers.
+use Rattle.std.specs.Prelude.{◌≡◌, ◌≤◌, ◌⊎◌, ℕ, List, map, Option, Some, None, true}
+use Rattle.ct_codec.specs.Submitted.{Submitted, x509, precert, refusal_of}
+use Rattle.ct_codec.specs.declared.refusal.Refusal.{Refusal}
+use Rattle.ct_codec.specs.declared.refusal.Refusal.TheVariants.{Memory, Late, Closed}
+use Rattle.ct_core.specs.Settlement.{Log, Lawful}
+use Rattle.ct_core.specs.Answers.{answer}
+use Rattle.ct_core.specs.Replies.{Answer, a_head, a_ticket, a_reached_size, refused, takes_memory}
+use Rattle.ct_core.specs.declared.query.Query.{Query}
+use Rattle.ct_core.specs.declared.query.Query.TheVariants.{GetSth}
+use Rattle.ct_gate.specs.Ends.{IntakeView, SameIntake}
+use Rattle.ct_gate.specs.Sending.{Accepts, Refuses}
+use Rattle.ct_house.specs.House.{FrontView}
+use Rattle.ct_versions.specs.Sights.{Moves}
+use Rattle.ct_tree.specs.declared.head.Head.{Head}
+use Rattle.ct_parties.specs.InTurn.{Serves}
+use Rattle.ct_parties.specs.declared.task.FrontTask.{FrontTask}
+use Rattle.ct_parties.specs.declared.task.FrontTask.TheVariants.{Submit, SubmitPrecert, AwaitSize, Ask}
+
+-- a submission is accepted, and its ticket is the answer; or its refusal is, and nothing was accepted
+abbrev pub Sends : IntakeView → Submitted → Answer → IntakeView → Type 0
+Sends a s (a_ticket n) b = SameIntake a b × Accepts a s n b
+Sends a s (refused e) b = SameIntake a b × Refuses a e b × (b.accepted ≡ a.accepted)
+Sends a s _ b = ⊥
+
+-- the same where this stands against the submission: it is the answer, and nothing was done
+abbrev pub SendsUnless : Option Refusal → FrontView → Submitted → Answer → FrontView → Type 0
+SendsUnless (Some e) a s r b = (r ≡ refused e) × (b ≡ a)
+SendsUnless None a s r b = Sends a.intake s r b.intake
+
+-- it is submitted: a certificate or a precertificate, with its chain
+abbrev pub Submits : FrontView → Submitted → Answer → FrontView → Type 0
+Submits a s r b = SendsUnless (refusal_of s) a s r b
+
+-- the front looked at the published log: it is the same, and what it had seen begins what it has seen now
+pub record Looks (a b : FrontView) : Type 0 where
+  pub intake : b.intake ≡ a.intake
+  pub moves : Moves a.sight b.sight
+
+-- The defined answer to a query at this lawful state; or that there was no memory for it, where it takes memory; or that no
+-- state is shown.
+pub record Shows (p : Log) (q : Query) (r : Answer) : Type 0 where
+  pub lawful : Lawful p
+  pub shown : ((r ≡ refused Memory) × (takes_memory (answer p q) ≡ true)) ⊎ ((r ≡ refused Closed) ⊎ (r ≡ answer p q))
+
+-- the head of this lawful state is of at least this size, and the size is the answer; or the wait was too long, or no state is shown
+abbrev pub Awaits : Log → ℕ → Answer → Type 0
+Awaits p n (a_reached_size m) = (m ≡ n) × ((h : Head) × Shows p GetSth (a_head h) × (n ≤ h.tree_size))
+Awaits p n (refused e) = (e ≡ Late) ⊎ (e ≡ Closed)
+Awaits p n _ = ⊥
+
+-- a front does a task, with this answer: to submit leaves what it has seen, and the state that it has seen is what it answers from
+abbrev pub FrontDoes : FrontView → FrontTask → Answer → FrontView → Type 0
+FrontDoes a (Submit chain) r b = Submits a (x509 (map (λ c. c.items) chain.items)) r b × (b.sight ≡ a.sight)
+FrontDoes a (SubmitPrecert hash tbs chain) r b = Submits a (precert hash tbs.items (map (λ c. c.items) chain.items)) r b × (b.sight ≡ a.sight)
+FrontDoes a (AwaitSize n) r b = Awaits b.sight.seen n r × Looks a b
+FrontDoes a (Ask q) r b = Shows b.sight.seen q r × Looks a b
+
+-- the front is of the same ring, and never went back: what it had seen begins what it has seen now
+pub record FrontGoesOn (a b : FrontView) : Type 0 where
+  pub same : SameIntake a.intake b.intake
+  pub moves : Moves a.sight b.sight
+
+-- a front does its tasks in turn, and the lines of its answers stand behind what was written before
+abbrev pub FrontServes : FrontView → List FrontTask → List ℕ → FrontView → List ℕ → Type 0
+FrontServes a ts before b text = Serves FrontDoes a ts before b text

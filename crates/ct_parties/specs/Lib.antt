@@ -1,0 +1,12 @@
+pub mod Lines
+pub mod Tasks
+pub mod Plans
+pub mod InTurn
+pub mod FrontWork
+pub mod OperatorWork
+pub mod Parties
+pub mod Shifts
+pub mod ClosedLog
+pub mod Faults
+pub mod Sends
+pub mod Output

@@ -1,0 +1,93 @@
+//! What ends a run before all is written.
+
+ghost use Rattle.std.specs.Prelude.{◌≡◌};
+ghost use Rattle.ct_parties.specs.declared.fault.Fault.TheVariants.{Memory};
+ghost use Rattle.ct_parties.specs.Faults.{fault_name, serve_fault, IsFrozenFault, IsReadingFault, IsRefusalFault};
+
+use ct_codec::Refusal;
+use ct_lines::ServeFault;
+use std::alloc::{AllocError, AllocFailed};
+use std::io;
+
+/// What ended a run.
+#[derive(Clone, Copy, Debug, PartialEq, Eq)]
+pub enum Fault {
+    /// A growth was refused.
+    Memory,
+    /// The clock refuses the moment at which the log is to be closed.
+    ClockBack,
+    /// A thread didn't start.
+    Threads,
+    /// The input couldn't be read.
+    Read,
+    /// The output couldn't be written.
+    Write,
+}
+
+impl Fault {
+    /// The fault's name, in small letters.
+    pub fn name(self) -> &'static str
+        ensures { result.now ≡ fault_name self }
+    {
+        match self {
+            Fault::Memory => "memory",
+            Fault::ClockBack => "clock-back",
+            Fault::Threads => "threads",
+            Fault::Read => "read",
+            Fault::Write => "write",
+        }
+    }
+}
+
+impl From<AllocError> for Fault {
+    ghost from_gives = { λ _ f. f ≡ Memory };
+
+    fn from(_e: AllocError) -> Fault {
+        Fault::Memory
+    }
+}
+
+impl<T: Drop> From<AllocFailed<T>> for Fault {
+    ghost from_gives = { λ _ f. f ≡ Memory };
+
+    fn from(_e: AllocFailed<T>) -> Fault {
+        Fault::Memory
+    }
+}
+
+// What ends the run where the opening or the closing is refused: by their contracts no other refusal comes.
+impl From<Refusal> for Fault {
+    ghost from_gives = { λ refusal f. IsRefusalFault refusal f };
+
+    fn from(refusal: Refusal) -> Fault {
+        match refusal {
+            Refusal::Memory => Fault::Memory,
+            _ => Fault::ClockBack,
+        }
+    }
+}
+
+// What ends the run where the closed log stops answering.
+impl From<ServeFault> for Fault {
+    ghost from_gives = { λ fault f. (f ≡ serve_fault fault) × IsFrozenFault f };
+
+    fn from(fault: ServeFault) -> Fault {
+        match fault {
+            ServeFault::Read(_) | ServeFault::Endless(_) => Fault::Read,
+            ServeFault::Write(_) => Fault::Write,
+            ServeFault::Memory(_) => Fault::Memory,
+        }
+    }
+}
+
+// What ends the run where words or the input can't be read.
+impl From<io::ErrorKind> for Fault {
+    ghost from_gives = { λ kind f. IsReadingFault kind f };
+
+    fn from(kind: io::ErrorKind) -> Fault {
+        match kind {
+            io::ErrorKind::OutOfMemory => Fault::Memory,
+            _ => Fault::Read,
+        }
+    }
+}

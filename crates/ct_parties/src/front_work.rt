@@ -1,0 +1,163 @@
+//! The lines of a front, done in order.
+
+ghost use Rattle.std.specs.Prelude.{◌≡◌, ◌++◌, map, IfOk, IfErr, OnOk};
+ghost use Rattle.ct_codec.specs.Submitted.{x509, precert};
+ghost use Rattle.ct_core.specs.Replies.{Answer, a_head};
+ghost use Rattle.ct_core.specs.declared.query.Query.TheVariants.{GetSth};
+ghost use Rattle.ct_gate.specs.Ends.{SameIntake};
+ghost use Rattle.ct_lines.specs.ReplyText.{answered, reply_line};
+ghost use Rattle.ct_tree.specs.declared.head.Head.{Head};
+ghost use Rattle.ct_parties.specs.FrontWork.{Sends, Submits, Looks, Shows, Awaits, FrontDoes, FrontGoesOn, FrontServes};
+
+use crate::replying::push_reply;
+use crate::task::FrontTask;
+use crate::waiting::{Bell, Waiting};
+use ct_codec::{Refusal, Submission};
+use ct_core::{Query, Reply};
+use ct_house::Front;
+use ct_tree::Memory;
+use std::alloc::Global;
+use std::sync::Wait;
+
+// Sends a submission against which nothing stands, and rings where it is accepted.
+fn send(front: &mut Front, submission: Submission, accepted: &Bell) -> Result<Reply, Refusal>
+    ensures sends { Sends front.old.intake submission (answered result) front.new.intake }
+    ensures same { SameIntake front.old.intake front.new.intake }
+    ensures sight { front.new.sight ≡ front.old.sight }
+{
+    match front.submit(submission) {
+        Ok(ticket) => {
+            accepted.ring();
+            Ok(Reply::Ticket(ticket))
+        }
+        Err((refusal, _)) => Err(refusal),
+    }
+}
+
+// Submits a chain.
+fn submit_chain(front: &mut Front, chain: Vec<Vec<u8>>, accepted: &Bell) -> Result<Reply, Refusal>
+    ensures submits { Submits front.old (x509 (map (λ c. c.items) chain.items)) (answered result) front.new }
+    ensures same { SameIntake front.old.intake front.new.intake }
+    ensures sight { front.new.sight ≡ front.old.sight }
+{
+    let submission = Submission::x509(chain)?;
+    send(front, submission, accepted)
+}
+
+// Submits a precertificate.
+fn submit_precert(
+    front: &mut Front,
+    issuer_key_hash: [u8; 32],
+    tbs: Vec<u8>,
+    chain: Vec<Vec<u8>>,
+    accepted: &Bell,
+) -> Result<Reply, Refusal>
+    ensures submits { Submits front.old (precert issuer_key_hash tbs.items (map (λ c. c.items) chain.items)) (answered result) front.new }
+    ensures same { SameIntake front.old.intake front.new.intake }
+    ensures sight { front.new.sight ≡ front.old.sight }
+{
+    let submission = Submission::precert(issuer_key_hash, tbs, chain)?;
+    send(front, submission, accepted)
+}
+
+// Asks the published log.
+fn ask(alloc: Global, front: &mut Front, query: &Query) -> Result<Reply, Refusal>
+    ensures looks { Looks front.old front.new }
+    ensures shows { Shows front.new.sight.seen query.now (answered result) }
+{
+    front.ask(alloc, query)
+}
+
+// The size of the published log. A head isn't refused, but where no state is shown.
+fn published_size(alloc: Global, front: &mut Front) -> Result<u64, Refusal>
+    ensures looks { Looks front.old front.new }
+    ensures size { IfOk result (λ n. (h : Head) × Shows front.new.sight.seen GetSth (a_head h) × (n ≡ h.tree_size)) }
+    ensures refused { IfErr result (λ e. e ≡ Refusal.Closed) }
+{
+    match ask(alloc, front, &Query::GetSth)? {
+        Reply::Sth(head) => Ok(head.tree_size),
+        _ => unreachable!(),
+    }
+}
+
+// Waits until the published log has at least this size.
+#[tactic(auto, using(crate::proofs::FrontLemmas::looks_none, crate::proofs::FrontLemmas::looks_both))]
+fn await_size<R: Wait>(
+    rt: &R,
+    alloc: Global,
+    front: &mut Front,
+    size: u64,
+    waiting: &Waiting,
+) -> Result<Reply, Refusal>
+    ensures looks { Looks front.old front.new }
+    ensures awaits { Awaits front.new.sight.seen size (answered result) }
+{
+    let turns = waiting.turns;
+    let mut turn = 0;
+    while turn < turns {
+        let seen = waiting.heads.rung();
+        if size <= published_size(alloc, front)? {
+            return Ok(Reply::Reached(size));
+        }
+        turn = waiting.heads.wait_turn(rt, turn, seen);
+    }
+    Err(Refusal::Late)
+}
+
+// Does what a line asks for.
+#[tactic(auto, using(crate::proofs::FrontLemmas::looks_on, crate::proofs::FrontLemmas::submits_on))]
+fn do_task<R: Wait>(
+    rt: &R,
+    alloc: Global,
+    front: &mut Front,
+    task: FrontTask,
+    waiting: &Waiting,
+) -> Result<Reply, Refusal>
+    ensures does { FrontDoes front.old task (answered result) front.new }
+    ensures goes_on { FrontGoesOn front.old front.new }
+{
+    match task {
+        FrontTask::Submit(chain) => submit_chain(front, chain, &waiting.accepted),
+        FrontTask::SubmitPrecert {
+            issuer_key_hash,
+            tbs,
+            chain,
+        } => submit_precert(front, issuer_key_hash, tbs, chain, &waiting.accepted),
+        FrontTask::AwaitSize(size) => await_size(rt, alloc, front, size, waiting),
+        FrontTask::Ask(query) => ask(alloc, front, &query),
+    }
+}
+
+// Does what a line asks for, and adds the reply.
+fn reply_to<R: Wait>(
+    rt: &R,
+    alloc: Global,
+    front: &mut Front,
+    task: FrontTask,
+    waiting: &Waiting,
+    replies: &mut Vec<u8>,
+) -> Result<(), Memory>
+    ensures does { OnOk result ((r : Answer) × FrontDoes front.old task r front.new × (replies.new.items ≡ replies.old.items ++ reply_line r)) }
+    ensures goes_on { FrontGoesOn front.old front.new }
+{
+    let reply = do_task(rt, alloc, front, task, waiting);
+    push_reply(alloc, replies, &reply)
+}
+
+/// Does a front's tasks in order, and adds the replies. A line that waits ends after `waiting.turns` turns.
+pub fn serve_front<R: Wait>(
+    rt: &R,
+    alloc: Global,
+    front: &mut Front,
+    tasks: Vec<FrontTask>,
+    waiting: &Waiting,
+    replies: &mut Vec<u8>,
+) -> Result<(), Memory>
+    ensures serves { OnOk result (FrontServes front.old tasks.items replies.old.items front.new replies.new.items) }
+    ensures goes_on { OnOk result (FrontGoesOn front.old front.new) }
+{
+    for task in tasks {
+        reply_to(rt, alloc, front, task, waiting, replies)?;
+    }
+    Ok(())
+}

@@ -1,0 +1,39 @@
+//! What the parties of a log do for lines of requests: the fronts and the operator, each in a thread of its own, and then
+//! the closed log.
+//!
+//! `serve` reads an input to its end, gives its lines out to the fronts, the operator and the closed log, and writes a reply
+//! for each line that isn't empty: the replies of the fronts come first, in the order of their numbers, then the operator's,
+//! then, once the log is closed, its own. A line that ends a shift has all lines before it done, and all fronts go on, before
+//! the lines behind it are begun.
+//!
+//! - `reading` reads the input line by line, `plan` gives the lines out, and `task` says what a front and the operator do for
+//!   a line.
+//! - `front_work` and `operator_work` do the lines of a front and of the operator, `replying` adds their replies, and
+//!   `waiting` is how a line waits for another party.
+//! - `party` has the fronts with their replies, and what they and the operator do in a shift; `threads` does the work of a
+//!   shift, each party in a thread of its own; and `shifting` ends shifts, and does them one after the other.
+//! - `closing` closes the log.
+//! - `options` has the numbers of a log, `fault` names what ends a run before all is written, and `output` writes.
+//! - `script` has `serve`.
+#![tactic(auto)]
+
+mod closing;
+mod fault;
+mod front_work;
+mod operator_work;
+mod options;
+mod output;
+mod party;
+mod plan;
+mod reading;
+mod replying;
+mod script;
+mod shifting;
+mod task;
+mod threads;
+mod waiting;
+
+pub use fault::Fault;
+pub use options::Options;
+pub use output::{send, tell};
+pub use script::serve;

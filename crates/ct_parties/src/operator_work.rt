@@ -1,0 +1,171 @@
+//! The lines of the operator, done in order.
+
+ghost use Rattle.std.specs.Prelude.{◌≡◌, ◌++◌, ◌≤◌, ◌<◌, length, OnOk};
+ghost use Rattle.ct_core.specs.Replies.{Answer};
+ghost use Rattle.ct_lines.specs.ReplyText.{answered, reply_line};
+ghost use Rattle.ct_parties.specs.OperatorWork.{GoesOn, SettlesSome, SequencesFront, Publishes, ShutsTheLog, OperatorDoes, OperatorServes};
+
+use crate::replying::push_reply;
+use crate::task::OperatorTask;
+use crate::waiting::{Bell, Waiting};
+use ct_codec::Refusal;
+use ct_core::Reply;
+use ct_house::Sequencer;
+use ct_tree::Memory;
+use std::alloc::Global;
+use std::sync::Wait;
+use std::thread::Threads;
+
+// How many items are settled at once.
+const BATCH: u64 = 256;
+
+// Settles items of a front, so many at most and one at least, as soon as there are any.
+fn settle_some<R: Threads + Wait + Sync>(
+    rt: &R,
+    alloc: Global,
+    sequencer: &mut Sequencer,
+    front: u16,
+    most: u32,
+    now: u64,
+    waiting: &Waiting,
+) -> Result<u32, Refusal>
+    requires front { front < length sequencer.old.lanes }
+    requires most { (0 < most) × (most ≤ 256) }
+    ensures { SettlesSome front most now sequencer.old result sequencer.new }
+{
+    let turns = waiting.turns;
+    let mut turn = 0;
+    while turn < turns {
+        let seen = waiting.accepted.rung();
+        match sequencer.take(rt, alloc, front, most, now) {
+            Ok(settled) => {
+                if settled > 0 {
+                    return Ok(settled);
+                }
+            }
+            Err(refusal) => return Err(refusal),
+        }
+        turn = waiting.accepted.wait_turn(rt, turn, seen);
+    }
+    Err(Refusal::Late)
+}
+
+// How many of the items that are left are settled at once.
+fn batch_of(left: u64) -> u32
+    requires { 0 < left }
+    ensures { (0 < result) × (result ≤ 256) × (result ≤ left) }
+{
+    left.min(BATCH) as u32
+}
+
+// Settles this many items of a front.
+fn sequence<R: Threads + Wait + Sync>(
+    rt: &R,
+    alloc: Global,
+    sequencer: &mut Sequencer,
+    front: u16,
+    count: u64,
+    now: u64,
+    waiting: &Waiting,
+) -> Result<Reply, Refusal>
+    requires { front < length sequencer.old.lanes }
+    ensures { SequencesFront front count now sequencer.old (answered result) sequencer.new }
+{
+    let mut left = count;
+    while left > 0 {
+        let most = batch_of(left);
+        match settle_some(rt, alloc, sequencer, front, most, now, waiting) {
+            Ok(settled) => left -= u64::from(settled),
+            Err(refusal) => return Err(refusal),
+        }
+    }
+    Ok(Reply::Settled(count))
+}
+
+// Publishes a head, and rings.
+fn publish<R: Wait>(
+    rt: &R,
+    alloc: Global,
+    sequencer: &mut Sequencer,
+    now: u64,
+    heads: &Bell,
+) -> Result<Reply, Refusal>
+    ensures { Publishes now sequencer.old (answered result) sequencer.new }
+{
+    let head = sequencer.publish(rt, alloc, now)?;
+    heads.ring();
+    Ok(Reply::Published(head))
+}
+
+// Shuts the log.
+fn shut(sequencer: &mut Sequencer) -> Result<Reply, Refusal>
+    ensures { ShutsTheLog sequencer.old (answered result) sequencer.new }
+{
+    let accepted = sequencer.shutdown()?;
+    Ok(Reply::Accepted(accepted))
+}
+
+// Does what a line asks for.
+fn do_task<R: Threads + Wait + Sync>(
+    rt: &R,
+    alloc: Global,
+    sequencer: &mut Sequencer,
+    fronts: usize,
+    task: OperatorTask,
+    waiting: &Waiting,
+) -> Result<Reply, Refusal>
+    requires { fronts ≡ length sequencer.old.lanes }
+    ensures does { OperatorDoes sequencer.old task (answered result) sequencer.new }
+    ensures goes_on { GoesOn sequencer.old sequencer.new }
+{
+    match task {
+        OperatorTask::Sequence { from, count, now } => {
+            if usize::from(from) >= fronts {
+                return Err(Refusal::BadLine);
+            }
+            sequence(rt, alloc, sequencer, from, count, now, waiting)
+        }
+        OperatorTask::Publish { now } => publish(rt, alloc, sequencer, now, &waiting.heads),
+        OperatorTask::Shutdown => shut(sequencer),
+        OperatorTask::BadLine => Err(Refusal::BadLine),
+    }
+}
+
+// Does what a line asks for, and adds the reply.
+fn reply_to<R: Threads + Wait + Sync>(
+    rt: &R,
+    alloc: Global,
+    sequencer: &mut Sequencer,
+    fronts: usize,
+    task: OperatorTask,
+    waiting: &Waiting,
+    replies: &mut Vec<u8>,
+) -> Result<(), Memory>
+    requires { fronts ≡ length sequencer.old.lanes }
+    ensures does { OnOk result ((r : Answer) × OperatorDoes sequencer.old task r sequencer.new × (replies.new.items ≡ replies.old.items ++ reply_line r)) }
+    ensures goes_on { GoesOn sequencer.old sequencer.new }
+{
+    let reply = do_task(rt, alloc, sequencer, fronts, task, waiting);
+    push_reply(alloc, replies, &reply)
+}
+
+/// Does the operator's tasks in order, and adds the replies. A line that waits ends after `waiting.turns` turns in a
+/// row in which nothing came.
+pub fn serve_operator<R: Threads + Wait + Sync>(
+    rt: &R,
+    alloc: Global,
+    sequencer: &mut Sequencer,
+    fronts: usize,
+    tasks: Vec<OperatorTask>,
+    waiting: &Waiting,
+    replies: &mut Vec<u8>,
+) -> Result<(), Memory>
+    requires { fronts ≡ length sequencer.old.lanes }
+    ensures serves { OnOk result (OperatorServes sequencer.old tasks.items replies.old.items sequencer.new replies.new.items) }
+    ensures goes_on { OnOk result (GoesOn sequencer.old sequencer.new) }
+{
+    for task in tasks {
+        reply_to(rt, alloc, sequencer, fronts, task, waiting, replies)?;
+    }
+    Ok(())
+}

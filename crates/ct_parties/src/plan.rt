@@ -1,0 +1,223 @@
+//! What lines ask for, and who does it.
+
+ghost use Rattle.std.specs.Prelude.{◌≡◌, ◌<◌, ◌++◌, ◌∷◌, ℕ, [], List, Vec, length, IfOk, IsOkUnless, OnOk, Some, slice_get};
+ghost use Rattle.std.specs.Global.{Global as GlobalOf};
+ghost use Rattle.ct_lines.specs.Requests.{asked, front_asked as request_of, operator_asked};
+ghost use Rattle.ct_parties.specs.declared.task.FrontTask.{FrontTask as FrontTaskOf};
+ghost use Rattle.ct_parties.specs.Tasks.{Task as TaskOf, Step, does, ends_shift, for_front, for_operator, for_frozen, front_step, operator_step, step_of, AsksFor, IsForThere};
+ghost use Rattle.ct_parties.specs.Plans.{step, step as step_in, task_asked, IsWorkOf, IsPlanOf, GivesOut};
+
+use crate::fault::Fault;
+use crate::party::{Shift, Work};
+use crate::task::{FrontTask, OperatorTask};
+use ct_codec::Refusal;
+use ct_lines::{FrontRequest, OperatorRequest, Request, read_line};
+use ct_tree::Memory;
+use std::alloc::Global;
+use std::mem;
+
+/// What a line has the program do.
+#[derive(Debug, Drop)]
+enum Task<'a> {
+    // The front with this number does this.
+    Front(u16, FrontTask),
+    // The operator does this.
+    Operator(OperatorTask),
+    // The frozen log answers this line.
+    Frozen(&'a [u8]),
+    // The shift ends at this moment.
+    EndsShift(u64),
+}
+
+/// What the lines of an input ask for, given out to those who do it.
+#[derive(Drop)]
+pub struct Plan {
+    /// The shifts that end, in order.
+    pub shifts: Vec<Shift>,
+    /// What is done behind the last shift that ends.
+    pub last: Work,
+    /// The lines that the frozen log answers, in order, each with its end.
+    pub frozen: Vec<u8>,
+}
+
+// What the front with this number does. One that isn't there leaves the operator a bad line.
+fn front_request_task<'a>(fronts: u16, number: u64, request: FrontRequest) -> Task<'a>
+    ensures asked { step result ≡ front_step fronts number (request_of request) }
+    ensures there { IsForThere fronts (step result) }
+{
+    if number >= u64::from(fronts) {
+        return Task::Operator(OperatorTask::BadLine);
+    }
+    let number = number as u16;
+    match request {
+        FrontRequest::AddChain { chain } => Task::Front(number, FrontTask::Submit(chain)),
+        FrontRequest::AddPreChain {
+            issuer_key_hash,
+            tbs,
+            chain,
+        } => Task::Front(
+            number,
+            FrontTask::SubmitPrecert {
+                issuer_key_hash,
+                tbs,
+                chain,
+            },
+        ),
+        FrontRequest::AwaitSize { tree_size } => {
+            Task::Front(number, FrontTask::AwaitSize(tree_size))
+        }
+        FrontRequest::Ask(query) => Task::Front(number, FrontTask::Ask(query)),
+    }
+}
+
+// What the operator does, or the end of a shift. To sequence a front that isn't there is a bad line.
+fn operator_request_task<'a>(fronts: u16, request: OperatorRequest) -> Task<'a>
+    ensures asked { step result ≡ operator_step fronts (operator_asked request) }
+    ensures there { IsForThere fronts (step result) }
+{
+    match request {
+        OperatorRequest::Sequence { from, count, now } => {
+            if from >= u64::from(fronts) {
+                return Task::Operator(OperatorTask::BadLine);
+            }
+            let from = from as u16;
+            Task::Operator(OperatorTask::Sequence { from, count, now })
+        }
+        OperatorRequest::Publish { now } => Task::Operator(OperatorTask::Publish { now }),
+        OperatorRequest::Shutdown => Task::Operator(OperatorTask::Shutdown),
+        OperatorRequest::Shift { now } => Task::EndsShift(now),
+    }
+}
+
+// What the request that a line is asks for.
+fn request_task<'a>(fronts: u16, line: &'a [u8], request: Request) -> Task<'a>
+    ensures asked { step result ≡ step_of fronts line.entry.now (asked request) }
+    ensures there { IsForThere fronts (step result) }
+{
+    match request {
+        Request::Front(number, request) => front_request_task(fronts, number, request),
+        Request::Operator(request) => operator_request_task(fronts, request),
+        Request::Frozen(_) => Task::Frozen(line),
+    }
+}
+
+// What a line asks for.
+fn line_task<'a>(alloc: Global, fronts: u16, line: &'a [u8]) -> Result<Task<'a>, Fault>
+    ensures asked { IfOk result (λ t. AsksFor fronts line.entry.now (step t)) }
+    ensures there { IfOk result (λ t. IsForThere fronts (step t)) }
+    ensures memory { IsOkUnless result Fault.Memory }
+{
+    match read_line(alloc, line) {
+        Ok(request) => Ok(request_task(fronts, line, request)),
+        Err(Refusal::BadLine) => Ok(Task::Operator(OperatorTask::BadLine)),
+        Err(refusal) => Err(Fault::from(refusal)),
+    }
+}
+
+// A list for each front, with nothing to do in it.
+fn no_tasks(alloc: Global, fronts: usize) -> Result<Vec<Vec<FrontTask>>, Memory>
+    ensures count { IfOk result (λ lists. length lists.items ≡ fronts) }
+    ensures empty { IfOk result (λ lists. (k : ℕ) (v : Vec FrontTaskOf GlobalOf) → slice_get lists.items k ≡ Some v → v.items ≡ []) }
+{
+    let mut lists = Vec::new(alloc);
+    for _front in 0..fronts {
+        lists.push(Vec::new(alloc))?;
+    }
+    Ok(lists)
+}
+
+impl Work {
+    // Work of so many fronts and of the operator, with nothing to do.
+    fn new(alloc: Global, fronts: usize) -> Result<Work, Memory>
+        ensures { IfOk result (λ w. IsWorkOf fronts w []) }
+    {
+        let fronts = no_tasks(alloc, fronts)?;
+        Ok(Work {
+            fronts,
+            operator: Vec::new(alloc),
+        })
+    }
+
+    // Adds what a front does.
+    fn add_front_task(&mut self, number: u16, task: FrontTask) -> Result<(), Memory>
+        requires { number < length self.old.fronts.items }
+        ensures { OnOk result ((fronts : ℕ) (tasks : List TaskOf) → IsWorkOf fronts self.old tasks
+            → IsWorkOf fronts self.new (tasks ++ for_front number (task_asked task) ∷ [])) }
+    {
+        let tasks = &mut self.fronts[number as usize];
+        tasks.push(task)?;
+        Ok(())
+    }
+
+    // Adds what the operator does.
+    fn add_operator_task(&mut self, task: OperatorTask) -> Result<(), Memory>
+        ensures { OnOk result ((fronts : ℕ) (tasks : List TaskOf) → IsWorkOf fronts self.old tasks
+            → IsWorkOf fronts self.new (tasks ++ for_operator task ∷ [])) }
+    {
+        self.operator.push(task)?;
+        Ok(())
+    }
+}
+
+impl Plan {
+    /// A plan for so many fronts, with nothing to do.
+    pub fn new(alloc: Global, fronts: u16) -> Result<Plan, Memory>
+        ensures { IfOk result (λ p. IsPlanOf fronts p []) }
+    {
+        let last = Work::new(alloc, usize::from(fronts))?;
+        Ok(Plan {
+            shifts: Vec::new(alloc),
+            last,
+            frozen: Vec::new(alloc),
+        })
+    }
+
+    // Adds a line that the frozen log answers.
+    fn add_frozen_line(&mut self, line: &[u8]) -> Result<(), Memory>
+        ensures { OnOk result ((fronts : ℕ) (steps : List Step) → IsPlanOf fronts self.old steps
+            → IsPlanOf fronts self.new (steps ++ does (for_frozen line.now) ∷ [])) }
+    {
+        self.frozen.extend_from_slice(line)?;
+        self.frozen.push(b'\n')?;
+        Ok(())
+    }
+
+    // Ends the shift at this moment, so that another begins.
+    fn end_shift(&mut self, alloc: Global, now: u64) -> Result<(), Memory>
+        ensures { OnOk result ((fronts : ℕ) (steps : List Step) → IsPlanOf fronts self.old steps
+            → IsPlanOf fronts self.new (steps ++ ends_shift now ∷ [])) }
+    {
+        let next = Work::new(alloc, self.last.fronts.len())?;
+        let work = mem::replace(&mut self.last, next);
+        self.shifts.push(Shift { work, now })?;
+        Ok(())
+    }
+
+    // Adds what a line asks for.
+    fn add(&mut self, alloc: Global, task: Task<'_>) -> Result<(), Memory>
+        requires { IsForThere (length self.old.last.fronts.items) (step_in task) }
+        ensures { OnOk result ((fronts : ℕ) (steps : List Step) → IsPlanOf fronts self.old steps
+            → IsPlanOf fronts self.new (steps ++ step_in task.entry ∷ [])) }
+    {
+        match task {
+            Task::Front(number, task) => self.last.add_front_task(number, task)?,
+            Task::Operator(task) => self.last.add_operator_task(task)?,
+            Task::Frozen(line) => self.add_frozen_line(line)?,
+            Task::EndsShift(now) => self.end_shift(alloc, now)?,
+        }
+        Ok(())
+    }
+
+    /// Adds what the line asks for, which stands without its end. An empty line is nobody's.
+    pub fn add_line(&mut self, alloc: Global, fronts: u16, line: &[u8]) -> Result<(), Fault>
+        requires { length self.old.last.fronts.items ≡ fronts }
+        ensures taken { OnOk result (GivesOut fronts self.old self.new line.now) }
+        ensures memory { IsOkUnless result Fault.Memory }
+    {
+        if !line.is_empty() {
+            let task = line_task(alloc, fronts, line)?;
+            self.add(alloc, task)?;
+        }
+        Ok(())
+    }
+}

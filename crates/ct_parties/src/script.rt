@@ -1,0 +1,161 @@
+//! A log over the lines of an input: opened, served by its parties, closed and asked.
+
+ghost use Rattle.std.specs.Prelude.{◌≡◌, ℕ, List, [], length, IfOk, OnOk, OnErr, IfErr};
+ghost use Rattle.std.specs.Io.KnownBytes.{Appends};
+ghost use Rattle.std.specs.List.{flat_map};
+ghost use Rattle.ct_lines.specs.Frozen.{frozen_text};
+ghost use Rattle.ct_parties.specs.Faults.{IsFrozenFault};
+ghost use Rattle.ct_parties.specs.Output.{AreNewParties, SomeReplies, WritesAll, WritesSome, IsServed, IsBegun};
+ghost use Rattle.ct_parties.specs.Parties.{AreFrontsOf, fronts_of};
+ghost use Rattle.ct_parties.specs.Shifts.{AreForFronts, start_of};
+ghost use Rattle.ct_parties.specs.declared.party.FrontParty.{FrontParty as FrontPartyOf};
+
+use crate::closing::close;
+use crate::fault::Fault;
+use crate::options::Options;
+use crate::output::send;
+use crate::party::{FrontParty, House, Shift, Work};
+use crate::plan::Plan;
+use crate::reading::read_plan;
+use crate::shifting::{Served, serve_parties};
+use ct_core::Published;
+use ct_house::{Front, open};
+use ct_lines::serve_frozen;
+use ct_tree::Memory;
+use std::alloc::Global;
+use std::io::{Read, Write};
+use std::sync::Wait;
+use std::thread::Threads;
+
+// The fronts of a new house, none of which has replied to anything.
+fn new_parties(alloc: Global, fronts: Vec<Front>) -> Result<Vec<FrontParty>, Memory>
+    ensures fronts { IfOk result (λ v. fronts_of v.items ≡ fronts.items) }
+    ensures silent { IfOk result (λ v. flat_map (λ (p : FrontPartyOf). p.replies.items) v.items ≡ []) }
+{
+    let mut parties = Vec::new(alloc);
+    for front in fronts {
+        let replies = Vec::new(alloc);
+        parties.push(FrontParty { front, replies })?;
+    }
+    Ok(parties)
+}
+
+// Opens a house.
+fn open_house<H: Wait>(rt: &H, alloc: Global, options: Options) -> Result<House, Fault>
+    ensures house { IfOk result (λ h. AreNewParties options.fronts options.ring options.open_at (start_of h)) }
+    ensures faults { IfErr result (λ f. f ≡ Fault.Memory) }
+{
+    let ends = Vec::with_capacity(alloc, 1)?;
+    match open(rt, alloc, options.fronts, options.ring, options.open_at) {
+        Ok((sequencer, fronts)) => match new_parties(alloc, fronts) {
+            Ok(parties) => Ok(House {
+                sequencer,
+                parties,
+                ends,
+            }),
+            Err(error) => {
+                sequencer.abandon(rt, ends);
+                Err(Fault::from(error))
+            }
+        },
+        Err(refusal) => {
+            ends.destroy_empty();
+            Err(Fault::from(refusal))
+        }
+    }
+}
+
+// Writes the replies of the closed log to the lines.
+fn send_frozen<W: Write>(
+    alloc: Global,
+    log: &Published,
+    lines: &[u8],
+    output: &mut W,
+) -> Result<(), Fault>
+    ensures all { OnOk result (Appends (W.contents output.old) (W.contents output.new) (frozen_text log.now lines.now)) }
+    ensures some { OnErr result ((written : List ℕ) × SomeReplies log.now lines.now written
+        × Appends (W.contents output.old) (W.contents output.new) written) }
+    ensures faults { IfErr result IsFrozenFault }
+{
+    let mut reader = lines;
+    serve_frozen(alloc, log, &mut reader, output)?;
+    match output.flush() {
+        Ok(()) => Ok(()),
+        Err(_) => Err(Fault::Write),
+    }
+}
+
+// Has the parties do the shifts and then the last work, and writes their replies; then closes the log at the moment
+// `close_at`, and writes its replies to the lines.
+fn serve_parties_and_log<H: Threads + Wait + Sync, W: Write>(
+    rt: &H,
+    alloc: Global,
+    house: House,
+    shifts: Vec<Shift>,
+    last: Work,
+    turns: u64,
+    close_at: u64,
+    lines: &[u8],
+    output: &mut W,
+) -> Result<(), Fault>
+    requires fronts { AreFrontsOf house.sequencer (fronts_of house.parties.items) }
+    requires work { AreForFronts (length house.parties.items) shifts.items last }
+    ensures all { OnOk result (WritesAll (start_of house) shifts.items last lines.now close_at (W.contents output.old) (W.contents output.new)) }
+    ensures some { IfErr result (λ f. WritesSome (start_of house) shifts.items last lines.now close_at f (W.contents output.old) (W.contents output.new)) }
+{
+    let Served {
+        sequencer,
+        fronts,
+        replies,
+    } = serve_parties(rt, alloc, house, shifts, last, turns)?;
+    match send(output, &replies) {
+        Ok(()) => {}
+        Err(fault) => {
+            sequencer.abandon(rt, Vec::new(alloc));
+            return Err(fault);
+        }
+    }
+    let log = close(rt, alloc, sequencer, fronts, close_at)?;
+    send_frozen(alloc, log.published(), lines, output)
+}
+
+/// Runs a log over the lines of the input, and writes the replies. A line that waits for another party looks `turns`
+/// times.
+///
+/// # Errors
+///
+/// The fault that ended the run: `Read`, `Threads`, `Memory`, or `ClockBack` where the clock refuses the moment at which a
+/// shift is to end, before any reply was written; `Write` after a beginning of the replies of the fronts and of the
+/// operator; `ClockBack`, where the clock refuses the moment of closing, or `Memory` after all of these; and `Write` or
+/// `Memory` after some of the closed log's.
+pub fn serve<H: Threads + Wait + Sync, R: Read, W: Write>(
+    rt: &H,
+    alloc: Global,
+    options: Options,
+    turns: u64,
+    input: &mut R,
+    output: &mut W,
+) -> Result<(), Fault>
+    ensures served { OnOk result (IsServed options.fronts options.ring options.open_at options.close_at
+        (R.remaining input.old) (W.contents output.old) (W.contents output.new)) }
+    ensures begun { IfErr result (λ f. IsBegun options.fronts options.ring options.open_at options.close_at f
+        (R.remaining input.old) (W.contents output.old) (W.contents output.new)) }
+{
+    let Plan {
+        shifts,
+        last,
+        frozen,
+    } = read_plan(alloc, options.fronts, input)?;
+    let house = open_house(rt, alloc, options)?;
+    serve_parties_and_log(
+        rt,
+        alloc,
+        house,
+        shifts,
+        last,
+        turns,
+        options.close_at,
+        &frozen,
+        output,
+    )
+}
