@@ -2,7 +2,7 @@
 use Rattle.std.proofs.Common.{◌≡◌, ℕ, ◌+◌, ◌<◌, List, [], ◌∷◌, ◌++◌, length, get_or, take, drop, Bool, true, false, refl, ap, sym, ◌∙◌, Some, None}
 use Rattle.std.specs.Prelude.{◌&&◌, ◌==◌, if◌then◌else◌}
 use Rattle.std.proofs.lemmas.List.{take_more, take-append-drop, drop_more}
-use Rattle.place_table.specs.declared.trie.Slot.{Slot}
+use Rattle.place_table.specs.declared.slots.Slot.{Slot}
 use Rattle.place_table.specs.Looked.{places_in, if_at, first_where}
 use Rattle.place_table.proofs.Sides.{places_in-push, places_in-append}
 

@@ -1,11 +1,11 @@
--- Places on one side of a fork.
-use Rattle.std.proofs.Common.{◌≡◌, ℕ, ◌/◌, ◌%◌, ◌≢◌, List, [], ◌∷◌, ◌++◌, refl, ap, sym, ◌∙◌, arith, append_assoc}
-use Rattle.std.proofs.lemmas.List.{append-nil}
-use Rattle.std.proofs.Common.{inl, inr}
-use Rattle.std.proofs.lemmas.Bool.{cases_eq}
+-- Places in one of 64 parts.
+use Rattle.std.proofs.Common.{◌≡◌, ℕ, zero, suc, ◌+◌, ◌*◌, ◌/◌, ◌%◌, ◌<◌, ◌≢◌, List, [], ◌∷◌, ◌++◌, length, get_or, refl, ap, sym, ◌∙◌, subst, arith, append_assoc, inl, inr}
+use Rattle.std.proofs.lemmas.List.{append-nil, length_push}
+use Rattle.std.proofs.lemmas.Bool.{cases_lt}
 use Rattle.std.proofs.lemmas.Grind.{common_steps}
-use Rattle.place_table.specs.declared.trie.Slot.{Slot}
-use Rattle.place_table.specs.Looked.{places_in, side, if_at}
+use Rattle.std.specs.Prelude.{Some, slice_get}
+use Rattle.place_table.specs.declared.slots.Slot.{Slot}
+use Rattle.place_table.specs.Looked.{places_in, if_at, in_part, at_index, below}
 
 pub places_in-append : (xs ys : List Slot) (a : ℕ) → places_in (xs ++ ys) a ≡ places_in xs a ++ places_in ys a
 places_in-append [] ys a = refl
@@ -16,121 +16,89 @@ places_in-append (s ∷ xs) ys a =
 pub places_in-push : (xs : List Slot) (s : Slot) (a : ℕ) → places_in (xs ++ s ∷ []) a ≡ places_in xs a ++ if_at s.address s.place a
 places_in-push xs s a = places_in-append xs (s ∷ []) a ∙ ap (λ (r : List ℕ). places_in xs a ++ r) (append-nil (if_at s.address s.place a))
 
--- the halves of two addresses with one lowest bit
-pub if_at-same : (a b p : ℕ) → a % 2 ≡ b % 2 → if_at (a / 2) p (b / 2) ≡ if_at a p b
-if_at-same a b p same = grind (arith, common_steps)
+-- an address without its lowest six bits, and with them
+if_at-same : (a b p i : ℕ) → a % 64 ≡ i → if_at (a / 64) p b ≡ if_at a p (b * 64 + i)
+if_at-same a b p i same = grind (arith, common_steps)
 
-pub if_at-other : (a b p : ℕ) → a % 2 ≢ b % 2 → if_at a p b ≡ []
-if_at-other a b p other = grind (arith, common_steps)
+if_at-other : (a b p i : ℕ) → i < 64 → a % 64 ≢ i → if_at a p (b * 64 + i) ≡ []
+if_at-other a b p i small other = grind (arith, common_steps)
 
-side-odd : (b : ℕ) (x y : List ℕ) → b % 2 ≡ 1 → side b x y ≡ y
-side-odd b x y odd = grind (arith, common_steps)
+-- a slot as it stands below
+abbrev pub lowered : Slot → Slot
+lowered s = record { address = s.address / 64; place = s.place }
 
-side-even : (b : ℕ) (x y : List ℕ) → b % 2 ≢ 1 → side b x y ≡ x
-side-even b x y even = grind (arith, common_steps)
+pub step_kept : (part slots : List Slot) (s : Slot) (i b : ℕ) → s.address % 64 ≡ i → places_in part b ≡ places_in slots (b * 64 + i)
+    → places_in (part ++ lowered s ∷ []) b ≡ places_in (slots ++ s ∷ []) (b * 64 + i)
+step_kept part slots s i b same so =
+    places_in-push part (lowered s) b
+    ∙ ap (λ (r : List ℕ). places_in part b ++ r) (if_at-same s.address b s.place i same)
+    ∙ ap (λ (r : List ℕ). r ++ if_at s.address s.place (b * 64 + i)) so
+    ∙ sym (places_in-push slots s (b * 64 + i))
 
--- a slot as it stands below the fork
-abbrev pub halved : Slot → Slot
-halved s = record { address = s.address / 2; place = s.place }
+pub step_passed : (part slots : List Slot) (s : Slot) (i b : ℕ) → i < 64 → s.address % 64 ≢ i → places_in part b ≡ places_in slots (b * 64 + i)
+    → places_in part b ≡ places_in (slots ++ s ∷ []) (b * 64 + i)
+step_passed part slots s i b small other so =
+    so ∙ sym (append-nil (places_in slots (b * 64 + i)))
+    ∙ ap (λ (r : List ℕ). places_in slots (b * 64 + i) ++ r) (sym (if_at-other s.address b s.place i small other))
+    ∙ sym (places_in-push slots s (b * 64 + i))
 
-pub step_one : (zeros ones slots : List Slot) (s : Slot) (b : ℕ) → s.address % 2 ≡ 1
-    → side b (places_in zeros (b / 2)) (places_in ones (b / 2)) ≡ places_in slots b
-    → side b (places_in zeros (b / 2)) (places_in (ones ++ halved s ∷ []) (b / 2)) ≡ places_in (slots ++ s ∷ []) b
-step_one zeros ones slots s b odd so =
-    elim (cases_eq (b % 2) 1) [
-      | inl is ↦
-          side-odd b (places_in zeros (b / 2)) (places_in (ones ++ halved s ∷ []) (b / 2)) is
-          ∙ places_in-push ones (halved s) (b / 2)
-          ∙ ap (λ (r : List ℕ). places_in ones (b / 2) ++ r) (if_at-same s.address b s.place (odd ∙ sym is))
-          ∙ ap (λ (r : List ℕ). r ++ if_at s.address s.place b) (sym (side-odd b (places_in zeros (b / 2)) (places_in ones (b / 2)) is) ∙ so)
-          ∙ sym (places_in-push slots s b)
-      | inr not ↦
-          side-even b (places_in zeros (b / 2)) (places_in (ones ++ halved s ∷ []) (b / 2)) not
-          ∙ sym (side-even b (places_in zeros (b / 2)) (places_in ones (b / 2)) not) ∙ so
-          ∙ sym (append-nil (places_in slots b))
-          ∙ ap (λ (r : List ℕ). places_in slots b ++ r) (sym (if_at-other s.address b s.place (λ e. not (sym e ∙ odd))))
-          ∙ sym (places_in-push slots s b)
-    ]
+-- what stands in a list with one more
+get_left : {A : Type 0} (xs : List A) (y : A) (i : ℕ) → i < length xs → slice_get (xs ++ y ∷ []) i ≡ slice_get xs i
+get_left [] y i h = absurd (omega arith)
+get_left (x ∷ xs) y zero h = refl
+get_left (x ∷ xs) y (suc i) h = get_left xs y i (omega arith)
 
-pub step_zero : (zeros ones slots : List Slot) (s : Slot) (b : ℕ) → s.address % 2 ≢ 1
-    → side b (places_in zeros (b / 2)) (places_in ones (b / 2)) ≡ places_in slots b
-    → side b (places_in (zeros ++ halved s ∷ []) (b / 2)) (places_in ones (b / 2)) ≡ places_in (slots ++ s ∷ []) b
-step_zero zeros ones slots s b even so =
-    elim (cases_eq (b % 2) 1) [
-      | inr not ↦
-          let parity : s.address % 2 ≡ b % 2 = omega arith in
-          side-even b (places_in (zeros ++ halved s ∷ []) (b / 2)) (places_in ones (b / 2)) not
-          ∙ places_in-push zeros (halved s) (b / 2)
-          ∙ ap (λ (r : List ℕ). places_in zeros (b / 2) ++ r) (if_at-same s.address b s.place parity)
-          ∙ ap (λ (r : List ℕ). r ++ if_at s.address s.place b) (sym (side-even b (places_in zeros (b / 2)) (places_in ones (b / 2)) not) ∙ so)
-          ∙ sym (places_in-push slots s b)
-      | inl is ↦
-          side-odd b (places_in (zeros ++ halved s ∷ []) (b / 2)) (places_in ones (b / 2)) is
-          ∙ sym (side-odd b (places_in zeros (b / 2)) (places_in ones (b / 2)) is) ∙ so
-          ∙ sym (append-nil (places_in slots b))
-          ∙ ap (λ (r : List ℕ). places_in slots b ++ r) (sym (if_at-other s.address b s.place (λ e. even (e ∙ is))))
-          ∙ sym (places_in-push slots s b)
-    ]
+get_end : {A : Type 0} (xs : List A) (y : A) → slice_get (xs ++ y ∷ []) (length xs) ≡ Some y
+get_end [] y = refl
+get_end (x ∷ xs) y = get_end xs y
 
--- one place more on one side of a fork
-pub fork_one : (x y z : ℕ → List ℕ) (a p b : ℕ) → a % 2 ≡ 1 → ((c : ℕ) → z c ≡ y c ++ if_at (a / 2) p c)
-    → side b (x (b / 2)) (z (b / 2)) ≡ side b (x (b / 2)) (y (b / 2)) ++ if_at a p b
-fork_one x y z a p b odd below =
-    elim (cases_eq (b % 2) 1) [
-      | inl is ↦
-          side-odd b (x (b / 2)) (z (b / 2)) is ∙ below (b / 2)
-          ∙ ap (λ (r : List ℕ). y (b / 2) ++ r) (if_at-same a b p (odd ∙ sym is))
-          ∙ ap (λ (r : List ℕ). r ++ if_at a p b) (sym (side-odd b (x (b / 2)) (y (b / 2)) is))
-      | inr not ↦
-          side-even b (x (b / 2)) (z (b / 2)) not ∙ sym (side-even b (x (b / 2)) (y (b / 2)) not)
-          ∙ sym (append-nil (side b (x (b / 2)) (y (b / 2))))
-          ∙ ap (λ (r : List ℕ). side b (x (b / 2)) (y (b / 2)) ++ r) (sym (if_at-other a b p (λ e. not (sym e ∙ odd))))
-    ]
+-- the first parts are those of the list before, with the places of these slots
+abbrev pub AreMore : {A : Type 0} → List A → List A → (A → ℕ → List ℕ) → List Slot → ℕ → Type 0
+AreMore now old look slots n = (k : ℕ) → k < n → (b : ℕ) → at_index now look k b ≡ at_index old look k b ++ places_in slots (b * 64 + k)
 
-pub fork_zero : (x y z : ℕ → List ℕ) (a p b : ℕ) → a % 2 ≢ 1 → ((c : ℕ) → z c ≡ x c ++ if_at (a / 2) p c)
-    → side b (z (b / 2)) (y (b / 2)) ≡ side b (x (b / 2)) (y (b / 2)) ++ if_at a p b
-fork_zero x y z a p b even below =
-    elim (cases_eq (b % 2) 1) [
-      | inr not ↦
-          let parity : a % 2 ≡ b % 2 = omega arith in
-          side-even b (z (b / 2)) (y (b / 2)) not ∙ below (b / 2)
-          ∙ ap (λ (r : List ℕ). x (b / 2) ++ r) (if_at-same a b p parity)
-          ∙ ap (λ (r : List ℕ). r ++ if_at a p b) (sym (side-even b (x (b / 2)) (y (b / 2)) not))
-      | inl is ↦
-          side-odd b (z (b / 2)) (y (b / 2)) is ∙ sym (side-odd b (x (b / 2)) (y (b / 2)) is)
-          ∙ sym (append-nil (side b (x (b / 2)) (y (b / 2))))
-          ∙ ap (λ (r : List ℕ). side b (x (b / 2)) (y (b / 2)) ++ r) (sym (if_at-other a b p (λ e. even (e ∙ is))))
-    ]
+-- one part more
+pub part_more : {A : Type 0} (now old : List A) (look : A → ℕ → List ℕ) (slots part : List Slot) (n : ℕ) (x : A) → length now ≡ n → AreMore now old look slots n
+    → ((b : ℕ) → look x b ≡ at_index old look n b ++ places_in part b) → ((b : ℕ) → places_in part b ≡ places_in slots (b * 64 + n)) → AreMore (now ++ x ∷ []) old look slots (n + 1)
+part_more now old look slots part n x size are this is k small b = elim (cases_lt k n) [
+  | inl less ↦ ap (λ (o : _). in_part o look b) (get_left now x k (omega arith)) ∙ are k less b
+  | inr last ↦
+      let e : k ≡ n = omega arith in
+      let f : k ≡ length now = omega arith in
+      ap (λ (o : _). in_part o look b) (ap (slice_get (now ++ x ∷ [])) f ∙ get_end now x)
+      ∙ this b
+      ∙ ap (λ (r : List ℕ). at_index old look n b ++ r) (is b)
+      ∙ ap (λ (m : ℕ). at_index old look m b ++ places_in slots (b * 64 + m)) (sym e)
+]
 
--- places more on both sides of a fork
-pub fork_all : (x y xs ys zs os : ℕ → List ℕ) (slots : List Slot) (b : ℕ) → ((c : ℕ) → xs c ≡ x c ++ zs c) → ((c : ℕ) → ys c ≡ y c ++ os c)
-    → side b (zs (b / 2)) (os (b / 2)) ≡ places_in slots b
-    → side b (xs (b / 2)) (ys (b / 2)) ≡ side b (x (b / 2)) (y (b / 2)) ++ places_in slots b
-fork_all x y xs ys zs os slots b left right parts =
-    elim (cases_eq (b % 2) 1) [
-      | inl is ↦
-          side-odd b (xs (b / 2)) (ys (b / 2)) is ∙ right (b / 2)
-          ∙ ap (λ (r : List ℕ). y (b / 2) ++ r) (sym (side-odd b (zs (b / 2)) (os (b / 2)) is) ∙ parts)
-          ∙ ap (λ (r : List ℕ). r ++ places_in slots b) (sym (side-odd b (x (b / 2)) (y (b / 2)) is))
-      | inr not ↦
-          side-even b (xs (b / 2)) (ys (b / 2)) not ∙ left (b / 2)
-          ∙ ap (λ (r : List ℕ). x (b / 2) ++ r) (sym (side-even b (zs (b / 2)) (os (b / 2)) not) ∙ parts)
-          ∙ ap (λ (r : List ℕ). r ++ places_in slots b) (sym (side-even b (x (b / 2)) (y (b / 2)) not))
-    ]
+-- all parts are those before with the places of the slots, so what is below is
+pub all_parts : {A : Type 0} (now old : List A) (look : A → ℕ → List ℕ) (slots : List Slot) → AreMore now old look slots 64 → (a : ℕ) → below now look a ≡ below old look a ++ places_in slots a
+all_parts now old look slots are a =
+    let e : a / 64 * 64 + a % 64 ≡ a = omega arith in
+    are (a % 64) (omega arith) (a / 64) ∙ ap (λ (n : ℕ). below old look a ++ places_in slots n) e
 
--- and where one side gets none
-pub none_more : (x : ℕ → List ℕ) (slots : List Slot) (c : ℕ) → slots ≡ [] → x c ≡ x c ++ places_in slots c
-none_more x slots c none = sym (append-nil (x c)) ∙ ap (λ (s : List Slot). x c ++ places_in s c) (sym none)
+-- what is found in the part at an index
+found_at : {A : Type 0} (xs : List A) (look : A → ℕ → List ℕ) (x : A) (i b : ℕ) → i < length xs → x ≡ get_or xs i x → at_index xs look i b ≡ look x b
+found_at [] look x i b h e = absurd (omega arith)
+found_at (y ∷ xs) look x zero b h e = ap (λ (z : _). look z b) (sym e)
+found_at (y ∷ xs) look x (suc i) b h e = found_at xs look x i b (omega arith) e
 
--- places more at a side of a fork: they wait
-pub waits : (x y : List ℕ) (fresh slots more : List Slot) (b : ℕ) → y ≡ x → more ≡ fresh ++ slots → y ++ places_in more b ≡ (x ++ places_in fresh b) ++ places_in slots b
-waits x y fresh slots more b same joined =
-    ap (λ (r : List ℕ). r ++ places_in more b) same
-    ∙ ap (λ (m : List Slot). x ++ places_in m b) joined
-    ∙ ap (λ (r : List ℕ). x ++ r) (places_in-append fresh slots b)
-    ∙ sym (append_assoc x (places_in fresh b) (places_in slots b))
+-- a part stays where none comes to it
+pub part_stays : {A : Type 0} (xs : List A) (look : A → ℕ → List ℕ) (x y : A) (i : ℕ) (part : List Slot) → i < length xs → x ≡ get_or xs i x → part ≡ [] → ((b : ℕ) → look y b ≡ look x b)
+    → (b : ℕ) → look y b ≡ at_index xs look i b ++ places_in part b
+part_stays xs look x y i part h e none same b =
+    same b ∙ sym (found_at xs look x i b h e) ∙ sym (append-nil (at_index xs look i b)) ∙ ap (λ (ps : List Slot). at_index xs look i b ++ places_in ps b) (sym none)
 
--- or all that wait go down, and none waits then
-pub goes_down : (x y : List ℕ) (fresh slots more none : List Slot) (b : ℕ) → y ≡ x ++ places_in more b → more ≡ fresh ++ slots → none ≡ [] → y ++ places_in none b ≡ (x ++ places_in fresh b) ++ places_in slots b
-goes_down x y fresh slots more none b down joined empty =
-    ap (λ (m : List Slot). y ++ places_in m b) empty ∙ append-nil y ∙ down ∙ waits x x fresh slots more b refl joined
+-- or has those that come to it behind its own
+pub part_grows : {A : Type 0} (xs : List A) (look : A → ℕ → List ℕ) (x y : A) (i : ℕ) (part : List Slot) → i < length xs → x ≡ get_or xs i x → ((b : ℕ) → look y b ≡ look x b ++ places_in part b)
+    → (b : ℕ) → look y b ≡ at_index xs look i b ++ places_in part b
+part_grows xs look x y i part h e more b = more b ∙ ap (λ (r : List ℕ). r ++ places_in part b) (sym (found_at xs look x i b h e))
+
+-- places that wait behind others that wait
+pub waits : (base : List ℕ) (fresh slots more : List Slot) (b : ℕ) → more ≡ fresh ++ slots → base ++ places_in more b ≡ (base ++ places_in fresh b) ++ places_in slots b
+waits base fresh slots more b joined =
+    ap (λ (m : List Slot). base ++ places_in m b) joined
+    ∙ ap (λ (r : List ℕ). base ++ r) (places_in-append fresh slots b)
+    ∙ sym (append_assoc base (places_in fresh b) (places_in slots b))
+
+pub below_same : {A : Type 0} (xs ys : List A) (look : A → ℕ → List ℕ) (r : List ℕ) (a : ℕ) → xs ≡ ys → below xs look a ++ r ≡ below ys look a ++ r
+below_same xs ys look r a e = ap (λ (zs : _). below zs look a ++ r) e

@@ -1,15 +1,18 @@
-//! From an address to the places that have it, in a tree whose copies share what they have in common.
+//! From an address to the places that have it, in a table whose copies share what they have in common.
 //!
-//! - [`Trie`] keeps places by their addresses. One that has more places shares what it can with the old one, which stays as it
-//!   was: [`with`] and [`with_all`] add places, and [`copy`] takes as long whatever the number of places.
+//! - [`Table`] keeps places by their addresses. One that has more places shares what it can with the old one, which stays as it
+//!   was: [`with`] and [`with_all`] add places, and [`copy`] hardly takes longer where there are more.
 //! - [`first_place`] is the first place of an address that passes a [`Test`], in the order in which the places were added.
 //!
-//! A fork keeps, for each of its two sides, a list of places that have not gone down yet. Only a list that is full goes down, so
-//! that a place is copied a few times at each level, in order, and most of the tree stays where it is.
+//! Places that are new wait in a list. A list that is full goes down to 64 rows by the lowest bits of the addresses, where they wait
+//! again, and from a row to its 64 buckets by the next bits. So a place is copied a few times, with others, and most of the table stays
+//! where it is.
 #![tactic(auto)]
 
 mod search;
-mod trie;
+mod slots;
+mod table;
 
 pub use search::{Test, first_place};
-pub use trie::{Slot, Trie, copy, with, with_all};
+pub use slots::Slot;
+pub use table::{Row, Table, copy, with, with_all};

@@ -1,9 +1,12 @@
 //! Searches.
 
 ghost use Rattle.std.specs.Prelude.{◌≡◌, ◌==◌, ◌&&◌, ◌++◌, ℕ, List, Bool};
-ghost use Rattle.place_table.specs.Looked.{places_in, looked, first_where};
+ghost use Rattle.std.specs.Arc.{arc_value};
+ghost use Rattle.place_table.specs.Looked.{places_in, at_index, looked_row, looked, first_where};
 
-use crate::trie::{Slot, Trie};
+use crate::slots::Slot;
+use crate::table::{Row, Table};
+use std::sync::Arc;
 
 /// A test of places.
 pub trait Test {
@@ -48,20 +51,45 @@ fn first_or_later<T: Test>(earlier: Option<u64>, slots: &[Slot], rest: u64, test
     }
 }
 
-/// The first place of an address that passes, in the order in which the places were added, or `None` where none passes.
-pub fn first_place<T: Test>(trie: &Trie, address: u64, test: &T) -> Option<u64>
-    ensures { result ≡ first_where (T.passes test.now) (looked trie.now address) }
+// The first place with that rest of an address that passes, in the bucket with that index, if there is one.
+fn first_in_bucket<T: Test>(
+    buckets: &[Arc<Vec<Slot>>],
+    index: usize,
+    rest: u64,
+    test: &T,
+) -> Option<u64>
+    ensures { result ≡ first_where (T.passes test.now) (at_index buckets.now (λ p c. places_in (arc_value p).items c) index rest) }
 {
-    match trie {
-        Trie::Bucket(slots) => first_of(slots, address, test),
-        Trie::Fork(zero, zeros, one, ones) => {
-            if address % 2 == 1 {
-                let earlier = first_place(one, address / 2, test);
-                first_or_later(earlier, ones, address / 2, test)
-            } else {
-                let earlier = first_place(zero, address / 2, test);
-                first_or_later(earlier, zeros, address / 2, test)
-            }
-        }
+    if buckets.len() <= index {
+        return None;
     }
+    let bucket = &buckets[index];
+    first_of(bucket, rest, test)
+}
+
+// The first place with that rest of an address that passes, in a row.
+fn first_in_row<T: Test>(row: &Row, rest: u64, test: &T) -> Option<u64>
+    ensures { result ≡ first_where (T.passes test.now) (looked_row row.now rest) }
+{
+    let earlier = first_in_bucket(&row.buckets, (rest % 64) as usize, rest / 64, test);
+    first_or_later(earlier, &row.fresh, rest, test)
+}
+
+// The first place with that rest of an address that passes, in the row with that index, if there is one.
+fn first_at_row<T: Test>(rows: &[Arc<Row>], index: usize, rest: u64, test: &T) -> Option<u64>
+    ensures { result ≡ first_where (T.passes test.now) (at_index rows.now (λ p c. looked_row (arc_value p) c) index rest) }
+{
+    if rows.len() <= index {
+        return None;
+    }
+    let row = &rows[index];
+    first_in_row(row, rest, test)
+}
+
+/// The first place of an address that passes, in the order in which the places were added, or `None` where none passes.
+pub fn first_place<T: Test>(table: &Table, address: u64, test: &T) -> Option<u64>
+    ensures { result ≡ first_where (T.passes test.now) (looked table.now address) }
+{
+    let earlier = first_at_row(&table.rows, (address % 64) as usize, address / 64, test);
+    first_or_later(earlier, &table.fresh, address, test)
 }

@@ -1,5 +1,5 @@
 use Rattle.std.proofs.Common.{sym, ◌∙◌}
-use Rattle.place_table.specs.declared.trie.Slot.{Slot}
+use Rattle.place_table.specs.declared.slots.Slot.{Slot}
 use Rattle.place_table.proofs.Firsts.{found, missed}
 use Rattle.place_table.proofs.search.first_of.Goals as goal
 

@@ -30,7 +30,7 @@ invariant_of-reached c =
     let last = ends_as log _ ends in
     let state : (newest log).state ≡ c.args.first.now = ap (λ p. p.state) last ∙ ap (λ a. a.state) c.plain-offer.ensures.1 in (
       subst (Ends log) (sym last) ends,
-      ap length c.heads.ensures ∙ sym (ap (λ (l : Log). length l.heads) state),
+      c.len.ensures ∙ ap length c.heads.ensures ∙ sym (ap (λ (l : Log). length l.heads) state),
       subst Lawful (sym state) c.requires,
     )
 

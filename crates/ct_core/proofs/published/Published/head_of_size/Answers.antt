@@ -1,0 +1,24 @@
+use Rattle.std.proofs.Common.{◌≡◌, ◌<◌, ◌≤◌, ◌==◌, false, length, ap, sym, ◌∙◌, arith}
+use Rattle.std.specs.Prelude.{nat_lt}
+use Rattle.std.proofs.lemmas.Grind.{common_steps}
+use Rattle.ct_core.specs.Answers.{is_size}
+use Rattle.ct_core.specs.Settlement.{Log}
+use Rattle.ct_core.proofs.HeadSteps.{IsPlaceOfSize, size_found, size_past}
+use Rattle.ct_core.proofs.published.Published.head_of_size.Goals as goal
+
+pub returns-else-head-n-clause-size : goal.returns-else-head-n-clause-size
+returns-else-head-n-clause-size c =
+    let heads = c.self.inside.heads in
+    let p = c.place_of_size-place.result in
+    let is : IsPlaceOfSize heads c.args.n p = record { below = c.place_of_size-place.ensures.below; above = c.place_of_size-place.ensures.above } in
+    let inside : p < length heads = grind (arith, common_steps) in
+    let other : (c.at-head.result.now.tree_size == c.args.n) ≡ false = grind (arith, common_steps) in
+    sym other ∙ size_found heads c.args.n p c.at-head.result.now c.self.invariant.lawful.sizes is inside c.at-head.ensures ∙ ap (λ (log : Log). is_size log c.args.n) c.self.view_is
+
+pub returns-else-place-len-clause-size : goal.returns-else-place-len-clause-size
+returns-else-place-len-clause-size c =
+    let heads = c.self.inside.heads in
+    let p = c.place_of_size-place.result in
+    let is : IsPlaceOfSize heads c.args.n p = record { below = c.place_of_size-place.ensures.below; above = c.place_of_size-place.ensures.above } in
+    let past : length heads ≤ p = grind (arith, common_steps) in
+    size_past heads c.args.n p is past ∙ ap (λ (log : Log). is_size log c.args.n) c.self.view_is
