@@ -3,7 +3,7 @@
 use crate::submission::Submission;
 
 /// An accepted submission.
-#[derive(Drop)]
+#[derive(Debug, Drop)]
 pub struct Item {
     /// The number of the front that it came through.
     pub front: u16,

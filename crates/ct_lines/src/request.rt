@@ -3,7 +3,7 @@
 use ct_core::Query;
 
 /// A request.
-#[derive(Debug, Drop)]
+#[derive(Debug, PartialEq, Eq, Drop)]
 pub enum Request {
     /// Of the front with this number. From 16 on it is a front that isn't there.
     Front(u64, FrontRequest),
@@ -14,7 +14,7 @@ pub enum Request {
 }
 
 /// What a front asks.
-#[derive(Debug, Drop)]
+#[derive(Debug, PartialEq, Eq, Drop)]
 pub enum FrontRequest {
     /// To take in a certificate, by its chain in DER, the end entity first.
     AddChain {
@@ -49,7 +49,7 @@ pub enum OperatorRequest {
 }
 
 /// What a reader of the frozen log asks.
-#[derive(Debug, Drop)]
+#[derive(Debug, PartialEq, Eq, Drop)]
 pub enum FrozenRequest {
     /// An answer of the frozen state.
     Ask(Query),
@@ -58,7 +58,7 @@ pub enum FrozenRequest {
 }
 
 /// A proof of inclusion that is to be checked against the tree head of a size.
-#[derive(Debug, Drop)]
+#[derive(Debug, PartialEq, Eq, Drop)]
 pub struct Audit {
     /// The bytes of the leaf.
     pub leaf_input: Vec<u8>,
