@@ -22,44 +22,21 @@ use Rattle.ct_core.specs.Replies.{EntryText, an_entry, proof_holds, proof_refuse
 use Rattle.ct_lines.specs.Asked.{audit}
 use Rattle.ct_lines.specs.Verdicts.{is_accepted, verdict_on, verdict, audit_answer}
 
--- a look for an element finds one exactly where there is any
-is_some-any : {X : Type 0} (p : X → Bool) (xs : List X) → is_some (find p xs) ≡ list_any p xs
-is_some-any p [] = refl
-is_some-any {X} p (x ∷ xs) = by (p x) (is_some-any p xs)
-  where
-    by : (b : Bool) → is_some (find p xs) ≡ list_any p xs → is_some (cond b (Some x) (find p xs)) ≡ (b || list_any p xs)
-    by true later = refl
-    by false later = later
-
-found_is : {X : Type 0} (p : X → Bool) (xs : List X) (y : X) → find p xs ≡ Some y → (p y ≡ true) × Contains xs y
-found_is p [] y e = cc
-found_is {X} p (x ∷ xs) y e = by (p x) refl e (found_is p xs y)
-  where
-    by : (b : Bool) → p x ≡ b → cond b (Some x) (find p xs) ≡ Some y → (find p xs ≡ Some y → (p y ≡ true) × Contains xs y) → (p y ≡ true) × Contains (x ∷ xs) y
-    by true t s later = let same : x ≡ y = cc in (ap p (sym same) ∙ t, (0, omega arith, same))
-    by false t s later = let found = later s in (found.0, (suc found.1.0, omega (arith, found.1.1), found.1.2))
-
--- the head that a look by size finds
-head_some : (log : Log) (n : ℕ) (h : Head) → Lawful log → find (λ (h : Head). h.tree_size == n) log.heads ≡ Some h
-    → (is_size log n ≡ true) × (n ≤ length log.entries) × (h.tree_size ≡ n) × (h.root ≡ mth_of_leaves sha256 (first_leaves log n))
+-- the head of a size, by what looking it up says
+pub head_found : (log : Log) (n : ℕ) (o : Option Head) → Lawful log → IfSome o (λ h. Contains log.heads h × (h.tree_size ≡ n)) → is_some o ≡ is_size log n
+    → IfSome o (λ h. (is_size log n ≡ true) × (n ≤ length log.entries) × (h.tree_size ≡ n) × (h.root ≡ mth_of_leaves sha256 (first_leaves log n)))
 unfolding tree_hash sha256_leaf
-head_some log n h lawful e =
-    let (passes, inside) = found_is (λ (h : Head). h.tree_size == n) log.heads h e in
-    let size : h.tree_size ≡ n = grind (arith, nat_tests, passes) in
-    let is = All-contains (IsHeadOf log.entries) log.heads h lawful.true_heads inside in (
-      sym (is_some-any (λ (h : Head). h.tree_size == n) log.heads) ∙ ap is_some e,
-      subst (λ (k : ℕ). k ≤ length log.entries) size is.within,
-      size,
-      is.root ∙ ap (λ (k : ℕ). mth_of_leaves sha256 (first_leaves log k)) size,
+head_found log n None lawful found size = search rules
+head_found log n (Some h) lawful found size =
+    let is = All-contains (IsHeadOf log.entries) log.heads h lawful.true_heads found.0 in (
+      sym size,
+      subst (λ (k : ℕ). k ≤ length log.entries) found.1 is.within,
+      found.1,
+      is.root ∙ ap (λ (k : ℕ). mth_of_leaves sha256 (first_leaves log k)) found.1,
     )
 
-pub head_found : (log : Log) (n : ℕ) (o : Option Head) → Lawful log → o ≡ find (λ (h : Head). h.tree_size == n) log.heads
-    → IfSome o (λ h. (is_size log n ≡ true) × (n ≤ length log.entries) × (h.tree_size ≡ n) × (h.root ≡ mth_of_leaves sha256 (first_leaves log n)))
-head_found log n None lawful e = search rules
-head_found log n (Some h) lawful e = head_some log n h lawful (sym e)
-
-pub head_none : (log : Log) (n : ℕ) → find (λ (h : Head). h.tree_size == n) log.heads ≡ None → is_size log n ≡ false
-head_none log n e = sym (is_some-any (λ (h : Head). h.tree_size == n) log.heads) ∙ ap is_some e
+pub head_none : (log : Log) (n : ℕ) (o : Option Head) → is_some o ≡ is_size log n → o ≡ None → is_size log n ≡ false
+head_none log n o size e = sym size ∙ ap is_some e
 
 -- the log's own leaf and path at an index below a published size
 pub own_audited : (log : Log) (m n : ℕ) (t : EntryText) (v : List (List ℕ)) → is_size log n ≡ true → m < n → an_entry t v ≡ answer log (EntryAndProof m n)

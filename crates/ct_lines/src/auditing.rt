@@ -1,7 +1,6 @@
 //! Verdicts on audit paths, against the leaves of a published size.
 
-ghost use Rattle.std.specs.Prelude.{◌≡◌, ◌==◌, ◌<◌, ◌≤◌, List, ℕ, true, false, length, map, None, option_map, IfOk, IfSome, IsOkUnless, MatchResult};
-ghost use Rattle.std.specs.List.{find};
+ghost use Rattle.std.specs.Prelude.{◌≡◌, ◌<◌, ◌≤◌, List, ℕ, true, false, length, map, None, IfOk, IfSome, IsOkUnless, MatchResult};
 ghost use Rattle.sha2.specs.Sha256.{sha256};
 ghost use Rattle.ct_tree.specs.Tree.{mth_of_leaves};
 ghost use Rattle.ct_verify.specs.Evidence.{IsAudited};
@@ -20,22 +19,13 @@ use ct_tree::{Head, Sha256Hash, leaf_hash};
 use ct_verify::{Evidence, verify_inclusion};
 use std::alloc::Global;
 
-// The first head of that size.
-fn first_of_size<'h>(heads: &'h [Head], size: u64) -> Option<&'h Head>
-    ensures { option_map (λ h. h.now) result ≡ find (λ h. h.tree_size == size) heads.now }
-{
-    heads.iter().find(|h| h.tree_size == size)
-}
-
-// The head of that size, if one was published.
+// The head of that size, if one was published, and what it says of the entries.
 fn head_of_size(log: &Published, size: u64) -> Option<Head>
     ensures some { IfSome result (λ h. (is_size log.now size ≡ true) × (size ≤ length log.now.entries) × (h.tree_size ≡ size)
         × (h.root ≡ mth_of_leaves sha256 (first_leaves log.now size))) }
     ensures none { result ≡ None → is_size log.now size ≡ false }
 {
-    // The clause `lawful` of this call tells the prover what each head says of the entries.
-    let _ = log.last_head();
-    first_of_size(log.heads(), size).copied()
+    log.head_of_size(size)
 }
 
 // Whether the path leads from the leaf to the head's root. Hashes the leaf and one node for each element of the path.
