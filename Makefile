@@ -1,4 +1,4 @@
-.PHONY: help demo test check link install fuzz load sweep sources
+.PHONY: help demo test check link install fuzz load sweep wrong sources
 
 SECONDS ?= 60
 RUNS ?= 20
@@ -50,9 +50,14 @@ sweep: ## refuses each growth of ctlog and of the library's calls in turn, and j
 	@PYTHONDONTWRITEBYTECODE=1 python3 bench/memory.py
 	@PYTHONDONTWRITEBYTECODE=1 python3 bench/sweep.py
 
+# After `make check`, over whose work it goes. The gate tries those of must-fail/ itself.
+wrong: ## has the prover refuse the wrong bodies of CRATE=ct_core that the gate doesn't try (crates/*/wrong-bodies)
+	@PYTHONDONTWRITEBYTECODE=1 python3 checks/wrong_bodies.py $(or $(CRATE),ct_core)
+
 # What no contract can say of the sources, what docs/DEFINITIONS.md has to name, and what the documents name.
 sources: ## looks through the sources, the documents and the scripts of examples/, in seconds and without a proof
 	@PYTHONDONTWRITEBYTECODE=1 python3 checks/want_of_memory.py
 	@PYTHONDONTWRITEBYTECODE=1 python3 checks/definitions.py
+	@PYTHONDONTWRITEBYTECODE=1 python3 checks/wrong_bodies.py
 	@docs/check.sh
 	@PYTHONDONTWRITEBYTECODE=1 python3 examples/scripts.py

@@ -1,0 +1,74 @@
+#!/usr/bin/env python3
+"""The wrong bodies beside those that the gate tries: each applies to its crate, and with a crate's name, the prover refuses each.
+
+    wrong_bodies.py [CRATE..]
+
+crates/NAME/wrong-bodies/ has edits of the form that crates/NAME/must-fail/ has: a line 'file: PATH', and then pairs of lines 'old: TEXT' and
+'new: TEXT', of which each TEXT stands in that file exactly once. The gate tries those of must-fail alone, a few a crate, since one costs up
+to a minute of a processor. Without a name it looks, in a moment, whether all edits of both folders can be applied, and whether no name
+stands in both. With names it has rt try the crates' edits of this folder, over a copy of the repository with what is proved there.
+"""
+import pathlib
+import shutil
+import subprocess
+import sys
+import tempfile
+
+ROOT = pathlib.Path(__file__).resolve().parent.parent
+CRATES = ROOT / "crates"
+
+
+def why_not(edit, crate):
+    """Why the edit can't be applied to the crate, or None."""
+    texts, path, old, pairs = {}, None, None, 0
+    for line in edit.read_text().splitlines():
+        if line.startswith("file: "):
+            path = line[len("file: "):].strip()
+        elif line.startswith("old: "):
+            old = line[len("old: "):]
+        elif line.startswith("new:"):
+            if path is None or old is None:
+                return "a 'new:' line stands before any 'file:' or 'old:' line"
+            if not (crate / path).is_file():
+                return f"there is no file {path}"
+            text = texts.setdefault(path, (crate / path).read_text())
+            if text.count(old) != 1:
+                return f"an 'old:' text is in {path} {text.count(old)} times, and not once"
+            texts[path] = text.replace(old, line[len("new:"):].removeprefix(" "))
+            old, pairs = None, pairs + 1
+    return None if pairs else "it has no 'old:' and 'new:' pair"
+
+
+def looked():
+    """Whether all edits can be applied; it prints each that can't."""
+    found = []
+    for folder in ("must-fail", "wrong-bodies"):
+        for edit in sorted(CRATES.glob(f"*/{folder}/*.edit")):
+            crate = edit.parent.parent
+            why = why_not(edit, crate)
+            if folder == "wrong-bodies" and (crate / "must-fail" / edit.name).exists():
+                why = "must-fail has one of this name"
+            if why:
+                found.append(f"{edit.relative_to(ROOT)}: {why}")
+    print("\n".join(found), end="\n" * bool(found))
+    return not found
+
+
+def tried(names):
+    """Whether the prover refuses each edit of these crates' folders."""
+    for name in names:
+        if not any((CRATES / name / "wrong-bodies").glob("*.edit")):
+            sys.exit(f"wrong_bodies.py: crates/{name}/wrong-bodies has no edit")
+    with tempfile.TemporaryDirectory() as room:
+        copy = pathlib.Path(room, "copy")
+        shutil.copytree(ROOT, copy, symlinks=True, ignore=shutil.ignore_patterns(".git"))
+        (copy / ".git").mkdir()
+        for name in names:
+            crate = copy / "crates" / name
+            shutil.rmtree(crate / "must-fail", ignore_errors=True)
+            (crate / "wrong-bodies").rename(crate / "must-fail")
+        return subprocess.run(["rt", "must-fail", *names], cwd=copy, check=False).returncode == 0
+
+
+if __name__ == "__main__":
+    sys.exit(0 if looked() and (not sys.argv[1:] or tried(sys.argv[1:])) else 1)
