@@ -10,6 +10,7 @@ use ct_codec::{Refusal, Submission};
 use ct_core::{Query, Settled};
 use ct_house::{FinalLog, Front, Retired, Sequencer, open};
 use ct_tree::Head;
+use shared_list::SharedList;
 use std::alloc::Global;
 use std::process::Abort;
 use std::sync::Wait;
@@ -371,7 +372,7 @@ impl Crowd {
 }
 
 // Whether the records of this front have its tickets, in order, and these rise.
-fn are_recorded(settlement: &[Settled], front: u16, tickets: &[(u64, u8)]) -> bool {
+fn are_recorded(settlement: &SharedList<Settled>, front: u16, tickets: &[(u64, u8)]) -> bool {
     let mut place = 0usize;
     let mut least = 0u64;
     for record in settlement {
@@ -390,9 +391,9 @@ fn are_recorded(settlement: &[Settled], front: u16, tickets: &[(u64, u8)]) -> bo
 }
 
 // The place of the head.
-fn place_of(heads: &[Head], head: &Head) -> Option<usize> {
+fn place_of(heads: &SharedList<Head>, head: &Head) -> Option<usize> {
     for place in 0..heads.len() {
-        if heads[place] == *head {
+        if heads.at(place) == head {
             return Some(place);
         }
     }
@@ -400,7 +401,7 @@ fn place_of(heads: &[Head], head: &Head) -> Option<usize> {
 }
 
 // Whether the heads that were seen are heads of the log, in order.
-fn are_published(heads: &[Head], seen: &[Head]) -> bool {
+fn are_published(heads: &SharedList<Head>, seen: &[Head]) -> bool {
     let mut least = 0usize;
     for head in seen {
         match place_of(heads, head) {
@@ -423,7 +424,7 @@ fn note_tickets(certificates: &mut [Option<u8>], tickets: &[(u64, u8)]) -> bool 
 }
 
 // Whether the first record of each certificate got a leaf, and each later one that leaf.
-fn are_first_occurrences(settlement: &[Settled], certificates: &[Option<u8>]) -> bool {
+fn are_first_occurrences(settlement: &SharedList<Settled>, certificates: &[Option<u8>]) -> bool {
     let mut leaves = [None; 256];
     let mut count = 0u64;
     for record in settlement {

@@ -172,8 +172,8 @@ fn has_both_leaves(rt: &HostRuntime, state: &Published) -> bool {
 
 // Whether two states have the same heads, and the same three records.
 fn are_equal(copy: &Published, state: &Published) -> bool {
-    copy.heads() == state.heads()
-        && copy.settlement() == state.settlement()
+    copy.heads().iter().eq(state.heads())
+        && copy.settlement().iter().eq(state.settlement())
         && copy.settlement().len() == 3
 }
 
