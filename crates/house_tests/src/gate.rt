@@ -1,4 +1,4 @@
-ghost use Rattle.std.specs.Prelude.{◌≡◌};
+ghost use Rattle.std.specs.Prelude.{◌≡◌, ◌≤◌, [], ◌∷◌, vec_capacity};
 ghost use Rattle.ct_gate.specs.Ends.{AreEnds};
 
 use crate::common::submission;
@@ -132,6 +132,7 @@ impl TwoFronts {
     }
 
     fn close<R: Wait>(self, rt: &R, alloc: Global) -> Result<Option<u64>, Refusal> {
+        let room = Vec::with_capacity(alloc, 2)?;
         let TwoFronts {
             shutter,
             zero,
@@ -139,14 +140,22 @@ impl TwoFronts {
             outlet_zero: _,
             outlet_one: _,
         } = self;
-        let mut intakes = Vec::new(alloc);
-        intakes.push(zero)?;
-        intakes.push(one)?;
         if shutter.accepted().is_none() {
             return Ok(None);
         }
-        Ok(Some(close_gate(rt, shutter, intakes)))
+        Ok(Some(close_gate(rt, shutter, listed(room, zero, one))))
     }
+}
+
+// The two ends in a list that has room for them.
+fn listed(room: Vec<Intake>, zero: Intake, one: Intake) -> Vec<Intake>
+    requires { (room.items ≡ []) × (2 ≤ vec_capacity room) }
+    ensures { result.items ≡ zero ∷ one ∷ [] }
+{
+    let mut list = room;
+    list.push_reserved(zero);
+    list.push_reserved(one);
+    list
 }
 
 // Opens a gate with two fronts, makes the calls of the rows, and closes it: how many were accepted.
@@ -193,29 +202,37 @@ fn two_fronts_and_a_shutdown(rt: HostRuntime) -> Result<(), Fail> {
     Ok(())
 }
 
+// Sends the certificate of this byte.
+fn send_byte(alloc: Global, intake: &mut Intake, byte: u8) -> Result<u64, Refusal> {
+    match intake.send(submission(alloc, &[byte])?) {
+        Ok(ticket) => Ok(ticket),
+        Err((refusal, _)) => Err(refusal),
+    }
+}
+
 // Sends so many submissions, and answers how many were accepted. No refusal but `Shutdown` may come.
 fn send_all(alloc: Global, mut intake: Intake, count: u32) -> Result<u64, Refusal> {
     let mut accepted = 0u64;
     for _ in 0..count {
-        match intake.send(submission(alloc, &[0x41])?) {
+        match send_byte(alloc, &mut intake, 0x41) {
             Ok(_) => accepted = accepted.saturating_add(1),
-            Err((Refusal::Shutdown, _)) => {}
-            Err((refusal, _)) => return Err(refusal),
+            Err(Refusal::Shutdown) => {}
+            Err(refusal) => return Err(refusal),
         }
     }
     Ok(accepted)
 }
 
 // How many submissions are accepted before the first refusal, and which that is. At most so many are sent.
-fn fill(alloc: Global, intake: &mut Intake, most: u32) -> Result<(u64, Option<Refusal>), Refusal> {
+fn fill(alloc: Global, intake: &mut Intake, most: u32) -> (u64, Option<Refusal>) {
     let mut accepted = 0u64;
     for _ in 0..most {
-        match intake.send(submission(alloc, &[0x41])?) {
+        match send_byte(alloc, intake, 0x41) {
             Ok(_) => accepted = accepted.saturating_add(1),
-            Err((refusal, _)) => return Ok((accepted, Some(refusal))),
+            Err(refusal) => return (accepted, Some(refusal)),
         }
     }
-    Ok((accepted, None))
+    (accepted, None)
 }
 
 // How many of at most so many items the outlet gives. Their tickets rise and are below the bound.
@@ -262,14 +279,19 @@ fn send_beside_shut<R: Threads>(
     ))
 }
 
+// Whether the two threads are told what the gate tells, and the outlets give as much.
+fn two_threads_send<R: Threads>(rt: &R, alloc: Global) -> Result<bool, Fail> {
+    let (mut shutter, mut intakes, mut outlets) = open_gate(alloc, 2, 4096)?;
+    let (Some(one), Some(zero)) = (intakes.pop(), intakes.pop()) else {
+        return Ok(false);
+    };
+    let (accepted, is_told) = send_beside_shut(rt, alloc, &mut shutter, zero, one)?;
+    Ok(is_told && take_from_all(&mut outlets, accepted) == Some(accepted))
+}
+
 #[test]
 fn two_threads_send_while_the_gate_is_shut(rt: HostRuntime) -> Result<(), Fail> {
-    let (mut shutter, mut intakes, mut outlets) = open_gate(rt.alloc(), 2, 4096)?;
-    let (Some(one), Some(zero)) = (intakes.pop(), intakes.pop()) else {
-        panic!(rt; "two intakes")
-    };
-    let (accepted, is_told) = send_beside_shut(&rt, rt.alloc(), &mut shutter, zero, one)?;
-    assert!(rt; is_told && take_from_all(&mut outlets, accepted) == Some(accepted));
+    assert!(rt; two_threads_send(&rt, rt.alloc())?);
     Ok(())
 }
 
@@ -293,14 +315,19 @@ fn give_thousands(outlets: &mut [Outlet]) -> bool {
     true
 }
 
+// Whether each front, in a thread of its own, is told that a thousand are accepted.
+fn send_thousands<R: Threads + Sync>(rt: &R, alloc: Global, intakes: Vec<Intake>) -> bool {
+    match thread::map_vec(rt, intakes, &|intake| send_all(alloc, intake, 1000)) {
+        Ok(sent) => are_thousands(&sent),
+        Err(_) => false,
+    }
+}
+
 #[test]
 fn sixteen_threads_send(rt: HostRuntime) -> Result<(), Fail> {
-    let alloc = rt.alloc();
-    let (mut shutter, intakes, mut outlets) = open_gate(alloc, 16, 1000)?;
-    let sent = thread::map_vec(&rt, intakes, &|intake| send_all(alloc, intake, 1000))?;
-    assert!(rt;
-        are_thousands(&sent) && shutter.shut() == Ok(16_000) && give_thousands(&mut outlets)
-    );
+    let (mut shutter, intakes, mut outlets) = open_gate(rt.alloc(), 16, 1000)?;
+    assert!(rt; send_thousands(&rt, rt.alloc(), intakes));
+    assert!(rt; shutter.shut() == Ok(16_000) && give_thousands(&mut outlets));
     Ok(())
 }
 
@@ -327,76 +354,66 @@ fn take_one<R: Threads>(rt: &R, outlet: Outlet) -> Result<Option<(u16, u64)>, Fa
     Ok(taker.join(rt))
 }
 
+// The ends of a gate with one front and a ring of so many places.
+fn open_one(alloc: Global, places: usize) -> Result<(Shutter, Intake, Outlet), Fail>
+    requires { (1 ≤ places) × (places ≤ 4096) }
+{
+    let (shutter, mut intakes, mut outlets) = open_gate(alloc, 1, places)?;
+    match (intakes.pop(), outlets.pop()) {
+        (Some(intake), Some(outlet)) => Ok((shutter, intake, outlet)),
+        _ => Err(Fail::new("one front")),
+    }
+}
+
 #[test]
 fn each_end_moves_to_a_thread(rt: HostRuntime) -> Result<(), Fail> {
-    let (shutter, mut intakes, mut outlets) = open_gate(rt.alloc(), 1, 1)?;
-    let (Some(intake), Some(outlet)) = (intakes.pop(), outlets.pop()) else {
-        panic!(rt; "one front")
-    };
-    let told = (
-        send_one(&rt, rt.alloc(), intake)?,
-        shut_one(&rt, shutter)?,
-        take_one(&rt, outlet)?,
-    );
-    assert!(rt; told == (1, 1, Some((0, 0))));
+    let (shutter, intake, outlet) = open_one(rt.alloc(), 1)?;
+    let sent = send_one(&rt, rt.alloc(), intake)?;
+    let shut = shut_one(&rt, shutter)?;
+    let taken = take_one(&rt, outlet)?;
+    assert!(rt; sent == 1 && shut == 1 && taken == Some((0, 0)));
     Ok(())
 }
 
+fn take_ticket(outlet: &mut Outlet) -> Option<u64> {
+    Some(outlet.take()?.ticket)
+}
+
 // Whether the ring of one place takes one, refuses another, and gives the one, with this ticket, and no other.
-fn is_round(
-    alloc: Global,
-    intake: &mut Intake,
-    outlet: &mut Outlet,
-    ticket: u64,
-) -> Result<bool, Refusal> {
-    let first = intake.send(submission(alloc, &[0x41])?).ok();
-    let refused = intake.send(submission(alloc, &[0x42])?).err();
-    let is_full = matches!(refused, Some((Refusal::Full, _)));
-    let taken = outlet.take().map(|item| item.ticket);
-    let is_sole = outlet.take().is_none();
-    Ok(first == Some(ticket) && is_full && taken == Some(ticket) && is_sole)
+fn is_round(alloc: Global, intake: &mut Intake, outlet: &mut Outlet, ticket: u64) -> bool {
+    send_byte(alloc, intake, 0x41) == Ok(ticket)
+        && send_byte(alloc, intake, 0x42) == Err(Refusal::Full)
+        && take_ticket(outlet) == Some(ticket)
+        && outlet.take().is_none()
 }
 
 // How many of a hundred rounds go so before the first that doesn't.
-fn hundred_rounds(alloc: Global, intake: &mut Intake, outlet: &mut Outlet) -> Result<u64, Refusal> {
+fn hundred_rounds(alloc: Global, intake: &mut Intake, outlet: &mut Outlet) -> u64 {
     for round in 0..100u64 {
-        if !is_round(alloc, intake, outlet, round)? {
-            return Ok(round);
+        if !is_round(alloc, intake, outlet, round) {
+            return round;
         }
     }
-    Ok(100)
+    100
 }
 
 #[test]
 fn a_full_ring_takes_again_after_a_take(rt: HostRuntime) -> Result<(), Fail> {
-    let (_shutter, mut intakes, mut outlets) = open_gate(rt.alloc(), 1, 1)?;
-    let (Some(mut intake), Some(mut outlet)) = (intakes.pop(), outlets.pop()) else {
-        panic!(rt; "one front")
-    };
-    let rounds = hundred_rounds(rt.alloc(), &mut intake, &mut outlet);
-    assert!(rt; rounds == Ok(100));
+    let (_shutter, mut intake, mut outlet) = open_one(rt.alloc(), 1)?;
+    assert!(rt; hundred_rounds(rt.alloc(), &mut intake, &mut outlet) == 100);
     Ok(())
 }
 
 // Fills the ring, and empties it: whether it takes 4,096, then none, and gives those with tickets below the bound.
-fn is_filled(
-    alloc: Global,
-    intake: &mut Intake,
-    outlet: &mut Outlet,
-    bound: u64,
-) -> Result<bool, Refusal> {
-    let filled = fill(alloc, intake, 5000)?;
-    Ok(filled == (4096, Some(Refusal::Full)) && take_all(outlet, 5000, bound) == Some(4096))
+fn is_filled(alloc: Global, intake: &mut Intake, outlet: &mut Outlet, bound: u64) -> bool {
+    fill(alloc, intake, 5000) == (4096, Some(Refusal::Full))
+        && take_all(outlet, 5000, bound) == Some(4096)
 }
 
 #[test]
 fn a_ring_of_4096_places_is_filled_twice(rt: HostRuntime) -> Result<(), Fail> {
-    let (_shutter, mut intakes, mut outlets) = open_gate(rt.alloc(), 1, 4096)?;
-    let (Some(mut intake), Some(mut outlet)) = (intakes.pop(), outlets.pop()) else {
-        panic!(rt; "one front")
-    };
-    let first = is_filled(rt.alloc(), &mut intake, &mut outlet, 4096);
-    let second = is_filled(rt.alloc(), &mut intake, &mut outlet, 8192);
-    assert!(rt; first == Ok(true) && second == Ok(true));
+    let (_shutter, mut intake, mut outlet) = open_one(rt.alloc(), 4096)?;
+    assert!(rt; is_filled(rt.alloc(), &mut intake, &mut outlet, 4096));
+    assert!(rt; is_filled(rt.alloc(), &mut intake, &mut outlet, 8192));
     Ok(())
 }

@@ -218,20 +218,32 @@ fn reads_beside_publications<R: Threads + Wait + Abort + Sync>(
     size
 }
 
-#[tactic(auto, using(crate::proofs::FrontLemmas::lanes_of_new_house))]
+// Submits a hundred certificates to the one front, and asks the other beside the publications.
+fn submit_and_read<R: Threads + Wait + Abort + Sync>(
+    rt: &R,
+    alloc: Global,
+    house: &mut Sequencer,
+    zero: &mut Front,
+    one: &mut Front,
+) -> Result<u64, Refusal>
+    requires { length house.old.lanes ≡ 2 }
+{
+    submit_hundred(alloc, zero)?;
+    reads_beside_publications(rt, alloc, house, one)
+}
+
 fn reads_in_a_house<R: Threads + Wait + Abort + Sync>(
     rt: &R,
     alloc: Global,
 ) -> Result<u64, Refusal> {
-    let (mut house, mut fronts) = open(rt, alloc, 2, 128, 0)?;
-    let (Some(mut one), Some(mut zero)) = (fronts.pop(), fronts.pop()) else {
-        house.abandon(rt, Vec::new(alloc));
-        return Err(Refusal::MissingFront);
-    };
-    let submitted = submit_hundred(alloc, &mut zero);
-    let size = reads_beside_publications(rt, alloc, &mut house, &mut one);
+    let TwoFronts {
+        alloc,
+        mut house,
+        mut zero,
+        mut one,
+    } = TwoFronts::open(rt, alloc, 128, 0)?;
+    let size = submit_and_read(rt, alloc, &mut house, &mut zero, &mut one);
     house.abandon(rt, Vec::new(alloc));
-    submitted?;
     size
 }
 

@@ -174,38 +174,43 @@ fn is_told(
     told: &Result<Told, Refusal>,
     taken: &mut Vec<u64>,
     noted: &mut [bool],
-) -> Result<bool, AllocError> {
-    take_rest(outlet, taken)?;
-    let is_same = match told {
-        Ok(told) => told.right && told.tickets == *taken,
-        Err(_) => false,
+) -> bool {
+    let is_same = match (take_rest(outlet, taken), told) {
+        (Ok(()), Ok(told)) => told.right && told.tickets == *taken,
+        _ => false,
     };
     let is_right = is_same && taken.is_sorted() && note_all(noted, taken);
     taken.clear();
-    Ok(is_right)
+    is_right
 }
 
-// The same of the first front and the others, and whether all tickets are 0 to n - 1.
+// The same of all these fronts. `taken` has what was taken of the first of them.
 fn are_told(
-    alloc: Global,
-    outcome: &mut Outcome,
-    others: &mut [Outlet],
-    n: u64,
-) -> Result<bool, AllocError> {
-    let mut noted = vec![in alloc; false; n as usize]?;
-    let Some((told, rest)) = outcome.sent.split_first() else {
-        return Ok(false);
-    };
-    let gate = &mut outcome.gate;
-    if !is_told(&mut gate.outlet, told, &mut gate.taken, &mut noted)? {
-        return Ok(false);
-    }
-    for (outlet, told) in others.iter_mut().zip(rest) {
-        if !is_told(outlet, told, &mut gate.taken, &mut noted)? {
-            return Ok(false);
+    outlets: &mut [Outlet],
+    sent: &[Result<Told, Refusal>],
+    taken: &mut Vec<u64>,
+    noted: &mut [bool],
+) -> bool {
+    for (outlet, told) in outlets.iter_mut().zip(sent) {
+        if !is_told(outlet, told, taken, noted) {
+            return false;
         }
     }
-    Ok(!noted.contains(&false))
+    true
+}
+
+// The same of the front whose items were taken and the other ones, and whether all tickets are 0 to n - 1.
+fn are_all_told(alloc: Global, outcome: &mut Outcome, others: &mut [Outlet], n: u64) -> bool {
+    let Ok(mut noted) = vec![in alloc; false; n as usize] else {
+        return false;
+    };
+    let Some((told, rest)) = outcome.sent.split_first() else {
+        return false;
+    };
+    let gate = &mut outcome.gate;
+    is_told(&mut gate.outlet, told, &mut gate.taken, &mut noted)
+        && are_told(others, rest, &mut gate.taken, &mut noted)
+        && !noted.contains(&false)
 }
 
 // Whether a second shutdown is refused and changes nothing.
@@ -215,16 +220,30 @@ fn stays_shut(gate: &mut Shut, n: u64) -> bool {
 
 // How many were accepted, where all is right: each front's items come in the order of its tickets, which rise; all tickets are 0 to n - 1; and a
 // second shutdown is refused and changes nothing.
+fn judged(alloc: Global, outcome: &mut Outcome, others: &mut [Outlet]) -> Option<u64> {
+    let answer = outcome.gate.answer;
+    match answer {
+        Ok(n) if stays_shut(&mut outcome.gate, n) && are_all_told(alloc, outcome, others, n) => {
+            Some(n)
+        }
+        _ => None,
+    }
+}
+
+// The first one, and the others.
+fn split_first(outlets: Vec<Outlet>) -> Option<(Outlet, Vec<Outlet>)> {
+    let mut outlets = outlets;
+    outlets.reverse();
+    let first = outlets.pop()?;
+    outlets.reverse();
+    Some((first, outlets))
+}
+
 fn accepted<R: Threads + Sync>(rt: &R, alloc: Global, when: When) -> Result<Option<u64>, Fail> {
-    let (shutter, intakes, mut outlets) = open_gate(alloc, 16, 4096)?;
-    outlets.reverse();
-    let first = outlets.pop().ok_or("an outlet")?;
-    outlets.reverse();
+    let (shutter, intakes, outlets) = open_gate(alloc, 16, 4096)?;
+    let (first, mut others) = split_first(outlets).ok_or("an outlet")?;
     let mut outcome = send_and_shut(rt, alloc, when, shutter, first, intakes)?;
-    let n = outcome.gate.answer?;
-    let is_right = stays_shut(&mut outcome.gate, n)
-        && are_told(alloc, &mut outcome, &mut outlets, n)?;
-    Ok(if is_right { Some(n) } else { None })
+    Ok(judged(alloc, &mut outcome, &mut others))
 }
 
 #[test]

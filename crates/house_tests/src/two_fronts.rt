@@ -47,28 +47,40 @@ enum Call {
     Succeed(u64, u64),
 }
 
-// The call of this row.
-fn call_of(row: &str) -> Option<Call> {
-    let mut words = Words::of(row);
-    let call = match words.word() {
-        "submit" => Call::Submit(words.front(), words.byte()),
-        "hand-back" => Call::HandBack(words.front(), words.byte()),
+// The call of this name whose words are numbers.
+fn numbers_of(name: &str, words: &mut Words<'_>) -> Option<Call> {
+    Some(match name {
         "submit-numbers" => Call::SubmitNumbers(words.number()),
         "submit-large" => Call::SubmitLarge(words.number()),
         "grow-by-tens" => Call::GrowByTens(words.number()),
         "refill" => Call::Refill(words.number()),
-        "take" => Call::Take(words.front(), words.number(), words.number()),
         "publish" => Call::Publish(words.number()),
-        "shutdown" => Call::Shutdown,
         "take-all" => Call::TakeAll(words.number()),
+        "proof-length" => Call::ProofLength(words.number(), words.number()),
+        "succeed" => Call::Succeed(words.number(), words.number()),
+        "shutdown" => Call::Shutdown,
+        _ => return None,
+    })
+}
+
+// The call of these words.
+fn call_in(words: &mut Words<'_>) -> Option<Call> {
+    Some(match words.word() {
+        "submit" => Call::Submit(words.front(), words.byte()),
+        "hand-back" => Call::HandBack(words.front(), words.byte()),
+        "take" => Call::Take(words.front(), words.number(), words.number()),
         "learn" => Call::Learn(words.front()),
         "size" => Call::Size(words.front()),
-        "proof-length" => Call::ProofLength(words.number(), words.number()),
         "ask" => Call::Ask(words.front(), words.query()),
-        "succeed" => Call::Succeed(words.number(), words.number()),
-        _ => return None,
-    };
-    if words.are_read() { Some(call) } else { None }
+        name => return numbers_of(name, words),
+    })
+}
+
+// The call of this row.
+fn call_of(row: &str) -> Option<Call> {
+    let mut words = Words::of(row);
+    let call = call_in(&mut words);
+    if words.are_read() { call } else { None }
 }
 
 // A house with two fronts.
