@@ -1,17 +1,37 @@
-ghost use Rattle.std.specs.Prelude.{◌≡◌};
+ghost use Rattle.std.specs.Prelude.{◌≡◌, ◌≤◌, [], ◌∷◌, vec_capacity};
 ghost use Rattle.ct_gate.specs.Ends.{AreEnds};
 
 use crate::common::submission;
-use ct_codec::{Item, Refusal, Submission, identity};
+use crate::rows::{Words, expect_right, is_answer, is_handed_back, is_submission};
+use ct_codec::{Item, Refusal};
 use ct_gate::{Intake, Outlet, Shutter, close_gate, open_gate};
 use std::alloc::Global;
+use std::process::Abort;
 use std::sync::Wait;
 use std::test::Fail;
 use std::thread;
+use std::thread::Threads;
 
-// The byte of a submission of one certificate of one byte: the last of its identity, `00 00 00 00 01` and the certificate.
-fn byte_of(alloc: Global, submission: &Submission) -> Result<Option<u8>, Refusal> {
-    Ok(identity(alloc, submission)?.last().copied())
+// Whether it is this number, or `nothing`.
+fn is_count(count: Option<u64>, wanted: &str) -> bool {
+    match count {
+        Some(count) => is_answer(Ok(count), wanted),
+        None => wanted == "nothing",
+    }
+}
+
+// Whether it is the item of this front, this ticket and this identity, or `nothing`.
+fn is_item(alloc: Global, item: Option<Item>, wanted: &str) -> bool {
+    let mut words = Words::of(wanted);
+    match item {
+        Some(item) => {
+            words.front() == item.front
+                && words.number() == item.ticket
+                && is_submission(alloc, &item.submission, words.word())
+                && words.are_read()
+        }
+        None => wanted == "nothing",
+    }
 }
 
 // A gate with two fronts.
@@ -45,48 +65,74 @@ impl TwoFronts {
         }))
     }
 
-    // The ticket, or the refusal with the byte of the submission that came back.
-    fn send(
-        &mut self,
-        front: u8,
-        alloc: Global,
-        byte: u8,
-    ) -> Result<Result<u64, (Refusal, Option<u8>)>, Refusal> {
-        let submission = submission(alloc, &[byte])?;
+    // Whether the ticket is answered, or the refusal with the identity of the submission that came back.
+    fn sends(&mut self, alloc: Global, words: &mut Words<'_>, wanted: &str) -> bool {
+        let front = words.front();
+        let Ok(submission) = submission(alloc, &[words.byte()]) else {
+            return false;
+        };
         let sent = match front {
             0 => self.zero.send(submission),
             _ => self.one.send(submission),
         };
         match sent {
-            Ok(ticket) => Ok(Ok(ticket)),
-            Err((refusal, back)) => Ok(Err((refusal, byte_of(alloc, &back)?))),
+            Ok(ticket) => is_answer(Ok(ticket), wanted),
+            refused => is_handed_back(alloc, refused, wanted),
         }
     }
 
-    // The front, the ticket and the byte of the next item.
-    fn drain(
-        &mut self,
-        front: u8,
-        alloc: Global,
-    ) -> Result<Option<(u16, u64, Option<u8>)>, Refusal> {
-        let next = match front {
+    fn drain(&mut self, front: u16) -> Option<Item> {
+        match front {
             0 => self.outlet_zero.drain_step(&mut self.zero),
             _ => self.outlet_one.drain_step(&mut self.one),
-        };
-        match next {
-            Some(item) => Ok(Some((item.front, item.ticket, byte_of(alloc, &item.submission)?))),
-            None => Ok(None),
         }
     }
 
-    fn is_drained(&mut self, front: u8) -> bool {
+    fn is_drained(&mut self, front: u16) -> bool {
         match front {
             0 => self.outlet_zero.is_drained(&mut self.zero),
             _ => self.outlet_one.is_drained(&mut self.one),
         }
     }
 
+    fn number(&self, front: u16) -> u16 {
+        match front {
+            0 => self.zero.number(),
+            _ => self.one.number(),
+        }
+    }
+
+    // Whether the call of these words answers so.
+    fn answers(&mut self, alloc: Global, words: &mut Words<'_>, wanted: &str) -> bool {
+        match words.word() {
+            "number" => is_answer(Ok(u64::from(self.number(words.front()))), wanted),
+            "accepted" => is_count(self.shutter.accepted(), wanted),
+            "send" => self.sends(alloc, words, wanted),
+            "shut" => is_answer(self.shutter.shut(), wanted),
+            "drain" => is_item(alloc, self.drain(words.front()), wanted),
+            "is-drained" => is_answer(Ok(u64::from(self.is_drained(words.front()))), wanted),
+            _ => false,
+        }
+    }
+
+    // Whether the call of this row answers as the row says.
+    fn is_row(&mut self, alloc: Global, row: &str) -> bool {
+        let Some((text, wanted)) = row.split_once(" -> ") else {
+            return false;
+        };
+        let mut words = Words::of(text);
+        self.answers(alloc, &mut words, wanted) && words.are_read()
+    }
+
+    // Makes the calls of the rows, each of which has to answer as it says.
+    fn follow<R: Abort>(&mut self, rt: &R, alloc: Global, rows: &str) {
+        for row in rows.lines() {
+            expect_right(rt, self.is_row(alloc, row.trim_start()), row);
+        }
+    }
+
     fn close<R: Wait>(self, rt: &R, alloc: Global) -> Result<Option<u64>, Refusal> {
+        let room = Vec::with_capacity(alloc, 2)?;
         let TwoFronts {
             shutter,
             zero,
@@ -94,74 +140,99 @@ impl TwoFronts {
             outlet_zero: _,
             outlet_one: _,
         } = self;
-        let mut intakes = Vec::new(alloc);
-        intakes.push(zero)?;
-        intakes.push(one)?;
         if shutter.accepted().is_none() {
             return Ok(None);
         }
-        Ok(Some(close_gate(rt, shutter, intakes)))
+        Ok(Some(close_gate(rt, shutter, listed(room, zero, one))))
     }
 }
 
+// The two ends in a list that has room for them.
+fn listed(room: Vec<Intake>, zero: Intake, one: Intake) -> Vec<Intake>
+    requires { (room.items ≡ []) × (2 ≤ vec_capacity room) }
+    ensures { result.items ≡ zero ∷ one ∷ [] }
+{
+    let mut list = room;
+    list.push_reserved(zero);
+    list.push_reserved(one);
+    list
+}
+
+// Opens a gate with two fronts, makes the calls of the rows, and closes it: how many were accepted.
+fn closed_after<R: Wait + Abort>(
+    rt: &R,
+    alloc: Global,
+    rows: &str,
+) -> Result<Option<u64>, Refusal> {
+    let Some(mut gate) = TwoFronts::open(alloc)? else {
+        return Ok(None);
+    };
+    gate.follow(rt, alloc, rows);
+    gate.close(rt, alloc)
+}
+
+// An identity is `00 00 00 00 01` and the certificate.
 #[test]
 fn two_fronts_and_a_shutdown(rt: HostRuntime) -> Result<(), Fail> {
-    let alloc = rt.alloc();
-    let mut gate = TwoFronts::open(alloc)?.ok_or("two fronts")?;
-    assert_eq!(rt; (gate.zero.number(), gate.one.number()), (0, 1));
-    assert_eq!(rt; gate.shutter.accepted(), None);
-    assert_eq!(rt; gate.send(0, alloc, 0x41)?, Ok(0));
-    assert_eq!(rt; gate.send(1, alloc, 0x42)?, Ok(1));
-    assert_eq!(rt; gate.send(0, alloc, 0x41)?, Ok(2));
-    assert_eq!(rt;
-        gate.send(0, alloc, 0x42)?,
-        Err((Refusal::Full, Some(0x42)))
+    let closed = closed_after(
+        &rt,
+        rt.alloc(),
+        "number 0 -> 0
+        number 1 -> 1
+        accepted -> nothing
+        send 0 41 -> 0
+        send 1 42 -> 1
+        send 0 41 -> 2
+        send 0 42 -> Full 000000000142
+        shut -> 3
+        send 0 42 -> Shutdown 000000000142
+        send 1 41 -> Shutdown 000000000141
+        shut -> Shutdown
+        accepted -> 3
+        is-drained 0 -> 0
+        drain 0 -> 0 0 000000000141
+        drain 0 -> 0 2 000000000141
+        drain 0 -> nothing
+        drain 1 -> 1 1 000000000142
+        drain 1 -> nothing
+        is-drained 0 -> 1
+        is-drained 1 -> 1",
     );
-    assert_eq!(rt; gate.shutter.shut(), Ok(3));
-    assert_eq!(rt;
-        gate.send(0, alloc, 0x42)?,
-        Err((Refusal::Shutdown, Some(0x42)))
-    );
-    assert_eq!(rt;
-        gate.send(1, alloc, 0x41)?,
-        Err((Refusal::Shutdown, Some(0x41)))
-    );
-    assert_eq!(rt; gate.shutter.shut(), Err(Refusal::Shutdown));
-    assert_eq!(rt; gate.shutter.accepted(), Some(3));
-    assert!(rt; !gate.is_drained(0));
-    assert_eq!(rt; gate.drain(0, alloc)?, Some((0, 0, Some(0x41))));
-    assert_eq!(rt; gate.drain(0, alloc)?, Some((0, 2, Some(0x41))));
-    assert_eq!(rt; gate.drain(0, alloc)?, None);
-    assert_eq!(rt; gate.drain(1, alloc)?, Some((1, 1, Some(0x42))));
-    assert_eq!(rt; gate.drain(1, alloc)?, None);
-    assert!(rt; gate.is_drained(0) && gate.is_drained(1));
-    assert_eq!(rt; gate.close(&rt, alloc)?, Some(3));
+    assert_eq!(rt; closed, Ok(Some(3)));
     Ok(())
+}
+
+// Sends the certificate of this byte.
+fn send_byte(alloc: Global, intake: &mut Intake, byte: u8) -> Result<u64, Refusal> {
+    match intake.send(submission(alloc, &[byte])?) {
+        Ok(ticket) => Ok(ticket),
+        Err((refusal, _)) => Err(refusal),
+    }
 }
 
 // Sends so many submissions, and answers how many were accepted. No refusal but `Shutdown` may come.
 fn send_all(alloc: Global, mut intake: Intake, count: u32) -> Result<u64, Refusal> {
     let mut accepted = 0u64;
     for _ in 0..count {
-        match intake.send(submission(alloc, &[0x41])?) {
+        match send_byte(alloc, &mut intake, 0x41) {
             Ok(_) => accepted = accepted.saturating_add(1),
-            Err((Refusal::Shutdown, _)) => {}
-            Err((refusal, _)) => return Err(refusal),
+            Err(Refusal::Shutdown) => {}
+            Err(refusal) => return Err(refusal),
         }
     }
     Ok(accepted)
 }
 
 // How many submissions are accepted before the first refusal, and which that is. At most so many are sent.
-fn fill(alloc: Global, intake: &mut Intake, most: u32) -> Result<(u64, Option<Refusal>), Refusal> {
+fn fill(alloc: Global, intake: &mut Intake, most: u32) -> (u64, Option<Refusal>) {
     let mut accepted = 0u64;
     for _ in 0..most {
-        match intake.send(submission(alloc, &[0x41])?) {
+        match send_byte(alloc, intake, 0x41) {
             Ok(_) => accepted = accepted.saturating_add(1),
-            Err((refusal, _)) => return Ok((accepted, Some(refusal))),
+            Err(refusal) => return (accepted, Some(refusal)),
         }
     }
-    Ok((accepted, None))
+    (accepted, None)
 }
 
 // How many of at most so many items the outlet gives. Their tickets rise and are below the bound.
@@ -181,93 +252,168 @@ fn take_all(outlet: &mut Outlet, most: u32, bound: u64) -> Option<u64> {
     Some(taken)
 }
 
-#[test]
-fn two_threads_send_while_the_gate_is_shut(rt: HostRuntime) -> Result<(), Fail> {
-    let alloc = rt.alloc();
+// How many items the outlets give, each as `take_all` asks.
+fn take_from_all(outlets: &mut [Outlet], bound: u64) -> Option<u64> {
+    let mut taken = 0u64;
+    for outlet in outlets {
+        taken = taken.saturating_add(take_all(outlet, 4096, bound)?);
+    }
+    Some(taken)
+}
+
+// Two threads send 2,000 submissions each while the gate is shut. How many they were told are accepted, and whether that is what the gate tells.
+fn send_beside_shut<R: Threads>(
+    rt: &R,
+    alloc: Global,
+    shutter: &mut Shutter,
+    zero: Intake,
+    one: Intake,
+) -> Result<(u64, bool), Fail> {
+    let first = thread::spawn(rt, move || send_all(alloc, zero, 2000))?;
+    let second = thread::spawn(rt, move || send_all(alloc, one, 2000))?;
+    let shut = shutter.shut();
+    let accepted = first.join(rt)?.saturating_add(second.join(rt)?);
+    Ok((
+        accepted,
+        shut == Ok(accepted) && shutter.accepted() == Some(accepted),
+    ))
+}
+
+// Whether the two threads are told what the gate tells, and the outlets give as much.
+fn two_threads_send<R: Threads>(rt: &R, alloc: Global) -> Result<bool, Fail> {
     let (mut shutter, mut intakes, mut outlets) = open_gate(alloc, 2, 4096)?;
     let (Some(one), Some(zero)) = (intakes.pop(), intakes.pop()) else {
-        panic!(rt; "two intakes")
+        return Ok(false);
     };
-    let first = thread::spawn(&rt, move || send_all(alloc, zero, 2000))?;
-    let second = thread::spawn(&rt, move || send_all(alloc, one, 2000))?;
-    let shut = shutter.shut();
-    let accepted = first.join(&rt)?.saturating_add(second.join(&rt)?);
-    assert_eq!(rt; shut, Ok(accepted));
-    assert_eq!(rt; shutter.accepted(), Some(accepted));
-    let mut taken = 0u64;
-    for outlet in &mut outlets {
-        taken = taken.saturating_add(take_all(outlet, 4096, accepted).ok_or("tickets that rise")?);
-    }
-    assert_eq!(rt; taken, accepted);
+    let (accepted, is_told) = send_beside_shut(rt, alloc, &mut shutter, zero, one)?;
+    Ok(is_told && take_from_all(&mut outlets, accepted) == Some(accepted))
+}
+
+#[test]
+fn two_threads_send_while_the_gate_is_shut(rt: HostRuntime) -> Result<(), Fail> {
+    assert!(rt; two_threads_send(&rt, rt.alloc())?);
     Ok(())
+}
+
+// Whether each of so many was told that a thousand are accepted.
+fn are_thousands(sent: &[Result<u64, Refusal>]) -> bool {
+    for accepted in sent {
+        if *accepted != Ok(1000) {
+            return false;
+        }
+    }
+    sent.len() == 16
+}
+
+// Whether each outlet gives a thousand items.
+fn give_thousands(outlets: &mut [Outlet]) -> bool {
+    for outlet in outlets {
+        if take_all(outlet, 4096, 16_000) != Some(1000) {
+            return false;
+        }
+    }
+    true
+}
+
+// Whether each front, in a thread of its own, is told that a thousand are accepted.
+fn send_thousands<R: Threads + Sync>(rt: &R, alloc: Global, intakes: Vec<Intake>) -> bool {
+    match thread::map_vec(rt, intakes, &|intake| send_all(alloc, intake, 1000)) {
+        Ok(sent) => are_thousands(&sent),
+        Err(_) => false,
+    }
 }
 
 #[test]
 fn sixteen_threads_send(rt: HostRuntime) -> Result<(), Fail> {
-    let alloc = rt.alloc();
-    let (mut shutter, intakes, mut outlets) = open_gate(alloc, 16, 1000)?;
-    let sent = thread::map_vec(&rt, intakes, &|intake| send_all(alloc, intake, 1000))?;
-    assert_eq!(rt; sent.len(), 16);
-    for accepted in sent {
-        assert_eq!(rt; accepted, Ok(1000));
-    }
-    assert_eq!(rt; shutter.shut(), Ok(16_000));
-    for outlet in &mut outlets {
-        assert_eq!(rt; take_all(outlet, 4096, 16_000), Some(1000));
-    }
+    let (mut shutter, intakes, mut outlets) = open_gate(rt.alloc(), 16, 1000)?;
+    assert!(rt; send_thousands(&rt, rt.alloc(), intakes));
+    assert!(rt; shutter.shut() == Ok(16_000) && give_thousands(&mut outlets));
     Ok(())
+}
+
+// One submission is sent in a thread: how many are accepted.
+fn send_one<R: Threads>(rt: &R, alloc: Global, intake: Intake) -> Result<u64, Fail> {
+    let sender = thread::spawn(rt, move || send_all(alloc, intake, 1))?;
+    Ok(sender.join(rt)?)
+}
+
+// The gate is shut in a thread: how many were accepted.
+fn shut_one<R: Threads>(rt: &R, shutter: Shutter) -> Result<u64, Fail> {
+    let mut shutter = shutter;
+    let closer = thread::spawn(rt, move || shutter.shut())?;
+    Ok(closer.join(rt)?)
+}
+
+// An item is taken in a thread: its front and its ticket.
+fn take_one<R: Threads>(rt: &R, outlet: Outlet) -> Result<Option<(u16, u64)>, Fail> {
+    let mut outlet = outlet;
+    let taker = thread::spawn(
+        rt,
+        move || outlet.take().map(|item| (item.front, item.ticket)),
+    )?;
+    Ok(taker.join(rt))
+}
+
+// The ends of a gate with one front and a ring of so many places.
+fn open_one(alloc: Global, places: usize) -> Result<(Shutter, Intake, Outlet), Fail>
+    requires { (1 ≤ places) × (places ≤ 4096) }
+{
+    let (shutter, mut intakes, mut outlets) = open_gate(alloc, 1, places)?;
+    match (intakes.pop(), outlets.pop()) {
+        (Some(intake), Some(outlet)) => Ok((shutter, intake, outlet)),
+        _ => Err(Fail::new("one front")),
+    }
 }
 
 #[test]
 fn each_end_moves_to_a_thread(rt: HostRuntime) -> Result<(), Fail> {
-    let alloc = rt.alloc();
-    let (mut shutter, mut intakes, mut outlets) = open_gate(alloc, 1, 1)?;
-    let (Some(intake), Some(mut outlet)) = (intakes.pop(), outlets.pop()) else {
-        panic!(rt; "one front")
-    };
-    let sender = thread::spawn(&rt, move || send_all(alloc, intake, 1))?;
-    assert_eq!(rt; sender.join(&rt), Ok(1));
-    let closer = thread::spawn(&rt, move || shutter.shut())?;
-    assert_eq!(rt; closer.join(&rt), Ok(1));
-    let taker = thread::spawn(
-        &rt,
-        move || outlet.take().map(|item| (item.front, item.ticket)),
-    )?;
-    assert_eq!(rt; taker.join(&rt), Some((0, 0)));
+    let (shutter, intake, outlet) = open_one(rt.alloc(), 1)?;
+    let sent = send_one(&rt, rt.alloc(), intake)?;
+    let shut = shut_one(&rt, shutter)?;
+    let taken = take_one(&rt, outlet)?;
+    assert!(rt; sent == 1 && shut == 1 && taken == Some((0, 0)));
     Ok(())
+}
+
+fn take_ticket(outlet: &mut Outlet) -> Option<u64> {
+    Some(outlet.take()?.ticket)
+}
+
+// Whether the ring of one place takes one, refuses another, and gives the one, with this ticket, and no other.
+fn is_round(alloc: Global, intake: &mut Intake, outlet: &mut Outlet, ticket: u64) -> bool {
+    send_byte(alloc, intake, 0x41) == Ok(ticket)
+        && send_byte(alloc, intake, 0x42) == Err(Refusal::Full)
+        && take_ticket(outlet) == Some(ticket)
+        && outlet.take().is_none()
+}
+
+// How many of a hundred rounds go so before the first that doesn't.
+fn hundred_rounds(alloc: Global, intake: &mut Intake, outlet: &mut Outlet) -> u64 {
+    for round in 0..100u64 {
+        if !is_round(alloc, intake, outlet, round) {
+            return round;
+        }
+    }
+    100
 }
 
 #[test]
 fn a_full_ring_takes_again_after_a_take(rt: HostRuntime) -> Result<(), Fail> {
-    let alloc = rt.alloc();
-    let (_shutter, mut intakes, mut outlets) = open_gate(alloc, 1, 1)?;
-    let (Some(mut intake), Some(mut outlet)) = (intakes.pop(), outlets.pop()) else {
-        panic!(rt; "one front")
-    };
-    for round in 0..100u64 {
-        assert_eq!(rt; intake.send(submission(alloc, &[0x41])?).ok(), Some(round));
-        let refused = intake.send(submission(alloc, &[0x42])?).err();
-        assert_eq!(rt; refused.map(|(refusal, _)| refusal), Some(Refusal::Full));
-        assert_eq!(rt; outlet.take().map(|item| item.ticket), Some(round));
-        assert!(rt; outlet.take().is_none());
-    }
+    let (_shutter, mut intake, mut outlet) = open_one(rt.alloc(), 1)?;
+    assert!(rt; hundred_rounds(rt.alloc(), &mut intake, &mut outlet) == 100);
     Ok(())
+}
+
+// Fills the ring, and empties it: whether it takes 4,096, then none, and gives those with tickets below the bound.
+fn is_filled(alloc: Global, intake: &mut Intake, outlet: &mut Outlet, bound: u64) -> bool {
+    fill(alloc, intake, 5000) == (4096, Some(Refusal::Full))
+        && take_all(outlet, 5000, bound) == Some(4096)
 }
 
 #[test]
 fn a_ring_of_4096_places_is_filled_twice(rt: HostRuntime) -> Result<(), Fail> {
-    let alloc = rt.alloc();
-    let (_shutter, mut intakes, mut outlets) = open_gate(alloc, 1, 4096)?;
-    let (Some(mut intake), Some(mut outlet)) = (intakes.pop(), outlets.pop()) else {
-        panic!(rt; "one front")
-    };
-    for round in 1..3u64 {
-        assert_eq!(rt;
-            fill(alloc, &mut intake, 5000)?,
-            (4096, Some(Refusal::Full))
-        );
-        let tickets = round.saturating_mul(4096);
-        assert_eq!(rt; take_all(&mut outlet, 5000, tickets), Some(4096));
-    }
+    let (_shutter, mut intake, mut outlet) = open_one(rt.alloc(), 4096)?;
+    assert!(rt; is_filled(rt.alloc(), &mut intake, &mut outlet, 4096));
+    assert!(rt; is_filled(rt.alloc(), &mut intake, &mut outlet, 8192));
     Ok(())
 }

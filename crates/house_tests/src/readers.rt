@@ -1,7 +1,7 @@
 ghost use Rattle.std.specs.Prelude.{◌≡◌, length};
 
 use crate::common::{head_of, submission};
-use crate::two_fronts::{Call, TwoFronts, head, house_after};
+use crate::two_fronts::{TwoFronts, follows};
 use ct_codec::Refusal;
 use ct_core::{Query, Reply};
 use ct_house::{Front, Sequencer, open};
@@ -20,58 +20,60 @@ const EMPTY: [u8; 32] = [
 
 #[test]
 fn a_front_sees_what_it_learnt(rt: HostRuntime) -> Result<(), Fail> {
-    let calls = [
-        (Call::Size(0), Ok(0)),
-        (Call::Submit(0, b'A'), Ok(0)),
-        (Call::Take(0, 1, 1), Ok(1)),
-        (Call::Publish(1), Ok(1)),
-        (Call::Submit(0, b'B'), Ok(1)),
-        (Call::Take(0, 1, 2), Ok(1)),
-        (Call::Publish(2), Ok(2)),
-        (Call::Learn(0), Ok(0)),
-        (Call::Learn(0), Ok(0)),
-        (Call::Size(0), Ok(2)),
-        (Call::Submit(0, b'C'), Ok(2)),
-        (Call::Take(0, 1, 3), Ok(1)),
-        (Call::Publish(3), Ok(3)),
-        (Call::Size(0), Ok(3)),
-        (Call::Learn(1), Ok(0)),
-        (Call::Size(1), Ok(3)),
-    ];
-    house_after(&rt, rt.alloc(), 4, 0, &calls)?.abandon(&rt);
-    Ok(())
+    follows(
+        &rt,
+        rt.alloc(),
+        4,
+        0,
+        "size 0 -> 0
+        submit 0 41 -> 0
+        take 0 1 1 -> 1
+        publish 1 -> 1
+        submit 0 42 -> 1
+        take 0 1 2 -> 1
+        publish 2 -> 2
+        learn 0 -> 0
+        learn 0 -> 0
+        size 0 -> 2
+        submit 0 43 -> 2
+        take 0 1 3 -> 1
+        publish 3 -> 3
+        size 0 -> 3
+        learn 1 -> 0
+        size 1 -> 3",
+    )
+}
+
+// The moments that are seen in a new house after a publication, and again after an older bulletin.
+fn moments_seen<R: Wait>(rt: &R, alloc: Global) -> Result<(u64, u64), Refusal> {
+    let mut house = TwoFronts::open(rt, alloc, 4, 1)?;
+    let seen = house.moments_behind(rt, 2);
+    house.abandon(rt);
+    seen
 }
 
 #[test]
 fn an_older_bulletin_takes_nothing_away(rt: HostRuntime) -> Result<(), Fail> {
-    let mut house = TwoFronts::open(&rt, rt.alloc(), 4, 1)?;
-    let seen = house.moments_behind(&rt, 2);
-    house.abandon(&rt);
-    assert_eq!(rt; seen, Ok((2, 2)));
+    assert_eq!(rt; moments_seen(&rt, rt.alloc()), Ok((2, 2)));
     Ok(())
 }
 
-// The root of 3,000 leaves: the certificates are the two bytes of 0, of 1 and so on, ten at each of the moments 1 to 300.
-const LONG: [u8; 32] = [
-    0x5c, 0x3a, 0xe2, 0x62, 0x4a, 0x58, 0x31, 0x36, 0x39, 0x10, 0xa6, 0xaa, 0x54, 0x7b, 0x8f, 0xe9,
-    0x14, 0xca, 0x5e, 0x4a, 0xd1, 0xd8, 0x22, 0x92, 0xc7, 0x3a, 0xa6, 0xba, 0x99, 0xfb, 0xaf, 0x68,
-];
-
+// The root is that of 3,000 leaves: the certificates are the two bytes of 0, of 1 and so on, ten at each of the moments 1 to 300.
 #[test]
 fn three_thousand_leaves_and_three_hundred_heads(rt: HostRuntime) -> Result<(), Fail> {
-    let calls = [
-        (Call::GrowByTens(300), Ok(3000)),
-        (Call::Size(0), Ok(3000)),
-        (Call::Entries(2990, 9999), Ok(10)),
-        (Call::ProofLength(1230, 3000), Ok(12)),
-        (Call::ProofLength(1234, 3000), Err(Refusal::UnknownSize)),
-        (Call::Submit(1, 0), Ok(3000)),
-    ];
-    let mut house = house_after(&rt, rt.alloc(), 16, 0, &calls)?;
-    let seen = house.head(1);
-    house.abandon(&rt);
-    assert_eq!(rt; seen, Ok(head(3000, 300, LONG)));
-    Ok(())
+    follows(
+        &rt,
+        rt.alloc(),
+        16,
+        0,
+        "grow-by-tens 300 -> 3000
+        size 0 -> 3000
+        ask 0 entries 2990 9999 -> 10
+        proof-length 1230 3000 -> 12
+        proof-length 1234 3000 -> UnknownSize
+        submit 1 00 -> 3000
+        ask 1 sth -> 3000 300 5c3ae2624a5831363910a6aa547b8fe914ca5e4ad1d82292c73aa6ba99fbaf68",
+    )
 }
 
 // The head that each of these fronts sees.
@@ -99,22 +101,31 @@ fn heads_around<R: Wait>(
 
 // Whether sixteen heads were seen, each with no leaf and of this moment.
 fn are_empty_heads(heads: &[Head], moment: u64) -> bool {
+    let empty = Head {
+        tree_size: 0,
+        timestamp: moment,
+        root: EMPTY,
+    };
     for seen in heads {
-        if *seen != head(0, moment, EMPTY) {
+        if *seen != empty {
             return false;
         }
     }
     heads.len() == 16
 }
 
+// Whether sixteen fronts of a house opened at 7 see that head, and the one published at 9.
+fn see_both_heads<R: Wait>(rt: &R, alloc: Global) -> Result<bool, Refusal> {
+    let (mut house, mut fronts) = open(rt, alloc, 16, 4, 7)?;
+    let seen = heads_around(rt, alloc, &mut house, &mut fronts, 9);
+    house.abandon(rt, Vec::new(alloc));
+    let (before, after) = seen?;
+    Ok(are_empty_heads(&before, 7) && are_empty_heads(&after, 9))
+}
+
 #[test]
 fn each_front_sees_the_opening_and_the_first_publication(rt: HostRuntime) -> Result<(), Fail> {
-    let (mut house, mut fronts) = open(&rt, rt.alloc(), 16, 4, 7)?;
-    let seen = heads_around(&rt, rt.alloc(), &mut house, &mut fronts, 9);
-    house.abandon(&rt, Vec::new(rt.alloc()));
-    let (before, after) = seen?;
-    assert!(rt; are_empty_heads(&before, 7));
-    assert!(rt; are_empty_heads(&after, 9));
+    assert_eq!(rt; see_both_heads(&rt, rt.alloc()), Ok(true));
     Ok(())
 }
 
@@ -133,12 +144,17 @@ fn publish_again<R: Wait>(rt: &R, house: &mut TwoFronts) -> Result<u64, Refusal>
     Ok(seen)
 }
 
+// The same in a new house.
+fn published_again<R: Wait>(rt: &R, alloc: Global) -> Result<u64, Refusal> {
+    let mut house = TwoFronts::open(rt, alloc, 4, 0)?;
+    let seen = publish_again(rt, &mut house);
+    house.abandon(rt);
+    seen
+}
+
 #[test]
 fn a_refused_publication_is_made_again(rt: HostRuntime) -> Result<(), Fail> {
-    let mut house = TwoFronts::open(&rt, rt.alloc(), 4, 0)?;
-    let seen = publish_again(&rt, &mut house);
-    house.abandon(&rt);
-    assert_eq!(rt; seen, Ok(5));
+    assert_eq!(rt; published_again(&rt, rt.alloc()), Ok(5));
     Ok(())
 }
 
@@ -202,20 +218,32 @@ fn reads_beside_publications<R: Threads + Wait + Abort + Sync>(
     size
 }
 
-#[tactic(auto, using(crate::proofs::FrontLemmas::lanes_of_new_house))]
+// Submits a hundred certificates to the one front, and asks the other beside the publications.
+fn submit_and_read<R: Threads + Wait + Abort + Sync>(
+    rt: &R,
+    alloc: Global,
+    house: &mut Sequencer,
+    zero: &mut Front,
+    one: &mut Front,
+) -> Result<u64, Refusal>
+    requires { length house.old.lanes ≡ 2 }
+{
+    submit_hundred(alloc, zero)?;
+    reads_beside_publications(rt, alloc, house, one)
+}
+
 fn reads_in_a_house<R: Threads + Wait + Abort + Sync>(
     rt: &R,
     alloc: Global,
 ) -> Result<u64, Refusal> {
-    let (mut house, mut fronts) = open(rt, alloc, 2, 128, 0)?;
-    let (Some(mut one), Some(mut zero)) = (fronts.pop(), fronts.pop()) else {
-        house.abandon(rt, Vec::new(alloc));
-        return Err(Refusal::MissingFront);
-    };
-    let submitted = submit_hundred(alloc, &mut zero);
-    let size = reads_beside_publications(rt, alloc, &mut house, &mut one);
+    let TwoFronts {
+        alloc,
+        mut house,
+        mut zero,
+        mut one,
+    } = TwoFronts::open(rt, alloc, 128, 0)?;
+    let size = submit_and_read(rt, alloc, &mut house, &mut zero, &mut one);
     house.abandon(rt, Vec::new(alloc));
-    submitted?;
     size
 }
 

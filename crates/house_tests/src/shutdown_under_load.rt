@@ -4,7 +4,6 @@ use crate::common::submission;
 use ct_codec::Refusal;
 use ct_gate::{Intake, Outlet, Shutter, open_gate};
 use std::alloc::{AllocError, Global};
-use std::process::Abort;
 use std::test::Fail;
 use std::thread;
 use std::thread::Threads;
@@ -100,82 +99,158 @@ fn note_all(noted: &mut [bool], tickets: &[u64]) -> bool {
     true
 }
 
-// What the fronts were told, the gate, and the outlets in order.
+// Each front in a thread of its own.
+fn send_in_threads<R: Threads + Sync>(
+    rt: &R,
+    alloc: Global,
+    intakes: Vec<Intake>,
+) -> Result<Vec<Result<Told, Refusal>>, Fail> {
+    Ok(thread::map_vec(rt, intakes, &|intake| send_all(alloc, intake))?)
+}
+
+// What the fronts were told, and the gate.
 #[derive(Drop)]
 struct Outcome {
     sent: Vec<Result<Told, Refusal>>,
+    gate: Shut,
+}
+
+fn shut_before_all<R: Threads + Sync>(
+    rt: &R,
+    alloc: Global,
     shutter: Shutter,
-    outlets: Vec<Outlet>,
-    // The tickets that the first outlet gave before the gate was shut.
-    taken: Vec<u64>,
-    answer: Result<u64, Refusal>,
+    first: Outlet,
+    intakes: Vec<Intake>,
+) -> Result<Outcome, Fail> {
+    let gate = shut_after(alloc, shutter, first, 0)?;
+    let sent = send_in_threads(rt, alloc, intakes)?;
+    Ok(Outcome { sent, gate })
+}
+
+fn shut_in_the_middle<R: Threads + Sync>(
+    rt: &R,
+    alloc: Global,
+    shutter: Shutter,
+    first: Outlet,
+    intakes: Vec<Intake>,
+) -> Result<Outcome, Fail> {
+    let closer = thread::spawn(rt, move || shut_after(alloc, shutter, first, 100))?;
+    let sent = send_in_threads(rt, alloc, intakes)?;
+    let gate = closer.join(rt)?;
+    Ok(Outcome { sent, gate })
+}
+
+fn shut_behind_all<R: Threads + Sync>(
+    rt: &R,
+    alloc: Global,
+    shutter: Shutter,
+    first: Outlet,
+    intakes: Vec<Intake>,
+) -> Result<Outcome, Fail> {
+    let sent = send_in_threads(rt, alloc, intakes)?;
+    let gate = shut_after(alloc, shutter, first, 0)?;
+    Ok(Outcome { sent, gate })
 }
 
 // Sends and shuts.
-fn send_and_shut<R: Threads + Sync>(rt: &R, alloc: Global, when: When) -> Result<Outcome, Fail> {
-    let (shutter, intakes, mut outlets) = open_gate(alloc, 16, 4096)?;
-    outlets.reverse();
-    let first = outlets.pop().ok_or("an outlet")?;
-    let send = |intake: Intake| send_all(alloc, intake);
-    let (sent, gate) = match when {
-        When::BeforeAll => {
-            let gate = shut_after(alloc, shutter, first, 0)?;
-            (thread::map_vec(rt, intakes, &send)?, gate)
-        }
-        When::InTheMiddle => {
-            let closer = thread::spawn(rt, move || shut_after(alloc, shutter, first, 100))?;
-            let sent = thread::map_vec(rt, intakes, &send)?;
-            (sent, closer.join(rt)?)
-        }
-        When::BehindAll => {
-            let sent = thread::map_vec(rt, intakes, &send)?;
-            (sent, shut_after(alloc, shutter, first, 0)?)
-        }
+fn send_and_shut<R: Threads + Sync>(
+    rt: &R,
+    alloc: Global,
+    when: When,
+    shutter: Shutter,
+    first: Outlet,
+    intakes: Vec<Intake>,
+) -> Result<Outcome, Fail> {
+    match when {
+        When::BeforeAll => shut_before_all(rt, alloc, shutter, first, intakes),
+        When::InTheMiddle => shut_in_the_middle(rt, alloc, shutter, first, intakes),
+        When::BehindAll => shut_behind_all(rt, alloc, shutter, first, intakes),
+    }
+}
+
+// Whether the items of a front, of which some were taken, are those that it was told, in order, and no other front was told one of them.
+fn is_told(
+    outlet: &mut Outlet,
+    told: &Result<Told, Refusal>,
+    taken: &mut Vec<u64>,
+    noted: &mut [bool],
+) -> bool {
+    let is_same = match (take_rest(outlet, taken), told) {
+        (Ok(()), Ok(told)) => told.right && told.tickets == *taken,
+        _ => false,
     };
-    let Shut {
-        shutter,
-        outlet,
-        taken,
-        answer,
-    } = gate;
-    outlets.push(outlet)?;
-    outlets.reverse();
-    Ok(Outcome {
-        sent,
-        shutter,
-        outlets,
-        taken,
-        answer,
-    })
+    let is_right = is_same && taken.is_sorted() && note_all(noted, taken);
+    taken.clear();
+    is_right
+}
+
+// The same of all these fronts. `taken` has what was taken of the first of them.
+fn are_told(
+    outlets: &mut [Outlet],
+    sent: &[Result<Told, Refusal>],
+    taken: &mut Vec<u64>,
+    noted: &mut [bool],
+) -> bool {
+    for (outlet, told) in outlets.iter_mut().zip(sent) {
+        if !is_told(outlet, told, taken, noted) {
+            return false;
+        }
+    }
+    true
+}
+
+// The same of the front whose items were taken and the other ones, and whether all tickets are 0 to n - 1.
+fn are_all_told(alloc: Global, outcome: &mut Outcome, others: &mut [Outlet], n: u64) -> bool {
+    let Ok(mut noted) = vec![in alloc; false; n as usize] else {
+        return false;
+    };
+    let Some((told, rest)) = outcome.sent.split_first() else {
+        return false;
+    };
+    let gate = &mut outcome.gate;
+    is_told(&mut gate.outlet, told, &mut gate.taken, &mut noted)
+        && are_told(others, rest, &mut gate.taken, &mut noted)
+        && !noted.contains(&false)
+}
+
+// Whether a second shutdown is refused and changes nothing.
+fn stays_shut(gate: &mut Shut, n: u64) -> bool {
+    gate.shutter.shut() == Err(Refusal::Shutdown) && gate.shutter.accepted() == Some(n)
 }
 
 // How many were accepted, where all is right: each front's items come in the order of its tickets, which rise; all tickets are 0 to n - 1; and a
 // second shutdown is refused and changes nothing.
-fn accepted<R: Threads + Abort + Sync>(rt: &R, alloc: Global, when: When) -> Result<u64, Fail> {
-    let Outcome {
-        sent,
-        mut shutter,
-        mut outlets,
-        mut taken,
-        answer,
-    } = send_and_shut(rt, alloc, when)?;
-    let n = answer?;
-    assert!(rt; shutter.shut() == Err(Refusal::Shutdown) && shutter.accepted() == Some(n));
-    let mut noted = vec![in alloc; false; n as usize]?;
-    for (outlet, told) in outlets.iter_mut().zip(&sent) {
-        take_rest(outlet, &mut taken)?;
-        assert!(rt; matches!(told, Ok(told) if told.right && told.tickets == taken));
-        assert!(rt; taken.is_sorted() && note_all(&mut noted, &taken));
-        taken.clear();
+fn judged(alloc: Global, outcome: &mut Outcome, others: &mut [Outlet]) -> Option<u64> {
+    let answer = outcome.gate.answer;
+    match answer {
+        Ok(n) if stays_shut(&mut outcome.gate, n) && are_all_told(alloc, outcome, others, n) => {
+            Some(n)
+        }
+        _ => None,
     }
-    assert!(rt; !noted.contains(&false));
-    Ok(n)
+}
+
+// The first one, and the others.
+fn split_first(outlets: Vec<Outlet>) -> Option<(Outlet, Vec<Outlet>)> {
+    let mut outlets = outlets;
+    outlets.reverse();
+    let first = outlets.pop()?;
+    outlets.reverse();
+    Some((first, outlets))
+}
+
+fn accepted<R: Threads + Sync>(rt: &R, alloc: Global, when: When) -> Result<Option<u64>, Fail> {
+    let (shutter, intakes, outlets) = open_gate(alloc, 16, 4096)?;
+    let (first, mut others) = split_first(outlets).ok_or("an outlet")?;
+    let mut outcome = send_and_shut(rt, alloc, when, shutter, first, intakes)?;
+    Ok(judged(alloc, &mut outcome, &mut others))
 }
 
 #[test]
 fn sixteen_fronts_and_the_shutdown_at_three_moments(rt: HostRuntime) -> Result<(), Fail> {
-    assert_eq!(rt; accepted(&rt, rt.alloc(), When::BeforeAll)?, 0);
-    assert!(rt; accepted(&rt, rt.alloc(), When::InTheMiddle)? >= 100);
-    assert_eq!(rt; accepted(&rt, rt.alloc(), When::BehindAll)?, 16_000);
+    let before = accepted(&rt, rt.alloc(), When::BeforeAll)?;
+    let middle = accepted(&rt, rt.alloc(), When::InTheMiddle)?;
+    let behind = accepted(&rt, rt.alloc(), When::BehindAll)?;
+    assert!(rt; before == Some(0) && middle.unwrap_or(0) >= 100 && behind == Some(16_000));
     Ok(())
 }

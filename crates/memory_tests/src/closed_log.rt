@@ -130,35 +130,44 @@ fn ends_in(text: &[u8]) -> u64 {
     count
 }
 
-// Whether these are the first replies, so many, each of them whole.
-fn are_first(written: &[u8], count: u64, replies: &[u8]) -> bool {
-    replies.starts_with(written)
-        && ends_in(written) == count
-        && (count == 0 || written.ends_with(b"\n"))
-        && (count > 0 || written.is_empty())
+// Whether the first replies were written, so many, each of them whole.
+fn are_first(page: &Page<'_>, count: u64) -> bool {
+    match page.written() {
+        Some(written) => {
+            ends_in(written) == count && written.is_empty() == (count == 0) && is_ended(written)
+        }
+        None => false,
+    }
+}
+
+// Whether its last line is ended.
+fn is_ended(text: &[u8]) -> bool {
+    text.is_empty() || text.ends_with(b"\n")
+}
+
+// Whether the lines are served so, over a new reader and writer.
+fn is_served(alloc: Global, log: &Published, lines: &[u8], replies: &[u8]) -> bool {
+    let mut page = Page::of(replies);
+    let mut reader = lines;
+    serve_frozen(alloc, log, &mut reader, &mut page).is_ok() && page.is_whole()
 }
 
 // Serves the lines, and once more over a new reader and writer where it is refused memory. The replies have to be these.
-pub(crate) fn expect_served<R: Abort>(
-    rt: &R,
+pub(crate) fn is_served_again(
     alloc: Global,
     log: &Published,
     lines: &[u8],
     replies: &[u8],
     refused: &mut Refused,
-) {
-    let mut first = Page::new();
+) -> bool {
+    let mut first = Page::of(replies);
     let mut reader = lines;
     match serve_frozen(alloc, log, &mut reader, &mut first) {
-        Ok(()) => assert!(rt; first.written() == replies),
+        Ok(()) => first.is_whole(),
         Err(ServeFault::Memory(count)) => {
             refused.tell("serve_frozen");
-            assert!(rt; are_first(first.written(), count, replies), "{count}");
-            let mut second = Page::new();
-            let mut again = lines;
-            assert!(rt; serve_frozen(alloc, log, &mut again, &mut second).is_ok());
-            assert!(rt; second.written() == replies);
+            are_first(&first, count) && is_served(alloc, log, lines, replies)
         }
-        Err(fault) => panic!(rt; "{fault}"),
+        Err(_) => false,
     }
 }

@@ -1,35 +1,46 @@
-ghost use Rattle.std.specs.Prelude.{◌≤◌};
-
 use std::io;
 use std::io::Write;
 
-// A writer of 1024 bytes at most, which takes no memory.
+// A writer that takes no memory: it compares what is written with what has to be.
 #[derive(Drop)]
-pub(crate) struct Page {
-    bytes: [u8; 1024],
-    used: usize,
-    ghost within: { used ≤ 1024 },
+pub(crate) struct Page<'a> {
+    wanted: &'a [u8],
+    // What has to come still.
+    rest: &'a [u8],
+    // Whether nothing else was written so far.
+    is_same: bool,
 }
 
-impl Page {
-    pub(crate) fn new() -> Page {
+impl<'a> Page<'a> {
+    pub(crate) fn of(wanted: &'a [u8]) -> Page<'a> {
         Page {
-            bytes: [0; 1024],
-            used: 0,
+            wanted,
+            rest: wanted,
+            is_same: true,
         }
     }
 
-    pub(crate) fn written(&self) -> &[u8] {
-        &self.bytes[..self.used]
+    // Whether just that was written.
+    pub(crate) fn is_whole(&self) -> bool {
+        self.is_same && self.rest.is_empty()
+    }
+
+    // What was written of it. Nothing where something else was written.
+    pub(crate) fn written(&self) -> Option<&'a [u8]> {
+        if !self.is_same {
+            return None;
+        }
+        self.wanted.strip_suffix(self.rest)
     }
 }
 
-impl Write for Page {
+impl Write for Page<'_> {
     fn write(&mut self, buf: &[u8]) -> io::Result<usize> {
-        let n = buf.len().min(1024 - self.used);
-        self.bytes[self.used..self.used + n].copy_from_slice(&buf[..n]);
-        self.used += n;
-        Ok(n)
+        match self.rest.strip_prefix(buf) {
+            Some(rest) => self.rest = rest,
+            None => self.is_same = false,
+        }
+        Ok(buf.len())
     }
 
     fn flush(&mut self) -> io::Result<()> {

@@ -1,3 +1,5 @@
+use std::test::Fail;
+
 // The calls that were refused memory in this run.
 #[derive(Clone, Copy)]
 pub(crate) struct Refused {
@@ -20,11 +22,18 @@ impl Refused {
     }
 
     // The call that was refused, where there is at most one.
-    pub(crate) fn at_most_one(&self) -> Option<&'static str> {
+    fn at_most_one(&self) -> Option<&'static str> {
         if self.count <= 1 {
             Some(self.call)
         } else {
             None
         }
+    }
+
+    // Says which call was refused.
+    pub(crate) fn say<R: Print>(&self, rt: &R) -> Result<(), Fail> {
+        let call = self.at_most_one().ok_or("two calls were refused")?;
+        println!(rt; "refused: {call}")?;
+        Ok(())
     }
 }

@@ -7,7 +7,6 @@ use ct_monitor::{Monitor, MonitorFault};
 use ct_tree::{Head, Sha256Hash};
 use ct_verify::{Evidence, EvidenceFault, ProofFault, explain_consistency, explain_inclusion};
 use std::alloc::{AllocError, Global};
-use std::process::Abort;
 use std::test::Fail;
 
 // The SHA-256 tree of the leaves 41, 42, 43 (bytes, hexadecimal): roots of its first leaves, and two leaf hashes.
@@ -65,31 +64,47 @@ fn is_at(monitor: &Monitor<Sha256Hash>, bytes: &[u8], last: Option<Head>) -> boo
     true
 }
 
-// Shows the monitor a head of the leaves so far and one more. It is unchanged where it is refused, and takes the head the next time.
-fn expect_taken<R: Abort>(
-    rt: &R,
+// Shows the monitor a head, with the new leaves. The outer error is of the test's own growth.
+fn observe_once(
     alloc: Global,
     monitor: &mut Monitor<Sha256Hash>,
-    bytes: &[u8],
-    kept: usize,
+    new: &[u8],
     head: Head,
     refused: &mut Refused,
-) -> Result<(), Fail> {
-    let Some((old, new)) = bytes.split_at_checked(kept) else {
-        panic!(rt; "fewer leaves")
-    };
+) -> Result<Result<(), MonitorFault>, AllocError> {
+    let leaves = leaves_of(alloc, new, refused)?;
+    Ok(monitor.observe(head, leaves))
+}
+
+// Shows it the head once more, where it refused it for memory: whether it is unchanged, and takes the head now.
+fn takes_again(
+    alloc: Global,
+    monitor: &mut Monitor<Sha256Hash>,
+    (old, new): (&[u8], &[u8]),
+    last: Option<Head>,
+    head: Head,
+    refused: &mut Refused,
+) -> bool {
+    refused.tell("observe");
+    is_at(monitor, old, last) && observe_once(alloc, monitor, new, head, refused) == Ok(Ok(()))
+}
+
+// Shows the monitor a head of the leaves so far and one more. It is unchanged where it is refused, and takes the head the next time.
+fn is_taken(
+    alloc: Global,
+    monitor: &mut Monitor<Sha256Hash>,
+    (old, new): (&[u8], &[u8]),
+    head: Head,
+    refused: &mut Refused,
+) -> bool {
     let last = monitor.last_head();
-    let answer = monitor.observe(head, leaves_of(alloc, new, refused)?);
-    if answer == Err(MonitorFault::Memory) {
-        refused.tell("observe");
-        assert!(rt; is_at(monitor, old, last), "changed");
-        let again = monitor.observe(head, leaves_of(alloc, new, refused)?);
-        assert!(rt; again == Ok(()));
-    } else {
-        assert!(rt; answer == Ok(()));
+    match observe_once(alloc, monitor, new, head, refused) {
+        Ok(Ok(())) => true,
+        Ok(Err(MonitorFault::Memory)) => {
+            takes_again(alloc, monitor, (old, new), last, head, refused)
+        }
+        _ => false,
     }
-    assert!(rt; is_at(monitor, bytes, Some(head)));
-    Ok(())
 }
 
 fn head(tree_size: u64, timestamp: u64, root: [u8; 32]) -> Head {
@@ -100,29 +115,46 @@ fn head(tree_size: u64, timestamp: u64, root: [u8; 32]) -> Head {
     }
 }
 
+// Whether the monitor takes the head, and keeps all leaves then.
+fn takes(
+    alloc: Global,
+    monitor: &mut Monitor<Sha256Hash>,
+    (old, new, all): (&[u8], &[u8], &[u8]),
+    head: Head,
+    refused: &mut Refused,
+) -> bool {
+    is_taken(alloc, monitor, (old, new), head, refused) && is_at(monitor, all, Some(head))
+}
+
+// Whether a monitor takes the three heads.
+fn takes_three(alloc: Global, refused: &mut Refused) -> bool {
+    let mut monitor = Monitor::new(alloc, Sha256Hash);
+    takes(
+        alloc,
+        &mut monitor,
+        (b"", b"A", b"A"),
+        head(1, 5, ROOT_1),
+        refused,
+    ) && takes(
+        alloc,
+        &mut monitor,
+        (b"A", b"B", b"AB"),
+        head(2, 6, ROOT_2),
+        refused,
+    ) && takes(
+        alloc,
+        &mut monitor,
+        (b"AB", b"C", b"ABC"),
+        head(3, 7, ROOT_3),
+        refused,
+    )
+}
+
 #[test]
 fn a_monitor_takes_three_heads(rt: HostRuntime) -> Result<(), Fail> {
     let mut refused = Refused::new();
-    let mut monitor = Monitor::new(rt.alloc(), Sha256Hash);
-    let shown: [(&[u8], usize, Head); 3] = [
-        (b"A", 0, head(1, 5, ROOT_1)),
-        (b"AB", 1, head(2, 6, ROOT_2)),
-        (b"ABC", 2, head(3, 7, ROOT_3)),
-    ];
-    for (bytes, kept, head) in shown {
-        expect_taken(
-            &rt,
-            rt.alloc(),
-            &mut monitor,
-            bytes,
-            kept,
-            head,
-            &mut refused,
-        )?;
-    }
-    let call = refused.at_most_one().ok_or("two calls were refused")?;
-    println!(rt; "refused: {call}")?;
-    Ok(())
+    assert!(rt; takes_three(rt.alloc(), &mut refused));
+    refused.say(&rt)
 }
 
 fn is_collision_of(answer: &Result<Evidence, EvidenceFault>, first: &[u8], second: &[u8]) -> bool {
@@ -132,51 +164,110 @@ fn is_collision_of(answer: &Result<Evidence, EvidenceFault>, first: &[u8], secon
     }
 }
 
+// Whether the audit path of the leaf 0 is explained so.
+fn explains_path(
+    heap: Global,
+    leaves: &[Vec<u8>],
+    path: &[[u8; 32]],
+    wanted: Result<Evidence, EvidenceFault>,
+) -> bool {
+    explain_inclusion(heap, &ZeroHash, leaves, b"A", 0, path) == wanted
+}
+
+// The explanation of the audit path of another leaf.
+fn explained_path(
+    heap: Global,
+    leaves: &[Vec<u8>],
+    refused: &mut Refused,
+) -> Result<Evidence, EvidenceFault> {
+    match explain_inclusion(heap, &ZeroHash, leaves, b"C", 0, &[[0; 32]]) {
+        Err(EvidenceFault::Memory) => {
+            refused.tell("explain_inclusion");
+            explain_inclusion(heap, &ZeroHash, leaves, b"C", 0, &[[0; 32]])
+        }
+        answer => answer,
+    }
+}
+
 // `Memory` comes in place of a collision alone: what holds and what is refused is answered at once.
+fn explains_paths(heap: Global, refused: &mut Refused) -> Result<bool, AllocError> {
+    let two = leaves_of(heap, b"AB", refused)?;
+    let short = EvidenceFault::ProofRefused(ProofFault::PathTooShort);
+    Ok(
+        explains_path(heap, &two, &[[0; 32]], Ok(Evidence::Holds))
+            && explains_path(heap, &two, &[], Err(short))
+            && is_collision_of(&explained_path(heap, &two, refused), &[0, 0x43], &[0, 0x41]),
+    )
+}
+
 #[test]
 fn explaining_an_audit_path(rt: HostRuntime) -> Result<(), Fail> {
-    let heap = rt.alloc();
     let mut refused = Refused::new();
-    let two = leaves_of(heap, b"AB", &mut refused)?;
-    let explain = |leaf: &[u8], path: &[[u8; 32]]| explain_inclusion(
-        heap, &ZeroHash, &two, leaf, 0, path,
-    );
-    assert!(rt; explain(b"A", &[[0; 32]]) == Ok(Evidence::Holds));
-    let short = EvidenceFault::ProofRefused(ProofFault::PathTooShort);
-    assert!(rt; explain(b"A", &[]) == Err(short));
-    let mut answer = explain(b"C", &[[0; 32]]);
-    if answer == Err(EvidenceFault::Memory) {
-        refused.tell("explain_inclusion");
-        answer = explain(b"C", &[[0; 32]]);
+    assert!(rt; explains_paths(rt.alloc(), &mut refused)?);
+    refused.say(&rt)
+}
+
+// Whether the consistency proof is explained so.
+fn explains_proof(
+    heap: Global,
+    old: &[Vec<u8>],
+    new: &[Vec<u8>],
+    path: &[[u8; 32]],
+    wanted: Result<Evidence, EvidenceFault>,
+) -> bool {
+    explain_consistency(heap, &ZeroHash, old, new, path) == wanted
+}
+
+// The explanation of the consistency proof of other leaves.
+fn explained_proof(
+    heap: Global,
+    old: &[Vec<u8>],
+    other: &[Vec<u8>],
+    refused: &mut Refused,
+) -> Result<Evidence, EvidenceFault> {
+    match explain_consistency(heap, &ZeroHash, old, other, &[[0; 32]]) {
+        Err(EvidenceFault::Memory) => {
+            refused.tell("explain_consistency");
+            explain_consistency(heap, &ZeroHash, old, other, &[[0; 32]])
+        }
+        answer => answer,
     }
-    assert!(rt; is_collision_of(&answer, &[0, 0x43], &[0, 0x41]));
-    let call = refused.at_most_one().ok_or("two calls were refused")?;
-    println!(rt; "refused: {call}")?;
-    Ok(())
+}
+
+// Whether the leaves of A and B have the proof, and none without a hash.
+fn explains_two(heap: Global, old: &[Vec<u8>], refused: &mut Refused) -> Result<bool, AllocError> {
+    let new = leaves_of(heap, b"AB", refused)?;
+    let empty = EvidenceFault::ProofRefused(ProofFault::EmptyPath);
+    Ok(
+        explains_proof(heap, old, &new, &[[1; 32]], Ok(Evidence::Holds))
+            && explains_proof(heap, old, &new, &[], Err(empty)),
+    )
+}
+
+// Whether the leaves of B and C collide with the leaf of A.
+fn explains_other(
+    heap: Global,
+    old: &[Vec<u8>],
+    refused: &mut Refused,
+) -> Result<bool, AllocError> {
+    let other = leaves_of(heap, b"BC", refused)?;
+    Ok(is_collision_of(
+        &explained_proof(heap, old, &other, refused),
+        &[0, 0x41],
+        &[0, 0x42],
+    ))
+}
+
+fn explains_proofs(heap: Global, refused: &mut Refused) -> Result<bool, AllocError> {
+    let old = leaves_of(heap, b"A", refused)?;
+    Ok(explains_two(heap, &old, refused)? && explains_other(heap, &old, refused)?)
 }
 
 #[test]
 fn explaining_a_consistency_proof(rt: HostRuntime) -> Result<(), Fail> {
-    let heap = rt.alloc();
     let mut refused = Refused::new();
-    let old = leaves_of(heap, b"A", &mut refused)?;
-    let new = leaves_of(heap, b"AB", &mut refused)?;
-    let other = leaves_of(heap, b"BC", &mut refused)?;
-    let explain = |list: &[Vec<u8>], path: &[[u8; 32]]| explain_consistency(
-        heap, &ZeroHash, &old, list, path,
-    );
-    assert!(rt; explain(&new, &[[1; 32]]) == Ok(Evidence::Holds));
-    let empty = EvidenceFault::ProofRefused(ProofFault::EmptyPath);
-    assert!(rt; explain(&new, &[]) == Err(empty));
-    let mut answer = explain(&other, &[[0; 32]]);
-    if answer == Err(EvidenceFault::Memory) {
-        refused.tell("explain_consistency");
-        answer = explain(&other, &[[0; 32]]);
-    }
-    assert!(rt; is_collision_of(&answer, &[0, 0x41], &[0, 0x42]));
-    let call = refused.at_most_one().ok_or("two calls were refused")?;
-    println!(rt; "refused: {call}")?;
-    Ok(())
+    assert!(rt; explains_proofs(rt.alloc(), &mut refused)?);
+    refused.say(&rt)
 }
 
 // The leaf of the certificate 41 at the moment 1, with the extensions aa bb.
@@ -202,45 +293,57 @@ fn decode_again(alloc: Global, refused: &mut Refused) -> Result<Leaf, DecodeFaul
     }
 }
 
+// Whether the bytes are no leaf, for this reason.
+fn is_no_leaf(alloc: Global, bytes: &[u8], fault: DecodeFault) -> bool {
+    decode_leaf(alloc, bytes).err() == Some(fault)
+}
+
 #[test]
 fn decoding_a_leaf(rt: HostRuntime) -> Result<(), Fail> {
     let mut refused = Refused::new();
-    for (bytes, fault) in [
-        (&LEAF[..19], DecodeFault::Truncated),
-        (&[1], DecodeFault::BadVersion),
-    ] {
-        assert!(rt; decode_leaf(rt.alloc(), bytes).err() == Some(fault));
-    }
+    assert!(rt;
+        is_no_leaf(rt.alloc(), &LEAF[..19], DecodeFault::Truncated)
+            && is_no_leaf(rt.alloc(), &[1], DecodeFault::BadVersion)
+    );
     let leaf = decode_again(rt.alloc(), &mut refused)?;
     assert!(rt; is_that_leaf(&leaf));
-    let call = refused.at_most_one().ok_or("two calls were refused")?;
-    println!(rt; "refused: {call}")?;
-    Ok(())
+    refused.say(&rt)
 }
 
 // The chain of the certificates 42 and 41 42.
 const CHAIN: [u8; 12] = [0, 0, 9, 0, 0, 1, 0x42, 0, 0, 2, 0x41, 0x42];
 
+// Whether the bytes are no chain, for this reason.
+fn is_no_chain(alloc: Global, bytes: &[u8], fault: DecodeFault) -> bool {
+    decode_chain(alloc, bytes).err() == Some(fault)
+}
+
+fn decode_chain_again(alloc: Global, refused: &mut Refused) -> Result<Vec<Vec<u8>>, DecodeFault> {
+    match decode_chain(alloc, &CHAIN) {
+        Err(DecodeFault::Memory) => {
+            refused.tell("decode_chain");
+            decode_chain(alloc, &CHAIN)
+        }
+        answer => answer,
+    }
+}
+
+fn is_that_chain(chain: &[Vec<u8>]) -> bool {
+    match chain {
+        [first, second] => {
+            first.as_slice() == b"B".as_slice() && second.as_slice() == b"AB".as_slice()
+        }
+        _ => false,
+    }
+}
+
 #[test]
 fn decoding_a_chain(rt: HostRuntime) -> Result<(), Fail> {
     let mut refused = Refused::new();
-    assert!(rt; decode_chain(rt.alloc(), &CHAIN[..11]).err() == Some(DecodeFault::Truncated));
-    let mut answer = decode_chain(rt.alloc(), &CHAIN);
-    if answer == Err(DecodeFault::Memory) {
-        refused.tell("decode_chain");
-        answer = decode_chain(rt.alloc(), &CHAIN);
-    }
-    let chain = answer?;
-    match chain.as_slice() {
-        [first, second] => {
-            assert!(rt; first.as_slice() == b"B".as_slice());
-            assert!(rt; second.as_slice() == b"AB".as_slice());
-        }
-        _ => panic!(rt; "another number of certificates"),
-    }
-    let call = refused.at_most_one().ok_or("two calls were refused")?;
-    println!(rt; "refused: {call}")?;
-    Ok(())
+    assert!(rt; is_no_chain(rt.alloc(), &CHAIN[..11], DecodeFault::Truncated));
+    let chain = decode_chain_again(rt.alloc(), &mut refused)?;
+    assert!(rt; is_that_chain(&chain));
+    refused.say(&rt)
 }
 
 fn read_again(alloc: Global, line: &[u8], refused: &mut Refused) -> Result<Request, Refusal> {
@@ -253,26 +356,32 @@ fn read_again(alloc: Global, line: &[u8], refused: &mut Refused) -> Result<Reque
     }
 }
 
+const AUDIT: &[u8] =
+    b"{\"who\":\"frozen\",\"op\":\"audit\",\"leaf_input\":\"QUI=\",\"leaf_index\":1,\"tree_size\":3,\"audit_path\":[\"AAAAAAAAAAAAAAAAAAAAAAAAAAAAAAAAAAAAAAAAAAA=\"]}";
+
+// Whether it is the request of that line.
+fn is_that_audit(request: &Result<Request, Refusal>) -> bool {
+    match request {
+        Ok(Request::Frozen(FrozenRequest::Audit(audit))) => {
+            audit.leaf_input.as_slice() == b"AB".as_slice()
+                && audit.audit_path.as_slice() == [[0; 32]].as_slice()
+                && audit.leaf_index == 1
+                && audit.tree_size == 3
+        }
+        _ => false,
+    }
+}
+
+// Whether it is no request.
+fn is_bad_line(request: &Result<Request, Refusal>) -> bool {
+    matches!(request, Err(Refusal::BadLine))
+}
+
 #[test]
 fn reading_lines(rt: HostRuntime) -> Result<(), Fail> {
     let mut refused = Refused::new();
-    let line =
-        b"{\"who\":\"frozen\",\"op\":\"audit\",\"leaf_input\":\"QUI=\",\"leaf_index\":1,\"tree_size\":3,\"audit_path\":[\"AAAAAAAAAAAAAAAAAAAAAAAAAAAAAAAAAAAAAAAAAAA=\"]}";
-    match read_again(rt.alloc(), line, &mut refused) {
-        Ok(Request::Frozen(FrozenRequest::Audit(audit))) => {
-            assert!(rt; audit.leaf_input.as_slice() == b"AB".as_slice());
-            assert!(rt; audit.audit_path.as_slice() == [[0; 32]].as_slice());
-            assert_eq!(rt; (audit.leaf_index, audit.tree_size), (1, 3));
-        }
-        _ => panic!(rt; "another request"),
-    }
-    let bad = read_again(
-        rt.alloc(),
-        b"{\"who\":\"frozen\",\"op\":\"audit\"}",
-        &mut refused,
-    );
-    assert!(rt; matches!(bad, Err(Refusal::BadLine)));
-    let call = refused.at_most_one().ok_or("two calls were refused")?;
-    println!(rt; "refused: {call}")?;
-    Ok(())
+    assert!(rt; is_that_audit(&read_again(rt.alloc(), AUDIT, &mut refused)));
+    let bad = b"{\"who\":\"frozen\",\"op\":\"audit\"}";
+    assert!(rt; is_bad_line(&read_again(rt.alloc(), bad, &mut refused)));
+    refused.say(&rt)
 }

@@ -1,9 +1,10 @@
 // A log from `open` to `finish`, and what it answers. What is expected comes from Python's hashlib and `examples/expected.py`.
-use crate::closed_log::{ClosedHouse, ask_log, expect_served};
+use crate::closed_log::{ClosedHouse, ask_log, is_served_again};
 use crate::house::House;
 use crate::refused::Refused;
 use ct_codec::Refusal;
 use ct_core::{Published, Query, Reply, Settled, ShownEntry};
+use ct_house::FinalLog;
 use ct_tree::Head;
 use std::alloc::Global;
 use std::process::Abort;
@@ -72,77 +73,108 @@ fn are_a_and_b(entries: &[ShownEntry]) -> bool {
     }
 }
 
-// One letter for a reply as it is expected of the first published head, and `?` for another.
-fn sign(reply: &Result<Reply, Refusal>) -> char {
+fn is_head(reply: &Result<Reply, Refusal>) -> bool {
     match reply {
-        Ok(Reply::Sth(head)) if *head == HEAD_2 => 'h',
+        Ok(Reply::Sth(head)) => *head == HEAD_2,
+        _ => false,
+    }
+}
+
+// Whether it is the path of the leaf 1.
+fn is_path(reply: &Result<Reply, Refusal>) -> bool {
+    match reply {
         Ok(
             Reply::ProofByHash {
-                leaf_index: 1,
+                leaf_index,
                 audit_path,
             },
-        ) if audit_path.as_slice() == [HASH_A].as_slice() => 'p',
-        Ok(Reply::Entries(entries)) if are_a_and_b(entries) => 'e',
-        Ok(Reply::EntryAndProof { entry, audit_path })
-            if is_entry(entry, &LEAF_B) && audit_path.as_slice() == [HASH_A].as_slice() => { 'b' }
+        ) => *leaf_index == 1 && audit_path.as_slice() == [HASH_A].as_slice(),
+        _ => false,
+    }
+}
+
+// Whether it is the entry of the leaf 1 with its path.
+fn is_entry_and_path(reply: &Result<Reply, Refusal>) -> bool {
+    match reply {
+        Ok(Reply::EntryAndProof { entry, audit_path }) => {
+            is_entry(entry, &LEAF_B) && audit_path.as_slice() == [HASH_A].as_slice()
+        }
+        _ => false,
+    }
+}
+
+// Whether it is the receipt of an index and a moment.
+fn is_receipt(reply: &Result<Reply, Refusal>, index: u64, moment: u64) -> bool {
+    match reply {
         Ok(
             Reply::Receipt {
-                leaf_index: 0,
-                timestamp: 3,
+                leaf_index,
+                timestamp,
             },
-        ) => 'r',
-        Err(Refusal::UnknownSize) => 'u',
-        Err(Refusal::NotYet) => 'n',
-        _ => '?',
+        ) => *leaf_index == index && *timestamp == moment,
+        _ => false,
     }
 }
 
-// Each query, and the letter for its reply.
-const QUERIES: [(Query, char); 7] = [
-    (Query::GetSth, 'h'),
-    (
-        Query::Consistency {
-            first: 1,
-            second: 2,
-        },
-        'u',
-    ),
-    (
-        Query::ProofByHash {
-            hash: HASH_B,
-            tree_size: 2,
-        },
-        'p',
-    ),
-    (Query::Entries { start: 0, end: 9 }, 'e'),
-    (
-        Query::EntryAndProof {
-            leaf_index: 1,
-            tree_size: 2,
-        },
-        'b',
-    ),
-    (Query::Receipt { ticket: 2 }, 'r'),
-    (Query::Receipt { ticket: 3 }, 'n'),
-];
-
-fn expect_answers<R: Abort>(rt: &R, house: &mut House, front: u16) {
-    for (query, wanted) in QUERIES {
-        let reply = house.ask(front, &query);
-        assert_eq!(rt; sign(&reply), wanted, "{query:?}");
+fn are_entries(reply: &Result<Reply, Refusal>) -> bool {
+    match reply {
+        Ok(Reply::Entries(entries)) => are_a_and_b(entries),
+        _ => false,
     }
 }
 
-fn expect_tickets<R: Abort>(rt: &R, house: &mut House) {
-    for (front, certificate, ticket) in [
-        (0, b'A', 0),
-        (0, b'B', 1),
-        (0, b'A', 2),
-        (1, b'A', 3),
-        (1, b'C', 4),
-    ] {
-        assert_eq!(rt; house.ticket(front, &[certificate]), Ok(ticket));
+fn is_refused(reply: &Result<Reply, Refusal>, wanted: Refusal) -> bool {
+    match reply {
+        Ok(_) => false,
+        Err(refusal) => *refusal == wanted,
     }
+}
+
+// Whether the front shows the first published head, and proofs to it.
+fn shows_proofs(house: &mut House, front: u16) -> bool {
+    is_head(&house.ask(front, &Query::GetSth))
+        && is_refused(&house.ask(front, &consistency(1, 2)), Refusal::UnknownSize)
+        && is_path(&house.ask(front, &proof_by_hash(HASH_B, 2)))
+}
+
+// Whether the front shows that head's entries and receipts.
+fn shows_entries(house: &mut House, front: u16) -> bool {
+    are_entries(&house.ask(front, &Query::Entries { start: 0, end: 9 }))
+        && is_entry_and_path(&house.ask(front, &entry_and_proof(1, 2)))
+        && is_receipt(&house.ask(front, &Query::Receipt { ticket: 2 }), 0, 3)
+        && is_refused(
+            &house.ask(front, &Query::Receipt { ticket: 3 }),
+            Refusal::NotYet,
+        )
+}
+
+fn consistency(first: u64, second: u64) -> Query {
+    Query::Consistency { first, second }
+}
+
+fn proof_by_hash(hash: [u8; 32], tree_size: u64) -> Query {
+    Query::ProofByHash { hash, tree_size }
+}
+
+fn entry_and_proof(leaf_index: u64, tree_size: u64) -> Query {
+    Query::EntryAndProof {
+        leaf_index,
+        tree_size,
+    }
+}
+
+// Whether the five certificates get the five tickets.
+fn gets_tickets(house: &mut House) -> bool {
+    house.ticket(0, b"A") == Ok(0)
+        && house.ticket(0, b"B") == Ok(1)
+        && house.ticket(0, b"A") == Ok(2)
+        && house.ticket(1, b"A") == Ok(3)
+        && house.ticket(1, b"C") == Ok(4)
+}
+
+// Whether this is the record at that place.
+fn has_record(log: &Published, place: usize, record: Settled) -> bool {
+    log.settlement().get(place).copied() == Some(record)
 }
 
 fn record(front: u16, ticket: u64, index: u64, first: bool) -> Settled {
@@ -154,67 +186,78 @@ fn record(front: u16, ticket: u64, index: u64, first: bool) -> Settled {
     }
 }
 
-fn expect_records<R: Abort>(rt: &R, log: &Published) {
-    let records = [
-        record(0, 0, 0, true),
-        record(0, 1, 1, true),
-        record(0, 2, 0, false),
-        record(1, 3, 0, false),
-        record(1, 4, 2, true),
-    ];
-    assert!(rt; log.settlement().iter().eq(&records));
+fn has_records(log: &Published) -> bool {
+    log.settlement().len() == 5
+        && has_record(log, 0, record(0, 0, 0, true))
+        && has_record(log, 1, record(0, 1, 1, true))
+        && has_record(log, 2, record(0, 2, 0, false))
+        && has_record(log, 3, record(1, 3, 0, false))
+        && has_record(log, 4, record(1, 4, 2, true))
 }
 
-fn expect_heads<R: Abort>(rt: &R, log: &Published) {
-    assert_eq!(rt; log.heads().len(), 3);
-    assert_eq!(rt; log.heads().get(1).copied(), Some(HEAD_2));
-    assert_eq!(rt; log.last_head(), HEAD_3);
+fn has_heads(log: &Published) -> bool {
+    log.heads().len() == 3
+        && log.heads().get(1).copied() == Some(HEAD_2)
+        && log.last_head() == HEAD_3
 }
 
-fn expect_consistency<R: Abort>(rt: &R, alloc: Global, log: &Published, refused: &mut Refused) {
-    let query = Query::Consistency {
-        first: 2,
-        second: 3,
-    };
-    match ask_log(alloc, log, &query, refused) {
-        Ok(Reply::Consistency(path)) => assert!(rt; path.as_slice() == [HASH_C].as_slice()),
-        _ => panic!(rt; "no proof"),
+fn has_proof(alloc: Global, log: &Published, refused: &mut Refused) -> bool {
+    match ask_log(alloc, log, &consistency(2, 3), refused) {
+        Ok(Reply::Consistency(path)) => path.as_slice() == [HASH_C].as_slice(),
+        _ => false,
     }
 }
 
-fn close<R: Threads + Wait + Abort + Sync>(rt: &R, house: &mut ClosedHouse) {
-    assert_eq!(rt; house.house.shutdown(), Ok(5));
-    assert_eq!(rt; house.settle(rt, 5), Ok(()));
-    assert_eq!(rt; house.publish(rt, 6), Ok(HEAD_3));
+// A house that has taken two of five submissions at most, and settled those of front 0.
+fn settled<R: Threads + Wait + Abort + Sync>(rt: &R, alloc: Global) -> Result<House, Refusal> {
+    let mut house = House::open(rt, alloc, 4)?;
+    assert!(rt; gets_tickets(&mut house));
+    assert!(rt; house.take_two(rt, 3).is_ok_and(|count| count <= 2));
+    Ok(house.succeed(rt, 3))
+}
+
+// Whether the first head is published, and both fronts learn of it.
+fn is_published<R: Wait>(rt: &R, house: &mut House) -> bool {
+    house.publish(rt, 4) == Ok(HEAD_2) && house.learn() == Ok(())
+}
+
+// Whether the house is shut, and the rest is settled and published.
+fn is_closed<R: Threads + Wait + Sync>(rt: &R, house: &mut ClosedHouse) -> bool {
+    house.house.shutdown() == Ok(5)
+        && house.settle(rt, 5) == Ok(())
+        && house.publish(rt, 6) == Ok(HEAD_3)
+}
+
+// The fronts retire, and the house is closed.
+fn closed<R: Threads + Wait + Abort + Sync>(rt: &R, house: House) -> (FinalLog, Refused) {
+    let mut house = house.retire();
+    assert!(rt; is_closed(rt, &mut house));
+    house.finish(rt)
+}
+
+// What the log has to be, and what is served of it.
+fn expect_log<R: Abort>(rt: &R, alloc: Global, log: &Published, refused: &mut Refused) {
+    assert!(rt; has_records(log) && has_heads(log));
+    assert!(rt; has_proof(alloc, log, refused));
+    assert!(rt; is_served_again(alloc, log, LINES, REPLIES, refused));
+}
+
+// What was refused.
+fn refused_in_whole_log<R: Threads + Wait + Abort + Sync>(
+    rt: &R,
+    alloc: Global,
+) -> Result<Refused, Refusal> {
+    let mut house = settled(rt, alloc)?;
+    assert!(rt; is_published(rt, &mut house));
+    assert!(rt; shows_proofs(&mut house, 0) && shows_entries(&mut house, 0));
+    assert!(rt; shows_proofs(&mut house, 1) && shows_entries(&mut house, 1));
+    let (log, mut refused) = closed(rt, house);
+    assert!(rt; log.accepted() == 5);
+    expect_log(rt, alloc, log.published(), &mut refused);
+    Ok(refused)
 }
 
 #[test]
 fn a_whole_log(rt: HostRuntime) -> Result<(), Fail> {
-    let mut house = House::open(&rt, rt.alloc(), 4)?;
-    expect_tickets(&rt, &mut house);
-    let told = house.take_two(&rt, 3);
-    assert!(rt; told.is_ok_and(|count| count <= 2));
-    let mut house = house.succeed(&rt, 3);
-    assert_eq!(rt; house.publish(&rt, 4), Ok(HEAD_2));
-    assert_eq!(rt; house.learn(), Ok(()));
-    expect_answers(&rt, &mut house, 0);
-    expect_answers(&rt, &mut house, 1);
-    let mut house = house.retire();
-    close(&rt, &mut house);
-    let (log, mut refused) = house.finish(&rt);
-    assert_eq!(rt; log.accepted(), 5);
-    expect_records(&rt, log.published());
-    expect_heads(&rt, log.published());
-    expect_consistency(&rt, rt.alloc(), log.published(), &mut refused);
-    expect_served(
-        &rt,
-        rt.alloc(),
-        log.published(),
-        LINES,
-        REPLIES,
-        &mut refused,
-    );
-    let call = refused.at_most_one().ok_or("two calls were refused")?;
-    println!(rt; "refused: {call}")?;
-    Ok(())
+    refused_in_whole_log(&rt, rt.alloc())?.say(&rt)
 }
