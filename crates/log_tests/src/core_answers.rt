@@ -1,4 +1,5 @@
-use crate::settled_log::{asked, opened, publish, receipt, settle};
+use crate::rows::{Row, Shown, right_rows};
+use crate::settled_log::{asked, publish, receipt, settle};
 use ct_codec::{Refusal, decode_chain, decode_leaf};
 use ct_core::laws::shown_entries_are_read;
 use ct_core::{Core, Query, Reply, ShownEntry};
@@ -6,7 +7,8 @@ use std::test::Fail;
 
 // The hashes of five leaves by Python's hashlib: the certificates 41 and 42 at the moment 1, and 43 to 45 at 2. The
 // hash of a leaf is sha256(00, 00 00, its moment in eight bytes, 00 00, 00 00 01, its certificate, 00 00) and that of
-// a node sha256(01, left, right), the strings joined. `NODE_23` is over leaves 2 and 3, and `ROOT` over all.
+// a node sha256(01, left, right), the strings joined. `ROOT` is over all five leaves. In the rows
+// below they and the node over leaves 2 and 3, 91 56 ed 9c to 4d aa 2e b7, stand in decimal.
 const LEAF_0: [u8; 32] = [
     0x20, 0x0a, 0x76, 0x64, 0xe4, 0x32, 0x80, 0x58, 0x30, 0x1c, 0xda, 0xdf, 0xf3, 0xe6, 0x2a, 0x0f,
     0x91, 0x2f, 0x80, 0x7c, 0xa1, 0xd4, 0x51, 0x3f, 0x8a, 0x10, 0xa7, 0x4c, 0x4c, 0x87, 0x35, 0x69,
@@ -20,11 +22,6 @@ const LEAF_1: [u8; 32] = [
 const LEAF_4: [u8; 32] = [
     0xc5, 0x31, 0x7e, 0x34, 0x6f, 0x75, 0x78, 0x6f, 0x30, 0x3f, 0x22, 0xd8, 0x3c, 0x0d, 0x4e, 0xb5,
     0xaa, 0x92, 0x13, 0x14, 0x0d, 0x24, 0xbf, 0x19, 0xea, 0x8d, 0x2e, 0x68, 0x2e, 0x7a, 0x90, 0x18,
-];
-
-const NODE_23: [u8; 32] = [
-    0x91, 0x56, 0xed, 0x9c, 0xac, 0x8e, 0xe3, 0x21, 0x05, 0xd7, 0x0d, 0x36, 0x6d, 0xd4, 0x78, 0x71,
-    0xf4, 0x99, 0xe5, 0x44, 0x54, 0xe6, 0xcc, 0x7d, 0x37, 0xb6, 0x78, 0xf5, 0x4d, 0xaa, 0x2e, 0xb7,
 ];
 
 const ROOT: [u8; 32] = [
@@ -49,149 +46,159 @@ fn grow(rt: &HostRuntime, core: &mut Core) -> Result<(), Refusal> {
     Ok(())
 }
 
-// A core with heads of sizes 0, 2 and 5.
-fn five_leaves(rt: &HostRuntime) -> Result<Core, Fail> {
-    let mut core = opened(rt, 0)?;
-    grow(rt, &mut core)?;
-    Ok(core)
-}
-
-fn is_last_head(reply: &Result<Reply, Refusal>) -> bool {
-    match reply {
-        Ok(Reply::Sth(head)) => head.tree_size == 5 && head.timestamp == 3 && head.root == ROOT,
-        _ => false,
+// The hash of this name.
+fn named(name: &str) -> Option<[u8; 32]> {
+    match name {
+        "LEAF_0" => Some(LEAF_0),
+        "LEAF_1" => Some(LEAF_1),
+        "LEAF_4" => Some(LEAF_4),
+        "ROOT" => Some(ROOT),
+        _ => None,
     }
 }
 
-#[test]
-fn the_last_head(rt: HostRuntime) -> Result<(), Fail> {
-    let core = five_leaves(&rt)?;
-    assert!(rt; is_last_head(&asked(&rt, &core, Query::GetSth)));
-    Ok(())
+// The query of a row.
+fn query(row: &mut Row<'_>) -> Option<Query> {
+    Some(match row.word() {
+        "head" => Query::GetSth,
+        "proof" => Query::Consistency {
+            first: row.number(),
+            second: row.number(),
+        },
+        "hash" => Query::ProofByHash {
+            hash: named(row.word())?,
+            tree_size: row.number(),
+        },
+        "entry" => entry_at(row),
+        "ticket" => Query::Receipt {
+            ticket: row.number(),
+        },
+        _ => return None,
+    })
 }
 
-fn is_consistency(reply: &Result<Reply, Refusal>, wanted: &[[u8; 32]]) -> bool {
-    match reply {
-        Ok(Reply::Consistency(proof)) => proof.as_slice() == wanted,
-        _ => false,
-    }
-}
-
-#[test]
-fn the_consistency_proof_from_two_to_five(rt: HostRuntime) -> Result<(), Fail> {
-    let core = five_leaves(&rt)?;
-    let reply = asked(&rt, &core, consistency(2, 5));
-    assert!(rt; is_consistency(&reply, &[NODE_23, LEAF_4]));
-    Ok(())
-}
-
-fn is_place(reply: &Result<Reply, Refusal>, index: u64, path: &[[u8; 32]]) -> bool {
-    match reply {
-        Ok(
-            Reply::ProofByHash {
-                leaf_index,
-                audit_path,
-            },
-        ) => *leaf_index == index && audit_path.as_slice() == path,
-        _ => false,
-    }
-}
-
-#[test]
-fn a_leaf_found_by_its_hash(rt: HostRuntime) -> Result<(), Fail> {
-    let core = five_leaves(&rt)?;
-    let reply = asked(&rt, &core, by_hash(LEAF_1, 5));
-    assert!(rt; is_place(&reply, 1, &[LEAF_0, NODE_23, LEAF_4]));
-    Ok(())
-}
-
-// Whether an entry is that of the certificate 41 at the moment 1.
-fn is_leaf_0(entry: &ShownEntry) -> bool {
-    let leaf = [0, 0, 0, 0, 0, 0, 0, 0, 0, 1, 0, 0, 0, 0, 1, 0x41, 0, 0];
-    entry.leaf_input.as_slice() == leaf.as_slice()
-        && entry.extra_data.as_slice() == [0, 0, 0].as_slice()
-}
-
-// Whether the entry is read as a leaf at the moment 1 and as an empty chain.
-fn is_read(rt: &HostRuntime, entry: &ShownEntry) -> Result<bool, Fail> {
-    shown_entries_are_read();
-    let timestamp = decode_leaf(rt.alloc(), &entry.leaf_input)?.timestamp;
-    Ok(timestamp == 1 && decode_chain(rt.alloc(), &entry.extra_data)?.is_empty())
-}
-
-// Whether the reply shows the leaf 0, with this path.
-fn is_leaf_0_by(
-    rt: &HostRuntime,
-    reply: &Result<Reply, Refusal>,
-    path: &[[u8; 32]],
-) -> Result<bool, Fail> {
-    match reply {
-        Ok(Reply::EntryAndProof { entry, audit_path }) => {
-            Ok(is_leaf_0(entry) && audit_path.as_slice() == path && is_read(rt, entry)?)
-        }
-        _ => Ok(false),
-    }
-}
-
-#[test]
-fn an_entry_with_its_path_in_an_older_tree(rt: HostRuntime) -> Result<(), Fail> {
-    let core = five_leaves(&rt)?;
-    let reply = asked(&rt, &core, entry_at(0, 2));
-    assert!(rt; is_leaf_0_by(&rt, &reply, &[LEAF_1])?);
-    Ok(())
-}
-
-fn consistency(first: u64, second: u64) -> Query {
-    Query::Consistency { first, second }
-}
-
-fn by_hash(hash: [u8; 32], tree_size: u64) -> Query {
-    Query::ProofByHash { hash, tree_size }
-}
-
-fn entry_at(leaf_index: u64, tree_size: u64) -> Query {
+fn entry_at(row: &mut Row<'_>) -> Query {
     Query::EntryAndProof {
-        leaf_index,
-        tree_size,
+        leaf_index: row.number(),
+        tree_size: row.number(),
     }
 }
 
-fn refusal(rt: &HostRuntime, core: &Core, query: Query) -> Option<Refusal> {
-    asked(rt, core, query).err()
+// A log that is asked.
+#[derive(Drop)]
+struct Questions<'a> {
+    core: &'a Core,
 }
 
-// How many queries are refused as they should be, before the first that isn't.
-fn refused(rt: &HostRuntime, core: &Core, cases: &[(Query, Refusal)]) -> usize {
-    for place in 0..cases.len() {
-        let (query, wanted) = cases[place];
-        if refusal(rt, core, query) != Some(wanted) {
-            return place;
+impl Shown for Questions<'_> {
+    // A row of a query.
+    fn is_right(&mut self, rt: &HostRuntime, mut row: Row<'_>) -> bool {
+        match query(&mut row) {
+            Some(query) => row.says(rt, &asked(rt, self.core, query)),
+            None => false,
         }
     }
-    cases.len()
+}
+
+// How many rows a core with heads of sizes 0, 2 and 5 answers rightly, before the first that it doesn't.
+fn answered(rt: &HostRuntime, rows: &str) -> u32 {
+    let Ok(mut core) = Core::open(rt.alloc(), 0) else {
+        return 0;
+    };
+    match grow(rt, &mut core) {
+        Ok(()) => right_rows(rt, &mut Questions { core: &core }, rows),
+        Err(_) => 0,
+    }
 }
 
 #[test]
-fn refusals_in_their_order(rt: HostRuntime) -> Result<(), Fail> {
-    let core = five_leaves(&rt)?;
-    let cases = [
-        (consistency(5, 5), Refusal::BadRange),
-        (consistency(3, 3), Refusal::BadRange),
-        (consistency(0, 5), Refusal::BadRange),
-        (consistency(5, 2), Refusal::BadRange),
-        (consistency(3, 5), Refusal::UnknownSize),
-        (consistency(2, 4), Refusal::UnknownSize),
-        (by_hash(LEAF_0, 3), Refusal::UnknownSize),
-        (by_hash(LEAF_4, 2), Refusal::UnknownLeaf),
-        (by_hash(ROOT, 5), Refusal::UnknownLeaf),
-        (by_hash(LEAF_0, 0), Refusal::UnknownLeaf),
-        (entry_at(9, 3), Refusal::UnknownSize),
-        (entry_at(2, 2), Refusal::BadRange),
-        (entry_at(0, 0), Refusal::BadRange),
-        (Query::Receipt { ticket: 7 }, Refusal::NotYet),
-    ];
-    assert_eq!(rt; refused(&rt, &core, &cases), 14);
-    Ok(())
+fn the_last_head(rt: HostRuntime) {
+    let row =
+        "head => Ok(Sth(Head { tree_size: 5, timestamp: 3, root: [216, 250, 162, 30, 136, 63, 215, 127, 203, 112, 116, 226, 168, 45, 72, 155, 47, 70, 58, 142, 20, 30, 142, 146, 181, 121, 170, 203, 124, 36, 126, 88] }))";
+    assert!(rt; answered(&rt, row) == 1);
+}
+
+#[test]
+fn the_consistency_proof_from_two_to_five(rt: HostRuntime) {
+    let row =
+        "proof 2 5 => Ok(Consistency([[145, 86, 237, 156, 172, 142, 227, 33, 5, 215, 13, 54, 109, 212, 120, 113, 244, 153, 229, 68, 84, 230, 204, 125, 55, 182, 120, 245, 77, 170, 46, 183], [197, 49, 126, 52, 111, 117, 120, 111, 48, 63, 34, 216, 60, 13, 78, 181, 170, 146, 19, 20, 13, 36, 191, 25, 234, 141, 46, 104, 46, 122, 144, 24]]))";
+    assert!(rt; answered(&rt, row) == 1);
+}
+
+#[test]
+fn a_leaf_found_by_its_hash(rt: HostRuntime) {
+    let row =
+        "hash LEAF_1 5 => Ok(ProofByHash { leaf_index: 1, audit_path: [[32, 10, 118, 100, 228, 50, 128, 88, 48, 28, 218, 223, 243, 230, 42, 15, 145, 47, 128, 124, 161, 212, 81, 63, 138, 16, 167, 76, 76, 135, 53, 105], [145, 86, 237, 156, 172, 142, 227, 33, 5, 215, 13, 54, 109, 212, 120, 113, 244, 153, 229, 68, 84, 230, 204, 125, 55, 182, 120, 245, 77, 170, 46, 183], [197, 49, 126, 52, 111, 117, 120, 111, 48, 63, 34, 216, 60, 13, 78, 181, 170, 146, 19, 20, 13, 36, 191, 25, 234, 141, 46, 104, 46, 122, 144, 24]] })";
+    assert!(rt; answered(&rt, row) == 1);
+}
+
+// The moment of the leaf as which the entry is read, and whether it is read as an empty chain.
+fn as_read(rt: &HostRuntime, entry: &ShownEntry) -> Option<(u64, bool)> {
+    shown_entries_are_read();
+    let moment = decode_leaf(rt.alloc(), &entry.leaf_input).ok()?.timestamp;
+    let chain = decode_chain(rt.alloc(), &entry.extra_data).ok()?;
+    Some((moment, chain.is_empty()))
+}
+
+// The same of the entry that a reply shows.
+fn reply_as_read(rt: &HostRuntime, reply: &Result<Reply, Refusal>) -> Option<(u64, bool)> {
+    match reply {
+        Ok(Reply::EntryAndProof { entry, .. }) => as_read(rt, entry),
+        _ => None,
+    }
+}
+
+// A log that is asked for entries, which are read.
+#[derive(Drop)]
+struct Reading<'a> {
+    core: &'a Core,
+}
+
+impl Shown for Reading<'_> {
+    // A row of an entry's index and a size.
+    fn is_right(&mut self, rt: &HostRuntime, mut row: Row<'_>) -> bool {
+        let query = entry_at(&mut row);
+        row.says(rt, &reply_as_read(rt, &asked(rt, self.core, query)))
+    }
+}
+
+// How many rows such a core answers rightly with entries that are read, before the first that it doesn't.
+fn read_back(rt: &HostRuntime, rows: &str) -> u32 {
+    let Ok(mut core) = Core::open(rt.alloc(), 0) else {
+        return 0;
+    };
+    match grow(rt, &mut core) {
+        Ok(()) => right_rows(rt, &mut Reading { core: &core }, rows),
+        Err(_) => 0,
+    }
+}
+
+#[test]
+fn an_entry_with_its_path_in_an_older_tree(rt: HostRuntime) {
+    let row =
+        "entry 0 2 => Ok(EntryAndProof { entry: ShownEntry { leaf_input: [0, 0, 0, 0, 0, 0, 0, 0, 0, 1, 0, 0, 0, 0, 1, 65, 0, 0], extra_data: [0, 0, 0] }, audit_path: [[120, 239, 103, 65, 75, 112, 210, 186, 47, 101, 16, 159, 159, 231, 7, 20, 5, 9, 76, 27, 87, 85, 154, 74, 20, 70, 128, 219, 155, 235, 181, 128]] })";
+    assert!(rt; answered(&rt, row) == 1);
+    assert!(rt; read_back(&rt, "0 2 => Some((1, true))") == 1);
+}
+
+#[test]
+fn refusals_in_their_order(rt: HostRuntime) {
+    let rows = "\
+proof 5 5 => Err(BadRange)
+proof 3 3 => Err(BadRange)
+proof 0 5 => Err(BadRange)
+proof 5 2 => Err(BadRange)
+proof 3 5 => Err(UnknownSize)
+proof 2 4 => Err(UnknownSize)
+hash LEAF_0 3 => Err(UnknownSize)
+hash LEAF_4 2 => Err(UnknownLeaf)
+hash ROOT 5 => Err(UnknownLeaf)
+hash LEAF_0 0 => Err(UnknownLeaf)
+entry 9 3 => Err(UnknownSize)
+entry 2 2 => Err(BadRange)
+entry 0 0 => Err(BadRange)
+ticket 7 => Err(NotYet)";
+    assert!(rt; answered(&rt, rows) == 14);
 }
 
 // Settles so many certificates of two bytes, from 00 00 on, at the moment 1. The first of them has this ticket.
@@ -227,37 +234,48 @@ fn window(rt: &HostRuntime, core: &Core, start: u64, end: u64) -> Window {
     }
 }
 
-// A core that has settled so many certificates and published a head of them.
-fn counted(rt: &HostRuntime, count: u16) -> Result<Core, Fail> {
-    let mut core = opened(rt, 0)?;
-    count_up(rt, &mut core, 0, count)?;
-    publish(rt, &mut core, 1)?;
-    Ok(core)
+// A log that is asked for windows and tickets.
+#[derive(Drop)]
+struct Windows<'a> {
+    core: &'a Core,
 }
 
-// How many windows are shown as they should be, before the first that isn't.
-fn shown(rt: &HostRuntime, core: &Core, cases: &[(u64, u64, Window)]) -> usize {
-    for place in 0..cases.len() {
-        let (start, end, wanted) = cases[place];
-        if window(rt, core, start, end) != wanted {
-            return place;
+impl Shown for Windows<'_> {
+    // A row of the first and the last index, or of a ticket.
+    fn is_right(&mut self, rt: &HostRuntime, mut row: Row<'_>) -> bool {
+        match row.word() {
+            "window" => {
+                let (start, end) = (row.number(), row.number());
+                row.says(rt, &window(rt, self.core, start, end))
+            }
+            "ticket" => {
+                let ticket = row.number();
+                row.says(rt, &receipt(rt, self.core, ticket))
+            }
+            _ => false,
         }
     }
-    cases.len()
+}
+
+// Settles so many certificates and publishes a head of them.
+fn count_to_300(rt: &HostRuntime, core: &mut Core) -> Result<(), Refusal> {
+    count_up(rt, core, 0, 300)?;
+    publish(rt, core, 1)?;
+    Ok(())
 }
 
 #[test]
 fn at_most_256_entries(rt: HostRuntime) -> Result<(), Fail> {
-    let core = counted(&rt, 300)?;
-    let cases: [(u64, u64, Window); 6] = [
-        (0, 999, Ok((256, Some(0), Some(255)))),
-        (10, 11, Ok((2, Some(10), Some(11)))),
-        (200, u64::MAX, Ok((100, Some(200), Some(299)))),
-        (299, 299, Ok((1, Some(299), Some(299)))),
-        (300, 300, Err(Refusal::BadRange)),
-        (2, 1, Err(Refusal::BadRange)),
-    ];
-    assert_eq!(rt; shown(&rt, &core, &cases), 6);
+    let rows = "\
+window 0 999 => Ok((256, Some(0), Some(255)))
+window 10 11 => Ok((2, Some(10), Some(11)))
+window 200 18446744073709551615 => Ok((100, Some(200), Some(299)))
+window 299 299 => Ok((1, Some(299), Some(299)))
+window 300 300 => Err(BadRange)
+window 2 1 => Err(BadRange)";
+    let mut core = Core::open(rt.alloc(), 0)?;
+    assert!(rt; count_to_300(&rt, &mut core).is_ok());
+    assert!(rt; right_rows(&rt, &mut Windows { core: &core }, rows) == 6);
     Ok(())
 }
 
@@ -271,11 +289,14 @@ fn five_thousand(rt: &HostRuntime, core: &mut Core) -> Result<(), Refusal> {
 
 #[test]
 fn five_thousand_records_before_a_head(rt: HostRuntime) -> Result<(), Fail> {
-    let mut core = opened(&rt, 0)?;
-    five_thousand(&rt, &mut core)?;
-    for (ticket, index) in [(0, 0), (3999, 3999), (4000, 0), (4999, 999)] {
-        assert!(rt; receipt(&rt, &core, ticket) == Ok(Some((index, 1))));
-    }
-    assert!(rt; window(&rt, &core, 3990, 4999) == Ok((10, Some(3990), Some(3999))));
+    let rows = "\
+ticket 0 => Ok(Some((0, 1)))
+ticket 3999 => Ok(Some((3999, 1)))
+ticket 4000 => Ok(Some((0, 1)))
+ticket 4999 => Ok(Some((999, 1)))
+window 3990 4999 => Ok((10, Some(3990), Some(3999)))";
+    let mut core = Core::open(rt.alloc(), 0)?;
+    assert!(rt; five_thousand(&rt, &mut core).is_ok());
+    assert!(rt; right_rows(&rt, &mut Windows { core: &core }, rows) == 5);
     Ok(())
 }

@@ -1,4 +1,5 @@
-use crate::settled_log::{is_text, opened, publish, receipt, record, settle, settle_submission};
+use crate::rows::{Row, Shown, right_rows};
+use crate::settled_log::{is_text, publish, receipt, record, settle, settle_submission};
 use ct_codec::{Refusal, Submission, extra_data, identity};
 use ct_core::{Core, LeafTable, Published};
 use std::sync::Arc;
@@ -9,12 +10,6 @@ const LEAF_OF_A: [u8; 18] = [0, 0, 0, 0, 0, 0, 0, 0, 0, 10, 0, 0, 0, 0, 1, 0x41,
 
 const LEAF_OF_B: [u8; 18] = [0, 0, 0, 0, 0, 0, 0, 0, 0, 10, 0, 0, 0, 0, 1, 0x42, 0, 0];
 
-// Their root, by Python's hashlib: sha256(01, sha256(00, LEAF_OF_A), sha256(00, LEAF_OF_B)), the strings joined.
-const ROOT_OF_A_AND_B: [u8; 32] = [
-    0x2d, 0xd5, 0xef, 0x2a, 0x16, 0xf7, 0x90, 0x88, 0x95, 0x66, 0x45, 0x81, 0x83, 0xf2, 0x4d, 0x6c,
-    0xc3, 0xdc, 0x96, 0x3b, 0x75, 0xd4, 0x7f, 0x64, 0xbe, 0xbe, 0x67, 0x27, 0x3e, 0xdf, 0x4e, 0xcb,
-];
-
 // Settles the certificates A, B and A again at the moment 10, and publishes a head of them.
 fn repeat(rt: &HostRuntime, core: &mut Core) -> Result<(), Refusal> {
     settle(rt, core, (0, 0), b"A", 10)?;
@@ -24,131 +19,119 @@ fn repeat(rt: &HostRuntime, core: &mut Core) -> Result<(), Refusal> {
     Ok(())
 }
 
-// A core that has done so.
-fn repeated(rt: &HostRuntime) -> Result<Core, Fail> {
-    let mut core = opened(rt, 0)?;
-    repeat(rt, &mut core)?;
-    Ok(core)
+// A row of a front, a ticket, a certificate of one byte and a moment.
+fn is_settled(rt: &HostRuntime, core: &mut Core, mut row: Row<'_>) -> bool {
+    let (front, ticket) = (row.short(), row.number());
+    let certificate = row.bytes(rt);
+    let now = row.number();
+    row.says(rt, &settle(rt, core, (front, ticket), &certificate, now))
 }
 
-// A step of a core, and what it has to answer.
-#[derive(Clone, Copy)]
-enum Step {
-    // A front's ticket, a certificate of one byte and a moment; the index, and whether it is the first with its leaf.
-    Settles(u16, u64, u8, u64, Result<(u64, bool), Refusal>),
-    // A moment; the size of the head.
-    Publishes(u64, Result<u64, Refusal>),
-    // A ticket; where it settled, and its leaf's timestamp.
-    Receipt(u64, Result<(u64, u64), Refusal>),
+// A row of a moment: the size and the moment of the head.
+fn is_published(rt: &HostRuntime, core: &mut Core, mut row: Row<'_>) -> bool {
+    let now = row.number();
+    let head = publish(rt, core, now);
+    row.says(rt, &head.map(|h| (h.tree_size, h.timestamp)))
 }
 
-// Whether a core answers a step so.
-fn answers(rt: &HostRuntime, core: &mut Core, step: &Step) -> bool {
-    match *step {
-        Step::Settles(front, ticket, byte, now, wanted) => {
-            let answer = settle(rt, core, (front, ticket), &[byte], now);
-            match wanted {
-                Ok((index, first)) => answer == record(front, ticket, index, first),
-                Err(refusal) => answer == Err(refusal),
+impl Shown for Core {
+    // A step of a core, or what it is like.
+    fn is_right(&mut self, rt: &HostRuntime, mut row: Row<'_>) -> bool {
+        match row.word() {
+            "settles" => is_settled(rt, self, row),
+            "publishes" => is_published(rt, self, row),
+            "repeats" => row.says(rt, &repeat(rt, self)),
+            "receipt" => {
+                let ticket = row.number();
+                row.says(rt, &receipt(rt, self, ticket))
             }
+            "clock" => row.says(rt, &self.clock()),
+            "covered" => row.says(rt, &self.is_covered()),
+            "root" => row.says(rt, &self.published().last_head().root),
+            _ => false,
         }
-        Step::Publishes(now, wanted) => match publish(rt, core, now) {
-            Ok(head) => head.timestamp == now && wanted == Ok(head.tree_size),
-            Err(refusal) => wanted == Err(refusal),
-        },
-        Step::Receipt(ticket, wanted) => match receipt(rt, core, ticket) {
-            Ok(Some(place)) => wanted == Ok(place),
-            Ok(None) => false,
-            Err(refusal) => wanted == Err(refusal),
-        },
+    }
+}
+
+// How many steps a core that is opened at this moment answers rightly, before the first that it doesn't.
+fn steps(rt: &HostRuntime, now: u64, rows: &str) -> u32 {
+    match Core::open(rt.alloc(), now) {
+        Ok(mut core) => right_rows(rt, &mut core, rows),
+        Err(_) => 0,
     }
 }
 
-// The number of the first step that a core answers otherwise.
-fn first_other(rt: &HostRuntime, core: &mut Core, steps: &[Step]) -> Option<usize> {
-    for number in 0..steps.len() {
-        if !answers(rt, core, &steps[number]) {
-            return Some(number);
-        }
-    }
-    None
+// The root is that of the leaves of A and B, by Python's hashlib: sha256(01, sha256(00, LEAF_OF_A), sha256(00, LEAF_OF_B)),
+// the strings joined.
+#[test]
+fn a_repeat_has_the_first_ones_leaf(rt: HostRuntime) {
+    let rows = "\
+settles 0 0 65 10 => Ok(Settled { front: 0, ticket: 0, index: 0, first: true })
+settles 0 1 66 10 => Ok(Settled { front: 0, ticket: 1, index: 1, first: true })
+settles 0 2 65 10 => Ok(Settled { front: 0, ticket: 2, index: 0, first: false })
+receipt 2 => Err(NotYet)
+publishes 10 => Ok((2, 10))
+receipt 2 => Ok(Some((0, 10)))
+root => [45, 213, 239, 42, 22, 247, 144, 136, 149, 102, 69, 129, 131, 242, 77, 108, 195, 220, 150, 59, 117, 212, 127, 100, 190, 190, 103, 39, 62, 223, 78, 203]";
+    assert!(rt; steps(&rt, 0, rows) == 7);
 }
 
 #[test]
-fn a_repeat_has_the_first_ones_leaf(rt: HostRuntime) -> Result<(), Fail> {
-    let mut core = opened(&rt, 0)?;
-    let steps = [
-        Step::Settles(0, 0, b'A', 10, Ok((0, true))),
-        Step::Settles(0, 1, b'B', 10, Ok((1, true))),
-        Step::Settles(0, 2, b'A', 10, Ok((0, false))),
-        Step::Receipt(2, Err(Refusal::NotYet)),
-        Step::Publishes(10, Ok(2)),
-        Step::Receipt(2, Ok((0, 10))),
-    ];
-    assert_eq!(rt; first_other(&rt, &mut core, &steps), None);
-    assert!(rt; core.published().last_head().root == ROOT_OF_A_AND_B);
-    Ok(())
+fn two_fronts_with_one_certificate(rt: HostRuntime) {
+    let rows = "\
+settles 1 1 65 5 => Ok(Settled { front: 1, ticket: 1, index: 0, first: true })
+settles 0 0 65 6 => Ok(Settled { front: 0, ticket: 0, index: 0, first: false })
+clock => 5
+receipt 0 => Err(NotYet)
+publishes 6 => Ok((1, 6))
+receipt 0 => Ok(Some((0, 5)))";
+    assert!(rt; steps(&rt, 0, rows) == 6);
 }
 
 #[test]
-fn two_fronts_with_one_certificate(rt: HostRuntime) -> Result<(), Fail> {
-    let mut core = opened(&rt, 0)?;
-    let steps = [
-        Step::Settles(1, 1, b'A', 5, Ok((0, true))),
-        Step::Settles(0, 0, b'A', 6, Ok((0, false))),
-    ];
-    assert_eq!(rt; first_other(&rt, &mut core, &steps), None);
-    assert_eq!(rt; core.clock(), 5);
-    let steps = [
-        Step::Receipt(0, Err(Refusal::NotYet)),
-        Step::Publishes(6, Ok(1)),
-        Step::Receipt(0, Ok((0, 5))),
-    ];
-    assert_eq!(rt; first_other(&rt, &mut core, &steps), None);
-    Ok(())
+fn settling_goes_on_behind_a_publication(rt: HostRuntime) {
+    let rows = "\
+repeats => Ok(())
+covered => true
+settles 0 3 66 11 => Ok(Settled { front: 0, ticket: 3, index: 1, first: false })
+covered => false
+settles 1 4 67 11 => Ok(Settled { front: 1, ticket: 4, index: 2, first: true })
+publishes 11 => Ok((3, 11))
+receipt 3 => Ok(Some((1, 10)))
+receipt 4 => Ok(Some((2, 11)))";
+    assert!(rt; steps(&rt, 0, rows) == 8);
 }
 
 #[test]
-fn settling_goes_on_behind_a_publication(rt: HostRuntime) -> Result<(), Fail> {
-    let mut core = repeated(&rt)?;
-    assert!(rt; core.is_covered());
-    let steps = [Step::Settles(0, 3, b'B', 11, Ok((1, false)))];
-    assert_eq!(rt; first_other(&rt, &mut core, &steps), None);
-    assert!(rt; !core.is_covered());
-    let steps = [
-        Step::Settles(1, 4, b'C', 11, Ok((2, true))),
-        Step::Publishes(11, Ok(3)),
-        Step::Receipt(3, Ok((1, 10))),
-        Step::Receipt(4, Ok((2, 11))),
-    ];
-    assert_eq!(rt; first_other(&rt, &mut core, &steps), None);
-    Ok(())
+fn moments_that_the_clock_refuses(rt: HostRuntime) {
+    let rows = "\
+publishes 5 => Err(ClockBack)
+settles 0 0 65 8 => Ok(Settled { front: 0, ticket: 0, index: 0, first: true })
+publishes 7 => Err(ClockBack)
+publishes 8 => Ok((1, 8))
+settles 0 1 66 7 => Err(ClockBack)
+publishes 8 => Err(ClockBack)
+publishes 9 => Ok((1, 9))";
+    assert!(rt; steps(&rt, 5, rows) == 7);
 }
 
-#[test]
-fn moments_that_the_clock_refuses(rt: HostRuntime) -> Result<(), Fail> {
-    let mut core = opened(&rt, 5)?;
-    let steps = [
-        Step::Publishes(5, Err(Refusal::ClockBack)),
-        Step::Settles(0, 0, b'A', 8, Ok((0, true))),
-        Step::Publishes(7, Err(Refusal::ClockBack)),
-        Step::Publishes(8, Ok(1)),
-        Step::Settles(0, 1, b'B', 7, Err(Refusal::ClockBack)),
-        Step::Publishes(8, Err(Refusal::ClockBack)),
-        Step::Publishes(9, Ok(1)),
-    ];
-    assert_eq!(rt; first_other(&rt, &mut core, &steps), None);
-    Ok(())
+// Whether the next state of a core with two heads has three, and is that of the core when it is adopted.
+fn is_adopted(rt: &HostRuntime, core: &mut Core) -> Result<bool, Refusal> {
+    let next = Arc::new(rt.alloc(), core.next(rt.alloc(), 11)?)?;
+    let counts = (next.heads().len(), core.published().heads().len());
+    let head = core.adopt(next);
+    Ok(
+        counts == (3, 2)
+            && (head.tree_size, head.timestamp, core.clock()) == (2, 11, 11)
+            && core.published().last_head() == head,
+    )
 }
 
 #[test]
 fn the_next_state_is_adopted(rt: HostRuntime) -> Result<(), Fail> {
-    let mut core = repeated(&rt)?;
-    let next = Arc::new(rt.alloc(), core.next(rt.alloc(), 11)?)?;
-    assert!(rt; next.heads().len() == 3 && core.published().heads().len() == 2);
-    let head = core.adopt(next);
-    assert!(rt; head.tree_size == 2 && head.timestamp == 11 && core.clock() == 11);
-    assert_eq!(rt; core.published().last_head(), head);
+    let mut core = Core::open(rt.alloc(), 0)?;
+    assert!(rt; repeat(&rt, &mut core).is_ok());
+    assert!(rt; matches!(is_adopted(&rt, &mut core), Ok(true)));
     Ok(())
 }
 
@@ -177,17 +160,26 @@ fn are_equal(copy: &Published, state: &Published) -> bool {
         && copy.settlement().len() == 3
 }
 
+// Whether a copy of a state is equal to it.
+fn is_copied(rt: &HostRuntime, state: &Published) -> bool {
+    match state.copy(rt.alloc()) {
+        Ok(copy) => {
+            are_equal(&copy, state) && has_both_leaves(rt, &copy) && has_both_leaves(rt, state)
+        }
+        Err(_) => false,
+    }
+}
+
 #[test]
 fn a_copied_state_is_equal(rt: HostRuntime) -> Result<(), Fail> {
-    let core = repeated(&rt)?;
-    let copy = core.published().copy(rt.alloc())?;
-    assert!(rt; are_equal(&copy, core.published()));
-    assert!(rt; has_both_leaves(&rt, &copy) && has_both_leaves(&rt, core.published()));
+    let mut core = Core::open(rt.alloc(), 0)?;
+    assert!(rt; repeat(&rt, &mut core).is_ok());
+    assert!(rt; is_copied(&rt, core.published()));
     Ok(())
 }
 
 // The chain of the certificates A and B.
-fn chain_of_two(rt: &HostRuntime) -> Result<Submission, Fail> {
+fn chain_of_two(rt: &HostRuntime) -> Result<Submission, Refusal> {
     let mut chain = Vec::new(rt.alloc());
     chain.push(Vec::from_slice(rt.alloc(), b"A")?)?;
     chain.push(Vec::from_slice(rt.alloc(), b"B")?)?;
@@ -201,19 +193,28 @@ fn is_written(rt: &HostRuntime, submission: &Submission) -> bool {
 }
 
 // Whether a copy settles at the index 0, and the submission itself behind it as its repeat.
-fn settle_both(rt: &HostRuntime, copy: Submission, submission: Submission) -> Result<bool, Fail> {
-    let mut core = opened(rt, 0)?;
-    let first = settle_submission(rt, &mut core, (0, 0), copy, 1);
-    let second = settle_submission(rt, &mut core, (0, 1), submission, 1);
-    Ok(first == record(0, 0, 0, true) && second == record(0, 1, 0, false))
+fn settle_both(
+    rt: &HostRuntime,
+    core: &mut Core,
+    copy: Submission,
+    submission: Submission,
+) -> bool {
+    let first = settle_submission(rt, core, (0, 0), copy, 1);
+    let second = settle_submission(rt, core, (0, 1), submission, 1);
+    first == record(0, 0, 0, true) && second == record(0, 1, 0, false)
+}
+
+// Whether a copy of the chain of A and B is written so, and settles as the chain does.
+fn is_submission_copied(rt: &HostRuntime, core: &mut Core) -> Result<bool, Refusal> {
+    let submission = chain_of_two(rt)?;
+    let copy = submission.copy(rt.alloc())?;
+    Ok(is_written(rt, &copy) && settle_both(rt, core, copy, submission))
 }
 
 #[test]
 fn a_copied_submission_is_equal(rt: HostRuntime) -> Result<(), Fail> {
-    let submission = chain_of_two(&rt)?;
-    let copy = submission.copy(rt.alloc())?;
-    assert!(rt; is_written(&rt, &copy));
-    assert!(rt; settle_both(&rt, copy, submission)?);
+    let mut core = Core::open(rt.alloc(), 0)?;
+    assert!(rt; matches!(is_submission_copied(&rt, &mut core), Ok(true)));
     Ok(())
 }
 
@@ -224,12 +225,18 @@ fn push_all(table: &mut LeafTable, hashes: &[[u8; 32]]) -> Result<(), Refusal> {
     Ok(())
 }
 
+// Where these three hashes stand in the table.
+fn places(table: &LeafTable) -> [Option<u64>; 3] {
+    [
+        table.index_of(&[1; 32]),
+        table.index_of(&[2; 32]),
+        table.index_of(&[3; 32]),
+    ]
+}
+
 #[test]
-fn the_first_of_two_equal_hashes(rt: HostRuntime) -> Result<(), Fail> {
+fn the_first_of_two_equal_hashes(rt: HostRuntime) {
     let mut table = LeafTable::new(rt.alloc());
-    push_all(&mut table, &[[1; 32], [2; 32], [1; 32]])?;
-    for (byte, index) in [(1, Some(0)), (2, Some(1)), (3, None)] {
-        assert!(rt; table.index_of(&[byte; 32]) == index, "{byte}");
-    }
-    Ok(())
+    assert!(rt; push_all(&mut table, &[[1; 32], [2; 32], [1; 32]]).is_ok());
+    assert!(rt; places(&table) == [Some(0), Some(1), None]);
 }

@@ -1,5 +1,5 @@
 // The frozen log over a reader and a writer that fail at one of their calls, for each of them in turn.
-use crate::settled_log::{opened, publish};
+use crate::settled_log::publish;
 use ct_core::{Core, Published};
 use ct_lines::{ServeFault, serve_frozen};
 use std::io;
@@ -95,13 +95,6 @@ impl Write for Sink {
     }
 }
 
-// A closed log of no leaves.
-fn closed(rt: &HostRuntime) -> Result<Core, Fail> {
-    let mut core = opened(rt, 0)?;
-    publish(rt, &mut core, 7)?;
-    Ok(core)
-}
-
 // How a run ended, over a reader and a writer that count their calls so, and what it wrote.
 fn served(
     rt: &HostRuntime,
@@ -166,17 +159,27 @@ fn is_cut_off(taken: &[u8], count: u64) -> bool {
     REPLIES.starts_with(taken) && taken.ends_with(b"\n") == (count > 0)
 }
 
-#[test]
-fn a_reader_that_fails_at_each_call(rt: HostRuntime) -> Result<(), Fail> {
-    let log = closed(&rt)?;
+// How many calls end so, before the first that doesn't.
+fn ends_at_reads(rt: &HostRuntime, log: &Published) -> u32 {
     for failing in 1..=8 {
         for kind in [ErrorKind::BrokenPipe, ErrorKind::Interrupted] {
-            assert!(rt;
-                ends_at_read(&rt, log.published(), failing, kind),
-                "{failing}"
-            );
+            if !ends_at_read(rt, log, failing, kind) {
+                return failing - 1;
+            }
         }
     }
+    8
+}
+
+// A closed log of no leaves.
+fn is_closed(rt: &HostRuntime, core: &mut Core) -> bool {
+    publish(rt, core, 7).is_ok()
+}
+
+#[test]
+fn a_reader_that_fails_at_each_call(rt: HostRuntime) -> Result<(), Fail> {
+    let mut core = Core::open(rt.alloc(), 0)?;
+    assert!(rt; is_closed(&rt, &mut core) && ends_at_reads(&rt, core.published()) == 8);
     Ok(())
 }
 
@@ -195,21 +198,26 @@ fn ends_at_write(rt: &HostRuntime, log: &Published, failing: u32, failure: Failu
         && calls == (0, 1)
 }
 
-// The replies have 21, 96 and 21 bytes: 3, 10 and 3 calls.
-#[test]
-fn a_writer_that_fails_at_each_call(rt: HostRuntime) -> Result<(), Fail> {
-    let log = closed(&rt)?;
+// How many calls end so, before the first that doesn't.
+fn ends_at_writes(rt: &HostRuntime, log: &Published) -> u32 {
     for failing in 1..=17 {
         for failure in [
             Failure::Error(ErrorKind::BrokenPipe),
             Failure::Error(ErrorKind::Interrupted),
             Failure::Nothing,
         ] {
-            assert!(rt;
-                ends_at_write(&rt, log.published(), failing, failure),
-                "{failing}"
-            );
+            if !ends_at_write(rt, log, failing, failure) {
+                return failing - 1;
+            }
         }
     }
+    17
+}
+
+// The replies have 21, 96 and 21 bytes: 3, 10 and 3 calls.
+#[test]
+fn a_writer_that_fails_at_each_call(rt: HostRuntime) -> Result<(), Fail> {
+    let mut core = Core::open(rt.alloc(), 0)?;
+    assert!(rt; is_closed(&rt, &mut core) && ends_at_writes(&rt, core.published()) == 17);
     Ok(())
 }

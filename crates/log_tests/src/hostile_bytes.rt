@@ -1,22 +1,7 @@
 // Leaves and chains cut off, changed and made longer. What each is answered was worked out by hand from RFC 6962, sections 3.4 and 4.6.
+use crate::rows::{Row, Shown, right_rows};
 use ct_codec::{DecodeFault, decode_chain, decode_leaf, decode_pre_chain};
-use std::test::*;
-
-// The leaf of the certificate 41 at moment 1.
-const LEAF: [u8; 18] = [0, 0, 0, 0, 0, 0, 0, 0, 0, 1, 0, 0, 0, 0, 1, 0x41, 0, 0];
-
-// The leaf of a precertificate at moment 0: a key's hash of 32 bytes 11, the TBSCertificate 41, the extensions aa bb.
-const PRECERT: [u8; 52] = [
-    0, 0, 0, 0, 0, 0, 0, 0, 0, 0, 0, 1, 17, 17, 17, 17, 17, 17, 17, 17, 17, 17, 17, 17, 17, 17, 17,
-    17, 17, 17, 17, 17, 17, 17, 17, 17, 17, 17, 17, 17, 17, 17, 17, 17, 0, 0, 1, 0x41, 0, 2, 0xaa,
-    0xbb,
-];
-
-// The chain of the certificates 42 and 41 42.
-const CHAIN: [u8; 12] = [0, 0, 9, 0, 0, 1, 0x42, 0, 0, 2, 0x41, 0x42];
-
-// The precertificate 42, and behind it the chain of the certificates 42 and 41 42.
-const PRE_CHAIN: [u8; 16] = [0, 0, 1, 0x42, 0, 0, 9, 0, 0, 1, 0x42, 0, 0, 2, 0x41, 0x42];
+use std::alloc::AllocError;
 
 // What is read from the bytes.
 #[derive(Clone, Copy)]
@@ -46,7 +31,7 @@ fn sign(rt: &HostRuntime, kind: Kind, bytes: &[u8]) -> char {
 }
 
 // The signs of each beginning of the bytes, and of one byte 00 more.
-fn cut(rt: &HostRuntime, kind: Kind, bytes: &[u8]) -> Result<String, Fail> {
+fn cut(rt: &HostRuntime, kind: Kind, bytes: &[u8]) -> Result<String, AllocError> {
     let mut signs = String::new(rt.alloc());
     let mut longer = Vec::from_slice(rt.alloc(), bytes)?;
     longer.push(0)?;
@@ -57,7 +42,7 @@ fn cut(rt: &HostRuntime, kind: Kind, bytes: &[u8]) -> Result<String, Fail> {
 }
 
 // The signs of the bytes with each of them in turn made this one.
-fn changed(rt: &HostRuntime, kind: Kind, bytes: &[u8], byte: u8) -> Result<String, Fail> {
+fn changed(rt: &HostRuntime, kind: Kind, bytes: &[u8], byte: u8) -> Result<String, AllocError> {
     let mut signs = String::new(rt.alloc());
     for place in 0..bytes.len() {
         let mut other = Vec::from_slice(rt.alloc(), bytes)?;
@@ -69,55 +54,66 @@ fn changed(rt: &HostRuntime, kind: Kind, bytes: &[u8], byte: u8) -> Result<Strin
     Ok(signs)
 }
 
-// Whether cutting off the bytes, and making each of them 00 or ff, is answered by these signs.
-fn answered(
-    rt: &HostRuntime,
-    kind: Kind,
-    bytes: &[u8],
-    cuts: &str,
-    zeros: &str,
-    ones: &str,
-) -> Result<bool, Fail> {
-    let is_cut = cut(rt, kind, bytes)?.as_str() == cuts;
-    let is_zeros = changed(rt, kind, bytes, 0x00)?.as_str() == zeros;
-    let is_ones = changed(rt, kind, bytes, 0xff)?.as_str() == ones;
-    Ok(is_cut && is_zeros && is_ones)
+// Cuts off and changes bytes.
+#[derive(Clone, Copy)]
+struct Hostile;
+
+fn kind_of(word: &str) -> Option<Kind> {
+    match word {
+        "leaf" => Some(Kind::Leaf),
+        "chain" => Some(Kind::Chain),
+        "pre-chain" => Some(Kind::PreChain),
+        _ => None,
+    }
 }
 
-#[test]
-fn leaves_and_chains_cut_off_and_changed(rt: HostRuntime) -> Result<(), Fail> {
-    let table: [(Kind, &[u8], &str, &str, &str); 4] = [
-        (
-            Kind::Leaf,
-            &LEAF,
-            "TTTTTTTTTTTTTTTTTT.X",
-            "..............E...",
-            "VL........BBTTT.TT",
-        ),
-        (
-            Kind::Leaf,
-            &PRECERT,
-            "TTTTTTTTTTTTTTTTTTTTTTTTTTTTTTTTTTTTTTTTTTTTTTTTTTTT.X",
-            "...........T..................................E..X..",
-            "VL........BB................................TTT.TT..",
-        ),
-        (
-            Kind::Chain,
-            &CHAIN,
-            "TTTTTTTTTTTT.X",
-            "..X..E...E..",
-            "TTTTTT.TTT..",
-        ),
-        (
-            Kind::PreChain,
-            &PRE_CHAIN,
-            "TTTTTTTTTTTTTTTT.X",
-            "..E...X..E...E..",
-            "TTT.TTTTTT.TTT..",
-        ),
-    ];
-    for (kind, bytes, cuts, zeros, ones) in table {
-        assert!(rt; answered(&rt, kind, bytes, cuts, zeros, ones)?, "{cuts}");
+// The signs of the bytes cut off, and with each byte made 00 and ff, or none.
+fn signs(rt: &HostRuntime, how: &str, kind: Kind, bytes: &[u8]) -> Result<String, AllocError> {
+    match how {
+        "cut" => cut(rt, kind, bytes),
+        "zeros" => changed(rt, kind, bytes, 0x00),
+        "ones" => changed(rt, kind, bytes, 0xff),
+        _ => Ok(String::new(rt.alloc())),
     }
-    Ok(())
+}
+
+impl Shown for Hostile {
+    // A row of what is done to bytes, as what they are read, and the bytes: the signs.
+    fn is_right(&mut self, rt: &HostRuntime, mut row: Row<'_>) -> bool {
+        let how = row.word();
+        let kind = kind_of(row.word());
+        let bytes = row.bytes(rt);
+        match kind {
+            Some(kind) => is_signed(rt, &signs(rt, how, kind, &bytes), row),
+            None => false,
+        }
+    }
+}
+
+fn is_signed(rt: &HostRuntime, signs: &Result<String, AllocError>, row: Row<'_>) -> bool {
+    match signs {
+        Ok(signs) => row.says(rt, signs),
+        Err(_) => false,
+    }
+}
+
+// A leaf of the certificate 41 at moment 1; the leaf of a precertificate at moment 0: a key's hash of 32 bytes 11, the
+// TBSCertificate 41, the extensions aa bb; the chain of the certificates 42 and 41 42; the precertificate 42, and behind it
+// that chain.
+#[test]
+fn leaves_and_chains_cut_off_and_changed(rt: HostRuntime) {
+    let rows = "\
+cut leaf 0,0,0,0,0,0,0,0,0,1,0,0,0,0,1,65,0,0 => \"TTTTTTTTTTTTTTTTTT.X\"
+zeros leaf 0,0,0,0,0,0,0,0,0,1,0,0,0,0,1,65,0,0 => \"..............E...\"
+ones leaf 0,0,0,0,0,0,0,0,0,1,0,0,0,0,1,65,0,0 => \"VL........BBTTT.TT\"
+cut leaf 0,0,0,0,0,0,0,0,0,0,0,1,17,17,17,17,17,17,17,17,17,17,17,17,17,17,17,17,17,17,17,17,17,17,17,17,17,17,17,17,17,17,17,17,0,0,1,65,0,2,170,187 => \"TTTTTTTTTTTTTTTTTTTTTTTTTTTTTTTTTTTTTTTTTTTTTTTTTTTT.X\"
+zeros leaf 0,0,0,0,0,0,0,0,0,0,0,1,17,17,17,17,17,17,17,17,17,17,17,17,17,17,17,17,17,17,17,17,17,17,17,17,17,17,17,17,17,17,17,17,0,0,1,65,0,2,170,187 => \"...........T..................................E..X..\"
+ones leaf 0,0,0,0,0,0,0,0,0,0,0,1,17,17,17,17,17,17,17,17,17,17,17,17,17,17,17,17,17,17,17,17,17,17,17,17,17,17,17,17,17,17,17,17,0,0,1,65,0,2,170,187 => \"VL........BB................................TTT.TT..\"
+cut chain 0,0,9,0,0,1,66,0,0,2,65,66 => \"TTTTTTTTTTTT.X\"
+zeros chain 0,0,9,0,0,1,66,0,0,2,65,66 => \"..X..E...E..\"
+ones chain 0,0,9,0,0,1,66,0,0,2,65,66 => \"TTTTTT.TTT..\"
+cut pre-chain 0,0,1,66,0,0,9,0,0,1,66,0,0,2,65,66 => \"TTTTTTTTTTTTTTTT.X\"
+zeros pre-chain 0,0,1,66,0,0,9,0,0,1,66,0,0,2,65,66 => \"..E...X..E...E..\"
+ones pre-chain 0,0,1,66,0,0,9,0,0,1,66,0,0,2,65,66 => \"TTT.TTTTTT.TTT..\"";
+    assert!(rt; right_rows(&rt, &mut Hostile, rows) == 12);
 }

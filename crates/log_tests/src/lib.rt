@@ -14,6 +14,8 @@ mod precertificates;
 #[cfg(test)]
 mod request_lines;
 #[cfg(test)]
+mod rows;
+#[cfg(test)]
 mod serving;
 #[cfg(test)]
 mod settled_log;

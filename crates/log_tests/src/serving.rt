@@ -1,3 +1,4 @@
+use crate::rows::{Row, Shown, right_rows};
 use crate::settled_log::{publish, settle};
 use ct_codec::Refusal;
 use ct_core::{Core, Published};
@@ -29,70 +30,68 @@ fn writes(rt: &HostRuntime, log: &Published, mut input: &[u8], text: &[u8]) -> b
     end.is_ok() && output.as_slice() == text
 }
 
-const GET_STH: &[u8] = b"{\"who\":\"frozen\",\"op\":\"get-sth\"}\n";
-
-const EMPTY_HEAD: &[u8] =
-    b"{\"sha256_root_hash\":\"47DEQpj8HBSa+/TImW+5JCeuQeRkm5NMpJWZG3hSuFU=\",\"timestamp\":7,\"tree_size\":0}\n";
-
-const BAD_LINE: &[u8] = b"{\"error\":\"bad-line\"}\n";
-
-const THREE_BAD_LINES: &[u8] =
-    b"{\"error\":\"bad-line\"}\n{\"error\":\"bad-line\"}\n{\"error\":\"bad-line\"}\n";
-
-// What logs write for their input. Each row has how often the certificate was settled and when, when the log was closed,
-// the lines, and the replies: a head; receipts of a repeat and of no ticket; an entry and an audit of its proof; audits at
-// another index, of another leaf, at a size that no head has, and at size 0; no line, and lines that are not of the log.
-#[test]
-fn what_the_frozen_log_writes(rt: HostRuntime) -> Result<(), Fail> {
-    let rows: [(u64, u64, u64, &[u8], &[u8]); 8] = [
-        (0, 0, 7, GET_STH, EMPTY_HEAD),
-        (
-            2,
-            3,
-            9,
-            b"{\"who\":\"frozen\",\"op\":\"receipt\",\"ticket\":1}\n{\"who\":\"frozen\",\"op\":\"receipt\",\"ticket\":2}\n",
-            b"{\"extensions\":\"\",\"leaf_index\":0,\"sct_version\":0,\"timestamp\":3}\n{\"error\":\"not-yet\"}\n",
-        ),
-        (
-            1,
-            1,
-            9,
-            b"{\"who\":\"frozen\",\"op\":\"get-entry-and-proof\",\"leaf_index\":0,\"tree_size\":1}\n{\"who\":\"frozen\",\"op\":\"audit\",\"leaf_input\":\"AAAAAAAAAAAAAQAAAAABQQAA\",\"leaf_index\":0,\"tree_size\":1,\"audit_path\":[]}\n",
-            b"{\"audit_path\":[],\"extra_data\":\"AAAA\",\"leaf_input\":\"AAAAAAAAAAAAAQAAAAABQQAA\"}\n{\"verdict\":\"holds\"}\n",
-        ),
-        (
-            1,
-            1,
-            9,
-            b"{\"who\":\"frozen\",\"op\":\"audit\",\"leaf_input\":\"AAAAAAAAAAAAAQAAAAABQQAA\",\"leaf_index\":1,\"tree_size\":1,\"audit_path\":[]}\n{\"who\":\"frozen\",\"op\":\"audit\",\"leaf_input\":\"AAAAAAAAAAAAAQAAAAABQgAA\",\"leaf_index\":0,\"tree_size\":1,\"audit_path\":[]}\n{\"who\":\"frozen\",\"op\":\"audit\",\"leaf_input\":\"AAAAAAAAAAAAAQAAAAABQQAA\",\"leaf_index\":0,\"tree_size\":2,\"audit_path\":[]}\n{\"who\":\"frozen\",\"op\":\"audit\",\"leaf_input\":\"AAAAAAAAAAAAAQAAAAABQQAA\",\"leaf_index\":0,\"tree_size\":0,\"audit_path\":[]}\n",
-            b"{\"verdict\":\"refused\"}\n{\"verdict\":\"refused\"}\n{\"error\":\"unknown-size\"}\n{\"verdict\":\"refused\"}\n",
-        ),
-        (0, 0, 9, b"", b""),
-        (0, 0, 9, b"\n", b""),
-        (
-            0,
-            0,
-            9,
-            b"{}\n\n{\"who\":1,\"op\":\"get-sth\"}\n{\"who\":\"operator\",\"op\":\"publish\",\"now\":-1}",
-            THREE_BAD_LINES,
-        ),
-        (
-            0,
-            0,
-            9,
-            b"\n\r\n \n{\"who\":\"operator\",\"op\":\"shutdown\"}\n\n",
-            THREE_BAD_LINES,
-        ),
-    ];
-    for (count, now, close_at, lines, replies) in rows {
-        let log = closed_log(&rt, count, now, close_at)?;
-        assert!(rt; writes(&rt, log.published(), lines, replies));
+// The text with an end of line for each bar. A hyphen alone is no text.
+fn unfolded(rt: &HostRuntime, text: &str) -> Result<Vec<u8>, Refusal> {
+    let mut bytes = Vec::new(rt.alloc());
+    if text == "-" {
+        return Ok(bytes);
     }
-    Ok(())
+    for byte in text.as_bytes() {
+        bytes.push(if *byte == b'|' { b'\n' } else { *byte })?;
+    }
+    Ok(bytes)
+}
+
+// What logs write for their input.
+#[derive(Clone, Copy)]
+struct Logs;
+
+impl Shown for Logs {
+    // A row of how often the certificate was settled and when, when the log was closed, the lines, and the replies.
+    fn is_right(&mut self, rt: &HostRuntime, mut row: Row<'_>) -> bool {
+        let (count, now, close_at) = (row.number(), row.number(), row.number());
+        match (unfolded(rt, row.rest()), unfolded(rt, row.answer())) {
+            (Ok(lines), Ok(replies)) => {
+                !row.is_bad() && is_written(rt, (count, now, close_at), &lines, &replies)
+            }
+            _ => false,
+        }
+    }
+}
+
+// Whether such a log writes these replies.
+fn is_written(
+    rt: &HostRuntime,
+    (count, now, close_at): (u64, u64, u64),
+    lines: &[u8],
+    replies: &[u8],
+) -> bool {
+    match closed_log(rt, count, now, close_at) {
+        Ok(log) => writes(rt, log.published(), lines, replies),
+        Err(_) => false,
+    }
+}
+
+// A head; receipts of a repeat and of no ticket; an entry and an audit of its proof; audits at another index, of another
+// leaf, at a size that no head has, and at size 0; no line, and lines that are not of the log.
+#[test]
+fn what_the_frozen_log_writes(rt: HostRuntime) {
+    let rows =
+        r#"0 0 7 {"who":"frozen","op":"get-sth"}| => {"sha256_root_hash":"47DEQpj8HBSa+/TImW+5JCeuQeRkm5NMpJWZG3hSuFU=","timestamp":7,"tree_size":0}|
+2 3 9 {"who":"frozen","op":"receipt","ticket":1}|{"who":"frozen","op":"receipt","ticket":2}| => {"extensions":"","leaf_index":0,"sct_version":0,"timestamp":3}|{"error":"not-yet"}|
+1 1 9 {"who":"frozen","op":"get-entry-and-proof","leaf_index":0,"tree_size":1}|{"who":"frozen","op":"audit","leaf_input":"AAAAAAAAAAAAAQAAAAABQQAA","leaf_index":0,"tree_size":1,"audit_path":[]}| => {"audit_path":[],"extra_data":"AAAA","leaf_input":"AAAAAAAAAAAAAQAAAAABQQAA"}|{"verdict":"holds"}|
+1 1 9 {"who":"frozen","op":"audit","leaf_input":"AAAAAAAAAAAAAQAAAAABQQAA","leaf_index":1,"tree_size":1,"audit_path":[]}|{"who":"frozen","op":"audit","leaf_input":"AAAAAAAAAAAAAQAAAAABQgAA","leaf_index":0,"tree_size":1,"audit_path":[]}|{"who":"frozen","op":"audit","leaf_input":"AAAAAAAAAAAAAQAAAAABQQAA","leaf_index":0,"tree_size":2,"audit_path":[]}|{"who":"frozen","op":"audit","leaf_input":"AAAAAAAAAAAAAQAAAAABQQAA","leaf_index":0,"tree_size":0,"audit_path":[]}| => {"verdict":"refused"}|{"verdict":"refused"}|{"error":"unknown-size"}|{"verdict":"refused"}|
+0 0 9 - => -
+0 0 9 | => -
+0 0 9 {}||{"who":1,"op":"get-sth"}|{"who":"operator","op":"publish","now":-1} => {"error":"bad-line"}|{"error":"bad-line"}|{"error":"bad-line"}|"#;
+    assert!(rt; right_rows(&rt, &mut Logs, rows) == 7);
+    let row =
+        "0 0 9 |\r| |{\"who\":\"operator\",\"op\":\"shutdown\"}|| => {\"error\":\"bad-line\"}|{\"error\":\"bad-line\"}|{\"error\":\"bad-line\"}|";
+    assert!(rt; right_rows(&rt, &mut Logs, row) == 1);
 }
 
 // Whether the log refuses a line by this name, and answers a question behind it.
-fn refuses(rt: &HostRuntime, log: &Published, line: &str, name: &str) -> Result<bool, Fail> {
+fn refuses(rt: &HostRuntime, log: &Published, line: &str, name: &str) -> Result<bool, Refusal> {
     let question = r#"{"who":"frozen","op":"receipt","ticket":0}"#;
     let answer = r#"{"extensions":"","leaf_index":0,"sct_version":0,"timestamp":1}"#;
     let lines = format!(in rt.alloc(); "{line}\n{question}\n")?;
@@ -100,79 +99,87 @@ fn refuses(rt: &HostRuntime, log: &Published, line: &str, name: &str) -> Result<
     Ok(writes(rt, log, lines.as_bytes(), replies.as_bytes()))
 }
 
+// A log of one leaf, with a question that is answered behind each line.
+#[derive(Drop)]
+struct Refusing<'a> {
+    log: &'a Published,
+}
+
+impl Shown for Refusing<'_> {
+    // A row of a line, and the name of its refusal.
+    fn is_right(&mut self, rt: &HostRuntime, row: Row<'_>) -> bool {
+        let is_refused = refuses(rt, self.log, row.rest(), row.answer());
+        !row.is_bad() && matches!(&is_refused, Ok(true))
+    }
+}
+
 // Each refusal of the frozen log, with a question that is answered behind it.
 #[test]
 fn a_refusal_and_then_an_answer(rt: HostRuntime) -> Result<(), Fail> {
+    let rows = r#"{"who":"frozen","op":"get-sth-consistency","first":1,"second":2} => unknown-size
+{"who":"frozen","op":"get-sth-consistency","first":0,"second":1} => bad-range
+{"who":"frozen","op":"get-proof-by-hash","hash":"AAAAAAAAAAAAAAAAAAAAAAAAAAAAAAAAAAAAAAAAAAA=","tree_size":2} => unknown-size
+{"who":"frozen","op":"get-proof-by-hash","hash":"AAAAAAAAAAAAAAAAAAAAAAAAAAAAAAAAAAAAAAAAAAA=","tree_size":1} => unknown-leaf
+{"who":"frozen","op":"get-entries","start":1,"end":1} => bad-range
+{"who":"frozen","op":"get-entry-and-proof","leaf_index":0,"tree_size":3} => unknown-size
+{"who":"frozen","op":"get-entry-and-proof","leaf_index":1,"tree_size":1} => bad-range
+{"who":"frozen","op":"receipt","ticket":1} => not-yet
+{"who":"frozen","op":"audit","leaf_input":"","leaf_index":0,"tree_size":2,"audit_path":[]} => unknown-size
+{"who":"frozen","op":"await-size"} => bad-line"#;
     let log = closed_log(&rt, 1, 1, 9)?;
-    for (line, name) in [
-        (
-            r#"{"who":"frozen","op":"get-sth-consistency","first":1,"second":2}"#,
-            "unknown-size",
-        ),
-        (
-            r#"{"who":"frozen","op":"get-sth-consistency","first":0,"second":1}"#,
-            "bad-range",
-        ),
-        (
-            r#"{"who":"frozen","op":"get-proof-by-hash","hash":"AAAAAAAAAAAAAAAAAAAAAAAAAAAAAAAAAAAAAAAAAAA=","tree_size":2}"#,
-            "unknown-size",
-        ),
-        (
-            r#"{"who":"frozen","op":"get-proof-by-hash","hash":"AAAAAAAAAAAAAAAAAAAAAAAAAAAAAAAAAAAAAAAAAAA=","tree_size":1}"#,
-            "unknown-leaf",
-        ),
-        (
-            r#"{"who":"frozen","op":"get-entries","start":1,"end":1}"#,
-            "bad-range",
-        ),
-        (
-            r#"{"who":"frozen","op":"get-entry-and-proof","leaf_index":0,"tree_size":3}"#,
-            "unknown-size",
-        ),
-        (
-            r#"{"who":"frozen","op":"get-entry-and-proof","leaf_index":1,"tree_size":1}"#,
-            "bad-range",
-        ),
-        (r#"{"who":"frozen","op":"receipt","ticket":1}"#, "not-yet"),
-        (
-            r#"{"who":"frozen","op":"audit","leaf_input":"","leaf_index":0,"tree_size":2,"audit_path":[]}"#,
-            "unknown-size",
-        ),
-        (r#"{"who":"frozen","op":"await-size"}"#, "bad-line"),
-    ] {
-        assert!(rt; refuses(&rt, log.published(), line, name)?, "{line}");
-    }
+    let mut refusing = Refusing {
+        log: log.published(),
+    };
+    assert!(rt; right_rows(&rt, &mut refusing, rows) == 10);
     Ok(())
 }
 
 // A line that begins so, of so many bytes with blanks at the end, and then these bytes.
-fn padded(rt: &HostRuntime, start: &[u8], len: usize, behind: &[u8]) -> Result<Vec<u8>, Fail> {
+fn padded(rt: &HostRuntime, start: &[u8], len: usize, behind: &[u8]) -> Result<Vec<u8>, Refusal> {
     let mut line = Vec::from_slice(rt.alloc(), start)?;
     line.resize(len, b' ')?;
     line.extend_from_slice(behind)?;
     Ok(line)
 }
 
+// A log of no leaves, and lines that are padded.
+#[derive(Drop)]
+struct Padding<'a> {
+    log: &'a Published,
+}
+
+// A row of how long the line is, what comes behind it and how it begins, and the replies.
+fn is_padded_answered(
+    rt: &HostRuntime,
+    log: &Published,
+    mut row: Row<'_>,
+) -> Result<bool, Refusal> {
+    let len = row.number() as usize;
+    let behind = unfolded(rt, row.word())?;
+    let lines = padded(rt, row.rest().as_bytes(), len, &behind)?;
+    let replies = unfolded(rt, row.answer())?;
+    Ok(!row.is_bad() && writes(rt, log, &lines, &replies))
+}
+
+impl Shown for Padding<'_> {
+    fn is_right(&mut self, rt: &HostRuntime, row: Row<'_>) -> bool {
+        matches!(is_padded_answered(rt, self.log, row), Ok(true))
+    }
+}
+
 // The longest line that is a request, the longest one that is no JSON and a question behind it, and longer ones.
 #[test]
 fn long_lines(rt: HostRuntime) -> Result<(), Fail> {
+    let rows =
+        r#"1048576 - {"who":"frozen","op":"get-sth"} => {"sha256_root_hash":"47DEQpj8HBSa+/TImW+5JCeuQeRkm5NMpJWZG3hSuFU=","timestamp":7,"tree_size":0}|
+1048576 |{"who":"frozen","op":"get-sth"}| {"who": => {"error":"bad-line"}|{"sha256_root_hash":"47DEQpj8HBSa+/TImW+5JCeuQeRkm5NMpJWZG3hSuFU=","timestamp":7,"tree_size":0}|
+1048577 - {"who":"frozen","op":"get-sth"} => {"error":"bad-line"}|
+1048599 |{}||[] {"who":"frozen","op":"get-sth"} => {"error":"bad-line"}|{"error":"bad-line"}|{"error":"bad-line"}|"#;
     let log = closed_log(&rt, 0, 0, 7)?;
-    let question = GET_STH.trim_ascii_end();
-    let rows: [(&[u8], usize, &[u8], &[u8]); 4] = [
-        (question, 1_048_576, b"", EMPTY_HEAD),
-        (
-            b"{\"who\":",
-            1_048_576,
-            b"\n{\"who\":\"frozen\",\"op\":\"get-sth\"}\n",
-            b"{\"error\":\"bad-line\"}\n{\"sha256_root_hash\":\"47DEQpj8HBSa+/TImW+5JCeuQeRkm5NMpJWZG3hSuFU=\",\"timestamp\":7,\"tree_size\":0}\n",
-        ),
-        (question, 1_048_577, b"", BAD_LINE),
-        (question, 1_048_599, b"\n{}\n\n[]", THREE_BAD_LINES),
-    ];
-    for (start, len, behind, replies) in rows {
-        let lines = padded(&rt, start, len, behind)?;
-        assert!(rt; writes(&rt, log.published(), &lines, replies), "{len}");
-    }
+    let mut padding = Padding {
+        log: log.published(),
+    };
+    assert!(rt; right_rows(&rt, &mut padding, rows) == 4);
     Ok(())
 }
 
@@ -213,28 +220,67 @@ fn broken_end(
 }
 
 // 8,192 empty lines and one that is no request.
-fn long_text(rt: &HostRuntime) -> Result<Vec<u8>, Fail> {
+fn long_text(rt: &HostRuntime) -> Result<Vec<u8>, Refusal> {
     let mut long = vec![in rt.alloc(); b'\n'; 8_192]?;
     long.extend_from_slice(b"{}\n")?;
     Ok(long)
 }
 
-// One of them fails after 8,195 reads of one byte.
-#[test]
-fn a_reader_that_fails(rt: HostRuntime) -> Result<(), Fail> {
-    let log = closed_log(&rt, 0, 0, 9)?;
-    let long = long_text(&rt)?;
-    let rows: [(&[u8], usize, &[u8], u64); 4] = [
-        (b"{}\n", 9, BAD_LINE, 1),
-        (b"\n{}\n\n[]\n{\n{", 1, THREE_BAD_LINES, 3),
-        (b"", 9, b"", 0),
-        (&long, 1, BAD_LINE, 1),
-    ];
-    for (text, step, replies, count) in rows {
-        let end = broken_end(&rt, log.published(), Breaking { text, step }, replies);
-        assert!(rt; end == Some(ServeFault::Read(count)), "{text:?}");
+// A log of no leaves, over readers and writers that fail.
+#[derive(Drop)]
+struct Failing<'a> {
+    log: &'a Published,
+}
+
+// A row of the bytes a call, the count of replies and the text, and the replies.
+fn is_read_fault(rt: &HostRuntime, log: &Published, mut row: Row<'_>) -> Result<bool, Refusal> {
+    let step = row.number() as usize;
+    let count = row.number();
+    let text = match row.rest() {
+        "long" => long_text(rt)?,
+        rest => unfolded(rt, rest)?,
+    };
+    let replies = unfolded(rt, row.answer())?;
+    let end = broken_end(rt, log, Breaking { text: &text, step }, &replies);
+    Ok(!row.is_bad() && end == Some(ServeFault::Read(count)))
+}
+
+// A row of the room, whether the writer fails there, and the count of replies, and what is written.
+fn is_write_fault(rt: &HostRuntime, log: &Published, mut row: Row<'_>) -> Result<bool, Refusal> {
+    let left = row.number() as usize;
+    let fails = row.word();
+    let count = row.number();
+    let text = unfolded(rt, row.answer())?;
+    let end = cramped_end(rt, log, left, fails == "true", &text);
+    Ok(
+        !row.is_bad()
+            && (fails == "true" || fails == "false")
+            && end == Some(ServeFault::Write(count)),
+    )
+}
+
+impl Shown for Failing<'_> {
+    fn is_right(&mut self, rt: &HostRuntime, mut row: Row<'_>) -> bool {
+        let answer = match row.word() {
+            "reader" => is_read_fault(rt, self.log, row),
+            "writer" => is_write_fault(rt, self.log, row),
+            _ => Ok(false),
+        };
+        matches!(answer, Ok(true))
     }
-    Ok(())
+}
+
+// How many rows a log of no leaves answers rightly, before the first that it doesn't.
+fn failed(rt: &HostRuntime, rows: &str) -> u32 {
+    match closed_log(rt, 0, 0, 9) {
+        Ok(log) => {
+            let mut failing = Failing {
+                log: log.published(),
+            };
+            right_rows(rt, &mut failing, rows)
+        }
+        Err(_) => 0,
+    }
 }
 
 // A writer that takes at most 10 bytes a call, and none past its room: there it fails, or writes no bytes.
@@ -283,39 +329,52 @@ fn cramped_end(
     }
 }
 
+// One of them fails after 8,195 reads of one byte.
 #[test]
-fn writers_that_fail_or_take_no_bytes(rt: HostRuntime) -> Result<(), Fail> {
-    let log = closed_log(&rt, 0, 0, 9)?;
-    let rows: [(usize, bool, &[u8], u64); 5] = [
-        (20, true, b"{\"error\":\"bad-line\"}", 0),
-        (21, true, BAD_LINE, 1),
-        (25, true, b"{\"error\":\"bad-line\"}\n{\"sh", 1),
-        (0, false, b"", 0),
-        (21, false, BAD_LINE, 1),
-    ];
-    for (left, fails, text, count) in rows {
-        let end = cramped_end(&rt, log.published(), left, fails, text);
-        assert!(rt; end == Some(ServeFault::Write(count)), "{left} {fails}");
-    }
-    Ok(())
+fn a_reader_that_fails(rt: HostRuntime) {
+    let rows = r#"reader 9 1 {}| => {"error":"bad-line"}|
+reader 1 3 |{}||[]|{|{ => {"error":"bad-line"}|{"error":"bad-line"}|{"error":"bad-line"}|
+reader 9 0 - => -
+reader 1 1 long => {"error":"bad-line"}|"#;
+    assert!(rt; failed(&rt, rows) == 4);
 }
 
 #[test]
-fn faults_are_sentences(rt: HostRuntime) -> Result<(), Fail> {
-    for (fault, text) in [
-        (ServeFault::Read(1), "the reader failed after 1 replies"),
-        (
-            ServeFault::Write(2),
-            "the writer failed or took no bytes after 2 replies",
-        ),
-        (ServeFault::Memory(3), "memory was refused after 3 replies"),
-        (
-            ServeFault::Endless(4),
-            "the input had not ended after 4 replies and 2^50 reads",
-        ),
-    ] {
-        let told = format!(in rt.alloc(); "{fault}")?;
-        assert_eq!(rt; told.as_str(), text);
+fn writers_that_fail_or_take_no_bytes(rt: HostRuntime) {
+    let rows = r#"writer 20 true 0 => {"error":"bad-line"}
+writer 21 true 1 => {"error":"bad-line"}|
+writer 25 true 1 => {"error":"bad-line"}|{"sh
+writer 0 false 0 => -
+writer 21 false 1 => {"error":"bad-line"}|"#;
+    assert!(rt; failed(&rt, rows) == 5);
+}
+
+// Whether a fault is displayed as this sentence.
+fn is_told(rt: &HostRuntime, fault: ServeFault, text: &str) -> bool {
+    match format!(in rt.alloc(); "{fault}") {
+        Ok(told) => told.as_str() == text,
+        Err(_) => false,
     }
-    Ok(())
+}
+
+#[test]
+fn faults_are_sentences(rt: HostRuntime) {
+    assert!(rt;
+        is_told(
+            &rt,
+            ServeFault::Read(1),
+            "the reader failed after 1 replies"
+        )
+    );
+    let text = "the writer failed or took no bytes after 2 replies";
+    assert!(rt; is_told(&rt, ServeFault::Write(2), text));
+    assert!(rt;
+        is_told(
+            &rt,
+            ServeFault::Memory(3),
+            "memory was refused after 3 replies"
+        )
+    );
+    let text = "the input had not ended after 4 replies and 2^50 reads";
+    assert!(rt; is_told(&rt, ServeFault::Endless(4), text));
 }

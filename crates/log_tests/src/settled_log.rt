@@ -8,7 +8,6 @@ use ct_codec::{Item, Refusal, Submission, leaf_input};
 use ct_core::{Core, Query, Reply, Settled};
 use ct_tree::{Head, Sha256Hash, leaf_hash};
 use std::alloc::Global;
-use std::test::Fail;
 
 // A chain of one certificate.
 pub(crate) fn submission(heap: Global, certificate: &[u8]) -> Result<Submission, Refusal> {
@@ -24,10 +23,6 @@ fn hashed(rt: &HostRuntime, submission: &Submission, now: u64) -> Result<[u8; 32
 {
     let leaf = leaf_input(rt.alloc(), submission, now)?;
     Ok(leaf_hash(&Sha256Hash, &leaf))
-}
-
-pub(crate) fn opened(rt: &HostRuntime, now: u64) -> Result<Core, Fail> {
-    Ok(Core::open(rt.alloc(), now)?)
 }
 
 // Settles a submission. Where memory is refused, the item that came back is tried once more.
@@ -108,17 +103,4 @@ pub(crate) fn is_text(made: Result<Vec<u8>, Refusal>, text: &[u8]) -> bool {
         Ok(bytes) => bytes.as_slice() == text,
         Err(_) => false,
     }
-}
-
-// Whether these are the texts.
-pub(crate) fn are_texts(made: &[Vec<u8>], texts: &[&[u8]]) -> bool {
-    if made.len() != texts.len() {
-        return false;
-    }
-    for place in 0..texts.len() {
-        if made[place].as_slice() != texts[place] {
-            return false;
-        }
-    }
-    true
 }

@@ -3,7 +3,7 @@
 // root down, by the recursions of RFC 6962, sections 2.1.1 and 2.1.2, while the verifiers go up from the leaf. The numbers of proofs, and of
 // those accepted, were computed by Python: the 45 true paths and 36 true proofs, and 44 and 48 times the same ones at another index or size
 // from which they go by the same sides. A path doesn't show the size of its tree: the tree head does.
-ghost use Rattle.std.specs.Prelude.{◌≡◌, ◌<◌, IfOk};
+ghost use Rattle.std.specs.Prelude.{◌≡◌, ◌<◌, IfOk, length};
 
 use ct_tree::reference::{path, proof, root};
 use ct_tree::{Sha256Hash, leaf_hash, node_hash};
@@ -179,64 +179,152 @@ fn copied(alloc: Global, path: &[[u8; 32]]) -> Result<Vec<[u8; 32]>, AllocError>
     Ok(copy)
 }
 
-// The path with each element left out, doubled, with one bit changed, and swapped with each behind it.
-fn forged(alloc: Global, path: &[[u8; 32]]) -> Result<Vec<Vec<[u8; 32]>>, AllocError> {
-    let mut all = Vec::new(alloc);
-    for i in 0..path.len() {
-        let mut shorter = copied(alloc, path)?;
-        shorter.remove(i);
-        all.push(shorter)?;
-        let mut longer = copied(alloc, path)?;
-        longer.insert(i, path[i])?;
-        all.push(longer)?;
-        let mut changed = copied(alloc, path)?;
-        changed[i] = flipped(&path[i], i);
-        all.push(changed)?;
-        for j in i + 1..path.len() {
-            let mut swapped = copied(alloc, path)?;
-            swapped.swap(i, j);
-            all.push(swapped)?;
-        }
-    }
-    Ok(all)
+// The path with an element left out, doubled, and with one bit changed.
+fn push_forged(
+    alloc: Global,
+    path: &[[u8; 32]],
+    i: usize,
+    all: &mut Vec<Vec<[u8; 32]>>,
+) -> Result<(), AllocError>
+    requires { i < length path.now }
+{
+    let mut shorter = copied(alloc, path)?;
+    shorter.remove(i);
+    all.push(shorter)?;
+    let mut longer = copied(alloc, path)?;
+    longer.insert(i, path[i])?;
+    all.push(longer)?;
+    let mut changed = copied(alloc, path)?;
+    changed[i] = flipped(&path[i], i);
+    all.push(changed)?;
+    Ok(())
 }
 
-fn try_paths(alloc: Global, leaves: &[[u8; 32]], tally: &mut Tally) -> Result<(), AllocError> {
-    let n = leaves.len();
-    let tree_root = root(&Sha256Hash, leaves);
-    for m in 0..n {
-        let leaf = leaves[m];
-        let whole = path(alloc, &Sha256Hash, m, leaves)?;
-        for other in &forged(alloc, &whole)? {
-            tally.try_path(&leaf, m, n, other, &tree_root);
-        }
-        for index in m.saturating_sub(1)..=m + 1 {
-            for size in n - 1..=n + 1 {
-                tally.try_path(&leaf, index, size, &whole, &tree_root);
-            }
-        }
-        tally.try_path(&flipped(&leaf, m), m, n, &whole, &tree_root);
-        tally.try_path(&leaf, m, n, &whole, &flipped(&tree_root, m));
+// The path with an element swapped with each behind it.
+fn push_swapped(
+    alloc: Global,
+    path: &[[u8; 32]],
+    i: usize,
+    all: &mut Vec<Vec<[u8; 32]>>,
+) -> Result<(), AllocError>
+    requires { i < length path.now }
+{
+    for j in i + 1..path.len() {
+        let mut swapped = copied(alloc, path)?;
+        swapped.swap(i, j);
+        all.push(swapped)?;
     }
     Ok(())
 }
 
-fn try_proofs(alloc: Global, leaves: &[[u8; 32]], tally: &mut Tally) -> Result<(), AllocError> {
-    let n = leaves.len();
-    let second = root(&Sha256Hash, leaves);
-    for m in 1..n {
-        let first = root(&Sha256Hash, &leaves[..m]);
-        let whole = proof(alloc, &Sha256Hash, m, leaves)?;
-        for other in &forged(alloc, &whole)? {
-            tally.try_proof(m, n, &first, &second, other);
+// The path with each element left out, doubled, with one bit changed, and swapped with each behind it.
+fn forged(alloc: Global, path: &[[u8; 32]]) -> Result<Vec<Vec<[u8; 32]>>, AllocError> {
+    let mut all = Vec::new(alloc);
+    for i in 0..path.len() {
+        push_forged(alloc, path, i, &mut all)?;
+        push_swapped(alloc, path, i, &mut all)?;
+    }
+    Ok(all)
+}
+
+// A leaf, its index, the size and the root.
+#[derive(Clone, Copy)]
+struct Place {
+    leaf: [u8; 32],
+    m: usize,
+    n: usize,
+    root: [u8; 32],
+}
+
+impl Place {
+    fn try_all(&self, paths: &[Vec<[u8; 32]>], tally: &mut Tally) {
+        for path in paths {
+            tally.try_path(&self.leaf, self.m, self.n, path, &self.root);
         }
-        for old in m - 1..=m + 1 {
-            for new in n - 1..=n + 1 {
-                tally.try_proof(old, new, &first, &second, &whole);
+    }
+
+    // The path at other indices and sizes.
+    fn try_near(&self, path: &[[u8; 32]], tally: &mut Tally) {
+        for index in self.m.saturating_sub(1)..=self.m.saturating_add(1) {
+            for size in self.n.saturating_sub(1)..=self.n.saturating_add(1) {
+                tally.try_path(&self.leaf, index, size, path, &self.root);
             }
         }
-        tally.try_proof(m, n, &flipped(&first, m), &second, &whole);
-        tally.try_proof(m, n, &first, &flipped(&second, m), &whole);
+    }
+
+    // The path with another leaf and another root.
+    fn try_changed(&self, path: &[[u8; 32]], tally: &mut Tally) {
+        let leaf = flipped(&self.leaf, self.m);
+        tally.try_path(&leaf, self.m, self.n, path, &self.root);
+        let root = flipped(&self.root, self.m);
+        tally.try_path(&self.leaf, self.m, self.n, path, &root);
+    }
+}
+
+fn try_paths(alloc: Global, leaves: &[[u8; 32]], tally: &mut Tally) -> Result<(), AllocError> {
+    let root = root(&Sha256Hash, leaves);
+    for m in 0..leaves.len() {
+        let whole = path(alloc, &Sha256Hash, m, leaves)?;
+        let place = Place {
+            leaf: leaves[m],
+            m,
+            n: leaves.len(),
+            root,
+        };
+        place.try_near(&whole, tally);
+        place.try_changed(&whole, tally);
+        place.try_all(&forged(alloc, &whole)?, tally);
+    }
+    Ok(())
+}
+
+// Two sizes and their roots.
+#[derive(Clone, Copy)]
+struct Sizes {
+    m: usize,
+    n: usize,
+    first: [u8; 32],
+    second: [u8; 32],
+}
+
+impl Sizes {
+    fn try_all(&self, proofs: &[Vec<[u8; 32]>], tally: &mut Tally) {
+        for proof in proofs {
+            tally.try_proof(self.m, self.n, &self.first, &self.second, proof);
+        }
+    }
+
+    // The proof at other sizes.
+    fn try_near(&self, proof: &[[u8; 32]], tally: &mut Tally) {
+        for old in self.m.saturating_sub(1)..=self.m.saturating_add(1) {
+            for new in self.n.saturating_sub(1)..=self.n.saturating_add(1) {
+                tally.try_proof(old, new, &self.first, &self.second, proof);
+            }
+        }
+    }
+
+    // The proof with other roots.
+    fn try_changed(&self, proof: &[[u8; 32]], tally: &mut Tally) {
+        let first = flipped(&self.first, self.m);
+        tally.try_proof(self.m, self.n, &first, &self.second, proof);
+        let second = flipped(&self.second, self.m);
+        tally.try_proof(self.m, self.n, &self.first, &second, proof);
+    }
+}
+
+fn try_proofs(alloc: Global, leaves: &[[u8; 32]], tally: &mut Tally) -> Result<(), AllocError> {
+    let second = root(&Sha256Hash, leaves);
+    for m in 1..leaves.len() {
+        let whole = proof(alloc, &Sha256Hash, m, leaves)?;
+        let sizes = Sizes {
+            m,
+            n: leaves.len(),
+            first: root(&Sha256Hash, &leaves[..m]),
+            second,
+        };
+        sizes.try_near(&whole, tally);
+        sizes.try_changed(&whole, tally);
+        sizes.try_all(&forged(alloc, &whole)?, tally);
     }
     Ok(())
 }

@@ -8,6 +8,8 @@ mod forged_proofs;
 #[cfg(test)]
 mod monitor;
 #[cfg(test)]
+mod rows;
+#[cfg(test)]
 mod sweeps;
 #[cfg(test)]
 mod tree;

@@ -1,164 +1,148 @@
-use crate::evidence::{is_collision_of, one_byte_leaves};
+// A monitor, an auditor, a follower and a watcher of the tree of the leaves 41, 42 and 43.
+use crate::evidence::one_byte_leaves;
+use crate::rows::{Row, Shown, right_rows};
 use crate::weak_hashes::ZeroHash;
-use ct_monitor::{Auditor, Follower, Monitor, MonitorFault};
-use ct_tree::{Head, Sha256Hash, leaf_hash, reference};
-use ct_verify::{Evidence, EvidenceFault, ProofFault};
+use ct_monitor::{Auditor, Follower, Monitor, MonitorFault, Peaks};
+use ct_tree::{Head, NodeHash, Sha256Hash, leaf_hash, reference};
 use ct_watch::{Verdict, Watcher};
 use std::alloc::{AllocError, Global};
 use std::test::Fail;
 
-// The SHA-256 tree of the leaves 41, 42, 43 (bytes, hexadecimal): roots of its first leaves, and two leaf hashes.
-const ROOT_1: [u8; 32] = [
-    0xc0, 0x0b, 0x4d, 0x3c, 0x92, 0x9c, 0xb5, 0xcc, 0x31, 0x66, 0x91, 0xed, 0x46, 0x36, 0xf6, 0x34,
-    0x57, 0x6f, 0x2c, 0x9b, 0x29, 0x54, 0x76, 0x72, 0x34, 0xc5, 0x27, 0x4e, 0x9d, 0xde, 0x18, 0x5d,
-];
+// Whether the monitor keeps these leaves, and this is its last head.
+fn is_at(monitor: &Monitor<Sha256Hash>, leaves: &[Vec<u8>], last: Head) -> bool {
+    monitor.last_head() == Some(last) && monitor.leaves() == leaves
+}
 
-// Of 41 and 42.
-const ROOT_2: [u8; 32] = [
-    0xed, 0x69, 0x2f, 0x01, 0xf7, 0xf6, 0xc4, 0x69, 0x30, 0xd7, 0xad, 0x8f, 0x9a, 0xda, 0xd3, 0xf9,
-    0xf3, 0x8b, 0x73, 0x79, 0xcf, 0x6a, 0x8d, 0x2f, 0x39, 0x9a, 0x0b, 0xa1, 0xe9, 0x14, 0xfe, 0x25,
-];
-
-// Of all three.
-const ROOT_3: [u8; 32] = [
-    0x96, 0x1d, 0x2e, 0x2b, 0xe2, 0x0f, 0x53, 0x8f, 0xfd, 0xf5, 0x69, 0x62, 0xa8, 0x6d, 0x1b, 0xd1,
-    0x65, 0x49, 0x8f, 0x22, 0x26, 0x84, 0xee, 0x4c, 0x5e, 0x02, 0xc1, 0xe9, 0xf8, 0x52, 0xad, 0xc5,
-];
-
-// Of the leaf 42.
-const LEAF_1: [u8; 32] = [
-    0x87, 0xaf, 0xe6, 0x08, 0x6f, 0xe4, 0x57, 0x1e, 0x37, 0x65, 0x7e, 0x76, 0x28, 0x13, 0x01, 0xf1,
-    0x89, 0xc7, 0x5e, 0xba, 0xe1, 0xd2, 0xea, 0xaf, 0xb5, 0x6d, 0x57, 0x80, 0x67, 0xa1, 0xd9, 0x5e,
-];
-
-// Of the leaf 43.
-const LEAF_2: [u8; 32] = [
-    0xb5, 0x63, 0xa5, 0xe6, 0x96, 0x28, 0x74, 0x39, 0x29, 0xed, 0xde, 0xc0, 0xcc, 0xfe, 0xb0, 0x74,
-    0x5c, 0x39, 0x57, 0x7e, 0x12, 0xa7, 0x2e, 0x84, 0x91, 0x5e, 0xdd, 0x66, 0x33, 0xcb, 0x97, 0xf2,
-];
-
-fn head(tree_size: u64, timestamp: u64, root: [u8; 32]) -> Head {
-    Head {
-        tree_size,
-        timestamp,
-        root,
+impl Shown for Monitor<Sha256Hash> {
+    // A row of a head and its new leaves, the leaves and the last head that are kept then, and the answer.
+    fn is_right(&mut self, alloc: Global, mut row: Row<'_>) -> bool {
+        let next = row.head();
+        let answer = self.observe(next, row.leaves(alloc));
+        let kept = row.leaves(alloc);
+        let last = row.head();
+        is_at(self, &kept, last) && row.ends_in(alloc, &answer)
     }
 }
 
-// Whether the monitor keeps a leaf of one byte for each byte, and this is its last head.
-fn is_at(monitor: &Monitor<Sha256Hash>, bytes: &[u8], last: Head) -> bool {
-    let leaves = monitor.leaves();
-    if leaves.len() != bytes.len() || monitor.last_head() != Some(last) {
-        return false;
+// How many rows a new monitor answers rightly, before the first that it doesn't.
+fn observed(rt: &HostRuntime, rows: &str) -> u32 {
+    let mut monitor = Monitor::new(rt.alloc(), Sha256Hash);
+    if monitor.last_head() != None || !monitor.leaves().is_empty() {
+        return 0;
     }
-    for i in 0..bytes.len() {
-        if leaves[i].as_slice() != [bytes[i]].as_slice() {
-            return false;
-        }
-    }
-    true
+    right_rows(rt.alloc(), &mut monitor, rows)
 }
 
 #[test]
-fn a_monitor_follows_three_heads(rt: HostRuntime) -> Result<(), Fail> {
-    let heap = rt.alloc();
-    let mut monitor = Monitor::new(heap, Sha256Hash);
-    assert!(rt; monitor.last_head() == None && monitor.leaves().is_empty());
-    assert!(rt; monitor.observe(head(1, 5, ROOT_1), one_byte_leaves(heap, &[0x41])?) == Ok(()));
-    assert!(rt; monitor.observe(head(2, 6, ROOT_2), one_byte_leaves(heap, &[0x42])?) == Ok(()));
-    assert!(rt; monitor.observe(head(3, 7, ROOT_3), one_byte_leaves(heap, &[0x43])?) == Ok(()));
-    assert!(rt; is_at(&monitor, &[0x41, 0x42, 0x43], head(3, 7, ROOT_3)));
-    Ok(())
+fn a_monitor_follows_three_heads(rt: HostRuntime) {
+    let rows = "\
+1 5 A A A 1 5 A Ok(())
+2 6 AB B AB 2 6 AB Ok(())
+3 7 ABC C ABC 3 7 ABC Ok(())";
+    assert!(rt; observed(&rt, rows) == 3);
+}
+
+#[test]
+fn faults_beside_one_leaf(rt: HostRuntime) {
+    let rows = "\
+1 5 A A A 1 5 A Ok(())
+1 6 SEVENS - A 1 5 A Err(Fork)
+0 6 A - A 1 5 A Err(Shrunk)
+1 4 A - A 1 5 A Err(TimeNotLater)
+3 6 ABC B A 1 5 A Err(CountMismatch)
+1 5 A - A 1 5 A Ok(())";
+    assert!(rt; observed(&rt, rows) == 6);
+}
+
+#[test]
+fn faults_beside_two_leaves(rt: HostRuntime) {
+    let rows = "\
+2 5 AB AB AB 2 5 AB Ok(())
+1 4 A - AB 2 5 AB Err(Shrunk)
+2 4 A - AB 2 5 AB Err(Fork)
+3 6 AB C AB 2 5 AB Err(RootMismatch)
+3 6 ABC C ABC 3 6 ABC Ok(())";
+    assert!(rt; observed(&rt, rows) == 5);
+}
+
+// A row of two heads and the proof.
+fn are_heads_checked<H: NodeHash + Drop>(
+    alloc: Global,
+    auditor: &Auditor<H>,
+    mut row: Row<'_>,
+) -> bool {
+    let first = row.head();
+    let second = row.head();
+    let proof = row.hashes(alloc);
+    row.ends_in(alloc, &auditor.check_heads(&first, &second, &proof))
+}
+
+// A row of a head, a leaf, its index and its path.
+fn is_path_checked<H: NodeHash + Drop>(
+    alloc: Global,
+    auditor: &Auditor<H>,
+    mut row: Row<'_>,
+) -> bool {
+    let head = row.head();
+    let leaf = row.text();
+    let index = row.number();
+    let path = row.hashes(alloc);
+    row.ends_in(alloc, &auditor.check(&head, leaf, index, &path))
+}
+
+// A row of all leaves, a leaf, its index and its path.
+fn is_path_explained<H: NodeHash + Drop>(
+    alloc: Global,
+    auditor: &Auditor<H>,
+    mut row: Row<'_>,
+) -> bool {
+    let leaves = row.leaves(alloc);
+    let leaf = row.text();
+    let index = row.number();
+    let path = row.hashes(alloc);
+    row.ends_in(alloc, &auditor.explain(alloc, &leaves, leaf, index, &path))
+}
+
+impl<H: NodeHash + Drop> Shown for Auditor<H> {
+    fn is_right(&mut self, alloc: Global, mut row: Row<'_>) -> bool {
+        match row.word() {
+            "heads" => are_heads_checked(alloc, self, row),
+            "check" => is_path_checked(alloc, self, row),
+            "explain" => is_path_explained(alloc, self, row),
+            _ => false,
+        }
+    }
 }
 
 #[test]
 fn an_auditor_checks_three_heads(rt: HostRuntime) {
-    let auditor = Auditor::new(Sha256Hash);
-    let first = head(1, 5, ROOT_1);
-    let second = head(2, 6, ROOT_2);
-    let third = head(3, 7, ROOT_3);
-    assert!(rt; auditor.check_heads(&first, &second, &[LEAF_1]) == Ok(()));
-    assert!(rt; auditor.check_heads(&second, &third, &[LEAF_2]) == Ok(()));
-    assert!(rt; auditor.check_heads(&first, &third, &[LEAF_1, LEAF_2]) == Ok(()));
-    assert!(rt;
-        auditor.check_heads(&second, &first, &[LEAF_1]) == Err(ProofFault::SizesOutOfRange)
-    );
-    let forged = head(2, 6, ROOT_3);
-    assert!(rt; auditor.check_heads(&first, &forged, &[LEAF_1]) == Err(ProofFault::RootMismatch));
+    let rows = "\
+heads 1 5 A 2 6 AB B Ok(())
+heads 2 6 AB 3 7 ABC C Ok(())
+heads 1 5 A 3 7 ABC B,C Ok(())
+heads 2 6 AB 1 5 A B Err(SizesOutOfRange)
+heads 1 5 A 2 6 ABC B Err(RootMismatch)";
+    assert!(rt; right_rows(rt.alloc(), &mut Auditor::new(Sha256Hash), rows) == 5);
 }
 
 #[test]
-fn an_auditor_checks_and_explains_paths(rt: HostRuntime) -> Result<(), Fail> {
-    let heap = rt.alloc();
-    let auditor = Auditor::new(Sha256Hash);
-    let third = head(3, 7, ROOT_3);
-    let leaves = one_byte_leaves(heap, &[0x41, 0x42, 0x43])?;
-    assert!(rt; auditor.check(&third, &[0x42], 1, &[ROOT_1, LEAF_2]) == Ok(()));
-    let explained = auditor.explain(heap, &leaves, &[0x42], 1, &[ROOT_1, LEAF_2]);
-    assert!(rt; explained == Ok(Evidence::Holds));
-    let other_leaf = auditor.check(&third, &[0x43], 1, &[ROOT_1, LEAF_2]);
-    assert!(rt; other_leaf == Err(ProofFault::RootMismatch));
-    let explained = auditor.explain(heap, &leaves, &[0x43], 1, &[ROOT_1, LEAF_2]);
-    assert!(rt; explained == Err(EvidenceFault::ProofRefused(ProofFault::RootMismatch)));
-    Ok(())
+fn an_auditor_checks_and_explains_paths(rt: HostRuntime) {
+    let rows = "\
+check 3 7 ABC B 1 A,C Ok(())
+explain ABC B 1 A,C Ok(Holds)
+check 3 7 ABC C 1 A,C Err(RootMismatch)
+explain ABC C 1 A,C Err(ProofRefused(RootMismatch))";
+    assert!(rt; right_rows(rt.alloc(), &mut Auditor::new(Sha256Hash), rows) == 4);
 }
 
 #[test]
-fn an_auditor_explains_paths_under_the_hash_of_zeros(rt: HostRuntime) -> Result<(), Fail> {
-    let heap = rt.alloc();
-    let auditor = Auditor::new(ZeroHash);
-    let one = one_byte_leaves(heap, &[0x41])?;
-    let two = one_byte_leaves(heap, &[0x41, 0x42])?;
-    assert!(rt; auditor.check(&head(1, 5, [0; 32]), &[0x42], 0, &[]) == Ok(()));
-    let other_leaf = auditor.explain(heap, &one, &[0x42], 0, &[]);
-    assert!(rt; is_collision_of(&other_leaf, &[0, 0x42], &[0, 0x41]));
-
-    let mut listed = [0; 65];
-    listed[0] = 1;
-    let mut proved = Vec::new(heap);
-    proved.extend_from_slice(&listed[..33])?;
-    proved.extend_from_slice(&[1; 32])?;
-    let other_path = auditor.explain(heap, &two, &[0x41], 0, &[[1; 32]]);
-    assert!(rt; is_collision_of(&other_path, &proved, &listed));
-    let true_path = auditor.explain(heap, &two, &[0x41], 0, &[[0; 32]]);
-    assert!(rt; true_path == Ok(Evidence::Holds));
-    Ok(())
-}
-
-#[test]
-fn faults_beside_one_leaf(rt: HostRuntime) -> Result<(), Fail> {
-    let heap = rt.alloc();
-    let held = head(1, 5, ROOT_1);
-    let mut monitor = Monitor::new(heap, Sha256Hash);
-    assert!(rt; monitor.observe(held, one_byte_leaves(heap, &[0x41])?) == Ok(()));
-    let fork = monitor.observe(head(1, 6, [7; 32]), Vec::new(heap));
-    assert!(rt; fork == Err(MonitorFault::Fork) && is_at(&monitor, &[0x41], held));
-    let shrunk = monitor.observe(head(0, 6, ROOT_1), Vec::new(heap));
-    assert!(rt; shrunk == Err(MonitorFault::Shrunk) && is_at(&monitor, &[0x41], held));
-    let early = monitor.observe(head(1, 4, ROOT_1), Vec::new(heap));
-    assert!(rt; early == Err(MonitorFault::TimeNotLater) && is_at(&monitor, &[0x41], held));
-    let miscounted = monitor.observe(head(3, 6, ROOT_3), one_byte_leaves(heap, &[0x42])?);
-    assert!(rt; miscounted == Err(MonitorFault::CountMismatch) && is_at(&monitor, &[0x41], held));
-    let again = monitor.observe(held, Vec::new(heap));
-    assert!(rt; again == Ok(()) && is_at(&monitor, &[0x41], held));
-    Ok(())
-}
-
-#[test]
-fn faults_beside_two_leaves(rt: HostRuntime) -> Result<(), Fail> {
-    let heap = rt.alloc();
-    let held = head(2, 5, ROOT_2);
-    let mut monitor = Monitor::new(heap, Sha256Hash);
-    assert!(rt; monitor.observe(held, one_byte_leaves(heap, &[0x41, 0x42])?) == Ok(()));
-    let shrunk = monitor.observe(head(1, 4, ROOT_1), Vec::new(heap));
-    assert!(rt; shrunk == Err(MonitorFault::Shrunk) && is_at(&monitor, &[0x41, 0x42], held));
-    let fork = monitor.observe(head(2, 4, ROOT_1), Vec::new(heap));
-    assert!(rt; fork == Err(MonitorFault::Fork) && is_at(&monitor, &[0x41, 0x42], held));
-    let forged = monitor.observe(head(3, 6, ROOT_2), one_byte_leaves(heap, &[0x43])?);
-    assert!(rt; forged == Err(MonitorFault::RootMismatch) && is_at(&monitor, &[0x41, 0x42], held));
-    let third = monitor.observe(head(3, 6, ROOT_3), one_byte_leaves(heap, &[0x43])?);
-    assert!(rt; third == Ok(()) && is_at(&monitor, &[0x41, 0x42, 0x43], head(3, 6, ROOT_3)));
-    Ok(())
+fn an_auditor_explains_paths_under_the_hash_of_zeros(rt: HostRuntime) {
+    let rows = "\
+check 1 5 ZEROS B 0 - Ok(())
+explain A B 0 - Ok(Collision([0, 66], [0, 65]))
+explain AB A 0 ONES Ok(Collision([1, 0, 0, 0, 0, 0, 0, 0, 0, 0, 0, 0, 0, 0, 0, 0, 0, 0, 0, 0, 0, 0, 0, 0, 0, 0, 0, 0, 0, 0, 0, 0, 0, 1, 1, 1, 1, 1, 1, 1, 1, 1, 1, 1, 1, 1, 1, 1, 1, 1, 1, 1, 1, 1, 1, 1, 1, 1, 1, 1, 1, 1, 1, 1, 1], [1, 0, 0, 0, 0, 0, 0, 0, 0, 0, 0, 0, 0, 0, 0, 0, 0, 0, 0, 0, 0, 0, 0, 0, 0, 0, 0, 0, 0, 0, 0, 0, 0, 0, 0, 0, 0, 0, 0, 0, 0, 0, 0, 0, 0, 0, 0, 0, 0, 0, 0, 0, 0, 0, 0, 0, 0, 0, 0, 0, 0, 0, 0, 0, 0]))
+explain AB A 0 ZEROS Ok(Holds)";
+    assert!(rt; right_rows(rt.alloc(), &mut Auditor::new(ZeroHash), rows) == 4);
 }
 
 // Takes in a leaf, once more where memory was refused: then nothing has changed.
@@ -166,29 +150,47 @@ fn taken_at_last(
     alloc: Global,
     monitor: &mut Monitor<Sha256Hash>,
     next: Head,
-    leaf: u8,
+    bytes: &[u8],
 ) -> Result<bool, AllocError> {
     let last = monitor.last_head();
     let count = monitor.leaves().len();
-    let mut answer = monitor.observe(next, one_byte_leaves(alloc, &[leaf])?);
+    let mut answer = monitor.observe(next, one_byte_leaves(alloc, bytes)?);
     if let Err(MonitorFault::Memory) = answer {
         if monitor.last_head() != last || monitor.leaves().len() != count {
             return Ok(false);
         }
-        answer = monitor.observe(next, one_byte_leaves(alloc, &[leaf])?);
+        answer = monitor.observe(next, one_byte_leaves(alloc, bytes)?);
     }
     Ok(answer == Ok(()))
 }
 
+// A monitor that is asked once more where memory was refused.
+#[derive(Drop)]
+struct Patient {
+    monitor: Monitor<Sha256Hash>,
+}
+
+impl Shown for Patient {
+    // A row of a head and its new leaves, and all that are kept then.
+    fn is_right(&mut self, alloc: Global, mut row: Row<'_>) -> bool {
+        let next = row.head();
+        let bytes = row.text();
+        let is_taken = taken_at_last(alloc, &mut self.monitor, next, bytes) == Ok(true);
+        let kept = row.leaves(alloc);
+        is_taken && is_at(&self.monitor, &kept, next) && row.ends_in(alloc, &())
+    }
+}
+
 #[test]
-fn a_refused_growth_changes_nothing(rt: HostRuntime) -> Result<(), Fail> {
-    let heap = rt.alloc();
-    let mut monitor = Monitor::new(heap, Sha256Hash);
-    assert!(rt; taken_at_last(heap, &mut monitor, head(1, 5, ROOT_1), 0x41)?);
-    assert!(rt; taken_at_last(heap, &mut monitor, head(2, 6, ROOT_2), 0x42)?);
-    assert!(rt; taken_at_last(heap, &mut monitor, head(3, 7, ROOT_3), 0x43)?);
-    assert!(rt; is_at(&monitor, &[0x41, 0x42, 0x43], head(3, 7, ROOT_3)));
-    Ok(())
+fn a_refused_growth_changes_nothing(rt: HostRuntime) {
+    let mut patient = Patient {
+        monitor: Monitor::new(rt.alloc(), Sha256Hash),
+    };
+    let rows = "\
+1 5 A A A ()
+2 6 AB B AB ()
+3 7 ABC C ABC ()";
+    assert!(rt; right_rows(rt.alloc(), &mut patient, rows) == 3);
 }
 
 // Shows a head and its new leaves to a monitor and to a follower. What both answer, where they answer the same, have the
@@ -212,84 +214,186 @@ fn both_answer(
     }
 }
 
-#[test]
-fn a_follower_answers_as_a_monitor(rt: HostRuntime) -> Result<(), Fail> {
-    let heap = rt.alloc();
-    let mut monitor = Monitor::new(heap, Sha256Hash);
-    let mut follower = Follower::new(heap, Sha256Hash);
-    let shown: [(Head, &[u8], Result<(), MonitorFault>); 9] = [
-        (head(1, 5, ROOT_1), b"A", Ok(())),
-        (head(1, 6, [7; 32]), b"", Err(MonitorFault::Fork)),
-        (head(0, 6, ROOT_1), b"", Err(MonitorFault::Shrunk)),
-        (head(1, 4, ROOT_1), b"", Err(MonitorFault::TimeNotLater)),
-        (head(3, 6, ROOT_3), b"B", Err(MonitorFault::CountMismatch)),
-        (head(2, 6, ROOT_3), b"B", Err(MonitorFault::RootMismatch)),
-        (head(2, 6, ROOT_2), b"B", Ok(())),
-        (head(2, 6, ROOT_2), b"", Ok(())),
-        (head(3, 7, ROOT_3), b"C", Ok(())),
-    ];
-    for (next, bytes, wanted) in shown {
-        let answer = both_answer(heap, &mut monitor, &mut follower, next, bytes)?;
-        assert!(rt; answer == Some(wanted));
-        let saved = follower.peaks().copied()?;
-        follower = Follower::from_parts(Sha256Hash, saved, follower.last_head());
+// The follower of the same parts.
+fn made_again(follower: &Follower<Sha256Hash>) -> Result<Follower<Sha256Hash>, AllocError> {
+    let saved = follower.peaks().copied()?;
+    Ok(Follower::from_parts(Sha256Hash, saved, follower.last_head()))
+}
+
+// A monitor and a follower.
+#[derive(Drop)]
+struct Both {
+    monitor: Monitor<Sha256Hash>,
+    follower: Follower<Sha256Hash>,
+}
+
+impl Both {
+    fn make_follower_again(&mut self) -> bool {
+        match made_again(&self.follower) {
+            Ok(follower) => {
+                self.follower = follower;
+                true
+            }
+            Err(_) => false,
+        }
     }
-    assert!(rt; is_at(&monitor, &[0x41, 0x42, 0x43], head(3, 7, ROOT_3)));
-    let peaks = follower.peaks();
-    assert!(rt; peaks.size() == 3 && peaks.subtrees() == [ROOT_2, LEAF_2].as_slice());
-    assert!(rt; peaks.root(&Sha256Hash) == ROOT_3);
-    Ok(())
+}
+
+impl Shown for Both {
+    // A row of a head and its new leaves. The follower is made again of its parts behind each.
+    fn is_right(&mut self, alloc: Global, mut row: Row<'_>) -> bool {
+        let next = row.head();
+        let bytes = row.text();
+        match both_answer(alloc, &mut self.monitor, &mut self.follower, next, bytes) {
+            Ok(Some(answer)) => self.make_follower_again() && row.ends_in(alloc, &answer),
+            _ => false,
+        }
+    }
+}
+
+// A row of a monitor's leaves and last head, and of a follower's size, subtrees and root.
+fn are_at(alloc: Global, both: &Both, mut row: Row<'_>) -> bool {
+    let kept = row.leaves(alloc);
+    let last = row.head();
+    is_at(&both.monitor, &kept, last) && is_peaks(alloc, both.follower.peaks(), row)
+}
+
+fn is_peaks(alloc: Global, peaks: &Peaks, mut row: Row<'_>) -> bool {
+    let size = row.number();
+    let subtrees = row.hashes(alloc);
+    let root = row.hash();
+    peaks.size() == size
+        && peaks.subtrees() == subtrees.as_slice()
+        && peaks.root(&Sha256Hash) == root
+        && row.ends_in(alloc, &())
 }
 
 #[test]
-fn a_watcher_takes_answers(rt: HostRuntime) -> Result<(), Fail> {
-    let heap = rt.alloc();
-    let third = head(3, 7, ROOT_3);
-    let leaves = one_byte_leaves(heap, b"ABC")?;
-    let second_leaf = one_byte_leaves(heap, b"B")?;
-    let last_leaf = one_byte_leaves(heap, b"C")?;
-    let mut watcher = Watcher::new(heap, Sha256Hash);
-    assert!(rt; watcher.take_head(head(1, 5, ROOT_1))? == Verdict::Pending);
-    assert!(rt; watcher.take_entries(0, &leaves)? == Verdict::Accepted);
-    assert!(rt; watcher.take_head(third)? == Verdict::Pending);
-    assert!(rt; watcher.take_proof(&[LEAF_1, LEAF_2]) == Verdict::Consistent);
-    assert!(rt; watcher.take_entries(2, &last_leaf)? == Verdict::Gap);
-    assert!(rt; watcher.take_entries(1, &second_leaf)? == Verdict::Pending);
+fn a_follower_answers_as_a_monitor(rt: HostRuntime) {
+    let mut both = Both {
+        monitor: Monitor::new(rt.alloc(), Sha256Hash),
+        follower: Follower::new(rt.alloc(), Sha256Hash),
+    };
+    let rows = "\
+1 5 A A Ok(())
+1 6 SEVENS - Err(Fork)
+0 6 A - Err(Shrunk)
+1 4 A - Err(TimeNotLater)
+3 6 ABC B Err(CountMismatch)
+2 6 ABC B Err(RootMismatch)
+2 6 AB B Ok(())
+2 6 AB - Ok(())
+3 7 ABC C Ok(())";
+    assert!(rt; right_rows(rt.alloc(), &mut both, rows) == 9);
+    assert!(rt; are_at(rt.alloc(), &both, Row::new("ABC 3 7 ABC 3 AB,C ABC ()")));
+}
+
+// The watcher of the same parts.
+fn watched_again(watcher: &Watcher<Sha256Hash>) -> Result<Watcher<Sha256Hash>, AllocError> {
+    let sure = watcher.sure().copied()?;
+    let all = watcher.all().copied()?;
     let (accepted, waiting) = (watcher.accepted(), watcher.waiting());
-    let (sure, all) = (watcher.sure().copied()?, watcher.all().copied()?);
-    let mut again = Watcher::from_parts(Sha256Hash, accepted, waiting, sure, all);
-    assert!(rt; again.take_entries(2, &last_leaf)? == Verdict::Accepted);
-    assert!(rt; again.accepted() == Some(third) && again.waiting() == None);
-    Ok(())
+    Ok(Watcher::from_parts(Sha256Hash, accepted, waiting, sure, all))
+}
+
+// Makes a watcher again of its parts.
+fn is_made_again(watcher: &mut Watcher<Sha256Hash>) -> bool {
+    match watched_again(watcher) {
+        Ok(again) => {
+            *watcher = again;
+            true
+        }
+        Err(_) => false,
+    }
+}
+
+// What is said of a row of entries: the number of the first, and the leaves.
+fn said_of_entries(
+    alloc: Global,
+    watcher: &mut Watcher<Sha256Hash>,
+    row: &mut Row<'_>,
+) -> Result<Verdict, AllocError> {
+    let start = row.number();
+    let leaves = row.leaves(alloc);
+    watcher.take_entries(start, &leaves)
+}
+
+// What is said of a row of this kind, and whether it accuses the log.
+fn said(
+    alloc: Global,
+    watcher: &mut Watcher<Sha256Hash>,
+    kind: &str,
+    row: &mut Row<'_>,
+) -> Option<(Verdict, bool)> {
+    let verdict = match kind {
+        "head" => watcher.take_head(row.head()).ok()?,
+        "entries" => said_of_entries(alloc, watcher, row).ok()?,
+        "proof" => watcher.take_proof(&row.hashes(alloc)),
+        _ => return None,
+    };
+    Some((verdict, verdict.accuses()))
+}
+
+// Whether this is said, and so accuses the log or doesn't.
+fn is_said(alloc: Global, watcher: &mut Watcher<Sha256Hash>, kind: &str, mut row: Row<'_>) -> bool {
+    match said(alloc, watcher, kind, &mut row) {
+        Some(said) => row.ends_in(alloc, &said),
+        None => false,
+    }
+}
+
+impl Shown for Watcher<Sha256Hash> {
+    fn is_right(&mut self, alloc: Global, mut row: Row<'_>) -> bool {
+        let no_head = self.waiting() == None;
+        match row.word() {
+            "made-again" => row.ends_in(alloc, &is_made_again(self)),
+            "accepted" => {
+                let is_last = self.accepted() == Some(row.head());
+                row.ends_in(alloc, &(is_last, no_head))
+            }
+            "all" => row.ends_in(alloc, &(self.all().size(), no_head)),
+            kind => is_said(alloc, self, kind, row),
+        }
+    }
+}
+
+fn watched(rt: &HostRuntime, rows: &str) -> u32 {
+    right_rows(rt.alloc(), &mut Watcher::new(rt.alloc(), Sha256Hash), rows)
 }
 
 #[test]
-fn a_watcher_tells_what_speaks_against_a_log(rt: HostRuntime) -> Result<(), Fail> {
-    let heap = rt.alloc();
-    let third = head(3, 7, ROOT_3);
-    let leaves = one_byte_leaves(heap, b"ABC")?;
-    let mut watcher = Watcher::new(heap, Sha256Hash);
-    assert!(rt; watcher.take_head(third)? == Verdict::Pending);
-    assert!(rt; watcher.take_entries(0, &leaves)? == Verdict::Accepted);
-    assert!(rt; watcher.take_head(head(2, 6, ROOT_2))? == Verdict::Stale);
-    assert!(rt; watcher.take_head(head(2, 7, ROOT_2))? == Verdict::Shrunk);
-    assert!(rt; watcher.take_head(head(3, 9, ROOT_3))? == Verdict::Again);
-    assert!(rt; watcher.take_head(head(3, 9, ROOT_1))? == Verdict::Fork(third));
-    assert!(rt; watcher.take_head(head(4, 9, ROOT_3))? == Verdict::Pending);
-    let mismatch = watcher.take_entries(3, &one_byte_leaves(heap, b"D")?)?;
-    assert!(rt; matches!(&mismatch, Verdict::RootMismatch(_)) && mismatch.accuses());
-    assert!(rt; watcher.all().size() == 3 && watcher.waiting() == None);
-    Ok(())
+fn a_watcher_takes_answers(rt: HostRuntime) {
+    let rows = "\
+head 1 5 A (Pending, false)
+entries 0 ABC (Accepted, false)
+head 3 7 ABC (Pending, false)
+proof B,C (Consistent, false)
+entries 2 C (Gap, false)
+entries 1 B (Pending, false)
+made-again true
+entries 2 C (Accepted, false)
+accepted 3 7 ABC (true, true)";
+    assert!(rt; watched(&rt, rows) == 9);
 }
 
-// Of the 3,000 leaves that are the numbers from 0 on, in four bytes each. It was computed by another program (Python's
-// hashlib).
-const ROOT_3000: [u8; 32] = [
-    0xf9, 0xfc, 0x8d, 0xfe, 0x4d, 0x2f, 0x23, 0xf0, 0x5c, 0x67, 0x60, 0x8f, 0x61, 0x0b, 0xa5, 0x57,
-    0xdc, 0x44, 0x80, 0xa7, 0x2b, 0xe9, 0x2b, 0x9c, 0x96, 0xaa, 0xfb, 0xe1, 0xa7, 0x48, 0x96, 0xef,
-];
+// The root that is told is of the leaves 41 to 44, by Python's hashlib.
+#[test]
+fn a_watcher_tells_what_speaks_against_a_log(rt: HostRuntime) {
+    let rows = "\
+head 3 7 ABC (Pending, false)
+entries 0 ABC (Accepted, false)
+head 2 6 AB (Stale, false)
+head 2 7 AB (Shrunk, true)
+head 3 9 ABC (Again, false)
+head 3 9 A (Fork(Head { tree_size: 3, timestamp: 7, root: [150, 29, 46, 43, 226, 15, 83, 143, 253, 245, 105, 98, 168, 109, 27, 209, 101, 73, 143, 34, 38, 132, 238, 76, 94, 2, 193, 233, 248, 82, 173, 197] }), true)
+head 4 9 ABC (Pending, false)
+entries 3 D (RootMismatch([92, 141, 198, 23, 210, 135, 164, 41, 126, 178, 188, 184, 27, 55, 100, 75, 81, 56, 229, 122, 212, 97, 198, 87, 219, 21, 33, 9, 227, 252, 159, 202]), true)
+all (3, true)";
+    assert!(rt; watched(&rt, rows) == 9);
+}
 
-// Ten of these leaves, from a number on, and their hashes behind those of the leaves before them.
+// Ten of the leaves that are the numbers in four bytes each, from a number on, and their hashes behind those of the leaves
+// before them.
 fn ten_leaves(
     alloc: Global,
     first: u16,
@@ -298,8 +402,7 @@ fn ten_leaves(
     let mut leaves = Vec::new(alloc);
     for i in 0..10 {
         let number = u32::from(first) + i;
-        let mut leaf = Vec::new(alloc);
-        leaf.extend_from_slice(&number.to_be_bytes())?;
+        let leaf = Vec::from_slice(alloc, &number.to_be_bytes())?;
         hashes.push(leaf_hash(&Sha256Hash, &leaf))?;
         leaves.push(leaf)?;
     }
@@ -312,7 +415,11 @@ fn takes_300_heads(alloc: Global, monitor: &mut Monitor<Sha256Hash>) -> Result<b
     for count in 0..300 {
         let leaves = ten_leaves(alloc, 10 * count, &mut hashes)?;
         let root = reference::root(&Sha256Hash, &hashes);
-        let next = head(u64::from(10 * count + 10), u64::from(count), root);
+        let next = Head {
+            tree_size: u64::from(10 * count + 10),
+            timestamp: u64::from(count),
+            root,
+        };
         if monitor.observe(next, leaves) != Ok(()) {
             return Ok(false);
         }
@@ -320,15 +427,33 @@ fn takes_300_heads(alloc: Global, monitor: &mut Monitor<Sha256Hash>) -> Result<b
     Ok(true)
 }
 
+// A monitor of many leaves.
+#[derive(Drop)]
+struct Long {
+    monitor: Monitor<Sha256Hash>,
+}
+
+impl Shown for Long {
+    // A row of the number of leaves and the last head, then of a head without new leaves, and the answer.
+    fn is_right(&mut self, alloc: Global, mut row: Row<'_>) -> bool {
+        let count = row.number();
+        let last = row.head();
+        let is_there = self.monitor.leaves().len() as u64 == count
+            && self.monitor.last_head() == Some(last);
+        let answer = self.monitor.observe(row.head(), Vec::new(alloc));
+        is_there && row.ends_in(alloc, &answer)
+    }
+}
+
 #[test]
 fn a_monitor_follows_300_heads(rt: HostRuntime) -> Result<(), Fail> {
-    let heap = rt.alloc();
-    let mut monitor = Monitor::new(heap, Sha256Hash);
-    assert!(rt; takes_300_heads(heap, &mut monitor)?);
-    let last = head(3_000, 299, ROOT_3000);
-    assert!(rt; monitor.last_head() == Some(last) && monitor.leaves().len() == 3_000);
-    assert!(rt; monitor.observe(last, Vec::new(heap)) == Ok(()));
-    let fork = monitor.observe(head(3_000, 300, ROOT_3), Vec::new(heap));
-    assert!(rt; fork == Err(MonitorFault::Fork));
+    let mut long = Long {
+        monitor: Monitor::new(rt.alloc(), Sha256Hash),
+    };
+    assert!(rt; takes_300_heads(rt.alloc(), &mut long.monitor)?);
+    let rows = "\
+3000 3000 299 ALL_3000 3000 299 ALL_3000 Ok(())
+3000 3000 299 ALL_3000 3000 300 ABC Err(Fork)";
+    assert!(rt; right_rows(rt.alloc(), &mut long, rows) == 2);
     Ok(())
 }

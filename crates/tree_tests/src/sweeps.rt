@@ -1,6 +1,6 @@
 // Every audit path and every consistency proof of the sizes 1 to 40, each as it is and made false in many ways. What
 // the verifiers have to answer is read off the lists that the recursions of RFC 6962 give over the leaf hashes.
-ghost use Rattle.std.specs.Prelude.{◌≡◌, ◌<◌, IfOk};
+ghost use Rattle.std.specs.Prelude.{◌≡◌, ◌<◌, IfOk, length};
 
 use ct_tree::reference::root;
 use ct_tree::{Sha256Hash, leaf_hash};
@@ -16,6 +16,13 @@ fn split(n: usize) -> usize
     if n == 2 { 1 } else { 2 * split(n - n / 2) }
 }
 
+// The path with the root of these leaves at its end.
+fn with_root(path: Vec<[u8; 32]>, leaves: &[[u8; 32]]) -> Result<Vec<[u8; 32]>, AllocError> {
+    let mut longer = path;
+    longer.push(root(&Sha256Hash, leaves))?;
+    Ok(longer)
+}
+
 // PATH(m, D), by the recursion of RFC 6962, section 2.1.1.
 fn plain_path(alloc: Global, leaves: &[[u8; 32]], m: usize) -> Result<Vec<[u8; 32]>, AllocError> {
     if leaves.len() < 2 {
@@ -23,13 +30,9 @@ fn plain_path(alloc: Global, leaves: &[[u8; 32]], m: usize) -> Result<Vec<[u8; 3
     }
     let k = split(leaves.len());
     if m < k {
-        let mut path = plain_path(alloc, &leaves[..k], m)?;
-        path.push(root(&Sha256Hash, &leaves[k..]))?;
-        Ok(path)
+        with_root(plain_path(alloc, &leaves[..k], m)?, &leaves[k..])
     } else {
-        let mut path = plain_path(alloc, &leaves[k..], m - k)?;
-        path.push(root(&Sha256Hash, &leaves[..k]))?;
-        Ok(path)
+        with_root(plain_path(alloc, &leaves[k..], m - k)?, &leaves[..k])
     }
 }
 
@@ -41,21 +44,24 @@ fn plain_subproof(
     is_known: bool,
 ) -> Result<Vec<[u8; 32]>, AllocError> {
     if m >= leaves.len() || leaves.len() < 2 {
-        let mut proof = Vec::new(alloc);
-        if !is_known {
-            proof.push(root(&Sha256Hash, leaves))?;
-        }
-        return Ok(proof);
+        let proof = Vec::new(alloc);
+        return if is_known {
+            Ok(proof)
+        } else {
+            with_root(proof, leaves)
+        };
     }
     let k = split(leaves.len());
     if m <= k {
-        let mut proof = plain_subproof(alloc, &leaves[..k], m, is_known)?;
-        proof.push(root(&Sha256Hash, &leaves[k..]))?;
-        Ok(proof)
+        with_root(
+            plain_subproof(alloc, &leaves[..k], m, is_known)?,
+            &leaves[k..],
+        )
     } else {
-        let mut proof = plain_subproof(alloc, &leaves[k..], m - k, false)?;
-        proof.push(root(&Sha256Hash, &leaves[..k]))?;
-        Ok(proof)
+        with_root(
+            plain_subproof(alloc, &leaves[k..], m - k, false)?,
+            &leaves[..k],
+        )
     }
 }
 
@@ -67,19 +73,32 @@ fn copied(alloc: Global, path: &[[u8; 32]]) -> Result<Vec<[u8; 32]>, AllocError>
     Ok(copy)
 }
 
+// The path with an element changed, with it left out, and with it added.
+fn push_variants(
+    alloc: Global,
+    path: &[[u8; 32]],
+    i: usize,
+    all: &mut Vec<Vec<[u8; 32]>>,
+) -> Result<(), AllocError>
+    requires { i < length path.now }
+{
+    let mut changed = copied(alloc, path)?;
+    changed[i] = [7; 32];
+    all.push(changed)?;
+    let mut shorter = copied(alloc, path)?;
+    shorter.remove(i);
+    all.push(shorter)?;
+    let mut longer = copied(alloc, path)?;
+    longer.insert(i, path[i])?;
+    all.push(longer)?;
+    Ok(())
+}
+
 // The path with one element changed, with one left out, and with one added, at each place.
 fn variants(alloc: Global, path: &[[u8; 32]]) -> Result<Vec<Vec<[u8; 32]>>, AllocError> {
     let mut all = Vec::new(alloc);
     for i in 0..path.len() {
-        let mut changed = copied(alloc, path)?;
-        changed[i] = [7; 32];
-        all.push(changed)?;
-        let mut shorter = copied(alloc, path)?;
-        shorter.remove(i);
-        all.push(shorter)?;
-        let mut longer = copied(alloc, path)?;
-        longer.insert(i, path[i])?;
-        all.push(longer)?;
+        push_variants(alloc, path, i, &mut all)?;
     }
     let mut longer = copied(alloc, path)?;
     longer.push([7; 32])?;
@@ -96,121 +115,151 @@ fn numbered_hashes(alloc: Global, size: u8) -> Result<Vec<[u8; 32]>, AllocError>
     Ok(leaves)
 }
 
-// The answer to an audit path, by the lists of the leaf hashes and of their true paths.
-fn answer_to_path(
-    leaves: &[[u8; 32]],
-    paths: &[Vec<[u8; 32]>],
-    leaf: &[u8; 32],
-    index: usize,
+// The answer to a path of the right place, by the true one.
+fn answer_beside(
+    true_path: &[[u8; 32]],
     path: &[[u8; 32]],
+    is_known: bool,
 ) -> Result<(), ProofFault> {
-    match (leaves.get(index), paths.get(index)) {
-        (Some(true_leaf), Some(true_path)) => {
-            if path.len() > true_path.len() {
-                Err(ProofFault::PathTooLong)
-            } else if path.len() < true_path.len() {
-                Err(ProofFault::PathTooShort)
-            } else if path == true_path.as_slice() && leaf == true_leaf {
-                Ok(())
-            } else {
-                Err(ProofFault::RootMismatch)
+    if path.len() > true_path.len() {
+        Err(ProofFault::PathTooLong)
+    } else if path.len() < true_path.len() {
+        Err(ProofFault::PathTooShort)
+    } else if is_known && path == true_path {
+        Ok(())
+    } else {
+        Err(ProofFault::RootMismatch)
+    }
+}
+
+// The leaf hashes of a size, and their true paths and root.
+#[derive(Drop)]
+struct Paths {
+    leaves: Vec<[u8; 32]>,
+    paths: Vec<Vec<[u8; 32]>>,
+    root: [u8; 32],
+}
+
+fn paths_of(alloc: Global, size: u8) -> Result<Paths, AllocError> {
+    let leaves = numbered_hashes(alloc, size)?;
+    let root = root(&Sha256Hash, &leaves);
+    let paths = all_paths(alloc, &leaves)?;
+    Ok(Paths {
+        leaves,
+        paths,
+        root,
+    })
+}
+
+fn all_paths(alloc: Global, leaves: &[[u8; 32]]) -> Result<Vec<Vec<[u8; 32]>>, AllocError> {
+    let mut paths = Vec::new(alloc);
+    for m in 0..leaves.len() {
+        paths.push(plain_path(alloc, leaves, m)?)?;
+    }
+    Ok(paths)
+}
+
+impl Paths {
+    // The answer to an audit path.
+    fn wanted(&self, leaf: &[u8; 32], index: usize, path: &[[u8; 32]]) -> Result<(), ProofFault> {
+        match (self.leaves.get(index), self.paths.get(index)) {
+            (Some(true_leaf), Some(true_path)) => answer_beside(true_path, path, leaf == true_leaf),
+            _ => Err(ProofFault::IndexOutOfRange),
+        }
+    }
+
+    fn answer(&self, leaf: &[u8; 32], index: usize, path: &[[u8; 32]]) -> Result<(), ProofFault> {
+        let size = self.leaves.len() as u64;
+        verify_inclusion(&Sha256Hash, leaf, index as u64, size, path, &self.root)
+    }
+
+    // Whether a leaf's path is answered rightly at each index.
+    fn is_answered(&self, leaf: &[u8; 32], path: &[[u8; 32]]) -> bool {
+        for index in 0..=self.leaves.len() {
+            if self.answer(leaf, index, path) != self.wanted(leaf, index, path) {
+                return false;
             }
         }
-        _ => Err(ProofFault::IndexOutOfRange),
+        true
+    }
+
+    // Whether each variant of a leaf's path is refused rightly.
+    fn are_refused(&self, leaf: &[u8; 32], index: usize, variants: &[Vec<[u8; 32]>]) -> bool {
+        for variant in variants {
+            let answer = self.answer(leaf, index, variant);
+            if answer == Ok(()) || answer != self.wanted(leaf, index, variant) {
+                return false;
+            }
+        }
+        true
     }
 }
 
 // Whether each path of a size is answered rightly: with each index, and each of its variants.
 fn are_paths_answered(alloc: Global, size: u8) -> Result<bool, AllocError> {
-    let leaves = numbered_hashes(alloc, size)?;
-    let tree_root = root(&Sha256Hash, &leaves);
-    let mut paths = Vec::new(alloc);
-    for m in 0..leaves.len() {
-        paths.push(plain_path(alloc, &leaves, m)?)?;
-    }
-    let mut right = true;
-    for m in 0..leaves.len() {
-        let leaf = leaves[m];
-        let path = plain_path(alloc, &leaves, m)?;
-        for index in 0..=leaves.len() {
-            let wanted = answer_to_path(&leaves, &paths, &leaf, index, &path);
-            let answer = verify_inclusion(
-                &Sha256Hash,
-                &leaf,
-                index as u64,
-                size as u64,
-                &path,
-                &tree_root,
-            );
-            right = right && answer == wanted;
-        }
-        for variant in &variants(alloc, &path)? {
-            let wanted = answer_to_path(&leaves, &paths, &leaf, m, variant);
-            let answer = verify_inclusion(
-                &Sha256Hash,
-                &leaf,
-                m as u64,
-                size as u64,
-                variant,
-                &tree_root,
-            );
-            right = right && answer == wanted && answer != Ok(());
+    let all = paths_of(alloc, size)?;
+    for m in 0..all.leaves.len() {
+        let leaf = all.leaves[m];
+        let path = plain_path(alloc, &all.leaves, m)?;
+        let variants = variants(alloc, &path)?;
+        if !all.is_answered(&leaf, &path) || !all.are_refused(&leaf, m, &variants) {
+            return Ok(false);
         }
     }
-    Ok(right)
+    Ok(all.leaves.len() == size as usize)
+}
+
+// The size before the first with a path that isn't answered rightly.
+fn right_paths(alloc: Global) -> Result<u8, AllocError> {
+    for size in 1..=40 {
+        if !are_paths_answered(alloc, size)? {
+            return Ok(size - 1);
+        }
+    }
+    Ok(40)
 }
 
 #[test]
-fn every_path_of_sizes_1_to_40(rt: HostRuntime) -> std::io::Result<()> {
-    for size in 1..=40 {
-        let right = are_paths_answered(rt.alloc(), size)?;
-        assert!(rt; right, "size {size}");
-    }
-    Ok(())
+fn every_path_of_sizes_1_to_40(rt: HostRuntime) {
+    assert!(rt; right_paths(rt.alloc()) == Ok(40));
 }
 
-// The true proofs of a size, from each first size below it, and the root of each first size.
+// The leaf hashes of a size and their root, and the true proofs from each first size below it, and the root of each.
 #[derive(Drop)]
 struct Proofs {
+    leaves: Vec<[u8; 32]>,
+    root: [u8; 32],
     proofs: Vec<Vec<[u8; 32]>>,
     roots: Vec<[u8; 32]>,
 }
 
-fn proofs_of(alloc: Global, leaves: &[[u8; 32]]) -> Result<Proofs, AllocError> {
+fn all_proofs(alloc: Global, leaves: &[[u8; 32]]) -> Result<Vec<Vec<[u8; 32]>>, AllocError> {
     let mut proofs = Vec::new(alloc);
-    let mut roots = Vec::new(alloc);
     for first in 0..leaves.len() {
         proofs.push(plain_subproof(alloc, leaves, first, true)?)?;
-        roots.push(root(&Sha256Hash, &leaves[..first]))?;
     }
-    Ok(Proofs { proofs, roots })
+    Ok(proofs)
 }
 
-// The answer to a consistency proof, by the true proofs of its size. Both mismatches are one here.
-fn answer_to_proof(
-    all: &Proofs,
-    first: usize,
-    first_root: &[u8; 32],
-    proof: &[[u8; 32]],
-) -> Result<(), ProofFault> {
-    match (all.proofs.get(first), all.roots.get(first)) {
-        (Some(true_proof), Some(true_root)) => {
-            if first == 0 {
-                Err(ProofFault::SizesOutOfRange)
-            } else if proof.is_empty() {
-                Err(ProofFault::EmptyPath)
-            } else if proof.len() > true_proof.len() {
-                Err(ProofFault::PathTooLong)
-            } else if proof.len() < true_proof.len() {
-                Err(ProofFault::PathTooShort)
-            } else if proof == true_proof.as_slice() && first_root == true_root {
-                Ok(())
-            } else {
-                Err(ProofFault::RootMismatch)
-            }
-        }
-        _ => Err(ProofFault::SizesOutOfRange),
+fn all_roots(alloc: Global, leaves: &[[u8; 32]]) -> Result<Vec<[u8; 32]>, AllocError> {
+    let mut roots = Vec::new(alloc);
+    for first in 0..leaves.len() {
+        roots.push(root(&Sha256Hash, &leaves[..first]))?;
     }
+    Ok(roots)
+}
+
+fn proofs_of(alloc: Global, size: u8) -> Result<Proofs, AllocError> {
+    let leaves = numbered_hashes(alloc, size)?;
+    let root = root(&Sha256Hash, &leaves);
+    let roots = all_roots(alloc, &leaves)?;
+    let proofs = all_proofs(alloc, &leaves)?;
+    Ok(Proofs {
+        leaves,
+        root,
+        proofs,
+        roots,
+    })
 }
 
 fn with_one_mismatch(answer: Result<(), ProofFault>) -> Result<(), ProofFault> {
@@ -221,48 +270,93 @@ fn with_one_mismatch(answer: Result<(), ProofFault>) -> Result<(), ProofFault> {
     }
 }
 
-// Whether each proof up to a size is answered rightly: with each first size, and each of its variants.
-fn are_proofs_answered(alloc: Global, size: u8) -> Result<bool, AllocError> {
-    let leaves = numbered_hashes(alloc, size)?;
-    let tree_root = root(&Sha256Hash, &leaves);
-    let all = proofs_of(alloc, &leaves)?;
-    let mut right = true;
-    for m in 1..leaves.len() {
-        let first_root = root(&Sha256Hash, &leaves[..m]);
-        let proof = plain_subproof(alloc, &leaves, m, true)?;
-        for first in 0..=leaves.len() {
-            let wanted = answer_to_proof(&all, first, &first_root, &proof);
-            let answer = verify_consistency(
-                &Sha256Hash,
-                first as u64,
-                size as u64,
-                &first_root,
-                &tree_root,
-                &proof,
-            );
-            right = right && with_one_mismatch(answer) == wanted;
-        }
-        for variant in &variants(alloc, &proof)? {
-            let wanted = answer_to_proof(&all, m, &first_root, variant);
-            let answer = verify_consistency(
-                &Sha256Hash,
-                m as u64,
-                size as u64,
-                &first_root,
-                &tree_root,
-                variant,
-            );
-            right = right && with_one_mismatch(answer) == wanted && answer != Ok(());
+impl Proofs {
+    // The answer to a consistency proof. Both mismatches are one here.
+    fn wanted(
+        &self,
+        first: usize,
+        first_root: &[u8; 32],
+        proof: &[[u8; 32]],
+    ) -> Result<(), ProofFault> {
+        match (self.proofs.get(first), self.roots.get(first)) {
+            (Some(true_proof), Some(true_root)) => {
+                if first == 0 {
+                    Err(ProofFault::SizesOutOfRange)
+                } else if proof.is_empty() {
+                    Err(ProofFault::EmptyPath)
+                } else {
+                    answer_beside(true_proof, proof, first_root == true_root)
+                }
+            }
+            _ => Err(ProofFault::SizesOutOfRange),
         }
     }
-    Ok(right)
+
+    fn answer(
+        &self,
+        first: usize,
+        first_root: &[u8; 32],
+        proof: &[[u8; 32]],
+    ) -> Result<(), ProofFault> {
+        let size = self.leaves.len() as u64;
+        let answer = verify_consistency(
+            &Sha256Hash,
+            first as u64,
+            size,
+            first_root,
+            &self.root,
+            proof,
+        );
+        with_one_mismatch(answer)
+    }
+
+    // Whether a proof is answered rightly with each first size.
+    fn is_answered(&self, first_root: &[u8; 32], proof: &[[u8; 32]]) -> bool {
+        for first in 0..=self.leaves.len() {
+            if self.answer(first, first_root, proof) != self.wanted(first, first_root, proof) {
+                return false;
+            }
+        }
+        true
+    }
+
+    // Whether each variant of a proof is refused rightly.
+    fn are_refused(&self, first: usize, first_root: &[u8; 32], variants: &[Vec<[u8; 32]>]) -> bool {
+        for variant in variants {
+            let answer = self.answer(first, first_root, variant);
+            if answer == Ok(()) || answer != self.wanted(first, first_root, variant) {
+                return false;
+            }
+        }
+        true
+    }
+}
+
+// Whether each proof up to a size is answered rightly: with each first size, and each of its variants.
+fn are_proofs_answered(alloc: Global, size: u8) -> Result<bool, AllocError> {
+    let all = proofs_of(alloc, size)?;
+    for m in 1..all.leaves.len() {
+        let first_root = root(&Sha256Hash, &all.leaves[..m]);
+        let proof = plain_subproof(alloc, &all.leaves, m, true)?;
+        let variants = variants(alloc, &proof)?;
+        if !all.is_answered(&first_root, &proof) || !all.are_refused(m, &first_root, &variants) {
+            return Ok(false);
+        }
+    }
+    Ok(all.leaves.len() == size as usize)
+}
+
+// The size before the first with a proof that isn't answered rightly.
+fn right_proofs(alloc: Global) -> Result<u8, AllocError> {
+    for size in 1..=40 {
+        if !are_proofs_answered(alloc, size)? {
+            return Ok(size - 1);
+        }
+    }
+    Ok(40)
 }
 
 #[test]
-fn every_proof_of_sizes_1_to_40(rt: HostRuntime) -> std::io::Result<()> {
-    for size in 1..=40 {
-        let right = are_proofs_answered(rt.alloc(), size)?;
-        assert!(rt; right, "size {size}");
-    }
-    Ok(())
+fn every_proof_of_sizes_1_to_40(rt: HostRuntime) {
+    assert!(rt; right_proofs(rt.alloc()) == Ok(40));
 }

@@ -1,230 +1,159 @@
-// Worked proofs under SHA-256 over the leaves of the Certificate Transparency reference tree (the tests of Google's
-// reference implementation): none, 00, 10, 20 21, 30 31, 40 to 43, 50 to 57, 60 to 6f. The roots are the published ones,
-// and all values were computed anew by another program (Python's hashlib). `N01` is the node over leaves 0 and 1, and so
-// on; `MTH_3` is the root of the first three leaves.
+// Worked proofs under SHA-256 over the leaves of the Certificate Transparency reference tree.
 
+use crate::rows::{Row, Shown, right_rows};
 use crate::weak_hashes::ZeroHash;
-use ct_tree::{Sha256Hash, Stack, leaf_hash};
-use ct_verify::{ProofFault, laws, verify_consistency, verify_inclusion};
-use std::test::Fail;
-
-const L0: [u8; 32] = [
-    0x6e, 0x34, 0x0b, 0x9c, 0xff, 0xb3, 0x7a, 0x98, 0x9c, 0xa5, 0x44, 0xe6, 0xbb, 0x78, 0x0a, 0x2c,
-    0x78, 0x90, 0x1d, 0x3f, 0xb3, 0x37, 0x38, 0x76, 0x85, 0x11, 0xa3, 0x06, 0x17, 0xaf, 0xa0, 0x1d,
-];
-
-const L1: [u8; 32] = [
-    0x96, 0xa2, 0x96, 0xd2, 0x24, 0xf2, 0x85, 0xc6, 0x7b, 0xee, 0x93, 0xc3, 0x0f, 0x8a, 0x30, 0x91,
-    0x57, 0xf0, 0xda, 0xa3, 0x5d, 0xc5, 0xb8, 0x7e, 0x41, 0x0b, 0x78, 0x63, 0x0a, 0x09, 0xcf, 0xc7,
-];
-
-const L2: [u8; 32] = [
-    0x02, 0x98, 0xd1, 0x22, 0x90, 0x6d, 0xcf, 0xc1, 0x08, 0x92, 0xcb, 0x53, 0xa7, 0x39, 0x92, 0xfc,
-    0x5b, 0x9f, 0x49, 0x3e, 0xa4, 0xc9, 0xba, 0xdb, 0x27, 0xb7, 0x91, 0xb4, 0x12, 0x7a, 0x7f, 0xe7,
-];
-
-const L3: [u8; 32] = [
-    0x07, 0x50, 0x6a, 0x85, 0xfd, 0x9d, 0xd2, 0xf1, 0x20, 0xeb, 0x69, 0x4f, 0x86, 0x01, 0x1e, 0x5b,
-    0xb4, 0x66, 0x2e, 0x5c, 0x41, 0x5a, 0x62, 0x91, 0x70, 0x33, 0xd4, 0xa9, 0x62, 0x44, 0x87, 0xe7,
-];
-
-const L4: [u8; 32] = [
-    0xbc, 0x1a, 0x06, 0x43, 0xb1, 0x2e, 0x4d, 0x2d, 0x7c, 0x77, 0x91, 0x8f, 0x44, 0xe0, 0xf4, 0xf7,
-    0x9a, 0x83, 0x8b, 0x6c, 0xf9, 0xec, 0x5b, 0x5c, 0x28, 0x3e, 0x1f, 0x4d, 0x88, 0x59, 0x9e, 0x6b,
-];
-
-const L5: [u8; 32] = [
-    0x42, 0x71, 0xa2, 0x6b, 0xe0, 0xd8, 0xa8, 0x4f, 0x0b, 0xd5, 0x4c, 0x8c, 0x30, 0x2e, 0x7c, 0xb3,
-    0xa3, 0xb5, 0xd1, 0xfa, 0x67, 0x80, 0xa4, 0x0b, 0xcc, 0xe2, 0x87, 0x34, 0x77, 0xda, 0xb6, 0x58,
-];
-
-const L6: [u8; 32] = [
-    0xb0, 0x86, 0x93, 0xec, 0x2e, 0x72, 0x15, 0x97, 0x13, 0x06, 0x41, 0xe8, 0x21, 0x1e, 0x7e, 0xed,
-    0xcc, 0xb4, 0xc2, 0x64, 0x13, 0x96, 0x3e, 0xee, 0x6c, 0x1e, 0x2e, 0xd1, 0x6f, 0xfb, 0x1a, 0x5f,
-];
-
-const L7: [u8; 32] = [
-    0x46, 0xf6, 0xff, 0xad, 0xd3, 0xd0, 0x6a, 0x09, 0xff, 0x3c, 0x58, 0x60, 0xd2, 0x75, 0x5c, 0x8b,
-    0x98, 0x19, 0xdb, 0x7d, 0xf4, 0x42, 0x51, 0x78, 0x8c, 0x7d, 0x8e, 0x31, 0x80, 0xde, 0x8e, 0xb1,
-];
-
-const N01: [u8; 32] = [
-    0xfa, 0xc5, 0x42, 0x03, 0xe7, 0xcc, 0x69, 0x6c, 0xf0, 0xdf, 0xcb, 0x42, 0xc9, 0x2a, 0x1d, 0x9d,
-    0xba, 0xf7, 0x0a, 0xd9, 0xe6, 0x21, 0xf4, 0xbd, 0x8d, 0x98, 0x66, 0x2f, 0x00, 0xe3, 0xc1, 0x25,
-];
-
-const N23: [u8; 32] = [
-    0x5f, 0x08, 0x3f, 0x0a, 0x1a, 0x33, 0xca, 0x07, 0x6a, 0x95, 0x27, 0x98, 0x32, 0x58, 0x0d, 0xb3,
-    0xe0, 0xef, 0x45, 0x84, 0xbd, 0xff, 0x1f, 0x54, 0xc8, 0xa3, 0x60, 0xf5, 0x0d, 0xe3, 0x03, 0x1e,
-];
-
-const N45: [u8; 32] = [
-    0x0e, 0xbc, 0x5d, 0x34, 0x37, 0xfb, 0xe2, 0xdb, 0x15, 0x8b, 0x9f, 0x12, 0x6a, 0x1d, 0x11, 0x8e,
-    0x30, 0x81, 0x81, 0x03, 0x1d, 0x0a, 0x94, 0x9f, 0x8d, 0xed, 0xed, 0xeb, 0xc5, 0x58, 0xef, 0x6a,
-];
-
-const N0123: [u8; 32] = [
-    0xd3, 0x7e, 0xe4, 0x18, 0x97, 0x6d, 0xd9, 0x57, 0x53, 0xc1, 0xc7, 0x38, 0x62, 0xb9, 0x39, 0x8f,
-    0xa2, 0xa2, 0xcf, 0x9b, 0x4f, 0xf0, 0xfd, 0xfe, 0x8b, 0x30, 0xcd, 0x95, 0x20, 0x96, 0x14, 0xb7,
-];
-
-const N456: [u8; 32] = [
-    0x83, 0x7d, 0xbb, 0x15, 0x2e, 0x9b, 0x07, 0x90, 0x10, 0x71, 0x7e, 0x84, 0xe8, 0x65, 0xda, 0x4e,
-    0xbc, 0x0f, 0xa1, 0x98, 0xa8, 0x06, 0xd5, 0x9d, 0x31, 0xbf, 0x15, 0xac, 0xce, 0xf2, 0x2d, 0x0e,
-];
-
-const MTH_3: [u8; 32] = [
-    0xae, 0xb6, 0xbc, 0xfe, 0x27, 0x4b, 0x70, 0xa1, 0x4f, 0xb0, 0x67, 0xa5, 0xe5, 0x57, 0x82, 0x64,
-    0xdb, 0x0f, 0xa9, 0xb5, 0x1a, 0xf5, 0xe0, 0xba, 0x15, 0x91, 0x58, 0xf3, 0x29, 0xe0, 0x6e, 0x77,
-];
-
-const MTH_5: [u8; 32] = [
-    0x4e, 0x3b, 0xbb, 0x1f, 0x7b, 0x47, 0x8d, 0xcf, 0xe7, 0x1f, 0xb6, 0x31, 0x63, 0x15, 0x19, 0xa3,
-    0xbc, 0xa1, 0x2c, 0x9a, 0xef, 0xca, 0x16, 0x12, 0xbf, 0xce, 0x4c, 0x13, 0xa8, 0x62, 0x64, 0xd4,
-];
-
-const MTH_6: [u8; 32] = [
-    0x76, 0xe6, 0x7d, 0xad, 0xbc, 0xdf, 0x1e, 0x10, 0xe1, 0xb7, 0x4d, 0xdc, 0x60, 0x8a, 0xbd, 0x2f,
-    0x98, 0xdf, 0xb1, 0x6f, 0xbc, 0xe7, 0x52, 0x77, 0xb5, 0x23, 0x2a, 0x12, 0x7f, 0x20, 0x87, 0xef,
-];
-
-const MTH_7: [u8; 32] = [
-    0xdd, 0xb8, 0x9b, 0xe4, 0x03, 0x80, 0x9e, 0x32, 0x57, 0x50, 0xd3, 0xd2, 0x63, 0xcd, 0x78, 0x92,
-    0x9c, 0x29, 0x42, 0xb7, 0x94, 0x2a, 0x34, 0xb7, 0x7e, 0x12, 0x2c, 0x95, 0x94, 0xa7, 0x4c, 0x8c,
-];
-
-const MTH_8: [u8; 32] = [
-    0x5d, 0xc9, 0xda, 0x79, 0xa7, 0x06, 0x59, 0xa9, 0xad, 0x55, 0x9c, 0xb7, 0x01, 0xde, 0xd9, 0xa2,
-    0xab, 0x9d, 0x82, 0x3a, 0xad, 0x2f, 0x49, 0x60, 0xcf, 0xe3, 0x70, 0xef, 0xf4, 0x60, 0x43, 0x28,
-];
+use ct_tree::Sha256Hash;
+use ct_verify::{laws, verify_consistency, verify_inclusion};
+use std::alloc::Global;
 
 const ZEROS: [u8; 32] = [0; 32];
 
-fn inclusion(
-    leaf: &[u8; 32],
-    index: u64,
-    size: u64,
-    path: &[[u8; 32]],
-    root: &[u8; 32],
-) -> Result<(), ProofFault> {
-    verify_inclusion(&Sha256Hash, leaf, index, size, path, root)
+// The verifiers under SHA-256.
+#[derive(Clone, Copy)]
+struct Verifiers;
+
+// A row of a leaf, its index, a size, the path and the root.
+fn is_path_answered(alloc: Global, mut row: Row<'_>) -> bool {
+    let leaf = row.hash();
+    let index = row.number();
+    let size = row.number();
+    let path = row.hashes(alloc);
+    let root = row.hash();
+    let answer = verify_inclusion(&Sha256Hash, &leaf, index, size, &path, &root);
+    row.ends_in(alloc, &answer)
 }
 
-fn consistency(
-    first: u64,
-    second: u64,
-    first_root: &[u8; 32],
-    second_root: &[u8; 32],
-    path: &[[u8; 32]],
-) -> Result<(), ProofFault> {
-    verify_consistency(&Sha256Hash, first, second, first_root, second_root, path)
+// A row of two sizes, their roots and the proof.
+fn is_proof_answered(alloc: Global, mut row: Row<'_>) -> bool {
+    let first = row.number();
+    let second = row.number();
+    let first_root = row.hash();
+    let second_root = row.hash();
+    let proof = row.hashes(alloc);
+    let answer = verify_consistency(
+        &Sha256Hash,
+        first,
+        second,
+        &first_root,
+        &second_root,
+        &proof,
+    );
+    row.ends_in(alloc, &answer)
 }
 
-#[test]
-fn published_roots_of_the_reference_tree(rt: HostRuntime) -> Result<(), Fail> {
-    let leaves: [&[u8]; 8] = [
-        b"",
-        b"\x00",
-        b"\x10",
-        b"\x20\x21",
-        b"\x30\x31",
-        b"\x40\x41\x42\x43",
-        b"\x50\x51\x52\x53\x54\x55\x56\x57",
-        b"\x60\x61\x62\x63\x64\x65\x66\x67\x68\x69\x6a\x6b\x6c\x6d\x6e\x6f",
-    ];
-    let roots = [L0, N01, MTH_3, N0123, MTH_5, MTH_6, MTH_7, MTH_8];
-    let mut stack = Stack::new(rt.alloc(), Sha256Hash);
-    for n in 0..leaves.len() {
-        assert!(rt; stack.size() == n as u64);
-        stack.push(&leaf_hash(&Sha256Hash, leaves[n]))?;
-        assert!(rt; stack.root() == roots[n], "root of {n} and one more");
+// A row of an index, a size and how long the path is: the leaf, the path and the root are zeros.
+fn is_path_of_zeros_answered(alloc: Global, mut row: Row<'_>) -> bool {
+    let index = row.number();
+    let size = row.number();
+    let length = row.number() as usize;
+    let path = [ZEROS; 65];
+    if length > 65 {
+        return false;
     }
-    Ok(())
+    let answer = verify_inclusion(&Sha256Hash, &ZEROS, index, size, &path[..length], &ZEROS);
+    row.ends_in(alloc, &answer)
+}
+
+impl Shown for Verifiers {
+    fn is_right(&mut self, alloc: Global, mut row: Row<'_>) -> bool {
+        match row.word() {
+            "path" => is_path_answered(alloc, row),
+            "proof" => is_proof_answered(alloc, row),
+            "zeros" => is_path_of_zeros_answered(alloc, row),
+            _ => false,
+        }
+    }
+}
+
+fn right(rt: &HostRuntime, rows: &str) -> u32 {
+    right_rows(rt.alloc(), &mut Verifiers, rows)
 }
 
 #[test]
 fn eight_leaves(rt: HostRuntime) {
-    assert!(rt; inclusion(&L7, 7, 8, &[L6, N45, N0123], &MTH_8) == Ok(()));
-    assert!(rt; consistency(7, 8, &MTH_7, &MTH_8, &[L6, L7, N45, N0123]) == Ok(()));
+    let rows = "\
+path L7 7 8 L6,N45,N0123 MTH_8 Ok(())
+proof 7 8 MTH_7 MTH_8 L6,L7,N45,N0123 Ok(())";
+    assert!(rt; right(&rt, rows) == 2);
 }
 
 // The example of RFC 6962, section 2.1.3: the paths of d0 [b, h, l], d3 [c, g, l], d4 [f, j, k] and d6 [i, k], and the
 // proofs from three leaves [c, d, g, l], from four [l] and from six [i, j, k].
 #[test]
 fn seven_leaves_paths(rt: HostRuntime) {
-    assert!(rt; inclusion(&L0, 0, 7, &[L1, N23, N456], &MTH_7) == Ok(()));
-    assert!(rt; inclusion(&L3, 3, 7, &[L2, N01, N456], &MTH_7) == Ok(()));
-    assert!(rt; inclusion(&L4, 4, 7, &[L5, L6, N0123], &MTH_7) == Ok(()));
-    assert!(rt; inclusion(&L6, 6, 7, &[N45, N0123], &MTH_7) == Ok(()));
-    assert!(rt; inclusion(&L6, 6, 7, &[N45], &MTH_7) == Err(ProofFault::PathTooShort));
-    assert!(rt; inclusion(&L6, 6, 7, &[N45, N0123, N0123], &MTH_7) == Err(ProofFault::PathTooLong));
-    assert!(rt; inclusion(&L6, 7, 7, &[N45, N0123], &MTH_7) == Err(ProofFault::IndexOutOfRange));
-    assert!(rt; inclusion(&L0, 0, 1, &[], &L0) == Ok(()));
-    assert!(rt; inclusion(&L0, 0, 1, &[], &ZEROS) == Err(ProofFault::RootMismatch));
+    let rows = "\
+path L0 0 7 L1,N23,N456 MTH_7 Ok(())
+path L3 3 7 L2,N01,N456 MTH_7 Ok(())
+path L4 4 7 L5,L6,N0123 MTH_7 Ok(())
+path L6 6 7 N45,N0123 MTH_7 Ok(())
+path L6 6 7 N45 MTH_7 Err(PathTooShort)
+path L6 6 7 N45,N0123,N0123 MTH_7 Err(PathTooLong)
+path L6 7 7 N45,N0123 MTH_7 Err(IndexOutOfRange)
+path L0 0 1 - L0 Ok(())
+path L0 0 1 - ZEROS Err(RootMismatch)";
+    assert!(rt; right(&rt, rows) == 9);
 }
 
 #[test]
 fn seven_leaves_proofs(rt: HostRuntime) {
-    assert!(rt; consistency(3, 7, &MTH_3, &MTH_7, &[L2, L3, N01, N456]) == Ok(()));
-    assert!(rt; consistency(4, 7, &N0123, &MTH_7, &[N456]) == Ok(()));
-    assert!(rt; consistency(6, 7, &MTH_6, &MTH_7, &[N45, L6, N0123]) == Ok(()));
+    let rows = "\
+proof 3 7 MTH_3 MTH_7 L2,L3,N01,N456 Ok(())
+proof 4 7 N0123 MTH_7 N456 Ok(())
+proof 6 7 MTH_6 MTH_7 N45,L6,N0123 Ok(())";
+    assert!(rt; right(&rt, rows) == 3);
 }
 
 #[test]
 fn five_leaves_paths(rt: HostRuntime) {
-    assert!(rt; inclusion(&L4, 4, 5, &[N0123], &MTH_5) == Ok(()));
-    assert!(rt; inclusion(&L2, 2, 5, &[L3, N01, L4], &MTH_5) == Ok(()));
-    assert!(rt; inclusion(&L0, 0, 5, &[L1, N23, L4], &MTH_5) == Ok(()));
+    let rows = "\
+path L4 4 5 N0123 MTH_5 Ok(())
+path L2 2 5 L3,N01,L4 MTH_5 Ok(())
+path L0 0 5 L1,N23,L4 MTH_5 Ok(())";
+    assert!(rt; right(&rt, rows) == 3);
 }
 
 #[test]
 fn five_leaves_proofs(rt: HostRuntime) {
-    let three = [L2, L3, N01, L4];
-    assert!(rt; consistency(3, 5, &MTH_3, &MTH_5, &three) == Ok(()));
-    assert!(rt; consistency(4, 5, &N0123, &MTH_5, &[L4]) == Ok(()));
-    assert!(rt; consistency(2, 5, &N01, &MTH_5, &[N23, L4]) == Ok(()));
-    assert!(rt; consistency(1, 5, &L0, &MTH_5, &[L1, N23, L4]) == Ok(()));
-    assert!(rt; consistency(3, 5, &N01, &MTH_5, &three) == Err(ProofFault::FirstMismatch));
-    assert!(rt; consistency(3, 5, &MTH_3, &N0123, &three) == Err(ProofFault::RootMismatch));
-    assert!(rt; consistency(3, 5, &MTH_3, &MTH_5, &[L2, L3, N01]) == Err(ProofFault::PathTooShort));
-    assert!(rt;
-        consistency(3, 5, &MTH_3, &MTH_5, &[L2, L3, N01, L4, L4]) == Err(ProofFault::PathTooLong)
-    );
-    assert!(rt; consistency(5, 5, &MTH_3, &MTH_5, &three) == Err(ProofFault::SizesOutOfRange));
-    assert!(rt; consistency(0, 5, &MTH_3, &MTH_5, &three) == Err(ProofFault::SizesOutOfRange));
-    assert!(rt; consistency(3, 5, &MTH_3, &MTH_5, &[]) == Err(ProofFault::EmptyPath));
+    let rows = "\
+proof 3 5 MTH_3 MTH_5 L2,L3,N01,L4 Ok(())
+proof 4 5 N0123 MTH_5 L4 Ok(())
+proof 2 5 N01 MTH_5 N23,L4 Ok(())
+proof 1 5 L0 MTH_5 L1,N23,L4 Ok(())
+proof 3 5 N01 MTH_5 L2,L3,N01,L4 Err(FirstMismatch)
+proof 3 5 MTH_3 N0123 L2,L3,N01,L4 Err(RootMismatch)
+proof 3 5 MTH_3 MTH_5 L2,L3,N01 Err(PathTooShort)
+proof 3 5 MTH_3 MTH_5 L2,L3,N01,L4,L4 Err(PathTooLong)
+proof 5 5 MTH_3 MTH_5 L2,L3,N01,L4 Err(SizesOutOfRange)
+proof 0 5 MTH_3 MTH_5 L2,L3,N01,L4 Err(SizesOutOfRange)
+proof 3 5 MTH_3 MTH_5 - Err(EmptyPath)";
+    assert!(rt; right(&rt, rows) == 11);
 }
 
 // Of two faults, the one that comes first in the order is answered.
 #[test]
 fn the_first_fault_is_answered(rt: HostRuntime) {
-    assert!(rt; inclusion(&L0, 1, 1, &[L1], &ZEROS) == Err(ProofFault::IndexOutOfRange));
-    assert!(rt; inclusion(&L0, 0, 1, &[L1], &ZEROS) == Err(ProofFault::PathTooLong));
-    assert!(rt; inclusion(&L0, 0, 2, &[], &ZEROS) == Err(ProofFault::PathTooShort));
-    assert!(rt; consistency(5, 3, &ZEROS, &ZEROS, &[]) == Err(ProofFault::SizesOutOfRange));
-    assert!(rt; consistency(3, 5, &ZEROS, &ZEROS, &[]) == Err(ProofFault::EmptyPath));
-    assert!(rt; consistency(3, 5, &ZEROS, &ZEROS, &[L2]) == Err(ProofFault::PathTooShort));
-    assert!(rt;
-        consistency(3, 5, &ZEROS, &ZEROS, &[L2, L3, N01, L4]) == Err(ProofFault::FirstMismatch)
-    );
+    let rows = "\
+path L0 1 1 L1 ZEROS Err(IndexOutOfRange)
+path L0 0 1 L1 ZEROS Err(PathTooLong)
+path L0 0 2 - ZEROS Err(PathTooShort)
+proof 5 3 ZEROS ZEROS - Err(SizesOutOfRange)
+proof 3 5 ZEROS ZEROS - Err(EmptyPath)
+proof 3 5 ZEROS ZEROS L2 Err(PathTooShort)
+proof 3 5 ZEROS ZEROS L2,L3,N01,L4 Err(FirstMismatch)";
+    assert!(rt; right(&rt, rows) == 7);
 }
 
 #[test]
 fn largest_size(rt: HostRuntime) {
-    let size = u64::MAX;
-    let path = [ZEROS; 65];
-    assert!(rt; inclusion(&ZEROS, 0, size, &path[..63], &ZEROS) == Err(ProofFault::PathTooShort));
-    assert!(rt; inclusion(&ZEROS, 0, size, &path[..64], &ZEROS) == Err(ProofFault::RootMismatch));
-    assert!(rt; inclusion(&ZEROS, 0, size, &path, &ZEROS) == Err(ProofFault::PathTooLong));
-    let last = size - 1;
-    assert!(rt;
-        inclusion(&ZEROS, last, size, &path[..62], &ZEROS) == Err(ProofFault::PathTooShort)
-    );
-    assert!(rt;
-        inclusion(&ZEROS, last, size, &path[..63], &ZEROS) == Err(ProofFault::RootMismatch)
-    );
-    assert!(rt; inclusion(&ZEROS, last, size, &path[..64], &ZEROS) == Err(ProofFault::PathTooLong));
-    assert!(rt; inclusion(&ZEROS, size, size, &path, &ZEROS) == Err(ProofFault::IndexOutOfRange));
+    let rows = "\
+zeros 0 18446744073709551615 63 Err(PathTooShort)
+zeros 0 18446744073709551615 64 Err(RootMismatch)
+zeros 0 18446744073709551615 65 Err(PathTooLong)
+zeros 18446744073709551614 18446744073709551615 62 Err(PathTooShort)
+zeros 18446744073709551614 18446744073709551615 63 Err(RootMismatch)
+zeros 18446744073709551614 18446744073709551615 64 Err(PathTooLong)
+zeros 18446744073709551615 18446744073709551615 65 Err(IndexOutOfRange)";
+    assert!(rt; right(&rt, rows) == 7);
 }
 
 // Under another hash function, and at the largest size, a path of the right length is accepted.
