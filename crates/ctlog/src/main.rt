@@ -1,6 +1,6 @@
 //! The program `ctlog`: a log with up to 16 fronts, run over a script of request lines.
 //!
-//! It reads standard input whole, gives its lines out to the fronts, the operator and the frozen log, and writes a
+//! It reads standard input to its end, gives its lines out to the fronts, the operator and the frozen log, and writes a
 //! reply for each line that isn't empty: each front and the operator does its lines in a thread of its own, the
 //! replies of the fronts come first, in the order of their numbers, then the operator's, then, once the log is closed,
 //! those of the frozen log. A line that ends a shift has all lines before it done, and all fronts go on, before the lines

@@ -31,12 +31,15 @@ fn send_help<W: Write>(alloc: Global, error: &Error, output: &mut W) -> Result<(
     send(output, text.as_bytes())
 }
 
+// Where the requests come from, for whoever gave them as words.
+const SOURCE: &str = "Requests come on standard input, a line of JSON each.\n";
+
 // Writes among the faults, as far as it can be written, why the words are refused.
 fn tell_refusal<E: Write>(alloc: Global, error: &Error, faults: &mut E) -> Result<(), Fault>
     ensures memory { IfErr result (λ f. f ≡ Fault.Memory) }
     ensures same { OnErr result (faults.new ≡ faults.old) }
 {
-    let text = format!(in alloc; "{error}")?;
+    let text = format!(in alloc; "{error}\n{SOURCE}")?;
     tell(faults, text.as_bytes());
     Ok(())
 }

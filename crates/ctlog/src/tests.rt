@@ -394,6 +394,9 @@ fn command_lines_that_are_refused(rt: HostRuntime) {
         let outcome = outcome_of(&rt, rt.alloc(), words, 9, b"");
         assert!(rt; outcome.status == 2 && outcome.output.is_empty());
         assert!(rt; outcome.faults.starts_with(b"error: "));
+        assert!(rt;
+            outcome.faults.ends_with(b"\n\nRequests come on standard input, a line of JSON each.\n")
+        );
     }
 }
 

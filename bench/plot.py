@@ -1,0 +1,77 @@
+#!/usr/bin/env python3
+"""Draws what bench/program.sh or bench/core.sh measured, with gnuplot (Debian's gnuplot-nox).
+
+    plot.py program TABLE OUT.svg
+    plot.py publication TABLE OUT.svg
+
+TABLE is a file with the table as it is printed. `program`: microseconds a line, and of processor time a line, by submissions and fronts,
+for ctlog and for the plain Rust program. `publication`: milliseconds of a publication with nothing new by entries, of which the table
+has a column for each build.
+"""
+import pathlib
+import re
+import subprocess
+import sys
+
+NUMBER = re.compile(r"[\d.,]+")
+HEAD = "set terminal svg size 900,360 font 'sans,12' background 'white'\nset key outside bottom center horizontal\nset grid ytics\n"
+
+
+def rows(path):
+    """The cells of the rows of the first table, without its head."""
+    lines = [line for line in pathlib.Path(path).read_text().splitlines() if line.startswith("|")]
+    return [[cell.strip() for cell in line.strip("|").split("|")] for line in lines[2:]]
+
+
+def numbers(cell):
+    """The numbers that stand in a cell."""
+    return [float(found.replace(",", "")) for found in NUMBER.findall(cell)]
+
+
+def block(name, points):
+    """Data as gnuplot takes them."""
+    return f"${name} << END\n" + "".join(" ".join(map(str, point)) + "\n" for point in points) + "END\n"
+
+
+def program(table, out):
+    """Two panels: time and processor time, by fronts, a line for each number of submissions and each program."""
+    data, series = {}, []
+    for cells in rows(table):
+        count, fronts, (seconds, plain_seconds, _), rates, (spent, plain_spent, _) = numbers(cells[0])[0], cells[1], *map(numbers, cells[2:5])
+        lines = seconds * rates[0]
+        for who, values in (("ctlog", (seconds, spent)), ("plain Rust", (plain_seconds, plain_spent))):
+            data.setdefault((count, who), []).append((fronts, *(1e6 * value / lines for value in values)))
+    text = HEAD + f"set output '{out}'\nset multiplot layout 1,2\nset xlabel 'fronts'\nset yrange [0:*]\n"
+    for place, ((count, who), points) in enumerate(data.items()):
+        text += block(f"points{place}", points)
+        series.append((f"$points{place}", f"{who}, {count:,.0f} submissions", 7 if who == "ctlog" else 6))
+    for column, title in ((2, "time, µs a line"), (3, "processor time, µs a line")):
+        shown = ", ".join(f"{name} using {column}:xticlabel(1) with linespoints pointtype {mark} title '{label}'" for name, label, mark in series)
+        text += f"set title '{title}'\nplot {shown}\n"
+    return text + "unset multiplot\n"
+
+
+def publication(table, out):
+    """A line for each build: milliseconds by entries, both on scales of powers of ten."""
+    head = next(line for line in pathlib.Path(table).read_text().splitlines() if line.startswith("|")).strip("|").split("|")
+    text = HEAD + f"set output '{out}'\nset logscale xy\nset format x '10^%T'\nset xlabel 'entries'\nset title 'a publication with nothing new, ms'\n"
+    series = []
+    for place, label in enumerate(head[1:], 1):
+        points = []
+        for cells in rows(table):
+            exponent, values = int(cells[0].split("^")[1]), numbers(cells[place])
+            points.append((10**exponent, sum(values) / len(values)))
+        text += block(f"points{place}", points)
+        series.append(f"$points{place} using 1:2 with linespoints title '{label.strip()}'")
+    return text + "plot " + ", ".join(series) + "\n"
+
+
+def main():
+    kinds = {"program": program, "publication": publication}
+    if len(sys.argv) != 4 or sys.argv[1] not in kinds:
+        sys.exit(__doc__)
+    subprocess.run(["gnuplot"], input=kinds[sys.argv[1]](sys.argv[2], sys.argv[3]), text=True, check=True)
+
+
+if __name__ == "__main__":
+    main()
