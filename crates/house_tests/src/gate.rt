@@ -279,12 +279,18 @@ fn send_beside_shut<R: Threads>(
     ))
 }
 
+// The two of them.
+fn both_of(intakes: Vec<Intake>) -> Option<(Intake, Intake)> {
+    let mut intakes = intakes;
+    let one = intakes.pop()?;
+    let zero = intakes.pop()?;
+    Some((zero, one))
+}
+
 // Whether the two threads are told what the gate tells, and the outlets give as much.
 fn two_threads_send<R: Threads>(rt: &R, alloc: Global) -> Result<bool, Fail> {
-    let (mut shutter, mut intakes, mut outlets) = open_gate(alloc, 2, 4096)?;
-    let (Some(one), Some(zero)) = (intakes.pop(), intakes.pop()) else {
-        return Ok(false);
-    };
+    let (mut shutter, intakes, mut outlets) = open_gate(alloc, 2, 4096)?;
+    let (zero, one) = both_of(intakes).ok_or("two intakes")?;
     let (accepted, is_told) = send_beside_shut(rt, alloc, &mut shutter, zero, one)?;
     Ok(is_told && take_from_all(&mut outlets, accepted) == Some(accepted))
 }

@@ -9,7 +9,7 @@ use std::thread;
 use std::thread::Threads;
 
 // When the gate is shut.
-#[derive(Clone, Copy, Debug, PartialEq)]
+#[derive(Clone, Copy)]
 enum When {
     BeforeAll,
     InTheMiddle,

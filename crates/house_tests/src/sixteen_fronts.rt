@@ -22,7 +22,7 @@ use std::thread::{Threads, join_mut};
 const TRIES: u32 = 100_000;
 
 // When the house is shut.
-#[derive(Clone, Copy, Debug)]
+#[derive(Clone, Copy)]
 enum When {
     BeforeAll,
     // After `ENOUGH` items were taken.
@@ -481,12 +481,23 @@ fn accepted<R: Threads + Wait + Abort + Sync>(
     Ok(if is_right { Some(n) } else { None })
 }
 
+// Whether it is so many, at least and at most.
+fn accepts<R: Threads + Wait + Abort + Sync>(
+    rt: &R,
+    alloc: Global,
+    when: When,
+    (least, most): (u64, u64),
+) -> bool {
+    match accepted(rt, alloc, when) {
+        Ok(Some(n)) => least <= n && n <= most,
+        _ => false,
+    }
+}
+
 #[test]
 fn sixteen_fronts_and_a_shutdown_at_three_moments(rt: HostRuntime) -> Result<(), Fail> {
-    let before = accepted(&rt, rt.alloc(), When::BeforeAll);
-    let middle = accepted(&rt, rt.alloc(), When::InTheMiddle)?.unwrap_or(0);
-    let behind = accepted(&rt, rt.alloc(), When::BehindAll);
-    assert!(rt; before == Ok(Some(0)) && behind == Ok(Some(16_000)));
-    assert!(rt; ENOUGH <= middle && middle < 16_000);
+    assert!(rt; accepts(&rt, rt.alloc(), When::BeforeAll, (0, 0)));
+    assert!(rt; accepts(&rt, rt.alloc(), When::InTheMiddle, (ENOUGH, 15_999)));
+    assert!(rt; accepts(&rt, rt.alloc(), When::BehindAll, (16_000, 16_000)));
     Ok(())
 }

@@ -235,6 +235,11 @@ fn closed<R: Threads + Wait + Abort + Sync>(rt: &R, house: House) -> (FinalLog, 
     house.finish(rt)
 }
 
+// Whether the front shows the first published head, its entries and its receipts.
+fn shows(house: &mut House, front: u16) -> bool {
+    shows_proofs(house, front) && shows_entries(house, front)
+}
+
 // What the log has to be, and what is served of it.
 fn expect_log<R: Abort>(rt: &R, alloc: Global, log: &Published, refused: &mut Refused) {
     assert!(rt; has_records(log) && has_heads(log));
@@ -242,15 +247,19 @@ fn expect_log<R: Abort>(rt: &R, alloc: Global, log: &Published, refused: &mut Re
     assert!(rt; is_served_again(alloc, log, LINES, REPLIES, refused));
 }
 
+// A house whose first head is published and shown.
+fn shown<R: Threads + Wait + Abort + Sync>(rt: &R, alloc: Global) -> Result<House, Refusal> {
+    let mut house = settled(rt, alloc)?;
+    assert!(rt; is_published(rt, &mut house) && shows(&mut house, 0) && shows(&mut house, 1));
+    Ok(house)
+}
+
 // What was refused.
 fn refused_in_whole_log<R: Threads + Wait + Abort + Sync>(
     rt: &R,
     alloc: Global,
 ) -> Result<Refused, Refusal> {
-    let mut house = settled(rt, alloc)?;
-    assert!(rt; is_published(rt, &mut house));
-    assert!(rt; shows_proofs(&mut house, 0) && shows_entries(&mut house, 0));
-    assert!(rt; shows_proofs(&mut house, 1) && shows_entries(&mut house, 1));
+    let house = shown(rt, alloc)?;
     let (log, mut refused) = closed(rt, house);
     assert!(rt; log.accepted() == 5);
     expect_log(rt, alloc, log.published(), &mut refused);
