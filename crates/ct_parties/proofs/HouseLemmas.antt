@@ -1,13 +1,12 @@
 -- The fronts of a new house.
-use Rattle.std.proofs.Common.{◌≡◌, ◌<◌, ◌+◌, ℕ, List, length, map, sym, ap, subst, ◌∙◌, arith, Vec, Global, get_or}
-use Rattle.std.specs.Prelude.{Some, All, slice_get}
-use Rattle.std.specs.Option.{option_map}
+use Rattle.std.proofs.Common.{◌≡◌, ◌<◌, ◌+◌, ℕ, List, length, sym, ap, subst, ◌∙◌, arith, get_or}
+use Rattle.std.specs.Prelude.{All}
 use Rattle.std.specs.List.{range_with_len}
 use Rattle.std.proofs.lemmas.List.{same_lists, length-map, get_or-map, length-replicate}
 use Rattle.std.proofs.lemmas.List.FromFn.{length-range_with_len, get_or-range_with_len}
-use Rattle.std.proofs.lemmas.Option.{get_or_from_slice_get, slice_get-get_or, slice_get-map}
+use Rattle.std.proofs.lemmas.Option.{get_or_from_slice_get, slice_get-get_or}
 use Rattle.ct_core.proofs.SettlementLemmas.{slice_get_is}
-use Rattle.ct_house.specs.House.{HouseName, HouseState, FrontView, IsNewHouse, IsOfHouse, AreInOrder, numbers_of, empty_lane}
+use Rattle.ct_house.specs.House.{HouseState, FrontView, IsNewHouse, IsOfHouse, AreInOrder, numbers_of, empty_lane}
 use Rattle.ct_parties.specs.declared.party.FrontParty.{FrontParty}
 use Rattle.ct_parties.specs.Parties.{AreFrontsOf, Parties, fronts_of}
 use Rattle.ct_parties.specs.Output.{AreNewParties}

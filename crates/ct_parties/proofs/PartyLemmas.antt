@@ -1,5 +1,5 @@
 -- What the fronts and the operator leave, one front after the other.
-use Rattle.std.proofs.Common.{◌≡◌, ℕ, suc, List, [], ◌∷◌, ◌++◌, length, map, refl, sym, ap, subst, ◌∙◌, append_assoc, append-nil, arith, reverse}
+use Rattle.std.proofs.Common.{◌≡◌, ℕ, suc, List, [], ◌∷◌, ◌++◌, length, map, refl, sym, ap, subst, ◌∙◌, arith, reverse}
 use Rattle.std.proofs.lemmas.List.Elements.{All-cons, length_all_zip}
 use Rattle.std.specs.Global.{Global}
 use Rattle.std.specs.Prelude.{◌<◌, All, Some, Vec, slice_get, Result, Ok, Err, IfOk, OnOk}

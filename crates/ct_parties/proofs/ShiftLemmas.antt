@@ -1,9 +1,8 @@
 -- The end of a shift, front after front, and shifts one after the other.
-use Rattle.std.proofs.Common.{◌≡◌, ◌≢◌, ◌⊎◌, ◌<◌, ◌≤◌, ◌+◌, ℕ, zero, suc, List, [], ◌∷◌, ◌++◌, length, map, refl, sym, ap, subst, ◌∙◌, arith, inl, inr, append_assoc, append-nil, length-append}
+use Rattle.std.proofs.Common.{◌≡◌, ◌≢◌, ◌⊎◌, ◌<◌, ◌≤◌, ◌+◌, ℕ, zero, suc, List, [], ◌∷◌, ◌++◌, length, refl, sym, ap, subst, ◌∙◌, arith, inl, inr, append_assoc, append-nil, length-append}
 use Rattle.std.specs.Prelude.{All, Some, slice_get}
-use Rattle.std.specs.List.{AllZip, flat_map}
+use Rattle.std.specs.List.{AllZip}
 use Rattle.std.proofs.lemmas.Bool.{cases_lt}
-use Rattle.std.proofs.lemmas.Bool.Decides.{eqb_tells}
 use Rattle.std.proofs.lemmas.List.{length-map, map-append}
 use Rattle.std.proofs.lemmas.Option.{same_Some, slice_get_within}
 use Rattle.ct_codec.specs.declared.item.Item.{Item}
@@ -12,11 +11,9 @@ use Rattle.ct_core.specs.Settlement.{Log}
 use Rattle.ct_gate.specs.Ends.{IntakeView, SameIntake}
 use Rattle.ct_house.specs.House.{FrontView, HouseState, SettlesMore, AreInOrder, IsAllSettled, IsOfHouse, drained_lane}
 use Rattle.ct_house.proofs.SequencerLemmas.{order_at, order_count}
-use Rattle.ct_parties.specs.FrontWork.{FrontGoesOn}
 use Rattle.ct_parties.specs.Parties.{AreFrontsOf, AreSame, DoesShift, Parties, fronts_of}
-use Rattle.ct_parties.specs.Shifts.{DoShifts, EndsShift, IsEndRefused, IsShiftFault, IsSuccessor, Succeeds}
+use Rattle.ct_parties.specs.Shifts.{DoShifts, EndsShift, IsEndRefused, IsShiftFault, Succeeds}
 use Rattle.ct_parties.specs.declared.fault.Fault.{Fault}
-use Rattle.ct_parties.specs.declared.fault.Fault.TheVariants.{ClockBack, Memory}
 use Rattle.ct_parties.specs.declared.party.FrontParty.{FrontParty}
 use Rattle.ct_parties.specs.declared.party.Shift.{Shift}
 use Rattle.ct_parties.specs.declared.party.Work.{Work}

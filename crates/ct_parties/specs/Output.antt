@@ -7,7 +7,7 @@ use Rattle.ct_house.specs.House.{FrontView, HouseState, IsNewHouse}
 use Rattle.ct_lines.specs.Frozen.{frozen_replies, frozen_text}
 use Rattle.ct_lines.specs.Serving.{IsCutOff}
 use Rattle.ct_parties.specs.declared.fault.Fault.{Fault}
-use Rattle.ct_parties.specs.declared.fault.Fault.TheVariants.{Memory, Read, Write}
+use Rattle.ct_parties.specs.declared.fault.Fault.TheVariants.{Read, Write}
 use Rattle.ct_parties.specs.declared.party.Shift.{Shift}
 use Rattle.ct_parties.specs.declared.party.Work.{Work}
 use Rattle.ct_parties.specs.ClosedLog.{Closes, IsClosingFault}

@@ -1,4 +1,4 @@
-use Rattle.std.proofs.Common.{List, length, sym, subst, ◌∙◌}
+use Rattle.std.proofs.Common.{List, sym, subst, ◌∙◌}
 use Rattle.ct_house.specs.House.{FrontView}
 use Rattle.ct_parties.specs.Parties.{AreFrontsOf, Parties}
 use Rattle.ct_parties.proofs.ShiftLemmas.{does_stay, lanes_count, shifts_stay}

@@ -1,4 +1,4 @@
-use Rattle.std.proofs.Common.{◌≡◌, ◌+◌, [], ◌∷◌, ◌++◌, length, refl, arith, length-append, ◌∙◌}
+use Rattle.std.proofs.Common.{◌+◌, [], ◌∷◌, refl, arith, length-append, ◌∙◌}
 use Rattle.std.specs.Vec.Iter.{into_iter_items}
 use Rattle.ct_parties.specs.Parties.{Parties}
 use Rattle.ct_parties.proofs.OutputLemmas.{if_err_is}
