@@ -54,7 +54,7 @@ def program(table, out):
 def publication(table, out):
     """A line for each build: milliseconds by entries, both on scales of powers of ten."""
     head = next(line for line in pathlib.Path(table).read_text().splitlines() if line.startswith("|")).strip("|").split("|")
-    text = HEAD + f"set output '{out}'\nset logscale xy\nset format x '10^%T'\nset xlabel 'entries'\nset title 'a publication with nothing new, ms'\n"
+    text = HEAD + f"set output '{out}'\nset logscale xy\nset format x '10^%T'\nset xlabel 'entries'\nset xrange [700:1500000]\nset title 'a publication with nothing new, ms'\n"
     series = []
     for place, label in enumerate(head[1:], 1):
         points = []
@@ -62,7 +62,7 @@ def publication(table, out):
             exponent, values = int(cells[0].split("^")[1]), numbers(cells[place])
             points.append((10**exponent, sum(values) / len(values)))
         text += block(f"points{place}", points)
-        series.append(f"$points{place} using 1:2 with linespoints title '{label.strip()}'")
+        series.append(f'$points{place} using 1:2 with linespoints title "{label.strip()}"')
     return text + "plot " + ", ".join(series) + "\n"
 
 

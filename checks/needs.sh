@@ -45,9 +45,9 @@ END
 }
 [ "$processors" = 1 ] && on="one processor" || on="$processors processors"
 case $what in
-  demo) work=37 first="ctlog, ctmonitor and the crates below them. Where nothing was proved before, that" ;;
+  demo) work=41 first="ctlog, ctmonitor and the crates below them. Where nothing was proved before, that" ;;
   link) work=6 first="the library and the crates below it. Where nothing was proved before, that" ;;
-  test) work=210 first="everything, from nothing. That" ;;
+  test) work=156 first="everything, from nothing. That" ;;
   *) exit 0 ;;
 esac
 echo "make $what proves $first takes some $(minutes $work) minutes on $on ($work of one processor)."
