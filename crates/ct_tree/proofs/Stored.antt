@@ -1,13 +1,13 @@
--- The places of the nodes, and the nodes of one leaf more.
-use Rattle.std.proofs.Common.{◌≡◌, ℕ, zero, suc, ◌+◌, ◌-◌, ◌*◌, ◌/◌, ◌%◌, ◌^◌, ◌<◌, ◌≤◌, refl, subst, sym, ◌∙◌, ap, arith, List, [], ◌∷◌, ◌++◌, length, get_or, set, ⊎_elim}
+-- The levels of a growing tree, and those of one leaf more.
+use Rattle.std.proofs.Common.{◌≡◌, ℕ, zero, suc, ◌+◌, ◌-◌, ◌*◌, ◌/◌, ◌%◌, ◌^◌, ◌<◌, ◌≤◌, refl, subst, sym, ◌∙◌, ap, arith, List, [], ◌∷◌, ◌++◌, length, get_or, ⊎_elim}
 use Rattle.std.proofs.lemmas.Bool.{cases_lt}
-use Rattle.std.proofs.lemmas.List.{get_or-set_same, get_or-set_other, get_or_append_left, get_or_at, length-append, length-set}
+use Rattle.std.proofs.lemmas.List.{get_or_append_left, get_or_push, length-append, length_push}
 use Rattle.std.proofs.lemmas.Nat.{pow_pos}
-use Rattle.std.proofs.Math.Nat.{pow-suc, pow-le-pow_right}
+use Rattle.std.proofs.Math.Nat.{pow-suc}
 use Rattle.ct_tree.proofs.Raised.{pow_more}
 use Rattle.ct_tree.specs.Tree.{hash_node}
 use Rattle.ct_tree.specs.Levels.{subtree}
-use Rattle.ct_tree.specs.Stored.{place, stored_leaves, Stores}
+use Rattle.ct_tree.specs.Stored.{Stores, IsWhole, HaveSameLevelsBut}
 
 -- ---- numbers
 pow_twice : (j : ℕ) → 2 ^ suc j ≡ 2 * 2 ^ j
@@ -29,87 +29,58 @@ low_power (suc j) (suc k) i b e =
     let r = low_power j k i b (halves (2 * i + 1) b (2 ^ j) (2 ^ k) (rw (pow_twice j, pow_twice k) at e)) in
     omega arith
 
-less_zero : {j : ℕ} → suc j ≤ 0 → ⊥
-less_zero h = omega arith
-
--- an odd number and a power of two make each number in one way
-odd_powers : (j k i l : ℕ) → (2 * i + 1) * 2 ^ j ≡ (2 * l + 1) * 2 ^ k → (j ≡ k) × (i ≡ l)
-odd_powers zero zero i l e = (refl, omega arith)
-odd_powers zero (suc k) i l e = absurd (less_zero (low_power zero (suc k) i (2 * l + 1) e))
-odd_powers (suc j) zero i l e = absurd (less_zero (low_power zero (suc j) l (2 * i + 1) (sym e)))
-odd_powers (suc j) (suc k) i l e =
-    let r = odd_powers j k i l (halves (2 * i + 1) (2 * l + 1) (2 ^ j) (2 ^ k) (rw (pow_twice j, pow_twice k) at e)) in
-    (ap suc r.0, r.1)
-
-at_least : (i p : ℕ) → 0 < p → 0 < (2 * i + 1) * p
-at_least i p h = omega arith
-
-place_one : (j k i l : ℕ) → place j i ≡ place k l → (j ≡ k) × (i ≡ l)
-place_one j k i l e = odd_powers j k i l (omega (arith, e, at_least i (2 ^ j) (pow_pos j), at_least l (2 ^ k) (pow_pos k)))
-
-inside_at : (i n p : ℕ) → 0 < p → (i + 1) * p ≤ n → (2 * i + 1) * p - 1 < 2 * n
-inside_at i n p z h = omega arith
-
-pub place_inside : (j i n : ℕ) → (i + 1) * 2 ^ j ≤ n → place j i < 2 * n
-place_inside j i n h = inside_at i n (2 ^ j) (pow_pos j) h
-
-fits_at : (i n p : ℕ) → (i + 1) * p ≤ n → (2 * i + 1) * p ≤ 2 * n
-fits_at i n p h = omega arith
-
-pub place_fits : (j i n : ℕ) → (i + 1) * 2 ^ j ≤ n → (2 * i + 1) * 2 ^ j ≤ 2 * n
-place_fits j i n h = fits_at i n (2 ^ j) h
-
-odd_at : (k p : ℕ) → 0 < p → (2 * k + 1) * (2 * p) - 1 ≡ suc (2 * ((2 * k + 1) * p - 1))
-odd_at k p h = omega arith
-
-odd_place : (j k : ℕ) → place (j + 1) k ≡ suc (2 * place j k)
-odd_place j k = rw (pow_more j) (odd_at k (2 ^ j) (pow_pos j))
-
-too_wide : (i p b : ℕ) → (2 * i + 1) * p < b → b ≤ p → ⊥
-too_wide i p b h k = omega arith
-
-pub level_small : (i j : ℕ) → (2 * i + 1) * 2 ^ j < 2 ^ 64 → j < 64
-level_small i j h =
-    ⊎_elim (λ (l : j < 64). l)
-    (λ (l : 64 ≤ j). absurd (too_wide i (2 ^ j) (2 ^ 64) h (pow-le-pow_right {n = 2} (omega arith) {i = 64} {j = j} l)))
-    (cases_lt j 64)
-
--- ---- the leaves among the nodes
-pub stored_leaves-none : stored_leaves [] ≡ []
-unfolding stored_leaves
-stored_leaves-none = refl
-
-twice_suc : (j : ℕ) → 2 * suc j ≡ suc (suc (2 * j))
-twice_suc j = omega arith
-
-stored_leaves-push : (n : ℕ) (nodes : List (List ℕ)) (x y : List ℕ) → length nodes ≡ 2 * n → stored_leaves (nodes ++ x ∷ y ∷ []) ≡ stored_leaves nodes ++ x ∷ []
-unfolding stored_leaves
-stored_leaves-push n [] x y e = refl
-stored_leaves-push n (u ∷ []) x y e = absurd (omega arith)
-stored_leaves-push zero (u ∷ v ∷ nodes) x y e = absurd (omega arith)
-stored_leaves-push (suc n) (u ∷ v ∷ nodes) x y e = ap (λ r. u ∷ r) (stored_leaves-push n nodes x y (omega arith))
-
-stored_leaves-set : (k : ℕ) (nodes : List (List ℕ)) (v : List ℕ) → stored_leaves (set nodes (suc (2 * k)) v) ≡ stored_leaves nodes
-unfolding stored_leaves
-stored_leaves-set k [] v = refl
-stored_leaves-set zero (x ∷ []) v = refl
-stored_leaves-set (suc k) (x ∷ []) v = refl
-stored_leaves-set zero (x ∷ y ∷ nodes) v = refl
-stored_leaves-set (suc k) (x ∷ y ∷ nodes) v = rw (twice_suc k) (ap (λ r. x ∷ r) (stored_leaves-set k nodes v))
-
-get-stored_leaves : (i : ℕ) (nodes : List (List ℕ)) (d : List ℕ) → get_or nodes (2 * i) d ≡ get_or (stored_leaves nodes) i d
-unfolding stored_leaves
-get-stored_leaves i [] d = refl
-get-stored_leaves zero (x ∷ []) d = refl
-get-stored_leaves (suc i) (x ∷ []) d = rw (twice_suc i) refl
-get-stored_leaves zero (x ∷ y ∷ nodes) d = refl
-get-stored_leaves (suc i) (x ∷ y ∷ nodes) d = rw (twice_suc i) (get-stored_leaves i nodes d)
-
 two_inside : (i p n : ℕ) → (i + 1) * (2 * p) ≤ n → (2 * i + 1) * p ≤ n
 two_inside i p n h = omega arith
 
 two_inside_right : (i p n : ℕ) → (i + 1) * (2 * p) ≤ n → (2 * i + 1 + 1) * p ≤ n
 two_inside_right i p n h = omega arith
+
+ends_at : (i l p n : ℕ) → i < l → l * p ≤ n → (i + 1) * p ≤ n
+ends_at i l p n h k =
+    let e : l ≡ i + 1 + (l - (i + 1)) = omega arith in
+    let m : (i + 1 + (l - (i + 1))) * p ≤ n = subst (λ (u : ℕ). u * p ≤ n) e k in
+    omega arith
+
+below_at : (i l p n : ℕ) → (i + 1) * p < n → n ≤ (l + 1) * p → i < l
+below_at i l p n h k =
+    ⊎_elim (λ (b : i < l). b)
+    (λ (b : l ≤ i).
+    let e : i ≡ l + (i - l) = omega arith in
+    let m : (l + (i - l) + 1) * p < n = subst (λ (u : ℕ). (u + 1) * p < n) e h in
+    absurd (omega arith))
+    (cases_lt i l)
+
+least_at : (k l p n : ℕ) → 0 < p → (k + 1) * p ≡ n → n ≤ (l + 1) * p → k ≤ l
+least_at k l p n z e h =
+    ⊎_elim
+    (λ (b : l < k).
+    let f : k ≡ l + 1 + (k - (l + 1)) = omega arith in
+    let m : (l + 1 + (k - (l + 1)) + 1) * p ≡ n = subst (λ (u : ℕ). (u + 1) * p ≡ n) f e in
+    absurd (omega arith))
+    (λ (b : k ≤ l). b)
+    (cases_lt l k)
+
+past_at : (k l p n : ℕ) → 0 < p → (k + 1) * p ≡ n → k < l → n < (l + 1) * p
+past_at k l p n z e h =
+    let f : l ≡ k + 1 + (l - (k + 1)) = omega arith in
+    let m : n < (k + 1 + (l - (k + 1)) + 1) * p = omega arith in
+    subst (λ (u : ℕ). n < (u + 1) * p) (sym f) m
+
+pub next_end : (j i n : ℕ) → (i + 1) * 2 ^ j ≡ n → i % 2 ≡ 1 → (i / 2 + 1) * 2 ^ (j + 1) ≡ n
+next_end j i n e o =
+    let k : i ≡ 2 * (i / 2) + 1 = omega arith in
+    rw (pow_more j) (next_at (i / 2) (2 ^ j) n (rw k at e))
+  where
+    next_at : (k p n : ℕ) → (2 * k + 1 + 1) * p ≡ n → (k + 1) * (2 * p) ≡ n
+    next_at k p n e = omega arith
+
+pub left_end : (j i n : ℕ) → (i + 1) * 2 ^ j ≡ n → i % 2 ≡ 1 → (i - 1 + 1) * 2 ^ j < n
+left_end j i n e o = left_below i (2 ^ j) n (pow_pos j) (omega (arith, o)) e
+  where
+    left_below : (i p n : ℕ) → 0 < p → 0 < i → (i + 1) * p ≡ n → (i - 1 + 1) * p < n
+    left_below i p n z o e =
+        let a : i - 1 + 1 ≡ i = omega arith in
+        rw a (omega arith)
 
 module _ (H : List ℕ → List ℕ) where
   subtree-push : (j i : ℕ) (D : List (List ℕ)) (x : List ℕ) → (i + 1) * 2 ^ j ≤ length D → subtree H j i (D ++ x ∷ []) ≡ subtree H j i D
@@ -119,118 +90,124 @@ module _ (H : List ℕ → List ℕ) where
       let k : (i + 1) * (2 * 2 ^ j) ≤ length D = rw (pow_twice j) at h in
       rw (subtree-push j (2 * i) D x (two_inside i (2 ^ j) (length D) k), subtree-push j (2 * i + 1) D x (two_inside_right i (2 ^ j) (length D) k)) refl
 
-  at_none : (i p : ℕ) → 0 < p → (i + 1) * p ≤ 0 → ⊥
-  at_none i p z h = omega arith
-
-  pub stores_none : (nodes : List (List ℕ)) → nodes ≡ [] → Stores H nodes (stored_leaves nodes)
-  unfolding stored_leaves
-  stores_none nodes e = rw e (record { places = refl; subtrees = λ j i h. absurd (at_none i (2 ^ j) (pow_pos j) h) })
-
-  -- the nodes of the leaves D, where above a level those that end with the last leaf are missing
-  pub record Filled (nodes D : List (List ℕ)) (level : ℕ) : Type 0 where
-    pub leaves : stored_leaves nodes ≡ D
-    pub places : length nodes ≡ 2 * length D
-    pub earlier : (j i : ℕ) → (i + 1) * 2 ^ j < length D → get_or nodes (place j i) [] ≡ subtree H j i D
-    pub newest : (j i : ℕ) → (i + 1) * 2 ^ j ≡ length D → j ≤ level → get_or nodes (place j i) [] ≡ subtree H j i D
-
-  zero_place : (i : ℕ) → place 0 i ≡ 2 * i
-  zero_place i = omega arith
-
-  get-zero : (nodes D : List (List ℕ)) (j i : ℕ) → j ≡ 0 → stored_leaves nodes ≡ D → get_or nodes (place j i) [] ≡ subtree H j i D
-  unfolding subtree
-  get-zero nodes D j i e f = rw (e, zero_place i) (get-stored_leaves i nodes [] ∙ ap (λ (q : List (List ℕ)). get_or q i []) f)
-
-  pub fill_first : (nodes D : List (List ℕ)) (x : List ℕ) → stored_leaves nodes ≡ D → Stores H nodes (stored_leaves nodes) → Filled (nodes ++ x ∷ x ∷ []) (D ++ x ∷ []) 0
-  fill_first nodes D x e t =
-      let s : Stores H nodes D = subst (λ (q : List (List ℕ)). Stores H nodes q) e t in
-      let l : stored_leaves (nodes ++ x ∷ x ∷ []) ≡ D ++ x ∷ [] = stored_leaves-push (length D) nodes x x s.places ∙ ap (λ (q : List (List ℕ)). q ++ x ∷ []) e in
+  -- one leaf more
+  pub stores_push : (above : List (List (List ℕ))) (D : List (List ℕ)) (x : List ℕ) → Stores H above D → IsWhole above D → Stores H above (D ++ x ∷ [])
+  stores_push above D x s w =
       let n : length (D ++ x ∷ []) ≡ length D + 1 = length-append D (x ∷ []) in
       record {
-        leaves = l;
-        places = length-append nodes (x ∷ x ∷ []) ∙ omega (arith, n, s.places);
-        earlier = λ j i h.
-            let k : (i + 1) * 2 ^ j ≤ length D = omega (arith, n, h) in
-            get_or_append_left nodes (x ∷ x ∷ []) [] (place j i) (omega (arith, s.places, place_inside j i (length D) k))
-            ∙ s.subtrees j i k ∙ sym (subtree-push j i D x k);
-        newest = λ j i h o. get-zero (nodes ++ x ∷ x ∷ []) (D ++ x ∷ []) j i (omega (arith, o)) l;
+        subtrees = λ l i h.
+            s.subtrees l i h
+            ∙ sym (subtree-push (l + 1) i D x (ends_at i (length (get_or above l [])) (2 ^ (l + 1)) (length D) h (s.within l)));
+        within = λ l. omega (arith, n, s.within l);
+        earlier = λ l. omega (arith, n, w l);
       }
 
-  pub node_first : (k : ℕ) (D : List (List ℕ)) (x : List ℕ) → k ≡ length D → x ≡ subtree H 0 k (D ++ x ∷ [])
+  -- ---- what is read
+  stored_is : (above : List (List (List ℕ))) (D : List (List ℕ)) (j i : ℕ) (v : List ℕ) → Stores H above D → (i + 1) * 2 ^ j < length D
+      → (j ≡ 0 → v ≡ get_or D i []) → (0 < j → v ≡ get_or (get_or above (j - 1) []) i []) → v ≡ subtree H j i D
   unfolding subtree
-  node_first k D x e = sym (get_or_at D x [] [] k (sym e))
+  stored_is above D zero i v s h leaf inner = leaf refl
+  stored_is above D (suc j) i v s h leaf inner =
+      let e : j + 1 ≡ suc j = omega arith in
+      let f : suc j - 1 ≡ j = omega arith in
+      let inside : i < length (get_or above j []) =
+      below_at i (length (get_or above j [])) (2 ^ (j + 1)) (length D) (subst (λ (u : ℕ). (i + 1) * 2 ^ u < length D) (sym e) h) (s.earlier j) in
+      inner (omega arith) ∙ ap (λ (u : ℕ). get_or (get_or above u []) i []) f ∙ s.subtrees j i inside ∙ ap (λ (u : ℕ). subtree H u i D) e
 
-  same_index : (i k p : ℕ) → 0 < p → (i + 1) * p ≡ (k + 1) * p → i ≡ k
-  same_index zero zero p z e = refl
-  same_index zero (suc k) p z e = absurd (omega arith)
-  same_index (suc i) zero p z e = absurd (omega arith)
-  same_index (suc i) (suc k) p z e = ap suc (same_index i k p z (omega arith))
+  -- the same, of a slice of the lists
+  pub stored_of : (slice above : List (List (List ℕ))) (D : List (List ℕ)) (j i : ℕ) (v : List ℕ) → slice ≡ above → Stores H above D
+      → (i + 1) * 2 ^ j < length D → (j ≡ 0 → v ≡ get_or D i []) → (0 < j → v ≡ get_or (get_or slice (j - 1) []) i []) → v ≡ subtree H j i D
+  stored_of slice above D j i v e s h leaf inner =
+      stored_is above D j i v s h leaf (subst (λ (q : List (List (List ℕ))). 0 < j → v ≡ get_or (get_or q (j - 1) []) i []) e inner)
 
-  pub next_end : (j i n : ℕ) → (i + 1) * 2 ^ j ≡ n → i % 2 ≡ 1 → (i / 2 + 1) * 2 ^ (j + 1) ≡ n
-  next_end j i n e o =
-      let k : i ≡ 2 * (i / 2) + 1 = omega arith in
-      rw (pow_more j) (next_at (i / 2) (2 ^ j) n (rw k at e))
+  -- ---- the roots that end with the last leaf
+  -- one level with the right nodes
+  record IsRight (list : List (List ℕ)) (level : ℕ) (D : List (List ℕ)) : Type 0 where
+    subtrees : (index : ℕ) → index < length list → get_or list index [] ≡ subtree H (level + 1) index D
+    within : length list * 2 ^ (level + 1) ≤ length D
+    earlier : length D ≤ (length list + 1) * 2 ^ (level + 1)
+
+  right_at : (above : List (List (List ℕ))) (D : List (List ℕ)) (l : ℕ) → Stores H above D → IsRight (get_or above l []) l D
+  right_at above D l s = record { subtrees = s.subtrees l; within = s.within l; earlier = s.earlier l }
+
+  right_push : (list : List (List ℕ)) (D : List (List ℕ)) (j k : ℕ) (v : List ℕ) → IsRight list j D → (k + 1) * 2 ^ (j + 1) ≡ length D
+      → v ≡ subtree H (j + 1) k D → length list ≡ k → IsRight (list ++ v ∷ []) j D
+  right_push list D j k v r e f g =
+      let n : length (list ++ v ∷ []) ≡ k + 1 = length_push list v ∙ omega arith in
+      record {
+        subtrees = λ i h. ⊎_elim
+            (λ (b : i < length list). get_or_append_left list (v ∷ []) [] i b ∙ r.subtrees i b)
+            (λ (b : length list ≤ i).
+            let o : length list ≡ i = omega (arith, n, h, b, g) in
+            get_or_push list v [] i o ∙ f ∙ ap (λ (u : ℕ). subtree H (j + 1) u D) (sym g ∙ o))
+            (cases_lt i (length list));
+        within = subst (λ (u : ℕ). u * 2 ^ (j + 1) ≤ length D) (sym n) (omega (arith, e));
+        earlier = subst (λ (u : ℕ). length D ≤ (u + 1) * 2 ^ (j + 1)) (sym n) (omega (arith, e));
+      }
+
+  -- the level's list after `put`, and the others
+  pub stores_put : (lists above : List (List (List ℕ))) (D : List (List ℕ)) (j k : ℕ) (v : List ℕ) → Stores H above D
+      → (k + 1) * 2 ^ (j + 1) ≡ length D → v ≡ subtree H (j + 1) k D → HaveSameLevelsBut j lists above
+      → (length (get_or above j []) ≡ k → get_or lists j [] ≡ get_or above j [] ++ v ∷ [])
+      → ((length (get_or above j []) ≡ k → ⊥) → get_or lists j [] ≡ get_or above j [])
+      → Stores H lists D × (length D < (length (get_or lists j []) + 1) * 2 ^ (j + 1))
+  stores_put lists above D j k v s e f others added there =
+      let here = at_level in (
+        record {
+          subtrees = λ l. (at_each l).subtrees;
+          within = λ l. (at_each l).within;
+          earlier = λ l. (at_each l).earlier;
+        },
+        here.1,
+      )
     where
-      next_at : (k p n : ℕ) → (2 * k + 1 + 1) * p ≡ n → (k + 1) * (2 * p) ≡ n
-      next_at k p n e = omega arith
+      least : k ≤ length (get_or above j [])
+      least = least_at k (length (get_or above j [])) (2 ^ (j + 1)) (length D) (pow_pos (j + 1)) e (s.earlier j)
 
-  pub fill_up : (nodes D : List (List ℕ)) (j k : ℕ) (v : List ℕ) → Filled nodes D j → (k + 1) * 2 ^ (j + 1) ≡ length D
-      → v ≡ subtree H (j + 1) k D → Filled (set nodes (place (j + 1) k) v) D (j + 1)
-  fill_up nodes D j k v f e g = record {
-    leaves = ap (λ (q : ℕ). stored_leaves (set nodes q v)) (odd_place j k) ∙ stored_leaves-set (place j k) nodes v ∙ f.leaves;
-    places = length-set nodes (place (j + 1) k) v ∙ f.places;
-    earlier = λ a i h.
-        get_or-set_other nodes (place (j + 1) k) (place a i) v []
-        (λ same. let r = place_one a (j + 1) i k same in below a i h r.0 r.1)
-        ∙ f.earlier a i h;
-    newest = λ a i h o. ⊎_elim
-        (λ (l : a < j + 1).
-        get_or-set_other nodes (place (j + 1) k) (place a i) v []
-        (λ same. let r = place_one a (j + 1) i k same in omega (arith, r.0, l))
-        ∙ f.newest a i h (omega (arith, l)))
-        (λ (l : j + 1 ≤ a). at_end a i h (omega (arith, l, o)))
-        (cases_lt a (j + 1));
-  }
+      at_level : IsRight (get_or lists j []) j D × (length D < (length (get_or lists j []) + 1) * 2 ^ (j + 1))
+      at_level = ⊎_elim
+          (λ (b : k < length (get_or above j [])).
+          let q : get_or lists j [] ≡ get_or above j [] = there (λ o. omega (arith, o, b)) in
+          subst (λ (x : List (List ℕ)). IsRight x j D × (length D < (length x + 1) * 2 ^ (j + 1))) (sym q)
+          (right_at above D j s, past_at k (length (get_or above j [])) (2 ^ (j + 1)) (length D) (pow_pos (j + 1)) e b))
+          (λ (b : length (get_or above j []) ≤ k).
+          let o : length (get_or above j []) ≡ k = omega (arith, least, b) in
+          let q : get_or lists j [] ≡ get_or above j [] ++ v ∷ [] = added o in
+          let n : length (get_or above j [] ++ v ∷ []) ≡ k + 1 = length_push (get_or above j []) v ∙ omega (arith, o) in
+          subst (λ (x : List (List ℕ)). IsRight x j D × (length D < (length x + 1) * 2 ^ (j + 1))) (sym q) (
+            right_push (get_or above j []) D j k v (right_at above D j s) e f o,
+            past_at k (length (get_or above j [] ++ v ∷ [])) (2 ^ (j + 1)) (length D) (pow_pos (j + 1)) e (omega (arith, n)),
+          ))
+          (cases_lt k (length (get_or above j [])))
+
+      elsewhere : (l : ℕ) → (l ≡ j → ⊥) → IsRight (get_or lists l []) l D
+      elsewhere l o = subst (λ (x : List (List ℕ)). IsRight x l D) (sym (others l o)) (right_at above D l s)
+
+      at_each : (l : ℕ) → IsRight (get_or lists l []) l D
+      at_each l = ⊎_elim
+          (λ (b : l < j). elsewhere l (λ o. omega (arith, o, b)))
+          (λ (b : j ≤ l). ⊎_elim
+          (λ (c : j < l). elsewhere l (λ o. omega (arith, o, c)))
+          (λ (c : l ≤ j).
+          let o : j ≡ l = omega (arith, b, c) in
+          subst (λ (u : ℕ). IsRight (get_or lists u []) u D) o at_level.0)
+          (cases_lt j l))
+          (cases_lt l j)
+
+  -- the walk ends where the last node of a level has none beside it
+  pub whole_end : (above : List (List (List ℕ))) (D : List (List ℕ)) (j k : ℕ) → Stores H above D
+      → ((l : ℕ) → l < j → length D < (length (get_or above l []) + 1) * 2 ^ (l + 1)) → (k + 1) * 2 ^ j ≡ length D → k % 2 ≡ 0 → IsWhole above D
+  whole_end above D j k s w e o l = ⊎_elim (λ (b : l < j). w l b) (λ (b : j ≤ l). further b) (cases_lt l j)
     where
-      below : (a i : ℕ) → (i + 1) * 2 ^ a < length D → a ≡ j + 1 → i ≡ k → ⊥
-      below a i h p q =
-          let h' : (k + 1) * 2 ^ (j + 1) < length D = rw (p, q) at h in
-          omega (arith, h', e)
-
-      at_end : (a i : ℕ) → (i + 1) * 2 ^ a ≡ length D → a ≡ j + 1 → get_or (set nodes (place (j + 1) k) v) (place a i) [] ≡ subtree H a i D
-      at_end a i h p =
-          let h' : (i + 1) * 2 ^ (j + 1) ≡ length D = rw p at h in
-          let q : i ≡ k = same_index i k (2 ^ (j + 1)) (pow_pos (j + 1)) (h' ∙ sym e) in
-          rw (p, q) (get_or-set_same nodes (place (j + 1) k) v [] (omega (arith, f.places, place_inside (j + 1) k (length D) (omega (arith, e)))) ∙ g)
-
-  pub fill_done : (nodes D : List (List ℕ)) (j k : ℕ) → Filled nodes D j → (k + 1) * 2 ^ j ≡ length D → k % 2 ≡ 0 → Stores H nodes D
-  fill_done nodes D j k f e o = record {
-    places = f.places;
-    subtrees = λ a i h. ⊎_elim
-        (λ (l : (i + 1) * 2 ^ a < length D). f.earlier a i l)
-        (λ (l : length D ≤ (i + 1) * 2 ^ a).
-        let m : (i + 1) * 2 ^ a ≡ length D = omega (arith, h, l) in
-        f.newest a i m (low_end a i m))
-        (cases_lt ((i + 1) * 2 ^ a) (length D));
-  }
-    where
-      low_end : (a i : ℕ) → (i + 1) * 2 ^ a ≡ length D → a ≤ j
-      low_end a i m =
+      further : j ≤ l → length D < (length (get_or above l []) + 1) * 2 ^ (l + 1)
+      further b = ⊎_elim
+          (λ (c : length D < (length (get_or above l []) + 1) * 2 ^ (l + 1)). c)
+          (λ (c : (length (get_or above l []) + 1) * 2 ^ (l + 1) ≤ length D).
           let q : k + 1 ≡ 2 * (k / 2) + 1 = omega arith in
-          low_power j a (k / 2) (i + 1) (rw q at (e ∙ sym m))
-
-  left_below : (i p n : ℕ) → 0 < p → 0 < i → (i + 1) * p ≡ n → (i - 1 + 1) * p < n
-  left_below i p n z o e =
-      let a : i - 1 + 1 ≡ i = omega arith in
-      rw a (omega arith)
-
-  pub left_end : (j i n : ℕ) → (i + 1) * 2 ^ j ≡ n → i % 2 ≡ 1 → (i - 1 + 1) * 2 ^ j < n
-  left_end j i n e o = left_below i (2 ^ j) n (pow_pos j) (omega (arith, o)) e
-
-  -- the left one of the two below the node to be stored
-  pub left_stored : (nodes D : List (List ℕ)) (j i : ℕ) → Filled nodes D j → (i + 1) * 2 ^ j ≡ length D → i % 2 ≡ 1
-      → get_or nodes (place j (i - 1)) [] ≡ subtree H j (i - 1) D
-  left_stored nodes D j i f e o =
-      f.earlier j (i - 1) (left_end j i (length D) e o)
+          let m : (k + 1) * 2 ^ j ≡ (length (get_or above l []) + 1) * 2 ^ (l + 1) = omega (arith, e, c, s.earlier l) in
+          let low = low_power j (l + 1) (k / 2) (length (get_or above l []) + 1) (rw q at m) in
+          absurd (omega (arith, low, b)))
+          (cases_lt (length D) ((length (get_or above l []) + 1) * 2 ^ (l + 1)))
 
   pub joined_pair : (j i : ℕ) (D : List (List ℕ)) (left node v : List ℕ) → i % 2 ≡ 1
       → left ≡ subtree H j (i - 1) D → node ≡ subtree H j i D → v ≡ hash_node H left node → v ≡ subtree H (j + 1) (i / 2) D

@@ -18,6 +18,7 @@ mod batch;
 mod hash;
 mod head;
 pub mod laws;
+mod levels;
 mod nodes;
 mod power;
 pub mod reference;
