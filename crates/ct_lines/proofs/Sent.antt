@@ -1,8 +1,9 @@
 -- What was sent of some bytes, step by step.
-use Rattle.std.proofs.Common.{◌≡◌, ◌<◌, ◌+◌, ℕ, List, ◌++◌, length, take, drop, Option, refl, sym, ap, ◌∙◌, arith, append_assoc, length-append, take-append-drop}
+use Rattle.std.proofs.Common.{◌≡◌, ◌<◌, ◌+◌, ℕ, List, [], ◌++◌, length, take, drop, Option, Bool, true, false, refl, sym, ap, ◌∙◌, arith, append-nil, append_assoc, length-append, take-append-drop}
 use Rattle.std.proofs.lemmas.List.{take_at}
 use Rattle.std.specs.Io.KnownBytes.{Appends, Keeps}
 use Rattle.std.proofs.KnownBytes.{Appends-trans, Appends-kept}
+use Rattle.ct_lines.specs.Sends.{SendsSome}
 
 -- some of the bytes are sent, and the rest is left
 abbrev pub IsSending : Option (List ℕ) → Option (List ℕ) → List ℕ → List ℕ → Type 0
@@ -23,3 +24,12 @@ sending_stops a b bytes rest s h =
 
 pub sending_kept : (a b c : Option (List ℕ)) (bytes rest : List ℕ) → IsSending a b bytes rest → Keeps b c → IsSending a c bytes rest
 sending_kept a b c bytes rest s k = (s.0, s.1, Appends-kept a b c s.0 s.2 k)
+
+sends_all : (old new : Option (List ℕ)) (bytes : List ℕ) → Appends old new bytes → SendsSome old new bytes
+sends_all old new bytes a = (bytes, ([], sym (append-nil bytes)), a)
+
+-- what was sent where all was, or else some
+pub sent_some : (whole : Bool) (old new : Option (List ℕ)) (bytes : List ℕ) → (whole ≡ true → Appends old new bytes)
+    → (whole ≡ false → (n : ℕ) × (n < length bytes) × Appends old new (take n bytes)) → SendsSome old new bytes
+sent_some true old new bytes all some = sends_all old new bytes (all refl)
+sent_some false old new bytes all some = let s = some refl in (take s.0 bytes, (drop s.0 bytes, sym (take-append-drop s.0 bytes)), s.2)

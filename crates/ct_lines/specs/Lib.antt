@@ -5,5 +5,6 @@ pub mod ReplyText
 pub mod Verdicts
 pub mod Frozen
 pub mod Serving
+pub mod Sends
 pub mod Progress
 pub mod Laws

@@ -1,4 +1,4 @@
-//! Why serving ends early.
+//! Why serving ends early, and that bytes weren't written.
 
 ghost use Rattle.std.specs.Prelude.{◌≡◌};
 ghost use Rattle.ct_lines.specs.declared.fault.ServeFault.TheVariants.{Read, Write, Memory};
@@ -23,6 +23,11 @@ pub enum ServeFault {
     #[error("the input had not ended after {0} replies and 2^50 reads")]
     Endless(u64),
 }
+
+/// The output couldn't be written.
+#[derive(Clone, Copy, Debug, PartialEq, Eq, Error)]
+#[error("the output couldn't be written")]
+pub struct Unwritten;
 
 // The reader's error, after so many replies.
 #[derive(Drop)]

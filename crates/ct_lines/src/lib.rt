@@ -2,8 +2,9 @@
 //!
 //! - `read_line` answers the `Request` that a line is, or `BadLine` exactly where it is none.
 //! - `reply_text` answers the text of a `Reply` or of a refusal, with the end of the line.
-//! - `serve_frozen` reads request lines from a reader, and writes the replies of a closed log to a writer. `write_whole` writes bytes,
-//!   for the program.
+//! - `serve_frozen` reads request lines from a reader, and writes the replies of a closed log to a writer.
+//! - `content` is a line without its end. `write_whole` writes bytes, `send` hands them on as well, and `tell` doesn't say
+//!   whether it could: for the programs.
 //! - `fields` reads what stands under a key of a JSON object; `bytes_value` and `hashes_value` are bytes and hashes as JSON.
 //!
 //! What a line asks and how a reply is written are defined in `specs/`, over `serde_json`'s own words for the value
@@ -26,9 +27,9 @@ mod standing;
 mod wanting;
 mod writing;
 
-pub use fault::ServeFault;
-pub use reading::read_line;
+pub use fault::{ServeFault, Unwritten};
+pub use reading::{content, read_line};
 pub use request::{Audit, FrontRequest, FrozenRequest, OperatorRequest, Request};
-pub use sending::write_whole;
+pub use sending::{send, tell, write_whole};
 pub use serving::serve_frozen;
 pub use writing::{bytes_value, hashes_value, reply_text};

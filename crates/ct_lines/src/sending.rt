@@ -2,7 +2,9 @@
 
 ghost use Rattle.std.specs.Prelude.{◌≡◌, ◌<◌, ℕ, length, take, true, false, OnOk, OnErr};
 ghost use Rattle.std.specs.Io.KnownBytes.{Appends};
+ghost use Rattle.ct_lines.specs.Sends.{SendsSome};
 
+use crate::fault::Unwritten;
 use std::io;
 use std::io::{ErrorKind, Write};
 
@@ -35,4 +37,29 @@ pub fn write_whole<W: Write>(writer: &mut W, bytes: &[u8]) -> bool
     ensures some { result ≡ false → (n : ℕ) × (n < length bytes.now) × Appends (W.contents writer.old) (W.contents writer.new) (take n bytes.now) }
 {
     write_bytes(writer, bytes).is_ok()
+}
+
+/// Writes the bytes whole, and hands them on.
+///
+/// # Errors
+///
+/// `Unwritten`, where the writer failed: a beginning of the bytes was written.
+pub fn send<W: Write>(output: &mut W, bytes: &[u8]) -> Result<(), Unwritten>
+    ensures all { OnOk result (Appends (W.contents output.old) (W.contents output.new) bytes.now) }
+    ensures some { OnErr result (SendsSome (W.contents output.old) (W.contents output.new) bytes.now) }
+{
+    if !write_whole(output, bytes) {
+        return Err(Unwritten);
+    }
+    match output.flush() {
+        Ok(()) => Ok(()),
+        Err(_) => Err(Unwritten),
+    }
+}
+
+/// Writes the bytes as far as they can be written, and doesn't say how far.
+pub fn tell<W: Write>(output: &mut W, bytes: &[u8])
+    ensures { SendsSome (W.contents output.old) (W.contents output.new) bytes.now }
+{
+    let _ = write_whole(output, bytes);
 }

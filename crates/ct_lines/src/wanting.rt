@@ -1,6 +1,6 @@
 //! Want of memory: what an error of a crate below says of it, and where a refusal tells it. Elsewhere it is passed on by `?`.
 
-ghost use Rattle.std.specs.Prelude.{◌≡◌, ◌≢◌, ◌⊎◌, None, Err, IfOk, MatchResult};
+ghost use Rattle.std.specs.Prelude.{◌≡◌, ◌≢◌, ◌⊎◌, None, Err, MatchResult};
 ghost use Rattle.base64.specs.declared.decode.DecodeAllocError.TheVariants.{OutOfMemory};
 ghost use Rattle.serde_json.specs.Errors.{IsMemory};
 ghost use Rattle.ct_codec.specs.declared.refusal.Refusal.TheVariants.{Memory, BadLine};
@@ -21,7 +21,7 @@ pub(crate) struct Undecoded {
 }
 
 impl From<DecodeAllocError> for Undecoded {
-    ghost from_gives = { λ error undecoded. IfOk undecoded.bytes (λ o. (o ≡ None) × (error ≢ OutOfMemory)) };
+    ghost from_gives = { λ error undecoded. MatchResult undecoded.bytes (λ o. (o ≡ None) × (error ≢ OutOfMemory)) (λ _. error ≡ OutOfMemory) };
 
     fn from(error: DecodeAllocError) -> Undecoded {
         let bytes = match error {

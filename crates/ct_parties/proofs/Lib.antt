@@ -1,4 +1,3 @@
-pub mod Sent
 pub mod LineLemmas
 pub mod TaskLemmas
 pub mod PlanLemmas

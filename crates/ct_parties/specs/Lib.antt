@@ -8,5 +8,4 @@ pub mod Parties
 pub mod Shifts
 pub mod ClosedLog
 pub mod Faults
-pub mod Sends
 pub mod Output

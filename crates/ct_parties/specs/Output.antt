@@ -17,7 +17,7 @@ use Rattle.ct_parties.specs.Tasks.{Step, AllAskFor, frozen_lines}
 use Rattle.ct_parties.specs.Plans.{AreShiftsOf}
 use Rattle.ct_parties.specs.Parties.{Parties, IsPartyFault, all_replies, fronts_of}
 use Rattle.ct_parties.specs.Shifts.{IsShiftFault, PartiesServe}
-use Rattle.ct_parties.specs.Sends.{SendsSome}
+use Rattle.ct_lines.specs.Sends.{SendsSome}
 
 -- the steps are those that an input asks for, where its bytes are known, of so many fronts
 abbrev pub AreStepsOf : ℕ → Option (List ℕ) → List Step → Type 0

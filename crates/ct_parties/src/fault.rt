@@ -1,11 +1,11 @@
 //! What ends a run before all is written.
 
 ghost use Rattle.std.specs.Prelude.{◌≡◌};
-ghost use Rattle.ct_parties.specs.declared.fault.Fault.TheVariants.{Memory};
+ghost use Rattle.ct_parties.specs.declared.fault.Fault.TheVariants.{Memory, Write};
 ghost use Rattle.ct_parties.specs.Faults.{fault_name, serve_fault, IsFrozenFault, IsReadingFault, IsRefusalFault};
 
 use ct_codec::Refusal;
-use ct_lines::ServeFault;
+use ct_lines::{ServeFault, Unwritten};
 use std::alloc::{AllocError, AllocFailed};
 use std::io;
 
@@ -77,6 +77,15 @@ impl From<ServeFault> for Fault {
             ServeFault::Write(_) => Fault::Write,
             ServeFault::Memory(_) => Fault::Memory,
         }
+    }
+}
+
+// What ends the run where replies can't be written.
+impl From<Unwritten> for Fault {
+    ghost from_gives = { λ _ f. f ≡ Write };
+
+    fn from(_e: Unwritten) -> Fault {
+        Fault::Write
     }
 }
 

@@ -13,7 +13,7 @@
 //! - `party` has the fronts with their replies, and what they and the operator do in a shift; `threads` does the work of a
 //!   shift, each party in a thread of its own; and `shifting` ends shifts, and does them one after the other.
 //! - `closing` closes the log.
-//! - `options` has the numbers of a log, `fault` names what ends a run before all is written, and `output` writes.
+//! - `options` has the numbers of a log, and `fault` names what ends a run before all is written.
 //! - `script` has `serve`.
 #![tactic(auto)]
 
@@ -22,7 +22,6 @@ mod fault;
 mod front_work;
 mod operator_work;
 mod options;
-mod output;
 mod party;
 mod plan;
 mod reading;
@@ -35,5 +34,4 @@ mod waiting;
 
 pub use fault::Fault;
 pub use options::Options;
-pub use output::{send, tell};
 pub use script::serve;

@@ -1,13 +1,13 @@
 //! The lines of the input, read one by one and given out.
 
 ghost use Rattle.std.specs.Prelude.{◌≡◌, ◌⊎◌, List, length, IfOk, IfErr};
-ghost use Rattle.std.specs.Io.BufRead.{strip_last};
 ghost use Rattle.ct_parties.specs.Output.{AreStepsOf};
 ghost use Rattle.ct_parties.specs.Plans.{IsPlanOf, LineTaken};
 ghost use Rattle.ct_parties.specs.Tasks.{Step};
 
 use crate::fault::Fault;
 use crate::plan::Plan;
+use ct_lines::content;
 use std::alloc::Global;
 use std::io::{BufRead, BufReader, Read};
 
@@ -16,16 +16,6 @@ const LINES: u64 = 1 << 50;
 
 // How many bytes are asked of the reader at a time.
 const CAPACITY: usize = 65_536;
-
-// The line without its end, the byte 0A.
-fn content(line: &[u8]) -> &[u8]
-    ensures { result.now ≡ strip_last 10 line.now }
-{
-    match line.split_last() {
-        Some((last, front)) if *last == b'\n' => front,
-        _ => line,
-    }
-}
 
 // Reads the next line into the buffer, and adds what it asks for. It answers whether none was left.
 fn take_line<R: BufRead>(

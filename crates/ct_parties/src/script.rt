@@ -13,14 +13,13 @@ ghost use Rattle.ct_parties.specs.declared.party.FrontParty.{FrontParty as Front
 use crate::closing::close;
 use crate::fault::Fault;
 use crate::options::Options;
-use crate::output::send;
 use crate::party::{FrontParty, House, Shift, Work};
 use crate::plan::Plan;
 use crate::reading::read_plan;
 use crate::shifting::{Served, serve_parties};
 use ct_core::Published;
 use ct_house::{Front, open};
-use ct_lines::serve_frozen;
+use ct_lines::{send, serve_frozen};
 use ct_tree::Memory;
 use std::alloc::Global;
 use std::io::{Read, Write};
@@ -110,9 +109,9 @@ fn serve_parties_and_log<H: Threads + Wait + Sync, W: Write>(
     } = serve_parties(rt, alloc, house, shifts, last, turns)?;
     match send(output, &replies) {
         Ok(()) => {}
-        Err(fault) => {
+        Err(error) => {
             sequencer.abandon(rt, Vec::new(alloc));
-            return Err(fault);
+            return Err(Fault::from(error));
         }
     }
     let log = close(rt, alloc, sequencer, fronts, close_at)?;

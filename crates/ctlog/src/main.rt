@@ -16,7 +16,7 @@ ghost use Rattle.ct_parties.specs.declared.fault.Fault.{Fault as FaultOf};
 ghost use Rattle.ctlog.specs.CommandLine.{asked_of, help, nothing};
 ghost use Rattle.ctlog.specs.FaultLines.{fault_line};
 ghost use Rattle.ctlog.specs.Runs.{IsDone, IsBrokenOff};
-ghost use Rattle.ct_parties.specs.Sends.{SendsSome};
+ghost use Rattle.ct_lines.specs.Sends.{SendsSome};
 
 mod command;
 mod program;

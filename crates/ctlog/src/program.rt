@@ -6,7 +6,7 @@ ghost use Rattle.std.specs.IoError.{error_kind};
 ghost use Rattle.std.specs.declared.io.ErrorKind.TheVariants.{OutOfMemory as NoMemory};
 ghost use Rattle.clap.specs.Words.{kind_of};
 ghost use Rattle.clap.specs.declared.error.kind.ErrorKind.TheVariants.{DisplayHelp, OutOfMemory};
-ghost use Rattle.ct_parties.specs.Sends.{SendsSome};
+ghost use Rattle.ct_lines.specs.Sends.{SendsSome};
 ghost use Rattle.ct_parties.specs.declared.fault.Fault.{Fault as FaultOf};
 ghost use Rattle.ctlog.specs.CommandLine.{asked_for, help, nothing, IsUnanswered};
 ghost use Rattle.ctlog.specs.FaultLines.{fault_line};
@@ -15,7 +15,8 @@ ghost use Rattle.ctlog.specs.Runs.{IsDone, IsBrokenOff};
 use crate::command::{NoOptions, read_options, unreadable_word};
 use crate::report::report;
 use clap::Error;
-use ct_parties::{Fault, send, serve, tell};
+use ct_lines::{send, tell};
+use ct_parties::{Fault, serve};
 use std::alloc::Global;
 use std::io;
 use std::io::{Read, Write};
@@ -28,7 +29,8 @@ fn send_help<W: Write>(alloc: Global, error: &Error, output: &mut W) -> Result<(
     ensures faults { IfErr result (λ f. (f ≡ Fault.Write) ⊎ (f ≡ Fault.Memory)) }
 {
     let text = format!(in alloc; "{error}")?;
-    send(output, text.as_bytes())
+    send(output, text.as_bytes())?;
+    Ok(())
 }
 
 // Where the requests come from, for whoever gave them as words.

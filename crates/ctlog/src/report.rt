@@ -1,10 +1,11 @@
 //! The line of a fault.
 
 ghost use Rattle.std.specs.Prelude.{◌≡◌};
-ghost use Rattle.ct_parties.specs.Sends.{SendsSome};
+ghost use Rattle.ct_lines.specs.Sends.{SendsSome};
 ghost use Rattle.ctlog.specs.FaultLines.{fault_line};
 
-use ct_parties::{Fault, tell};
+use ct_lines::tell;
+use ct_parties::Fault;
 use std::io::Write;
 
 // What is written of a fault, with the end of the line.

@@ -1,32 +1,9 @@
-//! The program `ctmonitor`: watches a log by the answers of its front end, which stand on standard input, a line each.
-//!
-//! - `command` reads the command line.
-//! - `answer` reads what a line is, and `state` reads and writes the state between two runs.
-//! - `names` looks for watched names, `entries` writes of them, `verdicts` writes of verdicts, and `text` writes lines.
-//! - `monitor` takes one line after the other.
-//! - `fault` names what ends the program before the state is written.
-//! - `laws` says what holds of many runs.
-//! - `program` has `run`, which does all this over any reader and any writer.
+//! The program `ctmonitor`: watches a log by the answers of its front end, which stand on standard input, a line each. What it
+//! does is `run` of `ct_follow`, over standard input and output.
 #![tactic(auto)]
 
-mod answer;
-mod command;
-mod entries;
-mod fault;
-mod laws;
-mod monitor;
-mod names;
-mod program;
-mod state;
-#[cfg(test)]
-mod tests;
-mod text;
-mod verdicts;
-
-use command::{Command, command_of};
-use ct_lines::write_whole;
-use fault::Fault;
-use program::run;
+use ct_follow::{Command, Fault, command_of, run};
+use ct_lines::{send, tell};
 use std::io;
 use std::io::BufReader;
 use std::process::ExitCode;
@@ -45,16 +22,11 @@ fn run_words(rt: &HostRuntime) -> Result<u8, Fault> {
             run(alloc, &names, &mut reader, &mut writer)
         }
         Command::Help => {
-            let mut writer = io::writer(rt);
-            if write_whole(&mut writer, USAGE.as_bytes()) {
-                Ok(0)
-            } else {
-                Err(Fault::Write)
-            }
+            send(&mut io::writer(rt), USAGE.as_bytes())?;
+            Ok(0)
         }
         Command::Refused => {
-            let mut faults = rt.stderr();
-            let _ = write_whole(&mut faults, USAGE.as_bytes());
+            tell(&mut rt.stderr(), USAGE.as_bytes());
             Ok(2)
         }
     }
@@ -64,8 +36,7 @@ fn main(rt: HostRuntime) -> ExitCode {
     let status = match run_words(&rt) {
         Ok(status) => status,
         Err(fault) => {
-            let mut faults = rt.stderr();
-            let _ = write_whole(&mut faults, fault.text().as_bytes());
+            tell(&mut rt.stderr(), fault.text().as_bytes());
             1
         }
     };

@@ -1,4 +1,5 @@
-//! Tests of `ct_codec`, `ct_core` and `ct_lines`, in a crate of their own so that each of those crates is proved once.
+//! Tests of `ct_codec`, `ct_core`, `ct_lines` and `ct_follow`, in a crate of their own so that each of those crates is proved
+//! once.
 #![tactic(auto)]
 
 #[cfg(test)]
@@ -9,6 +10,8 @@ mod core_log;
 mod failing_calls;
 #[cfg(test)]
 mod hostile_bytes;
+#[cfg(test)]
+mod monitor_runs;
 #[cfg(test)]
 mod precertificates;
 #[cfg(test)]

@@ -6,7 +6,7 @@ use Rattle.clap.specs.declared.error.kind.ErrorKind.TheVariants as kind
 use Rattle.ctlog.specs.CommandLine.{CommandLine, asked_for, asked_of, command_line, help, nothing}
 use Rattle.ctlog.specs.FaultLines.{fault_line}
 use Rattle.ctlog.specs.Runs.{IsDone, IsBrokenOff}
-use Rattle.ct_parties.specs.Sends.{SendsSome}
+use Rattle.ct_lines.specs.Sends.{SendsSome}
 use Rattle.ct_parties.specs.declared.fault.Fault.{Fault}
 use Rattle.ctlog.proofs.RunLemmas.{unanswered}
 use Rattle.ctlog.proofs.run_words.Goals as goal

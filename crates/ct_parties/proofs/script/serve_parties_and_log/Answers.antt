@@ -6,7 +6,7 @@ use Rattle.ct_lines.specs.Frozen.{frozen_text}
 use Rattle.ct_parties.specs.Faults.{IsFrozenFault}
 use Rattle.ct_parties.specs.Shifts.{start_of}
 use Rattle.ct_parties.specs.Output.{IsClosed, SomeReplies, parties_begun, parties_done}
-use Rattle.ct_parties.specs.Sends.{SendsSome}
+use Rattle.ct_lines.specs.Sends.{SendsSome}
 use Rattle.ct_parties.proofs.OutputLemmas.{if_err_is, if_err_both, writes_all, writes_last}
 use Rattle.ct_parties.proofs.script.serve_parties_and_log.Goals as goal
 

@@ -1,0 +1,88 @@
+-- What a line of a log's front end is.
+use Rattle.std.specs.Prelude.{◌≡◌, ◌⊎◌, ◌≤◌, ℕ, List, map, length, Option, Some, None, option_map, option_and_then, codes}
+use Rattle.std.specs.Str.{IsUtf8}
+use Rattle.serde_json.specs.Data.{Data, Items}
+use Rattle.serde_json.specs.Find.{get, as_number, as_u64, as_array}
+use Rattle.serde_json.specs.Read.{read}
+use Rattle.ct_tree.specs.declared.head.Head.{Head}
+use Rattle.ct_lines.specs.Fields.{number_at, bytes_at, hash_at, hashes_at, each_item}
+use Rattle.ct_follow.specs.declared.answer.Answer.{Answer}
+use Rattle.ct_follow.specs.declared.answer.Answer.TheVariants as answer_case
+
+-- What a line is: a tree head; leaves, and the index of the first where it is told; a consistency proof; a state, damaged or
+-- in the wrong place; or none of these.
+pub data Answered : Type 0 where
+  a_head : Head → Answered
+  leaves_from : Option ℕ → List (List ℕ) → Answered
+  a_proof : List (List ℕ) → Answered
+  a_state : Answered
+  no_answer : Answered
+
+-- the answer as the code has it
+abbrev pub answer_read : Answer → Answered
+answer_read (answer_case.Head head) = a_head head
+answer_read (answer_case.Entries start leaves) = leaves_from start (map (λ l. l.items) leaves.items)
+answer_read (answer_case.Proof path) = a_proof path.items
+answer_read answer_case.State = a_state
+answer_read answer_case.Other = no_answer
+
+-- a head with these parts
+abbrev pub head_with : List ℕ → ℕ → ℕ → Head
+head_with root size timestamp = record { tree_size = size; timestamp = timestamp; root = root }
+
+-- the tree head that an object is (RFC 6962, section 4.3)
+abbrev pub head_in : Data → Option Head
+head_in d = option_and_then (λ root. option_and_then (λ size. option_map (λ timestamp. head_with root size timestamp)
+    (number_at (codes "timestamp") d)) (number_at (codes "tree_size") d)) (hash_at (codes "sha256_root_hash") d)
+
+-- the leaf of each of the entries (section 4.6)
+abbrev pub leaves_of_items : Items → Option (List (List ℕ))
+leaves_of_items ds = each_item (bytes_at (codes "leaf_input")) ds
+
+abbrev pub leaves_in : Data → Option (List (List ℕ))
+leaves_in d = option_and_then leaves_of_items (option_and_then as_array (get (codes "entries") d))
+
+-- the number that a value is
+abbrev pub as_start : Data → Option (Option ℕ)
+as_start d = option_map (λ n. Some n) (option_and_then as_u64 (as_number d))
+
+abbrev pub start_word : Option Data → Option (Option ℕ)
+start_word None = Some None
+start_word (Some d) = as_start d
+
+-- the number under `start`, if anything stands there: then it has to be a number
+abbrev pub start_in : Data → Option (Option ℕ)
+start_in d = start_word (get (codes "start") d)
+
+abbrev pub proof_or_none : Option (List (List ℕ)) → Answered
+proof_or_none None = no_answer
+proof_or_none (Some path) = a_proof path
+
+abbrev pub with_start : List (List ℕ) → Option (Option ℕ) → Answered
+with_start leaves None = no_answer
+with_start leaves (Some start) = leaves_from start leaves
+
+abbrev pub leaves_or : Option (List (List ℕ)) → Option (Option ℕ) → Answered → Answered
+leaves_or None start other = other
+leaves_or (Some leaves) start other = with_start leaves start
+
+-- the leaves that an object has, or else the consistency proof that it is (section 4.4)
+abbrev pub entries_in : Data → Answered
+entries_in d = leaves_or (leaves_in d) (start_in d) (proof_or_none (hashes_at (codes "consistency") d))
+
+abbrev pub head_or : Option Head → Answered → Answered
+head_or None other = other
+head_or (Some head) other = a_head head
+
+abbrev pub state_or : Option Data → Answered → Answered
+state_or None other = other
+state_or (Some d) other = a_state
+
+-- what a value is, by its keys: a state by `state`; then a head; then leaves; then a proof
+abbrev pub answer_in : Data → Answered
+answer_in d = state_or (get (codes "state") d) (head_or (head_in d) (entries_in d))
+
+-- the line is this: it isn't too long, is UTF-8, and is JSON that is this; or it is none
+abbrev pub Reads : List ℕ → Answered → Type 0
+Reads line a = ((length line ≤ 16777216) × IsUtf8 line × ((d : Data) × (read line ≡ Some d) × (a ≡ answer_in d)))
+    ⊎ ((a ≡ no_answer) × (length line ≤ 16777216 → IsUtf8 line → (d : Data) → read line ≡ Some d → ⊥))

@@ -1,0 +1,62 @@
+-- What is written of an entry.
+use Rattle.std.specs.Prelude.{◌≡◌, ◌⊎◌, ◌+◌, ℕ, List, [], ◌∷◌, ◌++◌, if◌then◌else◌, codes}
+use Rattle.serde_json.specs.Data.{Data, string, object, member, no_members}
+use Rattle.ct_codec.specs.Leaf.{SignedEntry, certificate, precertificate, signed_of, LeafText}
+use Rattle.ct_codec.specs.Faults.{LeafFaulty}
+use Rattle.ct_codec.specs.declared.fault.DecodeFault.{DecodeFault}
+use Rattle.ct_codec.specs.declared.fault.DecodeFault.TheVariants.{Truncated, BadVersion, BadLeafType, BadEntryType, EmptyVector, Trailing, Memory}
+use Rattle.ct_lines.specs.ReplyText.{number_data}
+use Rattle.ct_watch.specs.declared.verdict.Verdict.{Verdict}
+use Rattle.ct_watch.specs.declared.verdict.Verdict.TheVariants.{Gap}
+use Rattle.ct_follow.specs.Names.{is_in, lower}
+use Rattle.ct_follow.specs.Texts.{line_of}
+
+-- the name of why bytes are no leaf
+abbrev pub leaf_fault_name : DecodeFault → List ℕ
+leaf_fault_name Truncated = codes "truncated"
+leaf_fault_name BadVersion = codes "bad-version"
+leaf_fault_name BadLeafType = codes "bad-leaf-type"
+leaf_fault_name BadEntryType = codes "bad-entry-type"
+leaf_fault_name EmptyVector = codes "empty-vector"
+leaf_fault_name Trailing = codes "trailing"
+leaf_fault_name Memory = codes "memory"
+
+-- the object of an entry that is no leaf
+abbrev pub leaf_fault_data : ℕ → DecodeFault → Data
+leaf_fault_data index f = object (member (codes "entry") (number_data index) (member (codes "fault") (string (leaf_fault_name f)) no_members))
+
+-- the object of a name that stands in an entry
+abbrev pub found_data : ℕ → List ℕ → ℕ → List ℕ → Data
+found_data index name timestamp kind = object (member (codes "entry") (number_data index) (member (codes "name") (string name)
+    (member (codes "timestamp") (number_data timestamp) (member (codes "type") (string kind) no_members))))
+
+-- the word of an entry's type
+abbrev pub kind_word : SignedEntry → List ℕ
+kind_word (certificate c) = codes "x509"
+kind_word (precertificate k c) = codes "precert"
+
+-- the line of a name, where it stands in the lowered bytes, and a line for each of the names
+abbrev pub found_line : ℕ → ℕ → List ℕ → List ℕ → List ℕ → List ℕ
+found_line index timestamp kind low name = if is_in low name then line_of (found_data index name timestamp kind) else []
+
+abbrev pub found_lines : ℕ → ℕ → List ℕ → List ℕ → List (List ℕ) → List ℕ
+found_lines index timestamp kind low [] = []
+found_lines index timestamp kind low (name ∷ names) = found_line index timestamp kind low name ++ found_lines index timestamp kind low names
+
+-- the lines of an entry: one for each watched name that stands in its lowered certificate, or one where it is no leaf
+abbrev pub IsEntryText : List (List ℕ) → ℕ → List ℕ → List ℕ → Type 0
+IsEntryText names index leaf text =
+    ((timestamp : ℕ) × (e : SignedEntry) × (x : List ℕ) × LeafText timestamp e x leaf
+    × (text ≡ found_lines index timestamp (kind_word e) (lower (signed_of e)) names))
+    ⊎ ((f : DecodeFault) × LeafFaulty f leaf × (text ≡ line_of (leaf_fault_data index f)))
+
+-- the lines of entries from an index on
+abbrev pub AreEntryTexts : List (List ℕ) → ℕ → List (List ℕ) → List ℕ → Type 0
+AreEntryTexts names index [] text = text ≡ []
+AreEntryTexts names index (leaf ∷ leaves) text =
+    (one rest : List ℕ) × IsEntryText names index leaf one × AreEntryTexts names (index + 1) leaves rest × (text ≡ one ++ rest)
+
+-- the lines of entries that were read with this verdict: none, where that is that they don't begin in the right place
+abbrev pub ReadTexts : List (List ℕ) → Verdict → ℕ → List (List ℕ) → List ℕ → Type 0
+ReadTexts names Gap index leaves text = text ≡ []
+ReadTexts names v index leaves text = AreEntryTexts names index leaves text

@@ -1,0 +1,146 @@
+-- What a run writes, line by line.
+use Rattle.std.specs.Prelude.{◌≡◌, ◌<◌, ◌-◌, ℕ, Bool, true, false, ◌||◌, List, [], ◌∷◌, ◌++◌, length, take, unwrap_or, ◌⊎◌, Some, None, IfSome, Vec, if◌then◌else◌}
+use Rattle.std.specs.declared.option.Option.{Option}
+use Rattle.std.specs.Global.{Global}
+use Rattle.std.specs.Io.BufRead.{first_piece, drop_through, take_through}
+use Rattle.std.specs.Io.KnownBytes.{Appends}
+use Rattle.sha2.specs.Sha256.{sha256}
+use Rattle.ct_watch.specs.Watched.{Watched, leaves_read, waiting_or, after_verdict, nothing_seen}
+use Rattle.ct_watch.specs.Verdicts.{accuses, HeadSays, EntriesSay, ProofSays, after_entries}
+use Rattle.ct_watch.specs.WatcherState.{WatcherState, Keeps}
+use Rattle.ct_follow.specs.Answers.{Answered, a_head, leaves_from, a_proof, a_state, no_answer, Reads}
+use Rattle.ct_follow.specs.EntryText.{ReadTexts}
+use Rattle.ct_follow.specs.StateText.{state_text}
+use Rattle.ct_follow.specs.Texts.{line_of}
+use Rattle.ct_follow.specs.VerdictText.{outcome_data, wanted_size}
+use Rattle.ct_follow.specs.declared.monitor.Monitor.{Monitor}
+use Rattle.ct_follow.specs.declared.verdicts.Outcome.{Outcome}
+use Rattle.ct_follow.specs.declared.verdicts.Outcome.TheVariants.{Said, BadLine, BadState}
+
+-- what an answer comes to where the log has handed out w, and what it has then
+abbrev pub AnswerSays : Watched → Answered → Outcome → Watched → Type 0
+AnswerSays w (a_head head) (Said v) next = HeadSays sha256 w head v × (next ≡ after_verdict w (waiting_or w.waiting head) v)
+AnswerSays w (leaves_from start E) (Said v) next = EntriesSay sha256 w w.waiting (unwrap_or start (length (leaves_read w))) E v × (next ≡ after_entries w w.waiting E v)
+AnswerSays w (a_proof path) (Said v) next = ProofSays sha256 w.accepted w.waiting path v × (next ≡ w)
+AnswerSays w a_state BadState next = next ≡ w
+AnswerSays w no_answer BadLine next = next ≡ w
+AnswerSays w a o next = ⊥
+
+-- the same of the states that stand for what was handed out, whatever that is
+abbrev pub StateSays : WatcherState → Answered → Outcome → WatcherState → Type 0
+StateSays s a o t = (w : Watched) → Keeps sha256 s w → (next : Watched) × Keeps sha256 t next × AnswerSays w a o next
+
+-- the leaves that are read of E: as far as the waiting head goes
+abbrev pub leaves_taken : WatcherState → List (List ℕ) → List (List ℕ)
+leaves_taken s E = take (wanted_size s - s.all.0) E
+
+-- the lines of entries, where they are read
+abbrev pub AreTexts : List (List ℕ) → WatcherState → Answered → Outcome → List ℕ → Type 0
+AreTexts names s (leaves_from start E) (Said v) text = ReadTexts names v s.all.0 (leaves_taken s E) text
+AreTexts names s a o text = text ≡ []
+
+-- whether what a line comes to speaks against the log, and whether it is none
+abbrev pub is_alarm : Outcome → Bool
+is_alarm (Said v) = accuses v
+is_alarm o = false
+
+abbrev pub is_bad : Outcome → Bool
+is_bad (Said v) = false
+is_bad o = true
+
+-- What one line gave: what it came to, unless it was empty; its text; and what is known then.
+pub record LineStep : Type 0 where
+  pub outcome : Option Outcome
+  pub text : List ℕ
+  pub after : Monitor
+
+-- a line that isn't empty: what it is, what it comes to, and what is written
+pub record Tells (names : List (List ℕ)) (before : Monitor) (line : List ℕ) (step : LineStep) : Type 0 where
+  pub answer : Answered
+  pub outcome : Outcome
+  pub entries : List ℕ
+  pub noted : step.outcome ≡ Some outcome
+  pub reads : Reads line answer
+  pub says : StateSays before.watcher answer outcome step.after.watcher
+  pub lists : AreTexts names before.watcher answer outcome entries
+  pub written : step.text ≡ entries ++ line_of (outcome_data step.after.watcher outcome)
+  pub alarm : step.after.alarm ≡ before.alarm || is_alarm outcome
+  pub bad : step.after.bad ≡ before.bad || is_bad outcome
+
+-- an empty line is passed over
+abbrev pub TakesLine : List (List ℕ) → Monitor → List ℕ → LineStep → Type 0
+TakesLine names before [] step = (step.outcome ≡ None) × (step.text ≡ []) × (step.after ≡ before)
+TakesLine names before (b ∷ bs) step = Tells names before (b ∷ bs) step
+
+-- the same, by the text and what is known then
+abbrev pub LineGives : List (List ℕ) → Monitor → List ℕ → List ℕ → Monitor → Type 0
+LineGives names before line text after = (step : LineStep) × TakesLine names before line step × (step.text ≡ text) × (step.after ≡ after)
+
+-- the lines of the input, one step for each, give this text and lead to `last`
+abbrev pub TakesLines : List (List ℕ) → Monitor → List LineStep → List ℕ → List ℕ → Monitor → Type 0
+TakesLines names before [] input text last = (input ≡ []) × (text ≡ []) × (last ≡ before)
+TakesLines names before (s ∷ steps) input text last = (0 < length input) × TakesLine names before (first_piece 10 input) s
+    × ((rest : List ℕ) × TakesLines names s.after steps (drop_through 10 input) rest last × (text ≡ s.text ++ rest))
+
+-- The first line, where a state may stand: one that is taken up is that state's line, with no verdict so far. Any other line is
+-- one of the log's.
+abbrev pub FirstGives : List (List ℕ) → Monitor → List ℕ → List ℕ → Monitor → Type 0
+FirstGives names before line text after = ((line ≡ state_text after.watcher) × (text ≡ []) × (after.alarm ≡ before.alarm) × (after.bad ≡ before.bad))
+    ⊎ LineGives names before line text after
+
+-- A run begins with nothing seen, or with the state whose line is the first of the input; `left` is the input without that line.
+abbrev pub BeginsAt : WatcherState → List ℕ → WatcherState → List ℕ → Type 0
+BeginsAt new input start left = ((left ≡ input) × (start ≡ new))
+    ⊎ ((0 < length input) × (first_piece 10 input ≡ state_text start) × (left ≡ drop_through 10 input))
+
+-- all lines of the input, of which the first may be a state, give this text and lead to `last`
+pub record TakesAll (names : List (List ℕ)) (before : Monitor) (input text : List ℕ) (last : Monitor) : Type 0 where
+  pub start : Monitor
+  pub left : List ℕ
+  pub steps : List LineStep
+  pub begins : BeginsAt before.watcher input start.watcher left
+  pub alarm : start.alarm ≡ before.alarm
+  pub bad : start.bad ≡ before.bad
+  pub takes : TakesLines names start steps left text last
+
+-- the exit status: 3 where a verdict spoke against the log, else 4 where a line was none, else 0
+abbrev pub status_of : Monitor → ℕ
+status_of m = if m.alarm then 3 else (if m.bad then 4 else 0)
+
+-- A run over the input: its text is what its lines have to tell, and behind it the line of the state that it ends in.
+pub record Runs (names : List (List ℕ)) (input text : List ℕ) (status : ℕ) : Type 0 where
+  pub new : Monitor
+  pub last : Monitor
+  pub told : List ℕ
+  pub fresh : Keeps sha256 new.watcher nothing_seen
+  pub no_alarm : new.alarm ≡ false
+  pub none_bad : new.bad ≡ false
+  pub takes : TakesAll names new input told last
+  pub written : text ≡ told ++ (state_text last.watcher ++ 10 ∷ [])
+  pub ends : status ≡ status_of last
+
+-- a line was read with its end, or none is left, where the bytes are known
+abbrev pub ReadsLine : Option (Vec ℕ Global) → Option (List ℕ) → Option (List ℕ) → Type 0
+ReadsLine None source source_next = IfSome source (λ xs. (xs ≡ []) × (source_next ≡ Some []))
+ReadsLine (Some line) source source_next = IfSome source (λ xs. (0 < length xs) × (line.items ≡ take_through 10 xs) × (source_next ≡ Some (drop_through 10 xs)))
+
+-- a line was taken, and what it gives was written; or none is left (true), and nothing has changed
+abbrev pub OneTaken : (Monitor → List ℕ → List ℕ → Monitor → Type 0) → Monitor → Monitor → Option (List ℕ) → Option (List ℕ)
+    → Option (List ℕ) → Option (List ℕ) → Bool → Type 0
+OneTaken gives before after source source_next sink sink_next true = IfSome source (λ xs. (xs ≡ []) × (source_next ≡ Some [])) × (after ≡ before) × Appends sink sink_next []
+OneTaken gives before after source source_next sink sink_next false =
+    IfSome source (λ xs. (0 < length xs) × (source_next ≡ Some (drop_through 10 xs)) × ((text : List ℕ) × gives before (first_piece 10 xs) text after × Appends sink sink_next text))
+
+-- what was taken where nothing is left
+abbrev pub IsTaken : List (List ℕ) → Monitor → Monitor → Option (List ℕ) → Option (List ℕ) → Option (List ℕ) → Option (List ℕ) → Type 0
+IsTaken names first last source_first source sink_first sink =
+    IfSome source_first (λ input. (steps : List LineStep) × (text : List ℕ) × TakesLines names first steps input text last × Appends sink_first sink text × (source ≡ Some []))
+
+-- what was taken with the first line, where nothing is left
+abbrev pub IsAllTaken : List (List ℕ) → Monitor → Monitor → Option (List ℕ) → Option (List ℕ) → Option (List ℕ) → Option (List ℕ) → Type 0
+IsAllTaken names before last source_first source sink_first sink =
+    IfSome source_first (λ input. (text : List ℕ) × TakesAll names before input text last × Appends sink_first sink text × (source ≡ Some []))
+
+-- a run was written, where the bytes are known: all were read
+abbrev pub IsRun : List (List ℕ) → Option (List ℕ) → Option (List ℕ) → Option (List ℕ) → Option (List ℕ) → ℕ → Type 0
+IsRun names source source_next sink sink_next status = IfSome source (λ input. (text : List ℕ) × Runs names input text status × Appends sink sink_next text × (source_next ≡ Some []))

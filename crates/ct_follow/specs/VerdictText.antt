@@ -1,0 +1,78 @@
+-- What is written of a verdict.
+use Rattle.std.specs.Prelude.{ℕ, List, Some, None, codes}
+use Rattle.std.specs.declared.option.Option.{Option}
+use Rattle.serde_json.specs.Data.{Data, string, object, member, no_members}
+use Rattle.ct_lines.specs.ReplyText.{number_data, bytes_data}
+use Rattle.ct_tree.specs.declared.head.Head.{Head}
+use Rattle.ct_verify.specs.declared.fault.ProofFault.{ProofFault}
+use Rattle.ct_verify.specs.declared.fault.ProofFault.TheVariants as fault
+use Rattle.ct_watch.specs.WatcherState.{WatcherState}
+use Rattle.ct_watch.specs.declared.verdict.Verdict.{Verdict}
+use Rattle.ct_watch.specs.declared.verdict.Verdict.TheVariants.{Accepted, Pending, Again, Stale, Shrunk, Fork, RootMismatch, Gap, Consistent, Inconsistent}
+use Rattle.ct_follow.specs.declared.verdicts.Outcome.{Outcome}
+use Rattle.ct_follow.specs.declared.verdicts.Outcome.TheVariants.{Said, BadLine, BadState}
+
+-- the name of why a proof is refused
+abbrev pub proof_fault_name : ProofFault → List ℕ
+proof_fault_name fault.IndexOutOfRange = codes "index-out-of-range"
+proof_fault_name fault.PathTooLong = codes "path-too-long"
+proof_fault_name fault.PathTooShort = codes "path-too-short"
+proof_fault_name fault.RootMismatch = codes "root-mismatch"
+proof_fault_name fault.EmptyPath = codes "empty-path"
+proof_fault_name fault.FirstMismatch = codes "first-mismatch"
+proof_fault_name fault.SizesOutOfRange = codes "sizes-out-of-range"
+
+-- the object of a verdict and nothing more
+abbrev pub word_data : List ℕ → Data
+word_data word = object (member (codes "verdict") (string word) no_members)
+
+-- those of the other verdicts, keys in byte order
+abbrev pub accepted_data : ℕ → Data
+accepted_data size = object (member (codes "tree_size") (number_data size) (member (codes "verdict") (string (codes "accepted")) no_members))
+
+abbrev pub pending_data : ℕ → ℕ → Data
+pending_data have size = object (member (codes "have") (number_data have) (member (codes "tree_size") (number_data size) (member (codes "verdict") (string (codes "pending")) no_members)))
+
+abbrev pub gap_data : ℕ → Data
+gap_data want = object (member (codes "verdict") (string (codes "gap")) (member (codes "want") (number_data want) no_members))
+
+abbrev pub fork_data : Head → Data
+fork_data known = object (member (codes "known_root_hash") (bytes_data known.root) (member (codes "known_timestamp") (number_data known.timestamp)
+    (member (codes "tree_size") (number_data known.tree_size) (member (codes "verdict") (string (codes "fork")) no_members))))
+
+abbrev pub mismatch_data : List ℕ → Data
+mismatch_data root = object (member (codes "computed_root_hash") (bytes_data root) (member (codes "verdict") (string (codes "root-mismatch")) no_members))
+
+abbrev pub inconsistent_data : ProofFault → Data
+inconsistent_data f = object (member (codes "fault") (string (proof_fault_name f)) (member (codes "verdict") (string (codes "inconsistent")) no_members))
+
+-- the object of a line that is none
+abbrev pub error_data : List ℕ → Data
+error_data e = object (member (codes "error") (string e) no_members)
+
+-- the size of the waiting head, or that of what was read
+abbrev pub size_wanted : Option Head → ℕ → ℕ
+size_wanted None read = read
+size_wanted (Some head) read = head.tree_size
+
+abbrev pub wanted_size : WatcherState → ℕ
+wanted_size s = size_wanted s.waiting s.all.0
+
+-- a verdict, beside what the watcher has after it
+abbrev pub said_data : WatcherState → Verdict → Data
+said_data s Accepted = accepted_data s.all.0
+said_data s Pending = pending_data s.all.0 (wanted_size s)
+said_data s Again = word_data (codes "again")
+said_data s Stale = word_data (codes "stale")
+said_data s Shrunk = word_data (codes "shrunk")
+said_data s (Fork known) = fork_data known
+said_data s (RootMismatch root) = mismatch_data root
+said_data s Gap = gap_data s.all.0
+said_data s Consistent = word_data (codes "consistent")
+said_data s (Inconsistent f) = inconsistent_data f
+
+-- what a line comes to
+abbrev pub outcome_data : WatcherState → Outcome → Data
+outcome_data s (Said v) = said_data s v
+outcome_data s BadLine = error_data (codes "bad-line")
+outcome_data s BadState = error_data (codes "bad-state")

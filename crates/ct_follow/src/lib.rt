@@ -1,0 +1,29 @@
+//! Watching a log by the answers of its front end, a line each: what each is worth, the entries that name a watched name, and
+//! the state that the next run takes up.
+//!
+//! `run` reads lines from any reader, and writes to any writer.
+//!
+//! - `command` reads the words of a command line.
+//! - `answer` reads what a line is, and `state` reads and writes the state between two runs.
+//! - `names` looks for watched names, `entries` writes of them, `verdicts` writes of verdicts, and `text` writes lines.
+//! - `monitor` takes one line after the other.
+//! - `fault` names what ends a run before the state is written.
+//! - `laws` says what holds of many runs.
+//! - `program` has `run`.
+#![tactic(auto)]
+
+mod answer;
+mod command;
+mod entries;
+mod fault;
+pub mod laws;
+mod monitor;
+mod names;
+mod program;
+mod state;
+mod text;
+mod verdicts;
+
+pub use command::{Command, command_of};
+pub use fault::Fault;
+pub use program::run;

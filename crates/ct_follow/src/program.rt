@@ -1,0 +1,129 @@
+//! The program over a reader of lines and a writer of verdicts.
+
+ghost use Rattle.std.specs.Prelude.{◌≡◌, ◌++◌, ◌∷◌, [], IfOk, OnOk, map, string_bytes};
+ghost use Rattle.std.specs.Io.KnownBytes.{Appends};
+ghost use Rattle.ct_follow.specs.Session.{FirstGives, LineGives, OneTaken, ReadsLine, IsTaken, IsAllTaken, IsRun, status_of};
+ghost use Rattle.ct_follow.specs.StateText.{state_text};
+
+use crate::fault::Fault;
+use crate::monitor::Monitor;
+use ct_lines::{content, send};
+use ct_tree::Sha256Hash;
+use ct_watch::Watcher;
+use std::alloc::Global;
+use std::io::{BufRead, Write};
+
+// How many lines are read at most, so that the loop ends.
+const LINES: u64 = 1 << 50;
+
+// Reads the next line, with its end. There is none where nothing is left.
+fn read_line<B: BufRead>(alloc: Global, reader: &mut B) -> Result<Option<Vec<u8>>, Fault>
+    ensures { IfOk result (λ line. ReadsLine line (B.remaining reader.old) (B.remaining reader.new)) }
+{
+    let mut line = Vec::new(alloc);
+    let count = reader.read_until(b'\n', &mut line)?;
+    if count == 0 { Ok(None) } else { Ok(Some(line)) }
+}
+
+// Takes the next line, and answers whether none was left.
+fn take_next<B: BufRead, W: Write>(
+    alloc: Global,
+    names: &[String],
+    monitor: &mut Monitor,
+    reader: &mut B,
+    writer: &mut W,
+) -> Result<bool, Fault>
+    ensures { IfOk result (λ done. OneTaken (LineGives (map string_bytes names.now)) monitor.old monitor.new
+        (B.remaining reader.old) (B.remaining reader.new) (W.contents writer.old) (W.contents writer.new) done) }
+{
+    let Some(line) = read_line(alloc, reader)? else {
+        return Ok(true);
+    };
+    let text = monitor.take_line(alloc, names, content(&line))?;
+    send(writer, &text)?;
+    Ok(false)
+}
+
+// Takes the first line, where a state may stand, and answers whether none was left.
+fn take_start<B: BufRead, W: Write>(
+    alloc: Global,
+    names: &[String],
+    monitor: &mut Monitor,
+    reader: &mut B,
+    writer: &mut W,
+) -> Result<bool, Fault>
+    ensures { IfOk result (λ done. OneTaken (FirstGives (map string_bytes names.now)) monitor.old monitor.new
+        (B.remaining reader.old) (B.remaining reader.new) (W.contents writer.old) (W.contents writer.new) done) }
+{
+    let Some(line) = read_line(alloc, reader)? else {
+        return Ok(true);
+    };
+    let text = monitor.take_first(alloc, names, content(&line))?;
+    send(writer, &text)?;
+    Ok(false)
+}
+
+// Takes the lines that are left.
+fn take_lines<B: BufRead, W: Write>(
+    alloc: Global,
+    names: &[String],
+    monitor: &mut Monitor,
+    reader: &mut B,
+    writer: &mut W,
+) -> Result<(), Fault>
+    ensures { OnOk result (IsTaken (map string_bytes names.now) monitor.old monitor.new
+        (B.remaining reader.old) (B.remaining reader.new) (W.contents writer.old) (W.contents writer.new)) }
+{
+    for turn in 0..LINES {
+        let done = take_next(alloc, names, monitor, reader, writer)?;
+        if done {
+            return Ok(());
+        }
+    }
+    Err(Fault::Read)
+}
+
+// Takes all lines, of which the first may be a state.
+fn take_all<B: BufRead, W: Write>(
+    alloc: Global,
+    names: &[String],
+    monitor: &mut Monitor,
+    reader: &mut B,
+    writer: &mut W,
+) -> Result<(), Fault>
+    ensures { OnOk result (IsAllTaken (map string_bytes names.now) monitor.old monitor.new
+        (B.remaining reader.old) (B.remaining reader.new) (W.contents writer.old) (W.contents writer.new)) }
+{
+    let done = take_start(alloc, names, monitor, reader, writer)?;
+    if done {
+        return Ok(());
+    }
+    take_lines(alloc, names, monitor, reader, writer)?;
+    Ok(())
+}
+
+// Writes the state as the last line, and answers the exit status.
+fn finish<W: Write>(alloc: Global, monitor: &Monitor, writer: &mut W) -> Result<u8, Fault>
+    ensures status { IfOk result (λ status. status ≡ status_of monitor.now) }
+    ensures written { OnOk result (Appends (W.contents writer.old) (W.contents writer.new) (state_text monitor.now.watcher ++ 10 ∷ [])) }
+{
+    let text = monitor.last_line(alloc)?;
+    send(writer, &text)?;
+    Ok(monitor.status())
+}
+
+/// Reads a log's answers, a line each, and writes the verdicts, and the state as the last line. Answers the exit status: 3
+/// where a verdict speaks against the log, else 4 where a line was none, else 0.
+pub fn run<B: BufRead, W: Write>(
+    alloc: Global,
+    names: &[String],
+    reader: &mut B,
+    writer: &mut W,
+) -> Result<u8, Fault>
+    ensures { IfOk result (λ status. IsRun (map string_bytes names.now) (B.remaining reader.old) (B.remaining reader.new)
+        (W.contents writer.old) (W.contents writer.new) status) }
+{
+    let mut monitor = Monitor::new(Watcher::new(alloc, Sha256Hash));
+    take_all(alloc, names, &mut monitor, reader, writer)?;
+    finish(alloc, &monitor, writer)
+}

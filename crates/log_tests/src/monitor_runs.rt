@@ -1,0 +1,278 @@
+// What is expected was computed by another program: examples/monitor/answers.py, with hashlib alone, over short leaves.
+use ct_follow::{Command, Fault, command_of, run};
+use std::alloc::Global;
+use std::io;
+use std::io::{BufReader, ErrorKind, Read, Write};
+use std::test::Fail;
+
+const TO_THE_FIRST_HEAD: &str =
+    "{\"sha256_root_hash\":\"dv3rKEarhKJfwvErnuGj1blcq4uE2dJxDJA464QuXLE=\",\"timestamp\":1000,\"tree_size\":3}
+{\"entries\":[{\"leaf_input\":\"AAAAAAAAAAAABwAAAAAaY2VydGlmaWNhdGUgb2YgRXhhbXBsZS5vcmcAAA==\"},{\"leaf_input\":\"AAAAAAAAAAAACAAAAAAZY2VydGlmaWNhdGUgb2YgZXhhbXBsZS5vcgAA\"}],\"start\":0}
+{\"entries\":[{\"leaf_input\":\"AAAAAAAAAAAACQABLHDhK3oGRvkiefQnx7OOczTY5Tic/xZ6HcMOc/gmtoMAABCAd3d3LkVYQU1QTEUuT1JHAAA=\"}]}
+";
+
+const TO_THE_FIRST_HEAD_TEXT: &str = "{\"have\":0,\"tree_size\":3,\"verdict\":\"pending\"}
+{\"entry\":0,\"name\":\"example.org\",\"timestamp\":7,\"type\":\"x509\"}
+{\"have\":2,\"tree_size\":3,\"verdict\":\"pending\"}
+{\"entry\":2,\"name\":\"example.org\",\"timestamp\":9,\"type\":\"precert\"}
+{\"tree_size\":3,\"verdict\":\"accepted\"}
+{\"accepted\":{\"sha256_root_hash\":\"dv3rKEarhKJfwvErnuGj1blcq4uE2dJxDJA464QuXLE=\",\"timestamp\":1000,\"tree_size\":3},\"all\":{\"size\":3,\"subtrees\":[\"Py/NFubB2mUOAIpXnoymxA6HZtecDWMEQ8n6bwOq56k=\",\"oFjqfYAK/lGj6hkUnsapTE3hV3XTYaK2y1tWfH0XeDI=\"]},\"check\":\"KEr+k3cXzfILQGFzGwR2US4VmzfDVUBq8tk7ekcgvSs=\",\"state\":1,\"sure\":{\"size\":3,\"subtrees\":[\"Py/NFubB2mUOAIpXnoymxA6HZtecDWMEQ8n6bwOq56k=\",\"oFjqfYAK/lGj6hkUnsapTE3hV3XTYaK2y1tWfH0XeDI=\"]},\"waiting\":null}
+";
+
+const TO_THE_MIDDLE_OF_A_HEAD: &str =
+    "{\"accepted\":{\"sha256_root_hash\":\"dv3rKEarhKJfwvErnuGj1blcq4uE2dJxDJA464QuXLE=\",\"timestamp\":1000,\"tree_size\":3},\"all\":{\"size\":3,\"subtrees\":[\"Py/NFubB2mUOAIpXnoymxA6HZtecDWMEQ8n6bwOq56k=\",\"oFjqfYAK/lGj6hkUnsapTE3hV3XTYaK2y1tWfH0XeDI=\"]},\"check\":\"KEr+k3cXzfILQGFzGwR2US4VmzfDVUBq8tk7ekcgvSs=\",\"state\":1,\"sure\":{\"size\":3,\"subtrees\":[\"Py/NFubB2mUOAIpXnoymxA6HZtecDWMEQ8n6bwOq56k=\",\"oFjqfYAK/lGj6hkUnsapTE3hV3XTYaK2y1tWfH0XeDI=\"]},\"waiting\":null}
+{\"sha256_root_hash\":\"dv3rKEarhKJfwvErnuGj1blcq4uE2dJxDJA464QuXLE=\",\"timestamp\":1000,\"tree_size\":3}
+{\"sha256_root_hash\":\"+JuScP/25evggmYa6kRhKnhGJQ7QT0noqh2FNn1GF1o=\",\"timestamp\":2000,\"tree_head_signature\":\"BAMAAA==\",\"tree_size\":5}
+{\"consistency\":[\"oFjqfYAK/lGj6hkUnsapTE3hV3XTYaK2y1tWfH0XeDI=\",\"5OZHwV58x3AI6eFgS208fMTwK47RYFbLfqSGOOpe3NA=\",\"Py/NFubB2mUOAIpXnoymxA6HZtecDWMEQ8n6bwOq56k=\",\"m1J/WKiMoW2JG7xG+WBd88lY8LgdHwfLUjfNVr6727Q=\"]}
+{\"entries\":[{\"leaf_input\":\"AAAAAAAAAAAACgAAAAAbY2VydGlmaWNhdGUgb2YgZXhhbXBsZS5vcmdzAAA=\"}],\"start\":3}
+";
+
+const TO_THE_MIDDLE_OF_A_HEAD_TEXT: &str = "{\"verdict\":\"again\"}
+{\"have\":3,\"tree_size\":5,\"verdict\":\"pending\"}
+{\"verdict\":\"consistent\"}
+{\"entry\":3,\"name\":\"example.org\",\"timestamp\":10,\"type\":\"x509\"}
+{\"have\":4,\"tree_size\":5,\"verdict\":\"pending\"}
+{\"accepted\":{\"sha256_root_hash\":\"dv3rKEarhKJfwvErnuGj1blcq4uE2dJxDJA464QuXLE=\",\"timestamp\":1000,\"tree_size\":3},\"all\":{\"size\":4,\"subtrees\":[\"b7l4V5nBv4VKFsKuS+YeOAPW9P9FzSD5jU5sR2NRCRM=\"]},\"check\":\"wtL7Arlp84rlChJ8ALj5Y8VlceffGyfSQ6dHCxSK5sk=\",\"state\":1,\"sure\":{\"size\":3,\"subtrees\":[\"Py/NFubB2mUOAIpXnoymxA6HZtecDWMEQ8n6bwOq56k=\",\"oFjqfYAK/lGj6hkUnsapTE3hV3XTYaK2y1tWfH0XeDI=\"]},\"waiting\":{\"sha256_root_hash\":\"+JuScP/25evggmYa6kRhKnhGJQ7QT0noqh2FNn1GF1o=\",\"timestamp\":2000,\"tree_size\":5}}
+";
+
+const TO_ITS_END: &str =
+    "{\"accepted\":{\"sha256_root_hash\":\"dv3rKEarhKJfwvErnuGj1blcq4uE2dJxDJA464QuXLE=\",\"timestamp\":1000,\"tree_size\":3},\"all\":{\"size\":4,\"subtrees\":[\"b7l4V5nBv4VKFsKuS+YeOAPW9P9FzSD5jU5sR2NRCRM=\"]},\"check\":\"wtL7Arlp84rlChJ8ALj5Y8VlceffGyfSQ6dHCxSK5sk=\",\"state\":1,\"sure\":{\"size\":3,\"subtrees\":[\"Py/NFubB2mUOAIpXnoymxA6HZtecDWMEQ8n6bwOq56k=\",\"oFjqfYAK/lGj6hkUnsapTE3hV3XTYaK2y1tWfH0XeDI=\"]},\"waiting\":{\"sha256_root_hash\":\"+JuScP/25evggmYa6kRhKnhGJQ7QT0noqh2FNn1GF1o=\",\"timestamp\":2000,\"tree_size\":5}}
+{\"sha256_root_hash\":\"+JuScP/25evggmYa6kRhKnhGJQ7QT0noqh2FNn1GF1o=\",\"timestamp\":2000,\"tree_head_signature\":\"BAMAAA==\",\"tree_size\":5}
+{\"entries\":[{\"leaf_input\":\"AAAAAAAAAAAACwAAAAABRAAA\"}],\"start\":4}
+{\"sha256_root_hash\":\"Py/NFubB2mUOAIpXnoymxA6HZtecDWMEQ8n6bwOq56k=\",\"timestamp\":999,\"tree_head_signature\":\"BAMAAA==\",\"tree_size\":2}
+";
+
+const TO_ITS_END_TEXT: &str = "{\"verdict\":\"again\"}
+{\"tree_size\":5,\"verdict\":\"accepted\"}
+{\"verdict\":\"stale\"}
+{\"accepted\":{\"sha256_root_hash\":\"+JuScP/25evggmYa6kRhKnhGJQ7QT0noqh2FNn1GF1o=\",\"timestamp\":2000,\"tree_size\":5},\"all\":{\"size\":5,\"subtrees\":[\"b7l4V5nBv4VKFsKuS+YeOAPW9P9FzSD5jU5sR2NRCRM=\",\"m1J/WKiMoW2JG7xG+WBd88lY8LgdHwfLUjfNVr6727Q=\"]},\"check\":\"ti+Zgh6DYeXnBEg7bTFGxuvsdgSFoVh2To4IZLX4kgk=\",\"state\":1,\"sure\":{\"size\":5,\"subtrees\":[\"b7l4V5nBv4VKFsKuS+YeOAPW9P9FzSD5jU5sR2NRCRM=\",\"m1J/WKiMoW2JG7xG+WBd88lY8LgdHwfLUjfNVr6727Q=\"]},\"waiting\":null}
+";
+
+const FORK: &str =
+    "{\"accepted\":{\"sha256_root_hash\":\"dv3rKEarhKJfwvErnuGj1blcq4uE2dJxDJA464QuXLE=\",\"timestamp\":1000,\"tree_size\":3},\"all\":{\"size\":3,\"subtrees\":[\"Py/NFubB2mUOAIpXnoymxA6HZtecDWMEQ8n6bwOq56k=\",\"oFjqfYAK/lGj6hkUnsapTE3hV3XTYaK2y1tWfH0XeDI=\"]},\"check\":\"KEr+k3cXzfILQGFzGwR2US4VmzfDVUBq8tk7ekcgvSs=\",\"state\":1,\"sure\":{\"size\":3,\"subtrees\":[\"Py/NFubB2mUOAIpXnoymxA6HZtecDWMEQ8n6bwOq56k=\",\"oFjqfYAK/lGj6hkUnsapTE3hV3XTYaK2y1tWfH0XeDI=\"]},\"waiting\":null}
+{\"sha256_root_hash\":\"nvSI1yyNRjtaRngmkVpowdIkXazeyaCs8fpnGjYyc5s=\",\"timestamp\":1500,\"tree_head_signature\":\"BAMAAA==\",\"tree_size\":3}
+";
+
+const FORK_TEXT: &str =
+    "{\"known_root_hash\":\"dv3rKEarhKJfwvErnuGj1blcq4uE2dJxDJA464QuXLE=\",\"known_timestamp\":1000,\"tree_size\":3,\"verdict\":\"fork\"}
+{\"accepted\":{\"sha256_root_hash\":\"dv3rKEarhKJfwvErnuGj1blcq4uE2dJxDJA464QuXLE=\",\"timestamp\":1000,\"tree_size\":3},\"all\":{\"size\":3,\"subtrees\":[\"Py/NFubB2mUOAIpXnoymxA6HZtecDWMEQ8n6bwOq56k=\",\"oFjqfYAK/lGj6hkUnsapTE3hV3XTYaK2y1tWfH0XeDI=\"]},\"check\":\"KEr+k3cXzfILQGFzGwR2US4VmzfDVUBq8tk7ekcgvSs=\",\"state\":1,\"sure\":{\"size\":3,\"subtrees\":[\"Py/NFubB2mUOAIpXnoymxA6HZtecDWMEQ8n6bwOq56k=\",\"oFjqfYAK/lGj6hkUnsapTE3hV3XTYaK2y1tWfH0XeDI=\"]},\"waiting\":null}
+";
+
+const SHRUNK: &str =
+    "{\"accepted\":{\"sha256_root_hash\":\"dv3rKEarhKJfwvErnuGj1blcq4uE2dJxDJA464QuXLE=\",\"timestamp\":1000,\"tree_size\":3},\"all\":{\"size\":3,\"subtrees\":[\"Py/NFubB2mUOAIpXnoymxA6HZtecDWMEQ8n6bwOq56k=\",\"oFjqfYAK/lGj6hkUnsapTE3hV3XTYaK2y1tWfH0XeDI=\"]},\"check\":\"KEr+k3cXzfILQGFzGwR2US4VmzfDVUBq8tk7ekcgvSs=\",\"state\":1,\"sure\":{\"size\":3,\"subtrees\":[\"Py/NFubB2mUOAIpXnoymxA6HZtecDWMEQ8n6bwOq56k=\",\"oFjqfYAK/lGj6hkUnsapTE3hV3XTYaK2y1tWfH0XeDI=\"]},\"waiting\":null}
+{\"hello\":1}
+{\"sha256_root_hash\":\"Py/NFubB2mUOAIpXnoymxA6HZtecDWMEQ8n6bwOq56k=\",\"timestamp\":1000,\"tree_head_signature\":\"BAMAAA==\",\"tree_size\":2}
+{}
+";
+
+const SHRUNK_TEXT: &str = "{\"error\":\"bad-line\"}
+{\"verdict\":\"shrunk\"}
+{\"error\":\"bad-line\"}
+{\"accepted\":{\"sha256_root_hash\":\"dv3rKEarhKJfwvErnuGj1blcq4uE2dJxDJA464QuXLE=\",\"timestamp\":1000,\"tree_size\":3},\"all\":{\"size\":3,\"subtrees\":[\"Py/NFubB2mUOAIpXnoymxA6HZtecDWMEQ8n6bwOq56k=\",\"oFjqfYAK/lGj6hkUnsapTE3hV3XTYaK2y1tWfH0XeDI=\"]},\"check\":\"KEr+k3cXzfILQGFzGwR2US4VmzfDVUBq8tk7ekcgvSs=\",\"state\":1,\"sure\":{\"size\":3,\"subtrees\":[\"Py/NFubB2mUOAIpXnoymxA6HZtecDWMEQ8n6bwOq56k=\",\"oFjqfYAK/lGj6hkUnsapTE3hV3XTYaK2y1tWfH0XeDI=\"]},\"waiting\":null}
+";
+
+const REWRITTEN: &str =
+    "{\"accepted\":{\"sha256_root_hash\":\"dv3rKEarhKJfwvErnuGj1blcq4uE2dJxDJA464QuXLE=\",\"timestamp\":1000,\"tree_size\":3},\"all\":{\"size\":3,\"subtrees\":[\"Py/NFubB2mUOAIpXnoymxA6HZtecDWMEQ8n6bwOq56k=\",\"oFjqfYAK/lGj6hkUnsapTE3hV3XTYaK2y1tWfH0XeDI=\"]},\"check\":\"KEr+k3cXzfILQGFzGwR2US4VmzfDVUBq8tk7ekcgvSs=\",\"state\":1,\"sure\":{\"size\":3,\"subtrees\":[\"Py/NFubB2mUOAIpXnoymxA6HZtecDWMEQ8n6bwOq56k=\",\"oFjqfYAK/lGj6hkUnsapTE3hV3XTYaK2y1tWfH0XeDI=\"]},\"waiting\":null}
+{\"sha256_root_hash\":\"HnVC8hwv4cHimc3D+OyMeBDBf+rTlBfPbfrblNPja3U=\",\"timestamp\":2000,\"tree_head_signature\":\"BAMAAA==\",\"tree_size\":5}
+{\"consistency\":[\"oFjqfYAK/lGj6hkUnsapTE3hV3XTYaK2y1tWfH0XeDI=\",\"5OZHwV58x3AI6eFgS208fMTwK47RYFbLfqSGOOpe3NA=\",\"ZYA48Zaigjo3I/gCz0J/ZPPq1Nkixs2fonKD0lKO4nM=\",\"m1J/WKiMoW2JG7xG+WBd88lY8LgdHwfLUjfNVr6727Q=\"]}
+{\"entries\":[{\"leaf_input\":\"AAAAAAAAAAAACgAAAAAbY2VydGlmaWNhdGUgb2YgZXhhbXBsZS5vcmdzAAA=\"},{\"leaf_input\":\"AAAAAAAAAAAACwAAAAABRAAA\"}],\"start\":3}
+";
+
+const REWRITTEN_TEXT: &str = "{\"have\":3,\"tree_size\":5,\"verdict\":\"pending\"}
+{\"fault\":\"first-mismatch\",\"verdict\":\"inconsistent\"}
+{\"entry\":3,\"name\":\"example.org\",\"timestamp\":10,\"type\":\"x509\"}
+{\"computed_root_hash\":\"+JuScP/25evggmYa6kRhKnhGJQ7QT0noqh2FNn1GF1o=\",\"verdict\":\"root-mismatch\"}
+{\"accepted\":{\"sha256_root_hash\":\"dv3rKEarhKJfwvErnuGj1blcq4uE2dJxDJA464QuXLE=\",\"timestamp\":1000,\"tree_size\":3},\"all\":{\"size\":3,\"subtrees\":[\"Py/NFubB2mUOAIpXnoymxA6HZtecDWMEQ8n6bwOq56k=\",\"oFjqfYAK/lGj6hkUnsapTE3hV3XTYaK2y1tWfH0XeDI=\"]},\"check\":\"KEr+k3cXzfILQGFzGwR2US4VmzfDVUBq8tk7ekcgvSs=\",\"state\":1,\"sure\":{\"size\":3,\"subtrees\":[\"Py/NFubB2mUOAIpXnoymxA6HZtecDWMEQ8n6bwOq56k=\",\"oFjqfYAK/lGj6hkUnsapTE3hV3XTYaK2y1tWfH0XeDI=\"]},\"waiting\":null}
+";
+
+const GAPS: &str =
+    "{\"accepted\":{\"sha256_root_hash\":\"dv3rKEarhKJfwvErnuGj1blcq4uE2dJxDJA464QuXLE=\",\"timestamp\":1000,\"tree_size\":3},\"all\":{\"size\":3,\"subtrees\":[\"Py/NFubB2mUOAIpXnoymxA6HZtecDWMEQ8n6bwOq56k=\",\"oFjqfYAK/lGj6hkUnsapTE3hV3XTYaK2y1tWfH0XeDI=\"]},\"check\":\"KEr+k3cXzfILQGFzGwR2US4VmzfDVUBq8tk7ekcgvSs=\",\"state\":1,\"sure\":{\"size\":3,\"subtrees\":[\"Py/NFubB2mUOAIpXnoymxA6HZtecDWMEQ8n6bwOq56k=\",\"oFjqfYAK/lGj6hkUnsapTE3hV3XTYaK2y1tWfH0XeDI=\"]},\"waiting\":null}
+{\"entries\":[{\"leaf_input\":\"AAAAAAAAAAAACgAAAAAbY2VydGlmaWNhdGUgb2YgZXhhbXBsZS5vcmdzAAA=\"}],\"start\":3}
+{\"sha256_root_hash\":\"+JuScP/25evggmYa6kRhKnhGJQ7QT0noqh2FNn1GF1o=\",\"timestamp\":2000,\"tree_head_signature\":\"BAMAAA==\",\"tree_size\":5}
+{\"entries\":[{\"leaf_input\":\"AAAAAAAAAAAACwAAAAABRAAA\"}],\"start\":4}
+{\"sha256_root_hash\":\"+JuScP/25evggmYa6kRhKnhGJQ7QT0noqh2FNn1GF1o=\",\"timestamp\":3000,\"tree_head_signature\":\"BAMAAA==\",\"tree_size\":5}
+";
+
+const GAPS_TEXT: &str = "{\"verdict\":\"gap\",\"want\":3}
+{\"have\":3,\"tree_size\":5,\"verdict\":\"pending\"}
+{\"verdict\":\"gap\",\"want\":3}
+{\"verdict\":\"again\"}
+{\"accepted\":{\"sha256_root_hash\":\"dv3rKEarhKJfwvErnuGj1blcq4uE2dJxDJA464QuXLE=\",\"timestamp\":1000,\"tree_size\":3},\"all\":{\"size\":3,\"subtrees\":[\"Py/NFubB2mUOAIpXnoymxA6HZtecDWMEQ8n6bwOq56k=\",\"oFjqfYAK/lGj6hkUnsapTE3hV3XTYaK2y1tWfH0XeDI=\"]},\"check\":\"UA/fcG7EBKn8y5v40C2+pvaZhKrC+ch+rxsK5xZQd0Q=\",\"state\":1,\"sure\":{\"size\":3,\"subtrees\":[\"Py/NFubB2mUOAIpXnoymxA6HZtecDWMEQ8n6bwOq56k=\",\"oFjqfYAK/lGj6hkUnsapTE3hV3XTYaK2y1tWfH0XeDI=\"]},\"waiting\":{\"sha256_root_hash\":\"+JuScP/25evggmYa6kRhKnhGJQ7QT0noqh2FNn1GF1o=\",\"timestamp\":2000,\"tree_size\":5}}
+";
+
+const DAMAGED: &str =
+    "{\"accepted\":{\"sha256_root_hash\":\"dv3rKEarhKJfwvErnuGj1blcq4uE2dJxDJA464QuXLE=\",\"timestamp\":1000,\"tree_size\":3},\"all\":{\"size\":3,\"subtrees\":[\"Py/NFubB2mUOAIpXnoymxA6HZtecDWMEQ8n6bwOq56k=\",\"oFjqfYAK/lGj6hkUnsapTE3hV3XTYaK2y1tWfH0XeDI=\"]},\"check\":\"KEr+k3cXzfILQGFzGwR2US4VmzfDVUBq8tk7ekcgvSs=\",\"state\":2,\"sure\":{\"size\":3,\"subtrees\":[\"Py/NFubB2mUOAIpXnoymxA6HZtecDWMEQ8n6bwOq56k=\",\"oFjqfYAK/lGj6hkUnsapTE3hV3XTYaK2y1tWfH0XeDI=\"]},\"waiting\":null}
+{\"consistency\":[\"MCPTNOymA5hBWHp4+VlL3cPTpPxpAfp5R6Lbfr11p1E=\"]}
+";
+
+const DAMAGED_TEXT: &str = "{\"error\":\"bad-state\"}
+{\"verdict\":\"gap\",\"want\":0}
+{\"accepted\":null,\"all\":{\"size\":0,\"subtrees\":[]},\"check\":\"odjj0Uxz/rNZ7MX+bx16NxYyFH3pQKYEKRXhCQzS30w=\",\"state\":1,\"sure\":{\"size\":0,\"subtrees\":[]},\"waiting\":null}
+";
+
+const MISPLACED: &str =
+    "{\"sha256_root_hash\":\"dv3rKEarhKJfwvErnuGj1blcq4uE2dJxDJA464QuXLE=\",\"timestamp\":1000,\"tree_size\":3}
+{\"accepted\":{\"sha256_root_hash\":\"dv3rKEarhKJfwvErnuGj1blcq4uE2dJxDJA464QuXLE=\",\"timestamp\":1000,\"tree_size\":3},\"all\":{\"size\":3,\"subtrees\":[\"Py/NFubB2mUOAIpXnoymxA6HZtecDWMEQ8n6bwOq56k=\",\"oFjqfYAK/lGj6hkUnsapTE3hV3XTYaK2y1tWfH0XeDI=\"]},\"check\":\"KEr+k3cXzfILQGFzGwR2US4VmzfDVUBq8tk7ekcgvSs=\",\"state\":1,\"sure\":{\"size\":3,\"subtrees\":[\"Py/NFubB2mUOAIpXnoymxA6HZtecDWMEQ8n6bwOq56k=\",\"oFjqfYAK/lGj6hkUnsapTE3hV3XTYaK2y1tWfH0XeDI=\"]},\"waiting\":null}
+";
+
+const MISPLACED_TEXT: &str = "{\"have\":0,\"tree_size\":3,\"verdict\":\"pending\"}
+{\"error\":\"bad-state\"}
+{\"accepted\":null,\"all\":{\"size\":0,\"subtrees\":[]},\"check\":\"msXAR9JW7epg0rIz4DeUTORJpu0bS5zTx15oAJAys+o=\",\"state\":1,\"sure\":{\"size\":0,\"subtrees\":[]},\"waiting\":{\"sha256_root_hash\":\"dv3rKEarhKJfwvErnuGj1blcq4uE2dJxDJA464QuXLE=\",\"timestamp\":1000,\"tree_size\":3}}
+";
+
+const BAD_START: &str =
+    "{\"sha256_root_hash\":\"dv3rKEarhKJfwvErnuGj1blcq4uE2dJxDJA464QuXLE=\",\"timestamp\":1000,\"tree_size\":3}
+{\"entries\":[{\"leaf_input\":\"AAAAAAAAAAAABwAAAAAaY2VydGlmaWNhdGUgb2YgRXhhbXBsZS5vcmcAAA==\"},{\"leaf_input\":\"AAAAAAAAAAAACAAAAAAZY2VydGlmaWNhdGUgb2YgZXhhbXBsZS5vcgAA\"},{\"leaf_input\":\"AAAAAAAAAAAACQABLHDhK3oGRvkiefQnx7OOczTY5Tic/xZ6HcMOc/gmtoMAABCAd3d3LkVYQU1QTEUuT1JHAAA=\"}],\"start\":\"0\"}
+{\"entries\":[{\"leaf_input\":\"AAAA\"}],\"start\":0}
+";
+
+const BAD_START_TEXT: &str = "{\"have\":0,\"tree_size\":3,\"verdict\":\"pending\"}
+{\"error\":\"bad-line\"}
+{\"entry\":0,\"fault\":\"truncated\"}
+{\"have\":1,\"tree_size\":3,\"verdict\":\"pending\"}
+{\"accepted\":null,\"all\":{\"size\":1,\"subtrees\":[\"3z9hmASpL9tAVxktxD3XSOp3itxSvEmM6AUkwBS4ERk=\"]},\"check\":\"pdwXz4hTg9hGu5PVnQF81yEV+bMY46DLIqMSWkxkdtc=\",\"state\":1,\"sure\":{\"size\":0,\"subtrees\":[]},\"waiting\":{\"sha256_root_hash\":\"dv3rKEarhKJfwvErnuGj1blcq4uE2dJxDJA464QuXLE=\",\"timestamp\":1000,\"tree_size\":3}}
+";
+
+const EMPTY_HEAD: &str =
+    "{\"sha256_root_hash\":\"47DEQpj8HBSa+/TImW+5JCeuQeRkm5NMpJWZG3hSuFU=\",\"timestamp\":7,\"tree_size\":0}";
+
+// Whether a run over the input, watching example.org, writes this and ends with this status.
+fn writes(alloc: Global, input: &str, text: &str, status: u8) -> Result<bool, Fail> {
+    let mut names = Vec::new(alloc);
+    names.push("example.org".to_ascii_lowercase(alloc)?)?;
+    let mut output = Vec::new(alloc);
+    let mut reader = BufReader::new(alloc, input.as_bytes())?;
+    let found = run(alloc, &names, &mut reader, &mut output);
+    Ok(found == Ok(status) && output.as_slice() == text.as_bytes())
+}
+
+// How many names the words ask for; 100 for help, 101 for nothing that there is.
+fn asked_of(alloc: Global, line: &str) -> Result<usize, Fail> {
+    let mut words = Vec::new(alloc);
+    for word in line.split_ascii_whitespace() {
+        words.push(String::from_str(alloc, word)?)?;
+    }
+    Ok(match command_of(alloc, &words)? {
+        Command::Watch(names) => names.len(),
+        Command::Help => 100,
+        Command::Refused => 101,
+    })
+}
+
+// Each verdict, each status, and the state carried from run to run.
+#[test]
+fn runs(rt: HostRuntime) -> Result<(), Fail> {
+    for (input, text, status) in [
+        (TO_THE_FIRST_HEAD, TO_THE_FIRST_HEAD_TEXT, 0),
+        (TO_THE_MIDDLE_OF_A_HEAD, TO_THE_MIDDLE_OF_A_HEAD_TEXT, 0),
+        (TO_ITS_END, TO_ITS_END_TEXT, 0),
+        (FORK, FORK_TEXT, 3),
+        (SHRUNK, SHRUNK_TEXT, 3),
+        (REWRITTEN, REWRITTEN_TEXT, 3),
+        (GAPS, GAPS_TEXT, 0),
+        (DAMAGED, DAMAGED_TEXT, 4),
+        (MISPLACED, MISPLACED_TEXT, 4),
+        (BAD_START, BAD_START_TEXT, 4),
+    ] {
+        assert!(rt; writes(rt.alloc(), input, text, status)?);
+    }
+    Ok(())
+}
+
+// A beginning of a state's line isn't taken up.
+#[test]
+fn truncated_states(rt: HostRuntime) -> Result<(), Fail> {
+    let alloc = rt.alloc();
+    for length in [1, 2, 50, 150, 400] {
+        let mut output = Vec::new(alloc);
+        let mut reader = BufReader::new(alloc, &TO_ITS_END.as_bytes()[..length])?;
+        assert!(rt; run(alloc, &[], &mut reader, &mut output) == Ok(4));
+    }
+    Ok(())
+}
+
+// What the command line asks for.
+#[test]
+fn command_lines(rt: HostRuntime) -> Result<(), Fail> {
+    for (words, wanted) in [
+        ("", 0),
+        ("--name Example.ORG", 1),
+        ("--name a --name b", 2),
+        ("--help", 100),
+        ("--name", 101),
+        ("example.org", 101),
+    ] {
+        assert!(rt; asked_of(rt.alloc(), words)? == wanted);
+    }
+    Ok(())
+}
+
+// A head is no line of the log's where it stands behind 16,777,216 blanks.
+#[test]
+fn a_line_that_is_too_long(rt: HostRuntime) -> Result<(), Fail> {
+    let alloc = rt.alloc();
+    let mut line = Vec::new(alloc);
+    for _ in 0..4096 {
+        line.extend_from_slice(&[b' '; 4096])?;
+    }
+    line.extend_from_slice(EMPTY_HEAD.as_bytes())?;
+    let mut output = Vec::new(alloc);
+    let mut reader = BufReader::new(alloc, line.as_slice())?;
+    assert!(rt; run(alloc, &[], &mut reader, &mut output) == Ok(4));
+    Ok(())
+}
+
+// A reader that fails with this.
+#[derive(Drop)]
+struct NoInput(ErrorKind);
+
+impl Read for NoInput {
+    fn read(&mut self, _buf: &mut [u8]) -> io::Result<usize> {
+        Err(io::Error::from(self.0))
+    }
+}
+
+// A writer that takes this many bytes, and then fails.
+#[derive(Drop)]
+struct Room(usize);
+
+impl Write for Room {
+    fn write(&mut self, buf: &[u8]) -> io::Result<usize> {
+        if self.0 == 0 {
+            return Err(io::Error::from(ErrorKind::BrokenPipe));
+        }
+        let n = buf.len().min(self.0).min(5);
+        self.0 -= n;
+        Ok(n)
+    }
+
+    fn flush(&mut self) -> io::Result<()> {
+        Ok(())
+    }
+}
+
+#[test]
+fn an_input_that_fails(rt: HostRuntime) -> Result<(), Fail> {
+    let alloc = rt.alloc();
+    for (kind, fault) in [
+        (ErrorKind::BrokenPipe, Fault::Read),
+        (ErrorKind::OutOfMemory, Fault::Memory),
+    ] {
+        let mut output = Vec::new(alloc);
+        let mut reader = BufReader::new(alloc, NoInput(kind))?;
+        assert!(rt; run(alloc, &[], &mut reader, &mut output) == Err(fault));
+        assert!(rt; output.is_empty());
+    }
+    Ok(())
+}
+
+#[test]
+fn an_output_that_fails(rt: HostRuntime) -> Result<(), Fail> {
+    let alloc = rt.alloc();
+    for room in [0, 1, 40, 200] {
+        let mut output = Room(room);
+        let mut reader = BufReader::new(alloc, FORK.as_bytes())?;
+        assert!(rt; run(alloc, &[], &mut reader, &mut output) == Err(Fault::Write));
+    }
+    Ok(())
+}
