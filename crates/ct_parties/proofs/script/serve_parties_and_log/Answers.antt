@@ -12,7 +12,7 @@ use Rattle.ct_parties.proofs.script.serve_parties_and_log.Goals as goal
 
 pub returns-in-Err-clause-some : goal.returns-in-Err-clause-some
 returns-in-Err-clause-some g c =
-    parties_begun c.in_ok-sequencer.field-0.sequencer c.in_ok-sequencer.field-0.fronts.items c.in_ok-sequencer.field-0.replies.items c.in-Err.ensures.fault c.in_ok-sequencer.ensures.serve
+    parties_begun c.in_ok-sequencer.field-0.sequencer c.in_ok-sequencer.field-0.fronts.items c.in_ok-sequencer.field-0.replies.items c.from.ensures c.in_ok-sequencer.ensures.serve
     (subst (λ (l : List ℕ). SendsSome (g.W.Write.contents c.args.output.now) (g.W.Write.contents c.send.new.output) l) c.deref.ensures.value c.in-Err.ensures.some)
 
 pub returns-in_err-log-clause-some : goal.returns-in_err-log-clause-some
