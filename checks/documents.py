@@ -166,13 +166,26 @@ WRONG_IN = ["no-such-page.md leads", "#no-such-heading leads", "src/absent.rt is
 WRONG_IN += ["make nothing is", "make neither is", "not in Makefile"]
 
 
+def version_in(path, form):
+    """The version that a file states, once."""
+    found = re.findall(form, (ROOT / path).read_text(), re.M)
+    return found[0] if len(found) == 1 else f"none that can be found in {path}"
+
+
+def version_faults():
+    """Where the program and the library for C say another version."""
+    program = version_in("crates/ctlog/src/command.rt", r'^const VERSION: &str = "([^"]+)";$')
+    library = version_in("include/wagtenib.pc.in", r"^Version: (\S+)$")
+    return [] if program == library else [f"the version of ctlog is {program}, that of the library for C {library}"]
+
+
 def main():
     repository = Repository()
     told = "\n".join(repository.faults(WRONG, ROOT / "README.md"))
     missed = [fault for fault in WRONG_IN if fault not in told]
     if missed:
         sys.exit(f"checks/documents.py doesn't find what is wrong on a page of its own: {', '.join(missed)}")
-    found = [f"make help doesn't tell of {name}" for name in sorted(repository.targets - repository.told)]
+    found = version_faults() + [f"make help doesn't tell of {name}" for name in sorted(repository.targets - repository.told)]
     for page in pages():
         found += [f"{page.relative_to(ROOT)}: {fault}" for fault in dict.fromkeys(repository.faults(page.read_text(), page))]
     for fault in found:

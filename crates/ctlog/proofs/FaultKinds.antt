@@ -16,7 +16,7 @@ use Rattle.clap.specs.declared.builder.action.ArgAction.TheVariants as action
 use Rattle.clap.specs.declared.builder.value_parser.ValueParser.{ValueParser}
 use Rattle.clap.specs.declared.error.kind.ErrorKind.{ErrorKind}
 use Rattle.clap.specs.declared.error.kind.ErrorKind.TheVariants as kind
-use Rattle.ctlog.specs.CommandLine.{CommandLine, ctlog_app, by_fault, by_kind, help, nothing}
+use Rattle.ctlog.specs.CommandLine.{CommandLine, ctlog_app, by_fault, by_kind}
 
 -- one kind, or none
 abbrev AtMostOne : Kinds → Type 0
@@ -198,25 +198,5 @@ among_one (x ∷ []) k ok single among = elim among [ inl e ↦ ap by_kind (sym 
 among_one (x ∷ y ∷ ks) k ok single among = absurd (omega arith)
 
 -- what an error of this kind says of the words
-by_its_kind : (k : ErrorKind) (a : CommandLine) → a ≡ by_kind k → ((k ≡ kind.DisplayHelp) × (a ≡ help)) ⊎ ((k ≡ kind.DisplayHelp → ⊥) × (a ≡ nothing))
-by_its_kind kind.DisplayHelp a e = inl (refl, e)
-by_its_kind kind.InvalidValue a e = inr ((λ bad. cc), e)
-by_its_kind kind.UnknownArgument a e = inr ((λ bad. cc), e)
-by_its_kind kind.InvalidSubcommand a e = inr ((λ bad. cc), e)
-by_its_kind kind.NoEquals a e = inr ((λ bad. cc), e)
-by_its_kind kind.ValueValidation a e = inr ((λ bad. cc), e)
-by_its_kind kind.TooManyValues a e = inr ((λ bad. cc), e)
-by_its_kind kind.TooFewValues a e = inr ((λ bad. cc), e)
-by_its_kind kind.WrongNumberOfValues a e = inr ((λ bad. cc), e)
-by_its_kind kind.ArgumentConflict a e = inr ((λ bad. cc), e)
-by_its_kind kind.MissingRequiredArgument a e = inr ((λ bad. cc), e)
-by_its_kind kind.MissingSubcommand a e = inr ((λ bad. cc), e)
-by_its_kind kind.DisplayHelpOnMissingArgumentOrSubcommand a e = inr ((λ bad. cc), e)
-by_its_kind kind.DisplayVersion a e = inr ((λ bad. cc), e)
-by_its_kind kind.Io a e = inr ((λ bad. cc), e)
-by_its_kind kind.Format a e = inr ((λ bad. cc), e)
-by_its_kind kind.OutOfMemory a e = inr ((λ bad. cc), e)
-
-pub error_says : (words : List Text) (k : ErrorKind) (ok : CommandLine) → IsAmong k (fault_of ctlog_app words)
-    → ((k ≡ kind.DisplayHelp) × (by_fault (fault_of ctlog_app words) ok ≡ help)) ⊎ ((k ≡ kind.DisplayHelp → ⊥) × (by_fault (fault_of ctlog_app words) ok ≡ nothing))
-error_says words k ok among = by_its_kind k _ (among_one (fault_of ctlog_app words) k ok (one_fault words) among)
+pub error_says : (words : List Text) (k : ErrorKind) (ok : CommandLine) → IsAmong k (fault_of ctlog_app words) → by_fault (fault_of ctlog_app words) ok ≡ by_kind k
+error_says words k ok among = among_one (fault_of ctlog_app words) k ok (one_fault words) among

@@ -9,7 +9,7 @@ use Rattle.clap.specs.declared.builder.action.ArgAction.TheVariants.{Set}
 use Rattle.clap.specs.declared.builder.value_parser.ValueParser.{ValueParser}
 use Rattle.clap.specs.declared.builder.value_parser.ValueParser.TheVariants.{Signed, Unsigned}
 use Rattle.clap.specs.declared.error.kind.ErrorKind.{ErrorKind}
-use Rattle.clap.specs.declared.error.kind.ErrorKind.TheVariants.{DisplayHelp, OutOfMemory}
+use Rattle.clap.specs.declared.error.kind.ErrorKind.TheVariants.{DisplayHelp, DisplayVersion, OutOfMemory}
 use Rattle.ct_parties.specs.declared.fault.Fault.{Fault}
 use Rattle.ct_parties.specs.declared.fault.Fault.TheVariants.{Memory, Write}
 
@@ -35,23 +35,32 @@ open_at_rule = number_rule (codes "open-at") (Unsigned 0 latest_moment) false
 abbrev pub close_at_rule : Rule
 close_at_rule = number_rule (codes "close-at") (Unsigned 0 latest_moment) false
 
+abbrev pub options_app : App
+options_app = with_rule (with_rule (with_rule (with_rule (new_app (codes "ctlog")) fronts_rule) ring_rule) open_at_rule) close_at_rule
+
+-- the command with a version, which `--version` and `-V` ask for
+abbrev pub versioned : App → App
+versioned a = record a { top = record a.top { has_version = true } }
+
 abbrev pub ctlog_app : App
-ctlog_app = with_rule (with_rule (with_rule (with_rule (new_app (codes "ctlog")) fronts_rule) ring_rule) open_at_rule) close_at_rule
+ctlog_app = versioned options_app
 
 -- the number that the words give to the option with this name
 abbrev pub number_given : Text → List Text → Option ℕ
 number_given name words = option_map (λ (t : Text). digits_value 10 (without_leading_plus t)) (one_of name (matches_of ctlog_app words))
 
 -- What a command line asks for: a log with so many fronts, each with so many places in its ring, opened and closed at these
--- moments, in milliseconds; help; or nothing that there is.
+-- moments, in milliseconds; help; the version; or nothing that there is.
 pub data CommandLine : Type 0 where
   log_with : ℕ → ℕ → ℕ → ℕ → CommandLine
   help : CommandLine
+  version : CommandLine
   nothing : CommandLine
 
 -- what is asked for where clap finds a fault of this kind
 abbrev pub by_kind : ErrorKind → CommandLine
 by_kind DisplayHelp = help
+by_kind DisplayVersion = version
 by_kind _ = nothing
 
 -- what is asked for, by the first fault that clap finds
@@ -74,12 +83,16 @@ asked_for words = command_line (map (λ (w : Bor Text). w.now) words)
 abbrev pub asked_of : List (String Global) → CommandLine
 asked_of words = command_line (map string_bytes words)
 
--- what an error of clap's of this kind says of a command line: memory was refused; help is asked for; or nothing that there is
+-- what an error of clap's of this kind says of a command line: memory was refused; or what is asked for
 abbrev pub IsRefusalOf : CommandLine → ErrorKind → Type 0
-IsRefusalOf a k = (k ≡ OutOfMemory) ⊎ (((k ≡ DisplayHelp) × (a ≡ help)) ⊎ ((k ≢ DisplayHelp) × (a ≡ nothing)))
+IsRefusalOf a k = (k ≡ OutOfMemory) ⊎ (a ≡ by_kind k)
 
--- What was written where the words give no numbers and this fault came, by the kind of clap's error: a beginning of help's
--- text; or nothing, where there was no memory.
+-- an error of clap's of this kind is a text that was asked for, help or the version
+abbrev pub IsNotice : ErrorKind → Type 0
+IsNotice k = (k ≡ DisplayHelp) ⊎ (k ≡ DisplayVersion)
+
+-- What was written where the words give no numbers and this fault came, by the kind of clap's error: a beginning of the text
+-- that was asked for; or nothing, where there was no memory.
 abbrev pub IsUnanswered : ErrorKind → Fault → Option (List ℕ) → Option (List ℕ) → Type 0
 IsUnanswered k f old new =
-    ((k ≡ DisplayHelp) × ((f ≡ Write) ⊎ (f ≡ Memory)) × ((text : List ℕ) × Appends old new text)) ⊎ ((f ≡ Memory) × Appends old new [])
+    (IsNotice k × ((f ≡ Write) ⊎ (f ≡ Memory)) × ((text : List ℕ) × Appends old new text)) ⊎ ((f ≡ Memory) × Appends old new [])

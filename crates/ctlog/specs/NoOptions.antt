@@ -2,12 +2,13 @@
 use Rattle.std.specs.Prelude.{◌≡◌, ◌≢◌}
 use Rattle.clap.specs.declared.error.kind.ErrorKind.{ErrorKind}
 use Rattle.clap.specs.declared.error.kind.ErrorKind.TheVariants as kind
+use Rattle.ctlog.specs.CommandLine.{IsNotice}
 use Rattle.ctlog.specs.declared.command.NoOptions.{NoOptions}
-use Rattle.ctlog.specs.declared.command.NoOptions.TheVariants.{Fault, Help, Refusal}
+use Rattle.ctlog.specs.declared.command.NoOptions.TheVariants.{Fault, Notice, Refusal}
 use Rattle.ct_parties.specs.declared.fault.Fault.TheVariants.{Memory}
 
 -- it is answered so where clap's error is of this kind
 abbrev pub IsNoOptions : NoOptions → ErrorKind → Type 0
 IsNoOptions (Fault f) k = (k ≡ kind.OutOfMemory) × (f ≡ Memory)
-IsNoOptions Help k = k ≡ kind.DisplayHelp
-IsNoOptions Refusal k = (k ≢ kind.OutOfMemory) × (k ≢ kind.DisplayHelp)
+IsNoOptions Notice k = IsNotice k
+IsNoOptions Refusal k = (k ≢ kind.OutOfMemory) × (IsNotice k → ⊥)

@@ -4,16 +4,18 @@ use Rattle.std.specs.Io.KnownBytes.{Appends}
 use Rattle.ct_parties.specs.Output.{IsBegun, IsServed}
 use Rattle.ct_parties.specs.declared.fault.Fault.{Fault}
 use Rattle.ct_parties.specs.declared.fault.Fault.TheVariants.{Memory, Write}
-use Rattle.ctlog.specs.CommandLine.{CommandLine, log_with, help, nothing}
+use Rattle.ctlog.specs.CommandLine.{CommandLine, log_with, help, version, nothing}
 
--- what a run with status 0 wrote, by what its command line asks for: all replies; or help's text
+-- what a run with status 0 wrote, by what its command line asks for: all replies; or the text of help or of the version
 abbrev pub IsDone : CommandLine → Option (List ℕ) → Option (List ℕ) → Option (List ℕ) → Type 0
 IsDone (log_with n places open_at close_at) input old new = IsServed n places open_at close_at input old new
 IsDone help input old new = (text : List ℕ) × Appends old new text
+IsDone version input old new = (text : List ℕ) × Appends old new text
 IsDone nothing input old new = ⊥
 
--- what a run wrote that this fault broke off: a beginning of all replies; a beginning of help's text; or nothing
+-- what a run wrote that this fault broke off: a beginning of all replies; a beginning of the text that was asked for; or nothing
 abbrev pub IsBrokenOff : CommandLine → Fault → Option (List ℕ) → Option (List ℕ) → Option (List ℕ) → Type 0
 IsBrokenOff (log_with n places open_at close_at) f input old new = IsBegun n places open_at close_at f input old new
 IsBrokenOff help f input old new = ((f ≡ Write) ⊎ (f ≡ Memory)) × ((text : List ℕ) × Appends old new text)
+IsBrokenOff version f input old new = ((f ≡ Write) ⊎ (f ≡ Memory)) × ((text : List ℕ) × Appends old new text)
 IsBrokenOff nothing f input old new = (f ≡ Memory) × Appends old new []

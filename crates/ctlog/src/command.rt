@@ -2,7 +2,7 @@
 
 ghost use Rattle.std.specs.Prelude.{◌≡◌, ◌<◌, ◌≤◌, ◌⊎◌, IfOk, IfErr, IfSome, Some, None, MatchResult, false, ℕ};
 ghost use Rattle.clap.specs.Words.{app_of, rule_of, kind_of};
-ghost use Rattle.ctlog.specs.CommandLine.{asked_for, ctlog_app, fronts_rule, ring_rule, open_at_rule, close_at_rule, log_with, IsRefusalOf};
+ghost use Rattle.ctlog.specs.CommandLine.{asked_for, ctlog_app, options_app, versioned, fronts_rule, ring_rule, open_at_rule, close_at_rule, log_with, IsRefusalOf};
 ghost use Rattle.ctlog.specs.NoOptions.{IsNoOptions};
 
 use clap::error::ErrorKind;
@@ -12,6 +12,9 @@ use std::alloc::Global;
 
 // The last moment that the command line takes, 2^53 - 1, in milliseconds.
 const LAST_MOMENT: u64 = 9_007_199_254_740_991;
+
+// The version of this program and of the library for C (include/wagtenib.pc.in).
+const VERSION: &str = "0.1.0";
 
 // What the program does, below the options.
 const ABOUT: &str =
@@ -78,7 +81,7 @@ fn close_at_option<'a>(alloc: Global) -> Arg<'a>
 
 // The command and its arguments.
 fn arguments<'a>(alloc: Global) -> Result<Command<'a>, Error>
-    ensures app { IfOk result (λ c. app_of c ≡ ctlog_app) }
+    ensures app { IfOk result (λ c. app_of c ≡ options_app) }
     ensures memory { IfErr result (λ e. kind_of e ≡ ErrorKind.OutOfMemory) }
 {
     let command = Command::new(alloc, "ctlog")
@@ -96,13 +99,20 @@ fn with_about<'a>(command: Command<'a>) -> Command<'a>
     command.after_help(ABOUT)
 }
 
-// The command, its arguments, and what help says of it.
+// The command, with the version of this program.
+fn with_version<'a>(command: Command<'a>) -> Command<'a>
+    ensures { app_of result ≡ versioned (app_of command.entry) }
+{
+    command.version(VERSION)
+}
+
+// The command, its arguments, its version, and what help says of it.
 fn command<'a>(alloc: Global) -> Result<Command<'a>, Error>
     ensures app { IfOk result (λ c. app_of c ≡ ctlog_app) }
     ensures memory { IfErr result (λ e. kind_of e ≡ ErrorKind.OutOfMemory) }
 {
     let command = arguments(alloc)?;
-    Ok(with_about(command))
+    Ok(with_version(with_about(command)))
 }
 
 // The numbers, where both are there and in their ranges.
@@ -120,8 +130,8 @@ fn in_range(fronts: Option<u16>, ring: Option<usize>) -> Option<(u16, usize)>
 ///
 /// # Errors
 ///
-/// Clap's error: of the kind `OutOfMemory`; of the kind `DisplayHelp`, where the words ask for help; or of another, where
-/// they ask for nothing that there is.
+/// Clap's error: of the kind `OutOfMemory`; of the kind `DisplayHelp` or `DisplayVersion`, where the words ask for help or
+/// for the version; or of another, where they ask for nothing that there is.
 pub fn read_options<'a>(alloc: Global, words: &'a [&'a str]) -> Result<Options, Error>
     ensures { MatchResult result
         (λ o. asked_for words.now ≡ log_with o.fronts o.ring o.open_at o.close_at)
@@ -150,8 +160,8 @@ pub fn read_options<'a>(alloc: Global, words: &'a [&'a str]) -> Result<Options, 
 pub enum NoOptions {
     /// There was no memory.
     Fault(Fault),
-    /// Help, which they ask for.
-    Help,
+    /// Help or the version, which they ask for.
+    Notice,
     /// A refusal.
     Refusal,
 }
@@ -162,7 +172,7 @@ impl From<ErrorKind> for NoOptions {
     fn from(kind: ErrorKind) -> NoOptions {
         match kind {
             ErrorKind::OutOfMemory => NoOptions::Fault(Fault::Memory),
-            ErrorKind::DisplayHelp => NoOptions::Help,
+            ErrorKind::DisplayHelp | ErrorKind::DisplayVersion => NoOptions::Notice,
             _ => NoOptions::Refusal,
         }
     }

@@ -5,10 +5,10 @@ ghost use Rattle.std.specs.Io.KnownBytes.{Appends};
 ghost use Rattle.std.specs.IoError.{error_kind};
 ghost use Rattle.std.specs.declared.io.ErrorKind.TheVariants.{OutOfMemory as NoMemory};
 ghost use Rattle.clap.specs.Words.{kind_of};
-ghost use Rattle.clap.specs.declared.error.kind.ErrorKind.TheVariants.{DisplayHelp, OutOfMemory};
+ghost use Rattle.clap.specs.declared.error.kind.ErrorKind.TheVariants.{OutOfMemory};
 ghost use Rattle.ct_lines.specs.Sends.{SendsSome};
 ghost use Rattle.ct_parties.specs.declared.fault.Fault.{Fault as FaultOf};
-ghost use Rattle.ctlog.specs.CommandLine.{asked_for, help, nothing, IsUnanswered};
+ghost use Rattle.ctlog.specs.CommandLine.{asked_for, help, version, nothing, IsNotice, IsUnanswered};
 ghost use Rattle.ctlog.specs.FaultLines.{fault_line};
 ghost use Rattle.ctlog.specs.Runs.{IsDone, IsBrokenOff};
 
@@ -23,8 +23,8 @@ use std::io::{Read, Write};
 use std::sync::Wait;
 use std::thread::Threads;
 
-// Writes help on the output.
-fn send_help<W: Write>(alloc: Global, error: &Error, output: &mut W) -> Result<(), Fault>
+// Writes help or the version on the output.
+fn send_notice<W: Write>(alloc: Global, error: &Error, output: &mut W) -> Result<(), Fault>
     ensures text { (text : List ℕ) × Appends (W.contents output.old) (W.contents output.new) text }
     ensures faults { IfErr result (λ f. (f ≡ Fault.Write) ⊎ (f ≡ Fault.Memory)) }
 {
@@ -46,7 +46,7 @@ fn tell_refusal<E: Write>(alloc: Global, error: &Error, faults: &mut E) -> Resul
     Ok(())
 }
 
-// Answers a command line that gives no numbers: help on the output, or a refusal among the faults.
+// Answers a command line that gives no numbers: help or the version on the output, or a refusal among the faults.
 fn answer_command_line<W: Write, E: Write>(
     alloc: Global,
     error: &Error,
@@ -54,16 +54,16 @@ fn answer_command_line<W: Write, E: Write>(
     faults: &mut E,
 ) -> u8
     ensures status { result ≤ 2 }
-    ensures helped { result ≡ 0 → (kind_of error.now ≡ DisplayHelp)
+    ensures noticed { result ≡ 0 → IsNotice (kind_of error.now)
         × ((text : List ℕ) × Appends (W.contents output.old) (W.contents output.new) text) }
     ensures fault { result ≡ 1 → (f : FaultOf) × IsUnanswered (kind_of error.now) f (W.contents output.old) (W.contents output.new)
         × SendsSome (E.contents faults.old) (E.contents faults.new) (fault_line f) }
-    ensures refused { result ≡ 2 → (kind_of error.now ≢ DisplayHelp) × (kind_of error.now ≢ OutOfMemory) × (output.new ≡ output.old) }
+    ensures refused { result ≡ 2 → (IsNotice (kind_of error.now) → ⊥) × (kind_of error.now ≢ OutOfMemory) × (output.new ≡ output.old) }
     ensures quiet { result ≡ 0 → faults.new ≡ faults.old }
 {
     match NoOptions::from(error.kind()) {
         NoOptions::Fault(fault) => report(fault, faults),
-        NoOptions::Help => match send_help(alloc, error, output) {
+        NoOptions::Notice => match send_notice(alloc, error, output) {
             Ok(()) => 0,
             Err(fault) => report(fault, faults),
         },
@@ -103,14 +103,14 @@ pub const TURNS: u64 = 50_000_000;
 /// Runs the program over its command line, whose first word is its name, and answers its exit status. A line that waits
 /// for another party looks `turns` times.
 ///
-/// - 0: the words ask for a log with these numbers, and all replies to the input were written; or they ask for help, which
-///   was written. Nothing was written among the faults.
+/// - 0: the words ask for a log with these numbers, and all replies to the input were written; or they ask for help or
+///   for the version, which was written. Nothing was written among the faults.
 /// - 1: a fault broke it off, and its line was written among the faults, as far as it could be: a beginning of what is
 ///   written at status 0 stands on the output. The fault is the one that happened as far as the library's contracts tell:
 ///   which of its calls was refused memory, or whether the reader or the writer failed for good, no contract says.
 /// - 2: the words ask for nothing that there is. Nothing was written on the output.
 ///
-/// Where no log is asked for, the input isn't read. Clap's contracts say nothing of texts, so that help's text, and what is
+/// Where no log is asked for, the input isn't read. Clap's contracts say nothing of texts, so that the texts of help and of the version, and what is
 /// written among the faults at status 2, are tested alone.
 pub fn run<'a, H: Threads + Wait + Sync, R: Read, W: Write, E: Write>(
     rt: &H,
@@ -127,7 +127,7 @@ pub fn run<'a, H: Threads + Wait + Sync, R: Read, W: Write, E: Write>(
         × IsBrokenOff (asked_for words.now) f (R.remaining input.old) (W.contents output.old) (W.contents output.new)
         × SendsSome (E.contents faults.old) (E.contents faults.new) (fault_line f) }
     ensures refused { result ≡ 2 → (asked_for words.now ≡ nothing) × (output.new ≡ output.old) }
-    ensures unread { (asked_for words.now ≡ help) ⊎ (asked_for words.now ≡ nothing) → input.new ≡ input.old }
+    ensures unread { (asked_for words.now ≡ help) ⊎ ((asked_for words.now ≡ version) ⊎ (asked_for words.now ≡ nothing)) → input.new ≡ input.old }
     ensures quiet { result ≡ 0 → faults.new ≡ faults.old }
 {
     match read_options(alloc, words) {

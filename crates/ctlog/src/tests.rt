@@ -426,8 +426,9 @@ fn the_moments_of_opening_and_closing(rt: HostRuntime) {
     assert!(rt; wrote(&outcome, output));
 }
 
+// Help ends with what the program does; the version stands behind the program's name.
 #[test]
-fn help(rt: HostRuntime) {
+fn help_and_version(rt: HostRuntime) {
     let outcome = outcome_of(&rt, rt.alloc(), &["ctlog", "--help"], 9, b"");
     assert!(rt; outcome.status == 0 && outcome.faults.is_empty());
     assert!(rt;
@@ -435,6 +436,11 @@ fn help(rt: HostRuntime) {
             .output
             .starts_with(b"Usage: ctlog [OPTIONS] --fronts <N> --ring <K>\n")
     );
+    assert!(rt; outcome.output.ends_with(b"The input is read whole before the log opens.\n"));
+    let long = outcome_of(&rt, rt.alloc(), &["ctlog", "--version"], 9, b"");
+    assert!(rt; wrote(&long, "ctlog 0.1.0\n"));
+    let short = outcome_of(&rt, rt.alloc(), &["ctlog", "-V"], 9, b"");
+    assert!(rt; wrote(&short, "ctlog 0.1.0\n"));
 }
 
 // The replies of the front and of the operator are written, and none of the frozen log.
