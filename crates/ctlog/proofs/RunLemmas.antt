@@ -28,8 +28,8 @@ noticed k a input old new (inr e) (inr v) text = subst (λ (b : CommandLine). Is
 -- a beginning of the text that was asked for was written, or nothing
 pub unanswered : (k : ErrorKind) (a : CommandLine) (f : Fault) (input old new : Option (List ℕ)) → IsRefusalOf a k → IsUnanswered k f old new → IsBrokenOff a f input old new
 unanswered k a f input old new (inl memory) (inl h) = not_both k memory h.0
-unanswered k a f input old new (inr e) (inl (inl h, rest)) = subst (λ (b : CommandLine). IsBrokenOff b f input old new) (sym (e ∙ ap by_kind h)) rest
-unanswered k a f input old new (inr e) (inl (inr v, rest)) = subst (λ (b : CommandLine). IsBrokenOff b f input old new) (sym (e ∙ ap by_kind v)) rest
+unanswered k a f input old new (inr e) (inl (inl h, fault, text)) = subst (λ (b : CommandLine). IsBrokenOff b f input old new) (sym (e ∙ ap by_kind h)) (fault, text)
+unanswered k a f input old new (inr e) (inl (inr v, fault, text)) = subst (λ (b : CommandLine). IsBrokenOff b f input old new) (sym (e ∙ ap by_kind v)) (fault, text)
 unanswered k a f input old new r (inr none) = go a
   where
     go : (b : CommandLine) → IsBrokenOff b f input old new

@@ -13,7 +13,7 @@
 
 ghost use Rattle.std.specs.Prelude.{◌≡◌, ◌⊎◌, ◌≤◌, IfOk, map, string_bytes};
 ghost use Rattle.ct_parties.specs.declared.fault.Fault.{Fault as FaultOf};
-ghost use Rattle.ctlog.specs.CommandLine.{asked_of, help, nothing};
+ghost use Rattle.ctlog.specs.CommandLine.{asked_of, help, version, nothing};
 ghost use Rattle.ctlog.specs.FaultLines.{fault_line};
 ghost use Rattle.ctlog.specs.Runs.{IsDone, IsBrokenOff};
 ghost use Rattle.ct_lines.specs.Sends.{SendsSome};
@@ -66,7 +66,7 @@ fn run_words<H: Threads + Wait + Sync, R: Read, W: Write, E: Write>(
         × IsBrokenOff (asked_of words.now) f (R.remaining input.old) (W.contents output.old) (W.contents output.new)
         × SendsSome (E.contents faults.old) (E.contents faults.new) (fault_line f) }
     ensures refused { result ≡ 2 → (asked_of words.now ≡ nothing) × (output.new ≡ output.old) }
-    ensures unread { (asked_of words.now ≡ help) ⊎ (asked_of words.now ≡ nothing) → input.new ≡ input.old }
+    ensures unread { (asked_of words.now ≡ help) ⊎ ((asked_of words.now ≡ version) ⊎ (asked_of words.now ≡ nothing)) → input.new ≡ input.old }
     ensures quiet { result ≡ 0 → faults.new ≡ faults.old }
 {
     match texts(alloc, words) {

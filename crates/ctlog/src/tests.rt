@@ -436,7 +436,11 @@ fn help_and_version(rt: HostRuntime) {
             .output
             .starts_with(b"Usage: ctlog [OPTIONS] --fronts <N> --ring <K>\n")
     );
-    assert!(rt; outcome.output.ends_with(b"The input is read whole before the log opens.\n"));
+    assert!(rt;
+        outcome
+            .output
+            .ends_with(b"The input is read whole before the log opens.\n")
+    );
     let long = outcome_of(&rt, rt.alloc(), &["ctlog", "--version"], 9, b"");
     assert!(rt; wrote(&long, "ctlog 0.1.0\n"));
     let short = outcome_of(&rt, rt.alloc(), &["ctlog", "-V"], 9, b"");

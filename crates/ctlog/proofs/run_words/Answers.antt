@@ -3,7 +3,7 @@ use Rattle.std.specs.Borrow.{Bor}
 use Rattle.std.specs.Global.{Global}
 use Rattle.std.proofs.KnownBytes.{Appends-nil}
 use Rattle.clap.specs.declared.error.kind.ErrorKind.TheVariants as kind
-use Rattle.ctlog.specs.CommandLine.{CommandLine, asked_for, asked_of, command_line, help, nothing}
+use Rattle.ctlog.specs.CommandLine.{CommandLine, asked_for, asked_of, command_line, help, version, nothing}
 use Rattle.ctlog.specs.FaultLines.{fault_line}
 use Rattle.ctlog.specs.Runs.{IsDone, IsBrokenOff}
 use Rattle.ct_lines.specs.Sends.{SendsSome}
@@ -34,7 +34,7 @@ returns-in-Ok-clause-refused g c =
 
 pub returns-in-Ok-clause-unread : goal.returns-in-Ok-clause-unread
 returns-in-Ok-clause-unread g c =
-    subst (λ (a : CommandLine). (a ≡ help) ⊎ (a ≡ nothing) → c.run.new.input ≡ c.args.input.now)
+    subst (λ (a : CommandLine). (a ≡ help) ⊎ ((a ≡ version) ⊎ (a ≡ nothing)) → c.run.new.input ≡ c.args.input.now)
     (same_words c.in-Ok.texts.items c.deref.result.now c.args.words.now c.deref.ensures.value c.in-Ok.ensures) c.run.ensures.unread
 
 pub returns-in-Err-clause-fault : goal.returns-in-Err-clause-fault
