@@ -6,5 +6,6 @@ pub mod Hashed
 pub mod Faults
 pub mod Decoded
 pub mod Parts
+pub mod Signed
 pub mod Laws
 pub mod Items

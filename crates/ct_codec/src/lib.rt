@@ -7,11 +7,12 @@
 //! - `decode_leaf`, `decode_chain` and `decode_pre_chain` read a leaf of either entry type, a chain, and a precertificate with its
 //!   chain from bytes. Where the bytes are none they answer the first fault from the left, before any memory is taken: the walk over
 //!   the input (`lend_leaf`, `last_chain`) has no allocator. `lend_leaf` reads a leaf where it stands, for who needs no copy.
+//! - `tree_head_signature_input` and `certificate_timestamp_signature_input` write what a log signs (sections 3.5 and 3.2).
 //! - `Refusal` has every reason for which a call of the log is refused.
 //! - The functions of [`laws`] do nothing: their contracts are laws of the formats.
 //!
 //! What the bytes are stands in `specs`: `Bytes` (numbers and vectors), `Leaf` (leaves and chains), `Submitted`, `Hashed`, `Faults`,
-//! `Items`, `Laws`.
+//! `Items`, `Signed`, `Laws`.
 #![tactic(auto)]
 
 mod fault;
@@ -22,6 +23,7 @@ mod parts;
 mod reader;
 mod reading;
 mod refusal;
+mod signing;
 mod submission;
 mod writing;
 
@@ -32,5 +34,6 @@ pub use reading::{
     Leaf, LeafEntry, LentEntry, LentLeaf, decode_chain, decode_leaf, decode_pre_chain, lend_leaf,
 };
 pub use refusal::Refusal;
+pub use signing::{certificate_timestamp_signature_input, tree_head_signature_input};
 pub use submission::Submission;
 pub use writing::{extra_data, identity, leaf_input, same_identity};

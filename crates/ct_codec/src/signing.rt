@@ -1,0 +1,43 @@
+//! The bytes that a log signs (RFC 6962 sections 3.2 and 3.5). The signature itself is made by who holds the log's key.
+
+ghost use Rattle.std.specs.Prelude.{◌≡◌, [], IfOk, IsOkUnless};
+ghost use Rattle.ct_codec.specs.Submitted.{entry_of};
+ghost use Rattle.ct_codec.specs.Signed.{tree_head_text, timestamp_text};
+
+use crate::numbers::number_bytes_8;
+use crate::refusal::Refusal;
+use crate::submission::Submission;
+use crate::writing::leaf_input;
+use std::alloc::Global;
+
+/// What stands under the signature of a tree head (TreeHeadSignature, RFC 6962 section 3.5): its 50 bytes, for the moment at which the
+/// head was made, in milliseconds, the tree's number of leaves, and its root.
+pub fn tree_head_signature_input(
+    alloc: Global,
+    timestamp: u64,
+    tree_size: u64,
+    root: &[u8; 32],
+) -> Result<Vec<u8>, Refusal>
+    ensures text { IfOk result (λ b. b.items ≡ tree_head_text timestamp tree_size root.now) }
+    ensures memory { IsOkUnless result Refusal.Memory }
+{
+    let mut bytes = Vec::with_capacity(alloc, 50)?;
+    bytes.extend_from_slice(&[0, 1])?;
+    bytes.extend_from_slice(&number_bytes_8(timestamp))?;
+    bytes.extend_from_slice(&number_bytes_8(tree_size))?;
+    bytes.extend_from_slice(root)?;
+    Ok(bytes)
+}
+
+/// What stands under the signature of a signed certificate timestamp (RFC 6962 section 3.2) for the submission at this moment, in
+/// milliseconds, with no extensions. These are the bytes of its leaf ([`crate::laws::signed_timestamps_are_leaves`]).
+pub fn certificate_timestamp_signature_input(
+    alloc: Global,
+    submission: &Submission,
+    timestamp: u64,
+) -> Result<Vec<u8>, Refusal>
+    ensures text { IfOk result (λ b. b.items ≡ timestamp_text timestamp (entry_of submission.now) []) }
+    ensures memory { IsOkUnless result Refusal.Memory }
+{
+    leaf_input(alloc, submission, timestamp)
+}
