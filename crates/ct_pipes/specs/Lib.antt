@@ -1,0 +1,5 @@
+pub mod Parts
+pub mod Rings
+pub mod Written
+pub mod Lines
+pub mod Tagged
