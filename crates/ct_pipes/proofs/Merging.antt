@@ -1,18 +1,18 @@
 -- Lists that grow one by one, and a merge of them.
 use Rattle.std.proofs.Common.{◌≡◌, ◌≢◌, ◌<◌, ℕ, zero, suc, List, [], ◌∷◌, ◌++◌, length, map, set, refl, sym, ap, subst, ◌∙◌, arith, inl, inr, append-nil, get_or, true, false}
 use Rattle.std.specs.Prelude.{All, Some, slice_get, nat_eq}
-use Rattle.std.specs.List.{filter_map, AllZip}
+use Rattle.std.specs.List.{AllZip}
 use Rattle.std.proofs.lemmas.List.{length-set, get_or-set_same, map-set}
 use Rattle.std.proofs.lemmas.List.Elements.{filter_map-append, All-append, All-cons}
 use Rattle.std.proofs.lemmas.Bool.Decides.{eqb_tells}
 use Rattle.std.proofs.lemmas.Option.{same_Some, slice_get_within, slice_get-get_or, slice_get-map}
 use Rattle.std.specs.Option.{option_map}
-use Rattle.std.proofs.Common.{Option, Global}
-use Rattle.rtrb.specs.Ring.{sent, received, SameProducer, SameConsumer}
+use Rattle.std.proofs.Common.{Global}
+use Rattle.rtrb.specs.Ring.{sent, SameProducer, SameConsumer}
 use Rattle.rtrb.specs.declared.AnyItems.{AnyItems}
 use Rattle.rtrb.specs.declared.consumer.Consumer.{Consumer}
 use Rattle.rtrb.specs.declared.producer.Producer.{Producer}
-use Rattle.ct_pipes.specs.Rings.{all_sent, all_received, SameProducers, SameConsumers}
+use Rattle.ct_pipes.specs.Rings.{all_sent, SameProducers, SameConsumers}
 use Rattle.ct_pipes.specs.Parts.{part, part_of, IsMergeOf}
 
 -- the element that was put there, and the others
@@ -100,8 +100,8 @@ module _ {T : Type 0} where
   sent_there ps k p q t below e given m =
       let there = slice_get-get_or ps k p below in
       subst (λ (ls : List (List T)). IsMergeOf ls (given ++ (k, t) ∷ []))
-          (sym (map-set (λ (r : Producer T Global AnyItems). sent r) ps k q ∙ ap (λ (l : List T). set (all_sent ps) k l) e))
-          (merge_grows (all_sent ps) given k (sent (get_or ps k p)) (t ∷ []) (get_mapped (λ (r : Producer T Global AnyItems). sent r) ps k (get_or ps k p) there) m)
+      (sym (map-set (λ (r : Producer T Global AnyItems). sent r) ps k q ∙ ap (λ (l : List T). set (all_sent ps) k l) e))
+      (merge_grows (all_sent ps) given k (sent (get_or ps k p)) (t ∷ []) (get_mapped (λ (r : Producer T Global AnyItems). sent r) ps k (get_or ps k p) there) m)
 
   pub sent_none : (ps : List (Producer T Global AnyItems)) (k : ℕ) (p q : Producer T Global AnyItems) → k < length ps → sent q ≡ sent (get_or ps k p)
       → all_sent (set ps k q) ≡ all_sent ps

@@ -3,3 +3,5 @@ pub mod Rings
 pub mod Written
 pub mod Lines
 pub mod Tagged
+pub mod Opening
+pub mod Answered

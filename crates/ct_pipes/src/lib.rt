@@ -9,16 +9,20 @@
 //! - `writer` writes the answers of all parties, and, once all threads have ended, what is left of them.
 #![tactic(auto)]
 
+mod answering;
 mod ending;
 mod lines;
+mod opening;
 mod output;
 mod places;
 mod post;
 mod tagging;
 mod writer;
 
+pub use answering::{Numbered, Party, PartyFault, answer_all};
 pub use ending::{are_taken, write_left};
 pub use lines::NumberedLines;
+pub use opening::{PLACES, Pipes, open};
 pub use output::WriteFailed;
 pub use places::{Places, Seat};
 pub use post::{Stopped, give, receive, send};

@@ -1,4 +1,4 @@
-use Rattle.std.proofs.Common.{◌<◌, ◌≤◌, ◌∙◌, length, arith}
+use Rattle.std.proofs.Common.{◌<◌, ◌∙◌, length, arith}
 use Rattle.ct_pipes.specs.Rings.{all_received, all_sent}
 use Rattle.ct_pipes.proofs.Merging.{sent_none}
 use Rattle.ct_pipes.proofs.Beside.{all_taken, as_long, pair_there, pairs_kept, received_none, taken_more}

@@ -1,4 +1,3 @@
-use Rattle.std.proofs.Common.{ap, length}
 use Rattle.rtrb.specs.Ring.{received, known_items}
 use Rattle.ct_pipes.proofs.Beside.{known_less, known_step, of_error, passes_more, passes_some, still_pair}
 use Rattle.ct_pipes.proofs.ending.write_rest.Goals as goal
@@ -7,7 +6,7 @@ pub returns-in_err-write_text-clause-failed : goal.returns-in_err-write_text-cla
 returns-in_err-write_text-clause-failed g c =
     of_error c.from_residual.result
     (passes_some (g.W.Write.contents c.args.output.now) (g.W.Write.contents c.loop-turn.output) (g.W.Write.contents c.write_text.new.output) (received c.args.ring.now) (received c.loop-turn.ring)
-        (received c.pop_known-text.new.self) c.pop_known-text.result c.pop_known-text.ensures.received.0 (rw c.deref.ensures.value at c.in_err-write_text.ensures.some) c.loop-turn.invariant.passes)
+    (received c.pop_known-text.new.self) c.pop_known-text.result c.pop_known-text.ensures.received.0 (rw c.deref.ensures.value at c.in_err-write_text.ensures.some) c.loop-turn.invariant.passes)
 
 pub loop-turn-preserved : goal.loop-turn-preserved
 loop-turn-preserved g c =

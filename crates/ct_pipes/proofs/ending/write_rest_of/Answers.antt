@@ -28,7 +28,7 @@ returns-clause-written g c =
     let beside : c.args.party < length c.args.rings.now = omega (arith, as_long c.args.producers.now c.args.rings.now c.requires.0) in
     on_ok_weaker c.write_rest.result
     (λ s start. written_there start (g.W.Write.contents c.args.output.now) (g.W.Write.contents c.write_rest.new.output) c.args.rings.now c.args.party c.index-rings-party.result c.write_rest.new.ring
-        beside s)
+    beside s)
     c.write_rest.ensures.written
 
 pub returns-clause-failed : goal.returns-clause-failed
@@ -36,5 +36,5 @@ returns-clause-failed g c =
     let beside : c.args.party < length c.args.rings.now = omega (arith, as_long c.args.producers.now c.args.rings.now c.requires.0) in
     on_err_weaker c.write_rest.result
     (λ s start. begun_there start (g.W.Write.contents c.args.output.now) (g.W.Write.contents c.write_rest.new.output) c.args.rings.now c.args.party c.index-rings-party.result c.write_rest.new.ring
-        beside s)
+    beside s)
     c.write_rest.ensures.failed
