@@ -15,7 +15,7 @@ use Rattle.rtrb.specs.declared.AnyItems.{AnyItems}
 use Rattle.rtrb.specs.declared.consumer.Consumer.{Consumer}
 use Rattle.rtrb.specs.declared.producer.Producer.{Producer}
 use Rattle.ct_pipes.specs.Rings.{all_received, all_sent, texts, ArePairs, AreTakenBelow}
-use Rattle.ct_pipes.specs.Written.{WritesSome, Passes, PassesSome}
+use Rattle.ct_pipes.specs.Written.{WritesBeginning, Passes, PassesSome}
 use Rattle.ct_pipes.proofs.Merging.{get_mapped, mapped_same, put_there, put_elsewhere}
 use Rattle.ct_pipes.proofs.Writing.{some_behind}
 
@@ -103,7 +103,7 @@ passes_more a b c before between after t e w s = record {
         ∙ ap (λ (l : List ℕ). concat (texts ts) ++ l) (append-nil t.items)
 
 -- a beginning of one more was written
-pub passes_some : (a b c : Option (List ℕ)) (before between after : List (Vec ℕ Global)) (t : Vec ℕ Global) → after ≡ between ++ t ∷ [] → WritesSome b c t.items → Passes a b before between
+pub passes_some : (a b c : Option (List ℕ)) (before between after : List (Vec ℕ Global)) (t : Vec ℕ Global) → after ≡ between ++ t ∷ [] → WritesBeginning b c t.items → Passes a b before between
     → PassesSome a c before after
 passes_some a b c before between after t e w s = record {
   more = s.more ++ t ∷ [];

@@ -5,3 +5,4 @@ pub mod Lines
 pub mod Tagged
 pub mod Opening
 pub mod Answered
+pub mod Working

@@ -11,8 +11,8 @@ abbrev pub in_order : List (ℕ × List ℕ) → List ℕ
 in_order order = concat (map (λ (x : ℕ × List ℕ). x.1) order)
 
 -- a beginning of the bytes was written
-abbrev pub WritesSome : Option (List ℕ) → Option (List ℕ) → List ℕ → Type 0
-WritesSome old new bytes = (written : List ℕ) × ((rest : List ℕ) × (bytes ≡ written ++ rest)) × Appends old new written
+abbrev pub WritesBeginning : Option (List ℕ) → Option (List ℕ) → List ℕ → Type 0
+WritesBeginning old new bytes = (written : List ℕ) × ((rest : List ℕ) × (bytes ≡ written ++ rest)) × Appends old new written
 
 -- texts came out of a ring, and were written
 pub record Passes (old new : Option (List ℕ)) (before after : List (Vec ℕ Global)) : Type 0 where
@@ -24,7 +24,7 @@ pub record Passes (old new : Option (List ℕ)) (before after : List (Vec ℕ Gl
 pub record PassesSome (old new : Option (List ℕ)) (before after : List (Vec ℕ Global)) : Type 0 where
   pub more : List (Vec ℕ Global)
   pub came : after ≡ before ++ more
-  pub some : WritesSome old new (concat (texts more))
+  pub some : WritesBeginning old new (concat (texts more))
 
 -- the texts of the parties were written, each whole, and each party's in their order
 pub record IsWritten (lists : List (List (List ℕ))) (old new : Option (List ℕ)) : Type 0 where
@@ -36,4 +36,4 @@ pub record IsWritten (lists : List (List (List ℕ))) (old new : Option (List �
 pub record IsBegunOf (lists : List (List (List ℕ))) (old new : Option (List ℕ)) : Type 0 where
   pub order : List (ℕ × List ℕ)
   pub merge : IsMergeOf lists order
-  pub some : WritesSome old new (in_order order)
+  pub some : WritesBeginning old new (in_order order)

@@ -1,9 +1,8 @@
 //! A party that answers its tasks in turn.
 
-ghost use Rattle.std.specs.Prelude.{◌≡◌, [], ℕ, List, IfOk, OnOk};
+ghost use Rattle.std.specs.Prelude.{ℕ, List, IfOk, OnOk};
 ghost use Rattle.rtrb.specs.Ring.{sent, received, SameProducer, SameConsumer};
-ghost use Rattle.ct_pipes.specs.Answered.{AreAnswered};
-ghost use Rattle.ct_pipes.specs.Rings.{texts};
+ghost use Rattle.ct_pipes.specs.Answered.{AnswersMore};
 
 use crate::places::{Places, Seat};
 use crate::post::{Stopped, receive, send};
@@ -20,8 +19,11 @@ pub struct Numbered<T: Drop> {
     pub task: T,
 }
 
-/// Who does tasks, and replies to each. `S` is what all parties share.
-pub trait Party<T, S> {
+/// Who does tasks, and replies to each.
+pub trait Party<T> {
+    /// What the parties share.
+    type Shared: Sync;
+
     /// From the party before, a task and a reply to the party then: whether it may do so.
     ghost does: { Self → T → List ℕ → Self → Type 0 };
 
@@ -30,7 +32,7 @@ pub trait Party<T, S> {
         &mut self,
         rt: &R,
         alloc: Global,
-        shared: &S,
+        shared: &Self::Shared,
         task: T,
     ) -> Result<Vec<u8>, AllocError>
         ensures { IfOk result (λ r. does self.old task r.items self.new) };
@@ -52,18 +54,17 @@ impl From<AllocError> for PartyFault {
 }
 
 /// Answers the tasks of the party with this number, until no more are given.
-pub fn answer_all<T: Drop, S, P: Party<T, S>, R: Threads + Wait + Sync>(
+pub fn answer_all<T: Drop, P: Party<T>, R: Threads + Wait + Sync>(
     rt: &R,
     alloc: Global,
     places: &Places,
     number: usize,
-    shared: &S,
+    shared: &P::Shared,
     party: &mut P,
     tasks: &mut Consumer<Numbered<T>>,
     answers: &mut Producer<Vec<u8>>,
 ) -> Result<(), PartyFault>
-    requires { (received tasks.old ≡ []) × (sent answers.old ≡ []) }
-    ensures answered { OnOk result (AreAnswered P.does party.old (received tasks.new) (texts (sent answers.new)) party.new) }
+    ensures answered { OnOk result (AnswersMore P.does party.old party.new (received tasks.old) (received tasks.new) (sent answers.old) (sent answers.new)) }
     ensures same { SameConsumer tasks.old tasks.new × SameProducer answers.old answers.new }
 {
     for _ in rt.forever() {

@@ -17,6 +17,7 @@ mod output;
 mod places;
 mod post;
 mod tagging;
+mod workers;
 mod writer;
 
 pub use answering::{Numbered, Party, PartyFault, answer_all};
@@ -27,4 +28,7 @@ pub use output::WriteFailed;
 pub use places::{Places, Seat};
 pub use post::{Stopped, give, receive, send};
 pub use tagging::tag;
+pub use workers::{
+    StartFault, Worker, WorkerPromise, WorkerThread, join_workers, start_workers,
+};
 pub use writer::write_answers;

@@ -2,7 +2,7 @@
 
 ghost use Rattle.std.specs.Prelude.{◌≡◌, ◌<◌, ℕ, length, take, OnOk, OnErr};
 ghost use Rattle.std.specs.Io.KnownBytes.{Appends};
-ghost use Rattle.ct_pipes.specs.Written.{WritesSome};
+ghost use Rattle.ct_pipes.specs.Written.{WritesBeginning};
 
 use std::io::Write;
 
@@ -13,7 +13,7 @@ pub struct WriteFailed;
 // Writes all of the bytes, as far as the writer takes them.
 fn write_bytes<W: Write>(output: &mut W, bytes: &[u8]) -> Result<(), WriteFailed>
     ensures all { OnOk result (Appends (W.contents output.old) (W.contents output.new) bytes.now) }
-    ensures some { OnErr result (WritesSome (W.contents output.old) (W.contents output.new) bytes.now) }
+    ensures some { OnErr result (WritesBeginning (W.contents output.old) (W.contents output.new) bytes.now) }
 {
     let mut rest = bytes;
     while !rest.is_empty() {
@@ -32,7 +32,7 @@ fn write_bytes<W: Write>(output: &mut W, bytes: &[u8]) -> Result<(), WriteFailed
 // Writes a text whole, and hands it on.
 pub(crate) fn write_text<W: Write>(output: &mut W, text: &[u8]) -> Result<(), WriteFailed>
     ensures all { OnOk result (Appends (W.contents output.old) (W.contents output.new) text.now) }
-    ensures some { OnErr result (WritesSome (W.contents output.old) (W.contents output.new) text.now) }
+    ensures some { OnErr result (WritesBeginning (W.contents output.old) (W.contents output.new) text.now) }
 {
     write_bytes(output, text)?;
     match output.flush() {
