@@ -28,7 +28,5 @@ pub use output::WriteFailed;
 pub use places::{Places, Seat};
 pub use post::{Stopped, give, receive, send};
 pub use tagging::tag;
-pub use workers::{
-    StartFault, Worker, WorkerPromise, WorkerThread, join_workers, start_workers,
-};
+pub use workers::{StartFault, Worker, WorkerPromise, WorkerThread, join_workers, start_workers};
 pub use writer::write_answers;

@@ -67,7 +67,8 @@ fn work<T: Drop, P: Party<T> + Drop, R: Threads + Wait + Sync>(
 #[derive(Drop)]
 pub struct WorkerPromise<P: Drop, T: Drop>(Snapshot<Worker<P, T>>);
 
-impl<P: Party<T> + Drop, T: Drop> Promise<Result<Worker<P, T>, PartyFault>> for WorkerPromise<P, T> {
+impl<P: Party<T> + Drop, T: Drop> Promise<Result<Worker<P, T>, PartyFault>>
+    for WorkerPromise<P, T> {
     ghost kept_by = { λ p r. IfOk r (λ w. Works P.does p.0.value w) };
 }
 
@@ -95,8 +96,8 @@ fn keep<T: Drop>(items: &mut Vec<T>, item: T) -> Result<(), AllocError>
     Ok(())
 }
 
-/// Starts a thread for each party. Where one doesn't start, all are to end.
-pub fn start_workers<
+// Starts a thread for each party.
+fn start_each<
     'e: 's,
     's,
     T: Drop + Send + 's,
@@ -119,12 +120,41 @@ pub fn start_workers<
             ensures { IfOk result (λ w. Works P.does worker w) }
         { work(rt, alloc, places, shared, worker) };
         let Ok(thread) = scope.spawn_with(promise, working) else {
-            places.stop();
             return Err(StartFault::Threads);
         };
         keep(&mut threads, thread)?;
     }
     Ok(threads)
+}
+
+/// Starts a thread for each party.
+///
+/// # Errors
+///
+/// `Threads`, where one doesn't start, or `Memory`; and all are to end, those that were started too.
+pub fn start_workers<
+    'e: 's,
+    's,
+    T: Drop + Send + 's,
+    P: Party<T> + Drop + Send + 's,
+    R: Threads + Wait + Sync,
+>(
+    rt: &'e R,
+    alloc: Global,
+    scope: &'s Scope<'s, &'e ()>,
+    places: &'e Places,
+    shared: &'e P::Shared,
+    workers: Vec<Worker<P, T>>,
+) -> Result<Vec<WorkerThread<P, T>>, StartFault>
+    ensures { IfOk result (λ v. map (λ t. t.promise.0.value) v.items ≡ workers.items) }
+{
+    match start_each(rt, alloc, scope, places, shared, workers) {
+        Ok(threads) => Ok(threads),
+        Err(fault) => {
+            places.stop();
+            Err(fault)
+        }
+    }
 }
 
 /// Joins the threads of the parties, and answers the parties in the order in which these were started.

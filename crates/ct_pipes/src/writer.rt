@@ -69,13 +69,8 @@ fn write_round<W: Write>(
     Ok(any)
 }
 
-/// Writes the answers of all parties as they come, until all parties have ended, or all were to end. What is left then, the
-/// threads having ended, `write_left` writes.
-///
-/// # Errors
-///
-/// `WriteFailed`: of what came out of the rings a beginning is written, in the same sense.
-pub fn write_answers<R: Wait, W: Write>(
+// Writes the answers of all parties as they come, until all parties have ended, or all were to end.
+fn write_until_ended<R: Wait, W: Write>(
     rt: &R,
     places: &Places,
     rings: &mut [Consumer<Vec<u8>>],
@@ -97,4 +92,31 @@ pub fn write_answers<R: Wait, W: Write>(
         }
     }
     unreachable!()
+}
+
+/// Writes the answers of all parties as they come, until all parties have ended, or all were to end. What is left then, the
+/// threads having ended, `write_left` writes.
+///
+/// # Errors
+///
+/// `WriteFailed`, and all are to end: of what came out of the rings a beginning is written, in the same sense.
+pub fn write_answers<R: Wait, W: Write>(
+    rt: &R,
+    places: &Places,
+    rings: &mut [Consumer<Vec<u8>>],
+    output: &mut W,
+) -> Result<(), WriteFailed>
+    ensures same { SameConsumers rings.old rings.new }
+    ensures written { OnOk result ((start : Option (List ℕ)) → IsWritten (texts_each (all_received rings.old)) start (W.contents output.old)
+        → IsWritten (texts_each (all_received rings.new)) start (W.contents output.new)) }
+    ensures failed { OnErr result ((start : Option (List ℕ)) → IsWritten (texts_each (all_received rings.old)) start (W.contents output.old)
+        → IsBegunOf (texts_each (all_received rings.new)) start (W.contents output.new)) }
+{
+    match write_until_ended(rt, places, rings, output) {
+        Ok(()) => Ok(()),
+        Err(failed) => {
+            places.stop();
+            Err(failed)
+        }
+    }
 }

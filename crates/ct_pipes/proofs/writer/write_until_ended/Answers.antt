@@ -1,5 +1,5 @@
 use Rattle.ct_pipes.proofs.Merging.{consumers_self, consumers_trans}
-use Rattle.ct_pipes.proofs.writer.write_answers.Goals as goal
+use Rattle.ct_pipes.proofs.writer.write_until_ended.Goals as goal
 
 pub loop-init : goal.loop-init
 loop-init g c = record { same = consumers_self c.args.rings.now; written = λ start w. w }

@@ -1,7 +1,7 @@
 use Rattle.std.specs.Prelude.{ℕ, List, Option}
 use Rattle.ct_pipes.specs.Rings.{all_received, texts_each, SameConsumers}
 use Rattle.ct_pipes.specs.Written.{IsWritten}
-use Rattle.ct_pipes.proofs.writer.write_answers.Given as goal
+use Rattle.ct_pipes.proofs.writer.write_until_ended.Given as goal
 
 abbrev pub invariant-loop : goal.invariant-loop
 invariant-loop g l = record {
