@@ -10,8 +10,8 @@ part k x = if nat_eq x.0 k then Some x.1 else None
 abbrev pub part_of : {A : Type 0} → ℕ → List (ℕ × A) → List A
 part_of k xs = filter_map (part k) xs
 
--- The pairs are a merge of these lists, of which each party has the one with its number: the part of a party is just its list, in its
--- order, and there is nothing else among the pairs.
+-- The pairs are a merge of these lists, of which each party has the one with its number: the part of a party is just its list, in
+-- its order, and there is nothing else among the pairs.
 pub record IsMergeOf {A : Type 0} (lists : List (List A)) (xs : List (ℕ × A)) : Type 0 where
   pub known : All (λ (x : ℕ × A). x.0 < length lists) xs
   pub parts : (k : ℕ) (list : List A) → slice_get lists k ≡ Some list → list ≡ part_of k xs

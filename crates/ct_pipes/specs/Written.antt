@@ -4,7 +4,9 @@ use Rattle.std.specs.Global.{Global}
 use Rattle.std.specs.List.{concat}
 use Rattle.std.specs.Io.KnownBytes.{Appends}
 use Rattle.ct_pipes.specs.Parts.{IsMergeOf}
-use Rattle.ct_pipes.specs.Rings.{texts}
+use Rattle.rtrb.specs.declared.AnyItems.{AnyItems}
+use Rattle.rtrb.specs.declared.consumer.Consumer.{Consumer}
+use Rattle.ct_pipes.specs.Rings.{all_received, texts, texts_each}
 
 -- the texts, one after the other
 abbrev pub in_order : List (ℕ × List ℕ) → List ℕ
@@ -37,3 +39,15 @@ pub record IsBegunOf (lists : List (List (List ℕ))) (old new : Option (List �
   pub order : List (ℕ × List ℕ)
   pub merge : IsMergeOf lists order
   pub some : WritesBeginning old new (in_order order)
+
+-- where all that was received from some rings was written, it still is, with what was received since
+abbrev pub WritesOn : List (Consumer (Vec ℕ Global) Global AnyItems) → List (Consumer (Vec ℕ Global) Global AnyItems) → Option (List ℕ)
+    → Option (List ℕ) → Type 0
+WritesOn before after old new =
+    (start : Option (List ℕ)) → IsWritten (texts_each (all_received before)) start old → IsWritten (texts_each (all_received after)) start new
+
+-- the same, and of all of it a beginning is written
+abbrev pub BeginsOn : List (Consumer (Vec ℕ Global) Global AnyItems) → List (Consumer (Vec ℕ Global) Global AnyItems) → Option (List ℕ)
+    → Option (List ℕ) → Type 0
+BeginsOn before after old new =
+    (start : Option (List ℕ)) → IsWritten (texts_each (all_received before)) start old → IsBegunOf (texts_each (all_received after)) start new

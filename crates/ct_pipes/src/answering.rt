@@ -64,7 +64,8 @@ pub fn answer_all<T: Drop, P: Party<T>, R: Threads + Wait + Sync>(
     tasks: &mut Consumer<Numbered<T>>,
     answers: &mut Producer<Vec<u8>>,
 ) -> Result<(), PartyFault>
-    ensures answered { OnOk result (AnswersMore P.does party.old party.new (received tasks.old) (received tasks.new) (sent answers.old) (sent answers.new)) }
+    ensures answered { OnOk result (AnswersMore P.does party.old party.new
+        (received tasks.old) (received tasks.new) (sent answers.old) (sent answers.new)) }
     ensures same { SameConsumer tasks.old tasks.new × SameProducer answers.old answers.new }
 {
     for _ in rt.forever() {

@@ -1,9 +1,9 @@
 //! What is done once all threads have ended, with both ends of each ring at hand.
 
-ghost use Rattle.std.specs.Prelude.{◌≡◌, ◌<◌, ◌+◌, ℕ, List, Option, length, true, OnOk, OnErr};
+ghost use Rattle.std.specs.Prelude.{◌≡◌, ◌<◌, ◌+◌, length, true, OnOk, OnErr};
 ghost use Rattle.rtrb.specs.Ring.{sent, received, IsPair};
-ghost use Rattle.ct_pipes.specs.Rings.{all_received, all_sent, texts_each, ArePairs, AreTakenBelow};
-ghost use Rattle.ct_pipes.specs.Written.{Passes, PassesSome, IsWritten, IsBegunOf};
+ghost use Rattle.ct_pipes.specs.Rings.{all_received, all_sent, ArePairs, AreTakenBelow};
+ghost use Rattle.ct_pipes.specs.Written.{Passes, PassesSome, WritesOn, BeginsOn};
 
 use crate::output::{WriteFailed, write_text};
 use rtrb::{Consumer, Producer};
@@ -44,8 +44,10 @@ fn write_rest<W: Write>(
     ensures pair { IsPair producer.new ring.new }
     ensures sent { sent producer.new ≡ sent producer.old }
     ensures all { OnOk result (received ring.new ≡ sent producer.old) }
-    ensures written { OnOk result (Passes (W.contents output.old) (W.contents output.new) (received ring.old) (received ring.new)) }
-    ensures failed { OnErr result (PassesSome (W.contents output.old) (W.contents output.new) (received ring.old) (received ring.new)) }
+    ensures written { OnOk result (Passes (W.contents output.old) (W.contents output.new)
+        (received ring.old) (received ring.new)) }
+    ensures failed { OnErr result (PassesSome (W.contents output.old) (W.contents output.new)
+        (received ring.old) (received ring.new)) }
 {
     let left = ring.slots_beside(producer);
     for turn in 0..left {
@@ -66,10 +68,8 @@ fn write_rest_of<W: Write>(
     ensures pairs { ArePairs producers.new rings.new }
     ensures sent { all_sent producers.new ≡ all_sent producers.old }
     ensures all { OnOk result (AreTakenBelow party producers.old rings.old → AreTakenBelow (party + 1) producers.old rings.new) }
-    ensures written { OnOk result ((start : Option (List ℕ)) → IsWritten (texts_each (all_received rings.old)) start (W.contents output.old)
-        → IsWritten (texts_each (all_received rings.new)) start (W.contents output.new)) }
-    ensures failed { OnErr result ((start : Option (List ℕ)) → IsWritten (texts_each (all_received rings.old)) start (W.contents output.old)
-        → IsBegunOf (texts_each (all_received rings.new)) start (W.contents output.new)) }
+    ensures written { OnOk result (WritesOn rings.old rings.new (W.contents output.old) (W.contents output.new)) }
+    ensures failed { OnErr result (BeginsOn rings.old rings.new (W.contents output.old) (W.contents output.new)) }
 {
     let producer = &mut producers[party];
     let ring = &mut rings[party];
@@ -89,10 +89,8 @@ pub fn write_left<W: Write>(
 ) -> Result<(), WriteFailed>
     requires { ArePairs producers.old rings.old }
     ensures all { OnOk result (all_received rings.new ≡ all_sent producers.old) }
-    ensures written { OnOk result ((start : Option (List ℕ)) → IsWritten (texts_each (all_received rings.old)) start (W.contents output.old)
-        → IsWritten (texts_each (all_received rings.new)) start (W.contents output.new)) }
-    ensures failed { OnErr result ((start : Option (List ℕ)) → IsWritten (texts_each (all_received rings.old)) start (W.contents output.old)
-        → IsBegunOf (texts_each (all_received rings.new)) start (W.contents output.new)) }
+    ensures written { OnOk result (WritesOn rings.old rings.new (W.contents output.old) (W.contents output.new)) }
+    ensures failed { OnErr result (BeginsOn rings.old rings.new (W.contents output.old) (W.contents output.new)) }
 {
     for party in 0..producers.len() {
         write_rest_of(party, producers, rings, output)?;

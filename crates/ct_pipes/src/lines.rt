@@ -44,7 +44,8 @@ impl<R: BufRead + Drop> NumberedLines<R> {
     /// The reader's, where it fails; `OutOfMemory` where a growth is refused; and another one where there are more than
     /// 2^50 lines.
     pub fn read(&mut self, line: &mut Vec<u8>) -> io::Result<Option<u64>>
-        ensures { IfOk result (λ n. IsNextLine self.old.next self.new.next (R.remaining self.old.input) (R.remaining self.new.input) line.new.items n) }
+        ensures { IfOk result (λ n. IsNextLine self.old.next self.new.next
+            (R.remaining self.old.input) (R.remaining self.new.input) line.new.items n) }
     {
         if self.next == LINES {
             return Err(io::Error::from(ErrorKind::Other));

@@ -1,13 +1,13 @@
 //! The writer: it writes the answers of all parties, each whole, as they come.
 
-ghost use Rattle.std.specs.Prelude.{◌≡◌, ◌<◌, ℕ, List, Option, length, OnOk, OnErr};
-ghost use Rattle.rtrb.specs.Ring.{sent, received, IsPair, SameProducer, SameConsumer};
-ghost use Rattle.ct_pipes.specs.Rings.{all_received, all_sent, texts_each, ArePairs, SameConsumers};
-ghost use Rattle.ct_pipes.specs.Written.{Passes, PassesSome, IsWritten, IsBegunOf};
+ghost use Rattle.std.specs.Prelude.{◌<◌, length, OnOk, OnErr};
+ghost use Rattle.rtrb.specs.Ring.{received, SameConsumer};
+ghost use Rattle.ct_pipes.specs.Rings.{SameConsumers};
+ghost use Rattle.ct_pipes.specs.Written.{Passes, PassesSome, WritesOn, BeginsOn};
 
 use crate::output::{WriteFailed, write_text};
 use crate::places::{Places, Seat};
-use rtrb::{Consumer, Producer};
+use rtrb::Consumer;
 use std::io::Write;
 use std::sync::Wait;
 
@@ -19,8 +19,10 @@ fn write_next<W: Write>(
     output: &mut W,
 ) -> Result<bool, WriteFailed>
     ensures same { SameConsumer ring.old ring.new }
-    ensures written { OnOk result (Passes (W.contents output.old) (W.contents output.new) (received ring.old) (received ring.new)) }
-    ensures failed { OnErr result (PassesSome (W.contents output.old) (W.contents output.new) (received ring.old) (received ring.new)) }
+    ensures written { OnOk result (Passes (W.contents output.old) (W.contents output.new)
+        (received ring.old) (received ring.new)) }
+    ensures failed { OnErr result (PassesSome (W.contents output.old) (W.contents output.new)
+        (received ring.old) (received ring.new)) }
 {
     let Ok(text) = ring.pop() else {
         return Ok(false);
@@ -39,10 +41,8 @@ fn write_of<W: Write>(
 ) -> Result<bool, WriteFailed>
     requires { party < length rings.old }
     ensures same { SameConsumers rings.old rings.new }
-    ensures written { OnOk result ((start : Option (List ℕ)) → IsWritten (texts_each (all_received rings.old)) start (W.contents output.old)
-        → IsWritten (texts_each (all_received rings.new)) start (W.contents output.new)) }
-    ensures failed { OnErr result ((start : Option (List ℕ)) → IsWritten (texts_each (all_received rings.old)) start (W.contents output.old)
-        → IsBegunOf (texts_each (all_received rings.new)) start (W.contents output.new)) }
+    ensures written { OnOk result (WritesOn rings.old rings.new (W.contents output.old) (W.contents output.new)) }
+    ensures failed { OnErr result (BeginsOn rings.old rings.new (W.contents output.old) (W.contents output.new)) }
 {
     let ring = &mut rings[party];
     write_next(places, party, ring, output)
@@ -55,10 +55,8 @@ fn write_round<W: Write>(
     output: &mut W,
 ) -> Result<bool, WriteFailed>
     ensures same { SameConsumers rings.old rings.new }
-    ensures written { OnOk result ((start : Option (List ℕ)) → IsWritten (texts_each (all_received rings.old)) start (W.contents output.old)
-        → IsWritten (texts_each (all_received rings.new)) start (W.contents output.new)) }
-    ensures failed { OnErr result ((start : Option (List ℕ)) → IsWritten (texts_each (all_received rings.old)) start (W.contents output.old)
-        → IsBegunOf (texts_each (all_received rings.new)) start (W.contents output.new)) }
+    ensures written { OnOk result (WritesOn rings.old rings.new (W.contents output.old) (W.contents output.new)) }
+    ensures failed { OnErr result (BeginsOn rings.old rings.new (W.contents output.old) (W.contents output.new)) }
 {
     let mut any = false;
     for party in 0..rings.len() {
@@ -77,10 +75,8 @@ fn write_until_ended<R: Wait, W: Write>(
     output: &mut W,
 ) -> Result<(), WriteFailed>
     ensures same { SameConsumers rings.old rings.new }
-    ensures written { OnOk result ((start : Option (List ℕ)) → IsWritten (texts_each (all_received rings.old)) start (W.contents output.old)
-        → IsWritten (texts_each (all_received rings.new)) start (W.contents output.new)) }
-    ensures failed { OnErr result ((start : Option (List ℕ)) → IsWritten (texts_each (all_received rings.old)) start (W.contents output.old)
-        → IsBegunOf (texts_each (all_received rings.new)) start (W.contents output.new)) }
+    ensures written { OnOk result (WritesOn rings.old rings.new (W.contents output.old) (W.contents output.new)) }
+    ensures failed { OnErr result (BeginsOn rings.old rings.new (W.contents output.old) (W.contents output.new)) }
 {
     for _ in rt.forever() {
         let ended = places.have_ended();
@@ -107,10 +103,8 @@ pub fn write_answers<R: Wait, W: Write>(
     output: &mut W,
 ) -> Result<(), WriteFailed>
     ensures same { SameConsumers rings.old rings.new }
-    ensures written { OnOk result ((start : Option (List ℕ)) → IsWritten (texts_each (all_received rings.old)) start (W.contents output.old)
-        → IsWritten (texts_each (all_received rings.new)) start (W.contents output.new)) }
-    ensures failed { OnErr result ((start : Option (List ℕ)) → IsWritten (texts_each (all_received rings.old)) start (W.contents output.old)
-        → IsBegunOf (texts_each (all_received rings.new)) start (W.contents output.new)) }
+    ensures written { OnOk result (WritesOn rings.old rings.new (W.contents output.old) (W.contents output.new)) }
+    ensures failed { OnErr result (BeginsOn rings.old rings.new (W.contents output.old) (W.contents output.new)) }
 {
     match write_until_ended(rt, places, rings, output) {
         Ok(()) => Ok(()),
