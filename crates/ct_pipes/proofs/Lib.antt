@@ -1,0 +1,6 @@
+pub mod Merging
+pub mod Sending
+pub mod Writing
+pub mod Beside
+pub mod Opened
+pub mod Turns

@@ -1,0 +1,11 @@
+use Rattle.std.specs.Prelude.{◌≡◌}
+use Rattle.ct_pipes.specs.Rings.{all_received, all_sent, ArePairs, AreTakenBelow}
+use Rattle.ct_pipes.proofs.ending.are_taken.Given as goal
+
+abbrev pub invariant-loop-party : goal.invariant-loop-party
+invariant-loop-party g l = record {
+  pairs : ArePairs l.producers l.consumers;
+  sent : all_sent l.producers ≡ all_sent l.fn.producers;
+  received : all_received l.consumers ≡ all_received l.fn.consumers;
+  taken : AreTakenBelow l.party l.fn.producers l.fn.consumers;
+}

@@ -1,0 +1,22 @@
+use Rattle.std.proofs.lemmas.Result.{on_err_weaker, on_ok_weaker}
+use Rattle.ct_pipes.proofs.Merging.{same_consumers}
+use Rattle.ct_pipes.proofs.Writing.{begun_there, written_there}
+use Rattle.ct_pipes.proofs.writer.write_of.Goals as goal
+
+pub returns-clause-same : goal.returns-clause-same
+returns-clause-same g c =
+    same_consumers c.args.rings.now c.args.party c.index-rings-party.result c.write_next.new.ring c.requires c.write_next.ensures.same
+
+pub returns-clause-written : goal.returns-clause-written
+returns-clause-written g c =
+    on_ok_weaker c.write_next.result
+    (λ s start. written_there start (g.W.Write.contents c.args.output.now) (g.W.Write.contents c.write_next.new.output) c.args.rings.now c.args.party c.index-rings-party.result c.write_next.new.ring
+    c.requires s)
+    c.write_next.ensures.written
+
+pub returns-clause-failed : goal.returns-clause-failed
+returns-clause-failed g c =
+    on_err_weaker c.write_next.result
+    (λ s start. begun_there start (g.W.Write.contents c.args.output.now) (g.W.Write.contents c.write_next.new.output) c.args.rings.now c.args.party c.index-rings-party.result c.write_next.new.ring
+    c.requires s)
+    c.write_next.ensures.failed

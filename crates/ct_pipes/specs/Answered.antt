@@ -1,0 +1,22 @@
+-- Tasks that are answered in turn.
+use Rattle.std.specs.Prelude.{◌≡◌, ℕ, List, [], ◌∷◌, ◌++◌, Vec}
+use Rattle.std.specs.Global.{Global}
+use Rattle.ct_pipes.specs.Rings.{texts}
+use Rattle.ct_pipes.specs.Tagged.{tagged}
+use Rattle.ct_pipes.specs.declared.answering.Numbered.{Numbered}
+
+-- The tasks are done one after the other, each where the one before it left off, and each has the reply that `does` gives, as a
+-- text with the number of its line. The party was a before, and is b then.
+abbrev pub AreAnswered : {P T : Type 0} → (P → T → List ℕ → P → Type 0) → P → List (Numbered T) → List (List ℕ) → P → Type 0
+AreAnswered {P} does a [] [] b = b ≡ a
+AreAnswered {P} does a [] (x ∷ xs) b = ⊥
+AreAnswered {P} does a (t ∷ ts) [] b = ⊥
+AreAnswered {P} does a (t ∷ ts) (x ∷ xs) b = (m : P) × (reply : List ℕ) × does a t.task reply m × (x ≡ tagged t.number reply) × AreAnswered does m ts xs b
+
+-- More tasks were received and answered: from the party a to the party b, each in turn.
+pub record AnswersMore {P T : Type 0} (does : P → T → List ℕ → P → Type 0) (a b : P) (received received_then : List (Numbered T)) (sent sent_then : List (Vec ℕ Global)) : Type 0 where
+  pub tasks : List (Numbered T)
+  pub came : received_then ≡ received ++ tasks
+  pub answers : List (Vec ℕ Global)
+  pub went : sent_then ≡ sent ++ answers
+  pub answered : AreAnswered does a tasks (texts answers) b

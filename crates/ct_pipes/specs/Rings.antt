@@ -1,0 +1,38 @@
+-- What went into rings, and what came out.
+use Rattle.std.specs.Prelude.{◌≡◌, ◌<◌, ℕ, List, map, slice_get, Vec}
+use Rattle.std.specs.Global.{Global}
+use Rattle.std.specs.List.{AllZip}
+use Rattle.rtrb.specs.Ring.{sent, received, IsPair, SameProducer, SameConsumer}
+use Rattle.rtrb.specs.declared.AnyItems.{AnyItems}
+use Rattle.rtrb.specs.declared.consumer.Consumer.{Consumer}
+use Rattle.rtrb.specs.declared.producer.Producer.{Producer}
+
+module _ {T : Type 0} where
+  -- what was sent into each ring, and what was received from each
+  abbrev pub all_sent : List (Producer T Global AnyItems) → List (List T)
+  all_sent ps = map (λ (p : Producer T Global AnyItems). sent p) ps
+
+  abbrev pub all_received : List (Consumer T Global AnyItems) → List (List T)
+  all_received cs = map (λ (c : Consumer T Global AnyItems). received c) cs
+
+  -- the ends of the same rings, place by place
+  abbrev pub SameProducers : List (Producer T Global AnyItems) → List (Producer T Global AnyItems) → Type 0
+  SameProducers old new = AllZip SameProducer old new
+
+  abbrev pub SameConsumers : List (Consumer T Global AnyItems) → List (Consumer T Global AnyItems) → Type 0
+  SameConsumers old new = AllZip SameConsumer old new
+
+  -- place by place the two ends of a ring
+  abbrev pub ArePairs : List (Producer T Global AnyItems) → List (Consumer T Global AnyItems) → Type 0
+  ArePairs ps cs = AllZip IsPair ps cs
+
+-- the bytes of texts, and of the texts of each ring
+abbrev pub texts : List (Vec ℕ Global) → List (List ℕ)
+texts ts = map (λ (t : Vec ℕ Global). t.items) ts
+
+abbrev pub texts_each : List (List (Vec ℕ Global)) → List (List (List ℕ))
+texts_each tss = map texts tss
+
+-- of the first n rings, all that was sent was received
+abbrev pub AreTakenBelow : {T : Type 0} → ℕ → List (Producer T Global AnyItems) → List (Consumer T Global AnyItems) → Type 0
+AreTakenBelow n ps cs = (k : ℕ) → k < n → slice_get (all_received cs) k ≡ slice_get (all_sent ps) k

@@ -1,0 +1,44 @@
+//! Tasks given out to some parties, each in a thread of its own, and their answers written as they come.
+//!
+//! One reader gives tasks, each party answers its own in their order, and one writer writes what they answer: each answer
+//! whole, those of a party in its order, and no others. In what order the answers of different parties stand is left open.
+//!
+//! The parts, in the order in which a program puts them together:
+//!
+//! - `opening` makes the rings: `open`, of whose ends each thread has its own.
+//! - `lines` cuts an input into numbered lines, as it comes, for the reader's thread; `post` has `give`, by which it gives
+//!   each party its tasks, and waits where a ring is full.
+//! - `workers` has the parties' threads: `start_workers` and `join_workers`. What a party does is its own (`Party`, in
+//!   `answering`): `answer_all` has it reply to each of its tasks in turn, and `tagging` sets the line's number before the
+//!   reply.
+//! - `writer` writes the answers of all parties as they come, in the thread that calls it; `output` writes one.
+//! - `ending` is for when all threads have ended, with both ends of each ring at hand: `are_taken` finds whether all tasks
+//!   were received, and `write_left` writes what is left of the answers.
+//! - `places` is where these threads wait for one another, and what they tell each other beside the rings. No proof rests
+//!   on it: it only ends waits.
+//!
+//! `specs/Parts.antt`, `Rings`, `Written`, `Lines`, `Answered`, `Working`, `Tagged` and `Opening` are the words of the
+//! contracts.
+#![tactic(auto)]
+
+mod answering;
+mod ending;
+mod lines;
+mod opening;
+mod output;
+mod places;
+mod post;
+mod tagging;
+mod workers;
+mod writer;
+
+pub use answering::{Numbered, Party, PartyFault, answer_all};
+pub use ending::{are_taken, write_left};
+pub use lines::NumberedLines;
+pub use opening::{PLACES, Pipes, open};
+pub use output::WriteFailed;
+pub use places::{Places, Seat};
+pub use post::{Stopped, give, receive, send};
+pub use tagging::tag;
+pub use workers::{StartFault, Worker, WorkerPromise, WorkerThread, join_workers, start_workers};
+pub use writer::write_answers;
