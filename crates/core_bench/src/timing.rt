@@ -1,11 +1,18 @@
 //! How long the calls take.
 
+use crate::prepared::prepare;
 use crate::work;
-use ct_core::Core;
+use ct_core::{Core, Query, Reply};
 use std::time::{Duration, Instant};
 
 // How many items are prepared at a time.
 const BATCH: u64 = 1_000;
+
+// How many receipts, and how many audit paths by leaf hash, are asked for.
+const ASKED: u64 = 1_000;
+
+// How far the tickets and certificates asked for lie from one another, before they are brought below their number.
+const STEP: u64 = 7_919;
 
 // Prints a time as nanoseconds a call, of `count` calls.
 fn report(rt: &HostRuntime, what: &str, count: u64, time: Duration) -> anyhow::Result<()> {
@@ -45,7 +52,67 @@ fn publishing(
     Ok(start.elapsed(rt)?)
 }
 
-// Times the settling of `size` certificates of 1,500 bytes, whole thousands of them, then of repeats, then publications.
+// Times ten publications with ten new entries each, of certificates from the one with the number `first` on.
+fn publishing_tens(rt: &HostRuntime, core: &mut Core, first: u64) -> anyhow::Result<Duration> {
+    let mut time = Duration::ZERO;
+    for k in 0..10u64 {
+        let moment = k.wrapping_add(20);
+        let items = work::prepare_all(
+            rt.alloc(),
+            first.wrapping_add(k.wrapping_mul(10)),
+            10,
+            moment,
+        )?;
+        work::settle_all(rt.alloc(), core, items)?;
+        time = time.saturating_add(publishing(rt, core, moment, 1)?);
+    }
+    Ok(time)
+}
+
+// Times audit paths of leaves all over those below `size`, by their hashes, and prints the sum of their indexes.
+fn proofs(rt: &HostRuntime, core: &Core, size: u64) -> anyhow::Result<Duration> {
+    let mut time = Duration::ZERO;
+    let mut sum = 0u64;
+    for k in 0..ASKED {
+        let number = k.wrapping_mul(STEP).checked_rem(size).unwrap_or(0);
+        let hash = prepare(rt.alloc(), number, 1)?.hash;
+        let query = Query::ProofByHash {
+            hash,
+            tree_size: size,
+        };
+        let start = Instant::now(rt)?;
+        if let Reply::ProofByHash { leaf_index, .. } = core
+            .published()
+            .answer(rt.alloc(), &query)?
+        {
+            sum = sum.wrapping_add(leaf_index);
+        }
+        time = time.saturating_add(start.elapsed(rt)?);
+    }
+    println!(rt; "audit paths of leaves {sum}")?;
+    Ok(time)
+}
+
+// Times receipts of tickets all over those below `size`, and prints the sum of their indexes.
+fn receipts(rt: &HostRuntime, core: &Core, size: u64) -> anyhow::Result<Duration> {
+    let mut sum = 0u64;
+    let start = Instant::now(rt)?;
+    for k in 0..ASKED {
+        let ticket = k.wrapping_mul(STEP).checked_rem(size).unwrap_or(0);
+        if let Reply::Receipt { leaf_index, .. } = core
+            .published()
+            .answer(rt.alloc(), &Query::Receipt { ticket })?
+        {
+            sum = sum.wrapping_add(leaf_index);
+        }
+    }
+    let time = start.elapsed(rt)?;
+    println!(rt; "receipts of leaves {sum}")?;
+    Ok(time)
+}
+
+// Times the settling of `size` certificates of 1,500 bytes, whole thousands of them, then of repeats, then publications, audit
+// paths by leaf hash, and receipts.
 pub(crate) fn core(rt: &HostRuntime, size: u64) -> anyhow::Result<()> {
     let mut core = Core::open(rt.alloc(), 0)?;
     println!(rt; "{size} entries")?;
@@ -57,6 +124,12 @@ pub(crate) fn core(rt: &HostRuntime, size: u64) -> anyhow::Result<()> {
     report(rt, "publish, all entries new,", 1, time)?;
     let time = publishing(rt, &mut core, 3, 10)?;
     report(rt, "publish, nothing new,", 10, time)?;
+    let time = publishing_tens(rt, &mut core, size)?;
+    report(rt, "publish, ten entries new,", 10, time)?;
+    let time = proofs(rt, &core, size)?;
+    report(rt, "get-proof-by-hash", ASKED, time)?;
+    let time = receipts(rt, &core, size)?;
+    report(rt, "receipt", ASKED, time)?;
     println!(rt; "size {}", core.published().last_head().tree_size)?;
     Ok(())
 }

@@ -91,6 +91,10 @@ pub record IsNextHead (core : CoreState) (now : ℕ) (h : Head) : Type 0 where
 abbrev pub published_with : CoreState → Head → Log
 published_with core h = record { entries = core.entries; settlement = core.settlement; heads = core.published.heads ++ h ∷ [] }
 
+-- the state that a publication at now makes
+abbrev pub IsNextState : CoreState → ℕ → Log → Type 0
+IsNextState core now p = (h : Head) × IsNextHead core now h × (p ≡ published_with core h)
+
 abbrev pub after_publishing : CoreState → Head → CoreState
 after_publishing core h = record { published = published_with core h; entries = core.entries; settlement = core.settlement }
 

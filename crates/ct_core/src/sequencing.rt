@@ -96,7 +96,8 @@ impl Core {
         now: u64,
     ) -> Result<Settled, (Refusal, Item)>
         requires { hash ≡ sha256_leaf (leaf_at item.submission now) }
-        ensures settled { IfOk result (λ r. (items : List Item) → IsSettled self.old items → Grows self.old items (item ∷ []) now self.new × (r ≡ record_of (items ++ item ∷ []) (length items) item)) }
+        ensures settled { IfOk result (λ r. (items : List Item) → IsSettled self.old items
+            → Grows self.old items (item ∷ []) now self.new × (r ≡ record_of (items ++ item ∷ []) (length items) item)) }
         ensures in_time { OnOk result ((clock_of self.old ≤ now) × (clock_of self.new ≤ now)) }
         ensures published { self.new.published ≡ self.old.published }
         ensures begins { Begins self.old.entries self.new.entries × Begins self.old.settlement self.new.settlement }

@@ -32,7 +32,8 @@ pub struct Monitor {
 
 // How many of the leaves that are there are read: as far as the waiting head goes.
 fn leaves_wanted(watcher: &Watcher<Sha256Hash>, available: usize) -> usize
-    ensures as_far { (result ≡ wanted_size watcher.now - watcher.now.all.0) ⊎ ((available ≤ wanted_size watcher.now - watcher.now.all.0) × (result ≡ available)) }
+    ensures as_far { (result ≡ wanted_size watcher.now - watcher.now.all.0)
+        ⊎ ((available ≤ wanted_size watcher.now - watcher.now.all.0) × (result ≡ available)) }
     ensures fits { result ≤ available }
     ensures few { watcher.now.all.0 + result < 2 ^ 64 }
 {

@@ -87,7 +87,8 @@ fn evidence_reply(evidence: Evidence) -> Reply
 
 // The verdict on a proof of inclusion, against these leaves, all of which it hashes.
 fn verdict(alloc: Global, leaves: &[Vec<u8>], audit: &Audit) -> Result<Reply, Refusal>
-    ensures { MatchResult result (λ r. shown r ≡ verdict (map (λ l. l.items) leaves.now) audit.now.leaf_input.items audit.now.leaf_index audit.now.audit_path.items)
+    ensures { MatchResult result
+        (λ r. shown r ≡ verdict (map (λ l. l.items) leaves.now) audit.now.leaf_input.items audit.now.leaf_index audit.now.audit_path.items)
         (λ e. e ≡ Refusal.Memory) }
 {
     // A law for the prover: a path that leads to the root isn't refused.

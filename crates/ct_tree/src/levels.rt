@@ -35,7 +35,8 @@ fn put(
 ) -> Result<(), AllocError>
     requires { level ≤ length above.old.items }
     ensures others { HaveSameLevelsBut level above.new.items above.old.items }
-    ensures added { OnOk result (length (get_or above.old.items level []) ≡ index → get_or above.new.items level [] ≡ get_or above.old.items level [] ++ node.now ∷ []) }
+    ensures added { OnOk result (length (get_or above.old.items level []) ≡ index
+        → get_or above.new.items level [] ≡ get_or above.old.items level [] ++ node.now ∷ []) }
     ensures there { OnOk result ((length (get_or above.old.items level []) ≡ index → ⊥) → get_or above.new.items level [] ≡ get_or above.old.items level []) }
     ensures err { OnErr result (HaveSameLevels above.new.items above.old.items) }
 {

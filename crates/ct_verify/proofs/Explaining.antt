@@ -24,12 +24,12 @@ module _ (H : List ℕ → List ℕ) (hash_length : (x : List ℕ) → length (H
       let n : length (map f xs) ≡ length xs = length-map xs f in
       (omega (arith, a.0), rw n (ap (λ u. rebuild H m (length xs) u p) (sym eh) ∙ a.1 ∙ ap Some er))
 
-  pub nothing_found : (D : List (List ℕ)) (leaf : List ℕ) (m : ℕ) (p : List (List ℕ)) → IsAccepted H D leaf m p → evid H D leaf m p ≡ None
-      → InclusionEvidence H D leaf m p Holds
-  nothing_found D leaf m p a e =
+  pub nothing_found : (A : Type 0) (D : List (List ℕ)) (leaf : List ℕ) (m : ℕ) (p : List (List ℕ)) → IsAccepted H D leaf m p → evid H D leaf m p ≡ None
+      → InclusionEvidence {A = A} H D leaf m p Holds
+  nothing_found A D leaf m p a e =
       (a, e, subst (Shows H (IsAudited H D leaf m p)) e (evid_shows H hash_length D leaf m p a.0 a.1))
 
-  pub pair_found : (D : List (List ℕ)) (leaf : List ℕ) (m : ℕ) (p : List (List ℕ)) (z : List ℕ × List ℕ) (e : Evidence) → IsAccepted H D leaf m p
+  pub pair_found : {A : Type 0} → (D : List (List ℕ)) (leaf : List ℕ) (m : ℕ) (p : List (List ℕ)) (z : List ℕ × List ℕ) (e : Evidence A) → IsAccepted H D leaf m p
       → evid H D leaf m p ≡ Some z → IsCollision z e → InclusionEvidence H D leaf m p e
   pair_found D leaf m p z Holds a f i = absurd i
   pair_found D leaf m p z (Collision x y) a f i =
@@ -37,7 +37,7 @@ module _ (H : List ℕ → List ℕ) (hash_length : (x : List ℕ) → length (H
       (a, rw (i.0, i.1) f, rw (i.0, i.1) c)
 
   -- a leaf with its PATH is answered by Holds alone
-  pub holds : (D : List (List ℕ)) (leaf : List ℕ) (m : ℕ) (p : List (List ℕ)) (result : Result Evidence EvidenceFault)
+  pub holds : {A : Type 0} → (D : List (List ℕ)) (leaf : List ℕ) (m : ℕ) (p : List (List ℕ)) (result : Result (Evidence A) EvidenceFault)
       → MatchResult result (InclusionEvidence H D leaf m p) (InclusionFault H D leaf m p) → IsAudited H D leaf m p → result ≡ Ok Holds
   holds D leaf m p (Ok Holds) e a = refl
   holds D leaf m p (Ok (Collision x y)) e a = absurd (none_some (x.items, y.items) (sym (audited_none H hash_length D leaf m p a) ∙ e.1))

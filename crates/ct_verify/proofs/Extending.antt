@@ -43,7 +43,7 @@ module _ (H : List ℕ → List ℕ) {V : Type 0} (f : V → List ℕ) where
 
 module _ (H : List ℕ → List ℕ) where
   -- where the old list begins the new one, an accepted proof is answered by Holds alone
-  pub extension_holds : (E D p : List (List ℕ)) (result : Result Evidence EvidenceFault)
+  pub extension_holds : {A : Type 0} → (E D p : List (List ℕ)) (result : Result (Evidence A) EvidenceFault)
       → MatchResult result (ConsistencyEvidence H E D p) (ConsistencyFault H E D p) → IsAcceptedFor H E D p → IsBeginning E D → result ≡ Ok Holds
   extension_holds E D p (Ok Holds) e a b = refl
   extension_holds E D p (Ok (Collision x y)) e a b = absurd (e.1 b)

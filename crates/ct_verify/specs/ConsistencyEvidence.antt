@@ -19,7 +19,7 @@ IsBeginning E D = E ≡ take (length E) D
 
 -- Holds: accepted, and the old list begins the new one. Collision: accepted, it doesn't, and here are two strings that
 -- differ and have one hash, the first clash along the proof
-abbrev pub ConsistencyEvidence : (List ℕ → List ℕ) → List (List ℕ) → List (List ℕ) → List (List ℕ) → Evidence → Type 0
+abbrev pub ConsistencyEvidence : {A : Type 0} → (List ℕ → List ℕ) → List (List ℕ) → List (List ℕ) → List (List ℕ) → Evidence A → Type 0
 ConsistencyEvidence H E D p Holds = IsAcceptedFor H E D p × IsBeginning E D
 ConsistencyEvidence H E D p (Collision a b) =
     IsAcceptedFor H E D p × (¬ IsBeginning E D) × Collides H a.items b.items

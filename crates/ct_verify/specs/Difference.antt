@@ -12,6 +12,6 @@ strings leaf other AtLeaf = (0 ∷ leaf, 0 ∷ other)
 strings leaf other (AtNode proved listed) = (children_string proved, children_string listed)
 
 -- a collision of this pair of strings
-abbrev pub IsCollision : List ℕ × List ℕ → Evidence → Type 0
+abbrev pub IsCollision : {A : Type 0} → List ℕ × List ℕ → Evidence A → Type 0
 IsCollision z Holds = ⊥
 IsCollision z (Collision a b) = (a.items ≡ z.0) × (b.items ≡ z.1)

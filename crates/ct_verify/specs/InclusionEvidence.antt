@@ -14,7 +14,7 @@ IsAccepted H D leaf m p = AcceptsInclusion H (hash_leaf H leaf) m (length D) p (
 
 -- Holds: accepted, and no string differs, so the leaf and the path are the list's. Collision: accepted, and the first
 -- strings that differ have one hash
-abbrev pub InclusionEvidence : (List ℕ → List ℕ) → List (List ℕ) → List ℕ → ℕ → List (List ℕ) → Evidence → Type 0
+abbrev pub InclusionEvidence : {A : Type 0} → (List ℕ → List ℕ) → List (List ℕ) → List ℕ → ℕ → List (List ℕ) → Evidence A → Type 0
 InclusionEvidence H D leaf m p Holds = IsAccepted H D leaf m p × (evid H D leaf m p ≡ None) × IsAudited H D leaf m p
 InclusionEvidence H D leaf m p (Collision a b) =
     IsAccepted H D leaf m p × (evid H D leaf m p ≡ Some (a.items, b.items)) × Collides H a.items b.items

@@ -6,7 +6,7 @@ use Rattle.ct_verify.specs.Rebuild.{both_roots}
 use Rattle.ct_verify.specs.declared.consistency_evidence.Pair.{Pair}
 
 -- the strings that were found
-abbrev pub found_strings : Option Pair → Option (List ℕ × List ℕ)
+abbrev pub found_strings : {A : Type 0} → Option (Pair A) → Option (List ℕ × List ℕ)
 found_strings o = option_map (λ z. (z.first.items, z.second.items)) o
 
 -- the hashes of two nodes, where they are equal, are made from equal parts

@@ -14,41 +14,41 @@ use crate::consistency::verify_consistency;
 use crate::evidence::{Evidence, EvidenceFault, hashed_string};
 use crate::halves::{last_and_rest, root_of_leaves};
 use ct_tree::{NodeHash, largest_power_below, leaf_hash, node_hash};
-use std::alloc::{AllocError, Global};
+use std::alloc::{AllocError, Allocator};
 
 // Two different strings with one hash.
 #[derive(Drop)]
-struct Pair {
-    first: Vec<u8>,
-    second: Vec<u8>,
+struct Pair<A: Allocator> {
+    first: Vec<u8, A>,
+    second: Vec<u8, A>,
 }
 
 // Two lists of one length: their roots, and a collision where one was found.
 #[derive(Drop)]
-struct Sides {
+struct Sides<A: Allocator> {
     old_root: [u8; 32],
     new_root: [u8; 32],
-    found: Option<Pair>,
+    found: Option<Pair<A>>,
 }
 
 // Two lists and the roots that a proof gives for them.
 #[derive(Drop)]
-struct Walked {
+struct Walked<A: Allocator> {
     first: [u8; 32],
     second: [u8; 32],
     old_root: [u8; 32],
     new_root: [u8; 32],
-    found: Option<Pair>,
+    found: Option<Pair<A>>,
 }
 
 // The strings of two nodes with these hashes, where they differ and the hashes are equal.
-fn meet(
-    alloc: Global,
+fn meet<A: Allocator + Clone>(
+    alloc: &A,
     a: &Children,
     b: &Children,
     hash: &[u8; 32],
     other: &[u8; 32],
-) -> Result<Option<Pair>, AllocError>
+) -> Result<Option<Pair<A>>, AllocError>
     ensures { IfOk result (λ o. found_strings o ≡ clash_by hash.now other.now (children_string a.now) (children_string b.now)) }
 {
     if is_same_string(a, b) {
@@ -57,19 +57,19 @@ fn meet(
     if !is_same(hash, other) {
         return Ok(None);
     }
-    let first = hashed_string(alloc, 1, &a.left, &a.right)?;
-    let second = hashed_string(alloc, 1, &b.left, &b.right)?;
+    let first = hashed_string(alloc.clone()?, 1, &a.left, &a.right)?;
+    let second = hashed_string(alloc.clone()?, 1, &b.left, &b.right)?;
     Ok(Some(Pair { first, second }))
 }
 
 // The strings of two leaves with these hashes, where they differ and the hashes are equal.
-fn meet_leaves(
-    alloc: Global,
+fn meet_leaves<A: Allocator + Clone>(
+    alloc: &A,
     a: &[u8],
     b: &[u8],
     hash: &[u8; 32],
     other: &[u8; 32],
-) -> Result<Option<Pair>, AllocError>
+) -> Result<Option<Pair<A>>, AllocError>
     ensures { IfOk result (λ o. found_strings o ≡ clash_by hash.now other.now (0 ∷ a.now) (0 ∷ b.now)) }
 {
     if a == b {
@@ -78,13 +78,13 @@ fn meet_leaves(
     if !is_same(hash, other) {
         return Ok(None);
     }
-    let first = hashed_string(alloc, 0, a, &[])?;
-    let second = hashed_string(alloc, 0, b, &[])?;
+    let first = hashed_string(alloc.clone()?, 0, a, &[])?;
+    let second = hashed_string(alloc.clone()?, 0, b, &[])?;
     Ok(Some(Pair { first, second }))
 }
 
 // The first pair that was found.
-fn first_found(a: Option<Pair>, b: Option<Pair>) -> Option<Pair>
+fn first_found<A: Allocator>(a: Option<Pair<A>>, b: Option<Pair<A>>) -> Option<Pair<A>>
     ensures { found_strings result ≡ option_or (found_strings a) (found_strings b) }
 {
     match a {
@@ -94,12 +94,12 @@ fn first_found(a: Option<Pair>, b: Option<Pair>) -> Option<Pair>
 }
 
 // Two leaves beside each other.
-fn beside_leaves<H: NodeHash>(
-    alloc: Global,
+fn beside_leaves<A: Allocator + Clone, H: NodeHash>(
+    alloc: &A,
     h: &H,
     old: &[u8],
     new: &[u8],
-) -> Result<Sides, AllocError>
+) -> Result<Sides<A>, AllocError>
     ensures old { IfOk result (λ s. s.old_root ≡ hash_leaf H.digest old.now) }
     ensures new { IfOk result (λ s. s.new_root ≡ hash_leaf H.digest new.now) }
     ensures found { IfOk result (λ s. found_strings s.found ≡ clash H.digest (0 ∷ old.now) (0 ∷ new.now)) }
@@ -115,12 +115,12 @@ fn beside_leaves<H: NodeHash>(
 }
 
 // The node over two parts of each list.
-fn over_parts<H: NodeHash>(
-    alloc: Global,
+fn over_parts<A: Allocator + Clone, H: NodeHash>(
+    alloc: &A,
     h: &H,
-    left: Sides,
-    right: Sides,
-) -> Result<Sides, AllocError>
+    left: Sides<A>,
+    right: Sides<A>,
+) -> Result<Sides<A>, AllocError>
     ensures old { IfOk result (λ s. s.old_root ≡ hash_node H.digest left.old_root right.old_root) }
     ensures new { IfOk result (λ s. s.new_root ≡ hash_node H.digest left.new_root right.new_root) }
     ensures found { IfOk result (λ s. found_strings s.found ≡ option_or (option_or (found_strings left.found) (found_strings right.found))
@@ -140,12 +140,12 @@ fn over_parts<H: NodeHash>(
 }
 
 // The roots of two lists of one length, and what is found in them. Each leaf is hashed once.
-fn diverge<H: NodeHash>(
-    alloc: Global,
+fn diverge<A: Allocator + Clone, H: NodeHash>(
+    alloc: &A,
     h: &H,
     old: &[Vec<u8>],
     new: &[Vec<u8>],
-) -> Result<Sides, AllocError>
+) -> Result<Sides<A>, AllocError>
     requires some { 0 < length old.now }
     requires same { length old.now ≡ length new.now }
     ensures old { IfOk result (λ s. s.old_root ≡ mth_of_leaves H.digest (map (λ l. l.items) old.now)) }
@@ -170,13 +170,13 @@ fn chosen(known: bool, a: &[u8; 32], b: &[u8; 32]) -> [u8; 32]
 
 // The node over the part with the old list, at the left, and a part of the new list alone: the proof has `sibling` for
 // it, and `other` is its root.
-fn over_left<H: NodeHash>(
-    alloc: Global,
+fn over_left<A: Allocator + Clone, H: NodeHash>(
+    alloc: &A,
     h: &H,
-    part: Walked,
+    part: Walked<A>,
     sibling: &[u8; 32],
     other: &[u8; 32],
-) -> Result<Walked, AllocError>
+) -> Result<Walked<A>, AllocError>
     ensures proof { IfOk result (λ w. (w.first ≡ part.first) × (w.second ≡ hash_node H.digest part.second sibling.now)) }
     ensures old { IfOk result (λ w. w.old_root ≡ part.old_root) }
     ensures new { IfOk result (λ w. w.new_root ≡ hash_node H.digest part.new_root other.now) }
@@ -202,13 +202,13 @@ fn over_left<H: NodeHash>(
 
 // The nodes over a part that both lists have, at the left, and the part in which the old list ends: the proof has
 // `sibling` for the first of them.
-fn over_right<H: NodeHash>(
-    alloc: Global,
+fn over_right<A: Allocator + Clone, H: NodeHash>(
+    alloc: &A,
     h: &H,
-    sides: Sides,
-    part: Walked,
+    sides: Sides<A>,
+    part: Walked<A>,
     sibling: &[u8; 32],
-) -> Result<Walked, AllocError>
+) -> Result<Walked<A>, AllocError>
     ensures proof { IfOk result (λ w. (w.first ≡ hash_node H.digest sibling.now part.first) × (w.second ≡ hash_node H.digest sibling.now part.second)) }
     ensures old { IfOk result (λ w. w.old_root ≡ hash_node H.digest sides.old_root part.old_root) }
     ensures new { IfOk result (λ w. w.new_root ≡ hash_node H.digest sides.new_root part.new_root) }
@@ -238,15 +238,15 @@ fn over_right<H: NodeHash>(
 }
 
 // Goes along a consistency proof through both lists. Each leaf is hashed once.
-fn walk<H: NodeHash>(
-    alloc: Global,
+fn walk<A: Allocator + Clone, H: NodeHash>(
+    alloc: &A,
     h: &H,
     old: &[Vec<u8>],
     new: &[Vec<u8>],
     known: bool,
     first_root: &[u8; 32],
     path: &[[u8; 32]],
-) -> Result<Walked, AllocError>
+) -> Result<Walked<A>, AllocError>
     requires some { 0 < length old.now }
     requires within { length old.now ≤ length new.now }
     ensures old { IfOk result (λ w. w.old_root ≡ mth_of_leaves H.digest (map (λ l. l.items) old.now)) }
@@ -292,13 +292,13 @@ fn begins(old: &[Vec<u8>], new: &[Vec<u8>]) -> bool
 }
 
 // The evidence that the comparison and the search give.
-fn evidence_for<H: NodeHash>(
-    alloc: Global,
+fn evidence_for<A: Allocator + Clone, H: NodeHash>(
+    alloc: &A,
     h: &H,
     old: &[Vec<u8>],
     new: &[Vec<u8>],
     path: &[[u8; 32]],
-) -> Result<Evidence, EvidenceFault>
+) -> Result<Evidence<A>, EvidenceFault>
     ensures { MatchResult result (ConsistencyEvidence H.digest (map (λ l. l.items) old.now) (map (λ l. l.items) new.now) path.now)
         (ConsistencyFault H.digest (map (λ l. l.items) old.now) (map (λ l. l.items) new.now) path.now) }
 {
@@ -331,17 +331,17 @@ fn evidence_for<H: NodeHash>(
 /// # Errors
 /// `ProofRefused` with the fault of [`verify_consistency`](crate::verify_consistency) where that refuses the proof, and
 /// `Memory` in place of a `Collision` where a growth was refused.
-pub fn explain_consistency<H: NodeHash>(
-    alloc: Global,
+pub fn explain_consistency<A: Allocator + Clone, H: NodeHash>(
+    alloc: A,
     h: &H,
     old: &[Vec<u8>],
     new: &[Vec<u8>],
     path: &[[u8; 32]],
-) -> Result<Evidence, EvidenceFault>
+) -> Result<Evidence<A>, EvidenceFault>
     ensures explained { MatchResult result (ConsistencyEvidence H.digest (map (λ l. l.items) old.now) (map (λ l. l.items) new.now) path.now)
         (ConsistencyFault H.digest (map (λ l. l.items) old.now) (map (λ l. l.items) new.now) path.now) }
     ensures holds { IsAcceptedFor H.digest (map (λ l. l.items) old.now) (map (λ l. l.items) new.now) path.now
         → IsBeginning (map (λ l. l.items) old.now) (map (λ l. l.items) new.now) → result ≡ Ok Holds }
 {
-    evidence_for(alloc, h, old, new, path)
+    evidence_for(&alloc, h, old, new, path)
 }

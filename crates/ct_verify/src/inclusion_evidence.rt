@@ -15,7 +15,7 @@ use crate::fault::ProofFault;
 use crate::halves::{last_and_rest, root_of_leaves};
 use crate::inclusion::verify_inclusion;
 use ct_tree::{NodeHash, largest_power_below, leaf_hash, node_hash};
-use std::alloc::{AllocError, Global};
+use std::alloc::{AllocError, Allocator};
 
 // Where the strings of a path and those of a list differ.
 #[derive(Clone, Copy)]
@@ -131,22 +131,22 @@ fn compare<H: NodeHash>(
 }
 
 // The two strings of one hash.
-fn collision(
-    alloc: Global,
+fn collision<A: Allocator + Clone>(
+    alloc: A,
     difference: Difference,
     leaf: &[u8],
     listed: &[u8],
-) -> Result<Evidence, AllocError>
+) -> Result<Evidence<A>, AllocError>
     ensures { IfOk result (IsCollision (strings leaf.now listed.now difference)) }
 {
     match difference {
         Difference::AtLeaf => {
-            let proved = hashed_string(alloc, 0, leaf, &[])?;
+            let proved = hashed_string(alloc.clone()?, 0, leaf, &[])?;
             let other = hashed_string(alloc, 0, listed, &[])?;
             Ok(Evidence::Collision(proved, other))
         }
         Difference::AtNode(proved, listed) => {
-            let first = hashed_string(alloc, 1, &proved.left, &proved.right)?;
+            let first = hashed_string(alloc.clone()?, 1, &proved.left, &proved.right)?;
             let second = hashed_string(alloc, 1, &listed.left, &listed.right)?;
             Ok(Evidence::Collision(first, second))
         }
@@ -154,14 +154,14 @@ fn collision(
 }
 
 // The evidence that the comparison gives.
-fn evidence_for<H: NodeHash>(
-    alloc: Global,
+fn evidence_for<A: Allocator + Clone, H: NodeHash>(
+    alloc: A,
     h: &H,
     leaves: &[Vec<u8>],
     leaf: &[u8],
     index: u64,
     path: &[[u8; 32]],
-) -> Result<Evidence, EvidenceFault>
+) -> Result<Evidence<A>, EvidenceFault>
     ensures { MatchResult result (InclusionEvidence H.digest (map (λ l. l.items) leaves.now) leaf.now index path.now)
         (InclusionFault H.digest (map (λ l. l.items) leaves.now) leaf.now index path.now) }
 {
@@ -188,14 +188,14 @@ fn evidence_for<H: NodeHash>(
 /// # Errors
 /// `ProofRefused` with the fault of [`verify_inclusion`](crate::verify_inclusion) where that refuses the path, and
 /// `Memory` in place of a `Collision` where a growth was refused.
-pub fn explain_inclusion<H: NodeHash>(
-    alloc: Global,
+pub fn explain_inclusion<A: Allocator + Clone, H: NodeHash>(
+    alloc: A,
     h: &H,
     leaves: &[Vec<u8>],
     leaf: &[u8],
     index: u64,
     path: &[[u8; 32]],
-) -> Result<Evidence, EvidenceFault>
+) -> Result<Evidence<A>, EvidenceFault>
     ensures explained { MatchResult result (InclusionEvidence H.digest (map (λ l. l.items) leaves.now) leaf.now index path.now)
         (InclusionFault H.digest (map (λ l. l.items) leaves.now) leaf.now index path.now) }
     ensures holds { IsAudited H.digest (map (λ l. l.items) leaves.now) leaf.now index path.now → result ≡ Ok Holds }

@@ -190,7 +190,9 @@ impl Reached {
     /// Moves on to what was reached elsewhere, unless that is behind. It says whether it did.
     pub fn follow(&mut self, other: &Reached) -> bool
         requires { series_of other.now ≡ series_of self.old }
-        ensures { MatchBool result (Extends self.old.last.state other.now.last.state × (self.new ≡ other.now)) (IsBehind other.now self.old × (self.new ≡ self.old)) }
+        ensures { MatchBool result
+            (Extends self.old.last.state other.now.last.state × (self.new ≡ other.now))
+            (IsBehind other.now self.old × (self.new ≡ self.old)) }
     {
         let mut both = self.seen.again();
         both.learn(&other.seen);

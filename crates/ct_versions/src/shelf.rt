@@ -58,7 +58,8 @@ impl From<NotAppended> for Refusal {
 fn turn<R: Wait>(writer: VersionWriter, rt: &R) -> (VersionWriter, Result<(), AllocError>)
     requires { series_of (last_of writer.desk.shown.value (drop writer.behind writer.log.items)) ≡ series_of writer.desk.shown.value }
     ensures series { series_of result.0.desk.shown.value ≡ series_of writer.desk.shown.value }
-    ensures view { MatchResult result.1 (λ _. view result.0.desk.place ≡ Some result.0.desk.shown.value) (λ _. view result.0.desk.place ≡ view writer.desk.place) }
+    ensures view { MatchResult result.1 (λ _. view result.0.desk.place ≡ Some result.0.desk.shown.value)
+        (λ _. view result.0.desk.place ≡ view writer.desk.place) }
 {
     writer.publish_as::<Sees, R>(rt)
 }
@@ -132,7 +133,8 @@ impl Shelf {
                 |writer: VersionWriter, rt: &R| -> (VersionWriter, Result<(), AllocError>)
                     requires { series_of (last_of writer.desk.shown.value (drop writer.behind writer.log.items)) ≡ series_of writer.desk.shown.value }
                     ensures series { series_of result.0.desk.shown.value ≡ series_of writer.desk.shown.value }
-                    ensures view { MatchResult result.1 (λ _. view result.0.desk.place ≡ Some result.0.desk.shown.value) (λ _. view result.0.desk.place ≡ view writer.desk.place) }
+                    ensures view { MatchResult result.1 (λ _. view result.0.desk.place ≡ Some result.0.desk.shown.value)
+                        (λ _. view result.0.desk.place ≡ view writer.desk.place) }
                 { turn(writer, rt) },
             );
         }

@@ -63,7 +63,9 @@ impl Version {
 
     // The reply to a query.
     pub(crate) fn answer(&self, alloc: Global, query: &Query) -> Result<Reply, Refusal>
-        ensures answer { MatchResult result (λ r. shown r ≡ answer self.now.last.state query.now) (λ e. (e ≡ Refusal.Memory) ⊎ (refused e ≡ answer self.now.last.state query.now)) }
+        ensures answer { MatchResult result
+            (λ r. shown r ≡ answer self.now.last.state query.now)
+            (λ e. (e ≡ Refusal.Memory) ⊎ (refused e ≡ answer self.now.last.state query.now)) }
         ensures memory { IfErr result (λ e. e ≡ Refusal.Memory → takes_memory (answer self.now.last.state query.now) ≡ true) }
     {
         let state = &self.state;

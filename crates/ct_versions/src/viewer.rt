@@ -68,7 +68,9 @@ fn answer_at(
 ) -> Result<Reply, Refusal>
     requires { series_of version.now ≡ series_of reached.old }
     ensures moves { Moves (sight_of reached.old) (sight_of reached.new) }
-    ensures answer { MatchResult result (λ r. shown r ≡ answer reached.new.last.state query.now) (λ e. (e ≡ Refusal.Memory) ⊎ (((e ≡ Refusal.Closed) × IsBehind version.now reached.old) ⊎ (refused e ≡ answer reached.new.last.state query.now))) }
+    ensures answer { MatchResult result
+        (λ r. shown r ≡ answer reached.new.last.state query.now)
+        (λ e. (e ≡ Refusal.Memory) ⊎ (((e ≡ Refusal.Closed) × IsBehind version.now reached.old) ⊎ (refused e ≡ answer reached.new.last.state query.now))) }
     ensures memory { IfErr result (λ e. e ≡ Refusal.Memory → takes_memory (answer reached.new.last.state query.now) ≡ true) }
 {
     if reached.follow(version.reached()) {
@@ -96,7 +98,9 @@ impl Viewer {
     /// than what a bulletin told.
     pub fn ask(&mut self, alloc: Global, query: &Query) -> Result<Reply, Refusal>
         ensures moves { Moves self.old self.new }
-        ensures answer { MatchResult result (λ r. shown r ≡ answer self.new.seen query.now) (λ e. (e ≡ Refusal.Memory) ⊎ ((e ≡ Refusal.Closed) ⊎ (refused e ≡ answer self.new.seen query.now))) }
+        ensures answer { MatchResult result
+            (λ r. shown r ≡ answer self.new.seen query.now)
+            (λ e. (e ≡ Refusal.Memory) ⊎ ((e ≡ Refusal.Closed) ⊎ (refused e ≡ answer self.new.seen query.now))) }
         ensures memory { IfErr result (λ e. e ≡ Refusal.Memory → takes_memory (answer self.new.seen query.now) ≡ true) }
     {
         let Some(reader) = self.reader.take() else {

@@ -150,7 +150,8 @@ impl<H: NodeHash + Drop> Watcher<H> {
     // Compares the waiting head with the leaves that are read now.
     fn settle(&mut self, head: Head, all: Peaks) -> Result<Verdict, AllocError>
         ensures says { IfOk result (λ v. (w : Watched) → Keeps H.digest (record self.old { all = all }) w → WaitingSays H.digest w head v) }
-        ensures stands { IfOk result (λ v. (w : Watched) → Keeps H.digest (record self.old { all = all }) w → Keeps H.digest self.new (after_verdict w head v)) }
+        ensures stands { IfOk result (λ v. (w : Watched) → Keeps H.digest (record self.old { all = all }) w
+            → Keeps H.digest self.new (after_verdict w head v)) }
         ensures unchanged { OnErr result (self.new ≡ self.old) }
     {
         if all.size() != head.tree_size {

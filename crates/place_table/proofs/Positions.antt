@@ -2,10 +2,12 @@
 use Rattle.std.proofs.Common.{◌≡◌, ℕ, suc, ◌+◌, ◌<◌, List, [], ◌∷◌, ◌++◌, length, get_or, map, Bool, true, false, refl, ap, sym, ◌∙◌, arith, append_assoc, Option, Some, None, inl, inr}
 use Rattle.std.specs.Prelude.{position, not, ◌==◌, nat_lt, if◌then◌else◌, cond}
 use Rattle.std.specs.List.{position_or_len}
-use Rattle.std.proofs.lemmas.List.{append-nil, map_push, length-map}
+use Rattle.std.proofs.lemmas.List.{append-nil, map-append, map_push, length-map}
 use Rattle.std.proofs.lemmas.Bool.{cases_lt}
 use Rattle.std.proofs.lemmas.Bool.Decides.{nat_tests}
-use Rattle.place_table.specs.Looked.{if_at, first_where, places_from}
+use Rattle.place_table.specs.declared.slots.Slot.{Slot}
+use Rattle.place_table.specs.Looked.{if_at, first_where, places_in, places_from, ArePlaced}
+use Rattle.place_table.proofs.Sides.{places_in-push}
 
 pub places_from-push : (k : ℕ) (xs : List ℕ) (y a : ℕ) → places_from k (xs ++ y ∷ []) a ≡ places_from k xs a ++ if_at y (k + length xs) a
 places_from-push k [] y a = append-nil (if_at y k a) ∙ ap (λ (n : ℕ). if_at y n a) (let e : k ≡ k + 0 = omega arith in e)
@@ -13,6 +15,14 @@ places_from-push k (x ∷ xs) y a =
     ap (λ (r : List ℕ). if_at x k a ++ r) (places_from-push (k + 1) xs y a)
     ∙ sym (append_assoc (if_at x k a) (places_from (k + 1) xs a) (if_at y (k + 1 + length xs) a))
     ∙ ap (λ (n : ℕ). (if_at x k a ++ places_from (k + 1) xs a) ++ if_at y n a) (let e : k + 1 + length xs ≡ k + length (x ∷ xs) = omega arith in e)
+
+-- the places of one list behind another
+pub places_from-append : (k : ℕ) (xs ys : List ℕ) (a : ℕ) → places_from k (xs ++ ys) a ≡ places_from k xs a ++ places_from (k + length xs) ys a
+places_from-append k [] ys a = ap (λ (n : ℕ). places_from n ys a) (let e : k ≡ k + 0 = omega arith in e)
+places_from-append k (x ∷ xs) ys a =
+    ap (λ (r : List ℕ). if_at x k a ++ r) (places_from-append (k + 1) xs ys a)
+    ∙ sym (append_assoc (if_at x k a) (places_from (k + 1) xs a) (places_from (k + 1 + length xs) ys a))
+    ∙ ap (λ (n : ℕ). (if_at x k a ++ places_from (k + 1) xs a) ++ places_from n ys a) (let e : k + 1 + length xs ≡ k + length (x ∷ xs) = omega arith in e)
 
 -- the search for the first that passes, from a place on
 abbrev pub seek : {X : Type 0} → (X → Bool) → ℕ → List X → Option ℕ
@@ -89,3 +99,27 @@ noted at look more xs now y x k is grown here place new a =
     ∙ ap (λ (n : ℕ). places_from 0 (map at xs) a ++ if_at (at y) n a) size
     ∙ sym (places_from-push 0 (map at xs) (at y) a)
     ∙ ap (λ (ys : List ℕ). places_from 0 ys a) (sym (map_push at xs y) ∙ ap (map at) (sym new))
+
+-- a slot more
+pub placed-push : {X : Type 0} (at : X → ℕ) (slots : List Slot) (s : Slot) (k n : ℕ) (xs : List X) (x : X) → s.address ≡ at x → s.place ≡ n → n ≡ k + length xs → ArePlaced at slots k xs
+    → ArePlaced at (slots ++ s ∷ []) k (xs ++ x ∷ [])
+placed-push at slots s k n xs x here place count are a =
+    let size : s.place ≡ k + length (map at xs) = (let l = length-map xs at in omega (arith, place, count, l)) in
+    places_in-push slots s a
+    ∙ ap (λ (r : List ℕ). r ++ if_at s.address s.place a) (are a)
+    ∙ ap (λ (z : ℕ). places_from k (map at xs) a ++ if_at z s.place a) here
+    ∙ ap (λ (p : ℕ). places_from k (map at xs) a ++ if_at (at x) p a) size
+    ∙ sym (places_from-push k (map at xs) (at x) a)
+    ∙ ap (λ (ys : List ℕ). places_from k ys a) (sym (map_push at xs x))
+
+-- the places of all elements, where those of the later ones were added
+pub placed-append : {X : Type 0} (at : X → ℕ) (look more : ℕ → List ℕ) (slots : List Slot) (old later now : List X) → ((a : ℕ) → look a ≡ places_from 0 (map at old) a) → ((a : ℕ) → more a ≡ look a ++ places_in slots a)
+    → ArePlaced at slots (length old) later → now ≡ old ++ later → (a : ℕ) → more a ≡ places_from 0 (map at now) a
+placed-append at look more slots old later now is grown are e a =
+    grown a
+    ∙ ap (λ (r : List ℕ). r ++ places_in slots a) (is a)
+    ∙ ap (λ (r : List ℕ). places_from 0 (map at old) a ++ r) (are a)
+    ∙ ap (λ (n : ℕ). places_from 0 (map at old) a ++ places_from n (map at later) a) (let l = length-map old at in let m : length old ≡ 0 + length (map at old) = omega (arith, l) in m)
+    ∙ sym (places_from-append 0 (map at old) (map at later) a)
+    ∙ ap (λ (xs : List ℕ). places_from 0 xs a) (sym (map-append at old later))
+    ∙ ap (λ (xs : List _). places_from 0 (map at xs) a) (sym e)

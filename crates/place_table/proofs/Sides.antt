@@ -1,11 +1,12 @@
 -- Places in one of 64 parts.
 use Rattle.std.proofs.Common.{◌≡◌, ℕ, zero, suc, ◌+◌, ◌*◌, ◌/◌, ◌%◌, ◌<◌, ◌≢◌, List, [], ◌∷◌, ◌++◌, length, get_or, refl, ap, sym, ◌∙◌, arith, append_assoc, inl, inr}
-use Rattle.std.proofs.lemmas.List.{append-nil}
-use Rattle.std.proofs.lemmas.Bool.{cases_lt}
+use Rattle.std.proofs.lemmas.List.{append-nil, length-set}
+use Rattle.std.proofs.lemmas.Bool.{cases_lt, cases_eq}
 use Rattle.std.proofs.lemmas.Grind.{common_steps}
-use Rattle.std.specs.Prelude.{Some, slice_get}
+use Rattle.std.specs.Prelude.{Some, slice_get, slice_set, Vec}
+use Rattle.std.specs.Global.{Global}
 use Rattle.place_table.specs.declared.slots.Slot.{Slot}
-use Rattle.place_table.specs.Looked.{places_in, if_at, in_part, at_index, below}
+use Rattle.place_table.specs.Looked.{places_in, if_at, in_part, at_index, below, AreParts}
 
 pub places_in-append : (xs ys : List Slot) (a : ℕ) → places_in (xs ++ ys) a ≡ places_in xs a ++ places_in ys a
 places_in-append [] ys a = refl
@@ -22,25 +23,6 @@ if_at-same a b p i same = grind (arith, common_steps)
 
 if_at-other : (a b p i : ℕ) → i < 64 → a % 64 ≢ i → if_at a p (b * 64 + i) ≡ []
 if_at-other a b p i small other = grind (arith, common_steps)
-
--- a slot as it stands below
-abbrev pub lowered : Slot → Slot
-lowered s = record { address = s.address / 64; place = s.place }
-
-pub step_kept : (part slots : List Slot) (s : Slot) (i b : ℕ) → s.address % 64 ≡ i → places_in part b ≡ places_in slots (b * 64 + i)
-    → places_in (part ++ lowered s ∷ []) b ≡ places_in (slots ++ s ∷ []) (b * 64 + i)
-step_kept part slots s i b same so =
-    places_in-push part (lowered s) b
-    ∙ ap (λ (r : List ℕ). places_in part b ++ r) (if_at-same s.address b s.place i same)
-    ∙ ap (λ (r : List ℕ). r ++ if_at s.address s.place (b * 64 + i)) so
-    ∙ sym (places_in-push slots s (b * 64 + i))
-
-pub step_passed : (part slots : List Slot) (s : Slot) (i b : ℕ) → i < 64 → s.address % 64 ≢ i → places_in part b ≡ places_in slots (b * 64 + i)
-    → places_in part b ≡ places_in (slots ++ s ∷ []) (b * 64 + i)
-step_passed part slots s i b small other so =
-    so ∙ sym (append-nil (places_in slots (b * 64 + i)))
-    ∙ ap (λ (r : List ℕ). places_in slots (b * 64 + i) ++ r) (sym (if_at-other s.address b s.place i small other))
-    ∙ sym (places_in-push slots s (b * 64 + i))
 
 -- what stands in a list with one more
 get_left : {A : Type 0} (xs : List A) (y : A) (i : ℕ) → i < length xs → slice_get (xs ++ y ∷ []) i ≡ slice_get xs i
@@ -81,6 +63,60 @@ found_at : {A : Type 0} (xs : List A) (look : A → ℕ → List ℕ) (x : A) (i
 found_at [] look x i b h e = absurd (omega arith)
 found_at (y ∷ xs) look x zero b h e = ap (λ (z : _). look z b) (sym e)
 found_at (y ∷ xs) look x (suc i) b h e = found_at xs look x i b (omega arith) e
+
+-- a slot as it stands below
+abbrev pub lowered : Slot → Slot
+lowered s = record { address = s.address / 64; place = s.place }
+
+-- what stands in a list where one element is another
+get_set-same : {A : Type 0} (xs : List A) (y : A) (i : ℕ) → i < length xs → slice_get (slice_set xs i y) i ≡ Some y
+get_set-same [] y i h = absurd (omega arith)
+get_set-same (x ∷ xs) y zero h = refl
+get_set-same (x ∷ xs) y (suc i) h = get_set-same xs y i (omega arith)
+
+get_set-other : {A : Type 0} (xs : List A) (y : A) (i k : ℕ) → k ≢ i → slice_get (slice_set xs i y) k ≡ slice_get xs k
+get_set-other [] y i k other = refl
+get_set-other (x ∷ xs) y zero zero other = absurd (other refl)
+get_set-other (x ∷ xs) y zero (suc k) other = refl
+get_set-other (x ∷ xs) y (suc i) zero other = refl
+get_set-other (x ∷ xs) y (suc i) (suc k) other = get_set-other xs y i k (λ e. other (ap suc e))
+
+-- parts in which nothing is found, and one more
+pub empty_push : {A : Type 0} (xs : List A) (look : A → ℕ → List ℕ) (y : A) → ((b : ℕ) → look y b ≡ []) → ((k b : ℕ) → at_index xs look k b ≡ [])
+    → (k b : ℕ) → at_index (xs ++ y ∷ []) look k b ≡ []
+empty_push [] look y none are zero b = none b
+empty_push [] look y none are (suc k) b = refl
+empty_push (x ∷ xs) look y none are zero b = are zero b
+empty_push (x ∷ xs) look y none are (suc k) b = empty_push xs look y none (λ j c. are (suc j) c) k b
+
+-- a slot comes to the part of its address's lowest bits
+pub part_put : (parts : List (Vec Slot Global)) (slots : List Slot) (s : Slot) (old new : Vec Slot Global) → old ≡ get_or parts (s.address % 64) old
+    → ((b : ℕ) → places_in new.items b ≡ places_in old.items b ++ if_at (s.address / 64) s.place b)
+    → AreParts parts slots → AreParts (slice_set parts (s.address % 64) new) (slots ++ s ∷ [])
+part_put parts slots s old new is more are =
+    let look : Vec Slot Global → ℕ → List ℕ = λ p c. places_in p.items c in
+    let i = s.address % 64 in
+    let small : i < 64 = omega arith in
+    let size : length parts ≡ 64 = are.0 in
+    let inside : i < length parts = omega arith in (
+      length-set parts i new ∙ size,
+      λ k below b. elim (cases_eq k i) [
+        | inl same ↦
+            ap (λ (n : ℕ). at_index (slice_set parts i new) look n b) same
+            ∙ ap (λ (o : _). in_part o look b) (get_set-same parts new i inside)
+            ∙ more b
+            ∙ ap (λ (r : List ℕ). r ++ if_at (s.address / 64) s.place b) (sym (found_at parts look old i b inside is) ∙ are.1 i small b)
+            ∙ ap (λ (r : List ℕ). places_in slots (b * 64 + i) ++ r) (if_at-same s.address b s.place i refl)
+            ∙ sym (places_in-push slots s (b * 64 + i))
+            ∙ ap (λ (n : ℕ). places_in (slots ++ s ∷ []) (b * 64 + n)) (sym same)
+        | inr other ↦
+            ap (λ (o : _). in_part o look b) (get_set-other parts new i k other)
+            ∙ are.1 k below b
+            ∙ sym (append-nil (places_in slots (b * 64 + k)))
+            ∙ ap (λ (r : List ℕ). places_in slots (b * 64 + k) ++ r) (sym (if_at-other s.address b s.place k below (λ e. other (sym e))))
+            ∙ sym (places_in-push slots s (b * 64 + k))
+      ],
+    )
 
 -- a part stays where none comes to it
 pub part_stays : {A : Type 0} (xs : List A) (look : A → ℕ → List ℕ) (x y : A) (i : ℕ) (part : List Slot) → i < length xs → x ≡ get_or xs i x → part ≡ [] → ((b : ℕ) → look y b ≡ look x b)

@@ -10,6 +10,7 @@
 #![tactic(auto)]
 
 mod search;
+mod shared;
 mod slots;
 mod table;
 

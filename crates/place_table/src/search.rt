@@ -71,7 +71,8 @@ fn first_in_bucket<T: Test>(
 fn first_in_row<T: Test>(row: &Row, rest: u64, test: &T) -> Option<u64>
     ensures { result ≡ first_where (T.passes test.now) (looked_row row.now rest) }
 {
-    let earlier = first_in_bucket(&row.buckets, (rest % 64) as usize, rest / 64, test);
+    let buckets = row.buckets.as_slice();
+    let earlier = first_in_bucket(buckets, (rest % 64) as usize, rest / 64, test);
     first_or_later(earlier, &row.fresh, rest, test)
 }
 
@@ -90,6 +91,7 @@ fn first_at_row<T: Test>(rows: &[Arc<Row>], index: usize, rest: u64, test: &T) -
 pub fn first_place<T: Test>(table: &Table, address: u64, test: &T) -> Option<u64>
     ensures { result ≡ first_where (T.passes test.now) (looked table.now address) }
 {
-    let earlier = first_at_row(&table.rows, (address % 64) as usize, address / 64, test);
+    let rows = table.rows.as_slice();
+    let earlier = first_at_row(rows, (address % 64) as usize, address / 64, test);
     first_or_later(earlier, &table.fresh, address, test)
 }

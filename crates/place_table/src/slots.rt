@@ -1,7 +1,7 @@
 //! Lists of places.
 
-ghost use Rattle.std.specs.Prelude.{◌≡◌, ◌+◌, ◌*◌, ◌<◌, ℕ, List, [], ◌∷◌, ◌++◌, IfOk, OnOk};
-ghost use Rattle.place_table.specs.Looked.{places_in};
+ghost use Rattle.std.specs.Prelude.{◌≡◌, List, [], ◌∷◌, ◌++◌, length, IfOk, OnOk};
+ghost use Rattle.place_table.specs.Looked.{AreParts};
 ghost use Rattle.place_table.specs.declared.slots.Slot.{Slot};
 
 use std::alloc::{AllocError, Global};
@@ -29,14 +29,23 @@ pub(crate) fn joined(
     Ok(both)
 }
 
-// Keeps a slot where its address has these lowest bits.
-fn keep(part: &mut Vec<Slot>, slot: Slot, bits: u64) -> Result<(), AllocError>
-    requires { bits < 64 }
-    ensures { OnOk result ((b : ℕ) (slots : List Slot) → places_in part.old.items b ≡ places_in slots (b * 64 + bits) → places_in part.new.items b ≡ places_in (slots ++ slot ∷ []) (b * 64 + bits)) }
+// 64 parts with nothing in them.
+fn empty_parts(alloc: Global) -> Result<Vec<Vec<Slot>>, AllocError>
+    ensures { IfOk result (λ v. AreParts v.items []) }
 {
-    if slot.address % 64 != bits {
-        return Ok(());
+    let mut parts = Vec::with_capacity(alloc, 64)?;
+    for _ in 0..64usize {
+        parts.push(Vec::new(alloc))?;
     }
+    Ok(parts)
+}
+
+// Puts a slot into the part of its address's lowest bits, with what is above them.
+fn put(parts: &mut Vec<Vec<Slot>>, slot: Slot) -> Result<(), AllocError>
+    requires { length parts.old.items ≡ 64 }
+    ensures { OnOk result ((slots : List Slot) → AreParts parts.old.items slots → AreParts parts.new.items (slots ++ slot ∷ [])) }
+{
+    let part = &mut parts[(slot.address % 64) as usize];
     part.push(Slot {
         address: slot.address / 64,
         place: slot.place,
@@ -44,14 +53,13 @@ fn keep(part: &mut Vec<Slot>, slot: Slot, bits: u64) -> Result<(), AllocError>
     Ok(())
 }
 
-// The slots whose addresses have these lowest bits, with what is above them.
-pub(crate) fn part_of(alloc: Global, slots: &[Slot], bits: u64) -> Result<Vec<Slot>, AllocError>
-    requires { bits < 64 }
-    ensures { IfOk result (λ v. (b : ℕ) → places_in v.items b ≡ places_in slots.now (b * 64 + bits)) }
+// The slots by the lowest bits of their addresses, with what is above them.
+pub(crate) fn parts_of(alloc: Global, slots: &[Slot]) -> Result<Vec<Vec<Slot>>, AllocError>
+    ensures { IfOk result (λ v. AreParts v.items slots.now) }
 {
-    let mut part = Vec::new(alloc);
+    let mut parts = empty_parts(alloc)?;
     for slot in slots {
-        keep(&mut part, *slot, bits)?;
+        put(&mut parts, *slot)?;
     }
-    Ok(part)
+    Ok(parts)
 }

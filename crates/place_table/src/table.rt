@@ -4,7 +4,8 @@ ghost use Rattle.std.specs.Prelude.{◌≡◌, ◌<◌, ℕ, List, [], ◌∷◌
 ghost use Rattle.std.specs.Arc.{arc_value};
 ghost use Rattle.place_table.specs.Looked.{places_in, at_index, below, looked_row, looked, if_at};
 
-use crate::slots::{Slot, joined, part_of};
+use crate::shared::Shared;
+use crate::slots::{Slot, joined, parts_of};
 use std::alloc::{AllocError, Global};
 use std::sync::Arc;
 
@@ -18,7 +19,7 @@ const IN_TABLE: usize = 512;
 #[derive(Drop)]
 pub struct Row {
     // The places by the next bits of their addresses, in 64 buckets, or in none.
-    pub(crate) buckets: Vec<Arc<Vec<Slot>>>,
+    pub(crate) buckets: Shared<Arc<Vec<Slot>>>,
     // Those that were added last.
     pub(crate) fresh: Vec<Slot>,
 }
@@ -27,7 +28,7 @@ pub struct Row {
 #[derive(Drop)]
 pub struct Table {
     // The places by the lowest bits of their addresses, in 64 rows, or in none.
-    pub(crate) rows: Vec<Arc<Row>>,
+    pub(crate) rows: Shared<Arc<Row>>,
     // Those that were added last.
     pub(crate) fresh: Vec<Slot>,
 }
@@ -37,11 +38,13 @@ fn bucket_with(
     alloc: Global,
     buckets: &[Arc<Vec<Slot>>],
     index: usize,
-    part: Vec<Slot>,
+    part: &[Slot],
 ) -> Result<Arc<Vec<Slot>>, AllocError>
-    ensures { IfOk result (λ t. (b : ℕ) → places_in (arc_value t).items b ≡ at_index buckets.now (λ p c. places_in (arc_value p).items c) index b ++ places_in part.items b) }
+    ensures { IfOk result (λ t. (b : ℕ) → places_in (arc_value t).items b ≡ at_index buckets.now
+        (λ p c. places_in (arc_value p).items c) index b ++ places_in part.now b) }
 {
     if buckets.len() <= index {
+        let part = joined(alloc, &[], part)?;
         let bucket = Arc::new(alloc, part)?;
         return Ok(bucket);
     }
@@ -50,7 +53,7 @@ fn bucket_with(
         let bucket = Arc::try_clone(old)?;
         return Ok(bucket);
     }
-    let all = joined(alloc, old, &part)?;
+    let all = joined(alloc, old, part)?;
     let bucket = Arc::new(alloc, all)?;
     Ok(bucket)
 }
@@ -60,41 +63,33 @@ fn buckets_with(
     alloc: Global,
     buckets: &[Arc<Vec<Slot>>],
     slots: &[Slot],
-) -> Result<Vec<Arc<Vec<Slot>>>, AllocError>
-    ensures { IfOk result (λ v. (a : ℕ) → below v.items (λ p c. places_in (arc_value p).items c) a ≡ below buckets.now (λ p c. places_in (arc_value p).items c) a ++ places_in slots.now a) }
+) -> Result<Shared<Arc<Vec<Slot>>>, AllocError>
+    ensures { IfOk result (λ all. (a : ℕ) → below all (λ p c. places_in (arc_value p).items c) a ≡ below buckets.now
+        (λ p c. places_in (arc_value p).items c) a ++ places_in slots.now a) }
 {
+    let parts = parts_of(alloc, slots)?;
     let mut all = Vec::with_capacity(alloc, 64)?;
     for index in 0..64 {
-        let part = part_of(alloc, slots, index as u64)?;
-        let bucket = bucket_with(alloc, buckets, index, part)?;
+        let bucket = bucket_with(alloc, buckets, index, &parts[index])?;
         all.push(bucket)?;
     }
+    let all = Shared::of(alloc, all)?;
     Ok(all)
 }
 
-// The same buckets.
-fn same_buckets(
-    alloc: Global,
-    buckets: &[Arc<Vec<Slot>>],
-) -> Result<Vec<Arc<Vec<Slot>>>, AllocError>
-    ensures { IfOk result (λ v. (a : ℕ) → below v.items (λ p c. places_in (arc_value p).items c) a ≡ below buckets.now (λ p c. places_in (arc_value p).items c) a) }
-{
-    if buckets.is_empty() {
-        return Ok(Vec::new(alloc));
-    }
-    let same = buckets_with(alloc, buckets, &[])?;
-    Ok(same)
-}
-
 // A row with places more: they wait, or all that wait go down together.
-fn row_of(alloc: Global, buckets: &[Arc<Vec<Slot>>], fresh: Vec<Slot>) -> Result<Row, AllocError>
+fn row_of(
+    alloc: Global,
+    buckets: &Shared<Arc<Vec<Slot>>>,
+    fresh: Vec<Slot>,
+) -> Result<Row, AllocError>
     ensures { IfOk result (λ r. (a : ℕ) → looked_row r a ≡ below buckets.now (λ p c. places_in (arc_value p).items c) a ++ places_in fresh.items a) }
 {
     if fresh.len() <= IN_ROW {
-        let buckets = same_buckets(alloc, buckets)?;
+        let buckets = buckets.share()?;
         return Ok(Row { buckets, fresh });
     }
-    let buckets = buckets_with(alloc, buckets, &fresh)?;
+    let buckets = buckets_with(alloc, buckets.as_slice(), &fresh)?;
     let fresh = Vec::new(alloc);
     Ok(Row { buckets, fresh })
 }
@@ -104,12 +99,14 @@ fn row_with(
     alloc: Global,
     rows: &[Arc<Row>],
     index: usize,
-    part: Vec<Slot>,
+    part: &[Slot],
 ) -> Result<Arc<Row>, AllocError>
-    ensures { IfOk result (λ t. (b : ℕ) → looked_row (arc_value t) b ≡ at_index rows.now (λ p c. looked_row (arc_value p) c) index b ++ places_in part.items b) }
+    ensures { IfOk result (λ t. (b : ℕ) → looked_row (arc_value t) b ≡ at_index rows.now
+        (λ p c. looked_row (arc_value p) c) index b ++ places_in part.now b) }
 {
     if rows.len() <= index {
-        let row = row_of(alloc, &[], part)?;
+        let part = joined(alloc, &[], part)?;
+        let row = row_of(alloc, &Shared::new(), part)?;
         let row = Arc::new(alloc, row)?;
         return Ok(row);
     }
@@ -118,45 +115,40 @@ fn row_with(
         let row = Arc::try_clone(old)?;
         return Ok(row);
     }
-    let fresh = joined(alloc, &old.fresh, &part)?;
+    let fresh = joined(alloc, &old.fresh, part)?;
     let row = row_of(alloc, &old.buckets, fresh)?;
     let row = Arc::new(alloc, row)?;
     Ok(row)
 }
 
 // The rows with places more.
-fn rows_with(alloc: Global, rows: &[Arc<Row>], slots: &[Slot]) -> Result<Vec<Arc<Row>>, AllocError>
-    ensures { IfOk result (λ v. (a : ℕ) → below v.items (λ p c. looked_row (arc_value p) c) a ≡ below rows.now (λ p c. looked_row (arc_value p) c) a ++ places_in slots.now a) }
+fn rows_with(
+    alloc: Global,
+    rows: &[Arc<Row>],
+    slots: &[Slot],
+) -> Result<Shared<Arc<Row>>, AllocError>
+    ensures { IfOk result (λ all. (a : ℕ) → below all (λ p c. looked_row (arc_value p) c) a ≡ below rows.now
+        (λ p c. looked_row (arc_value p) c) a ++ places_in slots.now a) }
 {
+    let parts = parts_of(alloc, slots)?;
     let mut all = Vec::with_capacity(alloc, 64)?;
     for index in 0..64 {
-        let part = part_of(alloc, slots, index as u64)?;
-        let row = row_with(alloc, rows, index, part)?;
+        let row = row_with(alloc, rows, index, &parts[index])?;
         all.push(row)?;
     }
+    let all = Shared::of(alloc, all)?;
     Ok(all)
 }
 
-// The same rows.
-fn same_rows(alloc: Global, rows: &[Arc<Row>]) -> Result<Vec<Arc<Row>>, AllocError>
-    ensures { IfOk result (λ v. (a : ℕ) → below v.items (λ p c. looked_row (arc_value p) c) a ≡ below rows.now (λ p c. looked_row (arc_value p) c) a) }
-{
-    if rows.is_empty() {
-        return Ok(Vec::new(alloc));
-    }
-    let same = rows_with(alloc, rows, &[])?;
-    Ok(same)
-}
-
 // A table of these rows, and of places that wait, or go down together.
-fn table_of(alloc: Global, rows: &[Arc<Row>], fresh: Vec<Slot>) -> Result<Table, AllocError>
+fn table_of(alloc: Global, rows: &Shared<Arc<Row>>, fresh: Vec<Slot>) -> Result<Table, AllocError>
     ensures { IfOk result (λ t. (a : ℕ) → looked t a ≡ below rows.now (λ p c. looked_row (arc_value p) c) a ++ places_in fresh.items a) }
 {
     if fresh.len() <= IN_TABLE {
-        let rows = same_rows(alloc, rows)?;
+        let rows = rows.share()?;
         return Ok(Table { rows, fresh });
     }
-    let rows = rows_with(alloc, rows, &fresh)?;
+    let rows = rows_with(alloc, rows.as_slice(), &fresh)?;
     let fresh = Vec::new(alloc);
     Ok(Table { rows, fresh })
 }
@@ -167,7 +159,7 @@ impl Table {
         ensures { (a : ℕ) → looked result a ≡ [] }
     {
         Table {
-            rows: Vec::new(alloc),
+            rows: Shared::new(),
             fresh: Vec::new(alloc),
         }
     }

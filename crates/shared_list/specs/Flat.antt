@@ -1,10 +1,15 @@
 -- Lists that lie in parts of one size.
-use Rattle.std.specs.Prelude.{◌≡◌, ℕ, ◌≤◌, List, [], ◌∷◌, ◌++◌, length}
+use Rattle.std.specs.Prelude.{◌≡◌, ℕ, ◌≤◌, List, [], ◌∷◌, ◌++◌, length, Option, Some, None}
 
 -- the parts, one after another
 abbrev pub concatenated : {X : Type 0} → List (List X) → List X
 concatenated [] = []
 concatenated (c ∷ cs) = c ++ concatenated cs
+
+-- what a share holds, or nothing where there is no share
+abbrev pub shared_items : {A X : Type 0} → Option A → (A → List X) → List X
+shared_items None items = []
+shared_items (Some a) items = items a
 
 -- each part has that size
 abbrev pub AllOf : {X : Type 0} → ℕ → List (List X) → Type 0

@@ -1,8 +1,9 @@
 //! A list that only grows, and whose copies share what they have in common with it.
 //!
-//! A `SharedList` lies in parts of fixed size, each behind an `Arc`, and a rest of at most 128 values. A copy takes a share of each
-//! part and of each value of the rest (`Share`), so it costs little whatever the length, and neither of the two sees what the other
-//! adds later. A push adds to the rest; a full rest becomes a part by sharing its values into new memory and letting them go
+//! A `SharedList` lies in parts of fixed size, each behind an `Arc`, and a rest of at most 128 values. The parts stand in two
+//! rows, each behind an `Arc` too. A copy takes a share of the two rows and of each value of the rest (`Share`), so it costs the
+//! same whatever the length, and neither of the two sees what the other adds later: a row grows in place only where no other list
+//! has it. A push adds to the rest; a full rest becomes a part by sharing its values into new memory and letting them go
 //! afterwards. So each step that memory can refuse comes before the list changes.
 //!
 //! Contracts see a `SharedList` as the plain list of its values, and an `Iter` as the list of those that are left.
@@ -12,6 +13,7 @@ mod chunk;
 mod count;
 mod iter;
 mod list;
+mod parts;
 mod row;
 mod share;
 

@@ -7,8 +7,9 @@ ghost use Rattle.shared_list.specs.Flat.{concatenated, AllOf};
 use crate::chunk::Chunk;
 use crate::count::one_more;
 use crate::iter::Iter;
+use crate::parts::Parts;
 use crate::row::Row;
-use crate::share::{Share, share_all};
+use crate::share::Share;
 use std::alloc::{AllocError, Global};
 use std::marker::Model;
 
@@ -17,11 +18,11 @@ const SIZE: usize = 16384;
 
 /// A list that only grows, and whose copies share what they have in common with it. Contracts see the plain list.
 ///
-/// Values lie in blocks of 16,384, then in chunks of 128, and at most 128 in a rest. A copy takes a share of each block and chunk, and of
-/// each value of the rest.
+/// Values lie in blocks of 16,384, then in chunks of 128, and at most 128 in a rest. A copy takes a share of the row of blocks, of
+/// the row of chunks, and of each value of the rest.
 #[derive(Drop)]
 pub struct SharedList<T> {
-    blocks: Vec<Chunk<T>>,
+    blocks: Parts<T>,
     row: Row<T>,
     len: usize,
 }
@@ -32,21 +33,21 @@ impl<T> Model for SharedList<T> {
 
     ghost Value = { List T };
 
-    ghost view = { λ s. concatenated s.blocks.items ++ s.row };
+    ghost view = { λ s. concatenated s.blocks ++ s.row };
 
-    ghost invariant = { λ s. IsInParts 16384 s.blocks.items s.row s.len };
+    ghost invariant = { λ s. IsInParts 16384 s.blocks s.row s.len };
 }
 
 // Makes room in the row: where it is full, it becomes a block.
 fn make_room<T: Share>(
     alloc: Global,
-    blocks: &mut Vec<Chunk<T>>,
+    blocks: &mut Parts<T>,
     row: &mut Row<T>,
 ) -> Result<(), AllocError>
-    requires each { AllOf 16384 blocks.old.items }
+    requires each { AllOf 16384 blocks.old }
     requires short { length row.old ≤ 16384 }
-    ensures same { concatenated blocks.new.items ++ row.new ≡ concatenated blocks.old.items ++ row.old }
-    ensures each { AllOf 16384 blocks.new.items }
+    ensures same { concatenated blocks.new ++ row.new ≡ concatenated blocks.old ++ row.old }
+    ensures each { AllOf 16384 blocks.new }
     ensures short { length row.new ≤ 16384 }
     ensures room { OnOk result (length row.new < 16384) }
 {
@@ -56,7 +57,7 @@ fn make_room<T: Share>(
     let mut values = Vec::with_capacity(alloc, SIZE)?;
     row.share_into(&mut values)?;
     let block = Chunk::new(alloc, values)?;
-    blocks.push(block)?;
+    blocks.push(alloc, block)?;
     row.clear();
     Ok(())
 }
@@ -67,7 +68,7 @@ impl<T> SharedList<T> {
         ensures { result ≡ [] }
     {
         SharedList {
-            blocks: Vec::new(alloc),
+            blocks: Parts::new(),
             row: Row::new(alloc),
             len: 0,
         }
@@ -86,8 +87,9 @@ impl<T> SharedList<T> {
         ensures { result.now ≡ slice_index_or self.now index result.now }
     {
         let block = index / SIZE;
-        if block < self.blocks.len() {
-            self.blocks[block].at(index % SIZE)
+        let blocks = self.blocks.values();
+        if block < blocks.len() {
+            blocks[block].at(index % SIZE)
         } else {
             self.row.at(index % SIZE)
         }
@@ -170,11 +172,9 @@ impl<T: Share> SharedList<T> {
     pub fn copy(&self, alloc: Global) -> Result<SharedList<T>, AllocError>
         ensures { IfOk result (λ s. s ≡ self.now) }
     {
-        let mut blocks = Vec::with_capacity(alloc, self.blocks.len())?;
-        share_all(&self.blocks, &mut blocks)?;
         let row = self.row.copy(alloc)?;
         Ok(SharedList {
-            blocks,
+            blocks: self.blocks.share()?,
             row,
             len: self.len,
         })

@@ -5,6 +5,7 @@ ghost use Rattle.shared_list.specs.Flat.{concatenated, AllOf};
 
 use crate::chunk::{Chunk, SIZE};
 use crate::count::one_more;
+use crate::parts::Parts;
 use crate::share::{Share, share_all};
 use std::alloc::{AllocError, Global};
 use std::marker::Model;
@@ -12,7 +13,7 @@ use std::marker::Model;
 /// A list that only grows. A copy shares its full chunks with it.
 #[derive(Drop)]
 pub struct Row<T> {
-    full: Vec<Chunk<T>>,
+    full: Parts<T>,
     last: Vec<T>,
     len: usize,
 }
@@ -23,21 +24,21 @@ impl<T> Model for Row<T> {
 
     ghost Value = { List T };
 
-    ghost view = { λ r. concatenated r.full.items ++ r.last.items };
+    ghost view = { λ r. concatenated r.full ++ r.last.items };
 
-    ghost invariant = { λ r. IsInParts 128 r.full.items r.last.items r.len };
+    ghost invariant = { λ r. IsInParts 128 r.full r.last.items r.len };
 }
 
 // Makes room in the rest: where it is full, it becomes a chunk.
 fn make_room<T: Share>(
     alloc: Global,
-    full: &mut Vec<Chunk<T>>,
+    full: &mut Parts<T>,
     last: &mut Vec<T>,
 ) -> Result<(), AllocError>
-    requires each { AllOf 128 full.old.items }
+    requires each { AllOf 128 full.old }
     requires short { length last.old.items ≤ 128 }
-    ensures same { concatenated full.new.items ++ last.new.items ≡ concatenated full.old.items ++ last.old.items }
-    ensures each { AllOf 128 full.new.items }
+    ensures same { concatenated full.new ++ last.new.items ≡ concatenated full.old ++ last.old.items }
+    ensures each { AllOf 128 full.new }
     ensures short { length last.new.items ≤ 128 }
     ensures room { OnOk result (length last.new.items < 128) }
 {
@@ -45,7 +46,7 @@ fn make_room<T: Share>(
         return Ok(());
     }
     let chunk = Chunk::of(alloc, last)?;
-    full.push(chunk)?;
+    full.push(alloc, chunk)?;
     last.clear();
     Ok(())
 }
@@ -55,7 +56,7 @@ impl<T> Row<T> {
         ensures { result ≡ [] }
     {
         Row {
-            full: Vec::new(alloc),
+            full: Parts::new(),
             last: Vec::new(alloc),
             len: 0,
         }
@@ -72,8 +73,9 @@ impl<T> Row<T> {
         ensures { result.now ≡ slice_index_or self.now index result.now }
     {
         let chunk = index / SIZE;
-        if chunk < self.full.len() {
-            self.full[chunk].at(index % SIZE)
+        let full = self.full.values();
+        if chunk < full.len() {
+            full[chunk].at(index % SIZE)
         } else {
             &self.last[index % SIZE]
         }
@@ -95,8 +97,7 @@ impl<T: Share> Row<T> {
     pub(crate) fn copy(&self, alloc: Global) -> Result<Row<T>, AllocError>
         ensures { IfOk result (λ r. r ≡ self.now) }
     {
-        let mut full = Vec::with_capacity(alloc, self.full.len())?;
-        share_all(&self.full, &mut full)?;
+        let full = self.full.share()?;
         let mut last = Vec::with_capacity(alloc, SIZE)?;
         share_all(&self.last, &mut last)?;
         Ok(Row {
@@ -110,7 +111,7 @@ impl<T: Share> Row<T> {
     pub(crate) fn share_into(&self, into: &mut Vec<T>) -> Result<(), AllocError>
         ensures { OnOk result (into.new.items ≡ into.old.items ++ self.now) }
     {
-        for chunk in &self.full {
+        for chunk in self.full.values() {
             share_all(chunk.values(), into)?;
         }
         share_all(&self.last, into)

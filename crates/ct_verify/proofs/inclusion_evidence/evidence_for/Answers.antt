@@ -17,7 +17,7 @@ returns-in-None g c =
     c.leaf_hash-hash.ensures c.compare-compared.ensures.listed c.in_ok-verify_inclusion.ensures in
     let f = c.compare-compared.ensures.difference c.compare-compared.result.listed c.in_ok-verify_inclusion.ensures.0
     (ap (λ u. rebuild H c.args.index (length c.args.leaves.now) u c.args.path.now) (sym c.leaf_hash-hash.ensures) ∙ c.in_ok-verify_inclusion.ensures.1) in
-    nothing_found H g.met.H.NodeHash.length_digest D c.args.leaf.now c.args.index c.args.path.now a
+    nothing_found H g.met.H.NodeHash.length_digest ℕ D c.args.leaf.now c.args.index c.args.path.now a
     (sym f ∙ ap (option_map (strings c.args.leaf.now (get_or D c.args.index []))) c.in-None.is)
 
 pub returns-in_ok-collision-in-Some : goal.returns-in_ok-collision-in-Some

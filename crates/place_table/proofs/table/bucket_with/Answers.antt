@@ -7,14 +7,14 @@ use Rattle.place_table.proofs.table.bucket_with.Goals as goal
 
 pub returns-then-is_empty : goal.returns-then-is_empty
 returns-then-is_empty c =
-    let none : c.args.part.items ≡ [] = grind (arith, common_steps) in
+    let none : c.args.part.now ≡ [] = grind (arith, common_steps) in
     let same : arc_value c.in_ok-bucket-2.bucket ≡ arc_value c.index-buckets-index.result = grind (arith, common_steps) in
-    part_stays c.args.buckets.now (λ p b. places_in (arc_value p).items b) c.index-buckets-index.result c.in_ok-bucket-2.bucket c.args.index c.args.part.items
+    part_stays c.args.buckets.now (λ p b. places_in (arc_value p).items b) c.index-buckets-index.result c.in_ok-bucket-2.bucket c.args.index c.args.part.now
     c.if-buckets-index.false c.index-buckets-index.is none (λ b. ap (λ (v : _). places_in v.items b) same)
 
 pub returns : goal.returns
 returns c =
     let old = (arc_value c.index-buckets-index.result).items in
-    let all : (arc_value c.in_ok-bucket-3.bucket).items ≡ old ++ c.args.part.items = grind (arith, common_steps) in
-    part_grows c.args.buckets.now (λ p b. places_in (arc_value p).items b) c.index-buckets-index.result c.in_ok-bucket-3.bucket c.args.index c.args.part.items
-    c.if-buckets-index.false c.index-buckets-index.is (λ b. ap (λ (xs : _). places_in xs b) all ∙ places_in-append old c.args.part.items b)
+    let all : (arc_value c.in_ok-bucket-3.bucket).items ≡ old ++ c.args.part.now = grind (arith, common_steps) in
+    part_grows c.args.buckets.now (λ p b. places_in (arc_value p).items b) c.index-buckets-index.result c.in_ok-bucket-3.bucket c.args.index c.args.part.now
+    c.if-buckets-index.false c.index-buckets-index.is (λ b. ap (λ (xs : _). places_in xs b) all ∙ places_in-append old c.args.part.now b)

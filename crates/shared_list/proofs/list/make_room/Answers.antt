@@ -7,14 +7,14 @@ use Rattle.shared_list.proofs.list.make_room.Goals as goal
 
 pub returns-clause-same : goal.returns-clause-same
 returns-clause-same g c =
-    let full : c.push.new.self.items ≡ c.args.blocks.now.items ++ c.args.row.now ∷ [] = grind (arith, common_steps) in
+    let full : c.push.new.self ≡ c.args.blocks.now ++ c.args.row.now ∷ [] = grind (arith, common_steps) in
     let last : c.clear.new.self ≡ [] = grind (arith, common_steps) in
     ap (λ (cs : List (List _)). concatenated cs ++ c.clear.new.self) full
-    ∙ ap (λ (r : List _). concatenated (c.args.blocks.now.items ++ c.args.row.now ∷ []) ++ r) last
-    ∙ same-moved c.args.blocks.now.items c.args.row.now
+    ∙ ap (λ (r : List _). concatenated (c.args.blocks.now ++ c.args.row.now ∷ []) ++ r) last
+    ∙ same-moved c.args.blocks.now c.args.row.now
 
 pub returns-clause-each : goal.returns-clause-each
 returns-clause-each g c =
-    let full : c.push.new.self.items ≡ c.args.blocks.now.items ++ c.args.row.now ∷ [] = grind (arith, common_steps) in
+    let full : c.push.new.self ≡ c.args.blocks.now ++ c.args.row.now ∷ [] = grind (arith, common_steps) in
     let size : length c.args.row.now ≡ 16384 = grind (arith, common_steps) in
-    rw full (AllOf-push c.args.blocks.now.items c.args.row.now c.requires.each size)
+    rw full (AllOf-push c.args.blocks.now c.args.row.now c.requires.each size)

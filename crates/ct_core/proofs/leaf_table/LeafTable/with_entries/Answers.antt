@@ -1,10 +1,10 @@
 use Rattle.std.proofs.Common.{◌≡◌, ℕ, List, ◌++◌, length, map, ap, ◌∙◌, subst}
 use Rattle.place_table.specs.declared.slots.Slot.{Slot}
 use Rattle.place_table.specs.Looked.{looked, places_in}
+use Rattle.place_table.proofs.Positions.{placed-append}
 use Rattle.ct_core.specs.Leaf.{leaves_of}
-use Rattle.ct_core.specs.LeafHashes.{AreNoted}
+use Rattle.ct_core.specs.LeafHashes.{address_of, AreNoted}
 use Rattle.ct_core.specs.Tree.{sha256_leaf}
-use Rattle.ct_core.proofs.HashPlaces.{noted-append}
 use Rattle.ct_core.proofs.leaf_table.LeafTable.with_entries.Goals as goal
 
 pub invariant_of-result : goal.invariant_of-result
@@ -17,4 +17,4 @@ invariant_of-result c =
     λ b. c.in_ok-by_hash.ensures b ∙ ap (λ (xs : List Slot). looked table b ++ places_in xs b) c.deref.ensures.value in
     let noted : AreNoted slots (length old) later = subst (λ (ns : List (List ℕ)). AreNoted slots (length ns) later) c.in_ok-nodes.ensures c.in_ok-slots.ensures.noted in
     let all : c.take_all_in.new.nodes ≡ old ++ later = c.in_ok-slots.ensures.pushed ∙ ap (λ (ns : List (List ℕ)). ns ++ later) c.in_ok-nodes.ensures in
-    noted-append (looked table) (looked c.in_ok-by_hash.by_hash) slots old later c.take_all_in.new.nodes c.self.invariant grown noted all
+    placed-append address_of (looked table) (looked c.in_ok-by_hash.by_hash) slots old later c.take_all_in.new.nodes c.self.invariant grown noted all

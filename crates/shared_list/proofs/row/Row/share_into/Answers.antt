@@ -7,7 +7,7 @@ use Rattle.shared_list.proofs.row.Row.share_into.Goals as goal
 
 pub loop-chunk-preserved : goal.loop-chunk-preserved
 loop-chunk-preserved g c =
-    let xs = c.self.inside.full.items in
+    let xs = c.self.inside.full in
     let i = c.loop-chunk.chunk-index in
     let one = c.values.result.now in
     let start = c.args.into.now.items in
