@@ -1,11 +1,11 @@
 #!/usr/bin/env python3
 """Writes the lines of N submissions through a number of fronts, so that each is accepted and in the end published.
 
-    make_lines.py N [FRONTS] > lines
+    make_lines.py N [FRONTS [BLOCK]] > lines
 
 A submission is a chain of one certificate of its own, of 1,536 bytes that look random and are the same in each run: SHAKE-128 of
 its number. Each front submits no more than its ring of 4,096 places holds, and waits for the tree head that covers them
-before it goes on; the operator settles such a block, of 16,384 submissions at most, front by front, and publishes. At the
+before it goes on; the operator settles such a block, of 16,384 submissions at most, or of BLOCK, front by front, and publishes. At the
 end stand a shutdown and a question to the frozen log. Nothing but the standard library is used.
 """
 
@@ -25,11 +25,11 @@ def add_chain(front, number):
     return '{"who":%d,"op":"add-chain","chain":["%s"]}\n' % (front, text)
 
 
-def blocks(count, fronts):
-    """How many submissions each front makes, block by block."""
+def blocks(count, fronts, most):
+    """How many submissions each front makes, block by block, of at most so many together and at least one for each front."""
     left = [(count + fronts - 1 - front) // fronts for front in range(fronts)]
     while any(left):
-        block = [min(RING, BLOCK // fronts, of_front) for of_front in left]
+        block = [min(RING, max(most // fronts, 1), of_front) for of_front in left]
         left = [of_front - made for of_front, made in zip(left, block)]
         yield block
 
@@ -51,9 +51,10 @@ def write_block(block, published, now, write):
 def main():
     count = int(sys.argv[1])
     fronts = int(sys.argv[2]) if len(sys.argv) > 2 else 1
+    most = int(sys.argv[3]) if len(sys.argv) > 3 else BLOCK
     write = sys.stdout.write
     published = 0
-    for now, block in enumerate(blocks(count, fronts), 1):
+    for now, block in enumerate(blocks(count, fronts, most), 1):
         write_block(block, published, now, write)
         published += sum(block)
     write('{"who":"operator","op":"shutdown"}\n{"who":"frozen","op":"get-sth"}\n')

@@ -1,9 +1,9 @@
 #!/usr/bin/env python3
 """Runs ctlog and the plain Rust program on the same lines, compares what they write, and prints a table of times and memory.
 
-    program.py CTLOG PLAIN [--submissions 10000,100000] [--fronts 1,4,16] [--runs 3]
+    program.py CTLOG PLAIN [--submissions 10000,100000] [--fronts 1,4,16] [--block 16384] [--runs 3]
 
-The two take turns. A time and a processor time are the medians of the runs, a peak of memory the greatest. Lines a second are the
+A head is published behind each block of submissions. The two take turns. A time and a processor time are the medians of the runs, a peak of memory the greatest. Lines a second are the
 input's lines over the time from start to end of the program, whose input and output are files. The memory is what GNU time
 says is the greatest resident set; where it isn't there, what the system says of the child, which is never below that of
 this program.
@@ -84,12 +84,12 @@ def compare(written, plain, count, fronts):
         sys.exit(f"program.py: the last tree head hasn't {count} entries")
 
 
-def compare_programs(ctlog, plain, count, fronts, runs):
-    """The row of the table for this many submissions and fronts."""
+def compare_programs(ctlog, plain, count, fronts, block, runs):
+    """The row of the table for this many submissions and fronts, with a head behind each block of so many."""
     with tempfile.TemporaryDirectory() as work:
         given = Path(work, "lines")
         with open(given, "wb") as lines:
-            subprocess.run([sys.executable, HERE / "make_lines.py", str(count), str(fronts)], stdout=lines, check=True)
+            subprocess.run([sys.executable, HERE / "make_lines.py", str(count), str(fronts), str(block)], stdout=lines, check=True)
         with open(given, "rb") as stream:
             lines = sum(1 for _ in stream)
         words = ["--fronts", str(fronts), "--ring", "4096"]
@@ -129,6 +129,7 @@ def main():
     parser.add_argument("plain")
     parser.add_argument("--submissions", type=numbers, default=[10_000, 100_000])
     parser.add_argument("--fronts", type=numbers, default=[1, 4, 16])
+    parser.add_argument("--block", type=int, default=16_384)
     parser.add_argument("--runs", type=int, default=3)
     options = parser.parse_args()
     load = " ".join(f"{average:.1f}" for average in os.getloadavg())
@@ -139,7 +140,7 @@ def main():
     print("|---|---|---|---|---|---|---|")
     for count in options.submissions:
         for fronts in options.fronts:
-            print(compare_programs(options.ctlog, options.plain, count, fronts, options.runs), flush=True)
+            print(compare_programs(options.ctlog, options.plain, count, fronts, options.block, options.runs), flush=True)
 
 
 if __name__ == "__main__":

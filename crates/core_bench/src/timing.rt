@@ -8,8 +8,11 @@ use std::time::{Duration, Instant};
 // How many items are prepared at a time.
 const BATCH: u64 = 1_000;
 
-// How many receipts, and how many audit paths by leaf hash, are asked for.
+// How many receipts, entries, and audit paths by leaf hash, are asked for.
 const ASKED: u64 = 1_000;
+
+// How many records are read.
+const READ: u64 = 1_000_000;
 
 // How far the tickets and certificates asked for lie from one another, before they are brought below their number.
 const STEP: u64 = 7_919;
@@ -111,8 +114,60 @@ fn receipts(rt: &HostRuntime, core: &Core, size: u64) -> anyhow::Result<Duration
     Ok(time)
 }
 
+// Times questions for one entry each, all over those below `size`, and prints how many were answered.
+fn entries(rt: &HostRuntime, core: &Core, size: u64) -> anyhow::Result<Duration> {
+    let mut shown = 0usize;
+    let start = Instant::now(rt)?;
+    for k in 0..ASKED {
+        let index = k.wrapping_mul(STEP).checked_rem(size).unwrap_or(0);
+        let query = Query::Entries {
+            start: index,
+            end: index,
+        };
+        if let Reply::Entries(found) = core.published().answer(rt.alloc(), &query)? {
+            shown = shown.wrapping_add(found.len());
+        }
+    }
+    let time = start.elapsed(rt)?;
+    println!(rt; "entries shown {shown}")?;
+    Ok(time)
+}
+
+// Times records read one by one, all over the settlement, out of its list and then out of a vector of them, and prints the sums of their
+// indexes.
+fn records(rt: &HostRuntime, core: &Core) -> anyhow::Result<(Duration, Duration)> {
+    let list = core.published().settlement();
+    let mut vector = Vec::new(rt.alloc());
+    for settled in list.iter() {
+        vector.push(*settled)?;
+    }
+    let mut sum = 0u64;
+    let start = Instant::now(rt)?;
+    for k in 0..READ {
+        let place = k
+            .wrapping_mul(STEP)
+            .checked_rem(list.len() as u64)
+            .unwrap_or(0);
+        sum = sum.wrapping_add(list.get(place as usize).map_or(0, |s| s.index));
+    }
+    let of_list = start.elapsed(rt)?;
+    println!(rt; "records of leaves {sum}")?;
+    let mut sum = 0u64;
+    let start = Instant::now(rt)?;
+    for k in 0..READ {
+        let place = k
+            .wrapping_mul(STEP)
+            .checked_rem(vector.len() as u64)
+            .unwrap_or(0);
+        sum = sum.wrapping_add(vector.get(place as usize).map_or(0, |s| s.index));
+    }
+    let of_vector = start.elapsed(rt)?;
+    println!(rt; "records of leaves {sum}")?;
+    Ok((of_list, of_vector))
+}
+
 // Times the settling of `size` certificates of 1,500 bytes, whole thousands of them, then of repeats, then publications, audit
-// paths by leaf hash, and receipts.
+// paths by leaf hash, receipts, entries, and records.
 pub(crate) fn core(rt: &HostRuntime, size: u64) -> anyhow::Result<()> {
     let mut core = Core::open(rt.alloc(), 0)?;
     println!(rt; "{size} entries")?;
@@ -130,6 +185,11 @@ pub(crate) fn core(rt: &HostRuntime, size: u64) -> anyhow::Result<()> {
     report(rt, "get-proof-by-hash", ASKED, time)?;
     let time = receipts(rt, &core, size)?;
     report(rt, "receipt", ASKED, time)?;
+    let time = entries(rt, &core, size)?;
+    report(rt, "get-entries of one", ASKED, time)?;
+    let (of_list, of_vector) = records(rt, &core)?;
+    report(rt, "record read", READ, of_list)?;
+    report(rt, "record read from a vector", READ, of_vector)?;
     println!(rt; "size {}", core.published().last_head().tree_size)?;
     Ok(())
 }

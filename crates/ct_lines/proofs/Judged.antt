@@ -3,6 +3,7 @@ use Rattle.std.proofs.Common.{◌≡◌, ◌<◌, ℕ, List, length, Option, Som
 use Rattle.std.proofs.lemmas.Bool.Decides.{nat_tests}
 use Rattle.std.proofs.lemmas.Bool.{false≢true}
 use Rattle.std.proofs.lemmas.Slice.Eq.{bytes_eq-Decides}
+use Rattle.std.specs.Global.{Global}
 use Rattle.sha2.specs.Sha256.{sha256}
 use Rattle.ct_tree.specs.Tree.{hash_leaf, mth_of_leaves}
 use Rattle.ct_verify.specs.Rebuild.{rebuild}
@@ -44,7 +45,7 @@ accepted D leaf m p a =
     ap (λ t. t && is_root (rebuild sha256 m (length D) (hash_leaf sha256 leaf) p) (mth_of_leaves sha256 D)) below
     ∙ ap (λ o. is_root o (mth_of_leaves sha256 D)) a.1 ∙ (bytes_eq-Decides (mth_of_leaves sha256 D) (mth_of_leaves sha256 D)).1 refl
 
-pub verdict-evidence : (D : List (List ℕ)) (leaf : List ℕ) (m : ℕ) (p : List (List ℕ)) (e : Evidence) → InclusionEvidence sha256 D leaf m p e → evidence_answer e ≡ verdict D leaf m p
+pub verdict-evidence : (D : List (List ℕ)) (leaf : List ℕ) (m : ℕ) (p : List (List ℕ)) (e : Evidence Global) → InclusionEvidence sha256 D leaf m p e → evidence_answer e ≡ verdict D leaf m p
 unfolding verdict
 verdict-evidence D leaf m p Holds h =
     sym (ap (λ t. cond t (verdict_on (evid sha256 D leaf m p)) proof_refused) (accepted D leaf m p h.0) ∙ ap verdict_on h.1)

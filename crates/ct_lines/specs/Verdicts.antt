@@ -1,5 +1,6 @@
 -- The verdict on a proof of inclusion (an audit path of RFC 6962, section 2.1.1, checked as by RFC 9162, section 2.1.3.2), against the leaves D of a tree.
 use Rattle.std.specs.Prelude.{ℕ, List, length, Option, Some, None, Bool, false, not, ◌&&◌, nat_lt, if◌then◌else◌}
+use Rattle.std.specs.Global.{Global}
 use Rattle.std.specs.Str.{bytes_eq}
 use Rattle.sha2.specs.Sha256.{sha256}
 use Rattle.ct_codec.specs.declared.refusal.Refusal.TheVariants.{UnknownSize}
@@ -32,7 +33,7 @@ unfoldable pub verdict : List (List ℕ) → List ℕ → ℕ → List (List ℕ
 verdict D leaf m p = if is_accepted D leaf m p then verdict_on (evid sha256 D leaf m p) else proof_refused
 
 -- what evidence says
-abbrev pub evidence_answer : Evidence → Answer
+abbrev pub evidence_answer : Evidence Global → Answer
 evidence_answer Holds = proof_holds
 evidence_answer (Collision left right) = a_collision left.items right.items
 
