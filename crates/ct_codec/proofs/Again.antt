@@ -33,31 +33,38 @@ chain_again cs b (Ok v) q a = (same_chain v cs b a.0 q, tt)
 chain_again cs b (Err f) q a = (tt, chain_texts_have_no_fault cs b f q a.1)
 
 -- the same at the exit of a `?`
-pub leaf_left : (r : Result Leaf DecodeFault) (f : DecodeFault) (t : ℕ) (e : SignedEntry) (x b : List ℕ) → LeafText t e x b → IsErrAnd r (λ g. g ≡ f) → LeafFaulty f b → GivesLeaf t e x r
+pub leaf_left : (r : Result Leaf DecodeFault) (f : DecodeFault) (t : ℕ) (e : SignedEntry) (x b : List ℕ) → LeafText t e x b → IsErrAnd r (λ g. g ≡ f)
+    → LeafFaulty f b → GivesLeaf t e x r
 leaf_left (Ok l) f t e x b q met v = absurd met
 leaf_left (Err g) f t e x b q met v = (tt, met ∙ leaf_texts_have_no_fault t e x b f q v)
 
-pub chain_left : (r : Result (Vec (Vec ℕ Global) Global) DecodeFault) (f : DecodeFault) (cs : List (List ℕ)) (b : List ℕ) → ChainText cs b → IsErrAnd r (λ g. g ≡ f) → ChainFaulty f b → GivesChain cs r
+pub chain_left : (r : Result (Vec (Vec ℕ Global) Global) DecodeFault) (f : DecodeFault) (cs : List (List ℕ)) (b : List ℕ) → ChainText cs b
+    → IsErrAnd r (λ g. g ≡ f) → ChainFaulty f b → GivesChain cs r
 chain_left (Ok l) f cs b q met v = absurd met
 chain_left (Err g) f cs b q met v = (tt, met ∙ chain_texts_have_no_fault cs b f q v)
 
 -- the answer of who copies a chain that was walked over
-pub chain_copied : (cs : List (List ℕ)) (b y : List ℕ) (r : Result (Vec (Vec ℕ Global) Global) DecodeFault) → length y < 2 ^ 24 → b ≡ vec 3 y → AreCertificates y → ChainText cs b
-    → IfOk r (λ v. AllByRecursion IsCertificate (certificates_in v) × (y ≡ chain_bytes (certificates_in v))) → IfErr r (λ f. (f ≡ Memory) ⊎ CertificatesFaulty f y) → GivesChain cs r
+pub chain_copied : (cs : List (List ℕ)) (b y : List ℕ) (r : Result (Vec (Vec ℕ Global) Global) DecodeFault) → length y < 2 ^ 24 → b ≡ vec 3 y
+    → AreCertificates y → ChainText cs b
+    → IfOk r (λ v. AllByRecursion IsCertificate (certificates_in v) × (y ≡ chain_bytes (certificates_in v)))
+    → IfErr r (λ f. (f ≡ Memory) ⊎ CertificatesFaulty f y) → GivesChain cs r
 chain_copied cs b y (Ok v) h e are q ok bad = chain_again cs b (Ok v) q (chain_text_of (certificates_in v) b y ok.0 h e ok.1, tt)
 chain_copied cs b y (Err f) h e are q ok bad = chain_again cs b (Err f) q (tt, chain_copy f b y h e are bad)
 
-same_pre_chain : (v : Vec ℕ Global × Vec (Vec ℕ Global) Global) (c : List ℕ) (cs : List (List ℕ)) (b : List ℕ) → PreChainText v.0.items (certificates_in v.1) b → PreChainText c cs b → (v.0.items ≡ c) × (certificates_in v.1 ≡ cs)
+same_pre_chain : (v : Vec ℕ Global × Vec (Vec ℕ Global) Global) (c : List ℕ) (cs : List (List ℕ)) (b : List ℕ)
+    → PreChainText v.0.items (certificates_in v.1) b → PreChainText c cs b → (v.0.items ≡ c) × (certificates_in v.1 ≡ cs)
 same_pre_chain v c cs b p q =
     let same = pre_chains_stand_apart v.0.items c (certificates_in v.1) cs b b [] [] p q refl in
     (same.0, same.1)
 
 -- what answers a text with a reading of it, or with a fault of it, gives what it is the text of
-pub pre_chain_again : (c : List ℕ) (cs : List (List ℕ)) (b : List ℕ) (r : Result (Vec ℕ Global × Vec (Vec ℕ Global) Global) DecodeFault) → PreChainText c cs b → AnswersPreChain b r → GivesPreChain c cs r
+pub pre_chain_again : (c : List ℕ) (cs : List (List ℕ)) (b : List ℕ) (r : Result (Vec ℕ Global × Vec (Vec ℕ Global) Global) DecodeFault)
+    → PreChainText c cs b → AnswersPreChain b r → GivesPreChain c cs r
 pre_chain_again c cs b (Ok v) q a = (same_pre_chain v c cs b a.0 q, tt)
 pre_chain_again c cs b (Err f) q a = (tt, pre_chain_texts_have_no_fault c cs b f q a.1)
 
-pub pre_chain_left : (r : Result (Vec ℕ Global × Vec (Vec ℕ Global) Global) DecodeFault) (f : DecodeFault) (c : List ℕ) (cs : List (List ℕ)) (b : List ℕ) → PreChainText c cs b → IsErrAnd r (λ g. g ≡ f) → PreChainFaulty f b → GivesPreChain c cs r
+pub pre_chain_left : (r : Result (Vec ℕ Global × Vec (Vec ℕ Global) Global) DecodeFault) (f : DecodeFault) (c : List ℕ) (cs : List (List ℕ)) (b : List ℕ)
+    → PreChainText c cs b → IsErrAnd r (λ g. g ≡ f) → PreChainFaulty f b → GivesPreChain c cs r
 pre_chain_left (Ok v) f c cs b q met holds = absurd met
 pre_chain_left (Err g) f c cs b q met holds = (tt, met ∙ pre_chain_texts_have_no_fault c cs b f q holds)
 

@@ -20,7 +20,8 @@ one_after (d ∷ cs) c all one = (all.0, one_after cs c all.1 one)
 pub one_more : (cs : List (List ℕ)) (c b r s : List ℕ) → Walked cs b r → IsCertificate c → r ≡ vec 3 c ++ s → Walked (cs ++ c ∷ []) b s
 one_more cs c b r s w one e =
     let step : chain_bytes (cs ++ c ∷ []) ++ s ≡ chain_bytes cs ++ (vec 3 c ++ s) =
-    ap (λ l. l ++ s) (flat_map-append (λ x. vec 3 x) cs (c ∷ []) ∙ ap (λ l. chain_bytes cs ++ l) (append-nil (vec 3 c))) ∙ append_assoc (chain_bytes cs) (vec 3 c) s in
+    ap (λ l. l ++ s) (flat_map-append (λ x. vec 3 x) cs (c ∷ []) ∙ ap (λ l. chain_bytes cs ++ l) (append-nil (vec 3 c)))
+    ∙ append_assoc (chain_bytes cs) (vec 3 c) s in
     record {
       each = one_after cs c w.each one;
       text = w.text ∙ ap (λ l. chain_bytes cs ++ l) e ∙ sym step;
@@ -36,7 +37,8 @@ within_chain BadEntryType b y r h e v = absurd v.5
 within_chain Trailing b y r h e v = absurd v.5
 within_chain Memory b y r h e v = absurd v.5
 
-pub chain_text_of : (cs : List (List ℕ)) (b y : List ℕ) → AllByRecursion IsCertificate cs → length y < 2 ^ 24 → b ≡ vec 3 y → y ≡ chain_bytes cs → ChainText cs b
+pub chain_text_of : (cs : List (List ℕ)) (b y : List ℕ) → AllByRecursion IsCertificate cs → length y < 2 ^ 24 → b ≡ vec 3 y
+    → y ≡ chain_bytes cs → ChainText cs b
 chain_text_of cs b y all h e f = record {
   certificates = all;
   fits = rw (← f) h;
@@ -47,12 +49,14 @@ pub chain_memory : (b y : List ℕ) → length y < 2 ^ 24 → b ≡ vec 3 y → 
 chain_memory b y h e are = (are.0, chain_text_of are.0 b y are.1 h e are.2)
 
 -- what stands against the copying of a chain that was walked over
-pub chain_copy : (f : DecodeFault) (b y : List ℕ) → length y < 2 ^ 24 → b ≡ vec 3 y → AreCertificates y → (f ≡ Memory) ⊎ CertificatesFaulty f y → ChainFaulty f b
+pub chain_copy : (f : DecodeFault) (b y : List ℕ) → length y < 2 ^ 24 → b ≡ vec 3 y → AreCertificates y → (f ≡ Memory)
+    ⊎ CertificatesFaulty f y → ChainFaulty f b
 chain_copy f b y h e are (inl same) = rw same (chain_memory b y h e are)
 chain_copy f b y h e are (inr v) = within_chain f b y [] h (e ∙ sym (append-nil (vec 3 y))) v
 
 -- a precertificate, and behind it the chain's text
-pub pre_chain_text_of : (c : List ℕ) (cs : List (List ℕ)) (b r y : List ℕ) → IsCertificate c → b ≡ vec 3 c ++ r → AllByRecursion IsCertificate cs → length y < 2 ^ 24 → r ≡ vec 3 y → y ≡ chain_bytes cs → PreChainText c cs b
+pub pre_chain_text_of : (c : List ℕ) (cs : List (List ℕ)) (b r y : List ℕ) → IsCertificate c → b ≡ vec 3 c ++ r → AllByRecursion IsCertificate cs
+    → length y < 2 ^ 24 → r ≡ vec 3 y → y ≡ chain_bytes cs → PreChainText c cs b
 pre_chain_text_of c cs b r y one front all h e f =
     let text = chain_text_of cs r y all h e f in
     record {

@@ -38,5 +38,6 @@ pub hashed_precertificate : (e : SignedEntry) (k c : List ℕ) → IsEntry e →
 hashed_precertificate (certificate d) k c fine same = let types = ap type_of same in absurd (omega (arith, types))
 hashed_precertificate (precertificate l d) k c fine same =
     let key : take 32 (l ++ vec 3 d) ≡ k = take_front 32 l (vec 3 d) fine.0 ∙ ap key_hash_of same in
-    let tbs : drop 3 (drop 32 (l ++ vec 3 d)) ≡ d = ap (drop 3) (drop_front 32 l (vec 3 d) fine.0) ∙ drop_front 3 (num 3 (length d)) d (length-num 3 (length d)) in
+    let tbs : drop 3 (drop 32 (l ++ vec 3 d)) ≡ d = ap (drop 3) (drop_front 32 l (vec 3 d) fine.0)
+    ∙ drop_front 3 (num 3 (length d)) d (length-num 3 (length d)) in
     rw (key, tbs) refl

@@ -37,7 +37,8 @@ refuted true f = absurd (f refl)
 refuted false f = refl
 
 -- entries of one type and of one key hash are of one identity where the same is signed
-pub same_signed : (s t : Submitted) → IsEntry (entry_of s) → IsEntry (entry_of t) → type_of (entry_of s) ≡ type_of (entry_of t) → key_hash_of (entry_of s) ≡ key_hash_of (entry_of t)
+pub same_signed : (s t : Submitted) → IsEntry (entry_of s) → IsEntry (entry_of t) → type_of (entry_of s) ≡ type_of (entry_of t)
+    → key_hash_of (entry_of s) ≡ key_hash_of (entry_of t)
     → bytes_eq (signed_of (entry_of s)) (signed_of (entry_of t)) ≡ bytes_eq (identity_of s) (identity_of t)
 same_signed s t p q types keys =
     let signed = bytes_decides (signed_of (entry_of s)) (signed_of (entry_of t)) in
@@ -46,12 +47,15 @@ same_signed s t p q types keys =
     alike _ _ (λ h. whole.1 (law.1 (same_parts (entry_of s) (entry_of t) types keys (signed.0 h)))) (λ h. signed.1 (ap signed_of (law.0 (whole.0 h))))
 
 -- entries of two types, or of two key hashes, are of two identities
-pub other_type : (s t : Submitted) → IsEntry (entry_of s) → IsEntry (entry_of t) → (type_of (entry_of s) ≡ type_of (entry_of t) → ⊥) → false ≡ bytes_eq (identity_of s) (identity_of t)
+pub other_type : (s t : Submitted) → IsEntry (entry_of s) → IsEntry (entry_of t) → (type_of (entry_of s) ≡ type_of (entry_of t) → ⊥)
+    → false ≡ bytes_eq (identity_of s) (identity_of t)
 other_type s t p q differ = refuted _ (λ h. differ (ap type_of ((identities_are_entries s t p q).0 ((bytes_decides (identity_of s) (identity_of t)).0 h))))
 
-pub other_key : (s t : Submitted) → IsEntry (entry_of s) → IsEntry (entry_of t) → false ≡ bytes_eq (key_hash_of (entry_of s)) (key_hash_of (entry_of t)) → false ≡ bytes_eq (identity_of s) (identity_of t)
+pub other_key : (s t : Submitted) → IsEntry (entry_of s) → IsEntry (entry_of t) → false ≡ bytes_eq (key_hash_of (entry_of s)) (key_hash_of (entry_of t))
+    → false ≡ bytes_eq (identity_of s) (identity_of t)
 other_key s t p q differ =
-    refuted _ (λ h. absurd (apart (differ ∙ (bytes_decides (key_hash_of (entry_of s)) (key_hash_of (entry_of t))).1 (ap key_hash_of ((identities_are_entries s t p q).0 ((bytes_decides (identity_of s) (identity_of t)).0 h))))))
+    refuted _ (λ h. absurd (apart (differ ∙ (bytes_decides (key_hash_of (entry_of s)) (key_hash_of (entry_of t))).1
+    (ap key_hash_of ((identities_are_entries s t p q).0 ((bytes_decides (identity_of s) (identity_of t)).0 h))))))
   where
     apart : false ≡ true → ⊥
     apart e = cc

@@ -98,7 +98,8 @@ some_certificate (suc n) r h = refl
 
 certificate_here : (c r b : List ℕ) → IsCertificate c → b ≡ vec 3 c ++ r → certificate_at b ≡ Ok r
 certificate_here c r b h e =
-    number_here 3 (length c) (c ++ r) b certificate_of h.1 (e ∙ append_assoc (num 3 (length c)) c r) ∙ some_certificate (length c) (c ++ r) h.0 ∙ bytes_here (length c) c r (c ++ r) refl refl
+    number_here 3 (length c) (c ++ r) b certificate_of h.1 (e ∙ append_assoc (num 3 (length c)) c r) ∙ some_certificate (length c) (c ++ r) h.0
+    ∙ bytes_here (length c) c r (c ++ r) refl refl
 
 certificate_empty : (r b : List ℕ) → b ≡ num 3 0 ++ r → certificate_at b ≡ Err EmptyVector
 certificate_empty r b e = number_here 3 0 r b certificate_of (omega arith) e
@@ -108,7 +109,8 @@ entry_here (certificate c) r b h e =
     number_here 2 0 (vec 3 c ++ r) b entry_of (omega arith) (e ∙ append_assoc (num 2 0) (vec 3 c) r) ∙ certificate_here c r (vec 3 c ++ r) h refl
 entry_here (precertificate k c) r b h e =
     number_here 2 1 ((k ++ vec 3 c) ++ r) b entry_of (omega arith) (e ∙ append_assoc (num 2 1) (k ++ vec 3 c) r)
-    ∙ ap (λ x. then_read x certificate_at) (bytes_here 32 k (vec 3 c ++ r) ((k ++ vec 3 c) ++ r) h.0 (append_assoc k (vec 3 c) r)) ∙ certificate_here c r (vec 3 c ++ r) h.1 refl
+    ∙ ap (λ x. then_read x certificate_at) (bytes_here 32 k (vec 3 c ++ r) ((k ++ vec 3 c) ++ r) h.0 (append_assoc k (vec 3 c) r))
+    ∙ certificate_here c r (vec 3 c ++ r) h.1 refl
 
 entry_empty : (e : SignedEntry) (r b : List ℕ) → IsEntry e → b ≡ entry_front e ++ (num 3 0 ++ r) → entry_at b ≡ Err EmptyVector
 entry_empty (certificate c) r b h e = number_here 2 0 (num 3 0 ++ r) b entry_of (omega arith) e ∙ certificate_empty r (num 3 0 ++ r) refl
@@ -144,7 +146,8 @@ bytes_cut : (n : ℕ) (x : List ℕ) (gs : List (List ℕ)) (r : List ℕ) → l
 bytes_cut n x gs r l (inl h) = inl (bytes_short n r (rw (← l) h))
 bytes_cut n x gs r l (inr v) = inr (v.0, bytes_here n x v.0 r l v.1, v.2)
 
-number_cut : (w n : ℕ) (gs hs : List (List ℕ)) (b : List ℕ) (k : ℕ → List ℕ → Read) → n < 256 ^ w → IsCut (num w n ∷ gs) b → ((s : List ℕ) → IsCut gs s → Cut hs (k n s)) → Cut hs (number_at w b k)
+number_cut : (w n : ℕ) (gs hs : List (List ℕ)) (b : List ℕ) (k : ℕ → List ℕ → Read) → n < 256 ^ w → IsCut (num w n ∷ gs) b
+    → ((s : List ℕ) → IsCut gs s → Cut hs (k n s)) → Cut hs (number_at w b k)
 number_cut w n gs hs b k h (inl s) f = inl (number_short w b k (rw (← length-num w n) s))
 number_cut w n gs hs b k h (inr v) f = cut_same hs (number_at w b k) (k n v.0) (number_here w n v.0 b k h v.1) (f v.0 v.2)
 
@@ -155,7 +158,8 @@ zero_cut f gs (x ∷ b) (inr v) = inr (v.0, ap (zero_at f) v.1, v.2)
 
 certificate_cut : (c : List ℕ) (gs : List (List ℕ)) (r : List ℕ) → IsCertificate c → IsCut (num 3 (length c) ∷ c ∷ gs) r → Cut gs (certificate_at r)
 certificate_cut c gs r h v =
-    number_cut 3 (length c) (c ∷ gs) gs r certificate_of h.1 v (λ s cut. cut_same gs (certificate_of (length c) s) (bytes_at (length c) s) (some_certificate (length c) s h.0) (bytes_cut (length c) c gs s refl cut))
+    number_cut 3 (length c) (c ∷ gs) gs r certificate_of h.1 v
+    (λ s cut. cut_same gs (certificate_of (length c) s) (bytes_at (length c) s) (some_certificate (length c) s h.0) (bytes_cut (length c) c gs s refl cut))
 
 vector_cut : (w : ℕ) (x : List ℕ) (gs : List (List ℕ)) (r : List ℕ) → length x < 256 ^ w → IsCut (num w (length x) ∷ x ∷ gs) r → Cut gs (number_at w r bytes_at)
 vector_cut w x gs r h v = number_cut w (length x) (x ∷ gs) gs r bytes_at h v (λ s cut. bytes_cut (length x) x gs s refl cut)
@@ -164,7 +168,8 @@ entry_cut : (e : SignedEntry) (gs : List (List ℕ)) (r : List ℕ) → IsEntry 
 entry_cut (certificate c) gs r h v = number_cut 2 0 (num 3 (length c) ∷ c ∷ gs) gs r entry_of (omega arith) v (λ s cut. certificate_cut c gs s h cut)
 entry_cut (precertificate k c) gs r h v =
     number_cut 2 1 (k ∷ num 3 (length c) ∷ c ∷ gs) gs r entry_of (omega arith) v (λ s cut.
-    then_cut (bytes_at 32 s) certificate_at (num 3 (length c) ∷ c ∷ gs) gs (bytes_cut 32 k (num 3 (length c) ∷ c ∷ gs) s h.0 cut) (λ u rest. certificate_cut c gs u h.1 rest))
+    then_cut (bytes_at 32 s) certificate_at (num 3 (length c) ∷ c ∷ gs) gs (bytes_cut 32 k (num 3 (length c) ∷ c ∷ gs) s h.0 cut)
+    (λ u rest. certificate_cut c gs u h.1 rest))
 
 cut_at_last : (x : Read) → Cut [] x → x ≡ Err Truncated
 cut_at_last x (inl h) = h
@@ -173,12 +178,14 @@ cut_at_last x (inr v) = absurd v.2
 cut_behind_entry : (x s : List ℕ) → length x < 2 ^ 16 → IsCut (num 2 (length x) ∷ x ∷ []) s → Cut [] (extensions_at s)
 cut_behind_entry x s short v = then_cut (number_at 2 s bytes_at) end_at [] [] (vector_cut 2 x [] s short v) (λ u none. absurd none)
 
-cut_behind_time : (e : SignedEntry) (x s : List ℕ) → IsEntry e → length x < 2 ^ 16 → IsCut (entry_fields e ++ (num 2 (length x) ∷ x ∷ [])) s → Cut [] (after_time s)
+cut_behind_time : (e : SignedEntry) (x s : List ℕ) → IsEntry e → length x < 2 ^ 16
+    → IsCut (entry_fields e ++ (num 2 (length x) ∷ x ∷ [])) s → Cut [] (after_time s)
 cut_behind_time e x s fine short v =
     let end : List (List ℕ) = num 2 (length x) ∷ x ∷ [] in
     then_cut (entry_at s) extensions_at end [] (entry_cut e end s fine v) (λ u cut. cut_behind_entry x u short cut)
 
-cut_behind_types : (t : ℕ) (e : SignedEntry) (x s : List ℕ) → IsEntry e → length x < 2 ^ 16 → IsCut (num 8 t ∷ (entry_fields e ++ (num 2 (length x) ∷ x ∷ []))) s → Cut [] (after_types s)
+cut_behind_types : (t : ℕ) (e : SignedEntry) (x s : List ℕ) → IsEntry e → length x < 2 ^ 16
+    → IsCut (num 8 t ∷ (entry_fields e ++ (num 2 (length x) ∷ x ∷ []))) s → Cut [] (after_types s)
 cut_behind_types t e x s fine short v =
     let end : List (List ℕ) = entry_fields e ++ (num 2 (length x) ∷ x ∷ []) in
     then_cut (bytes_at 8 s) after_time end [] (bytes_cut 8 (num 8 t) end s (length-num 8 t) v) (λ u cut. cut_behind_time e x u fine short cut)
@@ -186,14 +193,16 @@ cut_behind_types t e x s fine short v =
 leaf_cut : (t : ℕ) (e : SignedEntry) (x b : List ℕ) → IsEntry e → length x < 2 ^ 16 → IsCut (leaf_fields t e x) b → leaf_read b ≡ Err Truncated
 leaf_cut t e x b fine short v =
     let end : List (List ℕ) = num 8 t ∷ (entry_fields e ++ (num 2 (length x) ∷ x ∷ [])) in
-    cut_at_last (leaf_read b) (then_cut (zero_at BadVersion b) (λ r. then_read (zero_at BadLeafType r) after_types) ((0 ∷ []) ∷ end) [] (zero_cut BadVersion ((0 ∷ []) ∷ end) b v) (λ s rest.
+    cut_at_last (leaf_read b) (then_cut (zero_at BadVersion b) (λ r. then_read (zero_at BadLeafType r) after_types) ((0 ∷ []) ∷ end) []
+    (zero_cut BadVersion ((0 ∷ []) ∷ end) b v) (λ s rest.
     then_cut (zero_at BadLeafType s) after_types end [] (zero_cut BadLeafType end s rest) (λ u cut. cut_behind_types t e x u fine short cut)))
 
 leaf_here : (t : ℕ) (e : SignedEntry) (x b r : List ℕ) → IsEntry e → length x < 2 ^ 16 → b ≡ leaf_text t e x ++ r → leaf_read b ≡ end_at r
 leaf_here t e x b r fine short same =
     ap leaf_read (same ∙ regrouped t e x r) ∙ time_here t (entry_text e ++ (vec 2 x ++ r))
     ∙ ap (λ y. then_read y extensions_at) (entry_here e (vec 2 x ++ r) (entry_text e ++ (vec 2 x ++ r)) fine refl)
-    ∙ ap (λ y. then_read y end_at) (number_here 2 (length x) (x ++ r) (vec 2 x ++ r) bytes_at short (append_assoc (num 2 (length x)) x r) ∙ bytes_here (length x) x r (x ++ r) refl refl)
+    ∙ ap (λ y. then_read y end_at) (number_here 2 (length x) (x ++ r) (vec 2 x ++ r) bytes_at short (append_assoc (num 2 (length x)) x r)
+    ∙ bytes_here (length x) x r (x ++ r) refl refl)
 
 trailing_here : (r : List ℕ) → 0 < length r → end_at r ≡ Err Trailing
 trailing_here [] h = absurd (omega arith)
@@ -205,7 +214,8 @@ text_read t e x b p = leaf_here t e x b [] p.entry p.extensions (p.text ∙ sym 
 -- each fault of a leaf is the one that reading finds
 leaf_verdict : (f : DecodeFault) (b : List ℕ) → LeafFaulty f b → fault_of (leaf_read b) ≡ f
 leaf_verdict Truncated b v = ap fault_of (leaf_cut v.0 v.1 v.2 b v.4 v.5 v.6)
-leaf_verdict BadVersion b v = ap (λ s. fault_of (leaf_read s)) v.3 ∙ ap (λ y. fault_of (then_read y (λ r. then_read (zero_at BadLeafType r) after_types))) (other_zero BadVersion v.0 v.1 v.2)
+leaf_verdict BadVersion b v = ap (λ s. fault_of (leaf_read s)) v.3
+    ∙ ap (λ y. fault_of (then_read y (λ r. then_read (zero_at BadLeafType r) after_types))) (other_zero BadVersion v.0 v.1 v.2)
 leaf_verdict BadLeafType b v = ap (λ s. fault_of (leaf_read s)) v.3 ∙ ap (λ y. fault_of (then_read y after_types)) (other_zero BadLeafType v.0 v.1 v.2)
 leaf_verdict BadEntryType b v =
     ap (λ s. fault_of (leaf_read s)) v.6 ∙ ap fault_of (time_here v.0 (num 2 v.1 ++ v.2))
@@ -244,7 +254,8 @@ next_certificate n [] h = absurd (omega arith)
 next_certificate n (x ∷ y) h = refl
 
 -- the certificates are read, and the rest is read with room enough
-passed_certificates : (cs : List (List ℕ)) (n : ℕ) (y s : List ℕ) → AllByRecursion IsCertificate cs → y ≡ chain_bytes cs ++ s → length y ≤ n → (m : ℕ) × (length s ≤ m) × (certificates_at n y ≡ certificates_at m s)
+passed_certificates : (cs : List (List ℕ)) (n : ℕ) (y s : List ℕ) → AllByRecursion IsCertificate cs → y ≡ chain_bytes cs ++ s → length y ≤ n → (m : ℕ)
+    × (length s ≤ m) × (certificates_at n y ≡ certificates_at m s)
 passed_certificates [] n y s all e h = (n, rw (← e) h, ap (certificates_at n) e)
 passed_certificates (c ∷ cs) zero y s all e h =
     let size = ap length e ∙ length-append (vec 3 c ++ chain_bytes cs) s ∙ ap (λ k. k + length s) (length-append (vec 3 c) (chain_bytes cs)) in
@@ -255,7 +266,8 @@ passed_certificates (c ∷ cs) (suc n) y s all e h =
     let size = ap length whole ∙ length-append (vec 3 c) (chain_bytes cs ++ s) in
     let front = length-vec 3 c in
     let rest = passed_certificates cs n (chain_bytes cs ++ s) s all.1 refl (omega (arith, size, front)) in
-    let step = next_certificate n y (omega (arith, size, front)) ∙ ap (λ x. then_read x (certificates_at n)) (certificate_here c (chain_bytes cs ++ s) y all.0 whole) in
+    let step = next_certificate n y (omega (arith, size, front))
+    ∙ ap (λ x. then_read x (certificates_at n)) (certificate_here c (chain_bytes cs ++ s) y all.0 whole) in
     (rest.0, rest.1, step ∙ rest.2)
 
 certificate_verdict : (f : DecodeFault) (s : List ℕ) → VectorFaulty f s → certificate_at s ≡ Err f
@@ -280,7 +292,8 @@ none_left : (m : ℕ) → certificates_at m [] ≡ Ok []
 none_left zero = refl
 none_left (suc m) = refl
 
-certificates_whole : (n : ℕ) (cs : List (List ℕ)) (y : List ℕ) → length y ≤ n → AllByRecursion IsCertificate cs → y ≡ chain_bytes cs → certificates_at n y ≡ Ok []
+certificates_whole : (n : ℕ) (cs : List (List ℕ)) (y : List ℕ) → length y ≤ n → AllByRecursion IsCertificate cs → y ≡ chain_bytes cs
+    → certificates_at n y ≡ Ok []
 certificates_whole n cs y h all e =
     let passed = passed_certificates cs n y [] all (e ∙ sym (append-nil (chain_bytes cs))) h in
     passed.2 ∙ none_left passed.0

@@ -15,7 +15,8 @@ size_at : (heads : List Head) (m : ℕ) (d r : Head) → m < length heads → r 
 size_at heads m d r below e = ap (λ (h : Head). h.tree_size) (get_or_default heads m d r below ∙ sym e)
 
 -- up to a head that is less than a size all are less
-pub below_middle : (heads : List Head) (n m i : ℕ) (d r : Head) → IsNonDecreasingBy (λ (h : Head). h.tree_size) heads → m < length heads → r ≡ get_or heads m r → r.tree_size < n → i < m + 1
+pub below_middle : (heads : List Head) (n m i : ℕ) (d r : Head) → IsNonDecreasingBy (λ (h : Head). h.tree_size) heads → m < length heads
+    → r ≡ get_or heads m r → r.tree_size < n → i < m + 1
     → (get_or heads i d).tree_size < n
 below_middle heads n m i d r sorted inside e small low =
     let same = size_at heads m d r inside e in
@@ -23,7 +24,8 @@ below_middle heads n m i d r sorted inside e small low =
     omega (arith, same, most)
 
 -- from a head on that is at least a size none is less
-pub above_middle : (heads : List Head) (n m i : ℕ) (d r : Head) → IsNonDecreasingBy (λ (h : Head). h.tree_size) heads → m < length heads → r ≡ get_or heads m r → n ≤ r.tree_size → m ≤ i → i < length heads
+pub above_middle : (heads : List Head) (n m i : ℕ) (d r : Head) → IsNonDecreasingBy (λ (h : Head). h.tree_size) heads → m < length heads
+    → r ≡ get_or heads m r → n ≤ r.tree_size → m ≤ i → i < length heads
     → n ≤ (get_or heads i d).tree_size
 above_middle heads n m i d r sorted inside e large high within =
     let same = size_at heads m d r inside e in
@@ -48,7 +50,8 @@ is_equal : (a n : ℕ) → (a == n) ≡ true → n ≤ a × a ≤ n
 is_equal a n e = (grind (arith, nat_tests), grind (arith, nat_tests))
 
 -- where no head from the place on has the size, none has
-none_sized : (heads : List Head) (n p : ℕ) → IsPlaceOfSize heads n p → ((i : ℕ) (d : Head) → p ≤ i → i < length heads → n < (get_or heads i d).tree_size) → list_any (λ (h : Head). h.tree_size == n) heads ≡ false
+none_sized : (heads : List Head) (n p : ℕ) → IsPlaceOfSize heads n p → ((i : ℕ) (d : Head) → p ≤ i → i < length heads → n < (get_or heads i d).tree_size)
+    → list_any (λ (h : Head). h.tree_size == n) heads ≡ false
 none_sized heads n p is more = list_any_none (λ (h : Head). h.tree_size == n) heads other
   where
     other : (i : ℕ) (d : Head) → i < length heads → ((get_or heads i d).tree_size == n) ≡ false
@@ -62,7 +65,8 @@ pub size_past : (heads : List Head) (n p : ℕ) → IsPlaceOfSize heads n p → 
 size_past heads n p is past = sym (none_sized heads n p is (λ i d high inside. absurd (omega arith)))
 
 -- a head has the size, where the one at the place has
-pub size_found : (heads : List Head) (n p : ℕ) (r : Head) → IsNonDecreasingBy (λ (h : Head). h.tree_size) heads → IsPlaceOfSize heads n p → p < length heads → r ≡ get_or heads p r
+pub size_found : (heads : List Head) (n p : ℕ) (r : Head) → IsNonDecreasingBy (λ (h : Head). h.tree_size) heads → IsPlaceOfSize heads n p
+    → p < length heads → r ≡ get_or heads p r
     → (r.tree_size == n) ≡ list_any (λ (h : Head). h.tree_size == n) heads
 size_found heads n p r sorted is inside e = by (r.tree_size == n) refl
   where
@@ -81,7 +85,8 @@ size_found heads n p r sorted is inside e = by (r.tree_size == n) refl
             omega (arith, first, same, most)
 
 -- a size that a head has is at most the number of entries
-pub size_within : (log : Log) (n p : ℕ) (r : Head) → Lawful log → p < length log.heads → r ≡ get_or log.heads p r → (r.tree_size == n) ≡ true → n ≤ length log.entries
+pub size_within : (log : Log) (n p : ℕ) (r : Head) → Lawful log → p < length log.heads → r ≡ get_or log.heads p r
+    → (r.tree_size == n) ≡ true → n ≤ length log.entries
 size_within log n p r is inside e same =
     let true_head = is.true_heads p r inside in
     let within = true_head.within in

@@ -31,7 +31,8 @@ read_none (Some xs) source_next end drops = (end, drops ∙ ap (λ y. Some (drop
 
 -- ---- and taken
 
-pub one_taken : (gives : Monitor → List ℕ → List ℕ → Monitor → Type 0) (before after : Monitor) (line : Vec ℕ Global) (text : List ℕ) (source source_next sink sink_next : Option (List ℕ)) → ReadsLine (Some line) source source_next
+pub one_taken : (gives : Monitor → List ℕ → List ℕ → Monitor → Type 0) (before after : Monitor) (line : Vec ℕ Global) (text : List ℕ)
+    (source source_next sink sink_next : Option (List ℕ)) → ReadsLine (Some line) source source_next
     → gives before (strip_last 10 line.items) text after → Appends sink sink_next text
     → OneTaken gives before after source source_next sink sink_next false
 one_taken gives before after line text None source_next sink sink_next r g w = tt
@@ -49,7 +50,8 @@ pub record IsHere (names : List (List ℕ)) (first now : Monitor) (input left : 
 
 -- the same of a reader whose bytes may be unknown
 abbrev pub GoesOn : List (List ℕ) → Monitor → Monitor → Option (List ℕ) → Option (List ℕ) → Option (List ℕ) → Option (List ℕ) → Type 0
-GoesOn names first now source_first source sink_first sink = IfSome source_first (λ input. (left : List ℕ) × (source ≡ Some left) × IsHere names first now input left sink_first sink)
+GoesOn names first now source_first source sink_first sink =
+    IfSome source_first (λ input. (left : List ℕ) × (source ≡ Some left) × IsHere names first now input left sink_first sink)
 
 pub here_first : (names : List (List ℕ)) (first : Monitor) (source sink : Option (List ℕ)) → GoesOn names first first source source sink sink
 here_first names first None sink = tt
@@ -64,7 +66,8 @@ one_more names first now next input left text sink_first sink sink_next h some l
   written = Appends-trans sink_first sink sink_next h.told text h.written written;
   from_here = λ steps rest last t.
       let s : LineStep = line.0 in
-      let rest_taken : TakesLines names s.after steps (drop_through 10 left) rest last = subst (λ (m : Monitor). TakesLines names m steps (drop_through 10 left) rest last) (sym line.3) t in
+      let rest_taken : TakesLines names s.after steps (drop_through 10 left) rest last =
+      subst (λ (m : Monitor). TakesLines names m steps (drop_through 10 left) rest last) (sym line.3) t in
       let e : text ++ rest ≡ s.text ++ rest = ap (λ (x : List ℕ). x ++ rest) (sym line.2) in
       let all = h.from_here (s ∷ steps) (text ++ rest) last (some, line.1, (rest, rest_taken, e)) in
       (all.0, subst (λ (x : List ℕ). TakesLines names first all.0 input x last) (sym (append_assoc h.told text rest)) all.1);
@@ -124,7 +127,8 @@ first_and_rest names before first last steps input text rest some (inl state) t 
 }
 first_and_rest names before first last steps input text rest some (inr line) t =
     let s : LineStep = line.0 in
-    let rest_taken : TakesLines names s.after steps (drop_through 10 input) rest last = subst (λ (m : Monitor). TakesLines names m steps (drop_through 10 input) rest last) (sym line.3) t in
+    let rest_taken : TakesLines names s.after steps (drop_through 10 input) rest last =
+    subst (λ (m : Monitor). TakesLines names m steps (drop_through 10 input) rest last) (sym line.3) t in
     record {
       start = before;
       left = input;
@@ -141,8 +145,13 @@ pub ends_later : (names : List (List ℕ)) (before first last : Monitor) (source
 ends_later names before first last None source_next source_last sink sink_next sink_last o t = tt
 ends_later names before first last (Some input) None source_last sink sink_next sink_last o t = absurd (none-some (drop_through 10 input) o.1)
 ends_later names before first last (Some input) (Some xs) source_last sink sink_next sink_last o t =
-    let rest_taken = subst (λ (l : List ℕ). TakesLines names first t.0 l t.1 last) (same_Some xs (drop_through 10 input) o.1) t.2 in
-    (o.2.0 ++ t.1, first_and_rest names before first last t.0 input o.2.0 t.1 o.0 o.2.1 rest_taken, Appends-trans sink sink_next sink_last o.2.0 t.1 o.2.2 t.3, t.4)
+    let rest_taken = subst (λ (l : List ℕ). TakesLines names first t.0 l t.1 last) (same_Some xs (drop_through 10 input) o.1) t.2 in (
+      o.2.0 ++ t.1,
+      first_and_rest names before first last t.0 input o.2.0 t.1 o.0 o.2.1 rest_taken,
+      Appends-trans sink sink_next sink_last
+          o.2.0 t.1 o.2.2 t.3,
+      t.4,
+    )
 
 -- ---- and the state behind them
 
@@ -159,9 +168,11 @@ done names new last (Some input) source_next sink sink_next sink_last status fre
       t.3,
     )
 
-pub run_done : {F : Type 0} (names : List (List ℕ)) (new last : Monitor) (source source_next sink sink_next sink_last : Option (List ℕ)) (r : Result ℕ F) → Keeps sha256 new.watcher nothing_seen → new.alarm ≡ false → new.bad ≡ false
+pub run_done : {F : Type 0} (names : List (List ℕ)) (new last : Monitor) (source source_next sink sink_next sink_last : Option (List ℕ)) (r : Result ℕ F)
+    → Keeps sha256 new.watcher nothing_seen → new.alarm ≡ false → new.bad ≡ false
     → IsAllTaken names new last source source_next sink sink_next → IfOk r (λ s. s ≡ status_of last)
     → OnOk r (Appends sink_next sink_last (state_text last.watcher ++ 10 ∷ []))
     → IfOk r (λ status. IsRun names source source_next sink sink_last status)
-run_done names new last source source_next sink sink_next sink_last (Ok status) fresh alarm bad t s w = done names new last source source_next sink sink_next sink_last status fresh alarm bad t s w
+run_done names new last source source_next sink sink_next sink_last (Ok status) fresh alarm bad t s w =
+    done names new last source source_next sink sink_next sink_last status fresh alarm bad t s w
 run_done names new last source source_next sink sink_next sink_last (Err f) fresh alarm bad t s w = s

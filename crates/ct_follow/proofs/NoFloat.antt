@@ -45,7 +45,8 @@ pub state_no_float : (s : WatcherState) → has_float (state_data s (check_data 
 state_no_float s = checked_no_float s (check_data s) refl
 
 -- the text of a value that has no float
-pub text_of : {F : Type 0} (r : Result (String Global) F) (d e : Data) → IfOk r (λ s. has_float d ≡ false → string_bytes s ≡ compact_text d) → d ≡ e → has_float e ≡ false
+pub text_of : {F : Type 0} (r : Result (String Global) F) (d e : Data) → IfOk r (λ s. has_float d ≡ false → string_bytes s ≡ compact_text d)
+    → d ≡ e → has_float e ≡ false
     → IfOk r (λ s. string_bytes s ≡ compact_text e)
 text_of (Ok s) d e text is none = subst (λ (x : Data). string_bytes s ≡ compact_text x) is (text (ap has_float is ∙ none))
 text_of (Err f) d e text is none = text

@@ -70,7 +70,8 @@ no_step : (w next : Watched) (o : Outcome) (s : WatcherState) (Q : List (List �
     → Shows w (λ D. Agrees s o D × Q D)
 no_step w next o s Q same agrees rest = (rest.0, subst (λ (x : Watched). AreSteps sha256 x rest.0) same rest.1, λ D all. (agrees D, rest.2 D all))
 
-one_answer : (w next : Watched) (a : Answered) (o : Outcome) (s : WatcherState) (Q : List (List ℕ) → Type 0) → Keeps sha256 s next → AnswerSays w a o next → Shows next Q
+one_answer : (w next : Watched) (a : Answered) (o : Outcome) (s : WatcherState) (Q : List (List ℕ) → Type 0) → Keeps sha256 s next
+    → AnswerSays w a o next → Shows next Q
     → Shows w (λ D. Agrees s o D × Q D)
 one_answer w next (a_head head) (Said v) s Q k says rest = one_step w next v s Q k (inl (head, says.0, says.1)) rest
 one_answer w next (a_head head) BadLine s Q k says rest = absurd says
@@ -90,7 +91,8 @@ one_answer w next no_answer BadLine s Q k says rest = no_step w next BadLine s Q
 one_answer w next no_answer BadState s Q k says rest = absurd says
 
 -- what a line gave, and what follows of the state behind it
-one_line : (names : List (List ℕ)) (before : Monitor) (line : List ℕ) (step : LineStep) (w : Watched) (Q : List (List ℕ) → Type 0) → Keeps sha256 before.watcher w → TakesLine names before line step
+one_line : (names : List (List ℕ)) (before : Monitor) (line : List ℕ) (step : LineStep) (w : Watched) (Q : List (List ℕ) → Type 0)
+    → Keeps sha256 before.watcher w → TakesLine names before line step
     → ((next : Watched) → Keeps sha256 step.after.watcher next → Shows next Q) → Shows w (λ D. IsOfFirst D step × Q D)
 one_line names before [] step w Q k t rest =
     let behind = rest w (subst (λ (m : Monitor). Keeps sha256 m.watcher w) (sym t.2) k) in
@@ -100,8 +102,10 @@ one_line names before (b ∷ bs) step w Q k t rest =
     let shown = one_answer w says.0 t.answer t.outcome step.after.watcher Q says.1 says.2 (rest says.0 says.1) in
     (shown.0, shown.1, λ D all. let both = shown.2 D all in (λ e. both.0 (same_Some t.outcome (Said Accepted) (sym t.noted ∙ e)), both.1))
 
-all_lines : (names : List (List ℕ)) (before : Monitor) (steps : List LineStep) (input text : List ℕ) (last : Monitor) (w : Watched) (Q : List (List ℕ) → Type 0) → Keeps sha256 before.watcher w
-    → TakesLines names before steps input text last → ((next : Watched) → Keeps sha256 last.watcher next → Shows next Q) → Shows w (λ D. AreOfFirst D steps × Q D)
+all_lines : (names : List (List ℕ)) (before : Monitor) (steps : List LineStep) (input text : List ℕ) (last : Monitor) (w : Watched)
+    (Q : List (List ℕ) → Type 0) → Keeps sha256 before.watcher w
+    → TakesLines names before steps input text last → ((next : Watched) → Keeps sha256 last.watcher next → Shows next Q)
+    → Shows w (λ D. AreOfFirst D steps × Q D)
 all_lines names before [] input text last w Q k t rest =
     let behind = rest w (subst (λ (m : Monitor). Keeps sha256 m.watcher w) (sym t.2) k) in
     (behind.0, behind.1, λ D all. (tt, behind.2 D all))

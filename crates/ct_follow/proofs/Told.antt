@@ -11,7 +11,8 @@ IsTold names first index all left old now =
 pub told_first : (names : List (List ℕ)) (first : ℕ) (all : List (List ℕ)) (old : List ℕ) → IsTold names first first all all old old
 told_first names first all old = ([], sym (append-nil old), λ rest t. t)
 
-pub told_more : (names : List (List ℕ)) (first index : ℕ) (all left : List (List ℕ)) (leaf old now new : List ℕ) → IsTold names first index all (leaf ∷ left) old now
+pub told_more : (names : List (List ℕ)) (first index : ℕ) (all left : List (List ℕ)) (leaf old now new : List ℕ)
+    → IsTold names first index all (leaf ∷ left) old now
     → (one : List ℕ) × IsEntryText names index leaf one × (new ≡ now ++ one) → IsTold names first (index + 1) all left old new
 told_more names first index all left leaf old now new t o = (
   t.0 ++ o.0,

@@ -26,7 +26,8 @@ FollowOn s (r ∷ runs) = (r.start.watcher ≡ s) × TakesLines r.names r.start 
 
 -- where `accepted` was said, the head that is accepted then is that of the first leaves of D
 abbrev pub IsOfFirst : List (List ℕ) → LineStep → Type 0
-IsOfFirst D step = step.outcome ≡ Some (Said Accepted) → (head : Head) × (n : ℕ) × (step.after.watcher.accepted ≡ Some head) × IsHeadOfAll sha256 (take n D) head
+IsOfFirst D step = step.outcome ≡ Some (Said Accepted) → (head : Head) × (n : ℕ) × (step.after.watcher.accepted ≡ Some head)
+    × IsHeadOfAll sha256 (take n D) head
 
 -- so of each line, and of each line of each run
 abbrev pub AreOfFirst : List (List ℕ) → List LineStep → Type 0

@@ -20,7 +20,8 @@ use Rattle.ct_follow.specs.declared.verdicts.Outcome.TheVariants.{Said, BadLine,
 -- what an answer comes to where the log has handed out w, and what it has then
 abbrev pub AnswerSays : Watched → Answered → Outcome → Watched → Type 0
 AnswerSays w (a_head head) (Said v) next = HeadSays sha256 w head v × (next ≡ after_verdict w (waiting_or w.waiting head) v)
-AnswerSays w (leaves_from start E) (Said v) next = EntriesSay sha256 w w.waiting (unwrap_or start (length (leaves_read w))) E v × (next ≡ after_entries w w.waiting E v)
+AnswerSays w (leaves_from start E) (Said v) next = EntriesSay sha256 w w.waiting (unwrap_or start (length (leaves_read w))) E v
+    × (next ≡ after_entries w w.waiting E v)
 AnswerSays w (a_proof path) (Said v) next = ProofSays sha256 w.accepted w.waiting path v × (next ≡ w)
 AnswerSays w a_state BadState next = next ≡ w
 AnswerSays w no_answer BadLine next = next ≡ w
@@ -127,14 +128,17 @@ ReadsLine (Some line) source source_next = IfSome source (λ xs. (0 < length xs)
 -- a line was taken, and what it gives was written; or none is left (true), and nothing has changed
 abbrev pub OneTaken : (Monitor → List ℕ → List ℕ → Monitor → Type 0) → Monitor → Monitor → Option (List ℕ) → Option (List ℕ)
     → Option (List ℕ) → Option (List ℕ) → Bool → Type 0
-OneTaken gives before after source source_next sink sink_next true = IfSome source (λ xs. (xs ≡ []) × (source_next ≡ Some [])) × (after ≡ before) × Appends sink sink_next []
+OneTaken gives before after source source_next sink sink_next true = IfSome source (λ xs. (xs ≡ []) × (source_next ≡ Some [])) × (after ≡ before)
+    × Appends sink sink_next []
 OneTaken gives before after source source_next sink sink_next false =
-    IfSome source (λ xs. (0 < length xs) × (source_next ≡ Some (drop_through 10 xs)) × ((text : List ℕ) × gives before (first_piece 10 xs) text after × Appends sink sink_next text))
+    IfSome source (λ xs. (0 < length xs) × (source_next ≡ Some (drop_through 10 xs))
+    × ((text : List ℕ) × gives before (first_piece 10 xs) text after × Appends sink sink_next text))
 
 -- what was taken where nothing is left
 abbrev pub IsTaken : List (List ℕ) → Monitor → Monitor → Option (List ℕ) → Option (List ℕ) → Option (List ℕ) → Option (List ℕ) → Type 0
 IsTaken names first last source_first source sink_first sink =
-    IfSome source_first (λ input. (steps : List LineStep) × (text : List ℕ) × TakesLines names first steps input text last × Appends sink_first sink text × (source ≡ Some []))
+    IfSome source_first (λ input. (steps : List LineStep) × (text : List ℕ) × TakesLines names first steps input text last
+    × Appends sink_first sink text × (source ≡ Some []))
 
 -- what was taken with the first line, where nothing is left
 abbrev pub IsAllTaken : List (List ℕ) → Monitor → Monitor → Option (List ℕ) → Option (List ℕ) → Option (List ℕ) → Option (List ℕ) → Type 0
@@ -143,4 +147,5 @@ IsAllTaken names before last source_first source sink_first sink =
 
 -- a run was written, where the bytes are known: all were read
 abbrev pub IsRun : List (List ℕ) → Option (List ℕ) → Option (List ℕ) → Option (List ℕ) → Option (List ℕ) → ℕ → Type 0
-IsRun names source source_next sink sink_next status = IfSome source (λ input. (text : List ℕ) × Runs names input text status × Appends sink sink_next text × (source_next ≡ Some []))
+IsRun names source source_next sink sink_next status =
+    IfSome source (λ input. (text : List ℕ) × Runs names input text status × Appends sink sink_next text × (source_next ≡ Some []))

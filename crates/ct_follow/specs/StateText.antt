@@ -11,7 +11,8 @@ use Rattle.ct_watch.specs.WatcherState.{WatcherState}
 -- a head, or null
 abbrev pub maybe_head_data : Option Head → Data
 maybe_head_data None = null
-maybe_head_data (Some head) = object (member (codes "sha256_root_hash") (bytes_data head.root) (member (codes "timestamp") (number_data head.timestamp) (member (codes "tree_size") (number_data head.tree_size) no_members)))
+maybe_head_data (Some head) = object (member (codes "sha256_root_hash") (bytes_data head.root)
+    (member (codes "timestamp") (number_data head.timestamp) (member (codes "tree_size") (number_data head.tree_size) no_members)))
 
 -- a number of leaves with the roots of their perfect subtrees
 abbrev pub peaks_data : ℕ × List (List ℕ) → Data

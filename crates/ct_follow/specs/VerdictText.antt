@@ -31,7 +31,8 @@ abbrev pub accepted_data : ℕ → Data
 accepted_data size = object (member (codes "tree_size") (number_data size) (member (codes "verdict") (string (codes "accepted")) no_members))
 
 abbrev pub pending_data : ℕ → ℕ → Data
-pending_data have size = object (member (codes "have") (number_data have) (member (codes "tree_size") (number_data size) (member (codes "verdict") (string (codes "pending")) no_members)))
+pending_data have size = object (member (codes "have") (number_data have)
+    (member (codes "tree_size") (number_data size) (member (codes "verdict") (string (codes "pending")) no_members)))
 
 abbrev pub gap_data : ℕ → Data
 gap_data want = object (member (codes "verdict") (string (codes "gap")) (member (codes "want") (number_data want) no_members))

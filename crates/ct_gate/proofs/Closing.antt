@@ -21,7 +21,8 @@ fronts_both : (x : ℕ) (v w : SeatView) → times x (fronts_in (gathered v w)) 
 fronts_both x v w = ap (λ (l : List ℕ). times x l) (map-append (λ (f : FrontTickets). f.front) v.fronts w.fronts) ∙ times-append x (fronts_in v) (fronts_in w)
 
 tickets_both : (x : ℕ) (v w : SeatView) → times x (tickets_in (gathered v w)) ≡ times x (tickets_in v) + times x (tickets_in w)
-tickets_both x v w = ap (λ (l : List ℕ). times x l) (flat_map-append (λ (f : FrontTickets). f.tickets) v.fronts w.fronts) ∙ times-append x (tickets_in v) (tickets_in w)
+tickets_both x v w = ap (λ (l : List ℕ). times x l) (flat_map-append (λ (f : FrontTickets). f.tickets) v.fronts w.fronts)
+    ∙ times-append x (tickets_in v) (tickets_in w)
 
 neither : (a b : Bool) → (a || b) ≡ false → (a ≡ false) × (b ≡ false)
 neither false false e = (refl, refl)
@@ -49,7 +50,13 @@ gathers fronts id v other w front s h at apart there =
       word = h.word;
       words = h.words;
       limit = h.limit;
-      dealt = λ x. omega (arith, times_set fronts_in (set s.views id b) other w spent x there, times_set fronts_in s.views id v b x at, h.dealt x, fronts_both x v w);
+      dealt = λ x. omega (
+        arith,
+        times_set fronts_in (set s.views id b) other w spent x there,
+        times_set fronts_in s.views id v b x at,
+        h.dealt x,
+        fronts_both x v w,
+      );
       shutter = h.shutter;
       seats = each_set (λ j u. IsSound u × (u.is_shutter ≡ true → j ≡ h.shutter)) (set s.views id b) other spent
           (λ j u far e. each_set (λ j u. IsSound u × (u.is_shutter ≡ true → j ≡ h.shutter)) s.views id b (λ i y _ e'. h.seats i y e') (sound, mine.1) j u e)
@@ -57,7 +64,13 @@ gathers fronts id v other w front s h at apart there =
       phase = ⊎_elim
           (λ (o : IsOpen h.word s.views). inl record {
             clear = o.clear;
-            tickets = λ x. omega (arith, times_set tickets_in (set s.views id b) other w spent x there, times_set tickets_in s.views id v b x at, o.tickets x, tickets_both x v w);
+            tickets = λ x. omega (
+              arith,
+              times_set tickets_in (set s.views id b) other w spent x there,
+              times_set tickets_in s.views id v b x at,
+              o.tickets x,
+              tickets_both x v w,
+            );
             unknown = each_set (λ j u. (u.knows_shutdown ≡ false) × (u.accepted ≡ None)) (set s.views id b) other spent
                 (λ j u far e. each_set (λ j u. (u.knows_shutdown ≡ false) × (u.accepted ≡ None)) s.views id b (λ i y _ e'. o.unknown i y e')
                 (ap₂ (λ (a b : Bool). a || b) (o.unknown id v at).0 (o.unknown other w place).0, (o.unknown id v at).1) j u e) (refl, refl);
@@ -65,10 +78,17 @@ gathers fronts id v other w front s h at apart there =
           (λ (c : (n : ℕ) × IsShut n h.word s.views). inr (
             c.0,
             record {
-              tickets = λ x. omega (arith, times_set tickets_in (set s.views id b) other w spent x there, times_set tickets_in s.views id v b x at, c.1.tickets x, tickets_both x v w);
+              tickets = λ x. omega (
+                arith,
+                times_set tickets_in (set s.views id b) other w spent x there,
+                times_set tickets_in s.views id v b x at,
+                c.1.tickets x,
+                tickets_both x v w,
+              );
               draws = omega (arith, c.1.draws, refused_set (set s.views id b) other w spent there, refused_set s.views id v b at);
               accepted = each_set (λ j u. u.is_shutter ≡ true → u.accepted ≡ Some c.0) (set s.views id b) other spent
-                  (λ j u far e. each_set (λ j u. u.is_shutter ≡ true → u.accepted ≡ Some c.0) s.views id b (λ i y _ e'. c.1.accepted i y e') (c.1.accepted id v at) j u e) (λ k. absurd (off k));
+                  (λ j u far e. each_set (λ j u. u.is_shutter ≡ true → u.accepted ≡ Some c.0) s.views id b (λ i y _ e'. c.1.accepted i y e')
+                  (c.1.accepted id v at) j u e) (λ k. absurd (off k));
             },
           ))
           h.phase;
@@ -79,7 +99,13 @@ no_fronts : (x : ℕ) (views : List SeatView) → length (flat_map fronts_in vie
 no_fronts x [] h = refl
 no_fronts x (v ∷ vs) h =
     let joined = length-append (fronts_in v) (flat_map fronts_in vs) in
-    omega (arith, times-append x (tickets_in v) (flat_map tickets_in vs), no_fronts x vs (omega arith), bare x v.fronts (omega (arith, length-map v.fronts (λ (f : FrontTickets). f.front))))
+    omega (
+      arith,
+      times-append x (tickets_in v) (flat_map tickets_in vs),
+      no_fronts x vs (omega arith),
+      bare x v.fronts
+          (omega (arith, length-map v.fronts (λ (f : FrontTickets). f.front))),
+    )
   where
     bare : (x : ℕ) (fs : List FrontTickets) → length fs ≤ 0 → times x (flat_map (λ (f : FrontTickets). f.tickets) fs) ≡ 0
     bare x [] h = refl
@@ -91,7 +117,8 @@ within_length (u ∷ us) zero v e = omega (arith, length-append (fronts_in u) (f
 within_length (u ∷ us) (suc id) v e = omega (arith, length-append (fronts_in u) (flat_map fronts_in us), within_length us id v e)
 
 -- who stands for all fronts has all tickets
-alone : (x : ℕ) (views : List SeatView) (id : ℕ) (v : SeatView) → get_elem? views id ≡ some v → length (flat_map fronts_in views) ≤ length (fronts_in v) → times x (flat_map tickets_in views) ≡ times x (tickets_in v)
+alone : (x : ℕ) (views : List SeatView) (id : ℕ) (v : SeatView) → get_elem? views id ≡ some v → length (flat_map fronts_in views) ≤ length (fronts_in v)
+    → times x (flat_map tickets_in views) ≡ times x (tickets_in v)
 alone x [] id v e h = absurd (some-ne-none v (sym e))
 alone x (u ∷ us) zero v e h =
     let same : u ≡ v = some-injective u v e in
@@ -113,19 +140,24 @@ alone x (u ∷ us) (suc id) v e h =
     )
 
 -- The shutter's view, which stands for all fronts and has n, has all tickets below n.
-pub ends : (fronts n : ℕ) (s : State (Unit {0}) SeatView) (id : ℕ) (v : SeatView) → Seen (GateHolds fronts) id v s → length v.fronts ≡ fronts → v.is_shutter ≡ true → v.accepted ≡ Some n
+pub ends : (fronts n : ℕ) (s : State (Unit {0}) SeatView) (id : ℕ) (v : SeatView) → Seen (GateHolds fronts) id v s → length v.fronts ≡ fronts
+    → v.is_shutter ≡ true → v.accepted ≡ Some n
     → Tickets (map (λ (f : FrontTickets). f.tickets) v.fronts) n
 ends fronts n s id v seen all is_shutter accepted =
     let h = seen.0 in
     let at = seen.1 in
     let rising = All-map Rises (λ (f : FrontTickets). f.tickets) v.fronts (λ k d lt. ((h.seats id v at).0.tickets k d lt).0) in
-    let few : length (flat_map fronts_in s.views) ≤ length (fronts_in v) = omega (arith, length_once fronts (flat_map fronts_in s.views) h.dealt, length-map v.fronts (λ (f : FrontTickets). f.front)) in
+    let few : length (flat_map fronts_in s.views) ≤ length (fronts_in v) =
+    omega (arith, length_once fronts (flat_map fronts_in s.views) h.dealt, length-map v.fronts (λ (f : FrontTickets). f.front)) in
     let joined = flat_map-map (λ (l : List ℕ). l) (λ (f : FrontTickets). f.tickets) v.fronts in
     ⊎_elim
     (λ (o : IsOpen h.word s.views). let never : None ≡ Some n = sym (o.unknown id v at).1 ∙ accepted in absurd (cc))
     (λ (c : (m : ℕ) × IsShut m h.word s.views).
-    let same = sym (c.1.accepted id v at is_shutter) ∙ accepted in
-    (rising, subst (λ (l : List ℕ). EachOnceBelow n l) (sym joined) (λ x. sym (alone x s.views id v at few) ∙ subst (λ (m : ℕ). EachOnceBelow m (flat_map tickets_in s.views)) (some_is c.0 n same) c.1.tickets x)))
+    let same = sym (c.1.accepted id v at is_shutter) ∙ accepted in (
+      rising,
+      subst (λ (l : List ℕ). EachOnceBelow n l) (sym joined)
+          (λ x. sym (alone x s.views id v at few) ∙ subst (λ (m : ℕ). EachOnceBelow m (flat_map tickets_in s.views)) (some_is c.0 n same) c.1.tickets x),
+    ))
     h.phase
   where
     some_is : (a b : ℕ) → Some a ≡ Some b → a ≡ b
@@ -135,7 +167,8 @@ pub all_rest : {X : Type 0} (P : X → Type 0) (x : X) (xs l : List X) → l ≡
 all_rest {X} P x xs l e h = λ k d lt. subst (λ (m : List X). All P m) e h (suc k) d (omega arith)
 
 -- the tickets of all intakes
-pub all_tickets : (fs : List FrontTickets) (intakes : List IntakeView) (n : ℕ) → fs ≡ map front_tickets intakes → Tickets (map (λ (f : FrontTickets). f.tickets) fs) n → Tickets (map (λ (i : IntakeView). tickets_of i.accepted) intakes) n
+pub all_tickets : (fs : List FrontTickets) (intakes : List IntakeView) (n : ℕ) → fs ≡ map front_tickets intakes
+    → Tickets (map (λ (f : FrontTickets). f.tickets) fs) n → Tickets (map (λ (i : IntakeView). tickets_of i.accepted) intakes) n
 all_tickets fs intakes n e h = subst (λ l. Tickets l n) (ap (map (λ (f : FrontTickets). f.tickets)) e ∙ map_twice intakes) h
   where
     map_twice : (xs : List IntakeView) → map (λ (f : FrontTickets). f.tickets) (map front_tickets xs) ≡ map (λ (i : IntakeView). tickets_of i.accepted) xs

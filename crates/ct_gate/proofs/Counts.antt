@@ -21,19 +21,24 @@ times-append x (y ∷ xs) ys = omega (arith, times-append x xs ys)
 pub times_set : (f : SeatView → List ℕ) (views : List SeatView) (id : ℕ) (v w : SeatView) (x : ℕ) → get_elem? views id ≡ some v
     → times x (flat_map f (set views id w)) + times x (f v) ≡ times x (flat_map f views) + times x (f w)
 times_set f [] id v w x e = absurd (some-ne-none v (sym e))
-times_set f (u ∷ us) zero v w x e = omega (arith, times-append x (f w) (flat_map f us), times-append x (f u) (flat_map f us), ap (λ y. times x (f y)) (some-injective u v e))
-times_set f (u ∷ us) (suc id) v w x e = omega (arith, times-append x (f u) (flat_map f us), times-append x (f u) (flat_map f (set us id w)), times_set f us id v w x e)
+times_set f (u ∷ us) zero v w x e = omega
+    (arith, times-append x (f w) (flat_map f us), times-append x (f u) (flat_map f us), ap (λ y. times x (f y)) (some-injective u v e))
+times_set f (u ∷ us) (suc id) v w x e = omega
+    (arith, times-append x (f u) (flat_map f us), times-append x (f u) (flat_map f (set us id w)), times_set f us id v w x e)
 
-pub times_snoc : (f : SeatView → List ℕ) (views : List SeatView) (v : SeatView) (x : ℕ) → times x (flat_map f (views ++ v ∷ [])) ≡ times x (flat_map f views) + times x (f v)
+pub times_snoc : (f : SeatView → List ℕ) (views : List SeatView) (v : SeatView) (x : ℕ)
+    → times x (flat_map f (views ++ v ∷ [])) ≡ times x (flat_map f views) + times x (f v)
 times_snoc f [] v x = omega (arith, times-append x (f v) [])
 times_snoc f (u ∷ us) v x = omega (arith, times-append x (f u) (flat_map f us), times-append x (f u) (flat_map f (us ++ v ∷ [])), times_snoc f us v x)
 
-pub refused_set : (views : List SeatView) (id : ℕ) (v w : SeatView) → get_elem? views id ≡ some v → refused_draws (set views id w) + v.refused ≡ refused_draws views + w.refused
+pub refused_set : (views : List SeatView) (id : ℕ) (v w : SeatView) → get_elem? views id ≡ some v
+    → refused_draws (set views id w) + v.refused ≡ refused_draws views + w.refused
 refused_set [] id v w e = absurd (some-ne-none v (sym e))
 refused_set (u ∷ us) zero v w e = omega (arith, ap (λ (y : SeatView). y.refused) (some-injective u v e))
 refused_set (u ∷ us) (suc id) v w e = omega (arith, refused_set us id v w e)
 
-pub each_set : (P : ℕ → SeatView → Type 0) (views : List SeatView) (id : ℕ) (w : SeatView) → ((j : ℕ) (u : SeatView) → j ≢ id → get_elem? views j ≡ some u → P j u) → P id w → EachView P (set views id w)
+pub each_set : (P : ℕ → SeatView → Type 0) (views : List SeatView) (id : ℕ) (w : SeatView)
+    → ((j : ℕ) (u : SeatView) → j ≢ id → get_elem? views j ≡ some u → P j u) → P id w → EachView P (set views id w)
 each_set P views id w others mine j u e =
     ⊎_elim
     (λ (x : (j ≡ id) × (w ≡ u)). subst (λ (y : ℕ × SeatView). P y.0 y.1) (λ i. (sym x.0 i, x.1 i)) mine)
@@ -91,17 +96,33 @@ pub length_once : (n : ℕ) (xs : List ℕ) → EachOnceBelow n xs → length xs
 length_once n xs once = length_within n xs (member_below n xs once) ∙ within_once n n xs once (omega arith)
 
 -- the joined lists are no longer than so many for each front
-pub tickets_bound : (views : List SeatView) → ((id : ℕ) (v : SeatView) → get_elem? views id ≡ some v → length (tickets_in v) ≤ 2 ^ 32 * length (fronts_in v)) → length (flat_map tickets_in views) ≤ 2 ^ 32 * length (flat_map fronts_in views)
+pub tickets_bound : (views : List SeatView)
+    → ((id : ℕ) (v : SeatView) → get_elem? views id ≡ some v → length (tickets_in v) ≤ 2 ^ 32 * length (fronts_in v))
+    → length (flat_map tickets_in views) ≤ 2 ^ 32 * length (flat_map fronts_in views)
 tickets_bound [] h = omega arith
-tickets_bound (v ∷ vs) h = omega (arith, length-append (tickets_in v) (flat_map tickets_in vs), length-append (fronts_in v) (flat_map fronts_in vs), h 0 v refl, tickets_bound vs (λ id u e. h (suc id) u e))
+tickets_bound (v ∷ vs) h = omega (
+  arith,
+  length-append (tickets_in v) (flat_map tickets_in vs),
+  length-append (fronts_in v) (flat_map fronts_in vs),
+  h 0 v
+      refl,
+  tickets_bound vs (λ id u e. h (suc id) u e),
+)
 
-pub refused_bound : (views : List SeatView) → ((id : ℕ) (v : SeatView) → get_elem? views id ≡ some v → v.refused ≤ length (fronts_in v)) → refused_draws views ≤ length (flat_map fronts_in views)
+pub refused_bound : (views : List SeatView) → ((id : ℕ) (v : SeatView) → get_elem? views id ≡ some v → v.refused ≤ length (fronts_in v))
+    → refused_draws views ≤ length (flat_map fronts_in views)
 refused_bound [] h = omega arith
 refused_bound (v ∷ vs) h = omega (arith, length-append (fronts_in v) (flat_map fronts_in vs), h 0 v refl, refused_bound vs (λ id u e. h (suc id) u e))
 
 own_bound : (fs : List FrontTickets) → All HasTickets fs → length (flat_map (λ (f : FrontTickets). f.tickets) fs) ≤ 2 ^ 32 * length fs
 own_bound [] h = omega arith
-own_bound (f ∷ fs) h = omega (arith, length-append f.tickets (flat_map (λ (f : FrontTickets). f.tickets) fs), (h 0 f (omega arith)).1, own_bound fs (λ k d lt. h (suc k) d (omega arith)))
+own_bound (f ∷ fs) h = omega (
+  arith,
+  length-append f.tickets (flat_map (λ (f : FrontTickets). f.tickets) fs),
+  (h 0 f (omega arith)).1,
+  own_bound fs
+      (λ k d lt. h (suc k) d (omega arith)),
+)
 
 -- the tickets of a view are no more than 2 ^ 32 for each front
 pub view_bound : (v : SeatView) → IsSound v → length (tickets_in v) ≤ 2 ^ 32 * length (fronts_in v)
@@ -120,7 +141,8 @@ times_there (x ∷ xs) zero d h = times_head x xs
 times_there (x ∷ xs) (suc k) d h = omega (arith, times_there xs k d (omega arith), times_more (get_or xs k d) x xs)
 
 -- what one view has stands in the joined list
-pub times_within : (f : SeatView → List ℕ) (views : List SeatView) (id : ℕ) (v : SeatView) (x : ℕ) → get_elem? views id ≡ some v → times x (f v) ≤ times x (flat_map f views)
+pub times_within : (f : SeatView → List ℕ) (views : List SeatView) (id : ℕ) (v : SeatView) (x : ℕ) → get_elem? views id ≡ some v
+    → times x (f v) ≤ times x (flat_map f views)
 times_within f [] id v x e = absurd (some-ne-none v (sym e))
 times_within f (u ∷ us) zero v x e = omega (arith, times-append x (f u) (flat_map f us), ap (λ y. times x (f y)) (some-injective u v e))
 times_within f (u ∷ us) (suc id) v x e = omega (arith, times-append x (f u) (flat_map f us), times_within f us id v x e)

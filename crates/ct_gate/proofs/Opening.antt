@@ -16,12 +16,14 @@ use Rattle.ct_gate.specs.Opening.{stands_for, new_fronts, all_in_one, rest_of, f
 use Rattle.ct_gate.proofs.Counts.{off, times-append, times_set, times_snoc, each_set, each_snoc, below_more}
 
 fronts_cut : (x : ℕ) (fs : List FrontTickets)
-    → times x (map (λ (f : FrontTickets). f.front) fs) ≡ times x (map (λ (f : FrontTickets). f.front) (without_first fs)) + times x (map (λ (f : FrontTickets). f.front) (first_alone fs))
+    → times x (map (λ (f : FrontTickets). f.front) fs) ≡ times x (map (λ (f : FrontTickets). f.front) (without_first fs))
+    + times x (map (λ (f : FrontTickets). f.front) (first_alone fs))
 fronts_cut x [] = refl
 fronts_cut x (f ∷ fs) = omega arith
 
 tickets_cut : (x : ℕ) (fs : List FrontTickets)
-    → times x (flat_map (λ (f : FrontTickets). f.tickets) fs) ≡ times x (flat_map (λ (f : FrontTickets). f.tickets) (without_first fs)) + times x (flat_map (λ (f : FrontTickets). f.tickets) (first_alone fs))
+    → times x (flat_map (λ (f : FrontTickets). f.tickets) fs) ≡ times x (flat_map (λ (f : FrontTickets). f.tickets) (without_first fs))
+    + times x (flat_map (λ (f : FrontTickets). f.tickets) (first_alone fs))
 tickets_cut x [] = refl
 tickets_cut x (f ∷ fs) = omega (arith, times-append x f.tickets (flat_map (λ (f : FrontTickets). f.tickets) fs), times-append x f.tickets [])
 
@@ -38,13 +40,20 @@ tickets_first (f ∷ fs) h = λ k d lt. at k d lt
     at (suc k) d lt = absurd (omega arith)
 
 -- The first front of those that the opener still stands for gets a seat.
-deals : (fronts id : ℕ) (fs : List FrontTickets) → Splits (GateHolds fronts) id (stands_for fs true) (rest_of (stands_for fs true)) (first_seat (stands_for fs true))
+deals : (fronts id : ℕ) (fs : List FrontTickets)
+    → Splits (GateHolds fronts) id (stands_for fs true) (rest_of (stands_for fs true)) (first_seat (stands_for fs true))
 deals fronts id fs s h at =
     let v = stands_for fs true in
     let left = rest_of v in
     let right = first_seat v in
     let was = (h.seats id v at).0 in
-    let rest : IsSound left = record { tickets = tickets_rest fs was.tickets; refused = omega arith; unknown = λ _. refl; others = λ k. absurd (true≢false k) } in
+    let rest : IsSound left = record {
+      tickets = tickets_rest fs was.tickets;
+      refused = omega arith;
+      unknown = λ _. refl;
+      others =
+          λ k. absurd (true≢false k);
+    } in
     let first : IsSound right = record { tickets = tickets_first fs was.tickets; refused = omega arith; unknown = λ _. refl; others = λ _. refl } in
     record {
       word = h.word;
@@ -58,9 +67,16 @@ deals fronts id fs s h at =
       phase = ⊎_elim
           (λ (o : IsOpen h.word s.views). inl record {
             clear = o.clear;
-            tickets = λ x. omega (arith, times_snoc tickets_in (set s.views id left) right x, times_set tickets_in s.views id v left x at, o.tickets x, tickets_cut x fs);
+            tickets = λ x. omega (
+              arith,
+              times_snoc tickets_in (set s.views id left) right x,
+              times_set tickets_in s.views id v left x at,
+              o.tickets x,
+              tickets_cut x fs,
+            );
             unknown = each_snoc (λ j u. (u.knows_shutdown ≡ false) × (u.accepted ≡ None)) (set s.views id left) right
-                (each_set (λ j u. (u.knows_shutdown ≡ false) × (u.accepted ≡ None)) s.views id left (λ j u apart e. o.unknown j u e) (refl, refl)) (λ j. (refl, refl));
+                (each_set (λ j u. (u.knows_shutdown ≡ false) × (u.accepted ≡ None)) s.views id left (λ j u apart e. o.unknown j u e) (refl, refl))
+                (λ j. (refl, refl));
           })
           (λ (c : (n : ℕ) × IsShut n h.word s.views). let never : None ≡ Some c.0 = c.1.accepted id v at refl in absurd (cc))
           h.phase;
@@ -95,12 +111,20 @@ none_below x = grind (arith, nat_tests)
 -- At the opening one seat stands for all fronts and is the shutter's.
 pub opens : (fronts : ℕ) → fronts ≤ 16 → GateHolds fronts (opening (0 ∷ []) [] (all_in_one fronts))
 opens fronts few =
-    let sound : IsSound (all_in_one fronts) = record { tickets = tickets_new 0 fronts; refused = omega arith; unknown = λ _. refl; others = λ k. absurd (true≢false k) } in
+    let sound : IsSound (all_in_one fronts) =
+    record { tickets = tickets_new 0 fronts; refused = omega arith; unknown = λ _. refl; others = λ k. absurd (true≢false k) } in
     record {
       word = 0;
       words = refl;
       limit = few;
-      dealt = λ x. omega (arith, times_new x 0 fronts, times-append x (fronts_in (all_in_one fronts)) [], none_below x, below_at x (0 + fronts) fronts (omega arith));
+      dealt = λ x. omega (
+        arith,
+        times_new x 0 fronts,
+        times-append x (fronts_in (all_in_one fronts)) [],
+        none_below x,
+        below_at x
+            (0 + fronts) fronts (omega arith),
+      );
       shutter = 0;
       seats = one_each (λ j u. IsSound u × (u.is_shutter ≡ true → j ≡ 0)) (all_in_one fronts) (sound, (λ _. refl));
       phase = inl record {
@@ -116,16 +140,20 @@ next_front k n lt = let e : n - k ≡ suc (n - (k + 1)) = omega arith in ap (new
 -- what is left after the k-th front of n got its seat, and that seat
 pub rest_left : (k n : ℕ) (m : Me (Unit {0}) SeatView) → k < n → m ≡ (stands_for (new_fronts k (n - k)) true, [])
     → ◌≡◌ {A = Me (Unit {0}) SeatView} (rest_of m.0, m.1) (stands_for (new_fronts (k + 1) (n - (k + 1))) true, [])
-rest_left k n m lt is = ap (λ (m : Me (Unit {0}) SeatView). (rest_of m.0, m.1)) is ∙ ap (λ (fs : List FrontTickets). (rest_of (stands_for fs true), [])) (next_front k n lt)
+rest_left k n m lt is = ap (λ (m : Me (Unit {0}) SeatView). (rest_of m.0, m.1)) is
+    ∙ ap (λ (fs : List FrontTickets). (rest_of (stands_for fs true), [])) (next_front k n lt)
 
-pub first_given : (k n : ℕ) (m : Me (Unit {0}) SeatView) → k < n → m ≡ (stands_for (new_fronts k (n - k)) true, []) → ◌≡◌ {A = Me (Unit {0}) SeatView} (first_seat m.0, []) (front_view k [] false 0, [])
-first_given k n m lt is = ap (λ (m : Me (Unit {0}) SeatView). (first_seat m.0, [])) is ∙ ap (λ (fs : List FrontTickets). (first_seat (stands_for fs true), [])) (next_front k n lt)
+pub first_given : (k n : ℕ) (m : Me (Unit {0}) SeatView) → k < n → m ≡ (stands_for (new_fronts k (n - k)) true, [])
+    → ◌≡◌ {A = Me (Unit {0}) SeatView} (first_seat m.0, []) (front_view k [] false 0, [])
+first_given k n m lt is = ap (λ (m : Me (Unit {0}) SeatView). (first_seat m.0, [])) is
+    ∙ ap (λ (fs : List FrontTickets). (first_seat (stands_for fs true), [])) (next_front k n lt)
 
 pub no_front_left : (n : ℕ) (m : Me (Unit {0}) SeatView) → m ≡ (stands_for (new_fronts n (n - n)) true, []) → m ≡ (shutter_view None, [])
 no_front_left n m is = let e : n - n ≡ 0 = omega arith in is ∙ ap (λ (j : ℕ). (stands_for (new_fronts n j) true, [])) e
 
 -- an element of a list with one more at its end
-pub get_snoc : {X : Type 0} (xs : List X) (x y : X) (k : ℕ) → slice_get (xs ++ x ∷ []) k ≡ Some y → ((k < length xs) × (slice_get xs k ≡ Some y)) ⊎ ((k ≡ length xs) × (x ≡ y))
+pub get_snoc : {X : Type 0} (xs : List X) (x y : X) (k : ℕ) → slice_get (xs ++ x ∷ []) k ≡ Some y → ((k < length xs) × (slice_get xs k ≡ Some y))
+    ⊎ ((k ≡ length xs) × (x ≡ y))
 get_snoc [] x y zero e = inr (refl, same_Some x y e)
 get_snoc {X} [] x y (suc k) e = let never : ◌≡◌ {A = Option X} None (Some y) = e in absurd (cc)
 get_snoc (z ∷ zs) x y zero e = inl (omega arith, e)

@@ -19,11 +19,13 @@ use Rattle.ct_gate.proofs.Counts.{off, times-append, times_set, times_within, ti
 found_word : (fronts : ℕ) (s : State (Unit {0}) SeatView) → GateHolds fronts s → s.words ≡ slice_index s.words 0 ∷ []
 found_word fronts s h = h.words ∙ ap (λ (k : ℕ). k ∷ []) (sym (ap (λ ws. slice_index ws 0) h.words))
 
-found_phase : (fronts : ℕ) (s : State (Unit {0}) SeatView) → GateHolds fronts s → IsOpen (slice_index s.words 0) s.views ⊎ ((n : ℕ) × IsShut n (slice_index s.words 0) s.views)
+found_phase : (fronts : ℕ) (s : State (Unit {0}) SeatView) → GateHolds fronts s → IsOpen (slice_index s.words 0) s.views
+    ⊎ ((n : ℕ) × IsShut n (slice_index s.words 0) s.views)
 found_phase fronts s h = subst (λ (k : ℕ). IsOpen k s.views ⊎ ((n : ℕ) × IsShut n k s.views)) (sym (ap (λ ws. slice_index ws 0) h.words)) h.phase
 
 -- One seat's view becomes w, which stands for the same fronts.
-one_view : (fronts id : ℕ) (s : State (Unit {0}) SeatView) (hs : List (Maybe (Unit {0}))) (ws : List ℕ) (word : ℕ) (v w : SeatView) → GateHolds fronts s → get_elem? s.views id ≡ some v
+one_view : (fronts id : ℕ) (s : State (Unit {0}) SeatView) (hs : List (Maybe (Unit {0}))) (ws : List ℕ) (word : ℕ) (v w : SeatView) → GateHolds fronts s
+    → get_elem? s.views id ≡ some v
     → fronts_in w ≡ fronts_in v → IsSound w → (w.is_shutter ≡ true → v.is_shutter ≡ true) → ws ≡ word ∷ []
     → (IsOpen word (set s.views id w) ⊎ ((n : ℕ) × IsShut n word (set s.views id w)))
     → GateHolds fronts record { words = ws; homes = hs; views = set s.views id w }
@@ -33,7 +35,8 @@ one_view fronts id s hs ws word v w h at same sound place is phase = record {
   limit = h.limit;
   dealt = λ x. omega (arith, times_set fronts_in s.views id v w x at, h.dealt x, ap (λ (l : List ℕ). times x l) same);
   shutter = h.shutter;
-  seats = each_set (λ j u. IsSound u × (u.is_shutter ≡ true → j ≡ h.shutter)) s.views id w (λ j u apart e. h.seats j u e) (sound, λ k. (h.seats id v at).1 (place k));
+  seats = each_set (λ j u. IsSound u × (u.is_shutter ≡ true → j ≡ h.shutter)) s.views id w (λ j u apart e. h.seats j u e)
+      (sound, λ k. (h.seats id v at).1 (place k));
   phase = phase;
 }
 
@@ -67,7 +70,16 @@ module _ (fronts id number : ℕ) (ts : List ℕ) (refused : ℕ) (few : length 
       let w = front_view number (ts ++ n ∷ []) false refused in
       record {
         clear = omega (arith, tickets_count fronts n s h o.tickets);
-        tickets = λ x. omega (arith, times_set tickets_in s.views id v w x at, o.tickets x, below_more x n, times-append x ts [], times-append x (ts ++ n ∷ []) [], times-append x ts (n ∷ []));
+        tickets = λ x. omega (
+          arith,
+          times_set tickets_in s.views id v w x at,
+          o.tickets x,
+          below_more x n,
+          times-append x ts [],
+          times-append x
+              (ts ++ n ∷ []) [],
+          times-append x ts (n ∷ []),
+        );
         unknown = each_set (λ j u. (u.knows_shutdown ≡ false) × (u.accepted ≡ None)) s.views id w (λ j u apart e. o.unknown j u e) (refl, refl);
       }
 
@@ -106,7 +118,8 @@ module _ (fronts id number : ℕ) (ts : List ℕ) (refused : ℕ) (few : length 
 
 -- A front's seat draws.
 pub draws : (fronts slots id number : ℕ) (ts : List ℕ) (refused : ℕ) → length ts < 2 ^ 32
-    → Allows (GateHolds fronts) slots id (front_view number ts false refused, []) 0 (λ n. (n + 1) % 2 ^ 64) (Draws (step slots 0 1 0 none) (front_view number ts false refused, []))
+    → Allows (GateHolds fronts) slots id (front_view number ts false refused, []) 0 (λ n. (n + 1) % 2 ^ 64)
+    (Draws (step slots 0 1 0 none) (front_view number ts false refused, []))
 draws fronts slots id number ts refused few s h _ at fits =
     let word : ℕ = slice_index s.words 0 in
     let v = front_view number ts false refused in
@@ -118,18 +131,21 @@ draws fronts slots id number ts refused few s h _ at fits =
       w,
       keeps,
       tt,
-      one_view fronts id s s.homes (slice_set s.words 0 ((word + 1) % 2 ^ 64)) (word + 1) v w h at refl (draw_sound fronts id number ts refused few s h at word o.tickets) (λ k. k)
+      one_view fronts id s s.homes (slice_set s.words 0 ((word + 1) % 2 ^ 64)) (word + 1) v w h at refl
+          (draw_sound fronts id number ts refused few s h at word o.tickets) (λ k. k)
           (words_set s.words word ((word + 1) % 2 ^ 64) is ∙ ap (λ (k : ℕ). k ∷ []) next)
           (inl (draw_open fronts id number ts refused few s h at word o)),
       (refl, (λ _. refl), (λ ge. absurd (not_both word o.clear ge))),
     ))
     (λ (c : (n : ℕ) × IsShut n word s.views).
     let w = front_view number ts true (refused + 1) in
-    let next : (word + 1) % 2 ^ 64 ≡ word + 1 = mod-eq_of_lt (room_shut c.0 word (refused_draws s.views) c.1.draws (tickets_count fronts c.0 s h c.1.tickets) (refused_count fronts s h)) in (
+    let next : (word + 1) % 2 ^ 64 ≡ word + 1 =
+    mod-eq_of_lt (room_shut c.0 word (refused_draws s.views) c.1.draws (tickets_count fronts c.0 s h c.1.tickets) (refused_count fronts s h)) in (
       w,
       keeps,
       tt,
-      one_view fronts id s s.homes (slice_set s.words 0 ((word + 1) % 2 ^ 64)) (word + 1) v w h at refl (refuse_sound fronts id number ts refused few s h at) (λ k. k)
+      one_view fronts id s s.homes (slice_set s.words 0 ((word + 1) % 2 ^ 64)) (word + 1) v w h at refl
+          (refuse_sound fronts id number ts refused few s h at) (λ k. k)
           (words_set s.words word ((word + 1) % 2 ^ 64) is ∙ ap (λ (k : ℕ). k ∷ []) next)
           (inr (c.0, draw_shut fronts id number ts refused few s h at c.0 word c.1)),
       (refl, (λ lt. absurd (not_clear c.0 word (refused_draws s.views) c.1.draws lt)), (λ _. refl)),
@@ -144,7 +160,8 @@ draws fronts slots id number ts refused few s h _ at fits =
 
 -- A front's seat glances at the word.
 pub glances : (fronts slots id number : ℕ) (ts : List ℕ) (refused : ℕ)
-    → Allows (GateHolds fronts) slots id (front_view number ts false refused, []) 0 (λ n. n) (Glances (step slots 0 0 0 none) (front_view number ts false refused, []))
+    → Allows (GateHolds fronts) slots id (front_view number ts false refused, []) 0 (λ n. n)
+    (Glances (step slots 0 0 0 none) (front_view number ts false refused, []))
 glances fronts slots id number ts refused s h _ at fits =
     let word : ℕ = slice_index s.words 0 in
     let v = front_view number ts false refused in
@@ -186,7 +203,8 @@ none_refused [] h = refl
 none_refused (v ∷ vs) h = omega (arith, h 0 v refl, none_refused vs (λ id u e. h (suc id) u e))
 
 -- The shutter's seat sets bit 63.
-pub shuts : (fronts slots id : ℕ) → Allows (GateHolds fronts) slots id (shutter_view None, []) 0 (λ n. bit_or n (2 ^ 63)) (Shuts (step slots 0 (2 ^ 63) 0 none) (shutter_view None, []))
+pub shuts : (fronts slots id : ℕ) → Allows (GateHolds fronts) slots id (shutter_view None, []) 0 (λ n. bit_or n (2 ^ 63))
+    (Shuts (step slots 0 (2 ^ 63) 0 none) (shutter_view None, []))
 shuts fronts slots id s h _ at fits =
     let word : ℕ = slice_index s.words 0 in
     let v = shutter_view None in
@@ -200,7 +218,8 @@ shuts fronts slots id s h _ at fits =
     let shut : IsShut word (2 ^ 63 + word) (set s.views id w) = record {
       tickets = λ x. omega (arith, times_set tickets_in s.views id v w x at, o.tickets x);
       draws = omega (arith, refused_set s.views id v w at, none_yet);
-      accepted = each_set (λ j u. u.is_shutter ≡ true → u.accepted ≡ Some word) s.views id w (λ j u apart e k. absurd (apart ((h.seats j u e).1 k ∙ sym (mine.1 refl)))) (λ _. refl);
+      accepted = each_set (λ j u. u.is_shutter ≡ true → u.accepted ≡ Some word) s.views id w
+          (λ j u apart e k. absurd (apart ((h.seats j u e).1 k ∙ sym (mine.1 refl)))) (λ _. refl);
     } in (
       w,
       keeps,
@@ -214,15 +233,20 @@ shuts fronts slots id s h _ at fits =
     (found_phase fronts s h)
 
 -- the steps, at a seat whose view is known
-pub shuts_as : (fronts slots id : ℕ) (m : Me (Unit {0}) SeatView) → m ≡ (shutter_view None, []) → Allows (GateHolds fronts) slots id m 0 (λ n. bit_or n (2 ^ 63)) (Shuts (step slots 0 (2 ^ 63) 0 none) m)
-shuts_as fronts slots id m is = subst (λ (m : Me (Unit {0}) SeatView). Allows (GateHolds fronts) slots id m 0 (λ n. bit_or n (2 ^ 63)) (Shuts (step slots 0 (2 ^ 63) 0 none) m)) (sym is) (shuts fronts slots id)
+pub shuts_as : (fronts slots id : ℕ) (m : Me (Unit {0}) SeatView) → m ≡ (shutter_view None, [])
+    → Allows (GateHolds fronts) slots id m 0 (λ n. bit_or n (2 ^ 63)) (Shuts (step slots 0 (2 ^ 63) 0 none) m)
+shuts_as fronts slots id m is = subst (λ (m : Me (Unit {0}) SeatView).
+    Allows (GateHolds fronts) slots id m 0 (λ n. bit_or n (2 ^ 63)) (Shuts (step slots 0 (2 ^ 63) 0 none) m)) (sym is) (shuts fronts slots id)
 
-pub draws_as : (fronts slots id : ℕ) (m : Me (Unit {0}) SeatView) (number : ℕ) (ts : List ℕ) (refused : ℕ) → m ≡ (front_view number ts false refused, []) → length ts < 2 ^ 32
+pub draws_as : (fronts slots id : ℕ) (m : Me (Unit {0}) SeatView) (number : ℕ) (ts : List ℕ) (refused : ℕ)
+    → m ≡ (front_view number ts false refused, []) → length ts < 2 ^ 32
     → Allows (GateHolds fronts) slots id m 0 (λ n. (n + 1) % 2 ^ 64) (Draws (step slots 0 1 0 none) m)
 draws_as fronts slots id m number ts refused is few =
-    subst (λ (m : Me (Unit {0}) SeatView). Allows (GateHolds fronts) slots id m 0 (λ n. (n + 1) % 2 ^ 64) (Draws (step slots 0 1 0 none) m)) (sym is) (draws fronts slots id number ts refused few)
+    subst (λ (m : Me (Unit {0}) SeatView). Allows (GateHolds fronts) slots id m 0 (λ n. (n + 1) % 2 ^ 64) (Draws (step slots 0 1 0 none) m)) (sym is)
+    (draws fronts slots id number ts refused few)
 
 pub glances_as : (fronts slots id : ℕ) (m : Me (Unit {0}) SeatView) (number : ℕ) (ts : List ℕ) (refused : ℕ) → m ≡ (front_view number ts false refused, [])
     → Allows (GateHolds fronts) slots id m 0 (λ n. n) (Glances (step slots 0 0 0 none) m)
 glances_as fronts slots id m number ts refused is =
-    subst (λ (m : Me (Unit {0}) SeatView). Allows (GateHolds fronts) slots id m 0 (λ n. n) (Glances (step slots 0 0 0 none) m)) (sym is) (glances fronts slots id number ts refused)
+    subst (λ (m : Me (Unit {0}) SeatView). Allows (GateHolds fronts) slots id m 0 (λ n. n) (Glances (step slots 0 0 0 none) m)) (sym is)
+    (glances fronts slots id number ts refused)

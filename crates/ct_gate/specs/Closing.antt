@@ -9,7 +9,14 @@ use Rattle.ct_gate.specs.Opening.{stands_for}
 -- the fronts of gathered, and the first one's place as shutter
 abbrev pub gathered : SeatView → SeatView → SeatView
 gathered v w =
-    record { fronts = v.fronts ++ w.fronts; knows_shutdown = v.knows_shutdown || w.knows_shutdown; refused = v.refused + w.refused; is_shutter = v.is_shutter; accepted = v.accepted }
+    record {
+      fronts = v.fronts ++ w.fronts;
+      knows_shutdown = v.knows_shutdown || w.knows_shutdown;
+      refused = v.refused + w.refused;
+      is_shutter =
+          v.is_shutter;
+      accepted = v.accepted;
+    }
 
 -- what is left of a seat that was taken in
 abbrev pub spent : SeatView

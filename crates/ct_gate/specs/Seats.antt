@@ -24,7 +24,13 @@ EachView P views = (id : ℕ) (v : SeatView) → get_elem? views id ≡ some v �
 -- of one front's seat
 abbrev pub front_view : ℕ → List ℕ → Bool → ℕ → SeatView
 front_view number tickets knows_shutdown refused =
-    record { fronts = record { front = number; tickets = tickets } ∷ []; knows_shutdown = knows_shutdown; refused = refused; is_shutter = false; accepted = None }
+    record {
+      fronts = record { front = number; tickets = tickets } ∷ [];
+      knows_shutdown = knows_shutdown;
+      refused = refused;
+      is_shutter = false;
+      accepted = None;
+    }
 
 -- of the shutter's seat
 abbrev pub shutter_view : Option ℕ → SeatView

@@ -7,7 +7,8 @@ use Rattle.ct_gate.specs.Ends.{IntakeView, made_item}
 
 -- the submission is accepted with this ticket, and fills one place
 abbrev pub Accepts : IntakeView → Submitted → ℕ → IntakeView → Type 0
-Accepts a s ticket b = (b.accepted ≡ a.accepted ++ made_item a.number ticket s ∷ []) × (b.knows_shutdown ≡ false) × (length a.accepted < 2 ^ 32) × (a.free ≤ b.free + 1)
+Accepts a s ticket b = (b.accepted ≡ a.accepted ++ made_item a.number ticket s ∷ []) × (b.knows_shutdown ≡ false)
+    × (length a.accepted < 2 ^ 32) × (a.free ≤ b.free + 1)
 
 -- Why a submission is refused: the shutdown is known; else the front has had 2 ^ 32 accepted; else no free
 -- place of the ring was known, nor is one now, and as many were accepted as the ring has places.

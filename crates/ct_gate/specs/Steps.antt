@@ -11,7 +11,14 @@ with_ticket t (f ∷ fs) = record { front = f.front; tickets = f.tickets ++ t �
 
 -- a draw while the gate is open
 abbrev pub after_draw : ℕ → SeatView → SeatView
-after_draw t v = record { fronts = with_ticket t v.fronts; knows_shutdown = v.knows_shutdown; refused = v.refused; is_shutter = v.is_shutter; accepted = v.accepted }
+after_draw t v = record {
+  fronts = with_ticket t v.fronts;
+  knows_shutdown = v.knows_shutdown;
+  refused = v.refused;
+  is_shutter =
+      v.is_shutter;
+  accepted = v.accepted;
+}
 
 -- a draw that finds the shutdown
 abbrev pub after_refusal : SeatView → SeatView

@@ -58,20 +58,24 @@ pub bad_line : (log : Log) (line : List ℕ) → ((a : Asked) → IsRequest line
 bad_line log line h = sym (ap (answer_if log) (no_request line h))
 
 -- the reply to a line
-reply_as : (log : Log) (line text : List ℕ) (r : Result Reply Refusal) → Answers r (line_answer log line) → (r ≡ Err Memory → ⊥) → text ≡ reply_line (answered r) → text ≡ frozen_reply log line
+reply_as : (log : Log) (line text : List ℕ) (r : Result Reply Refusal) → Answers r (line_answer log line) → (r ≡ Err Memory → ⊥)
+    → text ≡ reply_line (answered r) → text ≡ frozen_reply log line
 unfolding frozen_reply
 reply_as log line text (Ok x) a h e = e ∙ ap reply_line a
 reply_as log line text (Err f) (inl same) h e = absurd (h (ap Err same))
 reply_as log line text (Err f) (inr a) h e = e ∙ ap reply_line a
 
-pub reply_ok : (log : Log) (line : List ℕ) (t : Result (Vec ℕ Global) AllocError) (r : Result Reply Refusal) → IfOk t (λ b. b.items ≡ reply_line (answered r)) → Answers r (line_answer log line)
+pub reply_ok : (log : Log) (line : List ℕ) (t : Result (Vec ℕ Global) AllocError) (r : Result Reply Refusal)
+    → IfOk t (λ b. b.items ≡ reply_line (answered r)) → Answers r (line_answer log line)
     → (r ≡ Err Memory → ⊥) → IfOk t (λ b. b.items ≡ frozen_reply log line)
 reply_ok log line (Ok b) r e a h = reply_as log line b.items r a h e
 reply_ok log line (Err f) r e a h = tt
 
 -- of what is told where no growth was refused
-pub reply_told : (log : Log) (line : List ℕ) (t : Result (Vec ℕ Global) AllocError) (r told : Result Reply Refusal) (o : Result (Result Reply Refusal) AllocError) → o ≡ Ok told
-    → MatchResult o (λ x. (x ≡ r) × (r ≢ Err Memory)) (λ _. r ≡ Err Memory) → IfOk t (λ b. b.items ≡ reply_line (answered told)) → Answers r (line_answer log line)
+pub reply_told : (log : Log) (line : List ℕ) (t : Result (Vec ℕ Global) AllocError) (r told : Result Reply Refusal)
+    (o : Result (Result Reply Refusal) AllocError) → o ≡ Ok told
+    → MatchResult o (λ x. (x ≡ r) × (r ≢ Err Memory)) (λ _. r ≡ Err Memory) → IfOk t (λ b. b.items ≡ reply_line (answered told))
+    → Answers r (line_answer log line)
     → IfOk t (λ b. b.items ≡ frozen_reply log line)
 reply_told log line t r told o e said text a =
     let same : (told ≡ r) × (r ≢ Err Memory) =
@@ -82,6 +86,7 @@ pub reply_too_long : (log : Log) (line : List ℕ) → 1048576 < length line →
 unfolding frozen_reply
 reply_too_long log line h = ap reply_line (sym (ap (answer_if log) (too_long line h)))
 
-pub too_long_stands : (log : Log) (held : StandingLine) (line text : List ℕ) → held.too_long ≡ true → text ≡ reply_line (refused BadLine) → StandsFor held line → text ∷ [] ≡ reply_if (frozen_reply log) line
+pub too_long_stands : (log : Log) (held : StandingLine) (line text : List ℕ) → held.too_long ≡ true → text ≡ reply_line (refused BadLine)
+    → StandsFor held line → text ∷ [] ≡ reply_if (frozen_reply log) line
 too_long_stands log held [] text e same s = absurd (omega (arith, subst (λ t. StandsAs t held.bytes.items []) e s))
 too_long_stands log held (b ∷ bs) text e same s = ap (λ t. t ∷ []) (same ∙ reply_too_long log (b ∷ bs) (subst (λ t. StandsAs t held.bytes.items (b ∷ bs)) e s))

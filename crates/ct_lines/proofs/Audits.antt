@@ -47,7 +47,8 @@ own_audited log m n t v sized below e =
     e ∙ ap (λ b. cond (not b) (refused UnknownSize) (entry_found log m n (slice_get (take n log.entries) m))) sized in
     go (slice_get (take n log.entries) m) refl shown
   where
-    go : (o : Option Entry) → slice_get (take n log.entries) m ≡ o → an_entry t v ≡ entry_found log m n o → IsAudited sha256 (first_leaves log n) t.leaf_input m v
+    go : (o : Option Entry) → slice_get (take n log.entries) m ≡ o → an_entry t v ≡ entry_found log m n o
+        → IsAudited sha256 (first_leaves log n) t.leaf_input m v
     go None at s = cc
     go (Some x) at s =
         let text : t ≡ text_of x = cc in
@@ -56,12 +57,14 @@ own_audited log m n t v sized below e =
         let within : m < length (take n log.entries) = slice_get_within (take n log.entries) m x at in
         let count : length (first_leaves log n) ≡ length (take n log.entries) = length-map (take n log.entries) leaf in (
           omega (arith, within, count),
-          ap (λ (z : EntryText). z.leaf_input) text ∙ sym (ap leaf (get_or_from_slice_get (take n log.entries) m x x at)) ∙ sym (get_or-map leaf (take n log.entries) m x [] within),
+          ap (λ (z : EntryText). z.leaf_input) text ∙ sym (ap leaf (get_or_from_slice_get (take n log.entries) m x x at))
+              ∙ sym (get_or-map leaf (take n log.entries) m x [] within),
           way,
         )
 
 -- what the verdict on it is
-pub own_holds : (D : List (List ℕ)) (leaf : List ℕ) (m : ℕ) (p : List (List ℕ)) → is_accepted D leaf m p ≡ true → evid sha256 D leaf m p ≡ None → verdict D leaf m p ≡ proof_holds
+pub own_holds : (D : List (List ℕ)) (leaf : List ℕ) (m : ℕ) (p : List (List ℕ)) → is_accepted D leaf m p ≡ true → evid sha256 D leaf m p ≡ None
+    → verdict D leaf m p ≡ proof_holds
 unfolding verdict
 own_holds D leaf m p e none = ap (λ t. cond t (verdict_on (evid sha256 D leaf m p)) proof_refused) e ∙ ap verdict_on none
 
@@ -73,7 +76,8 @@ not_accepted D leaf m p e = ap (λ t. cond t (verdict_on (evid sha256 D leaf m p
 pub size_unknown : (log : Log) (leaf : List ℕ) (m n : ℕ) (p : List (List ℕ)) → is_size log n ≡ false → audit_answer log (audit leaf m n p) ≡ refused UnknownSize
 size_unknown log leaf m n p e = ap (λ t. cond (not t) (refused UnknownSize) (verdict (first_leaves log n) leaf m p)) e
 
-pub size_known : (log : Log) (leaf : List ℕ) (m n : ℕ) (p : List (List ℕ)) → is_size log n ≡ true → audit_answer log (audit leaf m n p) ≡ verdict (first_leaves log n) leaf m p
+pub size_known : (log : Log) (leaf : List ℕ) (m n : ℕ) (p : List (List ℕ)) → is_size log n ≡ true
+    → audit_answer log (audit leaf m n p) ≡ verdict (first_leaves log n) leaf m p
 size_known log leaf m n p e = ap (λ t. cond (not t) (refused UnknownSize) (verdict (first_leaves log n) leaf m p)) e
 
 pub leaves_counted : (log : Log) (n : ℕ) → n ≤ length log.entries → length (first_leaves log n) ≡ n

@@ -28,14 +28,16 @@ pub audit_built : (log : Log) (leaf : List ℕ) (m n : ℕ) (p : List (List ℕ)
 audit_built log leaf m n p sized accepted =
     ap (λ t. is_built (cond (not t) (refused UnknownSize) (verdict (first_leaves log n) leaf m p))) sized ∙ verdict_built (first_leaves log n) leaf m p accepted
 
-pub audit_answers : (log : Log) (leaf : List ℕ) (m n : ℕ) (p D : List (List ℕ)) (r : Result Reply Refusal) → is_size log n ≡ true → is_accepted (first_leaves log n) leaf m p ≡ true
+pub audit_answers : (log : Log) (leaf : List ℕ) (m n : ℕ) (p D : List (List ℕ)) (r : Result Reply Refusal) → is_size log n ≡ true
+    → is_accepted (first_leaves log n) leaf m p ≡ true
     → D ≡ first_leaves log n → MatchResult r (λ x. shown x ≡ verdict D leaf m p) (λ e. e ≡ Memory) → AnswersBuilt r (audit_answer log (audit leaf m n p))
 audit_answers log leaf m n p D (Ok x) sized accepted same said =
     said ∙ ap (λ d. verdict d leaf m p) same ∙ sym (ap (λ t. cond (not t) (refused UnknownSize) (verdict (first_leaves log n) leaf m p)) sized)
 audit_answers log leaf m n p D (Err e) sized accepted same said = inl (said, audit_built log leaf m n p sized accepted)
 
 -- a query of the log
-pub query_answers : (r : Result Reply Refusal) (a : Answer) → MatchResult r (λ x. shown x ≡ a) (λ e. (e ≡ Memory) ⊎ (refused e ≡ a)) → IfErr r (λ e. e ≡ Memory → takes_memory a ≡ true) → AnswersBuilt r a
+pub query_answers : (r : Result Reply Refusal) (a : Answer) → MatchResult r (λ x. shown x ≡ a) (λ e. (e ≡ Memory) ⊎ (refused e ≡ a))
+    → IfErr r (λ e. e ≡ Memory → takes_memory a ≡ true) → AnswersBuilt r a
 query_answers (Ok x) a h taken = h
 query_answers (Err e) a (inl h) taken = inl (h, ap (λ t. t || is_verdict a) (taken h))
 query_answers (Err e) a (inr h) taken = inr h

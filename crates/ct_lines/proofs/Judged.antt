@@ -45,7 +45,8 @@ accepted D leaf m p a =
     ap (λ t. t && is_root (rebuild sha256 m (length D) (hash_leaf sha256 leaf) p) (mth_of_leaves sha256 D)) below
     ∙ ap (λ o. is_root o (mth_of_leaves sha256 D)) a.1 ∙ (bytes_eq-Decides (mth_of_leaves sha256 D) (mth_of_leaves sha256 D)).1 refl
 
-pub verdict-evidence : (D : List (List ℕ)) (leaf : List ℕ) (m : ℕ) (p : List (List ℕ)) (e : Evidence Global) → InclusionEvidence sha256 D leaf m p e → evidence_answer e ≡ verdict D leaf m p
+pub verdict-evidence : (D : List (List ℕ)) (leaf : List ℕ) (m : ℕ) (p : List (List ℕ)) (e : Evidence Global) → InclusionEvidence sha256 D leaf m p e
+    → evidence_answer e ≡ verdict D leaf m p
 unfolding verdict
 verdict-evidence D leaf m p Holds h =
     sym (ap (λ t. cond t (verdict_on (evid sha256 D leaf m p)) proof_refused) (accepted D leaf m p h.0) ∙ ap verdict_on h.1)
@@ -62,8 +63,10 @@ verdict-refused D leaf m p fault law r = go (is_accepted D leaf m p) refl
     go true e = absurd (law sha256 (hash_leaf sha256 leaf) m (length D) p (mth_of_leaves sha256 D) fault (accepts D leaf m p e) r)
 
 -- what is said where there is no evidence
-pub verdict-fault : (D : List (List ℕ)) (leaf : List ℕ) (m : ℕ) (p : List (List ℕ)) (fault : EvidenceFault) (r : Result Reply Refusal) → PathNotRefused → InclusionFault sha256 D leaf m p fault
-    → MatchResult r (λ x. (x ≡ Refused) × (fault ≢ NoEvidence)) (λ e. (e ≡ Memory) × (fault ≡ NoEvidence)) → MatchResult r (λ x. shown x ≡ verdict D leaf m p) (λ e. e ≡ Memory)
+pub verdict-fault : (D : List (List ℕ)) (leaf : List ℕ) (m : ℕ) (p : List (List ℕ)) (fault : EvidenceFault) (r : Result Reply Refusal) → PathNotRefused
+    → InclusionFault sha256 D leaf m p fault
+    → MatchResult r (λ x. (x ≡ Refused) × (fault ≢ NoEvidence)) (λ e. (e ≡ Memory) × (fault ≡ NoEvidence))
+    → MatchResult r (λ x. shown x ≡ verdict D leaf m p) (λ e. e ≡ Memory)
 verdict-fault D leaf m p fault (Err e) law f said = said.0
 verdict-fault D leaf m p (ProofRefused v) (Ok x) law f said = ap shown said.0 ∙ verdict-refused D leaf m p v law f
 verdict-fault D leaf m p NoEvidence (Ok x) law f said = absurd (said.1 refl)

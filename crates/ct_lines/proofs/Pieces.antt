@@ -21,7 +21,8 @@ line_first reply (b ∷ bs) ls = refl
 pub served_none : (reply : List ℕ → List ℕ) (line : List ℕ) → ServesPiece reply line [] [] line
 served_none reply line = record { goes_on = λ more. refl; ends_on = λ more. refl }
 
-pub served_byte : (reply : List ℕ → List ℕ) (line p m : List ℕ) (rs : List (List ℕ)) (b : ℕ) → nat_eq b 10 ≡ false → ServesPiece reply line p rs m → ServesPiece reply line (p ++ b ∷ []) rs (m ++ b ∷ [])
+pub served_byte : (reply : List ℕ → List ℕ) (line p m : List ℕ) (rs : List (List ℕ)) (b : ℕ) → nat_eq b 10 ≡ false → ServesPiece reply line p rs m
+    → ServesPiece reply line (p ++ b ∷ []) rs (m ++ b ∷ [])
 served_byte reply line p m rs b other s = record {
   goes_on = λ more.
       ap (λ l. replies reply (cut line l)) (append_assoc p (b ∷ []) more) ∙ s.goes_on (b ∷ more)
@@ -31,7 +32,8 @@ served_byte reply line p m rs b other s = record {
       ∙ ap (λ (t : Bool). rs ++ replies reply (cond t (m ∷ ended [] more) (ended (m ++ b ∷ []) more))) other;
 }
 
-pub served_end : (reply : List ℕ → List ℕ) (line p m : List ℕ) (rs : List (List ℕ)) → ServesPiece reply line p rs m → ServesPiece reply line (p ++ 10 ∷ []) (rs ++ reply_if reply m) []
+pub served_end : (reply : List ℕ → List ℕ) (line p m : List ℕ) (rs : List (List ℕ)) → ServesPiece reply line p rs m
+    → ServesPiece reply line (p ++ 10 ∷ []) (rs ++ reply_if reply m) []
 served_end reply line p m rs s = record {
   goes_on = λ more.
       ap (λ l. replies reply (cut line l)) (append_assoc p (10 ∷ []) more) ∙ s.goes_on (10 ∷ more)
@@ -64,7 +66,8 @@ short_take n r h = go (take n r) refl
         (omega (arith, size), sym e ∙ ap (λ k. take k r) (sym size))
 
 -- serving stops at the end of a line
-pub stopped_end : (reply : List ℕ → List ℕ) (line p m rest next : List ℕ) (rs : List (List ℕ)) (f : ServeFault) → ServesPiece reply line p rs m → IsShort next (reply_if reply m) → StopsBefore f next (reply_if reply m) → IsStopped reply line (p ++ 10 ∷ rest) rs next f
+pub stopped_end : (reply : List ℕ → List ℕ) (line p m rest next : List ℕ) (rs : List (List ℕ)) (f : ServeFault) → ServesPiece reply line p rs m
+    → IsShort next (reply_if reply m) → StopsBefore f next (reply_if reply m) → IsStopped reply line (p ++ 10 ∷ rest) rs next f
 stopped_end reply line p m rest next rs f s h b = record {
   later = reply_if reply m ++ replies reply (cut [] rest);
   order = s.goes_on (10 ∷ rest) ∙ ap (λ l. rs ++ l) (line_first reply m (cut [] rest));
@@ -73,15 +76,18 @@ stopped_end reply line p m rest next rs f s h b = record {
 }
 
 -- serving stops with no reply begun
-pub stopped_between : (reply : List ℕ → List ℕ) (line p m rest : List ℕ) (rs : List (List ℕ)) (k : ℕ) → ServesPiece reply line p rs m → IsStopped reply line (p ++ rest) rs [] (Memory k)
+pub stopped_between : (reply : List ℕ → List ℕ) (line p m rest : List ℕ) (rs : List (List ℕ)) (k : ℕ) → ServesPiece reply line p rs m
+    → IsStopped reply line (p ++ rest) rs [] (Memory k)
 stopped_between reply line p m rest rs k s = record { later = replies reply (cut m rest); order = s.goes_on rest; short = tt; why = refl }
 
 -- a reply of which a proper beginning was written
-pub stop_here : (reply : List ℕ → List ℕ) (line bytes : List ℕ) (a b : Option (List ℕ)) (k : ℕ) → bytes ∷ [] ≡ reply_if reply line → (n : ℕ) × (n < length bytes) × Appends a b (take n bytes)
+pub stop_here : (reply : List ℕ → List ℕ) (line bytes : List ℕ) (a b : Option (List ℕ)) (k : ℕ) → bytes ∷ [] ≡ reply_if reply line → (n : ℕ)
+    × (n < length bytes) × Appends a b (take n bytes)
     → (next : List ℕ) × IsShort next (reply_if reply line) × StopsBefore (Write k) next (reply_if reply line) × Appends a b next
 stop_here reply line bytes a b k e w = (take w.0 bytes, subst (λ l. IsShort (take w.0 bytes) l) e (short_take w.0 bytes w.1), omega (arith, ap length e), w.2)
 
-pub goes_none : (reply : List ℕ → List ℕ) (old : Option (List ℕ)) (held : StandingLine) (count : ℕ) (line : List ℕ) → StandsFor held line → Goes reply old old held count count line []
+pub goes_none : (reply : List ℕ → List ℕ) (old : Option (List ℕ)) (held : StandingLine) (count : ℕ) (line : List ℕ) → StandsFor held line
+    → Goes reply old old held count count line []
 goes_none reply old held count line s = record {
   texts = [];
   line2 = line;
@@ -91,7 +97,9 @@ goes_none reply old held count line s = record {
   counted = omega arith;
 }
 
-pub goes_byte : (reply : List ℕ → List ℕ) (old new : Option (List ℕ)) (held after : StandingLine) (count n b : ℕ) (line p : List ℕ) → Goes reply old new held count n line p → ((l : List ℕ) → StandsFor held l → StandsFor after (l ++ b ∷ [])) → nat_eq b 10 ≡ false → Goes reply old new after count n line (p ++ b ∷ [])
+pub goes_byte : (reply : List ℕ → List ℕ) (old new : Option (List ℕ)) (held after : StandingLine) (count n b : ℕ) (line p : List ℕ)
+    → Goes reply old new held count n line p → ((l : List ℕ) → StandsFor held l → StandsFor after (l ++ b ∷ [])) → nat_eq b 10 ≡ false
+    → Goes reply old new after count n line (p ++ b ∷ [])
 goes_byte reply old new held after count n b line p g keep other = record {
   texts = g.texts;
   line2 = g.line2 ++ b ∷ [];
@@ -101,7 +109,10 @@ goes_byte reply old new held after count n b line p g keep other = record {
   counted = g.counted;
 }
 
-pub goes_end : (reply : List ℕ → List ℕ) (old mid new : Option (List ℕ)) (held after : StandingLine) (count n m : ℕ) (line p : List ℕ) → Goes reply old mid held count n line p → ((l : List ℕ) → StandsFor held l → Appends mid new (concat (reply_if reply l)) × (m ≡ n + length (reply_if reply l))) → StandsFor after [] → Goes reply old new after count m line (p ++ 10 ∷ [])
+pub goes_end : (reply : List ℕ → List ℕ) (old mid new : Option (List ℕ)) (held after : StandingLine) (count n m : ℕ) (line p : List ℕ)
+    → Goes reply old mid held count n line p
+    → ((l : List ℕ) → StandsFor held l → Appends mid new (concat (reply_if reply l)) × (m ≡ n + length (reply_if reply l))) → StandsFor after []
+    → Goes reply old new after count m line (p ++ 10 ∷ [])
 goes_end reply old mid new held after count n m line p g write empty =
     let w = write g.line2 g.stands in
     let own = reply_if reply g.line2 in
@@ -114,7 +125,10 @@ goes_end reply old mid new held after count n m line p g write empty =
       counted = omega (arith, w.1, g.counted, length-append g.texts own);
     }
 
-pub stops_end : (reply : List ℕ → List ℕ) (old mid new : Option (List ℕ)) (held : StandingLine) (count n : ℕ) (f : ServeFault) (line p rest : List ℕ) → Goes reply old mid held count n line p → ((l : List ℕ) → StandsFor held l → (next : List ℕ) × IsShort next (reply_if reply l) × StopsBefore f next (reply_if reply l) × Appends mid new next) → count_in f ≡ n → StopsWithin reply old new count f line (p ++ 10 ∷ rest)
+pub stops_end : (reply : List ℕ → List ℕ) (old mid new : Option (List ℕ)) (held : StandingLine) (count n : ℕ) (f : ServeFault) (line p rest : List ℕ)
+    → Goes reply old mid held count n line p
+    → ((l : List ℕ) → StandsFor held l → (next : List ℕ) × IsShort next (reply_if reply l) × StopsBefore f next (reply_if reply l)
+    × Appends mid new next) → count_in f ≡ n → StopsWithin reply old new count f line (p ++ 10 ∷ rest)
 stops_end reply old mid new held count n f line p rest g stop same =
     let s = stop g.line2 g.stands in
     record {
@@ -125,7 +139,8 @@ stops_end reply old mid new held count n f line p rest g stop same =
       counted = same ∙ g.counted;
     }
 
-pub stops_between : (reply : List ℕ → List ℕ) (old new : Option (List ℕ)) (held : StandingLine) (count n : ℕ) (line p rest : List ℕ) → Goes reply old new held count n line p → StopsWithin reply old new count (Memory n) line (p ++ rest)
+pub stops_between : (reply : List ℕ → List ℕ) (old new : Option (List ℕ)) (held : StandingLine) (count n : ℕ) (line p rest : List ℕ)
+    → Goes reply old new held count n line p → StopsWithin reply old new count (Memory n) line (p ++ rest)
 stops_between reply old new held count n line p rest g = record {
   texts = g.texts;
   next = [];
@@ -144,27 +159,37 @@ pub not_ten : (b : ℕ) → (b ≡ 10 → ⊥) → nat_eq b 10 ≡ false
 not_ten b h = grind (arith, common_steps)
 
 -- the same at a place of the piece
-pub goes_byte_at : (reply : List ℕ → List ℕ) (old new : Option (List ℕ)) (held after : StandingLine) (count n i : ℕ) (line xs : List ℕ) → i < length xs → (get_or xs i 0 ≡ 10 → ⊥) → Goes reply old new held count n line (take i xs) → ((l : List ℕ) → StandsFor held l → StandsFor after (l ++ get_or xs i 0 ∷ [])) → Goes reply old new after count n line (take (i + 1) xs)
+pub goes_byte_at : (reply : List ℕ → List ℕ) (old new : Option (List ℕ)) (held after : StandingLine) (count n i : ℕ) (line xs : List ℕ) → i < length xs
+    → (get_or xs i 0 ≡ 10 → ⊥) → Goes reply old new held count n line (take i xs)
+    → ((l : List ℕ) → StandsFor held l → StandsFor after (l ++ get_or xs i 0 ∷ [])) → Goes reply old new after count n line (take (i + 1) xs)
 goes_byte_at reply old new held after count n i line xs h other g keep =
     subst (λ (q : List ℕ). Goes reply old new after count n line q) (sym (piece_more xs i (get_or xs i 0) h refl))
     (goes_byte reply old new held after count n (get_or xs i 0) line (take i xs) g keep (not_ten (get_or xs i 0) other))
 
-pub goes_end_at : (reply : List ℕ → List ℕ) (old mid new : Option (List ℕ)) (held after : StandingLine) (count n m i : ℕ) (line xs : List ℕ) → i < length xs → get_or xs i 0 ≡ 10 → Goes reply old mid held count n line (take i xs) → ((l : List ℕ) → StandsFor held l → Appends mid new (concat (reply_if reply l)) × (m ≡ n + length (reply_if reply l))) → StandsFor after [] → Goes reply old new after count m line (take (i + 1) xs)
+pub goes_end_at : (reply : List ℕ → List ℕ) (old mid new : Option (List ℕ)) (held after : StandingLine) (count n m i : ℕ) (line xs : List ℕ)
+    → i < length xs → get_or xs i 0 ≡ 10 → Goes reply old mid held count n line (take i xs)
+    → ((l : List ℕ) → StandsFor held l → Appends mid new (concat (reply_if reply l)) × (m ≡ n + length (reply_if reply l))) → StandsFor after []
+    → Goes reply old new after count m line (take (i + 1) xs)
 goes_end_at reply old mid new held after count n m i line xs h ten g write empty =
     subst (λ (q : List ℕ). Goes reply old new after count m line q) (sym (piece_more xs i 10 h ten))
     (goes_end reply old mid new held after count n m line (take i xs) g write empty)
 
-pub stops_end_at : (reply : List ℕ → List ℕ) (old mid new : Option (List ℕ)) (held : StandingLine) (count n i : ℕ) (f : ServeFault) (line xs : List ℕ) → i < length xs → get_or xs i 0 ≡ 10 → Goes reply old mid held count n line (take i xs) → ((l : List ℕ) → StandsFor held l → (next : List ℕ) × IsShort next (reply_if reply l) × StopsBefore f next (reply_if reply l) × Appends mid new next) → count_in f ≡ n → StopsWithin reply old new count f line xs
+pub stops_end_at : (reply : List ℕ → List ℕ) (old mid new : Option (List ℕ)) (held : StandingLine) (count n i : ℕ) (f : ServeFault) (line xs : List ℕ)
+    → i < length xs → get_or xs i 0 ≡ 10 → Goes reply old mid held count n line (take i xs)
+    → ((l : List ℕ) → StandsFor held l → (next : List ℕ) × IsShort next (reply_if reply l) × StopsBefore f next (reply_if reply l)
+    × Appends mid new next) → count_in f ≡ n → StopsWithin reply old new count f line xs
 stops_end_at reply old mid new held count n i f line xs h ten g stop same =
     subst (λ (q : List ℕ). StopsWithin reply old new count f line q) (sym (piece_at xs i 10 h ten))
     (stops_end reply old mid new held count n f line (take i xs) (drop (i + 1) xs) g stop same)
 
-pub stops_between_at : (reply : List ℕ → List ℕ) (old new : Option (List ℕ)) (held : StandingLine) (count n i : ℕ) (line xs : List ℕ) → Goes reply old new held count n line (take i xs) → StopsWithin reply old new count (Memory n) line xs
+pub stops_between_at : (reply : List ℕ → List ℕ) (old new : Option (List ℕ)) (held : StandingLine) (count n i : ℕ) (line xs : List ℕ)
+    → Goes reply old new held count n line (take i xs) → StopsWithin reply old new count (Memory n) line xs
 stops_between_at reply old new held count n i line xs g =
     subst (λ (q : List ℕ). StopsWithin reply old new count (Memory n) line q) (take-append-drop i xs)
     (stops_between reply old new held count n line (take i xs) (drop i xs) g)
 
-served_then : (reply : List ℕ → List ℕ) (line p m q k : List ℕ) (rs ss : List (List ℕ)) → ServesPiece reply line p rs m → ServesPiece reply m q ss k → ServesPiece reply line (p ++ q) (rs ++ ss) k
+served_then : (reply : List ℕ → List ℕ) (line p m q k : List ℕ) (rs ss : List (List ℕ)) → ServesPiece reply line p rs m → ServesPiece reply m q ss k
+    → ServesPiece reply line (p ++ q) (rs ++ ss) k
 served_then reply line p m q k rs ss s t = record {
   goes_on = λ more.
       ap (λ l. replies reply (cut line l)) (append_assoc p q more) ∙ s.goes_on (q ++ more) ∙ ap (λ l. rs ++ l) (t.goes_on more)
@@ -174,7 +199,9 @@ served_then reply line p m q k rs ss s t = record {
       ∙ sym (append_assoc rs ss (replies reply (ended k more)));
 }
 
-pub goes_then : (reply : List ℕ → List ℕ) (old mid new : Option (List ℕ)) (held after : StandingLine) (count n m : ℕ) (line p q : List ℕ) → Goes reply old mid held count n line p → ((l : List ℕ) → StandsFor held l → Goes reply mid new after n m l q) → Goes reply old new after count m line (p ++ q)
+pub goes_then : (reply : List ℕ → List ℕ) (old mid new : Option (List ℕ)) (held after : StandingLine) (count n m : ℕ) (line p q : List ℕ)
+    → Goes reply old mid held count n line p → ((l : List ℕ) → StandsFor held l → Goes reply mid new after n m l q)
+    → Goes reply old new after count m line (p ++ q)
 goes_then reply old mid new held after count n m line p q g then =
     let h = then g.line2 g.stands in
     record {
@@ -182,7 +209,8 @@ goes_then reply old mid new held after count n m line p q g then =
       line2 = h.line2;
       stands = h.stands;
       served = served_then reply line p g.line2 q h.line2 g.texts h.texts g.served h.served;
-      written = subst (λ l. Appends old new l) (sym (concat-append g.texts h.texts)) (Appends-trans old mid new (concat g.texts) (concat h.texts) g.written h.written);
+      written = subst (λ l. Appends old new l) (sym (concat-append g.texts h.texts))
+          (Appends-trans old mid new (concat g.texts) (concat h.texts) g.written h.written);
       counted = omega (arith, g.counted, h.counted, length-append g.texts h.texts);
     }
 
@@ -192,7 +220,8 @@ CutOff reply old new input f =
     (written : List ℕ) × Appends old new written × IsCutOff (replies reply (cut [] input)) written (count_in f) × IsEndedBy reply input written f
 
 -- the texts that are whole, and the beginning of the next
-cut_off : (texts whole later : List (List ℕ)) (next : List ℕ) (k : ℕ) → texts ≡ whole ++ later → k ≡ length whole → IsShort next later → IsCutOff texts (concat whole ++ next) k
+cut_off : (texts whole later : List (List ℕ)) (next : List ℕ) (k : ℕ) → texts ≡ whole ++ later → k ≡ length whole → IsShort next later
+    → IsCutOff texts (concat whole ++ next) k
 cut_off texts whole later next k e n short =
     let size : length texts ≡ length whole + length later = ap length e ∙ length-append whole later in
     let front : take k texts ≡ whole = ap (λ l. take k l) e ∙ take_at whole later k (sym n) in
@@ -204,7 +233,8 @@ cut_off texts whole later next k e n short =
       short = subst (λ l. IsShort next l) (sym back) short;
     }
 
-ended_by : (reply : List ℕ → List ℕ) (input : List ℕ) (whole later : List (List ℕ)) (next : List ℕ) (f : ServeFault) → replies reply (cut [] input) ≡ whole ++ later → count_in f ≡ length whole
+ended_by : (reply : List ℕ → List ℕ) (input : List ℕ) (whole later : List (List ℕ)) (next : List ℕ) (f : ServeFault)
+    → replies reply (cut [] input) ≡ whole ++ later → count_in f ≡ length whole
     → StopsBefore f next later → IsEndedBy reply input (concat whole ++ next) f
 ended_by reply input whole later next (Read k) e n why = absurd why
 ended_by reply input whole later next (Write k) e n why =
@@ -229,7 +259,8 @@ cut_between reply old new held n input g =
       (append-nil (concat g.texts) ∙ ap concat (sym over), omega (arith, g.counted, ap length over)),
     )
 
-pub cut_stopped : (reply : List ℕ → List ℕ) (old mid new : Option (List ℕ)) (held : StandingLine) (n : ℕ) (f : ServeFault) (input q : List ℕ) → Goes reply old mid held 0 n [] input → ((l : List ℕ) → StandsFor held l → StopsWithin reply mid new n f l q) → CutOff reply old new (input ++ q) f
+pub cut_stopped : (reply : List ℕ → List ℕ) (old mid new : Option (List ℕ)) (held : StandingLine) (n : ℕ) (f : ServeFault) (input q : List ℕ)
+    → Goes reply old mid held 0 n [] input → ((l : List ℕ) → StandsFor held l → StopsWithin reply mid new n f l q) → CutOff reply old new (input ++ q) f
 cut_stopped reply old mid new held n f input q g stop =
     let h = stop g.line2 g.stands in
     let text : concat (g.texts ++ h.texts) ++ h.next ≡ concat g.texts ++ (concat h.texts ++ h.next) =
@@ -244,7 +275,9 @@ cut_stopped reply old mid new held n f input q g stop =
     )
 
 -- at the end of the input the last line is answered
-pub served_whole : (reply : List ℕ → List ℕ) (old mid new : Option (List ℕ)) (held : StandingLine) (n m : ℕ) (input : List ℕ) → Goes reply old mid held 0 n [] input → ((l : List ℕ) → StandsFor held l → Appends mid new (concat (reply_if reply l)) × (m ≡ n + length (reply_if reply l))) → Appends old new (concat (replies reply (cut [] input)))
+pub served_whole : (reply : List ℕ → List ℕ) (old mid new : Option (List ℕ)) (held : StandingLine) (n m : ℕ) (input : List ℕ)
+    → Goes reply old mid held 0 n [] input → ((l : List ℕ) → StandsFor held l → Appends mid new (concat (reply_if reply l))
+    × (m ≡ n + length (reply_if reply l))) → Appends old new (concat (replies reply (cut [] input)))
 served_whole reply old mid new held n m input g write =
     let w = write g.line2 g.stands in
     let own = reply_if reply g.line2 in
@@ -252,7 +285,9 @@ served_whole reply old mid new held n m input g write =
     ap (λ l. replies reply (cut [] l)) (sym (append-nil input)) ∙ g.served.goes_on [] ∙ ap (λ l. g.texts ++ l) (line_first reply g.line2 [] ∙ append-nil own) in
     subst (λ l. Appends old new l) (sym (ap concat order ∙ concat-append g.texts own)) (Appends-trans old mid new (concat g.texts) (concat own) g.written w.0)
 
-pub cut_last : (reply : List ℕ → List ℕ) (old mid new : Option (List ℕ)) (held : StandingLine) (n : ℕ) (f : ServeFault) (input : List ℕ) → Goes reply old mid held 0 n [] input → ((l : List ℕ) → StandsFor held l → (next : List ℕ) × IsShort next (reply_if reply l) × StopsBefore f next (reply_if reply l) × Appends mid new next) → count_in f ≡ n → CutOff reply old new input f
+pub cut_last : (reply : List ℕ → List ℕ) (old mid new : Option (List ℕ)) (held : StandingLine) (n : ℕ) (f : ServeFault) (input : List ℕ)
+    → Goes reply old mid held 0 n [] input → ((l : List ℕ) → StandsFor held l → (next : List ℕ) × IsShort next (reply_if reply l)
+    × StopsBefore f next (reply_if reply l) × Appends mid new next) → count_in f ≡ n → CutOff reply old new input f
 cut_last reply old mid new held n f input g stop same =
     let s = stop g.line2 g.stands in
     let order : replies reply (cut [] input) ≡ g.texts ++ (reply_if reply g.line2 ++ []) =
@@ -260,7 +295,8 @@ cut_last reply old mid new held n f input g stop same =
     let size : count_in f ≡ length g.texts = omega (arith, g.counted, same) in (
       concat g.texts ++ s.0,
       Appends-trans old mid new (concat g.texts) s.0 g.written s.3,
-      cut_off (replies reply (cut [] input)) g.texts (reply_if reply g.line2 ++ []) s.0 (count_in f) order size (short_more s.0 (reply_if reply g.line2) [] s.1),
+      cut_off (replies reply (cut [] input)) g.texts (reply_if reply g.line2 ++ []) s.0 (count_in f) order size
+          (short_more s.0 (reply_if reply g.line2) [] s.1),
       ended_by reply input g.texts (reply_if reply g.line2 ++ []) s.0 f order size (before_more f s.0 (reply_if reply g.line2) [] s.2),
     )
 

@@ -9,14 +9,16 @@ use Rattle.ct_lines.specs.Sends.{SendsSome}
 abbrev pub IsSending : Option (List ℕ) → Option (List ℕ) → List ℕ → List ℕ → Type 0
 IsSending old new bytes rest = (sent : List ℕ) × (bytes ≡ sent ++ rest) × Appends old new sent
 
-pub sending_more : (a b c : Option (List ℕ)) (bytes rest left : List ℕ) (n : ℕ) → IsSending a b bytes rest → Appends b c (take n rest) → left ≡ drop n rest → IsSending a c bytes left
+pub sending_more : (a b c : Option (List ℕ)) (bytes rest left : List ℕ) (n : ℕ) → IsSending a b bytes rest → Appends b c (take n rest)
+    → left ≡ drop n rest → IsSending a c bytes left
 sending_more a b c bytes rest left n s w e = (
   s.0 ++ take n rest,
   s.1 ∙ ap (λ l. s.0 ++ l) (sym (take-append-drop n rest)) ∙ sym (append_assoc s.0 (take n rest) (drop n rest)) ∙ ap (λ l. (s.0 ++ take n rest) ++ l) (sym e),
   Appends-trans a b c s.0 (take n rest) s.2 w,
 )
 
-pub sending_stops : (a b : Option (List ℕ)) (bytes rest : List ℕ) → IsSending a b bytes rest → 0 < length rest → (n : ℕ) × (n < length bytes) × Appends a b (take n bytes)
+pub sending_stops : (a b : Option (List ℕ)) (bytes rest : List ℕ) → IsSending a b bytes rest → 0 < length rest → (n : ℕ) × (n < length bytes)
+    × Appends a b (take n bytes)
 sending_stops a b bytes rest s h =
     let size : length bytes ≡ length s.0 + length rest = ap length s.1 ∙ length-append s.0 rest in
     let front : take (length s.0) bytes ≡ s.0 = ap (λ l. take (length s.0) l) s.1 ∙ take_at s.0 rest (length s.0) refl in

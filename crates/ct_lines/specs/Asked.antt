@@ -71,7 +71,8 @@ abbrev pub entries_asked : Data → Option Query
 entries_asked d = option_and_then (λ start. option_map (λ end. Entries start end) (number_at (codes "end") d)) (number_at (codes "start") d)
 
 abbrev pub entry_and_proof_asked : Data → Option Query
-entry_and_proof_asked d = option_and_then (λ index. option_map (λ size. EntryAndProof index size) (number_at (codes "tree_size") d)) (number_at (codes "leaf_index") d)
+entry_and_proof_asked d = option_and_then (λ index. option_map (λ size. EntryAndProof index size) (number_at (codes "tree_size") d))
+    (number_at (codes "leaf_index") d)
 
 abbrev pub receipt_asked : Data → Option Query
 receipt_asked d = option_map (λ ticket. Receipt ticket) (number_at (codes "ticket") d)

@@ -63,22 +63,28 @@ verdict_data verdict = object (member (codes "verdict") (string verdict) no_memb
 
 -- the JSON object of an answer, its keys in byte order
 abbrev pub reply_data : Answer → Data
-reply_data (a_head h) = object (member (codes "sha256_root_hash") (bytes_data h.root) (member (codes "timestamp") (number_data h.timestamp) (member (codes "tree_size") (number_data h.tree_size) no_members)))
+reply_data (a_head h) = object (member (codes "sha256_root_hash") (bytes_data h.root)
+    (member (codes "timestamp") (number_data h.timestamp) (member (codes "tree_size") (number_data h.tree_size) no_members)))
 reply_data (a_proof path) = object (member (codes "consistency") (hashes_data path) no_members)
 reply_data (an_index index path) = object (member (codes "audit_path") (hashes_data path) (member (codes "leaf_index") (number_data index) no_members))
 reply_data (some_entries es) = object (member (codes "entries") (entries_data es) no_members)
-reply_data (an_entry e path) = object (member (codes "audit_path") (hashes_data path) (member (codes "extra_data") (bytes_data e.extra_data) (member (codes "leaf_input") (bytes_data e.leaf_input) no_members)))
+reply_data (an_entry e path) = object (member (codes "audit_path") (hashes_data path)
+    (member (codes "extra_data") (bytes_data e.extra_data) (member (codes "leaf_input") (bytes_data e.leaf_input) no_members)))
 reply_data (a_receipt index timestamp) =
-    object (member (codes "extensions") (string (codes "")) (member (codes "leaf_index") (number_data index) (member (codes "sct_version") (number_data 0) (member (codes "timestamp") (number_data timestamp) no_members))))
+    object (member (codes "extensions") (string (codes ""))
+    (member (codes "leaf_index") (number_data index)
+    (member (codes "sct_version") (number_data 0) (member (codes "timestamp") (number_data timestamp) no_members))))
 reply_data (a_ticket n) = count_data (codes "ticket") n
 reply_data (a_reached_size n) = count_data (codes "reached") n
 reply_data (a_settled_count n) = count_data (codes "settled") n
-reply_data (a_published_head h) = object (member (codes "timestamp") (number_data h.timestamp) (member (codes "tree_size") (number_data h.tree_size) no_members))
+reply_data (a_published_head h) = object
+    (member (codes "timestamp") (number_data h.timestamp) (member (codes "tree_size") (number_data h.tree_size) no_members))
 reply_data (an_accepted_count n) = count_data (codes "accepted") n
 reply_data (a_shift k) = count_data (codes "shift") k
 reply_data proof_holds = verdict_data (codes "holds")
 reply_data proof_refused = verdict_data (codes "refused")
-reply_data (a_collision left right) = object (member (codes "left") (bytes_data left) (member (codes "right") (bytes_data right) (member (codes "verdict") (string (codes "collision")) no_members)))
+reply_data (a_collision left right) = object
+    (member (codes "left") (bytes_data left) (member (codes "right") (bytes_data right) (member (codes "verdict") (string (codes "collision")) no_members)))
 reply_data (refused e) = object (member (codes "error") (string (refusal_name e)) no_members)
 
 -- what a reply, or a refusal in its place, says

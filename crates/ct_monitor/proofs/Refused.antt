@@ -12,7 +12,8 @@ use Rattle.ct_monitor.specs.Observed.{IsInOrder, IsCounted, RefusesHead}
 use Rattle.ct_monitor.specs.declared.fault.MonitorFault.{MonitorFault}
 use Rattle.ct_monitor.specs.declared.fault.MonitorFault.TheVariants.{RootMismatch, Shrunk, Fork, TimeNotLater, CountMismatch, Memory}
 
-pub refused_at_last : (H : List ℕ → List ℕ) (old : Followed) (head : Head) (E : List (List ℕ)) (fault : MonitorFault) → IsInOrder old head × IsCounted old head E
+pub refused_at_last : (H : List ℕ → List ℕ) (old : Followed) (head : Head) (E : List (List ℕ)) (fault : MonitorFault)
+    → IsInOrder old head × IsCounted old head E
     → IsNoRoot H (old.leaves ++ E) head.root fault → RefusesHead H old head E fault
 refused_at_last H old head E RootMismatch o n = (o.0, o.1, n)
 refused_at_last H old head E Shrunk o n = absurd n

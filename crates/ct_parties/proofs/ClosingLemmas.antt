@@ -21,7 +21,8 @@ newest_in_time : (core : CoreState) (now : ℕ) → clock_of core ≤ now → ne
 newest_in_time core now h = omega arith
 
 -- a refused publication: what either test says, or there was no memory
-refused_by : (a b : Bool) (e : Refusal) (P : Type 0) → (a ≡ true → P) → (b ≡ true → P) → e ≡ (if a || b then ClockBack else Memory) → ((e ≡ ClockBack) × P) ⊎ (e ≡ Memory)
+refused_by : (a b : Bool) (e : Refusal) (P : Type 0) → (a ≡ true → P) → (b ≡ true → P) → e ≡ (if a || b then ClockBack else Memory)
+    → ((e ≡ ClockBack) × P) ⊎ (e ≡ Memory)
 refused_by true b e P p q h = inl (h, p refl)
 refused_by false true e P p q h = inl (h, q refl)
 refused_by false false e P p q h = inr h
@@ -36,12 +37,15 @@ publish_refused core now e h =
     (λ t newest. let l : now < last_moment core.published.heads + 1 = ltb-true now (last_moment core.published.heads + 1) t in omega arith) h
 
 -- after all was settled at now, the last head alone can be too late
-late_head : (old shut settled : HouseState) (xs : List Item) (now : ℕ) → shut ≡ record old { accepted = shut.accepted } → SettlesMore shut settled xs now → clock_of settled.core ≤ now
+late_head : (old shut settled : HouseState) (xs : List Item) (now : ℕ) → shut ≡ record old { accepted = shut.accepted } → SettlesMore shut settled xs now
+    → clock_of settled.core ≤ now
     → (newest_leaf settled.core.entries ≤ now → now ≤ last_moment settled.core.published.heads) → IsLate old.core now
 late_head old shut settled xs now e s time late =
-    inr (subst (λ (l : Log). now ≤ last_moment l.heads) (s.core.published ∙ ap (λ (h : HouseState). h.core.published) e) (late (newest_in_time settled.core now time)))
+    inr (subst (λ (l : Log). now ≤ last_moment l.heads) (s.core.published ∙ ap (λ (h : HouseState). h.core.published) e)
+    (late (newest_in_time settled.core now time)))
 
-pub closing_refused : (r : Result Head Refusal) (old shut settled after : HouseState) (xs : List Item) (now : ℕ) → shut ≡ record old { accepted = shut.accepted } → SettlesMore shut settled xs now
+pub closing_refused : (r : Result Head Refusal) (old shut settled after : HouseState) (xs : List Item) (now : ℕ)
+    → shut ≡ record old { accepted = shut.accepted } → SettlesMore shut settled xs now
     → clock_of settled.core ≤ now → IfErr r (λ e. (e ≡ publish_refusal settled.core now) × (after ≡ settled)) → IfErr r (λ e. IsRefusedAtClosing old now e)
 closing_refused (Ok h) old shut settled after xs now e s time p = tt
 closing_refused (Err r) old shut settled after xs now e s time p = elim (publish_refused settled.core now r p.0) [
@@ -59,13 +63,17 @@ of_moment : (now : ℕ) (xs : List Item) → All (λ (e : Entry). e.timestamp �
 of_moment now xs = All-map (λ (e : Entry). e.timestamp ≡ now) (entry_at now) xs (λ k d within. refl)
 
 -- so are those by which a house settles more
-enters_at : (old new : HouseState) (items xs : List Item) (now : ℕ) → IsSettled old.core items → SettlesMore old new xs now → EntersAt now old.core.entries new.core.entries
-enters_at old new items xs now settled s = (map (entry_at now) (firsts_after items xs), (s.core.grows items settled).entries, of_moment now (firsts_after items xs))
+enters_at : (old new : HouseState) (items xs : List Item) (now : ℕ) → IsSettled old.core items → SettlesMore old new xs now
+    → EntersAt now old.core.entries new.core.entries
+enters_at old new items xs now settled s =
+    (map (entry_at now) (firsts_after items xs), (s.core.grows items settled).entries, of_moment now (firsts_after items xs))
 
 -- the closing keeps what was settled, and what it settles is of its moment
-pub closing_keeps : (r : Result Head Refusal) (old shut settled after : HouseState) (items xs : List Item) (now : ℕ) → shut ≡ record old { accepted = shut.accepted }
+pub closing_keeps : (r : Result Head Refusal) (old shut settled after : HouseState) (items xs : List Item) (now : ℕ)
+    → shut ≡ record old { accepted = shut.accepted }
     → IsSettled old.core items → SettlesMore shut settled xs now
-    → IfOk r (λ h. IsNextHead settled.core now h × (after ≡ record settled { core = after_publishing settled.core h })) → OnOk r (KeepsSettled now old.core after.core)
+    → IfOk r (λ h. IsNextHead settled.core now h × (after ≡ record settled { core = after_publishing settled.core h }))
+    → OnOk r (KeepsSettled now old.core after.core)
 closing_keeps (Err e) old shut settled after items xs now same known s p = tt
 closing_keeps (Ok h) old shut settled after items xs now same known s p =
     let before : shut.core ≡ old.core = ap (λ (t : HouseState). t.core) same in
@@ -77,7 +85,8 @@ closing_keeps (Ok h) old shut settled after items xs now same known s p =
 -- a shutdown that was made before stays, with its number
 pub closing_counts : (told : Result ℕ Refusal) (r : Result Head Refusal) (old shut settled after : HouseState) (xs : List Item) (now : ℕ)
     → MatchResult told (λ n. (old.accepted ≡ None) × (shut.accepted ≡ Some n)) (λ e. (e ≡ Shutdown) × (old.accepted ≢ None) × (shut ≡ old))
-    → SettlesMore shut settled xs now → IfOk r (λ h. IsNextHead settled.core now h × (after ≡ record settled { core = after_publishing settled.core h })) → OnOk r (KeepsCount old after)
+    → SettlesMore shut settled xs now → IfOk r (λ h. IsNextHead settled.core now h × (after ≡ record settled { core = after_publishing settled.core h }))
+    → OnOk r (KeepsCount old after)
 closing_counts told (Err e) old shut settled after xs now t s p = tt
 closing_counts (Ok m) (Ok h) old shut settled after xs now t s p = λ n is. absurd (none-some n (sym t.0 ∙ is))
 closing_counts (Err e) (Ok h) old shut settled after xs now t s p =

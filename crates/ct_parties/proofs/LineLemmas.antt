@@ -16,7 +16,8 @@ strip_is xs k e = ap (λ (t : Bool). stripped t (length xs - 1)) (lt-ltb 0 (leng
 strip_more : (b : ℕ) (bs : List ℕ) → (b == 10) ≡ false → strip_last 10 (b ∷ bs) ≡ b ∷ strip_last 10 bs
 strip_more b [] other = strip_is (b ∷ []) 0 refl ∙ ap (λ (t : Bool). if t then [] else b ∷ []) other
 strip_more b (c ∷ bs) other =
-    strip_is (b ∷ c ∷ bs) (suc (length bs)) refl ∙ go (slice_index (c ∷ bs) (length bs) == 10) ∙ ap (λ (l : List ℕ). b ∷ l) (sym (strip_is (c ∷ bs) (length bs) refl))
+    strip_is (b ∷ c ∷ bs) (suc (length bs)) refl ∙ go (slice_index (c ∷ bs) (length bs) == 10)
+    ∙ ap (λ (l : List ℕ). b ∷ l) (sym (strip_is (c ∷ bs) (length bs) refl))
   where
     go : (t : Bool) → (if t then b ∷ take (length bs) (c ∷ bs) else b ∷ c ∷ bs) ≡ b ∷ (if t then take (length bs) (c ∷ bs) else c ∷ bs)
     go true = refl
@@ -31,17 +32,20 @@ cut_behind line (b ∷ bs) some = go (cut_behind (line ++ b ∷ []) bs (omega (a
     go : lines_behind (line ++ b ∷ []) bs ≡ ((line ++ b ∷ []) ++ first_piece 10 bs) ∷ lines_of (drop_through 10 bs) → (t : Bool) → (b == 10) ≡ t
         → lines_behind line (b ∷ bs) ≡ (line ++ first_piece 10 (b ∷ bs)) ∷ lines_of (drop_through 10 (b ∷ bs))
     go more true end =
-        let piece : first_piece 10 (b ∷ bs) ≡ [] = ap (λ (t : Bool). strip_last 10 (if t then b ∷ [] else b ∷ take_through 10 bs)) end ∙ strip_is (b ∷ []) 0 refl
+        let piece : first_piece 10 (b ∷ bs) ≡ [] = ap (λ (t : Bool). strip_last 10 (if t then b ∷ [] else b ∷ take_through 10 bs)) end
+        ∙ strip_is (b ∷ []) 0 refl
         ∙ ap (λ (t : Bool). if t then [] else b ∷ []) end in
         let dropped : drop_through 10 (b ∷ bs) ≡ bs = ap (λ (t : Bool). if t then bs else drop_through 10 bs) end in
         ap (λ (t : Bool). if t then line ∷ lines_of bs else lines_behind (line ++ b ∷ []) bs) end ∙ ap (λ (l : List ℕ). l ∷ lines_of bs) (sym (append-nil line))
         ∙ ap (λ (l : List ℕ). (line ++ l) ∷ lines_of bs) (sym piece) ∙ ap (λ (l : List ℕ). (line ++ first_piece 10 (b ∷ bs)) ∷ lines_of l) (sym dropped)
     go more false other =
-        let piece : first_piece 10 (b ∷ bs) ≡ b ∷ first_piece 10 bs = ap (λ (t : Bool). strip_last 10 (if t then b ∷ [] else b ∷ take_through 10 bs)) other ∙ strip_more b (take_through 10 bs) other in
+        let piece : first_piece 10 (b ∷ bs) ≡ b ∷ first_piece 10 bs =
+        ap (λ (t : Bool). strip_last 10 (if t then b ∷ [] else b ∷ take_through 10 bs)) other ∙ strip_more b (take_through 10 bs) other in
         let dropped : drop_through 10 (b ∷ bs) ≡ drop_through 10 bs = ap (λ (t : Bool). if t then bs else drop_through 10 bs) other in
         ap (λ (t : Bool). if t then line ∷ lines_of bs else lines_behind (line ++ b ∷ []) bs) other ∙ more
         ∙ ap (λ (l : List ℕ). l ∷ lines_of (drop_through 10 bs)) (append_assoc line (b ∷ []) (first_piece 10 bs))
-        ∙ ap (λ (l : List ℕ). (line ++ l) ∷ lines_of (drop_through 10 bs)) (sym piece) ∙ ap (λ (l : List ℕ). (line ++ first_piece 10 (b ∷ bs)) ∷ lines_of l) (sym dropped)
+        ∙ ap (λ (l : List ℕ). (line ++ l) ∷ lines_of (drop_through 10 bs)) (sym piece)
+        ∙ ap (λ (l : List ℕ). (line ++ first_piece 10 (b ∷ bs)) ∷ lines_of l) (sym dropped)
 
 -- the first line, and those behind its end
 pub first_line_cut : (bs : List ℕ) → 0 < length bs → lines_of bs ≡ first_piece 10 bs ∷ lines_of (drop_through 10 bs)

@@ -67,7 +67,8 @@ settles_both a b c xs ys now s t = record {
       let inside = slice_get_within a.lanes f was at in
       let count = s.count in
       let mid : slice_get b.lanes f ≡ Some (get_or b.lanes f was) = slice_get-get_or b.lanes f was (omega arith) in
-      Begins-trans was.received (get_or b.lanes f was).received is.received (s.received f was (get_or b.lanes f was) at mid) (t.received f (get_or b.lanes f was) is mid there);
+      Begins-trans was.received (get_or b.lanes f was).received is.received (s.received f was (get_or b.lanes f was) at mid)
+      (t.received f (get_or b.lanes f was) is mid there);
   sequences = λ items q. subst (Sequences c) (append_assoc items xs ys) (t.sequences (items ++ xs) (s.sequences items q));
   core = core_grows_both a.core b.core c.core xs ys now s.core t.core;
 }
@@ -86,7 +87,8 @@ settling_take front now a b c xs ys s t more early = record {
   early = early_both a b c now s.early early;
 }
 
-pub settling_both : (front now : ℕ) (a b c : HouseState) (xs ys : List Item) → Settling front now a b xs → Settling front now b c ys → Settling front now a c (xs ++ ys)
+pub settling_both : (front now : ℕ) (a b c : HouseState) (xs ys : List Item) → Settling front now a b xs → Settling front now b c ys
+    → Settling front now a c (xs ++ ys)
 settling_both front now a b c xs ys s t = record {
   of_front = All-append (λ (x : Item). x.front ≡ front) xs ys s.of_front t.of_front;
   settled = settles_both a b c xs ys now s.settled t.settled;
@@ -96,12 +98,14 @@ settling_both front now a b c xs ys s t = record {
 -- a moment that the clock takes later on, it took before
 pub in_time_before : (front now : ℕ) (a b : HouseState) (xs : List Item) → Settling front now a b xs → clock_of b.core ≤ now → clock_of a.core ≤ now
 in_time_before front now a b xs s late = elim (cases_lt now (clock_of a.core)) [
-  | inl before ↦ (let same = s.early before in let there : clock_of a.core ≤ now = subst (λ (s : HouseState). clock_of s.core ≤ now) same late in absurd (omega arith))
+  | inl before ↦ (let same = s.early before in let there : clock_of a.core ≤ now =
+      subst (λ (s : HouseState). clock_of s.core ≤ now) same late in absurd (omega arith))
   | inr after ↦ after
 ]
 
 -- after turns that settled nothing: a turn that is refused, one that settles some, and one more that settles none
-pub some_refused : (front most now : ℕ) (a b c : HouseState) (ys : List Item) (e : Refusal) → Settling front now a b [] → Takes b c front ys now → SettlesMore b c ys now
+pub some_refused : (front most now : ℕ) (a b c : HouseState) (ys : List Item) (e : Refusal) → Settling front now a b []
+    → Takes b c front ys now → SettlesMore b c ys now
     → (now < clock_of b.core → c ≡ b) → e ≡ settle_refusal b.core now → SettlesSome front most now a (Err e) c
 some_refused front most now a b c ys e s t more early why = record {
   items = ys;
@@ -109,7 +113,8 @@ some_refused front most now a b c ys e s t more early why = record {
   answer = inr (b, [], s.settled, why);
 }
 
-pub some_settled : (front most now : ℕ) (a b c : HouseState) (ys : List Item) (n : ℕ) → Settling front now a b [] → Takes b c front ys now → SettlesMore b c ys now
+pub some_settled : (front most now : ℕ) (a b c : HouseState) (ys : List Item) (n : ℕ) → Settling front now a b []
+    → Takes b c front ys now → SettlesMore b c ys now
     → (now < clock_of b.core → c ≡ b) → n ≡ length ys → 0 < n → n ≤ most → clock_of b.core ≤ now → SettlesSome front most now a (Ok n) c
 some_settled front most now a b c ys n s t more early count some few time = record {
   items = ys;
@@ -131,9 +136,17 @@ pub record Underway (front count now left : ℕ) (old new : HouseState) : Type 0
   pub none : count ≡ 0 → new ≡ old
 
 pub not_begun : (front count now : ℕ) (s : HouseState) → Underway front count now count s s
-not_begun front count now s = record { items = []; settling = settling_none front now s; settled = omega arith; time = λ some. absurd (omega arith); none = λ e. refl }
+not_begun front count now s = record {
+  items = [];
+  settling = settling_none front now s;
+  settled = omega arith;
+  time =
+      λ some. absurd (omega arith);
+  none = λ e. refl;
+}
 
-pub goes_further : (front most count now left rest n : ℕ) (a b c : HouseState) → Underway front count now left a b → SettlesSome front most now b (Ok n) c → most ≤ left → rest + n ≡ left → Underway front count now rest a c
+pub goes_further : (front most count now left rest n : ℕ) (a b c : HouseState) → Underway front count now left a b → SettlesSome front most now b (Ok n) c
+    → most ≤ left → rest + n ≡ left → Underway front count now rest a c
 goes_further front most count now left rest n a b c u s few less =
     let answer = s.answer in
     let size = length-append u.items s.items in
@@ -150,7 +163,8 @@ stops_later : (now : ℕ) (a b : HouseState) (xs : List Item) (e : Refusal) → 
 stops_later now a b xs e s (inl late) = inl late
 stops_later now a b xs e s (inr (m, ys, t, why)) = inr (m, xs ++ ys, settles_both a b m xs ys now s t, why)
 
-pub sequence_refused : (front most count now left : ℕ) (a b c : HouseState) (e : Refusal) → Underway front count now left a b → 0 < left → SettlesSome front most now b (Err e) c → SequencesFront front count now a (refused e) c
+pub sequence_refused : (front most count now left : ℕ) (a b c : HouseState) (e : Refusal) → Underway front count now left a b → 0 < left
+    → SettlesSome front most now b (Err e) c → SequencesFront front count now a (refused e) c
 sequence_refused front most count now left a b c e u some s =
     let sum = u.settled in
     record {
@@ -160,7 +174,8 @@ sequence_refused front most count now left a b c e u some s =
       none = λ e. absurd (omega arith);
     }
 
-pub sequence_done : (front count now left : ℕ) (a b : HouseState) → Underway front count now left a b → left ≡ 0 → SequencesFront front count now a (a_settled_count count) b
+pub sequence_done : (front count now left : ℕ) (a b : HouseState) → Underway front count now left a b → left ≡ 0
+    → SequencesFront front count now a (a_settled_count count) b
 sequence_done front count now left a b u none =
     let sum = u.settled in
     record {

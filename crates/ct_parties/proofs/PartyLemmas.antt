@@ -36,7 +36,8 @@ same_numbers (a ∷ xs) [] same = absurd same
 same_numbers (a ∷ xs) (b ∷ ys) (on, rest) = ap (λ (n : ℕ). n ∷ numbers_of ys) (on.same.1) ∙ ap (λ (ns : List ℕ). a.intake.number ∷ ns) (same_numbers xs ys rest)
 
 -- the fronts of a house stay its fronts, where the house and its lanes stay
-pub fronts_kept : (old new : HouseState) (xs ys : List FrontView) → new.house ≡ old.house → length new.lanes ≡ length old.lanes → AreSame xs ys → AreFrontsOf old xs → AreFrontsOf new ys
+pub fronts_kept : (old new : HouseState) (xs ys : List FrontView) → new.house ≡ old.house → length new.lanes ≡ length old.lanes → AreSame xs ys
+    → AreFrontsOf old xs → AreFrontsOf new ys
 fronts_kept old new xs ys house count same i = record {
   of_house = subst (λ (h : HouseName). All (IsOfHouse h) ys) (sym house) (are_of_house old.house xs ys same i.of_house);
   in_order = same_numbers xs ys same ∙ i.in_order ∙ ap (range_with_len 0) (sym count);
@@ -44,14 +45,16 @@ fronts_kept old new xs ys house count same i = record {
 }
 
 -- fronts that have their tasks with them did them
-pub did_shift : (shifts : List FrontShift) (after : List FrontParty) → FrontsDo shifts after → FrontsDoShift (map (λ (s : FrontShift). s.party) shifts) (map (λ (s : FrontShift). s.tasks) shifts) after
+pub did_shift : (shifts : List FrontShift) (after : List FrontParty) → FrontsDo shifts after
+    → FrontsDoShift (map (λ (s : FrontShift). s.party) shifts) (map (λ (s : FrontShift). s.tasks) shifts) after
 did_shift [] [] all = tt
 did_shift [] (b ∷ after) all = absurd all
 did_shift (s ∷ shifts) [] all = absurd all
 did_shift (s ∷ shifts) (b ∷ after) (first, rest) = (first, did_shift shifts after rest)
 
 -- and went on
-pub shift_same : (before : List FrontParty) (work : List (Vec FrontTask Global)) (after : List FrontParty) → FrontsDoShift before work after → AreSame (fronts_of before) (fronts_of after)
+pub shift_same : (before : List FrontParty) (work : List (Vec FrontTask Global)) (after : List FrontParty) → FrontsDoShift before work after
+    → AreSame (fronts_of before) (fronts_of after)
 shift_same [] [] [] all = tt
 shift_same [] [] (b ∷ after) all = absurd all
 shift_same [] (w ∷ work) after all = absurd all
@@ -59,7 +62,8 @@ shift_same (a ∷ before) [] after all = absurd all
 shift_same (a ∷ before) (w ∷ work) [] all = absurd all
 shift_same (a ∷ before) (w ∷ work) (b ∷ after) (first, rest) = (first.goes_on, shift_same before work after rest)
 
-pub does_shift : (house after : HouseState) (told more : List ℕ) (parties : List FrontParty) (work : Work) (shifts : List FrontShift) (r : Result (Vec FrontParty Global) Fault)
+pub does_shift : (house after : HouseState) (told more : List ℕ) (parties : List FrontParty) (work : Work) (shifts : List FrontShift)
+    (r : Result (Vec FrontParty Global) Fault)
     → map (λ (s : FrontShift). s.party) shifts ≡ parties → map (λ (s : FrontShift). s.tasks) shifts ≡ work.fronts.items → IfOk r (λ v. FrontsDo shifts v.items)
     → OnOk r (OperatorServes house work.operator.items told after more) → OnOk r (GoesOn house after)
     → IfOk r (λ v. DoesShift (record { house = house; told = told; fronts = parties }) work (record { house = after; told = more; fronts = v.items }))
@@ -72,7 +76,8 @@ does_shift house after told more parties work shifts (Ok v) own tasks all serves
 }
 
 -- one front more
-pub fronts_do_more : (shifts : List FrontShift) (after all : List FrontParty) (s : FrontShift) (b : FrontParty) → FrontsDo shifts after → FrontDoesShift s.party s.tasks.items b → all ≡ after ++ b ∷ []
+pub fronts_do_more : (shifts : List FrontShift) (after all : List FrontParty) (s : FrontShift) (b : FrontParty) → FrontsDo shifts after
+    → FrontDoesShift s.party s.tasks.items b → all ≡ after ++ b ∷ []
     → FrontsDo (shifts ++ s ∷ []) all
 fronts_do_more shifts after all s b done one is =
     subst (λ (l : List FrontParty). FrontsDo (shifts ++ s ∷ []) l) (sym is)

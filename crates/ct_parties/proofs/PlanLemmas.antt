@@ -56,9 +56,11 @@ put_elsewhere (z ∷ zs) (suc i) zero y apart = refl
 put_elsewhere (z ∷ zs) (suc i) (suc j) y apart = put_elsewhere zs i j y (λ e. apart (ap (λ (n : ℕ). suc n) e))
 
 -- the tasks of one front grow by one, and those of the others stay
-fronts_grow : (lists : List (Vec FrontTask Global)) (ts : List Task) (f : ℕ) (old new : Vec FrontTask Global) (t : FrontTask) → slice_get lists f ≡ Some old → new.items ≡ old.items ++ t ∷ []
+fronts_grow : (lists : List (Vec FrontTask Global)) (ts : List Task) (f : ℕ) (old new : Vec FrontTask Global) (t : FrontTask)
+    → slice_get lists f ≡ Some old → new.items ≡ old.items ++ t ∷ []
     → ((k : ℕ) (v : Vec FrontTask Global) → slice_get lists k ≡ Some v → map task_asked v.items ≡ front_parts k ts)
-    → (k : ℕ) (v : Vec FrontTask Global) → slice_get (set lists f new) k ≡ Some v → map task_asked v.items ≡ front_parts k (ts ++ for_front f (task_asked t) ∷ [])
+    → (k : ℕ) (v : Vec FrontTask Global) → slice_get (set lists f new) k ≡ Some v
+    → map task_asked v.items ≡ front_parts k (ts ++ for_front f (task_asked t) ∷ [])
 fronts_grow lists ts f old new t there grown each k v at = elim (eqb_tells k f) [
   | inl same ↦ (
       let here : slice_get (set lists f new) k ≡ Some new = ap (slice_get (set lists f new)) same.1 ∙ put_there lists f old new there in
@@ -73,8 +75,10 @@ fronts_grow lists ts f old new t there grown each k v at = elim (eqb_tells k f) 
 ]
 
 -- a front has one task more to do
-pub front_added : (n : ℕ) (w : Work) (ts : List Task) (f : ℕ) (old new : Vec FrontTask Global) (t : FrontTask) → f < length w.fronts.items → old ≡ get_or w.fronts.items f old
-    → new.items ≡ old.items ++ t ∷ [] → IsWorkOf n w ts → IsWorkOf n record { fronts = with_item w.fronts f new; operator = w.operator } (ts ++ for_front f (task_asked t) ∷ [])
+pub front_added : (n : ℕ) (w : Work) (ts : List Task) (f : ℕ) (old new : Vec FrontTask Global) (t : FrontTask) → f < length w.fronts.items
+    → old ≡ get_or w.fronts.items f old
+    → new.items ≡ old.items ++ t ∷ [] → IsWorkOf n w ts
+    → IsWorkOf n record { fronts = with_item w.fronts f new; operator = w.operator } (ts ++ for_front f (task_asked t) ∷ [])
 front_added n w ts f old new t below at grown i = record {
   count = length-set w.fronts.items f new ∙ i.count;
   fronts = fronts_grow w.fronts.items ts f old new t (slice_get_read w.fronts.items (length w.fronts.items) f old refl below at) grown i.fronts;
@@ -82,7 +86,8 @@ front_added n w ts f old new t below at grown i = record {
 }
 
 -- the operator has one task more to do
-pub operator_added : (n : ℕ) (w : Work) (ts : List Task) (t : OperatorTask) (new : Vec OperatorTask Global) → new.items ≡ w.operator.items ++ t ∷ [] → IsWorkOf n w ts
+pub operator_added : (n : ℕ) (w : Work) (ts : List Task) (t : OperatorTask) (new : Vec OperatorTask Global)
+    → new.items ≡ w.operator.items ++ t ∷ [] → IsWorkOf n w ts
     → IsWorkOf n record { fronts = w.fronts; operator = new } (ts ++ for_operator t ∷ [])
 operator_added n w ts t new grown i = record {
   count = i.count;
@@ -101,14 +106,16 @@ frozen_beside n w ts line i = record {
 -- ---- shift by shift
 
 -- one pair more
-pub all_zip_more : {A B : Type 0} (R : A → B → Type 0) (xs : List A) (ys : List B) (x : A) (y : B) → AllZip R xs ys → R x y → AllZip R (xs ++ x ∷ []) (ys ++ y ∷ [])
+pub all_zip_more : {A B : Type 0} (R : A → B → Type 0) (xs : List A) (ys : List B) (x : A) (y : B) → AllZip R xs ys → R x y
+    → AllZip R (xs ++ x ∷ []) (ys ++ y ∷ [])
 all_zip_more R [] [] x y all one = (one, tt)
 all_zip_more R [] (b ∷ ys) x y all one = absurd all
 all_zip_more R (a ∷ xs) [] x y all one = absurd all
 all_zip_more R (a ∷ xs) (b ∷ ys) x y (first, rest) one = (first, all_zip_more R xs ys x y rest one)
 
 -- the last work has one task more
-task_added : (n : ℕ) (shifts : List Shift) (old new : Work) (ss : List Step) (t : Task) → ((ts : List Task) → IsWorkOf n old ts → IsWorkOf n new (ts ++ t ∷ [])) → AreShiftsOf n shifts old ss
+task_added : (n : ℕ) (shifts : List Shift) (old new : Work) (ss : List Step) (t : Task)
+    → ((ts : List Task) → IsWorkOf n old ts → IsWorkOf n new (ts ++ t ∷ [])) → AreShiftsOf n shifts old ss
     → AreShiftsOf n shifts new (ss ++ does t ∷ [])
 task_added n shifts old new ss t grows a = record {
   ended = a.ended;
@@ -119,7 +126,8 @@ task_added n shifts old new ss t grows a = record {
   rest = grows a.left a.rest;
 }
 
-pub plan_does : (n : ℕ) (p : Plan) (new : Work) (ss : List Step) (t : Task) → frozen_part (does t) ≡ [] → ((ts : List Task) → IsWorkOf n p.last ts → IsWorkOf n new (ts ++ t ∷ [])) → IsPlanOf n p ss
+pub plan_does : (n : ℕ) (p : Plan) (new : Work) (ss : List Step) (t : Task) → frozen_part (does t) ≡ []
+    → ((ts : List Task) → IsWorkOf n p.last ts → IsWorkOf n new (ts ++ t ∷ [])) → IsPlanOf n p ss
     → IsPlanOf n record { shifts = p.shifts; last = new; frozen = p.frozen } (ss ++ does t ∷ [])
 plan_does n p new ss t none grows i = record {
   given = task_added n p.shifts.items p.last new ss t grows i.given;
@@ -150,8 +158,10 @@ shift_ended n shifts last next ss s is fresh a =
       rest = fresh;
     }
 
-pub plan_ends_shift : (n m : ℕ) (p : Plan) (next : Work) (shifts : Vec Shift Global) (ss : List Step) (s : Shift) → s.work ≡ p.last → m ≡ length p.last.fronts.items → IsWorkOf m next []
-    → shifts.items ≡ p.shifts.items ++ s ∷ [] → IsPlanOf n p ss → IsPlanOf n record { shifts = shifts; last = next; frozen = p.frozen } (ss ++ ends_shift s.now ∷ [])
+pub plan_ends_shift : (n m : ℕ) (p : Plan) (next : Work) (shifts : Vec Shift Global) (ss : List Step) (s : Shift) → s.work ≡ p.last
+    → m ≡ length p.last.fronts.items → IsWorkOf m next []
+    → shifts.items ≡ p.shifts.items ++ s ∷ [] → IsPlanOf n p ss
+    → IsPlanOf n record { shifts = shifts; last = next; frozen = p.frozen } (ss ++ ends_shift s.now ∷ [])
 plan_ends_shift n m p next shifts ss s is many fresh grown i = record {
   given = subst (λ (l : List Shift). AreShiftsOf n l next (ss ++ ends_shift s.now ∷ [])) (sym grown)
       (shift_ended n p.shifts.items p.last next ss s is (subst (λ (k : ℕ). IsWorkOf k next []) (many ∙ i.given.rest.count) fresh) i.given);

@@ -32,8 +32,10 @@ asked_nothing fronts [] none = tt
 asked_nothing fronts (b ∷ bs) none = absurd (omega arith)
 
 -- a line of which this was read, with its end
-pub line_of_bytes : (read line : List ℕ) (source source_next : Option (List ℕ)) → IfSome source (λ xs. read ≡ take_through 10 xs) → DropsThrough source source_next 10
-    → 0 < length read → line ≡ strip_last 10 read → IfSome source (λ xs. (0 < length xs) × (line ≡ first_piece 10 xs) × (source_next ≡ Some (drop_through 10 xs)))
+pub line_of_bytes : (read line : List ℕ) (source source_next : Option (List ℕ)) → IfSome source (λ xs. read ≡ take_through 10 xs)
+    → DropsThrough source source_next 10
+    → 0 < length read → line ≡ strip_last 10 read
+    → IfSome source (λ xs. (0 < length xs) × (line ≡ first_piece 10 xs) × (source_next ≡ Some (drop_through 10 xs)))
 line_of_bytes read line None source_next bytes drops some is = tt
 line_of_bytes read line (Some []) source_next bytes drops some is = absurd (omega (arith, some, ap length bytes))
 line_of_bytes read line (Some (x ∷ xs)) source_next bytes drops some is = (omega arith, is ∙ ap (strip_last 10) bytes, drops)
@@ -42,9 +44,11 @@ line_of_bytes read line (Some (x ∷ xs)) source_next bytes drops some is = (ome
 next_line : (fronts : ℕ) (input rest line : List ℕ) (done more : List Step) → 0 < length rest → line ≡ first_piece 10 rest
     → AllAskFor fronts (line ∷ []) more → LeadsTo fronts input done rest → LeadsTo fronts input (done ++ more) (drop_through 10 rest)
 next_line fronts input rest line done more some is asks before left behind =
-    let whole : lines_of rest ≡ line ∷ lines_of (drop_through 10 rest) = first_line_cut rest some ∙ ap (λ (l : List ℕ). l ∷ lines_of (drop_through 10 rest)) (sym is) in
+    let whole : lines_of rest ≡ line ∷ lines_of (drop_through 10 rest) = first_line_cut rest some
+    ∙ ap (λ (l : List ℕ). l ∷ lines_of (drop_through 10 rest)) (sym is) in
     let all : AllAskFor fronts (lines_of rest) (more ++ left) =
-    subst (λ (ls : List (List ℕ)). AllAskFor fronts ls (more ++ left)) (sym whole) (ask_first fronts line (lines_of (drop_through 10 rest)) more left asks behind) in
+    subst (λ (ls : List (List ℕ)). AllAskFor fronts ls (more ++ left)) (sym whole)
+    (ask_first fronts line (lines_of (drop_through 10 rest)) more left asks behind) in
     subst (λ (ts : List Step). AllAskFor fronts (lines_of input) ts) (sym (append_assoc done more left)) (before (more ++ left) all)
 
 -- The plan gives out what was read so far: where the bytes are known, these steps are those of the lines that were read, and those

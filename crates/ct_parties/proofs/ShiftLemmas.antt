@@ -69,14 +69,16 @@ going_more old mid new done f now g number (ys, more) others drained in_time tim
   time = λ some. time;
 }
 
-pub going_all : (old new : HouseState) (fronts : List FrontView) (now : ℕ) → Going old new fronts now → AreFrontsOf old fronts → IsAllSettled new fronts × (clock_of old.core ≤ now)
+pub going_all : (old new : HouseState) (fronts : List FrontView) (now : ℕ) → Going old new fronts now → AreFrontsOf old fronts → IsAllSettled new fronts
+    × (clock_of old.core ≤ now)
 going_all old new fronts now g i = (
   record { in_order = subst (λ (n : ℕ). AreInOrder n fronts) (sym g.more.1.count) i.in_order; drained = g.drained },
   g.in_time i.some,
 )
 
 -- a refusal when some fronts went on is one of the whole
-pub going_refused : (old mid : HouseState) (done : List FrontView) (now : ℕ) (e : Fault) → Going old mid done now → IsEndRefused mid now e → IsEndRefused old now e
+pub going_refused : (old mid : HouseState) (done : List FrontView) (now : ℕ) (e : Fault) → Going old mid done now
+    → IsEndRefused mid now e → IsEndRefused old now e
 going_refused old mid done now e g (inl memory) = inl memory
 going_refused old mid done now e g (inr clock) = elim (cases_lt 0 (length done)) [
   | inl before ↦ (let time : clock_of mid.core ≤ now = g.time before in let late = clock.1 in absurd (omega arith))
@@ -84,7 +86,8 @@ going_refused old mid done now e g (inr clock) = elim (cases_lt 0 (length done))
 ]
 
 -- the front behind those that went on has the next number
-pub next_number : (s : HouseState) (all done : List FrontParty) (p : FrontParty) (rest : List FrontParty) → AreFrontsOf s (fronts_of all) → all ≡ done ++ p ∷ rest → p.front.intake.number ≡ length (fronts_of done)
+pub next_number : (s : HouseState) (all done : List FrontParty) (p : FrontParty) (rest : List FrontParty) → AreFrontsOf s (fronts_of all)
+    → all ≡ done ++ p ∷ rest → p.front.intake.number ≡ length (fronts_of done)
 next_number s all done p rest i e =
     order_at (length s.lanes) (fronts_of all) (length (fronts_of done)) p.front i.in_order
     (subst (λ (l : List FrontParty). slice_get (fronts_of l) (length (fronts_of done)) ≡ Some p.front) (sym e) (here done))
@@ -127,12 +130,17 @@ stay_shift a b w d = (
 
 stay_end : (number now : ℕ) (a b : Parties) → EndsShift number now a b → Stay a b
 stay_end number now a b e = (
-  fronts_kept a.house b.house (fronts_of a.fronts) (fronts_of b.fronts) e.settled.1.house e.settled.1.count (successors_same a.house.core.published a.fronts b.fronts e.fronts),
+  fronts_kept a.house b.house (fronts_of a.fronts) (fronts_of b.fronts) e.settled.1.house e.settled.1.count
+      (successors_same a.house.core.published a.fronts b.fronts e.fronts),
   e.settled.1.count,
 )
 
 pub shifts_stay : (number : ℕ) (a b : Parties) (shifts : List Shift) → DoShifts number a shifts b → Stay a b
-shifts_stay number a b [] same = ((λ i. subst (λ (p : Parties). AreFrontsOf p.house (fronts_of p.fronts)) (sym same) i), ap (λ (p : Parties). length p.house.lanes) same)
+shifts_stay number a b [] same = (
+  (λ i. subst (λ (p : Parties). AreFrontsOf p.house (fronts_of p.fronts)) (sym same) i),
+  ap
+      (λ (p : Parties). length p.house.lanes) same,
+)
 shifts_stay number a b (s ∷ more) (m, n, work, ended, rest) =
     let one = stay_shift a m s.work work in
     let two = stay_end number s.now m n ended in
@@ -143,7 +151,8 @@ pub does_stay : (a b : Parties) (w : Work) → DoesShift a w b → AreFrontsOf a
 does_stay a b w d = (stay_shift a b w d).0
 
 -- one shift more
-pub do_shifts_more : (number last : ℕ) (a b m n : Parties) (done : List Shift) (s : Shift) → DoShifts number a done b → DoesShift b s.work m → last ≡ number + length done → EndsShift last s.now m n
+pub do_shifts_more : (number last : ℕ) (a b m n : Parties) (done : List Shift) (s : Shift) → DoShifts number a done b → DoesShift b s.work m
+    → last ≡ number + length done → EndsShift last s.now m n
     → DoShifts number a (done ++ s ∷ []) n
 do_shifts_more number last a b m n [] s same work is ended =
     let k : last ≡ number = omega (arith, is) in
@@ -157,7 +166,8 @@ pub lanes_count : (s : HouseState) (parties : List FrontParty) → AreFrontsOf s
 lanes_count s parties i = sym (length-map parties (λ (p : FrontParty). p.front)) ∙ order_count (length s.lanes) (fronts_of parties) i.in_order
 
 -- a shift that couldn't end
-pub shift_refused : (start begun end : Parties) (shifts done : List Shift) (s : Shift) (rest : List Shift) (e : Fault) → DoShifts 1 start done begun → DoesShift begun s.work end → shifts ≡ done ++ s ∷ rest
+pub shift_refused : (start begun end : Parties) (shifts done : List Shift) (s : Shift) (rest : List Shift) (e : Fault) → DoShifts 1 start done begun
+    → DoesShift begun s.work end → shifts ≡ done ++ s ∷ rest
     → IsEndRefused end.house s.now e → IsShiftFault start shifts e
 shift_refused start begun end shifts done s rest e before work is (inl memory) = inl (inr memory)
 shift_refused start begun end shifts done s rest e before work is (inr clock) = inr (
@@ -188,14 +198,17 @@ cut_end all done [] e none = sym (append-nil done) ∙ e
 cut_end all done (x ∷ left) e none = absurd (omega arith)
 
 -- the next front is of the house
-pub next_of_house : (s : HouseState) (all done : List FrontParty) (p : FrontParty) (rest : List FrontParty) → AreFrontsOf s (fronts_of all) → all ≡ done ++ p ∷ rest → IsOfHouse s.house p.front
+pub next_of_house : (s : HouseState) (all done : List FrontParty) (p : FrontParty) (rest : List FrontParty) → AreFrontsOf s (fronts_of all)
+    → all ≡ done ++ p ∷ rest → IsOfHouse s.house p.front
 next_of_house s all done p rest i e =
     all_between (IsOfHouse s.house) (fronts_of all) (fronts_of done) p.front (fronts_of rest) i.of_house
     (ap fronts_of e ∙ map-append (λ (q : FrontParty). q.front) done (p ∷ rest))
 
 -- as many fronts as the next shift has lists for
-pub next_count : (n number : ℕ) (a b : Parties) (shifts done : List Shift) (s : Shift) (rest : List Shift) → AreFrontsOf a.house (fronts_of a.fronts) → DoShifts number a done b → All (λ (t : Shift). length t.work.fronts.items ≡ n) shifts
+pub next_count : (n number : ℕ) (a b : Parties) (shifts done : List Shift) (s : Shift) (rest : List Shift) → AreFrontsOf a.house (fronts_of a.fronts)
+    → DoShifts number a done b → All (λ (t : Shift). length t.work.fronts.items ≡ n) shifts
     → n ≡ length a.fronts → shifts ≡ done ++ s ∷ rest → length s.work.fronts.items ≡ length b.fronts
 next_count n number a b shifts done s rest i so_far own is e =
     let stay = shifts_stay number a b done so_far in
-    all_between (λ (t : Shift). length t.work.fronts.items ≡ n) shifts done s rest own e ∙ is ∙ lanes_count a.house a.fronts i ∙ sym stay.1 ∙ sym (lanes_count b.house b.fronts (stay.0 i))
+    all_between (λ (t : Shift). length t.work.fronts.items ≡ n) shifts done s rest own e ∙ is ∙ lanes_count a.house a.fronts i ∙ sym stay.1
+    ∙ sym (lanes_count b.house b.fronts (stay.0 i))

@@ -12,7 +12,8 @@ in_turn_more does a m b [] t (q ∷ rs) r i d = absurd i
 in_turn_more does a m b (u ∷ ts) t [] r i d = absurd i
 in_turn_more does a m b (u ∷ ts) t (q ∷ rs) r (n, one, rest) d = (n, one, in_turn_more does n m b ts t rs r rest d)
 
-lines_more : (before text more : List ℕ) (rs : List Answer) (r : Answer) → text ≡ before ++ answer_lines rs → more ≡ text ++ reply_line r → more ≡ before ++ answer_lines (rs ++ r ∷ [])
+lines_more : (before text more : List ℕ) (rs : List Answer) (r : Answer) → text ≡ before ++ answer_lines rs → more ≡ text ++ reply_line r
+    → more ≡ before ++ answer_lines (rs ++ r ∷ [])
 lines_more before text more rs r old new =
     new ∙ ap (λ (l : List ℕ). l ++ reply_line r) old ∙ append_assoc before (answer_lines rs) (reply_line r)
     ∙ ap (λ (l : List ℕ). before ++ (answer_lines rs ++ l)) (sym (append-nil (reply_line r)))
@@ -21,6 +22,7 @@ lines_more before text more rs r old new =
 pub serves_none : {State Task : Type 0} (does : State → Task → Answer → State → Type 0) (a : State) (before : List ℕ) → Serves does a [] before a before
 serves_none does a before = ([], refl, sym (append-nil before))
 
-pub serves_more : {State Task : Type 0} (does : State → Task → Answer → State → Type 0) (a m b : State) (ts : List Task) (t : Task) (before text more : List ℕ) (r : Answer)
+pub serves_more : {State Task : Type 0} (does : State → Task → Answer → State → Type 0) (a m b : State) (ts : List Task) (t : Task)
+    (before text more : List ℕ) (r : Answer)
     → Serves does a ts before m text → does m t r b → more ≡ text ++ reply_line r → Serves does a (ts ++ t ∷ []) before b more
 serves_more does a m b ts t before text more r (rs, i, e) d new = (rs ++ r ∷ [], in_turn_more does a m b ts t rs r i d, lines_more before text more rs r e new)

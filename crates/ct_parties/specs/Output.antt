@@ -56,7 +56,8 @@ pub data WritesSome (start : Parties) (shifts : List Shift) (last : Work) (lines
   nothing_written : IsShiftFault start shifts f → Appends old new [] → WritesSome start shifts last lines close_at f old new
   parties_begun : (sequencer : HouseState) (after : List FrontView) (text : List ℕ) → f ≡ Write → PartiesServe start shifts last sequencer after text
       → SendsSome old new text → WritesSome start shifts last lines close_at f old new
-  parties_done : (sequencer : HouseState) (after : List FrontView) (text : List ℕ) → IsClosingFault sequencer.core close_at f → PartiesServe start shifts last sequencer after text
+  parties_done : (sequencer : HouseState) (after : List FrontView) (text : List ℕ) → IsClosingFault sequencer.core close_at f
+      → PartiesServe start shifts last sequencer after text
       → Appends old new text → WritesSome start shifts last lines close_at f old new
   log_begun : (sequencer : HouseState) (after : List FrontView) (text : List ℕ) (log : Log) (written : List ℕ) → IsFrozenFault f
       → PartiesServe start shifts last sequencer after text → IsClosed sequencer after close_at log → SomeReplies log lines written
@@ -82,4 +83,5 @@ IsEarlyFault f = (f ≡ Read) ⊎ IsPartyFault f
 pub data IsBegun (n places open_at close_at : ℕ) (f : Fault) (input old new : Option (List ℕ)) : Type 0 where
   not_begun : IsEarlyFault f → Appends old new [] → IsBegun n places open_at close_at f input old new
   begun : (steps : List Step) (shifts : List Shift) (last : Work) (start : Parties) → AreStepsOf n input steps → AreShiftsOf n shifts last steps
-      → AreNewParties n places open_at start → WritesSome start shifts last (frozen_lines steps) close_at f old new → IsBegun n places open_at close_at f input old new
+      → AreNewParties n places open_at start → WritesSome start shifts last (frozen_lines steps) close_at f old new
+      → IsBegun n places open_at close_at f input old new

@@ -42,7 +42,8 @@ IsForThere fronts (ends_shift now) = Unit {0}
 
 -- the step is what is done for the line: bad-line where the line is no request
 abbrev pub AsksFor : ℕ → List ℕ → Step → Type 0
-AsksFor fronts line s = ((a : Asked) × IsRequest line a × (s ≡ step_of fronts line a)) ⊎ ((s ≡ does (for_operator BadLine)) × ((a : Asked) → IsRequest line a → ⊥))
+AsksFor fronts line s = ((a : Asked) × IsRequest line a × (s ≡ step_of fronts line a))
+    ⊎ ((s ≡ does (for_operator BadLine)) × ((a : Asked) → IsRequest line a → ⊥))
 
 -- the steps are what is done for the lines, in order: for an empty line there is none
 abbrev pub AllAskFor : ℕ → List (List ℕ) → List Step → Type 0

@@ -19,7 +19,8 @@ use Rattle.ct_pipes.specs.Written.{WritesBeginning, Passes, PassesSome}
 use Rattle.ct_pipes.proofs.Merging.{get_mapped, mapped_same, put_there, put_elsewhere}
 use Rattle.ct_pipes.proofs.Writing.{some_behind}
 
-pairs_put : {A B : Type 0} (R : A → B → Type 0) (xs : List A) (ys : List B) (k : ℕ) (x : A) (y : B) → AllZip R xs ys → R x y → AllZip R (set xs k x) (set ys k y)
+pairs_put : {A B : Type 0} (R : A → B → Type 0) (xs : List A) (ys : List B) (k : ℕ) (x : A) (y : B) → AllZip R xs ys → R x y
+    → AllZip R (set xs k x) (set ys k y)
 pairs_put R [] [] zero x y a one = tt
 pairs_put R [] [] (suc k) x y a one = tt
 pairs_put R [] (w ∷ ys) k x y a one = absurd a
@@ -27,7 +28,8 @@ pairs_put R (v ∷ xs) [] k x y a one = absurd a
 pairs_put R (v ∷ xs) (w ∷ ys) zero x y a one = (one, a.1)
 pairs_put R (v ∷ xs) (w ∷ ys) (suc k) x y a one = (a.0, pairs_put R xs ys k x y a.1 one)
 
-pair_in : {A B : Type 0} (R : A → B → Type 0) (xs : List A) (ys : List B) (k : ℕ) (d : A) (e : B) → AllZip R xs ys → k < length xs → R (get_or xs k d) (get_or ys k e)
+pair_in : {A B : Type 0} (R : A → B → Type 0) (xs : List A) (ys : List B) (k : ℕ) (d : A) (e : B) → AllZip R xs ys → k < length xs
+    → R (get_or xs k d) (get_or ys k e)
 pair_in R [] ys k d e a below = absurd (omega arith)
 pair_in R (x ∷ xs) [] k d e a below = absurd a
 pair_in R (x ∷ xs) (y ∷ ys) zero d e a below = a.0
@@ -39,49 +41,58 @@ same_lists [] [] e each = refl
 same_lists [] (y ∷ ys) e each = absurd (omega (arith, e))
 same_lists (x ∷ xs) [] e each = absurd (omega (arith, e))
 same_lists {A = A} (x ∷ xs) (y ∷ ys) e each =
-    ap (λ (z : A). z ∷ xs) (same_Some x y (each 0 (omega arith))) ∙ ap (λ (zs : List A). y ∷ zs) (same_lists xs ys (omega (arith, e)) (λ k h. each (suc k) (omega arith)))
+    ap (λ (z : A). z ∷ xs) (same_Some x y (each 0 (omega arith)))
+    ∙ ap (λ (zs : List A). y ∷ zs) (same_lists xs ys (omega (arith, e)) (λ k h. each (suc k) (omega arith)))
 
 mapped_there : {A B : Type 0} (f : A → B) (xs : List A) (k : ℕ) (d : A) → k < length xs → slice_get (map f xs) k ≡ Some (f (get_or xs k d))
 mapped_there f xs k d below = get_mapped f xs k (get_or xs k d) (slice_get-get_or xs k d below)
 
 module _ {T : Type 0} where
-  pub pair_there : (ps : List (Producer T Global AnyItems)) (cs : List (Consumer T Global AnyItems)) (k : ℕ) (p : Producer T Global AnyItems) (c : Consumer T Global AnyItems)
+  pub pair_there : (ps : List (Producer T Global AnyItems)) (cs : List (Consumer T Global AnyItems)) (k : ℕ) (p : Producer T Global AnyItems)
+      (c : Consumer T Global AnyItems)
       → ArePairs ps cs → k < length ps → IsPair (get_or ps k p) (get_or cs k c)
   pair_there ps cs k p c pairs below = pair_in IsPair ps cs k p c pairs below
 
   pub as_long : (ps : List (Producer T Global AnyItems)) (cs : List (Consumer T Global AnyItems)) → ArePairs ps cs → length cs ≡ length ps
   as_long ps cs pairs = AllZip-long IsPair ps cs pairs
 
-  pub pairs_kept : (ps : List (Producer T Global AnyItems)) (cs : List (Consumer T Global AnyItems)) (k : ℕ) (p : Producer T Global AnyItems) (c : Consumer T Global AnyItems)
+  pub pairs_kept : (ps : List (Producer T Global AnyItems)) (cs : List (Consumer T Global AnyItems)) (k : ℕ) (p : Producer T Global AnyItems)
+      (c : Consumer T Global AnyItems)
       → ArePairs ps cs → IsPair p c → ArePairs (set ps k p) (set cs k c)
   pairs_kept ps cs k p c pairs one = pairs_put IsPair ps cs k p c pairs one
 
-  pub received_none : (cs : List (Consumer T Global AnyItems)) (k : ℕ) (c d : Consumer T Global AnyItems) → k < length cs → received d ≡ received (get_or cs k c)
+  pub received_none : (cs : List (Consumer T Global AnyItems)) (k : ℕ) (c d : Consumer T Global AnyItems) → k < length cs
+      → received d ≡ received (get_or cs k c)
       → all_received (set cs k d) ≡ all_received cs
   received_none cs k c d below e = mapped_same (λ (r : Consumer T Global AnyItems). received r) cs k (get_or cs k c) d (slice_get-get_or cs k c below) e
 
   -- of one ring more all was received, where nothing was put anew
-  pub taken_more : (ps : List (Producer T Global AnyItems)) (cs : List (Consumer T Global AnyItems)) (k : ℕ) (p : Producer T Global AnyItems) (c : Consumer T Global AnyItems)
+  pub taken_more : (ps : List (Producer T Global AnyItems)) (cs : List (Consumer T Global AnyItems)) (k : ℕ) (p : Producer T Global AnyItems)
+      (c : Consumer T Global AnyItems)
       → k < length ps → k < length cs → received (get_or cs k c) ≡ sent (get_or ps k p) → (rs ss : List (List T)) → all_received cs ≡ rs → all_sent ps ≡ ss
       → ((j : ℕ) → j < k → slice_get rs j ≡ slice_get ss j) → (j : ℕ) → j < k + 1 → slice_get rs j ≡ slice_get ss j
   taken_more ps cs k p c below beside e rs ss er es before =
       below_more (λ (j : ℕ). slice_get rs j ≡ slice_get ss j) k before
-      (ap (λ (l : List (List T)). slice_get l k) (sym er) ∙ mapped_there (λ (r : Consumer T Global AnyItems). received r) cs k c beside ∙ ap (λ (l : List T). Some l) e
+      (ap (λ (l : List (List T)). slice_get l k) (sym er) ∙ mapped_there (λ (r : Consumer T Global AnyItems). received r) cs k c beside
+      ∙ ap (λ (l : List T). Some l) e
       ∙ sym (mapped_there (λ (r : Producer T Global AnyItems). sent r) ps k p below) ∙ ap (λ (l : List (List T)). slice_get l k) es)
 
   -- of one ring more all was received, which was put anew
-  pub received_more : (ps : List (Producer T Global AnyItems)) (cs : List (Consumer T Global AnyItems)) (k : ℕ) (p : Producer T Global AnyItems) (c d : Consumer T Global AnyItems)
+  pub received_more : (ps : List (Producer T Global AnyItems)) (cs : List (Consumer T Global AnyItems)) (k : ℕ) (p : Producer T Global AnyItems)
+      (c d : Consumer T Global AnyItems)
       → k < length ps → k < length cs → received d ≡ sent (get_or ps k p) → AreTakenBelow k ps cs → AreTakenBelow (k + 1) ps (set cs k d)
   received_more ps cs k p c d below beside e before =
       let put : all_received (set cs k d) ≡ set (all_received cs) k (received d) = map-set (λ (r : Consumer T Global AnyItems). received r) cs k d in
       below_more (λ (j : ℕ). slice_get (all_received (set cs k d)) j ≡ slice_get (all_sent ps) j) k
-      (λ j h. let apart : j ≢ k = omega arith in ap (λ (l : List (List T)). slice_get l j) put ∙ put_elsewhere (all_received cs) k j (received d) apart ∙ before j h)
+      (λ j h. let apart : j ≢ k = omega arith in ap (λ (l : List (List T)). slice_get l j) put
+      ∙ put_elsewhere (all_received cs) k j (received d) apart ∙ before j h)
       (ap (λ (l : List (List T)). slice_get l k) put
       ∙ put_there (all_received cs) k (received (get_or cs k c)) (received d) (mapped_there (λ (r : Consumer T Global AnyItems). received r) cs k c beside)
       ∙ ap (λ (l : List T). Some l) e ∙ sym (mapped_there (λ (r : Producer T Global AnyItems). sent r) ps k p below))
 
   -- of all rings
-  pub all_taken : (ps : List (Producer T Global AnyItems)) (cs : List (Consumer T Global AnyItems)) (n : ℕ) → length cs ≡ length ps → length ps ≤ n → AreTakenBelow n ps cs
+  pub all_taken : (ps : List (Producer T Global AnyItems)) (cs : List (Consumer T Global AnyItems)) (n : ℕ) → length cs ≡ length ps
+      → length ps ≤ n → AreTakenBelow n ps cs
       → all_received cs ≡ all_sent ps
   all_taken ps cs n long most below =
       let a : length (all_received cs) ≡ length cs = length-map cs (λ (r : Consumer T Global AnyItems). received r) in
@@ -89,7 +100,8 @@ module _ {T : Type 0} where
       same_lists (all_received cs) (all_sent ps) (omega (arith, a, b, long)) (λ k h. below k (omega (arith, a, long, most, h)))
 
 -- a text more was written
-pub passes_more : (a b c : Option (List ℕ)) (before between after : List (Vec ℕ Global)) (t : Vec ℕ Global) → after ≡ between ++ t ∷ [] → Appends b c t.items → Passes a b before between
+pub passes_more : (a b c : Option (List ℕ)) (before between after : List (Vec ℕ Global)) (t : Vec ℕ Global) → after ≡ between ++ t ∷ []
+    → Appends b c t.items → Passes a b before between
     → Passes a c before after
 passes_more a b c before between after t e w s = record {
   more = s.more ++ t ∷ [];
@@ -103,7 +115,8 @@ passes_more a b c before between after t e w s = record {
         ∙ ap (λ (l : List ℕ). concat (texts ts) ++ l) (append-nil t.items)
 
 -- a beginning of one more was written
-pub passes_some : (a b c : Option (List ℕ)) (before between after : List (Vec ℕ Global)) (t : Vec ℕ Global) → after ≡ between ++ t ∷ [] → WritesBeginning b c t.items → Passes a b before between
+pub passes_some : (a b c : Option (List ℕ)) (before between after : List (Vec ℕ Global)) (t : Vec ℕ Global) → after ≡ between ++ t ∷ []
+    → WritesBeginning b c t.items → Passes a b before between
     → PassesSome a c before after
 passes_some a b c before between after t e w s = record {
   more = s.more ++ t ∷ [];
@@ -117,12 +130,14 @@ passes_some a b c before between after t e w s = record {
         ∙ ap (λ (l : List ℕ). concat (texts ts) ++ l) (append-nil t.items)
 
 -- of the items that were known, one more was received
-pub known_step : {A : Type 0} (received known known_then received_then all : List A) (x : A) → received_then ≡ received ++ x ∷ [] → known ≡ x ∷ known_then → received ++ known ≡ all
+pub known_step : {A : Type 0} (received known known_then received_then all : List A) (x : A) → received_then ≡ received ++ x ∷ [] → known ≡ x ∷ known_then
+    → received ++ known ≡ all
     → received_then ++ known_then ≡ all
 known_step {A = A} received known known_then received_then all x e k whole =
     ap (λ (l : List A). l ++ known_then) e ∙ append_assoc received (x ∷ []) known_then ∙ ap (λ (l : List A). received ++ l) (sym k) ∙ whole
 
-pub known_less : {A : Type 0} (known known_then : List A) (x : A) (turn left : ℕ) → known ≡ x ∷ known_then → length known + turn ≡ left → length known_then + (turn + 1) ≡ left
+pub known_less : {A : Type 0} (known known_then : List A) (x : A) (turn left : ℕ) → known ≡ x ∷ known_then → length known + turn ≡ left
+    → length known_then + (turn + 1) ≡ left
 known_less known known_then x turn left k e = omega (arith, ap length k, e)
 
 pub still_pair : {T : Type 0} (p : Producer T Global AnyItems) (c d : Consumer T Global AnyItems) → IsPair p c → SameConsumer c d → IsPair p d

@@ -61,7 +61,8 @@ merge_grows {A = A} lists xs k list more there m = record {
       (All-append (λ (x : ℕ × A). x.0 < length lists) xs (pairs_of k more) m.known (all_known (length lists) k more (slice_get_within lists k list there)));
   parts = λ j other at. elim (eqb_tells j k) [
     | inl same ↦ (
-        let here : slice_get (set lists k (list ++ more)) j ≡ Some (list ++ more) = ap (slice_get (set lists k (list ++ more))) same.1 ∙ put_there lists k list (list ++ more) there in
+        let here : slice_get (set lists k (list ++ more)) j ≡ Some (list ++ more) = ap (slice_get (set lists k (list ++ more))) same.1
+        ∙ put_there lists k list (list ++ more) there in
         let is : other ≡ list ++ more = same_Some other (list ++ more) (sym at ∙ here) in
         is ∙ ap (λ (l : List A). l ++ more) (m.parts k list there) ∙ ap (λ (l : List A). part_of k xs ++ l) (sym (own_part k more))
         ∙ sym (filter_map-append (part k) xs (pairs_of k more)) ∙ ap (λ (n : ℕ). part_of n (xs ++ pairs_of k more)) (sym same.1)
@@ -95,7 +96,8 @@ zip_put R self (z ∷ zs) zero x y at one = (subst (λ w. R w y) (sym (same_Some
 zip_put R self (z ∷ zs) (suc k) x y at one = (self z, zip_put R self zs k x y at one)
 
 module _ {T : Type 0} where
-  pub sent_there : (ps : List (Producer T Global AnyItems)) (k : ℕ) (p q : Producer T Global AnyItems) (t : T) → k < length ps → sent q ≡ sent (get_or ps k p) ++ t ∷ []
+  pub sent_there : (ps : List (Producer T Global AnyItems)) (k : ℕ) (p q : Producer T Global AnyItems) (t : T) → k < length ps
+      → sent q ≡ sent (get_or ps k p) ++ t ∷ []
       → (given : List (ℕ × T)) → IsMergeOf (all_sent ps) given → IsMergeOf (all_sent (set ps k q)) (given ++ (k, t) ∷ [])
   sent_there ps k p q t below e given m =
       let there = slice_get-get_or ps k p below in

@@ -10,7 +10,8 @@ use Rattle.rtrb.specs.declared.consumer.Consumer.{Consumer}
 use Rattle.rtrb.specs.declared.producer.Producer.{Producer}
 use Rattle.ct_pipes.specs.Opening.{AreEmpty}
 
-pub pairs_more : {A B : Type 0} (R : A → B → Type 0) (xs : List A) (ys : List B) (x : A) (y : B) → AllZip R xs ys → R x y → AllZip R (xs ++ x ∷ []) (ys ++ y ∷ [])
+pub pairs_more : {A B : Type 0} (R : A → B → Type 0) (xs : List A) (ys : List B) (x : A) (y : B) → AllZip R xs ys → R x y
+    → AllZip R (xs ++ x ∷ []) (ys ++ y ∷ [])
 pairs_more R [] [] x y a one = (one, tt)
 pairs_more R [] (w ∷ ys) x y a one = absurd a
 pairs_more R (v ∷ xs) [] x y a one = absurd a
@@ -18,7 +19,8 @@ pairs_more R (v ∷ xs) (w ∷ ys) x y a one = (a.0, pairs_more R xs ys x y a.1 
 
 all_more : {A B : Type 0} (P : B → Type 0) (f : A → B) (xs : List A) (x : A) → All P (map f xs) → P (f x) → All P (map f (xs ++ x ∷ []))
 all_more {B = B} P f xs x all one =
-    subst (λ (l : List B). All P l) (sym (map-append f xs (x ∷ []))) (All-append P (map f xs) (f x ∷ []) all (All-cons P (f x) [] one (λ k d h. absurd (omega arith))))
+    subst (λ (l : List B). All P l) (sym (map-append f xs (x ∷ [])))
+    (All-append P (map f xs) (f x ∷ []) all (All-cons P (f x) [] one (λ k d h. absurd (omega arith))))
 
 none_yet : {A : Type 0} (P : A → Type 0) → All P []
 none_yet P k d h = absurd (omega arith)
@@ -27,7 +29,8 @@ module _ {T : Type 0} where
   pub empty_none : AreEmpty {T = T} 0 [] []
   empty_none = record { count = refl; pairs = tt; unsent = none_yet (λ (xs : List T). xs ≡ []); unreceived = none_yet (λ (xs : List T). xs ≡ []) }
 
-  pub empty_more : (n : ℕ) (ps qs : List (Producer T Global AnyItems)) (cs ds : List (Consumer T Global AnyItems)) (p : Producer T Global AnyItems) (c : Consumer T Global AnyItems)
+  pub empty_more : (n : ℕ) (ps qs : List (Producer T Global AnyItems)) (cs ds : List (Consumer T Global AnyItems)) (p : Producer T Global AnyItems)
+      (c : Consumer T Global AnyItems)
       → qs ≡ ps ++ p ∷ [] → ds ≡ cs ++ c ∷ [] → IsPair p c → sent p ≡ [] → received c ≡ [] → AreEmpty n ps cs → AreEmpty (n + 1) qs ds
   empty_more n ps qs cs ds p c e k pair silent deaf a =
       let many : length (ps ++ p ∷ []) ≡ n + 1 = length-append ps (p ∷ []) ∙ ap (λ (m : ℕ). m + 1) a.count in

@@ -8,7 +8,8 @@ use Rattle.ct_pipes.specs.Written.{WritesBeginning}
 abbrev pub IsSending : Option (List ℕ) → Option (List ℕ) → List ℕ → List ℕ → Type 0
 IsSending old new bytes rest = (sent : List ℕ) × (bytes ≡ sent ++ rest) × Appends old new sent
 
-pub sending_more : (a b c : Option (List ℕ)) (bytes rest left : List ℕ) (n : ℕ) → IsSending a b bytes rest → Appends b c (take n rest) → left ≡ drop n rest → IsSending a c bytes left
+pub sending_more : (a b c : Option (List ℕ)) (bytes rest left : List ℕ) (n : ℕ) → IsSending a b bytes rest → Appends b c (take n rest)
+    → left ≡ drop n rest → IsSending a c bytes left
 sending_more a b c bytes rest left n s w e = (
   s.0 ++ take n rest,
   s.1 ∙ ap (λ l. s.0 ++ l) (sym (take-append-drop n rest)) ∙ sym (append_assoc s.0 (take n rest) (drop n rest)) ∙ ap (λ l. (s.0 ++ take n rest) ++ l) (sym e),

@@ -23,14 +23,17 @@ module _ {P T : Type 0} (does : P → T → List ℕ → P → Type 0) where
   pub none_more : (a : P) (ts : List (Numbered T)) (vs : List (Vec ℕ Global)) → AnswersMore does a a ts ts vs vs
   none_more a ts vs = record { tasks = []; came = sym (append-nil ts); answers = []; went = sym (append-nil vs); answered = refl }
 
-  pub answers_more : (a m b : P) (ts us ts_then : List (Numbered T)) (vs ws vs_then : List (Vec ℕ Global)) (t : Numbered T) (v : Vec ℕ Global) (reply : List ℕ) → us ≡ ts_then ++ t ∷ []
-      → ws ≡ vs_then ++ v ∷ [] → v.items ≡ tagged t.number reply → does m t.task reply b → AnswersMore does a m ts ts_then vs vs_then → AnswersMore does a b ts us vs ws
+  pub answers_more : (a m b : P) (ts us ts_then : List (Numbered T)) (vs ws vs_then : List (Vec ℕ Global)) (t : Numbered T) (v : Vec ℕ Global)
+      (reply : List ℕ) → us ≡ ts_then ++ t ∷ []
+      → ws ≡ vs_then ++ v ∷ [] → v.items ≡ tagged t.number reply → does m t.task reply b → AnswersMore does a m ts ts_then vs vs_then
+      → AnswersMore does a b ts us vs ws
   answers_more a m b ts us ts_then vs ws vs_then t v reply e k is d before = record {
     tasks = before.tasks ++ t ∷ [];
     came = e ∙ ap (λ (l : List (Numbered T)). l ++ t ∷ []) before.came ∙ append_assoc ts before.tasks (t ∷ []);
     answers = before.answers ++ v ∷ [];
     went = k ∙ ap (λ (l : List (Vec ℕ Global)). l ++ v ∷ []) before.went ∙ append_assoc vs before.answers (v ∷ []);
-    answered = subst (λ (l : List (List ℕ)). AreAnswered does a (before.tasks ++ t ∷ []) l b) (sym (map-append (λ (w : Vec ℕ Global). w.items) before.answers (v ∷ [])))
+    answered = subst (λ (l : List (List ℕ)). AreAnswered does a (before.tasks ++ t ∷ []) l b)
+        (sym (map-append (λ (w : Vec ℕ Global). w.items) before.answers (v ∷ [])))
         (one_more a m b before.tasks (texts before.answers) t v.items reply is d before.answered);
   }
 
@@ -38,6 +41,8 @@ pub producer_trans : {T : Type 0} (x y z : Producer T Global AnyItems) → SameP
 producer_trans x y z a b = ((b.0.0 ∙ a.0.0, b.0.1 ∙ a.0.1, b.0.2 ∙ a.0.2, b.0.3 ∙ a.0.3), b.1 ∙ a.1)
 
 -- one party more did its tasks
-pub all_work_more : {P T : Type 0} (does : P → T → List ℕ → P → Type 0) (xs ys zs : List (Worker P T)) (x y : Worker P T) → zs ≡ ys ++ y ∷ [] → AllWork does xs ys → Works does x y
+pub all_work_more : {P T : Type 0} (does : P → T → List ℕ → P → Type 0) (xs ys zs : List (Worker P T)) (x y : Worker P T) → zs ≡ ys ++ y ∷ []
+    → AllWork does xs ys → Works does x y
     → AllWork does (xs ++ x ∷ []) zs
-all_work_more {P = P} {T = T} does xs ys zs x y e all one = subst (λ (l : List (Worker P T)). AllWork does (xs ++ x ∷ []) l) (sym e) (pairs_more (Works does) xs ys x y all one)
+all_work_more {P = P} {T = T} does xs ys zs x y e all one =
+    subst (λ (l : List (Worker P T)). AllWork does (xs ++ x ∷ []) l) (sym e) (pairs_more (Works does) xs ys x y all one)

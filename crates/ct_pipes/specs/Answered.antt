@@ -14,7 +14,8 @@ AreAnswered {P} does a (t ∷ ts) [] b = ⊥
 AreAnswered {P} does a (t ∷ ts) (x ∷ xs) b = (m : P) × (reply : List ℕ) × does a t.task reply m × (x ≡ tagged t.number reply) × AreAnswered does m ts xs b
 
 -- More tasks were received and answered: from the party a to the party b, each in turn.
-pub record AnswersMore {P T : Type 0} (does : P → T → List ℕ → P → Type 0) (a b : P) (received received_then : List (Numbered T)) (sent sent_then : List (Vec ℕ Global)) : Type 0 where
+pub record AnswersMore {P T : Type 0} (does : P → T → List ℕ → P → Type 0) (a b : P) (received received_then : List (Numbered T))
+    (sent sent_then : List (Vec ℕ Global)) : Type 0 where
   pub tasks : List (Numbered T)
   pub came : received_then ≡ received ++ tasks
   pub answers : List (Vec ℕ Global)

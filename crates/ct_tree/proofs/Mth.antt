@@ -16,8 +16,10 @@ mth_enough H zero (suc e) D p q = sym (cond-false (ltb 1 (length D)) _ _ (le-ltb
 mth_enough H (suc d) zero D p q = cond-false (ltb 1 (length D)) _ _ (le-ltb 1 (length D) q)
 mth_enough H (suc d) (suc e) D p q =
     ⊎_elim
-    (λ h. let l = mth_enough H d e (take (split (length D)) D) (omega (arith, length_left D h, split_lt (length D) h)) (omega (arith, length_left D h, split_lt (length D) h)) in
-    let r = mth_enough H d e (drop (split (length D)) D) (omega (arith, length-drop (split (length D)) D, split_pos (length D) h)) (omega (arith, length-drop (split (length D)) D, split_pos (length D) h)) in
+    (λ h. let l = mth_enough H d e (take (split (length D)) D) (omega (arith, length_left D h, split_lt (length D) h))
+    (omega (arith, length_left D h, split_lt (length D) h)) in
+    let r = mth_enough H d e (drop (split (length D)) D) (omega (arith, length-drop (split (length D)) D, split_pos (length D) h))
+    (omega (arith, length-drop (split (length D)) D, split_pos (length D) h)) in
     rw (l, r) refl)
     (λ h. rw (le-ltb 1 (length D) h) refl)
     (cases_lt 1 (length D))
@@ -30,17 +32,21 @@ pub mth-one : (H : List ℕ → List ℕ) (x : List ℕ) → mth H (x ∷ []) �
 unfolding mth mth_within
 mth-one H x = refl
 
-pub mth-split : (H : List ℕ → List ℕ) (D : List (List ℕ)) → 1 < length D → mth H D ≡ hash_node H (mth H (take (split (length D)) D)) (mth H (drop (split (length D)) D))
+pub mth-split : (H : List ℕ → List ℕ) (D : List (List ℕ)) → 1 < length D
+    → mth H D ≡ hash_node H (mth H (take (split (length D)) D)) (mth H (drop (split (length D)) D))
 unfolding mth mth_within
 mth-split H D h =
     mth_enough H (length D) (suc (length D)) D (omega arith) (omega arith)
     ∙ (rw (lt-ltb 1 (length D) h)
-    (let l = mth_enough H (length D) (length (take (split (length D)) D)) (take (split (length D)) D) (omega (arith, length_left D h, split_lt (length D) h)) (omega arith) in
-    let r = mth_enough H (length D) (length (drop (split (length D)) D)) (drop (split (length D)) D) (omega (arith, length-drop (split (length D)) D)) (omega arith) in
+    (let l = mth_enough H (length D) (length (take (split (length D)) D)) (take (split (length D)) D)
+    (omega (arith, length_left D h, split_lt (length D) h)) (omega arith) in
+    let r = mth_enough H (length D) (length (drop (split (length D)) D)) (drop (split (length D)) D)
+    (omega (arith, length-drop (split (length D)) D)) (omega arith) in
     rw (l, r) refl))
 
 -- the same at a split that is known by an equation
-pub mth-split_at : (H : List ℕ → List ℕ) (D : List (List ℕ)) (k : ℕ) → 1 < length D → split (length D) ≡ k → mth H D ≡ hash_node H (mth H (take k D)) (mth H (drop k D))
+pub mth-split_at : (H : List ℕ → List ℕ) (D : List (List ℕ)) (k : ℕ) → 1 < length D → split (length D) ≡ k
+    → mth H D ≡ hash_node H (mth H (take k D)) (mth H (drop k D))
 mth-split_at H D k h e = rw (← e) (mth-split H D h)
 
 -- ---- one level up

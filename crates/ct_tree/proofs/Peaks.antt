@@ -40,7 +40,8 @@ unfolding peaks peaks_within
 peaks-step H D =
     peaks_enough H (length D) (suc (length D)) D (omega arith) (omega arith)
     ∙ ap (λ r. r ++ drop (2 * (length D / 2)) D)
-    (peaks_enough H (length D) (length (level H (take (2 * (length D / 2)) D))) (level H (take (2 * (length D / 2)) D)) (omega (arith, length_pairs H D)) (omega arith))
+    (peaks_enough H (length D) (length (level H (take (2 * (length D / 2)) D))) (level H (take (2 * (length D / 2)) D))
+    (omega (arith, length_pairs H D)) (omega arith))
 
 -- ---- a list of an even length, and one of an odd length
 pub peaks-even : (H : List ℕ → List ℕ) (D : List (List ℕ)) → length D % 2 ≡ 0 → peaks H D ≡ peaks H (level H D)
@@ -171,7 +172,8 @@ root_of_peaks-drop H q i d h = rw add-one (at_suc q i h)
     at_suc (x ∷ y ∷ q) zero h = refl
     at_suc (x ∷ y ∷ q) (suc i) h = at_suc (y ∷ q) i (omega arith)
 
-pub root_of_peaks-last : (H : List ℕ → List ℕ) (q : List (List ℕ)) (d : List ℕ) → 0 < length q → root_of_peaks H (drop (length q - 1) q) ≡ get_or q (length q - 1) d
+pub root_of_peaks-last : (H : List ℕ → List ℕ) (q : List (List ℕ)) (d : List ℕ) → 0 < length q
+    → root_of_peaks H (drop (length q - 1) q) ≡ get_or q (length q - 1) d
 unfolding root_of_peaks
 root_of_peaks-last H [] d h = absurd (omega arith)
 root_of_peaks-last H (x ∷ []) d h = refl
@@ -218,7 +220,8 @@ peaks-some H D = some_at (length D) D refl
         (λ D e h. nil_from_length D e)
         (λ n ih D e h. step n ih D e h (parity D))
       where
-        step : (n : ℕ) → ((D : List (List ℕ)) → length D ≡ n / 2 → length (peaks H D) ≡ 0 → D ≡ []) → (D : List (List ℕ)) → length D ≡ n → length (peaks H D) ≡ 0 → Parity D → D ≡ []
+        step : (n : ℕ) → ((D : List (List ℕ)) → length D ≡ n / 2 → length (peaks H D) ≡ 0 → D ≡ []) → (D : List (List ℕ)) → length D ≡ n
+            → length (peaks H D) ≡ 0 → Parity D → D ≡ []
         step n ih D e h (even g) =
             let i = ih (level H D) (omega (arith, length_level H D)) (ap length (sym (peaks-even H D g)) ∙ h) in
             nil_from_length D (omega (arith, length_level H D, ap length i))

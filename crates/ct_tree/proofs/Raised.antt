@@ -10,7 +10,8 @@ use Rattle.ct_tree.specs.Levels.{level, raised, subtree, beside, node_or_edge}
 
 module _ (H : List ℕ → List ℕ) where
   -- ---- the nodes of the next level
-  pub get-level : (D : List (List ℕ)) (i : ℕ) (d : List ℕ) → 2 * i + 1 < length D → get_or (level H D) i d ≡ hash_node H (get_or D (2 * i) d) (get_or D (2 * i + 1) d)
+  pub get-level : (D : List (List ℕ)) (i : ℕ) (d : List ℕ) → 2 * i + 1 < length D
+      → get_or (level H D) i d ≡ hash_node H (get_or D (2 * i) d) (get_or D (2 * i + 1) d)
   unfolding level
   get-level [] i d h = absurd (omega arith)
   get-level (x ∷ []) i d h = absurd (omega arith)
@@ -53,7 +54,8 @@ module _ (H : List ℕ → List ℕ) where
   get-raised zero l n i D e h = get_or-take n D i [] (omega (arith, length-take n D))
   get-raised (suc j) l n i D e h = by_length (λ c i' e' h'. get-raised j c n i' D e' h') (length (raised H j (take n D))) refl
     where
-      by_length : ((c i' : ℕ) → length (raised H j (take n D)) ≡ c + 1 → i' < c → get_or (raised H j (take n D)) i' [] ≡ subtree H j i' D) → (c : ℕ) → length (raised H j (take n D)) ≡ c → get_or (level H (raised H j (take n D))) i [] ≡ hash_node H (subtree H j (2 * i) D) (subtree H j (2 * i + 1) D)
+      by_length : ((c i' : ℕ) → length (raised H j (take n D)) ≡ c + 1 → i' < c → get_or (raised H j (take n D)) i' [] ≡ subtree H j i' D) → (c : ℕ)
+          → length (raised H j (take n D)) ≡ c → get_or (level H (raised H j (take n D))) i [] ≡ hash_node H (subtree H j (2 * i) D) (subtree H j (2 * i + 1) D)
       by_length ih zero f = absurd (omega (arith, length_level H (raised H j (take n D))))
       by_length ih (suc c) f =
           let g : length (raised H j (take n D)) ≡ c + 1 = omega arith in

@@ -49,7 +49,8 @@ module _ (H : List ℕ → List ℕ) where
       let i : up (n - split n) ≡ up n - split (up n) = omega (arith, split_up n more) in
       let j : (m - split n) / 2 ≡ m / 2 - split (up n) = omega (arith, split_up n more) in
       both-right m n (split n) b r s q l refl high
-      ∙ ap (option_map (λ z. pair_right H z s)) (both-up r q (m - split n) (n - split n) false (omega (arith, split_up n more)) (omega arith) (inside (omega arith)) ∙ rw (i, j) refl)
+      ∙ ap (option_map (λ z. pair_right H z s))
+      (both-up r q (m - split n) (n - split n) false (omega (arith, split_up n more)) (omega arith) (inside (omega arith)) ∙ rw (i, j) refl)
       ∙ sym (both-right (m / 2) (up n) (split (up n)) b r s q (omega arith) refl (omega (arith, split_up n more))))
       (λ (low : m ≤ split n).
       both-left m n (split n) b r s q l refl low
@@ -111,7 +112,8 @@ module _ (H : List ℕ → List ℕ) where
       let two : 2 < n = omega (arith, split_pos n more) in
       let i : m - split n - 1 ≡ m - 1 - split n = omega arith in
       both-right m n (split n) b r s (q ++ c ∷ []) l refl high
-      ∙ ap (option_map (λ z. pair_right H z s)) (both-odd c q r (m - split n) (n - split n) false (omega (arith, split_up n two)) (inl refl) (inside (omega arith)) ∙ rw i refl)
+      ∙ ap (option_map (λ z. pair_right H z s))
+      (both-odd c q r (m - split n) (n - split n) false (omega (arith, split_up n two)) (inl refl) (inside (omega arith)) ∙ rw i refl)
       ∙ sym (along-right (pair_left H) (pair_right H) (m - 1) n (split n) (c, c) s q more refl (omega arith)))
       (λ (low : m ≤ split n).
       both-left m n (split n) b r s (q ++ c ∷ []) l refl low
@@ -121,7 +123,8 @@ module _ (H : List ℕ → List ℕ) where
 
 -- ---- the same for a path in its own order
 module _ (H : List ℕ → List ℕ) where
-  pub both-halved : (m n : ℕ) (b : Bool) (r : List ℕ) (p : List (List ℕ)) → m % 2 ≡ 0 → 0 < m → m < n → both_roots H m n b r p ≡ both_roots H (m / 2) (up n) b r p
+  pub both-halved : (m n : ℕ) (b : Bool) (r : List ℕ) (p : List (List ℕ)) → m % 2 ≡ 0 → 0 < m → m < n
+      → both_roots H m n b r p ≡ both_roots H (m / 2) (up n) b r p
   unfolding both_roots
   both-halved m n b r p e z l = both-up H r (reverse p) m n b e z (inside l)
 

@@ -34,7 +34,8 @@ pub clash_of_apart : (x y a b : List ℕ) → (x ≡ y → ⊥) → clash_by x y
 clash_of_apart x y a b n =
     ⊎_elim
     (λ (t : bytes_eq a b ≡ true). clash_same x y a b ((bytes_eq-Decides a b).0 t))
-    (λ (f : bytes_eq a b ≡ false). cond-false (bytes_eq a b) None (cond (bytes_eq x y) (Some (a, b)) None) f ∙ cond-false (bytes_eq x y) (Some (a, b)) None (differ x y n))
+    (λ (f : bytes_eq a b ≡ false). cond-false (bytes_eq a b) None (cond (bytes_eq x y) (Some (a, b)) None) f
+    ∙ cond-false (bytes_eq x y) (Some (a, b)) None (differ x y n))
     (cases_Bool (bytes_eq a b))
 
 pub clash_found : (x y a b : List ℕ) → (a ≡ b → ⊥) → x ≡ y → clash_by x y a b ≡ Some (a, b)
@@ -77,7 +78,8 @@ module _ (H : List ℕ → List ℕ) where
       (cases_Bool (bytes_eq a b))
 
   -- ---- what is found is a collision
-  pub lists_collide : (E D : List (List ℕ)) (found : Option (List ℕ × List ℕ)) (z : List ℕ × List ℕ) → ClashOfLists H E D found → found ≡ Some z → Collides H z.0 z.1
+  pub lists_collide : (E D : List (List ℕ)) (found : Option (List ℕ × List ℕ)) (z : List ℕ × List ℕ) → ClashOfLists H E D found
+      → found ≡ Some z → Collides H z.0 z.1
   lists_collide E D found z (leaf e d ee ed w) f = clash_some (0 ∷ e) (0 ∷ d) z (sym w ∙ f)
   lists_collide E D found z (node k u v n more s a b w) f =
       ⊎_elim
@@ -85,7 +87,8 @@ module _ (H : List ℕ → List ℕ) where
       (λ i. clash_some (root_string H k E) (root_string H k D) z i)
       (or_some (option_or u v) (clash H (root_string H k E) (root_string H k D)) z (sym w ∙ f))
 
-  pub along_collides : (b : Bool) (r : List ℕ) (E D p : List (List ℕ)) (found : Option (List ℕ × List ℕ)) (z : List ℕ × List ℕ) → ClashAlong H b r E D p found → found ≡ Some z → Collides H z.0 z.1
+  pub along_collides : (b : Bool) (r : List ℕ) (E D p : List (List ℕ)) (found : Option (List ℕ × List ℕ)) (z : List ℕ × List ℕ)
+      → ClashAlong H b r E D p found → found ≡ Some z → Collides H z.0 z.1
   along_collides b r E D p found z (whole n a) f = lists_collide E D found z a f
   along_collides b r E D p found z (left k q s x y u l e low g i two a w) f =
       ⊎_elim
@@ -139,7 +142,8 @@ module _ (H : List ℕ → List ℕ) (hash_length : (x : List ℕ) → length (H
   right_apart : (s x A B : List ℕ) → length s ≡ 32 → length A ≡ 32 → clash H (1 ∷ s ++ x) (1 ∷ A ++ B) ≡ None → NodesApart H s x A B
   right_apart s x A B l m e g = same_parts 32 s x A B l m (clash_none H (1 ∷ s ++ x) (1 ∷ A ++ B) e g)
 
-  pub along_begins : (b : Bool) (r : List ℕ) (E D p : List (List ℕ)) (found : Option (List ℕ × List ℕ)) → 0 < length E → ClashAlong H b r E D p found → found ≡ None → Begun H b r p E D
+  pub along_begins : (b : Bool) (r : List ℕ) (E D p : List (List ℕ)) (found : Option (List ℕ × List ℕ)) → 0 < length E → ClashAlong H b r E D p found
+      → found ≡ None → Begun H b r p E D
   along_begins b r E D p found some (whole n a) f =
       begun_whole H b r p E D n (λ x y h. one_root (length D) b r p x y (rw n at h)) (lists_same E D found a f)
   along_begins b r E D p found some (left k q s x y u l e low g i two a w) f =
@@ -177,7 +181,8 @@ module _ (H : List ℕ → List ℕ) {V : Type 0} (f : V → List ℕ) where
       → 1 ∷ a ++ b ≡ root_string H k (map f xs)
   strings_of xs k a b ea eb = rw (ea, eb, take_rest xs k, take-map f k xs, drop-map f k xs) refl
 
-  pub clash_of_parts : (xs ys : List V) (k : ℕ) (a b c d : List ℕ) (u v found : Option (List ℕ × List ℕ)) → length xs ≡ length ys → 1 < length xs → k ≡ split (length xs)
+  pub clash_of_parts : (xs ys : List V) (k : ℕ) (a b c d : List ℕ) (u v found : Option (List ℕ × List ℕ)) → length xs ≡ length ys
+      → 1 < length xs → k ≡ split (length xs)
       → a ≡ mth_of_leaves H (map f (take k xs)) → b ≡ mth_of_leaves H (map f (take (length xs - k) (drop k xs)))
       → c ≡ mth_of_leaves H (map f (take k ys)) → d ≡ mth_of_leaves H (map f (take (length ys - k) (drop k ys)))
       → ClashOfLists H (map f (take k xs)) (map f (take k ys)) u
@@ -222,7 +227,8 @@ module _ (H : List ℕ → List ℕ) {V : Type 0} (f : V → List ℕ) where
   pub clash_in_right : (b : Bool) (xs ys : List V) (k : ℕ) (r s v w a c d e : List ℕ) (p q : List (List ℕ)) (u below found : Option (List ℕ × List ℕ))
       → length xs < length ys → k ≡ split (length ys) → 0 < k → k < length xs
       → (0 < length p → p ≡ q ++ s ∷ []) → length s ≡ 32
-      → ((x y : List ℕ) → both_roots H (length (take (length xs - k) (drop k xs))) (length (take (length ys - k) (drop k ys))) false r q ≡ Some (x, y) → (v ≡ x) × (w ≡ y))
+      → ((x y : List ℕ) → both_roots H (length (take (length xs - k) (drop k xs))) (length (take (length ys - k) (drop k ys))) false r q ≡ Some (x, y)
+      → (v ≡ x) × (w ≡ y))
       → a ≡ mth_of_leaves H (map f (take k xs)) → c ≡ mth_of_leaves H (map f (take (length xs - k) (drop k xs)))
       → d ≡ mth_of_leaves H (map f (take k ys)) → e ≡ mth_of_leaves H (map f (take (length ys - k) (drop k ys)))
       → ClashOfLists H (map f (take k xs)) (map f (take k ys)) u
@@ -236,7 +242,8 @@ module _ (H : List ℕ → List ℕ) {V : Type 0} (f : V → List ℕ) where
       let old : length (take (length xs - k) (drop k xs)) ≡ length xs - k = ap length (take_rest xs k) ∙ length-drop k xs in
       let new : length (take (length ys - k) (drop k ys)) ≡ length ys - k = ap length (take_rest ys k) ∙ length-drop k ys in
       let z = inner_right H (length xs) (length ys) k b r r s p q (x, y) l (sym is_split) high g t in
-      let j : both_roots H (length (take (length xs - k) (drop k xs))) (length (take (length ys - k) (drop k ys))) false r q ≡ Some (z.0.0, z.0.1) = rw (old, new) z.1 in
+      let j : both_roots H (length (take (length xs - k) (drop k xs))) (length (take (length ys - k) (drop k ys))) false r q ≡ Some (z.0.0, z.0.1) =
+      rw (old, new) z.1 in
       let i = known z.0.0 z.0.1 j in
       let below_it : ClashAlong H false r (map f (drop k xs)) (map f (drop k ys)) q below = rw (take_rest xs k, take_rest ys k) at (inner z.0.0 z.0.1 j) in
       right k q s v w u below (omega arith) (is_split ∙ ap split (sym n)) (omega arith)
@@ -244,4 +251,5 @@ module _ (H : List ℕ → List ℕ) {V : Type 0} (f : V → List ℕ) where
       (rw (m, n, i.0, i.1) z.1)
       (rw (take-map f k xs, take-map f k ys) before)
       (rw (drop-map f k xs, drop-map f k ys) below_it)
-      (o ∙ ap₂ (λ t z. option_or (option_or u below) (option_or (clash H (1 ∷ s ++ v) t) (clash H (1 ∷ s ++ w) z))) (strings_of xs k a c ea ec) (strings_of ys k d e ed ee))
+      (o ∙ ap₂ (λ t z. option_or (option_or u below) (option_or (clash H (1 ∷ s ++ v) t) (clash H (1 ∷ s ++ w) z))) (strings_of xs k a c ea ec)
+      (strings_of ys k d e ed ee))

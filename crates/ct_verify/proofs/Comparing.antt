@@ -100,7 +100,8 @@ module _ (H : List ℕ → List ℕ) {V : Type 0} (f : V → List ℕ) where
       → 1 < length xs → k ≡ split (length xs) → k ≤ m → (0 < length p → p ≡ rest ++ s ∷ [])
       → ((t : List ℕ) → rebuild H (m - k) (length (take (length xs - k) (drop k xs))) (hash_leaf H leaf) rest ≡ Some t → x ≡ t)
       → y ≡ mth_of_leaves H (map f (take k xs)) → z ≡ mth_of_leaves H (map f (take (length xs - k) (drop k xs)))
-      → ((t : List ℕ) → m - k < length (take (length xs - k) (drop k xs)) → rebuild H (m - k) (length (take (length xs - k) (drop k xs))) (hash_leaf H leaf) rest ≡ Some t
+      → ((t : List ℕ) → m - k < length (take (length xs - k) (drop k xs))
+      → rebuild H (m - k) (length (take (length xs - k) (drop k xs))) (hash_leaf H leaf) rest ≡ Some t
       → found (get_or (map f (take (length xs - k) (drop k xs))) (m - k) []) ≡ evid H (map f (take (length xs - k) (drop k xs))) leaf (m - k) rest)
       → ((o : List ℕ) → result o ≡ compared (1 ∷ s ++ x) (1 ∷ y ++ z) (found o))
       → (r : List ℕ) → m < length xs → rebuild H m (length xs) (hash_leaf H leaf) p ≡ Some r → result (get_or (map f xs) m []) ≡ evid H (map f xs) leaf m p
@@ -111,7 +112,8 @@ module _ (H : List ℕ → List ℕ) {V : Type 0} (f : V → List ℕ) where
       let b = climbed_right H m (length xs) k (hash_leaf H leaf) s r p rest more (sym e) high w a in
       let t = b.0 in
       let c2 : length (take (length xs - k) (drop k xs)) ≡ length xs - k = ap length tr ∙ c in
-      let root : rebuild H (m - k) (length (take (length xs - k) (drop k xs))) (hash_leaf H leaf) rest ≡ Some t = ap (λ i. rebuild H (m - k) i (hash_leaf H leaf) rest) c2 ∙ b.1 in
+      let root : rebuild H (m - k) (length (take (length xs - k) (drop k xs))) (hash_leaf H leaf) rest ≡ Some t =
+      ap (λ i. rebuild H (m - k) i (hash_leaf H leaf) rest) c2 ∙ b.1 in
       let j : k + (m - k) ≡ m = omega arith in
       let g : get_or (map f (take (length xs - k) (drop k xs))) (m - k) [] ≡ get_or (map f xs) m [] =
       ap (λ D. get_or (map f D) (m - k) []) tr

@@ -108,7 +108,8 @@ module _ (H : List ℕ → List ℕ) where
       (λ (l : m < n). ⊎_elim
       (λ (high : split n < m).
       let u = mapped (λ z. pair_right H z s) (both_down H (m - split n) (n - split n) false r q) z (sym (both-right H m n (split n) b r s q l refl high) ∙ e) in
-      let i : length q ≡ subproof_length (m - split n) (n - split n) false = both_defined_down q (m - split n) (n - split n) false r u.0 (omega arith) (omega arith) u.1 in
+      let i : length q ≡ subproof_length (m - split n) (n - split n) false =
+      both_defined_down q (m - split n) (n - split n) false r u.0 (omega arith) (omega arith) u.1 in
       omega (arith, subproof_length-right m n b p l high))
       (λ (low : m ≤ split n).
       let u = mapped (λ z. pair_left H z s) (both_down H m (split n) b r q) z (sym (both-left H m n (split n) b r s q l refl low) ∙ e) in

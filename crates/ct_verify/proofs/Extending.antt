@@ -23,11 +23,13 @@ answered (Ok x) P Q e i j q = absurd (both_ways false refl i)
 answered (Err x) P Q e i j q = subst Q (sym j) q
 
 -- a list of lists of bytes compared with the beginning of another
-pub begins_decides : {V : Type 0} (f : V → List ℕ) (xs ys : List V) → Decides (pointwise (λ x y. pointwise eqb (f x) (f y)) xs (take (length xs) ys)) (IsBeginning (map f xs) (map f ys))
+pub begins_decides : {V : Type 0} (f : V → List ℕ) (xs ys : List V)
+    → Decides (pointwise (λ x y. pointwise eqb (f x) (f y)) xs (take (length xs) ys)) (IsBeginning (map f xs) (map f ys))
 begins_decides f xs ys =
     let d : Decides (pointwise (pointwise eqb) (map f xs) (map f (take (length xs) ys))) (map f xs ≡ map f (take (length xs) ys)) =
     pointwise_decides bytes_eq-Decides (map f xs) (map f (take (length xs) ys)) in
-    let s : map f (take (length xs) ys) ≡ take (length (map f xs)) (map f ys) = sym (take-map f (length xs) ys) ∙ ap (λ n. take n (map f ys)) (sym (length-map xs f)) in
+    let s : map f (take (length xs) ys) ≡ take (length (map f xs)) (map f ys) = sym (take-map f (length xs) ys)
+    ∙ ap (λ n. take n (map f ys)) (sym (length-map xs f)) in
     let p = pointwise-map f (pointwise eqb) xs (take (length xs) ys) in
     (λ t. d.0 (p ∙ t) ∙ s, λ b. sym p ∙ d.1 (b ∙ sym s))
 

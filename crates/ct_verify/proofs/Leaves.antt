@@ -26,4 +26,5 @@ module _ (H : List ℕ → List ℕ) {V : Type 0} (f : V → List ℕ) where
       → l ≡ mth_of_leaves H (map f (take k xs)) → r ≡ mth_of_leaves H (map f (take (length xs - k) (drop k xs))) → v ≡ hash_node H l r
       → v ≡ mth_of_leaves H (map f xs)
   leaves_joined xs k l r v h e a b c =
-      c ∙ rw (a, b) (ap (λ q. hash_node H (mth_of_leaves H (map f (take k xs))) (mth_of_leaves H (map f q))) (take_rest xs k)) ∙ sym (leaves_halves xs k h (sym e))
+      c ∙ rw (a, b) (ap (λ q. hash_node H (mth_of_leaves H (map f (take k xs))) (mth_of_leaves H (map f q))) (take_rest xs k))
+      ∙ sym (leaves_halves xs k h (sym e))

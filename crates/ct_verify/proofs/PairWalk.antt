@@ -84,7 +84,8 @@ refused H m n x y p a l v q z i s e f EmptyPath w = absurd w
 refused H m n x y p a l v q z i s e f IndexOutOfRange w = absurd w
 
 -- what holds of each answer is carried over
-pub answer_carried : {T : Type 0} (r : Result T ProofFault) {P P' : Type 0} {Q Q' : ProofFault → Type 0} → (P → P') → ((fault : ProofFault) → Q fault → Q' fault)
+pub answer_carried : {T : Type 0} (r : Result T ProofFault) {P P' : Type 0} {Q Q' : ProofFault → Type 0} → (P → P')
+    → ((fault : ProofFault) → Q fault → Q' fault)
     → MatchResult r (λ _. P) Q → MatchResult r (λ _. P') Q'
 answer_carried (Ok u) f g h = f h
 answer_carried (Err e) f g h = g e h
@@ -126,14 +127,16 @@ begin_length m n a l z i w o e =
     (rw (f, g) at h) ∙ subproof_length-odd (l + 1) (a + 1) true (omega arith) (inr (omega arith)) (inside (omega arith)) ∙ rw j refl
 
 pub not_empty : {X : Type 0} (p : List X) (r : Bool) → r ≡ (length p == 0) → r ≡ false → 0 < length p
-not_empty p r e f = ⊎_elim (λ (h : 0 < length p). h) (λ (h : length p ≤ 0). absurd (both_ways (length p == 0) (sym e ∙ f) (eq-eqb (length p) 0 (omega arith)))) (cases_lt 0 (length p))
+not_empty p r e f = ⊎_elim (λ (h : 0 < length p). h)
+    (λ (h : length p ≤ 0). absurd (both_ways (length p == 0) (sym e ∙ f) (eq-eqb (length p) 0 (omega arith)))) (cases_lt 0 (length p))
 
 -- a path as its first element and the rest, as `&path[0]` and `&path[1..]` read them
 pub first_rest : (p : List (List ℕ)) → 0 < length p → p ≡ get_or p 0 [] ∷ take (length p - 1) (drop 1 p)
 first_rest [] h = absurd (omega arith)
 first_rest (x ∷ xs) h = ap (λ q. x ∷ q) (sym (take_all (length (x ∷ xs) - 1) xs (omega arith)))
 
-pub begin_at : (H : List ℕ → List ℕ) (m n : ℕ) (x v : List ℕ) (p q : List (List ℕ)) (a l : ℕ) → p ≡ v ∷ q → 0 < m → m < n → Halved (m - 1) (n - 1) a l → a % 2 ≡ 0 → (a ≡ 0 → ⊥)
+pub begin_at : (H : List ℕ → List ℕ) (m n : ℕ) (x v : List ℕ) (p q : List (List ℕ)) (a l : ℕ) → p ≡ v ∷ q → 0 < m → m < n → Halved (m - 1) (n - 1) a l
+    → a % 2 ≡ 0 → (a ≡ 0 → ⊥)
     → both_roots H m n true x p ≡ pair_up H a (l + 1) (v, v) q
 begin_at H m n x v p q a l f z i w o e = ap (both_roots H m n true x) f ∙ begin H m n x v q a l z i w o e
 

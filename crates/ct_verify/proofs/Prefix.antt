@@ -50,13 +50,15 @@ module _ (H : List ℕ → List ℕ) where
       let c : length (take k D) ≡ k = length-take-le k D (omega (arith, split_lt (length D) more)) in
       let z : both_roots H (length E) (length D) b r p ≡ Some (x, hash_node H y s) =
       ap (both_roots H (length E) (length D) b r) w ∙ both_left H (length E) (length D) k b r s q l f low ∙ ap (option_map (λ z. pair_left H z s)) two in
-      let v = pair_parts (x, hash_node H y s) (mth_of_leaves H E, mth_of_leaves H D) (same_some (x, hash_node H y s) (mth_of_leaves H E, mth_of_leaves H D) (sym z ∙ e)) in
+      let v = pair_parts (x, hash_node H y s) (mth_of_leaves H E, mth_of_leaves H D)
+      (same_some (x, hash_node H y s) (mth_of_leaves H E, mth_of_leaves H D) (sym z ∙ e)) in
       let a = apart (v.1 ∙ halves D k more f) in
       under (ap (λ u. both_roots H (length E) u b r q) c ∙ two ∙ rw (v.0, a.0) refl)
       ∙ take-take (length E) k D low
 
   -- it goes into the right part
-  pub begun_right : (b : Bool) (r t s x y : List ℕ) (p q E D : List (List ℕ)) (k : ℕ) → length E < length D → 1 < length E → split (length D) ≡ k → split (length E) ≡ k → k < length E
+  pub begun_right : (b : Bool) (r t s x y : List ℕ) (p q E D : List (List ℕ)) (k : ℕ) → length E < length D → 1 < length E → split (length D) ≡ k
+      → split (length E) ≡ k → k < length E
       → p ≡ q ++ s ∷ [] → both_roots H (length E - k) (length D - k) false t q ≡ Some (x, y)
       → NodesApart H s x (mth_of_leaves H (take k E)) (mth_of_leaves H (drop k E))
       → NodesApart H s y (mth_of_leaves H (take k D)) (mth_of_leaves H (drop k D))

@@ -35,16 +35,25 @@ module _ (H : List ℕ → List ℕ) where
       let root = mth-split_at H D (split n) (omega arith) f in
       ⊎_elim
       (λ (low : m < split n).
-      rw (path-left H m (split n) D (omega arith) f low, rebuild-left m n (split n) (get_or D m []) (mth H (drop (split n) D)) (path H m (take (split n) D)) h refl low)
+      rw (
+        path-left H m (split n) D (omega arith) f low,
+        rebuild-left m n (split n) (get_or D m []) (mth H (drop (split n) D))
+            (path H m (take (split n) D)) h refl low,
+      )
       (ap (option_map (λ r. hash_node H r (mth H (drop (split n) D))))
       (ap (λ x. rebuild H m (split n) x (path H m (take (split n) D))) (sym (get_or-take (split n) D m [] low))
       ∙ left m (take (split n) D) (length-take-le (split n) D (omega (arith, split_lt n h))) low)
       ∙ ap Some (sym root)))
       (λ (high : split n ≤ m).
       let j : split n + (m - split n) ≡ m = omega arith in
-      rw (path-right H m (split n) D (omega arith) f high, rebuild-right m n (split n) (get_or D m []) (mth H (take (split n) D)) (path H (m - split n) (drop (split n) D)) h refl high)
+      rw (
+        path-right H m (split n) D (omega arith) f high,
+        rebuild-right m n (split n) (get_or D m []) (mth H (take (split n) D))
+            (path H (m - split n) (drop (split n) D)) h refl high,
+      )
       (ap (option_map (λ r. hash_node H (mth H (take (split n) D)) r))
-      (ap (λ x. rebuild H (m - split n) (n - split n) x (path H (m - split n) (drop (split n) D))) (sym (get_or-drop (split n) D (m - split n) [] ∙ ap (λ u. get_or D u []) j))
+      (ap (λ x. rebuild H (m - split n) (n - split n) x (path H (m - split n) (drop (split n) D)))
+      (sym (get_or-drop (split n) D (m - split n) [] ∙ ap (λ u. get_or D u []) j))
       ∙ right (m - split n) (drop (split n) D) (omega (arith, length-drop (split n) D)) (omega arith))
       ∙ ap Some (sym root)))
       (cases_lt m (split n)))
@@ -99,7 +108,8 @@ module _ (H : List ℕ → List ℕ) where
   pub proof_rebuilds_at : (n m : ℕ) (D : List (List ℕ)) (b : Bool) → length D ≡ n → 0 < m → m ≤ n
       → both_roots H m n b (mth H (take m D)) (subproof H m D b) ≡ Some (mth H (take m D), mth H D)
   proof_rebuilds_at =
-      split_induct (λ n. (m : ℕ) (D : List (List ℕ)) (b : Bool) → length D ≡ n → 0 < m → m ≤ n → both_roots H m n b (mth H (take m D)) (subproof H m D b) ≡ Some (mth H (take m D), mth H D))
+      split_induct (λ n. (m : ℕ) (D : List (List ℕ)) (b : Bool) → length D ≡ n → 0 < m → m ≤ n
+      → both_roots H m n b (mth H (take m D)) (subproof H m D b) ≡ Some (mth H (take m D), mth H D))
       (λ m D b e z i. absurd (omega arith))
       (λ m D b e z i. all 1 m D b e z (omega arith))
       (λ n h left right m D b e z i. ⊎_elim
@@ -113,7 +123,8 @@ module _ (H : List ℕ → List ℕ) where
       let first = first_root m (split n) D f high (omega arith) in
       rw (subproof-right H m (split n) D b z (omega arith) f high)
       (both_right m n (split n) b (mth H (take m D)) t s (subproof H (m - split n) (drop (split n) D) false) l refl high
-      ∙ ap (option_map (λ z. pair_right H z s)) (right (m - split n) (drop (split n) D) false (omega (arith, length-drop (split n) D)) (omega arith) (omega arith))
+      ∙ ap (option_map (λ z. pair_right H z s))
+      (right (m - split n) (drop (split n) D) false (omega (arith, length-drop (split n) D)) (omega arith) (omega arith))
       ∙ rw (sym first, sym root) refl))
       (λ (low : m ≤ split n).
       let s = mth H (drop (split n) D) in
@@ -126,7 +137,8 @@ module _ (H : List ℕ → List ℕ) where
       (λ (g : n ≤ m). all n m D b e z (omega arith))
       (cases_lt m n))
     where
-      all : (n m : ℕ) (D : List (List ℕ)) (b : Bool) → length D ≡ n → 0 < m → m ≡ n → both_roots H m n b (mth H (take m D)) (subproof H m D b) ≡ Some (mth H (take m D), mth H D)
+      all : (n m : ℕ) (D : List (List ℕ)) (b : Bool) → length D ≡ n → 0 < m → m ≡ n
+          → both_roots H m n b (mth H (take m D)) (subproof H m D b) ≡ Some (mth H (take m D), mth H D)
       all n m D b e z g =
           let t : take m D ≡ D = take_all m D (omega arith) in
           rw (t, subproof-whole H m D b z (omega arith), g) (both_whole n b (mth H D))

@@ -78,7 +78,8 @@ module _ (H : List ℕ → List ℕ) where
 
   pub evid_right : (D : List (List ℕ)) (leaf : List ℕ) (m k : ℕ) (s r : List ℕ) (q : List (List ℕ)) → split (length D) ≡ k → k ≤ m
       → rebuild_down H (m - k) (length D - k) (hash_leaf H leaf) q ≡ Some r
-      → evid_down H D leaf m (s ∷ q) ≡ compared (1 ∷ s ++ r) (1 ∷ mth_of_leaves H (take k D) ++ mth_of_leaves H (drop k D)) (evid_down H (drop k D) leaf (m - k) q)
+      → evid_down H D leaf m (s ∷ q) ≡ compared (1 ∷ s ++ r) (1 ∷ mth_of_leaves H (take k D) ++ mth_of_leaves H (drop k D))
+      (evid_down H (drop k D) leaf (m - k) q)
   unfolding evid_down
   evid_right D leaf m k s r q e high f = rw (e, le-ltb m k high, f) refl
 
@@ -139,18 +140,22 @@ module _ (H : List ℕ → List ℕ) where
       let c = length-take-le (split n) D (omega (arith, split_lt n h)) in
       let t : leaf ≡ get_or (take (split n) D) m [] = f ∙ sym (low_leaf D m (split n) low) in
       rw (path_left m (split n) D (omega arith) g low)
-      (evid_left D leaf m (split n) (mth_of_leaves H (drop (split n) D)) (mth_of_leaves H (take (split n) D)) (reverse (path H m (map (hash_leaf H) (take (split n) D)))) g low
+      (evid_left D leaf m (split n) (mth_of_leaves H (drop (split n) D)) (mth_of_leaves H (take (split n) D))
+      (reverse (path H m (map (hash_leaf H) (take (split n) D)))) g low
       (path_root (take (split n) D) m (split n) leaf c low t)
-      ∙ compared_same (1 ∷ mth_of_leaves H (take (split n) D) ++ mth_of_leaves H (drop (split n) D)) (evid_down H (take (split n) D) leaf m (reverse (path H m (map (hash_leaf H) (take (split n) D)))))
+      ∙ compared_same (1 ∷ mth_of_leaves H (take (split n) D) ++ mth_of_leaves H (drop (split n) D))
+      (evid_down H (take (split n) D) leaf m (reverse (path H m (map (hash_leaf H) (take (split n) D)))))
       ∙ left (take (split n) D) m leaf c low t))
       (λ (high : split n ≤ m).
       let c : length (drop (split n) D) ≡ n - split n = omega (arith, length-drop (split n) D) in
       let d : length (drop (split n) D) ≡ length D - split n = omega (arith, length-drop (split n) D) in
       let t : leaf ≡ get_or (drop (split n) D) (m - split n) [] = f ∙ sym (high_leaf D m (split n) high) in
       rw (path_right m (split n) D (omega arith) g high)
-      (evid_right D leaf m (split n) (mth_of_leaves H (take (split n) D)) (mth_of_leaves H (drop (split n) D)) (reverse (path H (m - split n) (map (hash_leaf H) (drop (split n) D)))) g high
+      (evid_right D leaf m (split n) (mth_of_leaves H (take (split n) D)) (mth_of_leaves H (drop (split n) D))
+      (reverse (path H (m - split n) (map (hash_leaf H) (drop (split n) D)))) g high
       (path_root (drop (split n) D) (m - split n) (length D - split n) leaf d (omega arith) t)
-      ∙ compared_same (1 ∷ mth_of_leaves H (take (split n) D) ++ mth_of_leaves H (drop (split n) D)) (evid_down H (drop (split n) D) leaf (m - split n) (reverse (path H (m - split n) (map (hash_leaf H) (drop (split n) D)))))
+      ∙ compared_same (1 ∷ mth_of_leaves H (take (split n) D) ++ mth_of_leaves H (drop (split n) D))
+      (evid_down H (drop (split n) D) leaf (m - split n) (reverse (path H (m - split n) (map (hash_leaf H) (drop (split n) D)))))
       ∙ right (drop (split n) D) (m - split n) leaf c (omega arith) t))
       (cases_lt m (split n)))
 

@@ -66,7 +66,8 @@ walk_right_length n l o i =
 
 pub not_right : (n l : ℕ) → ((n % 2 ≡ 1) ⊎ (n ≡ l) → ⊥) → n ≤ l → (n % 2 ≡ 0) × (n < l)
 not_right n l h i =
-    let even : n % 2 ≡ 0 = ⊎_elim (λ (e : n % 2 < 1). let f : n % 2 ≡ 0 = omega arith in f) (λ (e : 1 ≤ n % 2). absurd (h (inl (omega arith)))) (cases_lt (n % 2) 1) in
+    let even : n % 2 ≡ 0 = ⊎_elim (λ (e : n % 2 < 1). let f : n % 2 ≡ 0 = omega arith in f)
+    (λ (e : 1 ≤ n % 2). absurd (h (inl (omega arith)))) (cases_lt (n % 2) 1) in
     let low : n < l = ⊎_elim (λ (e : n < l). e) (λ (e : l ≤ n). absurd (h (inr (omega arith)))) (cases_lt n l) in
     (even, low)
 

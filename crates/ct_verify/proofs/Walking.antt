@@ -15,13 +15,15 @@ module _ (H : List ℕ → List ℕ) where
   short m n b r (x ∷ p) z l e = omega arith
 
   -- the pair below a left step
-  pub inner_left : (m n k : ℕ) (b : Bool) (r s : List ℕ) (p q : List (List ℕ)) (z : List ℕ × List ℕ) → m < n → split n ≡ k → m ≤ k → (0 < length p → p ≡ q ++ s ∷ [])
+  pub inner_left : (m n k : ℕ) (b : Bool) (r s : List ℕ) (p q : List (List ℕ)) (z : List ℕ × List ℕ) → m < n → split n ≡ k → m ≤ k
+      → (0 < length p → p ≡ q ++ s ∷ [])
       → both_roots H m n b r p ≡ Some z → (u : List ℕ × List ℕ) × (both_roots H m k b r q ≡ Some u) × (pair_left H u s ≡ z)
   inner_left m n k b r s p q z l e low w a =
       let f : both_roots H m n b r p ≡ both_roots H m n b r (q ++ s ∷ []) = ap (both_roots H m n b r) (w (short m n b r p z l a)) in
       mapped (λ z. pair_left H z s) (both_roots H m k b r q) z (sym (f ∙ both_left H m n k b r s q l e low) ∙ a)
 
-  pub inner_right : (m n k : ℕ) (b : Bool) (r t s : List ℕ) (p q : List (List ℕ)) (z : List ℕ × List ℕ) → m < n → split n ≡ k → k < m → (0 < length p → p ≡ q ++ s ∷ [])
+  pub inner_right : (m n k : ℕ) (b : Bool) (r t s : List ℕ) (p q : List (List ℕ)) (z : List ℕ × List ℕ) → m < n → split n ≡ k → k < m
+      → (0 < length p → p ≡ q ++ s ∷ [])
       → both_roots H m n b r p ≡ Some z → (u : List ℕ × List ℕ) × (both_roots H (m - k) (n - k) false t q ≡ Some u) × (pair_right H u s ≡ z)
   inner_right m n k b r t s p q z l e high w a =
       let f : both_roots H m n b r p ≡ both_roots H m n b r (q ++ s ∷ []) = ap (both_roots H m n b r) (w (short m n b r p z l a)) in
@@ -65,7 +67,8 @@ module _ (H : List ℕ → List ℕ) where
       let t = known u.0.0 u.0.1 (ap (λ i. both_roots H m i b r q) i ∙ u.1) in
       (t.0 ∙ ap (λ (z : List ℕ × List ℕ). z.0) u.2, ap (λ z. hash_node H z s) t.1 ∙ ap (λ (z : List ℕ × List ℕ). z.1) u.2)
 
-  pub right_roots : (b : Bool) (m n k i j : ℕ) (r t s v w : List ℕ) (p q : List (List ℕ)) → m < n → k ≡ split n → k < m → i ≡ m - k → j ≡ n - k → (0 < length p → p ≡ q ++ s ∷ [])
+  pub right_roots : (b : Bool) (m n k i j : ℕ) (r t s v w : List ℕ) (p q : List (List ℕ)) → m < n → k ≡ split n → k < m → i ≡ m - k → j ≡ n - k
+      → (0 < length p → p ≡ q ++ s ∷ [])
       → ((x y : List ℕ) → both_roots H i j false t q ≡ Some (x, y) → (v ≡ x) × (w ≡ y))
       → (x y : List ℕ) → both_roots H m n b r p ≡ Some (x, y) → (hash_node H s v ≡ x) × (hash_node H s w ≡ y)
   right_roots b m n k i j r t s v w p q l e high ei ej g known x y a =

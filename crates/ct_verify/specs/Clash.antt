@@ -35,13 +35,15 @@ pub data ClashOfLists (H : List ℕ → List ℕ) : List (List ℕ) → List (Li
 pub data ClashAlong (H : List ℕ → List ℕ) : Bool → List ℕ → List (List ℕ) → List (List ℕ) → List (List ℕ) → Option (List ℕ × List ℕ) → Type 0 where
   whole : {b : Bool} {r : List ℕ} {E D p : List (List ℕ)} {found : Option (List ℕ × List ℕ)}
       → length E ≡ length D → ClashOfLists H E D found → ClashAlong H b r E D p found
-  left : {b : Bool} {r : List ℕ} {E D p : List (List ℕ)} {found : Option (List ℕ × List ℕ)} (k : ℕ) (q : List (List ℕ)) (s x y : List ℕ) (below : Option (List ℕ × List ℕ))
+  left : {b : Bool} {r : List ℕ} {E D p : List (List ℕ)} {found : Option (List ℕ × List ℕ)} (k : ℕ) (q : List (List ℕ)) (s x y : List ℕ)
+      (below : Option (List ℕ × List ℕ))
       → length E < length D → k ≡ split (length D) → length E ≤ k → p ≡ q ++ s ∷ [] → length s ≡ 32
       → both_roots H (length E) k b r q ≡ Some (x, y)
       → ClashAlong H b r E (take k D) q below
       → found ≡ option_or below (clash H (1 ∷ y ++ s) (root_string H k D))
       → ClashAlong H b r E D p found
-  right : {b : Bool} {r : List ℕ} {E D p : List (List ℕ)} {found : Option (List ℕ × List ℕ)} (k : ℕ) (q : List (List ℕ)) (s x y : List ℕ) (before below : Option (List ℕ × List ℕ))
+  right : {b : Bool} {r : List ℕ} {E D p : List (List ℕ)} {found : Option (List ℕ × List ℕ)} (k : ℕ) (q : List (List ℕ)) (s x y : List ℕ)
+      (before below : Option (List ℕ × List ℕ))
       → length E < length D → k ≡ split (length D) → k < length E → p ≡ q ++ s ∷ [] → length s ≡ 32
       → both_roots H (length E - k) (length D - k) false r q ≡ Some (x, y)
       → ClashOfLists H (take k E) (take k D) before → ClashAlong H false r (drop k E) (drop k D) q below

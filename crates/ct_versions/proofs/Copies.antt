@@ -16,7 +16,8 @@ some_fits : (x y : Reach) → series_of y ≡ series_of x → Fits x (Some y)
 some_fits x y same r e = ap series_of (sym (same_Some y r e)) ∙ same
 
 set_fit : (x : Reach) (views : List (Option Reach)) (seat : ℕ) (v : Option Reach) → AllFit x views → Fits x v → AllFit x (set views seat v)
-set_fit x views seat v h fits j u e = ⊎_elim (λ (t : (j ≡ seat) × (v ≡ u)). subst (Fits x) t.1 fits) (λ (t : (j ≢ seat) × (get_elem? views j ≡ some u)). h j u t.1) (at_set views seat j v u e)
+set_fit x views seat v h fits j u e = ⊎_elim (λ (t : (j ≡ seat) × (v ≡ u)). subst (Fits x) t.1 fits)
+    (λ (t : (j ≢ seat) × (get_elem? views j ≡ some u)). h j u t.1) (at_set views seat j v u e)
 
 pub admits : Admits AllFit None
 admits x views h seat v at = ⊎_elim (h seat v) (λ (e : None ≡ v). subst (Fits x) e (none_fits x)) (at_snoc views None v seat at)
@@ -29,15 +30,18 @@ turns seat v x y same views h at = (
 )
 
 pub forks : (seat : ℕ) (v : Option Reach) → Forks AllFit seat v v v
-forks seat v x views h at j u e = ⊎_elim (set_fit x views seat v h (h seat v at) j u) (λ (same : v ≡ u). subst (Fits x) same (h seat v at)) (at_snoc (set views seat v) v u j e)
+forks seat v x views h at j u e = ⊎_elim (set_fit x views seat v h (h seat v at) j u) (λ (same : v ≡ u). subst (Fits x) same (h seat v at))
+    (at_snoc (set views seat v) v u j e)
 
 pub merges : (seat : ℕ) (v : Option Reach) (other : ℕ) (w : Option Reach) → Merges AllFit seat v other w w None
 merges seat v other w x views h at apart there =
-    let b : Fits x w = ⊎_elim (λ (t : (other ≡ seat) × (w ≡ w)). absurd (apart t.0)) (λ (t : (other ≢ seat) × (get_elem? views other ≡ some w)). h other w t.1) (at_set views seat other w w there) in
+    let b : Fits x w = ⊎_elim (λ (t : (other ≡ seat) × (w ≡ w)). absurd (apart t.0))
+    (λ (t : (other ≢ seat) × (get_elem? views other ≡ some w)). h other w t.1) (at_set views seat other w w there) in
     set_fit x (set views seat w) other None (set_fit x views seat w h b) (none_fits x)
 
 -- it is still known whose publications are shown, whether the turn was made or not
-pub still_known : {E : Type 0} (s : Series) (x y : Reach) (v w : Option Reach) (done : Result Unit E) → (series_of x ≡ s) × Knows s v → series_of y ≡ series_of x → MatchResult done (λ _. w ≡ Some y) (λ _. w ≡ v)
+pub still_known : {E : Type 0} (s : Series) (x y : Reach) (v w : Option Reach) (done : Result Unit E) → (series_of x ≡ s) × Knows s v
+    → series_of y ≡ series_of x → MatchResult done (λ _. w ≡ Some y) (λ _. w ≡ v)
     → (series_of y ≡ s) × Knows s w
 still_known s x y v w (Ok _) k e m = (e ∙ k.0, (y, m, e ∙ k.0))
 still_known s x y v w (Err _) k e m = (e ∙ k.0, subst (Knows s) (sym m) k.1)

@@ -66,7 +66,8 @@ kept_more cs ds all home kept = record {
 
 -- the rule holds with a publication more, which is newer than those of its line, whose turns are over
 pub kept_add : (cs ds : List Cell) (all : List Publication) (x : Publication) → ((k : ℕ) → IsHome cs k → IsHome ds k) → IsKept cs all
-    → ((i : ℕ) (p : Publication) → slice_get all i ≡ Some p → x.line ≡ p.line → IsNewer p.state x.state × IsHome ds p.turn) → IsHome ds x.line → Lawful x.state → IsKept ds (all ++ x ∷ [])
+    → ((i : ℕ) (p : Publication) → slice_get all i ≡ Some p → x.line ≡ p.line → IsNewer p.state x.state × IsHome ds p.turn) → IsHome ds x.line
+    → Lawful x.state → IsKept ds (all ++ x ∷ [])
 kept_add cs ds all x home kept before named law = record {
   word = home 0 kept.word;
   lawful = λ i p at. lawful_at i p (stands all x i p at);
@@ -100,15 +101,20 @@ whole_seen cs all v p kept pre ends away i q at same = elim (cases_lt (length v 
 ]
 
 -- and what is newer than the last is newer than all of the line, whose turns are over with that one
-pub newer_than_all : (cs ds : List Cell) (all v : List Publication) (p x : Publication) → ((k : ℕ) → IsHome cs k → IsHome ds k) → IsKept cs all → IsPrefix v all → Ends v p → (IsHome cs p.turn → ⊥)
-    → IsHome ds p.turn → x.line ≡ p.line → IsNewer p.state x.state → (i : ℕ) (q : Publication) → slice_get all i ≡ Some q → x.line ≡ q.line → IsNewer q.state x.state × IsHome ds q.turn
+pub newer_than_all : (cs ds : List Cell) (all v : List Publication) (p x : Publication) → ((k : ℕ) → IsHome cs k → IsHome ds k) → IsKept cs all
+    → IsPrefix v all → Ends v p → (IsHome cs p.turn → ⊥)
+    → IsHome ds p.turn → x.line ≡ p.line → IsNewer p.state x.state → (i : ℕ) (q : Publication) → slice_get all i ≡ Some q → x.line ≡ q.line
+    → IsNewer q.state x.state × IsHome ds q.turn
 newer_than_all cs ds all v p x home kept pre ends away over line newer i q at same =
     let n = length v - 1 in
     let there : slice_get all n ≡ Some p = prefix_get v all n p pre ends in
     let within = whole_seen cs all v p kept pre ends away i q at (sym same ∙ line) in
     elim (cases_lt i n) [
-      | inl below ↦
-          (IsNewer-trans q.state p.state x.state (kept.newer i n q p below at there (sym line ∙ same)) newer, home q.turn (kept.over i n q p below at there (sym line ∙ same)))
+      | inl below ↦ (
+        IsNewer-trans q.state p.state x.state (kept.newer i n q p below at there (sym line ∙ same)) newer,
+        home q.turn
+            (kept.over i n q p below at there (sym line ∙ same)),
+      )
       | inr above ↦
           let e : i ≡ n = omega arith in
           let one : p ≡ q = same_Some p q (sym there ∙ ap (slice_get all) (sym e) ∙ at) in

@@ -12,7 +12,8 @@ use Rattle.ct_versions.proofs.Lines.{Extends-refl}
 use Rattle.ct_versions.proofs.Prefixes.{prefix_get}
 
 -- of two publications of one line the one with fewer heads begins the other
-pub two_seen : (xs ys zs : List Publication) → ((cs : List Cell) × IsKept cs zs) → Ends xs (newest xs) → Ends ys (newest ys) → IsPrefix xs zs → IsPrefix ys zs → (newest ys).line ≡ (newest xs).line
+pub two_seen : (xs ys zs : List Publication) → ((cs : List Cell) × IsKept cs zs) → Ends xs (newest xs) → Ends ys (newest ys) → IsPrefix xs zs
+    → IsPrefix ys zs → (newest ys).line ≡ (newest xs).line
     → length (newest xs).state.heads ≤ length (newest ys).state.heads → Extends (newest xs).state (newest ys).state
 two_seen xs ys zs (cs, kept) x y px py line heads =
     let i = length xs - 1 in

@@ -58,13 +58,23 @@ comes_home cs f n below =
     home_here (slice_set cs 0 (f (cell cs 0).0, true)) n.key n.value (omega arith)
 
 -- whatever the book is, a right can be made
-pub right_moves : (v : List Publication) (e : Publication) (f : ℕ → ℕ) → Moves IsKept shown moved 0 (v, (no_nib, None)) f (MakesRight (step 0 0 0 e) (v, (no_nib, None)))
+pub right_moves : (v : List Publication) (e : Publication) (f : ℕ → ℕ)
+    → Moves IsKept shown moved 0 (v, (no_nib, None)) f (MakesRight (step 0 0 0 e) (v, (no_nib, None)))
 right_moves v e f cs all kept pre away =
     let one = slice_set cs 0 (f (cell cs 0).0, true) in
     let home : (k : ℕ) → IsHome cs k → IsHome (one ++ (0, false) ∷ []) k = λ k h. home_push one (0, false) k (home_set cs 0 (f (cell cs 0).0) k h) in (
       home_within cs 0 kept.word,
       kept.word,
-      (adds, [], None, tt, subst (IsKept (one ++ (0, false) ∷ [])) (sym (append-nil all)) (kept_more cs (one ++ (0, false) ∷ []) all home kept), inl (refl, refl), refl),
+      (
+        adds,
+        [],
+        None,
+        tt,
+        subst (IsKept (one ++ (0, false) ∷ [])) (sym (append-nil all))
+            (kept_more cs (one ++ (0, false) ∷ []) all home kept),
+        inl (refl, refl),
+        refl,
+      ),
     )
 
 -- a line can be opened by the word of a right
@@ -81,14 +91,16 @@ open_moves v e n f right law cs all kept pre away =
         x ∷ [],
         None,
         right,
-        kept_add cs (home_after cs f n) all x (stays_home cs f n) kept (λ i p at same. absurd (nobody (subst (IsHome cs) (sym same) (kept.named i p at)))) (comes_home cs f n here.0) law,
+        kept_add cs (home_after cs f n) all x (stays_home cs f n) kept (λ i p at same. absurd (nobody (subst (IsHome cs) (sym same) (kept.named i p at))))
+            (comes_home cs f n here.0) law,
         inl (refl, refl),
         ends_push all x,
       ),
     )
 
 -- and whoever has the turn of a line can add to it
-pub add_moves : (v : List Publication) (e : Publication) (n : Nib) (f : ℕ → ℕ) → Ends v (newest v) → IsRight n (newest v).turn → Extends (newest v).state e.state → length (newest v).state.heads < length e.state.heads → Lawful e.state
+pub add_moves : (v : List Publication) (e : Publication) (n : Nib) (f : ℕ → ℕ) → Ends v (newest v) → IsRight n (newest v).turn
+    → Extends (newest v).state e.state → length (newest v).state.heads < length e.state.heads → Lawful e.state
     → Moves IsKept shown moved 0 (v, (n, None)) f (AddsToLine (step 0 0 0 e) (v, (n, None)))
 add_moves v e n f ends right extends heads law cs all kept pre away =
     let here = away right.0 in

@@ -14,7 +14,8 @@ use Rattle.ct_watch.proofs.Steps.{said_changes_nothing}
 
 -- a step keeps the sure leaves, and accepts a head of the new ones
 abbrev Grows : (List ℕ → List ℕ) → Watched → Verdict → Watched → Type 0
-Grows H w v next = ((Y : List (List ℕ)) × (next.sure ≡ w.sure ++ Y)) × (SaysAccepted v → (head : Head) × (next.accepted ≡ Some head) × IsHeadOfAll H next.sure head)
+Grows H w v next = ((Y : List (List ℕ)) × (next.sure ≡ w.sure ++ Y))
+    × (SaysAccepted v → (head : Head) × (next.accepted ≡ Some head) × IsHeadOfAll H next.sure head)
 
 -- nothing changed, and nothing was accepted
 unchanged_grows : (H : List ℕ → List ℕ) (w : Watched) (v : Verdict) → (SaysAccepted v → ⊥) → Grows H w v w
@@ -33,7 +34,8 @@ said_accepts_nothing (Some known) head Gap s a = a
 said_accepts_nothing (Some known) head Consistent s a = a
 said_accepts_nothing (Some known) head (Inconsistent fault) s a = a
 
-said_grows : (H : List ℕ → List ℕ) (w : Watched) (waiting : Head) (known : Option Head) (head : Head) (v : Verdict) → IsSaid known head v → Grows H w v (after_verdict w waiting v)
+said_grows : (H : List ℕ → List ℕ) (w : Watched) (waiting : Head) (known : Option Head) (head : Head) (v : Verdict) → IsSaid known head v
+    → Grows H w v (after_verdict w waiting v)
 said_grows H w waiting known head v s =
     subst (Grows H w v) (sym (said_changes_nothing w waiting known head v s)) (unchanged_grows H w v (said_accepts_nothing known head v s))
 
@@ -55,7 +57,8 @@ head_grows H w head v (inl s) = said_grows H w (waiting_or w.waiting head) w.acc
 head_grows H w head v (inr (larger, inl s)) = said_grows H w (waiting_or w.waiting head) w.waiting head v s
 head_grows H w head v (inr (larger, inr s)) = settled_grows H w (waiting_or w.waiting head) v s.1
 
-read_grows : (H : List ℕ → List ℕ) (w : Watched) (head : Head) (E : List (List ℕ)) (v : Verdict) → WaitingSays H (read_on w head E) head v → Grows H w v (after_entries w (Some head) E v)
+read_grows : (H : List ℕ → List ℕ) (w : Watched) (head : Head) (E : List (List ℕ)) (v : Verdict) → WaitingSays H (read_on w head E) head v
+    → Grows H w v (after_entries w (Some head) E v)
 read_grows H w head E Accepted s = settled_grows H (read_on w head E) head Accepted s
 read_grows H w head E (RootMismatch root) s = settled_grows H (read_on w head E) head (RootMismatch root) s
 read_grows H w head E Pending s = settled_grows H (read_on w head E) head Pending s
@@ -85,7 +88,8 @@ of_beginning_at : (H : List ℕ → List ℕ) (next : Watched) (Z : List (List �
     → (head : Head) × (n : ℕ) × (next.accepted ≡ Some head) × IsHeadOfAll H (take n (next.sure ++ Z)) head
 of_beginning_at H next Z (head, e, s) = (head, length next.sure, e, rw (take-append_seam next.sure Z) s)
 
-of_beginning : (H : List ℕ → List ℕ) (v : Verdict) (next : Watched) (Z : List (List ℕ)) → (SaysAccepted v → (head : Head) × (next.accepted ≡ Some head) × IsHeadOfAll H next.sure head)
+of_beginning : (H : List ℕ → List ℕ) (v : Verdict) (next : Watched) (Z : List (List ℕ))
+    → (SaysAccepted v → (head : Head) × (next.accepted ≡ Some head) × IsHeadOfAll H next.sure head)
     → IsOfBeginning H (next.sure ++ Z) (v, next)
 of_beginning H v next Z g a = of_beginning_at H next Z (g a)
 

@@ -11,7 +11,8 @@ use Rattle.ct_watch.specs.declared.verdict.Verdict.{Verdict}
 use Rattle.ct_watch.specs.declared.verdict.Verdict.TheVariants.{Accepted, Pending, Again, Stale, Shrunk, Fork, RootMismatch, Gap, Consistent, Inconsistent}
 
 -- a verdict that stands against a head at once changes nothing
-pub said_changes_nothing : (w : Watched) (waiting : Head) (known : Option Head) (head : Head) (v : Verdict) → IsSaid known head v → after_verdict w waiting v ≡ w
+pub said_changes_nothing : (w : Watched) (waiting : Head) (known : Option Head) (head : Head) (v : Verdict) → IsSaid known head v
+    → after_verdict w waiting v ≡ w
 said_changes_nothing w waiting None head v s = absurd s
 said_changes_nothing w waiting (Some known) head Accepted s = absurd s
 said_changes_nothing w waiting (Some known) head Pending s = absurd s
@@ -25,7 +26,8 @@ said_changes_nothing w waiting (Some known) head Consistent s = absurd s
 said_changes_nothing w waiting (Some known) head (Inconsistent fault) s = absurd s
 
 -- subtrees of the leaves A ++ B, and then of T behind them
-pub joined : (H : List ℕ → List ℕ) (A B T : List (List ℕ)) (subtrees : ℕ × List (List ℕ)) → Stands H subtrees (map (hash_leaf H) (A ++ B) ++ map (hash_leaf H) T)
+pub joined : (H : List ℕ → List ℕ) (A B T : List (List ℕ)) (subtrees : ℕ × List (List ℕ))
+    → Stands H subtrees (map (hash_leaf H) (A ++ B) ++ map (hash_leaf H) T)
     → Stands H subtrees (map (hash_leaf H) (A ++ (B ++ T)))
 joined H A B T subtrees s = rw (← append_assoc A B T, map-append (hash_leaf H) (A ++ B) T) s
 
@@ -33,7 +35,8 @@ abbrev bytes : Vec ℕ Global → List ℕ
 bytes l = l.items
 
 -- the leaves up to a count, where that is the room or all there are
-pub as_far_as : (leaves : List (Vec ℕ Global)) (count room : ℕ) → (count ≡ room) ⊎ ((length leaves ≤ room) × (count ≡ length leaves)) → map bytes (take count leaves) ≡ take room (map bytes leaves)
+pub as_far_as : (leaves : List (Vec ℕ Global)) (count room : ℕ) → (count ≡ room) ⊎ ((length leaves ≤ room) × (count ≡ length leaves))
+    → map bytes (take count leaves) ≡ take room (map bytes leaves)
 as_far_as leaves count room (inl e) = rw e (sym (take-map bytes room leaves))
 as_far_as leaves count room (inr e) =
     rw (e.1, take_all (length leaves) leaves (omega arith), take_all room (map bytes leaves) (omega (arith, e.0, length-map leaves bytes))) refl
@@ -66,7 +69,8 @@ after_read H w head E Gap s = absurd s
 after_read H w head E Consistent s = absurd s
 after_read H w head E (Inconsistent fault) s = absurd s
 
-pub entries_say : {F : Type 0} (H : List ℕ → List ℕ) (old : WatcherState) (head : Head) (start : ℕ) (E : List (List ℕ)) (longer : ℕ × List (List ℕ)) (r : Result Verdict F)
+pub entries_say : {F : Type 0} (H : List ℕ → List ℕ) (old : WatcherState) (head : Head) (start : ℕ) (E : List (List ℕ))
+    (longer : ℕ × List (List ℕ)) (r : Result Verdict F)
     → old.waiting ≡ Some head → start ≡ old.all.0 → ((w : Watched) → Keeps H old w → Keeps H (record old { all = longer }) (read_on w head E))
     → IfOk r (λ v. (w : Watched) → Keeps H (record old { all = longer }) w → WaitingSays H w head v)
     → IfOk r (λ v. (w : Watched) → Keeps H old w → EntriesSay H w w.waiting start E v)
@@ -76,7 +80,8 @@ entries_say H old head start E longer (Ok v) waits starts keeps says = λ w k.
     rw e (inr (here, says (read_on w head E) (keeps w k)))
 entries_say H old head start E longer (Err f) waits starts keeps says = says
 
-pub entries_keep : {F : Type 0} (H : List ℕ → List ℕ) (old new : WatcherState) (head : Head) (E : List (List ℕ)) (longer : ℕ × List (List ℕ)) (r : Result Verdict F)
+pub entries_keep : {F : Type 0} (H : List ℕ → List ℕ) (old new : WatcherState) (head : Head) (E : List (List ℕ))
+    (longer : ℕ × List (List ℕ)) (r : Result Verdict F)
     → old.waiting ≡ Some head → ((w : Watched) → Keeps H old w → Keeps H (record old { all = longer }) (read_on w head E))
     → IfOk r (λ v. (w : Watched) → Keeps H (record old { all = longer }) w → WaitingSays H w head v)
     → IfOk r (λ v. (w : Watched) → Keeps H (record old { all = longer }) w → Keeps H new (after_verdict w head v))

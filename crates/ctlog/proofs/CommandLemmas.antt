@@ -89,10 +89,24 @@ unique_at (suc (suc (suc zero))) (suc (suc (suc (suc k)))) d e lj lk same = absu
 unique_at (suc (suc (suc (suc j)))) k d e lj lk same = absurd (omega arith)
 
 own_at : (k : ℕ) (d : Rule) → k < 4 → ((slice_index_or option_rules k d).id ≡ codes "help") ⊎ ((slice_index_or option_rules k d).id ≡ codes "version") → ⊥
-own_at zero d lt auto = elim auto [ inl h ↦ apart 102 104 (codes "fronts") (codes "help") refl refl refl h | inr h ↦ apart 102 118 (codes "fronts") (codes "version") refl refl refl h ]
-own_at (suc zero) d lt auto = elim auto [ inl h ↦ apart 114 104 (codes "ring") (codes "help") refl refl refl h | inr h ↦ apart 114 118 (codes "ring") (codes "version") refl refl refl h ]
-own_at (suc (suc zero)) d lt auto = elim auto [ inl h ↦ apart 111 104 (codes "open-at") (codes "help") refl refl refl h | inr h ↦ apart 111 118 (codes "open-at") (codes "version") refl refl refl h ]
-own_at (suc (suc (suc zero))) d lt auto = elim auto [ inl h ↦ apart 99 104 (codes "close-at") (codes "help") refl refl refl h | inr h ↦ apart 99 118 (codes "close-at") (codes "version") refl refl refl h ]
+own_at zero d lt auto = elim auto [
+  | inl h ↦ apart 102 104 (codes "fronts") (codes "help") refl refl refl h
+  | inr h ↦ apart 102 118 (codes "fronts")
+      (codes "version") refl refl refl h
+]
+own_at (suc zero) d lt auto = elim auto [
+  | inl h ↦ apart 114 104 (codes "ring") (codes "help") refl refl refl h
+  | inr h ↦ apart 114 118 (codes "ring")
+      (codes "version") refl refl refl h
+]
+own_at (suc (suc zero)) d lt auto = elim auto
+    [ inl h ↦ apart 111 104 (codes "open-at") (codes "help") refl refl refl h | inr h ↦ apart 111 118 (codes "open-at") (codes "version") refl refl refl h ]
+own_at (suc (suc (suc zero))) d lt auto =
+    elim auto [
+      | inl h ↦ apart 99 104 (codes "close-at") (codes "help") refl refl refl h
+      | inr h ↦ apart 99 118 (codes "close-at")
+          (codes "version") refl refl refl h
+    ]
 own_at (suc (suc (suc (suc k)))) d lt auto = absurd (omega arith)
 
 named_at : (k : ℕ) (d : Rule) → k < 4 → (slice_index_or option_rules k d).id ≡ [] → ⊥
@@ -109,7 +123,8 @@ simple_parts true true false d rest e = cc
 simple_parts true false c d rest e = cc
 simple_parts false b c d rest e = cc
 
-simple_says : (a : Arg) → is_simple_arg a ≡ true → (is_empty a.overrides.items ≡ true) × (is_empty a.default_vals_ifs.items ≡ true) × (is_empty a.groups.items ≡ true) × (not (is_some a.val_delim) ≡ true)
+simple_says : (a : Arg) → is_simple_arg a ≡ true → (is_empty a.overrides.items ≡ true) × (is_empty a.default_vals_ifs.items ≡ true)
+    × (is_empty a.groups.items ≡ true) × (not (is_some a.val_delim) ≡ true)
 simple_says a s = simple_parts (is_empty a.overrides.items) (is_empty a.default_vals_ifs.items) (is_empty a.groups.items) (not (is_some a.val_delim))
     (not (is_some a.terminator) && (not a.allow_hyphen_values && (not a.allow_negative_numbers && (not a.require_equals && (not a.last && not a.global))))) s
 
@@ -142,13 +157,15 @@ field_parts true true false d rest e = cc
 field_parts true false c d rest e = cc
 field_parts false b c d rest e = cc
 
-pub plain_fields : (c : Command) → app_of c ≡ ctlog_app → (groups_of c ≡ []) × ((out-Command c).has_globals ≡ false) × ((out-Command c).subcommand_negates_reqs ≡ false)
+pub plain_fields : (c : Command) → app_of c ≡ ctlog_app → (groups_of c ≡ []) × ((out-Command c).has_globals ≡ false)
+    × ((out-Command c).subcommand_negates_reqs ≡ false)
 plain_fields c e =
     let f = out-Command c in
     let p : has_plain_fields f ≡ true = ap (λ (a : App). a.top.is_plain) e in
     let q = field_parts (is_empty f.groups.items) (not f.allow_external_subcommands) (not f.has_globals) true
     (not f.infer_long_args && (not f.allow_missing_positional && (not f.infer_subcommands && (not f.args_conflicts_with_subcommands
-    && (not f.subcommand_precedence_over_arg && (not (is_some f.long_flag) && (not (is_some f.short_flag) && (is_empty f.long_flag_aliases.items && is_empty f.short_flag_aliases.items)))))))) p in
+    && (not f.subcommand_precedence_over_arg
+    && (not (is_some f.long_flag) && (not (is_some f.short_flag) && (is_empty f.long_flag_aliases.items && is_empty f.short_flag_aliases.items)))))))) p in
     (no_elements f.groups.items q.0, negated f.has_globals q.1, ap (λ (a : App). a.top.subcommand_negates_reqs) e)
 
 pub all_plain : (c : Command) → app_of c ≡ ctlog_app → IsPlain c
@@ -166,7 +183,8 @@ unique_ids c is k d lt j e lj same =
     let rj = ap (λ (x : Rule). x.id) (rule_at c is j e) in
     let rk = ap (λ (x : Rule). x.id) (rule_at c is k d) in
     unique_at j k (rule_of d) (rule_of e) (subst (λ (n : ℕ). j < n) (many c is) lj) lt
-    (subst (λ (w : List ℕ). bytes_eq (slice_index_or option_rules j (rule_of e)).id w ≡ true) rk (subst (λ (w : List ℕ). bytes_eq w (slice_index_or (args_of c) k d).id.now ≡ true) rj same))
+    (subst (λ (w : List ℕ). bytes_eq (slice_index_or option_rules j (rule_of e)).id w ≡ true) rk
+    (subst (λ (w : List ℕ). bytes_eq w (slice_index_or (args_of c) k d).id.now ≡ true) rj same))
 
 pub own_id : (c : Command) → app_of c ≡ ctlog_app → (k : ℕ) (d : Arg) → k < 4 → IsAuto (slice_index_or (args_of c) k d) → ⊥
 own_id c is k d lt auto =

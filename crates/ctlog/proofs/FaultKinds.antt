@@ -84,7 +84,8 @@ action_one action.HelpLong again a values rows = request_one action.HelpLong
 action_one action.Version again a values rows = request_one action.Version
 
 use_one : (again : Bool) (a : Rule) (values : List Text) (rows : List Row) → AtMostOne (use_fault again a values rows)
-use_one again a values rows = first (range_kinds (unwrap_or_range a.range).start_inclusive (most_values a) (length values)) (action_fault (action_of a) again a (values_or_missing a values) rows)
+use_one again a values rows = first (range_kinds (unwrap_or_range a.range).start_inclusive (most_values a) (length values))
+    (action_fault (action_of a) again a (values_or_missing a values) rows)
     (range_one (unwrap_or_range a.range).start_inclusive (most_values a) (length values)) (action_one (action_of a) again a (values_or_missing a values) rows)
 
 settle_one : (c : List Rule) (again : Bool) (h : Held) → AtMostOne (settle_fault c again h)
@@ -92,7 +93,8 @@ settle_one c again h = mapped (λ p. option_map_or (λ a. use_fault again a p.1 
     (λ p. mapped (λ a. use_fault again a p.1 h.rows) (arg_by_id c p.0) [] (λ a. use_one again a p.1 h.rows) none) none
 
 react_one : (c : List Rule) (again : Bool) (a : Rule) (values : List Text) (h : Held) → AtMostOne (react_fault c again a values h)
-react_one c again a values h = first (settle_fault c again h) (use_fault again a values (settled c h).rows) (settle_one c again h) (use_one again a values (settled c h).rows)
+react_one c again a values h = first (settle_fault c again h) (use_fault again a values (settled c h).rows) (settle_one c again h)
+    (use_one again a values (settled c h).rows)
 
 option_one : (c : List Rule) (again : Bool) (a : Rule) (o : Option Text) (h : Held) → AtMostOne (option_fault c again a o h)
 option_one c again a (Some v) h = react_one c again a (v ∷ []) h
@@ -100,18 +102,22 @@ option_one c again a None h = settle_one c again h
 
 long_one : (c : List Rule) (again : Bool) (o : Option Rule) (v : Option Text) (h : Held) → AtMostOne (long_fault c again o v h)
 long_one c again None v h = one kind.UnknownArgument
-long_one c again (Some a) v h = choice (takes_values a) _ _ (option_one c again a v h) (choice (is_some v) _ _ (one kind.TooManyValues) (react_one c again a [] h))
+long_one c again (Some a) v h = choice (takes_values a) _ _ (option_one c again a v h)
+    (choice (is_some v) _ _ (one kind.TooManyValues) (react_one c again a [] h))
 
-short_one : (c : List Rule) (again : Bool) (o : Option Rule) (rest : Text) (h : Held) (go : Held → Kinds) → ((x : Held) → AtMostOne (go x)) → AtMostOne (short_fault c again o rest h go)
+short_one : (c : List Rule) (again : Bool) (o : Option Rule) (rest : Text) (h : Held) (go : Held → Kinds) → ((x : Held) → AtMostOne (go x))
+    → AtMostOne (short_fault c again o rest h go)
 short_one c again None rest h go more = one kind.UnknownArgument
 short_one c again (Some a) rest h go more = choice (takes_values a) _ _ (option_one c again a (attached_value rest) h)
     (first (react_fault c again a [] h) (go (reacted c a [] h)) (react_one c again a [] h) (more (reacted c a [] h)))
 
-bundle_step_one : (c : List Rule) (again : Bool) (o : Option ℕ) (flags : Text) (skip : ℕ) (h : Held) (go : Text → ℕ → Held → Kinds) → ((t : Text) (n : ℕ) (x : Held) → AtMostOne (go t n x))
+bundle_step_one : (c : List Rule) (again : Bool) (o : Option ℕ) (flags : Text) (skip : ℕ) (h : Held) (go : Text → ℕ → Held → Kinds)
+    → ((t : Text) (n : ℕ) (x : Held) → AtMostOne (go t n x))
     → AtMostOne (bundle_step_fault c again o flags skip h go)
 bundle_step_one c again None flags skip h go more = none
 bundle_step_one c again (Some x) flags zero h go more =
-    short_one c again (arg_by_short c x) (drop (length (encode_utf8 x)) flags) h (go (drop (length (encode_utf8 x)) flags) 0) (more (drop (length (encode_utf8 x)) flags) 0)
+    short_one c again (arg_by_short c x) (drop (length (encode_utf8 x)) flags) h (go (drop (length (encode_utf8 x)) flags) 0)
+    (more (drop (length (encode_utf8 x)) flags) 0)
 bundle_step_one c again (Some x) flags (suc skip) h go more = more (drop (length (encode_utf8 x)) flags) skip h
 
 flags_one : (c : List Rule) (again : Bool) (k : ℕ) (flags : Text) (skip : ℕ) (h : Held) → AtMostOne (flags_fault c again k flags skip h)
@@ -133,7 +139,8 @@ other_one : (s : Shape) → s.disable_help_subcommand ≡ true → (o : Option T
 other_one s off (Some name) word h = never_two (bytes_eq name (codes "help")) s.disable_help_subcommand _ off
 other_one s off None word h = choice (bytes_eq word (45 ∷ 45 ∷ [])) _ _ none (flag_word_one s.rules s.args_override_self (long_of word) word h)
 
-word_one : (s : Shape) → s.disable_help_subcommand ≡ true → (names : Names) (t : Bool) (w : Waiting) (word : Text) (h : Held) → AtMostOne (word_fault s names t w word h)
+word_one : (s : Shape) → s.disable_help_subcommand ≡ true → (names : Names) (t : Bool) (w : Waiting) (word : Text) (h : Held)
+    → AtMostOne (word_fault s names t w word h)
 word_one s off names t w word h = choice t _ _ none (other_one s off (subcommand_met names w word) word h)
 
 leaf_stray : (b : Bool) (x : Kinds) → b ≡ true → AtMostOne (if b then kind.UnknownArgument ∷ [] else x)
@@ -156,7 +163,8 @@ turn_one s off leaf names w word =
     choice (is_some w.stopped) _ _ none (first (word_fault s names w.is_trailing w.waiting word w.held) (step_fault s w.position met.0 met.1)
     (word_one s off names w.is_trailing w.waiting word w.held) (step_one s leaf w.position met.0 met.1))
 
-walk_one : (s : Shape) → s.disable_help_subcommand ≡ true → s.is_leaf ≡ true → (names : Names) (w : Walk) (words : List Text) → AtMostOne (walk_fault s names w words)
+walk_one : (s : Shape) → s.disable_help_subcommand ≡ true → s.is_leaf ≡ true → (names : Names) (w : Walk) (words : List Text)
+    → AtMostOne (walk_fault s names w words)
 unfolding walk_fault
 walk_one s off leaf names w [] = none
 walk_one s off leaf names w (word ∷ rest) = first (turn_fault s names w word) (walk_fault s names (walked s.rules names w word) rest)
@@ -164,17 +172,21 @@ walk_one s off leaf names w (word ∷ rest) = first (turn_fault s names w word) 
 
 default_one : (rows : List Row) (a : Rule) → AtMostOne (default_fault rows a)
 default_one rows a = choice (has_row a.id rows || is_empty a.defaults) _ _ none
-    (first (request_kinds (action_of a)) (values_fault a a.defaults) (request_one (action_of a)) (values_one a.ignore_case (parser_of_value a.parser) a.defaults))
+    (first (request_kinds (action_of a)) (values_fault a a.defaults) (request_one (action_of a))
+    (values_one a.ignore_case (parser_of_value a.parser) a.defaults))
 
 defaults_one : (rows : List Row) (rules : List Rule) → AtMostOne (defaults_fault rows rules)
 unfolding defaults_fault
 defaults_one rows [] = none
-defaults_one rows (a ∷ rest) = first (default_fault rows a) (defaults_fault (with_default rows a) rest) (default_one rows a) (defaults_one (with_default rows a) rest)
+defaults_one rows (a ∷ rest) = first (default_fault rows a) (defaults_fault (with_default rows a) rest) (default_one rows a)
+    (defaults_one (with_default rows a) rest)
 
 checks_one : (a b c : Bool) → AtMostOne (check_kinds a b c)
-checks_one a b c = choice a _ _ (one kind.DisplayHelpOnMissingArgumentOrSubcommand) (choice b _ _ (one kind.MissingSubcommand) (choice c _ _ (one kind.MissingRequiredArgument) none))
+checks_one a b c = choice a _ _ (one kind.DisplayHelpOnMissingArgumentOrSubcommand)
+    (choice b _ _ (one kind.MissingSubcommand) (choice c _ _ (one kind.MissingRequiredArgument) none))
 
-level_one : (s : Shape) → s.disable_help_subcommand ≡ true → s.is_leaf ≡ true → (names : Names) (h : Held) (words : List Text) (b : Bool) (below : Kinds) → AtMostOne below → AtMostOne (level_fault s names h words b below)
+level_one : (s : Shape) → s.disable_help_subcommand ≡ true → s.is_leaf ≡ true → (names : Names) (h : Held) (words : List Text) (b : Bool) (below : Kinds)
+    → AtMostOne below → AtMostOne (level_fault s names h words b below)
 level_one s off leaf names h words b below under =
     let end = (walk s.rules names h words).held in
     first (walk_fault s names (walk_from h) words) _ (walk_one s off leaf names (walk_from h) words)
@@ -198,5 +210,6 @@ among_one (x ∷ []) k ok single among = elim among [ inl e ↦ ap by_kind (sym 
 among_one (x ∷ y ∷ ks) k ok single among = absurd (omega arith)
 
 -- what an error of this kind says of the words
-pub error_says : (words : List Text) (k : ErrorKind) (ok : CommandLine) → IsAmong k (fault_of ctlog_app words) → by_fault (fault_of ctlog_app words) ok ≡ by_kind k
+pub error_says : (words : List Text) (k : ErrorKind) (ok : CommandLine) → IsAmong k (fault_of ctlog_app words)
+    → by_fault (fault_of ctlog_app words) ok ≡ by_kind k
 error_says words k ok among = among_one (fault_of ctlog_app words) k ok (one_fault words) among

@@ -124,7 +124,8 @@ entry_read c f id Q how values no_groups named has reads read = go (matched_of f
 no_text : (f : Found) (id : List ℕ) → is_some (first_value f id) ≡ false → one_text f id ≡ None
 no_text f id none = go (matched_of f id) refl none
   where
-    at_entry : (x : MatchedArg) → is_some (option_map (λ s. s.now) (slice_get x.vals.items 0)) ≡ false → option_map (λ s. read_as x.reading s.now) (slice_get x.vals.items 0) ≡ None
+    at_entry : (x : MatchedArg) → is_some (option_map (λ s. s.now) (slice_get x.vals.items 0)) ≡ false
+        → option_map (λ s. read_as x.reading s.now) (slice_get x.vals.items 0) ≡ None
     at_entry x h = first (slice_get x.vals.items 0) h
       where
         first : (o : Option (Bor (List ℕ))) → is_some (option_map (λ s. s.now) o) ≡ false → option_map (λ s. read_as x.reading s.now) o ≡ None
@@ -154,13 +155,15 @@ optional_text old m p is k d name q lt named parser = go (is_some (first_value (
     below : k < length (args_of old)
     below = subst (λ (n : ℕ). k < n) (sym (many old is)) lt
 
-    got : is_some (first_value (found_of m) name) ≡ true → (t : List ℕ) × (one_text (found_of m) (slice_index_or (args_of old) k d).id.now ≡ Some (read_as (reading_of q) t))
+    got : is_some (first_value (found_of m) name) ≡ true → (t : List ℕ)
+        × (one_text (found_of m) (slice_index_or (args_of old) k d).id.now ≡ Some (read_as (reading_of q) t))
         × Accepts (slice_index_or (args_of old) k d).ignore_case q t
     got has =
         let parsed = p.parsed (p.from.globals ∙ (plain_fields old is).1) in
         entry_read p.built (found_of m) (slice_index_or (args_of old) k d).id.now
         (λ (t : List ℕ). Accepts (slice_index_or (args_of old) k d).ignore_case q t) (reading_of q)
-        parsed.values (p.from.plain (all_plain old is)).1 (has_name old is k d lt) (subst (λ (w : List ℕ). is_some (first_value (found_of m) w) ≡ true) (sym id_is) has)
+        parsed.values (p.from.plain (all_plain old is)).1 (has_name old is k d lt)
+        (subst (λ (w : List ℕ). is_some (first_value (found_of m) w) ≡ true) (sym id_is) has)
         (only_reading old m p k d below (unique_ids old is k d lt) (own_id old is k d lt) q parser_is)
         (λ v pass. passes_read old m p k d below (unique_ids old is k d lt) (own_id old is k d lt) q parser_is _ v refl pass)
 
@@ -169,22 +172,37 @@ optional_text old m p is k d name q lt named parser = go (is_some (first_value (
     go false none = inl (no_text (found_of m) name none)
     go true has =
         let r = got has in
-        inr (r.0, (slice_index_or (args_of old) k d).ignore_case, subst (λ (w : List ℕ). one_text (found_of m) w ≡ Some (read_as (reading_of q) r.0)) id_is r.1, r.2)
+        inr (
+          r.0,
+          (slice_index_or (args_of old) k d).ignore_case,
+          subst
+              (λ (w : List ℕ). one_text (found_of m) w ≡ Some (read_as (reading_of q) r.0)) id_is r.1,
+          r.2,
+        )
 
 -- one that is required has a text
 pub required_text : (old : Command) (m : ArgMatches) → IsParsedFrom old m → app_of old ≡ ctlog_app → (k : ℕ) (d : Arg) (name : List ℕ) (q : ValueParser) → k < 4
-    → (slice_index_or option_rules k (rule_of d)).id ≡ name → (slice_index_or option_rules k (rule_of d)).parser ≡ Some q → (slice_index_or option_rules k (rule_of d)).required ≡ true
+    → (slice_index_or option_rules k (rule_of d)).id ≡ name → (slice_index_or option_rules k (rule_of d)).parser ≡ Some q
+    → (slice_index_or option_rules k (rule_of d)).required ≡ true
     → (slice_index_or option_rules k (rule_of d)).action ≡ Some Set → 1 ≤ least_values (slice_index_or (args_of old) k d)
     → (t : List ℕ) × (b : Bool) × (one_text (found_of m) name ≡ Some (read_as (reading_of q) t)) × Accepts b q t
 required_text old m p is k d name q lt named parser required set least =
     let r = rule_at old is k d in
     let fields = plain_fields old is in
     let id_is : (slice_index_or (args_of old) k d).id.now ≡ name = ap (λ (x : Rule). x.id) r ∙ named in
-    let got = required_reads old m p (all_plain old is) fields.1 fields.2 k d (subst (λ (n : ℕ). k < n) (sym (many old is)) lt) (ap (λ (x : Rule). x.required) r ∙ required)
-    (ap (λ (x : Rule). x.action) r ∙ set) (no_delimiter old is k d lt) least (unique_ids old is k d lt) (has_name old is k d lt) (own_id old is k d lt) q (ap (λ (x : Rule). x.parser) r ∙ parser) in
-    (got.0, (slice_index_or (args_of old) k d).ignore_case, subst (λ (w : List ℕ). one_text (found_of m) w ≡ Some (read_as (reading_of q) got.0)) id_is got.1, got.2)
+    let got = required_reads old m p (all_plain old is) fields.1 fields.2 k d (subst (λ (n : ℕ). k < n) (sym (many old is)) lt)
+    (ap (λ (x : Rule). x.required) r ∙ required)
+    (ap (λ (x : Rule). x.action) r ∙ set) (no_delimiter old is k d lt) least (unique_ids old is k d lt) (has_name old is k d lt) (own_id old is k d lt) q
+    (ap (λ (x : Rule). x.parser) r ∙ parser) in (
+      got.0,
+      (slice_index_or (args_of old) k d).ignore_case,
+      subst
+          (λ (w : List ℕ). one_text (found_of m) w ≡ Some (read_as (reading_of q) got.0)) id_is got.1,
+      got.2,
+    )
 
-one_value : (old : Command) → app_of old ≡ ctlog_app → (k : ℕ) (d : Arg) → (slice_index_or option_rules k (rule_of d)).range ≡ None → 1 ≤ least_values (slice_index_or (args_of old) k d)
+one_value : (old : Command) → app_of old ≡ ctlog_app → (k : ℕ) (d : Arg) → (slice_index_or option_rules k (rule_of d)).range ≡ None
+    → 1 ≤ least_values (slice_index_or (args_of old) k d)
 one_value old is k d none =
     let e : (slice_index_or (args_of old) k d).num_vals ≡ None = ap (λ (x : Rule). x.range) (rule_at old is k d) ∙ none in
     subst (λ (o : Option ValueRange). 1 ≤ (unwrap_or_range o).start_inclusive) (sym e) (omega arith)
@@ -202,13 +220,15 @@ ring_text old m p is =
     required_text old m p is (suc zero) d (codes "ring") (Unsigned 1 4096) (omega arith) refl refl refl refl (one_value old is (suc zero) d refl)
 
 pub open_at_text : (old : Command) (m : ArgMatches) → IsParsedFrom old m → app_of old ≡ ctlog_app
-    → (one_text (found_of m) (codes "open-at") ≡ None) ⊎ ((t : List ℕ) × (b : Bool) × (one_text (found_of m) (codes "open-at") ≡ Some t) × Accepts b (Unsigned 0 latest_moment) t)
+    → (one_text (found_of m) (codes "open-at") ≡ None)
+    ⊎ ((t : List ℕ) × (b : Bool) × (one_text (found_of m) (codes "open-at") ≡ Some t) × Accepts b (Unsigned 0 latest_moment) t)
 open_at_text old m p is =
     let d = some_arg (args_of old) (many old is) in
     optional_text old m p is (suc (suc zero)) d (codes "open-at") (Unsigned 0 latest_moment) (omega arith) refl refl
 
 pub close_at_text : (old : Command) (m : ArgMatches) → IsParsedFrom old m → app_of old ≡ ctlog_app
-    → (one_text (found_of m) (codes "close-at") ≡ None) ⊎ ((t : List ℕ) × (b : Bool) × (one_text (found_of m) (codes "close-at") ≡ Some t) × Accepts b (Unsigned 0 latest_moment) t)
+    → (one_text (found_of m) (codes "close-at") ≡ None)
+    ⊎ ((t : List ℕ) × (b : Bool) × (one_text (found_of m) (codes "close-at") ≡ Some t) × Accepts b (Unsigned 0 latest_moment) t)
 close_at_text old m p is =
     let d = some_arg (args_of old) (many old is) in
     optional_text old m p is (suc (suc (suc zero))) d (codes "close-at") (Unsigned 0 latest_moment) (omega arith) refl refl
@@ -221,12 +241,14 @@ number t = digits_value 10 (without_leading_plus t)
 
 module _ {E : Type 0} (G : List ℕ → Result ℕ E → Type 0) where
   -- a text that passed a range reads as its number
-  pub unsigned_read : (low high : ℕ) (t : List ℕ) (r : Option ℕ) → ((u : List ℕ) (x : Result ℕ E) → G u x → ParsesUnsigned 64 10 u x) → ReadsOne G t r → IsUnsignedIn low high t
+  pub unsigned_read : (low high : ℕ) (t : List ℕ) (r : Option ℕ) → ((u : List ℕ) (x : Result ℕ E) → G u x → ParsesUnsigned 64 10 u x) → ReadsOne G t r
+      → IsUnsignedIn low high t
       → (r ≡ Some (number t)) × (low ≤ number t) × (number t ≤ high)
   unsigned_read low high t (Some v) only h passed = (ap Some (only t (Ok v) h).1, passed.2, passed.3)
   unsigned_read low high t None only h passed = absurd (only t (Err h.0) h.1 (passed.0, passed.1))
 
-  pub signed_read : (low high : ℕ) (t : List ℕ) (r : Option ℕ) → ((u : List ℕ) (x : Result ℕ E) → G u x → ParsesUnsigned 16 10 u x) → ReadsOne G (without_minus t) r → high < 2 ^ 16 → IsSignedIn (pos low) (pos high) t
+  pub signed_read : (low high : ℕ) (t : List ℕ) (r : Option ℕ) → ((u : List ℕ) (x : Result ℕ E) → G u x → ParsesUnsigned 16 10 u x)
+      → ReadsOne G (without_minus t) r → high < 2 ^ 16 → IsSignedIn (pos low) (pos high) t
       → (r ≡ Some (number (without_minus t))) × (low ≤ number (without_minus t)) × (number (without_minus t) ≤ high)
   signed_read low high t r only h fits passed = go r (signed_reads E G 16 low high t r h only fits passed) h
     where
@@ -241,7 +263,8 @@ module _ {E : Type 0} (G : List ℕ → Result ℕ E → Type 0) where
           (ap Some is, subst (λ (n : ℕ). low ≤ n) (sym same ∙ is) got.2, subst (λ (n : ℕ). n ≤ high) (sym same ∙ is) got.3)
 
 -- the number that the words give, by the text that is read
-pub given_is : (m : ArgMatches) (words : List Text) (name : Text) (o : Option Text) → rows_of (found_of m) ≡ matches_of ctlog_app words → one_text (found_of m) name ≡ o
+pub given_is : (m : ArgMatches) (words : List Text) (name : Text) (o : Option Text) → rows_of (found_of m) ≡ matches_of ctlog_app words
+    → one_text (found_of m) name ≡ o
     → number_given name words ≡ option_map number o
 given_is m words name o rows text =
     sym (ap (option_map number) (one_text-rows (found_of m) name ∙ ap (one_of name) rows)) ∙ ap (option_map number) text

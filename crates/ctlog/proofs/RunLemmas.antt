@@ -20,16 +20,20 @@ not_both k memory (inr is) = absurd (other (sym memory ∙ is))
     other e = cc
 
 -- help or the version was asked for, and its text was written
-pub noticed : (k : ErrorKind) (a : CommandLine) (input old new : Option (List ℕ)) → IsRefusalOf a k → IsNotice k → (text : List ℕ) × Appends old new text → IsDone a input old new
+pub noticed : (k : ErrorKind) (a : CommandLine) (input old new : Option (List ℕ)) → IsRefusalOf a k → IsNotice k → (text : List ℕ)
+    × Appends old new text → IsDone a input old new
 noticed k a input old new (inl memory) is text = not_both k memory is
 noticed k a input old new (inr e) (inl h) text = subst (λ (b : CommandLine). IsDone b input old new) (sym (e ∙ ap by_kind h)) text
 noticed k a input old new (inr e) (inr v) text = subst (λ (b : CommandLine). IsDone b input old new) (sym (e ∙ ap by_kind v)) text
 
 -- a beginning of the text that was asked for was written, or nothing
-pub unanswered : (k : ErrorKind) (a : CommandLine) (f : Fault) (input old new : Option (List ℕ)) → IsRefusalOf a k → IsUnanswered k f old new → IsBrokenOff a f input old new
+pub unanswered : (k : ErrorKind) (a : CommandLine) (f : Fault) (input old new : Option (List ℕ)) → IsRefusalOf a k → IsUnanswered k f old new
+    → IsBrokenOff a f input old new
 unanswered k a f input old new (inl memory) (inl h) = not_both k memory h.0
-unanswered k a f input old new (inr e) (inl (inl h, fault, text)) = subst (λ (b : CommandLine). IsBrokenOff b f input old new) (sym (e ∙ ap by_kind h)) (fault, text)
-unanswered k a f input old new (inr e) (inl (inr v, fault, text)) = subst (λ (b : CommandLine). IsBrokenOff b f input old new) (sym (e ∙ ap by_kind v)) (fault, text)
+unanswered k a f input old new (inr e) (inl (inl h, fault, text)) =
+    subst (λ (b : CommandLine). IsBrokenOff b f input old new) (sym (e ∙ ap by_kind h)) (fault, text)
+unanswered k a f input old new (inr e) (inl (inr v, fault, text)) =
+    subst (λ (b : CommandLine). IsBrokenOff b f input old new) (sym (e ∙ ap by_kind v)) (fault, text)
 unanswered k a f input old new r (inr none) = go a
   where
     go : (b : CommandLine) → IsBrokenOff b f input old new

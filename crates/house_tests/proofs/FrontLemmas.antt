@@ -23,7 +23,8 @@ same_front a b old new e s o = subst (λ (h : HouseName). IsOfHouse h new) (sym 
 
 -- the fronts that stand in a list's elements stay of the house
 pub still_of_house : {X : Type 0} (f : X → FrontView) (a b : HouseName) (old new : List X) → b ≡ a → length new ≡ length old
-    → ((k : ℕ) (d : X) → k < length old → SameFront (f (slice_index_or old k d)) (f (slice_index_or new k d))) → All (λ x. IsOfHouse a (f x)) old → All (λ x. IsOfHouse b (f x)) new
+    → ((k : ℕ) (d : X) → k < length old → SameFront (f (slice_index_or old k d)) (f (slice_index_or new k d))) → All (λ x. IsOfHouse a (f x)) old
+    → All (λ x. IsOfHouse b (f x)) new
 still_of_house f a b old new e count same all k d below =
     let within : k < length old = omega arith in
     same_front a b (f (slice_index_or old k d)) (f (slice_index_or new k d)) e (same k d within) (all k d within)

@@ -6,7 +6,8 @@ use Rattle.place_table.specs.declared.slots.Slot.{Slot}
 use Rattle.place_table.specs.Looked.{places_in, if_at, first_where}
 use Rattle.place_table.proofs.Sides.{places_in-push, places_in-append}
 
-skip_by : (q : ℕ → Bool) (k : ℕ) (xs ys : List ℕ) (b : Bool) → q k ≡ b → first_where q (k ∷ xs) ≡ None → (first_where q xs ≡ None → first_where q (xs ++ ys) ≡ first_where q ys) → first_where q (k ∷ xs ++ ys) ≡ first_where q ys
+skip_by : (q : ℕ → Bool) (k : ℕ) (xs ys : List ℕ) (b : Bool) → q k ≡ b → first_where q (k ∷ xs) ≡ None
+    → (first_where q xs ≡ None → first_where q (xs ++ ys) ≡ first_where q ys) → first_where q (k ∷ xs ++ ys) ≡ first_where q ys
 skip_by q k xs ys true e none onward =
     let h : Some k ≡ None = ap (λ (v : Bool). if v then Some k else first_where q xs) (sym e) ∙ none in cc
 skip_by q k xs ys false e none onward =
@@ -17,7 +18,8 @@ pub first_where-skip : (q : ℕ → Bool) (xs ys : List ℕ) → first_where q x
 first_where-skip q [] ys none = refl
 first_where-skip q (k ∷ xs) ys none = skip_by q k xs ys (q k) refl none (first_where-skip q xs ys)
 
-keep_by : (q : ℕ → Bool) (k p : ℕ) (xs ys : List ℕ) (b : Bool) → q k ≡ b → first_where q (k ∷ xs) ≡ Some p → (first_where q xs ≡ Some p → first_where q (xs ++ ys) ≡ Some p) → first_where q (k ∷ xs ++ ys) ≡ Some p
+keep_by : (q : ℕ → Bool) (k p : ℕ) (xs ys : List ℕ) (b : Bool) → q k ≡ b → first_where q (k ∷ xs) ≡ Some p
+    → (first_where q xs ≡ Some p → first_where q (xs ++ ys) ≡ Some p) → first_where q (k ∷ xs ++ ys) ≡ Some p
 keep_by q k p xs ys true e some onward =
     ap (λ (v : Bool). if v then Some k else first_where q (xs ++ ys)) e ∙ ap (λ (v : Bool). if v then Some k else first_where q xs) (sym e) ∙ some
 keep_by q k p xs ys false e some onward =
@@ -42,7 +44,8 @@ miss q s r not_it = by (s.address == r) refl
         ∙ inner (q s.place) refl (ap (λ (v : Bool). v && q s.place) (sym e) ∙ not_it)
     by false e = ap (λ (v : Bool). first_where q (if v then s.place ∷ [] else [])) e
 
-pub hit : (q : ℕ → Bool) (s : Slot) (r : ℕ) (rest : List ℕ) → ((s.address == r) && q s.place) ≡ true → first_where q (if_at s.address s.place r ++ rest) ≡ Some s.place
+pub hit : (q : ℕ → Bool) (s : Slot) (r : ℕ) (rest : List ℕ) → ((s.address == r) && q s.place) ≡ true
+    → first_where q (if_at s.address s.place r ++ rest) ≡ Some s.place
 hit q s r rest it = by (s.address == r) refl
   where
     inner : (b : Bool) → q s.place ≡ b → (true && b) ≡ true → (if b then Some s.place else first_where q rest) ≡ Some s.place

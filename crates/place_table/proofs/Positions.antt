@@ -52,13 +52,16 @@ one_on k m n = elim (cases_lt m n) [
       ap (λ (v : Bool). shifted k (cond v (Some (1 + m)) None)) b ∙ sym (ap (λ (v : Bool). shifted (k + 1) (cond v (Some m) None)) a)
 ]
 
-seek_by : {X : Type 0} (p : X → Bool) (k : ℕ) (x : X) (xs : List X) (b : Bool) → p x ≡ b → shifted (k + 1) (position p xs) ≡ seek p (k + 1) xs → shifted k (position p (x ∷ xs)) ≡ seek p k (x ∷ xs)
+seek_by : {X : Type 0} (p : X → Bool) (k : ℕ) (x : X) (xs : List X) (b : Bool) → p x ≡ b → shifted (k + 1) (position p xs) ≡ seek p (k + 1) xs
+    → shifted k (position p (x ∷ xs)) ≡ seek p k (x ∷ xs)
 seek_by p k x xs b e rest =
-    ap (λ (v : Bool). shifted k (cond (nat_lt (cond (not v) (1 + position_or_len p xs) 0) (suc (length xs))) (Some (cond (not v) (1 + position_or_len p xs) 0)) None)) e
+    ap (λ (v : Bool). shifted k (cond (nat_lt (cond (not v) (1 + position_or_len p xs) 0) (suc (length xs)))
+    (Some (cond (not v) (1 + position_or_len p xs) 0)) None)) e
     ∙ ends b
     ∙ sym (ap (λ (v : Bool). if v then Some k else seek p (k + 1) xs) e)
   where
-    ends : (b : Bool) → shifted k (cond (nat_lt (cond (not b) (1 + position_or_len p xs) 0) (suc (length xs))) (Some (cond (not b) (1 + position_or_len p xs) 0)) None) ≡ (if b then Some k else seek p (k + 1) xs)
+    ends : (b : Bool) → shifted k (cond (nat_lt (cond (not b) (1 + position_or_len p xs) 0) (suc (length xs)))
+        (Some (cond (not b) (1 + position_or_len p xs) 0)) None) ≡ (if b then Some k else seek p (k + 1) xs)
     ends true = at_first k (length xs)
     ends false = one_on k (position_or_len p xs) (length xs) ∙ rest
 
@@ -73,24 +76,31 @@ position-seek p xs = sym (none_shifted (position p xs)) ∙ seek-position p 0 xs
     none_shifted None = refl
     none_shifted (Some i) = ap (λ (n : ℕ). Some n) (let e : 0 + i ≡ i = omega arith in e)
 
-step_at : (q : ℕ → Bool) (k y a : ℕ) (more : List ℕ) (rest : Option ℕ) (same passes : Bool) → (y == a) ≡ same → q k ≡ passes → (passes ≡ true → same ≡ true) → first_where q more ≡ rest
+step_at : (q : ℕ → Bool) (k y a : ℕ) (more : List ℕ) (rest : Option ℕ) (same passes : Bool) → (y == a) ≡ same → q k ≡ passes
+    → (passes ≡ true → same ≡ true) → first_where q more ≡ rest
     → first_where q (if_at y k a ++ more) ≡ (if passes then Some k else rest)
-step_at q k y a more rest true true e f so onward = ap (λ (v : Bool). first_where q ((if v then k ∷ [] else []) ++ more)) e ∙ ap (λ (v : Bool). if v then Some k else first_where q more) f
-step_at q k y a more rest true false e f so onward = ap (λ (v : Bool). first_where q ((if v then k ∷ [] else []) ++ more)) e ∙ ap (λ (v : Bool). if v then Some k else first_where q more) f ∙ onward
+step_at q k y a more rest true true e f so onward = ap (λ (v : Bool). first_where q ((if v then k ∷ [] else []) ++ more)) e
+    ∙ ap (λ (v : Bool). if v then Some k else first_where q more) f
+step_at q k y a more rest true false e f so onward = ap (λ (v : Bool). first_where q ((if v then k ∷ [] else []) ++ more)) e
+    ∙ ap (λ (v : Bool). if v then Some k else first_where q more) f ∙ onward
 step_at q k y a more rest false true e f so onward = let h : false ≡ true = so refl in cc
 step_at q k y a more rest false false e f so onward = ap (λ (v : Bool). first_where q ((if v then k ∷ [] else []) ++ more)) e ∙ onward
 
 -- the first passing place among those of an address that each passing element has
-pub first_place : {X : Type 0} (at : X → ℕ) (p : X → Bool) (q : ℕ → Bool) (d : X) (a k : ℕ) (xs : List X) → ((x : X) → p x ≡ true → (at x == a) ≡ true) → ((j : ℕ) → j < length xs → q (k + j) ≡ p (get_or xs j d))
+pub first_place : {X : Type 0} (at : X → ℕ) (p : X → Bool) (q : ℕ → Bool) (d : X) (a k : ℕ) (xs : List X) → ((x : X) → p x ≡ true → (at x == a) ≡ true)
+    → ((j : ℕ) → j < length xs → q (k + j) ≡ p (get_or xs j d))
     → first_where q (places_from k (map at xs) a) ≡ seek p k xs
 first_place at p q d a k [] address each = refl
 first_place at p q d a k (x ∷ xs) address each =
     let here : q k ≡ p x = ap q (let e : k ≡ k + 0 = omega arith in e) ∙ each 0 (omega arith) in
-    let later : (j : ℕ) → j < length xs → q (k + 1 + j) ≡ p (get_or xs j d) = λ j below. ap q (let e : k + 1 + j ≡ k + suc j = omega arith in e) ∙ each (suc j) (omega arith) in
-    step_at q k (at x) a (places_from (k + 1) (map at xs) a) (seek p (k + 1) xs) (at x == a) (p x) refl here (address x) (first_place at p q d a (k + 1) xs address later)
+    let later : (j : ℕ) → j < length xs → q (k + 1 + j) ≡ p (get_or xs j d) = λ j below. ap q (let e : k + 1 + j ≡ k + suc j = omega arith in e)
+    ∙ each (suc j) (omega arith) in
+    step_at q k (at x) a (places_from (k + 1) (map at xs) a) (seek p (k + 1) xs) (at x == a) (p x) refl here (address x)
+    (first_place at p q d a (k + 1) xs address later)
 
 -- an element more
-pub noted : {X : Type 0} (at : X → ℕ) (look more : ℕ → List ℕ) (xs now : List X) (y : X) (x k : ℕ) → ((a : ℕ) → look a ≡ places_from 0 (map at xs) a) → ((a : ℕ) → more a ≡ look a ++ if_at x k a)
+pub noted : {X : Type 0} (at : X → ℕ) (look more : ℕ → List ℕ) (xs now : List X) (y : X) (x k : ℕ) → ((a : ℕ) → look a ≡ places_from 0 (map at xs) a)
+    → ((a : ℕ) → more a ≡ look a ++ if_at x k a)
     → x ≡ at y → k ≡ length xs → now ≡ xs ++ y ∷ [] → (a : ℕ) → more a ≡ places_from 0 (map at now) a
 noted at look more xs now y x k is grown here place new a =
     let size : k ≡ 0 + length (map at xs) = (let l = length-map xs at in omega arith) in
@@ -101,7 +111,8 @@ noted at look more xs now y x k is grown here place new a =
     ∙ ap (λ (ys : List ℕ). places_from 0 ys a) (sym (map_push at xs y) ∙ ap (map at) (sym new))
 
 -- a slot more
-pub placed-push : {X : Type 0} (at : X → ℕ) (slots : List Slot) (s : Slot) (k n : ℕ) (xs : List X) (x : X) → s.address ≡ at x → s.place ≡ n → n ≡ k + length xs → ArePlaced at slots k xs
+pub placed-push : {X : Type 0} (at : X → ℕ) (slots : List Slot) (s : Slot) (k n : ℕ) (xs : List X) (x : X) → s.address ≡ at x → s.place ≡ n
+    → n ≡ k + length xs → ArePlaced at slots k xs
     → ArePlaced at (slots ++ s ∷ []) k (xs ++ x ∷ [])
 placed-push at slots s k n xs x here place count are a =
     let size : s.place ≡ k + length (map at xs) = (let l = length-map xs at in omega (arith, place, count, l)) in
@@ -113,13 +124,15 @@ placed-push at slots s k n xs x here place count are a =
     ∙ ap (λ (ys : List ℕ). places_from k ys a) (sym (map_push at xs x))
 
 -- the places of all elements, where those of the later ones were added
-pub placed-append : {X : Type 0} (at : X → ℕ) (look more : ℕ → List ℕ) (slots : List Slot) (old later now : List X) → ((a : ℕ) → look a ≡ places_from 0 (map at old) a) → ((a : ℕ) → more a ≡ look a ++ places_in slots a)
+pub placed-append : {X : Type 0} (at : X → ℕ) (look more : ℕ → List ℕ) (slots : List Slot) (old later now : List X)
+    → ((a : ℕ) → look a ≡ places_from 0 (map at old) a) → ((a : ℕ) → more a ≡ look a ++ places_in slots a)
     → ArePlaced at slots (length old) later → now ≡ old ++ later → (a : ℕ) → more a ≡ places_from 0 (map at now) a
 placed-append at look more slots old later now is grown are e a =
     grown a
     ∙ ap (λ (r : List ℕ). r ++ places_in slots a) (is a)
     ∙ ap (λ (r : List ℕ). places_from 0 (map at old) a ++ r) (are a)
-    ∙ ap (λ (n : ℕ). places_from 0 (map at old) a ++ places_from n (map at later) a) (let l = length-map old at in let m : length old ≡ 0 + length (map at old) = omega (arith, l) in m)
+    ∙ ap (λ (n : ℕ). places_from 0 (map at old) a ++ places_from n (map at later) a)
+    (let l = length-map old at in let m : length old ≡ 0 + length (map at old) = omega (arith, l) in m)
     ∙ sym (places_from-append 0 (map at old) (map at later) a)
     ∙ ap (λ (xs : List ℕ). places_from 0 xs a) (sym (map-append at old later))
     ∙ ap (λ (xs : List _). places_from 0 (map at xs) a) (sym e)

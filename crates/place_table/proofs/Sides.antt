@@ -40,7 +40,8 @@ AreMore now old look slots n = (k : ℕ) → k < n → (b : ℕ) → at_index no
 
 -- one part more
 pub part_more : {A : Type 0} (now old : List A) (look : A → ℕ → List ℕ) (slots part : List Slot) (n : ℕ) (x : A) → length now ≡ n → AreMore now old look slots n
-    → ((b : ℕ) → look x b ≡ at_index old look n b ++ places_in part b) → ((b : ℕ) → places_in part b ≡ places_in slots (b * 64 + n)) → AreMore (now ++ x ∷ []) old look slots (n + 1)
+    → ((b : ℕ) → look x b ≡ at_index old look n b ++ places_in part b) → ((b : ℕ) → places_in part b ≡ places_in slots (b * 64 + n))
+    → AreMore (now ++ x ∷ []) old look slots (n + 1)
 part_more now old look slots part n x size are this is k small b = elim (cases_lt k n) [
   | inl less ↦ ap (λ (o : _). in_part o look b) (get_left now x k (omega arith)) ∙ are k less b
   | inr last ↦
@@ -53,7 +54,8 @@ part_more now old look slots part n x size are this is k small b = elim (cases_l
 ]
 
 -- all parts are those before with the places of the slots, so what is below is
-pub all_parts : {A : Type 0} (now old : List A) (look : A → ℕ → List ℕ) (slots : List Slot) → AreMore now old look slots 64 → (a : ℕ) → below now look a ≡ below old look a ++ places_in slots a
+pub all_parts : {A : Type 0} (now old : List A) (look : A → ℕ → List ℕ) (slots : List Slot) → AreMore now old look slots 64 → (a : ℕ)
+    → below now look a ≡ below old look a ++ places_in slots a
 all_parts now old look slots are a =
     let e : a / 64 * 64 + a % 64 ≡ a = omega arith in
     are (a % 64) (omega arith) (a / 64) ∙ ap (λ (n : ℕ). below old look a ++ places_in slots n) e
@@ -119,18 +121,22 @@ part_put parts slots s old new is more are =
     )
 
 -- a part stays where none comes to it
-pub part_stays : {A : Type 0} (xs : List A) (look : A → ℕ → List ℕ) (x y : A) (i : ℕ) (part : List Slot) → i < length xs → x ≡ get_or xs i x → part ≡ [] → ((b : ℕ) → look y b ≡ look x b)
+pub part_stays : {A : Type 0} (xs : List A) (look : A → ℕ → List ℕ) (x y : A) (i : ℕ) (part : List Slot) → i < length xs → x ≡ get_or xs i x → part ≡ []
+    → ((b : ℕ) → look y b ≡ look x b)
     → (b : ℕ) → look y b ≡ at_index xs look i b ++ places_in part b
 part_stays xs look x y i part h e none same b =
-    same b ∙ sym (found_at xs look x i b h e) ∙ sym (append-nil (at_index xs look i b)) ∙ ap (λ (ps : List Slot). at_index xs look i b ++ places_in ps b) (sym none)
+    same b ∙ sym (found_at xs look x i b h e) ∙ sym (append-nil (at_index xs look i b))
+    ∙ ap (λ (ps : List Slot). at_index xs look i b ++ places_in ps b) (sym none)
 
 -- or has those that come to it behind its own
-pub part_grows : {A : Type 0} (xs : List A) (look : A → ℕ → List ℕ) (x y : A) (i : ℕ) (part : List Slot) → i < length xs → x ≡ get_or xs i x → ((b : ℕ) → look y b ≡ look x b ++ places_in part b)
+pub part_grows : {A : Type 0} (xs : List A) (look : A → ℕ → List ℕ) (x y : A) (i : ℕ) (part : List Slot) → i < length xs → x ≡ get_or xs i x
+    → ((b : ℕ) → look y b ≡ look x b ++ places_in part b)
     → (b : ℕ) → look y b ≡ at_index xs look i b ++ places_in part b
 part_grows xs look x y i part h e more b = more b ∙ ap (λ (r : List ℕ). r ++ places_in part b) (sym (found_at xs look x i b h e))
 
 -- places that wait behind others that wait
-pub waits : (base : List ℕ) (fresh slots more : List Slot) (b : ℕ) → more ≡ fresh ++ slots → base ++ places_in more b ≡ (base ++ places_in fresh b) ++ places_in slots b
+pub waits : (base : List ℕ) (fresh slots more : List Slot) (b : ℕ) → more ≡ fresh ++ slots
+    → base ++ places_in more b ≡ (base ++ places_in fresh b) ++ places_in slots b
 waits base fresh slots more b joined =
     ap (λ (m : List Slot). base ++ places_in m b) joined
     ∙ ap (λ (r : List ℕ). base ++ r) (places_in-append fresh slots b)

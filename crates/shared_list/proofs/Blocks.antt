@@ -18,7 +18,8 @@ full_at (c ∷ cs) zero d all below = all.0
 full_at (c ∷ cs) (suc k) d all below = full_at cs k d all.1 (omega arith)
 
 -- element j of chunk k
-pub get_or-concatenated : {X : Type 0} (cs : List (List X)) (k j : ℕ) (e : List X) (d : X) → AllOf 16384 cs → k < length cs → j < 16384 → get_or (concatenated cs) (16384 * k + j) d ≡ get_or (get_or cs k e) j d
+pub get_or-concatenated : {X : Type 0} (cs : List (List X)) (k j : ℕ) (e : List X) (d : X) → AllOf 16384 cs → k < length cs → j < 16384
+    → get_or (concatenated cs) (16384 * k + j) d ≡ get_or (get_or cs k e) j d
 get_or-concatenated [] k j e d all below inside = absurd (omega arith)
 get_or-concatenated (c ∷ cs) zero j e d all below inside =
     let n : 16384 * zero + j ≡ j = omega arith in
@@ -32,7 +33,8 @@ get_or-concatenated (c ∷ cs) (suc k) j e d all below inside =
     ∙ get_or-concatenated cs k j e d all.1 (omega arith) inside
 
 -- an element of a whole list: within the chunks, and in the rest
-pub in_chunks : {X : Type 0} (cs : List (List X)) (rest : List X) (i : ℕ) (e : List X) (d : X) → AllOf 16384 cs → i / 16384 < length cs → get_or (concatenated cs ++ rest) i d ≡ get_or (get_or cs (i / 16384) e) (i % 16384) d
+pub in_chunks : {X : Type 0} (cs : List (List X)) (rest : List X) (i : ℕ) (e : List X) (d : X) → AllOf 16384 cs → i / 16384 < length cs
+    → get_or (concatenated cs ++ rest) i d ≡ get_or (get_or cs (i / 16384) e) (i % 16384) d
 in_chunks cs rest i e d all below =
     let l = length-concatenated cs all in
     let split : i ≡ 16384 * (i / 16384) + i % 16384 = omega arith in
@@ -42,7 +44,8 @@ in_chunks cs rest i e d all below =
     ∙ ap (λ (j : ℕ). get_or (concatenated cs) j d) split
     ∙ get_or-concatenated cs (i / 16384) (i % 16384) e d all below small
 
-pub in_rest : {X : Type 0} (cs : List (List X)) (rest : List X) (i : ℕ) (d : X) → AllOf 16384 cs → length rest ≤ 16384 → length cs ≤ i / 16384 → i < length (concatenated cs ++ rest) → get_or (concatenated cs ++ rest) i d ≡ get_or rest (i % 16384) d
+pub in_rest : {X : Type 0} (cs : List (List X)) (rest : List X) (i : ℕ) (d : X) → AllOf 16384 cs → length rest ≤ 16384 → length cs ≤ i / 16384
+    → i < length (concatenated cs ++ rest) → get_or (concatenated cs ++ rest) i d ≡ get_or rest (i % 16384) d
 in_rest cs rest i d all short past below =
     let l = length-concatenated cs all in
     let e : length (concatenated cs) ≡ length cs * 16384 = omega arith in
@@ -50,7 +53,8 @@ in_rest cs rest i d all short past below =
     let at : i - length cs * 16384 ≡ i % 16384 = omega arith in
     get_or-append_right (concatenated cs) rest (length cs * 16384) i d e (omega arith) ∙ ap (λ (j : ℕ). get_or rest j d) at
 
-pub in_rest-below : {X : Type 0} (cs : List (List X)) (rest : List X) (i : ℕ) → AllOf 16384 cs → length rest ≤ 16384 → length cs ≤ i / 16384 → i < length (concatenated cs ++ rest) → i % 16384 < length rest
+pub in_rest-below : {X : Type 0} (cs : List (List X)) (rest : List X) (i : ℕ) → AllOf 16384 cs → length rest ≤ 16384 → length cs ≤ i / 16384
+    → i < length (concatenated cs ++ rest) → i % 16384 < length rest
 in_rest-below cs rest i all short past below =
     let l = length-concatenated cs all in
     let w = length-append (concatenated cs) rest in

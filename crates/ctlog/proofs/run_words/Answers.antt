@@ -12,18 +12,21 @@ use Rattle.ctlog.proofs.RunLemmas.{unanswered}
 use Rattle.ctlog.proofs.run_words.Goals as goal
 
 -- the texts of the words ask for what the words do
-same_words : (texts shown : List (Bor (List ℕ))) (words : List (String Global)) → shown ≡ texts → map (λ (w : Bor (List ℕ)). w.now) texts ≡ map string_bytes words
+same_words : (texts shown : List (Bor (List ℕ))) (words : List (String Global)) → shown ≡ texts
+    → map (λ (w : Bor (List ℕ)). w.now) texts ≡ map string_bytes words
     → asked_for shown ≡ asked_of words
 same_words texts shown words e f = ap asked_for e ∙ ap command_line f
 
 pub returns-in-Ok-clause-done : goal.returns-in-Ok-clause-done
 returns-in-Ok-clause-done g c =
-    subst (λ (a : CommandLine). c.run.result ≡ 0 → IsDone a (g.R.Read.remaining c.args.input.now) (g.W.Write.contents c.args.output.now) (g.W.Write.contents c.run.new.output))
+    subst (λ (a : CommandLine). c.run.result ≡ 0
+    → IsDone a (g.R.Read.remaining c.args.input.now) (g.W.Write.contents c.args.output.now) (g.W.Write.contents c.run.new.output))
     (same_words c.in-Ok.texts.items c.deref.result.now c.args.words.now c.deref.ensures.value c.in-Ok.ensures) c.run.ensures.done
 
 pub returns-in-Ok-clause-fault : goal.returns-in-Ok-clause-fault
 returns-in-Ok-clause-fault g c =
-    subst (λ (a : CommandLine). c.run.result ≡ 1 → (f : Fault) × IsBrokenOff a f (g.R.Read.remaining c.args.input.now) (g.W.Write.contents c.args.output.now) (g.W.Write.contents c.run.new.output)
+    subst (λ (a : CommandLine). c.run.result ≡ 1 → (f : Fault)
+    × IsBrokenOff a f (g.R.Read.remaining c.args.input.now) (g.W.Write.contents c.args.output.now) (g.W.Write.contents c.run.new.output)
     × SendsSome (g.E.Write.contents c.args.faults.now) (g.E.Write.contents c.run.new.faults) (fault_line f))
     (same_words c.in-Ok.texts.items c.deref.result.now c.args.words.now c.deref.ensures.value c.in-Ok.ensures) c.run.ensures.fault
 

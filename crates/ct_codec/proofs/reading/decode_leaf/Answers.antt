@@ -11,5 +11,6 @@ returns-in_err-leaf-clause-every c t e x text =
 pub returns-clause-every : goal.returns-clause-every
 returns-clause-every c t e x text =
     let leaf = c.in_ok-leaf.leaf in
-    let same = leaves_stand_apart leaf.timestamp t (entry_lent leaf.entry) e leaf.extensions.now x c.args.bytes.now c.args.bytes.now [] [] c.in_ok-leaf.ensures.found text refl in
+    let same = leaves_stand_apart leaf.timestamp t (entry_lent leaf.entry) e leaf.extensions.now x c.args.bytes.now c.args.bytes.now [] []
+    c.in_ok-leaf.ensures.found text refl in
     ((same.0, c.in_ok-entry.ensures ∙ same.1, c.in_ok-extensions.ensures.items ∙ same.2), tt)

@@ -10,7 +10,8 @@ use Rattle.ct_codec.proofs.reading.decode_pre_chain.Goals as goal
 pub returns-in_err-first-clause-every : goal.returns-in_err-first-clause-every
 returns-in_err-first-clause-every c d cs text =
     let met = c.in_err-first.field-0.0 in
-    pre_chain_left c.from_residual.result met d cs c.args.bytes.now text c.from_residual.ensures.1 (before met c.args.bytes.now (rw (← c.new-reader.ensures) c.in_err-first.ensures.fault))
+    pre_chain_left c.from_residual.result met d cs c.args.bytes.now text c.from_residual.ensures.1
+    (before met c.args.bytes.now (rw (← c.new-reader.ensures) c.in_err-first.ensures.fault))
 
 pub returns-in_err-others-clause-every : goal.returns-in_err-others-clause-every
 returns-in_err-others-clause-every c d cs text =
@@ -44,6 +45,8 @@ returns-clause-every c d cs text =
     let first = c.in_ok-first.ensures.found in
     let others = c.in_ok-others.ensures.found in
     let copied = c.in_ok-certificates.ensures.found in
-    let read = pre_chain_text_of c.in_ok-first.first.now (certificates_in c.in_ok-certificates.certificates) c.args.bytes.now c.certificate.new.self c.in_ok-others.others.now first.0 (sym c.new-reader.ensures ∙ first.1) copied.0 others.0 others.1 copied.1 in
-    let same = pre_chains_stand_apart c.in_ok-first.first.now d (certificates_in c.in_ok-certificates.certificates) cs c.args.bytes.now c.args.bytes.now [] [] read text refl in
+    let read = pre_chain_text_of c.in_ok-first.first.now (certificates_in c.in_ok-certificates.certificates) c.args.bytes.now c.certificate.new.self
+    c.in_ok-others.others.now first.0 (sym c.new-reader.ensures ∙ first.1) copied.0 others.0 others.1 copied.1 in
+    let same = pre_chains_stand_apart c.in_ok-first.first.now d (certificates_in c.in_ok-certificates.certificates) cs c.args.bytes.now
+    c.args.bytes.now [] [] read text refl in
     ((c.in_ok-precertificate.ensures.items ∙ same.0, same.1), tt)

@@ -18,7 +18,8 @@ pub returns-in_err-certificate-in-0-clause-fault :
 returns-in_err-certificate-in-0-clause-fault c =
     let front : c.args.reader.now ≡ num 2 0 ++ c.number_2.new.self = rw (← c.in-0.is) c.in-Some.ensures.some in
     let met = c.in_err-certificate-in-0.field-0.0 in
-    left_with (λ f. EntryFaulty f c.args.reader.now) met c.from_residual.result c.from_residual.ensures.1 (x509_fault met c.args.reader.now c.number_2.new.self front c.in_err-certificate-in-0.ensures.fault)
+    left_with (λ f. EntryFaulty f c.args.reader.now) met c.from_residual.result c.from_residual.ensures.1
+    (x509_fault met c.args.reader.now c.number_2.new.self front c.in_err-certificate-in-0.ensures.fault)
 
 pub returns-in_err-certificate-in-1-clause-fault :
     goal.returns-in_err-certificate-in-1-clause-fault
@@ -27,4 +28,5 @@ returns-in_err-certificate-in-1-clause-fault c =
     let key = c.in-Some-key_hash.ensures.some in
     let met = c.in_err-certificate-in-1.field-0.0 in
     left_with (λ f. EntryFaulty f c.args.reader.now) met c.from_residual-in_err-certificate-in-1.result c.from_residual-in_err-certificate-in-1.ensures.1
-    (precert_fault met c.args.reader.now c.in-Some-key_hash.key_hash.now c.key_hash.new.self key.0 (front ∙ ap (λ l. num 2 1 ++ l) key.1) c.in_err-certificate-in-1.ensures.fault)
+    (precert_fault met c.args.reader.now c.in-Some-key_hash.key_hash.now c.key_hash.new.self key.0 (front ∙ ap (λ l. num 2 1 ++ l) key.1)
+    c.in_err-certificate-in-1.ensures.fault)

@@ -10,4 +10,5 @@ returns-in_default-number_1-clause-fault c =
 
 pub returns-in_default-number_8-clause-fault : goal.returns-in_default-number_8-clause-fault
 returns-in_default-number_8-clause-fault c =
-    leaf_cut_timestamp c.args.reader.now c.number_1-2.new.self c.number_1.new.self c.in-Some.version c.in-Some-number_1.leaf_type c.in-Some.ensures.some c.if-version-ne0.false c.in-Some-number_1.ensures.some c.if-leaf_type-ne0.false c.in_default-number_8.ensures.none
+    leaf_cut_timestamp c.args.reader.now c.number_1-2.new.self c.number_1.new.self c.in-Some.version c.in-Some-number_1.leaf_type c.in-Some.ensures.some
+    c.if-version-ne0.false c.in-Some-number_1.ensures.some c.if-leaf_type-ne0.false c.in_default-number_8.ensures.none

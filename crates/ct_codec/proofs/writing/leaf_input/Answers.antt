@@ -8,5 +8,6 @@ returns-clause-text c = record {
   timestamp = search rules;
   entry = c.in_range.ensures.entry;
   extensions = omega arith;
-  text = leaf_written c.args.timestamp _ c.extend_from_slice.new.self.items c.extend_from_slice-2.new.self.items c.push_entry.new.out.items c.extend_from_slice-3.new.self.items (grind (arith, common_steps)) (search rules) (search rules) (search rules);
+  text = leaf_written c.args.timestamp _ c.extend_from_slice.new.self.items c.extend_from_slice-2.new.self.items c.push_entry.new.out.items
+      c.extend_from_slice-3.new.self.items (grind (arith, common_steps)) (search rules) (search rules) (search rules);
 }

@@ -16,7 +16,9 @@ loop-entry-preserved c =
     let (taken, noted) = c.loop-entry.invariant in
     let step = hashes_more c.args.entries.now i c.entry-item.result hash c.loop-entry-test.true c.entry-item.is c.leaf_hash.ensures in
     let count : length c.loop-entry.nodes ≡ length nodes + length hashes = ap length taken ∙ length-append nodes hashes in
-    let pushed : c.take_in.new.nodes ≡ nodes ++ (hashes ++ hash ∷ []) = c.in_ok-take_in.ensures.pushed ∙ ap (λ (ns : List (List ℕ)). ns ++ hash ∷ []) taken ∙ append_assoc nodes hashes (hash ∷ []) in (
+    let pushed : c.take_in.new.nodes ≡ nodes ++ (hashes ++ hash ∷ []) = c.in_ok-take_in.ensures.pushed
+    ∙ ap (λ (ns : List (List ℕ)). ns ++ hash ∷ []) taken ∙ append_assoc nodes hashes (hash ∷ []) in (
       pushed ∙ ap (λ (hs : List (List ℕ)). nodes ++ hs) (sym step),
-      λ a. c.in_ok-take_in.ensures.noted (length nodes) hashes count noted a ∙ ap (λ (hs : List (List ℕ)). places_from (length nodes) (map address_of hs) a) (sym step),
+      λ a. c.in_ok-take_in.ensures.noted (length nodes) hashes count noted a
+          ∙ ap (λ (hs : List (List ℕ)). places_from (length nodes) (map address_of hs) a) (sym step),
     )

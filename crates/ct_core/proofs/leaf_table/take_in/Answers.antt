@@ -10,4 +10,5 @@ pub returns-clause-noted : goal.returns-clause-noted
 returns-clause-noted c =
     let s : Slot = record { address = c.address.result; place = c.size.result } in
     let pushed : c.push.new.self.items ≡ c.args.slots.now.items ++ s ∷ [] = grind (arith, common_steps) in
-    λ k hashes count are a. ap (λ (xs : List Slot). places_in xs a) pushed ∙ placed-push address_of c.args.slots.now.items s k (length c.args.nodes.now) hashes c.args.hash.now c.address.ensures c.size.ensures count are a
+    λ k hashes count are a. ap (λ (xs : List Slot). places_in xs a) pushed
+    ∙ placed-push address_of c.args.slots.now.items s k (length c.args.nodes.now) hashes c.args.hash.now c.address.ensures c.size.ensures count are a

@@ -8,4 +8,5 @@ abbrev with_front : List (List ℕ) → Option (List (List ℕ)) → Option (Lis
 with_front front o = option_map (λ bs. front ++ bs) o
 
 abbrev pub invariant-loop-value : goal.invariant-loop-value
-invariant-loop-value l = with_front (map (λ c. c.items) l.all.items) (leaves_of_items (items_view (drop l.value-index l.values))) ≡ leaves_of_items (items_view l.values)
+invariant-loop-value l = with_front (map (λ c. c.items) l.all.items) (leaves_of_items (items_view (drop l.value-index l.values)))
+    ≡ leaves_of_items (items_view l.values)

@@ -11,8 +11,10 @@ returns g c =
     let source_next = g.B.Read.remaining c.take_start.new.reader in
     let sink = g.W.Write.contents c.args.writer.now in
     let sink_next = g.W.Write.contents c.take_start.new.writer in
-    let o = subst (λ (b : Bool). OneTaken (FirstGives names) c.args.monitor.now c.take_start.new.monitor source source_next sink sink_next b) c.if-done.false c.in_ok-done.ensures in
-    ends_later names c.args.monitor.now c.take_start.new.monitor c.take_lines.new.monitor source source_next (g.B.Read.remaining c.take_lines.new.reader) sink sink_next (g.W.Write.contents c.take_lines.new.writer) o c.in_ok-take_lines.ensures
+    let o = subst (λ (b : Bool). OneTaken (FirstGives names) c.args.monitor.now c.take_start.new.monitor source source_next sink sink_next b)
+    c.if-done.false c.in_ok-done.ensures in
+    ends_later names c.args.monitor.now c.take_start.new.monitor c.take_lines.new.monitor source source_next (g.B.Read.remaining c.take_lines.new.reader)
+    sink sink_next (g.W.Write.contents c.take_lines.new.writer) o c.in_ok-take_lines.ensures
 
 pub returns-then-done : goal.returns-then-done
 returns-then-done g c =
@@ -21,5 +23,6 @@ returns-then-done g c =
     let source_next = g.B.Read.remaining c.take_start.new.reader in
     let sink = g.W.Write.contents c.args.writer.now in
     let sink_next = g.W.Write.contents c.take_start.new.writer in
-    let o = subst (λ (b : Bool). OneTaken (FirstGives names) c.args.monitor.now c.take_start.new.monitor source source_next sink sink_next b) c.if-done.true c.in_ok-done.ensures in
+    let o = subst (λ (b : Bool). OneTaken (FirstGives names) c.args.monitor.now c.take_start.new.monitor source source_next sink sink_next b)
+    c.if-done.true c.in_ok-done.ensures in
     ends_at_once names c.args.monitor.now c.take_start.new.monitor source source_next sink sink_next o

@@ -5,7 +5,8 @@ use Rattle.ct_follow.proofs.Lines.{here_first, goes_further, ends_here}
 use Rattle.ct_follow.proofs.program.take_lines.Goals as goal
 
 pub loop-turn-init : goal.loop-turn-init
-loop-turn-init g c = here_first (map string_bytes c.args.names.now) c.args.monitor.now (g.B.Read.remaining c.args.reader.now) (g.W.Write.contents c.args.writer.now)
+loop-turn-init g c = here_first (map string_bytes c.args.names.now) c.args.monitor.now (g.B.Read.remaining c.args.reader.now)
+    (g.W.Write.contents c.args.writer.now)
 
 pub returns-then-done : goal.returns-then-done
 returns-then-done g c =
@@ -14,8 +15,10 @@ returns-then-done g c =
     let source_next = g.B.Read.remaining c.take_next.new.reader in
     let sink = g.W.Write.contents c.loop-turn.writer in
     let sink_next = g.W.Write.contents c.take_next.new.writer in
-    let o = subst (λ (b : Bool). OneTaken (LineGives names) c.loop-turn.monitor c.take_next.new.monitor source source_next sink sink_next b) c.if-done.true c.in_ok-done.ensures in
-    ends_here names c.args.monitor.now c.loop-turn.monitor c.take_next.new.monitor (g.B.Read.remaining c.args.reader.now) source source_next (g.W.Write.contents c.args.writer.now) sink sink_next c.loop-turn.invariant o
+    let o = subst (λ (b : Bool). OneTaken (LineGives names) c.loop-turn.monitor c.take_next.new.monitor source source_next sink sink_next b)
+    c.if-done.true c.in_ok-done.ensures in
+    ends_here names c.args.monitor.now c.loop-turn.monitor c.take_next.new.monitor (g.B.Read.remaining c.args.reader.now) source source_next
+    (g.W.Write.contents c.args.writer.now) sink sink_next c.loop-turn.invariant o
 
 pub loop-turn-preserved : goal.loop-turn-preserved
 loop-turn-preserved g c =
@@ -24,5 +27,7 @@ loop-turn-preserved g c =
     let source_next = g.B.Read.remaining c.take_next.new.reader in
     let sink = g.W.Write.contents c.loop-turn.writer in
     let sink_next = g.W.Write.contents c.take_next.new.writer in
-    let o = subst (λ (b : Bool). OneTaken (LineGives names) c.loop-turn.monitor c.take_next.new.monitor source source_next sink sink_next b) c.if-done.false c.in_ok-done.ensures in
-    goes_further names c.args.monitor.now c.loop-turn.monitor c.take_next.new.monitor (g.B.Read.remaining c.args.reader.now) source source_next (g.W.Write.contents c.args.writer.now) sink sink_next c.loop-turn.invariant o
+    let o = subst (λ (b : Bool). OneTaken (LineGives names) c.loop-turn.monitor c.take_next.new.monitor source source_next sink sink_next b)
+    c.if-done.false c.in_ok-done.ensures in
+    goes_further names c.args.monitor.now c.loop-turn.monitor c.take_next.new.monitor (g.B.Read.remaining c.args.reader.now) source source_next
+    (g.W.Write.contents c.args.writer.now) sink sink_next c.loop-turn.invariant o

@@ -22,8 +22,10 @@ loop-intake-preserved g c =
       s.same.1 ∙ i.4,
       s.same.2 ∙ i.5,
       s.same.3 ∙ i.6,
-      (λ k d lt. all_rest (λ i. i.gate ≡ c.loop-intake.seat.table_id) c.in-Some.intake left (into_iter_items c.loop-intake.intake-iterator) n.0 i.7 k d lt ∙ sym s.same.0),
-      ap (λ (l : List FrontTickets). l ++ map front_tickets left) s.fronts ∙ append_assoc old (front_tickets c.in-Some.intake ∷ []) (map front_tickets left) ∙ ap (λ l. old ++ map front_tickets l) (sym n.0) ∙ i.8,
+      (λ k d lt. all_rest (λ i. i.gate ≡ c.loop-intake.seat.table_id) c.in-Some.intake left (into_iter_items c.loop-intake.intake-iterator) n.0 i.7 k d lt
+          ∙ sym s.same.0),
+      ap (λ (l : List FrontTickets). l ++ map front_tickets left) s.fronts
+          ∙ append_assoc old (front_tickets c.in-Some.intake ∷ []) (map front_tickets left) ∙ ap (λ l. old ++ map front_tickets l) (sym n.0) ∙ i.8,
     )
 
 pub free-requires : goal.free-requires
@@ -47,4 +49,5 @@ returns-clause-tickets g c =
     let named = ap (λ t. t.shared.key) c.sole_owner-table.ensures ∙ ap (λ v. v.fronts) c.shutter.view_is in
     let all : length fs ≡ key = ap length whole ∙ length-map c.args.intakes.items front_tickets ∙ numbers ∙ sym named in
     let counted = c.unwrap.ensures in
-    all_tickets fs c.args.intakes.items c.unwrap.result whole (ends key c.unwrap.result v.0 c.loop-intake.seat.id c.loop-intake.seat.me.0 v.1 all i.5 (i.6 ∙ counted))
+    all_tickets fs c.args.intakes.items c.unwrap.result whole
+    (ends key c.unwrap.result v.0 c.loop-intake.seat.id c.loop-intake.seat.me.0 v.1 all i.5 (i.6 ∙ counted))

@@ -11,17 +11,24 @@ pub split_seat-place-requires : goal.split_seat-place-requires
 split_seat-place-requires c =
     let r = c.requires in
     let table = r.table.0 ∙ ap (λ t. t.shared.table_id) (sym c.deref.ensures) in
-    let one : c.deref.result.now.shared.table_id.words ≡ 1 = ap (λ z. z.words) (sym table) ∙ r.table.1 in
-    (table, omega arith, deals_as c.deref.result.now.shared.key c.args.seat.now.id c.args.seat.now.me.0 (new_fronts c.args.number (c.args.fronts - c.args.number)) (ap (λ m. m.0) r.seat.1))
+    let one : c.deref.result.now.shared.table_id.words ≡ 1 = ap (λ z. z.words) (sym table) ∙ r.table.1 in (
+      table,
+      omega arith,
+      deals_as c.deref.result.now.shared.key c.args.seat.now.id c.args.seat.now.me.0
+          (new_fronts c.args.number (c.args.fronts - c.args.number)) (ap (λ m. m.0) r.seat.1),
+    )
 
 pub returns-in_err-producer-clause-seat : goal.returns-in_err-producer-clause-seat
-returns-in_err-producer-clause-seat c = let s = c.split_seat-place.ensures in (s.0, s.2 ∙ rest_left c.args.number c.args.fronts c.args.seat.now.me c.requires.seat.0 c.requires.seat.1)
+returns-in_err-producer-clause-seat c = let s =
+    c.split_seat-place.ensures in (s.0, s.2 ∙ rest_left c.args.number c.args.fronts c.args.seat.now.me c.requires.seat.0 c.requires.seat.1)
 
 pub returns-in_err-table-clause-seat : goal.returns-in_err-table-clause-seat
-returns-in_err-table-clause-seat c = let s = c.split_seat-place.ensures in (s.0, s.2 ∙ rest_left c.args.number c.args.fronts c.args.seat.now.me c.requires.seat.0 c.requires.seat.1)
+returns-in_err-table-clause-seat c = let s =
+    c.split_seat-place.ensures in (s.0, s.2 ∙ rest_left c.args.number c.args.fronts c.args.seat.now.me c.requires.seat.0 c.requires.seat.1)
 
 pub returns-clause-seat : goal.returns-clause-seat
-returns-clause-seat c = let s = c.split_seat-place.ensures in (s.0, s.2 ∙ rest_left c.args.number c.args.fronts c.args.seat.now.me c.requires.seat.0 c.requires.seat.1)
+returns-clause-seat c = let s = c.split_seat-place.ensures
+    in (s.0, s.2 ∙ rest_left c.args.number c.args.fronts c.args.seat.now.me c.requires.seat.0 c.requires.seat.1)
 
 pub invariant_of-intake : goal.invariant_of-intake
 invariant_of-intake c =

@@ -15,8 +15,10 @@ loop-number-preserved c =
     let b = c.in_ok-push-2.ensures in
     let gate = c.loop-number.seat.table_id in
     let n = c.loop-number.number in
-    let grown = one_more_front gate c.args.ring n c.loop-number.intakes.items c.loop-number.outlets.items c.in_ok-intake.intake c.in_ok-intake.outlet i.5 c.in_ok-intake.ensures.front in
-    let there = subst (λ (z : TableId). AreNewFronts z c.args.ring (n + 1) (c.loop-number.intakes.items ++ c.in_ok-intake.intake ∷ []) (c.loop-number.outlets.items ++ c.in_ok-intake.outlet ∷ [])) (sym s.0) grown in (
+    let grown = one_more_front gate c.args.ring n c.loop-number.intakes.items c.loop-number.outlets.items c.in_ok-intake.intake c.in_ok-intake.outlet i.5
+    c.in_ok-intake.ensures.front in
+    let there = subst (λ (z : TableId). AreNewFronts z c.args.ring (n + 1) (c.loop-number.intakes.items ++ c.in_ok-intake.intake ∷ [])
+    (c.loop-number.outlets.items ++ c.in_ok-intake.outlet ∷ [])) (sym s.0) grown in (
       s.0 ∙ i.0,
       ap (λ z. z.words) s.0 ∙ i.1,
       ap (λ z. z.slots) s.0 ∙ i.2,

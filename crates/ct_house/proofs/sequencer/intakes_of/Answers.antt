@@ -16,15 +16,22 @@ loop-end-preserved c =
     let x : FrontView = c.in-Some.end in
     let e : l.ends.items ≡ rest ++ x ∷ [] = c.in-Some.ensures.items in
     let intake = ap (λ (f : FrontView). f.intake) c.end.view_is in
-    let is : AreConsistent x.sight.seen c.args.bulletin.now.seen = subst (λ (f : FrontView). AreConsistent f.sight.seen c.args.bulletin.now.seen) c.end.view_is c.learn.ensures.one in
+    let is : AreConsistent x.sight.seen c.args.bulletin.now.seen =
+    subst (λ (f : FrontView). AreConsistent f.sight.seen c.args.bulletin.now.seen) c.end.view_is c.learn.ensures.one in
     let left = c.in-Some.ensures.cases in
     let size = c.push_reserved.ensures.len in
     let capacity = c.push_reserved.ensures.capacity in (
-      ap (λ (is : List IntakeView). map (λ (f : FrontView). f.intake) rest ++ reverse is) (c.push_reserved.ensures.items ∙ ap (λ (i : IntakeView). l.room.items ++ i ∷ []) intake)
+      ap (λ (is : List IntakeView). map (λ (f : FrontView). f.intake) rest ++ reverse is)
+          (c.push_reserved.ensures.items ∙ ap (λ (i : IntakeView). l.room.items ++ i ∷ []) intake)
           ∙ moved_more c.args.ends.items l.ends.items rest l.room.items x e same,
       omega arith,
       (All-pop (λ (f : FrontView). f.sight.series ≡ c.args.bulletin.now.series) l.ends.items rest (Some x) e series).0,
-      (x ∷ done, done_more c.args.ends.items l.ends.items rest done x e all, All-cons (λ (f : FrontView). AreConsistent f.sight.seen c.args.bulletin.now.seen) x done is fine),
+      (
+        x ∷ done,
+        done_more c.args.ends.items l.ends.items rest done x e all,
+        All-cons
+            (λ (f : FrontView). AreConsistent f.sight.seen c.args.bulletin.now.seen) x done is fine,
+      ),
     )
 
 pub returns-clause-consistent : goal.returns-clause-consistent
@@ -35,4 +42,5 @@ returns-clause-consistent c =
     let stored = l.ends.ok.0 in
     let size = c.in_default.ensures.cases.0 in
     let empty : l.ends.items ≡ [] = nil_from_length l.ends.items (omega arith) in
-    All-same (λ (f : FrontView). AreConsistent f.sight.seen c.args.bulletin.now.seen) c.args.ends.items done (all ∙ ap (λ (es : List FrontView). es ++ done) empty) fine
+    All-same (λ (f : FrontView). AreConsistent f.sight.seen c.args.bulletin.now.seen) c.args.ends.items done
+    (all ∙ ap (λ (es : List FrontView). es ++ done) empty) fine

@@ -29,7 +29,8 @@ returns-then-branch c =
     let a = c.args.audit.now in
     let leaves = first_leaves c.args.log.now a.tree_size in
     let accepted = c.is_accepted.ensures leaves (leaves_counted c.args.log.now a.tree_size within ∙ sym size) root in
-    let none = c.path.ensures.holds sha256 length-sha256 leaves a.leaf_input.items a.leaf_index a.audit_path.items (c.in_ok-is_own.ensures.own c.if-branch.true) in
+    let none = c.path.ensures.holds sha256 length-sha256 leaves a.leaf_input.items a.leaf_index a.audit_path.items
+    (c.in_ok-is_own.ensures.own c.if-branch.true) in
     sym (size_known c.args.log.now a.leaf_input.items a.leaf_index a.tree_size a.audit_path.items sized
     ∙ own_holds leaves a.leaf_input.items a.leaf_index a.audit_path.items (sym accepted ∙ c.if-not-is_accepted.false) none.1)
 
@@ -48,4 +49,5 @@ returns c =
     let a = c.args.audit.now in
     let leads = c.is_accepted.ensures (first_leaves c.args.log.now a.tree_size) (leaves_counted c.args.log.now a.tree_size within ∙ sym size) root in
     let accepted = sym leads ∙ c.if-not-is_accepted.false in
-    audit_answers c.args.log.now a.leaf_input.items a.leaf_index a.tree_size a.audit_path.items _ c.verdict.result sized accepted (rw c.deref.ensures.value c.in_ok-leaves.ensures.texts) c.verdict.ensures
+    audit_answers c.args.log.now a.leaf_input.items a.leaf_index a.tree_size a.audit_path.items _ c.verdict.result sized accepted
+    (rw c.deref.ensures.value c.in_ok-leaves.ensures.texts) c.verdict.ensures

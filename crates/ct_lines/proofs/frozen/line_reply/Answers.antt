@@ -19,7 +19,8 @@ returns-in-Ok-Operator c =
 pub returns-in-Ok-Frozen : goal.returns-in-Ok-Frozen
 returns-in-Ok-Frozen c =
     let e = asked_line c.args.log.now c.args.line.now (asked c.in-Ok-Frozen.field-0) c.in-Ok-Frozen.ensures.found in
-    subst (λ (a : Answer). Answers c.request_reply.result a) (rw c.in-Ok-Frozen.field-0-is at e) (answers_built c.request_reply.result _ c.request_reply.ensures)
+    subst (λ (a : Answer). Answers c.request_reply.result a) (rw c.in-Ok-Frozen.field-0-is at e)
+    (answers_built c.request_reply.result _ c.request_reply.ensures)
 
 pub returns : goal.returns
 returns c = elim c.in-Err.ensures.refusals [

@@ -14,7 +14,8 @@ returns-in-Ok-eq0-clause-some g c =
 
 pub loop-rest-preserved : goal.loop-rest-preserved
 loop-rest-preserved g c =
-    sending_more _ _ _ c.args.bytes.now c.loop-rest.rest.now c.split_at.result.1.now c.in-Ok.n c.loop-rest.invariant c.in-Ok.ensures.bytes c.split_at.ensures.back
+    sending_more _ _ _ c.args.bytes.now c.loop-rest.rest.now c.split_at.result.1.now c.in-Ok.n c.loop-rest.invariant
+    c.in-Ok.ensures.bytes c.split_at.ensures.back
 
 pub returns-in-Err-clause-some : goal.returns-in-Err-clause-some
 returns-in-Err-clause-some g c =

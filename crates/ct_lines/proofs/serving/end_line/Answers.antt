@@ -7,4 +7,5 @@ returns-clause-stopped g c = λ line stands.
     let asked = c.in-Ok.ensures line stands in
     let one = rw c.in-Some.is at asked in
     let some = rw c.deref.ensures.value at c.in-Err-write_bytes.ensures.some in
-    rw c.from-in-Err-write_bytes.ensures (stop_here (frozen_reply c.args.log.now) line c.in-Some.bytes.items (g.W.Write.contents c.args.writer.now) (g.W.Write.contents c.write_bytes.new.writer) c.args.count one some)
+    rw c.from-in-Err-write_bytes.ensures (stop_here (frozen_reply c.args.log.now) line c.in-Some.bytes.items (g.W.Write.contents c.args.writer.now)
+    (g.W.Write.contents c.write_bytes.new.writer) c.args.count one some)

@@ -6,5 +6,6 @@ use Rattle.ct_lines.proofs.serving.feed.Given as goal
 abbrev pub invariant-loop-byte : goal.invariant-loop-byte
 invariant-loop-byte g l = record {
   within : l.total ≤ l.count + l.byte-index;
-  goes : (line : List ℕ) → StandsFor l.fn.standing line → Goes (frozen_reply l.log) (g.W.Write.contents l.fn.writer) (g.W.Write.contents l.writer) l.standing l.count l.total line (take l.byte-index l.piece);
+  goes : (line : List ℕ) → StandsFor l.fn.standing line
+      → Goes (frozen_reply l.log) (g.W.Write.contents l.fn.writer) (g.W.Write.contents l.writer) l.standing l.count l.total line (take l.byte-index l.piece);
 }

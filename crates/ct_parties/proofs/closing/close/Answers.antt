@@ -5,7 +5,8 @@ use Rattle.ct_parties.specs.ClosedLog.{Closes}
 use Rattle.ct_parties.proofs.closing.close.Goals as goal
 
 pub close_ends-requires-clause-of_house : goal.close_ends-requires-clause-of_house
-close_ends-requires-clause-of_house g c κs within = subst (λ (l : List FrontView). All (IsOfHouse c.args.sequencer.house) l) (sym c.in-Ok.ensures) c.requires.of_house
+close_ends-requires-clause-of_house g c κs within =
+    subst (λ (l : List FrontView). All (IsOfHouse c.args.sequencer.house) l) (sym c.in-Ok.ensures) c.requires.of_house
 
 pub close_ends-requires-clause-in_order : goal.close_ends-requires-clause-in_order
 close_ends-requires-clause-in_order g c κs within = subst (AreInOrder (length c.args.sequencer.lanes)) (sym c.in-Ok.ensures) c.requires.in_order

@@ -21,7 +21,8 @@ finish-requires-clause-settled g c =
     let ends = c.settle_and_publish.new.ends in
     let before : ends ≡ c.args.ends.items = c.settle_and_publish.ensures.ends ∙ c.deref_mut.ensures.value in
     let same : (with_items c.args.ends ends).items ≡ ends = with_items_is c.args.ends ends (ap length before ∙ sym c.args.ends.ok.0) in
-    subst (λ (l : List FrontView). IsAllSettled c.settle_and_publish.new.sequencer l) (c.deref_mut.ensures.value ∙ sym before ∙ sym same) c.in-Ok.ensures.ready.settled
+    subst (λ (l : List FrontView). IsAllSettled c.settle_and_publish.new.sequencer l) (c.deref_mut.ensures.value ∙ sym before ∙ sym same)
+    c.in-Ok.ensures.ready.settled
 
 pub returns-in-Ok-clause-closes : goal.returns-in-Ok-clause-closes
 returns-in-Ok-clause-closes g c =
@@ -33,7 +34,8 @@ returns-in-Ok-clause-closes g c =
       counted = λ n is. same_Some c.finish.result.accepted n (sym c.finish.ensures.same.1 ∙ c.in-Ok.ensures.counted n is);
       in_time = c.in-Ok.ensures.ready.in_time;
       ends = ends_at _ _ _ _ _ _ c.in-Ok.ensures.ready c.in-Ok.ensures.kept c.finish.ensures.same.0;
-      consistent = subst (λ (l : List FrontView). All (λ (f : FrontView). AreConsistent f.sight.seen c.finish.result.log) l) (same ∙ before) c.finish.ensures.consistent;
+      consistent = subst (λ (l : List FrontView). All (λ (f : FrontView). AreConsistent f.sight.seen c.finish.result.log) l) (same ∙ before)
+          c.finish.ensures.consistent;
     }
 
 pub returns-in-Err-clause-faults : goal.returns-in-Err-clause-faults

@@ -7,7 +7,8 @@ loop-left-init g c = not_begun c.args.front c.args.count c.args.now c.args.seque
 
 pub returns-in-Err : goal.returns-in-Err
 returns-in-Err g c =
-    sequence_refused c.args.front c.batch_of-most.result c.args.count c.args.now c.loop-left.left c.args.sequencer.now c.loop-left.sequencer c.settle_some.new.sequencer
+    sequence_refused c.args.front c.batch_of-most.result c.args.count c.args.now c.loop-left.left c.args.sequencer.now c.loop-left.sequencer
+    c.settle_some.new.sequencer
     c.in-Err.refusal c.loop-left.invariant c.loop-left-test.true c.in-Err.ensures
 
 pub loop-left-preserved : goal.loop-left-preserved
@@ -21,4 +22,5 @@ loop-left-preserved g c =
 
 pub returns : goal.returns
 returns g c =
-    sequence_done c.args.front c.args.count c.args.now c.loop-left.left c.args.sequencer.now c.loop-left.sequencer c.loop-left.invariant (omega (arith, c.loop-left-test.false))
+    sequence_done c.args.front c.args.count c.args.now c.loop-left.left c.args.sequencer.now c.loop-left.sequencer c.loop-left.invariant
+    (omega (arith, c.loop-left-test.false))

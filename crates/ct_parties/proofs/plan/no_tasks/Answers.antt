@@ -11,6 +11,7 @@ loop-front-preserved c =
     let same : length c.push.new.self.items ≡ length c.loop-front.lists.items + 1 = ap length e ∙ size in
     record {
       count = omega (arith, same, c.loop-front.invariant.count);
-      empty = λ k v at. each_more (λ (w : Vec FrontTask Global). w.items ≡ []) c.loop-front.lists.items c.new.result c.loop-front.invariant.empty c.new.ensures.items k v
+      empty = λ k v at. each_more (λ (w : Vec FrontTask Global). w.items ≡ []) c.loop-front.lists.items c.new.result
+          c.loop-front.invariant.empty c.new.ensures.items k v
           (ap (λ (l : List (Vec FrontTask Global)). slice_get l k) (sym e) ∙ at);
     }

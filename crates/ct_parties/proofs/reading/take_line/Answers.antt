@@ -9,6 +9,7 @@ returns-clause-taken g c =
     let some : 0 < length c.read_until.new.buf.items = grind (arith, common_steps) in (
       c.content.result.now,
       c.in_ok-add_line.ensures.taken,
-      line_of_bytes c.read_until.new.buf.items c.content.result.now (g.R.Read.remaining c.args.input.now) (g.R.Read.remaining c.read_until.new.self) (rw c.clear.ensures.items at c.in-Ok.ensures.bytes)
+      line_of_bytes c.read_until.new.buf.items c.content.result.now (g.R.Read.remaining c.args.input.now) (g.R.Read.remaining c.read_until.new.self)
+          (rw c.clear.ensures.items at c.in-Ok.ensures.bytes)
           c.in-Ok.ensures.rest some (c.content.ensures ∙ ap (strip_last 10) c.deref.ensures.value),
     )

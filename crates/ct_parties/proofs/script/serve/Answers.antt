@@ -8,7 +8,8 @@ use Rattle.ct_parties.proofs.script.serve.Goals as goal
 
 pub serve_parties_and_log-requires-clause-fronts : goal.serve_parties_and_log-requires-clause-fronts
 serve_parties_and_log-requires-clause-fronts g c κs within =
-    new_fronts c.args.options.fronts c.args.options.ring c.args.options.open_at (start_of c.in_ok-house.house) c.in_ok-house.ensures.house c.args.options.some_fronts
+    new_fronts c.args.options.fronts c.args.options.ring c.args.options.open_at (start_of c.in_ok-house.house) c.in_ok-house.ensures.house
+    c.args.options.some_fronts
 
 pub serve_parties_and_log-requires-clause-work : goal.serve_parties_and_log-requires-clause-work
 serve_parties_and_log-requires-clause-work g c κs within =
@@ -31,7 +32,8 @@ returns-clause-served g c =
       of_input = steps;
       given = i.given;
       of_house = c.in_ok-house.ensures.house;
-      written = subst (λ (l : List ℕ). WritesAll start shifts last l c.args.options.close_at (g.W.Write.contents c.args.output.now) (g.W.Write.contents c.serve_parties_and_log.new.output))
+      written = subst (λ (l : List ℕ). WritesAll start shifts last l c.args.options.close_at (g.W.Write.contents c.args.output.now)
+          (g.W.Write.contents c.serve_parties_and_log.new.output))
           (c.deref.ensures.value ∙ i.frozen) whole;
     }) c.serve_parties_and_log.ensures.all
 
@@ -42,5 +44,6 @@ returns-clause-begun g c =
     let last = c.in_ok-shifts.field-0.last in
     let start = start_of c.in_ok-house.house in
     IfErr-weaker c.serve_parties_and_log.result _ _ (λ f some. begun ss shifts last start steps i.given c.in_ok-house.ensures.house
-    (subst (λ (l : List ℕ). WritesSome start shifts last l c.args.options.close_at f (g.W.Write.contents c.args.output.now) (g.W.Write.contents c.serve_parties_and_log.new.output))
+    (subst (λ (l : List ℕ). WritesSome start shifts last l c.args.options.close_at f (g.W.Write.contents c.args.output.now)
+    (g.W.Write.contents c.serve_parties_and_log.new.output))
     (c.deref.ensures.value ∙ i.frozen) some)) c.serve_parties_and_log.ensures.some

@@ -24,7 +24,8 @@ loop-party-init g c = (
 pub go_on-requires-clause-of_house : goal.go_on-requires-clause-of_house
 go_on-requires-clause-of_house g c κs within =
     let (t, u, split, going, zip, ends) = c.loop-party.invariant in
-    let here = cut_here c.args.parties.items c.loop-party.yielded (into_iter_items c.loop-party.party-iterator) c.in-Some.party (into_iter_items c.next.new.self) split c.in-Some.ensures.steps.0 in
+    let here = cut_here c.args.parties.items c.loop-party.yielded (into_iter_items c.loop-party.party-iterator) c.in-Some.party
+    (into_iter_items c.next.new.self) split c.in-Some.ensures.steps.0 in
     subst (λ (h : HouseName). IsOfHouse h c.in-Some.party.front) (sym going.more.1.house)
     (next_of_house c.args.sequencer.now c.args.parties.items c.loop-party.yielded c.in-Some.party (into_iter_items c.next.new.self) c.requires.fronts here)
 
@@ -46,7 +47,8 @@ loop-party-preserved g c =
       tt,
       cut_on all done left p rest split c.in-Some.ensures.steps.0,
       subst (λ (l : List FrontView). Going old c.go_on.new.sequencer l c.args.now) (sym (map-append (λ (q : FrontParty). q.front) done (p ∷ [])))
-          (going_more old c.loop-party.sequencer c.go_on.new.sequencer (fronts_of done) p.front c.args.now going (next_number old all done p rest c.requires.fronts here)
+          (going_more old c.loop-party.sequencer c.go_on.new.sequencer (fronts_of done) p.front c.args.now going
+          (next_number old all done p rest c.requires.fronts here)
           on.settled on.others on.drained on.in_time on.time),
       subst (λ (l : List FrontParty). AllZip (Succeeds old.core.published) (done ++ p ∷ []) l) (sym c.in_ok-keep_party.ensures.kept)
           (all_zip_more (Succeeds old.core.published) done c.loop-party.successors.items p next zip succeeds),
@@ -56,6 +58,7 @@ loop-party-preserved g c =
 pub returns-clause-all : goal.returns-clause-all
 returns-clause-all g c =
     let (t, u, split, going, zip, ends) = c.loop-party.invariant in
-    let all = cut_end c.args.parties.items c.loop-party.yielded (into_iter_items c.loop-party.party-iterator) split (sym c.loop-party.party-iterator.rest.ok.0 ∙ c.in-None.ensures.steps.0) in
+    let all = cut_end c.args.parties.items c.loop-party.yielded (into_iter_items c.loop-party.party-iterator) split
+    (sym c.loop-party.party-iterator.rest.ok.0 ∙ c.in-None.ensures.steps.0) in
     (going_all c.args.sequencer.now c.loop-party.sequencer (fronts_of c.args.parties.items) c.args.now
     (subst (λ (l : List FrontParty). Going c.args.sequencer.now c.loop-party.sequencer (fronts_of l) c.args.now) all going) c.requires.fronts).0

@@ -9,7 +9,8 @@ serve_shift-requires-clause-count g c κs within =
     let start : Parties = record { house = c.args.sequencer.now; told = c.new-told.result.items; fronts = c.args.parties.items } in
     let begun : Parties = record { house = c.serve_shifts.new.sequencer; told = c.serve_shifts.new.told.items; fronts = c.in_ok-begun.begun.items } in
     let stay = shifts_stay 1 start begun c.args.shifts.items c.in_ok-begun.ensures.do_shifts in
-    c.requires.work.1 ∙ lanes_count start.house start.fronts c.requires.fronts ∙ sym stay.1 ∙ sym (lanes_count begun.house begun.fronts (stay.0 c.requires.fronts))
+    c.requires.work.1 ∙ lanes_count start.house start.fronts c.requires.fronts ∙ sym stay.1
+    ∙ sym (lanes_count begun.house begun.fronts (stay.0 c.requires.fronts))
 
 pub serve_shift-requires-clause-lanes : goal.serve_shift-requires-clause-lanes
 serve_shift-requires-clause-lanes g c κs within =
@@ -23,4 +24,5 @@ returns-clause-fronts g c =
     let begun : Parties = record { house = c.serve_shifts.new.sequencer; told = c.serve_shifts.new.told.items; fronts = c.in_ok-begun.begun.items } in
     let end : Parties = record { house = c.serve_shift.new.sequencer; told = c.serve_shift.new.told.items; fronts = c.in_ok-done.done.items } in
     subst (λ (l : List FrontView). AreFrontsOf c.serve_shift.new.sequencer l) (sym c.in_ok-served.ensures.fronts)
-    (does_stay begun end c.args.last c.in_ok-done.ensures.does ((shifts_stay 1 start begun c.args.shifts.items c.in_ok-begun.ensures.do_shifts).0 c.requires.fronts))
+    (does_stay begun end c.args.last c.in_ok-done.ensures.does
+    ((shifts_stay 1 start begun c.args.shifts.items c.in_ok-begun.ensures.do_shifts).0 c.requires.fronts))

@@ -10,8 +10,10 @@ serve_shift-requires-clause-count g c κs within =
     let (t, u, split, so_far, number, ends) = c.loop-shift.invariant in
     let start : Parties = record { house = c.args.sequencer.now; told = c.args.told.now.items; fronts = c.args.parties.items } in
     let now : Parties = record { house = c.loop-shift.sequencer; told = c.loop-shift.told.items; fronts = c.loop-shift.parties.items } in
-    next_count _ 1 start now c.args.shifts.items c.loop-shift.yielded c.in-Some.shift (into_iter_items c.next.new.self) c.requires.fronts so_far c.requires.work refl
-    (cut_here c.args.shifts.items c.loop-shift.yielded (into_iter_items c.loop-shift.shift-iterator) c.in-Some.shift (into_iter_items c.next.new.self) split c.in-Some.ensures.steps.0)
+    next_count _ 1 start now c.args.shifts.items c.loop-shift.yielded c.in-Some.shift (into_iter_items c.next.new.self) c.requires.fronts
+    so_far c.requires.work refl
+    (cut_here c.args.shifts.items c.loop-shift.yielded (into_iter_items c.loop-shift.shift-iterator) c.in-Some.shift (into_iter_items c.next.new.self)
+    split c.in-Some.ensures.steps.0)
 
 pub serve_shift-requires-clause-lanes : goal.serve_shift-requires-clause-lanes
 serve_shift-requires-clause-lanes g c κs within =
@@ -35,8 +37,10 @@ returns-in_err-successors-clause-faults g c =
     let now : Parties = record { house = c.loop-shift.sequencer; told = c.loop-shift.told.items; fronts = c.loop-shift.parties.items } in
     let after : Parties = record { house = c.serve_shift.new.sequencer; told = c.serve_shift.new.told.items; fronts = c.in_ok-done.done.items } in
     if_err_is _ _ c.in_err-successors.field-0.0 c.from_residual-in_err-successors.ensures.1
-    (shift_refused start now after c.args.shifts.items c.loop-shift.yielded c.in-Some.shift (into_iter_items c.next.new.self) c.in_err-successors.field-0.0 so_far c.in_ok-done.ensures.does
-    (cut_here c.args.shifts.items c.loop-shift.yielded (into_iter_items c.loop-shift.shift-iterator) c.in-Some.shift (into_iter_items c.next.new.self) split c.in-Some.ensures.steps.0)
+    (shift_refused start now after c.args.shifts.items c.loop-shift.yielded c.in-Some.shift (into_iter_items c.next.new.self)
+    c.in_err-successors.field-0.0 so_far c.in_ok-done.ensures.does
+    (cut_here c.args.shifts.items c.loop-shift.yielded (into_iter_items c.loop-shift.shift-iterator) c.in-Some.shift (into_iter_items c.next.new.self)
+    split c.in-Some.ensures.steps.0)
     c.in_err-successors.ensures.refused)
 
 pub loop-shift-preserved : goal.loop-shift-preserved
@@ -49,8 +53,10 @@ loop-shift-preserved g c =
     let size = length-append c.loop-shift.yielded (c.in-Some.shift ∷ []) in (
       tt,
       tt,
-      cut_on c.args.shifts.items c.loop-shift.yielded (into_iter_items c.loop-shift.shift-iterator) c.in-Some.shift (into_iter_items c.next.new.self) split c.in-Some.ensures.steps.0,
-      do_shifts_more 1 (c.loop-shift.number + 1) start now after next c.loop-shift.yielded c.in-Some.shift so_far c.in_ok-done.ensures.does (omega (arith, number)) c.in_ok-successors.ensures.ends_shift,
+      cut_on c.args.shifts.items c.loop-shift.yielded (into_iter_items c.loop-shift.shift-iterator) c.in-Some.shift (into_iter_items c.next.new.self)
+          split c.in-Some.ensures.steps.0,
+      do_shifts_more 1 (c.loop-shift.number + 1) start now after next c.loop-shift.yielded c.in-Some.shift so_far c.in_ok-done.ensures.does
+          (omega (arith, number)) c.in_ok-successors.ensures.ends_shift,
       omega (arith, number, size),
       c.in_ok-successors.ensures.ends ∙ ends,
     )

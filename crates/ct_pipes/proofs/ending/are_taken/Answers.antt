@@ -9,7 +9,8 @@ bounds-consumers-party g c = omega (arith, as_long c.loop-party.producers c.loop
 
 pub is_taken-requires : goal.is_taken-requires
 is_taken-requires g c =
-    pair_there c.loop-party.producers c.loop-party.consumers c.loop-party.party c.index-producers-party.result c.index-consumers-party.result c.loop-party.invariant.pairs (omega arith)
+    pair_there c.loop-party.producers c.loop-party.consumers c.loop-party.party c.index-producers-party.result c.index-consumers-party.result
+    c.loop-party.invariant.pairs (omega arith)
 
 pub loop-party-preserved : goal.loop-party-preserved
 loop-party-preserved g c =
@@ -25,10 +26,12 @@ loop-party-preserved g c =
       pairs = pairs_kept ps cs k c.is_taken.new.producer c.is_taken.new.consumer inv.pairs c.is_taken.ensures.pair;
       sent = sent_none ps k p c.is_taken.new.producer below c.is_taken.ensures.kept.0 ∙ inv.sent;
       received = received_none cs k d c.is_taken.new.consumer beside c.is_taken.ensures.kept.1 ∙ inv.received;
-      taken = taken_more ps cs k p d below beside (c.is_taken.ensures.taken c.if-not-is_taken.false) (all_received c.args.consumers.now) (all_sent c.args.producers.now) inv.received inv.sent inv.taken;
+      taken = taken_more ps cs k p d below beside (c.is_taken.ensures.taken c.if-not-is_taken.false) (all_received c.args.consumers.now)
+          (all_sent c.args.producers.now) inv.received inv.sent inv.taken;
     }
 
 pub returns : goal.returns
 returns g c = record {
-  taken = λ done. all_taken c.args.producers.now c.args.consumers.now c.loop-party.party (as_long c.args.producers.now c.args.consumers.now c.requires) (omega arith) c.loop-party.invariant.taken;
+  taken = λ done. all_taken c.args.producers.now c.args.consumers.now c.loop-party.party (as_long c.args.producers.now c.args.consumers.now c.requires)
+      (omega arith) c.loop-party.invariant.taken;
 }

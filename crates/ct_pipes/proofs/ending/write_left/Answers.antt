@@ -4,4 +4,5 @@ use Rattle.ct_pipes.proofs.ending.write_left.Goals as goal
 
 pub returns-clause-all : goal.returns-clause-all
 returns-clause-all g c =
-    all_taken c.args.producers.now c.loop-party.rings c.loop-party.party (omega (arith, as_long c.args.producers.now c.args.rings.now c.requires)) (omega arith) c.loop-party.invariant.taken
+    all_taken c.args.producers.now c.loop-party.rings c.loop-party.party (omega (arith, as_long c.args.producers.now c.args.rings.now c.requires))
+    (omega arith) c.loop-party.invariant.taken

@@ -6,8 +6,10 @@ loop-party-preserved g c =
     let n = c.loop-party.party in
     let one = c.in_ok-producer in
     let two = c.in_ok-producer-2 in (
-      empty_more n c.loop-party.given.items c.push.new.self.items c.loop-party.tasks.items c.push-in-loop-party.new.self.items one.producer one.consumer c.in_ok-push.ensures.items
+      empty_more n c.loop-party.given.items c.push.new.self.items c.loop-party.tasks.items c.push-in-loop-party.new.self.items one.producer one.consumer
+          c.in_ok-push.ensures.items
           c.in_ok-push-2.ensures.items one.ensures.pair one.ensures.producer.0 one.ensures.consumer.0 c.loop-party.invariant.0,
-      empty_more n c.loop-party.answers.items c.push-in-loop-party-2.new.self.items c.loop-party.rings.items c.push-in-loop-party-3.new.self.items two.producer two.consumer
+      empty_more n c.loop-party.answers.items c.push-in-loop-party-2.new.self.items c.loop-party.rings.items c.push-in-loop-party-3.new.self.items
+          two.producer two.consumer
           c.in_ok-push-3.ensures.items c.in_ok-push-4.ensures.items two.ensures.pair two.ensures.producer.0 two.ensures.consumer.0 c.loop-party.invariant.1,
     )

@@ -10,13 +10,15 @@ returns-clause-same g c =
 pub returns-clause-written : goal.returns-clause-written
 returns-clause-written g c =
     on_ok_weaker c.write_next.result
-    (λ s start. written_there start (g.W.Write.contents c.args.output.now) (g.W.Write.contents c.write_next.new.output) c.args.rings.now c.args.party c.index-rings-party.result c.write_next.new.ring
+    (λ s start. written_there start (g.W.Write.contents c.args.output.now) (g.W.Write.contents c.write_next.new.output) c.args.rings.now c.args.party
+    c.index-rings-party.result c.write_next.new.ring
     c.requires s)
     c.write_next.ensures.written
 
 pub returns-clause-failed : goal.returns-clause-failed
 returns-clause-failed g c =
     on_err_weaker c.write_next.result
-    (λ s start. begun_there start (g.W.Write.contents c.args.output.now) (g.W.Write.contents c.write_next.new.output) c.args.rings.now c.args.party c.index-rings-party.result c.write_next.new.ring
+    (λ s start. begun_there start (g.W.Write.contents c.args.output.now) (g.W.Write.contents c.write_next.new.output) c.args.rings.now c.args.party
+    c.index-rings-party.result c.write_next.new.ring
     c.requires s)
     c.write_next.ensures.failed

@@ -5,7 +5,8 @@ pub loop-party-init : goal.loop-party-init
 loop-party-init g c = record { same = consumers_self c.args.rings.now; written = λ start w. w }
 
 pub returns-in_err-write_of-clause-same : goal.returns-in_err-write_of-clause-same
-returns-in_err-write_of-clause-same g c = consumers_trans c.args.rings.now c.loop-party.rings c.write_of.new.rings c.loop-party.invariant.same c.in_err-write_of.ensures.same
+returns-in_err-write_of-clause-same g c =
+    consumers_trans c.args.rings.now c.loop-party.rings c.write_of.new.rings c.loop-party.invariant.same c.in_err-write_of.ensures.same
 
 pub loop-party-preserved : goal.loop-party-preserved
 loop-party-preserved g c = record {

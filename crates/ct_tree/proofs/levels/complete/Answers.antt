@@ -14,7 +14,8 @@ loop-index-init g c =
     record {
       stores = c.requires;
       end = omega (arith, c.len-index.ensures, c.len.ensures, c.if-len-eq0.false);
-      node = get_or_read D i c.at.result.now (omega (arith, c.len-index.ensures, c.len.ensures, c.if-len-eq0.false)) c.at.ensures [] ∙ sym (subtree-zero H 0 i D refl);
+      node = get_or_read D i c.at.result.now (omega (arith, c.len-index.ensures, c.len.ensures, c.if-len-eq0.false)) c.at.ensures []
+          ∙ sym (subtree-zero H 0 i D refl);
       whole = λ j h. absurd (omega (arith, h));
     }
 
@@ -34,7 +35,8 @@ loop-index-preserved g c =
     c.stored-left.ensures.leaf c.stored-left.ensures.inner in
     let node : c.node_hash-node.result ≡ subtree H (j + 1) (k / 2) D =
     joined_pair H j k D c.stored-left.result c.loop-index.node c.node_hash-node.result odd left i.node c.node_hash-node.ensures in
-    let r = stores_put H lists old D j (k / 2) c.node_hash-node.result i.stores up node c.in_ok-put.ensures.others c.in_ok-put.ensures.added c.in_ok-put.ensures.there in
+    let r = stores_put H lists old D j (k / 2) c.node_hash-node.result i.stores up node c.in_ok-put.ensures.others c.in_ok-put.ensures.added
+    c.in_ok-put.ensures.there in
     record {
       stores = r.0;
       end = up;

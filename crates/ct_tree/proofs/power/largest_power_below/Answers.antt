@@ -14,7 +14,8 @@ loop-power-smaller c = omega (arith, power_pos c.loop-power.power c.loop-power.i
 
 pub returns-clause-split : goal.returns-clause-split
 returns-clause-split c =
-    split_unique c.args.n _ _ (record { power = c.loop-power.invariant.power; below = c.loop-power.invariant.below; half = omega arith }) (split_is c.args.n c.requires)
+    split_unique c.args.n _ _ (record { power = c.loop-power.invariant.power; below = c.loop-power.invariant.below; half = omega arith })
+    (split_is c.args.n c.requires)
 
 pub returns-clause-positive : goal.returns-clause-positive
 returns-clause-positive c = power_pos c.loop-power.power c.loop-power.invariant.power

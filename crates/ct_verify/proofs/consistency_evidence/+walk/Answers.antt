@@ -11,18 +11,21 @@ bytes l = l.items
 
 pub returns-then-old-new-clause-rebuilt : goal.returns-then-old-new-clause-rebuilt
 returns-then-old-new-clause-rebuilt g t c =
-    whole_roots g.H.NodeHash.digest c.args.known (length c.args.old.now) (length c.args.new.now) c.args.first_root.now c.last_and_rest.result.0 c.chosen-value.result
+    whole_roots g.H.NodeHash.digest c.args.known (length c.args.old.now) (length c.args.new.now) c.args.first_root.now
+    c.last_and_rest.result.0 c.chosen-value.result
     c.args.path.now c.last_and_rest.result.1.now c.if-old-new.true c.chosen-value.ensures c.last_and_rest.ensures.parts
 
 pub returns-then-old-new-clause-found : goal.returns-then-old-new-clause-found
 returns-then-old-new-clause-found g t c x y a =
-    clash_of_whole g.H.NodeHash.digest bytes c.args.known c.args.old.now c.args.new.now c.args.first_root.now c.args.path.now _ c.if-old-new.true c.in_ok-sides.ensures.found
+    clash_of_whole g.H.NodeHash.digest bytes c.args.known c.args.old.now c.args.new.now c.args.first_root.now c.args.path.now _ c.if-old-new.true
+    c.in_ok-sides.ensures.found
 
 pub returns-then-old-middle-clause-new : goal.returns-then-old-middle-clause-new
 returns-then-old-middle-clause-new g t c =
     IfOk-weaker c.over_left.result _ _
     (λ w e.
-    leaves_joined g.H.NodeHash.digest bytes c.args.new.now c.largest_power_below-middle.result c.in_ok-part.part.new_root c.root_of_leaves-other.result w.new_root
+    leaves_joined g.H.NodeHash.digest bytes c.args.new.now c.largest_power_below-middle.result c.in_ok-part.part.new_root
+    c.root_of_leaves-other.result w.new_root
     (omega (arith, c.largest_power_below-middle.ensures.positive, c.largest_power_below-middle.ensures.below))
     c.largest_power_below-middle.ensures.split c.in_ok-part.ensures.new c.root_of_leaves-other.ensures e)
     c.over_left.ensures.new
@@ -34,8 +37,10 @@ returns-then-old-middle-clause-rebuilt g t c =
     let i : length (take k c.args.new.now) ≡ k = length-take-le k c.args.new.now (omega (arith, c.largest_power_below-middle.ensures.below)) in
     IfOk-weaker c.over_left.result _ _
     (λ w e x y a.
-    let z = left_roots g.H.NodeHash.digest c.args.known (length c.args.old.now) (length c.args.new.now) k (length (take k c.args.new.now)) c.args.first_root.now c.last_and_rest.result.0
-    c.in_ok-part.part.first c.in_ok-part.part.second c.args.path.now c.last_and_rest.result.1.now l c.largest_power_below-middle.ensures.split c.if-old-middle.true i
+    let z = left_roots g.H.NodeHash.digest c.args.known (length c.args.old.now) (length c.args.new.now) k (length (take k c.args.new.now))
+    c.args.first_root.now c.last_and_rest.result.0
+    c.in_ok-part.part.first c.in_ok-part.part.second c.args.path.now c.last_and_rest.result.1.now l
+    c.largest_power_below-middle.ensures.split c.if-old-middle.true i
     c.last_and_rest.ensures.parts c.in_ok-part.ensures.rebuilt x y a in
     (e.0 ∙ z.0, e.1 ∙ z.1))
     c.over_left.ensures.proof
@@ -45,7 +50,8 @@ returns-then-old-middle-clause-found g t c =
     let l : length c.args.old.now < length c.args.new.now = omega arith in
     IfOk-weaker c.over_left.result _ _
     (λ w e.
-    clash_in_left g.H.NodeHash.digest bytes c.args.known c.args.old.now c.args.new.now c.largest_power_below-middle.result c.args.first_root.now c.last_and_rest.result.0
+    clash_in_left g.H.NodeHash.digest bytes c.args.known c.args.old.now c.args.new.now c.largest_power_below-middle.result
+    c.args.first_root.now c.last_and_rest.result.0
     c.in_ok-part.part.first c.in_ok-part.part.second c.in_ok-part.part.new_root c.root_of_leaves-other.result c.args.path.now c.last_and_rest.result.1.now _ _
     c.requires.some l c.largest_power_below-middle.ensures.split c.if-old-middle.true c.last_and_rest.ensures.parts c.last_and_rest.ensures.length
     c.in_ok-part.ensures.rebuilt c.in_ok-part.ensures.new c.root_of_leaves-other.ensures c.in_ok-part.ensures.found e)
@@ -69,7 +75,8 @@ pub returns-clause-new : goal.returns-clause-new
 returns-clause-new g t c =
     IfOk-weaker c.over_right.result _ _
     (λ w e.
-    leaves_joined g.H.NodeHash.digest bytes c.args.new.now c.largest_power_below-middle.result c.in_ok-sides-2.sides.new_root c.in_ok-part-2.part.new_root w.new_root
+    leaves_joined g.H.NodeHash.digest bytes c.args.new.now c.largest_power_below-middle.result c.in_ok-sides-2.sides.new_root
+    c.in_ok-part-2.part.new_root w.new_root
     (omega (arith, c.largest_power_below-middle.ensures.positive, c.largest_power_below-middle.ensures.below))
     c.largest_power_below-middle.ensures.split c.in_ok-sides-2.ensures.new c.in_ok-part-2.ensures.new e)
     c.over_right.ensures.new
@@ -85,7 +92,8 @@ returns-clause-rebuilt g t c =
     let j : length (take (length D - k) (drop k D)) ≡ length D - k = ap length (take_rest D k) ∙ length-drop k D in
     IfOk-weaker c.over_right.result _ _
     (λ w e x y a.
-    let z = right_roots g.H.NodeHash.digest c.args.known (length E) (length D) k (length (take (length E - k) (drop k E))) (length (take (length D - k) (drop k D)))
+    let z = right_roots g.H.NodeHash.digest c.args.known (length E) (length D) k (length (take (length E - k) (drop k E)))
+    (length (take (length D - k) (drop k D)))
     c.args.first_root.now c.args.first_root.now c.last_and_rest.result.0
     c.in_ok-part-2.part.first c.in_ok-part-2.part.second c.args.path.now c.last_and_rest.result.1.now l c.largest_power_below-middle.ensures.split high i j
     c.last_and_rest.ensures.parts c.in_ok-part-2.ensures.rebuilt x y a in
@@ -98,8 +106,10 @@ returns-clause-found g t c =
     let high : c.largest_power_below-middle.result < length c.args.old.now = omega arith in
     IfOk-weaker c.over_right.result _ _
     (λ w e.
-    clash_in_right g.H.NodeHash.digest bytes c.args.known c.args.old.now c.args.new.now c.largest_power_below-middle.result c.args.first_root.now c.last_and_rest.result.0
-    c.in_ok-part-2.part.first c.in_ok-part-2.part.second c.in_ok-sides-2.sides.old_root c.in_ok-part-2.part.old_root c.in_ok-sides-2.sides.new_root c.in_ok-part-2.part.new_root
+    clash_in_right g.H.NodeHash.digest bytes c.args.known c.args.old.now c.args.new.now c.largest_power_below-middle.result
+    c.args.first_root.now c.last_and_rest.result.0
+    c.in_ok-part-2.part.first c.in_ok-part-2.part.second c.in_ok-sides-2.sides.old_root c.in_ok-part-2.part.old_root c.in_ok-sides-2.sides.new_root
+    c.in_ok-part-2.part.new_root
     c.args.path.now c.last_and_rest.result.1.now _ _ _
     l c.largest_power_below-middle.ensures.split c.largest_power_below-middle.ensures.positive high c.last_and_rest.ensures.parts c.last_and_rest.ensures.length
     c.in_ok-part-2.ensures.rebuilt c.in_ok-sides-2.ensures.old c.in_ok-part-2.ensures.old c.in_ok-sides-2.ensures.new c.in_ok-part-2.ensures.new

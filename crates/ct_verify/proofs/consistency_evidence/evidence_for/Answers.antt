@@ -17,9 +17,11 @@ returns-in_err-verify_consistency g c =
     let H = g.H.NodeHash.digest in
     let E = map bytes c.args.old.now in
     let D = map bytes c.args.new.now in
-    answered c.from_residual.result (ConsistencyEvidence H E D c.args.path.now) (ConsistencyFault H E D c.args.path.now) (ProofRefused c.in_err-verify_consistency.field-0.0)
+    answered c.from_residual.result (ConsistencyEvidence H E D c.args.path.now) (ConsistencyFault H E D c.args.path.now)
+    (ProofRefused c.in_err-verify_consistency.field-0.0)
     c.from_residual.ensures.0 c.from_residual.ensures.1
-    (refused_for H bytes c.args.old.now c.args.new.now c.root_of_leaves-old_root.result c.root_of_leaves-new_root.result c.args.path.now c.in_err-verify_consistency.field-0.0
+    (refused_for H bytes c.args.old.now c.args.new.now c.root_of_leaves-old_root.result c.root_of_leaves-new_root.result c.args.path.now
+    c.in_err-verify_consistency.field-0.0
     c.root_of_leaves-old_root.ensures c.root_of_leaves-new_root.ensures c.in_err-verify_consistency.ensures)
 
 pub returns-then-begins : goal.returns-then-begins
@@ -55,7 +57,8 @@ returns-in-Some g c =
       accepted_for H bytes c.args.old.now c.args.new.now c.root_of_leaves-old_root.result c.root_of_leaves-new_root.result c.args.path.now
           c.root_of_leaves-old_root.ensures c.root_of_leaves-new_root.ensures a,
       λ b. both_ways c.begins.result c.if-begins.false (c.begins.ensures.1 b),
-      along_collides H true c.root_of_leaves-old_root.result E D c.args.path.now (Some (pair.first.items, pair.second.items)) (pair.first.items, pair.second.items) w refl,
+      along_collides H true c.root_of_leaves-old_root.result E D c.args.path.now (Some (pair.first.items, pair.second.items))
+          (pair.first.items, pair.second.items) w refl,
       rw c.root_of_leaves-old_root.ensures at w,
     )
 
@@ -67,7 +70,8 @@ returns-in-None g c =
     let a = c.in_ok-verify_consistency.ensures in
     let old = c.root_of_leaves-old_root.ensures in
     let new = c.root_of_leaves-new_root.ensures in
-    let accepted = accepted_for H bytes c.args.old.now c.args.new.now c.root_of_leaves-old_root.result c.root_of_leaves-new_root.result c.args.path.now old new a in
+    let accepted = accepted_for H bytes c.args.old.now c.args.new.now c.root_of_leaves-old_root.result c.root_of_leaves-new_root.result
+    c.args.path.now old new a in
     let w : ClashAlong H true c.root_of_leaves-old_root.result E D c.args.path.now None =
     subst (λ o. ClashAlong H true c.root_of_leaves-old_root.result E D c.args.path.now (found_strings o)) c.in-None.is
     (c.in_ok-walked.ensures.found c.root_of_leaves-old_root.result c.root_of_leaves-new_root.result a.2) in

@@ -16,6 +16,7 @@ returns-then-leaves-eq1 g t c =
 
 pub returns-else-leaves-eq1 : goal.returns-else-leaves-eq1
 returns-else-leaves-eq1 g t c =
-    leaves_joined g.H.NodeHash.digest (λ (l : Vec ℕ Global). l.items) c.args.leaves.now c.largest_power_below-middle.result c.root_of_leaves-left.result c.root_of_leaves-right.result c.node_hash.result
+    leaves_joined g.H.NodeHash.digest (λ (l : Vec ℕ Global). l.items) c.args.leaves.now c.largest_power_below-middle.result c.root_of_leaves-left.result
+    c.root_of_leaves-right.result c.node_hash.result
     (omega (arith, c.largest_power_below-middle.ensures.positive, c.largest_power_below-middle.ensures.below))
     c.largest_power_below-middle.ensures.split c.root_of_leaves-left.ensures c.root_of_leaves-right.ensures c.node_hash.ensures

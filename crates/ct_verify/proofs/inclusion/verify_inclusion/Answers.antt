@@ -14,15 +14,18 @@ returns-then-place-ne0 g c =
 
 pub returns-then-ne : goal.returns-then-ne
 returns-then-ne g c =
-    let end = rebuild_at_root g.H.NodeHash.digest c.loop-sibling.place.node c.loop-sibling.place.last c.loop-sibling.value c.loop-sibling.sibling-index c.args.path.now (omega arith) (omega arith) in (
+    let end = rebuild_at_root g.H.NodeHash.digest c.loop-sibling.place.node c.loop-sibling.place.last c.loop-sibling.value c.loop-sibling.sibling-index
+    c.args.path.now (omega arith) (omega arith) in (
       omega arith,
       omega (arith, c.loop-sibling.invariant.shorter, length_at_root c.loop-sibling.place.node c.loop-sibling.place.last (omega arith)),
-      λ h. differ c.loop-sibling.value c.args.root.now c.ne.result c.ne.ensures c.if-ne.true (same_some c.loop-sibling.value c.args.root.now (sym (c.loop-sibling.invariant.rebuilds ∙ end) ∙ h)),
+      λ h. differ c.loop-sibling.value c.args.root.now c.ne.result c.ne.ensures c.if-ne.true
+          (same_some c.loop-sibling.value c.args.root.now (sym (c.loop-sibling.invariant.rebuilds ∙ end) ∙ h)),
     )
 
 pub returns-else-ne : goal.returns-else-ne
 returns-else-ne g c =
-    let end = rebuild_at_root g.H.NodeHash.digest c.loop-sibling.place.node c.loop-sibling.place.last c.loop-sibling.value c.loop-sibling.sibling-index c.args.path.now (omega arith) (omega arith) in (
+    let end = rebuild_at_root g.H.NodeHash.digest c.loop-sibling.place.node c.loop-sibling.place.last c.loop-sibling.value c.loop-sibling.sibling-index
+    c.args.path.now (omega arith) (omega arith) in (
       omega arith,
       c.loop-sibling.invariant.rebuilds ∙ end ∙ ap Some (agree c.loop-sibling.value c.args.root.now c.ne.result c.ne.ensures c.if-ne.false),
     )

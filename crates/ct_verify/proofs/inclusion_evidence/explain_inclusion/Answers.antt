@@ -7,4 +7,5 @@ bytes l = l.items
 
 pub returns-clause-holds : goal.returns-clause-holds
 returns-clause-holds g c =
-    holds g.H.NodeHash.digest g.met.H.NodeHash.length_digest (map bytes c.args.leaves.now) c.args.leaf.now c.args.index c.args.path.now c.evidence_for.result c.evidence_for.ensures
+    holds g.H.NodeHash.digest g.met.H.NodeHash.length_digest (map bytes c.args.leaves.now) c.args.leaf.now c.args.index c.args.path.now
+    c.evidence_for.result c.evidence_for.ensures

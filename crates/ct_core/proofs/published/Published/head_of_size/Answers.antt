@@ -12,7 +12,8 @@ returns-else-head-n-clause-size c =
     let is : IsPlaceOfSize heads c.args.n p = record { below = c.place_of_size-place.ensures.below; above = c.place_of_size-place.ensures.above } in
     let inside : p < length heads = grind (arith, common_steps) in
     let other : (c.at-head.result.now.tree_size == c.args.n) ≡ false = grind (arith, common_steps) in
-    sym other ∙ size_found heads c.args.n p c.at-head.result.now c.self.invariant.lawful.sizes is inside c.at-head.ensures ∙ ap (λ (log : Log). is_size log c.args.n) c.self.view_is
+    sym other ∙ size_found heads c.args.n p c.at-head.result.now c.self.invariant.lawful.sizes is inside c.at-head.ensures
+    ∙ ap (λ (log : Log). is_size log c.args.n) c.self.view_is
 
 pub returns-else-place-len-clause-size : goal.returns-else-place-len-clause-size
 returns-else-place-len-clause-size c =

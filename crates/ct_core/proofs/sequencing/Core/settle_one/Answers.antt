@@ -12,9 +12,13 @@ invariant_of-self-2 c =
     let a = c.self.inside in
     let p = c.place_reserved-index in
     let clock = c.clock.ensures ∙ ap clock_of (sym c.self.view_is) in
-    let entry : c.new-entry.result ≡ entry_at c.args.now c.args.item = c.new-entry.ensures.value ∙ ap (λ (s : Submitted). let e : Entry = record { submission = s; timestamp = c.args.now } in e) c.in-Ok.ensures.ok in
-    let later : c.push_reserved.new.list.items ≡ a.settlement.items ++ placed_record c.args.item p.result.0 p.result.1 ∷ [] = c.push_reserved.ensures ∙ ap (λ (rs : List Settled). rs ++ placed_record c.args.item p.result.0 p.result.1 ∷ []) c.reserve.ensures.items in
-    let all = settles (arc_value a.published) a.entries.keys c.reserve-2.new.self.keys p.new.known.keys a.settlement.items c.push_reserved.new.list.items c.args.item c.new-entry.result c.args.now c.clock.result p.result.0 p.result.1 c.self.invariant c.new-entry.ensures.texts clock c.if-now-clock.false c.reserve-2.ensures.keys entry p.ensures.place p.ensures.first p.ensures.added later in
+    let entry : c.new-entry.result ≡ entry_at c.args.now c.args.item = c.new-entry.ensures.value
+    ∙ ap (λ (s : Submitted). let e : Entry = record { submission = s; timestamp = c.args.now } in e) c.in-Ok.ensures.ok in
+    let later : c.push_reserved.new.list.items ≡ a.settlement.items ++ placed_record c.args.item p.result.0 p.result.1 ∷ [] = c.push_reserved.ensures
+    ∙ ap (λ (rs : List Settled). rs ++ placed_record c.args.item p.result.0 p.result.1 ∷ []) c.reserve.ensures.items in
+    let all = settles (arc_value a.published) a.entries.keys c.reserve-2.new.self.keys p.new.known.keys a.settlement.items c.push_reserved.new.list.items
+    c.args.item c.new-entry.result c.args.now c.clock.result p.result.0 p.result.1 c.self.invariant c.new-entry.ensures.texts clock
+    c.if-now-clock.false c.reserve-2.ensures.keys entry p.ensures.place p.ensures.first p.ensures.added later in
     all.core
 
 pub returns-clause-settled : goal.returns-clause-settled
@@ -22,9 +26,13 @@ returns-clause-settled c =
     let a = c.self.inside in
     let p = c.place_reserved-index in
     let clock = c.clock.ensures ∙ ap clock_of (sym c.self.view_is) in
-    let entry : c.new-entry.result ≡ entry_at c.args.now c.args.item = c.new-entry.ensures.value ∙ ap (λ (s : Submitted). let e : Entry = record { submission = s; timestamp = c.args.now } in e) c.in-Ok.ensures.ok in
-    let later : c.push_reserved.new.list.items ≡ a.settlement.items ++ placed_record c.args.item p.result.0 p.result.1 ∷ [] = c.push_reserved.ensures ∙ ap (λ (rs : List Settled). rs ++ placed_record c.args.item p.result.0 p.result.1 ∷ []) c.reserve.ensures.items in
-    let all = settles (arc_value a.published) a.entries.keys c.reserve-2.new.self.keys p.new.known.keys a.settlement.items c.push_reserved.new.list.items c.args.item c.new-entry.result c.args.now c.clock.result p.result.0 p.result.1 c.self.invariant c.new-entry.ensures.texts clock c.if-now-clock.false c.reserve-2.ensures.keys entry p.ensures.place p.ensures.first p.ensures.added later in
+    let entry : c.new-entry.result ≡ entry_at c.args.now c.args.item = c.new-entry.ensures.value
+    ∙ ap (λ (s : Submitted). let e : Entry = record { submission = s; timestamp = c.args.now } in e) c.in-Ok.ensures.ok in
+    let later : c.push_reserved.new.list.items ≡ a.settlement.items ++ placed_record c.args.item p.result.0 p.result.1 ∷ [] = c.push_reserved.ensures
+    ∙ ap (λ (rs : List Settled). rs ++ placed_record c.args.item p.result.0 p.result.1 ∷ []) c.reserve.ensures.items in
+    let all = settles (arc_value a.published) a.entries.keys c.reserve-2.new.self.keys p.new.known.keys a.settlement.items c.push_reserved.new.list.items
+    c.args.item c.new-entry.result c.args.now c.clock.result p.result.0 p.result.1 c.self.invariant c.new-entry.ensures.texts clock
+    c.if-now-clock.false c.reserve-2.ensures.keys entry p.ensures.place p.ensures.first p.ensures.added later in
     rw (← c.self.view_is) all.grows
 
 pub returns-clause-in_time : goal.returns-clause-in_time
@@ -32,9 +40,13 @@ returns-clause-in_time c =
     let a = c.self.inside in
     let p = c.place_reserved-index in
     let clock = c.clock.ensures ∙ ap clock_of (sym c.self.view_is) in
-    let entry : c.new-entry.result ≡ entry_at c.args.now c.args.item = c.new-entry.ensures.value ∙ ap (λ (s : Submitted). let e : Entry = record { submission = s; timestamp = c.args.now } in e) c.in-Ok.ensures.ok in
-    let later : c.push_reserved.new.list.items ≡ a.settlement.items ++ placed_record c.args.item p.result.0 p.result.1 ∷ [] = c.push_reserved.ensures ∙ ap (λ (rs : List Settled). rs ++ placed_record c.args.item p.result.0 p.result.1 ∷ []) c.reserve.ensures.items in
-    let all = settles (arc_value a.published) a.entries.keys c.reserve-2.new.self.keys p.new.known.keys a.settlement.items c.push_reserved.new.list.items c.args.item c.new-entry.result c.args.now c.clock.result p.result.0 p.result.1 c.self.invariant c.new-entry.ensures.texts clock c.if-now-clock.false c.reserve-2.ensures.keys entry p.ensures.place p.ensures.first p.ensures.added later in
+    let entry : c.new-entry.result ≡ entry_at c.args.now c.args.item = c.new-entry.ensures.value
+    ∙ ap (λ (s : Submitted). let e : Entry = record { submission = s; timestamp = c.args.now } in e) c.in-Ok.ensures.ok in
+    let later : c.push_reserved.new.list.items ≡ a.settlement.items ++ placed_record c.args.item p.result.0 p.result.1 ∷ [] = c.push_reserved.ensures
+    ∙ ap (λ (rs : List Settled). rs ++ placed_record c.args.item p.result.0 p.result.1 ∷ []) c.reserve.ensures.items in
+    let all = settles (arc_value a.published) a.entries.keys c.reserve-2.new.self.keys p.new.known.keys a.settlement.items c.push_reserved.new.list.items
+    c.args.item c.new-entry.result c.args.now c.clock.result p.result.0 p.result.1 c.self.invariant c.new-entry.ensures.texts clock
+    c.if-now-clock.false c.reserve-2.ensures.keys entry p.ensures.place p.ensures.first p.ensures.added later in
     rw (← c.self.view_is) (subst (λ (n : ℕ). n ≤ c.args.now) clock c.if-now-clock.false, all.clock)
 
 pub returns-clause-begins : goal.returns-clause-begins
@@ -42,7 +54,11 @@ returns-clause-begins c =
     let a = c.self.inside in
     let p = c.place_reserved-index in
     let clock = c.clock.ensures ∙ ap clock_of (sym c.self.view_is) in
-    let entry : c.new-entry.result ≡ entry_at c.args.now c.args.item = c.new-entry.ensures.value ∙ ap (λ (s : Submitted). let e : Entry = record { submission = s; timestamp = c.args.now } in e) c.in-Ok.ensures.ok in
-    let later : c.push_reserved.new.list.items ≡ a.settlement.items ++ placed_record c.args.item p.result.0 p.result.1 ∷ [] = c.push_reserved.ensures ∙ ap (λ (rs : List Settled). rs ++ placed_record c.args.item p.result.0 p.result.1 ∷ []) c.reserve.ensures.items in
-    let all = settles (arc_value a.published) a.entries.keys c.reserve-2.new.self.keys p.new.known.keys a.settlement.items c.push_reserved.new.list.items c.args.item c.new-entry.result c.args.now c.clock.result p.result.0 p.result.1 c.self.invariant c.new-entry.ensures.texts clock c.if-now-clock.false c.reserve-2.ensures.keys entry p.ensures.place p.ensures.first p.ensures.added later in
+    let entry : c.new-entry.result ≡ entry_at c.args.now c.args.item = c.new-entry.ensures.value
+    ∙ ap (λ (s : Submitted). let e : Entry = record { submission = s; timestamp = c.args.now } in e) c.in-Ok.ensures.ok in
+    let later : c.push_reserved.new.list.items ≡ a.settlement.items ++ placed_record c.args.item p.result.0 p.result.1 ∷ [] = c.push_reserved.ensures
+    ∙ ap (λ (rs : List Settled). rs ++ placed_record c.args.item p.result.0 p.result.1 ∷ []) c.reserve.ensures.items in
+    let all = settles (arc_value a.published) a.entries.keys c.reserve-2.new.self.keys p.new.known.keys a.settlement.items c.push_reserved.new.list.items
+    c.args.item c.new-entry.result c.args.now c.clock.result p.result.0 p.result.1 c.self.invariant c.new-entry.ensures.texts clock
+    c.if-now-clock.false c.reserve-2.ensures.keys entry p.ensures.place p.ensures.first p.ensures.added later in
     rw (← c.self.view_is) all.begins

@@ -16,7 +16,12 @@ returns-clause-lists c =
     let s = c.args.self.now.watcher in
     let v = c.in_ok-verdict.verdict in
     let n = c.leaves_wanted-count.result in
-    let taken : map bytes (take n leaves) ≡ leaves_taken s (map bytes leaves) = as_far_as leaves n (wanted_size s - s.all.0) c.leaves_wanted-count.ensures.as_far in
+    let taken : map bytes (take n leaves) ≡ leaves_taken s (map bytes leaves) =
+    as_far_as leaves n (wanted_size s - s.all.0) c.leaves_wanted-count.ensures.as_far in
     let first : c.size-first.result ≡ s.all.0 = c.size-first.ensures ∙ ap (λ p. p.0) c.all.ensures in
-    let lists = c.in_ok-push_read.ensures in
-    (lists.0, subst (λ (E : List (List ℕ)). ReadTexts names v s.all.0 E lists.0) taken (subst (λ (i : ℕ). ReadTexts names v i (map bytes (take n leaves)) lists.0) first lists.1), lists.2)
+    let lists = c.in_ok-push_read.ensures in (
+      lists.0,
+      subst (λ (E : List (List ℕ)). ReadTexts names v s.all.0 E lists.0) taken
+          (subst (λ (i : ℕ). ReadTexts names v i (map bytes (take n leaves)) lists.0) first lists.1),
+      lists.2,
+    )

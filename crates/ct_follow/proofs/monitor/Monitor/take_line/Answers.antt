@@ -19,12 +19,15 @@ returns c =
       entries = lists.0;
       noted = refl;
       reads = c.in_ok-answer.ensures;
-      says = subst (λ (s : WatcherState). StateSays c.args.self.now.watcher (answer_read c.in_ok-answer.answer) o s) (sym c.note.ensures.watcher) c.in_ok-outcome.ensures.says;
+      says = subst (λ (s : WatcherState). StateSays c.args.self.now.watcher (answer_read c.in_ok-answer.answer) o s) (sym c.note.ensures.watcher)
+          c.in_ok-outcome.ensures.says;
       lists = lists.1;
-      written = c.in_ok-push_outcome.ensures ∙ ap (λ (t : List ℕ). t ++ line_of (outcome_data c.note.new.self.watcher o)) (lists.2 ∙ ap (λ (t : List ℕ). t ++ lists.0) c.new-text.ensures.items);
+      written = c.in_ok-push_outcome.ensures ∙ ap (λ (t : List ℕ). t ++ line_of (outcome_data c.note.new.self.watcher o))
+          (lists.2 ∙ ap (λ (t : List ℕ). t ++ lists.0) c.new-text.ensures.items);
       alarm = c.note.ensures.alarm ∙ ap (λ (b : Bool). b || is_alarm o) c.in_ok-outcome.ensures.alarm;
       bad = c.note.ensures.bad ∙ ap (λ (b : Bool). b || is_bad o) c.in_ok-outcome.ensures.bad;
     })
 
 pub returns-then-is_empty : goal.returns-then-is_empty
-returns-then-is_empty c = gives_none (map string_bytes c.args.names.now) c.args.self.now c.args.line.now c.new-text.result.items c.is_empty.result c.is_empty.ensures c.if-is_empty.true c.new-text.ensures.items
+returns-then-is_empty c = gives_none (map string_bytes c.args.names.now) c.args.self.now c.args.line.now c.new-text.result.items c.is_empty.result
+    c.is_empty.ensures c.if-is_empty.true c.new-text.ensures.items

@@ -15,5 +15,6 @@ load-found-requires c =
     let one : c.deref.result.now.shared.table_id.words ≡ 1 = ap (λ z. z.words) (sym table) ∙ i.1 in (
       table,
       omega arith,
-      glances_as c.deref.result.now.shared.key c.deref.result.now.shared.table_id.slots f.seat.id f.seat.me f.number ts f.seat.me.0.refused (i.2 ∙ ap (λ k. (front_view f.number ts k f.seat.me.0.refused, [])) unknown),
+      glances_as c.deref.result.now.shared.key c.deref.result.now.shared.table_id.slots f.seat.id f.seat.me f.number ts f.seat.me.0.refused
+          (i.2 ∙ ap (λ k. (front_view f.number ts k f.seat.me.0.refused, [])) unknown),
     )

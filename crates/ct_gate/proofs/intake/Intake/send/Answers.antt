@@ -13,7 +13,8 @@ fetch_add-ticket-requires c =
     let f = c.self-2.inside in
     let ts = tickets_of (sent f.producer) in
     let kept = c.has_room.ensures.same in
-    let unknown : f.knows_shutdown ≡ false = ap (λ v. v.knows_shutdown) c.self-2.view_is ∙ kept.2 ∙ sym c.is_shut.ensures.knows_shutdown.0 ∙ c.if-is_shut.false in
+    let unknown : f.knows_shutdown ≡ false = ap (λ v. v.knows_shutdown) c.self-2.view_is ∙ kept.2
+    ∙ sym c.is_shut.ensures.knows_shutdown.0 ∙ c.if-is_shut.false in
     let sent_now = ap (λ v. length v.accepted) c.self-2.view_is in
     let sent_then = ap (λ v. length v.accepted) c.self.view_is in
     let few : length ts < 2 ^ 32 = omega (arith, length-map (sent f.producer) (λ (t : Item). t.ticket), sent_now, ap length kept.1, sent_then) in
@@ -21,5 +22,6 @@ fetch_add-ticket-requires c =
     let one : c.deref.result.now.shared.table_id.words ≡ 1 = ap (λ z. z.words) (sym table) ∙ i.1 in (
       table,
       omega arith,
-      draws_as c.deref.result.now.shared.key c.deref.result.now.shared.table_id.slots f.seat.id f.seat.me f.number ts f.seat.me.0.refused (i.2 ∙ ap (λ k. (front_view f.number ts k f.seat.me.0.refused, [])) unknown) few,
+      draws_as c.deref.result.now.shared.key c.deref.result.now.shared.table_id.slots f.seat.id f.seat.me f.number ts f.seat.me.0.refused
+          (i.2 ∙ ap (λ k. (front_view f.number ts k f.seat.me.0.refused, [])) unknown) few,
     )

@@ -16,8 +16,10 @@ returns-clause-answer c =
     let same = ap (λ v. v.number) c.self.view_is ∙ c.requires.1 ∙ sym (ap (λ v. v.number) c.intake.view_is) in
     let before = ap (numbered n) s.looked.1 ∙ ap (λ v. v.received) c.self.view_is in
     let accepted = s.producer.1 ∙ ap (λ v. v.accepted) c.intake.view_is in (
-      (λ yes. let none : length (known_items o) ≡ 0 = sym s.value ∙ is_zero c.slots_beside.result yes in sym before ∙ all_taken n c.intake.inside.number (received o) (known_items o) (sent p) s.fifo fronts same none ∙ accepted),
-      (λ all. let none = none_known n (received o) (known_items o) (sent p) s.fifo (before ∙ all ∙ sym accepted) in eq-eqb c.slots_beside.result 0 (s.value ∙ none)),
+      (λ yes. let none : length (known_items o) ≡ 0 = sym s.value ∙ is_zero c.slots_beside.result yes in sym before
+          ∙ all_taken n c.intake.inside.number (received o) (known_items o) (sent p) s.fifo fronts same none ∙ accepted),
+      (λ all. let none = none_known n (received o) (known_items o) (sent p) s.fifo (before ∙ all ∙ sym accepted)
+          in eq-eqb c.slots_beside.result 0 (s.value ∙ none)),
     )
 
 pub returns-clause-in_sight : goal.returns-clause-in_sight

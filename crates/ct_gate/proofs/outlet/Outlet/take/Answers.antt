@@ -14,9 +14,14 @@ returns-clause-in_sight c =
     let known = known_items c.self.inside.consumer in
     let left = known_items c.pop.new.self in
     let was = ap (λ v. v.in_sight) c.self.view_is in
-    let told : Option Item → Type 0 = λ r. MatchOption r ((c.args.self.now.in_sight ≡ []) × (numbered n left ≡ [])) (λ i. IsPrefix c.args.self.now.in_sight (i ∷ numbered n left)) in
+    let told : Option Item → Type 0 = λ r. MatchOption r ((c.args.self.now.in_sight ≡ []) × (numbered n left ≡ []))
+    (λ i. IsPrefix c.args.self.now.in_sight (i ∷ numbered n left)) in
     elim c.match-pop.branch [
       | in-Ok w ↦ subst told (sym w.result-is) (subst (λ (l : List Item). IsPrefix l (w.numbered.result ∷ numbered n left)) was
           (taken_first n known left w.in-Ok.item w.numbered.result w.in-Ok.ensures.ok.1 w.numbered.ensures))
-      | in-Err w ↦ subst told (sym w.result-is) (sym was ∙ ap (numbered n) (none_before known (λ lt. absurd (true≢false (sym (w.in-Err.ensures.succeeds lt))))), ap (numbered n) w.in-Err.ensures.empty.1)
+      | in-Err w ↦ subst told (sym w.result-is) (
+        sym was ∙ ap (numbered n) (none_before known (λ lt. absurd (true≢false (sym (w.in-Err.ensures.succeeds lt))))),
+        ap (numbered n)
+            w.in-Err.ensures.empty.1,
+      )
     ]

@@ -15,5 +15,6 @@ fetch_or-count-requires c =
     let one : c.deref.result.now.shared.table_id.words ≡ 1 = ap (λ z. z.words) (sym table) ∙ i.1 in (
       table,
       omega arith,
-      shuts_as c.deref.result.now.shared.key c.deref.result.now.shared.table_id.slots c.self.inside.seat.id c.self.inside.seat.me (i.3 ∙ ap (λ k. (shutter_view k, [])) none_yet),
+      shuts_as c.deref.result.now.shared.key c.deref.result.now.shared.table_id.slots c.self.inside.seat.id c.self.inside.seat.me
+          (i.3 ∙ ap (λ k. (shutter_view k, [])) none_yet),
     )

@@ -19,14 +19,18 @@ compare_exchange-requires c =
     let ends : Ends log (newest log) = subst (λ s. Ends s.log (newest s.log)) (sym c.again-seen.ensures) c.self.invariant.0 in
     let right : IsRight c.args.turn.now.nib (newest log).turn = subst (λ (p : Publication). IsRight c.args.turn.now.nib p.turn) (sym last) c.requires.turn.1 in
     let asked : c.args.next.now ≡ c.plain-offer.result.ask.state = sym (ap (λ a. a.state) offer.1) in
-    let extends : Extends (newest log).state c.plain-offer.result.ask.state = subst (λ (p : Publication). Extends p.state c.plain-offer.result.ask.state) (sym last) (subst (Extends c.args.self.now.last.state) asked c.requires.extends) in
+    let extends : Extends (newest log).state c.plain-offer.result.ask.state =
+    subst (λ (p : Publication). Extends p.state c.plain-offer.result.ask.state) (sym last)
+    (subst (Extends c.args.self.now.last.state) asked c.requires.extends) in
     let newer : length (newest log).state.heads < length c.plain-offer.result.ask.state.heads =
-    subst (λ (p : Publication). length p.state.heads < length c.plain-offer.result.ask.state.heads) (sym last) (subst (λ (l : Log). length c.args.self.now.last.state.heads < length l.heads) asked c.requires.newer) in (
+    subst (λ (p : Publication). length p.state.heads < length c.plain-offer.result.ask.state.heads) (sym last)
+    (subst (λ (l : Log). length c.args.self.now.last.state.heads < length l.heads) asked c.requires.newer) in (
       ap (λ w. w.tracked) h,
       same ∙ sym (ap (λ w. w.book) h),
       c.requires.turn.0 ∙ sym (ap (λ w. w.book) h),
       offer.0,
-      rw (ap (λ w. w.key) h, offer.3) (add_moves log c.plain-offer.result.ask c.args.turn.now.nib (λ n. either (n == 0) 0 n) ends right extends newer (subst Lawful asked c.requires.lawful)),
+      rw (ap (λ w. w.key) h, offer.3) (add_moves log c.plain-offer.result.ask c.args.turn.now.nib (λ n. either (n == 0) 0 n) ends right extends newer
+          (subst Lawful asked c.requires.lawful)),
     )
 
 pub invariant_of-self : goal.invariant_of-self
@@ -46,7 +50,8 @@ returns-clause-series c =
     let last = ends_as log _ c.compare_exchange.ensures.7 in
     let before = ap (λ s. newest s.log) c.again-seen.ensures ∙ ap (λ r. r.last) c.self.view_is in
     let after : Reach = record { book = c.compare_exchange.new.seen.book; last = newest log } in
-    same_series after c.args.self.now (c.compare_exchange.ensures.0 ∙ (ap (λ s. s.book) c.again-seen.ensures ∙ ap (λ r. r.book) c.self.view_is)) (ap (λ p. p.line) last ∙ ap (λ p. p.line) before)
+    same_series after c.args.self.now (c.compare_exchange.ensures.0 ∙ (ap (λ s. s.book) c.again-seen.ensures ∙ ap (λ r. r.book) c.self.view_is))
+    (ap (λ p. p.line) last ∙ ap (λ p. p.line) before)
 
 pub returns-clause-state : goal.returns-clause-state
 returns-clause-state c =

@@ -17,7 +17,8 @@ closed-requires g c =
     let before : ends ≡ v.items = c.settle.ensures.ends ∙ c.deref_mut.ensures.value in
     let same : (with_items v ends).items ≡ ends = with_items_is v ends (ap length before ∙ sym v.ok.0) in
     let published : c.publish.new.self.house ≡ c.settle.new.self.house =
-    either c.publish.result _ _ (c.publish.new.self.house ≡ c.settle.new.self.house) (λ h p. ap (λ (s : HouseState). s.house) p.1) (λ e p. ap (λ (s : HouseState). s.house) p.1) c.publish.ensures.head c.publish.ensures.refused in
+    either c.publish.result _ _ (c.publish.new.self.house ≡ c.settle.new.self.house) (λ h p. ap (λ (s : HouseState). s.house) p.1)
+    (λ e p. ap (λ (s : HouseState). s.house) p.1) c.publish.ensures.head c.publish.ensures.refused in
     let house : c.publish.new.self.house ≡ c.args.self.house.house = published ∙ c.settle.ensures.settled.1.house in
     subst (λ (l : List FrontView). All (IsOfHouse c.publish.new.self.house) l) (sym (same ∙ before))
     (subst (λ (h : HouseName). All (IsOfHouse h) v.items) (sym house) c.retire_all-ends.ensures)

@@ -21,7 +21,8 @@ at-requires-else-block-blocks g c =
     let cs = c.self.inside.blocks in
     let past : length cs ≤ c.args.index / 16384 = grind (arith, common_steps) in
     let inside : c.args.index < length (concatenated cs ++ c.self.inside.row) = rw c.self.view_is c.requires in
-    let at : c.args.index % 16384 < length c.self.inside.row = in_rest-below cs c.self.inside.row c.args.index c.self.invariant.each c.self.invariant.short past inside in
+    let at : c.args.index % 16384 < length c.self.inside.row =
+    in_rest-below cs c.self.inside.row c.args.index c.self.invariant.each c.self.invariant.short past inside in
     at
 
 pub returns-then-block-blocks : goal.returns-then-block-blocks

@@ -21,7 +21,8 @@ index-requires g c =
     let cs = c.self.inside.full in
     let past : length cs ≤ c.args.index / 128 = grind (arith, common_steps) in
     let inside : c.args.index < length (concatenated cs ++ c.self.inside.last.items) = rw c.self.view_is c.requires in
-    let at : c.args.index % 128 < length c.self.inside.last.items = in_rest-below cs c.self.inside.last.items c.args.index c.self.invariant.each c.self.invariant.short past inside in
+    let at : c.args.index % 128 < length c.self.inside.last.items =
+    in_rest-below cs c.self.inside.last.items c.args.index c.self.invariant.each c.self.invariant.short past inside in
     let size = c.self.inside.last.ok in grind (arith, common_steps)
 
 pub returns-then-chunk-full : goal.returns-then-chunk-full
