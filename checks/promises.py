@@ -3,7 +3,8 @@
 
 A row of a table with the columns Contract and File names functions, as `Type::name` or `name`, each with the names of its clauses in
 brackets, and the files, below crates/ or below the crate that the section's heading names. A function has to stand in one of the row's files,
-under `impl Type` where a type is named, and public. The script prints each that doesn't, and ends with status 1 where there is one.
+under `impl Type` where a type is named, and public. Behind each file stand the lines at which the row's functions begin. The script prints
+each that isn't so, and ends with status 1 where there is one. With --lines it writes the lines anew.
 """
 import re
 import sys
@@ -18,7 +19,7 @@ NAMED = re.compile(r"`(?:(\w+)::)?(\w+)`(?: \(((?:`\w+`(?:, )?)+)\))?")
 
 
 def functions(text):
-    """Each public function of a source file, as its type (none for a free one) and its name, with the names of its clauses."""
+    """Each public function of a source file, as its type (none for a free one) and its name, with its line and the names of its clauses."""
     text = re.sub(r";(?= *[\w:]+\])", " ", blanked(text))
     types = [(found.start(), found.group(1)) for found in IMPL.finditer(text)]
     found_here = {}
@@ -29,7 +30,8 @@ def functions(text):
             clauses.add(clause.group(1))
             at = closing(text, place.end() - 1)
         owners = [name for start, name in types if start < found.start()] if found.group(1) else []
-        found_here.setdefault((owners[-1] if owners else None, found.group(2)), set()).update(clauses)
+        line = text.count("\n", 0, found.start(2)) + 1
+        found_here.setdefault((owners[-1] if owners else None, found.group(2)), (line, set()))[1].update(clauses)
     return found_here
 
 
@@ -55,6 +57,18 @@ def path_of(file, named):
     return next((place for place in places if place.is_file()), None)
 
 
+def with_lines(named, contract, files):
+    """A row's cell for its files, with the lines at which the functions that it names begin."""
+    keys = [(owner or None, name) for owner, name, _ in NAMED.findall(contract)]
+    cells = []
+    for file in re.findall(r"`([\w/.]+)`", files):
+        path = path_of(file, named)
+        there = functions(path.read_text()) if path else {}
+        lines = [str(there[key][0]) for key in keys if key in there]
+        cells.append(" ".join([f"`{file}`", ", ".join(lines)]).strip())
+    return "; ".join(cells)
+
+
 def faults(page):
     """What the tables name that isn't there."""
     if not any(rows(page)):
@@ -66,8 +80,10 @@ def faults(page):
             if path is None:
                 yield f"line {number}: {file} isn't there"
             else:
-                for key, clauses in functions(path.read_text()).items():
+                for key, (_, clauses) in functions(path.read_text()).items():
                     there.setdefault(key, []).append(clauses)
+        if files != with_lines(named, contract, files):
+            yield f"line {number}: the functions begin at {with_lines(named, contract, files)} (checks/promises.py --lines writes that)"
         found = NAMED.findall(contract)
         if not found:
             yield f"line {number}: no function is named"
@@ -86,7 +102,18 @@ def unnamed(page):
     return [crate for crate in crates() if not crate.endswith(("_tests", "_bench")) and crate not in headings]
 
 
+def written_anew(page):
+    """The page with the lines of all rows as they are."""
+    lines = page.split("\n")
+    for named, number, contract, files in rows(page):
+        before, found, after = lines[number - 1].rpartition(f" {files} ")
+        lines[number - 1] = f"{before} {with_lines(named, contract, files)} {after}" if found else lines[number - 1]
+    return "\n".join(lines)
+
+
 def main():
+    if sys.argv[1:] == ["--lines"]:
+        PAGE.write_text(written_anew(PAGE.read_text()))
     page = PAGE.read_text()
     found = list(faults(page)) + [f"no section is about the crate {crate}" for crate in unnamed(page)]
     for fault in found:

@@ -1,10 +1,11 @@
 //! What ends a run before the state is written, and what an error of a crate below says of it.
 
 ghost use Rattle.std.specs.Prelude.{◌≡◌, None, MatchResult};
+ghost use Rattle.std.specs.IoError.{error_kind};
 ghost use Rattle.serde_json.specs.Errors.{IsMemory};
 ghost use Rattle.ct_follow.specs.Answers.{answer_read, no_answer};
-ghost use Rattle.ct_follow.specs.Faults.{monitor_fault_line};
-ghost use Rattle.ct_follow.specs.declared.fault.Fault.TheVariants.{Memory};
+ghost use Rattle.ct_follow.specs.Faults.{IsInputFault, monitor_fault_line};
+ghost use Rattle.ct_follow.specs.declared.fault.Fault.TheVariants.{Memory, Write};
 
 use crate::answer::Answer;
 use ct_lines::Unwritten;
@@ -15,13 +16,16 @@ use std::alloc::AllocError;
 use std::io;
 
 /// What ended a run: the program's status is 1 then.
-#[derive(Clone, Copy, Debug, PartialEq, Eq)]
+#[derive(Clone, Copy, Debug, PartialEq, Eq, thiserror::Error)]
 pub enum Fault {
     /// A growth was refused.
+    #[error("memory was refused")]
     Memory,
     /// The input couldn't be read.
+    #[error("the input couldn't be read")]
     Read,
     /// The output couldn't be written.
+    #[error("the output couldn't be written")]
     Write,
 }
 
@@ -47,12 +51,16 @@ impl From<AllocError> for Fault {
 }
 
 impl From<Unwritten> for Fault {
+    ghost from_gives = { λ _ f. f ≡ Write };
+
     fn from(_e: Unwritten) -> Fault {
         Fault::Write
     }
 }
 
 impl From<io::Error> for Fault {
+    ghost from_gives = { λ error f. IsInputFault (error_kind error) f };
+
     fn from(error: io::Error) -> Fault {
         match error.kind() {
             io::ErrorKind::OutOfMemory => Fault::Memory,

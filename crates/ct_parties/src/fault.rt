@@ -8,19 +8,25 @@ use ct_codec::Refusal;
 use ct_lines::{ServeFault, Unwritten};
 use std::alloc::{AllocError, AllocFailed};
 use std::io;
+use thiserror::Error;
 
 /// What ended a run.
-#[derive(Clone, Copy, Debug, PartialEq, Eq)]
+#[derive(Clone, Copy, Debug, PartialEq, Eq, Error)]
 pub enum Fault {
     /// A growth was refused.
+    #[error("memory was refused")]
     Memory,
     /// The clock refuses the moment at which the log is to be closed.
+    #[error("the clock refuses the moment at which the log is to be closed")]
     ClockBack,
     /// A thread didn't start.
+    #[error("a thread didn't start")]
     Threads,
     /// The input couldn't be read.
+    #[error("the input couldn't be read")]
     Read,
     /// The output couldn't be written.
+    #[error("the output couldn't be written")]
     Write,
 }
 
