@@ -5,7 +5,7 @@
     plot.py publication TABLE OUT.svg
 
 TABLE is a file with the table as it is printed. `program`: microseconds a line, and of processor time a line, by submissions and fronts,
-for ctlog and for the plain Rust program. `publication`: milliseconds of a publication with nothing new by entries, of which the table
+for ctlog and for the plain Rust program. `publication`: milliseconds of a publication by entries, of which the table
 has a column for each build.
 """
 import pathlib
@@ -52,9 +52,9 @@ def program(table, out):
 
 
 def publication(table, out):
-    """A line for each build: milliseconds by entries, both on scales of powers of ten."""
+    """A line for each build or kind: milliseconds by entries, both on scales of powers of ten."""
     head = next(line for line in pathlib.Path(table).read_text().splitlines() if line.startswith("|")).strip("|").split("|")
-    text = HEAD + f"set output '{out}'\nset logscale xy\nset format x '10^%T'\nset xlabel 'entries'\nset xrange [700:1500000]\nset title 'a publication with nothing new, ms'\n"
+    text = HEAD + f"set output '{out}'\nset logscale xy\nset format x '10^%T'\nset xlabel 'entries'\nset xrange [700:1500000]\nset title 'a publication, ms'\n"
     series = []
     for place, label in enumerate(head[1:], 1):
         points = []
