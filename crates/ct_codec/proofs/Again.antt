@@ -21,7 +21,8 @@ same_leaf l t e x b p q =
     let same = leaves_stand_apart l.timestamp t (entry_in l.entry) e l.extensions.items x b b [] [] p q refl in
     (same.0, same.1, same.2)
 
-pub same_chain : {A : Type 0} (v : Vec (Vec ℕ A) A) (cs : List (List ℕ)) (b : List ℕ) → ChainText (certificates_in v) b → ChainText cs b → certificates_in v ≡ cs
+pub same_chain : {A : Type 0} (v : Vec (Vec ℕ A) A) (cs : List (List ℕ)) (b : List ℕ) → ChainText (certificates_in v) b → ChainText cs b
+    → certificates_in v ≡ cs
 same_chain v cs b p q = (chains_stand_apart (certificates_in v) cs b b [] [] p q refl).0
 
 leaf_again : {A : Type 0} (t : ℕ) (e : SignedEntry) (x b : List ℕ) (r : Result (Leaf A) DecodeFault) → LeafText t e x b → AnswersLeaf b r → GivesLeaf t e x r
@@ -33,8 +34,8 @@ chain_again cs b (Ok v) q a = (same_chain v cs b a.0 q, tt)
 chain_again cs b (Err f) q a = (tt, chain_texts_have_no_fault cs b f q a.1)
 
 -- the same at the exit of a `?`
-pub leaf_left : {A : Type 0} (r : Result (Leaf A) DecodeFault) (f : DecodeFault) (t : ℕ) (e : SignedEntry) (x b : List ℕ) → LeafText t e x b → IsErrAnd r (λ g. g ≡ f)
-    → LeafFaulty f b → GivesLeaf t e x r
+pub leaf_left : {A : Type 0} (r : Result (Leaf A) DecodeFault) (f : DecodeFault) (t : ℕ) (e : SignedEntry) (x b : List ℕ) → LeafText t e x b
+    → IsErrAnd r (λ g. g ≡ f) → LeafFaulty f b → GivesLeaf t e x r
 leaf_left (Ok l) f t e x b q met v = absurd met
 leaf_left (Err g) f t e x b q met v = (tt, met ∙ leaf_texts_have_no_fault t e x b f q v)
 
