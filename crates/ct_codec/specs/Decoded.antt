@@ -1,6 +1,5 @@
 -- What is read from bytes: leaves and chains.
 use Rattle.std.specs.Prelude.{◌≡◌, ℕ, List, map, Vec, Result, IfOk, IfErr, IsOkUnless}
-use Rattle.std.specs.Global.{Global}
 use Rattle.ct_codec.specs.Leaf.{SignedEntry, certificate, precertificate, LeafText, ChainText, PreChainText}
 use Rattle.ct_codec.specs.Faults.{LeafFaulty, ChainFaulty, PreChainFaulty}
 use Rattle.ct_codec.specs.declared.fault.DecodeFault.{DecodeFault}
@@ -12,7 +11,7 @@ use Rattle.ct_codec.specs.declared.reading.LentEntry.{LentEntry}
 use Rattle.ct_codec.specs.declared.reading.LentEntry.TheVariants as lent
 
 -- the entry of a leaf that was read
-abbrev pub entry_in : LeafEntry → SignedEntry
+abbrev pub entry_in : {A : Type 0} → LeafEntry A → SignedEntry
 entry_in (owned.X509 c) = certificate c.items
 entry_in (owned.Precert k c) = precertificate k c.items
 
@@ -22,37 +21,37 @@ entry_lent (lent.X509 c) = certificate c.now
 entry_lent (lent.Precert k c) = precertificate k c.now
 
 -- the certificates of a chain that was read
-abbrev pub certificates_in : Vec (Vec ℕ Global) Global → List (List ℕ)
+abbrev pub certificates_in : {A : Type 0} → Vec (Vec ℕ A) A → List (List ℕ)
 certificates_in cs = map (λ c. c.items) cs.items
 
 -- the bytes are the text of the leaf
-abbrev pub IsTextOf : Leaf → List ℕ → Type 0
+abbrev pub IsTextOf : {A : Type 0} → Leaf A → List ℕ → Type 0
 IsTextOf l b = LeafText l.timestamp (entry_in l.entry) l.extensions.items b
 
 -- the leaf has timestamp t, entry e and extensions x
-abbrev pub IsLeaf : ℕ → SignedEntry → List ℕ → Leaf → Type 0
+abbrev pub IsLeaf : {A : Type 0} → ℕ → SignedEntry → List ℕ → Leaf A → Type 0
 IsLeaf t e x l = (l.timestamp ≡ t) × (entry_in l.entry ≡ e) × (l.extensions.items ≡ x)
 
 -- the answer is the leaf with timestamp t, entry e and extensions x, unless memory was refused
-abbrev pub GivesLeaf : ℕ → SignedEntry → List ℕ → Result Leaf DecodeFault → Type 0
+abbrev pub GivesLeaf : {A : Type 0} → ℕ → SignedEntry → List ℕ → Result (Leaf A) DecodeFault → Type 0
 GivesLeaf t e x r = IfOk r (IsLeaf t e x) × IsOkUnless r Memory
 
 -- the answer is the chain of these certificates, unless memory was refused
-abbrev pub GivesChain : List (List ℕ) → Result (Vec (Vec ℕ Global) Global) DecodeFault → Type 0
+abbrev pub GivesChain : {A : Type 0} → List (List ℕ) → Result (Vec (Vec ℕ A) A) DecodeFault → Type 0
 GivesChain cs r = IfOk r (λ v. certificates_in v ≡ cs) × IsOkUnless r Memory
 
 -- the answer is a leaf of which b is the text, or a fault of b
-abbrev pub AnswersLeaf : List ℕ → Result Leaf DecodeFault → Type 0
+abbrev pub AnswersLeaf : {A : Type 0} → List ℕ → Result (Leaf A) DecodeFault → Type 0
 AnswersLeaf b r = IfOk r (λ l. IsTextOf l b) × IfErr r (λ f. LeafFaulty f b)
 
 -- the answer is a chain of which b is the text, or a fault of b
-abbrev pub AnswersChain : List ℕ → Result (Vec (Vec ℕ Global) Global) DecodeFault → Type 0
+abbrev pub AnswersChain : {A : Type 0} → List ℕ → Result (Vec (Vec ℕ A) A) DecodeFault → Type 0
 AnswersChain b r = IfOk r (λ v. ChainText (certificates_in v) b) × IfErr r (λ f. ChainFaulty f b)
 
 -- the answer is this precertificate and the chain of these certificates, unless memory was refused
-abbrev pub GivesPreChain : List ℕ → List (List ℕ) → Result (Vec ℕ Global × Vec (Vec ℕ Global) Global) DecodeFault → Type 0
+abbrev pub GivesPreChain : {A : Type 0} → List ℕ → List (List ℕ) → Result (Vec ℕ A × Vec (Vec ℕ A) A) DecodeFault → Type 0
 GivesPreChain c cs r = IfOk r (λ v. (v.0.items ≡ c) × (certificates_in v.1 ≡ cs)) × IsOkUnless r Memory
 
 -- the answer is a precertificate and a chain of which b is the text, or a fault of b
-abbrev pub AnswersPreChain : List ℕ → Result (Vec ℕ Global × Vec (Vec ℕ Global) Global) DecodeFault → Type 0
+abbrev pub AnswersPreChain : {A : Type 0} → List ℕ → Result (Vec ℕ A × Vec (Vec ℕ A) A) DecodeFault → Type 0
 AnswersPreChain b r = IfOk r (λ v. PreChainText v.0.items (certificates_in v.1) b) × IfErr r (λ f. PreChainFaulty f b)

@@ -9,6 +9,7 @@ ghost use Rattle.ct_codec.specs.Parts.{joined};
 use crate::numbers::{number_bytes_2, number_bytes_3, number_bytes_8};
 use crate::submission::Submission;
 use crate::writing::type_and_key_hash;
+use std::alloc::Allocator;
 use std::marker::Model;
 
 /// The bytes of a submission's leaf in five parts. Contracts see it as the list of the parts.
@@ -41,7 +42,7 @@ fn leaf_head(timestamp: u64, entry_type: u16) -> [u8; 12]
 
 /// The parts of the submission's leaf at this moment, in milliseconds, with no extensions: joined they are what `leaf_input` writes. It
 /// takes no memory.
-pub fn leaf_parts(submission: &Submission, timestamp: u64) -> LeafParts<'_>
+pub fn leaf_parts<S: Allocator>(submission: &Submission<S>, timestamp: u64) -> LeafParts<'_>
     ensures { LeafText timestamp (entry_of submission.now) [] (joined result) }
 {
     submission.in_range();

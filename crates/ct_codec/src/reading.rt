@@ -11,26 +11,26 @@ ghost use Rattle.ct_codec.specs.Decoded.{entry_in, entry_lent, certificates_in, 
 
 use crate::fault::DecodeFault;
 use crate::reader::Reader;
-use std::alloc::{AllocError, Global};
+use std::alloc::{AllocError, Allocator, Global};
 
 /// What a leaf is about (RFC 6962 sections 3.1 and 3.2).
 #[derive(Debug, PartialEq, Eq, Drop)]
-pub enum LeafEntry {
+pub enum LeafEntry<A: Allocator = Global> {
     /// A certificate.
-    X509(Vec<u8>),
+    X509(Vec<u8, A>),
     /// The hash of the issuer's key, and a TBSCertificate.
-    Precert([u8; 32], Vec<u8>),
+    Precert([u8; 32], Vec<u8, A>),
 }
 
 /// A leaf as it was read (RFC 6962 section 3.4).
 #[derive(Debug, PartialEq, Eq, Drop)]
-pub struct Leaf {
+pub struct Leaf<A: Allocator = Global> {
     /// The moment, in milliseconds.
     pub timestamp: u64,
     /// What the leaf is about.
-    pub entry: LeafEntry,
+    pub entry: LeafEntry<A>,
     /// The extensions, 0 to 65,535 bytes.
-    pub extensions: Vec<u8>,
+    pub extensions: Vec<u8, A>,
 }
 
 /// What a leaf is about, where it stands in the input (RFC 6962 sections 3.1 and 3.2).
@@ -126,7 +126,7 @@ pub fn lend_leaf(bytes: &[u8]) -> Result<LentLeaf<'_>, DecodeFault>
 }
 
 // The entry, copied out of the input.
-fn copy_entry(alloc: Global, entry: LentEntry<'_>) -> Result<LeafEntry, AllocError>
+fn copy_entry<A: Allocator>(alloc: A, entry: LentEntry<'_>) -> Result<LeafEntry<A>, AllocError>
     ensures { IfOk result (λ e. entry_in e ≡ entry_lent entry.entry) }
 {
     match entry {
@@ -142,7 +142,7 @@ fn copy_entry(alloc: Global, entry: LentEntry<'_>) -> Result<LeafEntry, AllocErr
 }
 
 /// The leaf that the bytes are, all of them. The faults of the bytes are found before memory is taken.
-pub fn decode_leaf(alloc: Global, bytes: &[u8]) -> Result<Leaf, DecodeFault>
+pub fn decode_leaf<A: Allocator + Clone>(alloc: A, bytes: &[u8]) -> Result<Leaf<A>, DecodeFault>
     // What is read is what the bytes are the text of.
     ensures found { IfOk result (λ l. IsTextOf l bytes.now) }
     // A leaf's text is read, unless memory is refused.
@@ -151,7 +151,7 @@ pub fn decode_leaf(alloc: Global, bytes: &[u8]) -> Result<Leaf, DecodeFault>
     ensures fault { IfErr result (λ f. LeafFaulty f bytes.now) }
 {
     let leaf = lend_leaf(bytes)?;
-    let entry = copy_entry(alloc, leaf.entry)?;
+    let entry = copy_entry(alloc.clone()?, leaf.entry)?;
     let extensions = Vec::from_slice(alloc, leaf.extensions)?;
     Ok(Leaf {
         timestamp: leaf.timestamp,
@@ -173,15 +173,18 @@ fn check_certificates(bytes: &[u8]) -> Result<(), DecodeFault>
 }
 
 // The certificates that the bytes are, one after the other, copied out of the input.
-fn copy_certificates(alloc: Global, bytes: &[u8]) -> Result<Vec<Vec<u8>>, DecodeFault>
+fn copy_certificates<A: Allocator + Clone>(
+    alloc: A,
+    bytes: &[u8],
+) -> Result<Vec<Vec<u8, A>, A>, DecodeFault>
     ensures found { IfOk result (λ cs. AllByRecursion IsCertificate (certificates_in cs) × (bytes.now ≡ chain_bytes (certificates_in cs))) }
     ensures fault { IfErr result (λ f. (f ≡ Memory) ⊎ CertificatesFaulty f bytes.now) }
 {
-    let mut certificates = Vec::new(alloc);
+    let mut certificates = Vec::new(alloc.clone()?);
     let mut reader = Reader::new(bytes);
     'certificates: while !reader.is_at_end() {
         let certificate = reader.certificate()?;
-        let copy = Vec::from_slice(alloc, certificate)?;
+        let copy = Vec::from_slice(alloc.clone()?, certificate)?;
         certificates.push(copy)?;
     }
     Ok(certificates)
@@ -203,7 +206,10 @@ fn last_chain<'a>(reader: &mut Reader<'a>) -> Result<&'a [u8], DecodeFault>
 }
 
 /// The certificates of the chain that the bytes are, all of them. The faults of the bytes are found before memory is taken.
-pub fn decode_chain(alloc: Global, bytes: &[u8]) -> Result<Vec<Vec<u8>>, DecodeFault>
+pub fn decode_chain<A: Allocator + Clone>(
+    alloc: A,
+    bytes: &[u8],
+) -> Result<Vec<Vec<u8, A>, A>, DecodeFault>
     // What is read is what the bytes are the text of.
     ensures found { IfOk result (λ cs. ChainText (certificates_in cs) bytes.now) }
     // A chain's text is read, unless memory is refused.
@@ -218,7 +224,10 @@ pub fn decode_chain(alloc: Global, bytes: &[u8]) -> Result<Vec<Vec<u8>>, DecodeF
 
 /// The precertificate that the bytes begin with, and the certificates of the chain behind it (PrecertChainEntry, RFC 6962 sections 3.1
 /// and 4.6), all of the bytes. The faults of the bytes are found before memory is taken.
-pub fn decode_pre_chain(alloc: Global, bytes: &[u8]) -> Result<(Vec<u8>, Vec<Vec<u8>>), DecodeFault>
+pub fn decode_pre_chain<A: Allocator + Clone>(
+    alloc: A,
+    bytes: &[u8],
+) -> Result<(Vec<u8, A>, Vec<Vec<u8, A>, A>), DecodeFault>
     // What is read is what the bytes are the text of.
     ensures found { IfOk result (λ v. PreChainText v.0.items (certificates_in v.1) bytes.now) }
     // The text of a precertificate with its chain is read, unless memory is refused.
@@ -229,7 +238,7 @@ pub fn decode_pre_chain(alloc: Global, bytes: &[u8]) -> Result<(Vec<u8>, Vec<Vec
     let mut reader = Reader::new(bytes);
     let first = reader.certificate()?;
     let others = last_chain(&mut reader)?;
-    let precertificate = Vec::from_slice(alloc, first)?;
+    let precertificate = Vec::from_slice(alloc.clone()?, first)?;
     let certificates = copy_certificates(alloc, others)?;
     Ok((precertificate, certificates))
 }

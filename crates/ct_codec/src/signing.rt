@@ -8,16 +8,16 @@ use crate::numbers::number_bytes_8;
 use crate::refusal::Refusal;
 use crate::submission::Submission;
 use crate::writing::leaf_input;
-use std::alloc::Global;
+use std::alloc::Allocator;
 
 /// What stands under the signature of a tree head (TreeHeadSignature, RFC 6962 section 3.5): its 50 bytes, for the moment at which the
 /// head was made, in milliseconds, the tree's number of leaves, and its root.
-pub fn tree_head_signature_input(
-    alloc: Global,
+pub fn tree_head_signature_input<A: Allocator>(
+    alloc: A,
     timestamp: u64,
     tree_size: u64,
     root: &[u8; 32],
-) -> Result<Vec<u8>, Refusal>
+) -> Result<Vec<u8, A>, Refusal>
     ensures text { IfOk result (λ b. b.items ≡ tree_head_text timestamp tree_size root.now) }
     ensures memory { IsOkUnless result Refusal.Memory }
 {
@@ -31,11 +31,11 @@ pub fn tree_head_signature_input(
 
 /// What stands under the signature of a signed certificate timestamp (RFC 6962 section 3.2) for the submission at this moment, in
 /// milliseconds, with no extensions. These are the bytes of its leaf ([`crate::laws::signed_timestamps_are_leaves`]).
-pub fn certificate_timestamp_signature_input(
-    alloc: Global,
-    submission: &Submission,
+pub fn certificate_timestamp_signature_input<A: Allocator, S: Allocator>(
+    alloc: A,
+    submission: &Submission<S>,
     timestamp: u64,
-) -> Result<Vec<u8>, Refusal>
+) -> Result<Vec<u8, A>, Refusal>
     ensures text { IfOk result (λ b. b.items ≡ timestamp_text timestamp (entry_of submission.now) []) }
     ensures memory { IsOkUnless result Refusal.Memory }
 {

@@ -9,10 +9,10 @@ ghost use Rattle.ct_codec.specs.Submitted.{entry_of, identity_of, precertificate
 use crate::numbers::{number_bytes_2, number_bytes_3, number_bytes_8};
 use crate::refusal::Refusal;
 use crate::submission::Submission;
-use std::alloc::Global;
+use std::alloc::Allocator;
 
 // Writes a certificate or TBSCertificate: its length in three bytes, and its bytes.
-fn push_vector(out: &mut Vec<u8>, bytes: &[u8]) -> Result<(), Refusal>
+fn push_vector<A: Allocator>(out: &mut Vec<u8, A>, bytes: &[u8]) -> Result<(), Refusal>
     requires { length bytes.now < 2 ^ 24 }
     ensures written { OnOk result (out.new.items ≡ out.old.items ++ vec 3 bytes.now) }
     ensures memory { IsOkUnless result Refusal.Memory }
@@ -23,7 +23,7 @@ fn push_vector(out: &mut Vec<u8>, bytes: &[u8]) -> Result<(), Refusal>
 }
 
 // The number of the entry type, and the hash of the issuer's key, which is no bytes where a certificate was submitted.
-pub(crate) fn type_and_key_hash(submission: &Submission) -> (u16, &[u8])
+pub(crate) fn type_and_key_hash<S: Allocator>(submission: &Submission<S>) -> (u16, &[u8])
     ensures number { result.0 ≡ type_of (entry_of submission.now) }
     ensures key_hash { result.1.now ≡ key_hash_of (entry_of submission.now) }
 {
@@ -34,7 +34,10 @@ pub(crate) fn type_and_key_hash(submission: &Submission) -> (u16, &[u8])
 }
 
 // Writes the entry type and the signed entry.
-fn push_entry(out: &mut Vec<u8>, submission: &Submission) -> Result<(), Refusal>
+fn push_entry<A: Allocator, S: Allocator>(
+    out: &mut Vec<u8, A>,
+    submission: &Submission<S>,
+) -> Result<(), Refusal>
     ensures written { OnOk result (out.new.items ≡ out.old.items ++ identity_of submission.now) }
     ensures memory { IsOkUnless result Refusal.Memory }
 {
@@ -46,7 +49,10 @@ fn push_entry(out: &mut Vec<u8>, submission: &Submission) -> Result<(), Refusal>
 
 /// The submission's identity: the entry type and the signed entry, without timestamp and chain. Of a precertificate these are the hash of
 /// its issuer's key and its TBSCertificate, so the precertificate itself does not count.
-pub fn identity(alloc: Global, submission: &Submission) -> Result<Vec<u8>, Refusal>
+pub fn identity<A: Allocator, S: Allocator>(
+    alloc: A,
+    submission: &Submission<S>,
+) -> Result<Vec<u8, A>, Refusal>
     ensures text { IfOk result (λ b. b.items ≡ identity_of submission.now) }
     ensures memory { IsOkUnless result Refusal.Memory }
 {
@@ -56,7 +62,7 @@ pub fn identity(alloc: Global, submission: &Submission) -> Result<Vec<u8>, Refus
 }
 
 /// Whether two submissions have one identity. No byte of either is copied.
-pub fn same_identity(a: &Submission, b: &Submission) -> bool
+pub fn same_identity<A: Allocator, B: Allocator>(a: &Submission<A>, b: &Submission<B>) -> bool
     ensures { result ≡ bytes_eq (identity_of a.now) (identity_of b.now) }
 {
     a.in_range();
@@ -67,11 +73,11 @@ pub fn same_identity(a: &Submission, b: &Submission) -> bool
 }
 
 /// The bytes of the submission's leaf (MerkleTreeLeaf, RFC 6962 section 3.4) at this moment, in milliseconds, with no extensions.
-pub fn leaf_input(
-    alloc: Global,
-    submission: &Submission,
+pub fn leaf_input<A: Allocator, S: Allocator>(
+    alloc: A,
+    submission: &Submission<S>,
     timestamp: u64,
-) -> Result<Vec<u8>, Refusal>
+) -> Result<Vec<u8, A>, Refusal>
     ensures text { IfOk result (λ b. LeafText timestamp (entry_of submission.now) [] b.items) }
     ensures memory { IsOkUnless result Refusal.Memory }
 {
@@ -85,7 +91,7 @@ pub fn leaf_input(
 }
 
 // The number of bytes of the certificates one after the other, each as a vector.
-fn chain_size(certificates: &[Vec<u8>]) -> u32
+fn chain_size<S: Allocator>(certificates: &[Vec<u8, S>]) -> u32
     requires { length (chain_bytes (map (λ c. c.items) certificates.now)) < 2 ^ 24 }
     ensures { result ≡ length (chain_bytes (map (λ c. c.items) certificates.now)) }
 {
@@ -97,7 +103,10 @@ fn chain_size(certificates: &[Vec<u8>]) -> u32
 }
 
 // Writes certificates as a chain.
-fn push_chain(out: &mut Vec<u8>, certificates: &[Vec<u8>]) -> Result<(), Refusal>
+fn push_chain<A: Allocator, S: Allocator>(
+    out: &mut Vec<u8, A>,
+    certificates: &[Vec<u8, S>],
+) -> Result<(), Refusal>
     requires { length (chain_bytes (map (λ c. c.items) certificates.now)) < 2 ^ 24 }
     ensures written { OnOk result (out.new.items ≡ out.old.items ++ vec 3 (chain_bytes (map (λ c. c.items) certificates.now))) }
     ensures memory { IsOkUnless result Refusal.Memory }
@@ -110,7 +119,10 @@ fn push_chain(out: &mut Vec<u8>, certificates: &[Vec<u8>]) -> Result<(), Refusal
 }
 
 // Writes the precertificate as a vector, where one was submitted.
-fn push_precertificate(out: &mut Vec<u8>, submission: &Submission) -> Result<(), Refusal>
+fn push_precertificate<A: Allocator, S: Allocator>(
+    out: &mut Vec<u8, A>,
+    submission: &Submission<S>,
+) -> Result<(), Refusal>
     ensures written { OnOk result (out.new.items ≡ out.old.items ++ precertificate_text submission.now) }
     ensures memory { IsOkUnless result Refusal.Memory }
 {
@@ -123,7 +135,10 @@ fn push_precertificate(out: &mut Vec<u8>, submission: &Submission) -> Result<(),
 
 /// The bytes that go with the submission's leaf (RFC 6962 section 4.6): the certificates behind the first, as a chain, and before them the
 /// precertificate as a vector, where one was submitted (PrecertChainEntry).
-pub fn extra_data(alloc: Global, submission: &Submission) -> Result<Vec<u8>, Refusal>
+pub fn extra_data<A: Allocator, S: Allocator>(
+    alloc: A,
+    submission: &Submission<S>,
+) -> Result<Vec<u8, A>, Refusal>
     ensures text { IfOk result (λ b. ExtraData submission.now b.items) }
     ensures memory { IsOkUnless result Refusal.Memory }
 {

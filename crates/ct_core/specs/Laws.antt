@@ -1,5 +1,6 @@
 -- Laws of published states.
 use Rattle.std.specs.Prelude.{[], Result, All}
+use Rattle.std.specs.Global.{Global}
 use Rattle.ct_codec.specs.Decoded.{AnswersLeaf, GivesLeaf}
 use Rattle.ct_codec.specs.Laws.{ExtraDataIsRead}
 use Rattle.ct_codec.specs.Submitted.{entry_of}
@@ -11,7 +12,7 @@ use Rattle.ct_core.specs.Settlement.{Log, Lawful}
 
 -- the decoders read what replies show of an entry: its leaf, and its chain by the decoder of its kind, unless memory was refused
 pub record IsRead (e : Entry) : Type 0 where
-  pub leaf : (r : Result Leaf DecodeFault) → AnswersLeaf (text_of e).leaf_input r → GivesLeaf e.timestamp (entry_of e.submission) [] r
+  pub leaf : (r : Result (Leaf Global) DecodeFault) → AnswersLeaf (text_of e).leaf_input r → GivesLeaf e.timestamp (entry_of e.submission) [] r
   pub chain : ExtraDataIsRead e.submission (text_of e).extra_data
 
 abbrev pub ShownEntriesAreRead : Type 0

@@ -10,7 +10,7 @@ use ct_tree::{Head, NodeHash, leaf_hash};
 use ct_verify::{
     Evidence, EvidenceFault, ProofFault, explain_inclusion, verify_consistency, verify_inclusion,
 };
-use std::alloc::Global;
+use std::alloc::Allocator;
 
 /// Who checks a log's proofs against its tree heads, under one hash function.
 #[derive(Drop)]
@@ -76,14 +76,14 @@ impl<H: NodeHash + Drop> Auditor<H> {
     ///
     /// # Errors
     /// Those of `explain_inclusion`: `ProofRefused`, and `Memory` in place of a `Collision` where a growth was refused.
-    pub fn explain(
+    pub fn explain<A: Allocator + Clone>(
         &self,
-        alloc: Global,
+        alloc: A,
         leaves: &[Vec<u8>],
         leaf: &[u8],
         index: u64,
         path: &[[u8; 32]],
-    ) -> Result<Evidence, EvidenceFault>
+    ) -> Result<Evidence<A>, EvidenceFault>
         ensures explained { MatchResult result (InclusionEvidence H.digest (map (λ l. l.items) leaves.now) leaf.now index path.now)
             (InclusionFault H.digest (map (λ l. l.items) leaves.now) leaf.now index path.now) }
         ensures holds { IsAudited H.digest (map (λ l. l.items) leaves.now) leaf.now index path.now → result ≡ Ok Holds }

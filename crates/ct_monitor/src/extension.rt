@@ -7,6 +7,7 @@ ghost use Rattle.ct_monitor.specs.Extended.{IsNoRoot};
 use crate::fault::MonitorFault;
 use crate::peaks::Peaks;
 use ct_tree::NodeHash;
+use std::alloc::Allocator;
 
 // Whether two roots are equal.
 fn is_same_root(a: &[u8; 32], b: &[u8; 32]) -> bool
@@ -16,12 +17,12 @@ fn is_same_root(a: &[u8; 32], b: &[u8; 32]) -> bool
 }
 
 // The perfect subtrees with new leaves behind those that they stand for, where the root is that of all of them.
-pub(crate) fn extended<H: NodeHash>(
+pub(crate) fn extended<A: Allocator + Clone, L: Allocator, H: NodeHash>(
     h: &H,
-    peaks: &Peaks,
-    leaves: &[Vec<u8>],
+    peaks: &Peaks<A>,
+    leaves: &[Vec<u8, L>],
     root: &[u8; 32],
-) -> Result<Peaks, MonitorFault>
+) -> Result<Peaks<A>, MonitorFault>
     ensures stands { IfOk result (λ p. (D : List (List ℕ)) → length D + length leaves.now < 2 ^ 64 → Stands H.digest peaks.now (map (hash_leaf H.digest) D)
         → Stands H.digest p (map (hash_leaf H.digest) (D ++ map (λ l. l.items) leaves.now))) }
     ensures root { IfOk result (λ p. (D : List (List ℕ)) → length D + length leaves.now < 2 ^ 64 → Stands H.digest peaks.now (map (hash_leaf H.digest) D)

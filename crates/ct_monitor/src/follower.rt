@@ -11,27 +11,27 @@ use crate::fault::MonitorFault;
 use crate::order::{forks, is_not_later};
 use crate::peaks::Peaks;
 use ct_tree::{Head, NodeHash};
-use std::alloc::Global;
+use std::alloc::{Allocator, Global};
 use std::marker::Model;
 
 /// Who follows a log's tree heads and keeps the roots of the perfect subtrees in place of its leaves, under one hash
 /// function: at most 64 hashes and a head, whatever the size of the log. The state can be saved, and handed in again.
 #[derive(Drop)]
-pub struct Follower<H: NodeHash + Drop> {
+pub struct Follower<H: NodeHash + Drop, A: Allocator = Global> {
     h: H,
-    peaks: Peaks,
+    peaks: Peaks<A>,
     last: Option<Head>,
 }
 
-impl<H: NodeHash + Drop> Model for Follower<H> {
+impl<H: NodeHash + Drop, A: Allocator> Model for Follower<H, A> {
     ghost Value = { FollowerState };
 
     ghost view = { λ f. record { peaks = f.peaks; last_head = f.last } };
 }
 
-impl<H: NodeHash + Drop> Follower<H> {
+impl<H: NodeHash + Drop, A: Allocator> Follower<H, A> {
     /// A follower of no leaves, who took no head. Takes no memory.
-    pub fn new(alloc: Global, h: H) -> Follower<H>
+    pub fn new(alloc: A, h: H) -> Follower<H, A>
         ensures follows { Follows H.digest result [] }
         ensures last_head { result.last_head ≡ None }
     {
@@ -43,7 +43,7 @@ impl<H: NodeHash + Drop> Follower<H> {
     }
 
     /// A follower in the state that is handed in, whatever that is.
-    pub fn from_parts(h: H, peaks: Peaks, last: Option<Head>) -> Follower<H>
+    pub fn from_parts(h: H, peaks: Peaks<A>, last: Option<Head>) -> Follower<H, A>
         ensures peaks { result.peaks ≡ peaks }
         ensures last_head { result.last_head ≡ last }
     {
@@ -51,7 +51,7 @@ impl<H: NodeHash + Drop> Follower<H> {
     }
 
     /// The number of leaves, and the roots of their perfect subtrees.
-    pub fn peaks(&self) -> &Peaks
+    pub fn peaks(&self) -> &Peaks<A>
         ensures { result.now ≡ self.now.peaks }
     {
         &self.peaks
@@ -65,7 +65,11 @@ impl<H: NodeHash + Drop> Follower<H> {
     }
 
     // The faults that are found before anything is hashed, in their order.
-    fn check_order(&self, head: &Head, new_entries: &[Vec<u8>]) -> Result<(), MonitorFault>
+    fn check_order<L: Allocator>(
+        &self,
+        head: &Head,
+        new_entries: &[Vec<u8, L>],
+    ) -> Result<(), MonitorFault>
         ensures few { OnOk result ((D : List (List ℕ)) → Follows H.digest self.now D → length D + length new_entries.now < 2 ^ 64) }
         ensures in_order { (D : List (List ℕ)) → Follows H.digest self.now D
             → MatchResult result (λ _. IsInOrder (keeping D self.now) head.now × IsCounted (keeping D self.now) head.now (map (λ l. l.items) new_entries.now))
@@ -87,8 +91,23 @@ impl<H: NodeHash + Drop> Follower<H> {
         Ok(())
     }
 
+    // Goes on to these subtrees and this head.
+    pub(crate) fn go_on(&mut self, longer: Peaks<A>, head: Head)
+        ensures peaks { self.new.peaks ≡ longer }
+        ensures last_head { self.new.last_head ≡ Some head }
+    {
+        self.peaks = longer;
+        self.last = Some(head);
+    }
+}
+
+impl<H: NodeHash + Drop, A: Allocator + Clone> Follower<H, A> {
     // The subtrees of the leaves with the new ones, where nothing speaks against the head.
-    pub(crate) fn longer(&self, head: &Head, new_entries: &[Vec<u8>]) -> Result<Peaks, MonitorFault>
+    pub(crate) fn longer<L: Allocator>(
+        &self,
+        head: &Head,
+        new_entries: &[Vec<u8, L>],
+    ) -> Result<Peaks<A>, MonitorFault>
         ensures in_order { OnOk result ((D : List (List ℕ)) → Follows H.digest self.now D
             → IsInOrder (keeping D self.now) head.now × IsCounted (keeping D self.now) head.now (map (λ l. l.items) new_entries.now)) }
         ensures stands { IfOk result (λ p. (D : List (List ℕ)) → Follows H.digest self.now D
@@ -102,22 +121,17 @@ impl<H: NodeHash + Drop> Follower<H> {
         extended(&self.h, &self.peaks, new_entries, &head.root)
     }
 
-    // Goes on to these subtrees and this head.
-    pub(crate) fn go_on(&mut self, longer: Peaks, head: Head)
-        ensures peaks { self.new.peaks ≡ longer }
-        ensures last_head { self.new.last_head ≡ Some head }
-    {
-        self.peaks = longer;
-        self.last = Some(head);
-    }
-
     /// Takes in a tree head and the leaves that are new in it, in order. Hashes each new leaf and one node on average for
     /// each, and at most 64 nodes for the root. The same head again, without new leaves, is taken.
     ///
     /// # Errors
     /// Those that [`Monitor::observe`](crate::Monitor::observe) answers where it keeps the leaves, in its order. An error
     /// changes nothing.
-    pub fn observe(&mut self, head: Head, new_entries: &[Vec<u8>]) -> Result<(), MonitorFault>
+    pub fn observe<L: Allocator>(
+        &mut self,
+        head: Head,
+        new_entries: &[Vec<u8, L>],
+    ) -> Result<(), MonitorFault>
         ensures follows { OnOk result ((D : List (List ℕ)) → Follows H.digest self.old D
             → Follows H.digest self.new (D ++ map (λ l. l.items) new_entries.now)) }
         ensures last_head { OnOk result (self.new.last_head ≡ Some head) }

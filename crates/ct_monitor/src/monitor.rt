@@ -8,17 +8,17 @@ ghost use Rattle.ct_monitor.specs.Observed.{IsInOrder, RefusesHead};
 use crate::fault::MonitorFault;
 use crate::follower::Follower;
 use ct_tree::{Head, NodeHash};
-use std::alloc::Global;
+use std::alloc::{Allocator, Global};
 use std::marker::Model;
 
 /// Who follows a log's tree heads and keeps all its leaves, under one hash function.
 #[derive(Drop)]
-pub struct Monitor<H: NodeHash + Drop> {
-    follower: Follower<H>,
-    kept: Vec<Vec<u8>>,
+pub struct Monitor<H: NodeHash + Drop, A: Allocator = Global> {
+    follower: Follower<H, A>,
+    kept: Vec<Vec<u8, A>, A>,
 }
 
-impl<H: NodeHash + Drop> Model for Monitor<H> {
+impl<H: NodeHash + Drop, A: Allocator> Model for Monitor<H, A> {
     ghost Value = { Followed };
 
     ghost view = { λ m. record { leaves = map (λ l. l.items) m.kept.items; last_head = m.follower.last_head } };
@@ -26,9 +26,9 @@ impl<H: NodeHash + Drop> Model for Monitor<H> {
     ghost invariant = { λ m. Follows H.digest m.follower (map (λ l. l.items) m.kept.items) };
 }
 
-impl<H: NodeHash + Drop> Monitor<H> {
+impl<H: NodeHash + Drop, A: Allocator + Copy> Monitor<H, A> {
     /// A monitor that keeps no leaves and took no head. Takes no memory.
-    pub fn new(alloc: Global, h: H) -> Monitor<H>
+    pub fn new(alloc: A, h: H) -> Monitor<H, A>
         ensures leaves { result.leaves ≡ [] }
         ensures last_head { result.last_head ≡ None }
     {
@@ -37,9 +37,11 @@ impl<H: NodeHash + Drop> Monitor<H> {
             kept: Vec::new(alloc),
         }
     }
+}
 
+impl<H: NodeHash + Drop, A: Allocator> Monitor<H, A> {
     /// The kept leaves, in order.
-    pub fn leaves(&self) -> &[Vec<u8>]
+    pub fn leaves(&self) -> &[Vec<u8, A>]
         ensures { map (λ l. l.items) result.now ≡ self.now.leaves }
     {
         &self.kept
@@ -52,7 +54,9 @@ impl<H: NodeHash + Drop> Monitor<H> {
     {
         self.follower.last_head()
     }
+}
 
+impl<H: NodeHash + Drop, A: Allocator + Clone> Monitor<H, A> {
     /// Takes in a tree head and the leaves that are new in it, in order. The leaves are kept without a copy of their
     /// bytes. Hashes each new leaf and one node on average for each, and at most 64 nodes for the root; no kept leaf is
     /// hashed again. The same head again, without new leaves, is taken.
@@ -62,7 +66,11 @@ impl<H: NodeHash + Drop> Monitor<H> {
     /// and another root; `TimeNotLater` unless the head is later than the last one or that same head again;
     /// `CountMismatch` unless the kept and the new leaves together are as many as it says; `Memory`; `RootMismatch`
     /// where its root isn't that of the kept and the new leaves. An error changes nothing.
-    pub fn observe(&mut self, head: Head, new_entries: Vec<Vec<u8>>) -> Result<(), MonitorFault>
+    pub fn observe(
+        &mut self,
+        head: Head,
+        new_entries: Vec<Vec<u8, A>, A>,
+    ) -> Result<(), MonitorFault>
         ensures leaves { OnOk result (self.new.leaves ≡ self.old.leaves ++ map (λ l. l.items) new_entries.items) }
         ensures last_head { OnOk result (self.new.last_head ≡ Some head) }
         ensures root { OnOk result (IsHeadOfAll H.digest self.new.leaves head) }
@@ -82,7 +90,7 @@ impl<H: NodeHash + Drop> Monitor<H> {
     pub fn observe_from(
         &mut self,
         head: Head,
-        new_entries: &mut Vec<Vec<u8>>,
+        new_entries: &mut Vec<Vec<u8, A>, A>,
     ) -> Result<(), MonitorFault>
         ensures leaves { OnOk result (self.new.leaves ≡ self.old.leaves ++ map (λ l. l.items) new_entries.old.items) }
         ensures last_head { OnOk result (self.new.last_head ≡ Some head) }

@@ -4,27 +4,27 @@ ghost use Rattle.ct_tree.specs.Tree.{hash_leaf, mth};
 ghost use Rattle.ct_tree.specs.Stack.{Stands};
 
 use ct_tree::{NodeHash, leaf_hash, root_of_subtrees, with_leaf};
-use std::alloc::AllocError;
+use std::alloc::{AllocError, Allocator, Global};
 use std::marker::Model;
 
 /// A number of leaves, and the roots of their perfect subtrees, largest first: at most 64 hashes. Any number and any
 /// hashes can be handed in, so nothing is known of them by themselves: each contract speaks of every list of leaf hashes
 /// that they stand for. (`ct_tree`'s `Stack` stands for some list at any time, and so can't be made of what was saved.)
 #[derive(Drop)]
-pub struct Peaks {
+pub struct Peaks<A: Allocator = Global> {
     size: u64,
-    subtrees: Vec<[u8; 32]>,
+    subtrees: Vec<[u8; 32], A>,
 }
 
-impl Model for Peaks {
+impl<A: Allocator> Model for Peaks<A> {
     ghost Value = { ℕ × List (List ℕ) };
 
     ghost view = { λ p. (p.size, p.subtrees.items) };
 }
 
-impl Peaks {
+impl<A: Allocator> Peaks<A> {
     /// Those that are handed in. Later growths take memory as `subtrees` does.
-    pub fn from_parts(size: u64, subtrees: Vec<[u8; 32]>) -> Peaks
+    pub fn from_parts(size: u64, subtrees: Vec<[u8; 32], A>) -> Peaks<A>
         ensures { result ≡ (size, subtrees.items) }
     {
         Peaks { size, subtrees }
@@ -42,19 +42,6 @@ impl Peaks {
         ensures { result.now ≡ self.now.1 }
     {
         &self.subtrees
-    }
-
-    /// The same again. Takes memory once.
-    pub fn copied(&self) -> Result<Peaks, AllocError>
-        ensures { IfOk result (λ p. p ≡ self.now) }
-    {
-        let alloc = *self.subtrees.allocator();
-        let mut subtrees = Vec::with_capacity(alloc, self.subtrees.len())?;
-        subtrees.extend_from_slice(&self.subtrees)?;
-        Ok(Peaks {
-            size: self.size,
-            subtrees,
-        })
     }
 
     /// Appends a leaf hash. Hashes as many nodes as the number before it has trailing ones in binary, so less than one
@@ -76,7 +63,11 @@ impl Peaks {
     }
 
     /// Appends the hashes of leaves, in order. Where memory is refused some of them may have been appended.
-    pub fn push_leaves<H: NodeHash>(&mut self, h: &H, leaves: &[Vec<u8>]) -> Result<(), AllocError>
+    pub fn push_leaves<H: NodeHash, L: Allocator>(
+        &mut self,
+        h: &H,
+        leaves: &[Vec<u8, L>],
+    ) -> Result<(), AllocError>
         ensures { OnOk result ((D : List (List ℕ)) → length D + length leaves.now < 2 ^ 64 → Stands H.digest self.old D
             → Stands H.digest self.new (D ++ map (hash_leaf H.digest) (map (λ l. l.items) leaves.now))) }
     {
@@ -93,5 +84,20 @@ impl Peaks {
         ensures { (D : List (List ℕ)) → Stands H.digest self.now D → result ≡ mth H.digest D }
     {
         root_of_subtrees(h, &self.subtrees)
+    }
+}
+
+impl<A: Allocator + Clone> Peaks<A> {
+    /// The same again. Takes memory once.
+    pub fn copied(&self) -> Result<Peaks<A>, AllocError>
+        ensures { IfOk result (λ p. p ≡ self.now) }
+    {
+        let alloc = self.subtrees.allocator().clone()?;
+        let mut subtrees = Vec::with_capacity(alloc, self.subtrees.len())?;
+        subtrees.extend_from_slice(&self.subtrees)?;
+        Ok(Peaks {
+            size: self.size,
+            subtrees,
+        })
     }
 }

@@ -5,7 +5,7 @@ ghost use Rattle.std.specs.Thread.{IsSync};
 ghost use Rattle.ct_tree.specs.Tree.{hash_leaf};
 
 use crate::hash::{NodeHash, leaf_hash, leaf_hash_parts};
-use std::alloc::{AllocError, Global};
+use std::alloc::{AllocError, Allocator};
 use std::thread::{Threads, join_mut};
 
 // A leaf, in whatever form its bytes are held.
@@ -86,13 +86,13 @@ fn hash_among<H: NodeHash + Sync, L: LeafBytes + Sync, R: Threads + Sync>(
 }
 
 // The leaf hashes in order.
-fn hash_all<H: NodeHash + Sync, L: LeafBytes + Sync, R: Threads + Sync>(
+fn hash_all<A: Allocator, H: NodeHash + Sync, L: LeafBytes + Sync, R: Threads + Sync>(
     rt: &R,
-    alloc: Global,
+    alloc: A,
     h: &H,
     leaves: &[L],
     workers: usize,
-) -> Result<Vec<[u8; 32]>, AllocError>
+) -> Result<Vec<[u8; 32], A>, AllocError>
     requires { (0 < workers) × (workers ≤ 64) }
     ensures { IfOk result (λ hashes.
         hashes.items ≡ map (λ leaf. hash_leaf H.digest (L.bytes leaf)) leaves.now) }
@@ -105,13 +105,13 @@ fn hash_all<H: NodeHash + Sync, L: LeafBytes + Sync, R: Threads + Sync>(
 /// The leaf hashes of `leaves` in order (RFC 6962, section 2.1), by 1 to 64 workers. Each worker hashes one contiguous
 /// part, and the lengths of the parts differ by one at most. Where no thread can be started for a worker, its part is
 /// hashed all the same.
-pub fn hash_batch<H: NodeHash + Sync, R: Threads + Sync>(
+pub fn hash_batch<A: Allocator, H: NodeHash + Sync, R: Threads + Sync>(
     rt: &R,
-    alloc: Global,
+    alloc: A,
     h: &H,
     leaves: &[Vec<u8>],
     workers: usize,
-) -> Result<Vec<[u8; 32]>, AllocError>
+) -> Result<Vec<[u8; 32], A>, AllocError>
     requires { (0 < workers) × (workers ≤ 64) }
     ensures { IfOk result (λ hashes.
         hashes.items ≡ map (λ leaf. hash_leaf H.digest leaf.items) leaves.now) }
@@ -120,13 +120,13 @@ pub fn hash_batch<H: NodeHash + Sync, R: Threads + Sync>(
 }
 
 /// What `hash_batch` answers, for leaves whose bytes lie in five parts that follow one another.
-pub fn hash_batch_parts<H: NodeHash + Sync, R: Threads + Sync>(
+pub fn hash_batch_parts<A: Allocator, H: NodeHash + Sync, R: Threads + Sync>(
     rt: &R,
-    alloc: Global,
+    alloc: A,
     h: &H,
     leaves: &[[&[u8]; 5]],
     workers: usize,
-) -> Result<Vec<[u8; 32]>, AllocError>
+) -> Result<Vec<[u8; 32], A>, AllocError>
     requires { (0 < workers) × (workers ≤ 64) }
     ensures { IfOk result (λ hashes.
         hashes.items ≡ map (λ parts. hash_leaf H.digest (flat_map (λ part. part.now) parts)) leaves.now) }

@@ -5,7 +5,7 @@ ghost use Rattle.ct_tree.specs.Tree.{mth, path as path_of, subproof as subproof_
 
 use crate::hash::{NodeHash, empty_root, node_hash};
 use crate::power::largest_power_below;
-use std::alloc::{AllocError, Global};
+use std::alloc::{AllocError, Allocator};
 
 /// MTH of a list of leaf hashes (RFC 6962, section 2.1).
 pub fn root<H: NodeHash>(h: &H, leaves: &[[u8; 32]]) -> [u8; 32]
@@ -24,12 +24,12 @@ pub fn root<H: NodeHash>(h: &H, leaves: &[[u8; 32]]) -> [u8; 32]
 }
 
 /// PATH of the leaf at index `m` (RFC 6962, section 2.1.1): the hash nearest the root comes last.
-pub fn path<H: NodeHash>(
-    alloc: Global,
+pub fn path<A: Allocator, H: NodeHash>(
+    alloc: A,
     h: &H,
     m: usize,
     leaves: &[[u8; 32]],
-) -> Result<Vec<[u8; 32]>, AllocError>
+) -> Result<Vec<[u8; 32], A>, AllocError>
     requires { m < length leaves.now }
     ensures { IfOk result (λ path. path.items ≡ path_of H.digest m leaves.now) }
 {
@@ -50,13 +50,13 @@ pub fn path<H: NodeHash>(
 }
 
 // SUBPROOF (RFC 6962, section 2.1.2), where `is_known` says that the verifier has the root of the first `m` leaves.
-fn subproof<H: NodeHash>(
-    alloc: Global,
+fn subproof<A: Allocator, H: NodeHash>(
+    alloc: A,
     h: &H,
     m: usize,
     leaves: &[[u8; 32]],
     is_known: bool,
-) -> Result<Vec<[u8; 32]>, AllocError>
+) -> Result<Vec<[u8; 32], A>, AllocError>
     requires positive { 0 < m }
     requires within { m ≤ length leaves.now }
     ensures { IfOk result (λ proof. proof.items ≡ subproof_of H.digest m leaves.now is_known) }
@@ -81,12 +81,12 @@ fn subproof<H: NodeHash>(
 }
 
 /// PROOF from the first `m` leaves to all of them (RFC 6962, section 2.1.2): the hash nearest the root comes last.
-pub fn proof<H: NodeHash>(
-    alloc: Global,
+pub fn proof<A: Allocator, H: NodeHash>(
+    alloc: A,
     h: &H,
     m: usize,
     leaves: &[[u8; 32]],
-) -> Result<Vec<[u8; 32]>, AllocError>
+) -> Result<Vec<[u8; 32], A>, AllocError>
     requires positive { 0 < m }
     requires below { m < length leaves.now }
     ensures { IfOk result (λ proof. proof.items ≡ proof_of H.digest m leaves.now) }

@@ -4,7 +4,7 @@ use Rattle.ct_codec.proofs.reading.copy_certificates.Given as goal
 
 -- what was read is the certificates
 abbrev pub invariant-certificates : goal.invariant-certificates
-invariant-certificates l = Walked (map (λ c. c.items) l.certificates.items) l.bytes l.reader
+invariant-certificates g l = Walked (map (λ c. c.items) l.certificates.items) l.bytes l.reader
 
 abbrev pub decreases-certificates : goal.decreases-certificates
-decreases-certificates l = length l.reader
+decreases-certificates g l = length l.reader

@@ -8,13 +8,13 @@ use Rattle.ct_codec.proofs.Again.{pre_chain_left}
 use Rattle.ct_codec.proofs.reading.decode_pre_chain.Goals as goal
 
 pub returns-in_err-first-clause-every : goal.returns-in_err-first-clause-every
-returns-in_err-first-clause-every c d cs text =
+returns-in_err-first-clause-every g c d cs text =
     let met = c.in_err-first.field-0.0 in
     pre_chain_left c.from_residual.result met d cs c.args.bytes.now text c.from_residual.ensures.1
     (before met c.args.bytes.now (rw (← c.new-reader.ensures) c.in_err-first.ensures.fault))
 
 pub returns-in_err-others-clause-every : goal.returns-in_err-others-clause-every
-returns-in_err-others-clause-every c d cs text =
+returns-in_err-others-clause-every g c d cs text =
     let found = c.in_ok-first.ensures.found in
     let met = c.in_err-others.field-0.0 in
     pre_chain_left c.from_residual-in_err-others.result met d cs c.args.bytes.now text c.from_residual-in_err-others.ensures.1
@@ -22,7 +22,7 @@ returns-in_err-others-clause-every c d cs text =
 
 pub returns-in_err-certificates-clause-every :
     goal.returns-in_err-certificates-clause-every
-returns-in_err-certificates-clause-every c d cs text =
+returns-in_err-certificates-clause-every g c d cs text =
     let first = c.in_ok-first.ensures.found in
     let others = c.in_ok-others.ensures.found in
     let met = c.in_err-certificates.field-0.0 in
@@ -32,7 +32,7 @@ returns-in_err-certificates-clause-every c d cs text =
 
 pub returns-in_err-certificates-clause-fault :
     goal.returns-in_err-certificates-clause-fault
-returns-in_err-certificates-clause-fault c =
+returns-in_err-certificates-clause-fault g c =
     let first = c.in_ok-first.ensures.found in
     let others = c.in_ok-others.ensures.found in
     let met = c.in_err-certificates.field-0.0 in
@@ -41,7 +41,7 @@ returns-in_err-certificates-clause-fault c =
     (behind met c.args.bytes.now c.in_ok-first.first.now c.certificate.new.self first.0 (sym c.new-reader.ensures ∙ first.1) stands)
 
 pub returns-clause-every : goal.returns-clause-every
-returns-clause-every c d cs text =
+returns-clause-every g c d cs text =
     let first = c.in_ok-first.ensures.found in
     let others = c.in_ok-others.ensures.found in
     let copied = c.in_ok-certificates.ensures.found in

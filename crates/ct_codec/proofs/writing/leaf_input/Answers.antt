@@ -4,7 +4,7 @@ use Rattle.ct_codec.proofs.Refusals.{leaf_written}
 use Rattle.ct_codec.proofs.writing.leaf_input.Goals as goal
 
 pub returns-clause-text : goal.returns-clause-text
-returns-clause-text c = record {
+returns-clause-text g c = record {
   timestamp = search rules;
   entry = c.in_range.ensures.entry;
   extensions = omega arith;

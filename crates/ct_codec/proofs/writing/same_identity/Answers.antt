@@ -6,7 +6,7 @@ use Rattle.ct_codec.proofs.writing.same_identity.Goals.{then-a_type-b_type, else
 use Rattle.ct_codec.proofs.writing.same_identity.Goals as goal
 
 pub returns-then-eq : goal.returns-then-eq
-returns-then-eq c =
+returns-then-eq g c =
     let a = c.type_and_key_hash-a_type.ensures in
     let b = c.type_and_key_hash-b_type.ensures in
     elim c.if-a_type-b_type.branch [
@@ -23,7 +23,7 @@ returns-then-eq c =
     ]
 
 pub returns-else-eq : goal.returns-else-eq
-returns-else-eq c =
+returns-else-eq g c =
     let a = c.type_and_key_hash-a_type.ensures in
     let b = c.type_and_key_hash-b_type.ensures in
     elim c.if-a_type-b_type.branch [

@@ -1,8 +1,8 @@
-use Rattle.std.proofs.Common.{Vec, Global, ℕ, List, map}
+use Rattle.std.proofs.Common.{Vec, ℕ, List, map}
 use Rattle.std.proofs.lemmas.Result.{err_from_is_err_and}
 use Rattle.ct_monitor.proofs.monitor.Monitor.observe_from.Goals as goal
 
-abbrev bytes : Vec ℕ Global → List ℕ
+abbrev bytes : {A : Type 0} → Vec ℕ A → List ℕ
 bytes l = l.items
 
 pub returns-in_err-longer-clause-refused : goal.returns-in_err-longer-clause-refused
