@@ -1,20 +1,13 @@
 //! The new leaves of a head, behind those that some perfect subtrees stand for.
-ghost use Rattle.std.specs.Prelude.{◌≡◌, ◌↔◌, ◌+◌, ◌<◌, ◌^◌, List, ℕ, ◌++◌, length, map, IfOk, IfErr, IsTrue};
+ghost use Rattle.std.specs.Prelude.{◌≡◌, ◌+◌, ◌<◌, ◌^◌, List, ℕ, ◌++◌, length, map, IfOk, IfErr};
 ghost use Rattle.ct_tree.specs.Stack.{Stands};
 ghost use Rattle.ct_tree.specs.Tree.{hash_leaf, mth_of_leaves};
 ghost use Rattle.ct_monitor.specs.Extended.{IsNoRoot};
 
 use crate::fault::MonitorFault;
 use crate::peaks::Peaks;
-use ct_tree::NodeHash;
+use ct_tree::{NodeHash, is_same_digest};
 use std::alloc::Allocator;
-
-// Whether two roots are equal.
-fn is_same_root(a: &[u8; 32], b: &[u8; 32]) -> bool
-    ensures { IsTrue result ↔ (a.now ≡ b.now) }
-{
-    *a == *b
-}
 
 // The perfect subtrees with new leaves behind those that they stand for, where the root is that of all of them.
 pub(crate) fn extended<A: Allocator + Clone, L: Allocator, H: NodeHash>(
@@ -33,7 +26,7 @@ pub(crate) fn extended<A: Allocator + Clone, L: Allocator, H: NodeHash>(
     let mut longer = peaks.copied()?;
     longer.push_leaves(h, leaves)?;
     let computed = longer.root(h);
-    if is_same_root(&computed, root) {
+    if is_same_digest(&computed, root) {
         Ok(longer)
     } else {
         Err(MonitorFault::RootMismatch)

@@ -1,5 +1,5 @@
 //! The hash function of a tree, and its two uses.
-ghost use Rattle.std.specs.Prelude.{◌≡◌, ◌++◌, ◌∷◌, [], ℕ, List, length};
+ghost use Rattle.std.specs.Prelude.{◌≡◌, ◌↔◌, ◌++◌, ◌∷◌, [], ℕ, List, length, IsTrue};
 ghost use Rattle.std.specs.List.{flat_map};
 ghost use Rattle.sha2.specs.Sha256.{sha256};
 ghost use Rattle.sha2.proofs.Facts256.{length-sha256};
@@ -50,6 +50,13 @@ pub fn node_hash<H: NodeHash>(h: &H, left: &[u8; 32], right: &[u8; 32]) -> [u8; 
     ensures { result ≡ hash_node H.digest left.now right.now }
 {
     h.hash(&[&[1], left, right])
+}
+
+/// Whether two digests are equal.
+pub fn is_same_digest(a: &[u8; 32], b: &[u8; 32]) -> bool
+    ensures { IsTrue result ↔ (a.now ≡ b.now) }
+{
+    *a == *b
 }
 
 /// The root of no leaves: H().

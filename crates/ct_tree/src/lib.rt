@@ -1,7 +1,8 @@
 //! The Merkle tree of RFC 6962, section 2.1: leaf and node hashes, roots, audit paths and consistency proofs.
 //!
 //! - [`NodeHash`] is a hash function with digests of 32 bytes, and [`Sha256Hash`] is SHA-256. Everything else here holds
-//!   for every `NodeHash`. `leaf_hash` and `node_hash` are the tree's two uses of it.
+//!   for every `NodeHash`. `leaf_hash` and `node_hash` are the tree's two uses of it, and
+//!   `is_same_digest` compares two digests.
 //! - [`Stack`] keeps the perfect subtrees of a list of leaves that only grows: enough for its root.
 //!   `with_leaf` and `root_of_subtrees` are its two steps, for who keeps the subtrees elsewhere.
 //! - [`Nodes`] keeps every node of such a tree, and answers the root, the audit paths and the consistency proofs of each
@@ -26,7 +27,7 @@ mod stack;
 mod subtrees;
 
 pub use batch::{hash_batch, hash_batch_parts};
-pub use hash::{NodeHash, Sha256Hash, leaf_hash, leaf_hash_parts, node_hash};
+pub use hash::{NodeHash, Sha256Hash, is_same_digest, leaf_hash, leaf_hash_parts, node_hash};
 pub use head::Head;
 pub use nodes::Nodes;
 pub use power::largest_power_below;

@@ -2,6 +2,8 @@
 ghost use Rattle.std.specs.Prelude.{◌≡◌, ◌↔◌, ℕ, List, length, IsTrue};
 ghost use Rattle.ct_verify.specs.Strings.{children_string};
 
+use ct_tree::is_same_digest;
+
 // The two hashes that are joined under an inner node.
 #[derive(Clone, Copy)]
 pub(crate) struct Children {
@@ -22,7 +24,7 @@ pub(crate) fn is_same(a: &[u8; 32], b: &[u8; 32]) -> bool
     ensures first { length a.now ≡ 32 }
     ensures second { length b.now ≡ 32 }
 {
-    *a == *b
+    is_same_digest(a, b)
 }
 
 // Whether two nodes hash one string.

@@ -1,22 +1,15 @@
 //! Who watches one log.
-ghost use Rattle.std.specs.Prelude.{◌≡◌, ◌⊎◌, ◌↔◌, ◌+◌, ◌-◌, ◌^◌, ◌<◌, ◌≤◌, ℕ, List, map, IfOk, IsTrue, MatchOption, OnErr};
+ghost use Rattle.std.specs.Prelude.{◌≡◌, ◌⊎◌, ◌+◌, ◌-◌, ◌^◌, ◌<◌, ◌≤◌, ℕ, List, map, IfOk, MatchOption, OnErr};
 ghost use Rattle.ct_watch.specs.Watched.{Watched, after_verdict, nothing_seen, read_on, waiting_or};
 ghost use Rattle.ct_watch.specs.Verdicts.{EntriesSay, HeadSays, IsLarger, IsSaid, ProofSays, WaitingSays, after_entries};
 ghost use Rattle.ct_watch.specs.WatcherState.{Keeps, WatcherState};
 
 use crate::verdict::Verdict;
 use ct_monitor::Peaks;
-use ct_tree::{Head, NodeHash};
+use ct_tree::{Head, NodeHash, is_same_digest};
 use ct_verify::verify_consistency;
 use std::alloc::{AllocError, Global};
 use std::marker::Model;
-
-// Whether two roots are equal.
-fn is_same_root(a: &[u8; 32], b: &[u8; 32]) -> bool
-    ensures { IsTrue result ↔ (a.now ≡ b.now) }
-{
-    *a == *b
-}
 
 // What is said of a head beside a known one, unless it has more leaves.
 fn beside(known: Option<Head>, head: &Head) -> Option<Verdict>
@@ -35,7 +28,7 @@ fn beside(known: Option<Head>, head: &Head) -> Option<Verdict>
             Some(Verdict::Shrunk)
         };
     }
-    if is_same_root(&head.root, &known.root) {
+    if is_same_digest(&head.root, &known.root) {
         Some(Verdict::Again)
     } else {
         Some(Verdict::Fork(known))
@@ -160,7 +153,7 @@ impl<H: NodeHash + Drop> Watcher<H> {
             return Ok(Verdict::Pending);
         }
         let computed = all.root(&self.h);
-        if is_same_root(&head.root, &computed) {
+        if is_same_digest(&head.root, &computed) {
             self.sure = all.copied()?;
             self.all = all;
             self.accepted = Some(head);
