@@ -61,7 +61,7 @@ pub fn leaf_parts<S: Allocator>(submission: &Submission<S>, timestamp: u64) -> L
 }
 
 // Five slices side by side.
-fn five<'a>(a: &'a [u8], b: &'a [u8], c: &'a [u8], d: &'a [u8], e: &'a [u8]) -> [&'a [u8]; 5]
+fn five_slices<'a>(a: &'a [u8], b: &'a [u8], c: &'a [u8], d: &'a [u8], e: &'a [u8]) -> [&'a [u8]; 5]
     ensures { map (λ p. p.now) result ≡ a.now ∷ b.now ∷ c.now ∷ d.now ∷ e.now ∷ [] }
 {
     [a, b, c, d, e]
@@ -73,7 +73,7 @@ impl<'a> LeafParts<'a> {
     pub fn parts(&self) -> [&[u8]; 5]
         ensures { map (λ p. p.now) result ≡ self.now }
     {
-        five(
+        five_slices(
             &self.head,
             self.key_hash,
             &self.size,

@@ -9,10 +9,8 @@ use lib.ListN.{get_elem?}
 use Rattle.atomic_table.specs.Table.{State, Joins, Seen}
 use Rattle.atomic_table.proofs.Lists.{at_set}
 use Rattle.ct_codec.specs.Items.{times, EachOnceBelow, Rises, Tickets, tickets_of}
-use Rattle.ct_gate.specs.declared.view.FrontTickets.{FrontTickets}
-use Rattle.ct_gate.specs.declared.view.SeatView.{SeatView}
 use Rattle.ct_gate.specs.Ends.{IntakeView}
-use Rattle.ct_gate.specs.Seats.{tickets_in, fronts_in}
+use Rattle.ct_gate.specs.Seats.{FrontTickets, SeatView, tickets_in, fronts_in}
 use Rattle.ct_gate.specs.Word.{HasTickets, IsSound, IsOpen, IsShut, GateHolds}
 use Rattle.ct_gate.specs.Closing.{gathered, spent, front_tickets}
 use Rattle.ct_gate.proofs.Counts.{off, times-append, times_set, refused_set, each_set, length_once}

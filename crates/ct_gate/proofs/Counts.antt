@@ -4,10 +4,8 @@ use Rattle.std.proofs.lemmas.Bool.Decides.{nat_tests}
 use mathlib.Core.Option.{some, some-ne-none, some-injective}
 use lib.ListN.{get_elem?}
 use Rattle.atomic_table.proofs.Lists.{at_set, at_snoc}
-use Rattle.ct_gate.specs.declared.view.FrontTickets.{FrontTickets}
-use Rattle.ct_gate.specs.declared.view.SeatView.{SeatView}
 use Rattle.ct_codec.specs.Items.{times, EachOnceBelow}
-use Rattle.ct_gate.specs.Seats.{EachView, refused_draws, tickets_in, fronts_in}
+use Rattle.ct_gate.specs.Seats.{FrontTickets, SeatView, EachView, refused_draws, tickets_in, fronts_in}
 use Rattle.ct_gate.specs.Word.{HasTickets, IsSound}
 use Rattle.std.proofs.lemmas.List.{length-map}
 

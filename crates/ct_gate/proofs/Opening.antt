@@ -7,10 +7,8 @@ use Rattle.atomic_table.specs.Seated.{TableId}
 use mathlib.Core.Option.{some-ne-none, some-injective}
 use Rattle.atomic_table.specs.Table.{Me, Splits, opening}
 use Rattle.ct_codec.specs.Items.{times}
-use Rattle.ct_gate.specs.declared.view.FrontTickets.{FrontTickets}
-use Rattle.ct_gate.specs.declared.view.SeatView.{SeatView}
 use Rattle.ct_gate.specs.Ends.{IntakeView, OutletView}
-use Rattle.ct_gate.specs.Seats.{EachView, tickets_in, fronts_in, front_view, shutter_view}
+use Rattle.ct_gate.specs.Seats.{FrontTickets, SeatView, EachView, tickets_in, fronts_in, front_view, shutter_view}
 use Rattle.ct_gate.specs.Word.{HasTickets, IsSound, IsOpen, IsShut, GateHolds}
 use Rattle.ct_gate.specs.Opening.{stands_for, new_fronts, all_in_one, rest_of, first_seat, without_first, first_alone, IsNewFront, AreNewFronts}
 use Rattle.ct_gate.proofs.Counts.{off, times-append, times_set, times_snoc, each_set, each_snoc, below_more}

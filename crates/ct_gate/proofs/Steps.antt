@@ -9,8 +9,7 @@ use mathlib.Core.Option.{Option as Maybe, none, some}
 use lib.ListN.{get_elem?}
 use Rattle.atomic_table.specs.Table.{State, Me, keeps, step, Allows}
 use Rattle.ct_codec.specs.Items.{times, EachOnceBelow, Rises}
-use Rattle.ct_gate.specs.declared.view.SeatView.{SeatView}
-use Rattle.ct_gate.specs.Seats.{refused_draws, tickets_in, fronts_in, front_view, shutter_view}
+use Rattle.ct_gate.specs.Seats.{SeatView, refused_draws, tickets_in, fronts_in, front_view, shutter_view}
 use Rattle.ct_gate.specs.Word.{HasTickets, IsSound, IsOpen, IsShut, GateHolds}
 use Rattle.ct_gate.specs.Steps.{Draws, Glances, Shuts, after_shut}
 use Rattle.ct_gate.proofs.Counts.{off, times-append, times_set, times_within, times_there, refused_set, each_set, length_once, member_below, tickets_bound, refused_bound, view_bound, view_refused, below_more}

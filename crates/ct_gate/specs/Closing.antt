@@ -1,8 +1,7 @@
 -- The end of a gate. The shutter's seat takes in each front's, so that one view has all tickets.
 use Rattle.std.specs.Prelude.{◌+◌, false, ◌||◌, ◌++◌, []}
 use Rattle.ct_codec.specs.Items.{tickets_of}
-use Rattle.ct_gate.specs.declared.view.FrontTickets.{FrontTickets}
-use Rattle.ct_gate.specs.declared.view.SeatView.{SeatView}
+use Rattle.ct_gate.specs.Seats.{FrontTickets, SeatView}
 use Rattle.ct_gate.specs.Ends.{IntakeView}
 use Rattle.ct_gate.specs.Opening.{stands_for}
 

@@ -1,8 +1,7 @@
 -- A new gate. One seat stands for all fronts at first, and each front in turn is split off into a seat of its own.
 use Rattle.std.specs.Prelude.{◌≡◌, ℕ, zero, suc, ◌+◌, Bool, true, false, List, [], ◌∷◌, length, slice_get, None, Some}
 use Rattle.atomic_table.specs.Seated.{TableId}
-use Rattle.ct_gate.specs.declared.view.FrontTickets.{FrontTickets}
-use Rattle.ct_gate.specs.declared.view.SeatView.{SeatView}
+use Rattle.ct_gate.specs.Seats.{FrontTickets, SeatView}
 use Rattle.ct_gate.specs.Ends.{IntakeView, OutletView, AreEnds}
 
 -- n fronts without tickets, from the k-th on

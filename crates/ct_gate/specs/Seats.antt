@@ -2,7 +2,20 @@
 use Rattle.std.specs.Prelude.{◌≡◌, ℕ, ◌+◌, Bool, true, false, List, [], ◌∷◌, map, flat_map, Option, None}
 use mathlib.Core.Option.{some}
 use lib.ListN.{get_elem?}
-use Rattle.ct_gate.specs.declared.view.SeatView.{SeatView}
+
+-- a front's number, and the tickets that were drawn for it, in order
+pub record FrontTickets : Type 0 where
+  pub front : ℕ
+  pub tickets : List ℕ
+
+-- what a seat knows: the fronts that it stands for, whether it knows of the shutdown, how many refused draws it made, whether it is
+-- the shutter's, and how many submissions were accepted, once the gate was shut by it
+pub record SeatView : Type 0 where
+  pub fronts : List FrontTickets
+  pub knows_shutdown : Bool
+  pub refused : ℕ
+  pub is_shutter : Bool
+  pub accepted : Option ℕ
 
 -- the numbers of the fronts that the view stands for
 abbrev pub fronts_in : SeatView → List ℕ
@@ -35,3 +48,7 @@ front_view number tickets knows_shutdown refused =
 -- of the shutter's seat
 abbrev pub shutter_view : Option ℕ → SeatView
 shutter_view accepted = record { fronts = []; knows_shutdown = false; refused = 0; is_shutter = true; accepted = accepted }
+
+-- of a seat that stands for nothing
+abbrev pub nothing_known : SeatView
+nothing_known = record { fronts = []; knows_shutdown = false; refused = 0; is_shutter = false; accepted = None }

@@ -1,8 +1,7 @@
 -- The steps on the gate word, and what each tells the seat that makes it.
 use Rattle.std.specs.Prelude.{◌≡◌, ℕ, ◌+◌, ◌^◌, ◌<◌, ◌≤◌, true, List, [], ◌∷◌, ◌++◌, Some}
 use Rattle.atomic_table.specs.Table.{Me, Step}
-use Rattle.ct_gate.specs.declared.view.FrontTickets.{FrontTickets}
-use Rattle.ct_gate.specs.declared.view.SeatView.{SeatView}
+use Rattle.ct_gate.specs.Seats.{FrontTickets, SeatView}
 
 -- the first front has one ticket more
 abbrev pub with_ticket : ℕ → List FrontTickets → List FrontTickets

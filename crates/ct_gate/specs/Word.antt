@@ -2,9 +2,7 @@
 use Rattle.std.specs.Prelude.{◌≡◌, ℕ, ◌+◌, ◌^◌, ◌<◌, ◌≤◌, ◌⊎◌, true, false, List, [], ◌∷◌, length, All, flat_map, Some, None}
 use Rattle.atomic_table.specs.Table.{State}
 use Rattle.ct_codec.specs.Items.{EachOnceBelow, Rises}
-use Rattle.ct_gate.specs.declared.view.FrontTickets.{FrontTickets}
-use Rattle.ct_gate.specs.declared.view.SeatView.{SeatView}
-use Rattle.ct_gate.specs.Seats.{fronts_in, tickets_in, refused_draws, EachView}
+use Rattle.ct_gate.specs.Seats.{FrontTickets, SeatView, fronts_in, tickets_in, refused_draws, EachView}
 
 -- the tickets of one front rise, and are 2 ^ 32 at most
 abbrev pub HasTickets : FrontTickets → Type 0

@@ -1,6 +1,6 @@
 //! The gate word: its rule, and what each kind of step on it tells.
 
-use crate::view::SeatView;
+use crate::view::Knowledge;
 use atomic_table::{Join, Play, Seat, Split, Table, TableRule};
 use std::alloc::Global;
 
@@ -8,15 +8,15 @@ use std::alloc::Global;
 pub const SHUTDOWN: u64 = 1 << 63;
 
 /// The table with the one word. Its key is the number of fronts.
-pub type Gate = Table<(), SeatView, u64, GateRule, Global>;
+pub type Gate = Table<(), Knowledge, u64, GateRule, Global>;
 
 /// A seat at the gate word.
-pub type Place = Seat<(), SeatView>;
+pub type Place = Seat<(), Knowledge>;
 
 /// The rule of the gate word.
 pub struct GateRule;
 
-impl TableRule<(), SeatView, u64> for GateRule {
+impl TableRule<(), Knowledge, u64> for GateRule {
     ghost use Rattle.ct_gate.specs.Word.{GateHolds};
     ghost use Rattle.ct_gate.specs.Opening.{all_in_one};
 
@@ -28,7 +28,7 @@ impl TableRule<(), SeatView, u64> for GateRule {
 /// A draw: one is added to the word. Bit 63 says whether it is refused.
 pub struct Draw;
 
-impl Play<(), SeatView> for Draw {
+impl Play<(), Knowledge> for Draw {
     ghost use Rattle.ct_gate.specs.Steps.{Draws};
 
     ghost then = { Draws };
@@ -37,7 +37,7 @@ impl Play<(), SeatView> for Draw {
 /// A glance: the word is read.
 pub struct Glance;
 
-impl Play<(), SeatView> for Glance {
+impl Play<(), Knowledge> for Glance {
     ghost use Rattle.ct_gate.specs.Steps.{Glances};
 
     ghost then = { Glances };
@@ -46,7 +46,7 @@ impl Play<(), SeatView> for Glance {
 /// The shutdown: bit 63 is set.
 pub struct Shut;
 
-impl Play<(), SeatView> for Shut {
+impl Play<(), Knowledge> for Shut {
     ghost use Rattle.ct_gate.specs.Steps.{Shuts};
 
     ghost then = { Shuts };
@@ -55,7 +55,7 @@ impl Play<(), SeatView> for Shut {
 /// The first front of a view gets a seat of its own.
 pub struct Deal;
 
-impl Split<SeatView> for Deal {
+impl Split<Knowledge> for Deal {
     ghost use Rattle.ct_gate.specs.Opening.{rest_of, first_seat};
 
     ghost left = { rest_of };
@@ -66,7 +66,7 @@ impl Split<SeatView> for Deal {
 /// A view takes in another's fronts.
 pub struct Gather;
 
-impl Join<SeatView> for Gather {
+impl Join<Knowledge> for Gather {
     ghost use Rattle.ct_gate.specs.Closing.{gathered, spent};
 
     ghost both = { gathered };

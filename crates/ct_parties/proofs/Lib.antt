@@ -7,6 +7,7 @@ pub mod TurnLemmas
 pub mod OperatorLemmas
 pub mod FrontLemmas
 pub mod PartyLemmas
+pub mod OrderLemmas
 pub mod ShiftLemmas
 pub mod HouseLemmas
 pub mod OutputLemmas

@@ -10,7 +10,6 @@ use Rattle.ct_core.specs.Core.{clock_of}
 use Rattle.ct_core.specs.Settlement.{Log}
 use Rattle.ct_gate.specs.Ends.{IntakeView, SameIntake}
 use Rattle.ct_house.specs.House.{FrontView, HouseState, SettlesMore, AreInOrder, IsAllSettled, IsOfHouse, drained_lane}
-use Rattle.ct_house.proofs.SequencerLemmas.{order_at, order_count}
 use Rattle.ct_parties.specs.Parties.{AreFrontsOf, AreSame, DoesShift, Parties, fronts_of}
 use Rattle.ct_parties.specs.Shifts.{DoShifts, EndsShift, IsEndRefused, IsShiftFault, Succeeds}
 use Rattle.ct_parties.specs.declared.fault.Fault.{Fault}
@@ -18,6 +17,7 @@ use Rattle.ct_parties.specs.declared.party.FrontParty.{FrontParty}
 use Rattle.ct_parties.specs.declared.party.Shift.{Shift}
 use Rattle.ct_parties.specs.declared.party.Work.{Work}
 use Rattle.ct_parties.proofs.OperatorLemmas.{settles_both, settles_none}
+use Rattle.ct_parties.proofs.OrderLemmas.{order_at, order_count}
 use Rattle.ct_parties.proofs.PartyLemmas.{fronts_kept, shift_same}
 
 -- ---- front after front

@@ -3,7 +3,7 @@ use Rattle.std.specs.Vec.Iter.{into_iter_items}
 use Rattle.std.specs.Slots.{slots_len}
 use Rattle.std.proofs.lemmas.List.{length-map, nil_from_length}
 use Rattle.std.proofs.lemmas.List.FromFn.{length-range_with_len}
-use Rattle.ct_gate.specs.declared.view.FrontTickets.{FrontTickets}
+use Rattle.ct_gate.specs.Seats.{FrontTickets}
 use Rattle.ct_gate.specs.Closing.{front_tickets}
 use Rattle.ct_gate.proofs.Closing.{all_rest, ends, all_tickets}
 use Rattle.ct_gate.proofs.close.close_gate.Goals as goal
