@@ -21,7 +21,7 @@ ANGLE = r"<(?:[^()=<>{};]|->|<(?:[^()=<>{};]|<[^()=<>{};]*>)*>)*"
 BEFORE = re.compile(rf"(?:\blet\b[^=]*|\b(?:const|static)\s+\w+:[^=]*|->[^{{;=]*|{ANGLE}|\btype\s[^;]*|[!=]= (?:\w+::)*)$")
 BEHIND = re.compile(r"^(?:\([^()]*\)|\{[^{}]*\})?\s*[)}]*\s*(?:if\b[^=]*)?(?:\|(?!\|)|=>)|^>")
 # The library for C, and its number.
-NUMBERED, NUMBER = "wagtenib", re.compile(r"(?<!; )\b8\b")
+NUMBERED, NUMBER = "wagtenib", re.compile(r"(?<!; )\b8(?:_?[iu](?:\d+|size))?\b")
 # A growth by all places that there are, and the one file that may ask for it.
 GROWTH = re.compile(r"\b(?:with_capacity|with_capacity_in|reserve|reserve_exact|try_reserve|try_reserve_exact|resize)\s*\(|\bvec!\s*\[")
 MOST, COUNT = re.compile(r"\b(?:usize|isize|u64|i64)::MAX\b"), "shared_list/src/count.rt"
@@ -127,6 +127,7 @@ places.reserve(usize::MAX - places.len())?;
 let room = vec![in alloc; 0u8; usize::MAX]?;
 std::mem::forget(value);
 Err(_) => 8,
+Err(_) => 8_u32,
 return 8;
 const MEMORY: u32 = 8;
 impl From<ReadFault> for Fault { fn from(fault: ReadFault) -> Fault { Fault::Memory } }"""
