@@ -3,8 +3,11 @@
 
 No contract can say that an allocator refused. So in the sources of every crate but those of tests: an expression that names want of
 memory (the case `Memory` of an enum, or std's `AllocError`) stands only inside an `impl From<AllocError> for ..`, which turns a refused growth
-into an error, or a conversion that passes on an error which tells of one; everywhere else it comes by `?`. And none names `forget`, `leak` or `ManuallyDrop`. Types, imports and patterns may name
-them. The script prints each place that breaks this, and ends with status 1 where there is one.
+into an error, or a conversion that passes on an error which tells of one; everywhere else it comes by `?`. Types (in the body of a struct or an
+enum, a signature, an `impl`'s head, behind `let x:` or in angle brackets), imports and patterns may name it. The library for C has a number for
+it, 8, which stands only behind a pattern that names it. No growth is asked for that no machine has room for (`usize::MAX` places), but in
+shared_list/src/count.rt, behind the last number. And none names `forget`, `leak` or `ManuallyDrop`. The script prints each place that breaks
+this, and ends with status 1 where there is one. Before that it tries itself on lines of its own, wrong ones and right ones.
 """
 import re
 import sys
@@ -14,8 +17,14 @@ from source import blanked, closing, crates, is_for_tests, line_of, sources, wit
 NAMES = re.compile(r"\b(?:Memory|OutOfMemory|AllocError|AllocFailed)\b")
 KEPT = re.compile(r"\b(?:forget|leak|ManuallyDrop)\b")
 # Where a name is no expression: what stands before it in its line, and what stands behind it.
-BEFORE = re.compile(r"(?:\b(?:if|while) let\b[^=]*|\blet\b[^=]*\bErr\([^=]*|\bmatches!\([^()]*(?:\([^()]*\))*[^()]*,[^=]*|->[^{]*|:\s[^=]*|<[^()=]*|\btype\b.*|[!=]= (?:\w+::)*|^\s*(?:pub\s+)?use\b.*)$")
-BEHIND = re.compile(r"^(?:\([^()]*\)|\{[^{}]*\})?\s*\)*\s*(?:if\b[^=]*)?(?:\||=>)|^>")
+ANGLE = r"<(?:[^()=<>{};]|->|<(?:[^()=<>{};]|<[^()=<>{};]*>)*>)*"
+BEFORE = re.compile(rf"(?:\blet\b[^=]*|\b(?:const|static)\s+\w+:[^=]*|->[^{{;=]*|{ANGLE}|\btype\s[^;]*|[!=]= (?:\w+::)*)$")
+BEHIND = re.compile(r"^(?:\([^()]*\)|\{[^{}]*\})?\s*[)}]*\s*(?:if\b[^=]*)?(?:\|(?!\|)|=>)|^>")
+# The library for C, and its number.
+NUMBERED, NUMBER = "wagtenib", re.compile(r"(?<!; )\b8(?:_?[iu](?:\d+|size))?\b")
+# A growth by all places that there are, and the one file that may ask for it.
+GROWTH = re.compile(r"\b(?:with_capacity|with_capacity_in|reserve|reserve_exact|try_reserve|try_reserve_exact|resize)\s*\(|\bvec!\s*\[")
+MOST, COUNT = re.compile(r"\b(?:usize|isize|u64|i64)::MAX\b"), "shared_list/src/count.rt"
 
 
 def blocks(text, pattern):
@@ -39,13 +48,31 @@ def tells_of_a_refusal(text, start, end):
     return bool(held or told or ".is_memory()" in text[start:end])
 
 
-def made_up(text):
+def declared(text):
+    """The places of types: bodies of structs and enums, signatures of functions, heads of `impl`s."""
+    for found in re.finditer(r"\b(?:struct|enum)\s+\w[^;{]*[;{]", text):
+        yield found.start(), closing(text, found.end() - 1) if text[found.end() - 1] == "{" else found.end()
+    for found in re.finditer(r"\bfn\s+\w(?:[^;{\[]|\[[^\]]*\])*[;{]|\bimpl\b[^;{]*\{", text):
+        yield found.span()
+
+
+def asked(text):
+    """The places of the patterns of `matches!`."""
+    for found in re.finditer(r"\bmatches!\s*\(", text):
+        end = closing(text, found.end() - 1)
+        at = found.end()
+        while at < end and text[at] != ",":
+            at = closing(text, at) if text[at] in "([{" else at + 1
+        yield at, end
+
+
+def named_in_expressions(text):
     """The places of expressions that name want of memory."""
     conversions = blocks(text, r"\bimpl(?:<[^{]*?>)? From<")
-    allowed = [block for block in conversions if tells_of_a_refusal(text, *block)] + list(blocks(text, r"\benum\b"))
-    imports = [found.span() for found in re.finditer(r"\buse [^;]*;", text)]
+    allowed = [block for block in conversions if tells_of_a_refusal(text, *block)] + list(declared(text)) + list(asked(text))
+    allowed += [found.span() for found in re.finditer(r"\buse [^;]*;", text)]
     for found in NAMES.finditer(text):
-        if any(start <= found.start() < end for start, end in allowed + imports):
+        if any(start <= found.start() < end for start, end in allowed):
             continue
         line_start = text.rfind("\n", 0, found.start()) + 1
         line_end = text.find("\n", found.end())
@@ -55,20 +82,107 @@ def made_up(text):
         yield found.start()
 
 
+def numbers(text):
+    """The places of the library's number for want of memory, where no pattern before it names it."""
+    for found in NUMBER.finditer(text):
+        arm = re.search(r"([^\n]*)=>\s*$", text[: found.start()])
+        if not (arm and NAMES.search(arm.group(1))):
+            yield found.start()
+
+
+def growths(text):
+    """The places of growths that no machine has room for."""
+    for found in GROWTH.finditer(text):
+        if MOST.search(text, found.end(), closing(text, found.end() - 1)):
+            yield found.start()
+
+
+def made_up(text, crate, path):
+    """The places of a source at which want of memory is made up, or a value is kept from being let go."""
+    text = without_clauses(blanked(text))
+    found = set(named_in_expressions(text)) | {hit.start() for hit in KEPT.finditer(text)}
+    if crate == NUMBERED:
+        found |= set(numbers(text))
+    if not path.endswith(COUNT):
+        found |= set(growths(text))
+    return sorted(found)
+
+
+# Lines of which each names want of memory where it mustn't, and lines that may stand.
+WRONG = """return Err(ServeFault::from(GrowthRefused { count, error: AllocError }));
+let t = Told { answer: Err(AllocError) };
+let told = Told::<u8>::Memory(1);
+let e: Result<(), AllocError> = Err(AllocError);
+const NONE: Result<(), AllocError> = Err(AllocError);
+fn f() -> Result<u8, AllocError> { Err(AllocError) }
+if count < most { Fault::Memory } else { Fault::Read }
+if matches!(answer, Some(_)) { return Err(Fault::Memory); }
+if matches!(told(Err(AllocError)), Some(_)) { return Ok(()); }
+Err(_) => Err(Fault::Memory),
+Err(Fault::Read) => Fault::Memory,
+Fault::Memory
+return is_full || refuses(Fault::Memory) || is_shut;
+let room: Vec<u8> = Vec::with_capacity(alloc, usize::MAX)?;
+places.reserve(usize::MAX - places.len())?;
+let room = vec![in alloc; 0u8; usize::MAX]?;
+std::mem::forget(value);
+Err(_) => 8,
+Err(_) => 8_u32,
+return 8;
+const MEMORY: u32 = 8;
+impl From<ReadFault> for Fault { fn from(fault: ReadFault) -> Fault { Fault::Memory } }"""
+RIGHT = """impl From<AllocError> for Fault { fn from(_e: AllocError) -> Fault { Fault::Memory } }
+impl From<Held> for Fault { fn from(held: Held) -> Fault { match held { Held::Memory => Fault::Memory, Held::Read => Fault::Read } } }
+struct Refused { count: u64, error: AllocError }
+struct Refused(AllocError);
+enum Fault { Read, Memory }
+fn f(alloc: Global, error: AllocError) -> Result<Vec<Vec<u8>>, AllocError> {
+fn f<F: Fn(u8) -> Result<u8, AllocError>>(f: F, bytes: [u8; 3]) -> Result<u8, AllocError>;
+let answer: Result<u8, AllocError> = call();
+let answer = call().map_err(|e: AllocError| Fault::from(e));
+let Err(AllocError) = answer else {
+if let Err(Fault::Memory) = answer {
+Err(Fault::Memory) => again(),
+Fault::Memory | Fault::Read => again(),
+Err(Told { error: AllocError }) => again(),
+if fault == Fault::Memory {
+let is_refused = matches!(answer, Err(Fault::Memory));
+let answers = Vec::<Result<u8, AllocError>>::new(alloc);
+type Answer = Result<u8, AllocError>;
+use std::alloc::{AllocError, Global};
+let room: Vec<u8> = Vec::with_capacity(alloc, len)?;
+Err(AllocError) => 8,
+DecodeFault::Memory => 8,
+let eight = [0u8; 8];"""
+
+
+def try_itself():
+    """Judges the lines above, each as a source of its own."""
+    missed = [line for line in WRONG.splitlines() if not made_up(line + "\n", NUMBERED, "lines")]
+    missed += [line for line in RIGHT.splitlines() if made_up(f"{line}{closers(line)}\n", NUMBERED, "lines")]
+    if missed:
+        sys.exit("checks/want_of_memory.py judges lines of its own wrongly:\n" + "\n".join(missed))
+
+
+def closers(line):
+    """What closes the braces that a line leaves open."""
+    return " }" * (line.count("{") - line.count("}"))
+
+
 def main():
+    try_itself()
     places = []
     for crate in crates():
         if is_for_tests(crate):
             continue
         for path in sources(crate):
-            text = without_clauses(blanked(path.read_text()))
-            found = sorted(set(made_up(text)) | {hit.start() for hit in KEPT.finditer(text)})
-            lines = path.read_text().splitlines()
-            places += [f"{path.relative_to(path.parents[3])}:{line_of(text, at)}: {lines[line_of(text, at) - 1].strip()}" for at in found]
+            text, name = path.read_text(), str(path.relative_to(path.parents[3]))
+            lines = text.splitlines()
+            places += [f"{name}:{line_of(text, at)}: {lines[line_of(text, at) - 1].strip()}" for at in made_up(text, crate, name)]
     for place in places:
         print(place)
     if places:
-        print(f"{len(places)} places name want of memory where no refused growth is converted, or keep a value from being let go")
+        print(f"{len(places)} places make up want of memory, where no refused growth is converted, or keep a value from being let go")
         sys.exit(1)
 
 

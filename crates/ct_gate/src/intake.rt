@@ -101,8 +101,8 @@ impl Intake {
     /// for nobody.
     ///
     /// The refusals, in order: `Shutdown` where a glance at the gate word, or an earlier refused draw, showed the
-    /// shutdown; `FrontSpent` where 2^32 submissions of this front were accepted; `Full` where no free place of the
-    /// ring was known and one look showed none. Then one draw is made, which is `Shutdown` too where the gate was shut in between.
+    /// shutdown; `FrontSpent` where 2^32 submissions of this front were accepted; `Full` where no free place of the ring is known
+    /// before the call and after it (that it looks is tested). Then one draw is made, which is `Shutdown` too where the gate was shut in between.
     pub fn send(&mut self, submission: Submission) -> Result<u64, (Refusal, Submission)>
         ensures same { SameIntake self.old self.new }
         ensures shutdown { self.old.knows_shutdown ≡ true → self.new.knows_shutdown ≡ true }

@@ -37,8 +37,8 @@ impl Model for Outlet {
 impl Outlet {
     /// The next item of the front, where one is seen. It takes no memory and waits for nobody.
     ///
-    /// `None` where no item was in sight and one look into the ring showed none. It says nothing of what the front has
-    /// sent: an item may come into sight later.
+    /// `None` where no item is in sight before the call and after it (that it looks into the ring is tested). It says
+    /// nothing of what the front has sent: an item may come into sight later.
     pub fn take(&mut self) -> Option<Item>
         ensures same { SameOutlet self.old self.new }
         ensures next { MatchOption result

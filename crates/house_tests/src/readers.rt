@@ -76,6 +76,25 @@ fn three_thousand_leaves_and_three_hundred_heads(rt: HostRuntime) -> Result<(), 
     )
 }
 
+// The root is that of 11,000 leaves: the certificates are the two bytes of 0, of 1 and so on, ten at each of the moments 1 to 1,100.
+#[test]
+fn eleven_thousand_leaves_and_eleven_hundred_heads(rt: HostRuntime) -> Result<(), Fail> {
+    follows(
+        &rt,
+        rt.alloc(),
+        16,
+        0,
+        "grow-by-tens 1100 -> 11000
+        size 0 -> 11000
+        ask 0 entries 10990 99999 -> 10
+        proof-length 1230 11000 -> 14
+        proof-length 10010 11000 -> 13
+        proof-length 10014 11000 -> UnknownSize
+        submit 1 00 -> 11000
+        ask 1 sth -> 11000 1100 b5deed74caa519df4ba1dc36bf3def5455ce22b1b3e462e7c7141cc74b59ef09",
+    )
+}
+
 // The head that each of these fronts sees.
 fn heads_seen(alloc: Global, fronts: &mut [Front]) -> Result<Vec<Head>, Refusal> {
     let mut heads = Vec::new(alloc);

@@ -84,6 +84,6 @@ pub extern "C" fn wagtenib_root(alloc: Global, leaf_hashes: &[[u8; 32]], out: &m
             *out = root;
             0
         }
-        Err(_) => 8,
+        Err(AllocError) => 8,
     }
 }
