@@ -167,19 +167,52 @@ impl Shown for Padding<'_> {
     }
 }
 
-// The longest line that is a request, the longest one that is no JSON and a question behind it, and longer ones.
+// The longest line that is a request, the longest one that is no JSON and a question behind it, and longer ones, one of 9 MB.
 #[test]
 fn long_lines(rt: HostRuntime) -> Result<(), Fail> {
     let rows =
         r#"1048576 - {"who":"frozen","op":"get-sth"} => {"sha256_root_hash":"47DEQpj8HBSa+/TImW+5JCeuQeRkm5NMpJWZG3hSuFU=","timestamp":7,"tree_size":0}|
 1048576 |{"who":"frozen","op":"get-sth"}| {"who": => {"error":"bad-line"}|{"sha256_root_hash":"47DEQpj8HBSa+/TImW+5JCeuQeRkm5NMpJWZG3hSuFU=","timestamp":7,"tree_size":0}|
 1048577 - {"who":"frozen","op":"get-sth"} => {"error":"bad-line"}|
+9000000 |{"who":"frozen","op":"get-sth"}| {"who":"frozen","op":"get-sth"} => {"error":"bad-line"}|{"sha256_root_hash":"47DEQpj8HBSa+/TImW+5JCeuQeRkm5NMpJWZG3hSuFU=","timestamp":7,"tree_size":0}|
 1048599 |{}||[] {"who":"frozen","op":"get-sth"} => {"error":"bad-line"}|{"error":"bad-line"}|{"error":"bad-line"}|"#;
     let log = closed_log(&rt, 0, 0, 7)?;
     let mut padding = Padding {
         log: log.published(),
     };
-    assert!(rt; right_rows(&rt, &mut padding, rows) == 4);
+    assert!(rt; right_rows(&rt, &mut padding, rows) == 5);
+    Ok(())
+}
+
+// This line so often, and another behind it.
+fn repeated(rt: &HostRuntime, line: &[u8], count: u32, last: &[u8]) -> Result<Vec<u8>, Refusal> {
+    let mut bytes = Vec::new(rt.alloc());
+    for _ in 0..count {
+        bytes.extend_from_slice(line)?;
+    }
+    bytes.extend_from_slice(last)?;
+    Ok(bytes)
+}
+
+// Whether a log of no leaves answers each of so many questions of a thousand bytes, and a line behind them.
+fn are_questions_answered(rt: &HostRuntime, count: u32) -> Result<bool, Refusal> {
+    let question = padded(
+        rt,
+        b"{\"who\":\"frozen\",\"op\":\"receipt\",\"ticket\":0}",
+        999,
+        b"\n",
+    )?;
+    let lines = repeated(rt, &question, count, b"{}\n")?;
+    let reply = b"{\"error\":\"not-yet\"}\n";
+    let replies = repeated(rt, reply, count, b"{\"error\":\"bad-line\"}\n")?;
+    let log = closed_log(rt, 0, 0, 7)?;
+    Ok(writes(rt, log.published(), &lines, &replies))
+}
+
+// 9,000,003 bytes of input.
+#[test]
+fn nine_thousand_questions(rt: HostRuntime) -> Result<(), Fail> {
+    assert!(rt; are_questions_answered(&rt, 9_000)?);
     Ok(())
 }
 

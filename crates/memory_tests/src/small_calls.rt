@@ -157,6 +157,7 @@ fn a_monitor_takes_three_heads(rt: HostRuntime) -> Result<(), Fail> {
     refused.say(&rt)
 }
 
+// Whether these two strings are the answer. Another answer to compare it with would take memory, which is refused here in turn.
 fn is_collision_of(answer: &Result<Evidence, EvidenceFault>, first: &[u8], second: &[u8]) -> bool {
     match answer {
         Ok(Evidence::Collision(a, b)) => a.as_slice() == first && b.as_slice() == second,

@@ -28,13 +28,6 @@ fn hashes_of<H: NodeHash>(
     Ok(hashes)
 }
 
-fn is_collision_of(answer: &Result<Evidence, EvidenceFault>, first: &[u8], second: &[u8]) -> bool {
-    match answer {
-        Ok(Evidence::Collision(a, b)) => a.as_slice() == first && b.as_slice() == second,
-        _ => false,
-    }
-}
-
 // Whether the answer is two different strings with one hash.
 fn is_true_collision<H: NodeHash>(h: &H, answer: &Result<Evidence, EvidenceFault>) -> bool {
     match answer {
@@ -194,7 +187,8 @@ impl Listed {
         let index = m as u64;
         let true_path = explain_inclusion(alloc, &ZeroHash, &self.leaves, leaf, index, path);
         let other_leaf = explain_inclusion(alloc, &ZeroHash, &self.leaves, &[7, 7], index, path);
-        Ok(true_path == Ok(Evidence::Holds) && is_collision_of(&other_leaf, &[0, 7, 7], &listed))
+        let collision = Ok(Evidence::Collision(Vec::from_slice(alloc, &[0, 7, 7])?, listed));
+        Ok(true_path == Ok(Evidence::Holds) && other_leaf == collision)
     }
 }
 

@@ -6,6 +6,8 @@ mod evidence;
 #[cfg(test)]
 mod forged_proofs;
 #[cfg(test)]
+mod library_call;
+#[cfg(test)]
 mod monitor;
 #[cfg(test)]
 mod rows;

@@ -3,7 +3,7 @@ use crate::evidence::one_byte_leaves;
 use crate::rows::{Row, Shown, right_rows};
 use crate::weak_hashes::ZeroHash;
 use ct_monitor::{Auditor, Follower, Monitor, MonitorFault, Peaks};
-use ct_tree::{Head, NodeHash, Sha256Hash, leaf_hash, reference};
+use ct_tree::{Head, NodeHash, Sha256Hash};
 use ct_watch::{Verdict, Watcher};
 use std::alloc::{AllocError, Global};
 use std::test::Fail;
@@ -392,33 +392,31 @@ all (3, true)";
     assert!(rt; watched(&rt, rows) == 9);
 }
 
-// Ten of the leaves that are the numbers in four bytes each, from a number on, and their hashes behind those of the leaves
-// before them.
-fn ten_leaves(
-    alloc: Global,
-    first: u16,
-    hashes: &mut Vec<[u8; 32]>,
-) -> Result<Vec<Vec<u8>>, AllocError> {
+// So many leaves, from a number on: each is its number in four bytes.
+fn numbered_leaves(alloc: Global, first: u64, count: u64) -> Result<Vec<Vec<u8>>, AllocError> {
     let mut leaves = Vec::new(alloc);
-    for i in 0..10 {
-        let number = u32::from(first) + i;
-        let leaf = Vec::from_slice(alloc, &number.to_be_bytes())?;
-        hashes.push(leaf_hash(&Sha256Hash, &leaf))?;
-        leaves.push(leaf)?;
+    for place in 0..count {
+        let number = first.wrapping_add(place);
+        leaves.push(Vec::from_slice(alloc, &number.to_be_bytes()[4..])?)?;
     }
     Ok(leaves)
 }
 
-// Whether the monitor takes each of 300 heads with ten new leaves, whose roots the reference program gives.
-fn takes_300_heads(alloc: Global, monitor: &mut Monitor<Sha256Hash>) -> Result<bool, AllocError> {
-    let mut hashes = Vec::new(alloc);
-    for count in 0..300 {
-        let leaves = ten_leaves(alloc, 10 * count, &mut hashes)?;
-        let root = reference::root(&Sha256Hash, &hashes);
+// Whether the monitor takes each of so many heads with so many new leaves each, whose roots are those of `Peaks`.
+fn takes_heads(
+    alloc: Global,
+    monitor: &mut Monitor<Sha256Hash>,
+    heads: u64,
+    leaves_each: u64,
+) -> Result<bool, AllocError> {
+    let mut peaks = Peaks::from_parts(0, Vec::new(alloc));
+    for timestamp in 0..heads {
+        let leaves = numbered_leaves(alloc, peaks.size(), leaves_each)?;
+        peaks.push_leaves(&Sha256Hash, &leaves)?;
         let next = Head {
-            tree_size: u64::from(10 * count + 10),
-            timestamp: u64::from(count),
-            root,
+            tree_size: peaks.size(),
+            timestamp,
+            root: peaks.root(&Sha256Hash),
         };
         if monitor.observe(next, leaves) != Ok(()) {
             return Ok(false);
@@ -445,15 +443,37 @@ impl Shown for Long {
     }
 }
 
-#[test]
-fn a_monitor_follows_300_heads(rt: HostRuntime) -> Result<(), Fail> {
+// How many rows a monitor answers rightly that has taken so many heads with so many new leaves each.
+fn answered_behind_heads(
+    alloc: Global,
+    heads: u64,
+    leaves_each: u64,
+    rows: &str,
+) -> Result<u32, AllocError> {
     let mut long = Long {
-        monitor: Monitor::new(rt.alloc(), Sha256Hash),
+        monitor: Monitor::new(alloc, Sha256Hash),
     };
-    assert!(rt; takes_300_heads(rt.alloc(), &mut long.monitor)?);
+    if !takes_heads(alloc, &mut long.monitor, heads, leaves_each)? {
+        return Ok(0);
+    }
+    Ok(right_rows(alloc, &mut long, rows))
+}
+
+#[test]
+fn a_monitor_follows_300_heads_of_ten_leaves(rt: HostRuntime) -> Result<(), Fail> {
     let rows = "\
 3000 3000 299 ALL_3000 3000 299 ALL_3000 Ok(())
 3000 3000 299 ALL_3000 3000 300 ABC Err(Fork)";
-    assert!(rt; right_rows(rt.alloc(), &mut long, rows) == 2);
+    assert!(rt; answered_behind_heads(rt.alloc(), 300, 10, rows)? == 2);
+    Ok(())
+}
+
+#[test]
+fn a_monitor_follows_1100_heads_of_one_leaf(rt: HostRuntime) -> Result<(), Fail> {
+    let rows = "\
+1100 1100 1099 ALL_1100 1100 1099 ALL_1100 Ok(())
+1100 1100 1099 ALL_1100 1100 1100 ABC Err(Fork)
+1100 1100 1099 ALL_1100 1099 1100 ABC Err(Shrunk)";
+    assert!(rt; answered_behind_heads(rt.alloc(), 1100, 1, rows)? == 3);
     Ok(())
 }

@@ -10,8 +10,9 @@ use std::fmt::Debug;
 // leaves 0 and 1, and so on; `MTH_3` is the root of the first three leaves, and `MTH_0` that of none. The roots are the
 // published ones, and all values were computed anew by another program (Python's hashlib). So were those of the tree of
 // the leaves 41, 42, 43: `A`, `AB` and `ABC` are the roots of its first leaves, `B` and `C` the hashes of its last ones,
-// and `ALL_3000` is the root of the 3,000 leaves that are the numbers from 0 on, in four bytes each. The others are no
-// hashes of anything.
+// and `ALL_1100` and `ALL_3000` are the roots of the 1,100 and 3,000 leaves that are the numbers from 0 on, in four bytes
+// each. `SESSION` is the root of the two leaves of README.md's first session, and `SESSION_0` the hash of its first leaf.
+// The others are no hashes of anything.
 const NAMED: &str = "\
 L0 6e340b9cffb37a989ca544e6bb780a2c78901d3fb33738768511a30617afa01d
 L1 96a296d224f285c67bee93c30f8a309157f0daa35dc5b87e410b78630a09cfc7
@@ -37,7 +38,10 @@ AB ed692f01f7f6c46930d7ad8f9adad3f9f38b7379cf6a8d2f399a0ba1e914fe25
 ABC 961d2e2be20f538ffdf56962a86d1bd165498f222684ee4c5e02c1e9f852adc5
 B 87afe6086fe4571e37657e76281301f189c75ebae1d2eaafb56d578067a1d95e
 C b563a5e69628743929eddec0ccfeb0745c39577e12a72e84915edd6633cb97f2
+ALL_1100 0042f3cbb00b374fbbdc5a18bafb7fb39539bdfc70fdb05e7bdaf9c0829ac7ec
 ALL_3000 f9fc8dfe4d2f23f05c67608f610ba557dc4480a72be92b9c96aafbe1a74896ef
+SESSION 636c30e76abe557dc6702502dff6f66dcb8e8c7a7d9466ae3d58ae204605cb29
+SESSION_0 e706867067a42ed483cf26ccd4dcc35463bb635f1afee23db546b72f19f280e6
 ZEROS 0000000000000000000000000000000000000000000000000000000000000000
 ONES 0101010101010101010101010101010101010101010101010101010101010101
 SEVENS 0707070707070707070707070707070707070707070707070707070707070707";
