@@ -1,0 +1,11 @@
+use Rattle.std.proofs.Common.{◌∙◌}
+use Rattle.ct_live.proofs.Joined.{gives_none, gives_both, gives_count}
+use Rattle.ct_live.proofs.giving.give_out.Goals as goal
+
+pub loop-init : goal.loop-init
+loop-init g c = (gives_none c.args.giver.now, c.requires)
+
+pub loop-preserved : goal.loop-preserved
+loop-preserved g c =
+    let on = gives_both c.args.giver.now c.loop.giver c.give_next.new.giver c.loop.invariant.0 c.give_next.ensures in
+    (on, gives_count c.args.giver.now c.give_next.new.giver on ∙ c.requires)
