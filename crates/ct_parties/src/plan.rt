@@ -16,7 +16,7 @@ use ct_tree::Memory;
 use std::alloc::Global;
 use std::mem;
 
-//// What a line has the program do.
+/// What a line has the program do.
 #[derive(Debug, Drop)]
 pub enum Task<'a> {
     /// The front with this number does this.
