@@ -1,1 +1,4 @@
 pub mod Joined
+pub mod Replies
+pub mod Taking
+pub mod Opens

@@ -44,12 +44,13 @@ impl From<Fault> for GiveFault {
     }
 }
 
-// What ends the run where lines are left: where all were to end, for another's want of memory.
+// What ends the run where lines are left. Where all were to end, what had them end is told elsewhere.
 impl From<GiveFault> for Fault {
     fn from(fault: GiveFault) -> Fault {
         match fault {
+            GiveFault::Memory => Fault::Memory,
             GiveFault::Read => Fault::Read,
-            GiveFault::Memory | GiveFault::Stopped => Fault::Memory,
+            GiveFault::Stopped => Fault::Threads,
         }
     }
 }

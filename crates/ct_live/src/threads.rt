@@ -178,7 +178,7 @@ fn operate_in<R: Threads + Wait + Sync>(
     waiting: &Waiting,
     slot: &mut Option<DeskWorker>,
 ) -> Result<(), PartyFault>
-    ensures { OnOk result ((o p : DeskWorkerOf) → slot.old ≡ Some o → slot.new ≡ Some p → DeskWorks o p) }
+    ensures { OnOk result ((p : DeskWorkerOf) → slot.new ≡ Some p → (o : DeskWorkerOf) × (slot.old ≡ Some o) × DeskWorks o p) }
 {
     match slot {
         Some(worker) => operate(rt, alloc, places, waiting, worker),
