@@ -20,20 +20,17 @@ use Rattle.ct_pipes.specs.declared.answering.Numbered.{Numbered}
 use Rattle.ct_pipes.proofs.Merging.{zip_self}
 use Rattle.ct_pipes.proofs.Turns.{producer_trans}
 use Rattle.std.proofs.lemmas.List.Elements.{length_all_zip}
-use Rattle.ct_live.specs.LiveParties.{DeskReplies, FrontReplies}
-use Rattle.ct_live.specs.LiveRuns.{FrontWorker, worker_fronts, worker_tasks, worker_answers, AreJoined, GivesOn, AllReply, DeskWorks}
+use Rattle.ct_live.specs.LiveParties.{FrontReplies}
+use Rattle.ct_live.specs.LiveRuns.{FrontWorker, worker_fronts, worker_tasks, worker_answers, AreJoined, GivesOn, AllReply, DeskStep, DeskWorks}
 use Rattle.ct_live.specs.declared.asking.DeskTask.{DeskTask}
 use Rattle.ct_live.specs.declared.front.LiveFront.{LiveFront}
-use Rattle.ct_live.specs.declared.giving.Giver.{Giver}
-use Rattle.ct_live.specs.declared.operator.Desk.{Desk}
+use Rattle.ct_live.specs.declared.giving.Inlets.{Inlets}
+use Rattle.ct_live.specs.declared.desk.Desk.{Desk}
 use Rattle.ct_live.specs.declared.workers.DeskWorker.{DeskWorker}
 
 -- what a front's answers say of it
 abbrev FrontStep : LiveFront → FrontTask → List ℕ → LiveFront → Type 0
 FrontStep a t r b = FrontReplies a.front t r b.front
-
-abbrev DeskStep : Desk → DeskTask → List ℕ → Desk → Type 0
-DeskStep a t r b = DeskReplies a.sequencer t r b.sequencer
 
 -- a front that answered its tasks went on
 front_went_on : (a b : LiveFront) (ts : List (Numbered FrontTask)) (xs : List (List ℕ)) → AreAnswered FrontStep a ts xs b → FrontGoesOn a.front b.front
@@ -86,7 +83,7 @@ answers_kept (a ∷ before) (b ∷ after) p q (r ∷ rs) (s ∷ ss) (did, all) o
     (pair_kept a.answers b.answers r s did.answers one i, answers_kept before after p q rs ss all own same pairs)
 
 -- all of it
-pub joined_kept : {B : Type 0} (g h : Giver B) (before after : List FrontWorker) (o p : DeskWorker) (rs ss : List (Consumer (Vec ℕ Global) Global AnyItems)) → AreJoined g before o rs
+pub joined_kept : (g h : Inlets) (before after : List FrontWorker) (o p : DeskWorker) (rs ss : List (Consumer (Vec ℕ Global) Global AnyItems)) → AreJoined g before o rs
     → GivesOn g h → AllReply before after → DeskWorks o p → SameConsumers rs ss → AreJoined h after p ss
 joined_kept g h before after o p rs ss i given did worked same =
     let on = desk_went_on o.desk p.desk worked.answered.tasks (map (λ (v : Vec ℕ Global). v.items) worked.answered.answers) worked.answered.answered in
@@ -110,18 +107,17 @@ zip_trans R trans (x ∷ xs) (y ∷ ys) (z ∷ zs) a b = (trans x y z a.0 b.0, z
 pub producers_self : {T : Type 0} (ps : List (Producer T Global AnyItems)) → SameProducers ps ps
 producers_self ps = zip_self SameProducer (λ r. ((refl, refl, refl, refl), refl)) ps
 
-module _ {B : Type 0} where
-  pub gives_none : (a : Giver B) → GivesOn a a
-  gives_none a = record { fronts = producers_self a.fronts.items; operator = ((refl, refl, refl, refl), refl) }
+pub gives_none : (a : Inlets) → GivesOn a a
+gives_none a = record { fronts = producers_self a.fronts.items; operator = ((refl, refl, refl, refl), refl) }
 
-  pub gives_both : (a b c : Giver B) → GivesOn a b → GivesOn b c → GivesOn a c
-  gives_both a b c x y = record {
-    fronts = zip_trans SameProducer producer_trans a.fronts.items b.fronts.items c.fronts.items x.fronts y.fronts;
-    operator = producer_trans a.operator b.operator c.operator x.operator y.operator;
-  }
+pub gives_both : (a b c : Inlets) → GivesOn a b → GivesOn b c → GivesOn a c
+gives_both a b c x y = record {
+  fronts = zip_trans SameProducer producer_trans a.fronts.items b.fronts.items c.fronts.items x.fronts y.fronts;
+  operator = producer_trans a.operator b.operator c.operator x.operator y.operator;
+}
 
-  pub gives_count : (a b : Giver B) → GivesOn a b → length b.fronts.items ≡ length a.fronts.items
-  gives_count a b x = sym (length_all_zip SameProducer a.fronts.items b.fronts.items x.fronts)
+pub gives_count : (a b : Inlets) → GivesOn a b → length b.fronts.items ≡ length a.fronts.items
+gives_count a b x = sym (length_all_zip SameProducer a.fronts.items b.fronts.items x.fronts)
 
 -- ---- the fronts and the ends of their rings, put together
 

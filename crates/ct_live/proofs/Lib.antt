@@ -2,3 +2,4 @@ pub mod Joined
 pub mod Replies
 pub mod Taking
 pub mod Opens
+pub mod Asks

@@ -17,8 +17,8 @@ use Rattle.ct_pipes.specs.declared.workers.Worker.{Worker}
 use Rattle.ct_live.specs.LiveParties.{DeskReplies, FrontReplies}
 use Rattle.ct_live.specs.declared.asking.DeskTask.{DeskTask}
 use Rattle.ct_live.specs.declared.front.LiveFront.{LiveFront}
-use Rattle.ct_live.specs.declared.giving.Giver.{Giver}
-use Rattle.ct_live.specs.declared.operator.Desk.{Desk}
+use Rattle.ct_live.specs.declared.giving.Inlets.{Inlets}
+use Rattle.ct_live.specs.declared.desk.Desk.{Desk}
 use Rattle.ct_live.specs.declared.workers.DeskWorker.{DeskWorker}
 
 -- a front with the ends of its rings
@@ -37,14 +37,14 @@ worker_answers ws = map (λ (w : FrontWorker). w.answers) ws
 
 -- All fronts of a house and its operator have the ends of the rings in which they are given tasks, and of those whose other ends
 -- are these: the fronts in order, and then the operator.
-pub record AreJoined {B : Type 0} (giver : Giver B) (workers : List FrontWorker) (operator : DeskWorker) (rings : List (Consumer (Vec ℕ Global) Global AnyItems)) : Type 0 where
-  pub tasks : ArePairs giver.fronts.items (worker_tasks workers)
-  pub orders : IsPair giver.operator operator.tasks
+pub record AreJoined (inlets : Inlets) (workers : List FrontWorker) (operator : DeskWorker) (rings : List (Consumer (Vec ℕ Global) Global AnyItems)) : Type 0 where
+  pub tasks : ArePairs inlets.fronts.items (worker_tasks workers)
+  pub orders : IsPair inlets.operator operator.tasks
   pub answers : ArePairs (worker_answers workers ++ operator.answers ∷ []) rings
   pub fronts : AreFrontsOf operator.desk.sequencer (worker_fronts workers)
 
 -- the rings into which tasks are given are the same
-pub record GivesOn {B : Type 0} (a b : Giver B) : Type 0 where
+pub record GivesOn (a b : Inlets) : Type 0 where
   pub fronts : SameProducers a.fronts.items b.fronts.items
   pub operator : SameProducer a.operator b.operator
 
@@ -52,10 +52,13 @@ pub record GivesOn {B : Type 0} (a b : Giver B) : Type 0 where
 abbrev pub AllReply : List FrontWorker → List FrontWorker → Type 0
 AllReply before after = AllWork (λ (a : LiveFront) (t : FrontTask) (r : List ℕ) (b : LiveFront). FrontReplies a.front t r b.front) before after
 
+-- the operator does one task, and replies to it
+abbrev pub DeskStep : Desk → DeskTask → List ℕ → Desk → Type 0
+DeskStep a t reply b = DeskReplies a.sequencer t reply b.sequencer
+
 -- what the operator did: it answered all tasks that it received in turn, over the same rings
 pub record DeskWorks (a b : DeskWorker) : Type 0 where
-  pub answered : AnswersMore (λ (x : Desk) (t : DeskTask) (r : List ℕ) (y : Desk). DeskReplies x.sequencer t r y.sequencer) a.desk b.desk
-      (received a.tasks) (received b.tasks) (sent a.answers) (sent b.answers)
+  pub answered : AnswersMore DeskStep a.desk b.desk (received a.tasks) (received b.tasks) (sent a.answers) (sent b.answers)
   pub tasks : SameConsumer a.tasks b.tasks
   pub answers : SameProducer a.answers b.answers
 

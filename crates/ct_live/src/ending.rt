@@ -10,8 +10,8 @@ ghost use Rattle.ct_live.specs.LiveRuns.{AreJoined, worker_answers, worker_front
 use crate::asking::DeskTask;
 use crate::closed::{send_last_head, serve_closed};
 use crate::front::LiveFront;
-use crate::giving::{End, GiveFault, Giver};
-use crate::operator::Desk;
+use crate::giving::{End, GiveFault, Giver, Inlets};
+use crate::desk::Desk;
 use crate::workers::{DeskWorker, FrontWorker};
 use ct_house::{Front, Sequencer};
 use ct_parties::{Fault, FrontTask, close};
@@ -68,17 +68,17 @@ fn part_workers(alloc: Global, workers: Vec<FrontWorker>) -> Result<Parted, Memo
 }
 
 // Writes what the parties answered and wasn't written yet, once their threads have ended. It answers the fronts.
-fn write_rest<B: BufRead + Drop, W: Write>(
+fn write_rest<W: Write>(
     alloc: Global,
-    giver: &mut Giver<B>,
+    inlets: &mut Inlets,
     workers: Vec<FrontWorker>,
     mut tasks: Consumer<Numbered<DeskTask>>,
     answers: Producer<Vec<u8>>,
     rings: &mut [Consumer<Vec<u8>>],
     output: &mut W,
 ) -> Result<Vec<Front>, Fault>
-    requires tasks { ArePairs giver.old.fronts.items (worker_tasks workers.items) }
-    requires orders { IsPair giver.old.operator tasks }
+    requires tasks { ArePairs inlets.old.fronts.items (worker_tasks workers.items) }
+    requires orders { IsPair inlets.old.operator tasks }
     requires answers { ArePairs (worker_answers workers.items ++ answers ∷ []) rings.old }
     ensures fronts { IfOk result (λ v. v.items ≡ worker_fronts workers.items) }
     ensures all { OnOk result (all_received rings.new ≡ all_sent (worker_answers workers.items ++ answers ∷ [])) }
@@ -90,10 +90,10 @@ fn write_rest<B: BufRead + Drop, W: Write>(
         answers: mut all_answers,
     } = part_workers(alloc, workers)?;
     all_answers.push(answers)?;
-    if !are_taken(&mut giver.fronts, &mut front_tasks) {
+    if !are_taken(&mut inlets.fronts, &mut front_tasks) {
         return Err(Fault::Threads);
     }
-    if tasks.slots_beside(&mut giver.operator) != 0 {
+    if tasks.slots_beside(&mut inlets.operator) != 0 {
         return Err(Fault::Threads);
     }
     match write_left(&mut all_answers, rings, output) {
@@ -139,7 +139,7 @@ pub fn end_live<H: Threads + Wait + Sync, B: BufRead + Drop, W: Write>(
     close_at: u64,
     output: &mut W,
 ) -> Result<(), Fault>
-    requires { AreJoined left.giver left.workers.items operator rings.old }
+    requires { AreJoined left.giver.inlets left.workers.items operator rings.old }
 {
     let DeskWorker {
         desk,
@@ -155,7 +155,8 @@ pub fn end_live<H: Threads + Wait + Sync, B: BufRead + Drop, W: Write>(
         end,
         workers,
     } = left;
-    let fronts = match write_rest(alloc, &mut giver, workers, tasks, answers, rings, output) {
+    let inlets = &mut giver.inlets;
+    let fronts = match write_rest(alloc, inlets, workers, tasks, answers, rings, output) {
         Ok(fronts) => fronts,
         Err(fault) => {
             sequencer.abandon(rt, Vec::new(alloc));

@@ -1,8 +1,6 @@
 //! Lines read as they come, and given out to the parties.
 
 ghost use Rattle.std.specs.Prelude.{◌≡◌, length};
-ghost use Rattle.rtrb.specs.Ring.{SameProducer};
-ghost use Rattle.ct_pipes.specs.Rings.{SameProducers};
 ghost use Rattle.ct_live.specs.LiveLines.{IsForFront};
 ghost use Rattle.ct_live.specs.LiveRuns.{GivesOn};
 ghost use Rattle.ct_live.specs.LiveTasks.{live_step};
@@ -61,36 +59,42 @@ impl From<Stopped> for GiveFault {
     }
 }
 
+/// Where each party is given its tasks.
+#[derive(Drop)]
+pub struct Inlets {
+    pub fronts: Vec<Producer<Numbered<FrontTask>>>,
+    pub operator: Producer<Numbered<DeskTask>>,
+}
+
 /// The lines that are left, and where each party is given its tasks.
 #[derive(Drop)]
 pub struct Giver<B: BufRead + Drop> {
-    pub fronts: Vec<Producer<Numbered<FrontTask>>>,
-    pub operator: Producer<Numbered<DeskTask>>,
+    pub inlets: Inlets,
     pub lines: NumberedLines<B>,
 }
 
 // Gives a task to its party. It answers the moment at which the log is to be closed, if it is.
-#[tactic(auto, using(crate::proofs::Joined::producers_self))]
+#[tactic(auto, using(crate::proofs::Joined::producers_self, crate::proofs::Joined::gives_none))]
 fn give_task<R: Wait>(
     rt: &R,
     places: &Places,
-    fronts: &mut [Producer<Numbered<FrontTask>>],
-    operator: &mut Producer<Numbered<DeskTask>>,
+    inlets: &mut Inlets,
     number: u64,
     task: LiveTask,
 ) -> Result<Option<u64>, GiveFault>
-    requires { IsForFront (length fronts.old) (live_step task) }
-    ensures fronts { SameProducers fronts.old fronts.new }
-    ensures operator { SameProducer operator.old operator.new }
+    requires { IsForFront (length inlets.old.fronts.items) (live_step task) }
+    ensures { GivesOn inlets.old inlets.new }
 {
     match task {
         LiveTask::Front(front, task) => {
             let party = usize::from(front);
+            let fronts = &mut inlets.fronts;
             give(rt, places, fronts, party, Numbered { number, task })?;
             Ok(None)
         }
         LiveTask::Operator(task) => {
-            let seat = Seat::Party(fronts.len());
+            let seat = Seat::Party(inlets.fronts.len());
+            let operator = &mut inlets.operator;
             send(
                 rt,
                 places,
@@ -106,30 +110,28 @@ fn give_task<R: Wait>(
 }
 
 // Gives out what a line asks for. An empty line is nobody's.
-#[tactic(auto, using(crate::proofs::Joined::producers_self))]
+#[tactic(auto, using(crate::proofs::Joined::producers_self, crate::proofs::Joined::gives_none))]
 fn give_line<R: Wait>(
     rt: &R,
     alloc: Global,
     places: &Places,
     count: u16,
-    fronts: &mut [Producer<Numbered<FrontTask>>],
-    operator: &mut Producer<Numbered<DeskTask>>,
+    inlets: &mut Inlets,
     number: u64,
     line: &[u8],
 ) -> Result<Option<u64>, GiveFault>
-    requires { length fronts.old ≡ count }
-    ensures fronts { SameProducers fronts.old fronts.new }
-    ensures operator { SameProducer operator.old operator.new }
+    requires { length inlets.old.fronts.items ≡ count }
+    ensures { GivesOn inlets.old inlets.new }
 {
     if line.is_empty() {
         return Ok(None);
     }
     let task = live_task(alloc, count, line)?;
-    give_task(rt, places, fronts, operator, number, task)
+    give_task(rt, places, inlets, number, task)
 }
 
 // Reads the next line into the buffer, and gives out what it asks for. It answers what ended the lines, if they ended.
-#[tactic(auto, using(crate::proofs::Joined::producers_self))]
+#[tactic(auto, using(crate::proofs::Joined::producers_self, crate::proofs::Joined::gives_none))]
 fn give_next<R: Wait, B: BufRead + Drop>(
     rt: &R,
     alloc: Global,
@@ -138,25 +140,16 @@ fn give_next<R: Wait, B: BufRead + Drop>(
     giver: &mut Giver<B>,
     buffer: &mut Vec<u8>,
 ) -> Result<Option<End>, GiveFault>
-    requires { length giver.old.fronts.items ≡ count }
-    ensures { GivesOn giver.old giver.new }
+    requires { length giver.old.inlets.fronts.items ≡ count }
+    ensures { GivesOn giver.old.inlets giver.new.inlets }
 {
     let number = match giver.lines.read(buffer) {
         Ok(Some(number)) => number,
         Ok(None) => return Ok(Some(End::Input)),
         Err(error) => return Err(GiveFault::from(Fault::from(error.kind()))),
     };
-    let closes = give_line(
-        rt,
-        alloc,
-        places,
-        count,
-        &mut giver.fronts,
-        &mut giver.operator,
-        number,
-        buffer,
-    )?;
-    match closes {
+    let inlets = &mut giver.inlets;
+    match give_line(rt, alloc, places, count, inlets, number, buffer)? {
         Some(now) => Ok(Some(End::Close { line: number, now })),
         None => Ok(None),
     }
@@ -170,8 +163,8 @@ pub fn give_out<R: Wait, B: BufRead + Drop>(
     count: u16,
     giver: &mut Giver<B>,
 ) -> Result<End, GiveFault>
-    requires { length giver.old.fronts.items ≡ count }
-    ensures { GivesOn giver.old giver.new }
+    requires { length giver.old.inlets.fronts.items ≡ count }
+    ensures { GivesOn giver.old.inlets giver.new.inlets }
 {
     let mut buffer = Vec::new(alloc);
     for _ in rt.forever() {

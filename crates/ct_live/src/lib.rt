@@ -16,6 +16,7 @@
 
 mod asking;
 mod closed;
+mod desk;
 mod ending;
 mod front;
 mod giving;
@@ -26,8 +27,8 @@ mod threads;
 mod workers;
 
 pub use asking::{DeskTask, LiveTask, live_task};
+pub use desk::Desk;
 pub use front::LiveFront;
 pub use live::serve_live;
-pub use operator::Desk;
 pub use replying::reply_object;
 pub use threads::Served;

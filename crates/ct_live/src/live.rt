@@ -8,8 +8,8 @@ ghost use Rattle.ct_live.specs.LiveOpening.{AreOpened};
 
 use crate::asking::DeskTask;
 use crate::front::LiveFront;
-use crate::giving::Giver;
-use crate::operator::Desk;
+use crate::giving::{Giver, Inlets};
+use crate::desk::Desk;
 use crate::threads::{Out, Served, Start, run_threads};
 use crate::workers::{DeskWorker, FrontWorker};
 use ct_house::{Front, Sequencer, open};
@@ -99,8 +99,8 @@ fn open_desk(alloc: Global) -> Result<DeskPipes, Memory>
 
 // What the rings are for, before the house is opened.
 #[derive(Drop)]
-struct Ends<B: BufRead + Drop> {
-    giver: Giver<B>,
+struct Ends {
+    inlets: Inlets,
     tasks: Vec<Consumer<Numbered<FrontTask>>>,
     answers: Vec<Producer<Vec<u8>>>,
     desk_tasks: Consumer<Numbered<DeskTask>>,
@@ -108,12 +108,8 @@ struct Ends<B: BufRead + Drop> {
     rings: Vec<Consumer<Vec<u8>>>,
 }
 
-// New rings for all parties, and the lines of the input.
-fn open_ends<I: Read + Drop>(
-    alloc: Global,
-    fronts: u16,
-    input: I,
-) -> Result<Ends<BufReader<I>>, Fault>
+// New rings for all parties.
+fn open_ends(alloc: Global, fronts: u16) -> Result<Ends, Memory>
     ensures { IfOk result (λ e. AreOpened fronts e) }
 {
     let Pipes {
@@ -122,25 +118,50 @@ fn open_ends<I: Read + Drop>(
         answers,
         mut rings,
     } = open_pipes(alloc, usize::from(fronts))?;
-    let desk = open_desk(alloc)?;
-    rings.push(desk.ring)?;
-    let reader = match BufReader::with_capacity(alloc, CAPACITY, input) {
-        Ok(reader) => reader,
-        Err(error) => return Err(Fault::from(error.kind())),
-    };
-    let giver = Giver {
+    let DeskPipes {
+        given: operator,
+        tasks: desk_tasks,
+        answers: desk_answers,
+        ring,
+    } = open_desk(alloc)?;
+    rings.push(ring)?;
+    let inlets = Inlets {
         fronts: given,
-        operator: desk.given,
-        lines: NumberedLines::new(reader),
+        operator,
     };
     Ok(Ends {
-        giver,
+        inlets,
         tasks,
         answers,
-        desk_tasks: desk.tasks,
-        desk_answers: desk.answers,
+        desk_tasks,
+        desk_answers,
         rings,
     })
+}
+
+// The lines of the input, as they come.
+fn open_lines<I: Read + Drop>(
+    alloc: Global,
+    input: I,
+) -> Result<NumberedLines<BufReader<I>>, Fault> {
+    match BufReader::with_capacity(alloc, CAPACITY, input) {
+        Ok(reader) => Ok(NumberedLines::new(reader)),
+        Err(error) => Err(Fault::from(error.kind())),
+    }
+}
+
+// The lines of the input, new rings for all parties, and the places where these wait.
+fn prepare<I: Read + Drop>(
+    alloc: Global,
+    fronts: u16,
+    input: I,
+) -> Result<(NumberedLines<BufReader<I>>, Ends, Places), Fault>
+    ensures { IfOk result (λ p. AreOpened fronts p.1) }
+{
+    let lines = open_lines(alloc, input)?;
+    let ends = open_ends(alloc, fronts)?;
+    let places = Places::new(alloc, usize::from(fronts) + 1)?;
+    Ok((lines, ends, places))
 }
 
 // Serves a house that was opened.
@@ -150,7 +171,8 @@ fn serve_house<H: Threads + Wait + Sync, B: BufRead + Drop + Send, W: Write + Dr
     options: Options,
     places: &Places,
     waiting: &Waiting,
-    ends: Ends<B>,
+    lines: NumberedLines<B>,
+    ends: Ends,
     sequencer: Sequencer,
     fronts: Vec<Front>,
     output: W,
@@ -161,7 +183,7 @@ fn serve_house<H: Threads + Wait + Sync, B: BufRead + Drop + Send, W: Write + Dr
     requires fronts { AreFrontsOf sequencer fronts.items }
 {
     let Ends {
-        giver,
+        inlets,
         tasks,
         answers,
         desk_tasks,
@@ -187,7 +209,7 @@ fn serve_house<H: Threads + Wait + Sync, B: BufRead + Drop + Send, W: Write + Dr
         answers: desk_answers,
     };
     let start = Start {
-        giver,
+        giver: Giver { inlets, lines },
         workers,
         out: Out { rings, output },
     };
@@ -214,8 +236,8 @@ pub fn serve_live<H: Threads + Wait + Sync, I: Read + Drop + Send, W: Write + Dr
     input: I,
     output: W,
 ) -> Served<W> {
-    let ends = match open_ends(alloc, options.fronts, input) {
-        Ok(ends) => ends,
+    let (lines, ends, places) = match prepare(alloc, options.fronts, input) {
+        Ok(prepared) => prepared,
         Err(fault) => {
             return Served {
                 output,
@@ -223,19 +245,10 @@ pub fn serve_live<H: Threads + Wait + Sync, I: Read + Drop + Send, W: Write + Dr
             };
         }
     };
-    let places = match Places::new(alloc, usize::from(options.fronts) + 1) {
-        Ok(places) => places,
-        Err(error) => {
-            return Served {
-                output,
-                result: Err(Fault::from(error)),
-            };
-        }
-    };
     let waiting = Waiting::new(turns);
     match open(rt, alloc, options.fronts, options.ring, options.open_at) {
         Ok((sequencer, fronts)) => serve_house(
-            rt, alloc, options, &places, &waiting, ends, sequencer, fronts, output,
+            rt, alloc, options, &places, &waiting, lines, ends, sequencer, fronts, output,
         ),
         Err(refusal) => Served {
             output,

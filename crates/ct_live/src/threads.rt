@@ -6,11 +6,10 @@ ghost use Rattle.ct_live.specs.declared.workers.DeskWorker.{DeskWorker as DeskWo
 
 use crate::ending::{Left, end_live};
 use crate::giving::{End, GiveFault, Giver, give_out};
+use crate::operator::answer_desk;
 use crate::workers::{DeskWorker, FrontWorker};
 use ct_parties::{Fault, Options, Waiting};
-use ct_pipes::{
-    PartyFault, Places, WriteFailed, answer_all, join_workers, start_workers, write_answers,
-};
+use ct_pipes::{PartyFault, Places, WriteFailed, join_workers, start_workers, write_answers};
 use rtrb::Consumer;
 use std::alloc::Global;
 use std::io::{BufRead, Write};
@@ -48,8 +47,8 @@ fn read<R: Wait, B: BufRead + Drop>(
     count: u16,
     mut giver: Giver<B>,
 ) -> Reading<B>
-    requires { length giver.fronts.items ≡ count }
-    ensures { GivesOn giver result.giver }
+    requires { length giver.inlets.fronts.items ≡ count }
+    ensures { GivesOn giver.inlets result.giver.inlets }
 {
     let end = give_out(rt, alloc, places, count, &mut giver);
     places.end_giving();
@@ -61,7 +60,7 @@ fn read<R: Wait, B: BufRead + Drop>(
 struct ReaderPromise<B: BufRead + Drop>(Snapshot<Giver<B>>);
 
 impl<B: BufRead + Drop> Promise<Reading<B>> for ReaderPromise<B> {
-    ghost kept_by = { λ p r. GivesOn p.0.value r.giver };
+    ghost kept_by = { λ p r. GivesOn p.0.value.inlets r.giver.inlets };
 }
 
 type ReaderThread<B> = PromisedHandle<Reading<B>, ReaderPromise<B>>;
@@ -75,13 +74,13 @@ fn start_reader<'e: 's, 's, R: Threads + Wait + Sync, B: BufRead + Drop + Send +
     count: u16,
     giver: Giver<B>,
 ) -> Result<ReaderThread<B>, Fault>
-    requires { length giver.fronts.items ≡ count }
+    requires { length giver.inlets.fronts.items ≡ count }
     ensures { IfOk result (λ t. t.promise.0.value ≡ giver) }
 {
     let promise = ReaderPromise(Snapshot::of(&giver));
     let reading = move || -> Reading<B>
-        requires { length giver.fronts.items ≡ count }
-        ensures { GivesOn giver result.giver }
+        requires { length giver.inlets.fronts.items ≡ count }
+        ensures { GivesOn giver.inlets result.giver.inlets }
     { read(rt, alloc, places, count, giver) };
     match scope.spawn_with(promise, reading) {
         Ok(thread) => Ok(thread),
@@ -153,7 +152,7 @@ fn operate<R: Threads + Wait + Sync>(
     ensures { OnOk result (DeskWorks worker.old worker.new) }
 {
     let number = worker.desk.fronts;
-    let result = answer_all(
+    let result = answer_desk(
         rt,
         alloc,
         places,
@@ -265,7 +264,7 @@ fn end_in<R: Threads + Wait + Sync, B: BufRead + Drop, W: Write>(
     close_at: u64,
     output: &mut W,
 ) -> Result<(), Fault>
-    requires { (o : DeskWorkerOf) → slot.old ≡ Some o → AreJoined left.giver left.workers.items o rings.old }
+    requires { (o : DeskWorkerOf) → slot.old ≡ Some o → AreJoined left.giver.inlets left.workers.items o rings.old }
 {
     match slot.take() {
         Some(operator) => end_live(rt, alloc, operator, left, rings, close_at, output),
@@ -290,8 +289,8 @@ fn run_in<
     start: Start<B, W>,
     slot: &mut Option<DeskWorker>,
 ) -> Served<W>
-    requires count { length start.giver.fronts.items ≡ options.fronts }
-    requires joined { (o : DeskWorkerOf) → slot.old ≡ Some o → AreJoined start.giver start.workers.items o start.out.rings.items }
+    requires count { length start.giver.inlets.fronts.items ≡ options.fronts }
+    requires joined { (o : DeskWorkerOf) → slot.old ≡ Some o → AreJoined start.giver.inlets start.workers.items o start.out.rings.items }
 {
     let Start {
         giver,
@@ -342,15 +341,15 @@ pub fn run_threads<R: Threads + Wait + Sync, B: BufRead + Drop + Send, W: Write 
     start: Start<B, W>,
     slot: &mut Option<DeskWorker>,
 ) -> Served<W>
-    requires count { length start.giver.fronts.items ≡ options.fronts }
-    requires joined { (o : DeskWorkerOf) → slot.old ≡ Some o → AreJoined start.giver start.workers.items o start.out.rings.items }
+    requires count { length start.giver.inlets.fronts.items ≡ options.fronts }
+    requires joined { (o : DeskWorkerOf) → slot.old ≡ Some o → AreJoined start.giver.inlets start.workers.items o start.out.rings.items }
 {
     thread::scope(
         thread::scope_env(),
         rt,
         move |scope| -> Served<W>
-            requires count { length start.giver.fronts.items ≡ options.fronts }
-            requires joined { (o : DeskWorkerOf) → slot.now ≡ Some o → AreJoined start.giver start.workers.items o start.out.rings.items }
+            requires count { length start.giver.inlets.fronts.items ≡ options.fronts }
+            requires joined { (o : DeskWorkerOf) → slot.now ≡ Some o → AreJoined start.giver.inlets start.workers.items o start.out.rings.items }
         { run_in(rt, alloc, scope, places, waiting, options, start, slot) },
     )
 }

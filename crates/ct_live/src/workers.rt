@@ -2,7 +2,7 @@
 
 use crate::asking::DeskTask;
 use crate::front::LiveFront;
-use crate::operator::Desk;
+use crate::desk::Desk;
 use ct_parties::FrontTask;
 use ct_pipes::{Numbered, Worker};
 use rtrb::{Consumer, Producer};

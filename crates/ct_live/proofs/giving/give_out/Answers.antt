@@ -3,9 +3,9 @@ use Rattle.ct_live.proofs.Joined.{gives_none, gives_both, gives_count}
 use Rattle.ct_live.proofs.giving.give_out.Goals as goal
 
 pub loop-init : goal.loop-init
-loop-init g c = (gives_none c.args.giver.now, c.requires)
+loop-init g c = (gives_none c.args.giver.now.inlets, c.requires)
 
 pub loop-preserved : goal.loop-preserved
 loop-preserved g c =
-    let on = gives_both c.args.giver.now c.loop.giver c.give_next.new.giver c.loop.invariant.0 c.give_next.ensures in
-    (on, gives_count c.args.giver.now c.give_next.new.giver on ∙ c.requires)
+    let on = gives_both c.args.giver.now.inlets c.loop.giver.inlets c.give_next.new.giver.inlets c.loop.invariant.0 c.give_next.ensures in
+    (on, gives_count c.args.giver.now.inlets c.give_next.new.giver.inlets on ∙ c.requires)

@@ -1,0 +1,8 @@
+use Rattle.std.proofs.Common.{ap, ◌∙◌}
+use Rattle.ct_parties.specs.Tasks.{does, for_operator}
+use Rattle.ct_parties.specs.declared.task.OperatorTask.TheVariants.{BadLine}
+use Rattle.ct_live.specs.LiveLines.{live_request_step}
+use Rattle.ct_live.proofs.asking.live_task.Goals as goal
+
+pub returns-in_ok-request-in-Operator-BadLine-clause-asked : goal.returns-in_ok-request-in-Operator-BadLine-clause-asked
+returns-in_ok-request-in-Operator-BadLine-clause-asked c = (does (for_operator BadLine), (let h = c.in-Operator-BadLine in let k = c.in_ok-number in ?), c.live_request_task.ensures ∙ ap (live_request_step c.args.fronts) c.in_ok-request-in-Operator-BadLine.ensures)
