@@ -1,5 +1,5 @@
 -- What a line asks of a live log alone.
-use Rattle.std.proofs.Common.{◌≡◌, ◌<◌, ◌≤◌, ◌∙◌, ℕ, List, length, Option, Some, None, Result, Ok, Err, Bool, true, false, ◌&&◌, nat_le, cond, refl, sym, ap, arith}
+use Rattle.std.proofs.Common.{◌≡◌, ◌<◌, ◌≤◌, ◌∙◌, ℕ, List, length, Option, Some, None, Result, Ok, Err, Bool, true, false, ◌&&◌, nat_le, cond, refl, sym, ap, subst, arith}
 use Rattle.std.specs.Prelude.{option_and_then, option_map, IfOk, MatchResult}
 use Rattle.std.specs.Str.{is_utf8, IsUtf8}
 use Rattle.std.specs.declared.alloc.AllocError.{AllocError}
@@ -7,6 +7,12 @@ use Rattle.std.proofs.lemmas.Bool.Decides.{nat_tests}
 use Rattle.std.proofs.lemmas.Str.{IsUtf8-from_is_utf8, is_utf8-from_IsUtf8}
 use Rattle.serde_json.specs.Data.{Data}
 use Rattle.serde_json.specs.Read.{read}
+use Rattle.ct_parties.specs.Plans.{step}
+use Rattle.ct_parties.specs.Tasks.{AsksFor, does, for_operator}
+use Rattle.ct_parties.specs.declared.plan.Task.{Task as CodeTask}
+use Rattle.ct_parties.specs.declared.plan.Task.TheVariants as task_case
+use Rattle.ct_parties.specs.declared.task.OperatorTask.{OperatorTask}
+use Rattle.ct_parties.specs.declared.task.OperatorTask.TheVariants.{BadLine}
 use Rattle.ct_live.specs.LiveLines.{LiveAsked, live_asked, live_asked_in, live_request_of}
 use Rattle.ct_live.specs.declared.asking.LiveRequest.{LiveRequest}
 
@@ -40,3 +46,7 @@ pub asks_unread : (line : List ℕ) (r : Result (Option LiveRequest) AllocError)
     → IfOk r (λ o. option_map live_asked o ≡ live_request_of line)
 asks_unread line (Ok o) P (e, other) none = ap (option_map live_asked) e ∙ asks_nothing line (none other)
 asks_unread line (Err x) P is none = tt
+
+-- a line that every other log replies to with bad-line
+pub asked_bad : (fronts : ℕ) (line : List ℕ) (t : CodeTask) (o : OperatorTask) → t ≡ task_case.Operator o → o ≡ BadLine → AsksFor fronts line (step t) → AsksFor fronts line (does (for_operator BadLine))
+asked_bad fronts line t o e k asked = subst (λ (x : CodeTask). AsksFor fronts line (step x)) (e ∙ ap (λ (x : OperatorTask). task_case.Operator x) k) asked

@@ -1,11 +1,12 @@
 -- The parties and their rings stay what they are while the threads run.
-use Rattle.std.proofs.Common.{◌≡◌, ◌∙◌, ℕ, List, [], ◌∷◌, ◌++◌, map, refl, reverse, sym, ap, subst, length, arith, Vec, Global}
+use Rattle.std.proofs.Common.{◌≡◌, ◌∙◌, ℕ, List, [], ◌∷◌, ◌++◌, map, refl, reverse, sym, subst, length, Vec, Global, true≢false}
 use Rattle.std.specs.List.{AllZip}
+use Rattle.std.specs.Prelude.{Option, Some, Result, Ok, Err, IsOk, IfOk, OnOk}
 use Rattle.rtrb.specs.Ring.{IsPair, SameProducer, SameConsumer}
 use Rattle.rtrb.specs.declared.AnyItems.{AnyItems}
 use Rattle.rtrb.specs.declared.consumer.Consumer.{Consumer}
 use Rattle.rtrb.specs.declared.producer.Producer.{Producer}
-use Rattle.ct_house.specs.House.{FrontView, HouseState}
+use Rattle.ct_house.specs.House.{FrontView}
 use Rattle.ct_parties.specs.FrontWork.{FrontGoesOn}
 use Rattle.ct_parties.specs.OperatorWork.{GoesOn}
 use Rattle.ct_parties.specs.Parties.{AreSame}
@@ -13,10 +14,10 @@ use Rattle.ct_parties.specs.declared.task.FrontTask.{FrontTask}
 use Rattle.ct_parties.proofs.FrontLemmas.{front_goes_on_nothing, front_goes_on_both}
 use Rattle.ct_parties.proofs.OperatorLemmas.{goes_on_nothing, goes_on_both}
 use Rattle.ct_parties.proofs.PartyLemmas.{fronts_kept}
-use Rattle.ct_pipes.specs.Answered.{AreAnswered, AnswersMore}
+use Rattle.ct_pipes.specs.Answered.{AreAnswered}
 use Rattle.ct_pipes.specs.Rings.{ArePairs, SameProducers, SameConsumers}
-use Rattle.ct_pipes.specs.Working.{Works}
 use Rattle.ct_pipes.specs.declared.answering.Numbered.{Numbered}
+use Rattle.ct_pipes.specs.declared.answering.PartyFault.{PartyFault}
 use Rattle.ct_pipes.proofs.Merging.{zip_self}
 use Rattle.ct_pipes.proofs.Turns.{producer_trans}
 use Rattle.std.proofs.lemmas.List.Elements.{length_all_zip}
@@ -129,3 +130,28 @@ pub record Matching (fronts left : List FrontView) (tasks own : List (Consumer (
   pub all_answers : answers ≡ rest ++ worker_answers (reverse workers)
   pub tasks_count : length own ≡ length left
   pub answers_count : length rest ≡ length left
+
+-- ---- what is left once all threads have ended
+
+pub when_ok : {T E : Type 0} (P : Type 0) (r : Result T E) → IsOk r → OnOk r P → P
+when_ok P (Ok x) is p = p
+when_ok P (Err e) is p = absurd (true≢false (sym is))
+
+-- the operator is where it was
+pub joined_left : (was now : Option DeskWorker) (g h : Inlets) (before after : List FrontWorker) (rs ss : List (Consumer (Vec ℕ Global) Global AnyItems))
+    → ((o : DeskWorker) → was ≡ Some o → AreJoined g before o rs) → ((p : DeskWorker) → now ≡ Some p → (o : DeskWorker) × (was ≡ Some o) × DeskWorks o p)
+    → GivesOn g h → AllReply before after → SameConsumers rs ss → (p : DeskWorker) → now ≡ Some p → AreJoined h after p ss
+joined_left was now g h before after rs ss own did given replied same p is =
+    let (o, at, works) = did p is in joined_kept g h before after o p rs ss (own o at) given replied works same
+
+pub gives_as : (a b c d : Inlets) → b ≡ a → d ≡ c → GivesOn b c → GivesOn a d
+gives_as a b c d e k on = subst (λ (i : Inlets). GivesOn a i) (sym k) (subst (λ (i : Inlets). GivesOn i c) e on)
+
+pub replied_as : (started before : List FrontWorker) (r : Result (Vec FrontWorker Global) PartyFault) (v : Vec FrontWorker Global) → started ≡ before → r ≡ Ok v
+    → IfOk r (λ w. AllReply started w.items) → AllReply before v.items
+replied_as started before r v e k all =
+    subst (λ (l : List FrontWorker). AllReply l v.items) e (subst (λ (x : Result (Vec FrontWorker Global) PartyFault). IfOk x (λ w. AllReply started w.items)) k all)
+
+pub same_as : (a b c d : List (Consumer (Vec ℕ Global) Global AnyItems)) → b ≡ a → d ≡ c → SameConsumers b c → SameConsumers a d
+same_as a b c d e k same =
+    subst (λ (l : List (Consumer (Vec ℕ Global) Global AnyItems)). SameConsumers a l) (sym k) (subst (λ (l : List (Consumer (Vec ℕ Global) Global AnyItems)). SameConsumers l c) e same)

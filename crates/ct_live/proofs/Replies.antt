@@ -1,5 +1,5 @@
 -- A reply without the end of its line.
-use Rattle.std.proofs.Common.{◌≡◌, ◌∙◌, ℕ, List, [], ◌∷◌, ◌++◌, ◌-◌, ◌+◌, length, take, refl, sym, ap, arith, length-append}
+use Rattle.std.proofs.Common.{◌≡◌, ◌∙◌, ℕ, List, [], ◌∷◌, ◌++◌, ◌-◌, length, take, ap, arith, length-append}
 use Rattle.std.proofs.Math.Seq.{take-append_seam}
 
 -- a list that ends with one item, without it

@@ -1,12 +1,11 @@
 -- What a line asks of a live log.
-use Rattle.std.specs.Prelude.{◌≡◌, ◌<◌, ◌≢◌, ℕ, List, length, nat_le, nat_lt, ◌&&◌, Option, Some, None, option_map, option_and_then, if◌then◌else◌, codes}
+use Rattle.std.specs.Prelude.{◌≡◌, ◌<◌, ℕ, List, length, nat_le, nat_lt, ◌&&◌, Option, Some, None, option_map, option_and_then, if◌then◌else◌, codes}
 use Rattle.std.specs.Str.{bytes_eq, is_utf8}
 use Rattle.serde_json.specs.Data.{Data}
 use Rattle.serde_json.specs.Read.{read}
 use Rattle.ct_lines.specs.Asked.{with_three}
 use Rattle.ct_lines.specs.Fields.{text_at, number_at}
-use Rattle.ct_parties.specs.Tasks.{Task, for_front, for_operator, for_frozen, Step, does, ends_shift, AsksFor}
-use Rattle.ct_parties.specs.declared.task.OperatorTask.{OperatorTask}
+use Rattle.ct_parties.specs.Tasks.{for_front, for_operator, for_frozen, Step, does, ends_shift, AsksFor}
 use Rattle.ct_parties.specs.declared.task.OperatorTask.TheVariants.{Sequence, Publish, Shutdown, BadLine}
 use Rattle.ct_live.specs.LiveTasks.{LiveStep, front_does, operator_does, closes}
 use Rattle.ct_live.specs.declared.asking.LiveRequest.{LiveRequest}

@@ -75,7 +75,8 @@ fn start_reader<'e: 's, 's, R: Threads + Wait + Sync, B: BufRead + Drop + Send +
     giver: Giver<B>,
 ) -> Result<ReaderThread<B>, Fault>
     requires { length giver.inlets.fronts.items ≡ count }
-    ensures { IfOk result (λ t. t.promise.0.value ≡ giver) }
+    ensures started { IfOk result (λ t. t.promise.0.value ≡ giver) }
+    ensures inlets { IfOk result (λ t. t.promise.0.value.inlets ≡ giver.inlets) }
 {
     let promise = ReaderPromise(Snapshot::of(&giver));
     let reading = move || -> Reading<B>
@@ -124,6 +125,7 @@ fn start_writer<'e: 's, 's, R: Threads + Wait + Sync, W: Write + Drop + Send + '
     out: Out<W>,
 ) -> Result<WriterThread<W>, Writing<W>>
     ensures started { IfOk result (λ t. t.promise.0.value ≡ out) }
+    ensures rings { IfOk result (λ t. t.promise.0.value.rings.items ≡ out.rings.items) }
     ensures refused { IfErr result (λ w. WritesOut out.rings.items w.out.rings.items (W.contents out.output) (W.contents w.out.output) w.result) }
 {
     let promise = WriterPromise(Snapshot::of(&out));
@@ -236,6 +238,7 @@ fn left_of<B: BufRead + Drop>(
     joined: Result<Vec<FrontWorker>, PartyFault>,
 ) -> Result<Left<B>, Fault>
     ensures giver { IfOk result (λ l. l.giver ≡ reading.giver) }
+    ensures inlets { IfOk result (λ l. l.giver.inlets ≡ reading.giver.inlets) }
     ensures all { IfOk result (λ l. IsOk written × IsOk operated × (joined ≡ Ok l.workers)) }
 {
     let Reading { giver, end } = reading;

@@ -1,5 +1,5 @@
 use Rattle.ct_live.proofs.Taking.{took_none, took_some, took_refused}
-use Rattle.std.proofs.Common.{arith, sym, ◌∙◌}
+use Rattle.std.proofs.Common.{arith}
 use Rattle.ct_live.proofs.operator.take.Goals as goal
 
 pub returns-then-max-eq0 : goal.returns-then-max-eq0
