@@ -30,7 +30,7 @@ use Rattle.ct_live.specs.declared.desk.Desk.{Desk}
 use Rattle.ct_live.specs.declared.workers.DeskWorker.{DeskWorker}
 
 -- what a front's answers say of it
-abbrev FrontStep : LiveFront → FrontTask → List ℕ → LiveFront → Type 0
+abbrev pub FrontStep : LiveFront → FrontTask → List ℕ → LiveFront → Type 0
 FrontStep a t r b = FrontReplies a.front t r b.front
 
 -- a front that answered its tasks went on

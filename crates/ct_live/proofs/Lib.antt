@@ -3,3 +3,5 @@ pub mod Replies
 pub mod Taking
 pub mod Opens
 pub mod Asks
+pub mod Replied
+pub mod Texts

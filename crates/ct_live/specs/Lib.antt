@@ -4,4 +4,5 @@ pub mod LiveReplies
 pub mod LiveParties
 pub mod LiveRuns
 pub mod LiveOpening
+pub mod LiveReplied
 pub mod LiveServed

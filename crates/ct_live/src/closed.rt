@@ -1,5 +1,8 @@
 //! The log closed, and its replies to the lines that are left.
 
+ghost use Rattle.std.specs.Prelude.{OnOk};
+ghost use Rattle.ct_live.specs.LiveReplied.{WritesText};
+
 use crate::replying::reply_object;
 use ct_core::{Published, Reply};
 use ct_lines::{send, serve_frozen};
@@ -26,7 +29,9 @@ pub fn send_last_head<W: Write>(
     log: &Published,
     number: u64,
     output: &mut W,
-) -> Result<(), Fault> {
+) -> Result<(), Fault>
+    ensures { OnOk result (WritesText (W.contents output.old) (W.contents output.new)) }
+{
     let reply = reply_object(alloc, &Ok(Reply::Published(log.last_head())))?;
     let text = tag(alloc, number, &reply)?;
     send(output, &text)?;
@@ -34,13 +39,16 @@ pub fn send_last_head<W: Write>(
 }
 
 // Writes the closed log's reply to a line. An empty line has none.
+#[tactic(auto, using(crate::proofs::Texts::text_none))]
 fn send_reply<W: Write>(
     alloc: Global,
     log: &Published,
     number: u64,
     line: &[u8],
     output: &mut W,
-) -> Result<(), Fault> {
+) -> Result<(), Fault>
+    ensures { OnOk result (WritesText (W.contents output.old) (W.contents output.new)) }
+{
     if line.is_empty() {
         return Ok(());
     }
@@ -56,11 +64,15 @@ pub fn serve_closed<B: BufRead + Drop, W: Write>(
     log: &Published,
     lines: &mut NumberedLines<B>,
     output: &mut W,
-) -> Result<(), Fault> {
+) -> Result<(), Fault>
+    ensures { OnOk result (WritesText (W.contents output.old) (W.contents output.new)) }
+{
     let mut line = Vec::new(alloc);
-    for _turn in 0..LINES {
+    for turn in 0..LINES {
         match lines.read(&mut line) {
-            Ok(Some(number)) => send_reply(alloc, log, number, &line, output)?,
+            Ok(Some(number)) => {
+                send_reply(alloc, log, number, &line, output)?;
+            }
             Ok(None) => return Ok(()),
             Err(error) => return Err(Fault::from(error.kind())),
         }

@@ -1,10 +1,11 @@
 //! What comes once all threads have ended.
 
 ghost use Rattle.std.specs.Prelude.{◌≡◌, ◌++◌, ◌∷◌, [], IfOk, OnOk};
-ghost use Rattle.rtrb.specs.Ring.{IsPair};
+ghost use Rattle.rtrb.specs.Ring.{sent, received, IsPair};
 ghost use Rattle.ct_parties.specs.Parties.{AreFrontsOf};
 ghost use Rattle.ct_pipes.specs.Rings.{all_received, all_sent, ArePairs};
 ghost use Rattle.ct_pipes.specs.Written.{WritesOn};
+ghost use Rattle.ct_live.specs.LiveReplied.{EndsLive, EndsLog};
 ghost use Rattle.ct_live.specs.LiveRuns.{AreJoined, worker_answers, worker_fronts, worker_tasks};
 
 use crate::asking::DeskTask;
@@ -81,6 +82,8 @@ fn write_rest<W: Write>(
     requires orders { IsPair inlets.old.operator tasks }
     requires answers { ArePairs (worker_answers workers.items ++ answers ∷ []) rings.old }
     ensures fronts { IfOk result (λ v. v.items ≡ worker_fronts workers.items) }
+    ensures taken { OnOk result (all_received (worker_tasks workers.items) ≡ all_sent inlets.old.fronts.items) }
+    ensures ordered { OnOk result (received tasks ≡ sent inlets.old.operator) }
     ensures all { OnOk result (all_received rings.new ≡ all_sent (worker_answers workers.items ++ answers ∷ [])) }
     ensures written { OnOk result (WritesOn rings.old rings.new (W.contents output.old) (W.contents output.new)) }
 {
@@ -114,6 +117,7 @@ fn close_and_serve<H: Threads + Wait + Sync, B: BufRead + Drop, W: Write>(
     output: &mut W,
 ) -> Result<(), Fault>
     requires { AreFrontsOf sequencer fronts.items }
+    ensures { OnOk result (EndsLog sequencer fronts.items (W.contents output.old) (W.contents output.new)) }
 {
     match end {
         End::Close { line, now } => {
@@ -140,6 +144,7 @@ pub fn end_live<H: Threads + Wait + Sync, B: BufRead + Drop, W: Write>(
     output: &mut W,
 ) -> Result<(), Fault>
     requires { AreJoined left.giver.inlets left.workers.items operator rings.old }
+    ensures { OnOk result (EndsLive left.giver.inlets left.workers.items operator rings.old (W.contents output.old) (W.contents output.new)) }
 {
     let DeskWorker {
         desk,

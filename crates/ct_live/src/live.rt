@@ -1,10 +1,11 @@
 //! A live log over an input and an output.
 
-ghost use Rattle.std.specs.Prelude.{◌≡◌, [], length, IfOk};
+ghost use Rattle.std.specs.Prelude.{◌≡◌, [], length, IfOk, OnOk};
 ghost use Rattle.rtrb.specs.Ring.{sent, received, IsPair};
 ghost use Rattle.ct_parties.specs.Parties.{AreFrontsOf};
 ghost use Rattle.ct_live.specs.LiveRuns.{worker_answers, worker_fronts, worker_tasks};
 ghost use Rattle.ct_live.specs.LiveOpening.{AreOpened};
+ghost use Rattle.ct_live.specs.LiveReplied.{IsRepliedLive, RepliesLive};
 
 use crate::asking::DeskTask;
 use crate::front::LiveFront;
@@ -181,6 +182,7 @@ fn serve_house<H: Threads + Wait + Sync, B: BufRead + Drop + Send, W: Write + Dr
     requires count { length fronts.items ≡ options.fronts }
     requires lanes { length sequencer.lanes ≡ options.fronts }
     requires fronts { AreFrontsOf sequencer fronts.items }
+    ensures { OnOk result.result (RepliesLive sequencer fronts.items (W.contents output) (W.contents result.output)) }
 {
     let Ends {
         inlets,
@@ -235,7 +237,9 @@ pub fn serve_live<H: Threads + Wait + Sync, I: Read + Drop + Send, W: Write + Dr
     turns: u64,
     input: I,
     output: W,
-) -> Served<W> {
+) -> Served<W>
+    ensures { OnOk result.result (IsRepliedLive options.fronts options.ring options.open_at (W.contents output) (W.contents result.output)) }
+{
     let (lines, ends, places) = match prepare(alloc, options.fronts, input) {
         Ok(prepared) => prepared,
         Err(fault) => {

@@ -1,6 +1,7 @@
 //! The threads: the reader, the writer, each front, and the operator in the thread that calls.
 
 ghost use Rattle.std.specs.Prelude.{◌≡◌, length, IsOk, Ok, Some, IfOk, IfErr, OnOk};
+ghost use Rattle.ct_live.specs.LiveReplied.{EndsLive, RunsLive};
 ghost use Rattle.ct_live.specs.LiveRuns.{AreJoined, DeskWorks, GivesOn, WritesOut};
 ghost use Rattle.ct_live.specs.declared.workers.DeskWorker.{DeskWorker as DeskWorkerOf};
 
@@ -126,6 +127,7 @@ fn start_writer<'e: 's, 's, R: Threads + Wait + Sync, W: Write + Drop + Send + '
 ) -> Result<WriterThread<W>, Writing<W>>
     ensures started { IfOk result (λ t. t.promise.0.value ≡ out) }
     ensures rings { IfOk result (λ t. t.promise.0.value.rings.items ≡ out.rings.items) }
+    ensures output { IfOk result (λ t. W.contents t.promise.0.value.output ≡ W.contents out.output) }
     ensures refused { IfErr result (λ w. WritesOut out.rings.items w.out.rings.items (W.contents out.output) (W.contents w.out.output) w.result) }
 {
     let promise = WriterPromise(Snapshot::of(&out));
@@ -268,6 +270,8 @@ fn end_in<R: Threads + Wait + Sync, B: BufRead + Drop, W: Write>(
     output: &mut W,
 ) -> Result<(), Fault>
     requires { (o : DeskWorkerOf) → slot.old ≡ Some o → AreJoined left.giver.inlets left.workers.items o rings.old }
+    ensures { OnOk result ((o : DeskWorkerOf) × (slot.old ≡ Some o)
+        × EndsLive left.giver.inlets left.workers.items o rings.old (W.contents output.old) (W.contents output.new)) }
 {
     match slot.take() {
         Some(operator) => end_live(rt, alloc, operator, left, rings, close_at, output),
@@ -294,6 +298,8 @@ fn run_in<
 ) -> Served<W>
     requires count { length start.giver.inlets.fronts.items ≡ options.fronts }
     requires joined { (o : DeskWorkerOf) → slot.old ≡ Some o → AreJoined start.giver.inlets start.workers.items o start.out.rings.items }
+    ensures { OnOk result.result (RunsLive start.giver.inlets start.workers.items start.out.rings.items slot.old
+        (W.contents start.out.output) (W.contents result.output)) }
 {
     let Start {
         giver,
@@ -346,6 +352,8 @@ pub fn run_threads<R: Threads + Wait + Sync, B: BufRead + Drop + Send, W: Write 
 ) -> Served<W>
     requires count { length start.giver.inlets.fronts.items ≡ options.fronts }
     requires joined { (o : DeskWorkerOf) → slot.old ≡ Some o → AreJoined start.giver.inlets start.workers.items o start.out.rings.items }
+    ensures { OnOk result.result (RunsLive start.giver.inlets start.workers.items start.out.rings.items slot.old
+        (W.contents start.out.output) (W.contents result.output)) }
 {
     thread::scope(
         thread::scope_env(),
@@ -353,6 +361,8 @@ pub fn run_threads<R: Threads + Wait + Sync, B: BufRead + Drop + Send, W: Write 
         move |scope| -> Served<W>
             requires count { length start.giver.inlets.fronts.items ≡ options.fronts }
             requires joined { (o : DeskWorkerOf) → slot.now ≡ Some o → AreJoined start.giver.inlets start.workers.items o start.out.rings.items }
+            ensures { OnOk result.result (RunsLive start.giver.inlets start.workers.items start.out.rings.items slot.entry.now
+                (W.contents start.out.output) (W.contents result.output)) }
         { run_in(rt, alloc, scope, places, waiting, options, start, slot) },
     )
 }
