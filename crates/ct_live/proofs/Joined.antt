@@ -15,6 +15,7 @@ use Rattle.ct_parties.proofs.FrontLemmas.{front_goes_on_nothing, front_goes_on_b
 use Rattle.ct_parties.proofs.OperatorLemmas.{goes_on_nothing, goes_on_both}
 use Rattle.ct_parties.proofs.PartyLemmas.{fronts_kept}
 use Rattle.ct_pipes.specs.Answered.{AreAnswered}
+use Rattle.ct_pipes.specs.Written.{WritesOn}
 use Rattle.ct_pipes.specs.Rings.{ArePairs, SameProducers, SameConsumers}
 use Rattle.ct_pipes.specs.declared.answering.Numbered.{Numbered}
 use Rattle.ct_pipes.specs.declared.answering.PartyFault.{PartyFault}
@@ -155,3 +156,8 @@ replied_as started before r v e k all =
 pub same_as : (a b c d : List (Consumer (Vec ℕ Global) Global AnyItems)) → b ≡ a → d ≡ c → SameConsumers b c → SameConsumers a d
 same_as a b c d e k same =
     subst (λ (l : List (Consumer (Vec ℕ Global) Global AnyItems)). SameConsumers a l) (sym k) (subst (λ (l : List (Consumer (Vec ℕ Global) Global AnyItems)). SameConsumers l c) e same)
+
+pub writes_as : (a b c d : List (Consumer (Vec ℕ Global) Global AnyItems)) (x y z : Option (List ℕ)) → b ≡ a → d ≡ c → y ≡ x → WritesOn b c y z → WritesOn a d x z
+writes_as a b c d x y z e k m w =
+    subst (λ (l : List (Consumer (Vec ℕ Global) Global AnyItems)). WritesOn a l x z) (sym k)
+    (subst (λ (l : List (Consumer (Vec ℕ Global) Global AnyItems)). WritesOn l c x z) e (subst (λ (o : Option (List ℕ)). WritesOn b c o z) m w))

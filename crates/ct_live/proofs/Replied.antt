@@ -1,26 +1,23 @@
 -- What the parties answered was written.
-use Rattle.std.proofs.Common.{◌≡◌, ◌<◌, ◌∙◌, ◌+◌, ℕ, suc, List, [], ◌∷◌, ◌++◌, map, refl, sym, ap, subst, length, arith, get_or, Vec, Global, Option, Some}
-use Rattle.std.specs.Prelude.{All, slice_get}
-use Rattle.std.specs.Io.KnownBytes.{Appends}
+use Rattle.std.proofs.Common.{◌≡◌, ◌∙◌, ℕ, suc, List, [], ◌∷◌, ◌++◌, refl, sym, ap, subst, arith, Vec, Global, Option, Some}
+use Rattle.std.specs.Prelude.{All}
 use Rattle.std.proofs.KnownBytes.{Appends-nil, Appends-trans}
-use Rattle.std.proofs.lemmas.List.{map-append}
-use Rattle.std.proofs.lemmas.List.Elements.{All-cons, All-map}
+use Rattle.std.proofs.lemmas.List.Elements.{All-map}
 use Rattle.std.proofs.lemmas.Option.{get_or_from_slice_get, same_Some, slice_get_within}
 use Rattle.rtrb.specs.Ring.{sent, received}
 use Rattle.rtrb.specs.declared.AnyItems.{AnyItems}
 use Rattle.rtrb.specs.declared.consumer.Consumer.{Consumer}
 use Rattle.rtrb.specs.declared.producer.Producer.{Producer}
 use Rattle.ct_house.specs.House.{FrontView, HouseState}
-use Rattle.ct_parties.specs.ClosedLog.{Closes}
 use Rattle.ct_parties.specs.declared.task.FrontTask.{FrontTask}
 use Rattle.ct_pipes.specs.Answered.{AreAnswered, AnswersMore}
 use Rattle.ct_pipes.specs.Parts.{IsMergeOf}
 use Rattle.ct_pipes.specs.Rings.{all_received, all_sent, texts, texts_each}
-use Rattle.ct_pipes.specs.Written.{IsWritten, WritesOn}
+use Rattle.ct_pipes.specs.Written.{IsWritten}
 use Rattle.ct_pipes.specs.declared.answering.Numbered.{Numbered}
 use Rattle.ct_live.specs.LiveOpening.{AreOpened}
 use Rattle.ct_live.specs.LiveParties.{DeskReplies, FrontReplies}
-use Rattle.ct_live.specs.LiveReplied.{AllAnswer, EndsLive, RepliesLive, Rings, RunsLive}
+use Rattle.ct_live.specs.LiveReplied.{AllAnswer, RepliesLive, Rings, RunsLive}
 use Rattle.ct_live.specs.LiveRuns.{FrontWorker, worker_fronts, worker_tasks, worker_answers, AllReply, DeskStep, DeskWorks}
 use Rattle.ct_live.specs.declared.asking.DeskTask.{DeskTask}
 use Rattle.ct_live.specs.declared.desk.Desk.{Desk}
@@ -133,3 +130,11 @@ replies_live n e workers o old new i tasks answers own_answers own_tasks r = go 
           text = r.ended.closing.text;
           written = Appends-trans old r.ended.mid new _ r.ended.closing.text w.appends r.ended.closing.last;
         }
+
+-- the same, of this house and these fronts
+pub replies_as : (n : ℕ) (e : Ends) (workers : List FrontWorker) (o : DeskWorker) (house : HouseState) (fronts : List FrontView) (old new : Option (List ℕ))
+    → RunsLive e.inlets workers e.rings.items (Some o) old new → AreOpened n e → worker_tasks workers ≡ e.tasks.items → worker_answers workers ≡ e.answers.items → o.answers ≡ e.desk_answers
+    → o.tasks ≡ e.desk_tasks → o.desk.sequencer ≡ house → worker_fronts workers ≡ fronts → RepliesLive house fronts old new
+replies_as n e workers o house fronts old new r i tasks answers own_answers own_tasks same all =
+    subst (λ (h : HouseState). RepliesLive h fronts old new) same
+    (subst (λ (l : List FrontView). RepliesLive o.desk.sequencer l old new) all (replies_live n e workers o old new i tasks answers own_answers own_tasks r))

@@ -1,6 +1,6 @@
 //! The threads: the reader, the writer, each front, and the operator in the thread that calls.
 
-ghost use Rattle.std.specs.Prelude.{◌≡◌, length, IsOk, Ok, Some, IfOk, IfErr, OnOk};
+ghost use Rattle.std.specs.Prelude.{◌≡◌, length, IsOk, Ok, Err, Some, IfOk, IfErr, OnOk};
 ghost use Rattle.ct_live.specs.LiveReplied.{EndsLive, RunsLive};
 ghost use Rattle.ct_live.specs.LiveRuns.{AreJoined, DeskWorks, GivesOn, WritesOut};
 ghost use Rattle.ct_live.specs.declared.workers.DeskWorker.{DeskWorker as DeskWorkerOf};
@@ -208,7 +208,9 @@ pub struct Served<W: Write + Drop> {
 }
 
 // What is left where a thread didn't start.
-fn not_started<W: Write + Drop>(out: Out<W>) -> Served<W> {
+fn not_started<W: Write + Drop>(out: Out<W>) -> Served<W>
+    ensures { result.result ≡ Err Fault.Threads }
+{
     let Out { rings: _, output } = out;
     Served {
         output,
@@ -324,18 +326,17 @@ fn run_in<
         mut rings,
         mut output,
     } = out;
-    let result = match left_of(reading, result, operated, joined) {
-        Ok(left) => end_in(
-            rt,
-            alloc,
-            slot,
-            left,
-            &mut rings,
-            options.close_at,
-            &mut output,
-        ),
-        Err(fault) => Err(fault),
+    let left = match left_of(reading, result, operated, joined) {
+        Ok(left) => left,
+        Err(fault) => {
+            return Served {
+                output,
+                result: Err(fault),
+            };
+        }
     };
+    let close_at = options.close_at;
+    let result = end_in(rt, alloc, slot, left, &mut rings, close_at, &mut output);
     Served { output, result }
 }
 
