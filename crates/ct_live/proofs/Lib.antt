@@ -5,3 +5,4 @@ pub mod Opens
 pub mod Asks
 pub mod Replied
 pub mod Texts
+pub mod Given

@@ -6,3 +6,4 @@ pub mod LiveRuns
 pub mod LiveOpening
 pub mod LiveReplied
 pub mod LiveServed
+pub mod LiveGiven

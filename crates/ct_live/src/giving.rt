@@ -1,6 +1,7 @@
 //! Lines read as they come, and given out to the parties.
 
-ghost use Rattle.std.specs.Prelude.{◌≡◌, length};
+ghost use Rattle.std.specs.Prelude.{◌≡◌, length, IfOk};
+ghost use Rattle.ct_live.specs.LiveGiven.{GivesLine, GivesStep};
 ghost use Rattle.ct_live.specs.LiveLines.{IsForFront};
 ghost use Rattle.ct_live.specs.LiveRuns.{GivesOn};
 ghost use Rattle.ct_live.specs.LiveTasks.{live_step};
@@ -83,7 +84,8 @@ fn give_task<R: Wait>(
     task: LiveTask,
 ) -> Result<Option<u64>, GiveFault>
     requires { IsForFront (length inlets.old.fronts.items) (live_step task) }
-    ensures { GivesOn inlets.old inlets.new }
+    ensures same { GivesOn inlets.old inlets.new }
+    ensures given { IfOk result (λ o. GivesStep number (live_step task) o inlets.old inlets.new) }
 {
     match task {
         LiveTask::Front(front, task) => {
@@ -121,7 +123,8 @@ fn give_line<R: Wait>(
     line: &[u8],
 ) -> Result<Option<u64>, GiveFault>
     requires { length inlets.old.fronts.items ≡ count }
-    ensures { GivesOn inlets.old inlets.new }
+    ensures same { GivesOn inlets.old inlets.new }
+    ensures given { IfOk result (λ o. GivesLine count number line.now o inlets.old inlets.new) }
 {
     if line.is_empty() {
         return Ok(None);
