@@ -104,9 +104,9 @@ fn await_size<R: Wait>(
     Err(Refusal::Late)
 }
 
-// Does what a line asks for.
+/// Does what a line asks for. A line that waits ends after `waiting.turns` turns.
 #[tactic(auto, using(crate::proofs::FrontLemmas::looks_on, crate::proofs::FrontLemmas::submits_on))]
-fn do_task<R: Wait>(
+pub fn do_task<R: Wait>(
     rt: &R,
     alloc: Global,
     front: &mut Front,

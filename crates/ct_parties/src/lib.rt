@@ -19,8 +19,8 @@
 
 mod closing;
 mod fault;
-mod front_work;
-mod operator_work;
+pub mod front_work;
+pub mod operator_work;
 mod options;
 mod party;
 mod plan;
@@ -32,6 +32,10 @@ mod task;
 mod threads;
 mod waiting;
 
+pub use closing::close;
 pub use fault::Fault;
 pub use options::Options;
+pub use plan::{Task, line_task};
 pub use script::serve;
+pub use task::{FrontTask, OperatorTask};
+pub use waiting::{Bell, Waiting};

@@ -105,8 +105,8 @@ fn shut(sequencer: &mut Sequencer) -> Result<Reply, Refusal>
     Ok(Reply::Accepted(accepted))
 }
 
-// Does what a line asks for.
-fn do_task<R: Threads + Wait + Sync>(
+/// Does what a line asks for. A line that waits ends after `waiting.turns` turns in a row in which nothing came.
+pub fn do_task<R: Threads + Wait + Sync>(
     rt: &R,
     alloc: Global,
     sequencer: &mut Sequencer,

@@ -18,14 +18,14 @@ use std::mem;
 
 /// What a line has the program do.
 #[derive(Debug, Drop)]
-enum Task<'a> {
-    // The front with this number does this.
+pub enum Task<'a> {
+    /// The front with this number does this.
     Front(u16, FrontTask),
-    // The operator does this.
+    /// The operator does this.
     Operator(OperatorTask),
-    // The frozen log answers this line.
+    /// The frozen log answers this line.
     Frozen(&'a [u8]),
-    // The shift ends at this moment.
+    /// The shift ends at this moment, in milliseconds.
     EndsShift(u64),
 }
 
@@ -101,8 +101,13 @@ fn request_task<'a>(fronts: u16, line: &'a [u8], request: Request) -> Task<'a>
     }
 }
 
-// What a line asks for.
-fn line_task<'a>(alloc: Global, fronts: u16, line: &'a [u8]) -> Result<Task<'a>, Fault>
+/// What a line asks for, which stands without its end: a line that is no request is the operator's, to be replied to with
+/// bad-line.
+///
+/// # Errors
+///
+/// `Memory`, where a growth is refused.
+pub fn line_task<'a>(alloc: Global, fronts: u16, line: &'a [u8]) -> Result<Task<'a>, Fault>
     ensures asked { IfOk result (λ t. AsksFor fronts line.entry.now (step t)) }
     ensures there { IfOk result (λ t. IsForThere fronts (step t)) }
     ensures memory { IsOkUnless result Fault.Memory }

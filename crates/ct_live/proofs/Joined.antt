@@ -1,0 +1,163 @@
+-- The parties and their rings stay what they are while the threads run.
+use Rattle.std.proofs.Common.{◌≡◌, ◌∙◌, ℕ, List, [], ◌∷◌, ◌++◌, map, refl, reverse, sym, subst, length, Vec, Global, true≢false}
+use Rattle.std.specs.List.{AllZip}
+use Rattle.std.specs.Prelude.{Option, Some, Result, Ok, Err, IsOk, IfOk, OnOk}
+use Rattle.rtrb.specs.Ring.{IsPair, SameProducer, SameConsumer}
+use Rattle.rtrb.specs.declared.AnyItems.{AnyItems}
+use Rattle.rtrb.specs.declared.consumer.Consumer.{Consumer}
+use Rattle.rtrb.specs.declared.producer.Producer.{Producer}
+use Rattle.ct_house.specs.House.{FrontView}
+use Rattle.ct_parties.specs.FrontWork.{FrontGoesOn}
+use Rattle.ct_parties.specs.OperatorWork.{GoesOn}
+use Rattle.ct_parties.specs.Parties.{AreSame}
+use Rattle.ct_parties.specs.declared.task.FrontTask.{FrontTask}
+use Rattle.ct_parties.proofs.FrontLemmas.{front_goes_on_nothing, front_goes_on_both}
+use Rattle.ct_parties.proofs.OperatorLemmas.{goes_on_nothing, goes_on_both}
+use Rattle.ct_parties.proofs.PartyLemmas.{fronts_kept}
+use Rattle.ct_pipes.specs.Answered.{AreAnswered}
+use Rattle.ct_pipes.specs.Written.{WritesOn}
+use Rattle.ct_pipes.specs.Rings.{ArePairs, SameProducers, SameConsumers}
+use Rattle.ct_pipes.specs.declared.answering.Numbered.{Numbered}
+use Rattle.ct_pipes.specs.declared.answering.PartyFault.{PartyFault}
+use Rattle.ct_pipes.proofs.Merging.{zip_self}
+use Rattle.ct_pipes.proofs.Turns.{producer_trans}
+use Rattle.std.proofs.lemmas.List.Elements.{length_all_zip}
+use Rattle.ct_live.specs.LiveParties.{FrontReplies}
+use Rattle.ct_live.specs.LiveRuns.{FrontWorker, worker_fronts, worker_tasks, worker_answers, AreJoined, GivesOn, AllReply, DeskStep, DeskWorks}
+use Rattle.ct_live.specs.declared.asking.DeskTask.{DeskTask}
+use Rattle.ct_live.specs.declared.front.LiveFront.{LiveFront}
+use Rattle.ct_live.specs.declared.giving.Inlets.{Inlets}
+use Rattle.ct_live.specs.declared.desk.Desk.{Desk}
+use Rattle.ct_live.specs.declared.workers.DeskWorker.{DeskWorker}
+
+-- what a front's answers say of it
+abbrev pub FrontStep : LiveFront → FrontTask → List ℕ → LiveFront → Type 0
+FrontStep a t r b = FrontReplies a.front t r b.front
+
+-- a front that answered its tasks went on
+front_went_on : (a b : LiveFront) (ts : List (Numbered FrontTask)) (xs : List (List ℕ)) → AreAnswered FrontStep a ts xs b → FrontGoesOn a.front b.front
+front_went_on a b [] [] is = subst (λ (f : LiveFront). FrontGoesOn a.front f.front) (sym is) (front_goes_on_nothing a.front)
+front_went_on a b [] (x ∷ xs) is = absurd is
+front_went_on a b (t ∷ ts) [] is = absurd is
+front_went_on a b (t ∷ ts) (x ∷ xs) (m, reply, did, e, rest) = front_goes_on_both a.front m.front b.front did.goes_on (front_went_on m b ts xs rest)
+
+-- and so did the operator
+desk_went_on : (a b : Desk) (ts : List (Numbered DeskTask)) (xs : List (List ℕ)) → AreAnswered DeskStep a ts xs b → GoesOn a.sequencer b.sequencer
+desk_went_on a b [] [] is = subst (λ (d : Desk). GoesOn a.sequencer d.sequencer) (sym is) (goes_on_nothing a.sequencer)
+desk_went_on a b [] (x ∷ xs) is = absurd is
+desk_went_on a b (t ∷ ts) [] is = absurd is
+desk_went_on a b (t ∷ ts) (x ∷ xs) (m, reply, did, e, rest) = goes_on_both a.sequencer m.sequencer b.sequencer did.goes_on (desk_went_on m b ts xs rest)
+
+fronts_same : (before after : List FrontWorker) → AllReply before after → AreSame (worker_fronts before) (worker_fronts after)
+fronts_same [] [] all = tt
+fronts_same [] (b ∷ after) all = absurd all
+fronts_same (a ∷ before) [] all = absurd all
+fronts_same (a ∷ before) (b ∷ after) (did, rest) =
+    (front_went_on a.party b.party did.answered.tasks (map (λ (v : Vec ℕ Global). v.items) did.answered.answers) did.answered.answered, fronts_same before after rest)
+
+module _ {T : Type 0} where
+  pair_kept : (p q : Producer T Global AnyItems) (c d : Consumer T Global AnyItems) → SameProducer p q → SameConsumer c d → IsPair p c → IsPair q d
+  pair_kept p q c d a b i = (b.0.0 ∙ i.0 ∙ sym a.0.0, b.0.1 ∙ i.1 ∙ sym a.0.1, b.0.2 ∙ i.2 ∙ sym a.0.2, b.0.3 ∙ i.3 ∙ sym a.0.3)
+
+tasks_kept : (ps qs : List (Producer (Numbered FrontTask) Global AnyItems)) (before after : List FrontWorker) → SameProducers ps qs → AllReply before after → ArePairs ps (worker_tasks before)
+    → ArePairs qs (worker_tasks after)
+tasks_kept [] [] [] [] same all pairs = tt
+tasks_kept [] [] [] (b ∷ after) same all pairs = absurd all
+tasks_kept [] [] (a ∷ before) after same all pairs = absurd pairs
+tasks_kept [] (q ∷ qs) before after same all pairs = absurd same
+tasks_kept (p ∷ ps) [] before after same all pairs = absurd same
+tasks_kept (p ∷ ps) (q ∷ qs) [] after same all pairs = absurd pairs
+tasks_kept (p ∷ ps) (q ∷ qs) (a ∷ before) [] same all pairs = absurd all
+tasks_kept (p ∷ ps) (q ∷ qs) (a ∷ before) (b ∷ after) (s, same) (did, all) (i, pairs) = (pair_kept p q a.tasks b.tasks s did.tasks i, tasks_kept ps qs before after same all pairs)
+
+answers_kept : (before after : List FrontWorker) (p q : Producer (Vec ℕ Global) Global AnyItems) (rs ss : List (Consumer (Vec ℕ Global) Global AnyItems)) → AllReply before after
+    → SameProducer p q → SameConsumers rs ss → ArePairs (worker_answers before ++ p ∷ []) rs → ArePairs (worker_answers after ++ q ∷ []) ss
+answers_kept [] [] p q [] ss all own same pairs = absurd pairs
+answers_kept [] [] p q (r ∷ rs) [] all own same pairs = absurd same
+answers_kept [] [] p q (r ∷ []) (s ∷ []) all own same pairs = (pair_kept p q r s own same.0 pairs.0, tt)
+answers_kept [] [] p q (r ∷ []) (s ∷ u ∷ ss) all own same pairs = absurd same.1
+answers_kept [] [] p q (r ∷ v ∷ rs) (s ∷ ss) all own same pairs = absurd pairs.1
+answers_kept [] (b ∷ after) p q rs ss all own same pairs = absurd all
+answers_kept (a ∷ before) [] p q rs ss all own same pairs = absurd all
+answers_kept (a ∷ before) (b ∷ after) p q [] ss all own same pairs = absurd pairs
+answers_kept (a ∷ before) (b ∷ after) p q (r ∷ rs) [] all own same pairs = absurd same
+answers_kept (a ∷ before) (b ∷ after) p q (r ∷ rs) (s ∷ ss) (did, all) own (one, same) (i, pairs) =
+    (pair_kept a.answers b.answers r s did.answers one i, answers_kept before after p q rs ss all own same pairs)
+
+-- all of it
+pub joined_kept : (g h : Inlets) (before after : List FrontWorker) (o p : DeskWorker) (rs ss : List (Consumer (Vec ℕ Global) Global AnyItems)) → AreJoined g before o rs
+    → GivesOn g h → AllReply before after → DeskWorks o p → SameConsumers rs ss → AreJoined h after p ss
+joined_kept g h before after o p rs ss i given did worked same =
+    let on = desk_went_on o.desk p.desk worked.answered.tasks (map (λ (v : Vec ℕ Global). v.items) worked.answered.answers) worked.answered.answered in
+    record {
+      tasks = tasks_kept g.fronts.items h.fronts.items before after given.fronts did i.tasks;
+      orders = pair_kept g.operator h.operator o.tasks p.tasks given.operator worked.tasks i.orders;
+      answers = answers_kept before after o.answers p.answers rs ss did worked.answers same i.answers;
+      fronts = fronts_kept o.desk.sequencer p.desk.sequencer (worker_fronts before) (worker_fronts after) on.house on.count (fronts_same before after did) i.fronts;
+    }
+
+-- ---- the rings into which tasks are given
+
+zip_trans : {A : Type 0} (R : A → A → Type 0) → ((x y z : A) → R x y → R y z → R x z) → (xs ys zs : List A) → AllZip R xs ys → AllZip R ys zs → AllZip R xs zs
+zip_trans R trans [] [] [] a b = tt
+zip_trans R trans [] [] (z ∷ zs) a b = absurd b
+zip_trans R trans [] (y ∷ ys) zs a b = absurd a
+zip_trans R trans (x ∷ xs) [] zs a b = absurd a
+zip_trans R trans (x ∷ xs) (y ∷ ys) [] a b = absurd b
+zip_trans R trans (x ∷ xs) (y ∷ ys) (z ∷ zs) a b = (trans x y z a.0 b.0, zip_trans R trans xs ys zs a.1 b.1)
+
+pub producers_self : {T : Type 0} (ps : List (Producer T Global AnyItems)) → SameProducers ps ps
+producers_self ps = zip_self SameProducer (λ r. ((refl, refl, refl, refl), refl)) ps
+
+pub gives_none : (a : Inlets) → GivesOn a a
+gives_none a = record { fronts = producers_self a.fronts.items; operator = ((refl, refl, refl, refl), refl) }
+
+pub gives_both : (a b c : Inlets) → GivesOn a b → GivesOn b c → GivesOn a c
+gives_both a b c x y = record {
+  fronts = zip_trans SameProducer producer_trans a.fronts.items b.fronts.items c.fronts.items x.fronts y.fronts;
+  operator = producer_trans a.operator b.operator c.operator x.operator y.operator;
+}
+
+pub gives_count : (a b : Inlets) → GivesOn a b → length b.fronts.items ≡ length a.fronts.items
+gives_count a b x = sym (length_all_zip SameProducer a.fronts.items b.fronts.items x.fronts)
+
+-- ---- the fronts and the ends of their rings, put together
+
+-- the fronts and the ends that are left, and the workers that were put together of the others, the last one first
+pub record Matching (fronts left : List FrontView) (tasks own : List (Consumer (Numbered FrontTask) Global AnyItems)) (answers rest : List (Producer (Vec ℕ Global) Global AnyItems))
+    (workers : List FrontWorker) : Type 0 where
+  pub all_fronts : fronts ≡ left ++ worker_fronts (reverse workers)
+  pub all_tasks : tasks ≡ own ++ worker_tasks (reverse workers)
+  pub all_answers : answers ≡ rest ++ worker_answers (reverse workers)
+  pub tasks_count : length own ≡ length left
+  pub answers_count : length rest ≡ length left
+
+-- ---- what is left once all threads have ended
+
+pub when_ok : {T E : Type 0} (P : Type 0) (r : Result T E) → IsOk r → OnOk r P → P
+when_ok P (Ok x) is p = p
+when_ok P (Err e) is p = absurd (true≢false (sym is))
+
+-- the operator is where it was
+pub joined_left : (was now : Option DeskWorker) (g h : Inlets) (before after : List FrontWorker) (rs ss : List (Consumer (Vec ℕ Global) Global AnyItems))
+    → ((o : DeskWorker) → was ≡ Some o → AreJoined g before o rs) → ((p : DeskWorker) → now ≡ Some p → (o : DeskWorker) × (was ≡ Some o) × DeskWorks o p)
+    → GivesOn g h → AllReply before after → SameConsumers rs ss → (p : DeskWorker) → now ≡ Some p → AreJoined h after p ss
+joined_left was now g h before after rs ss own did given replied same p is =
+    let (o, at, works) = did p is in joined_kept g h before after o p rs ss (own o at) given replied works same
+
+pub gives_as : (a b c d : Inlets) → b ≡ a → d ≡ c → GivesOn b c → GivesOn a d
+gives_as a b c d e k on = subst (λ (i : Inlets). GivesOn a i) (sym k) (subst (λ (i : Inlets). GivesOn i c) e on)
+
+pub replied_as : (started before : List FrontWorker) (r : Result (Vec FrontWorker Global) PartyFault) (v : Vec FrontWorker Global) → started ≡ before → r ≡ Ok v
+    → IfOk r (λ w. AllReply started w.items) → AllReply before v.items
+replied_as started before r v e k all =
+    subst (λ (l : List FrontWorker). AllReply l v.items) e (subst (λ (x : Result (Vec FrontWorker Global) PartyFault). IfOk x (λ w. AllReply started w.items)) k all)
+
+pub same_as : (a b c d : List (Consumer (Vec ℕ Global) Global AnyItems)) → b ≡ a → d ≡ c → SameConsumers b c → SameConsumers a d
+same_as a b c d e k same =
+    subst (λ (l : List (Consumer (Vec ℕ Global) Global AnyItems)). SameConsumers a l) (sym k) (subst (λ (l : List (Consumer (Vec ℕ Global) Global AnyItems)). SameConsumers l c) e same)
+
+pub writes_as : (a b c d : List (Consumer (Vec ℕ Global) Global AnyItems)) (x y z : Option (List ℕ)) → b ≡ a → d ≡ c → y ≡ x → WritesOn b c y z → WritesOn a d x z
+writes_as a b c d x y z e k m w =
+    subst (λ (l : List (Consumer (Vec ℕ Global) Global AnyItems)). WritesOn a l x z) (sym k)
+    (subst (λ (l : List (Consumer (Vec ℕ Global) Global AnyItems)). WritesOn l c x z) e (subst (λ (o : Option (List ℕ)). WritesOn b c o z) m w))

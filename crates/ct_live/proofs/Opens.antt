@@ -1,0 +1,60 @@
+-- A live log, opened.
+use Rattle.std.proofs.Common.{◌≡◌, ◌<◌, ◌∙◌, ◌+◌, ℕ, List, [], ◌∷◌, ◌++◌, refl, sym, subst, length, Vec, Global}
+use Rattle.std.specs.Prelude.{Some}
+use Rattle.std.proofs.lemmas.Option.{same_Some}
+use Rattle.rtrb.specs.Ring.{sent, received, IsPair}
+use Rattle.rtrb.specs.declared.AnyItems.{AnyItems}
+use Rattle.rtrb.specs.declared.consumer.Consumer.{Consumer}
+use Rattle.rtrb.specs.declared.producer.Producer.{Producer}
+use Rattle.ct_house.specs.House.{FrontView, HouseState, IsNewHouse}
+use Rattle.ct_parties.specs.Parties.{AreFrontsOf}
+use Rattle.ct_parties.specs.declared.task.FrontTask.{FrontTask}
+use Rattle.ct_parties.proofs.HouseLemmas.{new_of_house, new_in_order}
+use Rattle.ct_pipes.specs.Opening.{AreEmpty}
+use Rattle.ct_pipes.specs.Rings.{ArePairs}
+use Rattle.ct_pipes.proofs.Beside.{as_long}
+use Rattle.ct_pipes.proofs.Opened.{empty_none, empty_more}
+use Rattle.ct_pipes.specs.declared.answering.Numbered.{Numbered}
+use Rattle.ct_live.specs.LiveOpening.{AreOpened}
+use Rattle.ct_live.specs.LiveRuns.{FrontWorker, worker_fronts, worker_tasks, worker_answers, AreJoined}
+use Rattle.ct_live.specs.declared.live.Ends.{Ends}
+use Rattle.ct_live.specs.declared.workers.DeskWorker.{DeskWorker}
+
+-- a new house's fronts are all its fronts
+pub new_fronts_of : (s : HouseState) (fronts : List FrontView) (n places now : ℕ) → IsNewHouse s fronts n places now → 0 < n → AreFrontsOf s fronts
+new_fronts_of s fronts n places now i some = record {
+  of_house = new_of_house s fronts n places now i;
+  in_order = new_in_order s fronts n places now i;
+  some = subst (λ (k : ℕ). 0 < k) (sym i.count) some;
+}
+
+-- the parties have the other ends of the rings that were opened for them
+pub joined_new : (n : ℕ) (e : Ends) (workers : List FrontWorker) (o : DeskWorker) → AreOpened n e → worker_tasks workers ≡ e.tasks.items → worker_answers workers ≡ e.answers.items
+    → o.tasks ≡ e.desk_tasks → o.answers ≡ e.desk_answers → AreFrontsOf o.desk.sequencer (worker_fronts workers) → AreJoined e.inlets workers o e.rings.items
+joined_new n e workers o i tasks answers own_tasks own_answers fronts = record {
+  tasks = subst (λ (l : List (Consumer (Numbered FrontTask) Global AnyItems)). ArePairs e.inlets.fronts.items l) (sym tasks) i.tasks.pairs;
+  orders = rw own_tasks i.orders.pairs.0;
+  answers = rw own_answers (subst (λ (l : List (Producer (Vec ℕ Global) Global AnyItems)). ArePairs (l ++ e.desk_answers ∷ []) e.rings.items) (sym answers) i.answers.pairs);
+  fronts = fronts;
+}
+
+pub joined_there : (n : ℕ) (e : Ends) (workers : List FrontWorker) (o : DeskWorker) → AreOpened n e → worker_tasks workers ≡ e.tasks.items → worker_answers workers ≡ e.answers.items
+    → o.tasks ≡ e.desk_tasks → o.answers ≡ e.desk_answers → AreFrontsOf o.desk.sequencer (worker_fronts workers) → (p : DeskWorker) → Some o ≡ Some p → AreJoined e.inlets workers p e.rings.items
+joined_there n e workers o i tasks answers own_tasks own_answers fronts p is =
+    subst (λ (q : DeskWorker). AreJoined e.inlets workers q e.rings.items) (same_Some o p is) (joined_new n e workers o i tasks answers own_tasks own_answers fronts)
+
+-- as many rings as fronts
+pub as_many : {T : Type 0} (n k : ℕ) (ps : List (Producer T Global AnyItems)) (cs : List (Consumer T Global AnyItems)) → AreEmpty n ps cs → k ≡ n → length cs ≡ k
+as_many n k ps cs i e = as_long ps cs i.pairs ∙ i.count ∙ sym e
+
+-- new rings for so many fronts, and then for the operator
+pub opened : (n k : ℕ) (e : Ends) (rings : List (Consumer (Vec ℕ Global) Global AnyItems)) (ring : Consumer (Vec ℕ Global) Global AnyItems) → k ≡ n
+    → AreEmpty k e.inlets.fronts.items e.tasks.items → AreEmpty k e.answers.items rings → e.rings.items ≡ rings ++ ring ∷ []
+    → IsPair e.inlets.operator e.desk_tasks × (sent e.inlets.operator ≡ []) × (received e.desk_tasks ≡ []) → IsPair e.desk_answers ring × (sent e.desk_answers ≡ []) × (received ring ≡ [])
+    → AreOpened n e
+opened n k e rings ring same tasks answers all own told = record {
+  tasks = subst (λ (m : ℕ). AreEmpty m e.inlets.fronts.items e.tasks.items) same tasks;
+  orders = empty_more 0 [] (e.inlets.operator ∷ []) [] (e.desk_tasks ∷ []) e.inlets.operator e.desk_tasks refl refl own.0 own.1 own.2 empty_none;
+  answers = subst (λ (m : ℕ). AreEmpty (m + 1) (e.answers.items ++ e.desk_answers ∷ []) e.rings.items) same
+      (empty_more k e.answers.items (e.answers.items ++ e.desk_answers ∷ []) rings e.rings.items e.desk_answers ring refl all told.0 told.1 told.2 answers);
+}

@@ -1,0 +1,140 @@
+-- What the parties answered was written.
+use Rattle.std.proofs.Common.{◌≡◌, ◌∙◌, ℕ, suc, List, [], ◌∷◌, ◌++◌, refl, sym, ap, subst, arith, Vec, Global, Option, Some}
+use Rattle.std.specs.Prelude.{All}
+use Rattle.std.proofs.KnownBytes.{Appends-nil, Appends-trans}
+use Rattle.std.proofs.lemmas.List.Elements.{All-map}
+use Rattle.std.proofs.lemmas.Option.{get_or_from_slice_get, same_Some, slice_get_within}
+use Rattle.rtrb.specs.Ring.{sent, received}
+use Rattle.rtrb.specs.declared.AnyItems.{AnyItems}
+use Rattle.rtrb.specs.declared.consumer.Consumer.{Consumer}
+use Rattle.rtrb.specs.declared.producer.Producer.{Producer}
+use Rattle.ct_house.specs.House.{FrontView, HouseState}
+use Rattle.ct_parties.specs.declared.task.FrontTask.{FrontTask}
+use Rattle.ct_pipes.specs.Answered.{AreAnswered, AnswersMore}
+use Rattle.ct_pipes.specs.Parts.{IsMergeOf}
+use Rattle.ct_pipes.specs.Rings.{all_received, all_sent, texts, texts_each}
+use Rattle.ct_pipes.specs.Written.{IsWritten}
+use Rattle.ct_pipes.specs.declared.answering.Numbered.{Numbered}
+use Rattle.ct_live.specs.LiveOpening.{AreOpened}
+use Rattle.ct_live.specs.LiveParties.{DeskReplies, FrontReplies}
+use Rattle.ct_live.specs.LiveReplied.{AllAnswer, RepliesLive, Rings, RunsLive}
+use Rattle.ct_live.specs.LiveRuns.{FrontWorker, worker_fronts, worker_tasks, worker_answers, AllReply, DeskStep, DeskWorks}
+use Rattle.ct_live.specs.declared.asking.DeskTask.{DeskTask}
+use Rattle.ct_live.specs.declared.desk.Desk.{Desk}
+use Rattle.ct_live.specs.declared.front.LiveFront.{LiveFront}
+use Rattle.ct_live.specs.declared.live.Ends.{Ends}
+use Rattle.ct_live.specs.declared.workers.DeskWorker.{DeskWorker}
+use Rattle.ct_live.proofs.Joined.{FrontStep}
+
+abbrev pub Empty : {A : Type 0} → List A → Type 0
+Empty xs = xs ≡ []
+
+-- ---- the answers of a party, seen as its front or its house
+
+front_answered : (a b : LiveFront) (ts : List (Numbered FrontTask)) (xs : List (List ℕ)) → AreAnswered FrontStep a ts xs b → AreAnswered FrontReplies a.front ts xs b.front
+front_answered a b [] [] is = ap (λ (f : LiveFront). f.front) is
+front_answered a b [] (x ∷ xs) is = absurd is
+front_answered a b (t ∷ ts) [] is = absurd is
+front_answered a b (t ∷ ts) (x ∷ xs) (m, reply, did, e, rest) = (m.front, reply, did, e, front_answered m b ts xs rest)
+
+desk_answered : (a b : Desk) (ts : List (Numbered DeskTask)) (xs : List (List ℕ)) → AreAnswered DeskStep a ts xs b → AreAnswered DeskReplies a.sequencer ts xs b.sequencer
+desk_answered a b [] [] is = ap (λ (d : Desk). d.sequencer) is
+desk_answered a b [] (x ∷ xs) is = absurd is
+desk_answered a b (t ∷ ts) [] is = absurd is
+desk_answered a b (t ∷ ts) (x ∷ xs) (m, reply, did, e, rest) = (m.sequencer, reply, did, e, desk_answered m b ts xs rest)
+
+-- all that was received and sent is what was received and sent since, where nothing was before
+since : {P T : Type 0} (does : P → T → List ℕ → P → Type 0) (a b : P) (got got_then : List (Numbered T)) (gave gave_then : List (Vec ℕ Global)) → got ≡ [] → gave ≡ []
+    → AnswersMore does a b got got_then gave gave_then → AreAnswered does a got_then (texts gave_then) b
+since {T = T} does a b got got_then gave gave_then no_task no_text more =
+    let tasks : got_then ≡ more.tasks = more.came ∙ ap (λ (l : List (Numbered T)). l ++ more.tasks) no_task in
+    let answers : gave_then ≡ more.answers = more.went ∙ ap (λ (l : List (Vec ℕ Global)). l ++ more.answers) no_text in
+    subst (λ (l : List (Numbered T)). AreAnswered does a l (texts gave_then) b) (sym tasks)
+    (subst (λ (l : List (Vec ℕ Global)). AreAnswered does a more.tasks (texts l) b) (sym answers) more.answered)
+
+rest_of : {A : Type 0} (P : A → Type 0) (x : A) (xs : List A) → All P (x ∷ xs) → All P xs
+rest_of P x xs all k d below = all (suc k) d (omega arith)
+
+-- ---- all parties
+
+pub all_answer : (before after : List FrontWorker) (p : Producer (Vec ℕ Global) Global AnyItems) → AllReply before after → All Empty (all_received (worker_tasks before))
+    → All Empty (all_sent (worker_answers before ++ p ∷ []))
+    → AllAnswer (worker_fronts before) (all_received (worker_tasks after)) (texts_each (all_sent (worker_answers after))) (worker_fronts after)
+all_answer [] [] p all no_task no_text = tt
+all_answer [] (b ∷ after) p all no_task no_text = absurd all
+all_answer (a ∷ before) [] p all no_task no_text = absurd all
+all_answer (a ∷ before) (b ∷ after) p (did, all) no_task no_text = (
+  front_answered a.party b.party (received b.tasks) (texts (sent b.answers))
+      (since FrontStep a.party b.party (received a.tasks) (received b.tasks) (sent a.answers) (sent b.answers) (no_task 0 [] (omega arith)) (no_text 0 [] (omega arith)) did.answered),
+  all_answer before after p all (rest_of Empty (received a.tasks) (all_received (worker_tasks before)) no_task)
+      (rest_of Empty (sent a.answers) (all_sent (worker_answers before ++ p ∷ [])) no_text),
+)
+
+last_unsent : (before : List FrontWorker) (p : Producer (Vec ℕ Global) Global AnyItems) → All Empty (all_sent (worker_answers before ++ p ∷ [])) → sent p ≡ []
+last_unsent [] p no_text = no_text 0 [] (omega arith)
+last_unsent (a ∷ before) p no_text = last_unsent before p (rest_of Empty (sent a.answers) (all_sent (worker_answers before ++ p ∷ [])) no_text)
+
+-- ---- what is written
+
+-- nothing is, before anything was sent
+nothing_written : (rings : Rings) (start : Option (List ℕ)) → All Empty (all_received rings) → IsWritten (texts_each (all_received rings)) start start
+nothing_written rings start none = record {
+  order = [];
+  merge = record {
+    known = λ k d below. absurd (omega arith);
+    parts = λ k list at.
+        let inside = slice_get_within (texts_each (all_received rings)) k list at in
+        let is = get_or_from_slice_get (texts_each (all_received rings)) k list list at in
+        sym is ∙ All-map Empty texts (all_received rings) (λ j d below. ap texts (none j d below)) k list inside;
+  };
+  appends = Appends-nil start;
+}
+
+pub texts_last : (ps : List (Producer (Vec ℕ Global) Global AnyItems)) (q : Producer (Vec ℕ Global) Global AnyItems)
+    → texts_each (all_sent (ps ++ q ∷ [])) ≡ texts_each (all_sent ps) ++ texts (sent q) ∷ []
+texts_last [] q = refl
+texts_last (p ∷ ps) q = ap (λ (l : List (List (List ℕ))). texts (sent p) ∷ l) (texts_last ps q)
+
+pub replies_live : (n : ℕ) (e : Ends) (workers : List FrontWorker) (o : DeskWorker) (old new : Option (List ℕ)) → AreOpened n e → worker_tasks workers ≡ e.tasks.items
+    → worker_answers workers ≡ e.answers.items → o.answers ≡ e.desk_answers → o.tasks ≡ e.desk_tasks → RunsLive e.inlets workers e.rings.items (Some o) old new
+    → RepliesLive o.desk.sequencer (worker_fronts workers) old new
+replies_live n e workers o old new i tasks answers own_answers own_tasks r = go r.operator (same_Some o r.operator r.was) r.operated
+  where
+    go : (p : DeskWorker) → o ≡ p → DeskWorks p r.operator_then → RepliesLive o.desk.sequencer (worker_fronts workers) old new
+    go p is worked =
+        let no_task : All Empty (all_received (worker_tasks workers)) = subst (λ (l : List (Consumer (Numbered FrontTask) Global AnyItems)). All Empty (all_received l)) (sym tasks) i.tasks.unreceived in
+        let no_text : All Empty (all_sent (worker_answers workers ++ o.answers ∷ [])) =
+        subst (λ (q : Producer (Vec ℕ Global) Global AnyItems). All Empty (all_sent (worker_answers workers ++ q ∷ []))) (sym own_answers)
+        (subst (λ (l : List (Producer (Vec ℕ Global) Global AnyItems)). All Empty (all_sent (l ++ e.desk_answers ∷ []))) (sym answers) i.answers.unsent) in
+        let no_order : received o.tasks ≡ [] = subst (λ (c : Consumer (Numbered DeskTask) Global AnyItems). received c ≡ []) (sym own_tasks) (i.orders.unreceived 0 [] (omega arith)) in
+        let did : DeskWorks o r.operator_then = subst (λ (q : DeskWorker). DeskWorks q r.operator_then) (sym is) worked in
+        let w = r.ended.written old (r.wrote old (nothing_written e.rings.items old i.answers.unreceived)) in
+        let lists : texts_each (all_received r.ended.rings) ≡ texts_each (all_sent (worker_answers r.workers_then)) ++ texts (sent r.operator_then.answers) ∷ [] =
+        ap texts_each r.ended.all ∙ texts_last (worker_answers r.workers_then) r.operator_then.answers in
+        record {
+          front_tasks = all_received (worker_tasks r.workers_then);
+          front_texts = texts_each (all_sent (worker_answers r.workers_then));
+          fronts_then = worker_fronts r.workers_then;
+          answered = all_answer workers r.workers_then o.answers r.did no_task no_text;
+          desk_tasks = received r.operator_then.tasks;
+          desk_texts = texts (sent r.operator_then.answers);
+          house_then = r.operator_then.desk.sequencer;
+          operated = desk_answered o.desk r.operator_then.desk (received r.operator_then.tasks) (texts (sent r.operator_then.answers))
+              (since DeskStep o.desk r.operator_then.desk (received o.tasks) (received r.operator_then.tasks) (sent o.answers) (sent r.operator_then.answers) no_order
+              (last_unsent workers o.answers no_text) did.answered);
+          now = r.ended.closing.now;
+          left = r.ended.closing.left;
+          closed = r.ended.closing.closed;
+          order = w.order;
+          merge = subst (λ (l : List (List (List ℕ))). IsMergeOf l w.order) lists w.merge;
+          text = r.ended.closing.text;
+          written = Appends-trans old r.ended.mid new _ r.ended.closing.text w.appends r.ended.closing.last;
+        }
+
+-- the same, of this house and these fronts
+pub replies_as : (n : ℕ) (e : Ends) (workers : List FrontWorker) (o : DeskWorker) (house : HouseState) (fronts : List FrontView) (old new : Option (List ℕ))
+    → RunsLive e.inlets workers e.rings.items (Some o) old new → AreOpened n e → worker_tasks workers ≡ e.tasks.items → worker_answers workers ≡ e.answers.items → o.answers ≡ e.desk_answers
+    → o.tasks ≡ e.desk_tasks → o.desk.sequencer ≡ house → worker_fronts workers ≡ fronts → RepliesLive house fronts old new
+replies_as n e workers o house fronts old new r i tasks answers own_answers own_tasks same all =
+    subst (λ (h : HouseState). RepliesLive h fronts old new) same
+    (subst (λ (l : List FrontView). RepliesLive o.desk.sequencer l old new) all (replies_live n e workers o old new i tasks answers own_answers own_tasks r))

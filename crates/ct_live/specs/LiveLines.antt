@@ -1,0 +1,72 @@
+-- What a line asks of a live log.
+use Rattle.std.specs.Prelude.{◌≡◌, ◌<◌, ℕ, List, length, nat_le, nat_lt, ◌&&◌, Option, Some, None, option_map, option_and_then, if◌then◌else◌, codes}
+use Rattle.std.specs.Str.{bytes_eq, is_utf8}
+use Rattle.serde_json.specs.Data.{Data}
+use Rattle.serde_json.specs.Read.{read}
+use Rattle.ct_lines.specs.Asked.{with_three}
+use Rattle.ct_lines.specs.Fields.{text_at, number_at}
+use Rattle.ct_parties.specs.Tasks.{for_front, for_operator, for_frozen, Step, does, ends_shift, AsksFor}
+use Rattle.ct_parties.specs.declared.task.OperatorTask.TheVariants.{Sequence, Publish, Shutdown, BadLine}
+use Rattle.ct_live.specs.LiveTasks.{LiveStep, front_does, operator_does, closes}
+use Rattle.ct_live.specs.declared.asking.LiveRequest.{LiveRequest}
+use Rattle.ct_live.specs.declared.asking.LiveRequest.TheVariants as request_case
+use Rattle.ct_live.specs.declared.asking.DeskTask.TheVariants.{Do, Take, NotYet}
+
+-- what the operator asks of a live log alone: to take has a front, a number of items at most and a moment, to close a moment
+pub data LiveAsked : Type 0 where
+  take : ℕ → ℕ → ℕ → LiveAsked
+  close : ℕ → LiveAsked
+
+-- the same of a request as the code has it
+abbrev pub live_asked : LiveRequest → LiveAsked
+live_asked (request_case.Take from max now) = take from max now
+live_asked (request_case.Close now) = close now
+
+-- the op take
+abbrev pub take_asked : Data → Option LiveAsked
+take_asked d = with_three take (number_at (codes "from") d) (number_at (codes "max") d) (number_at (codes "now") d)
+
+-- what the operator asks of a live log alone by an op
+abbrev pub live_asks : List ℕ → Data → Option LiveAsked
+live_asks op d =
+    if bytes_eq op (codes "take") then take_asked d
+    else (if bytes_eq op (codes "close") then option_map close (number_at (codes "now") d) else None)
+
+-- the same where this makes the request
+abbrev pub live_asks_by : List ℕ → Data → Option LiveAsked
+live_asks_by who d = if bytes_eq who (codes "operator") then option_and_then (λ op. live_asks op d) (text_at (codes "op") d) else None
+
+-- what a JSON value asks of a live log alone
+abbrev pub live_asked_in : Data → Option LiveAsked
+live_asked_in d = option_and_then (λ who. live_asks_by who d) (text_at (codes "who") d)
+
+-- what a line asks of a live log alone: one that is not too long, is UTF-8, and is JSON that asks it
+unfoldable pub live_request_of : List ℕ → Option LiveAsked
+live_request_of line = if nat_le (length line) 1048576 && is_utf8 line then option_and_then live_asked_in (read line) else None
+
+-- what is done for a line that every other log replies to with bad-line, by what it asks of a live log alone
+abbrev pub live_request_step : ℕ → Option LiveAsked → LiveStep
+live_request_step fronts (Some (take from max now)) = if nat_lt from fronts then operator_does (Take from max now) else operator_does (Do BadLine)
+live_request_step fronts (Some (close now)) = closes now
+live_request_step fronts None = operator_does (Do BadLine)
+
+-- What a live log does for a line for which another log would do the first: the same, but that it has no shifts, that a line which
+-- asks the closed log is replied to with not-yet, and that a bad line may be a request that a live log alone has.
+abbrev pub live_step_for : ℕ → List ℕ → Step → LiveStep
+live_step_for fronts line (does (for_front n r)) = front_does n r
+live_step_for fronts line (does (for_operator (Sequence from count now))) = operator_does (Do (Sequence from count now))
+live_step_for fronts line (does (for_operator (Publish now))) = operator_does (Do (Publish now))
+live_step_for fronts line (does (for_operator Shutdown)) = operator_does (Do Shutdown)
+live_step_for fronts line (does (for_operator BadLine)) = live_request_step fronts (live_request_of line)
+live_step_for fronts line (does (for_frozen asked)) = operator_does NotYet
+live_step_for fronts line (ends_shift now) = operator_does (Do BadLine)
+
+-- the step is what a live log with so many fronts does for the line
+abbrev pub AsksLive : ℕ → List ℕ → LiveStep → Type 0
+AsksLive fronts line s = (t : Step) × AsksFor fronts line t × (s ≡ live_step_for fronts line t)
+
+-- a front that does it is one of so many fronts
+abbrev pub IsForFront : ℕ → LiveStep → Type 0
+IsForFront fronts (front_does n r) = n < fronts
+IsForFront fronts (operator_does t) = Unit {0}
+IsForFront fronts (closes now) = Unit {0}

@@ -1,0 +1,52 @@
+-- What the parties of a live log do for their tasks, and what they reply.
+use Rattle.std.specs.Prelude.{◌≡◌, ◌<◌, ◌≤◌, ℕ, List, length, nat_lt, min, MatchBool}
+use Rattle.ct_codec.specs.declared.item.Item.{Item}
+use Rattle.ct_codec.specs.declared.refusal.Refusal.TheVariants as refusal
+use Rattle.ct_core.specs.Core.{clock_of, settle_refusal}
+use Rattle.ct_core.specs.Replies.{Answer, a_settled_count, refused}
+use Rattle.ct_house.specs.House.{FrontView, HouseState, hand_count}
+use Rattle.ct_live.specs.LiveReplies.{object_text}
+use Rattle.ct_live.specs.declared.asking.DeskTask.{DeskTask}
+use Rattle.ct_live.specs.declared.asking.DeskTask.TheVariants.{Do, Take, NotYet}
+use Rattle.ct_parties.specs.FrontWork.{FrontDoes, FrontGoesOn}
+use Rattle.ct_parties.specs.OperatorWork.{GoesOn, IsBadLine, OperatorDoes, Settling}
+use Rattle.ct_parties.specs.declared.task.FrontTask.{FrontTask}
+
+-- The answer where what is there of a front's items is to be settled, so many of them at most: how many were, and these are at least
+-- those that were in hand, up to that many and to 256; or the refusal, of the clock or of memory.
+abbrev pub IsTakeAnswer : ℕ → ℕ → ℕ → HouseState → List Item → Answer → Type 0
+IsTakeAnswer front max now old xs (a_settled_count n) =
+    (n ≡ length xs) × (n ≤ max) × (min (min max 256) (hand_count old front) ≤ n) × (0 < max → clock_of old.core ≤ now)
+IsTakeAnswer front max now old xs (refused e) = (0 < max) × (e ≡ settle_refusal old.core now)
+IsTakeAnswer front max now old xs _ = ⊥
+
+-- what is there of a front's items is settled at now, so many of them at most
+pub record TakesWhatIsThere (front max now : ℕ) (old : HouseState) (r : Answer) (new : HouseState) : Type 0 where
+  pub items : List Item
+  pub settling : Settling front now old new items
+  pub answer : IsTakeAnswer front max now old items r
+  pub none : max ≡ 0 → new ≡ old
+
+-- the line is replied to with not-yet, and nothing is done
+abbrev pub IsNotYet : HouseState → Answer → HouseState → Type 0
+IsNotYet old r new = (r ≡ refused refusal.NotYet) × (new ≡ old)
+
+-- the operator of a live log does a task, with this answer
+abbrev pub DeskDoes : HouseState → DeskTask → Answer → HouseState → Type 0
+DeskDoes old (Do t) r new = OperatorDoes old t r new
+DeskDoes old (Take from max now) r new = MatchBool (nat_lt from (length old.lanes)) (TakesWhatIsThere from max now old r new) (IsBadLine old r new)
+DeskDoes old NotYet r new = IsNotYet old r new
+
+-- the operator does a task, goes on, and replies with its answer
+pub record DeskReplies (old : HouseState) (t : DeskTask) (reply : List ℕ) (new : HouseState) : Type 0 where
+  pub answer : Answer
+  pub does : DeskDoes old t answer new
+  pub goes_on : GoesOn old new
+  pub text : reply ≡ object_text answer
+
+-- a front does a task, goes on, and replies with its answer
+pub record FrontReplies (a : FrontView) (t : FrontTask) (reply : List ℕ) (b : FrontView) : Type 0 where
+  pub answer : Answer
+  pub does : FrontDoes a t answer b
+  pub goes_on : FrontGoesOn a b
+  pub text : reply ≡ object_text answer

@@ -1,0 +1,69 @@
+-- The parties of a live log with the ends of their rings, before their threads start and once all have ended.
+use Rattle.std.specs.Prelude.{ℕ, List, [], ◌∷◌, ◌++◌, map, Option, Result, OnOk, OnErr, Vec}
+use Rattle.std.specs.Global.{Global}
+use Rattle.rtrb.specs.Ring.{sent, received, IsPair, SameProducer, SameConsumer}
+use Rattle.rtrb.specs.declared.AnyItems.{AnyItems}
+use Rattle.rtrb.specs.declared.consumer.Consumer.{Consumer}
+use Rattle.rtrb.specs.declared.producer.Producer.{Producer}
+use Rattle.ct_house.specs.House.{FrontView}
+use Rattle.ct_parties.specs.Parties.{AreFrontsOf}
+use Rattle.ct_parties.specs.declared.task.FrontTask.{FrontTask}
+use Rattle.ct_pipes.specs.Answered.{AnswersMore}
+use Rattle.ct_pipes.specs.Rings.{ArePairs, SameConsumers, SameProducers}
+use Rattle.ct_pipes.specs.Working.{AllWork}
+use Rattle.ct_pipes.specs.Written.{WritesOn, BeginsOn}
+use Rattle.ct_pipes.specs.declared.answering.Numbered.{Numbered}
+use Rattle.ct_pipes.specs.declared.workers.Worker.{Worker}
+use Rattle.ct_live.specs.LiveParties.{DeskReplies, FrontReplies}
+use Rattle.ct_live.specs.declared.asking.DeskTask.{DeskTask}
+use Rattle.ct_live.specs.declared.front.LiveFront.{LiveFront}
+use Rattle.ct_live.specs.declared.giving.Inlets.{Inlets}
+use Rattle.ct_live.specs.declared.desk.Desk.{Desk}
+use Rattle.ct_live.specs.declared.workers.DeskWorker.{DeskWorker}
+
+-- a front with the ends of its rings
+abbrev pub FrontWorker : Type 0
+FrontWorker = Worker LiveFront FrontTask
+
+-- of fronts with the ends of their rings: the fronts, where they receive their tasks, and where they send their answers
+abbrev pub worker_fronts : List FrontWorker → List FrontView
+worker_fronts ws = map (λ (w : FrontWorker). w.party.front) ws
+
+abbrev pub worker_tasks : List FrontWorker → List (Consumer (Numbered FrontTask) Global AnyItems)
+worker_tasks ws = map (λ (w : FrontWorker). w.tasks) ws
+
+abbrev pub worker_answers : List FrontWorker → List (Producer (Vec ℕ Global) Global AnyItems)
+worker_answers ws = map (λ (w : FrontWorker). w.answers) ws
+
+-- All fronts of a house and its operator have the ends of the rings in which they are given tasks, and of those whose other ends
+-- are these: the fronts in order, and then the operator.
+pub record AreJoined (inlets : Inlets) (workers : List FrontWorker) (operator : DeskWorker) (rings : List (Consumer (Vec ℕ Global) Global AnyItems)) : Type 0 where
+  pub tasks : ArePairs inlets.fronts.items (worker_tasks workers)
+  pub orders : IsPair inlets.operator operator.tasks
+  pub answers : ArePairs (worker_answers workers ++ operator.answers ∷ []) rings
+  pub fronts : AreFrontsOf operator.desk.sequencer (worker_fronts workers)
+
+-- the rings into which tasks are given are the same
+pub record GivesOn (a b : Inlets) : Type 0 where
+  pub fronts : SameProducers a.fronts.items b.fronts.items
+  pub operator : SameProducer a.operator b.operator
+
+-- what each front did in its thread
+abbrev pub AllReply : List FrontWorker → List FrontWorker → Type 0
+AllReply before after = AllWork (λ (a : LiveFront) (t : FrontTask) (r : List ℕ) (b : LiveFront). FrontReplies a.front t r b.front) before after
+
+-- the operator does one task, and replies to it
+abbrev pub DeskStep : Desk → DeskTask → List ℕ → Desk → Type 0
+DeskStep a t reply b = DeskReplies a.sequencer t reply b.sequencer
+
+-- what the operator did: it answered all tasks that it received in turn, over the same rings
+pub record DeskWorks (a b : DeskWorker) : Type 0 where
+  pub answered : AnswersMore DeskStep a.desk b.desk (received a.tasks) (received b.tasks) (sent a.answers) (sent b.answers)
+  pub tasks : SameConsumer a.tasks b.tasks
+  pub answers : SameProducer a.answers b.answers
+
+-- what the writer did with these rings: all that came out of them was written, or a beginning of it where it failed
+pub record WritesOut {T E : Type 0} (before after : List (Consumer (Vec ℕ Global) Global AnyItems)) (old new : Option (List ℕ)) (result : Result T E) : Type 0 where
+  pub same : SameConsumers before after
+  pub written : OnOk result (WritesOn before after old new)
+  pub failed : OnErr result (BeginsOn before after old new)

@@ -1,0 +1,166 @@
+//! What a line asks of a live log.
+
+ghost use Rattle.std.specs.Prelude.{◌≡◌, None, IfOk, IsOkUnless, MatchResult, option_map};
+ghost use Rattle.serde_json.specs.Errors.{IsMemory};
+ghost use Rattle.serde_json.specs.View.{view};
+ghost use Rattle.ct_lines.specs.Fields.{text_at};
+ghost use Rattle.ct_live.specs.LiveLines.{take_asked, live_asks, live_asked_in, live_asked, live_request_of, live_request_step, AsksLive, IsForFront};
+ghost use Rattle.ct_live.specs.LiveTasks.{live_step};
+
+use ct_lines::fields;
+use ct_parties::{Fault, FrontTask, OperatorTask, Task, line_task};
+use serde_json::{Error, Value};
+use std::alloc::{AllocError, Global};
+
+/// What the operator does for a line of a live log.
+#[derive(Clone, Copy, Debug, PartialEq, Eq)]
+pub enum DeskTask {
+    /// It does what the operator of every log does.
+    Do(OperatorTask),
+    /// What is there of the items that the front `from` accepted is settled at the moment `now`, in milliseconds, `max` of
+    /// them at most.
+    Take { from: u16, max: u64, now: u64 },
+    /// The line asks the closed log, and is replied to with not-yet.
+    NotYet,
+}
+
+/// What is done for a line of a live log.
+#[derive(Debug, Drop)]
+pub enum LiveTask {
+    /// The front with this number does this.
+    Front(u16, FrontTask),
+    /// The operator does this.
+    Operator(DeskTask),
+    /// The log is closed at this moment, in milliseconds.
+    Close(u64),
+}
+
+// What the operator asks of a live log alone.
+#[derive(Clone, Copy, Debug, PartialEq, Eq)]
+enum LiveRequest {
+    // What is there of the items of the front `from` is settled at the moment `now`, `max` of them at most.
+    Take { from: u64, max: u64, now: u64 },
+    // The log is closed at the moment `now`.
+    Close { now: u64 },
+}
+
+// The longest line, in bytes, without its end.
+const LONGEST: usize = 1_048_576;
+
+fn take_request(value: &Value) -> Option<LiveRequest>
+    ensures { option_map live_asked result ≡ take_asked (view value.now) }
+{
+    let from = fields::number(value, "from")?;
+    let max = fields::number(value, "max")?;
+    let now = fields::number(value, "now")?;
+    Some(LiveRequest::Take { from, max, now })
+}
+
+// What the operator asks of a live log alone by an op.
+fn live_request(op: &str, value: &Value) -> Option<LiveRequest>
+    ensures { option_map live_asked result ≡ live_asks op.now (view value.now) }
+{
+    match op {
+        "take" => take_request(value),
+        "close" => match fields::number(value, "now") {
+            Some(now) => Some(LiveRequest::Close { now }),
+            None => None,
+        },
+        _ => None,
+    }
+}
+
+// The text under a key.
+fn text<'v>(value: &'v Value, key: &str) -> Option<&'v str>
+    ensures { option_map (λ s. s.now) result ≡ text_at key.now (view value.now) }
+{
+    match value.get(key) {
+        Some(field) => field.as_str(),
+        None => None,
+    }
+}
+
+// What the value asks of a live log alone.
+fn request_in(value: &Value) -> Option<LiveRequest>
+    ensures { option_map live_asked result ≡ live_asked_in (view value.now) }
+{
+    let who = text(value, "who")?;
+    if who != "operator" {
+        return None;
+    }
+    let op = text(value, "op")?;
+    live_request(op, value)
+}
+
+// Of a line that isn't read as JSON: it asks nothing, unless a growth was refused.
+#[derive(Drop)]
+struct Unread {
+    request: Result<Option<LiveRequest>, AllocError>,
+}
+
+impl From<Error> for Unread {
+    ghost from_gives = { λ error unread. MatchResult unread.request (λ o. (o ≡ None) × (IsMemory error → ⊥)) (λ _. IsMemory error) };
+
+    fn from(error: Error) -> Unread {
+        let request = if error.is_memory() {
+            Err(AllocError)
+        } else {
+            Ok(None)
+        };
+        Unread { request }
+    }
+}
+
+// What the line asks of a live log alone.
+fn read_live(alloc: Global, line: &[u8]) -> Result<Option<LiveRequest>, AllocError>
+    ensures { IfOk result (λ o. option_map live_asked o ≡ live_request_of line.now) }
+{
+    if line.len() > LONGEST {
+        return Ok(None);
+    }
+    match Value::from_slice(alloc, line) {
+        Ok(value) => Ok(request_in(&value)),
+        Err(error) => Unread::from(error).request,
+    }
+}
+
+// What is done for a line that every other log replies to with bad-line.
+fn live_request_task(fronts: u16, request: Option<LiveRequest>) -> LiveTask
+    ensures { live_step result ≡ live_request_step fronts (option_map live_asked request) }
+{
+    match request {
+        Some(LiveRequest::Take { from, max, now }) => {
+            if from >= u64::from(fronts) {
+                return LiveTask::Operator(DeskTask::Do(OperatorTask::BadLine));
+            }
+            let from = from as u16;
+            LiveTask::Operator(DeskTask::Take { from, max, now })
+        }
+        Some(LiveRequest::Close { now }) => LiveTask::Close(now),
+        None => LiveTask::Operator(DeskTask::Do(OperatorTask::BadLine)),
+    }
+}
+
+/// What a line asks of a live log with so many fronts; it stands without its end. A line that is no request is the
+/// operator's, to be replied to with bad-line, and so is the end of a shift, which a live log doesn't have. A line that asks
+/// the closed log is the operator's as well, to be replied to with not-yet.
+///
+/// # Errors
+///
+/// `Memory`, where a growth is refused.
+pub fn live_task(alloc: Global, fronts: u16, line: &[u8]) -> Result<LiveTask, Fault>
+    ensures asked { IfOk result (λ t. AsksLive fronts line.now (live_step t)) }
+    ensures there { IfOk result (λ t. IsForFront fronts (live_step t)) }
+    ensures memory { IsOkUnless result Fault.Memory }
+{
+    match line_task(alloc, fronts, line)? {
+        Task::Front(number, task) => Ok(LiveTask::Front(number, task)),
+        Task::Operator(OperatorTask::BadLine) => {
+            let request = read_live(alloc, line)?;
+            Ok(live_request_task(fronts, request))
+        }
+        Task::Operator(task) => Ok(LiveTask::Operator(DeskTask::Do(task))),
+        Task::Frozen(_) => Ok(LiveTask::Operator(DeskTask::NotYet)),
+        Task::EndsShift(_) => Ok(LiveTask::Operator(DeskTask::Do(OperatorTask::BadLine))),
+    }
+}

@@ -1,0 +1,35 @@
+//! A front as a party.
+
+ghost use Rattle.std.specs.Prelude.{◌≡◌, ℕ, List, IfOk};
+ghost use Rattle.ct_live.specs.LiveParties.{FrontReplies};
+
+use crate::replying::reply_object;
+use ct_house::Front;
+use ct_parties::{FrontTask, Waiting, front_work};
+use ct_pipes::Party;
+use std::alloc::{AllocError, Global};
+use std::sync::Wait;
+use std::thread::Threads;
+
+/// A front of a live log.
+#[derive(Drop)]
+pub struct LiveFront {
+    pub front: Front,
+}
+
+impl Party<FrontTask> for LiveFront {
+    type Shared = Waiting;
+
+    ghost does = { λ a t r b. FrontReplies a.front t r b.front };
+
+    fn reply<R: Threads + Wait + Sync>(
+        &mut self,
+        rt: &R,
+        alloc: Global,
+        shared: &Waiting,
+        task: FrontTask,
+    ) -> Result<Vec<u8>, AllocError> {
+        let reply = front_work::do_task(rt, alloc, &mut self.front, task, shared);
+        reply_object(alloc, &reply)
+    }
+}

@@ -1,0 +1,179 @@
+//! Lines read as they come, and given out to the parties.
+
+ghost use Rattle.std.specs.Prelude.{◌≡◌, length, IfOk};
+ghost use Rattle.ct_live.specs.LiveGiven.{GivesLine, GivesStep};
+ghost use Rattle.ct_live.specs.LiveLines.{IsForFront};
+ghost use Rattle.ct_live.specs.LiveRuns.{GivesOn};
+ghost use Rattle.ct_live.specs.LiveTasks.{live_step};
+
+use crate::asking::{DeskTask, LiveTask, live_task};
+use ct_parties::{Fault, FrontTask};
+use ct_pipes::{Numbered, NumberedLines, Places, Seat, Stopped, give, send};
+use rtrb::Producer;
+use std::alloc::Global;
+use std::io::BufRead;
+use std::sync::Wait;
+
+/// What ended the lines that are given out.
+#[derive(Clone, Copy, Debug, PartialEq, Eq)]
+pub enum End {
+    /// The line with this number closes the log at the moment `now`, in milliseconds.
+    Close { line: u64, now: u64 },
+    /// The input ended.
+    Input,
+}
+
+/// Why lines were left.
+#[derive(Clone, Copy, Debug, PartialEq, Eq, Drop)]
+pub enum GiveFault {
+    /// A growth was refused.
+    Memory,
+    /// The input couldn't be read.
+    Read,
+    /// All were to end.
+    Stopped,
+}
+
+impl From<Fault> for GiveFault {
+    fn from(fault: Fault) -> GiveFault {
+        match fault {
+            Fault::Memory => GiveFault::Memory,
+            _ => GiveFault::Read,
+        }
+    }
+}
+
+// What ends the run where lines are left. Where all were to end, what had them end is told elsewhere.
+impl From<GiveFault> for Fault {
+    fn from(fault: GiveFault) -> Fault {
+        match fault {
+            GiveFault::Memory => Fault::Memory,
+            GiveFault::Read => Fault::Read,
+            GiveFault::Stopped => Fault::Threads,
+        }
+    }
+}
+
+impl From<Stopped> for GiveFault {
+    fn from(_stopped: Stopped) -> GiveFault {
+        GiveFault::Stopped
+    }
+}
+
+/// Where each party is given its tasks.
+#[derive(Drop)]
+pub struct Inlets {
+    pub fronts: Vec<Producer<Numbered<FrontTask>>>,
+    pub operator: Producer<Numbered<DeskTask>>,
+}
+
+/// The lines that are left, and where each party is given its tasks.
+#[derive(Drop)]
+pub struct Giver<B: BufRead + Drop> {
+    pub inlets: Inlets,
+    pub lines: NumberedLines<B>,
+}
+
+// Gives a task to its party. It answers the moment at which the log is to be closed, if it is.
+#[tactic(auto, using(crate::proofs::Joined::producers_self, crate::proofs::Joined::gives_none))]
+fn give_task<R: Wait>(
+    rt: &R,
+    places: &Places,
+    inlets: &mut Inlets,
+    number: u64,
+    task: LiveTask,
+) -> Result<Option<u64>, GiveFault>
+    requires { IsForFront (length inlets.old.fronts.items) (live_step task) }
+    ensures same { GivesOn inlets.old inlets.new }
+    ensures given { IfOk result (λ o. GivesStep number (live_step task) o inlets.old inlets.new) }
+{
+    match task {
+        LiveTask::Front(front, task) => {
+            let party = usize::from(front);
+            let fronts = &mut inlets.fronts;
+            give(rt, places, fronts, party, Numbered { number, task })?;
+            Ok(None)
+        }
+        LiveTask::Operator(task) => {
+            let seat = Seat::Party(inlets.fronts.len());
+            let operator = &mut inlets.operator;
+            send(
+                rt,
+                places,
+                Seat::Reader,
+                seat,
+                operator,
+                Numbered { number, task },
+            )?;
+            Ok(None)
+        }
+        LiveTask::Close(now) => Ok(Some(now)),
+    }
+}
+
+// Gives out what a line asks for. An empty line is nobody's.
+#[tactic(auto, using(crate::proofs::Joined::producers_self, crate::proofs::Joined::gives_none))]
+fn give_line<R: Wait>(
+    rt: &R,
+    alloc: Global,
+    places: &Places,
+    count: u16,
+    inlets: &mut Inlets,
+    number: u64,
+    line: &[u8],
+) -> Result<Option<u64>, GiveFault>
+    requires { length inlets.old.fronts.items ≡ count }
+    ensures same { GivesOn inlets.old inlets.new }
+    ensures given { IfOk result (λ o. GivesLine count number line.now o inlets.old inlets.new) }
+{
+    if line.is_empty() {
+        return Ok(None);
+    }
+    let task = live_task(alloc, count, line)?;
+    give_task(rt, places, inlets, number, task)
+}
+
+// Reads the next line into the buffer, and gives out what it asks for. It answers what ended the lines, if they ended.
+#[tactic(auto, using(crate::proofs::Joined::producers_self, crate::proofs::Joined::gives_none))]
+fn give_next<R: Wait, B: BufRead + Drop>(
+    rt: &R,
+    alloc: Global,
+    places: &Places,
+    count: u16,
+    giver: &mut Giver<B>,
+    buffer: &mut Vec<u8>,
+) -> Result<Option<End>, GiveFault>
+    requires { length giver.old.inlets.fronts.items ≡ count }
+    ensures { GivesOn giver.old.inlets giver.new.inlets }
+{
+    let number = match giver.lines.read(buffer) {
+        Ok(Some(number)) => number,
+        Ok(None) => return Ok(Some(End::Input)),
+        Err(error) => return Err(GiveFault::from(Fault::from(error.kind()))),
+    };
+    let inlets = &mut giver.inlets;
+    match give_line(rt, alloc, places, count, inlets, number, buffer)? {
+        Some(now) => Ok(Some(End::Close { line: number, now })),
+        None => Ok(None),
+    }
+}
+
+/// Gives out what the lines ask for as they come, until one closes the log, or the input ends.
+pub fn give_out<R: Wait, B: BufRead + Drop>(
+    rt: &R,
+    alloc: Global,
+    places: &Places,
+    count: u16,
+    giver: &mut Giver<B>,
+) -> Result<End, GiveFault>
+    requires { length giver.old.inlets.fronts.items ≡ count }
+    ensures { GivesOn giver.old.inlets giver.new.inlets }
+{
+    let mut buffer = Vec::new(alloc);
+    for _ in rt.forever() {
+        if let Some(end) = give_next(rt, alloc, places, count, giver, &mut buffer)? {
+            return Ok(end);
+        }
+    }
+    unreachable!()
+}

@@ -1,0 +1,262 @@
+//! A live log over an input and an output.
+
+ghost use Rattle.std.specs.Prelude.{◌≡◌, [], length, IfOk, OnOk};
+ghost use Rattle.rtrb.specs.Ring.{sent, received, IsPair};
+ghost use Rattle.ct_parties.specs.Parties.{AreFrontsOf};
+ghost use Rattle.ct_live.specs.LiveRuns.{worker_answers, worker_fronts, worker_tasks};
+ghost use Rattle.ct_live.specs.LiveOpening.{AreOpened};
+ghost use Rattle.ct_live.specs.LiveReplied.{IsRepliedLive, RepliesLive};
+
+use crate::asking::DeskTask;
+use crate::front::LiveFront;
+use crate::giving::{Giver, Inlets};
+use crate::desk::Desk;
+use crate::threads::{Out, Served, Start, run_threads};
+use crate::workers::{DeskWorker, FrontWorker};
+use ct_house::{Front, Sequencer, open};
+use ct_parties::{Fault, FrontTask, Options, Waiting};
+use ct_pipes::{Numbered, NumberedLines, PLACES, Pipes, Places, Worker, open as open_pipes};
+use ct_tree::Memory;
+use rtrb::{Consumer, Producer, RingBuffer};
+use std::alloc::Global;
+use std::io::{BufRead, BufReader, Read, Write};
+use std::sync::Wait;
+use std::thread::Threads;
+
+// How many bytes are asked of the reader at a time.
+const CAPACITY: usize = 65_536;
+
+// Gives a house up.
+fn abandon<H: Wait>(rt: &H, alloc: Global, operator: DeskWorker) {
+    let DeskWorker {
+        desk,
+        tasks: _,
+        answers: _,
+    } = operator;
+    let Desk {
+        sequencer,
+        fronts: _,
+    } = desk;
+    sequencer.abandon(rt, Vec::new(alloc));
+}
+
+// Each front with the ends of its rings, in order.
+fn front_workers(
+    alloc: Global,
+    mut fronts: Vec<Front>,
+    mut tasks: Vec<Consumer<Numbered<FrontTask>>>,
+    mut answers: Vec<Producer<Vec<u8>>>,
+) -> Result<Vec<FrontWorker>, Memory>
+    requires tasks { length tasks.items ≡ length fronts.items }
+    requires answers { length answers.items ≡ length fronts.items }
+    ensures fronts { IfOk result (λ v. worker_fronts v.items ≡ fronts.items) }
+    ensures tasks { IfOk result (λ v. worker_tasks v.items ≡ tasks.items) }
+    ensures answers { IfOk result (λ v. worker_answers v.items ≡ answers.items) }
+{
+    let mut workers = Vec::new(alloc);
+    while let Some(front) = fronts.pop() {
+        let Some(own_tasks) = tasks.pop() else {
+            unreachable!()
+        };
+        let Some(own_answers) = answers.pop() else {
+            unreachable!()
+        };
+        let number = fronts.len();
+        let party = LiveFront { front };
+        workers.push(Worker {
+            number,
+            party,
+            tasks: own_tasks,
+            answers: own_answers,
+        })?;
+    }
+    workers.reverse();
+    Ok(workers)
+}
+
+// The ends of the operator's two rings.
+#[derive(Drop)]
+struct DeskPipes {
+    given: Producer<Numbered<DeskTask>>,
+    tasks: Consumer<Numbered<DeskTask>>,
+    answers: Producer<Vec<u8>>,
+    ring: Consumer<Vec<u8>>,
+}
+
+// New rings for the operator.
+fn open_desk(alloc: Global) -> Result<DeskPipes, Memory>
+    ensures tasks { IfOk result (λ p. IsPair p.given p.tasks × (sent p.given ≡ []) × (received p.tasks ≡ [])) }
+    ensures answers { IfOk result (λ p. IsPair p.answers p.ring × (sent p.answers ≡ []) × (received p.ring ≡ [])) }
+{
+    let (given, tasks) = RingBuffer::new(alloc, PLACES)?;
+    let (answers, ring) = RingBuffer::new(alloc, PLACES)?;
+    Ok(DeskPipes {
+        given,
+        tasks,
+        answers,
+        ring,
+    })
+}
+
+// What the rings are for, before the house is opened.
+#[derive(Drop)]
+struct Ends {
+    inlets: Inlets,
+    tasks: Vec<Consumer<Numbered<FrontTask>>>,
+    answers: Vec<Producer<Vec<u8>>>,
+    desk_tasks: Consumer<Numbered<DeskTask>>,
+    desk_answers: Producer<Vec<u8>>,
+    rings: Vec<Consumer<Vec<u8>>>,
+}
+
+// New rings for all parties.
+fn open_ends(alloc: Global, fronts: u16) -> Result<Ends, Memory>
+    ensures { IfOk result (λ e. AreOpened fronts e) }
+{
+    let Pipes {
+        given,
+        tasks,
+        answers,
+        mut rings,
+    } = open_pipes(alloc, usize::from(fronts))?;
+    let DeskPipes {
+        given: operator,
+        tasks: desk_tasks,
+        answers: desk_answers,
+        ring,
+    } = open_desk(alloc)?;
+    rings.push(ring)?;
+    let inlets = Inlets {
+        fronts: given,
+        operator,
+    };
+    Ok(Ends {
+        inlets,
+        tasks,
+        answers,
+        desk_tasks,
+        desk_answers,
+        rings,
+    })
+}
+
+// The lines of the input, as they come.
+fn open_lines<I: Read + Drop>(
+    alloc: Global,
+    input: I,
+) -> Result<NumberedLines<BufReader<I>>, Fault> {
+    match BufReader::with_capacity(alloc, CAPACITY, input) {
+        Ok(reader) => Ok(NumberedLines::new(reader)),
+        Err(error) => Err(Fault::from(error.kind())),
+    }
+}
+
+// The lines of the input, new rings for all parties, and the places where these wait.
+fn prepare<I: Read + Drop>(
+    alloc: Global,
+    fronts: u16,
+    input: I,
+) -> Result<(NumberedLines<BufReader<I>>, Ends, Places), Fault>
+    ensures { IfOk result (λ p. AreOpened fronts p.1) }
+{
+    let lines = open_lines(alloc, input)?;
+    let ends = open_ends(alloc, fronts)?;
+    let places = Places::new(alloc, usize::from(fronts) + 1)?;
+    Ok((lines, ends, places))
+}
+
+// Serves a house that was opened.
+fn serve_house<H: Threads + Wait + Sync, B: BufRead + Drop + Send, W: Write + Drop + Send>(
+    rt: &H,
+    alloc: Global,
+    options: Options,
+    places: &Places,
+    waiting: &Waiting,
+    lines: NumberedLines<B>,
+    ends: Ends,
+    sequencer: Sequencer,
+    fronts: Vec<Front>,
+    output: W,
+) -> Served<W>
+    requires ends { AreOpened options.fronts ends }
+    requires count { length fronts.items ≡ options.fronts }
+    requires lanes { length sequencer.lanes ≡ options.fronts }
+    requires fronts { AreFrontsOf sequencer fronts.items }
+    ensures { OnOk result.result (RepliesLive sequencer fronts.items (W.contents output) (W.contents result.output)) }
+{
+    let Ends {
+        inlets,
+        tasks,
+        answers,
+        desk_tasks,
+        desk_answers,
+        rings,
+    } = ends;
+    let workers = match front_workers(alloc, fronts, tasks, answers) {
+        Ok(workers) => workers,
+        Err(error) => {
+            sequencer.abandon(rt, Vec::new(alloc));
+            return Served {
+                output,
+                result: Err(Fault::from(error)),
+            };
+        }
+    };
+    let operator = DeskWorker {
+        desk: Desk {
+            sequencer,
+            fronts: usize::from(options.fronts),
+        },
+        tasks: desk_tasks,
+        answers: desk_answers,
+    };
+    let start = Start {
+        giver: Giver { inlets, lines },
+        workers,
+        out: Out { rings, output },
+    };
+    let mut slot = Some(operator);
+    let served = run_threads(rt, alloc, places, waiting, options, start, &mut slot);
+    if let Some(operator) = slot {
+        abandon(rt, alloc, operator);
+    }
+    served
+}
+
+/// Runs a live log over the lines of the input: each is replied to as soon as its reply is known, with its number. A line that
+/// waits for another party looks `turns` times.
+///
+/// # Errors
+///
+/// The fault that ended the run: `Read`, `Write`, `Threads`, `Memory`, or `ClockBack` where the clock refuses the moment of
+/// closing.
+pub fn serve_live<H: Threads + Wait + Sync, I: Read + Drop + Send, W: Write + Drop + Send>(
+    rt: &H,
+    alloc: Global,
+    options: Options,
+    turns: u64,
+    input: I,
+    output: W,
+) -> Served<W>
+    ensures { OnOk result.result (IsRepliedLive options.fronts options.ring options.open_at (W.contents output) (W.contents result.output)) }
+{
+    let (lines, ends, places) = match prepare(alloc, options.fronts, input) {
+        Ok(prepared) => prepared,
+        Err(fault) => {
+            return Served {
+                output,
+                result: Err(fault),
+            };
+        }
+    };
+    let waiting = Waiting::new(turns);
+    match open(rt, alloc, options.fronts, options.ring, options.open_at) {
+        Ok((sequencer, fronts)) => serve_house(
+            rt, alloc, options, &places, &waiting, lines, ends, sequencer, fronts, output,
+        ),
+        Err(refusal) => Served {
+            output,
+            result: Err(Fault::from(refusal)),
+        },
+    }
+}

@@ -1,0 +1,126 @@
+//! The operator's tasks, done in turn.
+
+ghost use Rattle.std.specs.Prelude.{◌≡◌, ◌<◌, length, IfOk, OnOk};
+ghost use Rattle.rtrb.specs.Ring.{sent, received, SameProducer, SameConsumer};
+ghost use Rattle.ct_pipes.specs.Answered.{AnswersMore};
+ghost use Rattle.ct_lines.specs.ReplyText.{answered};
+ghost use Rattle.ct_parties.specs.OperatorWork.{GoesOn};
+ghost use Rattle.ct_live.specs.LiveParties.{TakesWhatIsThere, DeskDoes, DeskReplies};
+ghost use Rattle.ct_live.specs.LiveRuns.{DeskStep};
+
+use crate::asking::DeskTask;
+use crate::desk::Desk;
+use crate::replying::reply_object;
+use ct_codec::Refusal;
+use ct_core::Reply;
+use ct_house::Sequencer;
+use ct_parties::{Waiting, operator_work};
+use ct_pipes::{Numbered, PartyFault, Places, Seat, Stopped, receive, send, tag};
+use rtrb::{Consumer, Producer};
+use std::alloc::{AllocError, Global};
+use std::sync::Wait;
+use std::thread::Threads;
+
+// How many items are settled by one `take`.
+const BATCH: u64 = 256;
+
+// Settles what is there of a front's items, so many at most, and 256 at most.
+fn take<R: Threads + Sync>(
+    rt: &R,
+    alloc: Global,
+    sequencer: &mut Sequencer,
+    from: u16,
+    max: u64,
+    now: u64,
+) -> Result<Reply, Refusal>
+    requires { from < length sequencer.old.lanes }
+    ensures { TakesWhatIsThere from max now sequencer.old (answered result) sequencer.new }
+{
+    if max == 0 {
+        return Ok(Reply::Settled(0));
+    }
+    let most = max.min(BATCH) as u32;
+    match sequencer.take(rt, alloc, from, most, now) {
+        Ok(settled) => Ok(Reply::Settled(u64::from(settled))),
+        Err(refusal) => Err(refusal),
+    }
+}
+
+// Does what a line asks for.
+fn do_task<R: Threads + Wait + Sync>(
+    rt: &R,
+    alloc: Global,
+    sequencer: &mut Sequencer,
+    fronts: usize,
+    task: DeskTask,
+    waiting: &Waiting,
+) -> Result<Reply, Refusal>
+    requires { fronts ≡ length sequencer.old.lanes }
+    ensures does { DeskDoes sequencer.old task (answered result) sequencer.new }
+    ensures goes_on { GoesOn sequencer.old sequencer.new }
+{
+    match task {
+        DeskTask::Do(task) => operator_work::do_task(rt, alloc, sequencer, fronts, task, waiting),
+        DeskTask::Take { from, max, now } => {
+            if usize::from(from) >= fronts {
+                return Err(Refusal::BadLine);
+            }
+            take(rt, alloc, sequencer, from, max, now)
+        }
+        DeskTask::NotYet => Err(Refusal::NotYet),
+    }
+}
+
+impl Desk {
+    // Does a task, and replies to it.
+    fn reply<R: Threads + Wait + Sync>(
+        &mut self,
+        rt: &R,
+        alloc: Global,
+        waiting: &Waiting,
+        task: DeskTask,
+    ) -> Result<Vec<u8>, AllocError>
+        ensures { IfOk result (λ r. DeskReplies self.old.sequencer task r.items self.new.sequencer) }
+    {
+        let reply = do_task(rt, alloc, &mut self.sequencer, self.fronts, task, waiting);
+        reply_object(alloc, &reply)
+    }
+}
+
+/// Answers the operator's tasks in turn, until no more are given, as `answer_all` does those of a party. `number` is the
+/// number of its places.
+pub fn answer_desk<R: Threads + Wait + Sync>(
+    rt: &R,
+    alloc: Global,
+    places: &Places,
+    number: usize,
+    waiting: &Waiting,
+    desk: &mut Desk,
+    tasks: &mut Consumer<Numbered<DeskTask>>,
+    answers: &mut Producer<Vec<u8>>,
+) -> Result<(), PartyFault>
+    ensures answered { OnOk result (AnswersMore DeskStep desk.old desk.new
+        (received tasks.old) (received tasks.new) (sent answers.old) (sent answers.new)) }
+    ensures same { SameConsumer tasks.old tasks.new × SameProducer answers.old answers.new }
+{
+    for _ in rt.forever() {
+        let Some(numbered) = receive(rt, places, number, tasks) else {
+            return Ok(());
+        };
+        let Numbered { number: line, task } = numbered;
+        let reply = desk.reply(rt, alloc, waiting, task)?;
+        let text = tag(alloc, line, &reply)?;
+        match send(
+            rt,
+            places,
+            Seat::Party(number),
+            Seat::Writer,
+            answers,
+            text,
+        ) {
+            Ok(()) => {}
+            Err(Stopped) => return Err(PartyFault::Stopped),
+        }
+    }
+    unreachable!()
+}

@@ -1,0 +1,369 @@
+//! The threads: the reader, the writer, each front, and the operator in the thread that calls.
+
+ghost use Rattle.std.specs.Prelude.{◌≡◌, length, IsOk, Ok, Err, Some, IfOk, IfErr, OnOk};
+ghost use Rattle.ct_live.specs.LiveReplied.{EndsLive, RunsLive};
+ghost use Rattle.ct_live.specs.LiveRuns.{AreJoined, DeskWorks, GivesOn, WritesOut};
+ghost use Rattle.ct_live.specs.declared.workers.DeskWorker.{DeskWorker as DeskWorkerOf};
+
+use crate::ending::{Left, end_live};
+use crate::giving::{End, GiveFault, Giver, give_out};
+use crate::operator::answer_desk;
+use crate::workers::{DeskWorker, FrontWorker};
+use ct_parties::{Fault, Options, Waiting};
+use ct_pipes::{PartyFault, Places, WriteFailed, join_workers, start_workers, write_answers};
+use rtrb::Consumer;
+use std::alloc::Global;
+use std::io::{BufRead, Write};
+use std::snapshot::Snapshot;
+use std::sync::Wait;
+use std::thread;
+use std::thread::{Promise, PromisedHandle, Scope, SpawnError, Threads};
+
+/// Where the answers of all parties come out, and where they are written.
+#[derive(Drop)]
+pub struct Out<W: Write + Drop> {
+    pub rings: Vec<Consumer<Vec<u8>>>,
+    pub output: W,
+}
+
+/// What the reader's thread hands back.
+#[derive(Drop)]
+pub struct Reading<B: BufRead + Drop> {
+    pub giver: Giver<B>,
+    pub end: Result<End, GiveFault>,
+}
+
+/// What the writer's thread hands back.
+#[derive(Drop)]
+pub struct Writing<W: Write + Drop> {
+    pub out: Out<W>,
+    pub result: Result<(), WriteFailed>,
+}
+
+// The reader: it gives the lines out, and then tells the parties that no more come.
+fn read<R: Wait, B: BufRead + Drop>(
+    rt: &R,
+    alloc: Global,
+    places: &Places,
+    count: u16,
+    mut giver: Giver<B>,
+) -> Reading<B>
+    requires { length giver.inlets.fronts.items ≡ count }
+    ensures { GivesOn giver.inlets result.giver.inlets }
+{
+    let end = give_out(rt, alloc, places, count, &mut giver);
+    places.end_giving();
+    Reading { giver, end }
+}
+
+// What the reader's thread promises.
+#[derive(Drop)]
+struct ReaderPromise<B: BufRead + Drop>(Snapshot<Giver<B>>);
+
+impl<B: BufRead + Drop> Promise<Reading<B>> for ReaderPromise<B> {
+    ghost kept_by = { λ p r. GivesOn p.0.value.inlets r.giver.inlets };
+}
+
+type ReaderThread<B> = PromisedHandle<Reading<B>, ReaderPromise<B>>;
+
+// Starts the reader's thread. Where it doesn't start all are to end.
+fn start_reader<'e: 's, 's, R: Threads + Wait + Sync, B: BufRead + Drop + Send + 's>(
+    rt: &'e R,
+    alloc: Global,
+    scope: &'s Scope<'s, &'e ()>,
+    places: &'e Places,
+    count: u16,
+    giver: Giver<B>,
+) -> Result<ReaderThread<B>, Fault>
+    requires { length giver.inlets.fronts.items ≡ count }
+    ensures started { IfOk result (λ t. t.promise.0.value ≡ giver) }
+    ensures inlets { IfOk result (λ t. t.promise.0.value.inlets ≡ giver.inlets) }
+{
+    let promise = ReaderPromise(Snapshot::of(&giver));
+    let reading = move || -> Reading<B>
+        requires { length giver.inlets.fronts.items ≡ count }
+        ensures { GivesOn giver.inlets result.giver.inlets }
+    { read(rt, alloc, places, count, giver) };
+    match scope.spawn_with(promise, reading) {
+        Ok(thread) => Ok(thread),
+        Err(_) => {
+            places.stop();
+            Err(Fault::Threads)
+        }
+    }
+}
+
+// The writer.
+fn write<R: Wait, W: Write + Drop>(rt: &R, places: &Places, out: Out<W>) -> Writing<W>
+    ensures { WritesOut out.rings.items result.out.rings.items (W.contents out.output) (W.contents result.out.output) result.result }
+{
+    let Out {
+        mut rings,
+        mut output,
+    } = out;
+    let result = write_answers(rt, places, &mut rings, &mut output);
+    Writing {
+        out: Out { rings, output },
+        result,
+    }
+}
+
+// What the writer's thread promises.
+#[derive(Drop)]
+struct WriterPromise<W: Write + Drop>(Snapshot<Out<W>>);
+
+impl<W: Write + Drop> Promise<Writing<W>> for WriterPromise<W> {
+    ghost kept_by = { λ p r. WritesOut p.0.value.rings.items r.out.rings.items (W.contents p.0.value.output) (W.contents r.out.output) r.result };
+}
+
+type WriterThread<W> = PromisedHandle<Writing<W>, WriterPromise<W>>;
+
+// Starts the writer's thread. Where it doesn't start all are to end, and what is seen in the rings is written here.
+fn start_writer<'e: 's, 's, R: Threads + Wait + Sync, W: Write + Drop + Send + 's>(
+    rt: &'e R,
+    scope: &'s Scope<'s, &'e ()>,
+    places: &'e Places,
+    out: Out<W>,
+) -> Result<WriterThread<W>, Writing<W>>
+    ensures started { IfOk result (λ t. t.promise.0.value ≡ out) }
+    ensures rings { IfOk result (λ t. t.promise.0.value.rings.items ≡ out.rings.items) }
+    ensures output { IfOk result (λ t. W.contents t.promise.0.value.output ≡ W.contents out.output) }
+    ensures refused { IfErr result (λ w. WritesOut out.rings.items w.out.rings.items (W.contents out.output) (W.contents w.out.output) w.result) }
+{
+    let promise = WriterPromise(Snapshot::of(&out));
+    let writing = move || -> Writing<W>
+        ensures { WritesOut out.rings.items result.out.rings.items (W.contents out.output) (W.contents result.out.output) result.result }
+    { write(rt, places, out) };
+    match scope.spawn_with(promise, writing) {
+        Ok(thread) => Ok(thread),
+        Err(refused) => {
+            places.stop();
+            let SpawnError { value: writing } = refused;
+            Err(writing())
+        }
+    }
+}
+
+// The operator: it does its tasks until no more are given, and tells the writer that it ends. One that ends before its time has
+// all end.
+fn operate<R: Threads + Wait + Sync>(
+    rt: &R,
+    alloc: Global,
+    places: &Places,
+    waiting: &Waiting,
+    worker: &mut DeskWorker,
+) -> Result<(), PartyFault>
+    ensures { OnOk result (DeskWorks worker.old worker.new) }
+{
+    let number = worker.desk.fronts;
+    let result = answer_desk(
+        rt,
+        alloc,
+        places,
+        number,
+        waiting,
+        &mut worker.desk,
+        &mut worker.tasks,
+        &mut worker.answers,
+    );
+    match result {
+        Ok(()) => places.end_party(),
+        Err(_) => places.stop(),
+    }
+    result
+}
+
+// The same where the operator is.
+fn operate_in<R: Threads + Wait + Sync>(
+    rt: &R,
+    alloc: Global,
+    places: &Places,
+    waiting: &Waiting,
+    slot: &mut Option<DeskWorker>,
+) -> Result<(), PartyFault>
+    ensures { OnOk result ((p : DeskWorkerOf) → slot.new ≡ Some p → (o : DeskWorkerOf) × (slot.old ≡ Some o) × DeskWorks o p) }
+{
+    match slot {
+        Some(worker) => operate(rt, alloc, places, waiting, worker),
+        None => {
+            places.stop();
+            Err(PartyFault::Stopped)
+        }
+    }
+}
+
+/// What is there before the threads are started, beside the operator.
+#[derive(Drop)]
+pub struct Start<B: BufRead + Drop, W: Write + Drop> {
+    pub giver: Giver<B>,
+    pub workers: Vec<FrontWorker>,
+    pub out: Out<W>,
+}
+
+/// What is left of a live log: its output, and what ended it.
+#[derive(Drop)]
+pub struct Served<W: Write + Drop> {
+    pub output: W,
+    pub result: Result<(), Fault>,
+}
+
+// What is left where a thread didn't start.
+fn not_started<W: Write + Drop>(out: Out<W>) -> Served<W>
+    ensures { result.result ≡ Err Fault.Threads }
+{
+    let Out { rings: _, output } = out;
+    Served {
+        output,
+        result: Err(Fault::Threads),
+    }
+}
+
+// Of a party that ended before its time: a growth was refused, or it was to end for another's sake.
+#[derive(Drop)]
+struct Ended {
+    fault: Fault,
+}
+
+impl From<PartyFault> for Ended {
+    fn from(fault: PartyFault) -> Ended {
+        let fault = match fault {
+            PartyFault::Memory => Fault::Memory,
+            PartyFault::Stopped => Fault::Threads,
+        };
+        Ended { fault }
+    }
+}
+
+// What the threads leave; or what ended them before their time, where not all of them are known to have ended.
+fn left_of<B: BufRead + Drop>(
+    reading: Reading<B>,
+    written: Result<(), WriteFailed>,
+    operated: Result<(), PartyFault>,
+    joined: Result<Vec<FrontWorker>, PartyFault>,
+) -> Result<Left<B>, Fault>
+    ensures giver { IfOk result (λ l. l.giver ≡ reading.giver) }
+    ensures inlets { IfOk result (λ l. l.giver.inlets ≡ reading.giver.inlets) }
+    ensures all { IfOk result (λ l. IsOk written × IsOk operated × (joined ≡ Ok l.workers)) }
+{
+    let Reading { giver, end } = reading;
+    if written.is_err() {
+        return Err(Fault::Write);
+    }
+    match (operated, joined) {
+        (Ok(()), Ok(workers)) => Ok(Left {
+            giver,
+            end,
+            workers,
+        }),
+        (Err(PartyFault::Stopped), Err(fault)) => Err(Ended::from(fault).fault),
+        (Err(fault), _) => Err(Ended::from(fault).fault),
+        (Ok(()), Err(fault)) => Err(Ended::from(fault).fault),
+    }
+}
+
+// What comes once all threads have ended, with the operator that is there.
+fn end_in<R: Threads + Wait + Sync, B: BufRead + Drop, W: Write>(
+    rt: &R,
+    alloc: Global,
+    slot: &mut Option<DeskWorker>,
+    left: Left<B>,
+    rings: &mut [Consumer<Vec<u8>>],
+    close_at: u64,
+    output: &mut W,
+) -> Result<(), Fault>
+    requires { (o : DeskWorkerOf) → slot.old ≡ Some o → AreJoined left.giver.inlets left.workers.items o rings.old }
+    ensures { OnOk result ((o : DeskWorkerOf) × (slot.old ≡ Some o)
+        × EndsLive left.giver.inlets left.workers.items o rings.old (W.contents output.old) (W.contents output.new)) }
+{
+    match slot.take() {
+        Some(operator) => end_live(rt, alloc, operator, left, rings, close_at, output),
+        None => Err(Fault::Threads),
+    }
+}
+
+// Starts the threads, has the operator do its tasks here, joins them all, and ends the log.
+fn run_in<
+    'e: 's,
+    's,
+    R: Threads + Wait + Sync,
+    B: BufRead + Drop + Send + 's,
+    W: Write + Drop + Send + 's,
+>(
+    rt: &'e R,
+    alloc: Global,
+    scope: &'s Scope<'s, &'e ()>,
+    places: &'e Places,
+    waiting: &'e Waiting,
+    options: Options,
+    start: Start<B, W>,
+    slot: &mut Option<DeskWorker>,
+) -> Served<W>
+    requires count { length start.giver.inlets.fronts.items ≡ options.fronts }
+    requires joined { (o : DeskWorkerOf) → slot.old ≡ Some o → AreJoined start.giver.inlets start.workers.items o start.out.rings.items }
+    ensures { OnOk result.result (RunsLive start.giver.inlets start.workers.items start.out.rings.items slot.old
+        (W.contents start.out.output) (W.contents result.output)) }
+{
+    let Start {
+        giver,
+        workers,
+        out,
+    } = start;
+    let Ok(threads) = start_workers(rt, alloc, scope, places, waiting, workers) else {
+        return not_started(out);
+    };
+    let Ok(reader) = start_reader(rt, alloc, scope, places, options.fronts, giver) else {
+        return not_started(out);
+    };
+    let writer = match start_writer(rt, scope, places, out) {
+        Ok(writer) => writer,
+        Err(writing) => return not_started(writing.out),
+    };
+    let operated = operate_in(rt, alloc, places, waiting, slot);
+    let joined = join_workers(rt, alloc, threads);
+    let reading = reader.join(rt);
+    let Writing { out, result } = writer.join(rt);
+    let Out {
+        mut rings,
+        mut output,
+    } = out;
+    let left = match left_of(reading, result, operated, joined) {
+        Ok(left) => left,
+        Err(fault) => {
+            return Served {
+                output,
+                result: Err(fault),
+            };
+        }
+    };
+    let close_at = options.close_at;
+    let result = end_in(rt, alloc, slot, left, &mut rings, close_at, &mut output);
+    Served { output, result }
+}
+
+/// Has the parties serve the lines, each in a thread of its own, and ends the log. The operator is taken where all threads have
+/// done what they had to.
+pub fn run_threads<R: Threads + Wait + Sync, B: BufRead + Drop + Send, W: Write + Drop + Send>(
+    rt: &R,
+    alloc: Global,
+    places: &Places,
+    waiting: &Waiting,
+    options: Options,
+    start: Start<B, W>,
+    slot: &mut Option<DeskWorker>,
+) -> Served<W>
+    requires count { length start.giver.inlets.fronts.items ≡ options.fronts }
+    requires joined { (o : DeskWorkerOf) → slot.old ≡ Some o → AreJoined start.giver.inlets start.workers.items o start.out.rings.items }
+    ensures { OnOk result.result (RunsLive start.giver.inlets start.workers.items start.out.rings.items slot.old
+        (W.contents start.out.output) (W.contents result.output)) }
+{
+    thread::scope(
+        thread::scope_env(),
+        rt,
+        move |scope| -> Served<W>
+            requires count { length start.giver.inlets.fronts.items ≡ options.fronts }
+            requires joined { (o : DeskWorkerOf) → slot.now ≡ Some o → AreJoined start.giver.inlets start.workers.items o start.out.rings.items }
+            ensures { OnOk result.result (RunsLive start.giver.inlets start.workers.items start.out.rings.items slot.entry.now
+                (W.contents start.out.output) (W.contents result.output)) }
+        { run_in(rt, alloc, scope, places, waiting, options, start, slot) },
+    )
+}

@@ -1,0 +1,18 @@
+//! The parties with the ends of their rings.
+
+use crate::asking::DeskTask;
+use crate::front::LiveFront;
+use crate::desk::Desk;
+use ct_parties::FrontTask;
+use ct_pipes::{Numbered, Worker};
+use rtrb::{Consumer, Producer};
+
+/// A front with the ends of its rings.
+pub type FrontWorker = Worker<LiveFront, FrontTask>;
+
+/// The operator with the ends of its rings.
+pub struct DeskWorker {
+    pub desk: Desk,
+    pub tasks: Consumer<Numbered<DeskTask>>,
+    pub answers: Producer<Vec<u8>>,
+}
