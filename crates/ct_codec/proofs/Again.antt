@@ -8,7 +8,8 @@ use Rattle.ct_codec.specs.Faults.{LeafFaulty, ChainFaulty, CertificatesFaulty, P
 use Rattle.ct_codec.specs.declared.fault.DecodeFault.TheVariants.{Memory}
 use Rattle.ct_codec.proofs.Chains.{chain_text_of, chain_copy}
 use Rattle.ct_codec.specs.Leaf.{SignedEntry, LeafText, ChainText, PreChainText, IsCertificate, AreCertificates, chain_bytes}
-use Rattle.ct_codec.specs.Decoded.{IsTextOf, IsLeaf, AnswersLeaf, AnswersChain, AnswersPreChain, GivesLeaf, GivesChain, GivesPreChain, certificates_in, entry_in}
+use Rattle.ct_codec.specs.Decoded.{IsTextOf, IsLeaf, AnswersLeaf, AnswersChain, AnswersPreChain, GivesLeaf, GivesChain, GivesPreChain, certificates_in}
+use Rattle.ct_codec.specs.Decoded.{entry_in}
 use Rattle.ct_codec.specs.Laws.{WrittenLeavesAreRead, WrittenChainsAreRead}
 use Rattle.ct_codec.specs.Submitted.{x509, precert, entry_of, first_of, others_of}
 use Rattle.ct_codec.specs.declared.fault.DecodeFault.{DecodeFault}

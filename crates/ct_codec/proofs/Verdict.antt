@@ -1,14 +1,17 @@
 -- One fault for each input: leaves and chains read by functions on lists, which each fault and each text determine.
-use Rattle.std.proofs.Common.{◌≡◌, ◌<◌, ◌≤◌, ◌^◌, ◌+◌, ℕ, zero, suc, List, [], ◌∷◌, ◌++◌, length, take, drop, cond, nat_lt, Result, Ok, Err, ◌⊎◌, inl, inr, refl, sym, ap, ◌∙◌, arith, length-append, append_assoc, append-nil}
+use Rattle.std.proofs.Common.{◌≡◌, ◌<◌, ◌≤◌, ◌^◌, ◌+◌, ℕ, zero, suc, List, [], ◌∷◌, ◌++◌, length, take, drop, cond, nat_lt, Result, Ok, Err, ◌⊎◌, inl, inr}
+use Rattle.std.proofs.Common.{refl, sym, ap, ◌∙◌, arith, length-append, append_assoc, append-nil}
 use Rattle.std.proofs.lemmas.Bool.{lt-ltb, le-ltb}
 use Rattle.std.proofs.Math.Seq.{drop-append_seam, take-append_seam}
 use Rattle.std.specs.List.{AllByRecursion}
 use Rattle.byteorder.specs.Endian.{big_from}
 use Rattle.byteorder.specs.Numbers.{big_number-reads_back}
 use Rattle.ct_codec.specs.Bytes.{num, vec}
-use Rattle.ct_codec.specs.Leaf.{SignedEntry, certificate, precertificate, IsEntry, IsCertificate, LeafText, ChainText, PreChainText, chain_text, entry_text, leaf_text, chain_bytes, entry_fields, leaf_fields, entry_front}
+use Rattle.ct_codec.specs.Leaf.{SignedEntry, certificate, precertificate, IsEntry, IsCertificate, LeafText, ChainText, PreChainText, chain_text, entry_text}
+use Rattle.ct_codec.specs.Leaf.{leaf_text, chain_bytes, entry_fields, leaf_fields, entry_front}
 use Rattle.ct_codec.specs.Faults.{IsCut, VectorFaulty, LeafFaulty, CertificatesFaulty, WithinFaulty, ChainFaulty, PreChainFaulty}
-use Rattle.ct_codec.specs.Laws.{LeavesHaveOneFault, LeafTextsHaveNoFault, ChainsHaveOneFault, ChainTextsHaveNoFault, PreChainsHaveOneFault, PreChainTextsHaveNoFault}
+use Rattle.ct_codec.specs.Laws.{LeavesHaveOneFault, LeafTextsHaveNoFault, ChainsHaveOneFault, ChainTextsHaveNoFault, PreChainsHaveOneFault}
+use Rattle.ct_codec.specs.Laws.{PreChainTextsHaveNoFault}
 use Rattle.ct_codec.specs.declared.fault.DecodeFault.{DecodeFault}
 use Rattle.ct_codec.specs.declared.fault.DecodeFault.TheVariants.{Truncated, BadVersion, BadLeafType, BadEntryType, EmptyVector, Trailing, Memory}
 use Rattle.ct_codec.proofs.Refusals.{length-num, length-vec}

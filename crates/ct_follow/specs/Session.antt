@@ -1,5 +1,6 @@
 -- What a run writes, line by line.
-use Rattle.std.specs.Prelude.{◌≡◌, ◌<◌, ◌-◌, ℕ, Bool, true, false, ◌||◌, List, [], ◌∷◌, ◌++◌, length, take, unwrap_or, ◌⊎◌, Some, None, IfSome, Vec, if◌then◌else◌}
+use Rattle.std.specs.Prelude.{◌≡◌, ◌<◌, ◌-◌, ℕ, Bool, true, false, ◌||◌, List, [], ◌∷◌, ◌++◌, length, take, unwrap_or, ◌⊎◌, Some, None, IfSome, Vec}
+use Rattle.std.specs.Prelude.{if◌then◌else◌}
 use Rattle.std.specs.declared.option.Option.{Option}
 use Rattle.std.specs.Global.{Global}
 use Rattle.std.specs.Io.BufRead.{first_piece, drop_through, take_through}

@@ -1,5 +1,6 @@
 -- The rule of the gate word at the opening, and while the fronts' seats are dealt out.
-use Rattle.std.proofs.Common.{◌≡◌, ℕ, zero, suc, ◌+◌, ◌-◌, ◌<◌, ◌≤◌, nat_lt, if◌then◌else◌, List, [], ◌∷◌, ◌++◌, map, length, set, flat_map, All, true, false, true≢false, Some, None, refl, sym, ap, ◌∙◌, subst, subst₂, get_or, ◌⊎◌, inl, inr, ⊎_elim, arith, length-append}
+use Rattle.std.proofs.Common.{◌≡◌, ℕ, zero, suc, ◌+◌, ◌-◌, ◌<◌, ◌≤◌, nat_lt, if◌then◌else◌, List, [], ◌∷◌, ◌++◌, map, length, set, flat_map, All, true, false}
+use Rattle.std.proofs.Common.{true≢false, Some, None, refl, sym, ap, ◌∙◌, subst, subst₂, get_or, ◌⊎◌, inl, inr, ⊎_elim, arith, length-append}
 use Rattle.std.specs.Prelude.{Option, slice_get}
 use Rattle.std.proofs.lemmas.Option.{same_Some}
 use Rattle.std.proofs.lemmas.Bool.Decides.{nat_tests}

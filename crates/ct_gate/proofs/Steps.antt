@@ -1,5 +1,6 @@
 -- Each kind of step on the gate word keeps its rule.
-use Rattle.std.proofs.Common.{◌≡◌, ◌⊎◌, ℕ, zero, suc, ◌+◌, ◌*◌, ◌%◌, ◌^◌, ◌<◌, ◌≤◌, List, [], ◌∷◌, ◌++◌, length, get_or, set, flat_map, All, true, false, true≢false, Some, None, refl, sym, ap, ◌∙◌, subst, inl, inr, ⊎_elim, arith, length-append, mod-eq_of_lt, bit_or}
+use Rattle.std.proofs.Common.{◌≡◌, ◌⊎◌, ℕ, zero, suc, ◌+◌, ◌*◌, ◌%◌, ◌^◌, ◌<◌, ◌≤◌, List, [], ◌∷◌, ◌++◌, length, get_or, set, flat_map, All, true, false}
+use Rattle.std.proofs.Common.{true≢false, Some, None, refl, sym, ap, ◌∙◌, subst, inl, inr, ⊎_elim, arith, length-append, mod-eq_of_lt, bit_or}
 use Rattle.std.specs.Int.Bits.{or_zero_r}
 use Rattle.std.proofs.lemmas.Nat.{or_block}
 use Rattle.atomic_table.proofs.Lists.{set_again}
@@ -12,7 +13,8 @@ use Rattle.ct_codec.specs.Items.{times, EachOnceBelow, Rises}
 use Rattle.ct_gate.specs.Seats.{SeatView, refused_draws, tickets_in, fronts_in, front_view, shutter_view}
 use Rattle.ct_gate.specs.Word.{HasTickets, IsSound, IsOpen, IsShut, GateHolds}
 use Rattle.ct_gate.specs.Steps.{Draws, Glances, Shuts, after_shut}
-use Rattle.ct_gate.proofs.Counts.{off, times-append, times_set, times_within, times_there, refused_set, each_set, length_once, member_below, tickets_bound, refused_bound, view_bound, view_refused, below_more}
+use Rattle.ct_gate.proofs.Counts.{off, times-append, times_set, times_within, times_there, refused_set, each_set, length_once, member_below, tickets_bound}
+use Rattle.ct_gate.proofs.Counts.{refused_bound, view_bound, view_refused, below_more}
 
 -- the word is as it is found
 found_word : (fronts : ℕ) (s : State (Unit {0}) SeatView) → GateHolds fronts s → s.words ≡ slice_index s.words 0 ∷ []

@@ -1,5 +1,6 @@
 -- What an audit stands on: the head of a size, the log's own leaf and path, and what the verdict is then.
-use Rattle.std.proofs.Common.{◌≡◌, suc, ◌<◌, ◌≤◌, ℕ, List, [], ◌∷◌, length, map, take, get_or, Option, Some, None, Result, Ok, Err, Bool, true, false, cond, refl, sym, ap, ◌∙◌, subst, arith, rules, inl, inr}
+use Rattle.std.proofs.Common.{◌≡◌, suc, ◌<◌, ◌≤◌, ℕ, List, [], ◌∷◌, length, map, take, get_or, Option, Some, None, Result, Ok, Err, Bool, true, false, cond}
+use Rattle.std.proofs.Common.{refl, sym, ap, ◌∙◌, subst, arith, rules, inl, inr}
 use Rattle.std.specs.Prelude.{not, ◌==◌, ◌||◌, ◌⊎◌, IfSome, MatchResult, IsOkUnless, option_map, is_some, slice_get, if◌then◌else◌}
 use Rattle.std.specs.List.{find, list_any, All, Contains}
 use Rattle.std.proofs.lemmas.Bool.Decides.{nat_tests}

@@ -1,5 +1,6 @@
 -- What the frozen log replies to its input.
-use Rattle.std.specs.Prelude.{◌≡◌, ◌⊎◌, Bool, true, false, ◌||◌, ℕ, List, [], ◌∷◌, ◌++◌, length, Option, Some, None, option_and_then, ◌&&◌, ◌==◌, nat_le, if◌then◌else◌, Result, MatchResult}
+use Rattle.std.specs.Prelude.{◌≡◌, ◌⊎◌, Bool, true, false, ◌||◌, ℕ, List, [], ◌∷◌, ◌++◌, length, Option, Some, None, option_and_then, ◌&&◌, ◌==◌, nat_le}
+use Rattle.std.specs.Prelude.{if◌then◌else◌, Result, MatchResult}
 use Rattle.std.specs.List.{concat}
 use Rattle.std.specs.Str.{is_utf8}
 use Rattle.serde_json.specs.Read.{read}

@@ -6,9 +6,12 @@ use Rattle.serde_json.specs.Written.{compact_text}
 use Rattle.base64.specs.Engines.{standard}
 use Rattle.base64.specs.GeneralPurpose.{encode_of}
 use Rattle.ct_codec.specs.declared.refusal.Refusal.{Refusal}
-use Rattle.ct_codec.specs.declared.refusal.Refusal.TheVariants.{Memory, Full, Shutdown, FrontSpent, EmptyChain, EmptyCertificate, CertificateTooLong, ChainTooLong, ClockBack, UnknownSize, BadRange, UnknownLeaf, MissingFront, BadLine, NotYet, Late, Closed}
+use Rattle.ct_codec.specs.declared.refusal.Refusal.TheVariants.{Memory, Full, Shutdown, FrontSpent, EmptyChain, EmptyCertificate, CertificateTooLong}
+use Rattle.ct_codec.specs.declared.refusal.Refusal.TheVariants.{ChainTooLong, ClockBack, UnknownSize, BadRange, UnknownLeaf, MissingFront, BadLine, NotYet}
+use Rattle.ct_codec.specs.declared.refusal.Refusal.TheVariants.{Late, Closed}
 use Rattle.ct_core.specs.declared.query.Reply.{Reply}
-use Rattle.ct_core.specs.Replies.{EntryText, Answer, a_head, a_proof, an_index, some_entries, an_entry, a_receipt, a_ticket, a_reached_size, a_settled_count, a_published_head, an_accepted_count, a_shift, proof_holds, proof_refused, a_collision, refused, shown}
+use Rattle.ct_core.specs.Replies.{EntryText, Answer, a_head, a_proof, an_index, some_entries, an_entry, a_receipt, a_ticket, a_reached_size, a_settled_count}
+use Rattle.ct_core.specs.Replies.{a_published_head, an_accepted_count, a_shift, proof_holds, proof_refused, a_collision, refused, shown}
 
 -- the name of a refusal
 abbrev pub refusal_name : Refusal → List ℕ

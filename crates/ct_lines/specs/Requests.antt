@@ -1,6 +1,7 @@
 -- The requests as the code has them.
 use Rattle.std.specs.Prelude.{map}
-use Rattle.ct_lines.specs.Asked.{Asked, by_front, by_operator, by_frozen, FrontAsked, add_chain, add_pre_chain, await_size, front_query, OperatorAsked, sequence, publish, shutdown, shift, AuditAsked, audit, FrozenAsked, frozen_query, frozen_audit, Party, front, operator, frozen}
+use Rattle.ct_lines.specs.Asked.{Asked, by_front, by_operator, by_frozen, FrontAsked, add_chain, add_pre_chain, await_size, front_query, OperatorAsked}
+use Rattle.ct_lines.specs.Asked.{sequence, publish, shutdown, shift, AuditAsked, audit, FrozenAsked, frozen_query, frozen_audit, Party, front, operator, frozen}
 use Rattle.ct_lines.specs.declared.reading.Party.{Party as CodeParty}
 use Rattle.ct_lines.specs.declared.reading.Party.TheVariants as party_case
 use Rattle.ct_lines.specs.declared.request.FrontRequest.{FrontRequest}

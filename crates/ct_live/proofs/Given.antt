@@ -19,7 +19,8 @@ use Rattle.ct_live.specs.declared.asking.DeskTask.{DeskTask}
 use Rattle.ct_live.specs.declared.giving.Inlets.{Inlets}
 
 pub given_front : (old new : Inlets) (k f p : ℕ) (t : FrontTask) → p ≡ f → sent new.operator ≡ sent old.operator
-    → ((given : List (ℕ × Numbered FrontTask)) → IsMergeOf (all_sent old.fronts.items) given → IsMergeOf (all_sent new.fronts.items) (given ++ (p, record { number = k; task = t }) ∷ []))
+    → ((given : List (ℕ × Numbered FrontTask)) → IsMergeOf (all_sent old.fronts.items) given
+    → IsMergeOf (all_sent new.fronts.items) (given ++ (p, record { number = k; task = t }) ∷ []))
     → GivesStep k (front_does f (task_asked t)) None old new
 given_front old new k f p t e same give steps h =
     let x : Numbered FrontTask = record { number = k; task = t } in
@@ -32,7 +33,8 @@ given_front old new k f p t e same give steps h =
       ordered = ap (map desk_task_asked) same ∙ h.ordered ∙ sym (append-nil (filter_map desk_given steps)) ∙ sym (filter_map-append desk_given steps (s ∷ []));
     }
 
-pub given_desk : (old new : Inlets) (k : ℕ) (t : DeskTask) → all_sent new.fronts.items ≡ all_sent old.fronts.items → sent new.operator ≡ sent old.operator ++ record { number = k; task = t } ∷ []
+pub given_desk : (old new : Inlets) (k : ℕ) (t : DeskTask) → all_sent new.fronts.items ≡ all_sent old.fronts.items
+    → sent new.operator ≡ sent old.operator ++ record { number = k; task = t } ∷ []
     → GivesStep k (operator_does t) None old new
 given_desk old new k t same more steps h =
     let x : Numbered DeskTask = record { number = k; task = t } in
@@ -41,12 +43,14 @@ given_desk old new k t same more steps h =
       front_tasks = h.front_tasks;
       asked = h.asked ∙ sym (append-nil (filter_map front_given steps)) ∙ sym (filter_map-append front_given steps (s ∷ []));
       merge = subst (λ (l : List (List (Numbered FrontTask))). IsMergeOf l h.front_tasks) (sym same) h.merge;
-      ordered = ap (map desk_task_asked) more ∙ map-append desk_task_asked (sent old.operator) (x ∷ []) ∙ ap (λ (l : List (ℕ × DeskTask)). l ++ (k, t) ∷ []) h.ordered
+      ordered = ap (map desk_task_asked) more ∙ map-append desk_task_asked (sent old.operator) (x ∷ [])
+          ∙ ap (λ (l : List (ℕ × DeskTask)). l ++ (k, t) ∷ []) h.ordered
           ∙ sym (filter_map-append desk_given steps (s ∷ []));
     }
 
 -- what a line asks was given
-pub gives_line : (fronts k : ℕ) (line : List ℕ) (s : LiveStep) (o : Option ℕ) (old new : Inlets) → line ≢ [] → AsksLive fronts line s → GivesStep k s o old new → GivesLine fronts k line o old new
+pub gives_line : (fronts k : ℕ) (line : List ℕ) (s : LiveStep) (o : Option ℕ) (old new : Inlets) → line ≢ [] → AsksLive fronts line s
+    → GivesStep k s o old new → GivesLine fronts k line o old new
 gives_line fronts k [] s o old new some asks gives = absurd (some refl)
 gives_line fronts k (b ∷ bs) s None old new some asks gives = λ steps h. ((k, s) ∷ [], (refl, asks, tt), gives steps h)
 gives_line fronts k (b ∷ bs) s (Some now) old new some asks (is, same) = (some, subst (λ (x : LiveStep). AsksLive fronts (b ∷ bs) x) is asks, same)

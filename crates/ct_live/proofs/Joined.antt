@@ -52,14 +52,17 @@ fronts_same : (before after : List FrontWorker) → AllReply before after → Ar
 fronts_same [] [] all = tt
 fronts_same [] (b ∷ after) all = absurd all
 fronts_same (a ∷ before) [] all = absurd all
-fronts_same (a ∷ before) (b ∷ after) (did, rest) =
-    (front_went_on a.party b.party did.answered.tasks (map (λ (v : Vec ℕ Global). v.items) did.answered.answers) did.answered.answered, fronts_same before after rest)
+fronts_same (a ∷ before) (b ∷ after) (did, rest) = (
+  front_went_on a.party b.party did.answered.tasks (map (λ (v : Vec ℕ Global). v.items) did.answered.answers) did.answered.answered,
+  fronts_same before after rest,
+)
 
 module _ {T : Type 0} where
   pair_kept : (p q : Producer T Global AnyItems) (c d : Consumer T Global AnyItems) → SameProducer p q → SameConsumer c d → IsPair p c → IsPair q d
   pair_kept p q c d a b i = (b.0.0 ∙ i.0 ∙ sym a.0.0, b.0.1 ∙ i.1 ∙ sym a.0.1, b.0.2 ∙ i.2 ∙ sym a.0.2, b.0.3 ∙ i.3 ∙ sym a.0.3)
 
-tasks_kept : (ps qs : List (Producer (Numbered FrontTask) Global AnyItems)) (before after : List FrontWorker) → SameProducers ps qs → AllReply before after → ArePairs ps (worker_tasks before)
+tasks_kept : (ps qs : List (Producer (Numbered FrontTask) Global AnyItems)) (before after : List FrontWorker) → SameProducers ps qs
+    → AllReply before after → ArePairs ps (worker_tasks before)
     → ArePairs qs (worker_tasks after)
 tasks_kept [] [] [] [] same all pairs = tt
 tasks_kept [] [] [] (b ∷ after) same all pairs = absurd all
@@ -68,9 +71,11 @@ tasks_kept [] (q ∷ qs) before after same all pairs = absurd same
 tasks_kept (p ∷ ps) [] before after same all pairs = absurd same
 tasks_kept (p ∷ ps) (q ∷ qs) [] after same all pairs = absurd pairs
 tasks_kept (p ∷ ps) (q ∷ qs) (a ∷ before) [] same all pairs = absurd all
-tasks_kept (p ∷ ps) (q ∷ qs) (a ∷ before) (b ∷ after) (s, same) (did, all) (i, pairs) = (pair_kept p q a.tasks b.tasks s did.tasks i, tasks_kept ps qs before after same all pairs)
+tasks_kept (p ∷ ps) (q ∷ qs) (a ∷ before) (b ∷ after) (s, same) (did, all) (i, pairs) =
+    (pair_kept p q a.tasks b.tasks s did.tasks i, tasks_kept ps qs before after same all pairs)
 
-answers_kept : (before after : List FrontWorker) (p q : Producer (Vec ℕ Global) Global AnyItems) (rs ss : List (Consumer (Vec ℕ Global) Global AnyItems)) → AllReply before after
+answers_kept : (before after : List FrontWorker) (p q : Producer (Vec ℕ Global) Global AnyItems) (rs ss : List (Consumer (Vec ℕ Global) Global AnyItems))
+    → AllReply before after
     → SameProducer p q → SameConsumers rs ss → ArePairs (worker_answers before ++ p ∷ []) rs → ArePairs (worker_answers after ++ q ∷ []) ss
 answers_kept [] [] p q [] ss all own same pairs = absurd pairs
 answers_kept [] [] p q (r ∷ rs) [] all own same pairs = absurd same
@@ -85,7 +90,8 @@ answers_kept (a ∷ before) (b ∷ after) p q (r ∷ rs) (s ∷ ss) (did, all) o
     (pair_kept a.answers b.answers r s did.answers one i, answers_kept before after p q rs ss all own same pairs)
 
 -- all of it
-pub joined_kept : (g h : Inlets) (before after : List FrontWorker) (o p : DeskWorker) (rs ss : List (Consumer (Vec ℕ Global) Global AnyItems)) → AreJoined g before o rs
+pub joined_kept : (g h : Inlets) (before after : List FrontWorker) (o p : DeskWorker) (rs ss : List (Consumer (Vec ℕ Global) Global AnyItems))
+    → AreJoined g before o rs
     → GivesOn g h → AllReply before after → DeskWorks o p → SameConsumers rs ss → AreJoined h after p ss
 joined_kept g h before after o p rs ss i given did worked same =
     let on = desk_went_on o.desk p.desk worked.answered.tasks (map (λ (v : Vec ℕ Global). v.items) worked.answered.answers) worked.answered.answered in
@@ -93,7 +99,8 @@ joined_kept g h before after o p rs ss i given did worked same =
       tasks = tasks_kept g.fronts.items h.fronts.items before after given.fronts did i.tasks;
       orders = pair_kept g.operator h.operator o.tasks p.tasks given.operator worked.tasks i.orders;
       answers = answers_kept before after o.answers p.answers rs ss did worked.answers same i.answers;
-      fronts = fronts_kept o.desk.sequencer p.desk.sequencer (worker_fronts before) (worker_fronts after) on.house on.count (fronts_same before after did) i.fronts;
+      fronts = fronts_kept o.desk.sequencer p.desk.sequencer (worker_fronts before) (worker_fronts after) on.house on.count
+          (fronts_same before after did) i.fronts;
     }
 
 -- ---- the rings into which tasks are given
@@ -124,7 +131,8 @@ gives_count a b x = sym (length_all_zip SameProducer a.fronts.items b.fronts.ite
 -- ---- the fronts and the ends of their rings, put together
 
 -- the fronts and the ends that are left, and the workers that were put together of the others, the last one first
-pub record Matching (fronts left : List FrontView) (tasks own : List (Consumer (Numbered FrontTask) Global AnyItems)) (answers rest : List (Producer (Vec ℕ Global) Global AnyItems))
+pub record Matching (fronts left : List FrontView) (tasks own : List (Consumer (Numbered FrontTask) Global AnyItems))
+    (answers rest : List (Producer (Vec ℕ Global) Global AnyItems))
     (workers : List FrontWorker) : Type 0 where
   pub all_fronts : fronts ≡ left ++ worker_fronts (reverse workers)
   pub all_tasks : tasks ≡ own ++ worker_tasks (reverse workers)
@@ -151,13 +159,16 @@ gives_as a b c d e k on = subst (λ (i : Inlets). GivesOn a i) (sym k) (subst (�
 pub replied_as : (started before : List FrontWorker) (r : Result (Vec FrontWorker Global) PartyFault) (v : Vec FrontWorker Global) → started ≡ before → r ≡ Ok v
     → IfOk r (λ w. AllReply started w.items) → AllReply before v.items
 replied_as started before r v e k all =
-    subst (λ (l : List FrontWorker). AllReply l v.items) e (subst (λ (x : Result (Vec FrontWorker Global) PartyFault). IfOk x (λ w. AllReply started w.items)) k all)
+    subst (λ (l : List FrontWorker). AllReply l v.items) e
+    (subst (λ (x : Result (Vec FrontWorker Global) PartyFault). IfOk x (λ w. AllReply started w.items)) k all)
 
 pub same_as : (a b c d : List (Consumer (Vec ℕ Global) Global AnyItems)) → b ≡ a → d ≡ c → SameConsumers b c → SameConsumers a d
 same_as a b c d e k same =
-    subst (λ (l : List (Consumer (Vec ℕ Global) Global AnyItems)). SameConsumers a l) (sym k) (subst (λ (l : List (Consumer (Vec ℕ Global) Global AnyItems)). SameConsumers l c) e same)
+    subst (λ (l : List (Consumer (Vec ℕ Global) Global AnyItems)). SameConsumers a l) (sym k)
+    (subst (λ (l : List (Consumer (Vec ℕ Global) Global AnyItems)). SameConsumers l c) e same)
 
-pub writes_as : (a b c d : List (Consumer (Vec ℕ Global) Global AnyItems)) (x y z : Option (List ℕ)) → b ≡ a → d ≡ c → y ≡ x → WritesOn b c y z → WritesOn a d x z
+pub writes_as : (a b c d : List (Consumer (Vec ℕ Global) Global AnyItems)) (x y z : Option (List ℕ)) → b ≡ a → d ≡ c → y ≡ x
+    → WritesOn b c y z → WritesOn a d x z
 writes_as a b c d x y z e k m w =
     subst (λ (l : List (Consumer (Vec ℕ Global) Global AnyItems)). WritesOn a l x z) (sym k)
     (subst (λ (l : List (Consumer (Vec ℕ Global) Global AnyItems)). WritesOn l c x z) e (subst (λ (o : Option (List ℕ)). WritesOn b c o z) m w))

@@ -29,28 +29,35 @@ new_fronts_of s fronts n places now i some = record {
 }
 
 -- the parties have the other ends of the rings that were opened for them
-pub joined_new : (n : ℕ) (e : Ends) (workers : List FrontWorker) (o : DeskWorker) → AreOpened n e → worker_tasks workers ≡ e.tasks.items → worker_answers workers ≡ e.answers.items
+pub joined_new : (n : ℕ) (e : Ends) (workers : List FrontWorker) (o : DeskWorker) → AreOpened n e → worker_tasks workers ≡ e.tasks.items
+    → worker_answers workers ≡ e.answers.items
     → o.tasks ≡ e.desk_tasks → o.answers ≡ e.desk_answers → AreFrontsOf o.desk.sequencer (worker_fronts workers) → AreJoined e.inlets workers o e.rings.items
 joined_new n e workers o i tasks answers own_tasks own_answers fronts = record {
   tasks = subst (λ (l : List (Consumer (Numbered FrontTask) Global AnyItems)). ArePairs e.inlets.fronts.items l) (sym tasks) i.tasks.pairs;
   orders = rw own_tasks i.orders.pairs.0;
-  answers = rw own_answers (subst (λ (l : List (Producer (Vec ℕ Global) Global AnyItems)). ArePairs (l ++ e.desk_answers ∷ []) e.rings.items) (sym answers) i.answers.pairs);
+  answers = rw own_answers (subst (λ (l : List (Producer (Vec ℕ Global) Global AnyItems)). ArePairs (l ++ e.desk_answers ∷ []) e.rings.items)
+      (sym answers) i.answers.pairs);
   fronts = fronts;
 }
 
-pub joined_there : (n : ℕ) (e : Ends) (workers : List FrontWorker) (o : DeskWorker) → AreOpened n e → worker_tasks workers ≡ e.tasks.items → worker_answers workers ≡ e.answers.items
-    → o.tasks ≡ e.desk_tasks → o.answers ≡ e.desk_answers → AreFrontsOf o.desk.sequencer (worker_fronts workers) → (p : DeskWorker) → Some o ≡ Some p → AreJoined e.inlets workers p e.rings.items
+pub joined_there : (n : ℕ) (e : Ends) (workers : List FrontWorker) (o : DeskWorker) → AreOpened n e → worker_tasks workers ≡ e.tasks.items
+    → worker_answers workers ≡ e.answers.items
+    → o.tasks ≡ e.desk_tasks → o.answers ≡ e.desk_answers → AreFrontsOf o.desk.sequencer (worker_fronts workers) → (p : DeskWorker) → Some o ≡ Some p
+    → AreJoined e.inlets workers p e.rings.items
 joined_there n e workers o i tasks answers own_tasks own_answers fronts p is =
-    subst (λ (q : DeskWorker). AreJoined e.inlets workers q e.rings.items) (same_Some o p is) (joined_new n e workers o i tasks answers own_tasks own_answers fronts)
+    subst (λ (q : DeskWorker). AreJoined e.inlets workers q e.rings.items) (same_Some o p is)
+    (joined_new n e workers o i tasks answers own_tasks own_answers fronts)
 
 -- as many rings as fronts
-pub as_many : {T : Type 0} (n k : ℕ) (ps : List (Producer T Global AnyItems)) (cs : List (Consumer T Global AnyItems)) → AreEmpty n ps cs → k ≡ n → length cs ≡ k
+pub as_many : {T : Type 0} (n k : ℕ) (ps : List (Producer T Global AnyItems)) (cs : List (Consumer T Global AnyItems))
+    → AreEmpty n ps cs → k ≡ n → length cs ≡ k
 as_many n k ps cs i e = as_long ps cs i.pairs ∙ i.count ∙ sym e
 
 -- new rings for so many fronts, and then for the operator
 pub opened : (n k : ℕ) (e : Ends) (rings : List (Consumer (Vec ℕ Global) Global AnyItems)) (ring : Consumer (Vec ℕ Global) Global AnyItems) → k ≡ n
     → AreEmpty k e.inlets.fronts.items e.tasks.items → AreEmpty k e.answers.items rings → e.rings.items ≡ rings ++ ring ∷ []
-    → IsPair e.inlets.operator e.desk_tasks × (sent e.inlets.operator ≡ []) × (received e.desk_tasks ≡ []) → IsPair e.desk_answers ring × (sent e.desk_answers ≡ []) × (received ring ≡ [])
+    → IsPair e.inlets.operator e.desk_tasks × (sent e.inlets.operator ≡ []) × (received e.desk_tasks ≡ []) → IsPair e.desk_answers ring
+    × (sent e.desk_answers ≡ []) × (received ring ≡ [])
     → AreOpened n e
 opened n k e rings ring same tasks answers all own told = record {
   tasks = subst (λ (m : ℕ). AreEmpty m e.inlets.fronts.items e.tasks.items) same tasks;

@@ -31,20 +31,23 @@ Empty xs = xs ≡ []
 
 -- ---- the answers of a party, seen as its front or its house
 
-front_answered : (a b : LiveFront) (ts : List (Numbered FrontTask)) (xs : List (List ℕ)) → AreAnswered FrontStep a ts xs b → AreAnswered FrontReplies a.front ts xs b.front
+front_answered : (a b : LiveFront) (ts : List (Numbered FrontTask)) (xs : List (List ℕ)) → AreAnswered FrontStep a ts xs b
+    → AreAnswered FrontReplies a.front ts xs b.front
 front_answered a b [] [] is = ap (λ (f : LiveFront). f.front) is
 front_answered a b [] (x ∷ xs) is = absurd is
 front_answered a b (t ∷ ts) [] is = absurd is
 front_answered a b (t ∷ ts) (x ∷ xs) (m, reply, did, e, rest) = (m.front, reply, did, e, front_answered m b ts xs rest)
 
-desk_answered : (a b : Desk) (ts : List (Numbered DeskTask)) (xs : List (List ℕ)) → AreAnswered DeskStep a ts xs b → AreAnswered DeskReplies a.sequencer ts xs b.sequencer
+desk_answered : (a b : Desk) (ts : List (Numbered DeskTask)) (xs : List (List ℕ)) → AreAnswered DeskStep a ts xs b
+    → AreAnswered DeskReplies a.sequencer ts xs b.sequencer
 desk_answered a b [] [] is = ap (λ (d : Desk). d.sequencer) is
 desk_answered a b [] (x ∷ xs) is = absurd is
 desk_answered a b (t ∷ ts) [] is = absurd is
 desk_answered a b (t ∷ ts) (x ∷ xs) (m, reply, did, e, rest) = (m.sequencer, reply, did, e, desk_answered m b ts xs rest)
 
 -- all that was received and sent is what was received and sent since, where nothing was before
-since : {P T : Type 0} (does : P → T → List ℕ → P → Type 0) (a b : P) (got got_then : List (Numbered T)) (gave gave_then : List (Vec ℕ Global)) → got ≡ [] → gave ≡ []
+since : {P T : Type 0} (does : P → T → List ℕ → P → Type 0) (a b : P) (got got_then : List (Numbered T)) (gave gave_then : List (Vec ℕ Global)) → got ≡ []
+    → gave ≡ []
     → AnswersMore does a b got got_then gave gave_then → AreAnswered does a got_then (texts gave_then) b
 since {T = T} does a b got got_then gave gave_then no_task no_text more =
     let tasks : got_then ≡ more.tasks = more.came ∙ ap (λ (l : List (Numbered T)). l ++ more.tasks) no_task in
@@ -57,7 +60,8 @@ rest_of P x xs all k d below = all (suc k) d (omega arith)
 
 -- ---- all parties
 
-pub all_answer : (before after : List FrontWorker) (p : Producer (Vec ℕ Global) Global AnyItems) → AllReply before after → All Empty (all_received (worker_tasks before))
+pub all_answer : (before after : List FrontWorker) (p : Producer (Vec ℕ Global) Global AnyItems) → AllReply before after
+    → All Empty (all_received (worker_tasks before))
     → All Empty (all_sent (worker_answers before ++ p ∷ []))
     → AllAnswer (worker_fronts before) (all_received (worker_tasks after)) (texts_each (all_sent (worker_answers after))) (worker_fronts after)
 all_answer [] [] p all no_task no_text = tt
@@ -65,7 +69,8 @@ all_answer [] (b ∷ after) p all no_task no_text = absurd all
 all_answer (a ∷ before) [] p all no_task no_text = absurd all
 all_answer (a ∷ before) (b ∷ after) p (did, all) no_task no_text = (
   front_answered a.party b.party (received b.tasks) (texts (sent b.answers))
-      (since FrontStep a.party b.party (received a.tasks) (received b.tasks) (sent a.answers) (sent b.answers) (no_task 0 [] (omega arith)) (no_text 0 [] (omega arith)) did.answered),
+      (since FrontStep a.party b.party (received a.tasks) (received b.tasks) (sent a.answers) (sent b.answers) (no_task 0 [] (omega arith))
+      (no_text 0 [] (omega arith)) did.answered),
   all_answer before after p all (rest_of Empty (received a.tasks) (all_received (worker_tasks before)) no_task)
       (rest_of Empty (sent a.answers) (all_sent (worker_answers before ++ p ∷ [])) no_text),
 )
@@ -95,21 +100,25 @@ pub texts_last : (ps : List (Producer (Vec ℕ Global) Global AnyItems)) (q : Pr
 texts_last [] q = refl
 texts_last (p ∷ ps) q = ap (λ (l : List (List (List ℕ))). texts (sent p) ∷ l) (texts_last ps q)
 
-pub replies_live : (n : ℕ) (e : Ends) (workers : List FrontWorker) (o : DeskWorker) (old new : Option (List ℕ)) → AreOpened n e → worker_tasks workers ≡ e.tasks.items
+pub replies_live : (n : ℕ) (e : Ends) (workers : List FrontWorker) (o : DeskWorker) (old new : Option (List ℕ)) → AreOpened n e
+    → worker_tasks workers ≡ e.tasks.items
     → worker_answers workers ≡ e.answers.items → o.answers ≡ e.desk_answers → o.tasks ≡ e.desk_tasks → RunsLive e.inlets workers e.rings.items (Some o) old new
     → RepliesLive o.desk.sequencer (worker_fronts workers) old new
 replies_live n e workers o old new i tasks answers own_answers own_tasks r = go r.operator (same_Some o r.operator r.was) r.operated
   where
     go : (p : DeskWorker) → o ≡ p → DeskWorks p r.operator_then → RepliesLive o.desk.sequencer (worker_fronts workers) old new
     go p is worked =
-        let no_task : All Empty (all_received (worker_tasks workers)) = subst (λ (l : List (Consumer (Numbered FrontTask) Global AnyItems)). All Empty (all_received l)) (sym tasks) i.tasks.unreceived in
+        let no_task : All Empty (all_received (worker_tasks workers)) =
+        subst (λ (l : List (Consumer (Numbered FrontTask) Global AnyItems)). All Empty (all_received l)) (sym tasks) i.tasks.unreceived in
         let no_text : All Empty (all_sent (worker_answers workers ++ o.answers ∷ [])) =
         subst (λ (q : Producer (Vec ℕ Global) Global AnyItems). All Empty (all_sent (worker_answers workers ++ q ∷ []))) (sym own_answers)
         (subst (λ (l : List (Producer (Vec ℕ Global) Global AnyItems)). All Empty (all_sent (l ++ e.desk_answers ∷ []))) (sym answers) i.answers.unsent) in
-        let no_order : received o.tasks ≡ [] = subst (λ (c : Consumer (Numbered DeskTask) Global AnyItems). received c ≡ []) (sym own_tasks) (i.orders.unreceived 0 [] (omega arith)) in
+        let no_order : received o.tasks ≡ [] = subst (λ (c : Consumer (Numbered DeskTask) Global AnyItems). received c ≡ []) (sym own_tasks)
+        (i.orders.unreceived 0 [] (omega arith)) in
         let did : DeskWorks o r.operator_then = subst (λ (q : DeskWorker). DeskWorks q r.operator_then) (sym is) worked in
         let w = r.ended.written old (r.wrote old (nothing_written e.rings.items old i.answers.unreceived)) in
-        let lists : texts_each (all_received r.ended.rings) ≡ texts_each (all_sent (worker_answers r.workers_then)) ++ texts (sent r.operator_then.answers) ∷ [] =
+        let lists : texts_each (all_received r.ended.rings) ≡ texts_each (all_sent (worker_answers r.workers_then))
+        ++ texts (sent r.operator_then.answers) ∷ [] =
         ap texts_each r.ended.all ∙ texts_last (worker_answers r.workers_then) r.operator_then.answers in
         record {
           front_tasks = all_received (worker_tasks r.workers_then);
@@ -120,7 +129,8 @@ replies_live n e workers o old new i tasks answers own_answers own_tasks r = go 
           desk_texts = texts (sent r.operator_then.answers);
           house_then = r.operator_then.desk.sequencer;
           operated = desk_answered o.desk r.operator_then.desk (received r.operator_then.tasks) (texts (sent r.operator_then.answers))
-              (since DeskStep o.desk r.operator_then.desk (received o.tasks) (received r.operator_then.tasks) (sent o.answers) (sent r.operator_then.answers) no_order
+              (since DeskStep o.desk r.operator_then.desk (received o.tasks) (received r.operator_then.tasks) (sent o.answers)
+              (sent r.operator_then.answers) no_order
               (last_unsent workers o.answers no_text) did.answered);
           now = r.ended.closing.now;
           left = r.ended.closing.left;
@@ -133,7 +143,8 @@ replies_live n e workers o old new i tasks answers own_answers own_tasks r = go 
 
 -- the same, of this house and these fronts
 pub replies_as : (n : ℕ) (e : Ends) (workers : List FrontWorker) (o : DeskWorker) (house : HouseState) (fronts : List FrontView) (old new : Option (List ℕ))
-    → RunsLive e.inlets workers e.rings.items (Some o) old new → AreOpened n e → worker_tasks workers ≡ e.tasks.items → worker_answers workers ≡ e.answers.items → o.answers ≡ e.desk_answers
+    → RunsLive e.inlets workers e.rings.items (Some o) old new → AreOpened n e → worker_tasks workers ≡ e.tasks.items
+    → worker_answers workers ≡ e.answers.items → o.answers ≡ e.desk_answers
     → o.tasks ≡ e.desk_tasks → o.desk.sequencer ≡ house → worker_fronts workers ≡ fronts → RepliesLive house fronts old new
 replies_as n e workers o house fronts old new r i tasks answers own_answers own_tasks same all =
     subst (λ (h : HouseState). RepliesLive h fronts old new) same

@@ -10,7 +10,8 @@ use Rattle.ct_parties.specs.OperatorWork.{Settling}
 use Rattle.ct_parties.proofs.OperatorLemmas.{settles_none}
 use Rattle.ct_live.specs.LiveParties.{TakesWhatIsThere}
 
-settling : (front now : ℕ) (old new : HouseState) (xs : List Item) → Takes old new front xs now → SettlesMore old new xs now → (now < clock_of old.core → new ≡ old)
+settling : (front now : ℕ) (old new : HouseState) (xs : List Item) → Takes old new front xs now → SettlesMore old new xs now
+    → (now < clock_of old.core → new ≡ old)
     → Settling front now old new xs
 settling front now old new xs t more early = record { of_front = t.of_front; settled = more; early = early }
 
@@ -22,13 +23,20 @@ took_none front max now s none = record {
   none = λ e. refl;
 }
 
-pub took_some : (front max most now c n : ℕ) (old new : HouseState) (xs : List Item) → 0 < max → most ≡ min max 256 → Takes old new front xs now → SettlesMore old new xs now
+pub took_some : (front max most now c n : ℕ) (old new : HouseState) (xs : List Item) → 0 < max → most ≡ min max 256 → Takes old new front xs now
+    → SettlesMore old new xs now
     → (now < clock_of old.core → new ≡ old) → c ≡ length xs → c ≤ most → min most (hand_count old front) ≤ c → clock_of old.core ≤ now → n ≡ c
     → TakesWhatIsThere front max now old (a_settled_count n) new
 took_some front max most now c n old new xs some is t more early count few all time same = record {
   items = xs;
   settling = settling front now old new xs t more early;
-  answer = (same ∙ count, omega arith, subst (λ k. min k (hand_count old front) ≤ n) is (subst (λ k. min most (hand_count old front) ≤ k) (sym same) all), λ below. time);
+  answer = (
+    same ∙ count,
+    omega arith,
+    subst (λ k. min k (hand_count old front) ≤ n) is
+        (subst (λ k. min most (hand_count old front) ≤ k) (sym same) all),
+    λ below. time,
+  );
   none = λ e. absurd (omega arith);
 }
 

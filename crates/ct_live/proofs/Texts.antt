@@ -13,7 +13,8 @@ pub text_both : (a b c : Option (List ℕ)) → WritesText a b → WritesText b 
 text_both a b c (xs, p) (ys, q) = (xs ++ ys, Appends-trans a b c xs ys p q)
 
 -- the log was closed, and wrote two texts
-pub ends_log : (s : HouseState) (fs : List FrontView) (now : ℕ) (left : FinalState) (a b c : Option (List ℕ)) → Closes s fs now left → WritesText a b → WritesText b c → EndsLog s fs a c
+pub ends_log : (s : HouseState) (fs : List FrontView) (now : ℕ) (left : FinalState) (a b c : Option (List ℕ)) → Closes s fs now left → WritesText a b
+    → WritesText b c → EndsLog s fs a c
 ends_log s fs now left a b c closed first second =
     let both = text_both a b c first second in
     record { now = now; left = left; closed = closed; text = both.0; last = both.1 }

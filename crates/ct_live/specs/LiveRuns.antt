@@ -37,7 +37,8 @@ worker_answers ws = map (λ (w : FrontWorker). w.answers) ws
 
 -- All fronts of a house and its operator have the ends of the rings in which they are given tasks, and of those whose other ends
 -- are these: the fronts in order, and then the operator.
-pub record AreJoined (inlets : Inlets) (workers : List FrontWorker) (operator : DeskWorker) (rings : List (Consumer (Vec ℕ Global) Global AnyItems)) : Type 0 where
+pub record AreJoined (inlets : Inlets) (workers : List FrontWorker) (operator : DeskWorker)
+    (rings : List (Consumer (Vec ℕ Global) Global AnyItems)) : Type 0 where
   pub tasks : ArePairs inlets.fronts.items (worker_tasks workers)
   pub orders : IsPair inlets.operator operator.tasks
   pub answers : ArePairs (worker_answers workers ++ operator.answers ∷ []) rings
@@ -63,7 +64,8 @@ pub record DeskWorks (a b : DeskWorker) : Type 0 where
   pub answers : SameProducer a.answers b.answers
 
 -- what the writer did with these rings: all that came out of them was written, or a beginning of it where it failed
-pub record WritesOut {T E : Type 0} (before after : List (Consumer (Vec ℕ Global) Global AnyItems)) (old new : Option (List ℕ)) (result : Result T E) : Type 0 where
+pub record WritesOut {T E : Type 0} (before after : List (Consumer (Vec ℕ Global) Global AnyItems)) (old new : Option (List ℕ))
+    (result : Result T E) : Type 0 where
   pub same : SameConsumers before after
   pub written : OnOk result (WritesOn before after old new)
   pub failed : OnErr result (BeginsOn before after old new)

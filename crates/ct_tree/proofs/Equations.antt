@@ -2,7 +2,9 @@
 use Rattle.std.proofs.Common.{[], ◌∷◌, length, map, true, false, refl, sym, ◌∙◌, ap, arith, subst}
 use Rattle.std.proofs.lemmas.List.{length-map, take-map, drop-map}
 use Rattle.ct_tree.specs.Tree.{split, hash_leaf}
-use Rattle.ct_tree.specs.Laws.{SplitIsLargestPowerBelow, MthOfNone, MthOfOne, MthOfMore, MthOfNoLeaves, MthOfOneLeaf, MthOfMoreLeaves, PathOfOne, PathInLeft, PathInRight, ProofIsSubproof, SubproofOfKnown, SubproofOfUnknown, SubproofInLeft, SubproofInRight, PathHasLength, SubproofHasLength}
+use Rattle.ct_tree.specs.Laws.{SplitIsLargestPowerBelow, MthOfNone, MthOfOne, MthOfMore, MthOfNoLeaves, MthOfOneLeaf, MthOfMoreLeaves, PathOfOne, PathInLeft}
+use Rattle.ct_tree.specs.Laws.{PathInRight, ProofIsSubproof, SubproofOfKnown, SubproofOfUnknown, SubproofInLeft, SubproofInRight, PathHasLength}
+use Rattle.ct_tree.specs.Laws.{SubproofHasLength}
 use Rattle.ct_tree.proofs.Split.{IsSplit, split_is, split_unique}
 use Rattle.ct_tree.proofs.Mth.{mth-nil, mth-one, mth-split_at}
 use Rattle.ct_tree.proofs.Path.{path-small, path-left, path-right, length-path_at}

@@ -1,7 +1,9 @@
 -- The perfect subtrees of a list: one more leaf, and the root.
-use Rattle.std.proofs.Common.{◌≡◌, ℕ, zero, suc, ◌+◌, ◌-◌, ◌*◌, ◌/◌, ◌%◌, ◌<◌, ◌≤◌, refl, sym, ◌∙◌, ap, arith, List, [], ◌∷◌, ◌++◌, length, take, drop, get_or, length-drop, append_assoc, add-one, ⊎_elim}
+use Rattle.std.proofs.Common.{◌≡◌, ℕ, zero, suc, ◌+◌, ◌-◌, ◌*◌, ◌/◌, ◌%◌, ◌<◌, ◌≤◌, refl, sym, ◌∙◌, ap, arith, List, [], ◌∷◌, ◌++◌, length, take, drop, get_or}
+use Rattle.std.proofs.Common.{length-drop, append_assoc, add-one, ⊎_elim}
 use Rattle.std.proofs.lemmas.Bool.{cases_lt}
-use Rattle.std.proofs.lemmas.List.{append-nil, length-take-le, take-append-drop, take_all, drop_all, length_push, nil_from_length, take_at, drop_at, get_or_at, take-take}
+use Rattle.std.proofs.lemmas.List.{append-nil, length-take-le, take-append-drop, take_all, drop_all, length_push, nil_from_length, take_at, drop_at, get_or_at}
+use Rattle.std.proofs.lemmas.List.{take-take}
 use Rattle.std.proofs.Math.Arith.{bin_ind}
 use Rattle.ct_tree.proofs.Mth.{mth-nil, mth-one, mth-level, length_level, level_small}
 use Rattle.ct_tree.specs.Tree.{hash_node, mth}

@@ -1,5 +1,6 @@
 -- The levels of a tree: their nodes are the roots of perfect subtrees, but for the last one.
-use Rattle.std.proofs.Common.{◌≡◌, ℕ, zero, suc, ◌+◌, ◌-◌, ◌*◌, ◌/◌, ◌%◌, ◌^◌, ◌<◌, ◌≤◌, ltb, refl, subst, sym, ◌∙◌, ap, arith, add-one, List, [], ◌∷◌, ◌++◌, length, take, get_or, ⊎_elim}
+use Rattle.std.proofs.Common.{◌≡◌, ℕ, zero, suc, ◌+◌, ◌-◌, ◌*◌, ◌/◌, ◌%◌, ◌^◌, ◌<◌, ◌≤◌, ltb, refl, subst, sym, ◌∙◌, ap, arith, add-one, List, [], ◌∷◌, ◌++◌}
+use Rattle.std.proofs.Common.{length, take, get_or, ⊎_elim}
 use Rattle.std.proofs.lemmas.Bool.{cases_lt, lt-ltb, le-ltb, cond-true, cond-false}
 use Rattle.std.proofs.lemmas.List.{get_or-take, length-take, append_assoc}
 use Rattle.std.proofs.Math.Nat.{pow-suc}

@@ -1,5 +1,6 @@
 -- Rebuilding two roots, one level up from the leaves.
-use Rattle.std.proofs.Common.{◌≡◌, ℕ, ◌+◌, ◌-◌, ◌/◌, ◌%◌, ◌<◌, ◌≤◌, cond, refl, sym, ◌∙◌, ap, arith, List, [], ◌∷◌, ◌++◌, reverse, Some, None, Bool, true, false, ⊎_elim, ◌⊎◌, inl, inr}
+use Rattle.std.proofs.Common.{◌≡◌, ℕ, ◌+◌, ◌-◌, ◌/◌, ◌%◌, ◌<◌, ◌≤◌, cond, refl, sym, ◌∙◌, ap, arith, List, [], ◌∷◌, ◌++◌, reverse, Some, None, Bool, true}
+use Rattle.std.proofs.Common.{false, ⊎_elim, ◌⊎◌, inl, inr}
 use Rattle.std.specs.Option.{option_map}
 use Rattle.std.proofs.lemmas.Bool.{lt-ltb, le-ltb, cases_lt}
 use Rattle.ct_tree.proofs.Split.{up, split_pos, split_up, Arrives, inside, whole, power_odd, arrives_left}

@@ -1,6 +1,7 @@
 -- The first clash of two lists and of a proof between them: where there is none the old list begins the new one, and
 -- where there is one it is a collision.
-use Rattle.std.proofs.Common.{refl, subst, ◌⊎◌, inl, inr, ⊎_elim, ◌≡◌, ℕ, ◌-◌, ◌<◌, ◌≤◌, sym, ◌∙◌, ap, ap₂, arith, Bool, true, false, cond, List, [], ◌∷◌, ◌++◌, reverse, length, take, drop, map, get_or, Option, Some, None, length-drop}
+use Rattle.std.proofs.Common.{refl, subst, ◌⊎◌, inl, inr, ⊎_elim, ◌≡◌, ℕ, ◌-◌, ◌<◌, ◌≤◌, sym, ◌∙◌, ap, ap₂, arith, Bool, true, false, cond, List, [], ◌∷◌, ◌++◌}
+use Rattle.std.proofs.Common.{reverse, length, take, drop, map, get_or, Option, Some, None, length-drop}
 use Rattle.std.specs.Option.{option_or}
 use Rattle.std.specs.Str.{bytes_eq}
 use Rattle.std.proofs.lemmas.Bool.{cases_Bool, cond-true, cond-false, both_ways}

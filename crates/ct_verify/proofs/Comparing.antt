@@ -1,5 +1,6 @@
 -- What the comparison of a path with a list of leaves finds, one level up.
-use Rattle.std.proofs.Common.{refl, ◌≡◌, ℕ, ◌+◌, ◌-◌, ◌<◌, ◌≤◌, sym, ◌∙◌, ap, arith, List, reverse, [], ◌∷◌, ◌++◌, length, take, drop, get_or, map, Option, Some, None, length-drop}
+use Rattle.std.proofs.Common.{refl, ◌≡◌, ℕ, ◌+◌, ◌-◌, ◌<◌, ◌≤◌, sym, ◌∙◌, ap, arith, List, reverse, [], ◌∷◌, ◌++◌, length, take, drop, get_or, map, Option}
+use Rattle.std.proofs.Common.{Some, None, length-drop}
 use Rattle.std.proofs.lemmas.List.{length-map, take-map, drop-map, take_rest, get_or-take, get_or-drop, length-take-le}
 use Rattle.ct_tree.proofs.Split.{split_lt}
 use Rattle.ct_tree.specs.Tree.{split, hash_leaf, hash_node, mth_of_leaves}

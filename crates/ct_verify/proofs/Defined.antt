@@ -14,7 +14,8 @@ use Rattle.ct_verify.specs.Climb.{pair_left, pair_right}
 use Rattle.ct_verify.specs.Rebuild.{rebuild, rebuild_down, both_roots, both_down, same_pair}
 use Rattle.ct_verify.specs.Verdict.{AcceptsInclusion, RefusesInclusion, AcceptsConsistency, RefusesConsistency}
 use Rattle.ct_verify.specs.declared.fault.ProofFault.{ProofFault}
-use Rattle.ct_verify.specs.declared.fault.ProofFault.TheVariants.{IndexOutOfRange, PathTooLong, PathTooShort, RootMismatch, EmptyPath, FirstMismatch, SizesOutOfRange}
+use Rattle.ct_verify.specs.declared.fault.ProofFault.TheVariants.{IndexOutOfRange, PathTooLong, PathTooShort, RootMismatch, EmptyPath, FirstMismatch}
+use Rattle.ct_verify.specs.declared.fault.ProofFault.TheVariants.{SizesOutOfRange}
 
 module _ (H : List ℕ → List ℕ) where
   -- ---- one root

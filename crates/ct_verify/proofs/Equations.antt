@@ -2,10 +2,12 @@
 use Rattle.std.proofs.Common.{refl, sym, arith, length, true}
 use Rattle.ct_verify.proofs.Options.{held}
 use Rattle.ct_verify.proofs.Rebuild.{rebuild-one}
-use Rattle.ct_verify.proofs.RebuildLaws.{rebuild-left, rebuild-right, both_left, both_right, both_whole_known, both_whole_given, path_rebuilds_at, proof_rebuilds_at}
+use Rattle.ct_verify.proofs.RebuildLaws.{rebuild-left, rebuild-right, both_left, both_right, both_whole_known, both_whole_given, path_rebuilds_at}
+use Rattle.ct_verify.proofs.RebuildLaws.{proof_rebuilds_at}
 use Rattle.ct_verify.proofs.Defined.{defined_length, path_long_enough, both_defined_length, proof_long_enough, accepted_not_refused, accepted_proof_not_refused}
 use Rattle.ct_verify.specs.Rebuild.{rebuild, both_roots}
-use Rattle.ct_verify.specs.Laws.{RebuildOfOne, RebuildInLeft, RebuildInRight, RebuildDefined, BothOfKnown, BothOfUnknown, BothInLeft, BothInRight, BothDefined, PathRebuilds, PathAccepted, PathNotRefused, ProofRebuilds, ProofAccepted, ProofNotRefused}
+use Rattle.ct_verify.specs.Laws.{RebuildOfOne, RebuildInLeft, RebuildInRight, RebuildDefined, BothOfKnown, BothOfUnknown, BothInLeft, BothInRight, BothDefined}
+use Rattle.ct_verify.specs.Laws.{PathRebuilds, PathAccepted, PathNotRefused, ProofRebuilds, ProofAccepted, ProofNotRefused}
 
 pub rebuild_of_one : RebuildOfOne
 rebuild_of_one H m h = rebuild-one H m h

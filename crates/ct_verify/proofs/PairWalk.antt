@@ -1,5 +1,6 @@
 -- One step of the walk up with two roots, and its beginning.
-use Rattle.std.proofs.Common.{◌≡◌, ℕ, suc, ◌+◌, ◌-◌, ◌/◌, ◌%◌, ◌<◌, ◌≤◌, refl, sym, ◌∙◌, ap, arith, List, [], ◌∷◌, length, take, drop, get_or, Bool, true, false, Some, ⊎_elim, inr}
+use Rattle.std.proofs.Common.{◌≡◌, ℕ, suc, ◌+◌, ◌-◌, ◌/◌, ◌%◌, ◌<◌, ◌≤◌, refl, sym, ◌∙◌, ap, arith, List, [], ◌∷◌, length, take, drop, get_or, Bool, true}
+use Rattle.std.proofs.Common.{false, Some, ⊎_elim, inr}
 use Rattle.std.specs.Prelude.{Result, Ok, Err, MatchResult, ◌==◌}
 use Rattle.std.proofs.lemmas.Bool.{cases_lt, both_ways, eq-eqb}
 use Rattle.std.proofs.lemmas.List.{drop_all, take_all}
@@ -14,7 +15,8 @@ use Rattle.ct_verify.specs.Place.{Lifted, here, above, Halved, start, higher}
 use Rattle.ct_verify.specs.Verdict.{RefusesConsistency}
 use Rattle.ct_verify.specs.CheckFrom.{WalkRefuses}
 use Rattle.ct_verify.specs.declared.fault.ProofFault.{ProofFault}
-use Rattle.ct_verify.specs.declared.fault.ProofFault.TheVariants.{IndexOutOfRange, PathTooLong, PathTooShort, RootMismatch, EmptyPath, FirstMismatch, SizesOutOfRange}
+use Rattle.ct_verify.specs.declared.fault.ProofFault.TheVariants.{IndexOutOfRange, PathTooLong, PathTooShort, RootMismatch, EmptyPath, FirstMismatch}
+use Rattle.ct_verify.specs.declared.fault.ProofFault.TheVariants.{SizesOutOfRange}
 
 module _ (H : List ℕ → List ℕ) where
   pub lifted_pair : (z : List ℕ × List ℕ) (p : List (List ℕ)) (a b n l : ℕ) → Lifted a b n l

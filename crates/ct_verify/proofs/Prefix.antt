@@ -1,6 +1,7 @@
 -- What a consistency proof shows of two lists: the old one begins the new one, where no two strings
 -- that are compared on the way have one hash and differ. Each law is one step from the parts to the whole.
-use Rattle.std.proofs.Common.{refl, ◌≡◌, ℕ, ◌+◌, ◌-◌, ◌<◌, ◌≤◌, sym, ◌∙◌, ap, arith, Bool, false, List, [], ◌∷◌, ◌++◌, length, take, drop, Some, None, length-drop}
+use Rattle.std.proofs.Common.{refl, ◌≡◌, ℕ, ◌+◌, ◌-◌, ◌<◌, ◌≤◌, sym, ◌∙◌, ap, arith, Bool, false, List, [], ◌∷◌, ◌++◌, length, take, drop, Some, None}
+use Rattle.std.proofs.Common.{length-drop}
 use Rattle.std.specs.Option.{option_map}
 use Rattle.std.proofs.lemmas.List.{length-take-le, take-append-drop, take-take, drop-take, take_all}
 use Rattle.ct_tree.proofs.Split.{split_lt}

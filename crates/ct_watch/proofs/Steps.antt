@@ -1,5 +1,6 @@
 -- What a watcher stands for after a step.
-use Rattle.std.proofs.Common.{◌≡◌, ◌⊎◌, ◌∙◌, ◌≤◌, ◌-◌, ℕ, List, ◌++◌, length, map, take, Option, Some, None, Vec, Global, arith, sym, refl, ap, subst, inl, inr, Ok, Err, Result, IfOk}
+use Rattle.std.proofs.Common.{◌≡◌, ◌⊎◌, ◌∙◌, ◌≤◌, ◌-◌, ℕ, List, ◌++◌, length, map, take, Option, Some, None, Vec, Global, arith, sym, refl, ap, subst, inl, inr}
+use Rattle.std.proofs.Common.{Ok, Err, Result, IfOk}
 use Rattle.std.proofs.lemmas.List.{append_assoc, map-append, take-map, take_all, length-map}
 use Rattle.ct_tree.specs.Stack.{Stands}
 use Rattle.ct_tree.specs.Tree.{hash_leaf}

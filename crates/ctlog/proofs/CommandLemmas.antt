@@ -1,5 +1,6 @@
 -- What a parse of the command line gives.
-use Rattle.std.proofs.Common.{◌==◌, ◌&&◌, ◌≡◌, ◌⊎◌, ◌∙◌, ◌<◌, ap, ℕ, Bool, true, false, not, List, [], ◌∷◌, length, is_some, Option, Some, None, refl, sym, subst, inl, inr, arith, zero, suc, map, true≢false}
+use Rattle.std.proofs.Common.{◌==◌, ◌&&◌, ◌≡◌, ◌⊎◌, ◌∙◌, ◌<◌, ap, ℕ, Bool, true, false, not, List, [], ◌∷◌, length, is_some, Option, Some, None, refl, sym}
+use Rattle.std.proofs.Common.{subst, inl, inr, arith, zero, suc, map, true≢false}
 use Rattle.std.specs.List.{slice_index_or}
 use Rattle.std.specs.Str.{bytes_eq}
 use Rattle.std.specs.Prelude.{codes}

@@ -14,5 +14,6 @@ returns-in-Ok-end g c =
       all = c.in-Ok.ensures.all;
       mid = mid;
       written = c.in-Ok.ensures.written;
-      closing = subst (λ (l : List FrontView). EndsLog c.args.operator.desk.sequencer l mid (g.W.Write.contents c.close_and_serve.new.output)) c.in-Ok.ensures.fronts closing;
+      closing = subst (λ (l : List FrontView). EndsLog c.args.operator.desk.sequencer l mid (g.W.Write.contents c.close_and_serve.new.output))
+          c.in-Ok.ensures.fronts closing;
     }) c.close_and_serve.ensures

@@ -17,8 +17,10 @@ loop-preserved g c =
     let inv = c.loop.invariant in
     let item = c.in-Some-receive.numbered in
     record {
-      answered = answers_more DeskStep c.args.desk.now c.loop.desk c.reply.new.self (received c.args.tasks.now) (received c.receive.new.consumer) (received c.loop.tasks)
-          (sent c.args.answers.now) (sent c.send.new.producer) (sent c.loop.answers) item c.in_ok-text.text c.in_ok-reply.reply.items c.in-Some-receive.ensures.some c.in-Ok.ensures.sent
+      answered = answers_more DeskStep c.args.desk.now c.loop.desk c.reply.new.self (received c.args.tasks.now)
+          (received c.receive.new.consumer) (received c.loop.tasks)
+          (sent c.args.answers.now) (sent c.send.new.producer) (sent c.loop.answers) item c.in_ok-text.text c.in_ok-reply.reply.items
+          c.in-Some-receive.ensures.some c.in-Ok.ensures.sent
           (rw c.deref.ensures.value at c.in_ok-text.ensures) c.in_ok-reply.ensures inv.answered;
       same_tasks = consumer_trans c.args.tasks.now c.loop.tasks c.receive.new.consumer inv.same_tasks c.receive.ensures.same;
       same_answers = producer_trans c.args.answers.now c.loop.answers c.send.new.producer inv.same_answers c.send.ensures.same;

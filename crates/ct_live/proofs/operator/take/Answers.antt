@@ -9,11 +9,13 @@ pub returns-in-Ok : goal.returns-in-Ok
 returns-in-Ok g c =
     let (xs, takes, more) = c.in-Ok.ensures.taken in
     let (count, few, all) = more in
-    took_some c.args.from c.args.max c.min-most.result c.args.now c.in-Ok.settled c.from.result c.args.sequencer.now c.take.new.self xs (omega (arith, c.if-max-eq0.false)) (omega (arith, c.min-most.ensures))
+    took_some c.args.from c.args.max c.min-most.result c.args.now c.in-Ok.settled c.from.result c.args.sequencer.now c.take.new.self xs
+    (omega (arith, c.if-max-eq0.false)) (omega (arith, c.min-most.ensures))
     takes (c.take.ensures.listed xs takes) c.take.ensures.early count few all c.in-Ok.ensures.in_time (omega (arith, c.from.ensures))
 
 pub returns-in-Err : goal.returns-in-Err
 returns-in-Err g c =
     let (xs, takes, more) = c.in-Err.ensures.taken in
-    took_refused c.args.from c.args.max c.args.now c.args.sequencer.now c.take.new.self xs c.in-Err.refusal (omega (arith, c.if-max-eq0.false)) takes (c.take.ensures.listed xs takes)
+    took_refused c.args.from c.args.max c.args.now c.args.sequencer.now c.take.new.self xs c.in-Err.refusal (omega (arith, c.if-max-eq0.false)) takes
+    (c.take.ensures.listed xs takes)
     c.take.ensures.early c.in-Err.ensures.refused

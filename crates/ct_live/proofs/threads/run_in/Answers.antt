@@ -6,11 +6,14 @@ pub end_in-result-requires-after_bounds : goal.end_in-result-requires-after_boun
 end_in-result-requires-after_bounds g c κs within =
     let left = c.in-Ok-left_of.left in
     let all = c.in-Ok-left_of.ensures.all in
-    joined_left c.args.slot.now c.operate_in-operated.new.slot c.args.start.giver.inlets left.giver.inlets c.args.start.workers.items left.workers.items c.args.start.out.rings.items
+    joined_left c.args.slot.now c.operate_in-operated.new.slot c.args.start.giver.inlets left.giver.inlets c.args.start.workers.items left.workers.items
+    c.args.start.out.rings.items
     c.deref_mut.result.now c.requires.joined (when_ok _ c.operate_in-operated.result all.1 c.operate_in-operated.ensures)
-    (gives_as c.args.start.giver.inlets _ c.join-reading.result.giver.inlets left.giver.inlets c.in-Ok-start_reader.ensures.inlets c.in-Ok-left_of.ensures.inlets c.join-reading.ensures)
+    (gives_as c.args.start.giver.inlets _ c.join-reading.result.giver.inlets left.giver.inlets c.in-Ok-start_reader.ensures.inlets
+    c.in-Ok-left_of.ensures.inlets c.join-reading.ensures)
     (replied_as _ c.args.start.workers.items c.join_workers-joined.result left.workers c.in-Ok.ensures all.2 c.join_workers-joined.ensures)
-    (same_as c.args.start.out.rings.items _ c.join-out.result.out.rings.items c.deref_mut.result.now c.in-Ok-start_writer.ensures.rings c.deref_mut.ensures.value c.join-out.ensures.same)
+    (same_as c.args.start.out.rings.items _ c.join-out.result.out.rings.items c.deref_mut.result.now c.in-Ok-start_writer.ensures.rings
+    c.deref_mut.ensures.value c.join-out.ensures.same)
 
 pub returns : goal.returns
 returns g c =
@@ -21,7 +24,8 @@ returns g c =
     let (o, was, works) = when_ok _ c.operate_in-operated.result all.1 c.operate_in-operated.ensures p at in
     record {
       inlets_then = left.giver.inlets;
-      given = gives_as c.args.start.giver.inlets _ c.join-reading.result.giver.inlets left.giver.inlets c.in-Ok-start_reader.ensures.inlets c.in-Ok-left_of.ensures.inlets c.join-reading.ensures;
+      given = gives_as c.args.start.giver.inlets _ c.join-reading.result.giver.inlets left.giver.inlets c.in-Ok-start_reader.ensures.inlets
+          c.in-Ok-left_of.ensures.inlets c.join-reading.ensures;
       workers_then = left.workers.items;
       did = replied_as _ c.args.start.workers.items c.join_workers-joined.result left.workers c.in-Ok.ensures all.2 c.join_workers-joined.ensures;
       operator = o;
@@ -30,7 +34,9 @@ returns g c =
       operated = works;
       rings_then = c.deref_mut.result.now;
       mid = g.W.Write.contents c.join-out.result.out.output;
-      wrote = writes_as c.args.start.out.rings.items _ c.join-out.result.out.rings.items c.deref_mut.result.now (g.W.Write.contents c.args.start.out.output) _ (g.W.Write.contents c.join-out.result.out.output)
-          c.in-Ok-start_writer.ensures.rings c.deref_mut.ensures.value c.in-Ok-start_writer.ensures.output (when_ok _ c.join-out.result.result all.0 c.join-out.ensures.written);
+      wrote = writes_as c.args.start.out.rings.items _ c.join-out.result.out.rings.items c.deref_mut.result.now
+          (g.W.Write.contents c.args.start.out.output) _ (g.W.Write.contents c.join-out.result.out.output)
+          c.in-Ok-start_writer.ensures.rings c.deref_mut.ensures.value c.in-Ok-start_writer.ensures.output
+          (when_ok _ c.join-out.result.result all.0 c.join-out.ensures.written);
       ended = ended;
     }) c.end_in-result.ensures
