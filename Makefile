@@ -1,8 +1,9 @@
-.PHONY: help demo test check link install fuzz load sweep wrong sources
+.PHONY: help demo test check link install fuzz load sweep wrong sources serve interop
 
 SECONDS ?= 60
 RUNS ?= 20
 PREFIX ?= /usr/local
+PORT ?= 8618
 
 help: ## says what each target does
 	@sed -n 's/^\([a-z]*\):.*## /make \1	/p' Makefile | expand -t 15
@@ -61,3 +62,10 @@ sources: ## looks through the sources, the documents and the scripts of examples
 	@PYTHONDONTWRITEBYTECODE=1 python3 checks/wrong_bodies.py
 	@docs/check.sh
 	@PYTHONDONTWRITEBYTECODE=1 python3 examples/scripts.py
+
+# LOG="python3 examples/http/stand_in.py" serves a plain log in its place, without the kit.
+serve: ## serves ctlogd over HTTP at PORT=8618 (RFC 6962, section 4), with its journal in ct-state; builds it where it isn't built
+	@LOG="$(LOG)" examples/http/serve.sh --port $(PORT)
+
+interop: ## has certspotter, where it is installed, follow a log over HTTP to verified heads
+	@LOG="$(LOG)" examples/http/interop.sh

@@ -1,0 +1,83 @@
+#!/usr/bin/env bash
+# Has certspotter, a monitor by others, follow the log over HTTP: to a verified head of 30 entries, and in a second run from
+# there to one of 50. It wants certspotter, openssl and curl (Debian has all three). With LOG="PROGRAM WORD.." another log is
+# served than crates/ctlogd/out/ctlogd or, where that isn't built, stand_in.py.
+set -eu
+here=$(cd "$(dirname "$0")" && pwd)
+for tool in certspotter openssl curl python3; do
+  command -v "$tool" >/dev/null || { echo "make interop lacks $tool" >&2; exit 1; }
+done
+work=$(mktemp -d)
+log=${LOG:-$here/../../crates/ctlogd/out/ctlogd}
+[ -n "${LOG:-}" ] || [ -x "$log" ] || log="python3 $here/stand_in.py"
+export PYTHONDONTWRITEBYTECODE=1
+
+# $log is a command line: its words are to be split.
+# shellcheck disable=SC2086
+python3 "$here/front.py" --port 0 --state "$work/state" --every 0.05 -- $log >"$work/told" &
+front=$!
+watcher=
+trap 'kill $front $watcher 2>/dev/null || true; wait; rm -rf "$work"' EXIT
+for _ in $(seq 100); do
+  [ -s "$work/told" ] && break
+  sleep 0.1
+done
+base=$(sed -n 's|^\(http://[^ ]*/\) .*|\1|p' "$work/told")
+[ -n "$base" ] || { echo "interop: the front doesn't start" >&2; exit 1; }
+
+fail() {
+  echo "interop: $1" >&2
+  cat "$work"/watched.* >&2
+  exit 1
+}
+
+# Submits certificates number $1 to $2, made for this, each for a name of its own below example.org.
+submit() {
+  for number in $(seq "$1" "$2"); do
+    name=host-$number.example.org
+    openssl req -x509 -key "$work/key.pem" -subj "/CN=$name" -addext "subjectAltName=DNS:$name" -days 30 -outform DER \
+      -out "$work/certificate" 2>/dev/null
+    printf '{"chain":["%s"]}' "$(base64 -w0 "$work/certificate")" | curl -sSf -d @- "${base}ct/v1/add-chain" >/dev/null ||
+      fail "certificate $number is refused"
+  done
+}
+
+# Runs certspotter until it has verified a head of $1 entries.
+follow() {
+  certspotter -verbose -stdout -no_save -logs "$work/logs.json" -state_dir "$work/certspotter" \
+    -watchlist "$work/watched-names" >"$work/watched.$1" 2>&1 &
+  watcher=$!
+  for _ in $(seq 100); do
+    python3 "$here/verified.py" "$work/certspotter" "$base" "$1" 2>/dev/null && break
+    kill -0 "$watcher" 2>/dev/null || fail "certspotter ended"
+    sleep 0.2
+  done
+  kill "$watcher" && wait "$watcher" || true
+  watcher=
+  python3 "$here/verified.py" "$work/certspotter" "$base" "$1" || fail "certspotter has verified no head of $1 entries"
+}
+
+openssl genpkey -algorithm EC -pkeyopt ec_paramgen_curve:P-256 -out "$work/key.pem" 2>/dev/null
+printf '.example.org\n.cryptography.io\n' >"$work/watched-names"
+curl -sSf "${base}key" | python3 -c '
+import json, sys
+state = {"usable": {"timestamp": "2026-01-01T00:00:00Z"}}
+log = {**json.load(sys.stdin), "description": "a log", "mmd": 86400, "url": sys.argv[1], "state": state}
+operators = [{"name": "an operator", "email": [], "logs": [log]}]
+print(json.dumps({"version": "1.0.0", "log_list_timestamp": "2026-01-01T00:00:00Z", "operators": operators}))
+' "$base" >"$work/logs.json"
+
+submit 1 29
+# A real precertificate, with its issuer.
+grep '"add-pre-chain"' "$here/../real-chains.jsonl" | grep -v '"chain":\[\]' | head -n 1 |
+  curl -sSf -d @- "${base}ct/v1/add-pre-chain" >/dev/null ||
+  fail "the precertificate is refused"
+follow 30
+submit 31 50
+follow 50
+names=$(sed -n 's/.*DNS Name = \(host-[0-9]*\.example\.org\)$/\1/p' "$work"/watched.* | sort -u | wc -l)
+[ "$names" = 49 ] || fail "certspotter tells of $names certificates of the 49 that it watched for"
+grep -q 'DNS Name = cryptography.io' "$work/watched.30" || fail "certspotter doesn't tell of the precertificate"
+version=$(certspotter -version 2>&1 | grep -o '[0-9][0-9.]*' | head -n 1)
+echo "certspotter $version verified the heads of 30 and, from there, of 50 entries of ${log##*/}," \
+  "and told of all 49 certificates and the precertificate that it watched for."
