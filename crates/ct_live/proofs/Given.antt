@@ -53,7 +53,6 @@ pub gives_line : (fronts k : ℕ) (line : List ℕ) (s : LiveStep) (o : Option �
 gives_line fronts k [] s o old new some asks gives = absurd (omega arith)
 gives_line fronts k (b ∷ bs) s None old new some asks gives = λ steps h. ((k, s) ∷ [], (refl, asks, tt), gives steps h)
 gives_line fronts k (b ∷ bs) s (Some now) old new some asks (is, same) = (not_empty, subst (λ (x : LiveStep). AsksLive fronts (b ∷ bs) x) is asks, same)
-
   where
     not_empty : b ∷ bs ≡ [] → ⊥
     not_empty e = cc

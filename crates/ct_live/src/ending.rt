@@ -10,9 +10,9 @@ ghost use Rattle.ct_live.specs.LiveRuns.{AreJoined, worker_answers, worker_front
 
 use crate::asking::DeskTask;
 use crate::closed::{send_last_head, serve_closed};
+use crate::desk::Desk;
 use crate::front::LiveFront;
 use crate::giving::{End, GiveFault, Giver, Inlets};
-use crate::desk::Desk;
 use crate::workers::{DeskWorker, FrontWorker};
 use ct_house::{Front, Sequencer};
 use ct_parties::{Fault, FrontTask, close};

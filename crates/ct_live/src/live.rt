@@ -8,9 +8,9 @@ ghost use Rattle.ct_live.specs.LiveOpening.{AreOpened};
 ghost use Rattle.ct_live.specs.LiveReplied.{IsRepliedLive, RepliesLive};
 
 use crate::asking::DeskTask;
+use crate::desk::Desk;
 use crate::front::LiveFront;
 use crate::giving::{Giver, Inlets};
-use crate::desk::Desk;
 use crate::threads::{Out, Served, Start, run_threads};
 use crate::workers::{DeskWorker, FrontWorker};
 use ct_house::{Front, Sequencer, open};

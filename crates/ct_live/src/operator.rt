@@ -110,14 +110,7 @@ pub fn answer_desk<R: Threads + Wait + Sync>(
         let Numbered { number: line, task } = numbered;
         let reply = desk.reply(rt, alloc, waiting, task)?;
         let text = tag(alloc, line, &reply)?;
-        match send(
-            rt,
-            places,
-            Seat::Party(number),
-            Seat::Writer,
-            answers,
-            text,
-        ) {
+        match send(rt, places, Seat::Party(number), Seat::Writer, answers, text) {
             Ok(()) => {}
             Err(Stopped) => return Err(PartyFault::Stopped),
         }

@@ -1,8 +1,8 @@
 //! The parties with the ends of their rings.
 
 use crate::asking::DeskTask;
-use crate::front::LiveFront;
 use crate::desk::Desk;
+use crate::front::LiveFront;
 use ct_parties::FrontTask;
 use ct_pipes::{Numbered, Worker};
 use rtrb::{Consumer, Producer};
