@@ -7,9 +7,11 @@
 //! - `asking` says what a line asks of a live log: beside the requests of every log there are the operator's `take` and
 //!   `close`.
 //! - `replying` has the reply to a line without the end of the line.
-//! - `front` and `operator` are the parties, as `ct_pipes` has them: what they do for a task, and their replies.
+//! - `front` is a front as a party of `ct_pipes`; `desk` is what the operator works with, and `operator` does its tasks in
+//!   turn, as a party does.
 //! - `giving` reads lines, and gives them out to the parties.
 //! - `threads` has the reader and the writer, each in a thread of its own, and the parties.
+//! - `ending` is what comes once all threads have ended, and `workers` has the parties with the ends of their rings.
 //! - `closed` closes the log, and has it reply to the lines that are left.
 //! - `live` has `serve_live`.
 #![tactic(auto)]
