@@ -2,11 +2,13 @@
 
 ghost use Rattle.std.specs.Prelude.{IfOk};
 ghost use Rattle.ct_pipes.specs.Opening.{AreNew};
+ghost use Rattle.ct_pipes.specs.Rings.{HavePlaces};
 
 use rtrb::{Consumer, Producer, RingBuffer};
 use std::alloc::{AllocError, Global};
 
-/// The ends of the rings of some parties: each has one for its tasks and one for its answers.
+/// The ends of the rings of some parties: each has one for its tasks and one for its answers. A program takes these apart, as
+/// each thread has its own; what holds of them is what `open` says.
 #[derive(Drop)]
 pub struct Pipes<T: Drop> {
     /// Where the reader gives tasks.
@@ -25,7 +27,8 @@ pub const PLACES: usize = 64;
 
 /// New rings for so many parties, each with `PLACES` places, and all empty.
 pub fn open<T: Drop>(alloc: Global, parties: usize) -> Result<Pipes<T>, AllocError>
-    ensures { IfOk result (λ p. AreNew parties p) }
+    ensures new { IfOk result (λ p. AreNew parties p) }
+    ensures places { IfOk result (λ p. HavePlaces PLACES p.given.items × HavePlaces PLACES p.answers.items) }
 {
     let mut given = Vec::new(alloc);
     let mut tasks = Vec::new(alloc);
