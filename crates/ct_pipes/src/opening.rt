@@ -2,7 +2,6 @@
 
 ghost use Rattle.std.specs.Prelude.{IfOk};
 ghost use Rattle.ct_pipes.specs.Opening.{AreNew};
-ghost use Rattle.ct_pipes.specs.Rings.{HavePlaces};
 
 use rtrb::{Consumer, Producer, RingBuffer};
 use std::alloc::{AllocError, Global};
@@ -27,8 +26,7 @@ pub const PLACES: usize = 64;
 
 /// New rings for so many parties, each with `PLACES` places, and all empty.
 pub fn open<T: Drop>(alloc: Global, parties: usize) -> Result<Pipes<T>, AllocError>
-    ensures new { IfOk result (λ p. AreNew parties p) }
-    ensures places { IfOk result (λ p. HavePlaces PLACES p.given.items × HavePlaces PLACES p.answers.items) }
+    ensures { IfOk result (λ p. AreNew parties p) }
 {
     let mut given = Vec::new(alloc);
     let mut tasks = Vec::new(alloc);
