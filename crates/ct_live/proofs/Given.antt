@@ -22,7 +22,8 @@ use Rattle.ct_live.specs.declared.asking.DeskTask.{DeskTask}
 use Rattle.ct_live.specs.declared.giving.Inlets.{Inlets}
 
 pub given_front : (old new : Inlets) (k f p : ℕ) (t : FrontTask) → p ≡ f → sent new.operator ≡ sent old.operator
-    → ((given : List (ℕ × Numbered FrontTask)) → IsMergeOf (all_sent old.fronts.items) given → IsMergeOf (all_sent new.fronts.items) (given ++ (p, record { number = k; task = t }) ∷ []))
+    → ((given : List (ℕ × Numbered FrontTask)) → IsMergeOf (all_sent old.fronts.items) given
+    → IsMergeOf (all_sent new.fronts.items) (given ++ (p, record { number = k; task = t }) ∷ []))
     → GivesStep k (front_does f (task_asked t)) None old new
 given_front old new k f p t e same give steps h =
     let x : Numbered FrontTask = record { number = k; task = t } in
@@ -35,7 +36,8 @@ given_front old new k f p t e same give steps h =
       ordered = ap (map desk_task_asked) same ∙ h.ordered ∙ sym (append-nil (filter_map desk_given steps)) ∙ sym (filter_map-append desk_given steps (s ∷ []));
     }
 
-pub given_desk : (old new : Inlets) (k : ℕ) (t : DeskTask) → all_sent new.fronts.items ≡ all_sent old.fronts.items → sent new.operator ≡ sent old.operator ++ record { number = k; task = t } ∷ []
+pub given_desk : (old new : Inlets) (k : ℕ) (t : DeskTask) → all_sent new.fronts.items ≡ all_sent old.fronts.items
+    → sent new.operator ≡ sent old.operator ++ record { number = k; task = t } ∷ []
     → GivesStep k (operator_does t) None old new
 given_desk old new k t same more steps h =
     let x : Numbered DeskTask = record { number = k; task = t } in
@@ -44,12 +46,14 @@ given_desk old new k t same more steps h =
       front_tasks = h.front_tasks;
       asked = h.asked ∙ sym (append-nil (filter_map front_given steps)) ∙ sym (filter_map-append front_given steps (s ∷ []));
       merge = subst (λ (l : List (List (Numbered FrontTask))). IsMergeOf l h.front_tasks) (sym same) h.merge;
-      ordered = ap (map desk_task_asked) more ∙ map-append desk_task_asked (sent old.operator) (x ∷ []) ∙ ap (λ (l : List (ℕ × DeskTask)). l ++ (k, t) ∷ []) h.ordered
+      ordered = ap (map desk_task_asked) more ∙ map-append desk_task_asked (sent old.operator) (x ∷ [])
+          ∙ ap (λ (l : List (ℕ × DeskTask)). l ++ (k, t) ∷ []) h.ordered
           ∙ sym (filter_map-append desk_given steps (s ∷ []));
     }
 
 -- what a line asks was given
-pub gives_line : (fronts k : ℕ) (line : List ℕ) (s : LiveStep) (o : Option ℕ) (old new : Inlets) → 0 < length line → AsksLive fronts line s → GivesStep k s o old new → GivesLine fronts k line o old new
+pub gives_line : (fronts k : ℕ) (line : List ℕ) (s : LiveStep) (o : Option ℕ) (old new : Inlets) → 0 < length line → AsksLive fronts line s
+    → GivesStep k s o old new → GivesLine fronts k line o old new
 gives_line fronts k [] s o old new some asks gives = absurd (omega arith)
 gives_line fronts k (b ∷ bs) s None old new some asks gives = λ steps h. ((k, s) ∷ [], (refl, asks, tt), gives steps h)
 gives_line fronts k (b ∷ bs) s (Some now) old new some asks (is, same) = (not_empty, subst (λ (x : LiveStep). AsksLive fronts (b ∷ bs) x) is asks, same)
@@ -66,13 +70,15 @@ gives_nothing fronts k (b ∷ bs) a none = absurd (cons_nil none)
     cons_nil e = cc
 
 -- the same of the tasks as the code has them
-pub given_to_front : (old new : Inlets) (ps qs : List (Producer (Numbered FrontTask) Global AnyItems)) (k f p : ℕ) (t : FrontTask) (s : LiveTask) → s ≡ task_case.Front f t → p ≡ f
+pub given_to_front : (old new : Inlets) (ps qs : List (Producer (Numbered FrontTask) Global AnyItems)) (k f p : ℕ) (t : FrontTask) (s : LiveTask)
+    → s ≡ task_case.Front f t → p ≡ f
     → ps ≡ old.fronts.items → new.fronts.items ≡ qs → sent new.operator ≡ sent old.operator
     → ((given : List (ℕ × Numbered FrontTask)) → IsMergeOf (all_sent ps) given → IsMergeOf (all_sent qs) (given ++ (p, record { number = k; task = t }) ∷ []))
     → GivesStep k (live_step s) None old new
 given_to_front old new ps qs k f p t s is e before after same give =
     subst (λ (x : LiveTask). GivesStep k (live_step x) None old new) (sym is) (given_front old new k f p t e same (λ given m.
-    subst (λ (l : List (Producer (Numbered FrontTask) Global AnyItems)). IsMergeOf (all_sent l) (given ++ (p, record { number = k; task = t }) ∷ [])) (sym after)
+    subst (λ (l : List (Producer (Numbered FrontTask) Global AnyItems)). IsMergeOf (all_sent l) (given ++ (p, record { number = k; task = t }) ∷ []))
+    (sym after)
     (give given (subst (λ (l : List (Producer (Numbered FrontTask) Global AnyItems)). IsMergeOf (all_sent l) given) (sym before) m))))
 
 pub given_to_desk : (old new : Inlets) (k : ℕ) (t : DeskTask) (s : LiveTask) → s ≡ task_case.Operator t → all_sent new.fronts.items ≡ all_sent old.fronts.items

@@ -1,6 +1,6 @@
 -- Both ends of each ring at hand.
 use Rattle.std.proofs.Common.{◌≡◌, ◌≢◌, ◌<◌, ◌≤◌, ◌+◌, ℕ, zero, suc, List, [], ◌∷◌, ◌++◌, length, map, set, Option, refl, sym, ap, subst, ◌∙◌, arith}
-use Rattle.std.proofs.Common.{append_assoc, append-nil, get_or, below_more, Vec, Global}
+use Rattle.std.proofs.Common.{append_assoc, append-nil, length-append, get_or, below_more, Vec, Global}
 use Rattle.std.specs.Prelude.{Some, slice_get}
 use Rattle.std.specs.List.{AllZip, concat}
 use Rattle.std.specs.Io.KnownBytes.{Appends}
@@ -99,6 +99,21 @@ module _ {T : Type 0} where
       let a : length (all_received cs) ≡ length cs = length-map cs (λ (r : Consumer T Global AnyItems). received r) in
       let b : length (all_sent ps) ≡ length ps = length-map ps (λ (r : Producer T Global AnyItems). sent r) in
       same_lists (all_received cs) (all_sent ps) (omega (arith, a, b, long)) (λ k h. below k (omega (arith, a, long, most, h)))
+
+  -- of one ring not all was received
+  pub not_all_taken : (ps : List (Producer T Global AnyItems)) (cs : List (Consumer T Global AnyItems)) (k : ℕ) (p : Producer T Global AnyItems)
+      (c : Consumer T Global AnyItems)
+      → k < length ps → k < length cs → received (get_or cs k c) ≢ sent (get_or ps k p) → (rs ss : List (List T)) → all_received cs ≡ rs → all_sent ps ≡ ss
+      → rs ≢ ss
+  not_all_taken ps cs k p c below beside apart rs ss er es same =
+      apart (same_Some (received (get_or cs k c)) (sent (get_or ps k p))
+      (sym (mapped_there (λ (r : Consumer T Global AnyItems). received r) cs k c beside)
+      ∙ ap (λ (l : List (List T)). slice_get l k) (er ∙ same ∙ sym es)
+      ∙ mapped_there (λ (r : Producer T Global AnyItems). sent r) ps k p below))
+
+-- where items are left, not all was received
+pub not_taken : {A : Type 0} (received known all : List A) → received ++ known ≡ all → length known ≢ 0 → received ≢ all
+not_taken received known all whole more same = more (omega (arith, ap length whole, ap length same, length-append received known))
 
 -- a text more was written
 pub passes_more : (a b c : Option (List ℕ)) (before between after : List (Vec ℕ Global)) (t : Vec ℕ Global) → after ≡ between ++ t ∷ []

@@ -1,19 +1,19 @@
 -- Lists that grow one by one, and a merge of them.
-use Rattle.std.proofs.Common.{◌≡◌, ◌≢◌, ◌<◌, ℕ, zero, suc, List, [], ◌∷◌, ◌++◌, length, map, set, refl, sym, ap, subst, ◌∙◌, arith, inl, inr, append-nil}
-use Rattle.std.proofs.Common.{get_or, true, false}
+use Rattle.std.proofs.Common.{◌≡◌, ◌≢◌, ◌<◌, ◌≤◌, ◌+◌, ℕ, zero, suc, List, [], ◌∷◌, ◌++◌, length, map, set, refl, sym, ap, subst, ◌∙◌, arith, inl, inr}
+use Rattle.std.proofs.Common.{append-nil, get_or, Bool, true, false}
 use Rattle.std.specs.Prelude.{All, Some, slice_get, nat_eq}
-use Rattle.std.specs.List.{AllZip}
+use Rattle.std.specs.List.{AllZip, AllWithin}
 use Rattle.std.proofs.lemmas.List.{length-set, get_or-set_same, map-set}
-use Rattle.std.proofs.lemmas.List.Elements.{filter_map-append, All-append, All-cons}
+use Rattle.std.proofs.lemmas.List.Elements.{filter_map-append, All-append, All-cons, All-from_all_within, AllWithin-more_set, AllWithin-none, AllWithin-upto}
 use Rattle.std.proofs.lemmas.Bool.Decides.{eqb_tells}
 use Rattle.std.proofs.lemmas.Option.{same_Some, slice_get_within, slice_get-get_or, slice_get-map}
 use Rattle.std.specs.Option.{option_map}
 use Rattle.std.proofs.Common.{Global}
-use Rattle.rtrb.specs.Ring.{sent, SameProducer, SameConsumer}
+use Rattle.rtrb.specs.Ring.{sent, known_free, known_items, SameProducer, SameConsumer}
 use Rattle.rtrb.specs.declared.AnyItems.{AnyItems}
 use Rattle.rtrb.specs.declared.consumer.Consumer.{Consumer}
 use Rattle.rtrb.specs.declared.producer.Producer.{Producer}
-use Rattle.ct_pipes.specs.Rings.{all_sent, SameProducers, SameConsumers}
+use Rattle.ct_pipes.specs.Rings.{all_sent, AreSeenEmpty, EmptiedAt, IsSeenFull, SameProducers, SameConsumers}
 use Rattle.ct_pipes.specs.Parts.{part, part_of, IsMergeOf}
 
 -- the element that was put there, and the others
@@ -110,6 +110,11 @@ module _ {T : Type 0} where
       → all_sent (set ps k q) ≡ all_sent ps
   sent_none ps k p q below e = mapped_same (λ (r : Producer T Global AnyItems). sent r) ps k (get_or ps k p) q (slice_get-get_or ps k p below) e
 
+  pub full_there : (ps : List (Producer T Global AnyItems)) (k : ℕ) (p q : Producer T Global AnyItems) → k < length ps → known_free q ≡ 0
+      → IsSeenFull (set ps k q) k
+  full_there ps k p q below e =
+      rw (put_there ps k (get_or ps k p) q (slice_get-get_or ps k p below)) e
+
   pub same_producers : (ps : List (Producer T Global AnyItems)) (k : ℕ) (p q : Producer T Global AnyItems) → k < length ps → SameProducer (get_or ps k p) q
       → SameProducers ps (set ps k q)
   same_producers ps k p q below e = zip_put SameProducer (λ r. ((refl, refl, refl, refl), refl)) ps k (get_or ps k p) q (slice_get-get_or ps k p below) e
@@ -134,6 +139,28 @@ module _ {T : Type 0} where
 
   pub consumers_self : (cs : List (Consumer T Global AnyItems)) → SameConsumers cs cs
   consumers_self cs = zip_self SameConsumer (λ r. ((refl, refl, refl, refl), refl)) cs
+
+  -- one ring was seen empty
+  pub emptied_one : (cs : List (Consumer T Global AnyItems)) (k : ℕ) (q : Consumer T Global AnyItems) (any : Bool)
+      → (any ≡ false → known_items q ≡ []) → any ≡ false → EmptiedAt k cs (set cs k q)
+  emptied_one cs k q any h e = (q, refl, h e)
+
+  pub emptied_none : (cs : List (Consumer T Global AnyItems)) → AllWithin (λ (c : Consumer T Global AnyItems). known_items c ≡ []) cs 0 0
+  emptied_none cs = AllWithin-none (λ (c : Consumer T Global AnyItems). known_items c ≡ []) cs 0
+
+  -- one ring more was seen empty
+  pub emptied_more : (cs ds : List (Consumer T Global AnyItems)) (k : ℕ) → k < length cs → EmptiedAt k cs ds
+      → AllWithin (λ (c : Consumer T Global AnyItems). known_items c ≡ []) cs 0 k
+      → AllWithin (λ (c : Consumer T Global AnyItems). known_items c ≡ []) ds 0 (k + 1)
+  emptied_more cs ds k below one before =
+      subst (λ (l : List (Consumer T Global AnyItems)). AllWithin (λ (c : Consumer T Global AnyItems). known_items c ≡ []) l 0 (k + 1)) (sym one.1)
+      (AllWithin-more_set cs k one.0 below (λ (c : Consumer T Global AnyItems). known_items c ≡ []) before one.2)
+
+  pub emptied_all : (cs : List (Consumer T Global AnyItems)) (n : ℕ) → length cs ≤ n
+      → AllWithin (λ (c : Consumer T Global AnyItems). known_items c ≡ []) cs 0 n → AreSeenEmpty cs
+  emptied_all cs n most within =
+      All-from_all_within (λ (c : Consumer T Global AnyItems). known_items c ≡ []) cs
+      (AllWithin-upto (λ (c : Consumer T Global AnyItems). known_items c ≡ []) cs 0 n (length cs) most within)
 
   pub consumers_trans : (xs ys zs : List (Consumer T Global AnyItems)) → SameConsumers xs ys → SameConsumers ys zs → SameConsumers xs zs
   consumers_trans xs ys zs a b = zip_trans SameConsumer consumer_trans xs ys zs a b

@@ -3,12 +3,13 @@ use Rattle.std.proofs.Common.{◌≡◌, ◌∙◌, ◌+◌, ℕ, List, [], ◌�
 use Rattle.std.specs.Prelude.{All}
 use Rattle.std.specs.List.{AllZip}
 use Rattle.std.proofs.lemmas.List.{map-append}
-use Rattle.std.proofs.lemmas.List.Elements.{All-append, All-cons}
-use Rattle.rtrb.specs.Ring.{sent, received, IsPair}
+use Rattle.std.proofs.lemmas.List.Elements.{All-append, All-cons, All-push}
+use Rattle.rtrb.specs.Ring.{sent, received, producer_capacity, IsPair}
 use Rattle.rtrb.specs.declared.AnyItems.{AnyItems}
 use Rattle.rtrb.specs.declared.consumer.Consumer.{Consumer}
 use Rattle.rtrb.specs.declared.producer.Producer.{Producer}
 use Rattle.ct_pipes.specs.Opening.{AreEmpty}
+use Rattle.ct_pipes.specs.Rings.{HavePlaces}
 
 pub pairs_more : {A B : Type 0} (R : A → B → Type 0) (xs : List A) (ys : List B) (x : A) (y : B) → AllZip R xs ys → R x y
     → AllZip R (xs ++ x ∷ []) (ys ++ y ∷ [])
@@ -28,6 +29,12 @@ none_yet P k d h = absurd (omega arith)
 module _ {T : Type 0} where
   pub empty_none : AreEmpty {T = T} 0 [] []
   empty_none = record { count = refl; pairs = tt; unsent = none_yet (λ (xs : List T). xs ≡ []); unreceived = none_yet (λ (xs : List T). xs ≡ []) }
+
+  pub places_more : (n : ℕ) (ps qs : List (Producer T Global AnyItems)) (p : Producer T Global AnyItems) → qs ≡ ps ++ p ∷ [] → producer_capacity p ≡ n
+      → HavePlaces n ps → HavePlaces n qs
+  places_more n ps qs p e one all =
+      subst (λ (l : List (Producer T Global AnyItems)). HavePlaces n l) (sym e)
+      (All-push (λ (r : Producer T Global AnyItems). producer_capacity r ≡ n) ps p all one)
 
   pub empty_more : (n : ℕ) (ps qs : List (Producer T Global AnyItems)) (cs ds : List (Consumer T Global AnyItems)) (p : Producer T Global AnyItems)
       (c : Consumer T Global AnyItems)

@@ -4,7 +4,7 @@ use Rattle.std.proofs.lemmas.List.{map-append}
 use Rattle.rtrb.specs.Ring.{SameProducer}
 use Rattle.rtrb.specs.declared.AnyItems.{AnyItems}
 use Rattle.rtrb.specs.declared.producer.Producer.{Producer}
-use Rattle.ct_pipes.specs.Answered.{AreAnswered, AnswersMore}
+use Rattle.ct_pipes.specs.Answered.{AreAnswered, AnswersMore, AnswersAllButLast}
 use Rattle.ct_pipes.specs.Rings.{texts}
 use Rattle.ct_pipes.specs.Tagged.{tagged}
 use Rattle.ct_pipes.specs.Working.{AllWork, Works}
@@ -36,6 +36,13 @@ module _ {P T : Type 0} (does : P → T → List ℕ → P → Type 0) where
         (sym (map-append (λ (w : Vec ℕ Global). w.items) before.answers (v ∷ [])))
         (one_more a m b before.tasks (texts before.answers) t v.items reply is d before.answered);
   }
+
+  -- one task more was received, and nothing was sent
+  pub all_but_last : (a m : P) (ts us ts_then : List (Numbered T)) (vs ws vs_then : List (Vec ℕ Global)) (t : Numbered T) → us ≡ ts_then ++ t ∷ []
+      → ws ≡ vs_then → AnswersMore does a m ts ts_then vs vs_then → AnswersAllButLast does a ts us vs ws
+  all_but_last a m ts us ts_then vs ws vs_then t e k before =
+      subst (λ (l : List (Vec ℕ Global)). AnswersAllButLast does a ts us vs l) (sym k)
+      (record { between = m; before_last = ts_then; last = t; came = e; answered = before })
 
 pub producer_trans : {T : Type 0} (x y z : Producer T Global AnyItems) → SameProducer x y → SameProducer y z → SameProducer x z
 producer_trans x y z a b = ((b.0.0 ∙ a.0.0, b.0.1 ∙ a.0.1, b.0.2 ∙ a.0.2, b.0.3 ∙ a.0.3), b.1 ∙ a.1)

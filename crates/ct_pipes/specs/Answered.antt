@@ -21,3 +21,13 @@ pub record AnswersMore {P T : Type 0} (does : P → T → List ℕ → P → Typ
   pub answers : List (Vec ℕ Global)
   pub went : sent_then ≡ sent ++ answers
   pub answered : AreAnswered does a tasks (texts answers) b
+
+-- More tasks were received, and all but the last were answered, each in turn, by the party that was a before. What was sent is
+-- their answers, each whole, and nothing of the last one's.
+pub record AnswersAllButLast {P T : Type 0} (does : P → T → List ℕ → P → Type 0) (a : P) (received received_then : List (Numbered T))
+    (sent sent_then : List (Vec ℕ Global)) : Type 0 where
+  pub between : P
+  pub before_last : List (Numbered T)
+  pub last : Numbered T
+  pub came : received_then ≡ before_last ++ last ∷ []
+  pub answered : AnswersMore does a between received before_last sent sent_then

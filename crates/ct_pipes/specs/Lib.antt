@@ -6,3 +6,4 @@ pub mod Tagged
 pub mod Opening
 pub mod Answered
 pub mod Working
+pub mod Waiting

@@ -1,8 +1,8 @@
 -- What went into rings, and what came out.
-use Rattle.std.specs.Prelude.{◌≡◌, ◌<◌, ℕ, List, map, slice_get, Vec}
+use Rattle.std.specs.Prelude.{◌≡◌, ◌<◌, ℕ, List, [], All, IfSome, map, set, slice_get, Vec}
 use Rattle.std.specs.Global.{Global}
 use Rattle.std.specs.List.{AllZip}
-use Rattle.rtrb.specs.Ring.{sent, received, IsPair, SameProducer, SameConsumer}
+use Rattle.rtrb.specs.Ring.{sent, received, known_free, known_items, producer_capacity, IsPair, SameProducer, SameConsumer}
 use Rattle.rtrb.specs.declared.AnyItems.{AnyItems}
 use Rattle.rtrb.specs.declared.consumer.Consumer.{Consumer}
 use Rattle.rtrb.specs.declared.producer.Producer.{Producer}
@@ -25,6 +25,22 @@ module _ {T : Type 0} where
   -- place by place the two ends of a ring
   abbrev pub ArePairs : List (Producer T Global AnyItems) → List (Consumer T Global AnyItems) → Type 0
   ArePairs ps cs = AllZip IsPair ps cs
+
+  -- each ring has so many places
+  abbrev pub HavePlaces : ℕ → List (Producer T Global AnyItems) → Type 0
+  HavePlaces n ps = All (λ (p : Producer T Global AnyItems). producer_capacity p ≡ n) ps
+
+  -- the ring there was seen full: no place of it is known to be free
+  abbrev pub IsSeenFull : List (Producer T Global AnyItems) → ℕ → Type 0
+  IsSeenFull ps k = IfSome (slice_get ps k) (λ (p : Producer T Global AnyItems). known_free p ≡ 0)
+
+  -- each ring was seen empty: nothing is known to be in it
+  abbrev pub AreSeenEmpty : List (Consumer T Global AnyItems) → Type 0
+  AreSeenEmpty cs = All (λ (c : Consumer T Global AnyItems). known_items c ≡ []) cs
+
+  -- one ring was put anew, and was seen empty
+  abbrev pub EmptiedAt : ℕ → List (Consumer T Global AnyItems) → List (Consumer T Global AnyItems) → Type 0
+  EmptiedAt k old new = (c : Consumer T Global AnyItems) × (new ≡ set old k c) × (known_items c ≡ [])
 
 -- the bytes of texts, and of the texts of each ring
 abbrev pub texts : List (Vec ℕ Global) → List (List ℕ)

@@ -1,8 +1,9 @@
 //! A party that answers its tasks in turn.
 
-ghost use Rattle.std.specs.Prelude.{ℕ, List, IfOk, OnOk};
-ghost use Rattle.rtrb.specs.Ring.{sent, received, SameProducer, SameConsumer};
-ghost use Rattle.ct_pipes.specs.Answered.{AnswersMore};
+ghost use Rattle.std.specs.Prelude.{◌≡◌, [], ℕ, List, IfOk, IfErr, OnOk, OnErr};
+ghost use Rattle.rtrb.specs.Ring.{sent, received, known_free, known_items, SameProducer, SameConsumer};
+ghost use Rattle.ct_pipes.specs.Answered.{AnswersMore, AnswersAllButLast};
+ghost use Rattle.ct_pipes.specs.declared.answering.PartyFault.TheVariants.{Memory};
 
 use crate::places::{Places, Seat};
 use crate::post::{Stopped, receive, send};
@@ -12,7 +13,7 @@ use std::alloc::{AllocError, Global};
 use std::sync::Wait;
 use std::thread::Threads;
 
-/// A task, with the number of the line that asks for it.
+/// A task, with the number of the line that asks for it. Any number goes with any task.
 #[derive(Drop)]
 pub struct Numbered<T: Drop> {
     pub number: u64,
@@ -48,12 +49,19 @@ pub enum PartyFault {
 }
 
 impl From<AllocError> for PartyFault {
+    ghost from_gives = { λ _ fault. fault ≡ Memory };
+
     fn from(_error: AllocError) -> PartyFault {
         PartyFault::Memory
     }
 }
 
 /// Answers the tasks of the party with this number, until no more are given.
+///
+/// # Errors
+///
+/// `Memory`, where a growth is refused, or `Stopped`, where all were to end and the ring of the answers was full. What was sent
+/// is then whole answers, to all tasks that were received but the last.
 pub fn answer_all<T: Drop, P: Party<T>, R: Threads + Wait + Sync>(
     rt: &R,
     alloc: Global,
@@ -66,6 +74,10 @@ pub fn answer_all<T: Drop, P: Party<T>, R: Threads + Wait + Sync>(
 ) -> Result<(), PartyFault>
     ensures answered { OnOk result (AnswersMore P.does party.old party.new
         (received tasks.old) (received tasks.new) (sent answers.old) (sent answers.new)) }
+    ensures none_left { OnOk result (known_items tasks.new ≡ []) }
+    ensures begun { OnErr result (AnswersAllButLast P.does party.old
+        (received tasks.old) (received tasks.new) (sent answers.old) (sent answers.new)) }
+    ensures full { IfErr result (λ fault. fault ≡ PartyFault.Stopped → known_free answers.new ≡ 0) }
     ensures same { SameConsumer tasks.old tasks.new × SameProducer answers.old answers.new }
 {
     for _ in rt.forever() {

@@ -1,6 +1,6 @@
 //! What is done once all threads have ended, with both ends of each ring at hand.
 
-ghost use Rattle.std.specs.Prelude.{◌≡◌, ◌<◌, ◌+◌, length, true, OnOk, OnErr};
+ghost use Rattle.std.specs.Prelude.{◌≡◌, ◌≢◌, ◌<◌, ◌+◌, length, true, false, OnOk, OnErr};
 ghost use Rattle.rtrb.specs.Ring.{sent, received, IsPair};
 ghost use Rattle.ct_pipes.specs.Rings.{all_received, all_sent, ArePairs, AreTakenBelow};
 ghost use Rattle.ct_pipes.specs.Written.{Passes, PassesSome, WritesOn, BeginsOn};
@@ -15,6 +15,7 @@ fn is_taken<T>(producer: &mut Producer<T>, consumer: &mut Consumer<T>) -> bool
     ensures pair { IsPair producer.new consumer.new }
     ensures kept { (sent producer.new ≡ sent producer.old) × (received consumer.new ≡ received consumer.old) }
     ensures taken { result ≡ true → received consumer.old ≡ sent producer.old }
+    ensures left { result ≡ false → received consumer.old ≢ sent producer.old }
 {
     consumer.slots_beside(producer) == 0
 }
@@ -23,6 +24,9 @@ fn is_taken<T>(producer: &mut Producer<T>, consumer: &mut Consumer<T>) -> bool
 pub fn are_taken<T>(producers: &mut [Producer<T>], consumers: &mut [Consumer<T>]) -> bool
     requires { ArePairs producers.old consumers.old }
     ensures taken { result ≡ true → all_received consumers.old ≡ all_sent producers.old }
+    ensures left { result ≡ false → all_received consumers.old ≢ all_sent producers.old }
+    ensures pairs { ArePairs producers.new consumers.new }
+    ensures kept { (all_sent producers.new ≡ all_sent producers.old) × (all_received consumers.new ≡ all_received consumers.old) }
 {
     for party in 0..producers.len() {
         let producer = &mut producers[party];
@@ -88,6 +92,8 @@ pub fn write_left<W: Write>(
     output: &mut W,
 ) -> Result<(), WriteFailed>
     requires { ArePairs producers.old rings.old }
+    ensures pairs { ArePairs producers.new rings.new }
+    ensures sent { all_sent producers.new ≡ all_sent producers.old }
     ensures all { OnOk result (all_received rings.new ≡ all_sent producers.old) }
     ensures written { OnOk result (WritesOn rings.old rings.new (W.contents output.old) (W.contents output.new)) }
     ensures failed { OnErr result (BeginsOn rings.old rings.new (W.contents output.old) (W.contents output.new)) }

@@ -17,8 +17,8 @@
 //! - `places` is where these threads wait for one another, and what they tell each other beside the rings. No proof rests
 //!   on it: it only ends waits.
 //!
-//! `specs/Parts.antt`, `Rings`, `Written`, `Lines`, `Answered`, `Working`, `Tagged` and `Opening` are the words of the
-//! contracts.
+//! `specs/Parts.antt`, `Rings`, `Written`, `Lines`, `Answered`, `Working`, `Waiting`, `Tagged` and `Opening` are the words of
+//! the contracts.
 #![tactic(auto)]
 
 mod answering;

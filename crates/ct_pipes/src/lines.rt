@@ -2,6 +2,7 @@
 
 ghost use Rattle.std.specs.Prelude.{◌≡◌, ◌<◌, ◌≤◌, ◌^◌, length, IfOk, IfErr, OnErr};
 ghost use Rattle.std.specs.Io.BufRead.{strip_last};
+ghost use Rattle.std.specs.Io.KnownBytes.{Consumes};
 ghost use Rattle.ct_pipes.specs.Lines.{IsNextLine};
 
 use std::io;
@@ -42,10 +43,13 @@ impl<R: BufRead + Drop> NumberedLines<R> {
     /// # Errors
     ///
     /// The reader's, where it fails; `OutOfMemory` where a growth is refused; and another one where there are more than
-    /// 2^50 lines.
+    /// 2^50 lines. The next line's number stays. Up to there `line` has what was read of it, so no byte is lost.
     pub fn read(&mut self, line: &mut Vec<u8>) -> io::Result<Option<u64>>
-        ensures { IfOk result (λ n. IsNextLine self.old.next self.new.next
+        ensures line { IfOk result (λ n. IsNextLine self.old.next self.new.next
             (R.remaining self.old.input) (R.remaining self.new.input) line.new.items n) }
+        ensures same { OnErr result (self.new.next ≡ self.old.next) }
+        ensures none_lost { OnErr result (self.old.next < 2 ^ 50
+            → Consumes (R.remaining self.old.input) (R.remaining self.new.input) line.new.items) }
     {
         if self.next == LINES {
             return Err(io::Error::from(ErrorKind::Other));

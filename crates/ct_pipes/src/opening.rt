@@ -6,7 +6,8 @@ ghost use Rattle.ct_pipes.specs.Opening.{AreNew};
 use rtrb::{Consumer, Producer, RingBuffer};
 use std::alloc::{AllocError, Global};
 
-/// The ends of the rings of some parties: each has one for its tasks and one for its answers.
+/// The ends of the rings of some parties: each has one for its tasks and one for its answers. A program takes these apart, as
+/// each thread has its own; what holds of them is what `open` says.
 #[derive(Drop)]
 pub struct Pipes<T: Drop> {
     /// Where the reader gives tasks.

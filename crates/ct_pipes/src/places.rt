@@ -1,5 +1,8 @@
 //! Where threads wait for one another, and what they tell each other beside the rings.
 
+ghost use Rattle.std.specs.Prelude.{◌≡◌, IfOk};
+ghost use Rattle.ct_pipes.specs.Waiting.{party_places};
+
 use std::alloc::{AllocError, Global};
 use std::sync::Wait;
 use std::sync::atomic::{AtomicBool, AtomicU64, Ordering};
@@ -30,7 +33,9 @@ pub struct Places {
 
 impl Places {
     /// Places for so many parties.
-    pub fn new(alloc: Global, parties: usize) -> Result<Places, AllocError> {
+    pub fn new(alloc: Global, parties: usize) -> Result<Places, AllocError>
+        ensures { IfOk result (λ p. party_places p ≡ parties) }
+    {
         let mut parkers = Vec::new(alloc);
         for _party in 0..parties {
             parkers.push(Parker::new())?;

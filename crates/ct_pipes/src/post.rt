@@ -1,9 +1,9 @@
 //! Things handed from thread to thread.
 
 ghost use Rattle.std.specs.Prelude.{◌≡◌, ◌<◌, ◌++◌, ◌∷◌, [], ℕ, List, length, IfSome, IfNone, OnOk, OnErr};
-ghost use Rattle.rtrb.specs.Ring.{sent, received, SameProducer, SameConsumer};
+ghost use Rattle.rtrb.specs.Ring.{sent, received, known_free, known_items, SameProducer, SameConsumer};
 ghost use Rattle.ct_pipes.specs.Parts.{IsMergeOf};
-ghost use Rattle.ct_pipes.specs.Rings.{all_sent, SameProducers};
+ghost use Rattle.ct_pipes.specs.Rings.{all_sent, IsSeenFull, SameProducers};
 
 use crate::places::{Places, Seat};
 use rtrb::{Consumer, Producer, PushError};
@@ -17,7 +17,7 @@ pub struct Stopped;
 ///
 /// # Errors
 ///
-/// `Stopped`, where all were to end before there was room: nothing was sent.
+/// `Stopped`, where all were to end before there was room: nothing was sent, and the ring was seen full.
 pub fn send<T: Drop, R: Wait>(
     rt: &R,
     places: &Places,
@@ -28,6 +28,7 @@ pub fn send<T: Drop, R: Wait>(
 ) -> Result<(), Stopped>
     ensures sent { OnOk result (sent producer.new ≡ sent producer.old ++ item ∷ []) }
     ensures stopped { OnErr result (sent producer.new ≡ sent producer.old) }
+    ensures full { OnErr result (known_free producer.new ≡ 0) }
     ensures same { SameProducer producer.old producer.new }
 {
     let mut item = item;
@@ -47,7 +48,8 @@ pub fn send<T: Drop, R: Wait>(
     unreachable!()
 }
 
-/// Receives the next task of a party, for which it waits. None comes where no more are given, or all were to end.
+/// Receives the next task of a party, for which it waits. None comes where no more are given, or all were to end, and the ring
+/// was seen empty.
 pub fn receive<T, R: Wait>(
     rt: &R,
     places: &Places,
@@ -56,6 +58,7 @@ pub fn receive<T, R: Wait>(
 ) -> Option<T>
     ensures some { IfSome result (λ x. received consumer.new ≡ received consumer.old ++ x ∷ []) }
     ensures none { IfNone result (received consumer.new ≡ received consumer.old) }
+    ensures empty { IfNone result (known_items consumer.new ≡ []) }
     ensures same { SameConsumer consumer.old consumer.new }
 {
     for _ in rt.forever() {
@@ -76,7 +79,7 @@ pub fn receive<T, R: Wait>(
 ///
 /// # Errors
 ///
-/// `Stopped`, where all were to end before there was room: nobody was given anything.
+/// `Stopped`, where all were to end before there was room: nobody was given anything, and the party's ring was seen full.
 pub fn give<T: Drop, R: Wait>(
     rt: &R,
     places: &Places,
@@ -88,6 +91,7 @@ pub fn give<T: Drop, R: Wait>(
     ensures given { OnOk result ((given : List (ℕ × T)) → IsMergeOf (all_sent producers.old) given
         → IsMergeOf (all_sent producers.new) (given ++ (party, task) ∷ [])) }
     ensures stopped { OnErr result (all_sent producers.new ≡ all_sent producers.old) }
+    ensures full { OnErr result (IsSeenFull producers.new party) }
     ensures same { SameProducers producers.old producers.new }
 {
     let producer = &mut producers[party];

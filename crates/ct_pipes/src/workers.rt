@@ -2,6 +2,7 @@
 
 ghost use Rattle.std.specs.Prelude.{◌≡◌, ◌++◌, ◌∷◌, [], map, IfOk, OnOk};
 ghost use Rattle.ct_pipes.specs.Working.{Works, AllWork};
+ghost use Rattle.ct_pipes.specs.declared.workers.StartFault.TheVariants.{Memory};
 
 use crate::answering::{Numbered, Party, PartyFault, answer_all};
 use crate::places::Places;
@@ -11,7 +12,8 @@ use std::snapshot::Snapshot;
 use std::sync::Wait;
 use std::thread::{Promise, PromisedHandle, Scope, Threads};
 
-/// A party, with the ends of its rings, as it begins and as it ends.
+/// A party, with the ends of its rings, as it begins and as it ends. A program makes it of any ends, under the number of the
+/// party's place.
 #[derive(Drop)]
 pub struct Worker<P: Drop, T: Drop> {
     pub number: usize,
@@ -20,7 +22,8 @@ pub struct Worker<P: Drop, T: Drop> {
     pub answers: Producer<Vec<u8>>,
 }
 
-// Answers the tasks of a party, and tells the writer that it ends. One that ends before its time has all end.
+// Answers the tasks of a party, and tells the writer that it ends. One that ends before its time has all end, and lets its rings
+// go, so nothing is left of which a clause could say what was sent.
 fn work<T: Drop, P: Party<T> + Drop, R: Threads + Wait + Sync>(
     rt: &R,
     alloc: Global,
@@ -83,6 +86,8 @@ pub enum StartFault {
 }
 
 impl From<AllocError> for StartFault {
+    ghost from_gives = { λ _ fault. fault ≡ Memory };
+
     fn from(_error: AllocError) -> StartFault {
         StartFault::Memory
     }

@@ -1,8 +1,8 @@
 //! The writer: it writes the answers of all parties, each whole, as they come.
 
-ghost use Rattle.std.specs.Prelude.{◌<◌, length, OnOk, OnErr};
-ghost use Rattle.rtrb.specs.Ring.{received, SameConsumer};
-ghost use Rattle.ct_pipes.specs.Rings.{SameConsumers};
+ghost use Rattle.std.specs.Prelude.{◌≡◌, ◌<◌, [], false, length, IfOk, OnOk, OnErr};
+ghost use Rattle.rtrb.specs.Ring.{received, known_items, SameConsumer};
+ghost use Rattle.ct_pipes.specs.Rings.{AreSeenEmpty, EmptiedAt, SameConsumers};
 ghost use Rattle.ct_pipes.specs.Written.{Passes, PassesSome, WritesOn, BeginsOn};
 
 use crate::output::{WriteFailed, write_text};
@@ -19,6 +19,7 @@ fn write_next<W: Write>(
     output: &mut W,
 ) -> Result<bool, WriteFailed>
     ensures same { SameConsumer ring.old ring.new }
+    ensures empty { IfOk result (λ any. any ≡ false → known_items ring.new ≡ []) }
     ensures written { OnOk result (Passes (W.contents output.old) (W.contents output.new)
         (received ring.old) (received ring.new)) }
     ensures failed { OnErr result (PassesSome (W.contents output.old) (W.contents output.new)
@@ -41,6 +42,7 @@ fn write_of<W: Write>(
 ) -> Result<bool, WriteFailed>
     requires { party < length rings.old }
     ensures same { SameConsumers rings.old rings.new }
+    ensures empty { IfOk result (λ any. any ≡ false → EmptiedAt party rings.old rings.new) }
     ensures written { OnOk result (WritesOn rings.old rings.new (W.contents output.old) (W.contents output.new)) }
     ensures failed { OnErr result (BeginsOn rings.old rings.new (W.contents output.old) (W.contents output.new)) }
 {
@@ -55,6 +57,7 @@ fn write_round<W: Write>(
     output: &mut W,
 ) -> Result<bool, WriteFailed>
     ensures same { SameConsumers rings.old rings.new }
+    ensures empty { IfOk result (λ any. any ≡ false → AreSeenEmpty rings.new) }
     ensures written { OnOk result (WritesOn rings.old rings.new (W.contents output.old) (W.contents output.new)) }
     ensures failed { OnErr result (BeginsOn rings.old rings.new (W.contents output.old) (W.contents output.new)) }
 {
@@ -75,6 +78,7 @@ fn write_until_ended<R: Wait, W: Write>(
     output: &mut W,
 ) -> Result<(), WriteFailed>
     ensures same { SameConsumers rings.old rings.new }
+    ensures empty { OnOk result (AreSeenEmpty rings.new) }
     ensures written { OnOk result (WritesOn rings.old rings.new (W.contents output.old) (W.contents output.new)) }
     ensures failed { OnErr result (BeginsOn rings.old rings.new (W.contents output.old) (W.contents output.new)) }
 {
@@ -90,8 +94,8 @@ fn write_until_ended<R: Wait, W: Write>(
     unreachable!()
 }
 
-/// Writes the answers of all parties as they come, until all parties have ended, or all were to end. What is left then, the
-/// threads having ended, `write_left` writes.
+/// Writes the answers of all parties as they come, until all parties have ended, or all were to end, and each ring was seen
+/// empty. What is left then, the threads having ended, `write_left` writes.
 ///
 /// # Errors
 ///
@@ -103,6 +107,7 @@ pub fn write_answers<R: Wait, W: Write>(
     output: &mut W,
 ) -> Result<(), WriteFailed>
     ensures same { SameConsumers rings.old rings.new }
+    ensures empty { OnOk result (AreSeenEmpty rings.new) }
     ensures written { OnOk result (WritesOn rings.old rings.new (W.contents output.old) (W.contents output.new)) }
     ensures failed { OnErr result (BeginsOn rings.old rings.new (W.contents output.old) (W.contents output.new)) }
 {

@@ -11,9 +11,11 @@ pub returns-in_ok-give-in-Front-clause-given : goal.returns-in_ok-give-in-Front-
 returns-in_ok-give-in-Front-clause-given g c =
     let fronts = c.args.inlets.now.fronts in
     let qs = c.give.new.producers in
-    let size : length qs ≡ fronts.len = sym (length_all_zip SameProducer c.deref_mut.result.now qs c.give.ensures.same) ∙ ap length c.deref_mut.ensures.value ∙ sym fronts.ok.0 in
+    let size : length qs ≡ fronts.len = sym (length_all_zip SameProducer c.deref_mut.result.now qs c.give.ensures.same)
+    ∙ ap length c.deref_mut.ensures.value ∙ sym fronts.ok.0 in
     let new : Inlets = record { fronts = with_items fronts qs; operator = c.args.inlets.now.operator } in
-    given_to_front c.args.inlets.now new c.deref_mut.result.now qs c.args.number c.in-Front.front c.from-party.result c.in-Front.task c.args.task c.in-Front.is c.from-party.ensures
+    given_to_front c.args.inlets.now new c.deref_mut.result.now qs c.args.number c.in-Front.front c.from-party.result c.in-Front.task c.args.task
+    c.in-Front.is c.from-party.ensures
     c.deref_mut.ensures.value (with_items_is fronts qs size) refl c.in_ok-give-in-Front.ensures.given
 
 pub returns-in_ok-send-in-Operator-clause-given : goal.returns-in_ok-send-in-Operator-clause-given

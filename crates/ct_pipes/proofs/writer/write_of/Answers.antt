@@ -1,5 +1,8 @@
-use Rattle.std.proofs.lemmas.Result.{on_err_weaker, on_ok_weaker}
-use Rattle.ct_pipes.proofs.Merging.{same_consumers}
+use Rattle.std.proofs.Common.{◌≡◌, [], Bool, false, set}
+use Rattle.std.proofs.lemmas.Result.{on_err_weaker, on_ok_weaker, IfOk-weaker}
+use Rattle.rtrb.specs.Ring.{known_items}
+use Rattle.ct_pipes.specs.Rings.{EmptiedAt}
+use Rattle.ct_pipes.proofs.Merging.{emptied_one, same_consumers}
 use Rattle.ct_pipes.proofs.Writing.{begun_there, written_there}
 use Rattle.ct_pipes.proofs.writer.write_of.Goals as goal
 
@@ -22,3 +25,11 @@ returns-clause-failed g c =
     c.index-rings-party.result c.write_next.new.ring
     c.requires s)
     c.write_next.ensures.failed
+
+pub returns-clause-empty : goal.returns-clause-empty
+returns-clause-empty g c =
+    let rings = c.args.rings.now in
+    let ring = c.write_next.new.ring in
+    IfOk-weaker c.write_next.result (λ (any : Bool). any ≡ false → known_items ring ≡ [])
+    (λ (any : Bool). any ≡ false → EmptiedAt c.args.party rings (set rings c.args.party ring)) (emptied_one rings c.args.party ring)
+    c.write_next.ensures.empty
