@@ -202,7 +202,7 @@ WRONG = """# A page
 | Crate | Stands on |
 |---|---|
 | `ct_tree` | `sha2` |
-| `ct_pipes` | `rtrb` |
+| `ct_pipes` | `rtrb`, `thiserror` |
 | `shared_list` | `sha2` |
 
 | Crate | Whose lemmas its proofs cite | On what |

@@ -12,6 +12,7 @@ use rtrb::{Consumer, Producer};
 use std::alloc::{AllocError, Global};
 use std::sync::Wait;
 use std::thread::Threads;
+use thiserror::Error;
 
 /// A task, with the number of the line that asks for it. Any number goes with any task.
 #[derive(Drop)]
@@ -40,11 +41,13 @@ pub trait Party<T> {
 }
 
 /// What ended a party before all its tasks were answered.
-#[derive(Clone, Copy, Debug, PartialEq, Eq, Drop)]
+#[derive(Clone, Copy, Debug, PartialEq, Eq, Drop, Error)]
 pub enum PartyFault {
     /// A growth was refused.
+    #[error("memory was refused")]
     Memory,
     /// All were to end.
+    #[error("all were to end")]
     Stopped,
 }
 

@@ -5,9 +5,11 @@ ghost use Rattle.std.specs.Io.KnownBytes.{Appends};
 ghost use Rattle.ct_pipes.specs.Written.{WritesBeginning};
 
 use std::io::Write;
+use thiserror::Error;
 
 /// The writer failed, or took no bytes.
-#[derive(Clone, Copy, Debug, PartialEq, Eq, Drop)]
+#[derive(Clone, Copy, Debug, PartialEq, Eq, Drop, Error)]
+#[error("the writer failed or took no bytes")]
 pub struct WriteFailed;
 
 // Writes all of the bytes, as far as the writer takes them.

@@ -8,9 +8,11 @@ ghost use Rattle.ct_pipes.specs.Rings.{all_sent, IsSeenFull, SameProducers};
 use crate::places::{Places, Seat};
 use rtrb::{Consumer, Producer, PushError};
 use std::sync::Wait;
+use thiserror::Error;
 
 /// All were to end before an item was sent.
-#[derive(Clone, Copy, Debug, PartialEq, Eq, Drop)]
+#[derive(Clone, Copy, Debug, PartialEq, Eq, Drop, Error)]
+#[error("all were to end")]
 pub struct Stopped;
 
 /// Sends an item from the thread `own` to `other`, and waits while the ring has no room.

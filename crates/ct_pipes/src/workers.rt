@@ -11,6 +11,7 @@ use std::alloc::{AllocError, Global};
 use std::snapshot::Snapshot;
 use std::sync::Wait;
 use std::thread::{Promise, PromisedHandle, Scope, Threads};
+use thiserror::Error;
 
 /// A party, with the ends of its rings, as it begins and as it ends. A program makes it of any ends, under the number of the
 /// party's place.
@@ -79,9 +80,13 @@ impl<P: Party<T> + Drop, T: Drop> Promise<Result<Worker<P, T>, PartyFault>>
 pub type WorkerThread<P, T> = PromisedHandle<Result<Worker<P, T>, PartyFault>, WorkerPromise<P, T>>;
 
 /// No thread started for a party, or a growth was refused.
-#[derive(Clone, Copy, Debug, PartialEq, Eq, Drop)]
+#[derive(Clone, Copy, Debug, PartialEq, Eq, Drop, Error)]
 pub enum StartFault {
+    /// A growth was refused.
+    #[error("memory was refused")]
     Memory,
+    /// A thread didn't start.
+    #[error("a thread didn't start")]
     Threads,
 }
 
