@@ -67,5 +67,5 @@ sources: ## looks through the sources, the documents and the scripts of examples
 serve: ## serves ctlogd over HTTP at PORT=8618 (RFC 6962, section 4), with its journal in ct-state; builds it where it isn't built
 	@LOG="$(LOG)" examples/http/serve.sh --port $(PORT)
 
-interop: ## has certspotter, where it is installed, follow a log over HTTP to verified heads
+interop: ## has certspotter follow a log over HTTP to verified heads, and a client in Go submit to it and check what it answers
 	@LOG="$(LOG)" examples/http/interop.sh

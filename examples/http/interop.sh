@@ -1,7 +1,9 @@
 #!/usr/bin/env bash
 # Has certspotter, a monitor by others, follow the log over HTTP: to a verified head of 30 entries, and in a second run from
-# there to one of 50. It wants certspotter, openssl and curl (Debian has all three). With LOG="PROGRAM WORD.." another log is
-# served than crates/ctlogd/out/ctlogd or, where that isn't built, stand_in.py.
+# there to one of 50. Then client.go submits five more by Google's client library, where go and that library are installed. It
+# wants certspotter, openssl and curl, and for client.go golang-go, golang-github-google-certificate-transparency-dev, g++ and
+# libssl-dev (Debian has them all). With LOG="PROGRAM WORD.." another log is served than crates/ctlogd/out/ctlogd or, where that
+# isn't built, stand_in.py.
 set -eu
 here=$(cd "$(dirname "$0")" && pwd)
 for tool in certspotter openssl curl python3; do
@@ -31,13 +33,18 @@ fail() {
   exit 1
 }
 
-# Submits certificates number $1 to $2, made for this, each for a name of its own below example.org.
+# Makes the certificate of this number, for a name of its own below example.org.
+make_certificate() {
+  name=host-$1.example.org
+  openssl req -x509 -key "$work/key.pem" -subj "/CN=$name" -addext "subjectAltName=DNS:$name" -days 30 -outform DER \
+    -out "$work/certificate.$1" 2>/dev/null
+}
+
+# Submits certificates number $1 to $2.
 submit() {
   for number in $(seq "$1" "$2"); do
-    name=host-$number.example.org
-    openssl req -x509 -key "$work/key.pem" -subj "/CN=$name" -addext "subjectAltName=DNS:$name" -days 30 -outform DER \
-      -out "$work/certificate" 2>/dev/null
-    printf '{"chain":["%s"]}' "$(base64 -w0 "$work/certificate")" | curl -sSf -d @- "${base}ct/v1/add-chain" >/dev/null ||
+    make_certificate "$number"
+    printf '{"chain":["%s"]}' "$(base64 -w0 "$work/certificate.$number")" | curl -sSf -d @- "${base}ct/v1/add-chain" >/dev/null ||
       fail "certificate $number is refused"
   done
 }
@@ -81,3 +88,15 @@ grep -q 'DNS Name = cryptography.io' "$work/watched.30" || fail "certspotter doe
 version=$(certspotter -version 2>&1 | grep -o '[0-9][0-9.]*' | head -n 1)
 echo "certspotter $version verified the heads of 30 and, from there, of 50 entries of ${log##*/}," \
   "and told of all 49 certificates and the precertificate that it watched for."
+
+packages=$(dpkg-query -L golang-github-google-certificate-transparency-dev 2>/dev/null | sed -n 's|/src/github.com$||p')
+if ! command -v go >/dev/null || [ -z "$packages" ]; then
+  echo "Google's client library isn't installed, and wasn't tried."
+  exit 0
+fi
+for number in $(seq 51 55); do
+  make_certificate "$number"
+done
+# The library's C++ code calls functions that OpenSSL 3 calls old: -w has the compiler say nothing of it.
+CGO_CXXFLAGS=-w GO111MODULE=off GOPATH=$packages GOCACHE=$work/go go run "$here/client.go" "$base" "$work"/certificate.5[1-5] ||
+  fail "Google's client library doesn't take what is answered"
