@@ -60,9 +60,9 @@ class Live:
 
 
 def seconds_of(process):
-    """The processor seconds that a process has had so far."""
-    fields = Path(f"/proc/{process.pid}/stat").read_text().rpartition(")")[2].split()
-    return (int(fields[11]) + int(fields[12])) / os.sysconf("SC_CLK_TCK")
+    """The processor seconds that a process's threads have had so far, by the scheduler's own count in nanoseconds."""
+    spent = [Path(folder, "schedstat").read_text().split() for folder in Path(f"/proc/{process.pid}/task").iterdir()]
+    return sum(int(fields[0]) for fields in spent) / 1e9
 
 
 def reply_times(program, fronts, replies):
@@ -101,6 +101,8 @@ def reply_times(program, fronts, replies):
             submit(front)
         elif "error" in reply:
             sys.exit(f"live.py: the operator was replied to with {reply}")
+    # What was sent last is done by then.
+    time.sleep(1)
     start = seconds_of(live.process)
     time.sleep(5)
     idle = seconds_of(live.process) - start
@@ -166,7 +168,7 @@ def main():
         batch = of_ctlog(options.ctlog, fronts, lines)
         lines.unlink()
         spent = usage.ru_utime + usage.ru_stime
-        print(f"| {fronts} | {median(times):,.0f} | {quantiles(times, n=100)[98]:,.0f} | {idle:.2f} | {seconds:.2f} | {batch:.2f} | {spent:.2f} |", flush=True)
+        print(f"| {fronts} | {median(times):,.0f} | {quantiles(times, n=100)[98]:,.0f} | {idle:.4f} | {seconds:.2f} | {batch:.2f} | {spent:.2f} |", flush=True)
     if options.memory:
         _, usage, lines = stream(options.program, 4, options.memory)
         lines.unlink()

@@ -181,6 +181,10 @@ class Repository:
                     yield f"not in {file}, in this order: {part[:80]} .."
                     break
                 left = left[left.index(part) + len(part) :]
+            lines = [" ".join(line.split()) for line in (ROOT / file).read_text().splitlines()]
+            for line in (" ".join(line.split()) for line in block.splitlines()):
+                if line not in ("", "..") and not line.startswith("```") and not any(line in whole for whole in lines):
+                    yield f"on more than one line of {file}: {line[:80]} .."
 
     def faults(self, text, page):
         yield from self.faults_of_quotations(text)
@@ -199,6 +203,9 @@ WRONG = """# A page
 <!-- from Makefile -->
     no line of it
 
+<!-- from Makefile -->
+    RUNS ?= 20 PREFIX ?= /usr/local
+
 | Crate | Stands on |
 |---|---|
 | `ct_tree` | `sha2` |
@@ -210,7 +217,7 @@ WRONG = """# A page
 | `ct_verify` | `ct_codec` | nothing |
 """
 WRONG_IN = ["no-such-page.md leads", "#no-such-heading leads", "src/absent.rt is", "Front::absent stands", "absent() is", "AbsentWord stands"]
-WRONG_IN += ["make nothing is", "make neither is", "not in Makefile"]
+WRONG_IN += ["make nothing is", "make neither is", "not in Makefile", "on more than one line of Makefile: RUNS"]
 WRONG_IN += ["for ct_tree: sha2; it is: sha2 shared_list", "for shared_list: sha2; it is: nothing", "for ct_gate: no row; it is: atomic_table"]
 WRONG_IN += ["for ct_verify: ct_codec; it is: ct_tree", "for ct_watch: no row; it is: ct_tree"]
 # And what isn't wrong there.
