@@ -4,3 +4,4 @@ pub mod Writing
 pub mod Beside
 pub mod Opened
 pub mod Turns
+pub mod Pieces

@@ -1,15 +1,17 @@
 //! An input cut into numbered lines, as it comes.
 
-ghost use Rattle.std.specs.Prelude.{◌≡◌, ◌<◌, ◌≤◌, ◌^◌, length, IfOk, IfErr, OnErr};
+ghost use Rattle.std.specs.Prelude.{◌≡◌, ◌≢◌, ◌<◌, ◌≤◌, ◌-◌, ◌^◌, [], All, take, length, IfOk, OnOk, OnErr};
 ghost use Rattle.std.specs.Io.BufRead.{strip_last};
-ghost use Rattle.std.specs.Io.KnownBytes.{Consumes};
-ghost use Rattle.ct_pipes.specs.Lines.{IsNextLine};
+ghost use Rattle.ct_pipes.specs.Lines.{IsKeptOf, IsNextLine, TakesPiece, TakesFirstLine};
 
 use std::io;
 use std::io::{BufRead, ErrorKind};
 
-// How many lines are read at most, so that their numbers can be counted.
+// How many lines are read at most, so that their numbers can be counted, and how many pieces of a line.
 const LINES: u64 = 1 << 50;
+
+// How many bytes of a line are kept, its end among them: two more than the longest request has.
+const KEPT: usize = 1_048_578;
 
 /// An input, of which the next line has this number. The first line has the number 0.
 #[derive(Drop)]
@@ -29,6 +31,60 @@ fn content(line: &[u8]) -> &[u8]
     }
 }
 
+// The length up to and including the first byte 0A, or the whole length.
+fn through(bytes: &[u8]) -> usize
+    ensures bound { result ≤ length bytes.now }
+    ensures some { 0 < length bytes.now → 0 < result }
+    ensures before { All (λ x. x ≢ 10) (take (result - 1) bytes.now) }
+{
+    let mut i = 0;
+    while i < bytes.len() {
+        if bytes[i] == b'\n' {
+            return i + 1;
+        }
+        i += 1;
+    }
+    i
+}
+
+// Takes what stands in the reader's buffer, up to and including the first byte 0A, and keeps of it what there is room for. It
+// answers whether the line ended, at that byte or at the end of the input.
+fn take_piece<R: BufRead>(input: &mut R, line: &mut Vec<u8>) -> io::Result<bool>
+    requires { length line.old.items ≤ 1048578 }
+    ensures { TakesPiece (R.remaining input.old) (R.remaining input.new) line.old.items line.new.items result }
+{
+    let available = match input.fill_buf() {
+        Ok(available) => available,
+        Err(error) => {
+            return if error.kind() == ErrorKind::Interrupted {
+                Ok(false)
+            } else {
+                Err(error)
+            };
+        }
+    };
+    let end = through(available);
+    let kept = end.min(KEPT - line.len());
+    line.extend_from_slice(&available[..kept])?;
+    let is_done = end == 0 || available[end - 1] == b'\n';
+    input.consume(end);
+    Ok(is_done)
+}
+
+// Takes the next line with its end, and keeps of it what there is room for in an empty vector.
+fn take_line<R: BufRead>(input: &mut R, line: &mut Vec<u8>) -> io::Result<()>
+    requires { line.old.items ≡ [] }
+    ensures line { OnOk result (TakesFirstLine (R.remaining input.old) (R.remaining input.new) line.new.items) }
+    ensures none_lost { OnErr result (IsKeptOf (R.remaining input.old) (R.remaining input.new) line.new.items) }
+{
+    for turn in 0..LINES {
+        if take_piece(input, line)? {
+            return Ok(());
+        }
+    }
+    Err(io::Error::from(ErrorKind::Other))
+}
+
 impl<R: BufRead + Drop> NumberedLines<R> {
     /// The lines of an input, from its first one on.
     pub fn new(input: R) -> NumberedLines<R>
@@ -38,25 +94,27 @@ impl<R: BufRead + Drop> NumberedLines<R> {
     }
 
     /// Reads the next line into `line`, without its end, the byte 0A, and in place of what stood there. It answers the
-    /// line's number, or none at the end of the input. An empty line is one, and so is a last line that the input ends.
+    /// line's number, or none at the end of the input. An empty line is one, and so is a last line that the input ends. Of a
+    /// line of more than 1,048,577 bytes the first 1,048,578 are kept, so that no line takes more memory.
     ///
     /// # Errors
     ///
     /// The reader's, where it fails; `OutOfMemory` where a growth is refused; and another one where there are more than
-    /// 2^50 lines. The next line's number stays. Up to there `line` has what was read of it, so no byte is lost.
+    /// 2^50 lines, or pieces of a line. The next line's number stays. `line` has what was read of the line, as far as it is
+    /// kept.
     pub fn read(&mut self, line: &mut Vec<u8>) -> io::Result<Option<u64>>
         ensures line { IfOk result (λ n. IsNextLine self.old.next self.new.next
             (R.remaining self.old.input) (R.remaining self.new.input) line.new.items n) }
         ensures same { OnErr result (self.new.next ≡ self.old.next) }
         ensures none_lost { OnErr result (self.old.next < 2 ^ 50
-            → Consumes (R.remaining self.old.input) (R.remaining self.new.input) line.new.items) }
+            → IsKeptOf (R.remaining self.old.input) (R.remaining self.new.input) line.new.items) }
     {
         if self.next == LINES {
             return Err(io::Error::from(ErrorKind::Other));
         }
         line.clear();
-        let count = self.input.read_until(b'\n', line)?;
-        if count == 0 {
+        take_line(&mut self.input, line)?;
+        if line.is_empty() {
             return Ok(None);
         }
         let end = content(line).len();
