@@ -6,3 +6,4 @@ pub mod Asks
 pub mod Replied
 pub mod Texts
 pub mod Given
+pub mod Kept
