@@ -1,19 +1,22 @@
 -- A line of which a beginning is kept asks what that beginning asks: nothing, since both are longer than any request.
-use Rattle.std.proofs.Common.{◌≡◌, ◌⊎◌, ◌<◌, inl, inr, ◌&&◌, ℕ, false, cond, List, Some, None, length, refl, sym, ap, subst, ◌∙◌, arith}
+use Rattle.std.proofs.Common.{◌≡◌, ◌≢◌, ◌⊎◌, ◌<◌, inl, inr, [], ◌∷◌, Option, ◌&&◌, ℕ, false, cond, List, Some, None, length, refl, sym, ap, subst, ◌∙◌, arith}
 use Rattle.std.proofs.lemmas.Bool.Decides.{nat_tests}
 use Rattle.std.specs.Prelude.{nat_le, option_and_then}
 use Rattle.std.specs.Str.{is_utf8}
 use Rattle.serde_json.specs.Read.{read}
-use Rattle.std.specs.Io.BufRead.{first_piece}
+use Rattle.std.specs.Io.BufRead.{drop_through, first_piece}
 use Rattle.ct_core.specs.Settlement.{Log}
 use Rattle.ct_lines.specs.Frozen.{answer_if, line_answer}
 use Rattle.ct_lines.proofs.Asking.{too_long}
 use Rattle.ct_parties.specs.Tasks.{for_operator, does, AsksFor}
 use Rattle.ct_parties.specs.declared.task.OperatorTask.TheVariants.{BadLine}
-use Rattle.ct_pipes.specs.Lines.{kept_line}
+use Rattle.ct_pipes.specs.Lines.{kept_line, IsNextLine}
 use Rattle.ct_pipes.proofs.Pieces.{whole_or_long}
 use Rattle.ct_live.specs.LiveLines.{AsksLive, live_asked_in, live_request_of, live_request_step, live_step_for}
+use Rattle.ct_live.specs.LiveGiven.{GivesLines}
+use Rattle.ct_live.specs.LiveServed.{AllAskLive}
 use Rattle.ct_live.specs.LiveTasks.{LiveStep}
+use Rattle.ct_live.specs.declared.giving.Inlets.{Inlets}
 
 -- a line that is too long asks nothing of a live log alone
 live_too_long : (line : List ℕ) → 1048576 < length line → live_request_of line ≡ None
@@ -43,3 +46,52 @@ answers_kept log xs = elim (whole_or_long xs) [
   | inl same ↦ ap (line_answer log) same
   | inr long ↦ ap (answer_if log) (too_long (kept_line xs) long.0 ∙ sym (too_long (first_piece 10 xs) long.1))
 ]
+
+asks_line : (fronts k : ℕ) (a b : List ℕ) (ss : List (ℕ × LiveStep)) → 1048576 < length a → 1048576 < length b → AllAskLive fronts ((k, a) ∷ []) ss
+    → AllAskLive fronts ((k, b) ∷ []) ss
+asks_line fronts k [] b ss long_a long_b p = absurd (omega (arith, long_a))
+asks_line fronts k (x ∷ a) [] ss long_a long_b p = absurd (omega (arith, long_b))
+asks_line fronts k (x ∷ a) (y ∷ b) [] long_a long_b p = absurd p
+asks_line fronts k (x ∷ a) (y ∷ b) (s ∷ ss) long_a long_b p = (p.0, asks_long fronts (x ∷ a) (y ∷ b) s.1 long_a long_b p.1, p.2)
+
+kept_asks_line : (fronts k : ℕ) (xs : List ℕ) (ss : List (ℕ × LiveStep)) → AllAskLive fronts ((k, kept_line xs) ∷ []) ss
+    → AllAskLive fronts ((k, first_piece 10 xs) ∷ []) ss
+kept_asks_line fronts k xs ss p = elim (whole_or_long xs) [
+  | inl same ↦ subst (λ (l : List ℕ). AllAskLive fronts ((k, l) ∷ []) ss) same p
+  | inr long ↦ asks_line fronts k (kept_line xs) (first_piece 10 xs) ss long.0 long.1 p
+]
+
+kept_some : (xs : List ℕ) → kept_line xs ≢ [] → first_piece 10 xs ≢ []
+kept_some xs some = elim (whole_or_long xs) [
+  | inl same ↦ λ e. some (same ∙ e)
+  | inr long ↦ λ e. absurd (omega (arith, long.1, ap length e))
+]
+
+-- the whole line that was read, of which this is kept
+abbrev pub whole_line : Option (List ℕ) → List ℕ → List ℕ
+whole_line None line = line
+whole_line (Some xs) line = first_piece 10 xs
+
+kept_piece : (n m k : ℕ) (xs : List ℕ) (later : Option (List ℕ)) (line : List ℕ) → IsNextLine n m (Some xs) later line (Some k) → line ≡ kept_line xs
+kept_piece n m k xs later line is =
+    let first : (0 < length xs) × (line ≡ kept_line xs) × (later ≡ Some (drop_through 10 xs)) = is.2 in
+    first.1
+
+-- it asks what is kept of it
+pub whole_gives : (fronts n m k : ℕ) (left later : Option (List ℕ)) (line : List ℕ) (a b : Inlets) → IsNextLine n m left later line (Some k)
+    → GivesLines fronts ((k, line) ∷ []) a b → GivesLines fronts ((k, whole_line left line) ∷ []) a b
+whole_gives fronts n m k None later line a b is gives steps h = gives steps h
+whole_gives fronts n m k (Some xs) later line a b is gives steps h =
+    let (more, asks, given) = gives steps h in
+    let piece = kept_piece n m k xs later line is in
+    (more, kept_asks_line fronts k xs more (subst (λ (l : List ℕ). AllAskLive fronts ((k, l) ∷ []) more) piece asks), given)
+
+pub whole_some : (n m k : ℕ) (left later : Option (List ℕ)) (line : List ℕ) → IsNextLine n m left later line (Some k) → line ≢ [] → whole_line left line ≢ []
+whole_some n m k None later line is some = some
+whole_some n m k (Some xs) later line is some = kept_some xs (λ e. some (kept_piece n m k xs later line is ∙ e))
+
+pub whole_asks : (fronts n m k : ℕ) (left later : Option (List ℕ)) (line : List ℕ) (s : LiveStep) → IsNextLine n m left later line (Some k)
+    → AsksLive fronts line s → AsksLive fronts (whole_line left line) s
+whole_asks fronts n m k None later line s is asks = asks
+whole_asks fronts n m k (Some xs) later line s is asks =
+    asks_kept fronts xs s (subst (λ (l : List ℕ). AsksLive fronts l s) (kept_piece n m k xs later line is) asks)

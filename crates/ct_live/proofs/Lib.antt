@@ -7,3 +7,5 @@ pub mod Replied
 pub mod Texts
 pub mod Given
 pub mod Kept
+pub mod Reading
+pub mod Tied

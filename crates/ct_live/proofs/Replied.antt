@@ -1,6 +1,6 @@
 -- What the parties answered was written.
-use Rattle.std.proofs.Common.{◌≡◌, ◌∙◌, ℕ, suc, List, [], ◌∷◌, ◌++◌, refl, sym, ap, subst, arith, Vec, Global, Option, Some}
-use Rattle.std.specs.Prelude.{All}
+use Rattle.std.proofs.Common.{◌≡◌, ◌∙◌, ℕ, suc, List, [], ◌∷◌, ◌++◌, refl, sym, ap, subst, arith, length, Vec, Global, Option, Some, Result, Ok}
+use Rattle.std.specs.Prelude.{All, IfOk}
 use Rattle.std.proofs.KnownBytes.{Appends-nil, Appends-trans}
 use Rattle.std.proofs.lemmas.List.Elements.{All-map}
 use Rattle.std.proofs.lemmas.Option.{get_or_from_slice_get, same_Some, slice_get_within}
@@ -15,6 +15,7 @@ use Rattle.ct_pipes.specs.Parts.{IsMergeOf}
 use Rattle.ct_pipes.specs.Rings.{all_received, all_sent, texts, texts_each}
 use Rattle.ct_pipes.specs.Written.{IsWritten}
 use Rattle.ct_pipes.specs.declared.answering.Numbered.{Numbered}
+use Rattle.ct_live.specs.LiveGiven.{GivesUpTo}
 use Rattle.ct_live.specs.LiveOpening.{AreOpened}
 use Rattle.ct_live.specs.LiveParties.{DeskReplies, FrontReplies}
 use Rattle.ct_live.specs.LiveReplied.{AllAnswer, RepliesLive, Rings, RunsLive}
@@ -22,9 +23,11 @@ use Rattle.ct_live.specs.LiveRuns.{FrontWorker, worker_fronts, worker_tasks, wor
 use Rattle.ct_live.specs.declared.asking.DeskTask.{DeskTask}
 use Rattle.ct_live.specs.declared.desk.Desk.{Desk}
 use Rattle.ct_live.specs.declared.front.LiveFront.{LiveFront}
+use Rattle.ct_live.specs.declared.giving.End.{End}
 use Rattle.ct_live.specs.declared.live.Ends.{Ends}
 use Rattle.ct_live.specs.declared.workers.DeskWorker.{DeskWorker}
 use Rattle.ct_live.proofs.Joined.{FrontStep}
+use Rattle.ct_live.proofs.Tied.{lines_left, none_given, tasks_of}
 
 abbrev pub Empty : {A : Type 0} → List A → Type 0
 Empty xs = xs ≡ []
@@ -100,13 +103,19 @@ pub texts_last : (ps : List (Producer (Vec ℕ Global) Global AnyItems)) (q : Pr
 texts_last [] q = refl
 texts_last (p ∷ ps) q = ap (λ (l : List (List (List ℕ))). texts (sent p) ∷ l) (texts_last ps q)
 
-pub replies_live : (n : ℕ) (e : Ends) (workers : List FrontWorker) (o : DeskWorker) (old new : Option (List ℕ)) → AreOpened n e
+-- what a result that isn't a fault says
+module _ {T E : Type 0} where
+  pub ok_is : (r : Result T E) (x : T) (P : T → Type 0) → r ≡ Ok x → IfOk r P → P x
+  ok_is r x P is holds = subst (λ (t : Result T E). IfOk t P) is holds
+
+pub replies_live : (n close_at next : ℕ) (input : Option (List ℕ)) (e : Ends) (workers : List FrontWorker) (o : DeskWorker) (old new : Option (List ℕ)) → AreOpened n e
     → worker_tasks workers ≡ e.tasks.items
-    → worker_answers workers ≡ e.answers.items → o.answers ≡ e.desk_answers → o.tasks ≡ e.desk_tasks → RunsLive e.inlets workers e.rings.items (Some o) old new
-    → RepliesLive o.desk.sequencer (worker_fronts workers) old new
-replies_live n e workers o old new i tasks answers own_answers own_tasks r = go r.operator (same_Some o r.operator r.was) r.operated
+    → worker_answers workers ≡ e.answers.items → o.answers ≡ e.desk_answers → o.tasks ≡ e.desk_tasks
+    → RunsLive close_at next input e.inlets workers e.rings.items (Some o) old new
+    → RepliesLive n close_at next input o.desk.sequencer (worker_fronts workers) old new
+replies_live n close_at next input e workers o old new i tasks answers own_answers own_tasks r = go r.operator (same_Some o r.operator r.was) r.operated
   where
-    go : (p : DeskWorker) → o ≡ p → DeskWorks p r.operator_then → RepliesLive o.desk.sequencer (worker_fronts workers) old new
+    go : (p : DeskWorker) → o ≡ p → DeskWorks p r.operator_then → RepliesLive n close_at next input o.desk.sequencer (worker_fronts workers) old new
     go p is worked =
         let no_task : All Empty (all_received (worker_tasks workers)) =
         subst (λ (l : List (Consumer (Numbered FrontTask) Global AnyItems)). All Empty (all_received l)) (sym tasks) i.tasks.unreceived in
@@ -120,6 +129,13 @@ replies_live n e workers o old new i tasks answers own_answers own_tasks r = go 
         let lists : texts_each (all_received r.ended.rings) ≡ texts_each (all_sent (worker_answers r.workers_then))
         ++ texts (sent r.operator_then.answers) ∷ [] =
         ap texts_each r.ended.all ∙ texts_last (worker_answers r.workers_then) r.operator_then.answers in
+        let out : GivesUpTo n next r.next_then input r.input_then r.ended.end e.inlets r.inlets_then =
+        subst (λ (k : ℕ). GivesUpTo k next r.next_then input r.input_then r.ended.end e.inlets r.inlets_then) i.tasks.count
+        (ok_is r.read r.ended.end (λ (x : End). GivesUpTo (length e.inlets.fronts.items) next r.next_then input r.input_then x e.inlets r.inlets_then)
+        r.ended.ended_so r.given.given) in
+        let left = lines_left r.next_then r.input_then in
+        let tie = tasks_of n close_at next r.next_then input r.input_then r.ended.end e.inlets r.inlets_then (all_received (worker_tasks r.workers_then))
+        (received r.operator_then.tasks) r.ended.closing.now left.0 (none_given n e i) out r.ended.closing.moment r.ended.taken r.ended.ordered left.1 in
         record {
           front_tasks = all_received (worker_tasks r.workers_then);
           front_texts = texts_each (all_sent (worker_answers r.workers_then));
@@ -133,6 +149,10 @@ replies_live n e workers o old new i tasks answers own_answers own_tasks r = go 
               (sent r.operator_then.answers) no_order
               (last_unsent workers o.answers no_text) did.answered);
           now = r.ended.closing.now;
+          lines = tie.lines;
+          of_input = tie.of_input;
+          behind = tie.behind;
+          tied = tie.tied;
           left = r.ended.closing.left;
           closed = r.ended.closing.closed;
           order = w.order;
@@ -142,10 +162,12 @@ replies_live n e workers o old new i tasks answers own_answers own_tasks r = go 
         }
 
 -- the same, of this house and these fronts
-pub replies_as : (n : ℕ) (e : Ends) (workers : List FrontWorker) (o : DeskWorker) (house : HouseState) (fronts : List FrontView) (old new : Option (List ℕ))
-    → RunsLive e.inlets workers e.rings.items (Some o) old new → AreOpened n e → worker_tasks workers ≡ e.tasks.items
+pub replies_as : (n close_at next : ℕ) (input : Option (List ℕ)) (e : Ends) (workers : List FrontWorker) (o : DeskWorker) (house : HouseState)
+    (fronts : List FrontView) (old new : Option (List ℕ))
+    → RunsLive close_at next input e.inlets workers e.rings.items (Some o) old new → AreOpened n e → worker_tasks workers ≡ e.tasks.items
     → worker_answers workers ≡ e.answers.items → o.answers ≡ e.desk_answers
-    → o.tasks ≡ e.desk_tasks → o.desk.sequencer ≡ house → worker_fronts workers ≡ fronts → RepliesLive house fronts old new
-replies_as n e workers o house fronts old new r i tasks answers own_answers own_tasks same all =
-    subst (λ (h : HouseState). RepliesLive h fronts old new) same
-    (subst (λ (l : List FrontView). RepliesLive o.desk.sequencer l old new) all (replies_live n e workers o old new i tasks answers own_answers own_tasks r))
+    → o.tasks ≡ e.desk_tasks → o.desk.sequencer ≡ house → worker_fronts workers ≡ fronts → RepliesLive n close_at next input house fronts old new
+replies_as n close_at next input e workers o house fronts old new r i tasks answers own_answers own_tasks same all =
+    subst (λ (h : HouseState). RepliesLive n close_at next input h fronts old new) same
+    (subst (λ (l : List FrontView). RepliesLive n close_at next input o.desk.sequencer l old new) all
+    (replies_live n close_at next input e workers o old new i tasks answers own_answers own_tasks r))

@@ -1,5 +1,5 @@
 -- What a live log replies to the tasks that its parties were given.
-use Rattle.std.specs.Prelude.{◌≡◌, ℕ, List, [], ◌∷◌, ◌++◌, Option, Some, Vec}
+use Rattle.std.specs.Prelude.{◌≡◌, ℕ, List, [], ◌∷◌, ◌++◌, Option, Some, Result, Ok, Vec}
 use Rattle.std.specs.Global.{Global}
 use Rattle.std.specs.Io.KnownBytes.{Appends}
 use Rattle.rtrb.specs.Ring.{sent, received}
@@ -13,9 +13,14 @@ use Rattle.ct_pipes.specs.Parts.{IsMergeOf}
 use Rattle.ct_pipes.specs.Rings.{all_received, all_sent}
 use Rattle.ct_pipes.specs.Written.{WritesOn, in_order}
 use Rattle.ct_pipes.specs.declared.answering.Numbered.{Numbered}
+use Rattle.ct_live.specs.LiveGiven.{ReadsOn}
 use Rattle.ct_live.specs.LiveParties.{DeskReplies, FrontReplies}
-use Rattle.ct_live.specs.LiveRuns.{FrontWorker, worker_fronts, worker_tasks, worker_answers, GivesOn, AllReply, DeskWorks}
+use Rattle.ct_live.specs.LiveRuns.{FrontWorker, worker_fronts, worker_tasks, worker_answers, AllReply, DeskWorks}
+use Rattle.ct_live.specs.LiveServed.{AreLinesOf, AreTasksOf}
 use Rattle.ct_live.specs.declared.asking.DeskTask.{DeskTask}
+use Rattle.ct_live.specs.declared.giving.End.{End}
+use Rattle.ct_live.specs.declared.giving.End.TheVariants.{Close, Input}
+use Rattle.ct_live.specs.declared.giving.GiveFault.{GiveFault}
 use Rattle.ct_live.specs.declared.giving.Inlets.{Inlets}
 use Rattle.ct_live.specs.declared.workers.DeskWorker.{DeskWorker}
 
@@ -27,30 +32,44 @@ Rings = List (Consumer (Vec ℕ Global) Global AnyItems)
 abbrev pub WritesText : Option (List ℕ) → Option (List ℕ) → Type 0
 WritesText old new = (text : List ℕ) × Appends old new text
 
--- the log of this house was closed at some moment, and replied
-pub record EndsLog (house : HouseState) (fronts : List FrontView) (old new : Option (List ℕ)) : Type 0 where
+-- the log is closed at close_at where the input ended, and else at the moment of the line that closes it
+abbrev pub IsMomentOf : ℕ → End → ℕ → Type 0
+IsMomentOf close_at Input now = now ≡ close_at
+IsMomentOf close_at (Close k at) now = now ≡ at
+
+-- the log of this house was closed, at the moment that what ended the lines gives, and replied
+pub record EndsLog (house : HouseState) (fronts : List FrontView) (close_at : ℕ) (end : End) (old new : Option (List ℕ)) : Type 0 where
   pub now : ℕ
+  pub moment : IsMomentOf close_at end now
   pub left : FinalState
   pub closed : Closes house fronts now left
   pub text : List ℕ
   pub last : Appends old new text
 
--- Once all threads have ended: the parties had received all tasks that they were given, all their answers that are left are written,
--- the log is closed at some moment, final for what the fronts had accepted, and what it replies is written behind them.
-pub record EndsLive (inlets : Inlets) (workers : List FrontWorker) (operator : DeskWorker) (before : Rings) (old new : Option (List ℕ)) : Type 0 where
+-- Once all threads have ended: the reader wasn't kept from the lines, the parties had received all tasks that they were given, all
+-- their answers that are left are written, the log is closed, final for what the fronts had accepted, and what it replies is written
+-- behind them.
+pub record EndsLive (inlets : Inlets) (workers : List FrontWorker) (operator : DeskWorker) (close_at : ℕ) (read : Result End GiveFault) (next : ℕ)
+    (input : Option (List ℕ)) (before : Rings) (old new : Option (List ℕ)) : Type 0 where
   pub taken : all_received (worker_tasks workers) ≡ all_sent inlets.fronts.items
   pub ordered : received operator.tasks ≡ sent inlets.operator
   pub rings : Rings
   pub all : all_received rings ≡ all_sent (worker_answers workers ++ operator.answers ∷ [])
   pub mid : Option (List ℕ)
   pub written : WritesOn before rings old mid
-  pub closing : EndsLog operator.desk.sequencer (worker_fronts workers) mid new
+  pub end : End
+  pub ended_so : read ≡ Ok end
+  pub closing : EndsLog operator.desk.sequencer (worker_fronts workers) close_at end mid new
 
--- What the threads and the end after them do: tasks were given, the fronts and the operator did theirs, answers were written as they
--- came, and then the log ended.
-pub record RunsLive (inlets : Inlets) (workers : List FrontWorker) (rings : Rings) (slot : Option DeskWorker) (old new : Option (List ℕ)) : Type 0 where
+-- What the threads and the end after them do: tasks were given for the lines of the input, the fronts and the operator did theirs,
+-- answers were written as they came, and then the log ended.
+pub record RunsLive (close_at next : ℕ) (input : Option (List ℕ)) (inlets : Inlets) (workers : List FrontWorker) (rings : Rings)
+    (slot : Option DeskWorker) (old new : Option (List ℕ)) : Type 0 where
   pub inlets_then : Inlets
-  pub given : GivesOn inlets inlets_then
+  pub read : Result End GiveFault
+  pub next_then : ℕ
+  pub input_then : Option (List ℕ)
+  pub given : ReadsOn next next_then input input_then read inlets inlets_then
   pub workers_then : List FrontWorker
   pub did : AllReply workers workers_then
   pub operator : DeskWorker
@@ -60,7 +79,7 @@ pub record RunsLive (inlets : Inlets) (workers : List FrontWorker) (rings : Ring
   pub rings_then : Rings
   pub mid : Option (List ℕ)
   pub wrote : WritesOn rings rings_then old mid
-  pub ended : EndsLive inlets_then workers_then operator_then rings_then mid new
+  pub ended : EndsLive inlets_then workers_then operator_then close_at read next_then input_then rings_then mid new
 
 -- each front answered its tasks in turn, from what it was to what it is then
 abbrev pub AllAnswer : List FrontView → List (List (Numbered FrontTask)) → List (List (List ℕ)) → List FrontView → Type 0
@@ -68,10 +87,12 @@ AllAnswer [] [] [] [] = Unit {0}
 AllAnswer (a ∷ before) (ts ∷ tasks) (xs ∷ texts) (b ∷ after) = AreAnswered FrontReplies a ts xs b × AllAnswer before tasks texts after
 AllAnswer _ _ _ _ = ⊥
 
--- The house's parties answered tasks, each its own in turn; the log was closed, final for what the fronts had accepted, after what
--- the operator had settled and published; and what was written is a merge of the parties' answers, each party's in their order, each
--- whole and with its line's number, and no others, and behind it what the closed log replied.
-pub record RepliesLive (house : HouseState) (fronts : List FrontView) (old new : Option (List ℕ)) : Type 0 where
+-- The house's parties answered the tasks that the lines of the input ask for, each its own in turn, and no others; the log was
+-- closed, at the moment of the line that closes it or at close_at where the input ends, final for what the fronts had accepted, after
+-- what the operator had settled and published; and what was written is a merge of the parties' answers, each party's in their order,
+-- each whole and with its line's number, and no others, and behind it what the closed log replied. The first line has the number n.
+pub record RepliesLive (count close_at n : ℕ) (input : Option (List ℕ)) (house : HouseState) (fronts : List FrontView)
+    (old new : Option (List ℕ)) : Type 0 where
   pub front_tasks : List (List (Numbered FrontTask))
   pub front_texts : List (List (List ℕ))
   pub fronts_then : List FrontView
@@ -81,6 +102,10 @@ pub record RepliesLive (house : HouseState) (fronts : List FrontView) (old new :
   pub house_then : HouseState
   pub operated : AreAnswered DeskReplies house desk_tasks desk_texts house_then
   pub now : ℕ
+  pub lines : List (ℕ × List ℕ)
+  pub of_input : AreLinesOf n input lines
+  pub behind : Option (ℕ × List (ℕ × List ℕ))
+  pub tied : AreTasksOf count close_at lines front_tasks desk_tasks now behind
   pub left : FinalState
   pub closed : Closes house_then fronts_then now left
   pub order : List (ℕ × List ℕ)
@@ -88,9 +113,9 @@ pub record RepliesLive (house : HouseState) (fronts : List FrontView) (old new :
   pub text : List ℕ
   pub written : Appends old new (in_order order ++ text)
 
--- the same of a new house with n fronts and so many places, opened at this moment
-pub record IsRepliedLive (n places open_at : ℕ) (old new : Option (List ℕ)) : Type 0 where
+-- the same of a new house with so many fronts and places, opened at this moment, whose lines are numbered from 0
+pub record IsRepliedLive (count places open_at close_at : ℕ) (input old new : Option (List ℕ)) : Type 0 where
   pub house : HouseState
   pub fronts : List FrontView
-  pub opened : IsNewHouse house fronts n places open_at
-  pub replied : RepliesLive house fronts old new
+  pub opened : IsNewHouse house fronts count places open_at
+  pub replied : RepliesLive count close_at 0 input house fronts old new

@@ -1,24 +1,18 @@
--- What a live log writes for its input.
-use Rattle.std.specs.Prelude.{◌≡◌, ◌≢◌, ◌+◌, ℕ, List, [], ◌∷◌, ◌++◌, map, length, slice_get, Option, Some, None}
-use Rattle.std.specs.Io.KnownBytes.{Appends}
+-- What the lines of a live log's input ask of its parties, and what the closed log replies to those behind.
+use Rattle.std.specs.Prelude.{◌≡◌, ◌≢◌, ◌+◌, ℕ, List, [], ◌∷◌, ◌++◌, map, Option, Some, None, IfSome}
 use Rattle.std.specs.List.{concat, filter_map}
 use Rattle.ct_core.specs.Replies.{a_published_head}
 use Rattle.ct_core.specs.Settlement.{Log}
-use Rattle.ct_house.specs.House.{FinalState, FrontView, HouseState, IsNewHouse}
 use Rattle.ct_lines.specs.Asked.{FrontAsked}
 use Rattle.ct_lines.specs.Frozen.{line_answer}
-use Rattle.ct_parties.specs.ClosedLog.{Closes}
 use Rattle.ct_parties.specs.Lines.{lines_of}
 use Rattle.ct_parties.specs.Plans.{task_asked}
 use Rattle.ct_parties.specs.declared.task.FrontTask.{FrontTask}
-use Rattle.ct_pipes.specs.Answered.{AreAnswered}
-use Rattle.ct_pipes.specs.Parts.{IsMergeOf, part_of}
+use Rattle.ct_pipes.specs.Parts.{IsMergeOf}
 use Rattle.ct_pipes.specs.Tagged.{tagged}
-use Rattle.ct_pipes.specs.Written.{in_order}
 use Rattle.ct_pipes.specs.declared.answering.Numbered.{Numbered}
 use Rattle.ct_tree.specs.declared.head.Head.{Head}
 use Rattle.ct_live.specs.LiveLines.{AsksLive}
-use Rattle.ct_live.specs.LiveParties.{DeskReplies, FrontReplies}
 use Rattle.ct_live.specs.LiveReplies.{object_text}
 use Rattle.ct_live.specs.LiveTasks.{LiveStep, front_does, operator_does, closes}
 use Rattle.ct_live.specs.declared.asking.DeskTask.{DeskTask}
@@ -27,6 +21,10 @@ use Rattle.ct_live.specs.declared.asking.DeskTask.{DeskTask}
 abbrev pub numbered_from : ℕ → List (List ℕ) → List (ℕ × List ℕ)
 numbered_from n [] = []
 numbered_from n (line ∷ lines) = (n, line) ∷ numbered_from (n + 1) lines
+
+-- the lines are those of an input, where its bytes are known, with their numbers, of which the first is n
+abbrev pub AreLinesOf : ℕ → Option (List ℕ) → List (ℕ × List ℕ) → Type 0
+AreLinesOf n input lines = IfSome input (λ bytes. lines ≡ numbered_from n (lines_of bytes))
 
 -- the steps are what a live log with so many fronts does for the lines, each with its line's number: for an empty line there is none
 abbrev pub AllAskLive : ℕ → List (ℕ × List ℕ) → List (ℕ × LiveStep) → Type 0
@@ -54,6 +52,14 @@ front_task_asked x = (x.0, (x.1.number, task_asked x.1.task))
 abbrev pub desk_task_asked : Numbered DeskTask → ℕ × DeskTask
 desk_task_asked t = (t.number, t.task)
 
+-- The tasks are what these steps ask, each with its line's number: the fronts' are a merge of what each front was given, each front's
+-- in its order, and the operator's stand in their order.
+pub record AreGiven (steps : List (ℕ × LiveStep)) (fronts : List (List (Numbered FrontTask))) (desk : List (Numbered DeskTask)) : Type 0 where
+  pub front_tasks : List (ℕ × Numbered FrontTask)
+  pub asked : map front_task_asked front_tasks ≡ filter_map front_given steps
+  pub merge : IsMergeOf fronts front_tasks
+  pub ordered : map desk_task_asked desk ≡ filter_map desk_given steps
+
 -- Where the lines end that the parties do: with all of them, and the log is closed at close_at; or before a line that closes it at
 -- now, which has the number k, and those that are behind it.
 abbrev pub EndsAtLine : ℕ → ℕ → List (ℕ × List ℕ) → List (ℕ × List ℕ) → ℕ → Option (ℕ × List (ℕ × List ℕ)) → Type 0
@@ -78,40 +84,12 @@ IsClosingText log None text = text ≡ []
 IsClosingText log (Some (k, behind)) text =
     (h : Head) × IsLastHead log h × (text ≡ tagged k (object_text (a_published_head h)) ++ concat (closed_replies log behind))
 
--- each front answered its part of the tasks in turn
-abbrev pub FrontsAnswer : List (ℕ × Numbered FrontTask) → List FrontView → List (List (List ℕ)) → List FrontView → Type 0
-FrontsAnswer tasks before texts after =
-    (k : ℕ) (a b : FrontView) (xs : List (List ℕ)) → slice_get before k ≡ Some a → slice_get after k ≡ Some b → slice_get texts k ≡ Some xs
-    → AreAnswered FrontReplies a (part_of k tasks) xs b
-
--- All replies of a live log, opened with n fronts and so many places at open_at, were written: a merge of the parties' replies, each
--- with its line's number, each party's in the order of its lines, and no others; and then the closed log's.
-pub record IsServedLive (n places open_at close_at : ℕ) (bytes : List ℕ) (old new : Option (List ℕ)) : Type 0 where
+-- The parties, of so many fronts, were given what the first of these lines ask, and nothing else: all lines, and the log is closed at
+-- close_at; or those before one that closes it at now.
+pub record AreTasksOf (fronts close_at : ℕ) (lines : List (ℕ × List ℕ)) (front_tasks : List (List (Numbered FrontTask)))
+    (desk_tasks : List (Numbered DeskTask)) (now : ℕ) (behind : Option (ℕ × List (ℕ × List ℕ))) : Type 0 where
   pub first : List (ℕ × List ℕ)
-  pub now : ℕ
-  pub behind : Option (ℕ × List (ℕ × List ℕ))
-  pub cut : EndsAtLine n close_at (numbered_from 0 (lines_of bytes)) first now behind
+  pub cut : EndsAtLine fronts close_at lines first now behind
   pub steps : List (ℕ × LiveStep)
-  pub asked : AllAskLive n first steps
-  pub front_tasks : List (ℕ × Numbered FrontTask)
-  pub given : map front_task_asked front_tasks ≡ filter_map front_given steps
-  pub desk_tasks : List (Numbered DeskTask)
-  pub ordered : map desk_task_asked desk_tasks ≡ filter_map desk_given steps
-  pub house : HouseState
-  pub fronts : List FrontView
-  pub opened : IsNewHouse house fronts n places open_at
-  pub fronts_then : List FrontView
-  pub front_count : length fronts_then ≡ n
-  pub front_texts : List (List (List ℕ))
-  pub text_count : length front_texts ≡ n
-  pub answered : FrontsAnswer front_tasks fronts front_texts fronts_then
-  pub house_then : HouseState
-  pub desk_texts : List (List ℕ)
-  pub operated : AreAnswered DeskReplies house desk_tasks desk_texts house_then
-  pub left : FinalState
-  pub closed : Closes house_then fronts_then now left
-  pub order : List (ℕ × List ℕ)
-  pub merge : IsMergeOf (front_texts ++ desk_texts ∷ []) order
-  pub text : List ℕ
-  pub last : IsClosingText left.log behind text
-  pub written : Appends old new (in_order order ++ text)
+  pub asked : AllAskLive fronts first steps
+  pub given : AreGiven steps front_tasks desk_tasks

@@ -117,7 +117,7 @@ fn close_and_serve<H: Threads + Wait + Sync, B: BufRead + Drop, W: Write>(
     output: &mut W,
 ) -> Result<(), Fault>
     requires { AreFrontsOf sequencer fronts.items }
-    ensures { OnOk result (EndsLog sequencer fronts.items (W.contents output.old) (W.contents output.new)) }
+    ensures { OnOk result (EndsLog sequencer fronts.items close_at end (W.contents output.old) (W.contents output.new)) }
 {
     match end {
         End::Close { line, now } => {
@@ -144,7 +144,8 @@ pub fn end_live<H: Threads + Wait + Sync, B: BufRead + Drop, W: Write>(
     output: &mut W,
 ) -> Result<(), Fault>
     requires { AreJoined left.giver.inlets left.workers.items operator rings.old }
-    ensures { OnOk result (EndsLive left.giver.inlets left.workers.items operator rings.old (W.contents output.old) (W.contents output.new)) }
+    ensures { OnOk result (EndsLive left.giver.inlets left.workers.items operator close_at left.end left.giver.lines.next
+        (B.remaining left.giver.lines.input) rings.old (W.contents output.old) (W.contents output.new)) }
 {
     let DeskWorker {
         desk,

@@ -1,7 +1,7 @@
 //! Lines read as they come, and given out to the parties.
 
 ghost use Rattle.std.specs.Prelude.{◌≡◌, length, IfOk};
-ghost use Rattle.ct_live.specs.LiveGiven.{GivesLine, GivesStep};
+ghost use Rattle.ct_live.specs.LiveGiven.{GivesLine, GivesNext, GivesUpTo, GivesStep};
 ghost use Rattle.ct_live.specs.LiveLines.{IsForFront};
 ghost use Rattle.ct_live.specs.LiveRuns.{GivesOn};
 ghost use Rattle.ct_live.specs.LiveTasks.{live_step};
@@ -144,7 +144,9 @@ fn give_next<R: Wait, B: BufRead + Drop>(
     buffer: &mut Vec<u8>,
 ) -> Result<Option<End>, GiveFault>
     requires { length giver.old.inlets.fronts.items ≡ count }
-    ensures { GivesOn giver.old.inlets giver.new.inlets }
+    ensures same { GivesOn giver.old.inlets giver.new.inlets }
+    ensures given { IfOk result (λ o. GivesNext count giver.old.lines.next giver.new.lines.next
+        (B.remaining giver.old.lines.input) (B.remaining giver.new.lines.input) o giver.old.inlets giver.new.inlets) }
 {
     let number = match giver.lines.read(buffer) {
         Ok(Some(number)) => number,
@@ -167,12 +169,15 @@ pub fn give_out<R: Wait, B: BufRead + Drop>(
     giver: &mut Giver<B>,
 ) -> Result<End, GiveFault>
     requires { length giver.old.inlets.fronts.items ≡ count }
-    ensures { GivesOn giver.old.inlets giver.new.inlets }
+    ensures same { GivesOn giver.old.inlets giver.new.inlets }
+    ensures given { IfOk result (λ end. GivesUpTo count giver.old.lines.next giver.new.lines.next
+        (B.remaining giver.old.lines.input) (B.remaining giver.new.lines.input) end giver.old.inlets giver.new.inlets) }
 {
     let mut buffer = Vec::new(alloc);
     for _ in rt.forever() {
-        if let Some(end) = give_next(rt, alloc, places, count, giver, &mut buffer)? {
-            return Ok(end);
+        match give_next(rt, alloc, places, count, giver, &mut buffer)? {
+            Some(end) => return Ok(end),
+            None => {}
         }
     }
     unreachable!()

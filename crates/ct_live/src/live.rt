@@ -140,29 +140,13 @@ fn open_ends(alloc: Global, fronts: u16) -> Result<Ends, Memory>
     })
 }
 
-// The lines of the input, as they come.
-fn open_lines<I: Read + Drop>(
-    alloc: Global,
-    input: I,
-) -> Result<NumberedLines<BufReader<I>>, Fault> {
-    match BufReader::with_capacity(alloc, CAPACITY, input) {
-        Ok(reader) => Ok(NumberedLines::new(reader)),
-        Err(error) => Err(Fault::from(error.kind())),
-    }
-}
-
-// The lines of the input, new rings for all parties, and the places where these wait.
-fn prepare<I: Read + Drop>(
-    alloc: Global,
-    fronts: u16,
-    input: I,
-) -> Result<(NumberedLines<BufReader<I>>, Ends, Places), Fault>
-    ensures { IfOk result (λ p. AreOpened fronts p.1) }
+// New rings for all parties, and the places where these wait.
+fn prepare(alloc: Global, fronts: u16) -> Result<(Ends, Places), Memory>
+    ensures { IfOk result (λ p. AreOpened fronts p.0) }
 {
-    let lines = open_lines(alloc, input)?;
     let ends = open_ends(alloc, fronts)?;
     let places = Places::new(alloc, usize::from(fronts) + 1)?;
-    Ok((lines, ends, places))
+    Ok((ends, places))
 }
 
 // Serves a house that was opened.
@@ -182,7 +166,8 @@ fn serve_house<H: Threads + Wait + Sync, B: BufRead + Drop + Send, W: Write + Dr
     requires count { length fronts.items ≡ options.fronts }
     requires lanes { length sequencer.lanes ≡ options.fronts }
     requires fronts { AreFrontsOf sequencer fronts.items }
-    ensures { OnOk result.result (RepliesLive sequencer fronts.items (W.contents output) (W.contents result.output)) }
+    ensures { OnOk result.result (RepliesLive options.fronts options.close_at lines.next (B.remaining lines.input) sequencer fronts.items
+        (W.contents output) (W.contents result.output)) }
 {
     let Ends {
         inlets,
@@ -223,6 +208,40 @@ fn serve_house<H: Threads + Wait + Sync, B: BufRead + Drop + Send, W: Write + Dr
     served
 }
 
+// Runs a live log over the lines of a reader.
+fn serve_lines<H: Threads + Wait + Sync, B: BufRead + Drop + Send, W: Write + Drop + Send>(
+    rt: &H,
+    alloc: Global,
+    options: Options,
+    turns: u64,
+    input: B,
+    output: W,
+) -> Served<W>
+    ensures { OnOk result.result (IsRepliedLive options.fronts options.ring options.open_at options.close_at (B.remaining input)
+        (W.contents output) (W.contents result.output)) }
+{
+    let (ends, places) = match prepare(alloc, options.fronts) {
+        Ok(prepared) => prepared,
+        Err(error) => {
+            return Served {
+                output,
+                result: Err(Fault::from(error)),
+            };
+        }
+    };
+    let lines = NumberedLines::new(input);
+    let waiting = Waiting::new(turns);
+    match open(rt, alloc, options.fronts, options.ring, options.open_at) {
+        Ok((sequencer, fronts)) => serve_house(
+            rt, alloc, options, &places, &waiting, lines, ends, sequencer, fronts, output,
+        ),
+        Err(refusal) => Served {
+            output,
+            result: Err(Fault::from(refusal)),
+        },
+    }
+}
+
 /// Runs a live log over the lines of the input: each is replied to as soon as its reply is known, with its number. A line that
 /// waits for another party looks `turns` times.
 ///
@@ -238,25 +257,14 @@ pub fn serve_live<H: Threads + Wait + Sync, I: Read + Drop + Send, W: Write + Dr
     input: I,
     output: W,
 ) -> Served<W>
-    ensures { OnOk result.result (IsRepliedLive options.fronts options.ring options.open_at (W.contents output) (W.contents result.output)) }
+    ensures { OnOk result.result (IsRepliedLive options.fronts options.ring options.open_at options.close_at (I.remaining input)
+        (W.contents output) (W.contents result.output)) }
 {
-    let (lines, ends, places) = match prepare(alloc, options.fronts, input) {
-        Ok(prepared) => prepared,
-        Err(fault) => {
-            return Served {
-                output,
-                result: Err(fault),
-            };
-        }
-    };
-    let waiting = Waiting::new(turns);
-    match open(rt, alloc, options.fronts, options.ring, options.open_at) {
-        Ok((sequencer, fronts)) => serve_house(
-            rt, alloc, options, &places, &waiting, lines, ends, sequencer, fronts, output,
-        ),
-        Err(refusal) => Served {
+    match BufReader::with_capacity(alloc, CAPACITY, input) {
+        Ok(reader) => serve_lines(rt, alloc, options, turns, reader, output),
+        Err(error) => Served {
             output,
-            result: Err(Fault::from(refusal)),
+            result: Err(Fault::from(error.kind())),
         },
     }
 }

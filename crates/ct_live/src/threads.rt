@@ -1,8 +1,9 @@
 //! The threads: the reader, the writer, each front, and the operator in the thread that calls.
 
 ghost use Rattle.std.specs.Prelude.{◌≡◌, length, IsOk, Ok, Err, Some, IfOk, IfErr, OnOk};
+ghost use Rattle.ct_live.specs.LiveGiven.{ReadsOn};
 ghost use Rattle.ct_live.specs.LiveReplied.{EndsLive, RunsLive};
-ghost use Rattle.ct_live.specs.LiveRuns.{AreJoined, DeskWorks, GivesOn, WritesOut};
+ghost use Rattle.ct_live.specs.LiveRuns.{AreJoined, DeskWorks, WritesOut};
 ghost use Rattle.ct_live.specs.declared.workers.DeskWorker.{DeskWorker as DeskWorkerOf};
 
 use crate::ending::{Left, end_live};
@@ -49,7 +50,8 @@ fn read<R: Wait, B: BufRead + Drop>(
     mut giver: Giver<B>,
 ) -> Reading<B>
     requires { length giver.inlets.fronts.items ≡ count }
-    ensures { GivesOn giver.inlets result.giver.inlets }
+    ensures { ReadsOn giver.lines.next result.giver.lines.next (B.remaining giver.lines.input) (B.remaining result.giver.lines.input)
+        result.end giver.inlets result.giver.inlets }
 {
     let end = give_out(rt, alloc, places, count, &mut giver);
     places.end_giving();
@@ -61,7 +63,8 @@ fn read<R: Wait, B: BufRead + Drop>(
 struct ReaderPromise<B: BufRead + Drop>(Snapshot<Giver<B>>);
 
 impl<B: BufRead + Drop> Promise<Reading<B>> for ReaderPromise<B> {
-    ghost kept_by = { λ p r. GivesOn p.0.value.inlets r.giver.inlets };
+    ghost kept_by = { λ p r. ReadsOn p.0.value.lines.next r.giver.lines.next (B.remaining p.0.value.lines.input) (B.remaining r.giver.lines.input)
+        r.end p.0.value.inlets r.giver.inlets };
 }
 
 type ReaderThread<B> = PromisedHandle<Reading<B>, ReaderPromise<B>>;
@@ -78,11 +81,14 @@ fn start_reader<'e: 's, 's, R: Threads + Wait + Sync, B: BufRead + Drop + Send +
     requires { length giver.inlets.fronts.items ≡ count }
     ensures started { IfOk result (λ t. t.promise.0.value ≡ giver) }
     ensures inlets { IfOk result (λ t. t.promise.0.value.inlets ≡ giver.inlets) }
+    ensures next { IfOk result (λ t. t.promise.0.value.lines.next ≡ giver.lines.next) }
+    ensures input { IfOk result (λ t. B.remaining t.promise.0.value.lines.input ≡ B.remaining giver.lines.input) }
 {
     let promise = ReaderPromise(Snapshot::of(&giver));
     let reading = move || -> Reading<B>
         requires { length giver.inlets.fronts.items ≡ count }
-        ensures { GivesOn giver.inlets result.giver.inlets }
+        ensures { ReadsOn giver.lines.next result.giver.lines.next (B.remaining giver.lines.input) (B.remaining result.giver.lines.input)
+            result.end giver.inlets result.giver.inlets }
     { read(rt, alloc, places, count, giver) };
     match scope.spawn_with(promise, reading) {
         Ok(thread) => Ok(thread),
@@ -243,6 +249,9 @@ fn left_of<B: BufRead + Drop>(
 ) -> Result<Left<B>, Fault>
     ensures giver { IfOk result (λ l. l.giver ≡ reading.giver) }
     ensures inlets { IfOk result (λ l. l.giver.inlets ≡ reading.giver.inlets) }
+    ensures next { IfOk result (λ l. l.giver.lines.next ≡ reading.giver.lines.next) }
+    ensures input { IfOk result (λ l. B.remaining l.giver.lines.input ≡ B.remaining reading.giver.lines.input) }
+    ensures end { IfOk result (λ l. l.end ≡ reading.end) }
     ensures all { IfOk result (λ l. IsOk written × IsOk operated × (joined ≡ Ok l.workers)) }
 {
     let Reading { giver, end } = reading;
@@ -273,7 +282,8 @@ fn end_in<R: Threads + Wait + Sync, B: BufRead + Drop, W: Write>(
 ) -> Result<(), Fault>
     requires { (o : DeskWorkerOf) → slot.old ≡ Some o → AreJoined left.giver.inlets left.workers.items o rings.old }
     ensures { OnOk result ((o : DeskWorkerOf) × (slot.old ≡ Some o)
-        × EndsLive left.giver.inlets left.workers.items o rings.old (W.contents output.old) (W.contents output.new)) }
+        × EndsLive left.giver.inlets left.workers.items o close_at left.end left.giver.lines.next (B.remaining left.giver.lines.input)
+        rings.old (W.contents output.old) (W.contents output.new)) }
 {
     match slot.take() {
         Some(operator) => end_live(rt, alloc, operator, left, rings, close_at, output),
@@ -300,8 +310,8 @@ fn run_in<
 ) -> Served<W>
     requires count { length start.giver.inlets.fronts.items ≡ options.fronts }
     requires joined { (o : DeskWorkerOf) → slot.old ≡ Some o → AreJoined start.giver.inlets start.workers.items o start.out.rings.items }
-    ensures { OnOk result.result (RunsLive start.giver.inlets start.workers.items start.out.rings.items slot.old
-        (W.contents start.out.output) (W.contents result.output)) }
+    ensures { OnOk result.result (RunsLive options.close_at start.giver.lines.next (B.remaining start.giver.lines.input) start.giver.inlets
+        start.workers.items start.out.rings.items slot.old (W.contents start.out.output) (W.contents result.output)) }
 {
     let Start {
         giver,
@@ -353,8 +363,8 @@ pub fn run_threads<R: Threads + Wait + Sync, B: BufRead + Drop + Send, W: Write 
 ) -> Served<W>
     requires count { length start.giver.inlets.fronts.items ≡ options.fronts }
     requires joined { (o : DeskWorkerOf) → slot.old ≡ Some o → AreJoined start.giver.inlets start.workers.items o start.out.rings.items }
-    ensures { OnOk result.result (RunsLive start.giver.inlets start.workers.items start.out.rings.items slot.old
-        (W.contents start.out.output) (W.contents result.output)) }
+    ensures { OnOk result.result (RunsLive options.close_at start.giver.lines.next (B.remaining start.giver.lines.input) start.giver.inlets
+        start.workers.items start.out.rings.items slot.old (W.contents start.out.output) (W.contents result.output)) }
 {
     thread::scope(
         thread::scope_env(),
@@ -362,8 +372,8 @@ pub fn run_threads<R: Threads + Wait + Sync, B: BufRead + Drop + Send, W: Write 
         move |scope| -> Served<W>
             requires count { length start.giver.inlets.fronts.items ≡ options.fronts }
             requires joined { (o : DeskWorkerOf) → slot.now ≡ Some o → AreJoined start.giver.inlets start.workers.items o start.out.rings.items }
-            ensures { OnOk result.result (RunsLive start.giver.inlets start.workers.items start.out.rings.items slot.entry.now
-                (W.contents start.out.output) (W.contents result.output)) }
+            ensures { OnOk result.result (RunsLive options.close_at start.giver.lines.next (B.remaining start.giver.lines.input) start.giver.inlets
+                start.workers.items start.out.rings.items slot.entry.now (W.contents start.out.output) (W.contents result.output)) }
         { run_in(rt, alloc, scope, places, waiting, options, start, slot) },
     )
 }

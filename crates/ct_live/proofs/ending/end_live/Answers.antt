@@ -14,6 +14,8 @@ returns-in-Ok-end g c =
       all = c.in-Ok.ensures.all;
       mid = mid;
       written = c.in-Ok.ensures.written;
-      closing = subst (λ (l : List FrontView). EndsLog c.args.operator.desk.sequencer l mid (g.W.Write.contents c.close_and_serve.new.output))
-          c.in-Ok.ensures.fronts closing;
+      end = c.in-Ok-end.end;
+      ended_so = c.in-Ok-end.is;
+      closing = subst (λ (l : List FrontView). EndsLog c.args.operator.desk.sequencer l c.args.close_at c.in-Ok-end.end mid
+          (g.W.Write.contents c.close_and_serve.new.output)) c.in-Ok.ensures.fronts closing;
     }) c.close_and_serve.ensures

@@ -1,17 +1,31 @@
 use Rattle.std.proofs.Common.{◌∙◌}
 use Rattle.ct_live.proofs.Joined.{gives_none, gives_both, gives_count}
+use Rattle.ct_live.proofs.Reading.{given_up_to, line_given, nothing_given}
 use Rattle.ct_live.proofs.giving.give_out.Goals as goal
 
 pub loop-init : goal.loop-init
-loop-init g c = (gives_none c.args.giver.now.inlets, c.requires)
+loop-init g c = record {
+  same = gives_none c.args.giver.now.inlets;
+  count = c.requires;
+  read = nothing_given c.args.count c.args.giver.now.lines.next (g.B.Read.remaining c.args.giver.now.lines.input) c.args.giver.now.inlets;
+}
 
 pub loop-preserved : goal.loop-preserved
 loop-preserved g c =
-    let on = gives_both c.args.giver.now.inlets c.loop.giver.inlets c.give_next.new.giver.inlets c.loop.invariant.0 c.give_next.ensures in
-    (on, gives_count c.args.giver.now.inlets c.give_next.new.giver.inlets on ∙ c.requires)
+    let on = gives_both c.args.giver.now.inlets c.loop.giver.inlets c.give_next.new.giver.inlets c.loop.invariant.same c.give_next.ensures.same in
+    record {
+      same = on;
+      count = gives_count c.args.giver.now.inlets c.give_next.new.giver.inlets on ∙ c.requires;
+      read = line_given _ _ _ _ _ _ _ _ _ _ _ c.loop.invariant.read c.in-None-2.is c.in_ok-end.ensures.given;
+    }
 
-pub returns-in_err-end : goal.returns-in_err-end
-returns-in_err-end g c = gives_both c.args.giver.now.inlets c.loop.giver.inlets c.give_next.new.giver.inlets c.loop.invariant.0 c.give_next.ensures
+pub returns-in_err-end-clause-same : goal.returns-in_err-end-clause-same
+returns-in_err-end-clause-same g c =
+    gives_both c.args.giver.now.inlets c.loop.giver.inlets c.give_next.new.giver.inlets c.loop.invariant.same c.give_next.ensures.same
 
-pub returns-in-Some-2 : goal.returns-in-Some-2
-returns-in-Some-2 g c = gives_both c.args.giver.now.inlets c.loop.giver.inlets c.give_next.new.giver.inlets c.loop.invariant.0 c.give_next.ensures
+pub returns-in-Some-2-clause-same : goal.returns-in-Some-2-clause-same
+returns-in-Some-2-clause-same g c =
+    gives_both c.args.giver.now.inlets c.loop.giver.inlets c.give_next.new.giver.inlets c.loop.invariant.same c.give_next.ensures.same
+
+pub returns-in-Some-2-clause-given : goal.returns-in-Some-2-clause-given
+returns-in-Some-2-clause-given g c = given_up_to _ _ _ _ _ _ _ _ _ _ _ _ c.loop.invariant.read c.in-Some-2.is c.in_ok-end.ensures.given

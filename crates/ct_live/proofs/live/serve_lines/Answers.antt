@@ -1,5 +1,5 @@
 use Rattle.ct_live.proofs.Opens.{new_fronts_of}
-use Rattle.ct_live.proofs.live.serve_live.Goals as goal
+use Rattle.ct_live.proofs.live.serve_lines.Goals as goal
 
 pub serve_house-requires-clause-fronts : goal.serve_house-requires-clause-fronts
 serve_house-requires-clause-fronts g c κs within =
