@@ -1,11 +1,13 @@
 -- Heads by their sizes, which never fall.
-use Rattle.std.proofs.Common.{◌≡◌, ℕ, ◌+◌, ◌<◌, ◌≤◌, List, length, get_or, refl, ap, sym, ◌∙◌, inl, inr, arith}
+use Rattle.std.proofs.Common.{◌≡◌, ℕ, ◌+◌, ◌<◌, ◌≤◌, List, [], ◌∷◌, length, get_or, refl, ap, sym, ◌∙◌, inl, inr, arith}
 use Rattle.std.proofs.lemmas.Bool.{cases_lt}
 use Rattle.std.proofs.lemmas.Bool.Decides.{nat_tests}
 use Rattle.std.proofs.lemmas.List.{get_or_default}
-use Rattle.std.proofs.lemmas.List.Folds.{list_any_at, list_any_none}
-use Rattle.std.specs.Prelude.{Bool, true, false, ◌==◌}
-use Rattle.std.specs.List.{list_any}
+use Rattle.std.proofs.lemmas.List.Folds.{list_any_at, list_any_none, find_at}
+use Rattle.std.proofs.lemmas.List.Sums.{position_or_len_is}
+use Rattle.std.proofs.lemmas.Option.{slice_get_read}
+use Rattle.std.specs.Prelude.{Bool, true, false, cond, ◌||◌, ◌==◌, Some, None, slice_get}
+use Rattle.std.specs.List.{list_any, position_or_len, find}
 use Rattle.std.specs.List.Sorted.{IsNonDecreasingBy}
 use Rattle.ct_tree.specs.declared.head.Head.{Head}
 use Rattle.ct_core.specs.Settlement.{Log, Lawful}
@@ -83,6 +85,34 @@ size_found heads n p r sorted is inside e = by (r.tree_size == n) refl
             let same = size_at heads p d r inside e in
             let most = sorted p i d high within in
             omega (arith, first, same, most)
+
+-- the first head of the size is the one at the place, where that one has it
+pub size_first : (heads : List Head) (n p : ℕ) (r : Head) → IsPlaceOfSize heads n p → p < length heads → r ≡ get_or heads p r
+    → (r.tree_size == n) ≡ true → Some r ≡ find (λ (h : Head). h.tree_size == n) heads
+size_first heads n p r is inside e same = sym (find_at sized heads ∙ ap (slice_get heads) place ∙ slice_get_read heads (length heads) p r refl inside e)
+  where
+    sized : Head → Bool
+    sized h = h.tree_size == n
+
+    here : (get_or heads p r).tree_size ≡ r.tree_size
+    here = ap (λ (h : Head). h.tree_size) (sym e)
+
+    place : position_or_len sized heads ≡ p
+    place = position_or_len_is sized heads p r (omega (arith, inside)) (λ k low. unequal_below (get_or heads k r).tree_size n (is.below k r low))
+        (λ _. ap (λ (k : ℕ). k == n) here ∙ same)
+
+-- where no head has the size, there is no first one
+pub size_nowhere : (heads : List Head) (n : ℕ) → false ≡ list_any (λ (h : Head). h.tree_size == n) heads → None ≡ find (λ (h : Head). h.tree_size == n) heads
+size_nowhere [] n e = refl
+size_nowhere (h ∷ hs) n e = by (size_nowhere hs n) (h.tree_size == n) e
+  where
+    sized : Head → Bool
+    sized g = g.tree_size == n
+
+    by : (false ≡ list_any sized hs → None ≡ find sized hs) → (v : Bool) → false ≡ (v || list_any sized hs)
+        → None ≡ cond v (Some h) (find sized hs)
+    by rest true t = grind (arith, t)
+    by rest false t = rest t
 
 -- a size that a head has is at most the number of entries
 pub size_within : (log : Log) (n p : ℕ) (r : Head) → Lawful log → p < length log.heads → r ≡ get_or log.heads p r
