@@ -1,4 +1,4 @@
-use Rattle.std.proofs.Common.{◌≡◌, ◌<◌, [], length, ap, arith}
+use Rattle.std.proofs.Common.{◌≡◌, [], ap, arith}
 use Rattle.ct_house.specs.House.{FrontView}
 use Rattle.ct_house.proofs.SequencerLemmas.{Takes-none, Takes-settles, lane_below}
 use Rattle.ct_house.proofs.sequencer.Sequencer.succeed.Goals as goal
