@@ -107,11 +107,11 @@ in_time_before front now a b xs s late = elim (cases_lt now (clock_of a.core)) [
 -- after turns that settled nothing: a turn that is refused, one that settles some, and one more that settles none
 pub some_refused : (front most now : ℕ) (a b c : HouseState) (ys : List Item) (e : Refusal) → Settling front now a b []
     → Takes b c front ys now → SettlesMore b c ys now
-    → (now < clock_of b.core → c ≡ b) → e ≡ settle_refusal b.core now → SettlesSome front most now a (Err e) c
-some_refused front most now a b c ys e s t more early why = record {
+    → (now < clock_of b.core → c ≡ b) → length ys < most → e ≡ settle_refusal b.core now → SettlesSome front most now a (Err e) c
+some_refused front most now a b c ys e s t more early few why = record {
   items = ys;
   settling = settling_take front now a b c [] ys s t more early;
-  answer = inr (b, [], s.settled, why);
+  answer = (few, inr (b, [], s.settled, why));
 }
 
 pub some_settled : (front most now : ℕ) (a b c : HouseState) (ys : List Item) (n : ℕ) → Settling front now a b []
@@ -164,14 +164,16 @@ stops_later : (now : ℕ) (a b : HouseState) (xs : List Item) (e : Refusal) → 
 stops_later now a b xs e s (inl late) = inl late
 stops_later now a b xs e s (inr (m, ys, t, why)) = inr (m, xs ++ ys, settles_both a b m xs ys now s t, why)
 
-pub sequence_refused : (front most count now left : ℕ) (a b c : HouseState) (e : Refusal) → Underway front count now left a b → 0 < left
+pub sequence_refused : (front most count now left : ℕ) (a b c : HouseState) (e : Refusal) → Underway front count now left a b → most ≤ left
     → SettlesSome front most now b (Err e) c → SequencesFront front count now a (refused e) c
-sequence_refused front most count now left a b c e u some s =
+sequence_refused front most count now left a b c e u less s =
     let sum = u.settled in
+    let (few, why) = s.answer in
+    let size = length-append u.items s.items in
     record {
       items = u.items ++ s.items;
       settling = settling_both front now a b c u.items s.items u.settling s.settling;
-      answer = (omega arith, stops_later now a b u.items e u.settling.settled s.answer);
+      answer = (omega arith, stops_later now a b u.items e u.settling.settled why);
       none = λ e. absurd (omega arith);
     }
 

@@ -29,16 +29,16 @@ pub record Settling (front now : ℕ) (old new : HouseState) (xs : List Item) : 
 abbrev pub StopsSettling : ℕ → HouseState → Refusal → Type 0
 StopsSettling now old e = (e ≡ refusal.Late) ⊎ ((m : HouseState) × (xs : List Item) × SettlesMore old m xs now × (e ≡ settle_refusal m.core now))
 
--- some items of one front were settled, one at least and so many at most; or why there were none
+-- some items of one front were settled, one at least and so many at most; or fewer than that, and why
 pub record SettlesSome (front most now : ℕ) (old : HouseState) (result : Result ℕ Refusal) (new : HouseState) : Type 0 where
   pub items : List Item
   pub settling : Settling front now old new items
-  pub answer : MatchResult result (λ n. (n ≡ length items) × (0 < n) × (n ≤ most) × (clock_of old.core ≤ now)) (λ e. StopsSettling now old e)
+  pub answer : MatchResult result (λ n. (n ≡ length items) × (0 < n) × (n ≤ most) × (clock_of old.core ≤ now)) (λ e. (length items < most) × StopsSettling now old e)
 
 -- the answer where count items were to be settled: their number, or why there were fewer
 abbrev pub IsSequenceAnswer : ℕ → ℕ → HouseState → List Item → Answer → Type 0
 IsSequenceAnswer count now old xs (a_settled_count n) = (n ≡ count) × (length xs ≡ count) × (0 < count → clock_of old.core ≤ now)
-IsSequenceAnswer count now old xs (refused e) = (0 < count) × StopsSettling now old e
+IsSequenceAnswer count now old xs (refused e) = (length xs < count) × StopsSettling now old e
 IsSequenceAnswer count now old xs _ = ⊥
 
 -- count items of a front are to be settled at now, at once where there are none

@@ -1,7 +1,7 @@
 //! How a line waits for another party: it looks again at once for some turns, and then sleeps between looks until that
 //! party rings.
 
-ghost use Rattle.std.specs.Prelude.{◌<◌, ◌-◌, ◌^◌};
+ghost use Rattle.std.specs.Prelude.{◌≡◌, ◌<◌, ◌≤◌, ◌+◌, ◌-◌, ◌^◌};
 
 use std::sync::Wait;
 use std::sync::atomic::{AtomicU64, Ordering};
@@ -58,7 +58,8 @@ impl Bell {
     /// Ends a turn of a line that waits, and answers the next turn's number. `seen` is how often the bell was rung before
     /// the line looked.
     pub fn wait_turn<R: Wait>(&self, rt: &R, turn: u64, seen: u64) -> u64
-        ensures { turn < 2 ^ 64 - 1 → turn < result }
+        ensures later { turn < 2 ^ 64 - 1 → turn < result }
+        ensures some { result ≤ turn + 16384 }
     {
         if turn < LOOKS {
             if turn % TURNS_IN_A_ROW == TURNS_IN_A_ROW - 1 {
@@ -85,7 +86,9 @@ pub struct Waiting {
 
 impl Waiting {
     /// Lines that wait so many turns, with bells that weren't rung.
-    pub fn new(turns: u64) -> Waiting {
+    pub fn new(turns: u64) -> Waiting
+        ensures { result.turns ≡ turns }
+    {
         Waiting {
             turns,
             heads: Bell::new(),

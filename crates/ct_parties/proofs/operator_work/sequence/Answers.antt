@@ -7,9 +7,10 @@ loop-left-init g c = not_begun c.args.front c.args.count c.args.now c.args.seque
 
 pub returns-in-Err : goal.returns-in-Err
 returns-in-Err g c =
+    let (some, few, less) = c.batch_of-most.ensures in
     sequence_refused c.args.front c.batch_of-most.result c.args.count c.args.now c.loop-left.left c.args.sequencer.now c.loop-left.sequencer
     c.settle_some.new.sequencer
-    c.in-Err.refusal c.loop-left.invariant c.loop-left-test.true c.in-Err.ensures
+    c.in-Err.refusal c.loop-left.invariant less c.in-Err.ensures
 
 pub loop-left-preserved : goal.loop-left-preserved
 loop-left-preserved g c =

@@ -6,7 +6,7 @@ pub returns-in-Err : goal.returns-in-Err
 returns-in-Err g c =
     let (xs, takes, more) = c.in-Err.ensures.taken in
     some_refused c.args.front c.args.most c.args.now c.args.sequencer.now c.loop-turn.sequencer c.take.new.self xs c.in-Err.refusal
-    c.loop-turn.invariant takes (c.take.ensures.listed xs takes) c.take.ensures.early c.in-Err.ensures.refused
+    c.loop-turn.invariant takes (c.take.ensures.listed xs takes) c.take.ensures.early more c.in-Err.ensures.refused
 
 pub returns-then-settled-gt0 : goal.returns-then-settled-gt0
 returns-then-settled-gt0 g c =
