@@ -68,19 +68,24 @@ pub(crate) fn proofs(
     Ok(hashes)
 }
 
-// How many leaves of 1,500 bytes a batch of `count` hashed.
-pub(crate) fn batch<R: Threads + Sync>(
-    threads: &R,
-    heap: Global,
-    count: u64,
-    workers: usize,
-) -> Result<usize, AllocError>
-    requires { (0 < workers) × (workers ≤ 64) }
-{
+// So many leaves of 1,500 bytes.
+pub(crate) fn leaves(heap: Global, count: u64) -> Result<Vec<Vec<u8>>, AllocError> {
     let mut leaves = Vec::new(heap);
     for _ in 0..count {
         leaves.push(vec![in heap; 7u8; 1500]?)?;
     }
-    let hashes = hash_batch(threads, heap, &Sha256Hash, &leaves, workers)?;
+    Ok(leaves)
+}
+
+// How many leaves a batch hashed.
+pub(crate) fn batch<R: Threads + Sync>(
+    threads: &R,
+    heap: Global,
+    leaves: &[Vec<u8>],
+    workers: usize,
+) -> Result<usize, AllocError>
+    requires { (0 < workers) × (workers ≤ 64) }
+{
+    let hashes = hash_batch(threads, heap, &Sha256Hash, leaves, workers)?;
     Ok(hashes.len())
 }
