@@ -9,3 +9,4 @@ pub mod Given
 pub mod Kept
 pub mod Reading
 pub mod Tied
+pub mod Receipts

@@ -1,6 +1,7 @@
 pub mod LiveTasks
 pub mod LiveLines
 pub mod LiveReplies
+pub mod LiveSigning
 pub mod LiveParties
 pub mod LiveRuns
 pub mod LiveOpening

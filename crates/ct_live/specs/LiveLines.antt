@@ -10,17 +10,22 @@ use Rattle.ct_parties.specs.declared.task.OperatorTask.TheVariants.{Sequence, Pu
 use Rattle.ct_live.specs.LiveTasks.{LiveStep, front_does, operator_does, closes}
 use Rattle.ct_live.specs.declared.asking.LiveRequest.{LiveRequest}
 use Rattle.ct_live.specs.declared.asking.LiveRequest.TheVariants as request_case
-use Rattle.ct_live.specs.declared.asking.DeskTask.TheVariants.{Do, Take, NotYet}
+use Rattle.ct_live.specs.declared.asking.DeskTask.TheVariants.{Do, Take, TreeHeadInput, TimestampInput, NotYet}
 
--- what the operator asks of a live log alone: to take has a front, a number of items at most and a moment, to close a moment
+-- What the operator asks of a live log alone: to take has a front, a number of items at most and a moment, to close a moment, and what
+-- stands under the signature of a certificate timestamp has a ticket.
 pub data LiveAsked : Type 0 where
   take : ℕ → ℕ → ℕ → LiveAsked
   close : ℕ → LiveAsked
+  head_input : LiveAsked
+  timestamp_input : ℕ → LiveAsked
 
 -- the same of a request as the code has it
 abbrev pub live_asked : LiveRequest → LiveAsked
 live_asked (request_case.Take from max now) = take from max now
 live_asked (request_case.Close now) = close now
+live_asked request_case.TreeHeadInput = head_input
+live_asked (request_case.TimestampInput ticket) = timestamp_input ticket
 
 -- the op take
 abbrev pub take_asked : Data → Option LiveAsked
@@ -30,7 +35,9 @@ take_asked d = with_three take (number_at (codes "from") d) (number_at (codes "m
 abbrev pub live_asks : List ℕ → Data → Option LiveAsked
 live_asks op d =
     if bytes_eq op (codes "take") then take_asked d
-    else (if bytes_eq op (codes "close") then option_map close (number_at (codes "now") d) else None)
+    else (if bytes_eq op (codes "close") then option_map close (number_at (codes "now") d)
+    else (if bytes_eq op (codes "tree-head-signature-input") then Some head_input
+    else (if bytes_eq op (codes "certificate-timestamp-signature-input") then option_map timestamp_input (number_at (codes "ticket") d) else None)))
 
 -- the same where this makes the request
 abbrev pub live_asks_by : List ℕ → Data → Option LiveAsked
@@ -48,6 +55,8 @@ live_request_of line = if nat_le (length line) 1048576 && is_utf8 line then opti
 abbrev pub live_request_step : ℕ → Option LiveAsked → LiveStep
 live_request_step fronts (Some (take from max now)) = if nat_lt from fronts then operator_does (Take from max now) else operator_does (Do BadLine)
 live_request_step fronts (Some (close now)) = closes now
+live_request_step fronts (Some head_input) = operator_does TreeHeadInput
+live_request_step fronts (Some (timestamp_input ticket)) = operator_does (TimestampInput ticket)
 live_request_step fronts None = operator_does (Do BadLine)
 
 -- What a live log does for a line for which another log would do the first: the same, but that it has no shifts, that a line which

@@ -20,6 +20,10 @@ pub enum DeskTask {
     /// What is there of the items that the front `from` accepted is settled at the moment `now`, in milliseconds, `max` of
     /// them at most.
     Take { from: u16, max: u64, now: u64 },
+    /// The bytes that stand under the signature of the last published head are asked for.
+    TreeHeadInput,
+    /// The bytes that stand under the signature of the certificate timestamp of this ticket's receipt are asked for.
+    TimestampInput { ticket: u64 },
     /// The line asks the closed log, and is replied to with not-yet.
     NotYet,
 }
@@ -42,6 +46,10 @@ enum LiveRequest {
     Take { from: u64, max: u64, now: u64 },
     // The log is closed at the moment `now`.
     Close { now: u64 },
+    // What stands under the signature of the last published head.
+    TreeHeadInput,
+    // What stands under the signature of the certificate timestamp of this ticket's receipt.
+    TimestampInput { ticket: u64 },
 }
 
 // The longest line, in bytes, without its end.
@@ -64,6 +72,11 @@ fn live_request(op: &str, value: &Value) -> Option<LiveRequest>
         "take" => take_request(value),
         "close" => match fields::number(value, "now") {
             Some(now) => Some(LiveRequest::Close { now }),
+            None => None,
+        },
+        "tree-head-signature-input" => Some(LiveRequest::TreeHeadInput),
+        "certificate-timestamp-signature-input" => match fields::number(value, "ticket") {
+            Some(ticket) => Some(LiveRequest::TimestampInput { ticket }),
             None => None,
         },
         _ => None,
@@ -137,6 +150,10 @@ fn live_request_task(fronts: u16, request: Option<LiveRequest>) -> LiveTask
             LiveTask::Operator(DeskTask::Take { from, max, now })
         }
         Some(LiveRequest::Close { now }) => LiveTask::Close(now),
+        Some(LiveRequest::TreeHeadInput) => LiveTask::Operator(DeskTask::TreeHeadInput),
+        Some(LiveRequest::TimestampInput { ticket }) => {
+            LiveTask::Operator(DeskTask::TimestampInput { ticket })
+        }
         None => LiveTask::Operator(DeskTask::Do(OperatorTask::BadLine)),
     }
 }

@@ -6,6 +6,7 @@
 //!
 //! - `asking` says what a line asks of a live log: beside the requests of every log there are the operator's `take` and
 //!   `close`.
+//! - `signing` has the bytes that stand under the log's signatures.
 //! - `replying` has the reply to a line without the end of the line.
 //! - `front` is a front as a party of `ct_pipes`; `desk` is what the operator works with, and `operator` does its tasks in
 //!   turn, as a party does.
@@ -25,6 +26,7 @@ mod giving;
 mod live;
 mod operator;
 mod replying;
+mod signing;
 mod threads;
 mod workers;
 
@@ -32,5 +34,5 @@ pub use asking::{DeskTask, LiveTask, live_task};
 pub use desk::Desk;
 pub use front::LiveFront;
 pub use live::serve_live;
-pub use replying::reply_object;
+pub use replying::{DeskReply, desk_object, reply_object};
 pub use threads::Served;

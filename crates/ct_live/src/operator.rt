@@ -6,11 +6,13 @@ ghost use Rattle.ct_pipes.specs.Answered.{AnswersMore};
 ghost use Rattle.ct_lines.specs.ReplyText.{answered};
 ghost use Rattle.ct_parties.specs.OperatorWork.{GoesOn};
 ghost use Rattle.ct_live.specs.LiveParties.{TakesWhatIsThere, DeskDoes, DeskReplies};
+ghost use Rattle.ct_live.specs.LiveReplies.{says, desk_said};
 ghost use Rattle.ct_live.specs.LiveRuns.{DeskStep};
 
 use crate::asking::DeskTask;
 use crate::desk::Desk;
-use crate::replying::reply_object;
+use crate::replying::{DeskReply, desk_object};
+use crate::signing::{head_input, timestamp_input};
 use ct_codec::Refusal;
 use ct_core::Reply;
 use ct_house::Sequencer;
@@ -46,6 +48,16 @@ fn take<R: Threads + Sync>(
     }
 }
 
+// A reply or a refusal of another log's operator.
+fn said(reply: Result<Reply, Refusal>) -> Result<DeskReply, Refusal>
+    ensures { desk_said result ≡ says (answered reply) }
+{
+    match reply {
+        Ok(reply) => Ok(DeskReply::Said(reply)),
+        Err(refusal) => Err(refusal),
+    }
+}
+
 // Does what a line asks for.
 fn do_task<R: Threads + Wait + Sync>(
     rt: &R,
@@ -54,18 +66,28 @@ fn do_task<R: Threads + Wait + Sync>(
     fronts: usize,
     task: DeskTask,
     waiting: &Waiting,
-) -> Result<Reply, Refusal>
+) -> Result<DeskReply, Refusal>
     requires { fronts ≡ length sequencer.old.lanes }
-    ensures does { DeskDoes sequencer.old task (answered result) sequencer.new }
+    ensures does { DeskDoes sequencer.old task (desk_said result) sequencer.new }
     ensures goes_on { GoesOn sequencer.old sequencer.new }
 {
     match task {
-        DeskTask::Do(task) => operator_work::do_task(rt, alloc, sequencer, fronts, task, waiting),
+        DeskTask::Do(task) => {
+            said(operator_work::do_task(rt, alloc, sequencer, fronts, task, waiting))
+        }
         DeskTask::Take { from, max, now } => {
             if usize::from(from) >= fronts {
                 return Err(Refusal::BadLine);
             }
-            take(rt, alloc, sequencer, from, max, now)
+            said(take(rt, alloc, sequencer, from, max, now))
+        }
+        DeskTask::TreeHeadInput => {
+            let input = head_input(alloc, sequencer.published())?;
+            Ok(DeskReply::SignatureInput(input))
+        }
+        DeskTask::TimestampInput { ticket } => {
+            let input = timestamp_input(alloc, sequencer.published(), ticket)?;
+            Ok(DeskReply::SignatureInput(input))
         }
         DeskTask::NotYet => Err(Refusal::NotYet),
     }
@@ -83,7 +105,7 @@ impl Desk {
         ensures { IfOk result (λ r. DeskReplies self.old.sequencer task r.items self.new.sequencer) }
     {
         let reply = do_task(rt, alloc, &mut self.sequencer, self.fronts, task, waiting);
-        reply_object(alloc, &reply)
+        desk_object(alloc, reply)
     }
 }
 

@@ -1,14 +1,26 @@
 //! The reply to a line, without the end of the line.
 
 ghost use Rattle.std.specs.Prelude.{◌≡◌, IfOk};
+ghost use Rattle.serde_json.specs.View.{view};
+ghost use Rattle.serde_json.specs.Written.{compact_text};
 ghost use Rattle.ct_lines.specs.ReplyText.{answered};
-ghost use Rattle.ct_live.specs.LiveReplies.{object_text};
+ghost use Rattle.ct_live.specs.LiveReplies.{desk_said, desk_text, input_data, object_text};
 
 use ct_codec::Refusal;
 use ct_core::Reply;
-use ct_lines::reply_text;
+use ct_lines::{bytes_value, reply_text};
 use ct_tree::Memory;
+use serde_json::{Value, json};
 use std::alloc::Global;
+
+/// What the operator of a live log replies.
+#[derive(Debug, PartialEq, Eq, Drop)]
+pub enum DeskReply {
+    /// What another log's operator would reply.
+    Said(Reply),
+    /// The bytes that stand under a signature.
+    SignatureInput(Vec<u8>),
+}
 
 /// The JSON object of a reply or of a refusal.
 pub fn reply_object(alloc: Global, reply: &Result<Reply, Refusal>) -> Result<Vec<u8>, Memory>
@@ -17,4 +29,32 @@ pub fn reply_object(alloc: Global, reply: &Result<Reply, Refusal>) -> Result<Vec
     let mut text = reply_text(alloc, reply)?;
     text.pop();
     Ok(text)
+}
+
+// Bytes that stand under a signature, as a JSON value.
+fn input_value(alloc: Global, input: &[u8]) -> Result<Value, Memory>
+    ensures { IfOk result (λ v. view v ≡ input_data input.now) }
+{
+    let input = bytes_value(alloc, input)?;
+    json!(in alloc; {"signature_input": input})
+}
+
+// The JSON object of bytes that stand under a signature.
+fn input_object(alloc: Global, input: &[u8]) -> Result<Vec<u8>, Memory>
+    ensures { IfOk result (λ t. t.items ≡ compact_text (input_data input.now)) }
+{
+    let value = input_value(alloc, input)?;
+    let text = value.to_string(alloc)?;
+    Ok(text.into_bytes())
+}
+
+/// The JSON object of a reply of the operator or of a refusal.
+pub fn desk_object(alloc: Global, reply: Result<DeskReply, Refusal>) -> Result<Vec<u8>, Memory>
+    ensures { IfOk result (λ t. t.items ≡ desk_text (desk_said reply)) }
+{
+    match reply {
+        Ok(DeskReply::Said(said)) => reply_object(alloc, &Ok(said)),
+        Ok(DeskReply::SignatureInput(input)) => input_object(alloc, &input),
+        Err(refusal) => reply_object(alloc, &Err(refusal)),
+    }
 }
