@@ -4,8 +4,9 @@
     check.py [--submissions 300] [--threads 8] [--kills 3] [-- PROGRAM [WORD..]]
 
 PROGRAM is crates/ctlogd/out/ctlogd, or where that isn't built stand_in.py. Threads submit certificates and precertificates;
-every receipt, head, entry and proof that is answered is held against what RFC 6962 says, every signature is checked, and
-every call is refused what it has to refuse. Then front and program are killed in mid-stream and started again from the
+every receipt, head, entry and proof that is answered is held against what RFC 6962 says, every signature is checked over
+bytes that are written here, and every call is refused what it has to refuse. What the log names as standing under its
+signatures is held against the same bytes. Then front and program are killed in mid-stream and started again from the
 journal: what clients had seen has to be there. It ends with a line of what it saw, and with status 1 where something is
 wrong.
 """
@@ -38,11 +39,12 @@ import p256  # noqa: E402
 
 CTLOGD, CTLOG = ROOT / "crates/ctlogd/out/ctlogd", ROOT / "crates/ctlog/out/ctlog"
 FRONTS = 3
+HEAD_INPUT, TIMESTAMP_INPUT = "tree-head-signature-input", "certificate-timestamp-signature-input"
 CHANCE = random.Random(1)
 # Stands in for a log that refuses each submission, with the name that its certificate spells.
 REFUSING = """
 import base64, json, sys
-head = {"sha256_root_hash": base64.b64encode(bytes(32)).decode(), "timestamp": 0, "tree_size": 0}
+head = {"sha256_root_hash": base64.b64encode(bytes(32)).decode(), "signature_input": "", "timestamp": 0, "tree_size": 0}
 for number, line in enumerate(sys.stdin):
     request = json.loads(line)
     head["timestamp"] = request.get("now", head["timestamp"])
@@ -219,6 +221,57 @@ def head_text(moment, size, root):
     return b"\0\1" + moment.to_bytes(8, "big") + size.to_bytes(8, "big") + root
 
 
+def timestamp_text(moment, entry):
+    return b"\0\0" + moment.to_bytes(8, "big") + entry + b"\0\0"
+
+
+def check_inputs(program):
+    """What the log names as standing under its signatures: of each head, and of each receipt once a head covers it."""
+    certificate, issuer, tbs, key_hash = b"a certificate", b"its issuer", b"a TBSCertificate", bytes(range(32))
+    entries = [b"\0\0" + vector(certificate), b"\0\1" + key_hash + vector(tbs)]
+    leaves = [timestamp_text(5, entry) for entry in entries]
+    first, second, third = [head_text(at, len(some), merkle.root(some)) for at, some in [(0, []), (7, leaves), (9, leaves)]]
+    precert = {"issuer_key_hash": text(key_hash), "tbs": text(tbs), "chain": [text(certificate), text(issuer)]}
+    head, stamp = {"who": "operator", "op": HEAD_INPUT}, {"who": "operator", "op": TIMESTAMP_INPUT}
+    operator = {"who": "operator"}
+    rows = [
+        (head, first),
+        ({"who": 0, "op": "add-chain", "chain": [text(certificate), text(issuer)]}, {"ticket": 0}),
+        ({"who": 0, "op": "add-pre-chain", **precert}, {"ticket": 1}),
+        ({"who": 0, "op": "add-chain", "chain": [text(certificate)]}, {"ticket": 2}),
+        ({**stamp, "ticket": 0}, {"error": "not-yet"}),
+        ({**operator, "op": "sequence", "from": 0, "count": 3, "now": 5}, {"settled": 3}),
+        ({**stamp, "ticket": 0}, {"error": "not-yet"}),
+        (head, first),
+        ({**operator, "op": "publish", "now": 7}, {"timestamp": 7, "tree_size": 2}),
+        (head, second),
+        ({**stamp, "ticket": 0}, leaves[0]),
+        ({**stamp, "ticket": 1}, leaves[1]),
+        ({**stamp, "ticket": 2}, leaves[0]),
+        ({**stamp, "ticket": 3}, {"error": "not-yet"}),
+        ({**operator, "op": "publish", "now": 9}, {"timestamp": 9, "tree_size": 2}),
+        (head, third),
+        ({**stamp, "ticket": 1}, leaves[1]),
+        (stamp, {"error": "bad-line"}),
+        ({**stamp, "ticket": "0"}, {"error": "bad-line"}),
+        ({**head, "who": 0}, {"error": "bad-line"}),
+        ({**stamp, "who": 0, "ticket": 0}, {"error": "bad-line"}),
+        ({**head, "who": "frozen"}, {"error": "bad-line"}),
+        ({**operator, "op": "close", "now": 11}, {"timestamp": 11, "tree_size": 2}),
+        (head, {"error": "bad-line"}),
+        ({**stamp, "ticket": 0}, {"error": "bad-line"}),
+    ]
+    given = b"".join(json.dumps(request).encode() + b"\n" for request, _ in rows)
+    ran = subprocess.run([*program, "--fronts", "1", "--ring", "64"], input=given, stdout=subprocess.PIPE, timeout=60)
+    hold(ran.returncode == 0, program, "ends with status", ran.returncode)
+    replies = {reply["line"]: reply["reply"] for reply in map(json.loads, ran.stdout.splitlines())}
+    hold(len(replies) == len(rows), program, "has", len(replies), "replies to", len(rows), "lines")
+    for number, (request, wanted) in enumerate(rows):
+        reply = {"signature_input": text(wanted)} if isinstance(wanted, bytes) else wanted
+        hold(replies[number] == reply, request, "is replied to with", replies[number], "and not", reply)
+    return sum(isinstance(wanted, bytes) for _, wanted in rows)
+
+
 def check_log(front, seen, checked):
     """Holds all that clients were told against the log as it answers now."""
     client = Client(front.port)
@@ -233,7 +286,7 @@ def check_log(front, seen, checked):
     hold(len({leaf[10:] for leaf in leaves}) == size, "an entry stands twice")
     places = {leaf: place for place, leaf in enumerate(leaves)}
     for entry, sct in seen.receipts:
-        leaf = b"\0\0" + sct["timestamp"].to_bytes(8, "big") + entry + b"\0\0"
+        leaf = timestamp_text(sct["timestamp"], entry)
         hold(leaf in places, "an entry of a receipt isn't in the log:", sct)
         hold((sct["sct_version"], sct["extensions"], sct["id"]) == (0, "", own["log_id"]), "a receipt has other fields:", sct)
         if sct["signature"] not in checked:
@@ -534,12 +587,14 @@ def run(program, words):
         ways = check_signers(state, program, options)
         refusals += check_names(str(pathlib.Path(folder) / "refusing"))
     check_full_and_shutdown(program)
+    inputs = check_inputs(program)
     times = sorted(seen.times)
     name, many = pathlib.Path(program[-1]).name, len(seen.receipts) - first
     print(
         f"{name}: {first} receipts by {words.threads} threads and {many} more around {words.kills} kills, half in "
         f"{times[len(times) // 2] * 1000:.0f} ms, all in {times[-1] * 1000:.0f}; {len(seen.heads)} heads seen, "
-        f"{len(leaves)} entries; {len(checked)} signatures, by {' and '.join(ways) or 'nothing'}; {refusals} refusals, "
+        f"{len(leaves)} entries; {len(checked)} signatures, by {' and '.join(ways) or 'nothing'}, and {inputs} signatures' "
+        f"bytes from the log itself; {refusals} refusals, "
         f"{curled} calls by curl, {damaged} damaged journals, a full ring and a shutdown; the journal gives the same "
         f"entries by {others}. "
         f"All as it has to be, in {time.monotonic() - begun:.0f} s."

@@ -59,20 +59,28 @@ class Sequencer(threading.Thread):
         self.new_line, self.new_head = threading.Condition(lock), threading.Condition(lock)
         self.step_lock, self.turn = threading.Lock(), 0
         self.heads, self.last = heads, heads[-1]["timestamp"] if heads else 0
+        # What stands under the signature of the last head.
+        self.head_input = self.signature_input("tree-head-signature-input") if heads else b""
         self.ending, self.fault, self.retired = threading.Event(), None, kept.retired
 
     def moment(self):
         self.last = max(self.last + 1, int(time.time() * 1000))
         return self.last
 
+    def signature_input(self, op, **keys):
+        """The bytes that the log names as what stands under a signature."""
+        return base64.b64decode(self.program.ask(who="operator", op=op, **keys)["signature_input"])
+
     def submit(self, request):
-        """Submits through a front that has room, and waits for the receipt."""
+        """Submits through a front that has room, and waits for the receipt: its moment, and what stands under its
+        signature."""
         for _ in range(self.words.fronts):
             self.turn = front = (self.turn + 1) % self.words.fronts
             line, seen = line_of(who=front, **request), len(self.heads)
             try:
                 ticket = self.program.send(line, lambda reply: self.note(front, line, reply)).get()["ticket"]
-                return self.receipt(front, ticket, seen)
+                timestamp = self.receipt(front, ticket, seen)["timestamp"]
+                return timestamp, self.signature_input("certificate-timestamp-signature-input", ticket=ticket)
             except Refused as refused:
                 if str(refused) != "full":
                     raise
@@ -123,10 +131,17 @@ class Sequencer(threading.Thread):
                 return
             self.program.send(self.journal.write(lines, op="publish", now=now)).get()
             head = journal.head_of(self.program, now)
+            message = self.signature_input("tree-head-signature-input")
             self.journal.write_head(head)
             with self.new_head:
                 self.heads.append(head)
+                self.head_input = message
                 self.new_head.notify_all()
+
+    def last_head(self):
+        """The last head, and what stands under its signature."""
+        with self.new_head:
+            return self.heads[-1], self.head_input
 
     def retire(self):
         """Ends the taking of submissions for good."""
@@ -168,7 +183,7 @@ class Calls:
         return lambda **keys: self.ask(op, keys)
 
     def get_sth(self):
-        return self.signer.head(self.ask("get-sth"))
+        return self.signer.head(*self.sequencer.last_head())
 
     def get_sth_consistency(self, first, second):
         """The log has no proof from a tree to itself: it is the empty one."""
@@ -182,8 +197,7 @@ class Calls:
         return {"certificates": [base64.b64encode(root).decode() for root in self.roots]}
 
     def add_chain(self, chain):
-        receipt = self.sequencer.submit({"op": "add-chain", "chain": chain})
-        return self.signer.timestamp(receipt["timestamp"], signing.signed_entry(base64.b64decode(chain[0])))
+        return self.signer.timestamp(*self.sequencer.submit({"op": "add-chain", "chain": chain}))
 
     def add_pre_chain(self, chain):
         if not chain:
@@ -193,8 +207,7 @@ class Calls:
         except ValueError as fault:
             raise Refused(str(fault) if isinstance(fault, der.NoCertificate) else "bad-request")
         texts = {"issuer_key_hash": base64.b64encode(issuer_key_hash).decode(), "tbs": base64.b64encode(tbs).decode()}
-        receipt = self.sequencer.submit({"op": "add-pre-chain", **texts, "chain": chain})
-        return self.signer.timestamp(receipt["timestamp"], signing.signed_entry(tbs, issuer_key_hash))
+        return self.signer.timestamp(*self.sequencer.submit({"op": "add-pre-chain", **texts, "chain": chain}))
 
     def get(self, name, query):
         """A call by its name and the text behind its `?`."""

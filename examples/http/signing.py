@@ -1,8 +1,7 @@
 """Signs tree heads and certificate timestamps with ECDSA over P-256 and SHA-256 (RFC 6962, section 2.1.4).
 
-What is signed are the functions `timestamp_text` and `tree_head_text` of docs/DEFINITIONS.md, written once more. The
-command `openssl` signs where it is there, else python3-cryptography; where neither is, nothing is signed. The key lies in a
-file as PEM.
+What is signed are the bytes that the log names. The command `openssl` signs where it is there, else python3-cryptography;
+where neither is, nothing is signed. The key lies in a file as PEM.
 """
 import base64
 import hashlib
@@ -10,23 +9,6 @@ import os
 import shutil
 import subprocess
 import threading
-
-
-def timestamp_text(timestamp, entry):
-    """What stands under the signature of a certificate timestamp, without extensions (section 3.2). `entry` is the entry's
-    type and text."""
-    return b"\x00\x00" + timestamp.to_bytes(8, "big") + entry + b"\x00\x00"
-
-
-def tree_head_text(timestamp, tree_size, root):
-    """What stands under the signature of a tree head (section 3.5)."""
-    return b"\x00\x01" + timestamp.to_bytes(8, "big") + tree_size.to_bytes(8, "big") + root
-
-
-def signed_entry(certificate, issuer_key_hash=None):
-    """The entry's type and text: of a certificate, or with the issuer's key hash of a TBSCertificate (section 3.2)."""
-    vector = len(certificate).to_bytes(3, "big") + certificate
-    return b"\x00\x00" + vector if issuer_key_hash is None else b"\x00\x01" + issuer_key_hash + vector
 
 
 def run(*words, given=b""):
@@ -111,15 +93,14 @@ class Signer:
         text = b"\x04\x03" + len(signature).to_bytes(2, "big") + signature if signature else b""
         return base64.b64encode(text).decode()
 
-    def timestamp(self, timestamp, entry):
+    def timestamp(self, timestamp, message):
         """A signed certificate timestamp, as add-chain answers it."""
-        signature = self.signed(timestamp_text(timestamp, entry))
+        signature = self.signed(message)
         return {"sct_version": 0, "id": self.log_id, "timestamp": timestamp, "extensions": "", "signature": signature}
 
-    def head(self, head):
+    def head(self, head, message):
         """A signed tree head, as get-sth answers it. The signature of the last one is kept."""
-        text = tree_head_text(head["timestamp"], head["tree_size"], base64.b64decode(head["sha256_root_hash"]))
         with self.lock:
-            if self.last[0] != text:
-                self.last = text, self.signed(text)
+            if self.last[0] != message:
+                self.last = message, self.signed(message)
             return {**head, "tree_head_signature": self.last[1]}

@@ -4,11 +4,12 @@
     stand_in.py --fronts N --ring K [--open-at T] [--close-at T]
 
 Lines are those of docs/LINES.md, numbered from 0, empty ones among them; a reply is written as
-{"line":NUMBER,"reply":REPLY}. Beside those lines it knows the operator's `take` (settles what is there, "max" at most) and
-`close`, behind which the closed log answers. Each front and the operator has a thread and a queue of its own, and one
+{"line":NUMBER,"reply":REPLY}. Beside those lines it knows the operator's `take` (settles what is there, "max" at most),
+`close`, behind which the closed log answers, and the two that ask for what stands under a signature. Each front and the operator has a thread and a queue of its own, and one
 thread writes. The log is that of examples/expected.py: plain, slow, proved nowhere.
 """
 import argparse
+import base64
 import json
 import pathlib
 import queue
@@ -26,8 +27,14 @@ PLACES = 64
 # A wait is late after so many looks, a millisecond apart.
 LOOKS = 5000
 
+HEAD_INPUT, TIMESTAMP_INPUT = "tree-head-signature-input", "certificate-timestamp-signature-input"
 expected.OTHER_OPS["operator"].update(
-    take={"from": expected.is_number, "max": expected.is_number, "now": expected.is_number}, close={"now": expected.is_number}
+    {
+        "take": {"from": expected.is_number, "max": expected.is_number, "now": expected.is_number},
+        "close": {"now": expected.is_number},
+        HEAD_INPUT: {},
+        TIMESTAMP_INPUT: {"ticket": expected.is_number},
+    }
 )
 
 
@@ -45,8 +52,20 @@ class Log(expected.Log):
         return {"sha256_root_hash": self.roots[size], "timestamp": now, "tree_size": size}
 
 
+def input_of(log, op, keys):
+    """What stands under the signature of the last head (RFC 6962, section 3.5), or of a receipt's timestamp (3.2), which is
+    the text of its leaf."""
+    if op == HEAD_INPUT:
+        head = log.get_sth()
+        numbers = head["timestamp"].to_bytes(8, "big") + head["tree_size"].to_bytes(8, "big")
+        return b"\x00\x01" + numbers + base64.b64decode(head["sha256_root_hash"])
+    return log.entries[log.receipt(**keys)["leaf_index"]][1]
+
+
 def do_operator(log, request):
     op, keys = request or (None, None)
+    if op in (HEAD_INPUT, TIMESTAMP_INPUT):
+        return {"signature_input": expected.text(input_of(log, op, keys))}
     if op != "take":
         return expected.do_operator(log, request)
     count = min(keys["max"], len(log.rings[keys["from"]]))
