@@ -1,5 +1,5 @@
 #!/usr/bin/env python3
-"""Tries the scripts that stand beside ctlog, bad_lines.py, pem_lines.py and expected.py, on stored input. It runs no ctlog.
+"""Tries the scripts that stand beside ctlog, bad_lines.py, pem_lines.py, expected.py and check.py, on stored input. It runs no ctlog.
 
 It prints one line where all is as expected; else it says what isn't, and ends with status 1.
 """
@@ -15,12 +15,16 @@ HERE = pathlib.Path(__file__).resolve().parent
 sys.path.insert(0, str(HERE.parent / "bench"))
 
 from bad_lines import reason  # noqa: E402
+from check import LiveLines, Wrong, checked_live  # noqa: E402
+from damages import damages  # noqa: E402
 from expected import read_line  # noqa: E402
 from mutations import mutated  # noqa: E402
 
 NO_REQUEST = b"this line is no request"
 # How many stored lines are damaged, and compared.
 DAMAGED = 1000
+# The stored run of ctlogd, and its fronts.
+LIVE, LIVE_FRONTS = HERE.parent / "crates" / "ctlogd", 2
 # The stored inputs, each with the fronts, ring and moments under which its replies are expected.
 INPUTS = {
     "first-session": "1 4 0 7",
@@ -96,9 +100,26 @@ def try_pem(folder):
     return len(chains)
 
 
+def try_live():
+    """check.py takes the stored run of ctlogd, and refuses each damaged output."""
+    given, written = (LIVE / "stdin").read_text(), (LIVE / "stdout").read_text()
+    checked_live(LIVE_FRONTS, given, written)
+    count = 0
+    for seed in range(DAMAGED // 100):
+        for what, output in damages(random.Random(seed), LiveLines(given, LIVE_FRONTS), written):
+            try:
+                checked_live(LIVE_FRONTS, given, output)
+            except (Wrong, KeyError, IndexError, ValueError, TypeError):
+                count += 1
+                continue
+            fail(f"check.py doesn't refuse {what}: {output}")
+    return count
+
+
 def main():
     try_reasons()
     try_agreement()
+    outputs = try_live()
     with tempfile.TemporaryDirectory() as folder:
         chains = try_pem(pathlib.Path(folder))
     for name, words in INPUTS.items():
@@ -106,7 +127,7 @@ def main():
         if ran.stdout != (HERE / f"{name}.expected.jsonl").read_bytes():
             fail(f"expected.py computes other replies than {name}.expected.jsonl")
     stored = len(lines_of("bad-lines"))
-    print(f"examples/scripts.py: as expected, over {stored} stored lines, {DAMAGED} damaged ones, {chains} chains and {len(INPUTS)} inputs.")
+    print(f"examples/scripts.py: as expected, over {stored} stored lines, {DAMAGED} damaged ones, {chains} chains, {len(INPUTS)} inputs and {outputs} damaged outputs.")
 
 
 if __name__ == "__main__":

@@ -28,15 +28,6 @@ PLACES = 64
 LOOKS = 5000
 
 HEAD_INPUT, TIMESTAMP_INPUT = "tree-head-signature-input", "certificate-timestamp-signature-input"
-expected.OTHER_OPS["operator"].update(
-    {
-        "take": {"from": expected.is_number, "max": expected.is_number, "now": expected.is_number},
-        "close": {"now": expected.is_number},
-        HEAD_INPUT: {},
-        TIMESTAMP_INPUT: {"ticket": expected.is_number},
-    }
-)
-
 
 class Log(expected.Log):
     """The log of expected.py, which keeps the roots that it was asked for."""
@@ -142,7 +133,7 @@ class Live:
             line = line.rstrip(b"\n")
             if not line:
                 continue
-            who, request = expected.read_line(line, self.fronts)
+            who, request = expected.read_line(line, self.fronts, expected.LIVE_OPS)
             if closed:
                 self.answers.put((number, self.frozen_reply(who, request)))
             elif who == "frozen":
