@@ -11,8 +11,8 @@ the log, which then answers questions and refuses lines of the fronts and of the
 its replies are read as fast as it writes them.
 
 check.py judges that each line has one reply, in its party's order, and which refusals are told; the tickets, the order of the settlement and of the
-entries, the receipts, and each root. The first output is then damaged in each of the ways of examples/damages.py, and check.py has to refuse
-each. At the first output that isn't judged as it should be the lines and the output are kept, and the status is 1.
+entries, the receipts, and each root. Before that the output of a shorter run is damaged in each of the ways of examples/damages.py, and check.py
+has to refuse each. At the first output that isn't judged as it should be the lines and the output are kept, and the status is 1.
 """
 import argparse
 import os
@@ -31,6 +31,8 @@ from damages import damages  # noqa: E402
 from load import CERTIFICATES, CLOSE_AT, OPEN_AT, RING, SUBMISSION, front_line, line_of  # noqa: E402
 
 BLOCK = 40
+# How many lines each front has in the run whose output is damaged.
+SHORT = 200
 LONGEST_RUN = 600
 FAULTS = (Wrong, KeyError, IndexError, ValueError, TypeError)
 
@@ -113,7 +115,8 @@ def judge(program, seed, fronts, lines):
     except FAULTS as fault:
         sys.exit(f"live_load.py: seed {seed}: {fault!r}\n{kept(given, written)}")
     accepted, shut, full = counts
-    print(f"seed {seed}: {given.count(chr(10)):,} lines in {seconds:.1f} s; {accepted:,} submissions accepted, {shut:,} told the shutdown, {full:,} full", flush=True)
+    told_others = f"{shut:,} told the shutdown, {full:,} that their ring is full"
+    print(f"seed {seed}: {len(given.splitlines()):,} lines in {seconds:.1f} s; {accepted:,} submissions accepted, {told_others}", flush=True)
     return given, written
 
 
@@ -141,10 +144,9 @@ def main():
     given = words.parse_args()
     if len(given.program) == 1 and not os.access(given.program[0], os.X_OK):
         sys.exit(f"live_load.py: {given.program[0]} isn't there: build it by 'rt run -- --help' in crates/ctlogd")
+    refused = try_damages(given.seed, given.fronts, *judge(given.program, given.seed, given.fronts, SHORT))
     for run in range(given.runs):
-        lines, written = judge(given.program, given.seed + run, given.fronts, given.lines)
-        if run == 0:
-            refused = try_damages(given.seed, given.fronts, lines, written)
+        judge(given.program, given.seed + run, given.fronts, given.lines)
     print(f"{given.runs} runs of {given.fronts} fronts: check.py refuses none, and each of {refused} damaged outputs")
 
 

@@ -127,7 +127,8 @@ def main():
         if ran.stdout != (HERE / f"{name}.expected.jsonl").read_bytes():
             fail(f"expected.py computes other replies than {name}.expected.jsonl")
     stored = len(lines_of("bad-lines"))
-    print(f"examples/scripts.py: as expected, over {stored} stored lines, {DAMAGED} damaged ones, {chains} chains, {len(INPUTS)} inputs and {outputs} damaged outputs.")
+    rest = f"{chains} chains, {len(INPUTS)} inputs and {outputs} damaged outputs"
+    print(f"examples/scripts.py: as expected, over {stored} stored lines, {DAMAGED} damaged ones, {rest}.")
 
 
 if __name__ == "__main__":

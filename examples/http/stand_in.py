@@ -29,6 +29,7 @@ LOOKS = 5000
 
 HEAD_INPUT, TIMESTAMP_INPUT = "tree-head-signature-input", "certificate-timestamp-signature-input"
 
+
 class Log(expected.Log):
     """The log of expected.py, which keeps the roots that it was asked for."""
 

@@ -1,0 +1,18 @@
+//! Tests of `ct_live`: a live log over readers and writers of the tests' own.
+//!
+//! - `pace` has them: a reader that gives a line only once the lines before it are replied to, and a writer that counts what it was given; a
+//!   call of either may fail.
+//! - `replies` are lines and what has to be written for them, line by line. `long_lines` are lines around the longest one that is read.
+//! - `faults` has each call of the reader and of the writer fail in turn. `waits` are lines that wait, and a writer for which the reader has to.
+#![tactic(auto)]
+
+#[cfg(test)]
+mod faults;
+#[cfg(test)]
+mod long_lines;
+#[cfg(test)]
+mod pace;
+#[cfg(test)]
+mod replies;
+#[cfg(test)]
+mod waits;
