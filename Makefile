@@ -40,16 +40,18 @@ crates/wagtenib/out/link/libwagtenib.a:
 fuzz: ## runs ctlog on random and damaged lines for SECONDS=60, and compares it with an independent program
 	@PYTHONDONTWRITEBYTECODE=1 python3 bench/fuzz.py --seconds $(SECONDS)
 
-# After the same, and after `rt test` in crates/house_tests.
-load: ## runs the tests with sixteen threads and a shutdown among them 50 times, and ctlog so RUNS=20 times, and judges each output
+# After the same, and in crates/ctlogd too, and after `rt test` in crates/house_tests.
+load: ## runs the tests with sixteen threads and a shutdown among them 50 times, ctlog so RUNS=20 times, and ctlogd, and judges each output
 	@PYTHONDONTWRITEBYTECODE=1 python3 bench/repeat.py
 	@PYTHONDONTWRITEBYTECODE=1 python3 bench/load.py --runs $(RUNS)
 	@PYTHONDONTWRITEBYTECODE=1 python3 bench/load.py --runs $(RUNS) --shifts 3
+	@PYTHONDONTWRITEBYTECODE=1 python3 bench/live_load.py
 
-# After `rt run -- --help` in crates/ctlog and `rt test` in crates/memory_tests, which build what is swept.
-sweep: ## refuses each growth of ctlog and of the library's calls in turn, and judges what they then do
+# After `rt run -- --help` in crates/ctlog and crates/ctlogd and `rt test` in crates/memory_tests, which build what is swept.
+sweep: ## refuses each growth of ctlog, of ctlogd and of the library's calls in turn, and judges what they then do
 	@PYTHONDONTWRITEBYTECODE=1 python3 bench/memory.py
 	@PYTHONDONTWRITEBYTECODE=1 python3 bench/sweep.py
+	@PYTHONDONTWRITEBYTECODE=1 python3 bench/sweep.py --live
 
 # After `make check`, over whose work it goes. The gate tries those of must-fail/ itself.
 wrong: ## has the prover refuse the wrong bodies of CRATE=ct_core that the gate doesn't try (crates/*/wrong-bodies)

@@ -1,7 +1,7 @@
 #!/usr/bin/env python3
-"""Refuses each growth of ctlog in turn, and judges what it then does.
+"""Refuses each growth of ctlog, or with --live of ctlogd, in turn, and judges what it then does.
 
-    sweep.py [PROGRAM] [--from N] [--most N]
+    sweep.py [--live] [PROGRAM] [--from N] [--most N]
 
 The script of lines has two fronts and three shifts: A, B, A on front 0 and A on front 1, each kind of question and two publications; B and C on
 front 0, which settle as the second shift ends; then a question of each front, a shutdown, and the closed log's answers with an audit. It is run once with ample memory, and then with the first growth refused, the second, and so on, until a run makes
@@ -15,6 +15,10 @@ Each run has to end by itself within a minute, and in one of these ways:
 - status 0, where one line has the reply `memory`: what its party was told before is the ample run's, and the whole output is judged by
   examples/check.py, which recomputes tickets, settlement, entries, heads, proofs and receipts from what the replies say was done. (A line that then waits in
   vain is told `late`.)
+
+ctlogd has the same lines but for the shifts, and a `take` and a `close`. Its replies are compared by their lines' numbers, since parties don't
+wait for one another to write, and the whole is judged by check.py --live. With status 1, what was written before is whole replies, of each party
+without one left out, and those of the ample run up to the party's first line that waited in vain.
 
 Never a signal, an abort, a hang, or another wrong reply. The counts are printed, and the status is 1 at the first run that isn't as asked.
 """
@@ -31,13 +35,14 @@ import tempfile
 HERE = pathlib.Path(__file__).resolve().parent
 sys.path.insert(0, str(HERE.parent / "examples"))
 
-from check import Wrong, checked, claim, requests_of  # noqa: E402
+from check import LiveLines, Wrong, checked, checked_live, claim, claim_order, requests_of, tagged  # noqa: E402
 
-PROGRAM = HERE.parent / "crates" / "ctlog" / "out" / "ctlog"
+CRATES = HERE.parent / "crates"
 OPTIONS = ["--fronts", "2", "--ring", "8", "--open-at", "0", "--close-at", "7"]
 LONGEST_RUN = 60
 FAULTS = ("memory", "threads")
 MEMORY = '{"error":"memory"}'
+TOLD_MEMORY, TOLD_LATE = {"error": "memory"}, {"error": "late"}
 
 
 def line(who, op, **keys):
@@ -89,17 +94,35 @@ def script():
     yield line("frozen", "audit", leaf_input=base64.b64encode(b"leaf").decode(), leaf_index=0, tree_size=2, audit_path=[])
 
 
+def live_script():
+    """The lines for ctlogd: those of the first shift and of the last. Front 0 has no submission left when the operator takes."""
+    shifts = 0
+    for text in script():
+        request = json.loads(text) if text != "no request" else {}
+        if request.get("op") == "shift":
+            shifts += 1
+            yield line("operator", "take", **{"from": 0}, max=9, now=6)
+            continue
+        if shifts == 1:
+            continue
+        if request.get("who") == "frozen" and request["op"] == "get-sth":
+            yield line("operator", "close", now=7)
+        yield text
+
+
 class Sweep:
+    NAME, SCRIPT, JUDGE = "ctlog", staticmethod(script), staticmethod(checked)
+
     def __init__(self, program, folder):
-        self.program, self.folder = program, folder
-        self.lines = list(script())
+        self.program, self.folder = program or CRATES / self.NAME / "out" / self.NAME, folder
+        self.lines = list(self.SCRIPT())
         self.given = "\n".join(self.lines) + "\n"
         self.shim = folder / "refuse.so"
         subprocess.run(["cc", "-shared", "-fPIC", "-O2", "-o", self.shim, HERE / "sweep" / "refuse.c", "-ldl"], check=True)
         status, self.ample, said, self.growths = self.run(0)
         if status or said:
             sys.exit(f"sweep.py: with ample memory the status is {status}: {said}")
-        checked(2, self.given, self.ample)
+        self.JUDGE(2, self.given, self.ample)
         self.parties = requests_of(self.lines, 2)
         self.found = collections.Counter()
 
@@ -118,15 +141,21 @@ class Sweep:
         except subprocess.TimeoutExpired:
             raise Wrong("it didn't end") from None
         if status == 1:
-            names = [name for name in FAULTS if f"ctlog: {name}\n".startswith(said)]
+            names = [name for name in FAULTS if f"{self.NAME}: {name}\n".startswith(said)]
             claim(names, f"standard error is {said!r}")
-            claim(self.ample.startswith(output), "standard output is no beginning of the ample one")
+            self.claim_beginning(output)
             return f"status 1, {said.strip() or 'without its line'}, {'no' if not output else 'some'} output", growths
         claim(status == 0, f"the status is {status}: {said}")
         claim(not said, f"standard error is {said!r}")
-        if output == self.ample:
+        if self.is_ample(output):
             return "status 0, all as with ample memory", growths
         return self.judge_replies(output), growths
+
+    def is_ample(self, output):
+        return output == self.ample
+
+    def claim_beginning(self, output):
+        claim(self.ample.startswith(output), "standard output is no beginning of the ample one")
 
     def judge_replies(self, output):
         replies, ample = output.splitlines(), self.ample.splitlines()
@@ -139,14 +168,47 @@ class Sweep:
         return f"status 0, {self.parties[at]['op']} of {who} is told memory"
 
 
+class LiveSweep(Sweep):
+    NAME, SCRIPT, JUDGE = "ctlogd", staticmethod(live_script), staticmethod(checked_live)
+
+    def is_ample(self, output):
+        """Whether it has the ample run's replies, in any order that the parties' allow."""
+        if sorted(output.splitlines()) != sorted(self.ample.splitlines()):
+            return False
+        claim_order(LiveLines(self.given, 2), tagged(output))
+        return True
+
+    def claim_beginning(self, output):
+        """The replies of a party stand in order, without one left out, and are the ample run's up to the first that is `late`."""
+        lines, replies, ample, late = LiveLines(self.given, 2), tagged(output), dict(tagged(self.ample)), set()
+        claim_order(lines, replies)
+        for number, reply in replies:
+            if reply == TOLD_LATE:
+                late.add(lines.party(number))
+            claim(reply == ample[number] or lines.party(number) in late, f"line {number} is replied to with {reply}")
+            left_out = set(before for before in ample if before < number and lines.party(before) == lines.party(number)) - {n for n, _ in replies}
+            claim(not left_out, f"line {number} is replied to, and {left_out} of its party are not")
+
+    def judge_replies(self, output):
+        lines, replies, ample = LiveLines(self.given, 2), tagged(output), dict(tagged(self.ample))
+        told = [number for number, reply in replies if reply == TOLD_MEMORY]
+        claim(len(told) == 1, "not one reply is memory")
+        party = lines.party(told[0])
+        before = [pair for pair in replies if pair[0] < told[0] and lines.party(pair[0]) == party]
+        claim(all(reply == ample[number] for number, reply in before), "a reply before the refused one differs")
+        checked_live(2, self.given, output.replace('"late"', '"memory"'))
+        return f"status 0, {lines.request(told[0])['op']} of {party} is told memory"
+
+
 def main():
     parser = argparse.ArgumentParser()
-    parser.add_argument("program", nargs="?", default=PROGRAM)
+    parser.add_argument("program", nargs="?")
+    parser.add_argument("--live", action="store_true")
     parser.add_argument("--from", type=int, default=1, dest="first")
     parser.add_argument("--most", type=int, default=1_000_000)
     options = parser.parse_args()
     with tempfile.TemporaryDirectory() as folder:
-        sweep = Sweep(options.program, pathlib.Path(folder))
+        sweep = (LiveSweep if options.live else Sweep)(options.program, pathlib.Path(folder))
         print(f"with ample memory {sweep.growths} growths and {len(sweep.ample.splitlines())} replies", flush=True)
         refused = options.first
         while refused < options.first + options.most:
