@@ -37,8 +37,12 @@ fn line_reply(alloc: Global, log: &Published, line: &[u8]) -> Result<Reply, Refu
     }
 }
 
-// The reply to a line.
-pub(crate) fn frozen_reply(alloc: Global, log: &Published, line: &[u8]) -> Result<Vec<u8>, Memory>
+/// The closed log's reply to a line, with the end of the line. The line stands without its own.
+///
+/// # Errors
+///
+/// `Memory`, where a growth is refused.
+pub fn frozen_reply(alloc: Global, log: &Published, line: &[u8]) -> Result<Vec<u8>, Memory>
     ensures { IfOk result (λ b. b.items ≡ frozen_reply log.now line.now) }
 {
     let answer = Told::from(line_reply(alloc, log, line)).answer?;

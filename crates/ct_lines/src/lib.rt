@@ -2,7 +2,8 @@
 //!
 //! - `read_line` answers the `Request` that a line is, or `BadLine` exactly where it is none.
 //! - `reply_text` answers the text of a `Reply` or of a refusal, with the end of the line.
-//! - `serve_frozen` reads request lines from a reader, and writes the replies of a closed log to a writer.
+//! - `frozen_reply` is a closed log's reply to a line. `serve_frozen` reads request lines from a reader, and writes the replies
+//!   of a closed log to a writer.
 //! - `content` is a line without its end. `write_whole` writes bytes, `send` hands them on as well, and `tell` doesn't say
 //!   whether it could: for the programs.
 //! - `fields` reads what stands under a key of a JSON object; `bytes_value` and `hashes_value` are bytes and hashes as JSON.
@@ -28,6 +29,7 @@ mod wanting;
 mod writing;
 
 pub use fault::{ServeFault, Unwritten};
+pub use frozen::frozen_reply;
 pub use reading::{content, read_line};
 pub use request::{Audit, FrontRequest, FrozenRequest, OperatorRequest, Request};
 pub use sending::{send, tell, write_whole};

@@ -27,7 +27,7 @@ use Rattle.ct_live.specs.declared.giving.End.{End}
 use Rattle.ct_live.specs.declared.live.Ends.{Ends}
 use Rattle.ct_live.specs.declared.workers.DeskWorker.{DeskWorker}
 use Rattle.ct_live.proofs.Joined.{FrontStep}
-use Rattle.ct_live.proofs.Tied.{lines_left, none_given, tasks_of}
+use Rattle.ct_live.proofs.Tied.{none_given, tasks_of}
 
 abbrev pub Empty : {A : Type 0} → List A → Type 0
 Empty xs = xs ≡ []
@@ -133,9 +133,9 @@ replies_live n close_at next input e workers o old new i tasks answers own_answe
         subst (λ (k : ℕ). GivesUpTo k next r.next_then input r.input_then r.ended.end e.inlets r.inlets_then) i.tasks.count
         (ok_is r.read r.ended.end (λ (x : End). GivesUpTo (length e.inlets.fronts.items) next r.next_then input r.input_then x e.inlets r.inlets_then)
         r.ended.ended_so r.given.given) in
-        let left = lines_left r.next_then r.input_then in
         let tie = tasks_of n close_at next r.next_then input r.input_then r.ended.end e.inlets r.inlets_then (all_received (worker_tasks r.workers_then))
-        (received r.operator_then.tasks) r.ended.closing.now left.0 (none_given n e i) out r.ended.closing.moment r.ended.taken r.ended.ordered left.1 in
+        (received r.operator_then.tasks) r.ended.closing.now r.ended.closing.left.log r.ended.closing.text (none_given n e i) out r.ended.closing.moment r.ended.taken
+        r.ended.ordered r.ended.closing.last in
         record {
           front_tasks = all_received (worker_tasks r.workers_then);
           front_texts = texts_each (all_sent (worker_answers r.workers_then));
@@ -158,7 +158,8 @@ replies_live n close_at next input e workers o old new i tasks answers own_answe
           order = w.order;
           merge = subst (λ (l : List (List (List ℕ))). IsMergeOf l w.order) lists w.merge;
           text = r.ended.closing.text;
-          written = Appends-trans old r.ended.mid new _ r.ended.closing.text w.appends r.ended.closing.last;
+          last = tie.last;
+          written = Appends-trans old r.ended.mid new _ r.ended.closing.text w.appends r.ended.closing.written;
         }
 
 -- the same, of this house and these fronts

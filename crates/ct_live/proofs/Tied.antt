@@ -2,15 +2,15 @@
 use Rattle.std.proofs.Common.{◌≡◌, ◌∙◌, ℕ, List, [], ◌∷◌, ◌++◌, map, refl, sym, ap, subst, arith, append_assoc, Option, Some, None}
 use Rattle.std.proofs.lemmas.Option.{get_or_from_slice_get, slice_get_within}
 use Rattle.rtrb.specs.Ring.{sent}
-use Rattle.ct_parties.specs.Lines.{lines_of}
+use Rattle.ct_core.specs.Settlement.{Log}
 use Rattle.ct_parties.specs.declared.task.FrontTask.{FrontTask}
 use Rattle.ct_pipes.specs.Rings.{all_sent}
 use Rattle.ct_pipes.specs.declared.answering.Numbered.{Numbered}
 use Rattle.ct_live.specs.LiveGiven.{GivesUpTo, HaveGiven}
 use Rattle.ct_live.specs.LiveLines.{AsksLive}
 use Rattle.ct_live.specs.LiveOpening.{AreOpened}
-use Rattle.ct_live.specs.LiveReplied.{IsMomentOf}
-use Rattle.ct_live.specs.LiveServed.{AreGiven, AreLinesOf, AreTasksOf, desk_task_asked, numbered_from}
+use Rattle.ct_live.specs.LiveReplied.{IsEndText, IsMomentOf}
+use Rattle.ct_live.specs.LiveServed.{AreGiven, AreLinesOf, AreTasksOf, desk_task_asked, IsClosingText}
 use Rattle.ct_live.specs.LiveTasks.{LiveStep, closes}
 use Rattle.ct_live.specs.declared.asking.DeskTask.{DeskTask}
 use Rattle.ct_live.specs.declared.giving.End.{End}
@@ -33,24 +33,20 @@ none_given n e i = record {
   ordered = ap (map desk_task_asked) (i.orders.unsent 0 [] (omega arith));
 }
 
--- the lines that are left
-pub lines_left : (n : ℕ) (left : Option (List ℕ)) → (lines : List (ℕ × List ℕ)) × AreLinesOf n left lines
-lines_left n None = ([], tt)
-lines_left n (Some xs) = (numbered_from n (lines_of xs), refl)
-
--- these tasks are those of the input's lines
+-- these tasks are those of the input's lines, and the text is what the closed log replies to those that are left
 pub record AreTied (fronts close_at n : ℕ) (input : Option (List ℕ)) (front_tasks : List (List (Numbered FrontTask))) (desk_tasks : List (Numbered DeskTask))
-    (now : ℕ) : Type 0 where
+    (now : ℕ) (log : Log) (text : List ℕ) : Type 0 where
   pub lines : List (ℕ × List ℕ)
   pub of_input : AreLinesOf n input lines
   pub behind : Option (ℕ × List (ℕ × List ℕ))
   pub tied : AreTasksOf fronts close_at lines front_tasks desk_tasks now behind
+  pub last : IsClosingText log behind text
 
 pub tasks_of : (fronts close_at n m : ℕ) (input left : Option (List ℕ)) (end : End) (old new : Inlets) (front_tasks : List (List (Numbered FrontTask)))
-    (desk_tasks : List (Numbered DeskTask)) (now : ℕ) (rest : List (ℕ × List ℕ)) → HaveGiven [] old → GivesUpTo fronts n m input left end old new
-    → IsMomentOf close_at end now → front_tasks ≡ all_sent new.fronts.items → desk_tasks ≡ sent new.operator → AreLinesOf m left rest
-    → AreTied fronts close_at n input front_tasks desk_tasks now
-tasks_of fronts close_at n m input left end_case.Input old new front_tasks desk_tasks now rest none out moment fs ds behind =
+    (desk_tasks : List (Numbered DeskTask)) (now : ℕ) (log : Log) (text : List ℕ) → HaveGiven [] old → GivesUpTo fronts n m input left end old new
+    → IsMomentOf close_at end now → front_tasks ≡ all_sent new.fronts.items → desk_tasks ≡ sent new.operator
+    → IsEndText log end m left text → AreTied fronts close_at n input front_tasks desk_tasks now log text
+tasks_of fronts close_at n m input left end_case.Input old new front_tasks desk_tasks now log text none out moment fs ds ends =
     let (more, asks, h) = out.gives [] none in
     record {
       lines = out.lines;
@@ -64,10 +60,12 @@ tasks_of fronts close_at n m input left end_case.Input old new front_tasks desk_
         given = subst (λ (l : List (List (Numbered FrontTask))). AreGiven more l desk_tasks) (sym fs)
             (subst (λ (l : List (Numbered DeskTask)). AreGiven more (all_sent new.fronts.items) l) (sym ds) h);
       };
+      last = ends;
     }
-tasks_of fronts close_at n m input left (end_case.Close k at) old new front_tasks desk_tasks now rest none out moment fs ds behind =
+tasks_of fronts close_at n m input left (end_case.Close k at) old new front_tasks desk_tasks now log text none out moment fs ds ends =
     let (more, asks, h) = out.gives [] none in
     let (line, some, closing, read) = out.ended in
+    let (rest, behind, closing_text) = ends in
     record {
       lines = (out.lines ++ (k, line) ∷ []) ++ rest;
       of_input = read_all n m input left (out.lines ++ (k, line) ∷ []) rest read behind;
@@ -85,4 +83,5 @@ tasks_of fronts close_at n m input left (end_case.Close k at) old new front_task
         given = subst (λ (l : List (List (Numbered FrontTask))). AreGiven more l desk_tasks) (sym fs)
             (subst (λ (l : List (Numbered DeskTask)). AreGiven more (all_sent new.fronts.items) l) (sym ds) h);
       };
+      last = closing_text;
     }

@@ -2,21 +2,27 @@
 use Rattle.std.specs.Prelude.{◌≡◌, ℕ, List, [], ◌∷◌, ◌++◌, Option, Some, Result, Ok, Vec}
 use Rattle.std.specs.Global.{Global}
 use Rattle.std.specs.Io.KnownBytes.{Appends}
+use Rattle.std.specs.List.{concat}
 use Rattle.rtrb.specs.Ring.{sent, received}
 use Rattle.rtrb.specs.declared.AnyItems.{AnyItems}
 use Rattle.rtrb.specs.declared.consumer.Consumer.{Consumer}
+use Rattle.ct_core.specs.Replies.{a_published_head}
+use Rattle.ct_core.specs.Settlement.{Log}
 use Rattle.ct_house.specs.House.{FinalState, FrontView, HouseState, IsNewHouse}
 use Rattle.ct_parties.specs.ClosedLog.{Closes}
 use Rattle.ct_parties.specs.declared.task.FrontTask.{FrontTask}
 use Rattle.ct_pipes.specs.Answered.{AreAnswered}
 use Rattle.ct_pipes.specs.Parts.{IsMergeOf}
 use Rattle.ct_pipes.specs.Rings.{all_received, all_sent}
+use Rattle.ct_pipes.specs.Tagged.{tagged}
 use Rattle.ct_pipes.specs.Written.{WritesOn, in_order}
 use Rattle.ct_pipes.specs.declared.answering.Numbered.{Numbered}
+use Rattle.ct_tree.specs.declared.head.Head.{Head}
 use Rattle.ct_live.specs.LiveGiven.{ReadsOn}
 use Rattle.ct_live.specs.LiveParties.{DeskReplies, FrontReplies}
 use Rattle.ct_live.specs.LiveRuns.{FrontWorker, worker_fronts, worker_tasks, worker_answers, AllReply, DeskWorks}
-use Rattle.ct_live.specs.LiveServed.{AreLinesOf, AreTasksOf}
+use Rattle.ct_live.specs.LiveReplies.{object_text}
+use Rattle.ct_live.specs.LiveServed.{AreLinesOf, AreTasksOf, closed_replies, IsClosingText, IsLastHead}
 use Rattle.ct_live.specs.declared.asking.DeskTask.{DeskTask}
 use Rattle.ct_live.specs.declared.giving.End.{End}
 use Rattle.ct_live.specs.declared.giving.End.TheVariants.{Close, Input}
@@ -28,23 +34,33 @@ use Rattle.ct_live.specs.declared.workers.DeskWorker.{DeskWorker}
 abbrev pub Rings : Type 0
 Rings = List (Consumer (Vec ℕ Global) Global AnyItems)
 
--- some text was written
-abbrev pub WritesText : Option (List ℕ) → Option (List ℕ) → Type 0
-WritesText old new = (text : List ℕ) × Appends old new text
+-- the closed log's last head was written, in reply to the line with this number
+abbrev pub WritesLastHead : Log → ℕ → Option (List ℕ) → Option (List ℕ) → Type 0
+WritesLastHead log k old new = (h : Head) × IsLastHead log h × Appends old new (tagged k (object_text (a_published_head h)))
+
+-- the closed log's replies to the lines that were left of an input were written, of which the first has the number n
+abbrev pub WritesBehind : Log → ℕ → Option (List ℕ) → Option (List ℕ) → Option (List ℕ) → Type 0
+WritesBehind log n input old new = (behind : List (ℕ × List ℕ)) × AreLinesOf n input behind × Appends old new (concat (closed_replies log behind))
+
+-- what the closed log writes: nothing where the input ended; or its last head, and its replies to the lines that were left
+abbrev pub IsEndText : Log → End → ℕ → Option (List ℕ) → List ℕ → Type 0
+IsEndText log Input n input text = text ≡ []
+IsEndText log (Close k at) n input text = (behind : List (ℕ × List ℕ)) × AreLinesOf n input behind × IsClosingText log (Some (k, behind)) text
 
 -- the log is closed at close_at where the input ended, and else at the moment of the line that closes it
 abbrev pub IsMomentOf : ℕ → End → ℕ → Type 0
 IsMomentOf close_at Input now = now ≡ close_at
 IsMomentOf close_at (Close k at) now = now ≡ at
 
--- the log of this house was closed, at the moment that what ended the lines gives, and replied
-pub record EndsLog (house : HouseState) (fronts : List FrontView) (close_at : ℕ) (end : End) (old new : Option (List ℕ)) : Type 0 where
+-- the log of this house was closed, at the moment that what ended the lines gives, and replied to the lines that were left
+pub record EndsLog (house : HouseState) (fronts : List FrontView) (close_at : ℕ) (end : End) (n : ℕ) (input old new : Option (List ℕ)) : Type 0 where
   pub now : ℕ
   pub moment : IsMomentOf close_at end now
   pub left : FinalState
   pub closed : Closes house fronts now left
   pub text : List ℕ
-  pub last : Appends old new text
+  pub last : IsEndText left.log end n input text
+  pub written : Appends old new text
 
 -- Once all threads have ended: the reader wasn't kept from the lines, the parties had received all tasks that they were given, all
 -- their answers that are left are written, the log is closed, final for what the fronts had accepted, and what it replies is written
@@ -59,7 +75,7 @@ pub record EndsLive (inlets : Inlets) (workers : List FrontWorker) (operator : D
   pub written : WritesOn before rings old mid
   pub end : End
   pub ended_so : read ≡ Ok end
-  pub closing : EndsLog operator.desk.sequencer (worker_fronts workers) close_at end mid new
+  pub closing : EndsLog operator.desk.sequencer (worker_fronts workers) close_at end next input mid new
 
 -- What the threads and the end after them do: tasks were given for the lines of the input, the fronts and the operator did theirs,
 -- answers were written as they came, and then the log ended.
@@ -90,7 +106,8 @@ AllAnswer _ _ _ _ = ⊥
 -- The house's parties answered the tasks that the lines of the input ask for, each its own in turn, and no others; the log was
 -- closed, at the moment of the line that closes it or at close_at where the input ends, final for what the fronts had accepted, after
 -- what the operator had settled and published; and what was written is a merge of the parties' answers, each party's in their order,
--- each whole and with its line's number, and no others, and behind it what the closed log replied. The first line has the number n.
+-- each whole and with its line's number, and no others, and behind it what the closed log replies to the closing line and those behind it. The first line
+-- has the number n.
 pub record RepliesLive (count close_at n : ℕ) (input : Option (List ℕ)) (house : HouseState) (fronts : List FrontView)
     (old new : Option (List ℕ)) : Type 0 where
   pub front_tasks : List (List (Numbered FrontTask))
@@ -111,10 +128,11 @@ pub record RepliesLive (count close_at n : ℕ) (input : Option (List ℕ)) (hou
   pub order : List (ℕ × List ℕ)
   pub merge : IsMergeOf (front_texts ++ desk_texts ∷ []) order
   pub text : List ℕ
+  pub last : IsClosingText left.log behind text
   pub written : Appends old new (in_order order ++ text)
 
 -- the same of a new house with so many fronts and places, opened at this moment, whose lines are numbered from 0
-pub record IsRepliedLive (count places open_at close_at : ℕ) (input old new : Option (List ℕ)) : Type 0 where
+pub record IsServedLive (count places open_at close_at : ℕ) (input old new : Option (List ℕ)) : Type 0 where
   pub house : HouseState
   pub fronts : List FrontView
   pub opened : IsNewHouse house fronts count places open_at

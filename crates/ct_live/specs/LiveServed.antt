@@ -1,5 +1,5 @@
 -- What the lines of a live log's input ask of its parties, and what the closed log replies to those behind.
-use Rattle.std.specs.Prelude.{◌≡◌, ◌≢◌, ◌+◌, ℕ, List, [], ◌∷◌, ◌++◌, map, Option, Some, None, IfSome}
+use Rattle.std.specs.Prelude.{◌≡◌, ◌≢◌, ◌+◌, ◌-◌, ℕ, List, [], ◌∷◌, ◌++◌, length, map, slice_get, Option, Some, None, IfSome}
 use Rattle.std.specs.List.{concat, filter_map}
 use Rattle.ct_core.specs.Replies.{a_published_head}
 use Rattle.ct_core.specs.Settlement.{Log}
@@ -75,7 +75,7 @@ closed_replies log ((k, b ∷ bs) ∷ lines) = tagged k (object_text (line_answe
 
 -- its last head
 abbrev pub IsLastHead : Log → Head → Type 0
-IsLastHead log h = (earlier : List Head) × (log.heads ≡ earlier ++ h ∷ [])
+IsLastHead log h = slice_get log.heads (length log.heads - 1) ≡ Some h
 
 -- what is written once the log is closed: nothing, where the input ended; or the last head, in reply to the line that closes it, and
 -- the replies to the lines behind

@@ -1,13 +1,19 @@
 //! The log closed, and its replies to the lines that are left.
 
-ghost use Rattle.std.specs.Prelude.{OnOk};
-ghost use Rattle.ct_live.specs.LiveReplied.{WritesText};
+ghost use Rattle.std.specs.Prelude.{◌≡◌, ◌∷◌, [], IfOk, OnOk};
+ghost use Rattle.std.specs.Io.KnownBytes.{Appends};
+ghost use Rattle.std.specs.List.{concat};
+ghost use Rattle.ct_lines.specs.Frozen.{line_answer};
+ghost use Rattle.ct_live.specs.LiveReplied.{WritesBehind, WritesLastHead};
+ghost use Rattle.ct_live.specs.LiveReplies.{object_text};
+ghost use Rattle.ct_live.specs.LiveServed.{closed_replies};
 
 use crate::replying::reply_object;
 use ct_core::{Published, Reply};
-use ct_lines::{send, serve_frozen};
+use ct_lines::{frozen_reply, send};
 use ct_parties::Fault;
 use ct_pipes::{NumberedLines, tag};
+use ct_tree::Memory;
 use std::alloc::Global;
 use std::io::{BufRead, Write};
 
@@ -15,22 +21,23 @@ use std::io::{BufRead, Write};
 const LINES: u64 = 1 << 50;
 
 // The closed log's reply to a line, without the end of the line.
-fn closed_reply(alloc: Global, log: &Published, line: &[u8]) -> Result<Vec<u8>, Fault> {
-    let mut reply = Vec::new(alloc);
-    let mut reader = line;
-    serve_frozen(alloc, log, &mut reader, &mut reply)?;
+fn closed_reply(alloc: Global, log: &Published, line: &[u8]) -> Result<Vec<u8>, Memory>
+    ensures { IfOk result (λ t. t.items ≡ object_text (line_answer log.now line.now)) }
+{
+    let mut reply = frozen_reply(alloc, log, line)?;
     reply.pop();
     Ok(reply)
 }
 
 /// Writes the reply to the line that closed the log: its last head, as for `publish`.
+#[tactic(auto, using(crate::proofs::Texts::last_head_written))]
 pub fn send_last_head<W: Write>(
     alloc: Global,
     log: &Published,
     number: u64,
     output: &mut W,
 ) -> Result<(), Fault>
-    ensures { OnOk result (WritesText (W.contents output.old) (W.contents output.new)) }
+    ensures { OnOk result (WritesLastHead log.now number (W.contents output.old) (W.contents output.new)) }
 {
     let reply = reply_object(alloc, &Ok(Reply::Published(log.last_head())))?;
     let text = tag(alloc, number, &reply)?;
@@ -39,7 +46,7 @@ pub fn send_last_head<W: Write>(
 }
 
 // Writes the closed log's reply to a line. An empty line has none.
-#[tactic(auto, using(crate::proofs::Texts::text_none))]
+#[tactic(auto, using(crate::proofs::Texts::no_reply, crate::proofs::Texts::one_reply))]
 fn send_reply<W: Write>(
     alloc: Global,
     log: &Published,
@@ -47,7 +54,7 @@ fn send_reply<W: Write>(
     line: &[u8],
     output: &mut W,
 ) -> Result<(), Fault>
-    ensures { OnOk result (WritesText (W.contents output.old) (W.contents output.new)) }
+    ensures { OnOk result (Appends (W.contents output.old) (W.contents output.new) (concat (closed_replies log.now ((number, line.now) ∷ [])))) }
 {
     if line.is_empty() {
         return Ok(());
@@ -65,7 +72,7 @@ pub fn serve_closed<B: BufRead + Drop, W: Write>(
     lines: &mut NumberedLines<B>,
     output: &mut W,
 ) -> Result<(), Fault>
-    ensures { OnOk result (WritesText (W.contents output.old) (W.contents output.new)) }
+    ensures { OnOk result (WritesBehind log.now lines.old.next (B.remaining lines.old.input) (W.contents output.old) (W.contents output.new)) }
 {
     let mut line = Vec::new(alloc);
     for turn in 0..LINES {

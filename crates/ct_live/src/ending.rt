@@ -117,7 +117,8 @@ fn close_and_serve<H: Threads + Wait + Sync, B: BufRead + Drop, W: Write>(
     output: &mut W,
 ) -> Result<(), Fault>
     requires { AreFrontsOf sequencer fronts.items }
-    ensures { OnOk result (EndsLog sequencer fronts.items close_at end (W.contents output.old) (W.contents output.new)) }
+    ensures { OnOk result (EndsLog sequencer fronts.items close_at end lines.old.next (B.remaining lines.old.input)
+        (W.contents output.old) (W.contents output.new)) }
 {
     match end {
         End::Close { line, now } => {

@@ -5,7 +5,7 @@ ghost use Rattle.rtrb.specs.Ring.{sent, received, IsPair};
 ghost use Rattle.ct_parties.specs.Parties.{AreFrontsOf};
 ghost use Rattle.ct_live.specs.LiveRuns.{worker_answers, worker_fronts, worker_tasks};
 ghost use Rattle.ct_live.specs.LiveOpening.{AreOpened};
-ghost use Rattle.ct_live.specs.LiveReplied.{IsRepliedLive, RepliesLive};
+ghost use Rattle.ct_live.specs.LiveReplied.{IsServedLive, RepliesLive};
 
 use crate::asking::DeskTask;
 use crate::desk::Desk;
@@ -217,7 +217,7 @@ fn serve_lines<H: Threads + Wait + Sync, B: BufRead + Drop + Send, W: Write + Dr
     input: B,
     output: W,
 ) -> Served<W>
-    ensures { OnOk result.result (IsRepliedLive options.fronts options.ring options.open_at options.close_at (B.remaining input)
+    ensures { OnOk result.result (IsServedLive options.fronts options.ring options.open_at options.close_at (B.remaining input)
         (W.contents output) (W.contents result.output)) }
 {
     let (ends, places) = match prepare(alloc, options.fronts) {
@@ -257,7 +257,7 @@ pub fn serve_live<H: Threads + Wait + Sync, I: Read + Drop + Send, W: Write + Dr
     input: I,
     output: W,
 ) -> Served<W>
-    ensures { OnOk result.result (IsRepliedLive options.fronts options.ring options.open_at options.close_at (I.remaining input)
+    ensures { OnOk result.result (IsServedLive options.fronts options.ring options.open_at options.close_at (I.remaining input)
         (W.contents output) (W.contents result.output)) }
 {
     match BufReader::with_capacity(alloc, CAPACITY, input) {

@@ -16,6 +16,7 @@ returns-in-Ok-end g c =
       written = c.in-Ok.ensures.written;
       end = c.in-Ok-end.end;
       ended_so = c.in-Ok-end.is;
-      closing = subst (λ (l : List FrontView). EndsLog c.args.operator.desk.sequencer l c.args.close_at c.in-Ok-end.end mid
+      closing = subst (λ (l : List FrontView). EndsLog c.args.operator.desk.sequencer l c.args.close_at c.in-Ok-end.end c.args.left.giver.lines.next
+          (g.B.Read.remaining c.args.left.giver.lines.input) mid
           (g.W.Write.contents c.close_and_serve.new.output)) c.in-Ok.ensures.fronts closing;
     }) c.close_and_serve.ensures
