@@ -1,4 +1,1 @@
-pub mod CommandLemmas
-pub mod OptionLemmas
-pub mod FaultKinds
 pub mod RunLemmas

@@ -6,44 +6,30 @@
 //! those of the frozen log. A line that ends a shift has all lines before it done, and all fronts go on, before the lines
 //! behind it are begun.
 //!
-//! - `command` reads the command line.
-//! - `report` has the lines of faults: what ends the program before all is written.
-//! - `program` has `run`, which does all this over any reader and any two writers, by `serve` of `ct_parties`.
+//! - `program` has `run`, which does all this over any reader and any two writers, by `serve` of `ct_parties`; `ct_options`
+//!   reads the command line, and has the lines of faults: what ends the program before all is written.
 #![tactic(auto)]
 
-ghost use Rattle.std.specs.Prelude.{◌≡◌, ◌⊎◌, ◌≤◌, IfOk, map, string_bytes};
+ghost use Rattle.std.specs.Prelude.{◌≡◌, ◌⊎◌, ◌≤◌};
 ghost use Rattle.ct_parties.specs.declared.fault.Fault.{Fault as FaultOf};
-ghost use Rattle.ctlog.specs.CommandLine.{asked_of, help, version, nothing};
-ghost use Rattle.ctlog.specs.FaultLines.{fault_line};
+ghost use Rattle.ct_options.specs.CommandLine.{asked_of, help, version, nothing};
+ghost use Rattle.ct_options.specs.FaultLines.{fault_line, name_of};
 ghost use Rattle.ctlog.specs.Runs.{IsDone, IsBrokenOff};
 ghost use Rattle.ct_lines.specs.Sends.{SendsSome};
 
-mod command;
 mod program;
-mod report;
 #[cfg(test)]
 mod tests;
 
+use ct_options::{Program, report, texts};
 use ct_parties::Fault;
 use program::{TURNS, refuse_words, run};
-use report::report;
-use std::alloc::{AllocError, Global};
+use std::alloc::Global;
 use std::io;
 use std::io::{Read, Write};
 use std::process::ExitCode;
 use std::sync::Wait;
 use std::thread::Threads;
-
-// The texts of the words, for as long as the words stand.
-fn texts<'a>(alloc: Global, words: &'a [String]) -> Result<Vec<&'a str>, AllocError>
-    ensures { IfOk result (λ v. map (λ w. w.now) v.items ≡ map string_bytes words.now) }
-{
-    let mut texts = Vec::new(alloc);
-    for word in words {
-        texts.push(word.as_str())?;
-    }
-    Ok(texts)
-}
 
 // The words of the command line. Std's contracts don't say which these are.
 fn collected(rt: &HostRuntime) -> io::Result<Vec<String>> {
@@ -61,17 +47,18 @@ fn run_words<H: Threads + Wait + Sync, R: Read, W: Write, E: Write>(
     faults: &mut E,
 ) -> u8
     ensures status { result ≤ 2 }
-    ensures done { result ≡ 0 → IsDone (asked_of words.now) (R.remaining input.old) (W.contents output.old) (W.contents output.new) }
+    ensures done { result ≡ 0 → IsDone (asked_of (name_of Program.Ctlog) words.now) (R.remaining input.old) (W.contents output.old) (W.contents output.new) }
     ensures fault { result ≡ 1 → (f : FaultOf)
-        × IsBrokenOff (asked_of words.now) f (R.remaining input.old) (W.contents output.old) (W.contents output.new)
-        × SendsSome (E.contents faults.old) (E.contents faults.new) (fault_line f) }
-    ensures refused { result ≡ 2 → (asked_of words.now ≡ nothing) × (output.new ≡ output.old) }
-    ensures unread { (asked_of words.now ≡ help) ⊎ ((asked_of words.now ≡ version) ⊎ (asked_of words.now ≡ nothing)) → input.new ≡ input.old }
+        × IsBrokenOff (asked_of (name_of Program.Ctlog) words.now) f (R.remaining input.old) (W.contents output.old) (W.contents output.new)
+        × SendsSome (E.contents faults.old) (E.contents faults.new) (fault_line (name_of Program.Ctlog) f) }
+    ensures refused { result ≡ 2 → (asked_of (name_of Program.Ctlog) words.now ≡ nothing) × (output.new ≡ output.old) }
+    ensures unread { (asked_of (name_of Program.Ctlog) words.now ≡ help) ⊎ ((asked_of (name_of Program.Ctlog) words.now ≡ version)
+        ⊎ (asked_of (name_of Program.Ctlog) words.now ≡ nothing)) → input.new ≡ input.old }
     ensures quiet { result ≡ 0 → faults.new ≡ faults.old }
 {
     match texts(alloc, words) {
         Ok(texts) => run(rt, alloc, &texts, TURNS, input, output, faults),
-        Err(error) => report(Fault::from(error), faults),
+        Err(error) => report(Program::Ctlog, Fault::from(error), faults),
     }
 }
 

@@ -1,78 +1,22 @@
 //! The program over any reader and any two writers.
 
-ghost use Rattle.std.specs.Prelude.{◌≡◌, ◌≢◌, ◌⊎◌, ◌≤◌, ℕ, List, [], OnErr, IfErr};
+ghost use Rattle.std.specs.Prelude.{◌≡◌, ◌⊎◌, ◌≤◌, []};
 ghost use Rattle.std.specs.Io.KnownBytes.{Appends};
 ghost use Rattle.std.specs.IoError.{error_kind};
 ghost use Rattle.std.specs.declared.io.ErrorKind.TheVariants.{OutOfMemory as NoMemory};
-ghost use Rattle.clap.specs.Words.{kind_of};
-ghost use Rattle.clap.specs.declared.error.kind.ErrorKind.TheVariants.{OutOfMemory};
 ghost use Rattle.ct_lines.specs.Sends.{SendsSome};
 ghost use Rattle.ct_parties.specs.declared.fault.Fault.{Fault as FaultOf};
-ghost use Rattle.ctlog.specs.CommandLine.{asked_for, help, version, nothing, IsNotice, IsUnanswered};
-ghost use Rattle.ctlog.specs.FaultLines.{fault_line};
+ghost use Rattle.ct_options.specs.CommandLine.{asked_for, help, version, nothing};
+ghost use Rattle.ct_options.specs.FaultLines.{fault_line, name_of};
 ghost use Rattle.ctlog.specs.Runs.{IsDone, IsBrokenOff};
 
-use crate::command::{NoOptions, read_options, unreadable_word};
-use crate::report::report;
-use clap::Error;
-use ct_lines::{send, tell};
+use ct_options::{Program, answer_command_line, read_options, report};
 use ct_parties::{Fault, serve};
 use std::alloc::Global;
 use std::io;
 use std::io::{Read, Write};
 use std::sync::Wait;
 use std::thread::Threads;
-
-// Writes help or the version on the output.
-fn send_notice<W: Write>(alloc: Global, error: &Error, output: &mut W) -> Result<(), Fault>
-    ensures text { (text : List ℕ) × Appends (W.contents output.old) (W.contents output.new) text }
-    ensures faults { IfErr result (λ f. (f ≡ Fault.Write) ⊎ (f ≡ Fault.Memory)) }
-{
-    let text = format!(in alloc; "{error}")?;
-    send(output, text.as_bytes())?;
-    Ok(())
-}
-
-// Where the requests come from, for whoever gave them as words.
-const SOURCE: &str = "Requests come on standard input, a line of JSON each.\n";
-
-// Writes among the faults, as far as it can be written, why the words are refused.
-fn tell_refusal<E: Write>(alloc: Global, error: &Error, faults: &mut E) -> Result<(), Fault>
-    ensures memory { IfErr result (λ f. f ≡ Fault.Memory) }
-    ensures same { OnErr result (faults.new ≡ faults.old) }
-{
-    let text = format!(in alloc; "{error}\n{SOURCE}")?;
-    tell(faults, text.as_bytes());
-    Ok(())
-}
-
-// Answers a command line that gives no numbers: help or the version on the output, or a refusal among the faults.
-fn answer_command_line<W: Write, E: Write>(
-    alloc: Global,
-    error: &Error,
-    output: &mut W,
-    faults: &mut E,
-) -> u8
-    ensures status { result ≤ 2 }
-    ensures noticed { result ≡ 0 → IsNotice (kind_of error.now)
-        × ((text : List ℕ) × Appends (W.contents output.old) (W.contents output.new) text) }
-    ensures fault { result ≡ 1 → (f : FaultOf) × IsUnanswered (kind_of error.now) f (W.contents output.old) (W.contents output.new)
-        × SendsSome (E.contents faults.old) (E.contents faults.new) (fault_line f) }
-    ensures refused { result ≡ 2 → (IsNotice (kind_of error.now) → ⊥) × (kind_of error.now ≢ OutOfMemory) × (output.new ≡ output.old) }
-    ensures quiet { result ≡ 0 → faults.new ≡ faults.old }
-{
-    match NoOptions::from(error.kind()) {
-        NoOptions::Fault(fault) => report(fault, faults),
-        NoOptions::Notice => match send_notice(alloc, error, output) {
-            Ok(()) => 0,
-            Err(fault) => report(fault, faults),
-        },
-        NoOptions::Refusal => match tell_refusal(alloc, error, faults) {
-            Ok(()) => 2,
-            Err(fault) => report(fault, faults),
-        },
-    }
-}
 
 /// Answers a command line whose words couldn't be read, which is never the status 0.
 ///
@@ -88,13 +32,10 @@ pub fn refuse_words<W: Write, E: Write>(
     ensures status { (result ≡ 1) ⊎ (result ≡ 2) }
     ensures memory { error_kind error.now ≡ NoMemory → result ≡ 1 }
     ensures fault { result ≡ 1 → Appends (W.contents output.old) (W.contents output.new) []
-        × SendsSome (E.contents faults.old) (E.contents faults.new) (fault_line Fault.Memory) }
+        × SendsSome (E.contents faults.old) (E.contents faults.new) (fault_line (name_of Program.Ctlog) Fault.Memory) }
     ensures refused { result ≡ 2 → output.new ≡ output.old }
 {
-    match Fault::from(error.kind()) {
-        Fault::Read => answer_command_line(alloc, &unreadable_word(alloc), output, faults),
-        fault => report(fault, faults),
-    }
+    ct_options::refuse_words(alloc, Program::Ctlog, error, output, faults)
 }
 
 /// How many turns a line may wait in the process.
@@ -122,19 +63,20 @@ pub fn run<'a, H: Threads + Wait + Sync, R: Read, W: Write, E: Write>(
     faults: &mut E,
 ) -> u8
     ensures status { result ≤ 2 }
-    ensures done { result ≡ 0 → IsDone (asked_for words.now) (R.remaining input.old) (W.contents output.old) (W.contents output.new) }
+    ensures done { result ≡ 0 → IsDone (asked_for (name_of Program.Ctlog) words.now) (R.remaining input.old) (W.contents output.old) (W.contents output.new) }
     ensures fault { result ≡ 1 → (f : FaultOf)
-        × IsBrokenOff (asked_for words.now) f (R.remaining input.old) (W.contents output.old) (W.contents output.new)
-        × SendsSome (E.contents faults.old) (E.contents faults.new) (fault_line f) }
-    ensures refused { result ≡ 2 → (asked_for words.now ≡ nothing) × (output.new ≡ output.old) }
-    ensures unread { (asked_for words.now ≡ help) ⊎ ((asked_for words.now ≡ version) ⊎ (asked_for words.now ≡ nothing)) → input.new ≡ input.old }
+        × IsBrokenOff (asked_for (name_of Program.Ctlog) words.now) f (R.remaining input.old) (W.contents output.old) (W.contents output.new)
+        × SendsSome (E.contents faults.old) (E.contents faults.new) (fault_line (name_of Program.Ctlog) f) }
+    ensures refused { result ≡ 2 → (asked_for (name_of Program.Ctlog) words.now ≡ nothing) × (output.new ≡ output.old) }
+    ensures unread { (asked_for (name_of Program.Ctlog) words.now ≡ help) ⊎ ((asked_for (name_of Program.Ctlog) words.now ≡ version)
+        ⊎ (asked_for (name_of Program.Ctlog) words.now ≡ nothing)) → input.new ≡ input.old }
     ensures quiet { result ≡ 0 → faults.new ≡ faults.old }
 {
-    match read_options(alloc, words) {
+    match read_options(alloc, Program::Ctlog, words) {
         Ok(options) => match serve(rt, alloc, options, turns, input, output) {
             Ok(()) => 0,
-            Err(fault) => report(fault, faults),
+            Err(fault) => report(Program::Ctlog, fault, faults),
         },
-        Err(error) => answer_command_line(alloc, &error, output, faults),
+        Err(error) => answer_command_line(alloc, Program::Ctlog, &error, output, faults),
     }
 }

@@ -1,0 +1,4 @@
+pub mod CommandLemmas
+pub mod OptionLemmas
+pub mod FaultKinds
+pub mod RunLemmas

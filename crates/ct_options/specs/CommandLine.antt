@@ -1,0 +1,100 @@
+-- The command line of a program that runs a log: what its words ask for.
+use Rattle.std.specs.Prelude.{◌≡◌, ◌≢◌, ◌⊎◌, ℕ, Bool, true, false, List, [], ◌∷◌, map, Option, Some, option_map, unwrap_or, pos, codes, String, string_bytes}
+use Rattle.std.specs.Borrow.{Bor}
+use Rattle.std.specs.Global.{Global}
+use Rattle.std.specs.Str.Parse.{digits_value, without_leading_plus}
+use Rattle.std.specs.Io.KnownBytes.{Appends}
+use Rattle.clap.specs.Words.{App, Kinds, Rule, Text, fault_of, matches_of, new_app, new_rule, one_of, with_rule}
+use Rattle.clap.specs.declared.builder.action.ArgAction.TheVariants.{Set}
+use Rattle.clap.specs.declared.builder.value_parser.ValueParser.{ValueParser}
+use Rattle.clap.specs.declared.builder.value_parser.ValueParser.TheVariants.{Signed, Unsigned}
+use Rattle.clap.specs.declared.error.kind.ErrorKind.{ErrorKind}
+use Rattle.clap.specs.declared.error.kind.ErrorKind.TheVariants.{DisplayHelp, DisplayVersion, OutOfMemory}
+use Rattle.ct_parties.specs.declared.fault.Fault.{Fault}
+use Rattle.ct_parties.specs.declared.fault.Fault.TheVariants.{Memory, Write}
+
+-- the option `--name VALUE`, whose value is a number that this parser takes
+abbrev pub number_rule : Text → ValueParser → Bool → Rule
+number_rule name parser required =
+    record (new_rule name) { long = Some name; action = Some Set; value_names = 1; parser = Some parser; required = required }
+
+-- the latest moment that the command line takes, 2^53 - 1, in milliseconds
+abbrev pub latest_moment : ℕ
+latest_moment = 9007199254740991
+
+-- `PROGRAM --fronts N --ring K [--open-at T] [--close-at T]`
+abbrev pub fronts_rule : Rule
+fronts_rule = number_rule (codes "fronts") (Signed (pos 1) (pos 16)) true
+
+abbrev pub ring_rule : Rule
+ring_rule = number_rule (codes "ring") (Unsigned 1 4096) true
+
+abbrev pub open_at_rule : Rule
+open_at_rule = number_rule (codes "open-at") (Unsigned 0 latest_moment) false
+
+abbrev pub close_at_rule : Rule
+close_at_rule = number_rule (codes "close-at") (Unsigned 0 latest_moment) false
+
+abbrev pub options_named : Text → App
+options_named program = with_rule (with_rule (with_rule (with_rule (new_app program) fronts_rule) ring_rule) open_at_rule) close_at_rule
+
+-- the command with a version, which `--version` and `-V` ask for
+abbrev pub versioned : App → App
+versioned a = record a { top = record a.top { has_version = true } }
+
+-- the command of the program with this name
+abbrev pub app_named : Text → App
+app_named program = versioned (options_named program)
+
+-- the number that the words give to an option of this program, by the option's name
+abbrev pub number_given : Text → List Text → Text → Option ℕ
+number_given program words name =
+    option_map (λ (t : Text). digits_value 10 (without_leading_plus t)) (one_of name (matches_of (app_named program) words))
+
+-- What a command line asks for: a log with so many fronts, each with so many places in its ring, opened and closed at these
+-- moments, in milliseconds; help; the version; or nothing that there is.
+pub data CommandLine : Type 0 where
+  log_with : ℕ → ℕ → ℕ → ℕ → CommandLine
+  help : CommandLine
+  version : CommandLine
+  nothing : CommandLine
+
+-- what is asked for where clap finds a fault of this kind
+abbrev pub by_kind : ErrorKind → CommandLine
+by_kind DisplayHelp = help
+by_kind DisplayVersion = version
+by_kind _ = nothing
+
+-- what is asked for, by the first fault that clap finds
+abbrev pub by_fault : Kinds → CommandLine → CommandLine
+by_fault [] ok = ok
+by_fault (k ∷ ks) ok = by_kind k
+
+-- what the words ask for of the program with this name; the first word is the name by which it was called
+abbrev pub command_line : Text → List Text → CommandLine
+command_line program words = by_fault (fault_of (app_named program) words) (log_with (unwrap_or (number_given program words (codes "fronts")) 0)
+    (unwrap_or (number_given program words (codes "ring")) 0)
+    (unwrap_or (number_given program words (codes "open-at")) 0)
+    (unwrap_or (number_given program words (codes "close-at")) latest_moment))
+
+-- what these words ask for, as the program has them
+abbrev pub asked_for : Text → List (Bor Text) → CommandLine
+asked_for program words = command_line program (map (λ (w : Bor Text). w.now) words)
+
+-- the same, of words that the program owns
+abbrev pub asked_of : Text → List (String Global) → CommandLine
+asked_of program words = command_line program (map string_bytes words)
+
+-- what an error of clap's of this kind says of a command line: memory was refused; or what is asked for
+abbrev pub IsRefusalOf : CommandLine → ErrorKind → Type 0
+IsRefusalOf a k = (k ≡ OutOfMemory) ⊎ (a ≡ by_kind k)
+
+-- an error of clap's of this kind is a text that was asked for, help or the version
+abbrev pub IsNotice : ErrorKind → Type 0
+IsNotice k = (k ≡ DisplayHelp) ⊎ (k ≡ DisplayVersion)
+
+-- What was written where the words give no numbers and this fault came, by the kind of clap's error: a beginning of the text
+-- that was asked for; or nothing, where there was no memory.
+abbrev pub IsUnanswered : ErrorKind → Fault → Option (List ℕ) → Option (List ℕ) → Type 0
+IsUnanswered k f old new =
+    (IsNotice k × ((f ≡ Write) ⊎ (f ≡ Memory)) × ((text : List ℕ) × Appends old new text)) ⊎ ((f ≡ Memory) × Appends old new [])

@@ -1,0 +1,15 @@
+-- The names of the programs, and the lines of faults.
+use Rattle.std.specs.Prelude.{ℕ, List, [], ◌∷◌, ◌++◌, codes}
+use Rattle.ct_parties.specs.Faults.{fault_name}
+use Rattle.ct_parties.specs.declared.fault.Fault.{Fault}
+use Rattle.ct_options.specs.declared.program.Program.{Program}
+use Rattle.ct_options.specs.declared.program.Program.TheVariants.{Ctlog, Ctlogd}
+
+-- the name of a program
+abbrev pub name_of : Program → List ℕ
+name_of Ctlog = codes "ctlog"
+name_of Ctlogd = codes "ctlogd"
+
+-- the line that the program with this name writes of a fault
+abbrev pub fault_line : List ℕ → Fault → List ℕ
+fault_line program f = program ++ codes ": " ++ fault_name f ++ 10 ∷ []

@@ -1,0 +1,14 @@
+-- What a command line that gives no numbers is answered.
+use Rattle.std.specs.Prelude.{◌≡◌, ◌≢◌}
+use Rattle.clap.specs.declared.error.kind.ErrorKind.{ErrorKind}
+use Rattle.clap.specs.declared.error.kind.ErrorKind.TheVariants as kind
+use Rattle.ct_options.specs.CommandLine.{IsNotice}
+use Rattle.ct_options.specs.declared.command.NoOptions.{NoOptions}
+use Rattle.ct_options.specs.declared.command.NoOptions.TheVariants.{Fault, Notice, Refusal}
+use Rattle.ct_parties.specs.declared.fault.Fault.TheVariants.{Memory}
+
+-- it is answered so where clap's error is of this kind
+abbrev pub IsNoOptions : NoOptions → ErrorKind → Type 0
+IsNoOptions (Fault f) k = (k ≡ kind.OutOfMemory) × (f ≡ Memory)
+IsNoOptions Notice k = IsNotice k
+IsNoOptions Refusal k = (k ≢ kind.OutOfMemory) × (IsNotice k → ⊥)

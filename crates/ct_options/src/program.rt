@@ -1,0 +1,71 @@
+//! The programs, and what each says of itself.
+
+ghost use Rattle.std.specs.Prelude.{◌≡◌};
+ghost use Rattle.ct_options.specs.FaultLines.{fault_line, name_of};
+
+use ct_parties::Fault;
+
+/// A program that runs a log. All of them take the same options.
+#[derive(Clone, Copy, Debug, PartialEq, Eq)]
+pub enum Program {
+    /// `ctlog`, which reads its input whole before the log opens.
+    Ctlog,
+    /// `ctlogd`, which replies to each line as it comes.
+    Ctlogd,
+}
+
+impl Program {
+    /// The program's name.
+    pub fn name<'a>(self) -> &'a str
+        ensures { result.now ≡ name_of self }
+    {
+        match self {
+            Program::Ctlog => "ctlog",
+            Program::Ctlogd => "ctlogd",
+        }
+    }
+
+    /// What the program does, for help to say below the options.
+    pub fn about(self) -> &'static str {
+        match self {
+            Program::Ctlog => {
+                "Runs a Certificate Transparency log (RFC 6962). Requests come on standard input and replies go to standard output,
+a line of JSON each; docs/LINES.md has their form. The input is read whole before the log opens."
+            }
+            Program::Ctlogd => {
+                "Runs a Certificate Transparency log (RFC 6962) that replies to each line as it comes. Requests come on standard input
+and replies go to standard output, a line of JSON each; docs/LINES.md has their form."
+            }
+        }
+    }
+
+    /// What help says of the moment of closing.
+    pub fn closing(self) -> &'static str {
+        match self {
+            Program::Ctlog => {
+                "The moment at which the log is closed, in milliseconds, at most the default [default: 9007199254740991]"
+            }
+            Program::Ctlogd => {
+                "The moment at which the log is closed where the input ends before, in milliseconds, at most the default [default: 9007199254740991]"
+            }
+        }
+    }
+
+    /// What the program writes of a fault, with the end of the line.
+    pub fn line_of(self, fault: Fault) -> &'static str
+        ensures { result.now ≡ fault_line (name_of self) fault }
+    {
+        match (self, fault) {
+            (Program::Ctlog, Fault::Memory) => "ctlog: memory\n",
+            (Program::Ctlog, Fault::ClockBack) => "ctlog: clock-back\n",
+            (Program::Ctlog, Fault::Threads) => "ctlog: threads\n",
+            (Program::Ctlog, Fault::Read) => "ctlog: read\n",
+            (Program::Ctlog, Fault::Write) => "ctlog: write\n",
+            (Program::Ctlogd, Fault::Memory) => "ctlogd: memory\n",
+            (Program::Ctlogd, Fault::ClockBack) => "ctlogd: clock-back\n",
+            (Program::Ctlogd, Fault::Threads) => "ctlogd: threads\n",
+            (Program::Ctlogd, Fault::Read) => "ctlogd: read\n",
+            (Program::Ctlogd, Fault::Write) => "ctlogd: write\n",
+        }
+    }
+}

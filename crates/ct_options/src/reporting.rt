@@ -1,0 +1,19 @@
+//! The line of a fault.
+
+ghost use Rattle.std.specs.Prelude.{◌≡◌};
+ghost use Rattle.ct_lines.specs.Sends.{SendsSome};
+ghost use Rattle.ct_options.specs.FaultLines.{fault_line, name_of};
+
+use crate::program::Program;
+use ct_lines::tell;
+use ct_parties::Fault;
+use std::io::Write;
+
+/// Writes the fault's line, as far as it can be written, and answers the status 1.
+pub fn report<E: Write>(program: Program, fault: Fault, faults: &mut E) -> u8
+    ensures status { result ≡ 1 }
+    ensures line { SendsSome (E.contents faults.old) (E.contents faults.new) (fault_line (name_of program) fault) }
+{
+    tell(faults, program.line_of(fault).as_bytes());
+    1
+}

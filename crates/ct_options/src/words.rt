@@ -1,0 +1,20 @@
+//! The words of a command line.
+
+ghost use Rattle.std.specs.Prelude.{◌≡◌, IfOk, map, string_bytes};
+
+use std::alloc::{AllocError, Global};
+
+/// The texts of the words, for as long as the words stand.
+///
+/// # Errors
+///
+/// There was no memory.
+pub fn texts<'a>(alloc: Global, words: &'a [String]) -> Result<Vec<&'a str>, AllocError>
+    ensures { IfOk result (λ v. map (λ w. w.now) v.items ≡ map string_bytes words.now) }
+{
+    let mut texts = Vec::new(alloc);
+    for word in words {
+        texts.push(word.as_str())?;
+    }
+    Ok(texts)
+}

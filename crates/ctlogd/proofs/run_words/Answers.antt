@@ -1,0 +1,44 @@
+use Rattle.std.proofs.Common.{◌≡◌, ◌∙◌, ℕ, List, String, map, string_bytes, ap, subst}
+use Rattle.std.specs.Borrow.{Bor}
+use Rattle.std.specs.Global.{Global}
+use Rattle.std.proofs.KnownBytes.{Appends-nil}
+use Rattle.ct_options.specs.CommandLine.{CommandLine, asked_for, asked_of, command_line, nothing}
+use Rattle.ct_options.specs.FaultLines.{fault_line, name_of}
+use Rattle.ct_options.specs.declared.program.Program.TheVariants.{Ctlogd}
+use Rattle.ctlogd.specs.LiveRuns.{IsLiveDone, IsLiveBrokenOff}
+use Rattle.ct_lines.specs.Sends.{SendsSome}
+use Rattle.ct_parties.specs.declared.fault.Fault.{Fault}
+use Rattle.ctlogd.proofs.LiveRunLemmas.{none_written}
+use Rattle.ctlogd.proofs.run_words.Goals as goal
+
+-- the texts of the words ask for what the words do
+same_words : (texts shown : List (Bor (List ℕ))) (words : List (String Global)) → shown ≡ texts
+    → map (λ (w : Bor (List ℕ)). w.now) texts ≡ map string_bytes words
+    → asked_for (name_of Ctlogd) shown ≡ asked_of (name_of Ctlogd) words
+same_words texts shown words e f = ap (asked_for (name_of Ctlogd)) e ∙ ap (command_line (name_of Ctlogd)) f
+
+pub returns-in-Ok-clause-done : goal.returns-in-Ok-clause-done
+returns-in-Ok-clause-done g c =
+    subst (λ (a : CommandLine). c.run.result.status ≡ 0
+    → IsLiveDone a (g.I.Read.remaining c.args.input) (g.W.Write.contents c.args.output) (g.W.Write.contents c.run.result.output))
+    (same_words c.in-Ok.texts.items c.deref.result.now c.args.words.now c.deref.ensures.value c.in-Ok.ensures) c.run.ensures.done
+
+pub returns-in-Ok-clause-fault : goal.returns-in-Ok-clause-fault
+returns-in-Ok-clause-fault g c =
+    subst (λ (a : CommandLine). c.run.result.status ≡ 1 → (f : Fault)
+    × IsLiveBrokenOff a f (g.W.Write.contents c.args.output) (g.W.Write.contents c.run.result.output)
+    × SendsSome (g.E.Write.contents c.args.faults.now) (g.E.Write.contents c.run.new.faults) (fault_line (name_of Ctlogd) f))
+    (same_words c.in-Ok.texts.items c.deref.result.now c.args.words.now c.deref.ensures.value c.in-Ok.ensures) c.run.ensures.fault
+
+pub returns-in-Ok-clause-refused : goal.returns-in-Ok-clause-refused
+returns-in-Ok-clause-refused g c =
+    subst (λ (a : CommandLine). c.run.result.status ≡ 2 → (a ≡ nothing) × (c.run.result.output ≡ c.args.output))
+    (same_words c.in-Ok.texts.items c.deref.result.now c.args.words.now c.deref.ensures.value c.in-Ok.ensures) c.run.ensures.refused
+
+pub returns-in-Err-clause-fault : goal.returns-in-Err-clause-fault
+returns-in-Err-clause-fault g c = λ e. (
+  c.from.result,
+  none_written c.from.result (g.W.Write.contents c.args.output) (g.W.Write.contents c.args.output)
+      (c.from.ensures, Appends-nil (g.W.Write.contents c.args.output)) (asked_of (name_of Ctlogd) c.args.words.now),
+  c.report-status.ensures.line,
+)

@@ -1,0 +1,91 @@
+//! The program over any reader and any two writers.
+
+ghost use Rattle.std.specs.Prelude.{◌≡◌, ◌≤◌};
+ghost use Rattle.ct_lines.specs.Sends.{SendsSome};
+ghost use Rattle.ct_parties.specs.declared.fault.Fault.{Fault as FaultOf};
+ghost use Rattle.ct_live.specs.LiveReplied.{IsRepliedLive};
+ghost use Rattle.ct_options.specs.CommandLine.{asked_for, nothing};
+ghost use Rattle.ct_options.specs.FaultLines.{fault_line, name_of};
+ghost use Rattle.ctlogd.specs.LiveRuns.{IsLiveDone, IsLiveBrokenOff};
+
+use ct_live::{Served, serve_live};
+use ct_options::{Program, answer_command_line, read_options, report};
+use ct_parties::Options;
+use std::alloc::Global;
+use std::io::{Read, Write};
+use std::sync::Wait;
+use std::thread::Threads;
+
+/// How many turns a line may wait in the process.
+pub const TURNS: u64 = 50_000_000;
+
+/// A run that has ended: its exit status, and its output.
+#[derive(Drop)]
+pub struct Ended<W: Write + Drop> {
+    pub status: u8,
+    pub output: W,
+}
+
+// Runs a log with these numbers.
+fn serve<H: Threads + Wait + Sync, I: Read + Drop + Send, W: Write + Drop + Send, E: Write>(
+    rt: &H,
+    alloc: Global,
+    options: Options,
+    turns: u64,
+    input: I,
+    output: W,
+    faults: &mut E,
+) -> Ended<W>
+    ensures status { result.status ≤ 1 }
+    ensures done { result.status ≡ 0 → IsRepliedLive options.fronts options.ring options.open_at (W.contents output) (W.contents result.output) }
+    ensures fault { result.status ≡ 1 → (f : FaultOf) × SendsSome (E.contents faults.old) (E.contents faults.new) (fault_line (name_of Program.Ctlogd) f) }
+    ensures quiet { result.status ≡ 0 → faults.new ≡ faults.old }
+{
+    let Served { output, result } = serve_live(rt, alloc, options, turns, input, output);
+    match result {
+        Ok(()) => Ended { status: 0, output },
+        Err(fault) => {
+            let status = report(Program::Ctlogd, fault, faults);
+            Ended { status, output }
+        }
+    }
+}
+
+/// Runs the program over its command line, whose first word is its name, and answers its exit status, with the output. A
+/// line that waits for another party looks `turns` times.
+///
+/// - 0: the words ask for a log with these numbers, and what `serve_live` promises was written; or they ask for help or for
+///   the version, which was written. Nothing was written among the faults.
+/// - 1: a fault broke it off, and its line was written among the faults, as far as it could be. Where no log is asked for, a
+///   beginning of what is written at status 0 stands on the output.
+/// - 2: the words ask for nothing that there is. Nothing was written on the output.
+///
+/// Clap's contracts say nothing of texts, so that the texts of help and of the version, and what is written among the faults
+/// at status 2, are tested alone.
+pub fn run<'a, H: Threads + Wait + Sync, I: Read + Drop + Send, W: Write + Drop + Send, E: Write>(
+    rt: &H,
+    alloc: Global,
+    words: &'a [&'a str],
+    turns: u64,
+    input: I,
+    output: W,
+    faults: &mut E,
+) -> Ended<W>
+    ensures status { result.status ≤ 2 }
+    ensures done { result.status ≡ 0
+        → IsLiveDone (asked_for (name_of Program.Ctlogd) words.now) (I.remaining input) (W.contents output) (W.contents result.output) }
+    ensures fault { result.status ≡ 1 → (f : FaultOf)
+        × IsLiveBrokenOff (asked_for (name_of Program.Ctlogd) words.now) f (W.contents output) (W.contents result.output)
+        × SendsSome (E.contents faults.old) (E.contents faults.new) (fault_line (name_of Program.Ctlogd) f) }
+    ensures refused { result.status ≡ 2 → (asked_for (name_of Program.Ctlogd) words.now ≡ nothing) × (result.output ≡ output) }
+    ensures quiet { result.status ≡ 0 → faults.new ≡ faults.old }
+{
+    match read_options(alloc, Program::Ctlogd, words) {
+        Ok(options) => serve(rt, alloc, options, turns, input, output, faults),
+        Err(error) => {
+            let mut output = output;
+            let status = answer_command_line(alloc, Program::Ctlogd, &error, &mut output, faults);
+            Ended { status, output }
+        }
+    }
+}
