@@ -7,25 +7,56 @@ mod timing;
 mod work;
 
 use ct_core::Core;
-use std::env;
+use std::{env, io};
+
+// Settles a hundred items of the certificates from one number on, and prints how many were firsts.
+fn settle_hundred(rt: &HostRuntime, core: &mut Core, first: u64) -> anyhow::Result<()> {
+    let items = work::prepare_all(rt.alloc(), first, 100, 1)?;
+    let firsts = work::settle_all(rt.alloc(), core, items)?;
+    println!(rt; "firsts {firsts}")?;
+    Ok(())
+}
+
+// Prints 32 bytes.
+fn show_root(rt: &HostRuntime, root: &[u8; 32]) -> io::Result<()> {
+    print!(rt; "root ")?;
+    for byte in root {
+        print!(rt; "{byte:02x}")?;
+    }
+    println!(rt)
+}
+
+// Publishes, and prints the head.
+fn show_head(rt: &HostRuntime, core: &mut Core) -> anyhow::Result<()> {
+    let head = core.publish(rt.alloc(), 2)?;
+    println!(rt;
+        "records {}\nentries {}",
+        core.published().settlement().len(),
+        head.tree_size
+    )?;
+    show_root(rt, &head.root)?;
+    Ok(())
+}
+
+// A fixed amount of work on a core.
+fn show_on(rt: &HostRuntime, core: &mut Core) -> anyhow::Result<()> {
+    settle_hundred(rt, core, 0)?;
+    settle_hundred(rt, core, 60)?;
+    show_head(rt, core)
+}
 
 // A fixed amount of work.
 fn show(rt: &HostRuntime) -> anyhow::Result<()> {
-    let heap = rt.alloc();
-    let mut core = Core::open(heap, 0)?;
-    for first in [0, 60] {
-        let items = work::prepare_all(heap, first, 100, 1)?;
-        let firsts = work::settle_all(heap, &mut core, items)?;
-        println!(rt; "firsts {firsts}")?;
+    let mut core = Core::open(rt.alloc(), 0)?;
+    show_on(rt, &mut core)
+}
+
+// What one argument asks for.
+fn take(rt: &HostRuntime, argument: &str) -> anyhow::Result<()> {
+    if let Ok(size) = argument.parse::<u64>() {
+        return timing::core(rt, size);
     }
-    let head = core.publish(heap, 2)?;
-    println!(rt; "records {}", core.published().settlement().len())?;
-    println!(rt; "entries {}", head.tree_size)?;
-    print!(rt; "root ")?;
-    for byte in head.root {
-        print!(rt; "{byte:02x}")?;
-    }
-    println!(rt)?;
+    println!(rt; "no number of entries: {argument}")?;
     Ok(())
 }
 
@@ -33,13 +64,10 @@ fn main(rt: HostRuntime) -> anyhow::Result<()> {
     let mut is_timed = false;
     for argument in env::args(&rt)?.skip(1) {
         is_timed = true;
-        match argument.parse::<u64>() {
-            Ok(size) => timing::core(&rt, size)?,
-            Err(_) => println!(rt; "no number of entries: {argument}")?,
-        }
+        take(&rt, &argument)?;
     }
-    if !is_timed {
-        show(&rt)?;
+    if is_timed {
+        return Ok(());
     }
-    Ok(())
+    show(&rt)
 }
