@@ -5,16 +5,19 @@ use Rattle.std.specs.Prelude.{nat_le, option_and_then}
 use Rattle.std.specs.Str.{is_utf8}
 use Rattle.serde_json.specs.Read.{read}
 use Rattle.std.specs.Io.BufRead.{drop_through, first_piece}
+use Rattle.ct_core.specs.Replies.{Answer}
 use Rattle.ct_core.specs.Settlement.{Log}
 use Rattle.ct_lines.specs.Frozen.{answer_if, line_answer}
 use Rattle.ct_lines.proofs.Asking.{too_long}
 use Rattle.ct_parties.specs.Tasks.{for_operator, does, AsksFor}
 use Rattle.ct_parties.specs.declared.task.OperatorTask.TheVariants.{BadLine}
 use Rattle.ct_pipes.specs.Lines.{kept_line, IsNextLine}
+use Rattle.ct_pipes.specs.Tagged.{tagged}
 use Rattle.ct_pipes.proofs.Pieces.{whole_or_long}
 use Rattle.ct_live.specs.LiveLines.{AsksLive, live_asked_in, live_request_of, live_request_step, live_step_for}
 use Rattle.ct_live.specs.LiveGiven.{GivesLines}
-use Rattle.ct_live.specs.LiveServed.{AllAskLive}
+use Rattle.ct_live.specs.LiveReplies.{object_text}
+use Rattle.ct_live.specs.LiveServed.{AllAskLive, closed_replies}
 use Rattle.ct_live.specs.LiveTasks.{LiveStep}
 use Rattle.ct_live.specs.declared.giving.Inlets.{Inlets}
 
@@ -38,13 +41,6 @@ pub asks_kept : (fronts : ℕ) (xs : List ℕ) (s : LiveStep) → AsksLive front
 asks_kept fronts xs s asks = elim (whole_or_long xs) [
   | inl same ↦ subst (λ (l : List ℕ). AsksLive fronts l s) same asks
   | inr long ↦ asks_long fronts (kept_line xs) (first_piece 10 xs) s long.0 long.1 asks
-]
-
--- the closed log answers it alike
-pub answers_kept : (log : Log) (xs : List ℕ) → line_answer log (kept_line xs) ≡ line_answer log (first_piece 10 xs)
-answers_kept log xs = elim (whole_or_long xs) [
-  | inl same ↦ ap (line_answer log) same
-  | inr long ↦ ap (answer_if log) (too_long (kept_line xs) long.0 ∙ sym (too_long (first_piece 10 xs) long.1))
 ]
 
 asks_line : (fronts k : ℕ) (a b : List ℕ) (ss : List (ℕ × LiveStep)) → 1048576 < length a → 1048576 < length b → AllAskLive fronts ((k, a) ∷ []) ss
@@ -95,3 +91,23 @@ pub whole_asks : (fronts n m k : ℕ) (left later : Option (List ℕ)) (line : L
 whole_asks fronts n m k None later line s is asks = asks
 whole_asks fronts n m k (Some xs) later line s is asks =
     asks_kept fronts xs s (subst (λ (l : List ℕ). AsksLive fronts l s) (kept_piece n m k xs later line is) asks)
+
+-- the closed log replies to it alike
+replies_long : (log : Log) (k : ℕ) (a b : List ℕ) → 1048576 < length a → 1048576 < length b → closed_replies log ((k, a) ∷ []) ≡ closed_replies log ((k, b) ∷ [])
+replies_long log k [] b long_a long_b = absurd (omega (arith, long_a))
+replies_long log k (x ∷ a) [] long_a long_b = absurd (omega (arith, long_b))
+replies_long log k (x ∷ a) (y ∷ b) long_a long_b =
+    let same : line_answer log (x ∷ a) ≡ line_answer log (y ∷ b) = ap (answer_if log) (too_long (x ∷ a) long_a ∙ sym (too_long (y ∷ b) long_b)) in
+    ap (λ (r : Answer). tagged k (object_text r) ∷ []) same
+
+kept_replies : (log : Log) (k : ℕ) (xs : List ℕ) → closed_replies log ((k, kept_line xs) ∷ []) ≡ closed_replies log ((k, first_piece 10 xs) ∷ [])
+kept_replies log k xs = elim (whole_or_long xs) [
+  | inl same ↦ ap (λ (l : List ℕ). closed_replies log ((k, l) ∷ [])) same
+  | inr long ↦ replies_long log k (kept_line xs) (first_piece 10 xs) long.0 long.1
+]
+
+pub whole_replies : (log : Log) (n m k : ℕ) (left later : Option (List ℕ)) (line : List ℕ) → IsNextLine n m left later line (Some k)
+    → closed_replies log ((k, line) ∷ []) ≡ closed_replies log ((k, whole_line left line) ∷ [])
+whole_replies log n m k None later line is = refl
+whole_replies log n m k (Some xs) later line is =
+    ap (λ (l : List ℕ). closed_replies log ((k, l) ∷ [])) (kept_piece n m k xs later line is) ∙ kept_replies log k xs

@@ -18,6 +18,7 @@ use Rattle.ct_live.specs.LiveServed.{AreLinesOf, closed_replies, IsLastHead}
 use Rattle.ct_live.specs.LiveGiven.{AreRead}
 use Rattle.ct_live.specs.declared.giving.End.{End}
 use Rattle.ct_live.specs.declared.giving.End.TheVariants as end_case
+use Rattle.ct_live.proofs.Kept.{whole_line, whole_replies}
 use Rattle.ct_live.proofs.Reading.{next_named, read_both, read_end, read_line, read_none}
 use Rattle.ct_pipes.specs.Lines.{IsNextLine}
 use Rattle.std.specs.Prelude.{Some, None}
@@ -67,13 +68,15 @@ pub one_more : (log : Log) (n m o k : ℕ) (text line : List ℕ) (e : Option �
     → RepliesSoFar log n o input later a c
 one_more log n m o k text line e input left later a b c h is read same sent =
     let next : IsNextLine m o left later line (Some k) = next_named m o k left later line e is read in
-    let wrote : Appends b c (concat (closed_replies log ((k, line) ∷ []))) =
-    subst (λ (l : List ℕ). Appends b c (concat (closed_replies log ((k, l) ∷ [])))) same sent in
+    let whole = whole_line left line in
+    let wrote : Appends b c (concat (closed_replies log ((k, whole) ∷ []))) =
+    subst (λ (l : List (List ℕ)). Appends b c (concat l)) (whole_replies log m o k left later line next)
+    (subst (λ (l : List ℕ). Appends b c (concat (closed_replies log ((k, l) ∷ [])))) same sent) in
     record {
-      lines = h.lines ++ (k, line) ∷ [];
-      read = read_both n m o input left later h.lines ((k, line) ∷ []) h.read (read_line m o k left later line next);
-      wrote = subst (λ (l : List ℕ). Appends a c l) (sym (replies_both log h.lines ((k, line) ∷ [])))
-          (Appends-trans a b c (concat (closed_replies log h.lines)) (concat (closed_replies log ((k, line) ∷ []))) h.wrote wrote);
+      lines = h.lines ++ (k, whole) ∷ [];
+      read = read_both n m o input left later h.lines ((k, whole) ∷ []) h.read (read_line m o k left later line next);
+      wrote = subst (λ (l : List ℕ). Appends a c l) (sym (replies_both log h.lines ((k, whole) ∷ [])))
+          (Appends-trans a b c (concat (closed_replies log h.lines)) (concat (closed_replies log ((k, whole) ∷ []))) h.wrote wrote);
     }
 
 pub all_replied : (log : Log) (n m o : ℕ) (line : List ℕ) (e : Option ℕ) (input left later a b : Option (List ℕ)) → RepliesSoFar log n m input left a b

@@ -1,14 +1,14 @@
 -- What a run of the live program writes.
 use Rattle.std.specs.Prelude.{◌≡◌, ◌⊎◌, ℕ, List, [], Option}
 use Rattle.std.specs.Io.KnownBytes.{Appends}
-use Rattle.ct_live.specs.LiveReplied.{IsRepliedLive}
+use Rattle.ct_live.specs.LiveReplied.{IsServedLive}
 use Rattle.ct_parties.specs.declared.fault.Fault.{Fault}
 use Rattle.ct_parties.specs.declared.fault.Fault.TheVariants.{Memory, Write}
 use Rattle.ct_options.specs.CommandLine.{CommandLine, log_with, help, version, nothing}
 
 -- what a live run with status 0 wrote, by what its command line asks for: what the log replied; or the text of help or of the version
 abbrev pub IsLiveDone : CommandLine → Option (List ℕ) → Option (List ℕ) → Option (List ℕ) → Type 0
-IsLiveDone (log_with n places open_at close_at) input old new = IsRepliedLive n places open_at old new
+IsLiveDone (log_with n places open_at close_at) input old new = IsServedLive n places open_at close_at input old new
 IsLiveDone help input old new = (text : List ℕ) × Appends old new text
 IsLiveDone version input old new = (text : List ℕ) × Appends old new text
 IsLiveDone nothing input old new = ⊥

@@ -3,7 +3,7 @@
 ghost use Rattle.std.specs.Prelude.{◌≡◌, ◌≤◌};
 ghost use Rattle.ct_lines.specs.Sends.{SendsSome};
 ghost use Rattle.ct_parties.specs.declared.fault.Fault.{Fault as FaultOf};
-ghost use Rattle.ct_live.specs.LiveReplied.{IsRepliedLive};
+ghost use Rattle.ct_live.specs.LiveReplied.{IsServedLive};
 ghost use Rattle.ct_options.specs.CommandLine.{asked_for, nothing};
 ghost use Rattle.ct_options.specs.FaultLines.{fault_line, name_of};
 ghost use Rattle.ctlogd.specs.LiveRuns.{IsLiveDone, IsLiveBrokenOff};
@@ -37,7 +37,8 @@ fn serve<H: Threads + Wait + Sync, I: Read + Drop + Send, W: Write + Drop + Send
     faults: &mut E,
 ) -> Ended<W>
     ensures status { result.status ≤ 1 }
-    ensures done { result.status ≡ 0 → IsRepliedLive options.fronts options.ring options.open_at (W.contents output) (W.contents result.output) }
+    ensures done { result.status ≡ 0 → IsServedLive options.fronts options.ring options.open_at options.close_at (I.remaining input)
+        (W.contents output) (W.contents result.output) }
     ensures fault { result.status ≡ 1 → (f : FaultOf) × SendsSome (E.contents faults.old) (E.contents faults.new) (fault_line (name_of Program.Ctlogd) f) }
     ensures quiet { result.status ≡ 0 → faults.new ≡ faults.old }
 {
