@@ -5,7 +5,7 @@
 //! ends, it closes the log, which then answers the lines behind.
 //!
 //! - `asking` says what a line asks of a live log: beside the requests of every log there are the operator's `take` and
-//!   `close`.
+//!   `close`, and two for the bytes that are signed.
 //! - `signing` has the bytes that stand under the log's signatures.
 //! - `replying` has the reply to a line without the end of the line.
 //! - `front` is a front as a party of `ct_pipes`; `desk` is what the operator works with, and `operator` does its tasks in

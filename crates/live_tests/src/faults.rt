@@ -9,10 +9,10 @@ use std::test::Fail;
 use std::thread::Threads;
 
 // How many lines there are. The reader has a call for each, and one that finds the end.
-const COUNT: u64 = 32;
+const COUNT: u64 = 35;
 
 // How many calls the writer has: for each reply one for each 40 bytes, and one that hands on.
-const CALLS: u64 = 86;
+const CALLS: u64 = 95;
 
 // The replies to the first lines, so many.
 fn replies_to(count: u64) -> &'static [u8] {

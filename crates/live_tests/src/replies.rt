@@ -3,7 +3,7 @@ use crate::pace::{Run, ends_with};
 use ct_parties::Fault;
 use std::test::Fail;
 
-// Two certificates and a repeat, lines that are no request, one of each op, and the closed log.
+// Two certificates and a repeat, lines that are no request, one of each op, bytes to be signed, and the closed log.
 pub(crate) const LINES: &[u8] = br#"{"who":0,"op":"add-chain","chain":["QQ=="]}
 {"who":1,"op":"add-chain","chain":["Qg=="]}
 
@@ -25,6 +25,9 @@ hello
 {"who":"operator","op":"close"}
 {"who":0,"op":"close","now":9}
 {"who":0,"op":"receipt","ticket":1}
+{"who":"operator","op":"tree-head-signature-input"}
+{"who":"operator","op":"certificate-timestamp-signature-input","ticket":0}
+{"who":"operator","op":"certificate-timestamp-signature-input","ticket":1}
 {"who":0,"op":"add-chain","chain":["QQ=="]}
 {"who":"operator","op":"close","now":9}
 {"who":"frozen","op":"get-sth"}
@@ -58,16 +61,19 @@ pub(crate) const REPLIES: &[u8] = br#"{"line":0,"reply":{"ticket":0}}
 {"line":18,"reply":{"error":"bad-line"}}
 {"line":19,"reply":{"error":"bad-line"}}
 {"line":20,"reply":{"error":"not-yet"}}
-{"line":21,"reply":{"ticket":2}}
-{"line":22,"reply":{"timestamp":9,"tree_size":2}}
-{"line":23,"reply":{"sha256_root_hash":"RlkPj2IEwwq3MbH6YmU+7vxUleePHdvyY47aAVW4dh0=","timestamp":9,"tree_size":2}}
-{"line":24,"reply":{"error":"bad-line"}}
-{"line":25,"reply":{"error":"bad-line"}}
-{"line":26,"reply":{"error":"bad-line"}}
+{"line":21,"reply":{"signature_input":"AAEAAAAAAAAABAAAAAAAAAAB5waGcGekLtSDzybM1NzDVGO7Y18a/uI9tUa3LxnygOY="}}
+{"line":22,"reply":{"signature_input":"AAAAAAAAAAAAAwAAAAABQQAA"}}
+{"line":23,"reply":{"error":"not-yet"}}
+{"line":24,"reply":{"ticket":2}}
+{"line":25,"reply":{"timestamp":9,"tree_size":2}}
+{"line":26,"reply":{"sha256_root_hash":"RlkPj2IEwwq3MbH6YmU+7vxUleePHdvyY47aAVW4dh0=","timestamp":9,"tree_size":2}}
+{"line":27,"reply":{"error":"bad-line"}}
 {"line":28,"reply":{"error":"bad-line"}}
-{"line":29,"reply":{"audit_path":["5waGcGekLtSDzybM1NzDVGO7Y18a/uI9tUa3LxnygOY="],"extra_data":"AAAA","leaf_input":"AAAAAAAAAAAABQAAAAABQgAA"}}
-{"line":30,"reply":{"extensions":"","leaf_index":0,"sct_version":0,"timestamp":3}}
-{"line":31,"reply":{"extensions":"","leaf_index":1,"sct_version":0,"timestamp":5}}
+{"line":29,"reply":{"error":"bad-line"}}
+{"line":31,"reply":{"error":"bad-line"}}
+{"line":32,"reply":{"audit_path":["5waGcGekLtSDzybM1NzDVGO7Y18a/uI9tUa3LxnygOY="],"extra_data":"AAAA","leaf_input":"AAAAAAAAAAAABQAAAAABQgAA"}}
+{"line":33,"reply":{"extensions":"","leaf_index":0,"sct_version":0,"timestamp":3}}
+{"line":34,"reply":{"extensions":"","leaf_index":1,"sct_version":0,"timestamp":5}}
 "#;
 
 // The reader gives whole lines, 7 bytes a call, or one.
