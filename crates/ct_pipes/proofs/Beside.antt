@@ -2,10 +2,11 @@
 use Rattle.std.proofs.Common.{◌≡◌, ◌≢◌, ◌<◌, ◌≤◌, ◌+◌, ℕ, zero, suc, List, [], ◌∷◌, ◌++◌, length, map, set, Option, refl, sym, ap, subst, ◌∙◌, arith}
 use Rattle.std.proofs.Common.{append_assoc, append-nil, length-append, get_or, below_more, Vec, Global}
 use Rattle.std.specs.Prelude.{Some, slice_get}
+use mathlib.Core.List.{IsPrefix}
 use Rattle.std.specs.List.{AllZip, concat}
 use Rattle.std.specs.Io.KnownBytes.{Appends}
 use Rattle.std.proofs.KnownBytes.{Appends-trans}
-use Rattle.std.proofs.lemmas.List.{map-append, map-set, length-map}
+use Rattle.std.proofs.lemmas.List.{map-append, map-set, length-map, get_or-map}
 use Rattle.std.proofs.lemmas.List.Folds.{concat-append}
 use Rattle.std.proofs.lemmas.Slice.Zip.{AllZip-long}
 use Rattle.std.proofs.lemmas.Option.{same_Some, slice_get-get_or}
@@ -15,7 +16,7 @@ use Rattle.rtrb.specs.Ring.{sent, received, IsPair, SameConsumer}
 use Rattle.rtrb.specs.declared.AnyItems.{AnyItems}
 use Rattle.rtrb.specs.declared.consumer.Consumer.{Consumer}
 use Rattle.rtrb.specs.declared.producer.Producer.{Producer}
-use Rattle.ct_pipes.specs.Rings.{all_received, all_sent, texts, ArePairs, AreTakenBelow}
+use Rattle.ct_pipes.specs.Rings.{all_received, all_sent, texts, ArePairs, ArePrefixes, AreTakenBelow}
 use Rattle.ct_pipes.specs.Written.{WritesBeginning, Passes, PassesSome}
 use Rattle.ct_pipes.proofs.Merging.{get_mapped, mapped_same, put_there, put_elsewhere}
 use Rattle.ct_pipes.proofs.Writing.{some_behind}
@@ -44,6 +45,19 @@ same_lists (x ∷ xs) [] e each = absurd (omega (arith, e))
 same_lists {A = A} (x ∷ xs) (y ∷ ys) e each =
     ap (λ (z : A). z ∷ xs) (same_Some x y (each 0 (omega arith)))
     ∙ ap (λ (zs : List A). y ∷ zs) (same_lists xs ys (omega (arith, e)) (λ k h. each (suc k) (omega arith)))
+
+-- what holds of the elements at each place
+zip_of_each : {A B : Type 0} (R : A → B → Type 0) (xs : List A) (ys : List B) (d : A) (e : B) → length xs ≡ length ys
+    → ((k : ℕ) → k < length xs → R (get_or xs k d) (get_or ys k e)) → AllZip R xs ys
+zip_of_each R [] [] d e long each = tt
+zip_of_each R [] (y ∷ ys) d e long each = absurd (omega (arith, long))
+zip_of_each R (x ∷ xs) [] d e long each = absurd (omega (arith, long))
+zip_of_each R (x ∷ xs) (y ∷ ys) d e long each =
+    (each 0 (omega arith), zip_of_each R xs ys d e (omega (arith, long)) (λ k h. each (suc k) (omega arith)))
+
+-- of the first n of these lists, each is a beginning of the other
+abbrev pub AreBegunBelow : {A : Type 0} → ℕ → List (List A) → List (List A) → Type 0
+AreBegunBelow n xss yss = (k : ℕ) → k < n → IsPrefix (get_or xss k []) (get_or yss k [])
 
 mapped_there : {A B : Type 0} (f : A → B) (xs : List A) (k : ℕ) (d : A) → k < length xs → slice_get (map f xs) k ≡ Some (f (get_or xs k d))
 mapped_there f xs k d below = get_mapped f xs k (get_or xs k d) (slice_get-get_or xs k d below)
@@ -99,6 +113,27 @@ module _ {T : Type 0} where
       let a : length (all_received cs) ≡ length cs = length-map cs (λ (r : Consumer T Global AnyItems). received r) in
       let b : length (all_sent ps) ≡ length ps = length-map ps (λ (r : Producer T Global AnyItems). sent r) in
       same_lists (all_received cs) (all_sent ps) (omega (arith, a, b, long)) (λ k h. below k (omega (arith, a, long, most, h)))
+
+  -- from one ring more a beginning was received
+  pub begun_more : (ps : List (Producer T Global AnyItems)) (cs : List (Consumer T Global AnyItems)) (k : ℕ) (p : Producer T Global AnyItems)
+      (c : Consumer T Global AnyItems)
+      → k < length ps → k < length cs → IsPrefix (received (get_or cs k c)) (sent (get_or ps k p)) → (rs ss : List (List T)) → all_received cs ≡ rs
+      → all_sent ps ≡ ss → AreBegunBelow k rs ss → AreBegunBelow (k + 1) rs ss
+  begun_more ps cs k p c below beside one rs ss er es before =
+      let r : received (get_or cs k c) ≡ get_or rs k [] = sym (get_or-map (λ (r : Consumer T Global AnyItems). received r) cs k c [] beside)
+      ∙ ap (λ (l : List (List T)). get_or l k []) er in
+      let s : sent (get_or ps k p) ≡ get_or ss k [] = sym (get_or-map (λ (q : Producer T Global AnyItems). sent q) ps k p [] below)
+      ∙ ap (λ (l : List (List T)). get_or l k []) es in
+      below_more (λ (j : ℕ). IsPrefix (get_or rs j []) (get_or ss j [])) k before
+      (subst (λ (l : List T). IsPrefix l (get_or ss k [])) r (subst (λ (l : List T). IsPrefix (received (get_or cs k c)) l) s one))
+
+  -- from all rings
+  pub all_begun : (ps : List (Producer T Global AnyItems)) (cs : List (Consumer T Global AnyItems)) (n : ℕ) → length cs ≡ length ps
+      → length ps ≤ n → AreBegunBelow n (all_received cs) (all_sent ps) → ArePrefixes (all_received cs) (all_sent ps)
+  all_begun ps cs n long most below =
+      let a : length (all_received cs) ≡ length cs = length-map cs (λ (r : Consumer T Global AnyItems). received r) in
+      let b : length (all_sent ps) ≡ length ps = length-map ps (λ (r : Producer T Global AnyItems). sent r) in
+      zip_of_each IsPrefix (all_received cs) (all_sent ps) [] [] (omega (arith, a, b, long)) (λ k h. below k (omega (arith, a, long, most, h)))
 
   -- of one ring not all was received
   pub not_all_taken : (ps : List (Producer T Global AnyItems)) (cs : List (Consumer T Global AnyItems)) (k : ℕ) (p : Producer T Global AnyItems)

@@ -4,4 +4,5 @@ pub mod Writing
 pub mod Beside
 pub mod Opened
 pub mod Turns
+pub mod Joining
 pub mod Pieces

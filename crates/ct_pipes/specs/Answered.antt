@@ -1,6 +1,7 @@
 -- Tasks that are answered in turn.
 use Rattle.std.specs.Prelude.{◌≡◌, ℕ, List, [], ◌∷◌, ◌++◌, Vec}
 use Rattle.std.specs.Global.{Global}
+use mathlib.Core.List.{IsPrefix}
 use Rattle.ct_pipes.specs.Rings.{texts}
 use Rattle.ct_pipes.specs.Tagged.{tagged}
 use Rattle.ct_pipes.specs.declared.answering.Numbered.{Numbered}
@@ -31,3 +32,19 @@ pub record AnswersAllButLast {P T : Type 0} (does : P → T → List ℕ → P �
   pub last : Numbered T
   pub came : received_then ≡ before_last ++ last ∷ []
   pub answered : AnswersMore does a between received before_last sent sent_then
+
+-- The first of these tasks were answered, each in turn, and no others: all of them, or those before one that wasn't.
+pub record AnswersFirst {P T : Type 0} (does : P → T → List ℕ → P → Type 0) (a : P) (tasks : List (Numbered T)) (answers : List (List ℕ)) : Type 0 where
+  pub first : List (Numbered T)
+  pub cut : IsPrefix first tasks
+  pub party_then : P
+  pub answered : AreAnswered does a first answers party_then
+
+-- more tasks were received, and the first of them were answered
+pub record AnswersSome {P T : Type 0} (does : P → T → List ℕ → P → Type 0) (a : P) (received received_then : List (Numbered T))
+    (sent sent_then : List (Vec ℕ Global)) : Type 0 where
+  pub tasks : List (Numbered T)
+  pub came : received_then ≡ received ++ tasks
+  pub answers : List (Vec ℕ Global)
+  pub went : sent_then ≡ sent ++ answers
+  pub first : AnswersFirst does a tasks (texts answers)

@@ -1,6 +1,7 @@
 -- What went into rings, and what came out.
 use Rattle.std.specs.Prelude.{◌≡◌, ◌<◌, ℕ, List, [], All, IfSome, map, set, slice_get, Vec}
 use Rattle.std.specs.Global.{Global}
+use mathlib.Core.List.{IsPrefix}
 use Rattle.std.specs.List.{AllZip}
 use Rattle.rtrb.specs.Ring.{sent, received, known_free, known_items, producer_capacity, IsPair, SameProducer, SameConsumer}
 use Rattle.rtrb.specs.declared.AnyItems.{AnyItems}
@@ -52,3 +53,7 @@ texts_each tss = map texts tss
 -- of the first n rings, all that was sent was received
 abbrev pub AreTakenBelow : {T : Type 0} → ℕ → List (Producer T Global AnyItems) → List (Consumer T Global AnyItems) → Type 0
 AreTakenBelow n ps cs = (k : ℕ) → k < n → slice_get (all_received cs) k ≡ slice_get (all_sent ps) k
+
+-- place by place, the lists are beginnings of the others
+abbrev pub ArePrefixes : {A : Type 0} → List (List A) → List (List A) → Type 0
+ArePrefixes xss yss = AllZip IsPrefix xss yss

@@ -8,12 +8,14 @@
 //! - `opening` makes the rings: `open`, of whose ends each thread has its own.
 //! - `lines` cuts an input into numbered lines, as it comes, for the reader's thread; `post` has `give`, by which it gives
 //!   each party its tasks, and waits where a ring is full.
-//! - `workers` has the parties' threads: `start_workers` and `join_workers`. What a party does is its own (`Party`, in
-//!   `answering`): `answer_all` has it reply to each of its tasks in turn, and `tagging` sets the line's number before the
-//!   reply.
+//! - `workers` has the parties' threads: `start_workers` and `join_workers`. A thread hands back the party with the ends of its
+//!   rings (`Worked`), also where it ended before its time, and `Joined` has those of all threads: a program makes room for them
+//!   before it starts any, so that they can be joined without memory. What a party does is its own (`Party`, in `answering`):
+//!   `answer_all` has it reply to each of its tasks in turn, and `tagging` sets the line's number before the reply.
 //! - `writer` writes the answers of all parties as they come, in the thread that calls it; `output` writes one.
 //! - `ending` is for when all threads have ended, with both ends of each ring at hand: `are_taken` finds whether all tasks
-//!   were received, and `write_left` writes what is left of the answers.
+//!   were received, and `write_left` writes what is left of the answers. Both show that what came out of each ring is a beginning
+//!   of what went in, whatever happened before.
 //! - `places` is where these threads wait for one another, and what they tell each other beside the rings. No proof rests
 //!   on it: it only ends waits.
 //!
@@ -40,5 +42,7 @@ pub use output::WriteFailed;
 pub use places::{Places, Seat};
 pub use post::{Stopped, give, receive, send};
 pub use tagging::tag;
-pub use workers::{StartFault, Worker, WorkerPromise, WorkerThread, join_workers, start_workers};
+pub use workers::{
+    Joined, StartFault, Worked, Worker, WorkerPromise, WorkerThread, join_workers, start_workers,
+};
 pub use writer::write_answers;

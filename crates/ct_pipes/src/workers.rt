@@ -1,7 +1,7 @@
 //! The threads of the parties.
 
-ghost use Rattle.std.specs.Prelude.{◌≡◌, ◌++◌, ◌∷◌, [], map, IfOk, OnOk};
-ghost use Rattle.ct_pipes.specs.Working.{Works, AllWork};
+ghost use Rattle.std.specs.Prelude.{◌≡◌, ◌<◌, ◌+◌, ◌++◌, ◌∷◌, [], length, map, IfOk, Ok, Err, OnOk, Some, None, ◌⊎◌, vec_len, vec_capacity};
+ghost use Rattle.ct_pipes.specs.Working.{Works, WorksSome, AreJoinedOf, HasRoom};
 ghost use Rattle.ct_pipes.specs.declared.workers.StartFault.TheVariants.{Memory};
 
 use crate::answering::{Numbered, Party, PartyFault, answer_all};
@@ -23,16 +23,24 @@ pub struct Worker<P: Drop, T: Drop> {
     pub answers: Producer<Vec<u8>>,
 }
 
-// Answers the tasks of a party, and tells the writer that it ends. One that ends before its time has all end, and lets its rings
-// go, so nothing is left of which a clause could say what was sent.
+/// What a party's thread hands back: the party with the ends of its rings as it ended, and whether that was before its time.
+#[derive(Drop)]
+pub struct Worked<P: Drop, T: Drop> {
+    pub worker: Worker<P, T>,
+    pub result: Result<(), PartyFault>,
+}
+
+// Answers the tasks of a party, and tells the writer that it ends. One that ends before its time has all end. It hands its rings
+// back all the same: what it sent is the answers to the first of the tasks that it received.
 fn work<T: Drop, P: Party<T> + Drop, R: Threads + Wait + Sync>(
     rt: &R,
     alloc: Global,
     places: &Places,
     shared: &P::Shared,
     worker: Worker<P, T>,
-) -> Result<Worker<P, T>, PartyFault>
-    ensures { IfOk result (λ w. Works P.does worker w) }
+) -> Worked<P, T>
+    ensures done { OnOk result.result (Works P.does worker result.worker) }
+    ensures some { WorksSome P.does worker result.worker }
 {
     let Worker {
         number,
@@ -51,19 +59,17 @@ fn work<T: Drop, P: Party<T> + Drop, R: Threads + Wait + Sync>(
         &mut answers,
     );
     match result {
-        Ok(()) => {
-            places.end_party();
-            Ok(Worker {
-                number,
-                party,
-                tasks,
-                answers,
-            })
-        }
-        Err(fault) => {
-            places.stop();
-            Err(fault)
-        }
+        Ok(()) => places.end_party(),
+        Err(_) => places.stop(),
+    }
+    Worked {
+        worker: Worker {
+            number,
+            party,
+            tasks,
+            answers,
+        },
+        result,
     }
 }
 
@@ -71,13 +77,12 @@ fn work<T: Drop, P: Party<T> + Drop, R: Threads + Wait + Sync>(
 #[derive(Drop)]
 pub struct WorkerPromise<P: Drop, T: Drop>(Snapshot<Worker<P, T>>);
 
-impl<P: Party<T> + Drop, T: Drop> Promise<Result<Worker<P, T>, PartyFault>>
-    for WorkerPromise<P, T> {
-    ghost kept_by = { λ p r. IfOk r (λ w. Works P.does p.0.value w) };
+impl<P: Party<T> + Drop, T: Drop> Promise<Worked<P, T>> for WorkerPromise<P, T> {
+    ghost kept_by = { λ p r. OnOk r.result (Works P.does p.0.value r.worker) × WorksSome P.does p.0.value r.worker };
 }
 
 /// The thread of a party.
-pub type WorkerThread<P, T> = PromisedHandle<Result<Worker<P, T>, PartyFault>, WorkerPromise<P, T>>;
+pub type WorkerThread<P, T> = PromisedHandle<Worked<P, T>, WorkerPromise<P, T>>;
 
 /// No thread started for a party, or a growth was refused.
 #[derive(Clone, Copy, Debug, PartialEq, Eq, Drop, Error)]
@@ -126,8 +131,8 @@ fn start_each<
     let mut threads = Vec::new(alloc);
     for worker in workers {
         let promise = WorkerPromise(Snapshot::of(&worker));
-        let working = move || -> Result<Worker<P, T>, PartyFault>
-            ensures { IfOk result (λ w. Works P.does worker w) }
+        let working = move || -> Worked<P, T>
+            ensures { OnOk result.result (Works P.does worker result.worker) × WorksSome P.does worker result.worker }
         { work(rt, alloc, places, shared, worker) };
         let Ok(thread) = scope.spawn_with(promise, working) else {
             return Err(StartFault::Threads);
@@ -167,22 +172,76 @@ pub fn start_workers<
     }
 }
 
-/// Joins the threads of the parties, and answers the parties in the order in which these were started.
-///
-/// # Errors
-///
-/// That of the first party which ended before its time. The scope joins the others.
+/// The parties and the ends of their rings, as their threads handed them back, and why one ended before its time.
+#[derive(Drop)]
+pub struct Joined<P: Drop, T: Drop> {
+    pub parties: Vec<P>,
+    pub tasks: Vec<Consumer<Numbered<T>>>,
+    pub answers: Vec<Producer<Vec<u8>>>,
+    pub fault: Option<PartyFault>,
+}
+
+impl<P: Drop, T: Drop> Joined<P, T> {
+    /// Nothing yet, with room for what so many parties hand back, and for the end of one more ring of answers.
+    ///
+    /// # Errors
+    ///
+    /// `AllocError`, where the room is refused.
+    pub fn with_room(alloc: Global, count: u16) -> Result<Joined<P, T>, AllocError>
+        ensures room { IfOk result (λ j. HasRoom count j) }
+        ensures empty { IfOk result (λ j. (j.parties.items ≡ []) × (j.tasks.items ≡ []) × (j.answers.items ≡ []) × (j.fault ≡ None)) }
+    {
+        let count = count as usize;
+        Ok(Joined {
+            parties: Vec::with_capacity(alloc, count)?,
+            tasks: Vec::with_capacity(alloc, count)?,
+            answers: Vec::with_capacity(alloc, count + 1)?,
+            fault: None,
+        })
+    }
+}
+
+// Why a party ended before its time, once one more has ended: as the first that did; but that memory was refused goes before that
+// all were to end, so that a party that was only told to end doesn't hide it.
+fn fault_with(before: Option<PartyFault>, ended: Result<(), PartyFault>) -> Option<PartyFault>
+    ensures none { result ≡ None → (before ≡ None) × (ended ≡ Ok tt) }
+    ensures refused { (before ≡ Some PartyFault.Memory) ⊎ (ended ≡ Err PartyFault.Memory) → result ≡ Some PartyFault.Memory }
+    ensures memory { result ≡ Some PartyFault.Memory → (before ≡ Some PartyFault.Memory) ⊎ (ended ≡ Err PartyFault.Memory) }
+{
+    match ended {
+        Ok(()) => before,
+        Err(PartyFault::Stopped) => before.or(Some(PartyFault::Stopped)),
+        Err(memory) => Some(memory),
+    }
+}
+
+/// Joins the threads of the parties, and answers the parties and the ends of their rings, in the order in which the threads were
+/// started, also of those that ended before their time. It needs no memory, so that a refusal can't lose them. `fault` is that of
+/// the first party which ended before its time; but `Memory`, where any of them was refused a growth, since the others are told to
+/// end then.
 pub fn join_workers<T: Drop + Send, P: Party<T> + Drop + Send, R: Threads>(
     rt: &R,
-    alloc: Global,
     threads: Vec<WorkerThread<P, T>>,
-) -> Result<Vec<Worker<P, T>>, PartyFault>
-    ensures { IfOk result (λ v. AllWork P.does (map (λ t. t.promise.0.value) threads.items) v.items) }
+    room: Joined<P, T>,
+) -> Joined<P, T>
+    requires room { HasRoom (length threads.items) room }
+    requires empty { (room.parties.items ≡ []) × (room.tasks.items ≡ []) × (room.answers.items ≡ []) × (room.fault ≡ None) }
+    ensures joined { AreJoinedOf P.does (map (λ t. t.promise.0.value) threads.items) result }
+    ensures room { vec_len result.answers < vec_capacity result.answers }
 {
-    let mut workers = Vec::new(alloc);
+    let mut joined = room;
     for thread in threads {
-        let worker = thread.join(rt)?;
-        keep(&mut workers, worker)?;
+        let Worked { worker, result } = thread.join(rt);
+        let Worker {
+            number: _,
+            party,
+            tasks,
+            answers,
+        } = worker;
+        joined.parties.push_reserved(party);
+        joined.tasks.push_reserved(tasks);
+        joined.answers.push_reserved(answers);
+        joined.fault = fault_with(joined.fault, result);
     }
-    Ok(workers)
+    joined
 }
