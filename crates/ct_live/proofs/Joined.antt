@@ -1,7 +1,7 @@
 -- The parties and their rings stay what they are while the threads run.
 use Rattle.std.proofs.Common.{◌≡◌, ◌∙◌, ℕ, List, [], ◌∷◌, ◌++◌, map, refl, reverse, sym, subst, length, Vec, Global, true≢false}
 use Rattle.std.specs.List.{AllZip}
-use Rattle.std.specs.Prelude.{Option, Some, Result, Ok, Err, IsOk, IfOk, OnOk}
+use Rattle.std.specs.Prelude.{Option, Some, Result, Ok, Err, IsOk, OnOk}
 use Rattle.rtrb.specs.Ring.{IsPair, SameProducer, SameConsumer}
 use Rattle.rtrb.specs.declared.AnyItems.{AnyItems}
 use Rattle.rtrb.specs.declared.consumer.Consumer.{Consumer}
@@ -9,21 +9,19 @@ use Rattle.rtrb.specs.declared.producer.Producer.{Producer}
 use Rattle.ct_house.specs.House.{FrontView}
 use Rattle.ct_parties.specs.FrontWork.{FrontGoesOn}
 use Rattle.ct_parties.specs.OperatorWork.{GoesOn}
-use Rattle.ct_parties.specs.Parties.{AreSame}
+use Rattle.ct_parties.specs.Parties.{AreFrontsOf, AreSame}
 use Rattle.ct_parties.specs.declared.task.FrontTask.{FrontTask}
 use Rattle.ct_parties.proofs.FrontLemmas.{front_goes_on_nothing, front_goes_on_both}
 use Rattle.ct_parties.proofs.OperatorLemmas.{goes_on_nothing, goes_on_both}
 use Rattle.ct_parties.proofs.PartyLemmas.{fronts_kept}
 use Rattle.ct_pipes.specs.Answered.{AreAnswered}
-use Rattle.ct_pipes.specs.Written.{WritesOn}
 use Rattle.ct_pipes.specs.Rings.{ArePairs, SameProducers, SameConsumers}
 use Rattle.ct_pipes.specs.declared.answering.Numbered.{Numbered}
-use Rattle.ct_pipes.specs.declared.answering.PartyFault.{PartyFault}
 use Rattle.ct_pipes.proofs.Merging.{zip_self}
 use Rattle.ct_pipes.proofs.Turns.{producer_trans}
 use Rattle.std.proofs.lemmas.List.Elements.{length_all_zip}
 use Rattle.ct_live.specs.LiveParties.{FrontReplies}
-use Rattle.ct_live.specs.LiveRuns.{FrontWorker, worker_fronts, worker_tasks, worker_answers, AreJoined, GivesOn, AllReply, DeskStep, DeskWorks}
+use Rattle.ct_live.specs.LiveRuns.{FrontWorker, worker_fronts, worker_tasks, worker_answers, AreBeside, AreJoined, GivesOn, AllReply, AllReplySome, DeskStep, DeskWorks, DeskWorksSome}
 use Rattle.ct_live.specs.declared.asking.DeskTask.{DeskTask}
 use Rattle.ct_live.specs.declared.front.LiveFront.{LiveFront}
 use Rattle.ct_live.specs.declared.giving.Inlets.{Inlets}
@@ -62,7 +60,7 @@ module _ {T : Type 0} where
   pair_kept p q c d a b i = (b.0.0 ∙ i.0 ∙ sym a.0.0, b.0.1 ∙ i.1 ∙ sym a.0.1, b.0.2 ∙ i.2 ∙ sym a.0.2, b.0.3 ∙ i.3 ∙ sym a.0.3)
 
 tasks_kept : (ps qs : List (Producer (Numbered FrontTask) Global AnyItems)) (before after : List FrontWorker) → SameProducers ps qs
-    → AllReply before after → ArePairs ps (worker_tasks before)
+    → AllReplySome before after → ArePairs ps (worker_tasks before)
     → ArePairs qs (worker_tasks after)
 tasks_kept [] [] [] [] same all pairs = tt
 tasks_kept [] [] [] (b ∷ after) same all pairs = absurd all
@@ -75,7 +73,7 @@ tasks_kept (p ∷ ps) (q ∷ qs) (a ∷ before) (b ∷ after) (s, same) (did, al
     (pair_kept p q a.tasks b.tasks s did.tasks i, tasks_kept ps qs before after same all pairs)
 
 answers_kept : (before after : List FrontWorker) (p q : Producer (Vec ℕ Global) Global AnyItems) (rs ss : List (Consumer (Vec ℕ Global) Global AnyItems))
-    → AllReply before after
+    → AllReplySome before after
     → SameProducer p q → SameConsumers rs ss → ArePairs (worker_answers before ++ p ∷ []) rs → ArePairs (worker_answers after ++ q ∷ []) ss
 answers_kept [] [] p q [] ss all own same pairs = absurd pairs
 answers_kept [] [] p q (r ∷ rs) [] all own same pairs = absurd same
@@ -89,19 +87,22 @@ answers_kept (a ∷ before) (b ∷ after) p q (r ∷ rs) [] all own same pairs =
 answers_kept (a ∷ before) (b ∷ after) p q (r ∷ rs) (s ∷ ss) (did, all) own (one, same) (i, pairs) =
     (pair_kept a.answers b.answers r s did.answers one i, answers_kept before after p q rs ss all own same pairs)
 
--- all of it
-pub joined_kept : (g h : Inlets) (before after : List FrontWorker) (o p : DeskWorker) (rs ss : List (Consumer (Vec ℕ Global) Global AnyItems))
-    → AreJoined g before o rs
-    → GivesOn g h → AllReply before after → DeskWorks o p → SameConsumers rs ss → AreJoined h after p ss
-joined_kept g h before after o p rs ss i given did worked same =
+-- the ends of the rings
+pub beside_kept : (g h : Inlets) (before after : List FrontWorker) (o p : DeskWorker) (rs ss : List (Consumer (Vec ℕ Global) Global AnyItems))
+    → AreBeside g (worker_tasks before) (worker_answers before) o rs
+    → GivesOn g h → AllReplySome before after → DeskWorksSome o p → SameConsumers rs ss → AreBeside h (worker_tasks after) (worker_answers after) p ss
+beside_kept g h before after o p rs ss i given did worked same = record {
+  tasks_of = tasks_kept g.fronts.items h.fronts.items before after given.fronts did i.tasks_of;
+  orders = pair_kept g.operator h.operator o.tasks p.tasks given.operator worked.tasks i.orders;
+  answers_of = answers_kept before after o.answers p.answers rs ss did worked.answers same i.answers_of;
+}
+
+-- the fronts, where all answered all their tasks
+pub house_kept : (before after : List FrontWorker) (o p : DeskWorker) → AreFrontsOf o.desk.sequencer (worker_fronts before) → AllReply before after
+    → DeskWorks o p → AreFrontsOf p.desk.sequencer (worker_fronts after)
+house_kept before after o p i did worked =
     let on = desk_went_on o.desk p.desk worked.answered.tasks (map (λ (v : Vec ℕ Global). v.items) worked.answered.answers) worked.answered.answered in
-    record {
-      tasks = tasks_kept g.fronts.items h.fronts.items before after given.fronts did i.tasks;
-      orders = pair_kept g.operator h.operator o.tasks p.tasks given.operator worked.tasks i.orders;
-      answers = answers_kept before after o.answers p.answers rs ss did worked.answers same i.answers;
-      fronts = fronts_kept o.desk.sequencer p.desk.sequencer (worker_fronts before) (worker_fronts after) on.house on.count
-          (fronts_same before after did) i.fronts;
-    }
+    fronts_kept o.desk.sequencer p.desk.sequencer (worker_fronts before) (worker_fronts after) on.house on.count (fronts_same before after did) i
 
 -- ---- the rings into which tasks are given
 
@@ -147,28 +148,23 @@ when_ok P (Ok x) is p = p
 when_ok P (Err e) is p = absurd (true≢false (sym is))
 
 -- the operator is where it was
-pub joined_left : (was now : Option DeskWorker) (g h : Inlets) (before after : List FrontWorker) (rs ss : List (Consumer (Vec ℕ Global) Global AnyItems))
+pub beside_left : (was now : Option DeskWorker) (g h : Inlets) (before after : List FrontWorker) (rs ss : List (Consumer (Vec ℕ Global) Global AnyItems))
+    → ((o : DeskWorker) → was ≡ Some o → AreJoined g before o rs) → ((p : DeskWorker) → now ≡ Some p → (o : DeskWorker) × (was ≡ Some o) × DeskWorksSome o p)
+    → GivesOn g h → AllReplySome before after → SameConsumers rs ss → (p : DeskWorker) → now ≡ Some p
+    → AreBeside h (worker_tasks after) (worker_answers after) p ss
+beside_left was now g h before after rs ss own did given replied same p is =
+    let (o, at, works) = did p is in beside_kept g h before after o p rs ss (own o at).beside given replied works same
+
+pub house_left : (was now : Option DeskWorker) (g : Inlets) (before after : List FrontWorker) (rs : List (Consumer (Vec ℕ Global) Global AnyItems))
     → ((o : DeskWorker) → was ≡ Some o → AreJoined g before o rs) → ((p : DeskWorker) → now ≡ Some p → (o : DeskWorker) × (was ≡ Some o) × DeskWorks o p)
-    → GivesOn g h → AllReply before after → SameConsumers rs ss → (p : DeskWorker) → now ≡ Some p → AreJoined h after p ss
-joined_left was now g h before after rs ss own did given replied same p is =
-    let (o, at, works) = did p is in joined_kept g h before after o p rs ss (own o at) given replied works same
+    → AllReply before after → (p : DeskWorker) → now ≡ Some p → AreFrontsOf p.desk.sequencer (worker_fronts after)
+house_left was now g before after rs own did replied p is =
+    let (o, at, works) = did p is in house_kept before after o p (own o at).fronts replied works
 
 pub gives_as : (a b c d : Inlets) → b ≡ a → d ≡ c → GivesOn b c → GivesOn a d
 gives_as a b c d e k on = subst (λ (i : Inlets). GivesOn a i) (sym k) (subst (λ (i : Inlets). GivesOn i c) e on)
-
-pub replied_as : (started before : List FrontWorker) (r : Result (Vec FrontWorker Global) PartyFault) (v : Vec FrontWorker Global) → started ≡ before → r ≡ Ok v
-    → IfOk r (λ w. AllReply started w.items) → AllReply before v.items
-replied_as started before r v e k all =
-    subst (λ (l : List FrontWorker). AllReply l v.items) e
-    (subst (λ (x : Result (Vec FrontWorker Global) PartyFault). IfOk x (λ w. AllReply started w.items)) k all)
 
 pub same_as : (a b c d : List (Consumer (Vec ℕ Global) Global AnyItems)) → b ≡ a → d ≡ c → SameConsumers b c → SameConsumers a d
 same_as a b c d e k same =
     subst (λ (l : List (Consumer (Vec ℕ Global) Global AnyItems)). SameConsumers a l) (sym k)
     (subst (λ (l : List (Consumer (Vec ℕ Global) Global AnyItems)). SameConsumers l c) e same)
-
-pub writes_as : (a b c d : List (Consumer (Vec ℕ Global) Global AnyItems)) (x y z : Option (List ℕ)) → b ≡ a → d ≡ c → y ≡ x
-    → WritesOn b c y z → WritesOn a d x z
-writes_as a b c d x y z e k m w =
-    subst (λ (l : List (Consumer (Vec ℕ Global) Global AnyItems)). WritesOn a l x z) (sym k)
-    (subst (λ (l : List (Consumer (Vec ℕ Global) Global AnyItems)). WritesOn l c x z) e (subst (λ (o : Option (List ℕ)). WritesOn b c o z) m w))

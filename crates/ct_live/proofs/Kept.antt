@@ -1,5 +1,5 @@
 -- A line of which a beginning is kept asks what that beginning asks: nothing, since both are longer than any request.
-use Rattle.std.proofs.Common.{◌≡◌, ◌≢◌, ◌⊎◌, ◌<◌, inl, inr, [], ◌∷◌, Option, ◌&&◌, ℕ, false, cond, List, Some, None, length, refl, sym, ap, subst, ◌∙◌, arith}
+use Rattle.std.proofs.Common.{◌≡◌, ◌≢◌, ◌<◌, inl, inr, [], ◌∷◌, Option, ◌&&◌, ℕ, false, cond, List, Some, None, length, refl, sym, ap, subst, ◌∙◌, arith}
 use Rattle.std.proofs.lemmas.Bool.Decides.{nat_tests}
 use Rattle.std.specs.Prelude.{nat_le, option_and_then}
 use Rattle.std.specs.Str.{is_utf8}
@@ -9,8 +9,6 @@ use Rattle.ct_core.specs.Replies.{Answer}
 use Rattle.ct_core.specs.Settlement.{Log}
 use Rattle.ct_lines.specs.Frozen.{answer_if, line_answer}
 use Rattle.ct_lines.proofs.Asking.{too_long}
-use Rattle.ct_parties.specs.Tasks.{for_operator, does, AsksFor}
-use Rattle.ct_parties.specs.declared.task.OperatorTask.TheVariants.{BadLine}
 use Rattle.ct_pipes.specs.Lines.{kept_line, IsNextLine}
 use Rattle.ct_pipes.specs.Tagged.{tagged}
 use Rattle.ct_pipes.proofs.Pieces.{whole_or_long}

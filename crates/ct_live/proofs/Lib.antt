@@ -5,8 +5,13 @@ pub mod Opens
 pub mod Asks
 pub mod Replied
 pub mod Texts
+pub mod TextsBegun
+pub mod EndsBegun
 pub mod Given
 pub mod Kept
 pub mod Reading
 pub mod Tied
 pub mod Receipts
+pub mod Ended
+pub mod BrokenOff
+pub mod Runs

@@ -1,6 +1,7 @@
 -- A live log, opened.
-use Rattle.std.proofs.Common.{◌≡◌, ◌<◌, ◌∙◌, ◌+◌, ℕ, List, [], ◌∷◌, ◌++◌, refl, sym, subst, length, Vec, Global}
+use Rattle.std.proofs.Common.{◌≡◌, ◌<◌, ◌∙◌, ◌+◌, ℕ, List, [], ◌∷◌, ◌++◌, refl, sym, ap, subst, length, Vec, Global}
 use Rattle.std.specs.Prelude.{Some}
+use Rattle.std.proofs.lemmas.List.{length-map}
 use Rattle.std.proofs.lemmas.Option.{same_Some}
 use Rattle.rtrb.specs.Ring.{sent, received, IsPair}
 use Rattle.rtrb.specs.declared.AnyItems.{AnyItems}
@@ -33,10 +34,12 @@ pub joined_new : (n : ℕ) (e : Ends) (workers : List FrontWorker) (o : DeskWork
     → worker_answers workers ≡ e.answers.items
     → o.tasks ≡ e.desk_tasks → o.answers ≡ e.desk_answers → AreFrontsOf o.desk.sequencer (worker_fronts workers) → AreJoined e.inlets workers o e.rings.items
 joined_new n e workers o i tasks answers own_tasks own_answers fronts = record {
-  tasks = subst (λ (l : List (Consumer (Numbered FrontTask) Global AnyItems)). ArePairs e.inlets.fronts.items l) (sym tasks) i.tasks.pairs;
-  orders = rw own_tasks i.orders.pairs.0;
-  answers = rw own_answers (subst (λ (l : List (Producer (Vec ℕ Global) Global AnyItems)). ArePairs (l ++ e.desk_answers ∷ []) e.rings.items)
-      (sym answers) i.answers.pairs);
+  beside = record {
+    tasks_of = subst (λ (l : List (Consumer (Numbered FrontTask) Global AnyItems)). ArePairs e.inlets.fronts.items l) (sym tasks) i.tasks.pairs;
+    orders = rw own_tasks i.orders.pairs.0;
+    answers_of = rw own_answers (subst (λ (l : List (Producer (Vec ℕ Global) Global AnyItems)). ArePairs (l ++ e.desk_answers ∷ []) e.rings.items)
+        (sym answers) i.answers.pairs);
+  };
   fronts = fronts;
 }
 
@@ -65,3 +68,7 @@ opened n k e rings ring same tasks answers all own told = record {
   answers = subst (λ (m : ℕ). AreEmpty (m + 1) (e.answers.items ++ e.desk_answers ∷ []) e.rings.items) same
       (empty_more k e.answers.items (e.answers.items ++ e.desk_answers ∷ []) rings e.rings.items e.desk_answers ring refl all told.0 told.1 told.2 answers);
 }
+
+-- as many fronts with their rings as fronts
+pub as_many_workers : (workers : List FrontWorker) (fronts : List FrontView) (n : ℕ) → worker_fronts workers ≡ fronts → length fronts ≡ n → length workers ≡ n
+as_many_workers workers fronts n same count = sym (length-map workers (λ (w : FrontWorker). w.party.front)) ∙ ap length same ∙ count

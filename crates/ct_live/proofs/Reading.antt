@@ -1,16 +1,19 @@
 -- The lines that were read, and what was given of them.
-use Rattle.std.proofs.Common.{◌≡◌, ◌≢◌, ◌∙◌, ◌+◌, ℕ, List, [], ◌∷◌, ◌++◌, refl, sym, ap, subst, append_assoc, append-nil, length, Option, Some, None, Result, Ok, Err}
-use Rattle.std.specs.Prelude.{IfSome, IfOk}
+use Rattle.std.proofs.Common.{◌≡◌, ◌∙◌, ◌+◌, ℕ, List, [], ◌∷◌, ◌++◌, refl, sym, ap, subst, append_assoc, append-nil, length, Option, Some, None, Result}
 use Rattle.std.specs.Io.BufRead.{drop_through, first_piece}
 use Rattle.std.proofs.lemmas.Option.{same_Some, none-some}
+use Rattle.rtrb.specs.Ring.{sent}
 use Rattle.ct_parties.specs.Lines.{lines_of}
 use Rattle.ct_parties.proofs.LineLemmas.{first_line_cut}
+use Rattle.ct_parties.specs.declared.task.FrontTask.{FrontTask}
 use Rattle.ct_pipes.specs.Lines.{IsNextLine}
-use Rattle.ct_live.specs.LiveGiven.{AreRead, EndsReading, GivesLine, GivesLines, GivesNext, GivesUpTo, HaveGiven, ReadsOn}
-use Rattle.ct_live.specs.LiveLines.{AsksLive}
-use Rattle.ct_live.specs.LiveRuns.{GivesOn}
-use Rattle.ct_live.specs.LiveServed.{AllAskLive, AreLinesOf, numbered_from}
+use Rattle.ct_pipes.specs.Rings.{all_sent}
+use Rattle.ct_pipes.specs.declared.answering.Numbered.{Numbered}
+use Rattle.ct_live.specs.LiveGiven.{AreFirstLinesOf, AreRead, EndsReading, HaveGiven, ReadsOn}
+use Rattle.ct_live.specs.LiveGiven.{GivesLine, GivesLines, GivesNext, GivesNothing, GivesSome, GivesUpTo}
+use Rattle.ct_live.specs.LiveServed.{AllAskLive, AreGiven, AreLinesOf, numbered_from}
 use Rattle.ct_live.specs.LiveTasks.{LiveStep, closes}
+use Rattle.ct_live.specs.declared.asking.DeskTask.{DeskTask}
 use Rattle.ct_live.specs.declared.giving.End.{End}
 use Rattle.ct_live.specs.declared.giving.End.TheVariants as end_case
 use Rattle.ct_live.specs.declared.giving.GiveFault.{GiveFault}
@@ -147,12 +150,60 @@ pub given_up_to : (fronts n m o : ℕ) (input left later : Option (List ℕ)) (e
 given_up_to fronts n m o input left later e end a b c h is given =
     all_given fronts n m o input left later end a b c h (subst (λ (x : Option End). GivesNext fronts m o left later x b c) is given)
 
--- ---- the same, of the values as they are handed on
+-- ---- where lines were left
 
-pub reads_on : (fronts n m : ℕ) (input left : Option (List ℕ)) (r : Result End GiveFault) (a b : Inlets) → length a.fronts.items ≡ fronts → GivesOn a b
-    → IfOk r (λ end. GivesUpTo fronts n m input left end a b) → ReadsOn n m input left r a b
-reads_on fronts n m input left r a b count on given =
-    record { same = on; given = subst (λ (k : ℕ). IfOk r (λ end. GivesUpTo k n m input left end a b)) (sym count) given }
+-- lines that were read are first lines of the input
+pub read_first : (n m : ℕ) (input left : Option (List ℕ)) (lines : List (ℕ × List ℕ)) → AreRead n m input left lines → AreFirstLinesOf n input lines
+read_first n m None left lines read = tt
+read_first n m (Some xs) left lines (rest, is, all) = (numbered_from m (lines_of rest), sym all)
+
+-- lines that others were read behind
+pub read_before : (n m : ℕ) (input left : Option (List ℕ)) (lines behind : List (ℕ × List ℕ)) → AreRead n m input left (lines ++ behind)
+    → AreFirstLinesOf n input lines
+read_before n m None left lines behind read = tt
+read_before n m (Some xs) left lines behind (rest, is, all) =
+    (behind ++ numbered_from m (lines_of rest), sym (append_assoc lines behind (numbered_from m (lines_of rest))) ∙ sym all)
+
+-- all lines of the input
+pub whole_first : (n : ℕ) (input : Option (List ℕ)) (lines : List (ℕ × List ℕ)) → AreLinesOf n input lines → AreFirstLinesOf n input lines
+whole_first n None lines all = tt
+whole_first n (Some xs) lines all = ([], append-nil lines ∙ all)
+
+-- lines up to what ended them
+pub ended_first : (fronts n m : ℕ) (input left : Option (List ℕ)) (end : End) (lines : List (ℕ × List ℕ)) → EndsReading fronts n m input left end lines
+    → AreFirstLinesOf n input lines
+ended_first fronts n m input left end_case.Input lines ended = whole_first n input lines ended
+ended_first fronts n m input left (end_case.Close k now) lines (line, some, asks, read) = read_before n m input left lines ((k, line) ∷ []) read
+
+-- what was given stays so where nobody is given anything
+pub nothing_more : (fronts : ℕ) (lines : List (ℕ × List ℕ)) (a b c : Inlets) → GivesLines fronts lines a b → GivesNothing b c → GivesLines fronts lines a c
+nothing_more fronts lines a b c gives none steps h =
+    let (more, asks, given) = gives steps h in (
+      more,
+      asks,
+      subst (λ (l : List (Numbered DeskTask)). AreGiven (steps ++ more) (all_sent c.fronts.items) l) (sym none.operator)
+          (subst (λ (l : List (List (Numbered FrontTask))). AreGiven (steps ++ more) l (sent b.operator)) (sym none.fronts) given),
+    )
+
+-- What was given is what the first lines ask: where the next line was kept from the parties,
+pub some_given : (fronts n m : ℕ) (input left : Option (List ℕ)) (a b c : Inlets) → length a.fronts.items ≡ fronts → HasRead fronts n m input left a b
+    → GivesNothing b c → GivesSome n input a c
+some_given fronts n m input left a b c count h none = record {
+  lines = h.lines;
+  of_input = read_first n m input left h.lines h.read;
+  gives = subst (λ (k : ℕ). GivesLines k h.lines a c) (sym count) (nothing_more fronts h.lines a b c h.gives none);
+}
+
+-- and where something ended the lines.
+pub given_begun : (fronts n m : ℕ) (input left : Option (List ℕ)) (end : End) (a b : Inlets) → length a.fronts.items ≡ fronts
+    → GivesUpTo fronts n m input left end a b → GivesSome n input a b
+given_begun fronts n m input left end a b count given = record {
+  lines = given.lines;
+  of_input = ended_first fronts n m input left end given.lines given.ended;
+  gives = subst (λ (k : ℕ). GivesLines k given.lines a b) (sym count) given.gives;
+}
+
+-- ---- the same, of the values as they are handed on
 
 pub reads_as : (n m i j : ℕ) (x y p q : Option (List ℕ)) (r s : Result End GiveFault) (a b c d : Inlets) → i ≡ n → j ≡ m → p ≡ x → q ≡ y → s ≡ r → b ≡ a → d ≡ c
     → ReadsOn i m p y r b c → ReadsOn n j x q s a d

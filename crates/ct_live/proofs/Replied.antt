@@ -34,14 +34,14 @@ Empty xs = xs ≡ []
 
 -- ---- the answers of a party, seen as its front or its house
 
-front_answered : (a b : LiveFront) (ts : List (Numbered FrontTask)) (xs : List (List ℕ)) → AreAnswered FrontStep a ts xs b
+pub front_answered : (a b : LiveFront) (ts : List (Numbered FrontTask)) (xs : List (List ℕ)) → AreAnswered FrontStep a ts xs b
     → AreAnswered FrontReplies a.front ts xs b.front
 front_answered a b [] [] is = ap (λ (f : LiveFront). f.front) is
 front_answered a b [] (x ∷ xs) is = absurd is
 front_answered a b (t ∷ ts) [] is = absurd is
 front_answered a b (t ∷ ts) (x ∷ xs) (m, reply, did, e, rest) = (m.front, reply, did, e, front_answered m b ts xs rest)
 
-desk_answered : (a b : Desk) (ts : List (Numbered DeskTask)) (xs : List (List ℕ)) → AreAnswered DeskStep a ts xs b
+pub desk_answered : (a b : Desk) (ts : List (Numbered DeskTask)) (xs : List (List ℕ)) → AreAnswered DeskStep a ts xs b
     → AreAnswered DeskReplies a.sequencer ts xs b.sequencer
 desk_answered a b [] [] is = ap (λ (d : Desk). d.sequencer) is
 desk_answered a b [] (x ∷ xs) is = absurd is
@@ -58,7 +58,7 @@ since {T = T} does a b got got_then gave gave_then no_task no_text more =
     subst (λ (l : List (Numbered T)). AreAnswered does a l (texts gave_then) b) (sym tasks)
     (subst (λ (l : List (Vec ℕ Global)). AreAnswered does a more.tasks (texts l) b) (sym answers) more.answered)
 
-rest_of : {A : Type 0} (P : A → Type 0) (x : A) (xs : List A) → All P (x ∷ xs) → All P xs
+pub rest_of : {A : Type 0} (P : A → Type 0) (x : A) (xs : List A) → All P (x ∷ xs) → All P xs
 rest_of P x xs all k d below = all (suc k) d (omega arith)
 
 -- ---- all parties
@@ -78,14 +78,32 @@ all_answer (a ∷ before) (b ∷ after) p (did, all) no_task no_text = (
       (rest_of Empty (sent a.answers) (all_sent (worker_answers before ++ p ∷ [])) no_text),
 )
 
-last_unsent : (before : List FrontWorker) (p : Producer (Vec ℕ Global) Global AnyItems) → All Empty (all_sent (worker_answers before ++ p ∷ [])) → sent p ≡ []
+pub last_unsent : (before : List FrontWorker) (p : Producer (Vec ℕ Global) Global AnyItems) → All Empty (all_sent (worker_answers before ++ p ∷ []))
+    → sent p ≡ []
 last_unsent [] p no_text = no_text 0 [] (omega arith)
 last_unsent (a ∷ before) p no_text = last_unsent before p (rest_of Empty (sent a.answers) (all_sent (worker_answers before ++ p ∷ [])) no_text)
+
+-- ---- the parties whose ends are those of rings that were opened received nothing yet, and sent nothing
+
+pub no_task : (n : ℕ) (e : Ends) (workers : List FrontWorker) → AreOpened n e → worker_tasks workers ≡ e.tasks.items
+    → All Empty (all_received (worker_tasks workers))
+no_task n e workers i tasks =
+    subst (λ (l : List (Consumer (Numbered FrontTask) Global AnyItems)). All Empty (all_received l)) (sym tasks) i.tasks.unreceived
+
+pub no_text : (n : ℕ) (e : Ends) (workers : List FrontWorker) (o : DeskWorker) → AreOpened n e → worker_answers workers ≡ e.answers.items
+    → o.answers ≡ e.desk_answers → All Empty (all_sent (worker_answers workers ++ o.answers ∷ []))
+no_text n e workers o i answers own_answers =
+    subst (λ (q : Producer (Vec ℕ Global) Global AnyItems). All Empty (all_sent (worker_answers workers ++ q ∷ []))) (sym own_answers)
+    (subst (λ (l : List (Producer (Vec ℕ Global) Global AnyItems)). All Empty (all_sent (l ++ e.desk_answers ∷ []))) (sym answers) i.answers.unsent)
+
+pub no_order : (n : ℕ) (e : Ends) (o : DeskWorker) → AreOpened n e → o.tasks ≡ e.desk_tasks → received o.tasks ≡ []
+no_order n e o i own_tasks =
+    subst (λ (c : Consumer (Numbered DeskTask) Global AnyItems). received c ≡ []) (sym own_tasks) (i.orders.unreceived 0 [] (omega arith))
 
 -- ---- what is written
 
 -- nothing is, before anything was sent
-nothing_written : (rings : Rings) (start : Option (List ℕ)) → All Empty (all_received rings) → IsWritten (texts_each (all_received rings)) start start
+pub nothing_written : (rings : Rings) (start : Option (List ℕ)) → All Empty (all_received rings) → IsWritten (texts_each (all_received rings)) start start
 nothing_written rings start none = record {
   order = [];
   merge = record {
@@ -108,8 +126,8 @@ module _ {T E : Type 0} where
   pub ok_is : (r : Result T E) (x : T) (P : T → Type 0) → r ≡ Ok x → IfOk r P → P x
   ok_is r x P is holds = subst (λ (t : Result T E). IfOk t P) is holds
 
-pub replies_live : (n close_at next : ℕ) (input : Option (List ℕ)) (e : Ends) (workers : List FrontWorker) (o : DeskWorker) (old new : Option (List ℕ)) → AreOpened n e
-    → worker_tasks workers ≡ e.tasks.items
+pub replies_live : (n close_at next : ℕ) (input : Option (List ℕ)) (e : Ends) (workers : List FrontWorker) (o : DeskWorker) (old new : Option (List ℕ))
+    → AreOpened n e → worker_tasks workers ≡ e.tasks.items
     → worker_answers workers ≡ e.answers.items → o.answers ≡ e.desk_answers → o.tasks ≡ e.desk_tasks
     → RunsLive close_at next input e.inlets workers e.rings.items (Some o) old new
     → RepliesLive n close_at next input o.desk.sequencer (worker_fronts workers) old new
@@ -117,13 +135,6 @@ replies_live n close_at next input e workers o old new i tasks answers own_answe
   where
     go : (p : DeskWorker) → o ≡ p → DeskWorks p r.operator_then → RepliesLive n close_at next input o.desk.sequencer (worker_fronts workers) old new
     go p is worked =
-        let no_task : All Empty (all_received (worker_tasks workers)) =
-        subst (λ (l : List (Consumer (Numbered FrontTask) Global AnyItems)). All Empty (all_received l)) (sym tasks) i.tasks.unreceived in
-        let no_text : All Empty (all_sent (worker_answers workers ++ o.answers ∷ [])) =
-        subst (λ (q : Producer (Vec ℕ Global) Global AnyItems). All Empty (all_sent (worker_answers workers ++ q ∷ []))) (sym own_answers)
-        (subst (λ (l : List (Producer (Vec ℕ Global) Global AnyItems)). All Empty (all_sent (l ++ e.desk_answers ∷ []))) (sym answers) i.answers.unsent) in
-        let no_order : received o.tasks ≡ [] = subst (λ (c : Consumer (Numbered DeskTask) Global AnyItems). received c ≡ []) (sym own_tasks)
-        (i.orders.unreceived 0 [] (omega arith)) in
         let did : DeskWorks o r.operator_then = subst (λ (q : DeskWorker). DeskWorks q r.operator_then) (sym is) worked in
         let w = r.ended.written old (r.wrote old (nothing_written e.rings.items old i.answers.unreceived)) in
         let lists : texts_each (all_received r.ended.rings) ≡ texts_each (all_sent (worker_answers r.workers_then))
@@ -140,14 +151,14 @@ replies_live n close_at next input e workers o old new i tasks answers own_answe
           front_tasks = all_received (worker_tasks r.workers_then);
           front_texts = texts_each (all_sent (worker_answers r.workers_then));
           fronts_then = worker_fronts r.workers_then;
-          answered = all_answer workers r.workers_then o.answers r.did no_task no_text;
+          answered = all_answer workers r.workers_then o.answers r.did (no_task n e workers i tasks) (no_text n e workers o i answers own_answers);
           desk_tasks = received r.operator_then.tasks;
           desk_texts = texts (sent r.operator_then.answers);
           house_then = r.operator_then.desk.sequencer;
           operated = desk_answered o.desk r.operator_then.desk (received r.operator_then.tasks) (texts (sent r.operator_then.answers))
               (since DeskStep o.desk r.operator_then.desk (received o.tasks) (received r.operator_then.tasks) (sent o.answers)
-              (sent r.operator_then.answers) no_order
-              (last_unsent workers o.answers no_text) did.answered);
+              (sent r.operator_then.answers) (no_order n e o i own_tasks)
+              (last_unsent workers o.answers (no_text n e workers o i answers own_answers)) did.answered);
           now = r.ended.closing.now;
           lines = tie.lines;
           of_input = tie.of_input;

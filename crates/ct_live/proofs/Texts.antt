@@ -8,13 +8,12 @@ use Rattle.ct_core.specs.Replies.{a_published_head}
 use Rattle.ct_core.specs.Settlement.{Log}
 use Rattle.ct_house.specs.House.{FinalState, FrontView, HouseState}
 use Rattle.ct_lines.specs.Frozen.{frozen_reply, line_answer}
-use Rattle.ct_lines.specs.ReplyText.{reply_line}
 use Rattle.ct_parties.specs.ClosedLog.{Closes}
 use Rattle.ct_pipes.specs.Tagged.{tagged}
 use Rattle.ct_tree.specs.declared.head.Head.{Head}
 use Rattle.ct_live.specs.LiveReplied.{EndsLog, WritesBehind, WritesLastHead}
 use Rattle.ct_live.specs.LiveReplies.{object_text}
-use Rattle.ct_live.specs.LiveServed.{AreLinesOf, closed_replies, IsLastHead}
+use Rattle.ct_live.specs.LiveServed.{closed_replies}
 use Rattle.ct_live.specs.LiveGiven.{AreRead}
 use Rattle.ct_live.specs.declared.giving.End.{End}
 use Rattle.ct_live.specs.declared.giving.End.TheVariants as end_case
@@ -30,7 +29,7 @@ reply_and_end log line = refl
 
 -- ---- the replies to the lines behind
 
-replies_both : (log : Log) (one two : List (ℕ × List ℕ)) → concat (closed_replies log (one ++ two)) ≡ concat (closed_replies log one) ++ concat (closed_replies log two)
+pub replies_both : (log : Log) (one two : List (ℕ × List ℕ)) → concat (closed_replies log (one ++ two)) ≡ concat (closed_replies log one) ++ concat (closed_replies log two)
 replies_both log [] two = refl
 replies_both log ((k, []) ∷ one) two = replies_both log one two
 replies_both log ((k, b ∷ bs) ∷ one) two =

@@ -11,7 +11,7 @@ use Rattle.ct_live.specs.LiveLines.{AsksLive}
 use Rattle.ct_live.specs.LiveOpening.{AreOpened}
 use Rattle.ct_live.specs.LiveReplied.{IsEndText, IsMomentOf}
 use Rattle.ct_live.specs.LiveServed.{AreGiven, AreLinesOf, AreTasksOf, desk_task_asked, IsClosingText}
-use Rattle.ct_live.specs.LiveTasks.{LiveStep, closes}
+use Rattle.ct_live.specs.LiveTasks.{closes}
 use Rattle.ct_live.specs.declared.asking.DeskTask.{DeskTask}
 use Rattle.ct_live.specs.declared.giving.End.{End}
 use Rattle.ct_live.specs.declared.giving.End.TheVariants as end_case

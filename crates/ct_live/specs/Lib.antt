@@ -8,3 +8,4 @@ pub mod LiveOpening
 pub mod LiveReplied
 pub mod LiveServed
 pub mod LiveGiven
+pub mod LiveBroken

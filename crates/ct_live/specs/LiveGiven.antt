@@ -1,7 +1,10 @@
 -- The tasks that the parties of a live log were given, by the lines that ask for them.
 use Rattle.std.specs.Prelude.{◌≡◌, ◌≢◌, ℕ, List, [], ◌∷◌, ◌++◌, length, Option, Some, None, IfSome, IfOk, Result}
+use mathlib.Core.List.{IsPrefix}
 use Rattle.rtrb.specs.Ring.{sent}
 use Rattle.ct_parties.specs.Lines.{lines_of}
+use Rattle.ct_parties.specs.declared.fault.Fault.{Fault}
+use Rattle.ct_parties.specs.declared.fault.Fault.TheVariants as fault_case
 use Rattle.ct_pipes.specs.Lines.{IsNextLine}
 use Rattle.ct_pipes.specs.Rings.{all_sent}
 use Rattle.ct_live.specs.LiveLines.{AsksLive}
@@ -11,7 +14,19 @@ use Rattle.ct_live.specs.LiveTasks.{LiveStep, closes}
 use Rattle.ct_live.specs.declared.giving.End.{End}
 use Rattle.ct_live.specs.declared.giving.End.TheVariants.{Close, Input}
 use Rattle.ct_live.specs.declared.giving.GiveFault.{GiveFault}
+use Rattle.ct_live.specs.declared.giving.GiveFault.TheVariants as give_case
 use Rattle.ct_live.specs.declared.giving.Inlets.{Inlets}
+
+-- why lines are left, where reading them or a line's growth fails so
+abbrev pub why_left : Fault → GiveFault
+why_left fault_case.Memory = give_case.Memory
+why_left _ = give_case.Read
+
+-- what ends the run where lines are left: where all were to end, a thread that ended before its time has them end
+abbrev pub fault_of_left : GiveFault → Fault
+fault_of_left give_case.Memory = fault_case.Memory
+fault_of_left give_case.Read = fault_case.Read
+fault_of_left give_case.Stopped = fault_case.Threads
 
 -- what was given so far is what these steps ask
 abbrev pub HaveGiven : List (ℕ × LiveStep) → Inlets → Type 0
@@ -59,7 +74,23 @@ pub record GivesUpTo (fronts n m : ℕ) (input left : Option (List ℕ)) (end : 
   pub gives : GivesLines fronts lines old new
   pub ended : EndsReading fronts n m input left end lines
 
--- what the reader did: into the same rings it gave out what the lines ask, where it wasn't kept from it
+-- nobody was given anything
+pub record GivesNothing (old new : Inlets) : Type 0 where
+  pub fronts : all_sent new.fronts.items ≡ all_sent old.fronts.items
+  pub operator : sent new.operator ≡ sent old.operator
+
+-- the lines are the first of an input's, where its bytes are known, with their numbers, of which the first is n
+abbrev pub AreFirstLinesOf : ℕ → Option (List ℕ) → List (ℕ × List ℕ) → Type 0
+AreFirstLinesOf n input lines = IfSome input (λ bytes. IsPrefix lines (numbered_from n (lines_of bytes)))
+
+-- what the first lines of an input ask was given out, and nothing else
+pub record GivesSome (n : ℕ) (input : Option (List ℕ)) (old new : Inlets) : Type 0 where
+  pub lines : List (ℕ × List ℕ)
+  pub of_input : AreFirstLinesOf n input lines
+  pub gives : GivesLines (length old.fronts.items) lines old new
+
+-- what the reader did: into the same rings it gave out what the first lines ask, and what all ask, where it wasn't kept from it
 pub record ReadsOn (n m : ℕ) (input left : Option (List ℕ)) (result : Result End GiveFault) (old new : Inlets) : Type 0 where
   pub same : GivesOn old new
+  pub begun : GivesSome n input old new
   pub given : IfOk result (λ end. GivesUpTo (length old.fronts.items) n m input left end old new)

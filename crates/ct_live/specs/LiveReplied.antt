@@ -6,6 +6,7 @@ use Rattle.std.specs.List.{concat}
 use Rattle.rtrb.specs.Ring.{sent, received}
 use Rattle.rtrb.specs.declared.AnyItems.{AnyItems}
 use Rattle.rtrb.specs.declared.consumer.Consumer.{Consumer}
+use Rattle.rtrb.specs.declared.producer.Producer.{Producer}
 use Rattle.ct_core.specs.Replies.{a_published_head}
 use Rattle.ct_core.specs.Settlement.{Log}
 use Rattle.ct_house.specs.House.{FinalState, FrontView, HouseState, IsNewHouse}
@@ -15,7 +16,7 @@ use Rattle.ct_pipes.specs.Answered.{AreAnswered}
 use Rattle.ct_pipes.specs.Parts.{IsMergeOf}
 use Rattle.ct_pipes.specs.Rings.{all_received, all_sent}
 use Rattle.ct_pipes.specs.Tagged.{tagged}
-use Rattle.ct_pipes.specs.Written.{WritesOn, in_order}
+use Rattle.ct_pipes.specs.Written.{WritesBeginning, WritesOn, in_order}
 use Rattle.ct_pipes.specs.declared.answering.Numbered.{Numbered}
 use Rattle.ct_tree.specs.declared.head.Head.{Head}
 use Rattle.ct_live.specs.LiveGiven.{ReadsOn}
@@ -38,9 +39,18 @@ Rings = List (Consumer (Vec ℕ Global) Global AnyItems)
 abbrev pub WritesLastHead : Log → ℕ → Option (List ℕ) → Option (List ℕ) → Type 0
 WritesLastHead log k old new = (h : Head) × IsLastHead log h × Appends old new (tagged k (object_text (a_published_head h)))
 
+-- or a beginning of it
+abbrev pub WritesSomeLastHead : Log → ℕ → Option (List ℕ) → Option (List ℕ) → Type 0
+WritesSomeLastHead log k old new = (h : Head) × IsLastHead log h × WritesBeginning old new (tagged k (object_text (a_published_head h)))
+
 -- the closed log's replies to the lines that were left of an input were written, of which the first has the number n
 abbrev pub WritesBehind : Log → ℕ → Option (List ℕ) → Option (List ℕ) → Option (List ℕ) → Type 0
 WritesBehind log n input old new = (behind : List (ℕ × List ℕ)) × AreLinesOf n input behind × Appends old new (concat (closed_replies log behind))
+
+-- or a beginning of them
+abbrev pub WritesSomeBehind : Log → ℕ → Option (List ℕ) → Option (List ℕ) → Option (List ℕ) → Type 0
+WritesSomeBehind log n input old new =
+    (behind : List (ℕ × List ℕ)) × AreLinesOf n input behind × WritesBeginning old new (concat (closed_replies log behind))
 
 -- what the closed log writes: nothing where the input ended; or its last head, and its replies to the lines that were left
 abbrev pub IsEndText : Log → End → ℕ → Option (List ℕ) → List ℕ → Type 0
@@ -65,17 +75,18 @@ pub record EndsLog (house : HouseState) (fronts : List FrontView) (close_at : �
 -- Once all threads have ended: the reader wasn't kept from the lines, the parties had received all tasks that they were given, all
 -- their answers that are left are written, the log is closed, final for what the fronts had accepted, and what it replies is written
 -- behind them.
-pub record EndsLive (inlets : Inlets) (workers : List FrontWorker) (operator : DeskWorker) (close_at : ℕ) (read : Result End GiveFault) (next : ℕ)
+pub record EndsLive (inlets : Inlets) (fronts : List FrontView) (tasks : List (Consumer (Numbered FrontTask) Global AnyItems))
+    (answers : List (Producer (Vec ℕ Global) Global AnyItems)) (operator : DeskWorker) (close_at : ℕ) (read : Result End GiveFault) (next : ℕ)
     (input : Option (List ℕ)) (before : Rings) (old new : Option (List ℕ)) : Type 0 where
-  pub taken : all_received (worker_tasks workers) ≡ all_sent inlets.fronts.items
+  pub taken : all_received tasks ≡ all_sent inlets.fronts.items
   pub ordered : received operator.tasks ≡ sent inlets.operator
   pub rings : Rings
-  pub all : all_received rings ≡ all_sent (worker_answers workers ++ operator.answers ∷ [])
+  pub all : all_received rings ≡ all_sent (answers ++ operator.answers ∷ [])
   pub mid : Option (List ℕ)
   pub written : WritesOn before rings old mid
   pub end : End
   pub ended_so : read ≡ Ok end
-  pub closing : EndsLog operator.desk.sequencer (worker_fronts workers) close_at end next input mid new
+  pub closing : EndsLog operator.desk.sequencer fronts close_at end next input mid new
 
 -- What the threads and the end after them do: tasks were given for the lines of the input, the fronts and the operator did theirs,
 -- answers were written as they came, and then the log ended.
@@ -95,7 +106,7 @@ pub record RunsLive (close_at next : ℕ) (input : Option (List ℕ)) (inlets : 
   pub rings_then : Rings
   pub mid : Option (List ℕ)
   pub wrote : WritesOn rings rings_then old mid
-  pub ended : EndsLive inlets_then workers_then operator_then close_at read next_then input_then rings_then mid new
+  pub ended : EndsLive inlets_then (worker_fronts workers_then) (worker_tasks workers_then) (worker_answers workers_then) operator_then close_at read next_then input_then rings_then mid new
 
 -- each front answered its tasks in turn, from what it was to what it is then
 abbrev pub AllAnswer : List FrontView → List (List (Numbered FrontTask)) → List (List (List ℕ)) → List FrontView → Type 0

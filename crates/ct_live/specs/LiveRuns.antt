@@ -8,9 +8,9 @@ use Rattle.rtrb.specs.declared.producer.Producer.{Producer}
 use Rattle.ct_house.specs.House.{FrontView}
 use Rattle.ct_parties.specs.Parties.{AreFrontsOf}
 use Rattle.ct_parties.specs.declared.task.FrontTask.{FrontTask}
-use Rattle.ct_pipes.specs.Answered.{AnswersMore}
+use Rattle.ct_pipes.specs.Answered.{AnswersMore, AnswersSome}
 use Rattle.ct_pipes.specs.Rings.{ArePairs, SameConsumers, SameProducers}
-use Rattle.ct_pipes.specs.Working.{AllWork}
+use Rattle.ct_pipes.specs.Working.{AllWork, AllWorkSome}
 use Rattle.ct_pipes.specs.Written.{WritesOn, BeginsOn}
 use Rattle.ct_pipes.specs.declared.answering.Numbered.{Numbered}
 use Rattle.ct_pipes.specs.declared.workers.Worker.{Worker}
@@ -20,6 +20,10 @@ use Rattle.ct_live.specs.declared.front.LiveFront.{LiveFront}
 use Rattle.ct_live.specs.declared.giving.Inlets.{Inlets}
 use Rattle.ct_live.specs.declared.desk.Desk.{Desk}
 use Rattle.ct_live.specs.declared.workers.DeskWorker.{DeskWorker}
+
+-- the fronts that these parties are
+abbrev pub party_fronts : List LiveFront → List FrontView
+party_fronts ps = map (λ (p : LiveFront). p.front) ps
 
 -- a front with the ends of its rings
 abbrev pub FrontWorker : Type 0
@@ -35,13 +39,18 @@ worker_tasks ws = map (λ (w : FrontWorker). w.tasks) ws
 abbrev pub worker_answers : List FrontWorker → List (Producer (Vec ℕ Global) Global AnyItems)
 worker_answers ws = map (λ (w : FrontWorker). w.answers) ws
 
--- All fronts of a house and its operator have the ends of the rings in which they are given tasks, and of those whose other ends
--- are these: the fronts in order, and then the operator.
+-- At hand are the ends of all rings, each with its other end: of those into which tasks are given, and of those whose other ends are
+-- these, the fronts' in order and then the operator's.
+pub record AreBeside (inlets : Inlets) (tasks : List (Consumer (Numbered FrontTask) Global AnyItems))
+    (answers : List (Producer (Vec ℕ Global) Global AnyItems)) (operator : DeskWorker) (rings : List (Consumer (Vec ℕ Global) Global AnyItems)) : Type 0 where
+  pub tasks_of : ArePairs inlets.fronts.items tasks
+  pub orders : IsPair inlets.operator operator.tasks
+  pub answers_of : ArePairs (answers ++ operator.answers ∷ []) rings
+
+-- All fronts of a house and its operator have the ends of these rings.
 pub record AreJoined (inlets : Inlets) (workers : List FrontWorker) (operator : DeskWorker)
     (rings : List (Consumer (Vec ℕ Global) Global AnyItems)) : Type 0 where
-  pub tasks : ArePairs inlets.fronts.items (worker_tasks workers)
-  pub orders : IsPair inlets.operator operator.tasks
-  pub answers : ArePairs (worker_answers workers ++ operator.answers ∷ []) rings
+  pub beside : AreBeside inlets (worker_tasks workers) (worker_answers workers) operator rings
   pub fronts : AreFrontsOf operator.desk.sequencer (worker_fronts workers)
 
 -- the rings into which tasks are given are the same
@@ -60,6 +69,16 @@ DeskStep a t reply b = DeskReplies a.sequencer t reply b.sequencer
 -- what the operator did: it answered all tasks that it received in turn, over the same rings
 pub record DeskWorks (a b : DeskWorker) : Type 0 where
   pub answered : AnswersMore DeskStep a.desk b.desk (received a.tasks) (received b.tasks) (sent a.answers) (sent b.answers)
+  pub tasks : SameConsumer a.tasks b.tasks
+  pub answers : SameProducer a.answers b.answers
+
+-- the same of each front of which not all tasks are known to be answered: it answered the first of those that it received
+abbrev pub AllReplySome : List FrontWorker → List FrontWorker → Type 0
+AllReplySome before after = AllWorkSome (λ (a : LiveFront) (t : FrontTask) (r : List ℕ) (b : LiveFront). FrontReplies a.front t r b.front) before after
+
+-- and of the operator
+pub record DeskWorksSome (a b : DeskWorker) : Type 0 where
+  pub answered : AnswersSome DeskStep a.desk (received a.tasks) (received b.tasks) (sent a.answers) (sent b.answers)
   pub tasks : SameConsumer a.tasks b.tasks
   pub answers : SameProducer a.answers b.answers
 

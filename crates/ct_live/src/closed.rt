@@ -1,10 +1,11 @@
 //! The log closed, and its replies to the lines that are left.
 
-ghost use Rattle.std.specs.Prelude.{◌≡◌, ◌∷◌, [], IfOk, OnOk};
+ghost use Rattle.std.specs.Prelude.{◌≡◌, ◌⊎◌, ◌∷◌, [], IfErr, IfOk, OnOk, OnErr};
 ghost use Rattle.std.specs.Io.KnownBytes.{Appends};
 ghost use Rattle.std.specs.List.{concat};
 ghost use Rattle.ct_lines.specs.Frozen.{line_answer};
-ghost use Rattle.ct_live.specs.LiveReplied.{WritesBehind, WritesLastHead};
+ghost use Rattle.ct_pipes.specs.Written.{WritesBeginning};
+ghost use Rattle.ct_live.specs.LiveReplied.{WritesBehind, WritesLastHead, WritesSomeBehind, WritesSomeLastHead};
 ghost use Rattle.ct_live.specs.LiveReplies.{object_text};
 ghost use Rattle.ct_live.specs.LiveServed.{closed_replies};
 
@@ -37,7 +38,9 @@ pub fn send_last_head<W: Write>(
     number: u64,
     output: &mut W,
 ) -> Result<(), Fault>
-    ensures { OnOk result (WritesLastHead log.now number (W.contents output.old) (W.contents output.new)) }
+    ensures all { OnOk result (WritesLastHead log.now number (W.contents output.old) (W.contents output.new)) }
+    ensures begun { OnErr result (WritesSomeLastHead log.now number (W.contents output.old) (W.contents output.new)) }
+    ensures faults { IfErr result (λ f. (f ≡ Fault.Write) ⊎ (f ≡ Fault.Memory)) }
 {
     let reply = reply_object(alloc, &Ok(Reply::Published(log.last_head())))?;
     let text = tag(alloc, number, &reply)?;
@@ -54,7 +57,9 @@ fn send_reply<W: Write>(
     line: &[u8],
     output: &mut W,
 ) -> Result<(), Fault>
-    ensures { OnOk result (Appends (W.contents output.old) (W.contents output.new) (concat (closed_replies log.now ((number, line.now) ∷ [])))) }
+    ensures all { OnOk result (Appends (W.contents output.old) (W.contents output.new) (concat (closed_replies log.now ((number, line.now) ∷ [])))) }
+    ensures begun { OnErr result (WritesBeginning (W.contents output.old) (W.contents output.new) (concat (closed_replies log.now ((number, line.now) ∷ [])))) }
+    ensures faults { IfErr result (λ f. (f ≡ Fault.Write) ⊎ (f ≡ Fault.Memory)) }
 {
     if line.is_empty() {
         return Ok(());
@@ -72,7 +77,9 @@ pub fn serve_closed<B: BufRead + Drop, W: Write>(
     lines: &mut NumberedLines<B>,
     output: &mut W,
 ) -> Result<(), Fault>
-    ensures { OnOk result (WritesBehind log.now lines.old.next (B.remaining lines.old.input) (W.contents output.old) (W.contents output.new)) }
+    ensures all { OnOk result (WritesBehind log.now lines.old.next (B.remaining lines.old.input) (W.contents output.old) (W.contents output.new)) }
+    ensures begun { OnErr result (WritesSomeBehind log.now lines.old.next (B.remaining lines.old.input) (W.contents output.old) (W.contents output.new)) }
+    ensures faults { IfErr result (λ f. (f ≡ Fault.Write) ⊎ ((f ≡ Fault.Memory) ⊎ (f ≡ Fault.Read))) }
 {
     let mut line = Vec::new(alloc);
     for turn in 0..LINES {

@@ -1,22 +1,27 @@
 //! What comes once all threads have ended.
 
-ghost use Rattle.std.specs.Prelude.{◌≡◌, ◌++◌, ◌∷◌, [], IfOk, OnOk};
+ghost use Rattle.std.specs.Prelude.{◌≡◌, ◌<◌, ◌⊎◌, ◌++◌, ◌∷◌, [], true, None, IsOk, IfOk, OnOk, OnErr, vec_len, vec_capacity};
+ghost use Rattle.std.specs.Io.KnownBytes.{Appends};
+ghost use mathlib.Core.List.{IsPrefix};
 ghost use Rattle.rtrb.specs.Ring.{sent, received, IsPair};
 ghost use Rattle.ct_parties.specs.Parties.{AreFrontsOf};
-ghost use Rattle.ct_pipes.specs.Rings.{all_received, all_sent, ArePairs};
-ghost use Rattle.ct_pipes.specs.Written.{WritesOn};
+ghost use Rattle.ct_pipes.specs.Rings.{all_received, all_sent, ArePairs, ArePrefixes};
+ghost use Rattle.ct_pipes.specs.Written.{WritesOn, BeginsOn};
+ghost use Rattle.ct_live.specs.LiveBroken.{EndsBrokenOff, EndsLogSome, HaveDone, WritesNoMore, fault_of_party, fault_of_start};
 ghost use Rattle.ct_live.specs.LiveReplied.{EndsLive, EndsLog};
-ghost use Rattle.ct_live.specs.LiveRuns.{AreJoined, worker_answers, worker_fronts, worker_tasks};
+ghost use Rattle.ct_live.specs.LiveRuns.{AreBeside, party_fronts};
 
 use crate::asking::DeskTask;
 use crate::closed::{send_last_head, serve_closed};
 use crate::desk::Desk;
 use crate::front::LiveFront;
 use crate::giving::{End, GiveFault, Giver, Inlets};
-use crate::workers::{DeskWorker, FrontWorker};
+use crate::workers::DeskWorker;
 use ct_house::{Front, Sequencer};
 use ct_parties::{Fault, FrontTask, close};
-use ct_pipes::{Numbered, NumberedLines, Worker, are_taken, write_left};
+use ct_pipes::{
+    Joined, Numbered, NumberedLines, PartyFault, StartFault, WriteFailed, are_taken, write_left,
+};
 use ct_tree::Memory;
 use rtrb::{Consumer, Producer};
 use std::alloc::Global;
@@ -24,84 +29,141 @@ use std::io::{BufRead, Write};
 use std::sync::Wait;
 use std::thread::Threads;
 
-/// What the threads leave of the reader and the fronts.
+/// What the threads leave of the reader, the fronts, the writer and the operator.
 #[derive(Drop)]
 pub struct Left<B: BufRead + Drop> {
     pub giver: Giver<B>,
     pub end: Result<End, GiveFault>,
-    pub workers: Vec<FrontWorker>,
+    pub fronts: Joined<LiveFront, FrontTask>,
+    pub written: Result<(), WriteFailed>,
+    pub operated: Result<(), PartyFault>,
 }
 
-// The fronts, and the ends of their rings.
-#[derive(Drop)]
-struct Parted {
-    fronts: Vec<Front>,
-    tasks: Vec<Consumer<Numbered<FrontTask>>>,
-    answers: Vec<Producer<Vec<u8>>>,
-}
-
-// The fronts apart from the ends of their rings, in order.
-fn part_workers(alloc: Global, workers: Vec<FrontWorker>) -> Result<Parted, Memory>
-    ensures fronts { IfOk result (λ p. p.fronts.items ≡ worker_fronts workers.items) }
-    ensures tasks { IfOk result (λ p. p.tasks.items ≡ worker_tasks workers.items) }
-    ensures answers { IfOk result (λ p. p.answers.items ≡ worker_answers workers.items) }
+// The fronts, in order.
+fn fronts_of(alloc: Global, parties: Vec<LiveFront>) -> Result<Vec<Front>, Memory>
+    ensures { IfOk result (λ v. v.items ≡ party_fronts parties.items) }
 {
     let mut fronts = Vec::new(alloc);
-    let mut tasks = Vec::new(alloc);
-    let mut answers = Vec::new(alloc);
-    for worker in workers {
-        let Worker {
-            number: _,
-            party,
-            tasks: own_tasks,
-            answers: own_answers,
-        } = worker;
+    for party in parties {
         let LiveFront { front } = party;
         fronts.push(front)?;
-        tasks.push(own_tasks)?;
-        answers.push(own_answers)?;
     }
-    Ok(Parted {
-        fronts,
-        tasks,
-        answers,
-    })
+    Ok(fronts)
 }
 
-// Writes what the parties answered and wasn't written yet, once their threads have ended. It answers the fronts.
+// Whether all tasks that were given were received.
+fn are_received(
+    inlets: &mut Inlets,
+    tasks: &mut [Consumer<Numbered<FrontTask>>],
+    orders: &mut Consumer<Numbered<DeskTask>>,
+) -> bool
+    requires tasks { ArePairs inlets.old.fronts.items tasks.old }
+    requires orders { IsPair inlets.old.operator orders.old }
+    ensures taken { result ≡ true → (all_received tasks.old ≡ all_sent inlets.old.fronts.items) × (received orders.old ≡ sent inlets.old.operator) }
+    ensures begun { ArePrefixes (all_received tasks.old) (all_sent inlets.old.fronts.items) × IsPrefix (received orders.old) (sent inlets.old.operator) }
+{
+    let all = are_taken(&mut inlets.fronts, tasks);
+    let left = orders.slots_beside(&mut inlets.operator);
+    all && left == 0
+}
+
+/// What ends the run where a thread ended before its time, or didn't start.
+#[derive(Drop)]
+pub struct Ended {
+    pub fault: Fault,
+}
+
+// A growth was refused, or the party was to end for another's sake.
+impl From<PartyFault> for Ended {
+    ghost from_gives = { λ party ended. ended.fault ≡ fault_of_party party };
+
+    fn from(fault: PartyFault) -> Ended {
+        let fault = match fault {
+            PartyFault::Memory => Fault::Memory,
+            PartyFault::Stopped => Fault::Threads,
+        };
+        Ended { fault }
+    }
+}
+
+impl From<StartFault> for Ended {
+    ghost from_gives = { λ start ended. ended.fault ≡ fault_of_start start };
+
+    fn from(fault: StartFault) -> Ended {
+        let fault = match fault {
+            StartFault::Memory => Fault::Memory,
+            StartFault::Threads => Fault::Threads,
+        };
+        Ended { fault }
+    }
+}
+
+// What ended the threads before their time, if anything did.
+fn fault_of(
+    written: &Result<(), WriteFailed>,
+    operated: &Result<(), PartyFault>,
+    fronts: &Option<PartyFault>,
+) -> Result<(), Fault>
+    ensures { OnOk result (HaveDone written.now operated.now fronts.now) }
+{
+    if written.is_err() {
+        return Err(Fault::Write);
+    }
+    match (operated, fronts) {
+        (Ok(()), None) => Ok(()),
+        (Err(PartyFault::Stopped), Some(fault)) => Err(Ended::from(*fault).fault),
+        (Err(fault), _) => Err(Ended::from(*fault).fault),
+        (Ok(()), Some(fault)) => Err(Ended::from(*fault).fault),
+    }
+}
+
+// The fronts, where nothing ended the threads before their time, and all tasks were received.
+fn ready_fronts(
+    alloc: Global,
+    done: Result<(), Fault>,
+    received: bool,
+    parties: Vec<LiveFront>,
+) -> Result<Vec<Front>, Fault>
+    ensures done { OnOk result (IsOk done × (received ≡ true)) }
+    ensures fronts { IfOk result (λ v. v.items ≡ party_fronts parties.items) }
+{
+    done?;
+    if !received {
+        return Err(Fault::Threads);
+    }
+    let fronts = fronts_of(alloc, parties)?;
+    Ok(fronts)
+}
+
+// Writes what the parties answered and wasn't written yet, once their threads have ended, and all tasks were received. It answers
+// the fronts.
 fn write_rest<W: Write>(
     alloc: Global,
-    inlets: &mut Inlets,
-    workers: Vec<FrontWorker>,
-    mut tasks: Consumer<Numbered<DeskTask>>,
-    answers: Producer<Vec<u8>>,
+    done: Result<(), Fault>,
+    received: bool,
+    parties: Vec<LiveFront>,
+    answers: &mut [Producer<Vec<u8>>],
     rings: &mut [Consumer<Vec<u8>>],
     output: &mut W,
 ) -> Result<Vec<Front>, Fault>
-    requires tasks { ArePairs inlets.old.fronts.items (worker_tasks workers.items) }
-    requires orders { IsPair inlets.old.operator tasks }
-    requires answers { ArePairs (worker_answers workers.items ++ answers ∷ []) rings.old }
-    ensures fronts { IfOk result (λ v. v.items ≡ worker_fronts workers.items) }
-    ensures taken { OnOk result (all_received (worker_tasks workers.items) ≡ all_sent inlets.old.fronts.items) }
-    ensures ordered { OnOk result (received tasks ≡ sent inlets.old.operator) }
-    ensures all { OnOk result (all_received rings.new ≡ all_sent (worker_answers workers.items ++ answers ∷ [])) }
+    requires { ArePairs answers.old rings.old }
+    ensures done { OnOk result (IsOk done × (received ≡ true)) }
+    ensures fronts { IfOk result (λ v. v.items ≡ party_fronts parties.items) }
+    ensures all { OnOk result (all_received rings.new ≡ all_sent answers.old) }
     ensures written { OnOk result (WritesOn rings.old rings.new (W.contents output.old) (W.contents output.new)) }
+    ensures begun { ArePrefixes (all_received rings.new) (all_sent answers.old) }
+    ensures some { OnErr result (WritesNoMore rings.old rings.new (W.contents output.old) (W.contents output.new)
+        ⊎ (IsOk done × BeginsOn rings.old rings.new (W.contents output.old) (W.contents output.new))) }
 {
-    let Parted {
-        fronts,
-        tasks: mut front_tasks,
-        answers: mut all_answers,
-    } = part_workers(alloc, workers)?;
-    all_answers.push(answers)?;
-    if !are_taken(&mut inlets.fronts, &mut front_tasks) {
-        return Err(Fault::Threads);
-    }
-    if tasks.slots_beside(&mut inlets.operator) != 0 {
-        return Err(Fault::Threads);
-    }
-    match write_left(&mut all_answers, rings, output) {
-        Ok(()) => Ok(fronts),
-        Err(_) => Err(Fault::Write),
+    match ready_fronts(alloc, done, received, parties) {
+        Ok(fronts) => match write_left(answers, rings, output) {
+            Ok(()) => Ok(fronts),
+            Err(_) => Err(Fault::Write),
+        },
+        Err(fault) => {
+            are_taken(answers, rings);
+            Err(fault)
+        }
     }
 }
 
@@ -117,8 +179,10 @@ fn close_and_serve<H: Threads + Wait + Sync, B: BufRead + Drop, W: Write>(
     output: &mut W,
 ) -> Result<(), Fault>
     requires { AreFrontsOf sequencer fronts.items }
-    ensures { OnOk result (EndsLog sequencer fronts.items close_at end lines.old.next (B.remaining lines.old.input)
+    ensures all { OnOk result (EndsLog sequencer fronts.items close_at end lines.old.next (B.remaining lines.old.input)
         (W.contents output.old) (W.contents output.new)) }
+    ensures begun { OnErr result (Appends (W.contents output.old) (W.contents output.new) [] ⊎ EndsLogSome sequencer fronts.items close_at end
+        lines.old.next (B.remaining lines.old.input) (W.contents output.old) (W.contents output.new)) }
 {
     match end {
         End::Close { line, now } => {
@@ -135,6 +199,11 @@ fn close_and_serve<H: Threads + Wait + Sync, B: BufRead + Drop, W: Write>(
 
 /// What comes once all threads have ended: what is left of the answers is written, the log is closed, and it replies to the
 /// lines that are left.
+///
+/// # Errors
+///
+/// What ended a thread before its time, or what breaks this off: `Write`, `Memory`, `Threads` where a task was left, `Read`, or
+/// `ClockBack`. Of what comes out of the rings a beginning is written then, and where the log was closed, of what it replies too.
 pub fn end_live<H: Threads + Wait + Sync, B: BufRead + Drop, W: Write>(
     rt: &H,
     alloc: Global,
@@ -144,14 +213,20 @@ pub fn end_live<H: Threads + Wait + Sync, B: BufRead + Drop, W: Write>(
     close_at: u64,
     output: &mut W,
 ) -> Result<(), Fault>
-    requires { AreJoined left.giver.inlets left.workers.items operator rings.old }
-    ensures { OnOk result (EndsLive left.giver.inlets left.workers.items operator close_at left.end left.giver.lines.next
+    requires room { vec_len left.fronts.answers < vec_capacity left.fronts.answers }
+    requires beside { AreBeside left.giver.inlets left.fronts.tasks.items left.fronts.answers.items operator rings.old }
+    requires fronts { HaveDone left.written left.operated left.fronts.fault → AreFrontsOf operator.desk.sequencer (party_fronts left.fronts.parties.items) }
+    ensures ended { OnOk result (HaveDone left.written left.operated left.fronts.fault × EndsLive left.giver.inlets
+        (party_fronts left.fronts.parties.items) left.fronts.tasks.items left.fronts.answers.items operator close_at left.end
+        left.giver.lines.next (B.remaining left.giver.lines.input) rings.old (W.contents output.old) (W.contents output.new)) }
+    ensures broken { OnErr result (EndsBrokenOff left.giver.inlets (party_fronts left.fronts.parties.items) left.fronts.tasks.items
+        left.fronts.answers.items operator left.written left.operated left.fronts.fault close_at left.end left.giver.lines.next
         (B.remaining left.giver.lines.input) rings.old (W.contents output.old) (W.contents output.new)) }
 {
     let DeskWorker {
         desk,
-        tasks,
-        answers,
+        tasks: mut orders,
+        answers: desk_answers,
     } = operator;
     let Desk {
         sequencer,
@@ -160,10 +235,20 @@ pub fn end_live<H: Threads + Wait + Sync, B: BufRead + Drop, W: Write>(
     let Left {
         mut giver,
         end,
-        workers,
+        fronts,
+        written,
+        operated,
     } = left;
-    let inlets = &mut giver.inlets;
-    let fronts = match write_rest(alloc, inlets, workers, tasks, answers, rings, output) {
+    let Joined {
+        parties,
+        mut tasks,
+        mut answers,
+        fault,
+    } = fronts;
+    answers.push_reserved(desk_answers);
+    let received = are_received(&mut giver.inlets, &mut tasks, &mut orders);
+    let done = fault_of(&written, &operated, &fault);
+    let fronts = match write_rest(alloc, done, received, parties, &mut answers, rings, output) {
         Ok(fronts) => fronts,
         Err(fault) => {
             sequencer.abandon(rt, Vec::new(alloc));

@@ -1,10 +1,11 @@
 //! Lines read as they come, and given out to the parties.
 
-ghost use Rattle.std.specs.Prelude.{◌≡◌, length, IfOk};
-ghost use Rattle.ct_live.specs.LiveGiven.{GivesLine, GivesNext, GivesUpTo, GivesStep};
+ghost use Rattle.std.specs.Prelude.{◌≡◌, length, IfOk, OnErr};
+ghost use Rattle.ct_live.specs.LiveGiven.{GivesLine, GivesNext, GivesNothing, GivesSome, GivesUpTo, GivesStep, fault_of_left, why_left};
 ghost use Rattle.ct_live.specs.LiveLines.{IsForFront};
 ghost use Rattle.ct_live.specs.LiveRuns.{GivesOn};
 ghost use Rattle.ct_live.specs.LiveTasks.{live_step};
+ghost use Rattle.ct_live.specs.declared.giving.GiveFault.TheVariants.{Stopped};
 
 use crate::asking::{DeskTask, LiveTask, live_task};
 use ct_parties::{Fault, FrontTask};
@@ -35,6 +36,8 @@ pub enum GiveFault {
 }
 
 impl From<Fault> for GiveFault {
+    ghost from_gives = { λ fault why. why ≡ why_left fault };
+
     fn from(fault: Fault) -> GiveFault {
         match fault {
             Fault::Memory => GiveFault::Memory,
@@ -45,6 +48,8 @@ impl From<Fault> for GiveFault {
 
 // What ends the run where lines are left. Where all were to end, what had them end is told elsewhere.
 impl From<GiveFault> for Fault {
+    ghost from_gives = { λ why fault. fault ≡ fault_of_left why };
+
     fn from(fault: GiveFault) -> Fault {
         match fault {
             GiveFault::Memory => Fault::Memory,
@@ -55,6 +60,8 @@ impl From<GiveFault> for Fault {
 }
 
 impl From<Stopped> for GiveFault {
+    ghost from_gives = { λ _ why. why ≡ Stopped };
+
     fn from(_stopped: Stopped) -> GiveFault {
         GiveFault::Stopped
     }
@@ -86,6 +93,7 @@ fn give_task<R: Wait>(
     requires { IsForFront (length inlets.old.fronts.items) (live_step task) }
     ensures same { GivesOn inlets.old inlets.new }
     ensures given { IfOk result (λ o. GivesStep number (live_step task) o inlets.old inlets.new) }
+    ensures nothing { OnErr result (GivesNothing inlets.old inlets.new) }
 {
     match task {
         LiveTask::Front(front, task) => {
@@ -125,6 +133,7 @@ fn give_line<R: Wait>(
     requires { length inlets.old.fronts.items ≡ count }
     ensures same { GivesOn inlets.old inlets.new }
     ensures given { IfOk result (λ o. GivesLine count number line.now o inlets.old inlets.new) }
+    ensures nothing { OnErr result (GivesNothing inlets.old inlets.new) }
 {
     if line.is_empty() {
         return Ok(None);
@@ -147,6 +156,7 @@ fn give_next<R: Wait, B: BufRead + Drop>(
     ensures same { GivesOn giver.old.inlets giver.new.inlets }
     ensures given { IfOk result (λ o. GivesNext count giver.old.lines.next giver.new.lines.next
         (B.remaining giver.old.lines.input) (B.remaining giver.new.lines.input) o giver.old.inlets giver.new.inlets) }
+    ensures nothing { OnErr result (GivesNothing giver.old.inlets giver.new.inlets) }
 {
     let number = match giver.lines.read(buffer) {
         Ok(Some(number)) => number,
@@ -172,6 +182,7 @@ pub fn give_out<R: Wait, B: BufRead + Drop>(
     ensures same { GivesOn giver.old.inlets giver.new.inlets }
     ensures given { IfOk result (λ end. GivesUpTo count giver.old.lines.next giver.new.lines.next
         (B.remaining giver.old.lines.input) (B.remaining giver.new.lines.input) end giver.old.inlets giver.new.inlets) }
+    ensures begun { GivesSome giver.old.lines.next (B.remaining giver.old.lines.input) giver.old.inlets giver.new.inlets }
 {
     let mut buffer = Vec::new(alloc);
     for _ in rt.forever() {

@@ -1,10 +1,12 @@
 //! A live log over an input and an output.
 
-ghost use Rattle.std.specs.Prelude.{◌≡◌, [], length, IfOk, OnOk};
+ghost use Rattle.std.specs.Prelude.{◌≡◌, ◌⊎◌, [], length, IfOk, OnOk, OnErr};
+ghost use Rattle.std.specs.Io.KnownBytes.{Appends};
 ghost use Rattle.rtrb.specs.Ring.{sent, received, IsPair};
 ghost use Rattle.ct_parties.specs.Parties.{AreFrontsOf};
 ghost use Rattle.ct_live.specs.LiveRuns.{worker_answers, worker_fronts, worker_tasks};
 ghost use Rattle.ct_live.specs.LiveOpening.{AreOpened};
+ghost use Rattle.ct_live.specs.LiveBroken.{IsServedSome, RepliesBrokenOff};
 ghost use Rattle.ct_live.specs.LiveReplied.{IsServedLive, RepliesLive};
 
 use crate::asking::DeskTask;
@@ -166,8 +168,10 @@ fn serve_house<H: Threads + Wait + Sync, B: BufRead + Drop + Send, W: Write + Dr
     requires count { length fronts.items ≡ options.fronts }
     requires lanes { length sequencer.lanes ≡ options.fronts }
     requires fronts { AreFrontsOf sequencer fronts.items }
-    ensures { OnOk result.result (RepliesLive options.fronts options.close_at lines.next (B.remaining lines.input) sequencer fronts.items
+    ensures replied { OnOk result.result (RepliesLive options.fronts options.close_at lines.next (B.remaining lines.input) sequencer fronts.items
         (W.contents output) (W.contents result.output)) }
+    ensures broken { OnErr result.result (Appends (W.contents output) (W.contents result.output) [] ⊎ RepliesBrokenOff options.fronts
+        options.close_at lines.next (B.remaining lines.input) sequencer fronts.items (W.contents output) (W.contents result.output)) }
 {
     let Ends {
         inlets,
@@ -217,7 +221,9 @@ fn serve_lines<H: Threads + Wait + Sync, B: BufRead + Drop + Send, W: Write + Dr
     input: B,
     output: W,
 ) -> Served<W>
-    ensures { OnOk result.result (IsServedLive options.fronts options.ring options.open_at options.close_at (B.remaining input)
+    ensures served { OnOk result.result (IsServedLive options.fronts options.ring options.open_at options.close_at (B.remaining input)
+        (W.contents output) (W.contents result.output)) }
+    ensures broken { OnErr result.result (IsServedSome options.fronts options.ring options.open_at options.close_at (B.remaining input)
         (W.contents output) (W.contents result.output)) }
 {
     let (ends, places) = match prepare(alloc, options.fronts) {
@@ -248,7 +254,8 @@ fn serve_lines<H: Threads + Wait + Sync, B: BufRead + Drop + Send, W: Write + Dr
 /// # Errors
 ///
 /// The fault that ended the run: `Read`, `Write`, `Threads`, `Memory`, or `ClockBack` where the clock refuses the moment of
-/// closing.
+/// closing. What was written then is a beginning: of the parties' answers to the first of the lines, each party's in their order;
+/// or, behind all of them, of what the closed log replies.
 pub fn serve_live<H: Threads + Wait + Sync, I: Read + Drop + Send, W: Write + Drop + Send>(
     rt: &H,
     alloc: Global,
@@ -257,7 +264,9 @@ pub fn serve_live<H: Threads + Wait + Sync, I: Read + Drop + Send, W: Write + Dr
     input: I,
     output: W,
 ) -> Served<W>
-    ensures { OnOk result.result (IsServedLive options.fronts options.ring options.open_at options.close_at (I.remaining input)
+    ensures served { OnOk result.result (IsServedLive options.fronts options.ring options.open_at options.close_at (I.remaining input)
+        (W.contents output) (W.contents result.output)) }
+    ensures broken { OnErr result.result (IsServedSome options.fronts options.ring options.open_at options.close_at (I.remaining input)
         (W.contents output) (W.contents result.output)) }
 {
     match BufReader::with_capacity(alloc, CAPACITY, input) {

@@ -1,8 +1,8 @@
 //! The operator's tasks, done in turn.
 
-ghost use Rattle.std.specs.Prelude.{◌≡◌, ◌<◌, length, IfOk, OnOk};
-ghost use Rattle.rtrb.specs.Ring.{sent, received, SameProducer, SameConsumer};
-ghost use Rattle.ct_pipes.specs.Answered.{AnswersMore};
+ghost use Rattle.std.specs.Prelude.{◌≡◌, ◌<◌, [], length, IfErr, IfOk, OnErr, OnOk};
+ghost use Rattle.rtrb.specs.Ring.{sent, received, known_free, known_items, SameProducer, SameConsumer};
+ghost use Rattle.ct_pipes.specs.Answered.{AnswersAllButLast, AnswersMore};
 ghost use Rattle.ct_lines.specs.ReplyText.{answered};
 ghost use Rattle.ct_parties.specs.OperatorWork.{GoesOn};
 ghost use Rattle.ct_live.specs.LiveParties.{TakesWhatIsThere, DeskDoes, DeskReplies};
@@ -123,6 +123,10 @@ pub fn answer_desk<R: Threads + Wait + Sync>(
 ) -> Result<(), PartyFault>
     ensures answered { OnOk result (AnswersMore DeskStep desk.old desk.new
         (received tasks.old) (received tasks.new) (sent answers.old) (sent answers.new)) }
+    ensures begun { OnErr result (AnswersAllButLast DeskStep desk.old
+        (received tasks.old) (received tasks.new) (sent answers.old) (sent answers.new)) }
+    ensures none_left { OnOk result (known_items tasks.new ≡ []) }
+    ensures full { IfErr result (λ fault. fault ≡ PartyFault.Stopped → known_free answers.new ≡ 0) }
     ensures same { SameConsumer tasks.old tasks.new × SameProducer answers.old answers.new }
 {
     for _ in rt.forever() {

@@ -1,17 +1,21 @@
 //! The threads: the reader, the writer, each front, and the operator in the thread that calls.
 
-ghost use Rattle.std.specs.Prelude.{◌≡◌, length, IsOk, Ok, Err, Some, IfOk, IfErr, OnOk};
+ghost use Rattle.std.specs.Prelude.{◌≡◌, ◌<◌, length, Ok, Err, Some, IfOk, IfErr, OnOk, OnErr, vec_len, vec_capacity};
+ghost use Rattle.ct_parties.specs.Parties.{AreFrontsOf};
+ghost use Rattle.ct_live.specs.LiveBroken.{EndsBrokenOff, HaveDone, RunsBrokenOff};
 ghost use Rattle.ct_live.specs.LiveGiven.{ReadsOn};
 ghost use Rattle.ct_live.specs.LiveReplied.{EndsLive, RunsLive};
-ghost use Rattle.ct_live.specs.LiveRuns.{AreJoined, DeskWorks, WritesOut};
+ghost use Rattle.ct_live.specs.LiveRuns.{AreBeside, AreJoined, DeskWorks, DeskWorksSome, WritesOut, party_fronts};
 ghost use Rattle.ct_live.specs.declared.workers.DeskWorker.{DeskWorker as DeskWorkerOf};
 
-use crate::ending::{Left, end_live};
+use crate::ending::{Ended, Left, end_live};
 use crate::giving::{End, GiveFault, Giver, give_out};
 use crate::operator::answer_desk;
 use crate::workers::{DeskWorker, FrontWorker};
 use ct_parties::{Fault, Options, Waiting};
-use ct_pipes::{PartyFault, Places, WriteFailed, join_workers, start_workers, write_answers};
+use ct_pipes::{
+    Joined, PartyFault, Places, WriteFailed, join_workers, start_workers, write_answers,
+};
 use rtrb::Consumer;
 use std::alloc::Global;
 use std::io::{BufRead, Write};
@@ -159,7 +163,8 @@ fn operate<R: Threads + Wait + Sync>(
     waiting: &Waiting,
     worker: &mut DeskWorker,
 ) -> Result<(), PartyFault>
-    ensures { OnOk result (DeskWorks worker.old worker.new) }
+    ensures all { OnOk result (DeskWorks worker.old worker.new) }
+    ensures some { DeskWorksSome worker.old worker.new }
 {
     let number = worker.desk.fronts;
     let result = answer_desk(
@@ -187,7 +192,9 @@ fn operate_in<R: Threads + Wait + Sync>(
     waiting: &Waiting,
     slot: &mut Option<DeskWorker>,
 ) -> Result<(), PartyFault>
-    ensures { OnOk result ((p : DeskWorkerOf) → slot.new ≡ Some p → (o : DeskWorkerOf) × (slot.old ≡ Some o) × DeskWorks o p) }
+    ensures all { OnOk result ((p : DeskWorkerOf) → slot.new ≡ Some p → (o : DeskWorkerOf) × (slot.old ≡ Some o) × DeskWorks o p) }
+    ensures some { (p : DeskWorkerOf) → slot.new ≡ Some p → (o : DeskWorkerOf) × (slot.old ≡ Some o) × DeskWorksSome o p }
+    ensures kept { (o : DeskWorkerOf) → slot.old ≡ Some o → (p : DeskWorkerOf) × (slot.new ≡ Some p) × DeskWorksSome o p }
 {
     match slot {
         Some(worker) => operate(rt, alloc, places, waiting, worker),
@@ -213,60 +220,29 @@ pub struct Served<W: Write + Drop> {
     pub result: Result<(), Fault>,
 }
 
-// What is left where a thread didn't start.
-fn not_started<W: Write + Drop>(out: Out<W>) -> Served<W>
-    ensures { result.result ≡ Err Fault.Threads }
+// What is left where the threads weren't all started: nothing was written.
+fn not_started<W: Write + Drop>(out: Out<W>, fault: Fault) -> Served<W>
+    ensures { (result.result ≡ Err fault) × (W.contents result.output ≡ W.contents out.output) }
 {
     let Out { rings: _, output } = out;
     Served {
         output,
-        result: Err(Fault::Threads),
+        result: Err(fault),
     }
 }
 
-// Of a party that ended before its time: a growth was refused, or it was to end for another's sake.
-#[derive(Drop)]
-struct Ended {
-    fault: Fault,
-}
-
-impl From<PartyFault> for Ended {
-    fn from(fault: PartyFault) -> Ended {
-        let fault = match fault {
-            PartyFault::Memory => Fault::Memory,
-            PartyFault::Stopped => Fault::Threads,
-        };
-        Ended { fault }
-    }
-}
-
-// What the threads leave; or what ended them before their time, where not all of them are known to have ended.
-fn left_of<B: BufRead + Drop>(
-    reading: Reading<B>,
-    written: Result<(), WriteFailed>,
-    operated: Result<(), PartyFault>,
-    joined: Result<Vec<FrontWorker>, PartyFault>,
-) -> Result<Left<B>, Fault>
-    ensures giver { IfOk result (λ l. l.giver ≡ reading.giver) }
-    ensures inlets { IfOk result (λ l. l.giver.inlets ≡ reading.giver.inlets) }
-    ensures next { IfOk result (λ l. l.giver.lines.next ≡ reading.giver.lines.next) }
-    ensures input { IfOk result (λ l. B.remaining l.giver.lines.input ≡ B.remaining reading.giver.lines.input) }
-    ensures end { IfOk result (λ l. l.end ≡ reading.end) }
-    ensures all { IfOk result (λ l. IsOk written × IsOk operated × (joined ≡ Ok l.workers)) }
+// What the writer hands back, from its thread or from here.
+fn join_writer<R: Threads, W: Write + Drop + Send>(
+    rt: &R,
+    writer: Result<WriterThread<W>, Writing<W>>,
+) -> Writing<W>
+    ensures joined { IfOk writer (λ t. WritesOut t.promise.0.value.rings.items result.out.rings.items (W.contents t.promise.0.value.output)
+        (W.contents result.out.output) result.result) }
+    ensures refused { IfErr writer (λ w. result ≡ w) }
 {
-    let Reading { giver, end } = reading;
-    if written.is_err() {
-        return Err(Fault::Write);
-    }
-    match (operated, joined) {
-        (Ok(()), Ok(workers)) => Ok(Left {
-            giver,
-            end,
-            workers,
-        }),
-        (Err(PartyFault::Stopped), Err(fault)) => Err(Ended::from(fault).fault),
-        (Err(fault), _) => Err(Ended::from(fault).fault),
-        (Ok(()), Err(fault)) => Err(Ended::from(fault).fault),
+    match writer {
+        Ok(thread) => thread.join(rt),
+        Err(writing) => writing,
     }
 }
 
@@ -280,10 +256,18 @@ fn end_in<R: Threads + Wait + Sync, B: BufRead + Drop, W: Write>(
     close_at: u64,
     output: &mut W,
 ) -> Result<(), Fault>
-    requires { (o : DeskWorkerOf) → slot.old ≡ Some o → AreJoined left.giver.inlets left.workers.items o rings.old }
-    ensures { OnOk result ((o : DeskWorkerOf) × (slot.old ≡ Some o)
-        × EndsLive left.giver.inlets left.workers.items o close_at left.end left.giver.lines.next (B.remaining left.giver.lines.input)
-        rings.old (W.contents output.old) (W.contents output.new)) }
+    requires room { vec_len left.fronts.answers < vec_capacity left.fronts.answers }
+    requires beside { (o : DeskWorkerOf) → slot.old ≡ Some o
+        → AreBeside left.giver.inlets left.fronts.tasks.items left.fronts.answers.items o rings.old }
+    requires fronts { HaveDone left.written left.operated left.fronts.fault → (o : DeskWorkerOf) → slot.old ≡ Some o
+        → AreFrontsOf o.desk.sequencer (party_fronts left.fronts.parties.items) }
+    ensures ended { OnOk result ((o : DeskWorkerOf) × (slot.old ≡ Some o) × HaveDone left.written left.operated left.fronts.fault
+        × EndsLive left.giver.inlets (party_fronts left.fronts.parties.items) left.fronts.tasks.items left.fronts.answers.items o close_at left.end
+        left.giver.lines.next (B.remaining left.giver.lines.input) rings.old (W.contents output.old) (W.contents output.new)) }
+    ensures broken { OnErr result ((o : DeskWorkerOf) → slot.old ≡ Some o
+        → EndsBrokenOff left.giver.inlets (party_fronts left.fronts.parties.items) left.fronts.tasks.items left.fronts.answers.items o left.written
+        left.operated left.fronts.fault close_at left.end left.giver.lines.next (B.remaining left.giver.lines.input) rings.old
+        (W.contents output.old) (W.contents output.new)) }
 {
     match slot.take() {
         Some(operator) => end_live(rt, alloc, operator, left, rings, close_at, output),
@@ -309,49 +293,57 @@ fn run_in<
     slot: &mut Option<DeskWorker>,
 ) -> Served<W>
     requires count { length start.giver.inlets.fronts.items ≡ options.fronts }
+    requires workers { length start.workers.items ≡ options.fronts }
     requires joined { (o : DeskWorkerOf) → slot.old ≡ Some o → AreJoined start.giver.inlets start.workers.items o start.out.rings.items }
-    ensures { OnOk result.result (RunsLive options.close_at start.giver.lines.next (B.remaining start.giver.lines.input) start.giver.inlets
+    ensures ran { OnOk result.result (RunsLive options.close_at start.giver.lines.next (B.remaining start.giver.lines.input) start.giver.inlets
         start.workers.items start.out.rings.items slot.old (W.contents start.out.output) (W.contents result.output)) }
+    ensures broken { OnErr result.result ((o : DeskWorkerOf) → slot.old ≡ Some o → RunsBrokenOff options.close_at start.giver.lines.next
+        (B.remaining start.giver.lines.input) start.giver.inlets start.workers.items o start.out.rings.items (W.contents start.out.output)
+        (W.contents result.output)) }
 {
     let Start {
         giver,
         workers,
         out,
     } = start;
-    let Ok(threads) = start_workers(rt, alloc, scope, places, waiting, workers) else {
-        return not_started(out);
+    let room = match Joined::with_room(alloc, options.fronts) {
+        Ok(room) => room,
+        Err(error) => return not_started(out, Fault::from(error)),
     };
-    let Ok(reader) = start_reader(rt, alloc, scope, places, options.fronts, giver) else {
-        return not_started(out);
+    let threads = match start_workers(rt, alloc, scope, places, waiting, workers) {
+        Ok(threads) => threads,
+        Err(fault) => return not_started(out, Ended::from(fault).fault),
     };
-    let writer = match start_writer(rt, scope, places, out) {
-        Ok(writer) => writer,
-        Err(writing) => return not_started(writing.out),
+    let reader = match start_reader(rt, alloc, scope, places, options.fronts, giver) {
+        Ok(reader) => reader,
+        Err(fault) => return not_started(out, fault),
     };
+    let writer = start_writer(rt, scope, places, out);
     let operated = operate_in(rt, alloc, places, waiting, slot);
-    let joined = join_workers(rt, alloc, threads);
-    let reading = reader.join(rt);
-    let Writing { out, result } = writer.join(rt);
+    let fronts = join_workers(rt, threads, room);
+    let Reading { giver, end } = reader.join(rt);
+    let Writing {
+        out,
+        result: written,
+    } = join_writer(rt, writer);
     let Out {
         mut rings,
         mut output,
     } = out;
-    let left = match left_of(reading, result, operated, joined) {
-        Ok(left) => left,
-        Err(fault) => {
-            return Served {
-                output,
-                result: Err(fault),
-            };
-        }
+    let left = Left {
+        giver,
+        end,
+        fronts,
+        written,
+        operated,
     };
     let close_at = options.close_at;
     let result = end_in(rt, alloc, slot, left, &mut rings, close_at, &mut output);
     Served { output, result }
 }
 
-/// Has the parties serve the lines, each in a thread of its own, and ends the log. The operator is taken where all threads have
-/// done what they had to.
+/// Has the parties serve the lines, each in a thread of its own, and ends the log. The operator is taken where all threads were
+/// started.
 pub fn run_threads<R: Threads + Wait + Sync, B: BufRead + Drop + Send, W: Write + Drop + Send>(
     rt: &R,
     alloc: Global,
@@ -362,18 +354,26 @@ pub fn run_threads<R: Threads + Wait + Sync, B: BufRead + Drop + Send, W: Write 
     slot: &mut Option<DeskWorker>,
 ) -> Served<W>
     requires count { length start.giver.inlets.fronts.items ≡ options.fronts }
+    requires workers { length start.workers.items ≡ options.fronts }
     requires joined { (o : DeskWorkerOf) → slot.old ≡ Some o → AreJoined start.giver.inlets start.workers.items o start.out.rings.items }
-    ensures { OnOk result.result (RunsLive options.close_at start.giver.lines.next (B.remaining start.giver.lines.input) start.giver.inlets
+    ensures ran { OnOk result.result (RunsLive options.close_at start.giver.lines.next (B.remaining start.giver.lines.input) start.giver.inlets
         start.workers.items start.out.rings.items slot.old (W.contents start.out.output) (W.contents result.output)) }
+    ensures broken { OnErr result.result ((o : DeskWorkerOf) → slot.old ≡ Some o → RunsBrokenOff options.close_at start.giver.lines.next
+        (B.remaining start.giver.lines.input) start.giver.inlets start.workers.items o start.out.rings.items (W.contents start.out.output)
+        (W.contents result.output)) }
 {
     thread::scope(
         thread::scope_env(),
         rt,
         move |scope| -> Served<W>
             requires count { length start.giver.inlets.fronts.items ≡ options.fronts }
+            requires workers { length start.workers.items ≡ options.fronts }
             requires joined { (o : DeskWorkerOf) → slot.now ≡ Some o → AreJoined start.giver.inlets start.workers.items o start.out.rings.items }
-            ensures { OnOk result.result (RunsLive options.close_at start.giver.lines.next (B.remaining start.giver.lines.input) start.giver.inlets
+            ensures ran { OnOk result.result (RunsLive options.close_at start.giver.lines.next (B.remaining start.giver.lines.input) start.giver.inlets
                 start.workers.items start.out.rings.items slot.entry.now (W.contents start.out.output) (W.contents result.output)) }
+            ensures broken { OnErr result.result ((o : DeskWorkerOf) → slot.entry.now ≡ Some o → RunsBrokenOff options.close_at start.giver.lines.next
+                (B.remaining start.giver.lines.input) start.giver.inlets start.workers.items o start.out.rings.items (W.contents start.out.output)
+                (W.contents result.output)) }
         { run_in(rt, alloc, scope, places, waiting, options, start, slot) },
     )
 }

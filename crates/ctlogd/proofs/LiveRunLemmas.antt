@@ -1,5 +1,5 @@
 -- What a live run writes, by what the command line asks for.
-use Rattle.std.proofs.Common.{◌≡◌, ℕ, List, [], inr}
+use Rattle.std.proofs.Common.{◌≡◌, ℕ, List, [], inl, inr}
 use Rattle.std.specs.Prelude.{Option}
 use Rattle.std.specs.Io.KnownBytes.{Appends}
 use Rattle.ct_parties.specs.declared.fault.Fault.{Fault}
@@ -8,8 +8,8 @@ use Rattle.ct_options.specs.CommandLine.{CommandLine, log_with, help, version, n
 use Rattle.ctlogd.specs.LiveRuns.{IsLiveBrokenOff}
 
 -- nothing was written for want of memory, whatever was asked for
-pub none_written : (f : Fault) (old new : Option (List ℕ)) → (f ≡ Memory) × Appends old new [] → (a : CommandLine) → IsLiveBrokenOff a f old new
-none_written f old new none (log_with n places open_at close_at) = tt
-none_written f old new none help = (inr none.0, ([], none.1))
-none_written f old new none version = (inr none.0, ([], none.1))
-none_written f old new none nothing = none
+pub none_written : (f : Fault) (input old new : Option (List ℕ)) → (f ≡ Memory) × Appends old new [] → (a : CommandLine) → IsLiveBrokenOff a f input old new
+none_written f input old new none (log_with n places open_at close_at) = inl none.1
+none_written f input old new none help = (inr none.0, ([], none.1))
+none_written f input old new none version = (inr none.0, ([], none.1))
+none_written f input old new none nothing = none

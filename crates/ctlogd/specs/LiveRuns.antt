@@ -1,6 +1,7 @@
 -- What a run of the live program writes.
 use Rattle.std.specs.Prelude.{◌≡◌, ◌⊎◌, ℕ, List, [], Option}
 use Rattle.std.specs.Io.KnownBytes.{Appends}
+use Rattle.ct_live.specs.LiveBroken.{IsServedSome}
 use Rattle.ct_live.specs.LiveReplied.{IsServedLive}
 use Rattle.ct_parties.specs.declared.fault.Fault.{Fault}
 use Rattle.ct_parties.specs.declared.fault.Fault.TheVariants.{Memory, Write}
@@ -13,9 +14,9 @@ IsLiveDone help input old new = (text : List ℕ) × Appends old new text
 IsLiveDone version input old new = (text : List ℕ) × Appends old new text
 IsLiveDone nothing input old new = ⊥
 
--- what a live run wrote that this fault broke off: of a log nothing is said; a beginning of the text that was asked for; or nothing
-abbrev pub IsLiveBrokenOff : CommandLine → Fault → Option (List ℕ) → Option (List ℕ) → Type 0
-IsLiveBrokenOff (log_with n places open_at close_at) f old new = Unit {0}
-IsLiveBrokenOff help f old new = ((f ≡ Write) ⊎ (f ≡ Memory)) × ((text : List ℕ) × Appends old new text)
-IsLiveBrokenOff version f old new = ((f ≡ Write) ⊎ (f ≡ Memory)) × ((text : List ℕ) × Appends old new text)
-IsLiveBrokenOff nothing f old new = (f ≡ Memory) × Appends old new []
+-- what a live run wrote that this fault broke off: a beginning of what the log replies, or of the text that was asked for; or nothing
+abbrev pub IsLiveBrokenOff : CommandLine → Fault → Option (List ℕ) → Option (List ℕ) → Option (List ℕ) → Type 0
+IsLiveBrokenOff (log_with n places open_at close_at) f input old new = IsServedSome n places open_at close_at input old new
+IsLiveBrokenOff help f input old new = ((f ≡ Write) ⊎ (f ≡ Memory)) × ((text : List ℕ) × Appends old new text)
+IsLiveBrokenOff version f input old new = ((f ≡ Write) ⊎ (f ≡ Memory)) × ((text : List ℕ) × Appends old new text)
+IsLiveBrokenOff nothing f input old new = (f ≡ Memory) × Appends old new []

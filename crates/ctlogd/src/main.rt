@@ -46,7 +46,7 @@ fn run_words<H: Threads + Wait + Sync, I: Read + Drop + Send, W: Write + Drop + 
     ensures done { result.status ≡ 0
         → IsLiveDone (asked_of (name_of Program.Ctlogd) words.now) (I.remaining input) (W.contents output) (W.contents result.output) }
     ensures fault { result.status ≡ 1 → (f : FaultOf)
-        × IsLiveBrokenOff (asked_of (name_of Program.Ctlogd) words.now) f (W.contents output) (W.contents result.output)
+        × IsLiveBrokenOff (asked_of (name_of Program.Ctlogd) words.now) f (I.remaining input) (W.contents output) (W.contents result.output)
         × SendsSome (E.contents faults.old) (E.contents faults.new) (fault_line (name_of Program.Ctlogd) f) }
     ensures refused { result.status ≡ 2 → (asked_of (name_of Program.Ctlogd) words.now ≡ nothing) × (result.output ≡ output) }
     ensures quiet { result.status ≡ 0 → faults.new ≡ faults.old }

@@ -3,6 +3,7 @@
 ghost use Rattle.std.specs.Prelude.{◌≡◌, ◌≤◌};
 ghost use Rattle.ct_lines.specs.Sends.{SendsSome};
 ghost use Rattle.ct_parties.specs.declared.fault.Fault.{Fault as FaultOf};
+ghost use Rattle.ct_live.specs.LiveBroken.{IsServedSome};
 ghost use Rattle.ct_live.specs.LiveReplied.{IsServedLive};
 ghost use Rattle.ct_options.specs.CommandLine.{asked_for, nothing};
 ghost use Rattle.ct_options.specs.FaultLines.{fault_line, name_of};
@@ -39,7 +40,9 @@ fn serve<H: Threads + Wait + Sync, I: Read + Drop + Send, W: Write + Drop + Send
     ensures status { result.status ≤ 1 }
     ensures done { result.status ≡ 0 → IsServedLive options.fronts options.ring options.open_at options.close_at (I.remaining input)
         (W.contents output) (W.contents result.output) }
-    ensures fault { result.status ≡ 1 → (f : FaultOf) × SendsSome (E.contents faults.old) (E.contents faults.new) (fault_line (name_of Program.Ctlogd) f) }
+    ensures fault { result.status ≡ 1 → (f : FaultOf)
+        × IsServedSome options.fronts options.ring options.open_at options.close_at (I.remaining input) (W.contents output) (W.contents result.output)
+        × SendsSome (E.contents faults.old) (E.contents faults.new) (fault_line (name_of Program.Ctlogd) f) }
     ensures quiet { result.status ≡ 0 → faults.new ≡ faults.old }
 {
     let Served { output, result } = serve_live(rt, alloc, options, turns, input, output);
@@ -57,8 +60,8 @@ fn serve<H: Threads + Wait + Sync, I: Read + Drop + Send, W: Write + Drop + Send
 ///
 /// - 0: the words ask for a log with these numbers, and what `serve_live` promises was written; or they ask for help or for
 ///   the version, which was written. Nothing was written among the faults.
-/// - 1: a fault broke it off, and its line was written among the faults, as far as it could be. Where no log is asked for, a
-///   beginning of what is written at status 0 stands on the output.
+/// - 1: a fault broke it off, and its line was written among the faults, as far as it could be. A beginning of what is written
+///   at status 0 stands on the output: of a log, of the replies to the first of its lines, each party's in their order.
 /// - 2: the words ask for nothing that there is. Nothing was written on the output.
 ///
 /// Clap's contracts say nothing of texts, so that the texts of help and of the version, and what is written among the faults
@@ -76,7 +79,7 @@ pub fn run<'a, H: Threads + Wait + Sync, I: Read + Drop + Send, W: Write + Drop 
     ensures done { result.status ≡ 0
         → IsLiveDone (asked_for (name_of Program.Ctlogd) words.now) (I.remaining input) (W.contents output) (W.contents result.output) }
     ensures fault { result.status ≡ 1 → (f : FaultOf)
-        × IsLiveBrokenOff (asked_for (name_of Program.Ctlogd) words.now) f (W.contents output) (W.contents result.output)
+        × IsLiveBrokenOff (asked_for (name_of Program.Ctlogd) words.now) f (I.remaining input) (W.contents output) (W.contents result.output)
         × SendsSome (E.contents faults.old) (E.contents faults.new) (fault_line (name_of Program.Ctlogd) f) }
     ensures refused { result.status ≡ 2 → (asked_for (name_of Program.Ctlogd) words.now ≡ nothing) × (result.output ≡ output) }
     ensures quiet { result.status ≡ 0 → faults.new ≡ faults.old }

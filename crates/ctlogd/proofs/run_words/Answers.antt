@@ -26,7 +26,7 @@ returns-in-Ok-clause-done g c =
 pub returns-in-Ok-clause-fault : goal.returns-in-Ok-clause-fault
 returns-in-Ok-clause-fault g c =
     subst (λ (a : CommandLine). c.run.result.status ≡ 1 → (f : Fault)
-    × IsLiveBrokenOff a f (g.W.Write.contents c.args.output) (g.W.Write.contents c.run.result.output)
+    × IsLiveBrokenOff a f (g.I.Read.remaining c.args.input) (g.W.Write.contents c.args.output) (g.W.Write.contents c.run.result.output)
     × SendsSome (g.E.Write.contents c.args.faults.now) (g.E.Write.contents c.run.new.faults) (fault_line (name_of Ctlogd) f))
     (same_words c.in-Ok.texts.items c.deref.result.now c.args.words.now c.deref.ensures.value c.in-Ok.ensures) c.run.ensures.fault
 
@@ -38,7 +38,7 @@ returns-in-Ok-clause-refused g c =
 pub returns-in-Err-clause-fault : goal.returns-in-Err-clause-fault
 returns-in-Err-clause-fault g c = λ e. (
   c.from.result,
-  none_written c.from.result (g.W.Write.contents c.args.output) (g.W.Write.contents c.args.output)
+  none_written c.from.result (g.I.Read.remaining c.args.input) (g.W.Write.contents c.args.output) (g.W.Write.contents c.args.output)
       (c.from.ensures, Appends-nil (g.W.Write.contents c.args.output)) (asked_of (name_of Ctlogd) c.args.words.now),
   c.report-status.ensures.line,
 )

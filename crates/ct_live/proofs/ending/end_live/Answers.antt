@@ -1,22 +1,67 @@
-use Rattle.std.proofs.Common.{List, subst}
-use Rattle.std.proofs.lemmas.Result.{on_ok_weaker}
-use Rattle.ct_house.specs.House.{FrontView}
-use Rattle.ct_live.specs.LiveReplied.{EndsLog}
+use Rattle.std.proofs.Common.{◌∙◌, inl, inr}
+use Rattle.std.proofs.lemmas.Result.{on_err_weaker, on_ok_weaker}
+use Rattle.ct_live.specs.LiveBroken.{HaveDone}
+use Rattle.ct_live.specs.LiveRuns.{party_fronts}
+use Rattle.ct_live.proofs.BrokenOff.{begins_on}
+use Rattle.ct_live.proofs.Ended.{begins_as_done, begins_rest, begins_then, ends_closing, ends_live, ends_some}
+use Rattle.ct_live.proofs.Joined.{when_ok}
 use Rattle.ct_live.proofs.ending.end_live.Goals as goal
 
-pub returns-in-Ok-end : goal.returns-in-Ok-end
-returns-in-Ok-end g c =
+pub returns-in-Err-clause-broken : goal.returns-in-Err-clause-broken
+returns-in-Err-clause-broken g c =
+    inl (ends_some c.args.left.giver.inlets c.args.left.fronts.tasks.items c.deref_mut.result.now c.args.left.fronts.answers.items c.deref_mut-2.result.now
+    c.args.operator c.deref_mut.ensures.value (c.deref_mut-2.ensures.value ∙ c.push_reserved.ensures.items) c.args.left.written c.args.rings.now
+    c.write_rest.new.rings (g.W.Write.contents c.args.output.now) (g.W.Write.contents c.write_rest.new.output) c.are_received-received.ensures.begun
+    c.in-Err.ensures.begun
+    (begins_as_done c.args.left.written c.args.left.operated c.args.left.fronts.fault c.fault_of-done.result c.args.rings.now c.write_rest.new.rings
+    (g.W.Write.contents c.args.output.now) (g.W.Write.contents c.write_rest.new.output) c.fault_of-done.ensures c.in-Err.ensures.some))
+
+pub returns-in-Ok-end-clause-ended : goal.returns-in-Ok-end-clause-ended
+returns-in-Ok-end-clause-ended g c =
+    let done = when_ok (HaveDone c.args.left.written c.args.left.operated c.args.left.fronts.fault) c.fault_of-done.result c.in-Ok.ensures.done.0
+    c.fault_of-done.ensures in
+    on_ok_weaker c.close_and_serve.result (λ closing. (
+      done,
+      ends_live c.args.left.giver.inlets c.args.left.fronts.tasks.items c.deref_mut.result.now c.args.left.fronts.answers.items c.deref_mut-2.result.now
+          c.args.operator c.deref_mut.ensures.value (c.deref_mut-2.ensures.value ∙ c.push_reserved.ensures.items)
+          (party_fronts c.args.left.fronts.parties.items) c.in-Ok.fronts.items c.args.close_at c.args.left.end c.in-Ok-end.end c.args.left.giver.lines.next
+          (g.B.Read.remaining c.args.left.giver.lines.input) c.args.rings.now c.write_rest.new.rings (g.W.Write.contents c.args.output.now)
+          (g.W.Write.contents c.write_rest.new.output) (g.W.Write.contents c.close_and_serve.new.output) c.in-Ok.ensures.fronts c.in-Ok-end.is
+          (c.are_received-received.ensures.taken c.in-Ok.ensures.done.1) c.in-Ok.ensures.all c.in-Ok.ensures.written closing,
+    )) c.close_and_serve.ensures.all
+
+pub returns-in-Ok-end-clause-broken : goal.returns-in-Ok-end-clause-broken
+returns-in-Ok-end-clause-broken g c =
+    let done = when_ok (HaveDone c.args.left.written c.args.left.operated c.args.left.fronts.fault) c.fault_of-done.result c.in-Ok.ensures.done.0
+    c.fault_of-done.ensures in
     let mid = g.W.Write.contents c.write_rest.new.output in
-    on_ok_weaker c.close_and_serve.result (λ closing. record {
-      taken = c.in-Ok.ensures.taken;
-      ordered = c.in-Ok.ensures.ordered;
-      rings = c.write_rest.new.rings;
-      all = c.in-Ok.ensures.all;
-      mid = mid;
-      written = c.in-Ok.ensures.written;
-      end = c.in-Ok-end.end;
-      ended_so = c.in-Ok-end.is;
-      closing = subst (λ (l : List FrontView). EndsLog c.args.operator.desk.sequencer l c.args.close_at c.in-Ok-end.end c.args.left.giver.lines.next
-          (g.B.Read.remaining c.args.left.giver.lines.input) mid
-          (g.W.Write.contents c.close_and_serve.new.output)) c.in-Ok.ensures.fronts closing;
-    }) c.close_and_serve.ensures
+    let old = g.W.Write.contents c.args.output.now in
+    let new = g.W.Write.contents c.close_and_serve.new.output in
+    on_err_weaker c.close_and_serve.result (λ b. elim b [
+      | inl none ↦ inl (ends_some c.args.left.giver.inlets c.args.left.fronts.tasks.items c.deref_mut.result.now c.args.left.fronts.answers.items
+          c.deref_mut-2.result.now c.args.operator c.deref_mut.ensures.value (c.deref_mut-2.ensures.value ∙ c.push_reserved.ensures.items)
+          c.args.left.written c.args.rings.now c.write_rest.new.rings old new c.are_received-received.ensures.begun c.in-Ok.ensures.begun
+          (begins_rest c.args.left.written c.args.rings.now c.write_rest.new.rings old new done.writer
+          (begins_then c.args.rings.now c.write_rest.new.rings old mid new c.in-Ok.ensures.written none)))
+      | inr closing ↦ inr (
+        done,
+        ends_closing c.args.left.giver.inlets c.args.left.fronts.tasks.items c.deref_mut.result.now c.args.left.fronts.answers.items
+            c.deref_mut-2.result.now c.args.operator c.deref_mut.ensures.value (c.deref_mut-2.ensures.value ∙ c.push_reserved.ensures.items)
+            (party_fronts c.args.left.fronts.parties.items) c.in-Ok.fronts.items c.args.close_at c.args.left.end c.in-Ok-end.end
+            c.args.left.giver.lines.next (g.B.Read.remaining c.args.left.giver.lines.input) c.args.rings.now c.write_rest.new.rings old mid new
+            c.in-Ok.ensures.fronts c.in-Ok-end.is (c.are_received-received.ensures.taken c.in-Ok.ensures.done.1) c.in-Ok.ensures.all
+            c.in-Ok.ensures.written closing,
+      )
+    ]) c.close_and_serve.ensures.begun
+
+pub returns-clause-broken : goal.returns-clause-broken
+returns-clause-broken g c =
+    let done = when_ok (HaveDone c.args.left.written c.args.left.operated c.args.left.fronts.fault) c.fault_of-done.result c.in-Ok.ensures.done.0
+    c.fault_of-done.ensures in
+    let old = g.W.Write.contents c.args.output.now in
+    let new = g.W.Write.contents c.write_rest.new.output in
+    inl (ends_some c.args.left.giver.inlets c.args.left.fronts.tasks.items c.deref_mut.result.now c.args.left.fronts.answers.items c.deref_mut-2.result.now
+    c.args.operator c.deref_mut.ensures.value (c.deref_mut-2.ensures.value ∙ c.push_reserved.ensures.items) c.args.left.written c.args.rings.now
+    c.write_rest.new.rings old new c.are_received-received.ensures.begun c.in-Ok.ensures.begun
+    (begins_rest c.args.left.written c.args.rings.now c.write_rest.new.rings old new done.writer
+    (begins_on c.args.rings.now c.write_rest.new.rings old new c.in-Ok.ensures.written)))

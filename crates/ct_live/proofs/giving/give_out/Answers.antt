@@ -1,6 +1,6 @@
 use Rattle.std.proofs.Common.{◌∙◌}
 use Rattle.ct_live.proofs.Joined.{gives_none, gives_both, gives_count}
-use Rattle.ct_live.proofs.Reading.{given_up_to, line_given, nothing_given}
+use Rattle.ct_live.proofs.Reading.{given_begun, given_up_to, line_given, nothing_given, some_given}
 use Rattle.ct_live.proofs.giving.give_out.Goals as goal
 
 pub loop-init : goal.loop-init
@@ -29,3 +29,13 @@ returns-in-Some-2-clause-same g c =
 
 pub returns-in-Some-2-clause-given : goal.returns-in-Some-2-clause-given
 returns-in-Some-2-clause-given g c = given_up_to _ _ _ _ _ _ _ _ _ _ _ _ c.loop.invariant.read c.in-Some-2.is c.in_ok-end.ensures.given
+
+pub returns-in_err-end-clause-begun : goal.returns-in_err-end-clause-begun
+returns-in_err-end-clause-begun g c =
+    some_given c.args.count _ _ _ _ c.args.giver.now.inlets c.loop.giver.inlets c.give_next.new.giver.inlets c.requires c.loop.invariant.read
+    c.in_err-end.ensures.nothing
+
+pub returns-in-Some-2-clause-begun : goal.returns-in-Some-2-clause-begun
+returns-in-Some-2-clause-begun g c =
+    given_begun c.args.count _ _ _ _ _ _ _ c.requires
+    (given_up_to _ _ _ _ _ _ _ _ _ _ _ _ c.loop.invariant.read c.in-Some-2.is c.in_ok-end.ensures.given)

@@ -1,7 +1,8 @@
 use Rattle.std.proofs.Common.{refl}
 use Rattle.rtrb.specs.Ring.{sent, received}
 use Rattle.ct_pipes.proofs.Merging.{consumer_trans}
-use Rattle.ct_pipes.proofs.Turns.{answers_more, none_more, producer_trans}
+use Rattle.ct_pipes.proofs.Beside.{of_error}
+use Rattle.ct_pipes.proofs.Turns.{all_but_last, answers_more, none_more, producer_trans}
 use Rattle.ct_live.specs.LiveRuns.{DeskStep}
 use Rattle.ct_live.proofs.operator.answer_desk.Goals as goal
 
@@ -25,3 +26,23 @@ loop-preserved g c =
       same_tasks = consumer_trans c.args.tasks.now c.loop.tasks c.receive.new.consumer inv.same_tasks c.receive.ensures.same;
       same_answers = producer_trans c.args.answers.now c.loop.answers c.send.new.producer inv.same_answers c.send.ensures.same;
     }
+
+pub returns-in_err-reply-clause-begun : goal.returns-in_err-reply-clause-begun
+returns-in_err-reply-clause-begun g c =
+    of_error c.from_residual.result
+    (all_but_last DeskStep c.args.desk.now c.loop.desk (received c.args.tasks.now) (received c.receive.new.consumer) (received c.loop.tasks)
+    (sent c.args.answers.now) (sent c.loop.answers) (sent c.loop.answers) c.in-Some-receive.numbered c.in-Some-receive.ensures.some refl
+    c.loop.invariant.answered)
+
+pub returns-in_err-text-clause-begun : goal.returns-in_err-text-clause-begun
+returns-in_err-text-clause-begun g c =
+    of_error c.from_residual-in_err-text.result
+    (all_but_last DeskStep c.args.desk.now c.loop.desk (received c.args.tasks.now) (received c.receive.new.consumer) (received c.loop.tasks)
+    (sent c.args.answers.now) (sent c.loop.answers) (sent c.loop.answers) c.in-Some-receive.numbered c.in-Some-receive.ensures.some refl
+    c.loop.invariant.answered)
+
+pub returns-in-Err-clause-begun : goal.returns-in-Err-clause-begun
+returns-in-Err-clause-begun g c =
+    all_but_last DeskStep c.args.desk.now c.loop.desk (received c.args.tasks.now) (received c.receive.new.consumer) (received c.loop.tasks)
+    (sent c.args.answers.now) (sent c.send.new.producer) (sent c.loop.answers) c.in-Some-receive.numbered c.in-Some-receive.ensures.some
+    c.in-Err.ensures.stopped c.loop.invariant.answered

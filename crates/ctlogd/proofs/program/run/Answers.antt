@@ -19,8 +19,8 @@ returns-in-Err-clause-fault g c = λ e.
     let old = g.W.Write.contents c.args.output in
     let new = g.W.Write.contents c.answer_command_line-status.new.output in (
       f,
-      unanswered (λ (a : CommandLine). IsLiveBrokenOff a f old new) (kind_of c.in-Err.error) (asked_for (name_of Ctlogd) c.args.words.now) f old new
-          c.in-Err.ensures told (λ text. (text, text)) (none_written f old new),
+      unanswered (λ (a : CommandLine). IsLiveBrokenOff a f (g.I.Read.remaining c.args.input) old new) (kind_of c.in-Err.error) (asked_for (name_of Ctlogd) c.args.words.now) f old new
+          c.in-Err.ensures told (λ text. (text, text)) (none_written f (g.I.Read.remaining c.args.input) old new),
       line,
     )
 
