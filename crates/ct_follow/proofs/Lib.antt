@@ -3,3 +3,4 @@ pub mod Told
 pub mod Lines
 pub mod Taken
 pub mod Runs
+pub mod Words

@@ -1,5 +1,5 @@
 -- Taking the lines of an input, one after the other.
-use Rattle.std.proofs.Common.{◌≡◌, ◌∙◌, ◌<◌, ℕ, List, [], ◌∷◌, ◌++◌, length, true, false, Option, Some, None, Vec, Global, sym, refl, ap, subst, inl, inr}
+use Rattle.std.proofs.Common.{◌≡◌, ◌∙◌, ◌<◌, ℕ, List, [], ◌∷◌, ◌++◌, length, Bool, true, false, if◌then◌else◌, Option, Some, None, Vec, Global, sym, refl, ap, subst, inl, inr}
 use Rattle.std.proofs.Common.{arith}
 use Rattle.std.proofs.lemmas.List.{append_assoc}
 use Rattle.std.proofs.lemmas.Option.{same_Some, none-some}
@@ -10,7 +10,7 @@ use Rattle.ct_watch.specs.WatcherState.{Keeps}
 use Rattle.std.specs.Io.BufRead.{take_through, drop_through, first_piece, strip_last, DropsThrough}
 use Rattle.std.specs.Io.KnownBytes.{Appends, IsAtEnd}
 use Rattle.std.proofs.KnownBytes.{Appends-nil, Appends-trans}
-use Rattle.ct_follow.specs.Session.{LineStep, LineGives, FirstGives, TakesLines, TakesAll, ReadsLine, OneTaken, IsTaken, IsAllTaken, IsRun, status_of}
+use Rattle.ct_follow.specs.Session.{LineStep, LineGives, FirstGives, TakesLines, TakesAll, ReadsLine, OneTaken, IsTaken, IsAllTaken, IsRun, IsRunStatus, status_of}
 use Rattle.ct_follow.specs.StateText.{state_text}
 use Rattle.ct_follow.specs.declared.monitor.Monitor.{Monitor}
 
@@ -168,6 +168,15 @@ done names new last (Some input) source_next sink sink_next sink_last status fre
       Appends-trans sink sink_next sink_last t.0 line t.2 w,
       t.3,
     )
+
+pub run_status : {F : Type 0} (m : Monitor) (r : Result ℕ F) → IfOk r (λ s. s ≡ status_of m) → IfOk r (λ status. IsRunStatus status)
+run_status m (Ok status) s = subst (λ (n : ℕ). IsRunStatus n) (sym s) (one_of m.alarm m.bad)
+  where
+    one_of : (alarm bad : Bool) → IsRunStatus (if alarm then 3 else (if bad then 4 else 0))
+    one_of true bad = inr (inl refl)
+    one_of false true = inr (inr refl)
+    one_of false false = inl refl
+run_status m (Err f) s = s
 
 pub run_done : {F : Type 0} (names : List (List ℕ)) (new last : Monitor) (source source_next sink sink_next sink_last : Option (List ℕ)) (r : Result ℕ F)
     → Keeps sha256 new.watcher nothing_seen → new.alarm ≡ false → new.bad ≡ false

@@ -7,3 +7,4 @@ pub mod StateText
 pub mod Faults
 pub mod Session
 pub mod History
+pub mod CommandWords

@@ -109,6 +109,10 @@ pub record TakesAll (names : List (List ℕ)) (before : Monitor) (input text : L
 abbrev pub status_of : Monitor → ℕ
 status_of m = if m.alarm then 3 else (if m.bad then 4 else 0)
 
+-- one of these
+abbrev pub IsRunStatus : ℕ → Type 0
+IsRunStatus status = (status ≡ 0) ⊎ ((status ≡ 3) ⊎ (status ≡ 4))
+
 -- A run over the input: its text is what its lines have to tell, and behind it the line of the state that it ends in.
 pub record Runs (names : List (List ℕ)) (input text : List ℕ) (status : ℕ) : Type 0 where
   pub new : Monitor

@@ -1,24 +1,29 @@
 //! The command line: `ctmonitor [--name NAME]..`.
 
+ghost use Rattle.std.specs.Prelude.{◌≡◌, IfOk, map, string_bytes};
+ghost use Rattle.ct_follow.specs.CommandWords.{call_made, monitor_call};
+
 use std::alloc::{AllocError, Global};
 
-/// What the command line asks for.
+// What the command line asks for.
 #[derive(Debug, Drop)]
-pub enum Command {
-    /// To watch, with these names, in small letters.
+pub(crate) enum Command {
+    // To watch, with these names, in small letters.
     Watch(Vec<String>),
-    /// Help.
+    // Help.
     Help,
-    /// Nothing that there is.
+    // Nothing that there is.
     Refused,
 }
 
-/// What the words ask for, the program's name left out.
-///
-/// # Errors
-///
-/// Where a growth is refused.
-pub fn command_of(alloc: Global, words: &[String]) -> Result<Command, AllocError> {
+// What the words ask for, the program's name left out.
+//
+// # Errors
+//
+// Where a growth is refused.
+pub(crate) fn command_of(alloc: Global, words: &[String]) -> Result<Command, AllocError>
+    ensures { IfOk result (λ c. call_made c ≡ monitor_call (map string_bytes words.now)) }
+{
     let mut names = Vec::new(alloc);
     let mut is_value = false;
     for word in words {

@@ -1,7 +1,7 @@
 //! Watching a log by the answers of its front end, a line each: what each is worth, the entries that name a watched name, and
 //! the state that the next run takes up.
 //!
-//! `run` reads lines from any reader, and writes to any writer.
+//! `run` reads lines from any reader, and writes to any writer; `answer_words` is the program `ctmonitor` over its words.
 //!
 //! - `command` reads the words of a command line.
 //! - `answer` reads what a line is, and `state` reads and writes the state between two runs.
@@ -9,7 +9,7 @@
 //! - `monitor` takes one line after the other.
 //! - `fault` names what ends a run before the state is written.
 //! - `laws` says what holds of many runs.
-//! - `program` has `run`.
+//! - `program` has `run`, and `answer_words`, which does what the words of a command line ask for.
 #![tactic(auto)]
 
 mod answer;
@@ -24,6 +24,5 @@ mod state;
 mod text;
 mod verdicts;
 
-pub use command::{Command, command_of};
 pub use fault::Fault;
-pub use program::run;
+pub use program::{answer_words, run};

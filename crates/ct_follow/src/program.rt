@@ -1,17 +1,25 @@
-//! The program over a reader of lines and a writer of verdicts.
+//! The program over the words of a command line, a reader of lines and a writer of verdicts.
 
-ghost use Rattle.std.specs.Prelude.{◌≡◌, ◌++◌, ◌∷◌, [], IfOk, OnOk, map, string_bytes};
+ghost use Rattle.std.specs.Prelude.{◌≡◌, ◌≢◌, ◌++◌, ◌∷◌, [], IfOk, OnOk, OnErr, map, string_bytes};
 ghost use Rattle.std.specs.Io.KnownBytes.{Appends};
-ghost use Rattle.ct_follow.specs.Session.{FirstGives, LineGives, OneTaken, ReadsLine, IsTaken, IsAllTaken, IsRun, status_of};
+ghost use Rattle.ct_lines.specs.Sends.{SendsSome};
+ghost use Rattle.ct_follow.specs.CommandWords.{monitor_call, IsAnswered};
+ghost use Rattle.ct_follow.specs.Faults.{monitor_fault_line};
+ghost use Rattle.ct_follow.specs.declared.fault.Fault.{Fault as FaultOf};
+ghost use Rattle.ct_follow.specs.Session.{FirstGives, LineGives, OneTaken, ReadsLine, IsTaken, IsAllTaken, IsRun, IsRunStatus, status_of};
 ghost use Rattle.ct_follow.specs.StateText.{state_text};
 
+use crate::command::{Command, command_of};
 use crate::fault::Fault;
 use crate::monitor::Monitor;
-use ct_lines::{content, send};
+use ct_lines::{content, send, tell};
 use ct_tree::Sha256Hash;
 use ct_watch::Watcher;
 use std::alloc::Global;
-use std::io::{BufRead, Write};
+use std::io::{BufRead, BufReader, Read, Write};
+
+// How the program is called.
+const USAGE: &str = "usage: ctmonitor [--name NAME].. < lines > verdicts\n";
 
 // How many lines are read at most, so that the loop ends.
 const LINES: u64 = 1 << 50;
@@ -120,10 +128,67 @@ pub fn run<B: BufRead, W: Write>(
     reader: &mut B,
     writer: &mut W,
 ) -> Result<u8, Fault>
-    ensures { IfOk result (λ status. IsRun (map string_bytes names.now) (B.remaining reader.old) (B.remaining reader.new)
+    ensures written { IfOk result (λ status. IsRun (map string_bytes names.now) (B.remaining reader.old) (B.remaining reader.new)
         (W.contents writer.old) (W.contents writer.new) status) }
+    ensures status { IfOk result (λ status. IsRunStatus status) }
 {
     let mut monitor = Monitor::new(Watcher::new(alloc, Sha256Hash));
     take_all(alloc, names, &mut monitor, reader, writer)?;
     finish(alloc, &monitor, writer)
+}
+
+// Does what the words ask for, and answers the exit status.
+fn do_asked<R: Read + Drop, W: Write, E: Write>(
+    alloc: Global,
+    words: &[String],
+    input: R,
+    output: &mut W,
+    faults: &mut E,
+) -> Result<u8, Fault>
+    ensures answered { IfOk result (λ status. IsAnswered (monitor_call (map string_bytes words.now)) (R.remaining input)
+        (W.contents output.old) (W.contents output.new) (E.contents faults.old) (E.contents faults.new) status) }
+    ensures status { IfOk result (λ status. status ≢ 1) }
+    ensures quiet { OnErr result (E.contents faults.new ≡ E.contents faults.old) }
+{
+    match command_of(alloc, words)? {
+        Command::Watch(names) => {
+            let mut reader = BufReader::new(alloc, input)?;
+            run(alloc, &names, &mut reader, output)
+        }
+        Command::Help => {
+            send(output, USAGE.as_bytes())?;
+            Ok(0)
+        }
+        Command::Refused => {
+            tell(faults, USAGE.as_bytes());
+            Ok(2)
+        }
+    }
+}
+
+/// Does what the words of a command line ask for, the program's name left out, and answers the exit status.
+///
+/// - 0, 3, 4: `run` read the input and wrote its verdicts, with that status; or, for 0, the words ask for help, which was written
+///   on the output.
+/// - 1: a fault broke it off, and its line was written among the faults, as far as it could be.
+/// - 2: the words ask for nothing that there is. How the program is called was written among the faults, as far as it could be.
+pub fn answer_words<R: Read + Drop, W: Write, E: Write>(
+    alloc: Global,
+    words: &[String],
+    input: R,
+    output: &mut W,
+    faults: &mut E,
+) -> u8
+    ensures answered { result ≢ 1 → IsAnswered (monitor_call (map string_bytes words.now)) (R.remaining input)
+        (W.contents output.old) (W.contents output.new) (E.contents faults.old) (E.contents faults.new) result }
+    ensures fault { result ≡ 1 → (f : FaultOf)
+        × SendsSome (E.contents faults.old) (E.contents faults.new) (monitor_fault_line f) }
+{
+    match do_asked(alloc, words, input, output, faults) {
+        Ok(status) => status,
+        Err(fault) => {
+            tell(faults, fault.text().as_bytes());
+            1
+        }
+    }
 }

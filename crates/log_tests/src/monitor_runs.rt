@@ -1,5 +1,5 @@
 // What is expected was computed by another program: examples/monitor/answers.py, with hashlib alone, over short leaves.
-use ct_follow::{Command, Fault, command_of, run};
+use ct_follow::{Fault, answer_words, run};
 use std::alloc::Global;
 use std::io;
 use std::io::{BufReader, ErrorKind, Read, Write};
@@ -146,17 +146,21 @@ fn writes(alloc: Global, input: &str, text: &str, status: u8) -> Result<bool, Fa
     Ok(found == Ok(status) && output.as_slice() == text.as_bytes())
 }
 
-// How many names the words ask for; 100 for help, 101 for nothing that there is.
-fn asked_of(alloc: Global, line: &str) -> Result<usize, Fail> {
+const USAGE: &str = "usage: ctmonitor [--name NAME].. < lines > verdicts\n";
+
+// Whether the program over these words writes this on its output, and this among its faults, and ends with this status, where its
+// input is that of the first head.
+fn answers(alloc: Global, line: &str, text: &str, told: &str, status: u8) -> Result<bool, Fail> {
     let mut words = Vec::new(alloc);
     for word in line.split_ascii_whitespace() {
         words.push(String::from_str(alloc, word)?)?;
     }
-    Ok(match command_of(alloc, &words)? {
-        Command::Watch(names) => names.len(),
-        Command::Help => 100,
-        Command::Refused => 101,
-    })
+    let mut output = Vec::new(alloc);
+    let mut faults = Vec::new(alloc);
+    let input = TO_THE_FIRST_HEAD.as_bytes();
+    let found = answer_words(alloc, &words, input, &mut output, &mut faults);
+    let are_written = output.as_slice() == text.as_bytes() && faults.as_slice() == told.as_bytes();
+    Ok(found == status && are_written)
 }
 
 // Each verdict, each status, and the state carried from run to run.
@@ -191,18 +195,35 @@ fn truncated_states(rt: HostRuntime) -> Result<(), Fail> {
     Ok(())
 }
 
-// What the command line asks for.
+// What the command line asks for is done.
 #[test]
 fn command_lines(rt: HostRuntime) -> Result<(), Fail> {
-    for (words, wanted) in [
-        ("", 0),
-        ("--name Example.ORG", 1),
-        ("--name a --name b", 2),
-        ("--help", 100),
-        ("--name", 101),
-        ("example.org", 101),
+    for (words, text, told, status) in [
+        ("--name EXAMPLE.org", TO_THE_FIRST_HEAD_TEXT, "", 0),
+        ("--help", USAGE, "", 0),
+        ("--name a --help b", USAGE, "", 0),
+        ("--name", "", USAGE, 2),
+        ("--name a --Name b", "", USAGE, 2),
+        ("example.org", "", USAGE, 2),
     ] {
-        assert!(rt; asked_of(rt.alloc(), words)? == wanted);
+        assert!(rt; answers(rt.alloc(), words, text, told, status)?);
+    }
+    Ok(())
+}
+
+// A fault that ends the program is told by its line.
+#[test]
+fn told_faults(rt: HostRuntime) -> Result<(), Fail> {
+    let alloc = rt.alloc();
+    for (kind, told) in [
+        (ErrorKind::BrokenPipe, "ctmonitor: read\n"),
+        (ErrorKind::OutOfMemory, "ctmonitor: memory\n"),
+    ] {
+        let mut output = Vec::new(alloc);
+        let mut faults = Vec::new(alloc);
+        let status = answer_words(alloc, &[], NoInput(kind), &mut output, &mut faults);
+        assert!(rt; status == 1);
+        assert!(rt; faults.as_slice() == told.as_bytes());
     }
     Ok(())
 }

@@ -3,14 +3,17 @@ use Rattle.std.specs.Prelude.{string_bytes}
 use Rattle.sha2.specs.Sha256.{sha256}
 use Rattle.ct_watch.specs.Watched.{nothing_seen}
 use Rattle.ct_watch.specs.WatcherState.{Keeps, WatcherState}
-use Rattle.ct_follow.proofs.Lines.{run_done}
+use Rattle.ct_follow.proofs.Lines.{run_done, run_status}
 use Rattle.ct_follow.proofs.program.run.Goals as goal
 
 pub returns : goal.returns
 returns g c =
     let fresh = subst (λ (s : WatcherState). Keeps sha256 s nothing_seen) (sym c.new-monitor.ensures.watcher) c.new.ensures in
-    run_done (map string_bytes c.args.names.now) c.new-monitor.result c.take_all.new.monitor (g.B.Read.remaining c.args.reader.now)
-    (g.B.Read.remaining c.take_all.new.reader)
-    (g.W.Write.contents c.args.writer.now) (g.W.Write.contents c.take_all.new.writer) (g.W.Write.contents c.finish.new.writer) c.finish.result fresh
-    c.new-monitor.ensures.no_alarm c.new-monitor.ensures.none_bad
-    c.in_ok-take_all.ensures c.finish.ensures.status c.finish.ensures.written
+    record {
+      written = run_done (map string_bytes c.args.names.now) c.new-monitor.result c.take_all.new.monitor (g.B.Read.remaining c.args.reader.now)
+          (g.B.Read.remaining c.take_all.new.reader)
+          (g.W.Write.contents c.args.writer.now) (g.W.Write.contents c.take_all.new.writer) (g.W.Write.contents c.finish.new.writer) c.finish.result fresh
+          c.new-monitor.ensures.no_alarm c.new-monitor.ensures.none_bad
+          c.in_ok-take_all.ensures c.finish.ensures.status c.finish.ensures.written;
+      status = run_status c.take_all.new.monitor c.finish.result c.finish.ensures.status;
+    }
