@@ -234,7 +234,7 @@ pub replies_closing : (n close_at next : ℕ) (input : Option (List ℕ)) (e : E
 replies_closing n close_at next input e workers o old new i tasks answers own_answers own_tasks (whole, run, begun) =
     let w = run.ended.written old (run.wrote old (nothing_written e.rings.items old i.answers.unreceived)) in (
       whole,
-      replies_live n close_at next input e workers o old whole i tasks answers own_answers own_tasks run,
+      replies_live n close_at next input e workers o old i tasks answers own_answers own_tasks whole run,
       begins_behind old run.ended.mid new whole (in_order w.order) w.appends begun,
     )
 

@@ -15,3 +15,4 @@ pub mod Receipts
 pub mod Ended
 pub mod BrokenOff
 pub mod Runs
+pub mod Late

@@ -17,6 +17,7 @@ use Rattle.ct_pipes.specs.declared.output.WriteFailed.{WriteFailed}
 use Rattle.ct_pipes.specs.declared.workers.Joined.{Joined}
 use Rattle.ct_live.specs.LiveBroken.{EndsBrokenOff, EndsClosing, EndsSome, HaveDone, RunsBrokenOff, RunsClosing, RunsSome}
 use Rattle.ct_live.specs.LiveGiven.{ReadsOn}
+use Rattle.ct_live.specs.LiveLate.{EndsLate, RunsLate}
 use Rattle.ct_live.specs.LiveReplied.{EndsLive, Rings, RunsLive}
 use Rattle.ct_live.specs.LiveRuns.{FrontWorker, party_fronts, worker_fronts, worker_tasks, worker_answers, AllReply, AllReplySome}
 use Rattle.ct_live.specs.LiveRuns.{AreBeside, DeskWorks, DeskWorksSome, WritesOut}
@@ -99,6 +100,29 @@ ran close_at n m input left read old new before joined o p first rings written o
     runs_live close_at n m input left read old new before j.workers_then o p first rings a b c given (j.all done.fronts)
     worked (when_ok (WritesOn first rings a b) written done.writer wrote.written)
     (of_workers (λ fs ts xs. EndsLive new fs ts xs p close_at read m left rings b c) before joined j ended)
+
+-- and the clock refused the moment of the closing
+pub ran_late : (close_at n m : ℕ) (input left : Option (List ℕ)) (read : Result End GiveFault) (old new : Inlets) (before : List FrontWorker)
+    (joined : Joined LiveFront FrontTask) (o p : DeskWorker) (first rings : Rings) (written : Result Unit WriteFailed) (operated : Result Unit PartyFault)
+    (a b c : Option (List ℕ)) → ReadsOn n m input left read old new → AreJoinedOf FrontStep before joined → OnOk operated (DeskWorks o p)
+    → WritesOut first rings a b written
+    → HaveDone written operated joined.fault × EndsLate new joined.tasks.items joined.answers.items p close_at read rings b c
+    → RunsLate close_at n input old before first o a c
+ran_late close_at n m input left read old new before joined o p first rings written operated a b c given j worked wrote (done, ended) = record {
+  inlets_then = new;
+  read = read;
+  next_then = m;
+  input_then = left;
+  given = given;
+  workers_then = j.workers_then;
+  did = j.all done.fronts;
+  operator_then = p;
+  operated = when_ok (DeskWorks o p) operated done.operator worked;
+  rings_then = rings;
+  mid = b;
+  wrote = when_ok (WritesOn first rings a b) written done.writer wrote.written;
+  ended = of_workers (λ fs ts xs. EndsLate new ts xs p close_at read rings b c) before joined j ended;
+}
 
 -- a fault broke it off
 pub ran_broken : (close_at n m : ℕ) (input left : Option (List ℕ)) (read : Result End GiveFault) (old new : Inlets) (before : List FrontWorker)

@@ -3,6 +3,7 @@ use Rattle.std.proofs.Common.{◌≡◌, ◌∙◌, ℕ, List, [], ◌∷◌, �
 use Rattle.std.proofs.lemmas.Option.{get_or_from_slice_get, slice_get_within}
 use Rattle.rtrb.specs.Ring.{sent}
 use Rattle.ct_core.specs.Settlement.{Log}
+use Rattle.ct_parties.specs.Lines.{lines_of}
 use Rattle.ct_parties.specs.declared.task.FrontTask.{FrontTask}
 use Rattle.ct_pipes.specs.Rings.{all_sent}
 use Rattle.ct_pipes.specs.declared.answering.Numbered.{Numbered}
@@ -10,7 +11,7 @@ use Rattle.ct_live.specs.LiveGiven.{GivesUpTo, HaveGiven}
 use Rattle.ct_live.specs.LiveLines.{AsksLive}
 use Rattle.ct_live.specs.LiveOpening.{AreOpened}
 use Rattle.ct_live.specs.LiveReplied.{IsEndText, IsMomentOf}
-use Rattle.ct_live.specs.LiveServed.{AreGiven, AreLinesOf, AreTasksOf, desk_task_asked, IsClosingText}
+use Rattle.ct_live.specs.LiveServed.{AreGiven, AreLinesOf, AreTasksOf, desk_task_asked, IsClosingText, numbered_from}
 use Rattle.ct_live.specs.LiveTasks.{closes}
 use Rattle.ct_live.specs.declared.asking.DeskTask.{DeskTask}
 use Rattle.ct_live.specs.declared.giving.End.{End}
@@ -33,20 +34,37 @@ none_given n e i = record {
   ordered = ap (map desk_task_asked) (i.orders.unsent 0 [] (omega arith));
 }
 
--- these tasks are those of the input's lines, and the text is what the closed log replies to those that are left
+-- what ended the lines that were given out, and what is said of it and of the lines that are left
+abbrev pub EndsIn : (Option (ℕ × List (ℕ × List ℕ)) → Type 0) → End → ℕ → Option (List ℕ) → Type 0
+EndsIn Last end_case.Input m left = Last None
+EndsIn Last (end_case.Close k at) m left = (behind : List (ℕ × List ℕ)) × AreLinesOf m left behind × Last (Some (k, behind))
+
+-- what the closed log replies
+pub text_in : (log : Log) (end : End) (m : ℕ) (left : Option (List ℕ)) (text : List ℕ) → IsEndText log end m left text
+    → EndsIn (λ b. IsClosingText log b text) end m left
+text_in log end_case.Input m left text is = is
+text_in log (end_case.Close k at) m left text is = is
+
+-- and nothing
+pub nothing_in : (end : End) (m : ℕ) (left : Option (List ℕ)) → EndsIn (λ b. Unit {0}) end m left
+nothing_in end_case.Input m left = tt
+nothing_in (end_case.Close k at) m None = ([], tt, tt)
+nothing_in (end_case.Close k at) m (Some bytes) = (numbered_from m (lines_of bytes), refl, tt)
+
+-- these tasks are those of the input's lines, and this is said of the lines that are left
 pub record AreTied (fronts close_at n : ℕ) (input : Option (List ℕ)) (front_tasks : List (List (Numbered FrontTask))) (desk_tasks : List (Numbered DeskTask))
-    (now : ℕ) (log : Log) (text : List ℕ) : Type 0 where
+    (now : ℕ) (Last : Option (ℕ × List (ℕ × List ℕ)) → Type 0) : Type 0 where
   pub lines : List (ℕ × List ℕ)
   pub of_input : AreLinesOf n input lines
   pub behind : Option (ℕ × List (ℕ × List ℕ))
   pub tied : AreTasksOf fronts close_at lines front_tasks desk_tasks now behind
-  pub last : IsClosingText log behind text
+  pub last : Last behind
 
 pub tasks_of : (fronts close_at n m : ℕ) (input left : Option (List ℕ)) (end : End) (old new : Inlets) (front_tasks : List (List (Numbered FrontTask)))
-    (desk_tasks : List (Numbered DeskTask)) (now : ℕ) (log : Log) (text : List ℕ) → HaveGiven [] old → GivesUpTo fronts n m input left end old new
-    → IsMomentOf close_at end now → front_tasks ≡ all_sent new.fronts.items → desk_tasks ≡ sent new.operator
-    → IsEndText log end m left text → AreTied fronts close_at n input front_tasks desk_tasks now log text
-tasks_of fronts close_at n m input left end_case.Input old new front_tasks desk_tasks now log text none out moment fs ds ends =
+    (desk_tasks : List (Numbered DeskTask)) (now : ℕ) (Last : Option (ℕ × List (ℕ × List ℕ)) → Type 0) → HaveGiven [] old
+    → GivesUpTo fronts n m input left end old new → IsMomentOf close_at end now → front_tasks ≡ all_sent new.fronts.items
+    → desk_tasks ≡ sent new.operator → EndsIn Last end m left → AreTied fronts close_at n input front_tasks desk_tasks now Last
+tasks_of fronts close_at n m input left end_case.Input old new front_tasks desk_tasks now Last none out moment fs ds ends =
     let (more, asks, h) = out.gives [] none in
     record {
       lines = out.lines;
@@ -62,7 +80,7 @@ tasks_of fronts close_at n m input left end_case.Input old new front_tasks desk_
       };
       last = ends;
     }
-tasks_of fronts close_at n m input left (end_case.Close k at) old new front_tasks desk_tasks now log text none out moment fs ds ends =
+tasks_of fronts close_at n m input left (end_case.Close k at) old new front_tasks desk_tasks now Last none out moment fs ds ends =
     let (more, asks, h) = out.gives [] none in
     let (line, some, closing, read) = out.ended in
     let (rest, behind, closing_text) = ends in

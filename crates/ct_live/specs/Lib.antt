@@ -9,3 +9,4 @@ pub mod LiveReplied
 pub mod LiveServed
 pub mod LiveGiven
 pub mod LiveBroken
+pub mod LiveLate

@@ -1,6 +1,6 @@
 //! What comes once all threads have ended.
 
-ghost use Rattle.std.specs.Prelude.{◌≡◌, ◌<◌, ◌⊎◌, ◌++◌, ◌∷◌, [], true, None, IsOk, IfOk, OnOk, OnErr, vec_len, vec_capacity};
+ghost use Rattle.std.specs.Prelude.{◌≡◌, ◌≢◌, ◌<◌, ◌⊎◌, ◌++◌, ◌∷◌, [], true, None, IsOk, IfOk, IfErr, OnOk, OnErr, vec_len, vec_capacity};
 ghost use Rattle.std.specs.Io.KnownBytes.{Appends};
 ghost use mathlib.Core.List.{IsPrefix};
 ghost use Rattle.rtrb.specs.Ring.{sent, received, IsPair};
@@ -8,6 +8,7 @@ ghost use Rattle.ct_parties.specs.Parties.{AreFrontsOf};
 ghost use Rattle.ct_pipes.specs.Rings.{all_received, all_sent, ArePairs, ArePrefixes};
 ghost use Rattle.ct_pipes.specs.Written.{WritesOn, BeginsOn};
 ghost use Rattle.ct_live.specs.LiveBroken.{EndsBrokenOff, EndsLogSome, HaveDone, WritesNoMore, fault_of_party, fault_of_start};
+ghost use Rattle.ct_live.specs.LiveLate.{EndsLate, EndsLogLate};
 ghost use Rattle.ct_live.specs.LiveReplied.{EndsLive, EndsLog};
 ghost use Rattle.ct_live.specs.LiveRuns.{AreBeside, party_fronts};
 
@@ -104,7 +105,8 @@ fn fault_of(
     operated: &Result<(), PartyFault>,
     fronts: &Option<PartyFault>,
 ) -> Result<(), Fault>
-    ensures { OnOk result (HaveDone written.now operated.now fronts.now) }
+    ensures done { OnOk result (HaveDone written.now operated.now fronts.now) }
+    ensures faults { IfErr result (λ f. f ≢ Fault.ClockBack) }
 {
     if written.is_err() {
         return Err(Fault::Write);
@@ -126,6 +128,7 @@ fn ready_fronts(
 ) -> Result<Vec<Front>, Fault>
     ensures done { OnOk result (IsOk done × (received ≡ true)) }
     ensures fronts { IfOk result (λ v. v.items ≡ party_fronts parties.items) }
+    ensures faults { IfErr done (λ f. f ≢ Fault.ClockBack) → IfErr result (λ f. f ≢ Fault.ClockBack) }
 {
     done?;
     if !received {
@@ -154,6 +157,7 @@ fn write_rest<W: Write>(
     ensures begun { ArePrefixes (all_received rings.new) (all_sent answers.old) }
     ensures some { OnErr result (WritesNoMore rings.old rings.new (W.contents output.old) (W.contents output.new)
         ⊎ (IsOk done × BeginsOn rings.old rings.new (W.contents output.old) (W.contents output.new))) }
+    ensures faults { IfErr done (λ f. f ≢ Fault.ClockBack) → IfErr result (λ f. f ≢ Fault.ClockBack) }
 {
     match ready_fronts(alloc, done, received, parties) {
         Ok(fronts) => match write_left(answers, rings, output) {
@@ -183,6 +187,7 @@ fn close_and_serve<H: Threads + Wait + Sync, B: BufRead + Drop, W: Write>(
         (W.contents output.old) (W.contents output.new)) }
     ensures begun { OnErr result (Appends (W.contents output.old) (W.contents output.new) [] ⊎ EndsLogSome sequencer fronts.items close_at end
         lines.old.next (B.remaining lines.old.input) (W.contents output.old) (W.contents output.new)) }
+    ensures late { IfErr result (λ f. f ≡ Fault.ClockBack → EndsLogLate sequencer close_at end (W.contents output.old) (W.contents output.new)) }
 {
     match end {
         End::Close { line, now } => {
@@ -222,6 +227,9 @@ pub fn end_live<H: Threads + Wait + Sync, B: BufRead + Drop, W: Write>(
     ensures broken { OnErr result (EndsBrokenOff left.giver.inlets (party_fronts left.fronts.parties.items) left.fronts.tasks.items
         left.fronts.answers.items operator left.written left.operated left.fronts.fault close_at left.end left.giver.lines.next
         (B.remaining left.giver.lines.input) rings.old (W.contents output.old) (W.contents output.new)) }
+    ensures late { IfErr result (λ f. f ≡ Fault.ClockBack → HaveDone left.written left.operated left.fronts.fault
+        × EndsLate left.giver.inlets left.fronts.tasks.items left.fronts.answers.items operator close_at left.end rings.old
+        (W.contents output.old) (W.contents output.new)) }
 {
     let DeskWorker {
         desk,

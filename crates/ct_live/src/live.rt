@@ -1,12 +1,13 @@
 //! A live log over an input and an output.
 
-ghost use Rattle.std.specs.Prelude.{◌≡◌, ◌⊎◌, [], length, IfOk, OnOk, OnErr};
+ghost use Rattle.std.specs.Prelude.{◌≡◌, ◌⊎◌, [], length, IfOk, IfErr, OnOk, OnErr};
 ghost use Rattle.std.specs.Io.KnownBytes.{Appends};
 ghost use Rattle.rtrb.specs.Ring.{sent, received, IsPair};
 ghost use Rattle.ct_parties.specs.Parties.{AreFrontsOf};
 ghost use Rattle.ct_live.specs.LiveRuns.{worker_answers, worker_fronts, worker_tasks};
 ghost use Rattle.ct_live.specs.LiveOpening.{AreOpened};
 ghost use Rattle.ct_live.specs.LiveBroken.{IsServedSome, RepliesBrokenOff};
+ghost use Rattle.ct_live.specs.LiveLate.{IsServedLate, RepliesLate};
 ghost use Rattle.ct_live.specs.LiveReplied.{IsServedLive, RepliesLive};
 
 use crate::asking::DeskTask;
@@ -172,6 +173,8 @@ fn serve_house<H: Threads + Wait + Sync, B: BufRead + Drop + Send, W: Write + Dr
         (W.contents output) (W.contents result.output)) }
     ensures broken { OnErr result.result (Appends (W.contents output) (W.contents result.output) [] ⊎ RepliesBrokenOff options.fronts
         options.close_at lines.next (B.remaining lines.input) sequencer fronts.items (W.contents output) (W.contents result.output)) }
+    ensures late { IfErr result.result (λ f. f ≡ Fault.ClockBack → RepliesLate options.fronts options.close_at lines.next
+        (B.remaining lines.input) sequencer fronts.items (W.contents output) (W.contents result.output)) }
 {
     let Ends {
         inlets,
@@ -225,6 +228,8 @@ fn serve_lines<H: Threads + Wait + Sync, B: BufRead + Drop + Send, W: Write + Dr
         (W.contents output) (W.contents result.output)) }
     ensures broken { OnErr result.result (IsServedSome options.fronts options.ring options.open_at options.close_at (B.remaining input)
         (W.contents output) (W.contents result.output)) }
+    ensures late { IfErr result.result (λ f. f ≡ Fault.ClockBack → IsServedLate options.fronts options.ring options.open_at options.close_at
+        (B.remaining input) (W.contents output) (W.contents result.output)) }
 {
     let (ends, places) = match prepare(alloc, options.fronts) {
         Ok(prepared) => prepared,
@@ -268,6 +273,8 @@ pub fn serve_live<H: Threads + Wait + Sync, I: Read + Drop + Send, W: Write + Dr
         (W.contents output) (W.contents result.output)) }
     ensures broken { OnErr result.result (IsServedSome options.fronts options.ring options.open_at options.close_at (I.remaining input)
         (W.contents output) (W.contents result.output)) }
+    ensures late { IfErr result.result (λ f. f ≡ Fault.ClockBack → IsServedLate options.fronts options.ring options.open_at options.close_at
+        (I.remaining input) (W.contents output) (W.contents result.output)) }
 {
     match BufReader::with_capacity(alloc, CAPACITY, input) {
         Ok(reader) => serve_lines(rt, alloc, options, turns, reader, output),

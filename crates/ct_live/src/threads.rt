@@ -3,6 +3,7 @@
 ghost use Rattle.std.specs.Prelude.{◌≡◌, ◌<◌, length, Ok, Err, Some, IfOk, IfErr, OnOk, OnErr, vec_len, vec_capacity};
 ghost use Rattle.ct_parties.specs.Parties.{AreFrontsOf};
 ghost use Rattle.ct_live.specs.LiveBroken.{EndsBrokenOff, HaveDone, RunsBrokenOff};
+ghost use Rattle.ct_live.specs.LiveLate.{EndsLate, RunsLate};
 ghost use Rattle.ct_live.specs.LiveGiven.{ReadsOn};
 ghost use Rattle.ct_live.specs.LiveReplied.{EndsLive, RunsLive};
 ghost use Rattle.ct_live.specs.LiveRuns.{AreBeside, AreJoined, DeskWorks, DeskWorksSome, WritesOut, party_fronts};
@@ -87,6 +88,7 @@ fn start_reader<'e: 's, 's, R: Threads + Wait + Sync, B: BufRead + Drop + Send +
     ensures inlets { IfOk result (λ t. t.promise.0.value.inlets ≡ giver.inlets) }
     ensures next { IfOk result (λ t. t.promise.0.value.lines.next ≡ giver.lines.next) }
     ensures input { IfOk result (λ t. B.remaining t.promise.0.value.lines.input ≡ B.remaining giver.lines.input) }
+    ensures faults { IfErr result (λ f. f ≡ Fault.Threads) }
 {
     let promise = ReaderPromise(Snapshot::of(&giver));
     let reading = move || -> Reading<B>
@@ -268,6 +270,9 @@ fn end_in<R: Threads + Wait + Sync, B: BufRead + Drop, W: Write>(
         → EndsBrokenOff left.giver.inlets (party_fronts left.fronts.parties.items) left.fronts.tasks.items left.fronts.answers.items o left.written
         left.operated left.fronts.fault close_at left.end left.giver.lines.next (B.remaining left.giver.lines.input) rings.old
         (W.contents output.old) (W.contents output.new)) }
+    ensures late { IfErr result (λ f. f ≡ Fault.ClockBack → (o : DeskWorkerOf) → slot.old ≡ Some o
+        → HaveDone left.written left.operated left.fronts.fault × EndsLate left.giver.inlets left.fronts.tasks.items left.fronts.answers.items o close_at
+        left.end rings.old (W.contents output.old) (W.contents output.new)) }
 {
     match slot.take() {
         Some(operator) => end_live(rt, alloc, operator, left, rings, close_at, output),
@@ -300,6 +305,9 @@ fn run_in<
     ensures broken { OnErr result.result ((o : DeskWorkerOf) → slot.old ≡ Some o → RunsBrokenOff options.close_at start.giver.lines.next
         (B.remaining start.giver.lines.input) start.giver.inlets start.workers.items o start.out.rings.items (W.contents start.out.output)
         (W.contents result.output)) }
+    ensures late { IfErr result.result (λ f. f ≡ Fault.ClockBack → (o : DeskWorkerOf) → slot.old ≡ Some o → RunsLate options.close_at
+        start.giver.lines.next (B.remaining start.giver.lines.input) start.giver.inlets start.workers.items start.out.rings.items o
+        (W.contents start.out.output) (W.contents result.output)) }
 {
     let Start {
         giver,
@@ -361,6 +369,9 @@ pub fn run_threads<R: Threads + Wait + Sync, B: BufRead + Drop + Send, W: Write 
     ensures broken { OnErr result.result ((o : DeskWorkerOf) → slot.old ≡ Some o → RunsBrokenOff options.close_at start.giver.lines.next
         (B.remaining start.giver.lines.input) start.giver.inlets start.workers.items o start.out.rings.items (W.contents start.out.output)
         (W.contents result.output)) }
+    ensures late { IfErr result.result (λ f. f ≡ Fault.ClockBack → (o : DeskWorkerOf) → slot.old ≡ Some o → RunsLate options.close_at
+        start.giver.lines.next (B.remaining start.giver.lines.input) start.giver.inlets start.workers.items start.out.rings.items o
+        (W.contents start.out.output) (W.contents result.output)) }
 {
     thread::scope(
         thread::scope_env(),
@@ -374,6 +385,9 @@ pub fn run_threads<R: Threads + Wait + Sync, B: BufRead + Drop + Send, W: Write 
             ensures broken { OnErr result.result ((o : DeskWorkerOf) → slot.entry.now ≡ Some o → RunsBrokenOff options.close_at start.giver.lines.next
                 (B.remaining start.giver.lines.input) start.giver.inlets start.workers.items o start.out.rings.items (W.contents start.out.output)
                 (W.contents result.output)) }
+            ensures late { IfErr result.result (λ f. f ≡ Fault.ClockBack → (o : DeskWorkerOf) → slot.entry.now ≡ Some o → RunsLate options.close_at
+                start.giver.lines.next (B.remaining start.giver.lines.input) start.giver.inlets start.workers.items start.out.rings.items o
+                (W.contents start.out.output) (W.contents result.output)) }
         { run_in(rt, alloc, scope, places, waiting, options, start, slot) },
     )
 }

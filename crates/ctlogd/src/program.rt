@@ -3,7 +3,9 @@
 ghost use Rattle.std.specs.Prelude.{◌≡◌, ◌≤◌};
 ghost use Rattle.ct_lines.specs.Sends.{SendsSome};
 ghost use Rattle.ct_parties.specs.declared.fault.Fault.{Fault as FaultOf};
+ghost use Rattle.ct_parties.specs.declared.fault.Fault.TheVariants.{ClockBack};
 ghost use Rattle.ct_live.specs.LiveBroken.{IsServedSome};
+ghost use Rattle.ct_live.specs.LiveLate.{IsServedLate};
 ghost use Rattle.ct_live.specs.LiveReplied.{IsServedLive};
 ghost use Rattle.ct_options.specs.CommandLine.{asked_for, nothing};
 ghost use Rattle.ct_options.specs.FaultLines.{fault_line, name_of};
@@ -42,6 +44,8 @@ fn serve<H: Threads + Wait + Sync, I: Read + Drop + Send, W: Write + Drop + Send
         (W.contents output) (W.contents result.output) }
     ensures fault { result.status ≡ 1 → (f : FaultOf)
         × IsServedSome options.fronts options.ring options.open_at options.close_at (I.remaining input) (W.contents output) (W.contents result.output)
+        × (f ≡ ClockBack → IsServedLate options.fronts options.ring options.open_at options.close_at (I.remaining input) (W.contents output)
+        (W.contents result.output))
         × SendsSome (E.contents faults.old) (E.contents faults.new) (fault_line (name_of Program.Ctlogd) f) }
     ensures quiet { result.status ≡ 0 → faults.new ≡ faults.old }
 {

@@ -1,9 +1,10 @@
 use Rattle.std.proofs.Common.{inl, inr}
 use Rattle.std.proofs.KnownBytes.{Appends-nil}
-use Rattle.std.proofs.lemmas.Result.{on_err_weaker, on_ok_weaker}
+use Rattle.std.proofs.lemmas.Result.{IfErr-weaker, on_err_weaker, on_ok_weaker}
 use Rattle.ct_pipes.proofs.Beside.{of_error}
 use Rattle.ct_live.proofs.Texts.{ends_at_end, ends_at_line}
 use Rattle.ct_live.proofs.EndsBegun.{ends_in_head, ends_in_replies}
+use Rattle.ct_live.proofs.Late.{never_late}
 use Rattle.ct_live.proofs.ending.close_and_serve.Goals as goal
 
 pub returns-in_ok-send_last_head-in-Close-clause-all : goal.returns-in_ok-send_last_head-in-Close-clause-all
@@ -44,3 +45,6 @@ returns-in_ok-_log-in-Input-clause-all g c =
     ends_at_end c.args.sequencer c.args.fronts.items c.args.close_at c.args.lines.now.next c.args.end c.in_ok-_log-in-Input._log
     (g.B.Read.remaining c.args.lines.now.input) (g.W.Write.contents c.args.output.now)
     c.in-Input.is c.in_ok-_log-in-Input.ensures.closes
+
+pub returns-in_ok-send_last_head-in-Close-clause-late : goal.returns-in_ok-send_last_head-in-Close-clause-late
+returns-in_ok-send_last_head-in-Close-clause-late g c = IfErr-weaker c.serve_closed.result _ _ (λ f why. never_late f why) c.serve_closed.ensures.faults

@@ -1,9 +1,9 @@
 use Rattle.std.proofs.Common.{inl, refl}
 use Rattle.std.proofs.KnownBytes.{Appends-nil}
-use Rattle.std.proofs.lemmas.Result.{on_err_weaker, on_ok_weaker}
+use Rattle.std.proofs.lemmas.Result.{IfErr-weaker, on_err_weaker, on_ok_weaker}
 use Rattle.ct_live.proofs.BrokenOff.{broken_off_as}
 use Rattle.ct_live.proofs.Opens.{as_many, as_many_workers}
-use Rattle.ct_live.proofs.Replied.{replies_as}
+use Rattle.ct_live.proofs.Replied.{replies_as, replies_late_as}
 use Rattle.ct_live.proofs.live.serve_house.Goals as goal
 
 pub front_workers-requires-clause-tasks : goal.front_workers-requires-clause-tasks
@@ -43,3 +43,17 @@ run_threads-served-requires-clause-workers g c κs within = as_many_workers c.in
 
 pub returns-in-Err-clause-broken : goal.returns-in-Err-clause-broken
 returns-in-Err-clause-broken g c = inl (Appends-nil (g.W.Write.contents c.args.output))
+
+pub returns-in-Some-clause-late : goal.returns-in-Some-clause-late
+returns-in-Some-clause-late g c =
+    IfErr-weaker c.run_threads-served.result.result _ _
+    (λ f late is. replies_late_as c.args.options.fronts c.args.options.close_at c.args.lines.next (g.B.Read.remaining c.args.lines.input) c.args.ends c.in-Ok.workers.items _
+    c.args.sequencer c.args.fronts.items (g.W.Write.contents c.args.output) (g.W.Write.contents c.run_threads-served.result.output) (late is _ refl)
+    c.requires.ends c.in-Ok.ensures.tasks c.in-Ok.ensures.answers refl refl refl c.in-Ok.ensures.fronts) c.run_threads-served.ensures.late
+
+pub returns-in_default-clause-late : goal.returns-in_default-clause-late
+returns-in_default-clause-late g c =
+    IfErr-weaker c.run_threads-served.result.result _ _
+    (λ f late is. replies_late_as c.args.options.fronts c.args.options.close_at c.args.lines.next (g.B.Read.remaining c.args.lines.input) c.args.ends c.in-Ok.workers.items _
+    c.args.sequencer c.args.fronts.items (g.W.Write.contents c.args.output) (g.W.Write.contents c.run_threads-served.result.output) (late is _ refl)
+    c.requires.ends c.in-Ok.ensures.tasks c.in-Ok.ensures.answers refl refl refl c.in-Ok.ensures.fronts) c.run_threads-served.ensures.late

@@ -1,7 +1,8 @@
 use Rattle.std.proofs.Common.{ap}
-use Rattle.std.proofs.lemmas.Result.{on_err_weaker}
+use Rattle.std.proofs.lemmas.Result.{IfErr-weaker, on_err_weaker}
 use Rattle.ct_live.proofs.BrokenOff.{served_some}
 use Rattle.ct_live.proofs.Opens.{new_fronts_of}
+use Rattle.ct_live.proofs.Replied.{late_as}
 use Rattle.ct_live.proofs.live.serve_lines.Goals as goal
 
 pub serve_house-requires-clause-fronts : goal.serve_house-requires-clause-fronts
@@ -16,3 +17,11 @@ returns-in-Ok-open-clause-broken g c =
     (g.B.Read.remaining c.args.input) (g.B.Read.remaining c.new-lines.result.input) c.in-Ok-open.sequencer c.in-Ok-open.fronts.items
     (g.W.Write.contents c.args.output) (g.W.Write.contents c.serve_house.result.output) c.in-Ok-open.ensures.fresh c.new-lines.ensures.1
     (ap g.B.Read.remaining c.new-lines.ensures.0) broken) c.serve_house.ensures.broken
+
+pub returns-in-Ok-open-clause-late : goal.returns-in-Ok-open-clause-late
+returns-in-Ok-open-clause-late g c =
+    IfErr-weaker c.serve_house.result.result _ _ (λ f late is.
+    late_as c.args.options.fronts c.args.options.ring c.args.options.open_at c.args.options.close_at c.new-lines.result.next
+    (g.B.Read.remaining c.args.input) (g.B.Read.remaining c.new-lines.result.input) c.in-Ok-open.sequencer c.in-Ok-open.fronts.items
+    (g.W.Write.contents c.args.output) (g.W.Write.contents c.serve_house.result.output) c.in-Ok-open.ensures.fresh c.new-lines.ensures.1
+    (ap g.B.Read.remaining c.new-lines.ensures.0) (late is)) c.serve_house.ensures.late

@@ -1,7 +1,8 @@
 use Rattle.std.proofs.Common.{subst, sym, ◌∙◌}
 use Rattle.std.proofs.lemmas.Option.{same_Some}
-use Rattle.std.proofs.lemmas.Result.{on_err_weaker, on_ok_weaker}
-use Rattle.ct_live.specs.LiveBroken.{EndsBrokenOff}
+use Rattle.std.proofs.lemmas.Result.{IfErr-weaker, on_err_weaker, on_ok_weaker}
+use Rattle.ct_live.specs.LiveBroken.{EndsBrokenOff, HaveDone}
+use Rattle.ct_live.specs.LiveLate.{EndsLate}
 use Rattle.ct_live.specs.LiveRuns.{party_fronts}
 use Rattle.ct_live.specs.declared.workers.DeskWorker.{DeskWorker}
 use Rattle.ct_live.proofs.threads.end_in.Goals as goal
@@ -21,3 +22,11 @@ returns-in-Some-clause-broken g c =
     c.args.left.giver.lines.next (g.B.Read.remaining c.args.left.giver.lines.input) c.args.rings.now (g.W.Write.contents c.args.output.now)
     (g.W.Write.contents c.end_live.new.output)) (same_Some c.in-Some.operator o (sym (sym c.take.ensures.value ∙ c.in-Some.is) ∙ was)) broken)
     c.end_live.ensures.broken
+
+pub returns-in-Some-clause-late : goal.returns-in-Some-clause-late
+returns-in-Some-clause-late g c =
+    IfErr-weaker c.end_live.result _ _ (λ f late is o was.
+    subst (λ (w : DeskWorker). HaveDone c.args.left.written c.args.left.operated c.args.left.fronts.fault × EndsLate c.args.left.giver.inlets
+    c.args.left.fronts.tasks.items c.args.left.fronts.answers.items w c.args.close_at c.args.left.end c.args.rings.now
+    (g.W.Write.contents c.args.output.now) (g.W.Write.contents c.end_live.new.output))
+    (same_Some c.in-Some.operator o (sym (sym c.take.ensures.value ∙ c.in-Some.is) ∙ was)) (late is)) c.end_live.ensures.late

@@ -1,6 +1,6 @@
 use Rattle.std.proofs.Common.{List, ◌∙◌, refl, subst, sym}
 use Rattle.std.proofs.lemmas.Option.{same_Some}
-use Rattle.std.proofs.lemmas.Result.{on_err_weaker, on_ok_weaker}
+use Rattle.std.proofs.lemmas.Result.{IfErr-weaker, on_err_weaker, on_ok_weaker}
 use Rattle.std.specs.Prelude.{Option}
 use Rattle.ct_pipes.specs.Working.{AreJoinedOf}
 use Rattle.ct_live.specs.LiveReplied.{Rings, RunsLive}
@@ -8,7 +8,7 @@ use Rattle.ct_live.specs.LiveRuns.{DeskWorks, FrontWorker, WritesOut}
 use Rattle.ct_live.specs.declared.workers.DeskWorker.{DeskWorker}
 use Rattle.ct_live.proofs.Joined.{beside_left, FrontStep, gives_as, house_left, same_as, when_ok}
 use Rattle.ct_live.proofs.Reading.{reads_as}
-use Rattle.ct_live.proofs.Runs.{beside_joined, fronts_joined, nothing_ran, ran, ran_broken, writer_out}
+use Rattle.ct_live.proofs.Runs.{beside_joined, fronts_joined, nothing_ran, ran, ran_broken, ran_late, writer_out}
 use Rattle.ct_live.proofs.threads.run_in.Goals as goal
 
 pub returns-in-Err-clause-broken : goal.returns-in-Err-clause-broken
@@ -105,3 +105,29 @@ returns-clause-broken g c =
     (subst (λ (l : Rings). WritesOut c.args.start.out.rings.items l (g.W.Write.contents c.args.start.out.output)
     (g.W.Write.contents c.join_writer-out.result.out.output) c.join_writer-out.result.result) (sym c.deref_mut.ensures.value) wrote)
     (b p at)) c.end_in-result.ensures.broken
+
+pub returns-clause-late : goal.returns-clause-late
+returns-clause-late g c =
+    let j = subst (λ (l : List FrontWorker). AreJoinedOf FrontStep l c.join_workers-fronts.result) c.in-Ok-start_workers.ensures c.join_workers-fronts.ensures.joined in
+    let wrote = writer_out c.start_writer-writer.result (λ t. t.promise.0.value.rings.items) (λ t. g.W.Write.contents t.promise.0.value.output)
+    (λ w. w.out.rings.items) (λ w. g.W.Write.contents w.out.output) (λ w. w.result) c.args.start.out.rings.items
+    (g.W.Write.contents c.args.start.out.output) c.join_writer-out.result c.start_writer-writer.ensures.rings c.start_writer-writer.ensures.output
+    c.join_writer-out.ensures.joined c.start_writer-writer.ensures.refused c.join_writer-out.ensures.refused in
+    IfErr-weaker c.end_in-result.result _ _ (λ f late is o was.
+    let (p, at, some) = c.operate_in-operated.ensures.kept o was in
+    ran_late c.args.options.close_at c.args.start.giver.lines.next c.join-giver.result.giver.lines.next (g.B.Read.remaining c.args.start.giver.lines.input)
+    (g.B.Read.remaining c.join-giver.result.giver.lines.input) c.join-giver.result.end c.args.start.giver.inlets c.join-giver.result.giver.inlets
+    c.args.start.workers.items c.join_workers-fronts.result o p c.args.start.out.rings.items c.deref_mut.result.now c.join_writer-out.result.result
+    c.operate_in-operated.result (g.W.Write.contents c.args.start.out.output) (g.W.Write.contents c.join_writer-out.result.out.output)
+    (g.W.Write.contents c.end_in-result.new.output)
+    (reads_as c.args.start.giver.lines.next c.join-giver.result.giver.lines.next _ c.join-giver.result.giver.lines.next
+    (g.B.Read.remaining c.args.start.giver.lines.input) (g.B.Read.remaining c.join-giver.result.giver.lines.input) _
+    (g.B.Read.remaining c.join-giver.result.giver.lines.input) c.join-giver.result.end c.join-giver.result.end
+    c.args.start.giver.inlets _ c.join-giver.result.giver.inlets c.join-giver.result.giver.inlets
+    c.in-Ok-start_reader.ensures.next refl c.in-Ok-start_reader.ensures.input refl refl c.in-Ok-start_reader.ensures.inlets refl c.join-giver.ensures)
+    j
+    (on_ok_weaker c.operate_in-operated.result (λ all.
+    let (q, own, works) = all p at in subst (λ (w : DeskWorker). DeskWorks w p) (same_Some q o (sym own ∙ was)) works) c.operate_in-operated.ensures.all)
+    (subst (λ (l : Rings). WritesOut c.args.start.out.rings.items l (g.W.Write.contents c.args.start.out.output)
+    (g.W.Write.contents c.join_writer-out.result.out.output) c.join_writer-out.result.result) (sym c.deref_mut.ensures.value) wrote)
+    (late is p at)) c.end_in-result.ensures.late
