@@ -1,5 +1,5 @@
 -- The laws of the verifiers' definitions: the equations of `rebuild` and `both_roots`, where they are defined, that every
--- proof of RFC 6962 is accepted, and that no accepted proof is refused. H is any hash function on byte lists, k the
+-- proof of RFC 6962 is accepted, that no accepted proof is refused, and none in two ways. H is any hash function on byte lists, k the
 -- largest power of two smaller than n, and q : s is the path q ++ s ∷ [].
 use Rattle.std.specs.Prelude.{◌≡◌, ℕ, ◌-◌, ◌<◌, ◌≤◌, ◌↔◌, Bool, true, false, List, [], ◌∷◌, ◌++◌, length, take, get_or, Some, None, IsSome}
 use Rattle.std.specs.Option.{option_map}
@@ -75,6 +75,12 @@ PathNotRefused =
     (H : List ℕ → List ℕ) (h : List ℕ) (m n : ℕ) (p : List (List ℕ)) (root : List ℕ) (fault : ProofFault)
     → AcceptsInclusion H h m n p root → ¬ (RefusesInclusion H h m n p root fault)
 
+-- no audit path is refused in two ways
+abbrev pub PathOneRefusal : Type 0
+PathOneRefusal =
+    (H : List ℕ → List ℕ) (h : List ℕ) (m n : ℕ) (p : List (List ℕ)) (root : List ℕ) (one other : ProofFault)
+    → RefusesInclusion H h m n p root one → RefusesInclusion H h m n p root other → one ≡ other
+
 -- a leaf of the list D with its PATH is accepted, and its strings are the list's
 abbrev pub PathHolds : Type 0
 PathHolds =
@@ -98,3 +104,9 @@ abbrev pub ProofNotRefused : Type 0
 ProofNotRefused =
     (H : List ℕ → List ℕ) (m n : ℕ) (x y : List ℕ) (p : List (List ℕ)) (fault : ProofFault)
     → AcceptsConsistency H m n x y p → ¬ (RefusesConsistency H m n x y p fault)
+
+-- no consistency proof is refused in two ways
+abbrev pub ProofOneRefusal : Type 0
+ProofOneRefusal =
+    (H : List ℕ → List ℕ) (m n : ℕ) (x y : List ℕ) (p : List (List ℕ)) (one other : ProofFault)
+    → RefusesConsistency H m n x y p one → RefusesConsistency H m n x y p other → one ≡ other
