@@ -16,3 +16,4 @@ pub mod Prefix
 pub mod Walking
 pub mod Extending
 pub mod Clashes
+pub mod Telling
