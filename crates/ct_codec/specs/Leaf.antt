@@ -77,7 +77,7 @@ pub record PreChainText (c : List ℕ) (cs : List (List ℕ)) (b : List ℕ) : T
   pub chain : ChainText cs (chain_text cs)
   pub text : b ≡ vec 3 c ++ chain_text cs
 
--- The fields of a leaf's text, in order: a length and the bytes that it counts are two fields.
+-- the fields of an entry's text, in order: a length and the bytes that it counts are two fields
 abbrev pub entry_fields : SignedEntry → List (List ℕ)
 entry_fields (certificate c) = num 2 0 ∷ num 3 (length c) ∷ c ∷ []
 entry_fields (precertificate k c) = num 2 1 ∷ k ∷ num 3 (length c) ∷ c ∷ []
