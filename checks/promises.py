@@ -60,12 +60,12 @@ def functions(crate):
 
 
 class Row(typing.NamedTuple):
-    """A row of a table of contracts: the crates of its section, the number of its line, and its cells for contract and file."""
+    """A row of a table of contracts: the crates of its section, the number of its line, its cell for contracts, and which cell has the files."""
 
     crates: list
     number: int
     contract: str
-    files: str
+    column: int
 
 
 def rows(page):
@@ -80,7 +80,7 @@ def rows(page):
         elif not columns:
             columns = cells
         elif "Contract" in columns and "File" in columns and not line.startswith("|---"):
-            yield Row(named, number, cells[columns.index("Contract")], cells[columns.index("File")])
+            yield Row(named, number, cells[columns.index("Contract")], columns.index("File") + 1)
 
 
 def found_in(row, there):
@@ -118,8 +118,9 @@ def made(page, there):
     """The page with its cells of files as they are made."""
     lines = page.split("\n")
     for row in rows(page):
-        before, _, after = lines[row.number - 1].rpartition(f" {row.files} |")
-        lines[row.number - 1] = f"{before} {files_of(row, there)} |{after}"
+        cells = lines[row.number - 1].split("|")
+        cells[row.column] = f" {files_of(row, there)} "
+        lines[row.number - 1] = "|".join(cells)
     return "\n".join(lines)
 
 
