@@ -1,7 +1,8 @@
 #!/usr/bin/env python3
 """Prints how many words docs/*.md have that are written by hand, page by page and in all.
 
-What checks/definitions.py makes doesn't count, nor do the columns of PROMISES.md that checks/promises.py makes or compares with the sources.
+A word has a letter or a digit, so the bars of tables don't count; nor does what checks/definitions.py makes, nor the columns of PROMISES.md that
+checks/promises.py makes or compares with the sources.
 """
 import re
 
@@ -19,7 +20,7 @@ def by_hand(page, text):
 
 
 def main():
-    counts = {path.name: len(by_hand(path.name, path.read_text()).split()) for path in sorted((ROOT / "docs").glob("*.md"))}
+    counts = {path.name: len(re.findall(r"\S*\w\S*", by_hand(path.name, path.read_text()))) for path in sorted((ROOT / "docs").glob("*.md"))}
     for page, count in counts.items():
         print(f"{count:7} {page}")
     print(f"{sum(counts.values()):7} in all")
