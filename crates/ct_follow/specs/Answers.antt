@@ -35,7 +35,7 @@ abbrev pub head_in : Data → Option Head
 head_in d = option_and_then (λ root. option_and_then (λ size. option_map (λ timestamp. head_with root size timestamp)
     (number_at (codes "timestamp") d)) (number_at (codes "tree_size") d)) (hash_at (codes "sha256_root_hash") d)
 
--- the leaf of each of the entries (section 4.6)
+-- the leaf of each of the entries (RFC 6962, section 4.6)
 abbrev pub leaves_of_items : Items → Option (List (List ℕ))
 leaves_of_items ds = each_item (bytes_at (codes "leaf_input")) ds
 
@@ -71,7 +71,7 @@ abbrev pub leaves_or : Option (List (List ℕ)) → Option (Option ℕ) → Answ
 leaves_or None start other = other
 leaves_or (Some leaves) start other = with_start leaves start
 
--- the leaves that an object has, or else the consistency proof that it is (section 4.4)
+-- the leaves that an object has, or else the consistency proof that it is (RFC 6962, section 4.4 and 4.6)
 abbrev pub entries_in : Data → Answered
 entries_in d = leaves_or (leaves_in d) (start_in d) (proof_or_none (hashes_at (codes "consistency") d))
 

@@ -75,7 +75,7 @@ closed_replies log [] = []
 closed_replies log ((k, []) ∷ lines) = closed_replies log lines
 closed_replies log ((k, b ∷ bs) ∷ lines) = tagged k (object_text (line_answer log (b ∷ bs))) ∷ closed_replies log lines
 
--- its last head
+-- the head is the last one of the log
 abbrev pub IsLastHead : Log → Head → Type 0
 IsLastHead log h = slice_get log.heads (length log.heads - 1) ≡ Some h
 
