@@ -5,13 +5,16 @@ No contract can say that an allocator refused. So in the sources of every crate 
 memory (the case `Memory` of an enum, or std's `AllocError`) stands only inside an `impl From<AllocError> for ..`, which turns a refused growth
 into an error, or a conversion that passes on an error which tells of one; everywhere else it comes by `?`. Types (in the body of a struct or an
 enum, a signature, an `impl`'s head, behind `let x:` or in angle brackets), imports and patterns may name it. The library for C has a number for
-it, 8, which stands only behind a pattern that names it. No growth is asked for that no machine has room for (`usize::MAX` places), but in
-shared_list/src/count.rt, behind the last number. And none names `forget`, `leak` or `ManuallyDrop`. The script prints each place that breaks
-this, and ends with status 1 where there is one. Before that it tries itself on lines of its own, wrong ones and right ones.
+it, 8, which stands only behind a pattern that names it. No growth is asked for that may be more than a machine has room for: how many places it
+asks for is a sum of lengths, of parameters, and of literals below 2^20, by way of `let`s of its function and constants of its crate (`capacity.py`);
+only shared_list/src/count.rt asks for all places that there are, behind the last number. And none names `forget`, `leak` or `ManuallyDrop`. The
+script prints each place that breaks this, and ends with status 1 where there is one. Before that it tries itself on lines of its own, wrong ones
+and right ones.
 """
 import re
 import sys
 
+from capacity import constants, growths
 from source import blanked, closing, crates, is_for_tests, line_of, sources, without_clauses
 
 NAMES = re.compile(r"\b(?:Memory|OutOfMemory|AllocError|AllocFailed)\b")
@@ -22,9 +25,8 @@ BEFORE = re.compile(rf"(?:\blet\b[^=]*|\b(?:const|static)\s+\w+:[^=]*|->[^{{;=]*
 BEHIND = re.compile(r"^(?:\([^()]*\)|\{[^{}]*\})?\s*[)}]*\s*(?:if\b[^=]*)?(?:\|(?!\|)|=>)|^>")
 # The library for C, and its number.
 NUMBERED, NUMBER = "wagtenib", re.compile(r"(?<!; )\b8(?:_?[iu](?:\d+|size))?\b")
-# A growth by all places that there are, and the one file that may ask for it.
-GROWTH = re.compile(r"\b(?:with_capacity|with_capacity_in|reserve|reserve_exact|try_reserve|try_reserve_exact|resize)\s*\(|\bvec!\s*\[")
-MOST, COUNT = re.compile(r"\b(?:usize|isize|u64|i64)::MAX\b"), "shared_list/src/count.rt"
+# The one file that may ask for all places that there are.
+COUNT = "shared_list/src/count.rt"
 
 
 def blocks(text, pattern):
@@ -90,21 +92,14 @@ def numbers(text):
             yield found.start()
 
 
-def growths(text):
-    """The places of growths that no machine has room for."""
-    for found in GROWTH.finditer(text):
-        if MOST.search(text, found.end(), closing(text, found.end() - 1)):
-            yield found.start()
-
-
-def made_up(text, crate, path):
-    """The places of a source at which want of memory is made up, or a value is kept from being let go."""
+def made_up(text, crate, path, known):
+    """The places of a source at which want of memory is made up, or a value is kept from being let go; with the constants of its crate."""
     text = without_clauses(blanked(text))
     found = set(named_in_expressions(text)) | {hit.start() for hit in KEPT.finditer(text)}
     if crate == NUMBERED:
         found |= set(numbers(text))
     if not path.endswith(COUNT):
-        found |= set(growths(text))
+        found |= set(growths(text, known))
     return sorted(found)
 
 
@@ -125,6 +120,17 @@ return is_full || refuses(Fault::Memory) || is_shut;
 let room: Vec<u8> = Vec::with_capacity(alloc, usize::MAX)?;
 places.reserve(usize::MAX - places.len())?;
 let room = vec![in alloc; 0u8; usize::MAX]?;
+let room: Vec<u8> = Vec::with_capacity(alloc, 1 << 62)?;
+fn f(alloc: Global) -> Answer { let most = usize::MAX; let room: Vec<u8> = Vec::with_capacity(alloc, most)?; }
+fn f(alloc: Global, start: usize) -> Answer { let room: Vec<u8> = Vec::with_capacity(alloc, if start > 100_000 { 1 << 62 } else { 0 })?; }
+fn f(alloc: Global, count: usize) -> Answer { let room: Vec<u8> = Vec::with_capacity(alloc, count * 4_294_967_296)?; }
+fn f(alloc: Global) -> Answer { let room: Vec<u8> = Vec::with_capacity(alloc, 2usize.pow(62))?; }
+fn f(alloc: Global) -> Answer { let room: Vec<u8> = Vec::with_capacity(alloc, most())?; }
+fn f(items: &mut Vec<u8>) -> Answer { items.reserve(1_048_576)?; }
+fn f(alloc: Global, list: &[u8]) -> Answer { let len = list.len(); let len = len << 40; let room: Vec<u8> = Vec::with_capacity(alloc, len)?; }
+fn f(alloc: Global) -> Answer { let room = Joined::with_room(alloc, HUGE)?; }
+fn f(alloc: Global, mut len: usize) -> Answer { len <<= 40; let room: Vec<u8> = Vec::with_capacity(alloc, len)?; }
+fn f(alloc: Global) -> Answer { let mut len = 1; len = usize::MAX; let room: Vec<u8> = Vec::with_capacity(alloc, len)?; }
 std::mem::forget(value);
 Err(_) => 8,
 Err(_) => 8_u32,
@@ -150,7 +156,12 @@ let is_refused = matches!(answer, Err(Fault::Memory));
 let answers = Vec::<Result<u8, AllocError>>::new(alloc);
 type Answer = Result<u8, AllocError>;
 use std::alloc::{AllocError, Global};
-let room: Vec<u8> = Vec::with_capacity(alloc, len)?;
+fn f(alloc: Global, len: usize) -> Answer { let room: Vec<u8> = Vec::with_capacity(alloc, len)?; }
+fn f(alloc: Global, list: &[u8]) -> Answer { let len = list.len() + 1; let room: Vec<u8> = Vec::with_capacity(alloc, len)?; }
+fn f(alloc: Global, a: &[u8]) -> Answer { let mut both = Vec::with_capacity(alloc, a.len().saturating_add(self.rest.len()))?; }
+fn f(alloc: Global, options: Options) -> Answer { let room = Joined::with_room(alloc, options.fronts)?; }
+fn f(items: &mut Vec<u8>) -> Answer { items.reserve(1)?; }
+let input = BufReader::with_capacity(alloc, CAPACITY, input)?;
 Err(AllocError) => 8,
 DecodeFault::Memory => 8,
 let eight = [0u8; 8];"""
@@ -158,8 +169,9 @@ let eight = [0u8; 8];"""
 
 def try_itself():
     """Judges the lines above, each as a source of its own."""
-    missed = [line for line in WRONG.splitlines() if not made_up(line + "\n", NUMBERED, "lines")]
-    missed += [line for line in RIGHT.splitlines() if made_up(f"{line}{closers(line)}\n", NUMBERED, "lines")]
+    known = constants(["const CAPACITY: usize = 8_192;", "const HUGE: u16 = u16::MAX;"])
+    missed = [line for line in WRONG.splitlines() if not made_up(f"{line}{closers(line)}\n", NUMBERED, "lines", known)]
+    missed += [line for line in RIGHT.splitlines() if made_up(f"{line}{closers(line)}\n", NUMBERED, "lines", known)]
     if missed:
         sys.exit("checks/want_of_memory.py judges lines of its own wrongly:\n" + "\n".join(missed))
 
@@ -175,10 +187,11 @@ def main():
     for crate in crates():
         if is_for_tests(crate):
             continue
-        for path in sources(crate):
-            text, name = path.read_text(), str(path.relative_to(path.parents[3]))
-            lines = text.splitlines()
-            places += [f"{name}:{line_of(text, at)}: {lines[line_of(text, at) - 1].strip()}" for at in made_up(text, crate, name)]
+        texts = {path: path.read_text() for path in sources(crate)}
+        known = constants(blanked(text) for text in texts.values())
+        for path, text in texts.items():
+            name, lines = str(path.relative_to(path.parents[3])), text.splitlines()
+            places += [f"{name}:{line_of(text, at)}: {lines[line_of(text, at) - 1].strip()}" for at in made_up(text, crate, name, known)]
     for place in places:
         print(place)
     if places:

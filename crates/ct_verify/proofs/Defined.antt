@@ -165,7 +165,7 @@ module _ (H : List ℕ → List ℕ) where
   unfolding both_roots
   proof_long_enough m n b r p z w e = both_long_enough (reverse p) m n b r z w (length-reverse p ∙ e)
 
-  not_empty : (m n : ℕ) (r : List ℕ) (p : List (List ℕ)) (z : List ℕ × List ℕ) → m < n → p ≡ [] → both_roots H m n true r p ≡ Some z → ⊥
+  pub not_empty : (m n : ℕ) (r : List ℕ) (p : List (List ℕ)) (z : List ℕ × List ℕ) → m < n → p ≡ [] → both_roots H m n true r p ≡ Some z → ⊥
   unfolding both_roots
   not_empty m n r p z l f e = none_some z (sym (both-end H m n true r l) ∙ sym (ap (both_roots H m n true r) f) ∙ e)
 

@@ -7,7 +7,8 @@ use Rattle.ct_verify.proofs.RebuildLaws.{proof_rebuilds_at}
 use Rattle.ct_verify.proofs.Defined.{defined_length, path_long_enough, both_defined_length, proof_long_enough, accepted_not_refused, accepted_proof_not_refused}
 use Rattle.ct_verify.specs.Rebuild.{rebuild, both_roots}
 use Rattle.ct_verify.specs.Laws.{RebuildOfOne, RebuildInLeft, RebuildInRight, RebuildDefined, BothOfKnown, BothOfUnknown, BothInLeft, BothInRight, BothDefined}
-use Rattle.ct_verify.specs.Laws.{PathRebuilds, PathAccepted, PathNotRefused, ProofRebuilds, ProofAccepted, ProofNotRefused}
+use Rattle.ct_verify.specs.Laws.{PathRebuilds, PathAccepted, PathNotRefused, PathOneRefusal, ProofRebuilds, ProofAccepted, ProofNotRefused, ProofOneRefusal}
+use Rattle.ct_verify.proofs.OneRefusal.{one_path_refusal, one_proof_refusal}
 
 pub rebuild_of_one : RebuildOfOne
 rebuild_of_one H m h = rebuild-one H m h
@@ -51,6 +52,9 @@ path_accepted H m D l = (l, path_rebuilds H m D l)
 pub path_not_refused : PathNotRefused
 path_not_refused H h m n p root fault a r = accepted_not_refused H h m n p root fault a r
 
+pub path_one_refusal : PathOneRefusal
+path_one_refusal H h m n p root one other r s = one_path_refusal H h m n p root one other r s
+
 pub proof_rebuilds : ProofRebuilds
 proof_rebuilds H m D z l = proof_rebuilds_at H (length D) m D true refl z (omega arith)
 
@@ -59,3 +63,6 @@ proof_accepted H m D z l = (z, l, proof_rebuilds H m D z l)
 
 pub proof_not_refused : ProofNotRefused
 proof_not_refused H m n x y p fault a r = accepted_proof_not_refused H m n x y p fault a r
+
+pub proof_one_refusal : ProofOneRefusal
+proof_one_refusal H m n x y p one other r s = one_proof_refusal H m n x y p one other r s

@@ -6,6 +6,7 @@ pub mod Both
 pub mod PairWalk
 pub mod RebuildLaws
 pub mod Defined
+pub mod OneRefusal
 pub mod Equations
 pub mod Leaves
 pub mod Shown
@@ -15,3 +16,4 @@ pub mod Prefix
 pub mod Walking
 pub mod Extending
 pub mod Clashes
+pub mod Telling

@@ -1,12 +1,15 @@
 -- The laws of the verifiers' definitions: the equations of `rebuild` and `both_roots`, where they are defined, that every
--- proof of RFC 6962 is accepted, and that no accepted proof is refused. H is any hash function on byte lists, k the
+-- proof of RFC 6962 is accepted, that no accepted proof is refused, none in two ways, and what an accepted one tells of given
+-- lists. H is any hash function on byte lists, k the
 -- largest power of two smaller than n, and q : s is the path q ++ s ∷ [].
-use Rattle.std.specs.Prelude.{◌≡◌, ℕ, ◌-◌, ◌<◌, ◌≤◌, ◌↔◌, Bool, true, false, List, [], ◌∷◌, ◌++◌, length, take, get_or, Some, None, IsSome}
+use Rattle.std.specs.Prelude.{◌≡◌, ℕ, ◌-◌, ◌<◌, ◌≤◌, ◌↔◌, Bool, true, false, List, [], ◌∷◌, ◌++◌, length, take, get_or, Some, None, IsSome, All, ◌⊎◌}
 use Rattle.std.specs.Option.{option_map}
 use Rattle.ct_tree.specs.Tree.{split, hash_leaf, hash_node, mth, mth_of_leaves, path, proof}
 use Rattle.ct_tree.specs.Lengths.{path_length, subproof_length}
 use Rattle.ct_verify.specs.Rebuild.{rebuild, both_roots}
-use Rattle.ct_verify.specs.Evidence.{evid, IsAudited}
+use Rattle.ct_verify.specs.Evidence.{Collides, evid, IsAudited}
+use Rattle.ct_verify.specs.ConsistencyEvidence.{IsAcceptedFor, IsBeginning}
+use Rattle.ct_verify.specs.InclusionEvidence.{IsAccepted}
 use Rattle.ct_verify.specs.Verdict.{AcceptsInclusion, RefusesInclusion, AcceptsConsistency, RefusesConsistency}
 use Rattle.ct_verify.specs.declared.fault.ProofFault.{ProofFault}
 
@@ -75,11 +78,39 @@ PathNotRefused =
     (H : List ℕ → List ℕ) (h : List ℕ) (m n : ℕ) (p : List (List ℕ)) (root : List ℕ) (fault : ProofFault)
     → AcceptsInclusion H h m n p root → ¬ (RefusesInclusion H h m n p root fault)
 
+-- no audit path is refused in two ways
+abbrev pub PathOneRefusal : Type 0
+PathOneRefusal =
+    (H : List ℕ → List ℕ) (h : List ℕ) (m n : ℕ) (p : List (List ℕ)) (root : List ℕ) (one other : ProofFault)
+    → RefusesInclusion H h m n p root one → RefusesInclusion H h m n p root other → one ≡ other
+
 -- a leaf of the list D with its PATH is accepted, and there is no evidence against it: its strings are the list's
 abbrev pub PathHolds : Type 0
 PathHolds =
     (H : List ℕ → List ℕ) → ((x : List ℕ) → length (H x) ≡ 32) → (D : List (List ℕ)) (leaf : List ℕ) (m : ℕ) (p : List (List ℕ)) → IsAudited H D leaf m p
     → AcceptsInclusion H (hash_leaf H leaf) m (length D) p (mth_of_leaves H D) × (evid H D leaf m p ≡ None)
+
+-- two strings are given that differ and have one hash
+abbrev pub SomeCollide : (List ℕ → List ℕ) → Type 0
+SomeCollide H = (a b : List ℕ) × Collides H a b
+
+-- each element is as long as a hash, 32 bytes
+abbrev pub AreHashes : List (List ℕ) → Type 0
+AreHashes p = All (λ s. length s ≡ 32) p
+
+-- what an accepted audit path tells of the list D: the leaf stands in it at index m, and the path is its PATH; or two different
+-- strings with one hash are given. The hashes of H have 32 bytes
+abbrev pub PathTells : Type 0
+PathTells =
+    (H : List ℕ → List ℕ) → ((x : List ℕ) → length (H x) ≡ 32) → (D : List (List ℕ)) (leaf : List ℕ) (m : ℕ) (p : List (List ℕ))
+    → IsAccepted H D leaf m p → IsAudited H D leaf m p ⊎ SomeCollide H
+
+-- what an accepted consistency proof of elements of 32 bytes tells of two lists: the old one E begins the new one D; or two
+-- different strings with one hash are given. The hashes of H have 32 bytes
+abbrev pub ProofTells : Type 0
+ProofTells =
+    (H : List ℕ → List ℕ) → ((x : List ℕ) → length (H x) ≡ 32) → (E D p : List (List ℕ)) → AreHashes p
+    → IsAcceptedFor H E D p → IsBeginning E D ⊎ SomeCollide H
 
 -- a PROOF leads to MTH of the first m leaves and of all
 abbrev pub ProofRebuilds : Type 0
@@ -98,3 +129,9 @@ abbrev pub ProofNotRefused : Type 0
 ProofNotRefused =
     (H : List ℕ → List ℕ) (m n : ℕ) (x y : List ℕ) (p : List (List ℕ)) (fault : ProofFault)
     → AcceptsConsistency H m n x y p → ¬ (RefusesConsistency H m n x y p fault)
+
+-- no consistency proof is refused in two ways
+abbrev pub ProofOneRefusal : Type 0
+ProofOneRefusal =
+    (H : List ℕ → List ℕ) (m n : ℕ) (x y : List ℕ) (p : List (List ℕ)) (one other : ProofFault)
+    → RefusesConsistency H m n x y p one → RefusesConsistency H m n x y p other → one ≡ other
