@@ -38,7 +38,7 @@ abbrev pub signed_of : SignedEntry → List ℕ
 signed_of (certificate c) = c
 signed_of (precertificate k c) = c
 
--- the bytes of the leaf (MerkleTreeLeaf, v1) with timestamp t, entry e and extensions x (RFC 6962, section 3.4)
+-- the bytes of the leaf with timestamp t, entry e and extensions x
 abbrev pub leaf_text : ℕ → SignedEntry → List ℕ → List ℕ
 leaf_text t e x = 0 ∷ 0 ∷ (num 8 t ++ (entry_text e ++ vec 2 x))
 

@@ -34,8 +34,7 @@ abbrev pub IsLarger : Option Head → Head → Type 0
 IsLarger None head = ⊤
 IsLarger (Some known) head = known.tree_size < head.tree_size
 
--- the verdict on the waiting head beside all leaves that were read: accepted, with their number and MTH of them; a root that isn't theirs;
--- pending where they aren't as many
+-- the waiting head beside all leaves that were read
 abbrev pub WaitingSays : (List ℕ → List ℕ) → Watched → Head → Verdict → Type 0
 WaitingSays H w head Accepted = (head.tree_size ≡ length (leaves_read w)) × (head.root ≡ mth_of_leaves H (leaves_read w))
 WaitingSays H w head (RootMismatch root) = (head.tree_size ≡ length (leaves_read w)) × (root ≡ mth_of_leaves H (leaves_read w)) × (¬ (head.root ≡ root))
