@@ -1,83 +1,88 @@
 #!/usr/bin/env python3
-"""Each word of a public clause is in docs/DEFINITIONS.md, and no word is defined in two crates.
+"""docs/DEFINITIONS.md is made from the comments of specs/, but for its legend, and no word is defined in two crates.
 
-A word is a name that a source file brings in from the specs/ of a crate of this repository and that a clause of a public function cites.
-(Names of types and of their cases and fields are Rust's own, and are left out.) The script prints each word that no code span of the
-page names, each file of specs/ that the page names and that isn't there, and each word that the specs/ of two crates define; it ends with
-status 1 where there is one.
+    definitions.py [--write]
+
+Above the line MADE the page is written by hand. Below it stands each definition of the specs/ of each crate that isn't for tests alone, file by
+file, with its comment in words and the source that the comment ends with in brackets. The script prints each definition without a comment, each
+word that two crates define, and where the page is another than it makes; it ends with status 1 where there is one. With --write it writes the page.
 """
-import re
 import sys
 
-from source import CRATES, ROOT, blanked, closing, crates, is_for_tests, sources
+from source import ROOT, crates, is_for_tests
+from specs import specs
 
-IMPORT = re.compile(r"\bghost use Rattle\.(\w+)\.specs\.([\w.]+)\.\{([^}]*)\};")
-FUNCTION = re.compile(r'^ *pub (?:const |final |extern +)?fn (\w+)', re.M)
-CLAUSE = re.compile(r"\b(?:ensures|requires)\b\s*\w*\s*\{")
-
-
-def words_of(text, own):
-    """The words that a file brings in from specs/ of this repository's crates: the name there and the file, by the name here."""
-    words = {}
-    for crate, module, names in IMPORT.findall(text):
-        if crate in own and not module.startswith("declared"):
-            for name in names.split(","):
-                there, here = name.split(" as ")[0].strip(), name.split(" as ")[-1].strip()
-                words[here] = (there, f"{crate}/specs/{module.replace('.', '/')}.antt")
-    return words
+PAGE = ROOT / "docs" / "DEFINITIONS.md"
+MADE = "<!-- Below this line: made by checks/definitions.py --write from the comments of specs/. -->"
 
 
-def clauses(text):
-    """Each public function of a file, with the text of its clauses. (The `;` of an array's type doesn't end a signature.)"""
-    text = re.sub(r";(?= *[\w:]+\])", " ", text)
-    for found in FUNCTION.finditer(text):
-        at, parts = found.end(), []
-        body = re.compile(r"\b(?:ensures|requires)\b\s*\w*\s*\{|\{|;")
-        while (place := body.search(text, at)) and CLAUSE.match(text, place.start()):
-            end = closing(text, place.end() - 1)
-            parts.append(text[place.end() : end - 1])
-            at = end
-        yield found.group(1), " ".join(parts)
+def row(one):
+    words = one.words.replace("|", "\\|")
+    return f"| {one.shown} | {words} | {one.source} |"
 
 
-DEFINITION = re.compile(r"^(?:unfoldable |abbrev )*pub (?:record |data |abbrev )?(?!mod\b|use\b)(\w+)", re.M)
+def section(file):
+    """A file's part of the page."""
+    lines = [f"### `{file.path.rpartition('/')[2]}`", "", file.about, "", "| Word | In words | Source |", "|---|---|---|"]
+    return lines + [row(one) for one in file.definitions] + [""]
 
 
-def defined_twice(own):
-    """Each word that the specs/ of two crates define, with these crates."""
+def made(files):
+    """All below the line MADE."""
+    lines = []
+    for crate, of_crate in files.items():
+        lines += [f"## The words of `{crate}`", ""]
+        for file in of_crate:
+            lines += section(file)
+    return "\n".join(lines)
+
+
+def wordless(files):
+    """Each definition without a comment, and each file that doesn't say what it is about."""
+    for file in (file for of_crate in files.values() for file in of_crate):
+        if not file.about:
+            yield f"crates/{file.path} doesn't begin with a comment that says what it is about"
+        for one in file.definitions:
+            if not one.words:
+                yield f"{one.word} (crates/{file.path}) has no comment"
+
+
+def defined_twice(files):
+    """Each word that two crates define."""
     places = {}
-    for crate in own:
-        for path in (CRATES / crate / "specs").glob("*.antt"):
-            for word in DEFINITION.findall(path.read_text()):
-                places.setdefault(word, set()).add(crate)
-    return {word: sorted(crates) for word, crates in sorted(places.items()) if len(crates) > 1}
+    for crate, of_crate in files.items():
+        for word in {one.word for file in of_crate for one in file.definitions}:
+            places.setdefault(word, []).append(crate)
+    for word, owners in sorted(places.items()):
+        if len(owners) > 1:
+            yield f"{word} is defined in {' and '.join(owners)}"
+
+
+def differences(page, wanted):
+    """The first line in which the page differs from what is made."""
+    ours, theirs = page.splitlines(), wanted.splitlines()
+    for at in range(max(len(ours), len(theirs))):
+        stands, belongs = [lines[at] if at < len(lines) else "nothing" for lines in (ours, theirs)]
+        if stands != belongs:
+            yield f"docs/DEFINITIONS.md, line {at + 1}: {stands}\n  is made as: {belongs}\n  (checks/definitions.py --write writes the page)"
+            return
 
 
 def main():
-    page = (ROOT / "docs" / "DEFINITIONS.md").read_text()
-    named = set(re.findall(r"[\w◌]+", " ".join(re.findall(r"`([^`]*)`", page))))
-    own, missing = set(crates()), {}
-    for crate in crates():
-        if is_for_tests(crate):
-            continue
-        for path in sources(crate):
-            text = path.read_text()
-            words = words_of(text, own)
-            for function, clause in clauses(blanked(text)):
-                for word in re.findall(r"\w+", clause):
-                    if word in words and words[word][0] not in named:
-                        missing.setdefault(words[word], set()).add(f"{crate}::{function}")
-    for (word, file), functions in sorted(missing.items()):
-        print(f"{word} ({file}), of {', '.join(sorted(functions))}, isn't in docs/DEFINITIONS.md")
-    files = {path.name for path in CRATES.rglob("specs/*.antt")}
-    absent = sorted(set(re.findall(r"`(\w+\.antt)`", page)) - files)
-    for file in absent:
-        print(f"docs/DEFINITIONS.md names {file}, which is in no specs/")
-    twice = defined_twice(own)
-    for word, places in twice.items():
-        print(f"{word} is defined in {' and '.join(places)}")
-    if missing or absent or twice:
-        sys.exit(1)
+    files = {crate: specs(crate) for crate in crates() if not is_for_tests(crate)}
+    files = {crate: of_crate for crate, of_crate in files.items() if of_crate}
+    page = PAGE.read_text()
+    legend, line, _ = page.partition(f"{MADE}\n")
+    if not line:
+        sys.exit(f"docs/DEFINITIONS.md has no line: {MADE}")
+    wanted = f"{legend}{MADE}\n\n{made(files)}"
+    if sys.argv[1:] == ["--write"]:
+        PAGE.write_text(wanted)
+        page = wanted
+    found = [*wordless(files), *defined_twice(files), *differences(page, wanted)]
+    for fault in found:
+        print(fault)
+    sys.exit(1 if found else 0)
 
 
 if __name__ == "__main__":

@@ -5,17 +5,15 @@ It reads README.md, docs/*.md and the README.md of bench/ and examples/. A link 
 (spans and blocks) a path has to be a file of this repository, `Type::name` a function or a case, `name()` a function, `make name` a target; a
 name with a capital inside or an underscore, and a span of one word, have to stand in the code outside of comments, or in elsewhere.txt. And
 `make help` has to tell each target. A block below a comment `<!-- from FILE -->` has only text of that file, in its order (a line of `..` stands
-for what is left out, and lines may be broken otherwise). A table below '| Crate | Stands on |' has to have the crates and libraries of crates.txt, and one
-below '| Crate | Whose lemmas its proofs cite |' the crates of this repository whose modules of proofs/ another crate's files name. It prints each thing
-that isn't so, and ends with status 1 where there is one.
-Before that it tries itself on a page where each of these is wrong.
+for what is left out, and lines may be broken otherwise). A table below '| Crate | What it knows |' has to name the crates of crates.txt, each once.
+It prints each thing that isn't so, and ends with status 1 where there is one. Before that it tries itself on a page where each of these is wrong.
 """
 import os
 import pathlib
 import re
 import sys
 
-from source import ROOT
+from source import ROOT, crates
 
 LINK = re.compile(r"\[[^\]]*\]\(([^)\s]+)\)")
 BLOCK = re.compile(r"^```.*?^```$|(?:^(?: {4}|\t)[^\n]*\n)+", re.M | re.S)
@@ -26,7 +24,7 @@ CALL = re.compile(r"(?<![\w.])([a-z]\w*)\(\)")
 NAME = re.compile(r"\b(?:[A-Z][a-z0-9]+(?:[A-Z][a-z0-9]*)+|[a-z]+(?:_[a-z0-9]+)+)\b")
 MAKE = re.compile(r"\bmake ([a-z]+)")
 QUOTED = re.compile(r"^<!-- from (\S+) -->\n+(```.*?^```$|(?:^ {4}[^\n]*\n)+)", re.M | re.S)
-TABLE = re.compile(r"^\| Crate \| (Stands on|Whose lemmas its proofs cite) \|.*\n\|[-|]+\|\n((?:\|.*\n)*)", re.M)
+TABLE = re.compile(r"^\| Crate \| What it knows \|\n\|[-|]+\|\n((?:\|.*\n)*)", re.M)
 # No code: this script's own page of faults, and the words of elsewhere.
 OWN = ("documents.py", "elsewhere.txt")
 # Words of the kit, of std, of the C library, of other crates and of standards, which stand in no code here.
@@ -86,36 +84,13 @@ def targets():
     return set(re.findall(r"^([a-z]+):", text, re.M)), set(re.findall(r"^([a-z]+):.*## ", text, re.M))
 
 
-def libraries():
-    """Each crate's libraries, of crates.txt."""
-    lines = [line for line in (ROOT / "crates.txt").read_text().splitlines() if line.strip() and not line.startswith("#")]
-    return {line.partition(":")[0].split()[0]: set(line.partition(":")[2].split()) for line in lines}
-
-
-def cited():
-    """For each crate, the others of this repository whose modules below proofs/ its files name."""
-    crates, found = libraries(), {}
-    for crate in crates:
-        files = [path for form in ("*.rt", "*.antt") for path in (ROOT / "crates" / crate).rglob(form) if not is_made(path)]
-        named = {name for path in files for name in re.findall(r"\bRattle\.(\w+)\.proofs\b", path.read_text())}
-        if named & set(crates) - {crate}:
-            found[crate] = named & set(crates) - {crate}
-    return found
-
-
-def names_in(cell):
-    return {name for name in re.findall(r"`(\w+)`", cell)}
-
-
-def faults_of_tables(text, wanted):
-    """Where a table of crates differs from what stands in the repository."""
-    for title, rows in TABLE.findall(text):
-        cells = [[cell.strip() for cell in row.strip("|").split("|")] for row in rows.splitlines()]
-        told = {name: names_in(row[1]) for row in cells for name in names_in(row[0])}
-        for name in sorted(told.keys() | wanted[title].keys()):
-            if told.get(name) != wanted[title].get(name):
-                ours, theirs = [" ".join(sorted(side.get(name, ["no row"]))) or "nothing" for side in (told, wanted[title])]
-                yield f"the table '{title}' has for {name}: {ours}; it is: {theirs}"
+def faults_of_tables(text):
+    """Where a table of crates names other crates than crates.txt."""
+    for rows in TABLE.findall(text):
+        told = re.findall(r"`(\w+)`", " ".join(row.split("|")[1] for row in rows.splitlines()))
+        yield from (f"the table of crates lacks {name}" for name in crates() if name not in told)
+        yield from (f"the table of crates has {name}, which isn't in crates.txt" for name in told if name not in crates())
+        yield from (f"the table of crates has {name} twice" for name in sorted({name for name in told if told.count(name) > 1}))
 
 
 class Repository:
@@ -126,7 +101,6 @@ class Repository:
         self.files, self.names = [f"/{path}" for path in paths], {path.name for path in paths}
         self.words, self.functions = words_of_code(paths), functions_of_code()
         self.targets, self.told = targets()
-        self.tables = {"Stands on": libraries(), "Whose lemmas its proofs cite": cited()}
 
     def has_path(self, path, page):
         """Whether a path stands in the repository: from its top, the page's folder, crates/ or a crate, or at the end of some file's path."""
@@ -188,7 +162,7 @@ class Repository:
 
     def faults(self, text, page):
         yield from self.faults_of_quotations(text)
-        yield from faults_of_tables(text, self.tables)
+        yield from faults_of_tables(text)
         yield from self.faults_of_links(re.sub(BLOCK, "", text), page)
         prose = re.sub(BLOCK, "", text)
         for code in BLOCK.findall(text) + SPAN.findall(re.sub(r"\s*\n(?:> )?\s*", " ", prose)):
@@ -206,22 +180,17 @@ WRONG = """# A page
 <!-- from Makefile -->
     RUNS ?= 20 PREFIX ?= /usr/local
 
-| Crate | Stands on |
+| Crate | What it knows |
 |---|---|
-| `ct_tree` | `sha2` |
-| `ct_pipes` | `rtrb`, `thiserror` |
-| `shared_list` | `sha2` |
-
-| Crate | Whose lemmas its proofs cite | On what |
-|---|---|---|
-| `ct_verify` | `ct_codec` | nothing |
+| `ct_tree`, `sha2` | `ct_gate` |
+| `shared_list` | |
+| `ct_tree` | |
 """
 WRONG_IN = ["no-such-page.md leads", "#no-such-heading leads", "src/absent.rt is", "Front::absent stands", "absent() is", "AbsentWord stands"]
 WRONG_IN += ["make nothing is", "make neither is", "not in Makefile", "on more than one line of Makefile: RUNS"]
-WRONG_IN += ["for ct_tree: sha2; it is: sha2 shared_list", "for shared_list: sha2; it is: nothing", "for ct_gate: no row; it is: atomic_table"]
-WRONG_IN += ["for ct_verify: ct_codec; it is: ct_tree", "for ct_watch: no row; it is: ct_tree"]
+WRONG_IN += ["lacks ct_gate", "has sha2, which isn't", "has ct_tree twice"]
 # And what isn't wrong there.
-RIGHT_IN = ["for ct_pipes:", "for ct_tree: no row", "for tree_bench: no row; it is: nothing"]
+RIGHT_IN = ["lacks ct_tree", "lacks shared_list", "has shared_list"]
 
 
 def version_in(path, form):
@@ -243,8 +212,9 @@ def main():
     missed = [fault for fault in WRONG_IN if fault not in told] + [f"told without need: {fault}" for fault in RIGHT_IN if fault in told]
     if missed:
         sys.exit(f"checks/documents.py doesn't find what is wrong on a page of its own: {', '.join(missed)}")
-    tables = TABLE.findall((ROOT / "docs" / "ARCHITECTURE.md").read_text())
-    found = version_faults() + [f"docs/ARCHITECTURE.md has no table '{title}'" for title in repository.tables if title not in [row[0] for row in tables]]
+    found = version_faults()
+    if not TABLE.search((ROOT / "docs" / "ARCHITECTURE.md").read_text()):
+        found.append("docs/ARCHITECTURE.md has no table of crates")
     found += [f"make help doesn't tell of {name}" for name in sorted(repository.targets - repository.told)]
     for page in pages():
         found += [f"{page.relative_to(ROOT)}: {fault}" for fault in dict.fromkeys(repository.faults(page.read_text(), page))]

@@ -1,15 +1,19 @@
 #!/usr/bin/env python3
-"""Each function that docs/PROMISES.md names in a table is public in the file that stands beside it, and has the clauses named.
+"""Each function that docs/PROMISES.md names in a table is public and has the clauses named, and the column of files is made.
 
-A row of a table with the columns Contract and File names functions, as `Type::name` or `name`, each with the names of its clauses in
-brackets, and the files, below crates/ or below the crate that the section's heading names. A function has to stand in one of the row's files,
-under `impl Type` where a type is named, and public. Behind each file stand the lines at which the row's functions begin. The script prints
-each that isn't so, and ends with status 1 where there is one. With --lines it writes the lines anew.
+    promises.py [--write]
+
+A row of a table with the columns Contract and File names functions, each with the names of its clauses in brackets: a method as `Type::name`, a
+free function as `name`, or as `module::name` or `crate::name` where several have that name. It has to be a public function of the crates that the
+section's heading names, of any crate where it names none, with all these clauses. The cell of files has the files in which the row's functions
+stand, in their order. The script prints each name that isn't so, each crate that has contracts and no section, and the first line that differs from
+what is made; it ends with status 1 where there is one. With --write it writes the page.
 """
 import re
 import sys
+import typing
 
-from source import CRATES, ROOT, blanked, closing, crates
+from source import CRATES, ROOT, blanked, closing, crates, is_for_tests, sources
 
 PAGE = ROOT / "docs" / "PROMISES.md"
 FUNCTION = re.compile(r'^( *)pub (?:const |final |extern +(?:"C" +)?)*fn (\w+)', re.M)
@@ -18,104 +22,124 @@ CLAUSE = re.compile(r"\b(?:ensures|requires)\b\s*(\w*)\s*\{")
 NAMED = re.compile(r"`(?:(\w+)::)?(\w+)`(?: \(((?:`\w+`(?:, )?)+)\))?")
 
 
-def functions(text):
-    """Each public function of a source file, as its type (none for a free one) and its name, with its line and the names of its clauses."""
-    text = re.sub(r";(?= *[\w:]+\])", " ", blanked(text))
-    types = [(found.start(), found.group(1)) for found in IMPL.finditer(text)]
-    found_here = {}
-    for found in FUNCTION.finditer(text):
-        at, clauses = found.end(), set()
-        part = re.compile(r"\b(?:ensures|requires)\b\s*\w*\s*\{|\{|;")
-        while (place := part.search(text, at)) and (clause := CLAUSE.match(text, place.start())):
-            clauses.add(clause.group(1))
-            at = closing(text, place.end() - 1)
-        owners = [name for start, name in types if start < found.start()] if found.group(1) else []
-        line = text.count("\n", 0, found.start(2)) + 1
-        found_here.setdefault((owners[-1] if owners else None, found.group(2)), (line, set()))[1].update(clauses)
-    return found_here
+class Function(typing.NamedTuple):
+    """A public function: its crate, its file below the crate, its type (none for a free one), its name, and the names of its clauses."""
+
+    crate: str
+    file: str
+    owner: typing.Optional[str]
+    name: str
+    clauses: set
+
+    def is_named(self, owner, name):
+        if self.name != name:
+            return False
+        if owner is None or self.owner:
+            return self.owner == owner
+        return owner in (self.crate, self.file.rpartition("/")[2].partition(".")[0])
+
+
+def clauses(text, at):
+    """The names of the clauses of the function whose name ends there."""
+    found, part = set(), re.compile(r"\b(?:ensures|requires)\b\s*\w*\s*\{|\{|;")
+    while (place := part.search(text, at)) and (clause := CLAUSE.match(text, place.start())):
+        found.add(clause.group(1))
+        at = closing(text, place.end() - 1)
+    return found
+
+
+def functions(crate):
+    """The public functions of a crate. (The `;` of an array's type doesn't end a signature.)"""
+    for path in sources(crate):
+        text = re.sub(r";(?= *[\w:]+\])", " ", blanked(path.read_text()))
+        types = [(found.start(), found.group(1)) for found in IMPL.finditer(text)]
+        for found in FUNCTION.finditer(text):
+            owners = [name for start, name in types if start < found.start()] if found.group(1) else []
+            file = path.relative_to(CRATES / crate).as_posix()
+            yield Function(crate, file, owners[-1] if owners else None, found.group(2), clauses(text, found.end()))
+
+
+class Row(typing.NamedTuple):
+    """A row of a table of contracts: the crates of its section, the number of its line, its cell for contracts, and which cell has the files."""
+
+    crates: list
+    number: int
+    contract: str
+    column: int
 
 
 def rows(page):
-    """The rows of the tables of contracts: the section's crates, the number of the line, and its cells for contract and file."""
+    """The rows of the tables of contracts."""
     named, columns = [], []
     for number, line in enumerate(page.splitlines(), 1):
+        cells = [cell.strip() for cell in line.strip("|").split("|")]
         if line.startswith("#"):
-            named, columns = [word for word in re.findall(r"`(\w+)`", line)], []
+            named, columns = [word for word in re.findall(r"`(\w+)`", line) if word in crates()], []
         elif not line.startswith("|"):
             columns = []
-        else:
-            cells = [cell.strip() for cell in line.strip("|").split("|")]
-            if not columns:
-                columns = cells
-            elif "Contract" in columns and "File" in columns and not line.startswith("|---"):
-                yield named, number, cells[columns.index("Contract")], cells[columns.index("File")]
+        elif not columns:
+            columns = cells
+        elif "Contract" in columns and "File" in columns and not line.startswith("|---"):
+            yield Row(named, number, cells[columns.index("Contract")], columns.index("File") + 1)
 
 
-def path_of(file, named):
-    """The file that a row names, or None where it isn't there."""
-    places = [CRATES / crate / file for crate in named] + [CRATES / file]
-    return next((place for place in places if place.is_file()), None)
+def found_in(row, there):
+    """For each function that a row names, as it is named, the public ones that it may be."""
+    for owner, name, brackets in NAMED.findall(row.contract):
+        wanted = set(re.findall(r"\w+", brackets))
+        of_crates = [one for one in there if not row.crates or one.crate in row.crates]
+        matching = [one for one in of_crates if one.is_named(owner or None, name) and wanted <= one.clauses]
+        yield (f"{owner}::{name}" if owner else name) + f" ({', '.join(sorted(wanted))})" * bool(wanted), matching
 
 
-def with_lines(named, contract, files):
-    """A row's cell for its files, with the lines at which the functions that it names begin."""
-    keys = [(owner or None, name) for owner, name, _ in NAMED.findall(contract)]
-    cells = []
-    for file in re.findall(r"`([\w/.]+)`", files):
-        path = path_of(file, named)
-        there = functions(path.read_text()) if path else {}
-        lines = [str(there[key][0]) for key in keys if key in there]
-        cells.append(" ".join([f"`{file}`", ", ".join(lines)]).strip())
-    return "; ".join(cells)
-
-
-def faults(page):
-    """What the tables name that isn't there."""
+def faults(page, there):
+    """What the tables name that isn't there, or is there more than once."""
     if not any(rows(page)):
         yield "there is no table with the columns Contract and File"
-    for named, number, contract, files in rows(page):
-        there = {}
-        for file in re.findall(r"`([\w/.]+)`", files):
-            path = path_of(file, named)
-            if path is None:
-                yield f"line {number}: {file} isn't there"
-            else:
-                for key, (_, clauses) in functions(path.read_text()).items():
-                    there.setdefault(key, []).append(clauses)
-        if files != with_lines(named, contract, files):
-            yield f"line {number}: the functions begin at {with_lines(named, contract, files)} (checks/promises.py --lines writes that)"
-        found = NAMED.findall(contract)
-        if not found:
-            yield f"line {number}: no function is named"
-        for owner, name, brackets in found:
-            wanted = set(re.findall(r"\w+", brackets))
-            said = f"{owner}::{name}" if owner else name
-            if (owner or None, name) not in there:
-                yield f"line {number}: {said} is no public function of {files}"
-            elif not any(wanted <= clauses for clauses in there[owner or None, name]):
-                yield f"line {number}: {said} has not all of the clauses {', '.join(sorted(wanted))}"
+    for row in rows(page):
+        named = list(found_in(row, there))
+        if not named:
+            yield f"line {row.number}: no function is named"
+        for said, matching in named:
+            files = sorted({f"{one.crate}/{one.file}" for one in matching})
+            if not files:
+                yield f"line {row.number}: {said} is no public function of {', '.join(row.crates) or 'any crate'} with these clauses"
+            elif len(files) > 1:
+                yield f"line {row.number}: {said} may be that of {' or '.join(files)}; name its module or its crate"
+
+
+def files_of(row, there):
+    """The cell of files of a row."""
+    paths = [(one.crate, one.file) for _, matching in found_in(row, there) for one in matching[:1]]
+    return ", ".join(dict.fromkeys(f"`{file}`" if len(row.crates) == 1 else f"`{crate}/{file}`" for crate, file in paths))
+
+
+def made(page, there):
+    """The page with its cells of files as they are made."""
+    lines = page.split("\n")
+    for row in rows(page):
+        cells = lines[row.number - 1].split("|")
+        cells[row.column] = f" {files_of(row, there)} "
+        lines[row.number - 1] = "|".join(cells)
+    return "\n".join(lines)
 
 
 def unnamed(page):
     """The crates that have contracts and that no heading names."""
     headings = set(re.findall(r"`(\w+)`", " ".join(re.findall(r"^#.*", page, re.M))))
-    return [crate for crate in crates() if not crate.endswith(("_tests", "_bench")) and crate not in headings]
-
-
-def written_anew(page):
-    """The page with the lines of all rows as they are."""
-    lines = page.split("\n")
-    for named, number, contract, files in rows(page):
-        before, found, after = lines[number - 1].rpartition(f" {files} ")
-        lines[number - 1] = f"{before} {with_lines(named, contract, files)} {after}" if found else lines[number - 1]
-    return "\n".join(lines)
+    return [crate for crate in crates() if not is_for_tests(crate) and crate not in headings]
 
 
 def main():
-    if sys.argv[1:] == ["--lines"]:
-        PAGE.write_text(written_anew(PAGE.read_text()))
     page = PAGE.read_text()
-    found = list(faults(page)) + [f"no section is about the crate {crate}" for crate in unnamed(page)]
+    there = [one for crate in crates() for one in functions(crate)]
+    wanted = made(page, there)
+    if sys.argv[1:] == ["--write"]:
+        PAGE.write_text(wanted)
+        page = wanted
+    found = list(faults(page, there)) + [f"no section is about the crate {crate}" for crate in unnamed(page)]
+    differing = [number for number, lines in enumerate(zip(page.split("\n"), wanted.split("\n")), 1) if lines[0] != lines[1]]
+    found += [f"line {number}: the files aren't those that checks/promises.py --write writes" for number in differing]
     for fault in found:
         print(f"docs/PROMISES.md: {fault}")
     sys.exit(1 if found else 0)

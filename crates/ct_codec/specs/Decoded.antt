@@ -24,7 +24,7 @@ entry_lent (lent.Precert k c) = precertificate k c.now
 abbrev pub certificates_in : {A : Type 0} → Vec (Vec ℕ A) A → List (List ℕ)
 certificates_in cs = map (λ c. c.items) cs.items
 
--- the bytes are the text of the leaf
+-- b is the text of the leaf l that was read (RFC 6962, section 3.4)
 abbrev pub IsTextOf : {A : Type 0} → Leaf A → List ℕ → Type 0
 IsTextOf l b = LeafText l.timestamp (entry_in l.entry) l.extensions.items b
 
@@ -32,11 +32,11 @@ IsTextOf l b = LeafText l.timestamp (entry_in l.entry) l.extensions.items b
 abbrev pub IsLeaf : {A : Type 0} → ℕ → SignedEntry → List ℕ → Leaf A → Type 0
 IsLeaf t e x l = (l.timestamp ≡ t) × (entry_in l.entry ≡ e) × (l.extensions.items ≡ x)
 
--- the answer is the leaf with timestamp t, entry e and extensions x, unless memory was refused
+-- the answer, in whatever allocator it lies, is the leaf with timestamp t, entry e and extensions x, unless memory was refused
 abbrev pub GivesLeaf : {A : Type 0} → ℕ → SignedEntry → List ℕ → Result (Leaf A) DecodeFault → Type 0
 GivesLeaf t e x r = IfOk r (IsLeaf t e x) × IsOkUnless r Memory
 
--- the answer is the chain of these certificates, unless memory was refused
+-- the answer, in whatever allocator it lies, is the chain of these certificates, unless memory was refused
 abbrev pub GivesChain : {A : Type 0} → List (List ℕ) → Result (Vec (Vec ℕ A) A) DecodeFault → Type 0
 GivesChain cs r = IfOk r (λ v. certificates_in v ≡ cs) × IsOkUnless r Memory
 
@@ -48,7 +48,7 @@ AnswersLeaf b r = IfOk r (λ l. IsTextOf l b) × IfErr r (λ f. LeafFaulty f b)
 abbrev pub AnswersChain : {A : Type 0} → List ℕ → Result (Vec (Vec ℕ A) A) DecodeFault → Type 0
 AnswersChain b r = IfOk r (λ v. ChainText (certificates_in v) b) × IfErr r (λ f. ChainFaulty f b)
 
--- the answer is this precertificate and the chain of these certificates, unless memory was refused
+-- the answer, in whatever allocator it lies, is this precertificate and the chain of these certificates, unless memory was refused
 abbrev pub GivesPreChain : {A : Type 0} → List ℕ → List (List ℕ) → Result (Vec ℕ A × Vec (Vec ℕ A) A) DecodeFault → Type 0
 GivesPreChain c cs r = IfOk r (λ v. (v.0.items ≡ c) × (certificates_in v.1 ≡ cs)) × IsOkUnless r Memory
 

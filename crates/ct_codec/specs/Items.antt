@@ -6,11 +6,12 @@ use Rattle.ct_codec.specs.declared.item.Item.{Item}
 abbrev pub items_of : ℕ → List Item → List Item
 items_of front items = filter (λ x. x.front == front) items
 
--- The items carry the numbers of these lists, and those with number f are, in order, the list at f.
+-- Each item carries the number of one of the lists, and for each number the items that carry it are, in order, the list with that number.
 pub record Merge (lists : List (List Item)) (items : List Item) : Type 0 where
   pub numbered : All (λ x. x.front < length lists) items
   pub in_order : (f : ℕ) (xs : List Item) → slice_get lists f ≡ Some xs → items_of f items ≡ xs
 
+-- the tickets of items, in order
 abbrev pub tickets_of : List Item → List ℕ
 tickets_of items = map (λ (x : Item). x.ticket) items
 

@@ -3,11 +3,12 @@ use Rattle.std.specs.Prelude.{◌++◌, ◌∷◌, ℕ, List}
 use Rattle.ct_codec.specs.Bytes.{num, vec}
 use Rattle.ct_codec.specs.Leaf.{SignedEntry, entry_text}
 
--- under a tree head's signature: version 1 (0), the signature type tree_hash (1), the timestamp, the tree's size and its root
+-- what stands under a tree head's signature (TreeHeadSignature): version 1 (0), the signature type tree_hash (1), the timestamp t, the
+-- tree's size n and its root (RFC 6962, section 3.5)
 abbrev pub tree_head_text : ℕ → ℕ → List ℕ → List ℕ
 tree_head_text t n root = 0 ∷ 1 ∷ (num 8 t ++ (num 8 n ++ root))
 
--- under a signed certificate timestamp's signature: version 1 (0), the signature type certificate_timestamp (0), the timestamp, the
--- entry type and the signed entry, and the extensions as a vector
+-- what stands under a signed certificate timestamp's signature: version 1 (0), the signature type certificate_timestamp (0), the timestamp
+-- t, the entry type and the signed entry of e, and the extensions x as a vector (RFC 6962, section 3.2)
 abbrev pub timestamp_text : ℕ → SignedEntry → List ℕ → List ℕ
 timestamp_text t e x = 0 ∷ 0 ∷ (num 8 t ++ (entry_text e ++ vec 2 x))

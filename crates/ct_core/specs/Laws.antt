@@ -10,10 +10,11 @@ use Rattle.ct_core.specs.Answers.{text_of}
 use Rattle.ct_core.specs.Leaf.{Entry}
 use Rattle.ct_core.specs.Settlement.{Log, Lawful}
 
--- the decoders read what replies show of an entry: its leaf, and its chain by the decoder of its kind, unless memory was refused
+-- the decoders read what replies show of an entry: its leaf input, and its extra data by the decoder of its kind, unless memory was refused
 pub record IsRead (e : Entry) : Type 0 where
   pub leaf : (r : Result (Leaf Global) DecodeFault) → AnswersLeaf (text_of e).leaf_input r → GivesLeaf e.timestamp (entry_of e.submission) [] r
   pub chain : ExtraDataIsRead e.submission (text_of e).extra_data
 
+-- Of each entry of a lawful log, the decoders read what a reply shows.
 abbrev pub ShownEntriesAreRead : Type 0
 ShownEntriesAreRead = (log : Log) → Lawful log → All IsRead log.entries

@@ -35,10 +35,11 @@ abbrev pub head_in : Data → Option Head
 head_in d = option_and_then (λ root. option_and_then (λ size. option_map (λ timestamp. head_with root size timestamp)
     (number_at (codes "timestamp") d)) (number_at (codes "tree_size") d)) (hash_at (codes "sha256_root_hash") d)
 
--- the leaf of each of the entries (section 4.6)
+-- the leaf of each of the entries (RFC 6962, section 4.6)
 abbrev pub leaves_of_items : Items → Option (List (List ℕ))
 leaves_of_items ds = each_item (bytes_at (codes "leaf_input")) ds
 
+-- the leaves that an object has under `entries` (RFC 6962, section 4.6)
 abbrev pub leaves_in : Data → Option (List (List ℕ))
 leaves_in d = option_and_then leaves_of_items (option_and_then as_array (get (codes "entries") d))
 
@@ -46,6 +47,7 @@ leaves_in d = option_and_then leaves_of_items (option_and_then as_array (get (co
 abbrev pub as_start : Data → Option (Option ℕ)
 as_start d = option_map (λ n. Some n) (option_and_then as_u64 (as_number d))
 
+-- the number that stands there, if anything does: then it has to be a number
 abbrev pub start_word : Option Data → Option (Option ℕ)
 start_word None = Some None
 start_word (Some d) = as_start d
@@ -54,35 +56,41 @@ start_word (Some d) = as_start d
 abbrev pub start_in : Data → Option (Option ℕ)
 start_in d = start_word (get (codes "start") d)
 
+-- a consistency proof with this path, or no answer where there is none
 abbrev pub proof_or_none : Option (List (List ℕ)) → Answered
 proof_or_none None = no_answer
 proof_or_none (Some path) = a_proof path
 
+-- these leaves from this index on, or no answer where what stands there is no number
 abbrev pub with_start : List (List ℕ) → Option (Option ℕ) → Answered
 with_start leaves None = no_answer
 with_start leaves (Some start) = leaves_from start leaves
 
+-- leaves, or the other answer where there are none
 abbrev pub leaves_or : Option (List (List ℕ)) → Option (Option ℕ) → Answered → Answered
 leaves_or None start other = other
 leaves_or (Some leaves) start other = with_start leaves start
 
--- the leaves that an object has, or else the consistency proof that it is (section 4.4)
+-- the leaves that an object has, or else the consistency proof that it is (RFC 6962, section 4.4 and 4.6)
 abbrev pub entries_in : Data → Answered
 entries_in d = leaves_or (leaves_in d) (start_in d) (proof_or_none (hashes_at (codes "consistency") d))
 
+-- a head, or the other answer where there is none
 abbrev pub head_or : Option Head → Answered → Answered
 head_or None other = other
 head_or (Some head) other = a_head head
 
+-- a state, or the other answer where there is none
 abbrev pub state_or : Option Data → Answered → Answered
 state_or None other = other
 state_or (Some d) other = a_state
 
--- what a value is, by its keys: a state by `state`; then a head; then leaves; then a proof
+-- what a JSON value is, by its keys: a state by `state`; then a tree head; then leaves; then a consistency proof; or none of these (RFC
+-- 6962, section 4.3 to 4.6)
 abbrev pub answer_in : Data → Answered
 answer_in d = state_or (get (codes "state") d) (head_or (head_in d) (entries_in d))
 
--- the line is this: it isn't too long, is UTF-8, and is JSON that is this; or it is none
+-- the line is this: it has at most 16,777,216 bytes, is UTF-8, and is JSON that is this; or it is none
 abbrev pub Reads : List ℕ → Answered → Type 0
 Reads line a = ((length line ≤ 16777216) × IsUtf8 line × ((d : Data) × (read line ≡ Some d) × (a ≡ answer_in d)))
     ⊎ ((a ≡ no_answer) × (length line ≤ 16777216 → IsUtf8 line → (d : Data) → read line ≡ Some d → ⊥))

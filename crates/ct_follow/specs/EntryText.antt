@@ -35,15 +35,17 @@ abbrev pub kind_word : SignedEntry → List ℕ
 kind_word (certificate c) = codes "x509"
 kind_word (precertificate k c) = codes "precert"
 
--- the line of a name, where it stands in the lowered bytes, and a line for each of the names
+-- the line of a name, where it stands in the lowered bytes
 abbrev pub found_line : ℕ → ℕ → List ℕ → List ℕ → List ℕ → List ℕ
 found_line index timestamp kind low name = if is_in low name then line_of (found_data index name timestamp kind) else []
 
+-- a line for each of the names that stands in the lowered bytes
 abbrev pub found_lines : ℕ → ℕ → List ℕ → List ℕ → List (List ℕ) → List ℕ
 found_lines index timestamp kind low [] = []
 found_lines index timestamp kind low (name ∷ names) = found_line index timestamp kind low name ++ found_lines index timestamp kind low names
 
--- the lines of an entry: one for each watched name that stands in its lowered certificate, or one where it is no leaf
+-- the lines of an entry: one for each watched name that stands in its lowered certificate or TBSCertificate, or one that it is no leaf,
+-- with its first fault
 abbrev pub IsEntryText : List (List ℕ) → ℕ → List ℕ → List ℕ → Type 0
 IsEntryText names index leaf text =
     ((timestamp : ℕ) × (e : SignedEntry) × (x : List ℕ) × LeafText timestamp e x leaf

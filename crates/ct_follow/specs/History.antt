@@ -29,11 +29,12 @@ abbrev pub IsOfFirst : List (List ℕ) → LineStep → Type 0
 IsOfFirst D step = step.outcome ≡ Some (Said Accepted) → (head : Head) × (n : ℕ) × (step.after.watcher.accepted ≡ Some head)
     × IsHeadOfAll sha256 (take n D) head
 
--- so of each line, and of each line of each run
+-- so of each line of a run
 abbrev pub AreOfFirst : List (List ℕ) → List LineStep → Type 0
 AreOfFirst D [] = ⊤
 AreOfFirst D (s ∷ steps) = IsOfFirst D s × AreOfFirst D steps
 
+-- so of each line of each run
 abbrev pub RunsAreOfFirst : List (List ℕ) → List RunTaken → Type 0
 RunsAreOfFirst D [] = ⊤
 RunsAreOfFirst D (r ∷ runs) = AreOfFirst D r.steps × RunsAreOfFirst D runs

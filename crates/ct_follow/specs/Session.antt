@@ -36,16 +36,17 @@ StateSays s a o t = (w : Watched) → Keeps sha256 s w → (next : Watched) × K
 abbrev pub leaves_taken : WatcherState → List (List ℕ) → List (List ℕ)
 leaves_taken s E = take (wanted_size s - s.all.0) E
 
--- the lines of entries, where they are read
+-- the lines of the entries that are read, where any are
 abbrev pub AreTexts : List (List ℕ) → WatcherState → Answered → Outcome → List ℕ → Type 0
 AreTexts names s (leaves_from start E) (Said v) text = ReadTexts names v s.all.0 (leaves_taken s E) text
 AreTexts names s a o text = text ≡ []
 
--- whether what a line comes to speaks against the log, and whether it is none
+-- whether what a line comes to speaks against the log
 abbrev pub is_alarm : Outcome → Bool
 is_alarm (Said v) = accuses v
 is_alarm o = false
 
+-- whether a line is none
 abbrev pub is_bad : Outcome → Bool
 is_bad (Said v) = false
 is_bad o = true
@@ -56,7 +57,8 @@ pub record LineStep : Type 0 where
   pub text : List ℕ
   pub after : Monitor
 
--- a line that isn't empty: what it is, what it comes to, and what is written
+-- a line that isn't empty: what it is and what it comes to, what is written (the lines of entries, and behind them the verdict), what is
+-- known of the log then, and whether a verdict spoke against it so far, and a line was none
 pub record Tells (names : List (List ℕ)) (before : Monitor) (line : List ℕ) (step : LineStep) : Type 0 where
   pub answer : Answered
   pub outcome : Outcome
@@ -69,7 +71,7 @@ pub record Tells (names : List (List ℕ)) (before : Monitor) (line : List ℕ) 
   pub alarm : step.after.alarm ≡ before.alarm || is_alarm outcome
   pub bad : step.after.bad ≡ before.bad || is_bad outcome
 
--- an empty line is passed over
+-- what any line gives: an empty one is passed over
 abbrev pub TakesLine : List (List ℕ) → Monitor → List ℕ → LineStep → Type 0
 TakesLine names before [] step = (step.outcome ≡ None) × (step.text ≡ []) × (step.after ≡ before)
 TakesLine names before (b ∷ bs) step = Tells names before (b ∷ bs) step
@@ -109,11 +111,12 @@ pub record TakesAll (names : List (List ℕ)) (before : Monitor) (input text : L
 abbrev pub status_of : Monitor → ℕ
 status_of m = if m.alarm then 3 else (if m.bad then 4 else 0)
 
--- one of these
+-- the status is one of 0, 3 and 4
 abbrev pub IsRunStatus : ℕ → Type 0
 IsRunStatus status = (status ≡ 0) ⊎ ((status ≡ 3) ⊎ (status ≡ 4))
 
--- A run over the input: its text is what its lines have to tell, and behind it the line of the state that it ends in.
+-- A run over the input, from nothing seen: its text is what its lines have to tell, and behind it the line of the state that it ends in;
+-- and its exit status.
 pub record Runs (names : List (List ℕ)) (input text : List ℕ) (status : ℕ) : Type 0 where
   pub new : Monitor
   pub last : Monitor

@@ -23,7 +23,7 @@ abbrev pub state_data : WatcherState → Data → Data
 state_data s check = object (member (codes "accepted") (maybe_head_data s.accepted) (member (codes "all") (peaks_data s.all) (member (codes "check") check
     (member (codes "state") (number_data 1) (member (codes "sure") (peaks_data s.sure) (member (codes "waiting") (maybe_head_data s.waiting) no_members))))))
 
--- the SHA-256 of the line that has null in its place
+-- the check of a state: the SHA-256 of its line that has null in the check's place
 abbrev pub check_data : WatcherState → Data
 check_data s = bytes_data (sha256 (compact_text (state_data s null)))
 

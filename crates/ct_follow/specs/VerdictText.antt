@@ -26,24 +26,29 @@ proof_fault_name fault.SizesOutOfRange = codes "sizes-out-of-range"
 abbrev pub word_data : List ℕ → Data
 word_data word = object (member (codes "verdict") (string word) no_members)
 
--- those of the other verdicts, keys in byte order
+-- the object of the verdict accepted; keys in byte order, here and below
 abbrev pub accepted_data : ℕ → Data
 accepted_data size = object (member (codes "tree_size") (number_data size) (member (codes "verdict") (string (codes "accepted")) no_members))
 
+-- that of pending
 abbrev pub pending_data : ℕ → ℕ → Data
 pending_data have size = object (member (codes "have") (number_data have)
     (member (codes "tree_size") (number_data size) (member (codes "verdict") (string (codes "pending")) no_members)))
 
+-- that of gap
 abbrev pub gap_data : ℕ → Data
 gap_data want = object (member (codes "verdict") (string (codes "gap")) (member (codes "want") (number_data want) no_members))
 
+-- that of fork
 abbrev pub fork_data : Head → Data
 fork_data known = object (member (codes "known_root_hash") (bytes_data known.root) (member (codes "known_timestamp") (number_data known.timestamp)
     (member (codes "tree_size") (number_data known.tree_size) (member (codes "verdict") (string (codes "fork")) no_members))))
 
+-- that of root-mismatch
 abbrev pub mismatch_data : List ℕ → Data
 mismatch_data root = object (member (codes "computed_root_hash") (bytes_data root) (member (codes "verdict") (string (codes "root-mismatch")) no_members))
 
+-- that of inconsistent
 abbrev pub inconsistent_data : ProofFault → Data
 inconsistent_data f = object (member (codes "fault") (string (proof_fault_name f)) (member (codes "verdict") (string (codes "inconsistent")) no_members))
 
@@ -56,10 +61,11 @@ abbrev pub size_wanted : Option Head → ℕ → ℕ
 size_wanted None read = read
 size_wanted (Some head) read = head.tree_size
 
+-- the same of what a watcher has
 abbrev pub wanted_size : WatcherState → ℕ
 wanted_size s = size_wanted s.waiting s.all.0
 
--- a verdict, beside what the watcher has after it
+-- the object of a verdict, beside what the watcher has after it
 abbrev pub said_data : WatcherState → Verdict → Data
 said_data s Accepted = accepted_data s.all.0
 said_data s Pending = pending_data s.all.0 (wanted_size s)
@@ -72,7 +78,7 @@ said_data s Gap = gap_data s.all.0
 said_data s Consistent = word_data (codes "consistent")
 said_data s (Inconsistent f) = inconsistent_data f
 
--- what a line comes to
+-- the object of what a line comes to: of a verdict, or of a line that is none
 abbrev pub outcome_data : WatcherState → Outcome → Data
 outcome_data s (Said v) = said_data s v
 outcome_data s BadLine = error_data (codes "bad-line")

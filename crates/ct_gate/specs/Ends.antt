@@ -37,15 +37,15 @@ made_item front ticket s = record { front = front; ticket = ticket; submission =
 abbrev pub numbered : ℕ → List Item → List Item
 numbered front items = map (λ i. made_item front i.ticket i.submission) items
 
--- it is of the same gate
+-- the shutter is of the same gate, with as many fronts, as before
 abbrev pub SameShutter : ShutterView → ShutterView → Type 0
 SameShutter a b = (b.gate ≡ a.gate) × (b.fronts ≡ a.fronts)
 
--- it is of the same gate, front and ring
+-- the intake is of the same gate, front and ring, with as many places, as before
 abbrev pub SameIntake : IntakeView → IntakeView → Type 0
 SameIntake a b = (b.gate ≡ a.gate) × (b.number ≡ a.number) × (b.ring ≡ a.ring) × (b.places ≡ a.places)
 
--- it is of the same front and ring
+-- the outlet is of the same front and ring as before
 abbrev pub SameOutlet : OutletView → OutletView → Type 0
 SameOutlet a b = (b.number ≡ a.number) × (b.ring ≡ a.ring)
 

@@ -17,10 +17,12 @@ stands_for fs is_shutter = record { fronts = fs; knows_shutdown = false; refused
 abbrev pub all_in_one : ℕ → SeatView
 all_in_one n = stands_for (new_fronts 0 n) true
 
+-- the tickets of the fronts behind the first
 abbrev pub without_first : List FrontTickets → List FrontTickets
 without_first [] = []
 without_first (f ∷ fs) = fs
 
+-- those of the first front alone
 abbrev pub first_alone : List FrontTickets → List FrontTickets
 first_alone [] = []
 first_alone (f ∷ fs) = f ∷ []
@@ -44,7 +46,7 @@ pub record IsNewFront (of_gate : TableId) (with_places k : ℕ) (i : IntakeView)
   pub ends : AreEnds i o
   pub received : o.received ≡ []
 
--- the intakes and the outlets of a new gate, in the fronts' order
+-- the intakes and the outlets of a new gate, as many as it has fronts, in the fronts' order, through which nothing has gone
 pub record AreNewFronts (gate : TableId) (places fronts : ℕ) (intakes : List IntakeView) (outlets : List OutletView) : Type 0 where
   pub intake_count : length intakes ≡ fronts
   pub outlet_count : length outlets ≡ fronts

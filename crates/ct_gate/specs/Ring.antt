@@ -5,7 +5,7 @@ use Rattle.rtrb.specs.Shared.{Names}
 use Rattle.rtrb.specs.declared.producer.Producer.{Producer}
 use Rattle.rtrb.specs.declared.consumer.Consumer.{Consumer}
 
--- two ends with one name are the ends of one ring
+-- which ring an end is of: where its words, its slots and its names lie, and in which heap; two ends with one name are the ends of one ring
 pub record RingName : Type 0 where
   pub words : Ptr
   pub slots : Ptr

@@ -34,7 +34,7 @@ refused_draws (v ∷ vs) = v.refused + refused_draws vs
 abbrev pub EachView : (ℕ → SeatView → Type 0) → List SeatView → Type 0
 EachView P views = (id : ℕ) (v : SeatView) → get_elem? views id ≡ some v → P id v
 
--- of one front's seat
+-- what the seat of one front knows
 abbrev pub front_view : ℕ → List ℕ → Bool → ℕ → SeatView
 front_view number tickets knows_shutdown refused =
     record {

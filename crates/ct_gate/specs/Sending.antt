@@ -10,8 +10,8 @@ abbrev pub Accepts : IntakeView → Submitted → ℕ → IntakeView → Type 0
 Accepts a s ticket b = (b.accepted ≡ a.accepted ++ made_item a.number ticket s ∷ []) × (b.knows_shutdown ≡ false)
     × (length a.accepted < 2 ^ 32) × (a.free ≤ b.free + 1)
 
--- Why a submission is refused: the shutdown is known; else the front has had 2 ^ 32 accepted; else no free
--- place of the ring was known, nor is one now, and as many were accepted as the ring has places.
+-- Why a submission is refused: the shutdown is known; else the front has had 2 ^ 32 accepted; else no free place of the ring was known, nor
+-- is one now, and as many were accepted as the ring has places (that the intake looks is tested).
 abbrev pub Refuses : IntakeView → Refusal → IntakeView → Type 0
 Refuses a Full b = (b.knows_shutdown ≡ false) × (length a.accepted < 2 ^ 32) × (a.places ≤ length a.accepted) × (a.free ≡ 0) × (b.free ≡ 0)
 Refuses a Shutdown b = b.knows_shutdown ≡ true

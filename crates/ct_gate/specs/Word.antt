@@ -8,7 +8,8 @@ use Rattle.ct_gate.specs.Seats.{FrontTickets, SeatView, fronts_in, tickets_in, r
 abbrev pub HasTickets : FrontTickets → Type 0
 HasTickets f = Rises f.tickets × (length f.tickets ≤ 2 ^ 32)
 
--- A refused draw is made once a front at most, and by who then knows the shutdown. Only the shutter has a number of accepted submissions.
+-- The tickets of each front rise, and are 2 ^ 32 at most. A refused draw is made once a front at most, and by who then knows the shutdown.
+-- Only the shutter has a number of accepted submissions.
 pub record IsSound (v : SeatView) : Type 0 where
   pub tickets : All HasTickets v.fronts
   pub refused : v.refused ≤ length v.fronts
@@ -27,7 +28,8 @@ pub record IsShut (n word : ℕ) (views : List SeatView) : Type 0 where
   pub draws : word ≡ 2 ^ 63 + n + refused_draws views
   pub accepted : EachView (λ _ v. v.is_shutter ≡ true → v.accepted ≡ Some n) views
 
--- The one word and the views between two steps: the views stand for the fronts, each once, and one at most is the shutter's.
+-- The rule of the gate word, which holds between any two atomic steps: there is one word, of at most 16 fronts; the views stand for the
+-- fronts, each once, each is sound, and one at most is the shutter's; and the gate is open or shut.
 pub record GateHolds (fronts : ℕ) (state : State (Unit {0}) SeatView) : Type 0 where
   pub word : ℕ
   pub words : state.words ≡ word ∷ []

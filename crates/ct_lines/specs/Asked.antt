@@ -60,20 +60,24 @@ party_in (object ms) = None
 abbrev pub party_at : Data → Option Party
 party_at d = option_and_then party_in (get (codes "who") d)
 
--- the questions of the ops get-sth-consistency, get-proof-by-hash, get-entries, get-entry-and-proof and receipt
+-- the question of the op get-sth-consistency
 abbrev pub consistency_asked : Data → Option Query
 consistency_asked d = option_and_then (λ first. option_map (λ second. Consistency first second) (number_at (codes "second") d)) (number_at (codes "first") d)
 
+-- the question of the op get-proof-by-hash
 abbrev pub proof_by_hash_asked : Data → Option Query
 proof_by_hash_asked d = option_and_then (λ hash. option_map (λ size. ProofByHash hash size) (number_at (codes "tree_size") d)) (hash_at (codes "hash") d)
 
+-- the question of the op get-entries
 abbrev pub entries_asked : Data → Option Query
 entries_asked d = option_and_then (λ start. option_map (λ end. Entries start end) (number_at (codes "end") d)) (number_at (codes "start") d)
 
+-- the question of the op get-entry-and-proof
 abbrev pub entry_and_proof_asked : Data → Option Query
 entry_and_proof_asked d = option_and_then (λ index. option_map (λ size. EntryAndProof index size) (number_at (codes "tree_size") d))
     (number_at (codes "leaf_index") d)
 
+-- the question of the op receipt
 abbrev pub receipt_asked : Data → Option Query
 receipt_asked d = option_map (λ ticket. Receipt ticket) (number_at (codes "ticket") d)
 
@@ -95,10 +99,11 @@ with_three f a b c = option_and_then (λ x. option_and_then (λ y. option_map (�
 abbrev pub chain_at : Data → Option (List (List ℕ))
 chain_at d = bytes_list_at (codes "chain") d
 
--- the ops add-chain and add-pre-chain
+-- what the op add-chain asks
 abbrev pub chain_asked : Data → Option FrontAsked
 chain_asked d = option_map add_chain (chain_at d)
 
+-- what the op add-pre-chain asks
 abbrev pub pre_chain_asked : Data → Option FrontAsked
 pre_chain_asked d = with_three add_pre_chain (hash_at (codes "issuer_key_hash") d) (bytes_at (codes "tbs") d) (chain_at d)
 
@@ -144,7 +149,8 @@ asked_by frozen op d = option_map by_frozen (frozen_asks op d)
 abbrev pub asked_in : Data → Option Asked
 asked_in d = option_and_then (λ who. option_and_then (λ op. asked_by who op d) (text_at (codes "op") d)) (party_at d)
 
--- the line is a request that asks this: it is not too long, is UTF-8, and is JSON that asks this
+-- the line is a request that asks this: it has at most 1,048,576 bytes, is UTF-8, and is a JSON value, as `serde_json` reads it, that asks
+-- this (RFC 8259; docs/LINES.md)
 pub record IsRequest (line : List ℕ) (a : Asked) : Type 0 where
   pub fits : length line ≤ 1048576
   pub text : IsUtf8 line

@@ -43,16 +43,18 @@ abbrev pub each_item : (Data → Option (List ℕ)) → Items → Option (List (
 each_item f no_items = Some []
 each_item f (item d ds) = option_and_then (λ b. option_map (λ bs. b ∷ bs) (each_item f ds)) (f d)
 
--- the bytes, and the hashes, that the items of an array stand for
+-- the bytes that the items of an array stand for
 abbrev pub bytes_of_items : Items → Option (List (List ℕ))
 bytes_of_items ds = each_item bytes_in ds
 
+-- the hashes that the items of an array stand for
 abbrev pub hashes_of_items : Items → Option (List (List ℕ))
 hashes_of_items ds = each_item hash_in ds
 
--- the array of bytes, and of hashes, under a key
+-- the array of bytes under a key
 abbrev pub bytes_list_at : List ℕ → Data → Option (List (List ℕ))
 bytes_list_at key d = option_and_then bytes_of_items (option_and_then as_array (get key d))
 
+-- the array of hashes under a key
 abbrev pub hashes_at : List ℕ → Data → Option (List (List ℕ))
 hashes_at key d = option_and_then hashes_of_items (option_and_then as_array (get key d))

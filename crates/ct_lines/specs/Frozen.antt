@@ -53,10 +53,11 @@ abbrev pub answer_if : Log → Option Asked → Answer
 answer_if log None = refused BadLine
 answer_if log (Some a) = asked_answer log a
 
+-- the closed log's answer to a line
 abbrev pub line_answer : Log → List ℕ → Answer
 line_answer log line = answer_if log (request_of line)
 
--- the reply to a line
+-- the closed log's reply to a line: the line of its answer
 unfoldable pub frozen_reply : Log → List ℕ → List ℕ
 frozen_reply log line = reply_line (line_answer log line)
 
@@ -71,10 +72,10 @@ replies reply [] = []
 replies reply ([] ∷ lines) = replies reply lines
 replies reply ((b ∷ bs) ∷ lines) = reply (b ∷ bs) ∷ replies reply lines
 
--- the replies of the frozen log to the lines of an input
+-- the replies of the closed log to the lines of an input, in order: it is cut at each 0A, and each piece that isn't empty has its reply
 abbrev pub frozen_replies : Log → List ℕ → List (List ℕ)
 frozen_replies log input = replies (frozen_reply log) (cut [] input)
 
--- all that the frozen log writes for an input
+-- all that the closed log writes for an input: these replies one after the other
 abbrev pub frozen_text : Log → List ℕ → List ℕ
 frozen_text log input = concat (frozen_replies log input)

@@ -41,11 +41,11 @@ base64_text bytes = encode_of standard bytes
 abbrev pub number_data : ℕ → Data
 number_data n = number (unsigned n)
 
--- bytes as a JSON string
+-- bytes as a JSON string of base64 with padding (RFC 4648, section 4)
 abbrev pub bytes_data : List ℕ → Data
 bytes_data b = string (base64_text b)
 
--- hashes as a JSON array
+-- hashes as a JSON array of strings of base64 (RFC 4648, section 4)
 abbrev pub hashes_data : List (List ℕ) → Data
 hashes_data hs = array (items_of (map bytes_data hs))
 
@@ -53,6 +53,7 @@ hashes_data hs = array (items_of (map bytes_data hs))
 abbrev pub entry_data : EntryText → Data
 entry_data e = object (member (codes "extra_data") (bytes_data e.extra_data) (member (codes "leaf_input") (bytes_data e.leaf_input) no_members))
 
+-- entries as a JSON array of objects
 abbrev pub entries_data : List EntryText → Data
 entries_data es = array (items_of (map entry_data es))
 
@@ -95,6 +96,6 @@ abbrev pub answered : Result Reply Refusal → Answer
 answered (Ok r) = shown r
 answered (Err e) = refused e
 
--- the line of an answer
+-- the line of an answer: compact JSON, keys in byte order, bytes as base64 with padding, and the byte 0A (RFC 8259; RFC 4648, section 4)
 abbrev pub reply_line : Answer → List ℕ
 reply_line a = compact_text (reply_data a) ++ 10 ∷ []

@@ -37,7 +37,7 @@ abbrev pub frozen_asked : FrozenRequest → FrozenAsked
 frozen_asked (frozen_case.Ask q) = frozen_query q
 frozen_asked (frozen_case.Audit a) = frozen_audit (audit_of a)
 
--- what a request asks
+-- what a request asks, as plain data
 abbrev pub asked : Request → Asked
 asked (request_case.Front n r) = by_front n (front_asked r)
 asked (request_case.Operator r) = by_operator (operator_asked r)

@@ -6,7 +6,7 @@ use Rattle.ct_lines.specs.declared.fault.ServeFault.{ServeFault}
 use Rattle.ct_lines.specs.declared.fault.ServeFault.TheVariants.{Read, Write, Memory, Endless}
 use Rattle.ct_lines.specs.Frozen.{cut, replies}
 
--- how many replies were written whole
+-- how many replies were written whole before a fault
 abbrev pub count_in : ServeFault → ℕ
 count_in (Read k) = k
 count_in (Write k) = k

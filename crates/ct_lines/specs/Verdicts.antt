@@ -28,7 +28,7 @@ abbrev pub verdict_on : Option (List ℕ × List ℕ) → Answer
 verdict_on None = proof_holds
 verdict_on (Some strings) = a_collision strings.0 strings.1
 
--- the verdict on the path p of the leaf at index m
+-- what the evidence against the leaves is for the path p of the leaf at index m: it holds, it is refused, or two strings that collide
 unfoldable pub verdict : List (List ℕ) → List ℕ → ℕ → List (List ℕ) → Answer
 verdict D leaf m p = if is_accepted D leaf m p then verdict_on (evid sha256 D leaf m p) else proof_refused
 
@@ -37,6 +37,6 @@ abbrev pub evidence_answer : Evidence Global → Answer
 evidence_answer Holds = proof_holds
 evidence_answer (Collision left right) = a_collision left.items right.items
 
--- the verdict against the leaves of a published size
+-- unknown-size where no published head has that size; else the verdict against the first leaves of that size
 abbrev pub audit_answer : Log → AuditAsked → Answer
 audit_answer log (audit leaf m n p) = if not (is_size log n) then refused UnknownSize else verdict (first_leaves log n) leaf m p

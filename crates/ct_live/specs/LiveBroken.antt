@@ -116,11 +116,12 @@ RunsBrokenOff close_at next input inlets workers operator rings old new =
 
 -- ---- the end alone
 
--- what ends the run where a party ended before its time, and where its thread didn't start
+-- what ends the run where a party ended before its time
 abbrev pub fault_of_party : PartyFault → Fault
 fault_of_party party_case.Memory = fault_case.Memory
 fault_of_party party_case.Stopped = fault_case.Threads
 
+-- what ends the run where a party's thread didn't start
 abbrev pub fault_of_start : StartFault → Fault
 fault_of_start start_case.Memory = fault_case.Memory
 fault_of_start start_case.Threads = fault_case.Threads

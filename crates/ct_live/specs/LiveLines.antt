@@ -70,7 +70,9 @@ live_step_for fronts line (does (for_operator BadLine)) = live_request_step fron
 live_step_for fronts line (does (for_frozen asked)) = operator_does NotYet
 live_step_for fronts line (ends_shift now) = operator_does (Do BadLine)
 
--- the step is what a live log with so many fronts does for the line
+-- The step is what a live log with so many fronts does for the line: what another log does, but that it has no shifts, that a line which
+-- asks the closed log is replied to with not-yet, and that a line which is none there may be a `take`, a `close`, or one that asks for
+-- bytes to be signed.
 abbrev pub AsksLive : ℕ → List ℕ → LiveStep → Type 0
 AsksLive fronts line s = (t : Step) × AsksFor fronts line t × (s ≡ live_step_for fronts line t)
 

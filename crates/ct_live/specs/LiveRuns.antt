@@ -29,13 +29,15 @@ party_fronts ps = map (λ (p : LiveFront). p.front) ps
 abbrev pub FrontWorker : Type 0
 FrontWorker = Worker LiveFront FrontTask
 
--- of fronts with the ends of their rings: the fronts, where they receive their tasks, and where they send their answers
+-- of fronts with the ends of their rings: the fronts
 abbrev pub worker_fronts : List FrontWorker → List FrontView
 worker_fronts ws = map (λ (w : FrontWorker). w.party.front) ws
 
+-- where these fronts receive their tasks
 abbrev pub worker_tasks : List FrontWorker → List (Consumer (Numbered FrontTask) Global AnyItems)
 worker_tasks ws = map (λ (w : FrontWorker). w.tasks) ws
 
+-- where these fronts send their answers
 abbrev pub worker_answers : List FrontWorker → List (Producer (Vec ℕ Global) Global AnyItems)
 worker_answers ws = map (λ (w : FrontWorker). w.answers) ws
 
@@ -47,7 +49,8 @@ pub record AreBeside (inlets : Inlets) (tasks : List (Consumer (Numbered FrontTa
   pub orders : IsPair inlets.operator operator.tasks
   pub answers_of : ArePairs (answers ++ operator.answers ∷ []) rings
 
--- All fronts of a house and its operator have the ends of these rings.
+-- The parties have the one ends of the rings of which the reader and the writer have the other ones, and are all fronts of a house, in
+-- order, and its operator.
 pub record AreJoined (inlets : Inlets) (workers : List FrontWorker) (operator : DeskWorker)
     (rings : List (Consumer (Vec ℕ Global) Global AnyItems)) : Type 0 where
   pub beside : AreBeside inlets (worker_tasks workers) (worker_answers workers) operator rings
@@ -76,7 +79,7 @@ pub record DeskWorks (a b : DeskWorker) : Type 0 where
 abbrev pub AllReplySome : List FrontWorker → List FrontWorker → Type 0
 AllReplySome before after = AllWorkSome (λ (a : LiveFront) (t : FrontTask) (r : List ℕ) (b : LiveFront). FrontReplies a.front t r b.front) before after
 
--- and of the operator
+-- the operator answered the first of the tasks that it received, in turn, over the same rings
 pub record DeskWorksSome (a b : DeskWorker) : Type 0 where
   pub answered : AnswersSome DeskStep a.desk (received a.tasks) (received b.tasks) (sent a.answers) (sent b.answers)
   pub tasks : SameConsumer a.tasks b.tasks

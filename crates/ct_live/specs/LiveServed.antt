@@ -34,21 +34,23 @@ AllAskLive fronts ((k, []) ∷ lines) ss = AllAskLive fronts lines ss
 AllAskLive fronts ((k, b ∷ bs) ∷ lines) [] = ⊥
 AllAskLive fronts ((k, b ∷ bs) ∷ lines) (s ∷ ss) = (s.0 ≡ k) × AsksLive fronts (b ∷ bs) s.1 × AllAskLive fronts lines ss
 
--- what a step gives a front to do, with the front's number and the line's; and what it gives the operator
+-- what a step gives a front to do, with the front's number and the line's
 abbrev pub front_given : ℕ × LiveStep → Option (ℕ × (ℕ × FrontAsked))
 front_given (k, front_does f r) = Some (f, (k, r))
 front_given (k, operator_does t) = None
 front_given (k, closes now) = None
 
+-- what a step gives the operator to do, with the line's number
 abbrev pub desk_given : ℕ × LiveStep → Option (ℕ × DeskTask)
 desk_given (k, front_does f r) = None
 desk_given (k, operator_does t) = Some (k, t)
 desk_given (k, closes now) = None
 
--- a task that a party was given, as it was asked: its line's number, and what the line asks
+-- a task that a front was given, as it was asked: its line's number, and what the line asks
 abbrev pub front_task_asked : ℕ × Numbered FrontTask → ℕ × (ℕ × FrontAsked)
 front_task_asked x = (x.0, (x.1.number, task_asked x.1.task))
 
+-- a task that the operator was given, as it was asked
 abbrev pub desk_task_asked : Numbered DeskTask → ℕ × DeskTask
 desk_task_asked t = (t.number, t.task)
 
@@ -73,7 +75,7 @@ closed_replies log [] = []
 closed_replies log ((k, []) ∷ lines) = closed_replies log lines
 closed_replies log ((k, b ∷ bs) ∷ lines) = tagged k (object_text (line_answer log (b ∷ bs))) ∷ closed_replies log lines
 
--- its last head
+-- the head is the last one of the log
 abbrev pub IsLastHead : Log → Head → Type 0
 IsLastHead log h = slice_get log.heads (length log.heads - 1) ≡ Some h
 

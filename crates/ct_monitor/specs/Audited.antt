@@ -8,7 +8,7 @@ pub use Rattle.ct_verify.specs.Verdict.{AcceptsInclusion, RefusesInclusion, Acce
 pub use Rattle.ct_verify.specs.InclusionEvidence.{InclusionEvidence, InclusionFault}
 pub use Rattle.ct_verify.specs.Evidence.{IsAudited}
 
--- the answer is that the verifier refuses the proof
+-- an explanation answers that the verifier refuses the proof
 abbrev pub IsProofRefused : {A : Type 0} → Result (Evidence A) EvidenceFault → Type 0
 IsProofRefused (Ok evidence) = ⊥
 IsProofRefused (Err (ProofRefused fault)) = ⊤

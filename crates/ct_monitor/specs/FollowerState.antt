@@ -6,12 +6,12 @@ use Rattle.ct_tree.specs.Tree.{hash_leaf}
 use Rattle.ct_tree.specs.declared.head.Head.{Head}
 use Rattle.ct_monitor.specs.Followed.{Followed, IsFollowing}
 
--- The number of leaves and the roots of their perfect subtrees, and the last head that it took.
+-- What contracts see of a follower: the number of leaves and the roots of their perfect subtrees, and the last head that it took.
 pub record FollowerState : Type 0 where
   pub peaks : ℕ × List (List ℕ)
   pub last_head : Option Head
 
--- what contracts see of a monitor that keeps the leaves D and took the same head
+-- what contracts see of a monitor that keeps the leaves D and took the follower's last head
 abbrev pub keeping : List (List ℕ) → FollowerState → Followed
 keeping D state = record { leaves = D; last_head = state.last_head }
 

@@ -22,19 +22,23 @@ number_rule name parser required =
 abbrev pub latest_moment : ℕ
 latest_moment = 9007199254740991
 
--- `PROGRAM --fronts N --ring K [--open-at T] [--close-at T]`
+-- `--fronts N`, from 1 to 16, which has to stand there
 abbrev pub fronts_rule : Rule
 fronts_rule = number_rule (codes "fronts") (Signed (pos 1) (pos 16)) true
 
+-- `--ring K`, from 1 to 4,096, which has to stand there
 abbrev pub ring_rule : Rule
 ring_rule = number_rule (codes "ring") (Unsigned 1 4096) true
 
+-- `[--open-at T]`, a moment
 abbrev pub open_at_rule : Rule
 open_at_rule = number_rule (codes "open-at") (Unsigned 0 latest_moment) false
 
+-- `[--close-at T]`, a moment
 abbrev pub close_at_rule : Rule
 close_at_rule = number_rule (codes "close-at") (Unsigned 0 latest_moment) false
 
+-- `PROGRAM --fronts N --ring K [--open-at T] [--close-at T]`
 abbrev pub options_named : Text → App
 options_named program = with_rule (with_rule (with_rule (with_rule (new_app program) fronts_rule) ring_rule) open_at_rule) close_at_rule
 
@@ -77,7 +81,7 @@ command_line program words = by_fault (fault_of (app_named program) words) (log_
     (unwrap_or (number_given program words (codes "open-at")) 0)
     (unwrap_or (number_given program words (codes "close-at")) latest_moment))
 
--- what these words ask for, as the program has them
+-- what these words ask for of the program with this name, by clap's own words for what they mean, as the program has them
 abbrev pub asked_for : Text → List (Bor Text) → CommandLine
 asked_for program words = command_line program (map (λ (w : Bor Text). w.now) words)
 

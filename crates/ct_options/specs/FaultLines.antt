@@ -5,7 +5,7 @@ use Rattle.ct_parties.specs.declared.fault.Fault.{Fault}
 use Rattle.ct_options.specs.declared.program.Program.{Program}
 use Rattle.ct_options.specs.declared.program.Program.TheVariants.{Ctlog, Ctlogd}
 
--- the name of a program
+-- the name of a program, `ctlog` or `ctlogd`
 abbrev pub name_of : Program → List ℕ
 name_of Ctlog = codes "ctlog"
 name_of Ctlogd = codes "ctlogd"

@@ -14,8 +14,8 @@ use Rattle.ct_house.specs.House.{HouseState, FrontView, FinalState, IsAllSettled
 abbrev pub IsLate : CoreState → ℕ → Type 0
 IsLate core now = (now < clock_of core) ⊎ (now ≤ last_moment core.published.heads)
 
--- The house is shut, all that the fronts with these ends had accepted is settled, and h is the last head, of the moment
--- now, and covers all.
+-- The house is the same and shut, all that the fronts with these ends had accepted is settled, and h is its last head, behind those that it
+-- had, of the moment now, which the clock doesn't refuse, and covers all.
 pub record IsReady (old : HouseState) (ends : List FrontView) (now : ℕ) (h : Head) (new : HouseState) : Type 0 where
   pub house : new.house ≡ old.house
   pub shut : new.accepted ≢ None

@@ -22,10 +22,11 @@ pub record IsRefusalFault (r : Refusal) (f : Fault) : Type 0 where
   pub clock_back : r ≡ refusal.ClockBack → f ≡ ClockBack
   pub memory : r ≡ refusal.Memory → f ≡ Memory
 
--- a fault while the closed log answers lines, and the fault that it is
+-- a fault that may come while the closed log answers lines
 abbrev pub IsFrozenFault : Fault → Type 0
 IsFrozenFault f = (f ≡ Read) ⊎ ((f ≡ Write) ⊎ (f ≡ Memory))
 
+-- the fault that the closed log's is
 abbrev pub serve_fault : ServeFault → Fault
 serve_fault (serving.Read n) = Read
 serve_fault (serving.Write n) = Write

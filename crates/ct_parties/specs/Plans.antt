@@ -20,7 +20,7 @@ task_asked (front_case.SubmitPrecert hash tbs chain) = add_pre_chain hash tbs.it
 task_asked (front_case.AwaitSize n) = await_size n
 task_asked (front_case.Ask q) = front_query q
 
--- the step
+-- the step that a task is
 abbrev pub step : CodeTask → Step
 step (task_case.Front n t) = does (for_front n (task_asked t))
 step (task_case.Operator t) = does (for_operator t)

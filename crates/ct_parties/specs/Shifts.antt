@@ -17,7 +17,7 @@ use Rattle.ct_parties.specs.declared.party.Shift.{Shift}
 use Rattle.ct_parties.specs.declared.party.Work.{Work}
 use Rattle.ct_parties.specs.Parties.{Parties, DoesShift, IsPartyFault, all_replies, fronts_of}
 
--- a front's successor, once this log is published: it has the front's ring and all that was accepted there, has seen what the
+-- a front's successor, once this log is published: its end of the gate is the same, with all that was accepted there; it has seen what the
 -- front had seen, and has learnt of that log
 pub record IsSuccessor (published : Log) (a b : FrontView) : Type 0 where
   pub intake : b.intake ≡ a.intake

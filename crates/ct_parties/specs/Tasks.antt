@@ -53,29 +53,33 @@ AllAskFor fronts ([] ∷ lines) ss = AllAskFor fronts lines ss
 AllAskFor fronts ((b ∷ bs) ∷ lines) [] = ⊥
 AllAskFor fronts ((b ∷ bs) ∷ lines) (s ∷ ss) = AsksFor fronts (b ∷ bs) s × AllAskFor fronts lines ss
 
--- a front's part of a task, the operator's, and the frozen log's line with its end
+-- the front k's part of a task
 abbrev pub front_part : ℕ → Task → Option FrontAsked
 front_part k (for_front n r) = if nat_eq n k then Some r else None
 front_part k (for_operator t) = None
 front_part k (for_frozen line) = None
 
+-- the operator's part of a task
 abbrev pub operator_part : Task → Option OperatorTask
 operator_part (for_front n r) = None
 operator_part (for_operator t) = Some t
 operator_part (for_frozen line) = None
 
+-- the closed log's line, with its end, of a step that has one
 abbrev pub frozen_part : Step → List ℕ
 frozen_part (does (for_front n r)) = []
 frozen_part (does (for_operator t)) = []
 frozen_part (does (for_frozen line)) = line ++ 10 ∷ []
 frozen_part (ends_shift now) = []
 
--- what the front k does in a shift, what the operator does in it, and the lines of all shifts that the frozen log answers, each in order
+-- what the front k does in a shift, in order
 abbrev pub front_parts : ℕ → List Task → List FrontAsked
 front_parts k ts = filter_map (front_part k) ts
 
+-- what the operator does in a shift, in order
 abbrev pub operator_parts : List Task → List OperatorTask
 operator_parts ts = filter_map operator_part ts
 
+-- the lines of all shifts that the closed log answers, in order
 abbrev pub frozen_lines : List Step → List ℕ
 frozen_lines ss = flat_map frozen_part ss

@@ -9,17 +9,19 @@ use Rattle.rtrb.specs.declared.consumer.Consumer.{Consumer}
 use Rattle.rtrb.specs.declared.producer.Producer.{Producer}
 
 module _ {T : Type 0} where
-  -- what was sent into each ring, and what was received from each
+  -- what was sent into each ring
   abbrev pub all_sent : List (Producer T Global AnyItems) → List (List T)
   all_sent ps = map (λ (p : Producer T Global AnyItems). sent p) ps
 
+  -- what was received from each ring
   abbrev pub all_received : List (Consumer T Global AnyItems) → List (List T)
   all_received cs = map (λ (c : Consumer T Global AnyItems). received c) cs
 
-  -- the ends of the same rings, place by place
+  -- ends of the same rings, place by place: those into which is sent
   abbrev pub SameProducers : List (Producer T Global AnyItems) → List (Producer T Global AnyItems) → Type 0
   SameProducers old new = AllZip SameProducer old new
 
+  -- so for those from which is received
   abbrev pub SameConsumers : List (Consumer T Global AnyItems) → List (Consumer T Global AnyItems) → Type 0
   SameConsumers old new = AllZip SameConsumer old new
 
@@ -43,10 +45,11 @@ module _ {T : Type 0} where
   abbrev pub EmptiedAt : ℕ → List (Consumer T Global AnyItems) → List (Consumer T Global AnyItems) → Type 0
   EmptiedAt k old new = (c : Consumer T Global AnyItems) × (new ≡ set old k c) × (known_items c ≡ [])
 
--- the bytes of texts, and of the texts of each ring
+-- the bytes of texts
 abbrev pub texts : List (Vec ℕ Global) → List (List ℕ)
 texts ts = map (λ (t : Vec ℕ Global). t.items) ts
 
+-- the bytes of the texts of each ring
 abbrev pub texts_each : List (List (Vec ℕ Global)) → List (List (List ℕ))
 texts_each tss = map texts tss
 

@@ -8,7 +8,7 @@ use Rattle.ct_tree.specs.Lengths.{path_length, subproof_length}
 abbrev pub IsLargestPowerBelow : ℕ → ℕ → Type 0
 IsLargestPowerBelow n k = ((exponent : ℕ) × (k ≡ 2 ^ exponent)) × (k < n) × (n ≤ 2 * k)
 
--- for n > 1 `split n` is the one such k
+-- for n > 1 `split n` is the one power of two k with k < n <= 2k
 abbrev pub SplitIsLargestPowerBelow : Type 0
 SplitIsLargestPowerBelow = (n k : ℕ) → 1 < n → (k ≡ split n) ↔ IsLargestPowerBelow n k
 
@@ -30,11 +30,11 @@ MthOfMore =
 abbrev pub MthOfNoLeaves : Type 0
 MthOfNoLeaves = (H : List ℕ → List ℕ) → mth_of_leaves H [] ≡ H []
 
--- MTH({d0}) = H(00 || d0)
+-- over leaves: MTH({d0}) = H(00 || d0)
 abbrev pub MthOfOneLeaf : Type 0
 MthOfOneLeaf = (H : List ℕ → List ℕ) (leaf : List ℕ) → mth_of_leaves H (leaf ∷ []) ≡ hash_leaf H leaf
 
--- for n > 1 MTH(D[n]) = H(01 || MTH(D[0:k]) || MTH(D[k:n]))
+-- over leaves: for n > 1 MTH(D[n]) = H(01 || MTH(D[0:k]) || MTH(D[k:n]))
 abbrev pub MthOfMoreLeaves : Type 0
 MthOfMoreLeaves =
     (H : List ℕ → List ℕ) (leaves : List (List ℕ)) (k : ℕ) → 1 < length leaves → k ≡ split (length leaves)

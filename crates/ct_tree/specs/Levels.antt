@@ -8,7 +8,7 @@ level H [] = []
 level H (x ∷ []) = x ∷ []
 level H (x ∷ y ∷ rest) = hash_node H x y ∷ level H rest
 
--- j levels up
+-- the level that is j above the leaves
 unfoldable pub raised : (List ℕ → List ℕ) → ℕ → List (List ℕ) → List (List ℕ)
 raised H zero D = D
 raised H (suc j) D = level H (raised H j D)

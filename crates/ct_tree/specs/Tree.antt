@@ -9,15 +9,15 @@ unfoldable pub doubled : ℕ → ℕ → ℕ → ℕ
 doubled zero n k = k
 doubled (suc steps) n k = if nat_lt (2 * k) n then doubled steps n (2 * k) else k
 
--- the largest power of two smaller than n, for n > 1
+-- the largest power of two smaller than n, for n > 1 (RFC 6962, section 2.1)
 unfoldable pub split : ℕ → ℕ
 split n = doubled n n 1
 
--- the hash of a leaf: H(00 || leaf)
+-- the hash of a leaf: H(00 || leaf) (RFC 6962, section 2.1)
 abbrev pub hash_leaf : (List ℕ → List ℕ) → List ℕ → List ℕ
 hash_leaf H leaf = H (0 ∷ leaf)
 
--- the hash of an inner node: H(01 || left || right)
+-- the hash of an inner node: H(01 || left || right) (RFC 6962, section 2.1)
 abbrev pub hash_node : (List ℕ → List ℕ) → List ℕ → List ℕ → List ℕ
 hash_node H left right = H (1 ∷ left ++ right)
 
@@ -26,6 +26,7 @@ abbrev pub mth_small : (List ℕ → List ℕ) → List (List ℕ) → List ℕ
 mth_small H [] = H []
 mth_small H (hash ∷ rest) = hash
 
+-- MTH(D[n]), by recursion that counts down a bound
 unfoldable pub mth_within : (List ℕ → List ℕ) → ℕ → List (List ℕ) → List ℕ
 mth_within H zero D = mth_small H D
 mth_within H (suc depth) D =
@@ -34,14 +35,15 @@ mth_within H (suc depth) D =
     then hash_node H (mth_within H depth (take k D)) (mth_within H depth (drop k D))
     else mth_small H D
 
--- MTH(D[n]), of a list of leaf hashes (section 2.1)
+-- the Merkle tree hash MTH(D[n]), of a list of leaf hashes (RFC 6962, section 2.1)
 unfoldable pub mth : (List ℕ → List ℕ) → List (List ℕ) → List ℕ
 mth H D = mth_within H (length D) D
 
--- MTH(D[n]), of a list of leaves
+-- the Merkle tree hash MTH(D[n]), of a list of leaves (RFC 6962, section 2.1)
 abbrev pub mth_of_leaves : (List ℕ → List ℕ) → List (List ℕ) → List ℕ
 mth_of_leaves H leaves = mth H (map (hash_leaf H) leaves)
 
+-- PATH(m, D[n]), by recursion that counts down a bound
 unfoldable pub path_within : (List ℕ → List ℕ) → ℕ → ℕ → List (List ℕ) → List (List ℕ)
 path_within H zero m D = []
 path_within H (suc depth) m D =
@@ -52,7 +54,7 @@ path_within H (suc depth) m D =
     else path_within H depth (m - k) (drop k D) ++ mth H (take k D) ∷ [])
     else []
 
--- PATH(m, D[n]), for m < n (section 2.1.1)
+-- the audit path PATH(m, D[n]), for m < n (RFC 6962, section 2.1.1)
 unfoldable pub path : (List ℕ → List ℕ) → ℕ → List (List ℕ) → List (List ℕ)
 path H m D = path_within H (length D) m D
 
@@ -60,6 +62,7 @@ path H m D = path_within H (length D) m D
 abbrev pub subproof_whole : (List ℕ → List ℕ) → List (List ℕ) → Bool → List (List ℕ)
 subproof_whole H D b = if b then [] else mth H D ∷ []
 
+-- SUBPROOF(m, D[n], b), by recursion that counts down a bound
 unfoldable pub subproof_within : (List ℕ → List ℕ) → ℕ → ℕ → List (List ℕ) → Bool → List (List ℕ)
 subproof_within H zero m D b = subproof_whole H D b
 subproof_within H (suc depth) m D b =
@@ -70,10 +73,10 @@ subproof_within H (suc depth) m D b =
     else subproof_within H depth m (take k D) b ++ mth H (drop k D) ∷ [])
     else subproof_whole H D b
 
--- SUBPROOF(m, D[n], b), for 0 < m <= n (section 2.1.2)
+-- SUBPROOF(m, D[n], b), for 0 < m <= n (RFC 6962, section 2.1.2)
 unfoldable pub subproof : (List ℕ → List ℕ) → ℕ → List (List ℕ) → Bool → List (List ℕ)
 subproof H m D b = subproof_within H (length D) m D b
 
--- PROOF(m, D[n]), for 0 < m < n (section 2.1.2)
+-- the consistency proof PROOF(m, D[n]), for 0 < m < n (RFC 6962, section 2.1.2)
 abbrev pub proof : (List ℕ → List ℕ) → ℕ → List (List ℕ) → List (List ℕ)
 proof H m D = subproof H m D true

@@ -29,9 +29,10 @@ pub data ClashOfLists (H : List ℕ → List ℕ) : List (List ℕ) → List (Li
       → found ≡ option_or (option_or left right) (clash H (root_string H k E) (root_string H k D))
       → ClashOfLists H E D found
 
--- the first clash along a proof p from E to D, where r is the root of E if b is true: p = q : s, and x and y are the roots
--- that q gives. What lies below the node over D comes first. Where E lies in the left part the proof's node is 01 || y || s;
--- where it doesn't, the proof's nodes are 01 || s || x over E and 01 || s || y over D
+-- the first clash along a proof p from E to D, two strings that differ and have one hash, hashed by the proof or the old list, and by the
+-- new list; where r is the root of E if b is true: p = q : s, and x and y are the roots that q gives. What lies below the node over D comes
+-- first. Where E lies in the left part the proof's node is 01 || y || s; where it doesn't, the proof's nodes are 01 || s || x over E and 01
+-- || s || y over D
 pub data ClashAlong (H : List ℕ → List ℕ) : Bool → List ℕ → List (List ℕ) → List (List ℕ) → List (List ℕ) → Option (List ℕ × List ℕ) → Type 0 where
   whole : {b : Bool} {r : List ℕ} {E D p : List (List ℕ)} {found : Option (List ℕ × List ℕ)}
       → length E ≡ length D → ClashOfLists H E D found → ClashAlong H b r E D p found

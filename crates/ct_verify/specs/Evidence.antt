@@ -31,11 +31,11 @@ evid_down H D leaf m (s ∷ q) =
     then compared_with (rebuild_down H m k (hash_leaf H leaf) q) (λ r. 1 ∷ r ++ s) listed (evid_down H (take k D) leaf m q)
     else compared_with (rebuild_down H (m - k) (n - k) (hash_leaf H leaf) q) (λ r. 1 ∷ s ++ r) listed (evid_down H (drop k D) leaf (m - k) q)
 
--- the pair of strings nearest the root in which an audit path p, as long as PATH(m, D[n]), differs from the list: the
--- proof's, then the list's. None where none differs
+-- going down from the root, the first pair of strings in which an audit path p, as long as PATH(m, D[n]), differs from the list: the string
+-- that is hashed on the proof's side, then the list's. None where none differs
 unfoldable pub evid : (List ℕ → List ℕ) → List (List ℕ) → List ℕ → ℕ → List (List ℕ) → Option (List ℕ × List ℕ)
 evid H D leaf m p = evid_down H D leaf m (reverse p)
 
--- the leaf is the list's element at that index, and the path is its PATH
+-- the leaf is the list's element at index m, and p is its PATH (RFC 6962, section 2.1.1)
 abbrev pub IsAudited : (List ℕ → List ℕ) → List (List ℕ) → List ℕ → ℕ → List (List ℕ) → Type 0
 IsAudited H D leaf m p = (m < length D) × (leaf ≡ get_or D m []) × (p ≡ path H m (map (hash_leaf H) D))

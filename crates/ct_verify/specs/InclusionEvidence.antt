@@ -12,8 +12,8 @@ use Rattle.ct_verify.specs.declared.evidence.EvidenceFault.TheVariants.{ProofRef
 abbrev pub IsAccepted : (List ℕ → List ℕ) → List (List ℕ) → List ℕ → ℕ → List (List ℕ) → Type 0
 IsAccepted H D leaf m p = AcceptsInclusion H (hash_leaf H leaf) m (length D) p (mth_of_leaves H D)
 
--- Holds: accepted, and no string differs, so the leaf and the path are the list's. Collision: accepted, and the first
--- strings that differ have one hash
+-- Holds: accepted against MTH of the list, and no string differs, so the leaf and the path are the list's. Collision: accepted, and here
+-- are the first strings that differ, which have one hash
 abbrev pub InclusionEvidence : {A : Type 0} → (List ℕ → List ℕ) → List (List ℕ) → List ℕ → ℕ → List (List ℕ) → Evidence A → Type 0
 InclusionEvidence H D leaf m p Holds = IsAccepted H D leaf m p × (evid H D leaf m p ≡ None) × IsAudited H D leaf m p
 InclusionEvidence H D leaf m p (Collision a b) =

@@ -84,7 +84,7 @@ PathOneRefusal =
     (H : List ℕ → List ℕ) (h : List ℕ) (m n : ℕ) (p : List (List ℕ)) (root : List ℕ) (one other : ProofFault)
     → RefusesInclusion H h m n p root one → RefusesInclusion H h m n p root other → one ≡ other
 
--- a leaf of the list D with its PATH is accepted, and its strings are the list's
+-- a leaf of the list D with its PATH is accepted, and there is no evidence against it: its strings are the list's
 abbrev pub PathHolds : Type 0
 PathHolds =
     (H : List ℕ → List ℕ) → ((x : List ℕ) → length (H x) ≡ 32) → (D : List (List ℕ)) (leaf : List ℕ) (m : ℕ) (p : List (List ℕ)) → IsAudited H D leaf m p

@@ -17,7 +17,8 @@ rebuild_down H m n h (s ∷ q) =
     else option_map (λ r. hash_node H s r) (rebuild_down H (m - k) (n - k) h q))
     else None
 
--- the root of n leaves that the path p gives to the leaf hash h at index m, for m < n
+-- the root of n leaves that the path p gives to the leaf hash h at index m, for m < n, from the root down; none where p hasn't the length
+-- of PATH (own form of RFC 6962, section 2.1.1)
 unfoldable pub rebuild : (List ℕ → List ℕ) → ℕ → ℕ → List ℕ → List (List ℕ) → Option (List ℕ)
 rebuild H m n h p = rebuild_down H m n h (reverse p)
 
@@ -36,7 +37,7 @@ both_down H m n b r (s ∷ q) =
     else option_map (λ (x, y). (x, hash_node H y s)) (both_down H m k b r q))
     else (if b then None else same_pair s q)
 
--- the roots of the first m leaves and of all n that the path p gives, for 0 < m, m ≤ n; where b is true, r is
--- the root of the first m
+-- the roots of the first m leaves and of all n that the consistency proof p gives, for 0 < m, m ≤ n, from the root down; where b is true, r
+-- is the root of the first m (own form of RFC 6962, section 2.1.2)
 unfoldable pub both_roots : (List ℕ → List ℕ) → ℕ → ℕ → Bool → List ℕ → List (List ℕ) → Option (List ℕ × List ℕ)
 both_roots H m n b r p = both_down H m n b r (reverse p)

@@ -6,11 +6,12 @@ use Rattle.ct_verify.specs.declared.fault.ProofFault.{ProofFault}
 use Rattle.ct_verify.specs.declared.fault.ProofFault.TheVariants.{IndexOutOfRange, PathTooLong, PathTooShort, RootMismatch, EmptyPath, FirstMismatch}
 use Rattle.ct_verify.specs.declared.fault.ProofFault.TheVariants.{SizesOutOfRange}
 
--- the path p leads from the leaf hash h at index m of n leaves to the root
+-- m is below n, and the path p leads from the leaf hash h at index m of n leaves to the root (RFC 9162, section 2.1.3.2)
 abbrev pub AcceptsInclusion : (List ℕ → List ℕ) → List ℕ → ℕ → ℕ → List (List ℕ) → List ℕ → Type 0
 AcceptsInclusion H h m n p root = (m < n) × (rebuild H m n h p ≡ Some root)
 
--- when each refusal of an audit path comes
+-- when each refusal of an audit path comes: the index outside the tree; the path longer or shorter than PATH; another root (RFC 9162,
+-- section 2.1.3.2)
 abbrev pub RefusesInclusion : (List ℕ → List ℕ) → List ℕ → ℕ → ℕ → List (List ℕ) → List ℕ → ProofFault → Type 0
 RefusesInclusion H h m n p root IndexOutOfRange = n ≤ m
 RefusesInclusion H h m n p root PathTooLong = (m < n) × (path_length m n < length p)
@@ -20,11 +21,12 @@ RefusesInclusion H h m n p root EmptyPath = ⊥
 RefusesInclusion H h m n p root FirstMismatch = ⊥
 RefusesInclusion H h m n p root SizesOutOfRange = ⊥
 
--- the path p leads to the root x of the first m leaves and to the root y of all n
+-- 0 < m < n, and the proof p gives the root x of the first m leaves and the root y of all n (RFC 9162, section 2.1.4.2)
 abbrev pub AcceptsConsistency : (List ℕ → List ℕ) → ℕ → ℕ → List ℕ → List ℕ → List (List ℕ) → Type 0
 AcceptsConsistency H m n x y p = (0 < m) × (m < n) × (both_roots H m n true x p ≡ Some (x, y))
 
--- when each refusal of a consistency proof comes
+-- when each refusal of a consistency proof comes: the sizes; no hashes; too many or too few; another first or second root (RFC 9162,
+-- section 2.1.4.2)
 abbrev pub RefusesConsistency : (List ℕ → List ℕ) → ℕ → ℕ → List ℕ → List ℕ → List (List ℕ) → ProofFault → Type 0
 RefusesConsistency H m n x y p SizesOutOfRange = ¬ ((0 < m) × (m < n))
 RefusesConsistency H m n x y p EmptyPath = (0 < m) × (m < n) × (p ≡ [])

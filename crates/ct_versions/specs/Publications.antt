@@ -8,7 +8,7 @@ use Rattle.ct_core.specs.Settlement.{Log, Lawful}
 use Rattle.ct_core.specs.Core.{Extends}
 use Rattle.ct_versions.specs.declared.publications.Publication.{Publication}
 
--- which publications they are: those of a line in a book
+-- whose publications they are: those of one shelf, a line in a book that only grows
 pub record Series : Type 0 where
   pub book : Book
   pub line : ℕ
@@ -34,7 +34,8 @@ pub record IsNewer (older newer : Log) : Type 0 where
   pub extends : Extends older newer
   pub heads : length older.heads < length newer.heads
 
--- the rule: states are lawful, and newer than the earlier ones of their line; the words that a line is named by, and those of turns that are over, are at home
+-- the rule: each publication's state is lawful, and newer than the earlier ones of its line; the word of the book, the words that a line is
+-- named by, and those of turns that are over, are at home
 pub record IsKept (cells : List Cell) (all : List Publication) : Type 0 where
   pub word : IsHome cells 0
   pub lawful : (i : ℕ) (p : Publication) → slice_get all i ≡ Some p → Lawful p.state
@@ -50,13 +51,15 @@ head_of b = record { tracked = true; key = 0; book = b }
 abbrev pub IsRight : Nib → ℕ → Type 0
 IsRight n k = (n.right ≡ may_write) × (n.key ≡ k)
 
--- what a step tells: that a right was made; that a line was begun, which the pen's word names; that a line goes on
+-- a step tells that a right was made
 abbrev pub MakesRight : Step Publication → View Publication ℕ → ℕ → View Publication ℕ → Type 0
 MakesRight s v found w = w.1.0.right ≡ may_make
 
+-- a step tells that a line was begun, which the pen's word names: the publication that was made ends the book
 abbrev pub OpensLine : Step Publication → View Publication ℕ → ℕ → View Publication ℕ → Type 0
 OpensLine s v found w = Ends w.0 (record { line = v.1.0.key; state = s.ask.state; turn = s.ask.turn })
 
+-- a step tells that a line goes on: the publication that was made ends the book, in the line of the newest one before it
 abbrev pub AddsToLine : Step Publication → View Publication ℕ → ℕ → View Publication ℕ → Type 0
 AddsToLine s v found w = Ends w.0 (record { line = (newest v.0).line; state = s.ask.state; turn = s.ask.turn })
 
@@ -65,6 +68,7 @@ pub record Reach : Type 0 where
   pub book : Book
   pub last : Publication
 
+-- whose publications some reach of the book is of
 abbrev pub series_of : Reach → Series
 series_of r = record { book = r.book; line = r.last.line }
 

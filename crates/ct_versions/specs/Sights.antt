@@ -6,11 +6,12 @@ use Rattle.ct_core.specs.Settlement.{Log}
 use Rattle.ct_core.specs.Core.{Extends}
 use Rattle.ct_versions.specs.Publications.{Reach, Series, series_of}
 
--- whose publications they are, and the newest state that was seen
+-- What contracts see of a shelf, a viewer and a bulletin: whose publications they are, and the newest state that was seen.
 pub record Sight : Type 0 where
   pub series : Series
   pub seen : Log
 
+-- the sight that a reach of the book gives
 abbrev pub sight_of : Reach → Sight
 sight_of r = record { series = series_of r; seen = r.last.state }
 

@@ -24,7 +24,7 @@ IsBeside known head Again = (head.tree_size ≡ known.tree_size) × (head.root �
 IsBeside known head (Fork other) = (other ≡ known) × (head.tree_size ≡ known.tree_size) × (¬ (head.root ≡ known.root))
 IsBeside known head v = ⊥
 
--- the verdict that stands against a head beside the known one, if any is
+-- the verdict that stands against a head at once beside the known one, if any is: stale, shrunk, again, fork
 abbrev pub IsSaid : Option Head → Head → Verdict → Type 0
 IsSaid None head v = ⊥
 IsSaid (Some known) head v = IsBeside known head v
@@ -41,24 +41,25 @@ WaitingSays H w head (RootMismatch root) = (head.tree_size ≡ length (leaves_re
 WaitingSays H w head Pending = ¬ (head.tree_size ≡ length (leaves_read w))
 WaitingSays H w head v = ⊥
 
--- a head: beside the accepted one, then beside the waiting one; where it is larger than both, the one that waits now settles
+-- the verdict on a head: beside the accepted one, then beside the waiting one; where it is larger than both, the verdict on the one that
+-- waits now
 abbrev pub HeadSays : (List ℕ → List ℕ) → Watched → Head → Verdict → Type 0
 HeadSays H w head v = IsSaid w.accepted head v
     ⊎ (IsLarger w.accepted head × (IsSaid w.waiting head v ⊎ (IsLarger w.waiting head × WaitingSays H w (waiting_or w.waiting head) v)))
 
--- the leaves E from the index start on, where this head waits
+-- the verdict on the leaves E from the index start on, where this head waits
 abbrev pub EntriesSay : (List ℕ → List ℕ) → Watched → Option Head → ℕ → List (List ℕ) → Verdict → Type 0
 EntriesSay H w None start E v = v ≡ Gap
 EntriesSay H w (Some head) start E v = ((v ≡ Gap) × (¬ (start ≡ length (leaves_read w))))
     ⊎ ((start ≡ length (leaves_read w)) × WaitingSays H (read_on w head E) head v)
 
--- what they leave
+-- what has been handed out after these entries and the verdict on them
 abbrev pub after_entries : Watched → Option Head → List (List ℕ) → Verdict → Watched
 after_entries w None E v = w
 after_entries w (Some head) E Gap = w
 after_entries w (Some head) E v = after_verdict (read_on w head E) head v
 
--- a consistency proof from the accepted head to the waiting one
+-- the verdict on a consistency proof from the accepted head to the waiting one
 abbrev pub ProofSays : (List ℕ → List ℕ) → Option Head → Option Head → List (List ℕ) → Verdict → Type 0
 ProofSays H (Some first) (Some second) p Consistent = AcceptsConsistency H first.tree_size second.tree_size first.root second.root p
 ProofSays H (Some first) (Some second) p (Inconsistent fault) = RefusesConsistency H first.tree_size second.tree_size first.root second.root p fault

@@ -5,7 +5,8 @@ use Rattle.ct_tree.specs.declared.head.Head.{Head}
 use Rattle.ct_watch.specs.declared.verdict.Verdict.{Verdict}
 use Rattle.ct_watch.specs.declared.verdict.Verdict.TheVariants.{Accepted, Pending, RootMismatch}
 
--- The last accepted head with its leaves, the newer head that waits, and the leaves that were read behind the accepted ones.
+-- What a log has handed out: the last accepted head with its leaves, the newer head that waits, and the leaves that were read behind the
+-- accepted ones.
 pub record Watched : Type 0 where
   pub accepted : Option Head
   pub sure : List (List ℕ)
@@ -16,7 +17,7 @@ pub record Watched : Type 0 where
 abbrev pub leaves_read : Watched → List (List ℕ)
 leaves_read w = w.sure ++ w.ahead
 
--- the head that waits, the new one where none did
+-- the head that waits, and this one where none does
 abbrev pub waiting_or : Option Head → Head → Head
 waiting_or None head = head
 waiting_or (Some waiting) head = waiting
@@ -25,7 +26,8 @@ waiting_or (Some waiting) head = waiting
 abbrev pub read_on : Watched → Head → List (List ℕ) → Watched
 read_on w head E = record w { ahead = w.ahead ++ take (head.tree_size - length (leaves_read w)) E }
 
--- after a verdict on the waiting head
+-- what has been handed out after a verdict on the waiting head: accepted with all leaves read, let go with those that weren't sure, or
+-- waiting
 abbrev pub after_verdict : Watched → Head → Verdict → Watched
 after_verdict w head Accepted = record { accepted = Some head; sure = leaves_read w; waiting = None; ahead = [] }
 after_verdict w head (RootMismatch root) = record w { waiting = None; ahead = [] }

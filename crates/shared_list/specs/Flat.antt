@@ -11,12 +11,12 @@ abbrev pub shared_items : {A X : Type 0} → Option A → (A → List X) → Lis
 shared_items None items = []
 shared_items (Some a) items = items a
 
--- each part has that size
+-- each part has n values
 abbrev pub AllOf : {X : Type 0} → ℕ → List (List X) → Type 0
 AllOf n [] = Unit {0}
 AllOf n (c ∷ cs) = (length c ≡ n) × AllOf n cs
 
--- parts of one size, a rest that is no longer than a part, and the number of elements
+-- each part has so many values, the rest at most as many, and all are n
 pub record IsInParts {X : Type 0} (size : ℕ) (parts : List (List X)) (rest : List X) (n : ℕ) : Type 0 where
   pub each : AllOf size parts
   pub short : length rest ≤ size

@@ -9,7 +9,7 @@ use Rattle.ct_verify.specs.declared.fault.ProofFault.TheVariants.{IndexOutOfRang
 use Rattle.ct_verify.specs.declared.fault.ProofFault.TheVariants.{SizesOutOfRange}
 use Rattle.wagtenib.specs.declared.leaf.LeafInfo.{LeafInfo}
 
--- the number of a proof's fault
+-- the number by which a proof's fault is told in C; include/wagtenib.h has the same
 abbrev pub proof_code : ProofFault → ℕ
 proof_code IndexOutOfRange = 1
 proof_code PathTooLong = 2
@@ -19,11 +19,11 @@ proof_code EmptyPath = 5
 proof_code FirstMismatch = 6
 proof_code SizesOutOfRange = 7
 
--- 0 where the proof is accepted, and elsewhere the number of the fault that stands against it
+-- 0 and the proof is accepted, or the number of the fault that stands against it
 abbrev pub Judges : ℕ → Type 0 → (ProofFault → Type 0) → Type 0
 Judges code accepts refuses = ((code ≡ 0) × accepts) ⊎ ((f : ProofFault) × (code ≡ proof_code f) × refuses f)
 
--- the number of a leaf's fault
+-- the number by which a leaf's fault is told in C; include/wagtenib.h has the same
 abbrev pub leaf_code : DecodeFault → ℕ
 leaf_code Memory = 8
 leaf_code Truncated = 17
@@ -33,17 +33,17 @@ leaf_code BadEntryType = 20
 leaf_code EmptyVector = 21
 leaf_code Trailing = 22
 
--- the length of an entry's certificate or TBSCertificate
+-- how long an entry's certificate or TBSCertificate is (RFC 6962, section 3.1)
 abbrev pub certificate_length : SignedEntry → ℕ
 certificate_length e = length (signed_of e)
 
--- the bytes are a leaf's, and the information is of that leaf
+-- the bytes are the text of a leaf, of which the information has the timestamp, the entry type and the lengths (RFC 6962, section 3.4)
 abbrev pub Describes : LeafInfo → List ℕ → Type 0
 Describes info bytes = (e : SignedEntry) × (x : List ℕ) × LeafText info.timestamp e x bytes × (info.entry_type ≡ type_of e)
     × (info.certificate_length ≡ certificate_length e) × (info.extensions_length ≡ length x)
 
--- 0 where the bytes are a leaf's, which the new information describes; elsewhere the number of the first fault that they have, and
--- the information is the old one
+-- 0, and the new information describes the leaf that the bytes are; or the number of their first fault (never that of `Memory`), and
+-- nothing was written
 abbrev pub DecodesLeaf : ℕ → LeafInfo → LeafInfo → List ℕ → Type 0
 DecodesLeaf code before after bytes = ((code ≡ 0) × Describes after bytes)
     ⊎ ((f : DecodeFault) × (code ≡ leaf_code f) × (f ≢ Memory) × LeafFaulty f bytes × (after ≡ before))
