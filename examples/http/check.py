@@ -7,8 +7,8 @@ PROGRAM is crates/ctlogd/out/ctlogd, or where that isn't built stand_in.py. Thre
 every receipt, head, entry and proof that is answered is held against what RFC 6962 says, every signature is checked over
 bytes that are written here, and every call is refused what it has to refuse. What the log names as standing under its
 signatures is held against the same bytes. Then front and program are killed in mid-stream and started again from the
-journal: what clients had seen has to be there. It ends with a line of what it saw, and with status 1 where something is
-wrong.
+journal: what clients had seen has to be there. Last come the cases of cases.py. It ends with a line of what it saw, and with
+status 1 where something is wrong.
 """
 import argparse
 import base64
@@ -33,6 +33,7 @@ from harness import FRONTS, HERE, STAND_IN, Client, Front, Wrong, bytes_of, hold
 ROOT = HERE.parent.parent
 sys.path.insert(0, str(HERE.parent))
 
+import cases  # noqa: E402
 import expected  # noqa: E402
 import merkle  # noqa: E402
 import p256  # noqa: E402
@@ -203,7 +204,8 @@ def check_log(front, seen, checked):
             checked.add(sct["signature"])
     moments = {moment: at for moment, at in json.loads(client.send("/heads")[1])["heads"]}
     for moment, ((at, told), signature) in seen.heads.items():
-        hold(moments.get(moment) == at, "a head that was seen isn't among the heads:", moment, at)
+        # (the last 2,048 are shown)
+        hold(moment < min(moments) or moments.get(moment) == at, "a head that was seen isn't among the heads:", moment, at)
         hold(at <= size and merkle.root(leaves[:at]) == bytes_of(told), "a head that was seen has another root:", moment, at)
         if signature not in checked:
             check_signature(key, head_text(moment, at, bytes_of(told)), signature, f"the head at {moment}")
@@ -512,6 +514,7 @@ def main():
     words = options.parse_args()
     try:
         run(words.program or ([str(CTLOGD)] if CTLOGD.exists() else STAND_IN), words)
+        cases.run(cases.CASES)
     except Wrong as wrong:
         sys.exit(f"check.py: {wrong}")
 

@@ -65,7 +65,7 @@ def words_given():
 
 
 def opened(words, ending):
-    """The state's folder taken up, the log made again from it, and what signs. Nothing is written before all of it holds."""
+    """The state's folder looked through, what signs, and the log made again. Nothing is written."""
     kept = Journal(words.state)
     signer = signing.Signer(os.path.join(words.state, "key.pem"), words.signer, kept.fresh())
     if kept.log_id not in (None, signer.log_id):
@@ -76,30 +76,29 @@ def opened(words, ending):
     try:
         kept.replay(program, words.fronts, words.ring, entries, heads)
         clock = Clock(heads[-1]["timestamp"] if heads else 0, words.clock_step, words.clock_ahead)
-        sequencer = Sequencer(program, kept, words, entries, clock, heads)
-        signer.keep()
-        kept.open(signer.log_id)
-        if not heads:
-            sequencer.step(forced=True)
-    except Refused as refused:
-        raise Broken(f"{words.program[0]} doesn't take the journal: {ending.fault or refused}") from None
-    return program, sequencer, signer
+        return program, kept, signer, Sequencer(program, kept, words, entries, clock, heads)
+    except BaseException as fault:
+        program.kill()
+        if isinstance(fault, Refused):
+            raise Broken(f"{words.program[0]} doesn't take the journal: {ending.fault or fault}") from None
+        raise
 
 
 def serve(words):
     ending, stopping = Ending(), threading.Event()
-    program, sequencer, signer = opened(words, ending)
+    program, kept, signer, sequencer = opened(words, ending)
     server = Server(words, Calls(program, sequencer, signer, roots_of(words.roots)))
+    # All is taken up: from here on there is writing.
+    signer.keep()
+    kept.open(signer.log_id)
+    if not sequencer.heads:
+        sequencer.step(forced=True)
     for number in (signal.SIGTERM, signal.SIGINT):
         signal.signal(number, lambda *_: ending.ask())
     signal.signal(signal.SIGUSR1, lambda *_: setattr(sequencer, "retiring", True))
     timer = ending.thread("the timer", lambda: sequencer.run(stopping))
     ending.thread("the server", server.serve_forever)
-    if not signer.log_id:
-        why = "as --signer none has it" if words.signer else "neither python3-cryptography nor openssl is there"
-        print(f"front: nothing is signed: {why}", file=sys.stderr)
-    address, size = f"http://{words.address}:{server.server_address[1]}/", sequencer.heads[-1]["tree_size"]
-    print(f"{address} with {sequencer.published} heads, {size} entries, signed by {signer.key.name}", flush=True)
+    tell(words, server, sequencer, signer)
     ending.wait()
     if not ending.fault:
         stop(words, ending, server, stopping, timer)
@@ -107,6 +106,15 @@ def serve(words):
     if ending.fault or status:
         program.kill()
         sys.exit(f"front: {ending.fault or f'the log ended with status {status}'}; started again it takes the journal up")
+
+
+def tell(words, server, sequencer, signer):
+    """One line of the start, with the address."""
+    if not signer.log_id:
+        why = "as --signer none has it" if words.signer else "neither python3-cryptography nor openssl is there"
+        print(f"front: nothing is signed: {why}", file=sys.stderr)
+    address, size = f"http://{words.address}:{server.server_address[1]}/", sequencer.heads[-1]["tree_size"]
+    print(f"{address} with {sequencer.published} heads, {size} entries, signed by {signer.key.name}", flush=True)
 
 
 def stop(words, ending, server, stopping, timer):
@@ -128,7 +136,7 @@ def stop(words, ending, server, stopping, timer):
 def main():
     try:
         serve(words_given())
-    except (Broken, Held, OSError) as why:
+    except (Broken, Held, Refused, OSError) as why:
         sys.exit(f"front: {why}")
 
 

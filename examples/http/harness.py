@@ -2,8 +2,10 @@
 import base64
 import http.client
 import json
+import os
 import pathlib
 import re
+import shlex
 import signal
 import subprocess
 import sys
@@ -12,6 +14,8 @@ import urllib.parse
 
 HERE = pathlib.Path(__file__).resolve().parent
 STAND_IN = [sys.executable, str(HERE / "stand_in.py")]
+# The log of the cases: LOG="PROGRAM WORD.." is another one.
+LOG = shlex.split(os.environ.get("LOG", "")) or STAND_IN
 FRONTS = 3
 # How long a client keeps a connection that it doesn't use, in seconds. The front closes it after 15.
 KEPT = 5
@@ -37,10 +41,10 @@ def bytes_of(value):
 class Front:
     """A front that runs, and its address."""
 
-    def __init__(self, folder, program, *words, fronts=FRONTS, ring=64):
+    def __init__(self, folder, program, *words, fronts=FRONTS, ring=64, front=(sys.executable, str(HERE / "front.py"))):
         self.folder = folder
         options = ["--port", "0", "--state", folder, "--fronts", str(fronts), "--ring", str(ring), "--every", "0.05", *words]
-        line = [sys.executable, str(HERE / "front.py"), *options, "--", *program]
+        line = [*front, *options, "--", *program]
         self.process = subprocess.Popen(line, stdout=subprocess.PIPE, stderr=subprocess.PIPE, text=True)
         self.told = self.process.stdout.readline()
         found = re.match(r"http://127\.0\.0\.1:(\d+)/", self.told)
@@ -117,3 +121,16 @@ def started(folder, program, *words, **more):
     if front.port is None:
         raise Wrong("the front doesn't start: " + " ".join(front.wait()[1].splitlines()))
     return front
+
+
+def leaf_of(sct, certificate):
+    """The MerkleTreeLeaf of a certificate's entry (RFC 6962, section 3.4) at the moment of its timestamp."""
+    return b"\0\0" + sct["timestamp"].to_bytes(8, "big") + b"\0\0" + vector(certificate) + b"\0\0"
+
+
+def leaves_of(client):
+    """All entries that the last head covers."""
+    size, found = client.get("get-sth")["tree_size"], []
+    while len(found) < size:
+        found += client.get("get-entries", start=len(found), end=size - 1)["entries"]
+    return [bytes_of(entry["leaf_input"]) for entry in found]

@@ -4,6 +4,7 @@ A request is taken only where its end is beyond doubt, also for a proxy in front
 Transfer-Encoding, with two lengths or with header lines that aren't any is refused, and its connection closed.
 """
 import collections
+import contextlib
 import http
 import http.server
 import io
@@ -29,7 +30,7 @@ SLOWEST = 10_000
 # How long what a refused client still writes is read and passed over, in seconds, and how much of it.
 LINGER, PASSED_OVER = 5, 8 * LONGEST_BODY
 LENGTH = re.compile(r"[0-9]{1,20}")
-TOO_MANY = b'HTTP/1.1 503 Service Unavailable\r\nContent-Length: 40\r\nRetry-After: 1\r\nConnection: close\r\n\r\n{"error_message": "too-many-connections"}'
+TOO_MANY = b'HTTP/1.1 503 Service Unavailable\r\nRetry-After: 1\r\nConnection: close\r\n\r\n{"error_message": "too-many-connections"}'
 
 
 def status_of(refusal):
@@ -122,7 +123,7 @@ class Handler(http.server.BaseHTTPRequestHandler):
     def refuse(self, status, why):
         """Answers, and ends the connection: nothing behind it is read as a request. It is read on for a while, so that a client
         that writes all before it reads learns why."""
-        self.close_connection = True
+        self.close_connection, self.request_version = True, self.protocol_version
         self.send(status, json.dumps({"error_message": why}).encode())
         self.connection.shutdown(socket.SHUT_WR)
         self.limited.until, left = time.monotonic() + LINGER, PASSED_OVER
@@ -192,7 +193,9 @@ class Server(http.server.ThreadingHTTPServer):
             self.of_address[address[0]] += taken
         if not taken:
             request.setblocking(False)
-            request.send(TOO_MANY)
+            # (it may have gone away again)
+            with contextlib.suppress(OSError):
+                request.send(TOO_MANY)
             return False
         while not self.places.acquire(timeout=0.1):
             if self.ending:
@@ -225,5 +228,5 @@ class Server(http.server.ThreadingHTTPServer):
 
     def handle_error(self, *words):
         """A client that went away is no fault of the log's."""
-        if not isinstance(sys.exc_info()[1], (ConnectionError, TimeoutError, OSError)):
+        if not isinstance(sys.exc_info()[1], OSError):
             super().handle_error(*words)
