@@ -1,5 +1,6 @@
 #!/usr/bin/env python3
-"""Tries the scripts that stand beside ctlog, bad_lines.py, pem_lines.py, expected.py and check.py, on stored input. It runs no ctlog.
+"""Tries the scripts that stand beside the programs, bad_lines.py, pem_lines.py, expected.py and check.py on stored input, and monitor/watch.sh on a
+log of its own. It runs no ctlog.
 
 It prints one line where all is as expected; else it says what isn't, and ends with status 1.
 """
@@ -126,6 +127,10 @@ def main():
         ran = run("expected.py", *words.split(), given=(HERE / f"{name}.jsonl").read_bytes())
         if ran.stdout != (HERE / f"{name}.expected.jsonl").read_bytes():
             fail(f"expected.py computes other replies than {name}.expected.jsonl")
+    watched = run("monitor/watch_check.py")
+    if watched.returncode:
+        fail(f"monitor/watch_check.py: {watched.stderr.decode()}")
+    sys.stdout.write(watched.stdout.decode())
     stored = len(lines_of("bad-lines"))
     rest = f"{chains} chains, {len(INPUTS)} inputs and {outputs} damaged outputs"
     print(f"examples/scripts.py: as expected, over {stored} stored lines, {DAMAGED} damaged ones, {rest}.")

@@ -52,8 +52,8 @@ uint32_t wagtenib_verify_inclusion(const uint8_t leaf_hash[32], uint64_t leaf_in
 uint32_t wagtenib_verify_consistency(uint64_t first, uint64_t second, const uint8_t first_root[32],
                                      const uint8_t second_root[32], const uint8_t *path, size_t path_length);
 
-/* out = MTH of these leaf hashes (RFC 6962 section 2.1); at most 2^57 of them. 8 where memory is refused, and out is as it
- * was. Takes at most 4 KB, whatever their number. */
+/* out = MTH of these leaf hashes (RFC 6962 section 2.1). 8 where memory is refused, and out is as it was. Takes at most 4 KB,
+ * whatever their number: below 2^58, since these are below 2^63 bytes. */
 uint32_t wagtenib_root(const uint8_t *leaf_hashes, size_t count, uint8_t out[32]);
 
 /* What stands in a leaf. */
@@ -71,8 +71,8 @@ uint32_t wagtenib_decode_leaf(const uint8_t *leaf, size_t leaf_length, struct wa
 /* A follower of a log, whose state is the caller's: `size` leaves, and the first `count` of the `places` hashes at
  * `subtrees`, the roots of their perfect subtrees, largest first. It begins with size 0 and count 0; 64 places serve for
  * every size. Any numbers and hashes are safe, and if they are those of a list of leaves, so are the new ones.
- * 0: the leaf hash is appended, and the first *new_count hashes are those of size + 1 leaves. Always so where
- * count < places. 9: there is no place, and nothing has changed. */
+ * 0: the leaf hash is appended, the first *new_count hashes are those of size + 1 leaves, and those behind them are as they
+ * were. Always so where count < places. 9: there is no place, and nothing has changed. */
 uint32_t wagtenib_push(uint64_t size, size_t count, uint8_t *subtrees, size_t places, const uint8_t leaf_hash[32],
                        size_t *new_count);
 

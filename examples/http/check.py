@@ -7,8 +7,8 @@ PROGRAM is crates/ctlogd/out/ctlogd, or where that isn't built stand_in.py. Thre
 every receipt, head, entry and proof that is answered is held against what RFC 6962 says, every signature is checked over
 bytes that are written here, and every call is refused what it has to refuse. What the log names as standing under its
 signatures is held against the same bytes. Then front and program are killed in mid-stream and started again from the
-journal: what clients had seen has to be there. It ends with a line of what it saw, and with status 1 where something is
-wrong.
+journal: what clients had seen has to be there. Last come the cases of cases.py. It ends with a line of what it saw, and with
+status 1 where something is wrong.
 """
 import argparse
 import base64
@@ -27,18 +27,18 @@ import tempfile
 import textwrap
 import threading
 import time
-import urllib.parse
 
-HERE = pathlib.Path(__file__).resolve().parent
+from harness import FRONTS, HERE, STAND_IN, Client, Front, Wrong, bytes_of, hold, made_chain, real_chains, started, text, vector
+
 ROOT = HERE.parent.parent
 sys.path.insert(0, str(HERE.parent))
 
+import cases  # noqa: E402
 import expected  # noqa: E402
 import merkle  # noqa: E402
 import p256  # noqa: E402
 
 CTLOGD, CTLOG = ROOT / "crates/ctlogd/out/ctlogd", ROOT / "crates/ctlog/out/ctlog"
-FRONTS = 3
 HEAD_INPUT, TIMESTAMP_INPUT = "tree-head-signature-input", "certificate-timestamp-signature-input"
 CHANCE = random.Random(1)
 # Stands in for a log that refuses each submission, with the name that its certificate spells.
@@ -53,72 +53,6 @@ for number, line in enumerate(sys.stdin):
 """
 
 
-class Wrong(Exception):
-    """What isn't as it has to be."""
-
-
-def hold(right, *what):
-    if not right:
-        raise Wrong(" ".join(map(str, what)))
-
-
-def text(value):
-    return base64.b64encode(value).decode()
-
-
-def bytes_of(value):
-    return base64.b64decode(value, validate=True)
-
-
-class Front:
-    """A front that runs, and its address."""
-
-    def __init__(self, folder, program, *words, fronts=FRONTS, ring=64):
-        self.folder = folder
-        options = ["--port", "0", "--state", folder, "--fronts", str(fronts), "--ring", str(ring), "--every", "0.05", *words]
-        line = [sys.executable, str(HERE / "front.py"), *options, "--", *program]
-        self.process = subprocess.Popen(line, stdout=subprocess.PIPE, stderr=subprocess.PIPE, text=True)
-        self.told = self.process.stdout.readline()
-        found = re.match(r"http://127\.0\.0\.1:(\d+)/", self.told)
-        self.port = int(found[1]) if found else None
-
-    def program_id(self):
-        """The process of the log."""
-        own = self.process.pid
-        return int(pathlib.Path(f"/proc/{own}/task/{own}/children").read_text().split()[0])
-
-    def end(self, number=signal.SIGTERM):
-        """Sends the signal, and answers the status and what was told of the end."""
-        self.process.send_signal(number)
-        return self.wait()
-
-    def wait(self):
-        _, fault = self.process.communicate(timeout=60)
-        return self.process.returncode, fault
-
-
-class Client:
-    """Calls over one connection; each answer as status and value."""
-
-    def __init__(self, port):
-        self.connection = http.client.HTTPConnection("127.0.0.1", port, timeout=60)
-
-    def send(self, path, body=None, method=None):
-        self.connection.request(method or ("GET" if body is None else "POST"), path, body)
-        reply = self.connection.getresponse()
-        return reply.status, reply.read()
-
-    def call(self, name, body=None, **keys):
-        path = "/ct/v1/" + name + ("?" + urllib.parse.urlencode(keys) if keys else "")
-        status, answer = self.send(path, None if body is None else json.dumps(body))
-        return status, json.loads(answer)
-
-    def get(self, name, body=None, **keys):
-        status, answer = self.call(name, body, **keys)
-        hold(status == 200, name, keys, "was answered with", status, answer)
-        return answer
-
-
 class Seen:
     """What clients have been told."""
 
@@ -130,30 +64,6 @@ class Seen:
             key = head["timestamp"]
             told = head["tree_size"], head["sha256_root_hash"]
             hold(self.heads.setdefault(key, (told, head["tree_head_signature"]))[0] == told, "two heads of one moment:", head)
-
-
-def vector(value):
-    return len(value).to_bytes(3, "big") + value
-
-
-def real_chains():
-    """The submissions of examples/real-chains.jsonl: the call, its chain, and the entry's type and text."""
-    found = []
-    for line in (HERE.parent / "real-chains.jsonl").read_text().splitlines():
-        request = json.loads(line) if line.startswith("{") else {}
-        if request.get("chain"):
-            chain = [bytes_of(certificate) for certificate in request["chain"]]
-            entry = b"\0\0" + vector(chain[0])
-            if request["op"] == "add-pre-chain":
-                entry = b"\0\1" + bytes_of(request["issuer_key_hash"]) + vector(bytes_of(request["tbs"]))
-            found.append((request["op"], chain, entry))
-    return found
-
-
-def made_chain(name):
-    """A certificate that is none, which the log takes as any other, and one above it."""
-    certificate = b"a certificate, %d" % name + bytes(name % 700)
-    return "add-chain", [certificate, b"its issuer"], b"\0\0" + vector(certificate)
 
 
 def submissions(count, first):
@@ -294,7 +204,8 @@ def check_log(front, seen, checked):
             checked.add(sct["signature"])
     moments = {moment: at for moment, at in json.loads(client.send("/heads")[1])["heads"]}
     for moment, ((at, told), signature) in seen.heads.items():
-        hold(moments.get(moment) == at, "a head that was seen isn't among the heads:", moment, at)
+        # (the last 2,048 are shown)
+        hold(moment < min(moments) or moments.get(moment) == at, "a head that was seen isn't among the heads:", moment, at)
         hold(at <= size and merkle.root(leaves[:at]) == bytes_of(told), "a head that was seen has another root:", moment, at)
         if signature not in checked:
             check_signature(key, head_text(moment, at, bytes_of(told)), signature, f"the head at {moment}")
@@ -427,13 +338,6 @@ def check_journal(folder, leaves, fronts):
         hold(ran.returncode == 0, "ctlog ends with status", ran.returncode)
         compare(ran.stdout.splitlines(), "ctlog")
     return "examples/expected.py" + (" and ctlog" if CTLOG.exists() else "")
-
-
-def started(folder, program, *words, **more):
-    front = Front(folder, program, *words, **more)
-    if front.port is None:
-        raise Wrong("the front doesn't start: " + " ".join(front.wait()[1].splitlines()))
-    return front
 
 
 def check_kills(folder, program, words, seen, checked, rounds, threads):
@@ -608,9 +512,9 @@ def main():
     options.add_argument("--kills", type=int, default=3)
     options.add_argument("program", nargs="*")
     words = options.parse_args()
-    stand_in = [sys.executable, str(HERE / "stand_in.py")]
     try:
-        run(words.program or ([str(CTLOGD)] if CTLOGD.exists() else stand_in), words)
+        run(words.program or ([str(CTLOGD)] if CTLOGD.exists() else STAND_IN), words)
+        cases.run(cases.CASES)
     except Wrong as wrong:
         sys.exit(f"check.py: {wrong}")
 

@@ -3,7 +3,8 @@ section 3.2).
 
 This parser stands outside of what is proved: the log takes both as they are given, and its entry is what this file made of
 the precertificate. It reads DER with definite lengths, knows the places of a certificate's fields, and checks no signature
-and no date.
+and no date. It goes as deep as a certificate's extensions, five values, whatever lies below; each byte is copied once a level,
+and of values that follow one another there may be MOST_VALUES.
 """
 import hashlib
 
@@ -16,43 +17,50 @@ SIGNS_PRECERTIFICATES = bytes.fromhex("060a2b06010401d679020404")
 USAGE = bytes.fromhex("0603551d25")
 
 
+# The most values that may follow one another: real certificates have some twenty.
+MOST_VALUES = 1000
+
+
 class NoCertificate(ValueError):
     """Why bytes aren't what they should be."""
 
 
-def take(der):
-    """The first value of some DER: its tag, its content, all its bytes, and what stands behind it."""
-    if len(der) < 2:
+def take(der, at):
+    """The value that begins at a place of some DER: its tag, and where its content begins and ends."""
+    if len(der) < at + 2:
         raise NoCertificate("der-ends-early")
-    many, begin = der[1], 2
+    many, begin = der[at + 1], at + 2
     if many > 0x80:
-        begin = 2 + (many & 0x7F)
-        many = int.from_bytes(der[2:begin], "big")
-        if many < 0x80 or der[2] == 0 or begin > 6:
+        begin += many & 0x7F
+        many = int.from_bytes(der[at + 2 : begin], "big") if begin <= at + 6 else 0
+        if many < 0x80 or der[at + 2] == 0:
             raise NoCertificate("der-length")
     elif many == 0x80:
         raise NoCertificate("der-length")
     end = begin + many
-    if end > len(der) or der[0] & 0x1F == 0x1F:
+    if end > len(der) or der[at] & 0x1F == 0x1F:
         raise NoCertificate("der-ends-early")
-    return der[0], der[begin:end], der[:end], der[end:]
+    return der[at], begin, end
 
 
 def values(content):
     """The values that follow one another in a content: tag, content and all bytes of each."""
-    found = []
-    while content:
-        tag, inner, whole, content = take(content)
-        found.append((tag, inner, whole))
+    found, at = [], 0
+    while at < len(content):
+        if len(found) == MOST_VALUES:
+            raise NoCertificate("der-too-many-values")
+        tag, begin, end = take(content, at)
+        found.append((tag, content[begin:end], content[at:end]))
+        at = end
     return found
 
 
 def only(der, tag):
     """The content of the one value that all these bytes are."""
-    found, content, _, rest = take(der)
-    if found != tag or rest:
+    found, begin, end = take(der, 0)
+    if found != tag or end != len(der):
         raise NoCertificate("der-value")
-    return content
+    return der[begin:end]
 
 
 def value(tag, content):

@@ -1,28 +1,49 @@
 """The journal: the lines that make the log again, on disk before anything that they change is published.
 
-It is a file of lines of docs/LINES.md, in batches. A batch has the accepted submissions of each front in the front's order,
-behind each front's submissions the operator's `sequence` with their count and moment, and at its end `publish` with its
-moment (or a `shutdown` alone). That line has the batch's SHA-256 under a key of its own, which the log ignores. A batch
-without its end, or with another hash, was never published, and is dropped. Beside it lies a file of the heads that were
-published since: a restart that lacks one of them, or gives another, is none.
+It is a file of lines of docs/LINES.md. The first names the log's id, under a key which the log ignores. Behind it stand
+batches: the accepted submissions of each front in the front's order, behind each front's submissions the operator's `sequence`
+with their count and moment, and at the end `publish` with its moment (or a `shutdown` alone). The first line and each batch's
+last end with a SHA-256, under a key that the log ignores too: of the hash before, of the batch's lines, and of that last line up
+to the hash. So each byte is held by a hash, and each batch by those behind it.
+
+A last batch without its end was never published, and is dropped. All else that isn't whole is refused, and nothing is written
+by a start that is refused. In the form before, there was no first line, and a hash was of its own batch's lines alone, the last
+not among them. Such a journal is taken up where the file of heads has all its heads, but for the last; the line with the id then
+stands behind its batches, and its hash is of all bytes before it.
 """
 import collections
 import fcntl
 import hashlib
 import json
 import os
+import re
 
+from disk import Appended
+from entries import identity_of
+from faults import Broken
+from notes import Notes
 from program import line_of
 
-ENDS = ("publish", "shutdown")
+END = re.compile(rb',"batch":"([0-9a-f]{64})"\}\n$')
+ID = re.compile(rb'\{"who":"operator","op":"sequence","from":0,"count":0,"now":0,"log_id":"([0-9A-Za-z+/=]*)","batch":"[0-9a-f]{64}"\}\n')
+# What may stand behind the last whole batch: lines of submissions and of `sequence`, and a part of a line.
+SUBMISSIONS, PART = ("add-chain", "add-pre-chain"), re.compile(rb'\{[^{}\x00-\x1f\x7f-\xff]*\}?')
 
 
-class Broken(Exception):
-    """Why the journal doesn't give the log that was published."""
+def stamp(before, lines, end):
+    """The hash of a batch: the one before it, its lines, and its last line up to the hash."""
+    return hashlib.sha256(b"".join([before, *lines, end])).hexdigest().encode()
 
 
-def digest(lines):
-    return hashlib.sha256(b"".join(lines)).hexdigest()
+def stamped(before, lines, **last):
+    """The last line of a batch, with its hash."""
+    end = line_of(who="operator", **last)[:-1]
+    return end + b',"batch":"' + stamp(before, lines, end) + b'"}\n'
+
+
+def id_line(all_before, log_id):
+    before = all_before.hexdigest().encode()
+    return stamped(before, [], op="sequence", from_=0, count=0, now=0, log_id=log_id)
 
 
 def in_pieces(lines, many):
@@ -30,87 +51,129 @@ def in_pieces(lines, many):
 
 
 class Journal:
+    """The journal of a folder, whose lock is held from the first look at it on. `published` counts the heads."""
+
     def __init__(self, folder):
         os.makedirs(folder, exist_ok=True)
-        self.file = open(os.path.join(folder, "journal.jsonl"), "a+b")
+        self.folder, self.path = os.open(folder, os.O_RDONLY), os.path.join(folder, "journal.jsonl")
         try:
-            fcntl.flock(self.file, fcntl.LOCK_EX | fcntl.LOCK_NB)
+            fcntl.flock(self.folder, fcntl.LOCK_EX | fcntl.LOCK_NB)
         except OSError:
-            raise Broken("another front has this journal open")
-        self.heads = open(os.path.join(folder, "heads.jsonl"), "a+b")
-        entry = os.open(folder, os.O_RDONLY)
-        os.fsync(entry)
-        os.close(entry)
-        self.retired = False
+            raise Broken("another front has this journal open") from None
+        self.file, self.notes = None, Notes(os.path.join(folder, "heads.jsonl"))
+        self.retired, self.published, self.log_id, self.chain = False, 0, None, None
+        for _ in self.batches():
+            pass
+
+    def fresh(self):
+        """Whether nothing was ever written here."""
+        return self.end == 0
+
+    def broken(self, start, end, why):
+        return Broken(f"{self.path} is damaged between the bytes {start} and {end}: {why}; nothing was changed")
 
     def batches(self):
-        """The whole batches, each as requests."""
-        self.file.seek(0)
-        batch, at, self.end = [], 0, 0
-        for line in self.file:
-            at += len(line)
-            batch.append(line)
+        """The whole batches, each as the place of its first byte and its lines; the line with the id isn't among them."""
+        self.log_id, self.chain, self.all_before, self.end, batch, at = None, None, hashlib.sha256(), 0, [], 0
+        if not os.path.exists(self.path):
+            return
+        with open(self.path, "rb") as file:
+            for line in file:
+                batch.append(line)
+                at += len(line)
+                if END.search(line):
+                    named = self.check(batch, at)
+                    if not named:
+                        yield self.end, batch
+                    if self.chain is None:
+                        self.all_before.update(b"".join(batch))
+                    batch, self.end = [], at
+        self.check_rest(batch, at)
+
+    def check(self, batch, at):
+        """Holds a batch against its hash. Whether it is the line with the log's id."""
+        *lines, last = batch
+        end, found = END.split(last)[0], END.search(last)[1]
+        if self.chain is None:
+            named = ID.fullmatch(last)
+            if named and not lines and stamp(self.all_before.hexdigest().encode(), [], end) == found:
+                self.log_id, self.chain = named[1].decode(), found
+                return True
+            right = stamp(b"", lines, b"") == found and not named
+        else:
+            right, self.chain = stamp(self.chain, lines, end) == found, found
+        if not right:
+            raise self.broken(self.end, at, "the lines there aren't those that were written")
+        return False
+
+    def check_rest(self, rest, at):
+        """What stands behind the last batch has to be what is left where a batch's writing is cut off."""
+        for line in rest:
+            if line.endswith(b"\n"):
+                right = operation(line) in (*SUBMISSIONS, "sequence")
+            else:
+                right = PART.fullmatch(line) and b'{"who":'.startswith(line[:7])
+            if not right:
+                raise self.broken(self.end, at, "what stands there is no batch, and no batch's beginning")
+
+    def replay(self, program, fronts, ring, entries, heads):
+        """Sends all again, and puts the heads into `heads`. No line waits and none is refused as full: a front's submissions are
+        sent as many as its ring has places, and settled once their tickets are there. A head that was noted has to come out
+        the same. `shutdown` is sent last: in the form before, submissions that were accepted before it may stand behind it."""
+        waiting = collections.defaultdict(list)
+        for start, batch in self.batches():
             try:
-                request = json.loads(line)
-                ended = line.endswith(b"\n") and request["op"] in ENDS
-            except (ValueError, KeyError, TypeError):
-                return
-            if ended:
-                if request["batch"] != digest(batch[:-1]):
-                    return
-                yield [json.loads(line) for line in batch]
-                batch, self.end = [], at
+                for request in map(json.loads, batch):
+                    self.resend(request, waiting, program, fronts, ring, entries)
+                head = head_of(program, request["now"]) if request["op"] == "publish" else None
+            except (ValueError, KeyError, TypeError) as fault:
+                raise self.broken(start, self.end, f"a line there is no request of the journal ({fault!r})") from None
+            if head:
+                self.published += 1
+                self.notes.compare(head, self.published)
+                heads.append(head)
+        self.notes.check_end()
+        if self.chain is None and len(self.notes.missing) > 1:
+            raise Broken(f"{self.path} is of the form before, and {self.notes.path} lacks {len(self.notes.missing)} of its heads")
+        if self.retired:
+            program.ask(who="operator", op="shutdown")
+
+    def resend(self, request, waiting, program, fronts, ring, entries):
+        if request["who"] != "operator":
+            waiting[request["who"]].append(request)
+        elif request["op"] == "sequence":
+            own, count = waiting[request["from"]], request["count"]
+            settle(program, own[:count], request["from"] % fronts, ring, request["now"], entries)
+            del own[:count]
+        elif request["op"] == "publish":
+            program.ask(who="operator", op="publish", now=request["now"])
+        else:
+            self.retired = True
+
+    def open(self, log_id):
+        """Goes on where the last batch ends: from now on there is writing. What is dropped was never published."""
+        self.file = Appended(self.path, self.end)
+        self.notes.open()
+        if self.chain is None:
+            line = id_line(self.all_before, log_id)
+            self.file.append(line, sync=True)
+            self.log_id, self.chain = log_id, END.search(line)[1]
 
     def write(self, lines, **last):
         """Has a batch on disk before it answers: lines, and the operator's last one, which it answers."""
         lines = [line + b"\n" for line in lines]
-        end = line_of(who="operator", **last, batch=digest(lines))
-        self.file.write(b"".join(lines) + end + b"\n")
-        self.file.flush()
-        os.fsync(self.file.fileno())
-        return end
+        end = stamped(self.chain, lines, **last)
+        self.file.append(b"".join(lines) + end, sync=True)
+        self.chain = END.search(end)[1]
+        return end[:-1]
 
-    def write_head(self, head):
-        """Notes a published head. It is on disk with the next batch at the earliest: it is needed for the comparison alone."""
-        self.heads.write(json.dumps(head, separators=(",", ":"), sort_keys=True).encode() + b"\n")
-        self.heads.flush()
 
-    def noted_heads(self):
-        """The heads that were noted, by their moment."""
-        self.heads.seek(0)
-        whole = [line for line in self.heads if line.endswith(b"\n")]
-        self.heads.truncate(sum(map(len, whole)))
-        return {head["timestamp"]: head for head in map(json.loads, whole)}
-
-    def replay(self, program, fronts, ring):
-        """Sends all again, and answers the heads. No line waits and none is refused as full: a front's submissions are sent
-        as many as its ring has places, and settled once their tickets are there. A head that was noted has to come out the
-        same."""
-        noted, heads, waiting = self.noted_heads(), [], collections.defaultdict(list)
-        for batch in self.batches():
-            for request in batch:
-                if request["who"] != "operator":
-                    waiting[request["who"]].append(request)
-                elif request["op"] == "sequence":
-                    own = waiting[request["from"]]
-                    settled, waiting[request["from"]] = own[: request["count"]], own[request["count"] :]
-                    settle(program, settled, request["from"] % fronts, ring, request["now"])
-                elif request["op"] == "publish":
-                    program.ask(**request)
-                elif not self.retired:
-                    self.retired = True
-                    program.ask(**request)
-            if batch[-1]["op"] == "publish":
-                heads.append(head_of(program, batch[-1]["now"]))
-                note = noted.pop(heads[-1]["timestamp"], None)
-                if note and note != heads[-1]:
-                    raise Broken(f"the journal gives another head than {note} which was published")
-                if not note:
-                    self.write_head(heads[-1])
-        if noted:
-            raise Broken(f"the journal ends, or is damaged, before {len(noted)} heads that were published")
-        self.file.truncate(self.end)
-        return heads
+def operation(line):
+    """What a line asks for; None where it is no request."""
+    try:
+        return json.loads(line)["op"]
+    except (ValueError, KeyError, TypeError):
+        return None
 
 
 def head_of(program, now):
@@ -121,9 +184,12 @@ def head_of(program, now):
     return head
 
 
-def settle(program, submissions, front, ring, now):
+def settle(program, submissions, front, ring, now, entries):
     """Submits through a front, and settles what was submitted."""
     for piece in in_pieces(submissions, ring):
-        for answer in [program.send(line_of(**{**submission, "who": front})) for submission in piece]:
+        lines = [line_of(**{**submission, "who": front}) for submission in piece]
+        for answer in [program.send(line) for line in lines]:
             answer.get()
         program.ask(who="operator", op="sequence", from_=front, count=len(piece), now=now)
+        for line, submission in zip(lines, piece):
+            entries.settle(identity_of(submission), len(line))

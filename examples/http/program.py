@@ -1,11 +1,12 @@
 """The live log as calls: each writes a line to the program, and waits for the reply with that line's number."""
 import json
+import os
+import signal
 import subprocess
 import threading
+import time
 
-
-class Refused(Exception):
-    """A refusal, by its name."""
+from faults import Refused
 
 
 def line_of(**keys):
@@ -17,7 +18,7 @@ class Answer:
     """Where a reply comes. `then` is called with it before anyone who waits goes on, in the order of the program's output."""
 
     def __init__(self, then=None):
-        self.there, self.reply, self.then = threading.Event(), {"error": "closed"}, then
+        self.there, self.reply, self.then, self.sent = threading.Event(), {"error": "closed"}, then, time.monotonic()
 
     def come(self, reply):
         self.reply = reply
@@ -26,6 +27,7 @@ class Answer:
         self.there.set()
 
     def get(self):
+        """The reply. The wait has an end: the program's watch ends a log that leaves a line unanswered."""
         self.there.wait()
         if "error" in self.reply:
             raise Refused(self.reply["error"])
@@ -34,23 +36,43 @@ class Answer:
 
 class Program:
     """The program, over pipes. Numbers follow the order of writing, so one lock covers both. The thread that reads takes no
-    lock: a full pipe in one direction can't stop the other."""
+    lock: a full pipe in one direction can't stop the other. The program's end is the front's, and so is a line that it leaves
+    unanswered for `patience` seconds, by whatever thread it is waited for: then it is killed, which ends every wait."""
 
-    def __init__(self, words, at_end=lambda: None):
+    def __init__(self, words, ending, patience):
         # A group of its own: a Ctrl-C at the terminal is the front's, which ends the program by the end of its input.
         self.process = subprocess.Popen(words, stdin=subprocess.PIPE, stdout=subprocess.PIPE, start_new_session=True)
-        self.writing, self.number, self.waiting, self.ended, self.at_end = threading.Lock(), 0, {}, False, at_end
-        self.reader = threading.Thread(target=self.read, daemon=True)
-        self.reader.start()
+        self.writing, self.number, self.waiting, self.ended = threading.Lock(), 0, {}, threading.Event()
+        self.ending, self.patience = ending, patience
+        self.reader = ending.thread("the log", self.read)
+        ending.thread("the watch over the log", self.watch)
 
     def read(self):
-        for line in self.process.stdout:
-            answer = json.loads(line)
-            self.waiting.pop(answer["line"]).come(answer["reply"])
-        self.ended = True
-        for answer in list(self.waiting.values()):
-            answer.there.set()
-        self.at_end()
+        try:
+            for line in self.process.stdout:
+                if not line.endswith(b"\n"):
+                    return
+                answer = json.loads(line)
+                self.waiting.pop(answer["line"]).come(answer["reply"])
+        finally:
+            self.ended.set()
+            for answer in list(self.waiting.values()):
+                answer.there.set()
+
+    def watch(self):
+        while not self.ended.wait(min(1, self.patience / 4)):
+            oldest = list(self.waiting.values())[:1]
+            if oldest and time.monotonic() - oldest[0].sent > self.patience:
+                self.ending.fail(f"the log left a line unanswered for {self.patience:g} s")
+                self.kill()
+        self.reader.join()
+
+    def kill(self):
+        try:
+            os.killpg(self.process.pid, signal.SIGKILL)
+        except ProcessLookupError:
+            # It has ended by itself.
+            return
 
     def send(self, line, then=None):
         """Writes a line; the answer comes later."""
@@ -63,7 +85,7 @@ class Program:
                 self.process.stdin.flush()
             except (OSError, ValueError):
                 answer.there.set()
-        if self.ended:
+        if self.ended.is_set():
             answer.there.set()
         return answer
 
@@ -71,11 +93,16 @@ class Program:
         return self.send(line_of(**keys)).get()
 
     def end(self):
-        """Ends its input, and waits for its end: the status."""
-        with self.writing:
+        """Ends its input, and waits for its end: the status. It is killed where it doesn't end within `patience`."""
+        if self.writing.acquire(timeout=self.patience):
             try:
                 self.process.stdin.close()
             except OSError:
+                # What was still to be written can't be: it has ended by itself.
                 pass
-        self.reader.join()
+            finally:
+                self.writing.release()
+        if not self.ended.wait(self.patience):
+            self.ending.fail(f"the log didn't end within {self.patience:g} s")
+            self.kill()
         return self.process.wait()

@@ -74,16 +74,16 @@ fault_of (Err f) = f
 
 -- fields that are whole
 
-bytes_here : (n : ℕ) (x r b : List ℕ) → length x ≡ n → b ≡ x ++ r → bytes_at n b ≡ Ok r
+pub bytes_here : (n : ℕ) (x r b : List ℕ) → length x ≡ n → b ≡ x ++ r → bytes_at n b ≡ Ok r
 bytes_here n x r b l e =
     let size : length b ≡ length x + length r = ap length e ∙ length-append x r in
     let long : n ≤ length b = omega (arith, size, l) in
     rw (le-ltb (length b) n long) (ap Ok (rw (e, ← l) (drop-append_seam x r)))
 
-bytes_short : (n : ℕ) (b : List ℕ) → length b < n → bytes_at n b ≡ Err Truncated
+pub bytes_short : (n : ℕ) (b : List ℕ) → length b < n → bytes_at n b ≡ Err Truncated
 bytes_short n b h = rw (lt-ltb (length b) n h) refl
 
-number_here : (w n : ℕ) (r b : List ℕ) (k : ℕ → List ℕ → Read) → n < 256 ^ w → b ≡ num w n ++ r → number_at w b k ≡ k n r
+pub number_here : (w n : ℕ) (r b : List ℕ) (k : ℕ → List ℕ → Read) → n < 256 ^ w → b ≡ num w n ++ r → number_at w b k ≡ k n r
 unfolding num
 number_here w n r b k h e =
     let size : length b ≡ w + length r = ap length e ∙ length-append (num w n) r ∙ ap (λ m. m + length r) (length-num w n) in
@@ -92,22 +92,22 @@ number_here w n r b k h e =
     let rest : drop w b ≡ r = ap (drop w) e ∙ ap (λ m. drop m (num w n ++ r)) (sym (length-num w n)) ∙ drop-append_seam (num w n) r in
     rw (le-ltb (length b) w long, value, rest) refl
 
-number_short : (w : ℕ) (b : List ℕ) (k : ℕ → List ℕ → Read) → length b < w → number_at w b k ≡ Err Truncated
+pub number_short : (w : ℕ) (b : List ℕ) (k : ℕ → List ℕ → Read) → length b < w → number_at w b k ≡ Err Truncated
 number_short w b k h = rw (lt-ltb (length b) w h) refl
 
 some_certificate : (n : ℕ) (r : List ℕ) → 0 < n → certificate_of n r ≡ bytes_at n r
 some_certificate zero r h = absurd (omega arith)
 some_certificate (suc n) r h = refl
 
-certificate_here : (c r b : List ℕ) → IsCertificate c → b ≡ vec 3 c ++ r → certificate_at b ≡ Ok r
+pub certificate_here : (c r b : List ℕ) → IsCertificate c → b ≡ vec 3 c ++ r → certificate_at b ≡ Ok r
 certificate_here c r b h e =
     number_here 3 (length c) (c ++ r) b certificate_of h.1 (e ∙ append_assoc (num 3 (length c)) c r) ∙ some_certificate (length c) (c ++ r) h.0
     ∙ bytes_here (length c) c r (c ++ r) refl refl
 
-certificate_empty : (r b : List ℕ) → b ≡ num 3 0 ++ r → certificate_at b ≡ Err EmptyVector
+pub certificate_empty : (r b : List ℕ) → b ≡ num 3 0 ++ r → certificate_at b ≡ Err EmptyVector
 certificate_empty r b e = number_here 3 0 r b certificate_of (omega arith) e
 
-entry_here : (e : SignedEntry) (r b : List ℕ) → IsEntry e → b ≡ entry_text e ++ r → entry_at b ≡ Ok r
+pub entry_here : (e : SignedEntry) (r b : List ℕ) → IsEntry e → b ≡ entry_text e ++ r → entry_at b ≡ Ok r
 entry_here (certificate c) r b h e =
     number_here 2 0 (vec 3 c ++ r) b entry_of (omega arith) (e ∙ append_assoc (num 2 0) (vec 3 c) r) ∙ certificate_here c r (vec 3 c ++ r) h refl
 entry_here (precertificate k c) r b h e =
@@ -115,13 +115,13 @@ entry_here (precertificate k c) r b h e =
     ∙ ap (λ x. then_read x certificate_at) (bytes_here 32 k (vec 3 c ++ r) ((k ++ vec 3 c) ++ r) h.0 (append_assoc k (vec 3 c) r))
     ∙ certificate_here c r (vec 3 c ++ r) h.1 refl
 
-entry_empty : (e : SignedEntry) (r b : List ℕ) → IsEntry e → b ≡ entry_front e ++ (num 3 0 ++ r) → entry_at b ≡ Err EmptyVector
+pub entry_empty : (e : SignedEntry) (r b : List ℕ) → IsEntry e → b ≡ entry_front e ++ (num 3 0 ++ r) → entry_at b ≡ Err EmptyVector
 entry_empty (certificate c) r b h e = number_here 2 0 (num 3 0 ++ r) b entry_of (omega arith) e ∙ certificate_empty r (num 3 0 ++ r) refl
 entry_empty (precertificate k c) r b h e =
     number_here 2 1 (k ++ (num 3 0 ++ r)) b entry_of (omega arith) (e ∙ append_assoc (num 2 1) k (num 3 0 ++ r))
     ∙ ap (λ x. then_read x certificate_at) (bytes_here 32 k (num 3 0 ++ r) (k ++ (num 3 0 ++ r)) h.0 refl) ∙ certificate_empty r (num 3 0 ++ r) refl
 
-other_entry : (n : ℕ) (r : List ℕ) → 1 < n → entry_of n r ≡ Err BadEntryType
+pub other_entry : (n : ℕ) (r : List ℕ) → 1 < n → entry_of n r ≡ Err BadEntryType
 other_entry zero r h = absurd (omega arith)
 other_entry (suc zero) r h = absurd (omega arith)
 other_entry (suc (suc n)) r h = refl
@@ -137,19 +137,19 @@ time_here t s = ap (λ x. then_read x after_time) (bytes_here 8 (num 8 t) s (num
 abbrev pub Cut : List (List ℕ) → Read → Type 0
 Cut gs res = (res ≡ Err Truncated) ⊎ ((s : List ℕ) × (res ≡ Ok s) × IsCut gs s)
 
-cut_same : (gs : List (List ℕ)) (x y : Read) → x ≡ y → Cut gs y → Cut gs x
+pub cut_same : (gs : List (List ℕ)) (x y : Read) → x ≡ y → Cut gs y → Cut gs x
 cut_same gs x y e (inl h) = inl (e ∙ h)
 cut_same gs x y e (inr v) = inr (v.0, e ∙ v.1, v.2)
 
-then_cut : (x : Read) (k : List ℕ → Read) (gs hs : List (List ℕ)) → Cut gs x → ((s : List ℕ) → IsCut gs s → Cut hs (k s)) → Cut hs (then_read x k)
+pub then_cut : (x : Read) (k : List ℕ → Read) (gs hs : List (List ℕ)) → Cut gs x → ((s : List ℕ) → IsCut gs s → Cut hs (k s)) → Cut hs (then_read x k)
 then_cut x k gs hs (inl h) f = inl (ap (λ y. then_read y k) h)
 then_cut x k gs hs (inr v) f = cut_same hs (then_read x k) (k v.0) (ap (λ y. then_read y k) v.1) (f v.0 v.2)
 
-bytes_cut : (n : ℕ) (x : List ℕ) (gs : List (List ℕ)) (r : List ℕ) → length x ≡ n → IsCut (x ∷ gs) r → Cut gs (bytes_at n r)
+pub bytes_cut : (n : ℕ) (x : List ℕ) (gs : List (List ℕ)) (r : List ℕ) → length x ≡ n → IsCut (x ∷ gs) r → Cut gs (bytes_at n r)
 bytes_cut n x gs r l (inl h) = inl (bytes_short n r (rw (← l) h))
 bytes_cut n x gs r l (inr v) = inr (v.0, bytes_here n x v.0 r l v.1, v.2)
 
-number_cut : (w n : ℕ) (gs hs : List (List ℕ)) (b : List ℕ) (k : ℕ → List ℕ → Read) → n < 256 ^ w → IsCut (num w n ∷ gs) b
+pub number_cut : (w n : ℕ) (gs hs : List (List ℕ)) (b : List ℕ) (k : ℕ → List ℕ → Read) → n < 256 ^ w → IsCut (num w n ∷ gs) b
     → ((s : List ℕ) → IsCut gs s → Cut hs (k n s)) → Cut hs (number_at w b k)
 number_cut w n gs hs b k h (inl s) f = inl (number_short w b k (rw (← length-num w n) s))
 number_cut w n gs hs b k h (inr v) f = cut_same hs (number_at w b k) (k n v.0) (number_here w n v.0 b k h v.1) (f v.0 v.2)
@@ -159,22 +159,22 @@ zero_cut f gs [] v = inl refl
 zero_cut f gs (x ∷ b) (inl h) = absurd (omega arith)
 zero_cut f gs (x ∷ b) (inr v) = inr (v.0, ap (zero_at f) v.1, v.2)
 
-certificate_cut : (c : List ℕ) (gs : List (List ℕ)) (r : List ℕ) → IsCertificate c → IsCut (num 3 (length c) ∷ c ∷ gs) r → Cut gs (certificate_at r)
+pub certificate_cut : (c : List ℕ) (gs : List (List ℕ)) (r : List ℕ) → IsCertificate c → IsCut (num 3 (length c) ∷ c ∷ gs) r → Cut gs (certificate_at r)
 certificate_cut c gs r h v =
     number_cut 3 (length c) (c ∷ gs) gs r certificate_of h.1 v
     (λ s cut. cut_same gs (certificate_of (length c) s) (bytes_at (length c) s) (some_certificate (length c) s h.0) (bytes_cut (length c) c gs s refl cut))
 
-vector_cut : (w : ℕ) (x : List ℕ) (gs : List (List ℕ)) (r : List ℕ) → length x < 256 ^ w → IsCut (num w (length x) ∷ x ∷ gs) r → Cut gs (number_at w r bytes_at)
+pub vector_cut : (w : ℕ) (x : List ℕ) (gs : List (List ℕ)) (r : List ℕ) → length x < 256 ^ w → IsCut (num w (length x) ∷ x ∷ gs) r → Cut gs (number_at w r bytes_at)
 vector_cut w x gs r h v = number_cut w (length x) (x ∷ gs) gs r bytes_at h v (λ s cut. bytes_cut (length x) x gs s refl cut)
 
-entry_cut : (e : SignedEntry) (gs : List (List ℕ)) (r : List ℕ) → IsEntry e → IsCut (entry_fields e ++ gs) r → Cut gs (entry_at r)
+pub entry_cut : (e : SignedEntry) (gs : List (List ℕ)) (r : List ℕ) → IsEntry e → IsCut (entry_fields e ++ gs) r → Cut gs (entry_at r)
 entry_cut (certificate c) gs r h v = number_cut 2 0 (num 3 (length c) ∷ c ∷ gs) gs r entry_of (omega arith) v (λ s cut. certificate_cut c gs s h cut)
 entry_cut (precertificate k c) gs r h v =
     number_cut 2 1 (k ∷ num 3 (length c) ∷ c ∷ gs) gs r entry_of (omega arith) v (λ s cut.
     then_cut (bytes_at 32 s) certificate_at (num 3 (length c) ∷ c ∷ gs) gs (bytes_cut 32 k (num 3 (length c) ∷ c ∷ gs) s h.0 cut)
     (λ u rest. certificate_cut c gs u h.1 rest))
 
-cut_at_last : (x : Read) → Cut [] x → x ≡ Err Truncated
+pub cut_at_last : (x : Read) → Cut [] x → x ≡ Err Truncated
 cut_at_last x (inl h) = h
 cut_at_last x (inr v) = absurd v.2
 
@@ -273,7 +273,7 @@ passed_certificates (c ∷ cs) (suc n) y s all e h =
     ∙ ap (λ x. then_read x (certificates_at n)) (certificate_here c (chain_bytes cs ++ s) y all.0 whole) in
     (rest.0, rest.1, step ∙ rest.2)
 
-certificate_verdict : (f : DecodeFault) (s : List ℕ) → VectorFaulty f s → certificate_at s ≡ Err f
+pub certificate_verdict : (f : DecodeFault) (s : List ℕ) → VectorFaulty f s → certificate_at s ≡ Err f
 certificate_verdict Truncated s v = cut_at_last (certificate_at s) (certificate_cut v.0 [] s v.1 v.2)
 certificate_verdict EmptyVector s v = certificate_empty v.0 s v.1
 certificate_verdict BadVersion s v = absurd v

@@ -38,9 +38,19 @@ abbrev pub signed_of : SignedEntry → List ℕ
 signed_of (certificate c) = c
 signed_of (precertificate k c) = c
 
+-- the bytes of the timestamped entry (TimestampedEntry, RFC 6962, 3.4) with timestamp t, entry e and extensions x: the timestamp in
+-- eight bytes, the entry type and the signed entry, and the extensions as a vector
+abbrev pub timestamped_text : ℕ → SignedEntry → List ℕ → List ℕ
+timestamped_text t e x = num 8 t ++ (entry_text e ++ vec 2 x)
+
 -- the bytes of the leaf with timestamp t, entry e and extensions x
 abbrev pub leaf_text : ℕ → SignedEntry → List ℕ → List ℕ
-leaf_text t e x = 0 ∷ 0 ∷ (num 8 t ++ (entry_text e ++ vec 2 x))
+leaf_text t e x = 0 ∷ 0 ∷ timestamped_text t e x
+
+-- the extensions of a leaf whose index in the log is i, where they name it and nothing else (leaf_index, C2SP static-ct-api): the
+-- extension type 0 in one byte, and the index in five bytes as a vector
+abbrev pub index_extension : ℕ → List ℕ
+index_extension i = 0 ∷ vec 2 (num 5 i)
 
 -- b is the text of the leaf with timestamp t, entry e and extensions x, all in range: t is below 2^64, the entry in range, x shorter than
 -- 2^16 bytes (RFC 6962, section 3.4)

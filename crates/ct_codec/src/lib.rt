@@ -4,9 +4,12 @@
 //!   its issuer's key and its TBSCertificate. `Item` is one that was accepted.
 //! - `identity`, `leaf_input` and `extra_data` write its bytes (RFC 6962 sections 3.1, 3.4 and 4.6), numbers by `byteorder`.
 //!   `same_identity` compares two submissions by their identities, and writes none.
+//! - `leaf_input_with_extensions` and `push_timestamped_entry` write a leaf with extensions, and `index_extension` those that name its
+//!   index in the log (C2SP static-ct-api). The same extensions stand in the leaf, under the signature and in the receipt.
 //! - `decode_leaf`, `decode_chain` and `decode_pre_chain` read a leaf of either entry type, a chain, and a precertificate with its
 //!   chain from bytes. Where the bytes are none they answer the first fault from the left, before any memory is taken: the walk over
 //!   the input (`lend_leaf`, `last_chain`) has no allocator. `lend_leaf` reads a leaf where it stands, for who needs no copy.
+//!   `Reader` and `entry_at` read the fields that other formats have in common with a leaf.
 //! - `tree_head_signature_input` and `certificate_timestamp_signature_input` write what a log signs (sections 3.5 and 3.2).
 //! - `Refusal` has every reason for which a call of the log is refused.
 //! - The functions of [`laws`] do nothing: their contracts are laws of the formats.
@@ -18,7 +21,7 @@
 mod fault;
 mod item;
 pub mod laws;
-mod numbers;
+pub mod numbers;
 mod parts;
 mod reader;
 mod reading;
@@ -30,10 +33,18 @@ mod writing;
 pub use fault::DecodeFault;
 pub use item::Item;
 pub use parts::{LeafParts, leaf_parts};
+pub use reader::Reader;
 pub use reading::{
-    Leaf, LeafEntry, LentEntry, LentLeaf, decode_chain, decode_leaf, decode_pre_chain, lend_leaf,
+    Leaf, LeafEntry, LentEntry, LentLeaf, decode_chain, decode_leaf, decode_pre_chain, entry_at,
+    lend_leaf,
 };
 pub use refusal::Refusal;
-pub use signing::{certificate_timestamp_signature_input, tree_head_signature_input};
+pub use signing::{
+    certificate_timestamp_signature_input, certificate_timestamp_signature_input_with_extensions,
+    tree_head_signature_input,
+};
 pub use submission::Submission;
-pub use writing::{extra_data, identity, leaf_input, same_identity};
+pub use writing::{
+    extra_data, identity, index_extension, leaf_input, leaf_input_with_extensions,
+    push_precertificate, push_timestamped_entry, push_vector, same_identity,
+};

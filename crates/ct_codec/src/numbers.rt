@@ -28,6 +28,18 @@ pub fn number_bytes_3(n: u32) -> [u8; 3]
     bytes
 }
 
+/// A number in five bytes.
+#[tactic(auto, unfolding(crate::specs::Bytes::num))]
+pub fn number_bytes_5(n: u64) -> [u8; 5]
+    requires { n < 2 ^ 40 }
+    ensures { result ≡ num 5 n }
+{
+    let mut bytes = [0u8; 5];
+    let place: &mut [u8] = &mut bytes;
+    BigEndian::write_uint(place, n, 5);
+    bytes
+}
+
 /// A number in eight bytes.
 #[tactic(auto, unfolding(crate::specs::Bytes::num))]
 pub fn number_bytes_8(n: u64) -> [u8; 8]
@@ -53,6 +65,15 @@ pub fn number_of_3(bytes: &[u8; 3]) -> u32
     ensures fits { result < 2 ^ 24 }
 {
     u32::from_be_bytes([0, bytes[0], bytes[1], bytes[2]])
+}
+
+/// The number that stands in five bytes.
+#[tactic(auto, unfolding(crate::specs::Bytes::num))]
+pub fn number_of_5(bytes: &[u8; 5]) -> u64
+    ensures value { num 5 result ≡ bytes.now }
+    ensures fits { result < 2 ^ 40 }
+{
+    u64::from_be_bytes([0, 0, 0, bytes[0], bytes[1], bytes[2], bytes[3], bytes[4]])
 }
 
 /// The number that stands in eight bytes.

@@ -77,8 +77,10 @@ fn timestamp_at(reader: &mut Reader<'_>) -> Result<u64, DecodeFault>
     Ok(timestamp)
 }
 
-// The entry type and the signed entry.
-fn entry_at<'a>(reader: &mut Reader<'a>) -> Result<LentEntry<'a>, DecodeFault>
+/// The entry type and the signed entry, read from the front, where they stand. It takes no memory.
+///
+/// The fault is the first from the left, and never `Memory`.
+pub fn entry_at<'a>(reader: &mut Reader<'a>) -> Result<LentEntry<'a>, DecodeFault>
     ensures found { IfOk result (λ e. IsEntry (entry_lent e) × (reader.old ≡ entry_text (entry_lent e) ++ reader.new)) }
     ensures fault { IfErr result (λ f. EntryFaulty f reader.old) }
     ensures named { IfErr result (λ f. f ≢ Memory) }

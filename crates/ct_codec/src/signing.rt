@@ -1,13 +1,13 @@
 //! The bytes that a log signs (RFC 6962 sections 3.2 and 3.5). The signature itself is made by who holds the log's key.
 
-ghost use Rattle.std.specs.Prelude.{◌≡◌, [], IfOk, IsOkUnless};
+ghost use Rattle.std.specs.Prelude.{◌≡◌, ◌<◌, ◌^◌, [], length, IfOk, IsOkUnless};
 ghost use Rattle.ct_codec.specs.Submitted.{entry_of};
 ghost use Rattle.ct_codec.specs.Signed.{tree_head_text, timestamp_text};
 
 use crate::numbers::number_bytes_8;
 use crate::refusal::Refusal;
 use crate::submission::Submission;
-use crate::writing::leaf_input;
+use crate::writing::{leaf_input, leaf_input_with_extensions};
 use std::alloc::Allocator;
 
 /// What stands under the signature of a tree head (TreeHeadSignature, RFC 6962 section 3.5): its 50 bytes, for the moment at which the
@@ -27,6 +27,22 @@ pub fn tree_head_signature_input<A: Allocator>(
     bytes.extend_from_slice(&number_bytes_8(tree_size))?;
     bytes.extend_from_slice(root)?;
     Ok(bytes)
+}
+
+/// What stands under the signature of a signed certificate timestamp (RFC 6962 section 3.2) for the submission at this moment, in
+/// milliseconds, with these extensions, at most 65,535 bytes. These are the bytes of its leaf with the same extensions
+/// ([`crate::laws::signed_timestamps_are_leaves`]).
+pub fn certificate_timestamp_signature_input_with_extensions<A: Allocator, S: Allocator>(
+    alloc: A,
+    submission: &Submission<S>,
+    timestamp: u64,
+    extensions: &[u8],
+) -> Result<Vec<u8, A>, Refusal>
+    requires { length extensions.now < 2 ^ 16 }
+    ensures text { IfOk result (λ b. b.items ≡ timestamp_text timestamp (entry_of submission.now) extensions.now) }
+    ensures memory { IsOkUnless result Refusal.Memory }
+{
+    leaf_input_with_extensions(alloc, submission, timestamp, extensions)
 }
 
 /// What stands under the signature of a signed certificate timestamp (RFC 6962 section 3.2) for the submission at this moment, in

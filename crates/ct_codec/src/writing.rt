@@ -3,16 +3,16 @@
 ghost use Rattle.std.specs.Prelude.{◌≡◌, ◌<◌, ◌^◌, ◌++◌, [], List, map, length, IfOk, OnOk, IsOkUnless};
 ghost use Rattle.std.specs.Str.{bytes_eq};
 ghost use Rattle.ct_codec.specs.Bytes.{vec};
-ghost use Rattle.ct_codec.specs.Leaf.{chain_bytes, LeafText, type_of, key_hash_of};
+ghost use Rattle.ct_codec.specs.Leaf.{chain_bytes, LeafText, timestamped_text, index_extension, type_of, key_hash_of};
 ghost use Rattle.ct_codec.specs.Submitted.{entry_of, identity_of, precertificate_text, ExtraData};
 
-use crate::numbers::{number_bytes_2, number_bytes_3, number_bytes_8};
+use crate::numbers::{number_bytes_2, number_bytes_3, number_bytes_5, number_bytes_8};
 use crate::refusal::Refusal;
 use crate::submission::Submission;
 use std::alloc::Allocator;
 
-// Writes a certificate or TBSCertificate: its length in three bytes, and its bytes.
-fn push_vector<A: Allocator>(out: &mut Vec<u8, A>, bytes: &[u8]) -> Result<(), Refusal>
+/// Writes a certificate or TBSCertificate: its length in three bytes, and its bytes.
+pub fn push_vector<A: Allocator>(out: &mut Vec<u8, A>, bytes: &[u8]) -> Result<(), Refusal>
     requires { length bytes.now < 2 ^ 24 }
     ensures written { OnOk result (out.new.items ≡ out.old.items ++ vec 3 bytes.now) }
     ensures memory { IsOkUnless result Refusal.Memory }
@@ -72,6 +72,44 @@ pub fn same_identity<A: Allocator, B: Allocator>(a: &Submission<A>, b: &Submissi
     a_type == b_type && a_key_hash == b_key_hash && a.signed() == b.signed()
 }
 
+/// Writes the timestamped entry (TimestampedEntry, RFC 6962 section 3.4) of the submission at this moment, in milliseconds, with these
+/// extensions, at most 65,535 bytes.
+pub fn push_timestamped_entry<A: Allocator, S: Allocator>(
+    out: &mut Vec<u8, A>,
+    submission: &Submission<S>,
+    timestamp: u64,
+    extensions: &[u8],
+) -> Result<(), Refusal>
+    requires { length extensions.now < 2 ^ 16 }
+    ensures written { OnOk result (out.new.items ≡ out.old.items ++ timestamped_text timestamp (entry_of submission.now) extensions.now) }
+    ensures memory { IsOkUnless result Refusal.Memory }
+{
+    out.extend_from_slice(&number_bytes_8(timestamp))?;
+    push_entry(out, submission)?;
+    out.extend_from_slice(&number_bytes_2(extensions.len() as u16))?;
+    out.extend_from_slice(extensions)?;
+    Ok(())
+}
+
+/// The bytes of the submission's leaf (MerkleTreeLeaf, RFC 6962 section 3.4) at this moment, in milliseconds, with these extensions, at
+/// most 65,535 bytes.
+pub fn leaf_input_with_extensions<A: Allocator, S: Allocator>(
+    alloc: A,
+    submission: &Submission<S>,
+    timestamp: u64,
+    extensions: &[u8],
+) -> Result<Vec<u8, A>, Refusal>
+    requires { length extensions.now < 2 ^ 16 }
+    ensures text { IfOk result (λ b. LeafText timestamp (entry_of submission.now) extensions.now b.items) }
+    ensures memory { IsOkUnless result Refusal.Memory }
+{
+    submission.in_range();
+    let mut bytes = Vec::new(alloc);
+    bytes.extend_from_slice(&[0, 0])?;
+    push_timestamped_entry(&mut bytes, submission, timestamp, extensions)?;
+    Ok(bytes)
+}
+
 /// The bytes of the submission's leaf (MerkleTreeLeaf, RFC 6962 section 3.4) at this moment, in milliseconds, with no extensions.
 pub fn leaf_input<A: Allocator, S: Allocator>(
     alloc: A,
@@ -81,13 +119,17 @@ pub fn leaf_input<A: Allocator, S: Allocator>(
     ensures text { IfOk result (λ b. LeafText timestamp (entry_of submission.now) [] b.items) }
     ensures memory { IsOkUnless result Refusal.Memory }
 {
-    submission.in_range();
-    let mut bytes = Vec::new(alloc);
-    bytes.extend_from_slice(&[0, 0])?;
-    bytes.extend_from_slice(&number_bytes_8(timestamp))?;
-    push_entry(&mut bytes, submission)?;
-    bytes.extend_from_slice(&number_bytes_2(0))?;
-    Ok(bytes)
+    leaf_input_with_extensions(alloc, submission, timestamp, &[])
+}
+
+/// The extensions of a leaf that name its index in the log and nothing else (leaf_index, C2SP static-ct-api), for an index below 2^40.
+#[tactic(auto, unfolding(crate::specs::Bytes::num))]
+pub fn index_extension(index: u64) -> [u8; 8]
+    requires { index < 2 ^ 40 }
+    ensures { result ≡ index_extension index }
+{
+    let i = number_bytes_5(index);
+    [0, 0, 5, i[0], i[1], i[2], i[3], i[4]]
 }
 
 // The number of bytes of the certificates one after the other, each as a vector.
@@ -118,8 +160,8 @@ fn push_chain<A: Allocator, S: Allocator>(
     Ok(())
 }
 
-// Writes the precertificate as a vector, where one was submitted.
-fn push_precertificate<A: Allocator, S: Allocator>(
+/// Writes the precertificate as a vector, where one was submitted.
+pub fn push_precertificate<A: Allocator, S: Allocator>(
     out: &mut Vec<u8, A>,
     submission: &Submission<S>,
 ) -> Result<(), Refusal>

@@ -1,7 +1,7 @@
 //! A follower, who keeps none of a log's leaves and follows its tree heads.
 ghost use Rattle.std.specs.Prelude.{◌≡◌, ◌+◌, ◌<◌, ◌^◌, List, ℕ, [], ◌++◌, length, map, IfErr, IfOk, MatchResult, OnErr, OnOk, Some, None};
 ghost use Rattle.ct_tree.specs.Stack.{Stands};
-ghost use Rattle.ct_tree.specs.Tree.{hash_leaf};
+ghost use Rattle.ct_tree.specs.Tree.{hash_leaf, mth_of_leaves};
 ghost use Rattle.ct_monitor.specs.Heads.{IsHeadOfAll};
 ghost use Rattle.ct_monitor.specs.Observed.{IsCounted, IsInOrder, RefusesHead};
 ghost use Rattle.ct_monitor.specs.FollowerState.{FollowerState, Follows, keeping};
@@ -114,6 +114,9 @@ impl<H: NodeHash + Drop, A: Allocator + Clone> Follower<H, A> {
             → Stands H.digest p (map (hash_leaf H.digest) (D ++ map (λ l. l.items) new_entries.now))) }
         ensures root { IfOk result (λ p. (D : List (List ℕ)) → Follows H.digest self.now D
             → IsHeadOfAll H.digest (D ++ map (λ l. l.items) new_entries.now) head.now) }
+        ensures root_of_any { OnOk result ((D : List (List ℕ)) → length D + length new_entries.now < 2 ^ 64
+            → Stands H.digest self.now.peaks (map (hash_leaf H.digest) D)
+            → head.now.root ≡ mth_of_leaves H.digest (D ++ map (λ l. l.items) new_entries.now)) }
         ensures refused { IfErr result (λ f. (D : List (List ℕ)) → Follows H.digest self.now D
             → RefusesHead H.digest (keeping D self.now) head.now (map (λ l. l.items) new_entries.now) f) }
     {
@@ -122,7 +125,8 @@ impl<H: NodeHash + Drop, A: Allocator + Clone> Follower<H, A> {
     }
 
     /// Takes in a tree head and the leaves that are new in it, in order. Hashes each new leaf and one node on average for
-    /// each, and at most 64 nodes for the root. The same head again, without new leaves, is taken.
+    /// each, and at most 64 nodes for the root. The same head again, without new leaves, is taken. A head is taken only
+    /// with the root of the leaves that the subtrees stand for and the new ones, whatever the last head was.
     ///
     /// # Errors
     /// Those that [`Monitor::observe`](crate::Monitor::observe) answers where it keeps the leaves, in its order. An error
@@ -137,6 +141,9 @@ impl<H: NodeHash + Drop, A: Allocator + Clone> Follower<H, A> {
         ensures last_head { OnOk result (self.new.last_head ≡ Some head) }
         ensures root { OnOk result ((D : List (List ℕ)) → Follows H.digest self.old D
             → IsHeadOfAll H.digest (D ++ map (λ l. l.items) new_entries.now) head) }
+        ensures root_of_any { OnOk result ((D : List (List ℕ)) → length D + length new_entries.now < 2 ^ 64
+            → Stands H.digest self.old.peaks (map (hash_leaf H.digest) D)
+            → head.root ≡ mth_of_leaves H.digest (D ++ map (λ l. l.items) new_entries.now)) }
         ensures in_order { OnOk result ((D : List (List ℕ)) → Follows H.digest self.old D → IsInOrder (keeping D self.old) head) }
         ensures refused { IfErr result (λ f. (D : List (List ℕ)) → Follows H.digest self.old D
             → RefusesHead H.digest (keeping D self.old) head (map (λ l. l.items) new_entries.now) f) }

@@ -8,14 +8,14 @@ use Rattle.std.proofs.lemmas.List.{length-take-le}
 use Rattle.std.proofs.lemmas.List.Elements.{All-nil, All-cons, All-head, All-tail}
 use Rattle.ct_tree.proofs.Split.{split_pos, split_lt}
 use Rattle.ct_tree.specs.Tree.{split, mth_of_leaves}
-use Rattle.ct_verify.proofs.Clashes.{along_collides, along_begins}
+use Rattle.ct_verify.proofs.Clashes.{lists_collide, lists_same, along_collides, along_begins}
 use Rattle.ct_verify.proofs.Shown.{Shows, evid_shows}
 use Rattle.ct_verify.proofs.Walking.{short, inner_left, inner_right}
 use Rattle.ct_verify.specs.Clash.{clash, root_string, ClashOfLists, leaf, node, ClashAlong, whole, left, right}
 use Rattle.ct_verify.specs.ConsistencyEvidence.{IsAcceptedFor, IsBeginning}
 use Rattle.ct_verify.specs.Evidence.{Collides, IsAudited, evid}
 use Rattle.ct_verify.specs.InclusionEvidence.{IsAccepted}
-use Rattle.ct_verify.specs.Laws.{AreHashes, SomeCollide, PathTells, ProofTells}
+use Rattle.ct_verify.specs.Laws.{AreHashes, SomeCollide, PathTells, ProofTells, RootTells}
 use Rattle.ct_verify.specs.Rebuild.{both_roots}
 
 -- the last of some hashes
@@ -133,3 +133,18 @@ path_tells H hash_length D t m p accepted = told (evid H D t m p) (evid_shows H 
     told : (found : Option (List ℕ × List ℕ)) → Shows H (IsAudited H D t m p) found → IsAudited H D t m p ⊎ SomeCollide H
     told None s = inl s
     told (Some z) s = inr (z.0, z.1, s)
+
+none_of : (E : List (List ℕ)) → length E ≡ 0 → E ≡ []
+none_of [] l = refl
+none_of (e ∷ E) l = absurd (omega (arith, l))
+
+pub root_tells : RootTells
+root_tells H hash_length E D same roots =
+    ⊎_elim
+    (λ (some : 0 < length E). let s = lists_searched H (length D) E D (omega arith) some same in told s.0 s.1)
+    (λ (none : length E ≤ 0). inl (none_of E (omega arith) ∙ sym (none_of D (omega arith))))
+    (cases_lt 0 (length E))
+  where
+    told : (found : Option (List ℕ × List ℕ)) → ClashOfLists H E D found → (E ≡ D) ⊎ SomeCollide H
+    told None c = inl (lists_same H hash_length E D None c refl roots)
+    told (Some z) c = inr (z.0, z.1, lists_collide H E D (Some z) z c refl)

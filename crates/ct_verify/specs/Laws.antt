@@ -112,6 +112,13 @@ ProofTells =
     (H : List ℕ → List ℕ) → ((x : List ℕ) → length (H x) ≡ 32) → (E D p : List (List ℕ)) → AreHashes p
     → IsAcceptedFor H E D p → IsBeginning E D ⊎ SomeCollide H
 
+-- two lists of one length with one root are one list; or two different strings with one hash are given. The hashes of H have 32
+-- bytes
+abbrev pub RootTells : Type 0
+RootTells =
+    (H : List ℕ → List ℕ) → ((x : List ℕ) → length (H x) ≡ 32) → (E D : List (List ℕ)) → length E ≡ length D
+    → mth_of_leaves H E ≡ mth_of_leaves H D → (E ≡ D) ⊎ SomeCollide H
+
 -- a PROOF leads to MTH of the first m leaves and of all
 abbrev pub ProofRebuilds : Type 0
 ProofRebuilds =

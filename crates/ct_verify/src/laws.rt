@@ -1,6 +1,6 @@
 //! The laws of the definitions that the verifiers' contracts name, each a clause of a function that does nothing. A
 //! reader who believes these need not read how `specs/Rebuild.antt` reads a path from its end.
-ghost use Rattle.ct_verify.specs.Laws.{RebuildOfOne, RebuildInLeft, RebuildInRight, RebuildDefined, BothOfKnown, BothOfUnknown, BothInLeft, BothInRight, BothDefined, PathRebuilds, PathAccepted, PathNotRefused, PathOneRefusal, PathHolds, PathTells, ProofRebuilds, ProofAccepted, ProofNotRefused, ProofOneRefusal, ProofTells};
+ghost use Rattle.ct_verify.specs.Laws.{RebuildOfOne, RebuildInLeft, RebuildInRight, RebuildDefined, BothOfKnown, BothOfUnknown, BothInLeft, BothInRight, BothDefined, PathRebuilds, PathAccepted, PathNotRefused, PathOneRefusal, PathHolds, PathTells, ProofRebuilds, ProofAccepted, ProofNotRefused, ProofOneRefusal, ProofTells, RootTells};
 
 /// The root that an audit path gives to a leaf hash, from the root of the tree down.
 #[tactic(auto, using(crate::proofs::Equations::rebuild_of_one, crate::proofs::Equations::rebuild_in_left, crate::proofs::Equations::rebuild_in_right, crate::proofs::Equations::rebuild_defined))]
@@ -44,4 +44,10 @@ pub fn proof()
     ensures not_refused { ProofNotRefused }
     ensures one_refusal { ProofOneRefusal }
     ensures tells { ProofTells }
+{}
+
+/// A root and a number of leaves stand for one list, or two different strings with one hash are given.
+#[tactic(auto, using(crate::proofs::Telling::root_tells))]
+pub fn root()
+    ensures { RootTells }
 {}

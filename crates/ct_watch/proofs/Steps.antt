@@ -1,12 +1,14 @@
 -- What a watcher stands for after a step.
 use Rattle.std.proofs.Common.{◌≡◌, ◌⊎◌, ◌∙◌, ◌≤◌, ◌-◌, ℕ, List, ◌++◌, length, map, take, Option, Some, None, Vec, Global, arith, sym, refl, ap, subst, inl, inr}
 use Rattle.std.proofs.Common.{Ok, Err, Result, IfOk}
+use Rattle.std.proofs.lemmas.Option.{same_Some}
+use Rattle.ct_monitor.specs.Heads.{IsHeadOfAll}
 use Rattle.std.proofs.lemmas.List.{append_assoc, map-append, take-map, take_all, length-map}
 use Rattle.ct_tree.specs.Stack.{Stands}
 use Rattle.ct_tree.specs.Tree.{hash_leaf}
 use Rattle.ct_tree.specs.declared.head.Head.{Head}
-use Rattle.ct_watch.specs.Watched.{Watched, leaves_read, read_on, after_verdict}
-use Rattle.ct_watch.specs.Verdicts.{IsSaid, WaitingSays, EntriesSay, after_entries}
+use Rattle.ct_watch.specs.Watched.{Watched, leaves_read, read_on, with_more, after_verdict}
+use Rattle.ct_watch.specs.Verdicts.{IsSaid, LeavesSay, WaitingSays, EntriesSay, after_entries}
 use Rattle.ct_watch.specs.WatcherState.{WatcherState, Keeps}
 use Rattle.ct_watch.specs.declared.verdict.Verdict.{Verdict}
 use Rattle.ct_watch.specs.declared.verdict.Verdict.TheVariants.{Accepted, Pending, Again, Stale, Shrunk, Fork, RootMismatch, Gap, Consistent, Inconsistent}
@@ -26,12 +28,6 @@ said_changes_nothing w waiting (Some known) head Gap s = absurd s
 said_changes_nothing w waiting (Some known) head Consistent s = absurd s
 said_changes_nothing w waiting (Some known) head (Inconsistent fault) s = absurd s
 
--- subtrees of the leaves A ++ B, and then of T behind them
-pub joined : (H : List ℕ → List ℕ) (A B T : List (List ℕ)) (subtrees : ℕ × List (List ℕ))
-    → Stands H subtrees (map (hash_leaf H) (A ++ B) ++ map (hash_leaf H) T)
-    → Stands H subtrees (map (hash_leaf H) (A ++ (B ++ T)))
-joined H A B T subtrees s = rw (← append_assoc A B T, map-append (hash_leaf H) (A ++ B) T) s
-
 abbrev bytes : Vec ℕ Global → List ℕ
 bytes l = l.items
 
@@ -43,17 +39,25 @@ as_far_as leaves count room (inr e) =
     rw (e.1, take_all (length leaves) leaves (omega arith), take_all room (map bytes leaves) (omega (arith, e.0, length-map leaves bytes))) refl
 
 -- the subtrees with T behind them, where T is what there is of the leaves E as far as the head goes
-pub keeps_read_on : (H : List ℕ → List ℕ) (old : WatcherState) (w : Watched) (head : Head) (E T : List (List ℕ)) (longer : ℕ × List (List ℕ)) → Keeps H old w
-    → T ≡ take (head.tree_size - old.all.0) E → Stands H longer (map (hash_leaf H) (leaves_read w) ++ map (hash_leaf H) T)
+pub stands_read_on : (H : List ℕ → List ℕ) (old : ℕ × List (List ℕ)) (D : List (List ℕ)) (head : Head) (E T : List (List ℕ)) (longer : ℕ × List (List ℕ))
+    → Stands H old (map (hash_leaf H) D) → T ≡ take (head.tree_size - old.0) E → Stands H longer (map (hash_leaf H) D ++ map (hash_leaf H) T)
+    → Stands H longer (map (hash_leaf H) (with_more D head E))
+stands_read_on H old D head E T longer d t s =
+    let size : old.0 ≡ length D = d.size ∙ length-map D (hash_leaf H) in
+    let e : T ≡ take (head.tree_size - length D) E = t ∙ ap (λ n. take (head.tree_size - n) E) size in
+    let joined : Stands H longer (map (hash_leaf H) (D ++ T)) = rw (map-append (hash_leaf H) D T) s in
+    subst (λ (X : List (List ℕ)). Stands H longer (map (hash_leaf H) (D ++ X))) e joined
+
+pub keeps_read_on : (H : List ℕ → List ℕ) (old : WatcherState) (w : Watched) (head : Head) (E : List (List ℕ)) (longer : ℕ × List (List ℕ)) → Keeps H old w
+    → Stands H longer (map (hash_leaf H) (with_more (leaves_read w) head E))
     → Keeps H (record old { all = longer }) (read_on w head E)
-keeps_read_on H old w head E T longer k t s =
-    let size : old.all.0 ≡ length (leaves_read w) = k.all.size ∙ length-map (leaves_read w) (hash_leaf H) in
-    let e : T ≡ take (head.tree_size - length (leaves_read w)) E = t ∙ ap (λ n. take (head.tree_size - n) E) size in
+keeps_read_on H old w head E longer k s =
+    let T = take (head.tree_size - length (leaves_read w)) E in
     record {
       accepted = k.accepted;
       waiting = k.waiting;
       sure = k.sure;
-      all = joined H w.sure w.ahead (take (head.tree_size - length (leaves_read w)) E) longer (rw (← e) s);
+      all = subst (λ (X : List (List ℕ)). Stands H longer (map (hash_leaf H) X)) (append_assoc w.sure w.ahead T) s;
     }
 
 -- what is left after entries, where they began in the right place
@@ -93,3 +97,17 @@ entries_keep H old new head E longer (Ok v) waits keeps says stands = λ w k.
     subst (λ o. Keeps H new (after_entries w o E v)) (sym e)
     (subst (Keeps H new) (after_read H w head E v (says next (keeps w k))) (stands next (keeps w k)))
 entries_keep H old new head E longer (Err f) waits keeps says stands = says
+
+-- entries that a head waits for, where that is accepted: its root is that of the leaves that the subtrees stand for and these
+pub entries_compared : {F : Type 0} (H : List ℕ → List ℕ) (old : WatcherState) (head : Head) (E : List (List ℕ))
+    (longer : ℕ × List (List ℕ)) (r : Result Verdict F)
+    → old.waiting ≡ Some head
+    → ((D : List (List ℕ)) → Stands H old.all (map (hash_leaf H) D) → Stands H longer (map (hash_leaf H) (with_more D head E)))
+    → IfOk r (λ v. (D : List (List ℕ)) → Stands H longer (map (hash_leaf H) D) → LeavesSay H D head v)
+    → IfOk r (λ v. v ≡ Accepted → (known : Head) → old.waiting ≡ Some known → (D : List (List ℕ)) → Stands H old.all (map (hash_leaf H) D)
+    → IsHeadOfAll H (with_more D known E) known)
+entries_compared H old head E longer (Ok v) waits stands says = λ e known is D d.
+    let same : head ≡ known = same_Some head known (sym waits ∙ is) in
+    let all = with_more D head E in
+    subst (λ (k : Head). IsHeadOfAll H (with_more D k E) k) same (subst (LeavesSay H all head) e (says all (stands D d)))
+entries_compared H old head E longer (Err f) waits stands says = says

@@ -34,12 +34,17 @@ abbrev pub IsLarger : Option Head → Head → Type 0
 IsLarger None head = ⊤
 IsLarger (Some known) head = known.tree_size < head.tree_size
 
+-- a head beside the leaves D: accepted, where it is that of D; a root mismatch, where it has their number and another root than
+-- theirs, which is told; pending, where it has another number
+abbrev pub LeavesSay : (List ℕ → List ℕ) → List (List ℕ) → Head → Verdict → Type 0
+LeavesSay H D head Accepted = (head.tree_size ≡ length D) × (head.root ≡ mth_of_leaves H D)
+LeavesSay H D head (RootMismatch root) = (head.tree_size ≡ length D) × (root ≡ mth_of_leaves H D) × (¬ (head.root ≡ root))
+LeavesSay H D head Pending = ¬ (head.tree_size ≡ length D)
+LeavesSay H D head v = ⊥
+
 -- the waiting head beside all leaves that were read
 abbrev pub WaitingSays : (List ℕ → List ℕ) → Watched → Head → Verdict → Type 0
-WaitingSays H w head Accepted = (head.tree_size ≡ length (leaves_read w)) × (head.root ≡ mth_of_leaves H (leaves_read w))
-WaitingSays H w head (RootMismatch root) = (head.tree_size ≡ length (leaves_read w)) × (root ≡ mth_of_leaves H (leaves_read w)) × (¬ (head.root ≡ root))
-WaitingSays H w head Pending = ¬ (head.tree_size ≡ length (leaves_read w))
-WaitingSays H w head v = ⊥
+WaitingSays H w head v = LeavesSay H (leaves_read w) head v
 
 -- the verdict on a head: beside the accepted one, then beside the waiting one; where it is larger than both, the verdict on the one that
 -- waits now

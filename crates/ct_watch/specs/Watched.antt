@@ -22,6 +22,10 @@ abbrev pub waiting_or : Option Head → Head → Head
 waiting_or None head = head
 waiting_or (Some waiting) head = waiting
 
+-- the leaves D, and behind them those of E as far as the head goes
+abbrev pub with_more : List (List ℕ) → Head → List (List ℕ) → List (List ℕ)
+with_more D head E = D ++ take (head.tree_size - length D) E
+
 -- the leaves E are read, as far as the head goes
 abbrev pub read_on : Watched → Head → List (List ℕ) → Watched
 read_on w head E = record w { ahead = w.ahead ++ take (head.tree_size - length (leaves_read w)) E }

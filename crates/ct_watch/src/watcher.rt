@@ -1,7 +1,12 @@
 //! Who watches one log.
-ghost use Rattle.std.specs.Prelude.{◌≡◌, ◌⊎◌, ◌+◌, ◌-◌, ◌^◌, ◌<◌, ◌≤◌, ℕ, List, map, IfOk, MatchOption, OnErr};
-ghost use Rattle.ct_watch.specs.Watched.{Watched, after_verdict, nothing_seen, read_on, waiting_or};
-ghost use Rattle.ct_watch.specs.Verdicts.{EntriesSay, HeadSays, IsLarger, IsSaid, ProofSays, WaitingSays, after_entries};
+ghost use Rattle.std.specs.Prelude.{◌≡◌, ◌⊎◌, ◌+◌, ◌-◌, ◌^◌, ◌<◌, ◌≤◌, ℕ, List, map, IfOk, MatchOption, OnErr, Some};
+ghost use Rattle.ct_tree.specs.Stack.{Stands};
+ghost use Rattle.ct_tree.specs.Tree.{hash_leaf};
+ghost use Rattle.ct_tree.specs.declared.head.Head.{Head};
+ghost use Rattle.ct_monitor.specs.Heads.{IsHeadOfAll};
+ghost use Rattle.ct_watch.specs.declared.verdict.Verdict.TheVariants.{Accepted};
+ghost use Rattle.ct_watch.specs.Watched.{Watched, after_verdict, nothing_seen, read_on, waiting_or, with_more};
+ghost use Rattle.ct_watch.specs.Verdicts.{EntriesSay, HeadSays, IsLarger, IsSaid, LeavesSay, ProofSays, WaitingSays, after_entries};
 ghost use Rattle.ct_watch.specs.WatcherState.{Keeps, WatcherState};
 
 use crate::verdict::Verdict;
@@ -129,8 +134,10 @@ impl<H: NodeHash + Drop> Watcher<H> {
 
     // The subtrees of all leaves that were read and these, as far as the head goes.
     fn longer(&self, head: Head, leaves: &[Vec<u8>]) -> Result<Peaks, AllocError>
-        ensures { IfOk result (λ p. (w : Watched) → Keeps H.digest self.now w
+        ensures keeps { IfOk result (λ p. (w : Watched) → Keeps H.digest self.now w
             → Keeps H.digest (record self.now { all = p }) (read_on w head (map (λ l. l.items) leaves.now))) }
+        ensures stands { IfOk result (λ p. (D : List (List ℕ)) → Stands H.digest self.now.all (map (hash_leaf H.digest) D)
+            → Stands H.digest p (map (hash_leaf H.digest) (with_more D head (map (λ l. l.items) leaves.now)))) }
     {
         let read = self.all.size();
         let available = leaves.len();
@@ -145,6 +152,7 @@ impl<H: NodeHash + Drop> Watcher<H> {
         ensures says { IfOk result (λ v. (w : Watched) → Keeps H.digest (record self.old { all = all }) w → WaitingSays H.digest w head v) }
         ensures stands { IfOk result (λ v. (w : Watched) → Keeps H.digest (record self.old { all = all }) w
             → Keeps H.digest self.new (after_verdict w head v)) }
+        ensures compared { IfOk result (λ v. (D : List (List ℕ)) → Stands H.digest all (map (hash_leaf H.digest) D) → LeavesSay H.digest D head v) }
         ensures unchanged { OnErr result (self.new ≡ self.old) }
     {
         if all.size() != head.tree_size {
@@ -174,6 +182,8 @@ impl<H: NodeHash + Drop> Watcher<H> {
         ensures says { IfOk result (λ v. (w : Watched) → Keeps H.digest self.old w → HeadSays H.digest w head v) }
         ensures stands { IfOk result (λ v. (w : Watched) → Keeps H.digest self.old w
             → Keeps H.digest self.new (after_verdict w (waiting_or w.waiting head) v)) }
+        ensures compared { IfOk result (λ v. v ≡ Accepted → (D : List (List ℕ)) → Stands H.digest self.old.all (map (hash_leaf H.digest) D)
+            → IsHeadOfAll H.digest D (waiting_or self.old.waiting head)) }
         ensures unchanged { OnErr result (self.new ≡ self.old) }
     {
         if let Some(verdict) = beside(self.accepted, &head) {
@@ -200,6 +210,8 @@ impl<H: NodeHash + Drop> Watcher<H> {
             → EntriesSay H.digest w w.waiting start (map (λ l. l.items) leaves.now) v) }
         ensures stands { IfOk result (λ v. (w : Watched) → Keeps H.digest self.old w
             → Keeps H.digest self.new (after_entries w w.waiting (map (λ l. l.items) leaves.now) v)) }
+        ensures compared { IfOk result (λ v. v ≡ Accepted → (head : Head) → self.old.waiting ≡ Some head → (D : List (List ℕ))
+            → Stands H.digest self.old.all (map (hash_leaf H.digest) D) → IsHeadOfAll H.digest (with_more D head (map (λ l. l.items) leaves.now)) head) }
         ensures unchanged { OnErr result (self.new ≡ self.old) }
     {
         let Some(head) = self.waiting else {

@@ -1,5 +1,5 @@
 use Rattle.std.proofs.Common.{◌≡◌, ℕ, List, Vec, Global, map, Some, rules}
-use Rattle.ct_watch.proofs.Steps.{entries_say, entries_keep}
+use Rattle.ct_watch.proofs.Steps.{entries_compared, entries_say, entries_keep}
 use Rattle.ct_watch.proofs.watcher.Watcher.take_entries.Goals as goal
 
 abbrev bytes : Vec ℕ Global → List ℕ
@@ -10,10 +10,16 @@ returns-clause-says g c =
     let waits : c.args.self.now.waiting ≡ Some c.in-Some.head = search rules in
     let starts : c.args.start ≡ c.args.self.now.all.0 = search rules in
     entries_say g.H.NodeHash.digest c.args.self.now c.in-Some.head c.args.start (map bytes c.args.leaves.now) c.in_ok-all.all c.settle.result waits starts
-    c.in_ok-all.ensures c.settle.ensures.says
+    c.in_ok-all.ensures.keeps c.settle.ensures.says
 
 pub returns-clause-stands : goal.returns-clause-stands
 returns-clause-stands g c =
     let waits : c.args.self.now.waiting ≡ Some c.in-Some.head = search rules in
     entries_keep g.H.NodeHash.digest c.args.self.now c.settle.new.self c.in-Some.head (map bytes c.args.leaves.now) c.in_ok-all.all c.settle.result waits
-    c.in_ok-all.ensures c.settle.ensures.says c.settle.ensures.stands
+    c.in_ok-all.ensures.keeps c.settle.ensures.says c.settle.ensures.stands
+
+pub returns-clause-compared : goal.returns-clause-compared
+returns-clause-compared g c =
+    let waits : c.args.self.now.waiting ≡ Some c.in-Some.head = search rules in
+    entries_compared g.H.NodeHash.digest c.args.self.now c.in-Some.head (map bytes c.args.leaves.now) c.in_ok-all.all c.settle.result waits
+    c.in_ok-all.ensures.stands c.settle.ensures.compared

@@ -1,0 +1,45 @@
+-- What follows over many heads and receipts that were let through. H is any hash function on byte lists with hashes of 32 bytes.
+use Rattle.std.specs.Prelude.{◌≡◌, ◌⊎◌, ◌<◌, ⊤, ℕ, List, [], ◌∷◌, length, get_or, Some}
+use Rattle.std.specs.declared.option.Option.{Option}
+use Rattle.ct_tree.specs.declared.head.Head.{Head}
+use Rattle.ct_monitor.specs.Heads.{IsHeadOfAll}
+use Rattle.ct_verify.specs.ConsistencyEvidence.{IsBeginning}
+use Rattle.ct_verify.specs.Laws.{AreHashes, SomeCollide}
+use Rattle.ct_guard.specs.Guarded.{Passes, PassesReceipt}
+
+-- A head that was let through: the head, the proof that was handed in with it (elements of 32 bytes), and the leaves of the list whose
+-- head it is, which nobody need have.
+pub record Passed : Type 0 where
+  pub head : Head
+  pub proof : List (List ℕ)
+  pub leaves : List (List ℕ)
+
+-- heads that were let through one after the other, the first of them behind the head `last`
+unfoldable pub ArePassed : (List ℕ → List ℕ) → Option Head → List Passed → Type 0
+ArePassed H last [] = ⊤
+ArePassed H last (s ∷ steps) =
+    Passes H last s.head s.proof × AreHashes s.proof × IsHeadOfAll H s.leaves s.head × ArePassed H (Some s.head) steps
+
+-- the list D begins that of each of these heads
+unfoldable pub BeginsAll : List (List ℕ) → List Passed → Type 0
+BeginsAll D [] = ⊤
+BeginsAll D (s ∷ steps) = IsBeginning D s.leaves × BeginsAll D steps
+
+-- of every two of these heads the earlier one's list begins the later one's
+unfoldable pub AreBeginnings : List Passed → Type 0
+AreBeginnings [] = ⊤
+AreBeginnings (s ∷ steps) = BeginsAll s.leaves steps × AreBeginnings steps
+
+-- of every two heads that were let through the earlier one's list begins the later one's, or two different strings with one hash are
+-- given
+abbrev pub PassedHeadsAgree : Type 0
+PassedHeadsAgree =
+    (H : List ℕ → List ℕ) → ((x : List ℕ) → length (H x) ≡ 32) → (last : Option Head) (steps : List Passed) → ArePassed H last steps
+    → AreBeginnings steps ⊎ SomeCollide H
+
+-- the leaf of a receipt that was let through stands at its index in the list D of the last head, or two different strings with one
+-- hash are given
+abbrev pub PassedReceiptsStand : Type 0
+PassedReceiptsStand =
+    (H : List ℕ → List ℕ) → ((x : List ℕ) → length (H x) ≡ 32) → (last : Head) (D : List (List ℕ)) (b : List ℕ) (m : ℕ) (p : List (List ℕ))
+    → IsHeadOfAll H D last → PassesReceipt H (Some last) b m p → ((m < length D) × (b ≡ get_or D m [])) ⊎ SomeCollide H

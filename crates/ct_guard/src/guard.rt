@@ -1,0 +1,120 @@
+//! What may be signed.
+ghost use Rattle.std.specs.Prelude.{◌≡◌, ◌≤◌, Some, None, MatchResult, OnOk, OnErr};
+ghost use Rattle.ct_guard.specs.Guarded.{Passes, PassesReceipt, Refuses, RefusesLater, RefusesReceipt, IsLater};
+
+use crate::refusal::{HeadRefusal, ReceiptRefusal};
+use ct_codec::lend_leaf;
+use ct_tree::{Head, NodeHash, is_same_digest, leaf_hash};
+use ct_verify::{verify_consistency, verify_inclusion};
+
+/// The head that was let through last, if one was. One that was saved is handed in as it is.
+#[derive(Clone, Copy, Debug, PartialEq, Eq)]
+pub struct Guard {
+    pub last: Option<Head>,
+}
+
+// A later head with as many leaves or more.
+fn goes_on<H: NodeHash>(
+    h: &H,
+    last: &Head,
+    head: &Head,
+    proof: &[[u8; 32]],
+) -> Result<(), HeadRefusal>
+    requires larger { last.now.tree_size ≤ head.now.tree_size }
+    ensures { MatchResult result (λ _. IsLater H.digest last.now head.now proof.now) (RefusesLater H.digest last.now head.now proof.now) }
+{
+    if head.tree_size == last.tree_size {
+        return if is_same_digest(&head.root, &last.root) {
+            Ok(())
+        } else {
+            Err(HeadRefusal::Fork)
+        };
+    }
+    if last.tree_size == 0 {
+        return Ok(());
+    }
+    match verify_consistency(
+        h,
+        last.tree_size,
+        head.tree_size,
+        &last.root,
+        &head.root,
+        proof,
+    ) {
+        Ok(()) => Ok(()),
+        Err(fault) => Err(HeadRefusal::Inconsistent(fault)),
+    }
+}
+
+impl Guard {
+    /// A guard that has let no head through.
+    pub fn new() -> Guard
+        ensures { result ≡ record { last = None } }
+    {
+        Guard { last: None }
+    }
+
+    /// Lets a tree head through, or refuses it. The proof is a consistency proof (RFC 6962, section 2.1.2) from the last head to
+    /// this one; where the two have one size, or the last has none, there is no such proof, and what is handed in isn't looked at.
+    /// The first head is let through as it is, and so is the last head once more.
+    ///
+    /// What may be signed then is `tree_head_signature_input` of `ct_codec` for this head (RFC 6962, section 3.5).
+    ///
+    /// # Errors
+    /// In this order: `SizeFalls`, `MomentNotLater`, `Fork`, `Inconsistent`. The guard is then as it was.
+    pub fn pass<H: NodeHash>(
+        &mut self,
+        h: &H,
+        head: &Head,
+        proof: &[[u8; 32]],
+    ) -> Result<(), HeadRefusal>
+        ensures passes { MatchResult result (λ _. Passes H.digest self.old.last head.now proof.now) (Refuses H.digest self.old.last head.now proof.now) }
+        ensures next { OnOk result (self.new.last ≡ Some head.now) }
+        ensures unchanged { OnErr result (self.new ≡ self.old) }
+    {
+        if let Some(last) = self.last {
+            if *head == last {
+                return Ok(());
+            }
+            if head.tree_size < last.tree_size {
+                return Err(HeadRefusal::SizeFalls);
+            }
+            if head.timestamp <= last.timestamp {
+                return Err(HeadRefusal::MomentNotLater);
+            }
+            goes_on(h, &last, head, proof)?;
+        }
+        self.last = Some(*head);
+        Ok(())
+    }
+}
+
+/// Lets a receipt through, or refuses it: the bytes are a leaf (MerkleTreeLeaf, RFC 6962, section 3.4), and the audit path leads
+/// from it at this leaf index to the root of the last head. What may be signed then is the leaf's own bytes, which are those of its
+/// signed certificate timestamp ([`ct_codec::laws::signed_timestamps_are_leaves`]).
+///
+/// # Errors
+/// In this order: `NoHead`, `NoLeaf`, `NotThere`.
+pub fn pass_receipt<H: NodeHash>(
+    h: &H,
+    guard: &Guard,
+    leaf: &[u8],
+    index: u64,
+    path: &[[u8; 32]],
+) -> Result<(), ReceiptRefusal>
+    ensures { MatchResult result (λ _. PassesReceipt H.digest guard.now.last leaf.now index path.now)
+        (RefusesReceipt H.digest guard.now.last leaf.now index path.now) }
+{
+    let Some(last) = guard.last else {
+        return Err(ReceiptRefusal::NoHead);
+    };
+    match lend_leaf(leaf) {
+        Ok(_) => {}
+        Err(fault) => return Err(ReceiptRefusal::NoLeaf(fault)),
+    }
+    let hash = leaf_hash(h, leaf);
+    match verify_inclusion(h, &hash, index, last.tree_size, path, &last.root) {
+        Ok(()) => Ok(()),
+        Err(fault) => Err(ReceiptRefusal::NotThere(fault)),
+    }
+}

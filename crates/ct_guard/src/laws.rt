@@ -1,0 +1,18 @@
+//! What follows of the definitions, each a clause of a function that does nothing.
+
+ghost use Rattle.ct_guard.specs.History.{PassedHeadsAgree, PassedReceiptsStand};
+
+/// However many heads are let through, in however many runs, each of which begins with the head that the one before ended with:
+/// where each of them is the head of some list of leaves, these lists are beginnings of one list, or two different strings with one
+/// digest are given.
+#[tactic(auto, using(crate::proofs::History::passed_heads_agree))]
+pub fn heads()
+    ensures { PassedHeadsAgree }
+{}
+
+/// Where the last head is that of a list of leaves, the leaf of a receipt that is let through stands in that list at its index, or
+/// two different strings with one digest are given.
+#[tactic(auto, using(crate::proofs::History::passed_receipts_stand))]
+pub fn receipts()
+    ensures { PassedReceiptsStand }
+{}

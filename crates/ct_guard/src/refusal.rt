@@ -1,0 +1,36 @@
+//! Why a guard refuses.
+
+use ct_codec::DecodeFault;
+use ct_verify::ProofFault;
+use thiserror::Error;
+
+/// Why a tree head isn't let through.
+#[derive(Clone, Copy, PartialEq, Eq, Debug, Error)]
+pub enum HeadRefusal {
+    /// The head has fewer leaves than the last one.
+    #[error("the head has fewer leaves than the last one")]
+    SizeFalls,
+    /// The head is another than the last one, and not later.
+    #[error("the head is not later than the last one")]
+    MomentNotLater,
+    /// The head has the size of the last one, and another root.
+    #[error("the head has the size of the last one, and another root")]
+    Fork,
+    /// No consistency proof leads from the last head to this one: the proof is refused for this reason.
+    #[error("the consistency proof is refused: {0}")]
+    Inconsistent(ProofFault),
+}
+
+/// Why a receipt isn't let through.
+#[derive(Clone, Copy, PartialEq, Eq, Debug, Error)]
+pub enum ReceiptRefusal {
+    /// No head was let through yet.
+    #[error("no head was let through yet")]
+    NoHead,
+    /// The bytes are no leaf.
+    #[error("the bytes are no leaf: {0}")]
+    NoLeaf(DecodeFault),
+    /// No audit path leads from the leaf to the last head's root: the path is refused for this reason.
+    #[error("the audit path is refused: {0}")]
+    NotThere(ProofFault),
+}

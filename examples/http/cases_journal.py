@@ -1,0 +1,252 @@
+"""Cases of the state's folder: what is damaged is refused, or gives the same log, and a refused start writes nothing."""
+import collections
+import hashlib
+import json
+import os
+import pathlib
+import resource
+import shutil
+import sys
+import time
+
+from harness import HERE, LOG, Client, Front, hold, leaves_of, started, text
+
+sys.path.insert(0, str(HERE.parent))
+
+import expected  # noqa: E402
+import stand_in  # noqa: E402
+from entries import Entries  # noqa: E402
+from faults import Broken, Refused  # noqa: E402
+from journal import Journal  # noqa: E402
+
+FOLDER = ("journal.jsonl", "heads.jsonl", "key.pem")
+
+
+class Inside:
+    """The log of expected.py in this process, asked as a program is."""
+
+    def __init__(self, fronts, ring):
+        self.log, self.fronts = stand_in.Log(fronts, ring, 0), fronts
+
+    def send(self, line, then=None):
+        return Reply(self, line)
+
+    def ask(self, **keys):
+        return Reply(self, json.dumps({key.rstrip("_"): value for key, value in keys.items()}).encode()).get()
+
+
+class Reply:
+    def __init__(self, inside, line):
+        who, request = expected.read_line(line, inside.fronts, expected.LIVE_OPS)
+        try:
+            if who == "operator":
+                self.reply = stand_in.do_operator(inside.log, request)
+            else:
+                self.reply = expected.do_front(inside.log, who, request)
+        except expected.Refused as refused:
+            self.reply = {"error": str(refused)}
+
+    def get(self):
+        if "error" in self.reply:
+            raise Refused(self.reply["error"])
+        return self.reply
+
+
+def files(folder):
+    return {name: (pathlib.Path(folder) / name).read_bytes() for name in FOLDER if (pathlib.Path(folder) / name).exists()}
+
+
+def put(folder, content):
+    """Has the folder hold these files and no others."""
+    shutil.rmtree(folder, ignore_errors=True)
+    os.makedirs(folder)
+    for name, value in content.items():
+        if value is not None:
+            (pathlib.Path(folder) / name).write_bytes(value)
+
+
+def made(folder, many=3, program=LOG, **more):
+    """A small log that ended in order: its files, and the entries that it answers."""
+    front = started(folder, program, **more)
+    client = Client(front.port)
+    for number in range(many):
+        client.get("add-chain", {"chain": [text(b"certificate %d" % number), text(b"its issuer")]})
+    entries = client.get("get-entries", start=0, end=many - 1)
+    hold(front.end() == (0, ""), "the front doesn't end in order")
+    return files(folder), entries
+
+
+def taken_up(folder):
+    """The heads and entries of the folder's log, in this process; None where it is refused."""
+    try:
+        kept, inside, heads = Journal(folder), Inside(2, 8), collections.deque()
+    except Broken:
+        return None
+    try:
+        kept.replay(inside, 2, 8, Entries(), heads)
+        return [dict(head) for head in heads], [entry[1] for entry in inside.log.entries]
+    except (Broken, Refused):
+        return None
+    finally:
+        os.close(kept.folder)
+
+
+def every_byte(folder):
+    """Each byte of a small journal in turn is another one, with the file of heads whole, empty and gone: the log is refused, or
+    it is the same."""
+    content, _ = made(folder)
+    journal, tried, same = content["journal.jsonl"], 0, 0
+    whole = taken_up(folder)
+    hold(whole and len(whole[1]) == 3, "the whole journal isn't taken up:", whole)
+    for heads in (content["heads.jsonl"], b"", None):
+        for place in range(len(journal)):
+            for flip in (0x01, 0x0A ^ journal[place] or 0xFF):
+                damaged = journal[:place] + bytes([journal[place] ^ flip]) + journal[place + 1 :]
+                put(folder, {**content, "journal.jsonl": damaged, "heads.jsonl": heads})
+                found = taken_up(folder)
+                hold(found in (None, whole), "with byte", place, "another, and heads", heads and len(heads), "another log starts")
+                tried, same = tried + 1, same + (found == whole)
+    return f"{tried} damaged bytes ({same} of them with the same log)"
+
+
+def refused(folder, content, why, *words, program=LOG):
+    """A start over these files ends with status 1, a sentence that says why, and the files as they were."""
+    put(folder, content)
+    front = Front(folder, program, *words)
+    status, fault = front.wait() if front.port is None else front.end()
+    hold(front.port is None and status == 1, "a start is to be refused:", why, "but", front.told, fault)
+    hold(fault.startswith("front: ") and fault.count("\n") == 1 and why in fault, "a refusal is to say:", why, "but", fault)
+    hold(files(folder) == {name: value for name, value in content.items() if value is not None}, "a refused start wrote:", why)
+
+
+def damages(folder):
+    """Starts that are refused in a sentence and write nothing; and those that are no damage."""
+    content, entries = made(folder, 6)
+    journal, heads = content["journal.jsonl"], content["heads.jsonl"]
+    middle = len(journal) // 2
+    flipped = journal[:middle] + bytes([journal[middle] ^ 1]) + journal[middle + 1 :]
+    now = journal.rindex(b'"now":') + 6
+    later = journal[:now] + bytes([journal[now] ^ 3]) + journal[now + 1 :]
+    name = "journal.jsonl is damaged between the bytes"
+    for note in (heads, b"", None):
+        refused(folder, {**content, "journal.jsonl": flipped, "heads.jsonl": note}, name)
+        refused(folder, {**content, "journal.jsonl": later, "heads.jsonl": note}, name)
+        refused(folder, {**content, "journal.jsonl": journal + bytes(512), "heads.jsonl": note}, name)
+        refused(folder, {**content, "journal.jsonl": bytes(len(journal)), "heads.jsonl": note}, name)
+        refused(folder, {**content, "journal.jsonl": journal[:-1] + b"}", "heads.jsonl": note}, name)
+    refused(folder, {**content, "journal.jsonl": journal.replace(b'"batch"', b'"bitch"')}, name)
+    refused(folder, {**content, "journal.jsonl": b""}, "the journal ends before a head")
+    refused(folder, {**content, "journal.jsonl": journal[:middle]}, "the journal ends before a head")
+    refused(folder, {**content, "heads.jsonl": heads + bytes(200)}, "the journal ends before a head")
+    refused(folder, {**content, "heads.jsonl": heads[:90] + b"\xff" + heads[91:]}, "another head")
+    refused(folder, {**content, "heads.jsonl": heads[:-40] + bytes(40)}, "another head")
+    # (what a kill in mid-writing leaves)
+    for whole in ({**content, "heads.jsonl": heads[:-20]}, {**content, "journal.jsonl": journal + b'{"who":0,"op":"add-ch'}, content):
+        put(folder, whole)
+        front = started(folder, LOG)
+        hold(Client(front.port).get("get-entries", start=0, end=5) == entries, "other entries are taken up")
+        hold(front.end() == (0, ""), "the front doesn't end in order")
+    return "24 refused starts"
+
+
+def keys(folder):
+    """A key that is missing, another's, empty or none isn't taken beside a journal that names its log; nothing is written."""
+    content, _ = made(folder)
+    other = made(folder + "-other")[0]["key.pem"]
+    for key, why in ((None, "is missing"), (other, "names the log"), (b"", "isn't read as a key"), (b"\0" * 241, "isn't read as a key")):
+        refused(folder, {**content, "key.pem": key}, why)
+    refused(folder, content, "names the log", "--signer", "none")
+    if shutil.which("openssl"):
+        refused(folder, {**content, "key.pem": b"-----BEGIN"}, "isn't read as a key", "--signer", "openssl")
+    put(folder, content)
+    front = started(folder, LOG, "--signer", "openssl") if shutil.which("openssl") else None
+    if front:
+        lying, away = pathlib.Path(folder) / "key.pem", pathlib.Path(folder) / "away"
+        client = Client(front.port)
+        lying.rename(away)
+        answer = client.call("add-chain", {"chain": [text(b"while the key is away")]})
+        hold(answer == (503, {"error_message": "not-signed"}), "without its key the front answers", answer)
+        away.rename(lying)
+        client.get("add-chain", {"chain": [text(b"while the key is away")]})
+        status, fault = front.end()
+        hold(status == 0 and fault.startswith("front: openssl doesn't sign"), "of a missing key the front says", fault)
+    return "6 keys that aren't the log's"
+
+
+def old_digest(lines):
+    return hashlib.sha256(b"".join(lines)).hexdigest()
+
+
+def old_form(batches):
+    """A journal of the form before: each batch's hash is of its lines but the last."""
+    found = b""
+    for lines, last in batches:
+        lines = [json.dumps(line, separators=(",", ":")).encode() + b"\n" for line in lines]
+        end = {"who": "operator", **last, "batch": old_digest(lines)}
+        found += b"".join(lines) + json.dumps(end, separators=(",", ":")).encode() + b"\n"
+    return found
+
+
+def old_journal(folder):
+    """A journal of the form before, with a batch behind `shutdown`, is taken up with all its entries where its heads are noted,
+    and named; without its heads it is refused."""
+    chains = [[{"who": 0, "op": "add-chain", "chain": [text(b"%d" % n)]}, {"who": "operator", "op": "sequence", "from": 0, "count": 1, "now": n}] for n in (5, 9)]
+    batches = [(chains[0], {"op": "publish", "now": 6}), ([], {"op": "shutdown"}), (chains[1], {"op": "publish", "now": 10})]
+    journal, inside, heads = old_form(batches), Inside(1, 8), b""
+    for lines, last in batches:
+        for line in [*lines, {"who": "operator", **last}]:
+            if line["op"] != "shutdown":
+                inside.ask(**line)
+        if last["op"] == "publish":
+            heads += json.dumps(inside.ask(who=0, op="get-sth"), separators=(",", ":"), sort_keys=True).encode() + b"\n"
+    key = made(folder)[0]["key.pem"]
+    refused(folder, {"journal.jsonl": journal, "heads.jsonl": b"", "key.pem": key}, "is of the form before")
+    refused(folder, {"journal.jsonl": journal, "heads.jsonl": heads}, "is missing")
+    put(folder, {"journal.jsonl": journal, "heads.jsonl": heads, "key.pem": key})
+    for _ in range(2):
+        front = started(folder, LOG)
+        client = Client(front.port)
+        answer = client.call("add-chain", {"chain": ["QQ=="]})
+        hold(client.get("get-sth")["tree_size"] == 2 and answer == (503, {"error_message": "shutdown"}), "the journal isn't taken up:", answer)
+        hold(front.end() == (0, ""), "the front doesn't end in order")
+    content = files(folder)
+    hold(content["journal.jsonl"].startswith(journal), "what stood in the journal was changed")
+    refused(folder, {**content, "journal.jsonl": b" " + content["journal.jsonl"][1:]}, "is damaged")
+    return "a journal of the form before"
+
+
+def full_disk(folder):
+    """Where the disk has no room, reads go on and submissions are 503; with room again all goes on, and what was answered is
+    there after a restart. (A limit of the front's file sizes has the disk full: a write then fails as EFBIG.)"""
+    front = started(folder, LOG)
+    client, answered, journal = Client(front.port), [], pathlib.Path(folder) / "journal.jsonl"
+
+    def submit(number):
+        status, answer = client.call("add-chain", {"chain": [text(b"certificate %d" % number + bytes(300))]})
+        if status == 200:
+            answered.append(number)
+        return status, answer
+
+    hold(submit(0)[0] == 200, "the first certificate isn't taken")
+    resource.prlimit(front.process.pid, resource.RLIMIT_FSIZE, (journal.stat().st_size + 700, resource.RLIM_INFINITY))
+    answers = [submit(number) for number in range(1, 12)]
+    hold((503, {"error_message": "disk-full"}) in answers, "a full disk is answered with", answers)
+    hold(all(status in (200, 503) for status, _ in answers), "a full disk is answered with", answers)
+    size = client.get("get-sth")["tree_size"]
+    hold(size >= 1 and len(client.get("get-entries", start=0, end=0)["entries"]) == 1, "reads don't go on")
+    resource.prlimit(front.process.pid, resource.RLIMIT_FSIZE, (resource.RLIM_INFINITY, resource.RLIM_INFINITY))
+    until = time.monotonic() + 60
+    while submit(20)[0] != 200:
+        hold(time.monotonic() < until, "with room again nothing is taken")
+        time.sleep(0.1)
+    status, fault = front.end()
+    told = fault.splitlines()
+    hold(status == 0 and "disk-full" in told[0] and told[-1] == "front: publishes again", "of a full disk the front says", fault)
+    front = started(folder, LOG)
+    found = leaves_of(Client(front.port))
+    hold(all(any(b"certificate %d\0" % number in entry for entry in found) for number in answered), "an entry that was answered is gone")
+    hold(front.end() == (0, ""), "the front doesn't end in order")
+    return f"a full disk, {len(answers)} submissions to it"
+
+
+CASES = (every_byte, damages, keys, old_journal, full_disk)

@@ -1,0 +1,180 @@
+#!/usr/bin/env python3
+"""Stands in for ctmonitor where it isn't built: reads a log's answers, a line each, and writes the verdicts and the state (docs/MONITOR.md).
+
+    stand_in.py [--name NAME].. < lines > verdicts
+
+It is plain, slow and proved nowhere: hashlib alone, and no code of ctmonitor. `examples/scripts.py` holds it against the runs of answers.py.
+"""
+import argparse
+import base64
+import json
+import pathlib
+import sys
+
+import answers
+
+sys.path.insert(0, str(pathlib.Path(__file__).resolve().parent.parent))
+
+import merkle  # noqa: E402
+
+ALARMS = ("fork", "shrunk", "root-mismatch", "inconsistent")
+
+
+def node(left, right):
+    return answers.sha256(b"\1" + left + right)
+
+
+class Subtrees:
+    """The perfect subtrees of a list of leaves, largest first."""
+
+    def __init__(self, size=0, roots=()):
+        self.size, self.roots = size, list(roots)
+
+    def with_leaf(self, leaf):
+        roots, root, size = self.roots[:], answers.sha256(b"\0" + leaf), self.size
+        while size & 1:
+            root, size = node(roots.pop(), root), size >> 1
+        return Subtrees(self.size + 1, roots + [root])
+
+    def root(self):
+        found = self.roots[-1] if self.roots else answers.sha256(b"")
+        for left in self.roots[-2::-1]:
+            found = node(left, found)
+        return found
+
+    def told(self):
+        return {"size": self.size, "subtrees": [answers.text(root) for root in self.roots]}
+
+
+def number(value):
+    if type(value) is not int or not 0 <= value < 1 << 64:
+        raise ValueError("it is no number")
+    return value
+
+
+def bytes_of(value):
+    return base64.b64decode(value, validate=True)
+
+
+def head_of(value):
+    return value and {"sha256_root_hash": answers.text(bytes_of(value["sha256_root_hash"])), "timestamp": number(value["timestamp"]), "tree_size": number(value["tree_size"])}
+
+
+def subtrees_of(value):
+    return Subtrees(number(value["size"]), [bytes_of(root) for root in value["subtrees"]])
+
+
+def fault_of(leaf):
+    """Why bytes are no leaf, as far as these runs go; else None."""
+    return None if len(leaf) > 15 and leaf[:2] == b"\0\0" else "truncated"
+
+
+class Watcher:
+    def __init__(self, names):
+        self.names, self.accepted, self.waiting, self.sure, self.all = names, None, None, Subtrees(), Subtrees()
+        self.alarm, self.bad = False, False
+
+    def state(self):
+        value = {"accepted": self.accepted, "waiting": self.waiting, "sure": self.sure.told(), "all": self.all.told(), "state": 1, "check": None}
+        value["check"] = answers.text(answers.sha256(answers.line(value)[:-1].encode()))
+        return answers.line(value)
+
+    def take_up(self, line):
+        """Whether the line is a state, byte for byte; it is taken up then."""
+        other = Watcher(self.names)
+        try:
+            value = json.loads(line)
+            other.accepted, other.waiting = head_of(value["accepted"]), head_of(value["waiting"])
+            other.sure, other.all = subtrees_of(value["sure"]), subtrees_of(value["all"])
+        except (ValueError, KeyError, TypeError):
+            return False
+        if other.state().encode() != line + b"\n":
+            return False
+        self.accepted, self.waiting, self.sure, self.all = other.accepted, other.waiting, other.sure, other.all
+        return True
+
+    def settle(self):
+        size = self.waiting["tree_size"]
+        if self.all.size != size:
+            return {"verdict": "pending", "have": self.all.size, "tree_size": size}
+        computed, waiting, self.waiting = answers.text(self.all.root()), self.waiting, None
+        if computed != waiting["sha256_root_hash"]:
+            self.all = self.sure
+            return {"verdict": "root-mismatch", "computed_root_hash": computed}
+        self.accepted, self.sure = waiting, self.all
+        return {"verdict": "accepted", "tree_size": size}
+
+    def take_head(self, head):
+        for known in filter(None, (self.accepted, self.waiting)):
+            if head["tree_size"] < known["tree_size"]:
+                return {"verdict": "stale" if head["timestamp"] < known["timestamp"] else "shrunk"}
+            if head["tree_size"] == known["tree_size"]:
+                if head["sha256_root_hash"] == known["sha256_root_hash"]:
+                    return {"verdict": "again"}
+                return {"verdict": "fork", "known_root_hash": known["sha256_root_hash"], "known_timestamp": known["timestamp"], "tree_size": known["tree_size"]}
+        self.waiting = self.waiting or head
+        return self.settle()
+
+    def found(self, index, leaf):
+        """The lines of the names that stand in a leaf's certificate, or of what it lacks."""
+        if fault := fault_of(leaf):
+            yield {"entry": index, "fault": fault}
+            return
+        precert = leaf[10:12] == b"\0\1"
+        certificate = leaf[12 + 32 * precert + 3 : -2].lower()
+        for name in self.names:
+            if name.encode() in certificate:
+                yield {"entry": index, "name": name, "timestamp": int.from_bytes(leaf[2:10], "big"), "type": "precert" if precert else "x509"}
+
+    def take_entries(self, start, leaves):
+        if self.waiting is None or start != self.all.size:
+            return [{"verdict": "gap", "want": self.all.size}]
+        said = []
+        for leaf in leaves[: self.waiting["tree_size"] - start]:
+            said += self.found(self.all.size, leaf)
+            self.all = self.all.with_leaf(leaf)
+        return said + [self.settle()]
+
+    def take_proof(self, path):
+        if self.accepted is None or self.waiting is None:
+            return {"verdict": "gap", "want": self.all.size}
+        sizes = self.accepted["tree_size"], self.waiting["tree_size"]
+        if merkle.extends(*sizes, bytes_of(self.accepted["sha256_root_hash"]), bytes_of(self.waiting["sha256_root_hash"]), path):
+            return {"verdict": "consistent"}
+        return {"verdict": "inconsistent", "fault": "root-mismatch"}
+
+    def judged(self, line):
+        """What is said of a line that is no state in its place."""
+        try:
+            value = json.loads(line)
+            if "state" in value:
+                return [{"error": "bad-state"}]
+            if "entries" in value:
+                leaves = [bytes_of(entry["leaf_input"]) for entry in value["entries"]]
+                return self.take_entries(number(value.get("start", self.all.size)), leaves)
+            if "consistency" in value:
+                return [self.take_proof([bytes_of(part) for part in value["consistency"]])]
+            return [self.take_head(head_of(value))]
+        except (ValueError, KeyError, TypeError, AttributeError):
+            return [{"error": "bad-line"}]
+
+    def take(self, line):
+        for value in self.judged(line):
+            self.alarm |= value.get("verdict") in ALARMS
+            self.bad |= "error" in value
+            sys.stdout.write(answers.line(value))
+
+
+def main():
+    options = argparse.ArgumentParser(description="Stands in for ctmonitor, with hashlib alone.")
+    options.add_argument("--name", action="append", default=[])
+    watcher = Watcher([name.lower() for name in options.parse_args().name])
+    for place, line in enumerate(sys.stdin.buffer.read().split(b"\n")):
+        if line and not (place == 0 and watcher.take_up(line)):
+            watcher.take(line)
+    sys.stdout.write(watcher.state())
+    sys.exit(3 if watcher.alarm else 4 if watcher.bad else 0)
+
+
+if __name__ == "__main__":
+    main()

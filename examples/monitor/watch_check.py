@@ -1,0 +1,260 @@
+#!/usr/bin/env python3
+"""Tries watch.sh against a log of its own on 127.0.0.1: one that is down, forks, is rewritten, answers with nothing or with what is no answer.
+
+The judge is the built ctmonitor where there is one, else stand_in.py, which it holds against answers.py first. It prints what it tried with
+which of the two, and ends with status 1 at the first thing that isn't as it has to be. Nothing depends on how fast the machine is.
+"""
+import http.server
+import json
+import os
+import pathlib
+import shutil
+import signal
+import socket
+import subprocess
+import sys
+import tempfile
+import threading
+import time
+import urllib.parse
+
+import answers
+
+HERE = pathlib.Path(__file__).resolve().parent
+BUILT = HERE.parent.parent / "crates" / "ctmonitor" / "out" / "ctmonitor"
+LEAVES = [answers.leaf(answers.MOMENT + i, b"certificate %d of example.org" % i, None) for i in range(30)]
+FORKED = LEAVES[:2] + [answers.leaf(answers.MOMENT, b"another", None)] + LEAVES[3:]
+NOW = int(time.time() * 1000)
+
+
+class Log:
+    """A log that answers `size` of its leaves at the moment `now`, `most` in one answer. `instead` has texts or statuses to answer in a call's place."""
+
+    def __init__(self):
+        self.leaves, self.size, self.now, self.most, self.instead = LEAVES, 8, answers.MOMENT + 1000, 256, {}
+        self.asked, self.held, self.hold_at = [], threading.Event(), None
+        log = self
+
+        class Handler(http.server.BaseHTTPRequestHandler):
+            def do_GET(self):
+                log.answer(self)
+
+            def log_message(self, *words):
+                """Writes nothing."""
+
+        self.server = http.server.ThreadingHTTPServer(("127.0.0.1", 0), Handler)
+        self.server.daemon_threads = True
+        self.url = f"http://127.0.0.1:{self.server.server_port}"
+        threading.Thread(target=self.server.serve_forever, daemon=True).start()
+
+    def text_of(self, call, query):
+        if call == "get-sth":
+            return answers.line(answers.head(self.leaves[: self.size], self.now))
+        start, end = int(query["start"][0]), int(query["end"][0])
+        self.asked.append(start)
+        if start == self.hold_at:
+            self.held.set()
+            threading.Event().wait()
+        entries = answers.entries(self.leaves, start, min(end + 1, start + self.most, self.size))["entries"]
+        return json.dumps({"entries": entries}, indent=1)
+
+    def answer(self, handler):
+        url = urllib.parse.urlsplit(handler.path)
+        call = url.path.removeprefix("/ct/v1/")
+        text = self.instead[call] if call in self.instead else self.text_of(call, urllib.parse.parse_qs(url.query))
+        status, body = (text, b"") if isinstance(text, int) else (200, text.encode())
+        handler.send_response(status)
+        handler.send_header("Content-Length", str(len(body)))
+        handler.end_headers()
+        handler.wfile.write(body)
+
+
+def closed_port():
+    """The URL of a port at which nobody listens."""
+    with socket.socket() as free:
+        free.bind(("127.0.0.1", 0))
+        return f"http://127.0.0.1:{free.getsockname()[1]}"
+
+
+def fail(why):
+    sys.exit(f"watch_check.py: {why}")
+
+
+class Watch:
+    """watch.sh in a folder of its own."""
+
+    def __init__(self, work, judge):
+        self.folder, self.bin, self.count = work / "watched", work / "bin", 0
+        self.bin.mkdir()
+        self.put_judge(f'exec {judge} "$@"')
+
+    def put_judge(self, line):
+        (self.bin / "ctmonitor").write_text(f"#!/bin/sh\n{line}\n")
+        (self.bin / "ctmonitor").chmod(0o755)
+
+    def start(self, logs, *words):
+        environment = {**os.environ, "PATH": f"{self.bin}:{os.environ['PATH']}", "LOG": logs, "no_proxy": "127.0.0.1", "PYTHONDONTWRITEBYTECODE": "1"}
+        how = {"stdout": subprocess.PIPE, "stderr": subprocess.STDOUT, "text": True, "start_new_session": True, "env": environment}
+        return subprocess.Popen([HERE / "watch.sh", "--folder", self.folder, *words], **how)
+
+    def ends(self, what, status, logs, *words, says=""):
+        """Runs it, and sees that it ends with that status and has those words on its output, which is answered."""
+        self.count += 1
+        ran = self.start(logs, *words)
+        output = ran.communicate()[0]
+        if ran.returncode != status or says not in output:
+            fail(f"{what}: status {ran.returncode} where {status} is due with '{says}': {output}")
+        return output
+
+    def path(self, log, name="state"):
+        return self.folder / log.url.split("//")[1].replace(":", "_") / name
+
+    def state(self, log):
+        return json.loads(self.path(log).read_bytes())
+
+    def leaves_unchanged(self, what, status, log, *words, says=""):
+        """The same, where the state has to stay as it is, byte for byte."""
+        before = self.path(log).read_bytes() if self.path(log).exists() else None
+        self.ends(what, status, log.url, *words, says=says)
+        if (self.path(log).read_bytes() if self.path(log).exists() else None) != before:
+            fail(f"{what}: the state was replaced")
+
+
+def try_days(watch):
+    """A log that grows is followed to each of its heads, over more pieces than 20, from where the run before ended."""
+    log = Log()
+    watch.ends("the first day", 0, log.url, "--name", "example.org", says="accepted 8 leaves")
+    if log.asked != [0] or watch.path(log, "verdicts").read_text().count('"name":"example.org"') != 8:
+        fail("the first day: the names of 8 entries were to be told")
+    watch.ends("the same head", 0, log.url, says="accepted 8 leaves")
+    log.size, log.most, log.now = 30, 1, log.now + 1000
+    watch.ends("two pieces at most", 0, log.url, "--pieces", "2", says="accepted 8 leaves, has read 10 of 30")
+    watch.ends("all pieces", 0, log.url, says="accepted 30 leaves")
+    if log.asked != [0, *range(8, 30)]:
+        fail(f"the entries were asked for from {log.asked} on")
+    return log
+
+
+def try_interrupted(watch):
+    """What was read before a kill in mid-fetch is kept, and the next run goes on behind it."""
+    log = Log()
+    log.most, log.hold_at = 1, 5
+    ran = watch.start(log.url)
+    log.held.wait()
+    os.killpg(ran.pid, signal.SIGKILL)
+    ran.communicate()
+    if watch.state(log)["all"]["size"] != 5:
+        fail(f"after a kill at entry 5 the state is {watch.state(log)}")
+    log.hold_at = None
+    watch.ends("after a kill", 0, log.url, says="accepted 8 leaves")
+    if log.asked != [*range(6), *range(5, 8)]:
+        fail(f"after a kill the entries were asked for from {log.asked} on")
+
+
+def try_alarms(watch):
+    """A fork, a smaller log and other leaves are alarms, of which the lines are kept; a damaged state is told also where the log forked."""
+    log = Log()
+    watch.ends("a first head", 0, log.url)
+    good = watch.path(log).read_bytes()
+    log.leaves = FORKED
+    damages = {"one digit": good.replace(b'"size":8', b'"size":9', 1), "no byte": b"", "zeros": bytes(len(good)), "a line's end": b"\n", "half": good[: len(good) // 2]}
+    for what, damaged in damages.items():
+        watch.path(log).write_bytes(damaged)
+        watch.leaves_unchanged(f"a damaged state ({what}) and a fork", 4, log, says="the state")
+    watch.path(log).write_bytes(good)
+    watch.leaves_unchanged("a fork", 3, log, says='"verdict":"fork"')
+    kept = list(watch.path(log, "").glob("alarm.*/lines"))
+    if not kept or answers.head(FORKED[:8], log.now)["sha256_root_hash"] not in kept[0].read_text():
+        fail("a fork: the head isn't kept")
+    log.leaves, log.size, log.now = LEAVES, 5, log.now + 1
+    watch.leaves_unchanged("a smaller log", 3, log, says='"verdict":"shrunk"')
+    log.leaves, log.size = FORKED, 20
+    watch.ends("a rewritten log", 3, log.url, says='"verdict":"root-mismatch"')
+    if watch.state(log)["accepted"]["tree_size"] != 8:
+        fail("a rewritten log: another head was accepted")
+    return log
+
+
+def try_no_answers(watch):
+    """What is no answer is told, and leaves the state as it is: none on a first day, the one that stands there later."""
+    log, page = Log(), "<html>\n</html>\n"
+    forged = answers.state(answers.head(FORKED[:8], 1), None, FORKED[:8], FORKED[:8])
+    for day in ("first", "second"):
+        for what, status, text in (("a state", 4, answers.line(forged)), ("a page", 4, page), ("nothing", 5, ""), ("an empty line", 5, "\n"), ("404", 5, 404), ("503", 5, 503), ("entries", 5, '{"entries":[]}')):
+            log.instead = {"get-sth": text}
+            watch.leaves_unchanged(f"get-sth answers {what} on the {day} day", status, log, says=log.url)
+        log.instead = {}
+        watch.ends("a head again", 0, log.url, says="accepted 8 leaves")
+    log.size = 20
+    for what, status, text in (("no entries", 5, '{"entries":[]}'), ("a page", 4, page), ("500", 5, 500), ("entries from elsewhere", 5, '{"entries":[],"start":3}')):
+        log.instead = {"get-entries": text}
+        watch.ends(f"get-entries answers {what}", status, log.url, says=log.url)
+        if watch.state(log)["all"]["size"] != 8:
+            fail(f"get-entries answers {what}: the state has read it")
+    log.instead = {}
+    watch.ends("the entries after all", 0, log.url, says="accepted 20 leaves")
+
+
+def try_several(watch, followed, forked):
+    """Each log of a list has a line, and the gravest status counts."""
+    closed = closed_port()
+    if (watch.folder / closed.split("//")[1].replace(":", "_") / "state").exists():
+        fail("a closed port has a state")
+    output = watch.ends("a closed port and a log", 5, f"{closed} {followed.url}", says=f"{closed}: can't be reached")
+    if f"{followed.url}: accepted 30 leaves" not in output:
+        fail(f"a closed port and a log: the log has no line: {output}")
+    forked.leaves, forked.size = FORKED, 8
+    watch.ends("a closed port and a fork", 3, f"{closed} {forked.url}", says='"verdict":"fork"')
+    watch.ends("an old head", 6, followed.url, "--older-than", "1", says="OLD") if NOW - followed.now > 7200_000 else None
+    young = Log()
+    young.now = NOW
+    watch.ends("a young head", 0, young.url, "--older-than", "1000")
+
+
+def try_judges(watch, log, judge):
+    """A judge that isn't there, ends early or writes no state leaves the state as it is; so do wrong words."""
+    for what, status, line in (("is killed", 1, "[ -t 9 ]; grep -q . && kill -9 $$; exit 0"), ("has no memory", 1, "grep -q . && exit 1; exit 0"), ("writes no state", 1, "echo hello"), ("refuses its words", 2, "exit 2")):
+        watch.put_judge(line)
+        watch.leaves_unchanged(f"ctmonitor {what}", status, log)
+    watch.put_judge(f'exec {judge} "$@"')
+    watch.ends("a word that ctmonitor doesn't know", 2, log.url, "--nome", "a")
+    watch.ends("no number", 2, log.url, "--pieces", "many", says="watch.sh [--folder DIR]")
+    watch.ends("no log", 2, "", says="watch.sh [--folder DIR]")
+    held = subprocess.Popen(["flock", watch.folder / "lock", "sh", "-c", "echo held; read line"], stdin=subprocess.PIPE, stdout=subprocess.PIPE)
+    held.stdout.readline()
+    watch.ends("another run", 7, log.url, says="another run is at work")
+    held.communicate()
+
+
+def try_stand_in(work):
+    """The stand-in writes what answers.py has for each run."""
+    count = 0
+    for name, status, given, wanted in answers.runs():
+        words = [word for name in answers.NAMES for word in ("--name", name)]
+        ran = subprocess.run([sys.executable, HERE / "stand_in.py", *words], input="".join(map(answers.line, given)), capture_output=True, text=True)
+        if ran.returncode != status or ran.stdout != "".join(map(answers.line, wanted)):
+            fail(f"stand_in.py doesn't write what answers.py has for {name}: {ran.stdout}{ran.stderr}")
+        count += 1
+    return count
+
+
+def main():
+    runs = try_stand_in(HERE)
+    missing = [tool for tool in ("curl", "flock") if not shutil.which(tool)]
+    if missing:
+        print(f"examples/monitor/stand_in.py: as expected in {runs} runs. watch.sh wasn't tried: {' and '.join(missing)} isn't here.")
+        return
+    judge, which = (BUILT, "the built ctmonitor") if os.access(BUILT, os.X_OK) else (f"{sys.executable} {HERE / 'stand_in.py'}", "its stand-in, since ctmonitor isn't built")
+    with tempfile.TemporaryDirectory() as folder:
+        watch = Watch(pathlib.Path(folder), judge)
+        followed = try_days(watch)
+        try_interrupted(watch)
+        forked = try_alarms(watch)
+        try_no_answers(watch)
+        try_several(watch, followed, forked)
+        try_judges(watch, followed, judge)
+    print(f"examples/monitor: stand_in.py as expected in {runs} runs, watch.sh in {watch.count}, over {which}.")
+
+
+if __name__ == "__main__":
+    main()
