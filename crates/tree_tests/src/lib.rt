@@ -1,10 +1,12 @@
-//! Tests of `ct_tree`, `ct_verify` and `ct_monitor`, in a crate of their own so that each of those crates is proved once.
+//! Tests of `ct_tree`, `ct_verify`, `ct_monitor`, `ct_watch` and `ct_guard`, in a crate of their own so that each of those crates is proved once.
 #![tactic(auto)]
 
 #[cfg(test)]
 mod evidence;
 #[cfg(test)]
 mod forged_proofs;
+#[cfg(test)]
+mod guard;
 #[cfg(test)]
 mod library_call;
 #[cfg(test)]
