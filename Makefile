@@ -1,9 +1,15 @@
-.PHONY: help demo test check link install fuzz load sweep wrong sources serve interop
+.PHONY: help demo test check link install install-library install-ctlog install-ctlogd install-ctmonitor fuzz load sweep wrong sources serve interop
 
 SECONDS ?= 60
 RUNS ?= 20
 PREFIX ?= /usr/local
 PORT ?= 8618
+BUILT ?= crates
+
+PROGRAMS := ctlog ctlogd ctmonitor
+LIBRARY = $(BUILT)/wagtenib/out/link/libwagtenib
+VERSION = $(shell sed -n 's/^Version: //p' include/wagtenib.pc.in)
+TO = $(DESTDIR)$(PREFIX)
 
 help: ## says what each target does
 	@sed -n 's/^\([a-z]*\):.*## /make \1	/p' Makefile | expand -t 15
@@ -26,15 +32,26 @@ link: ## builds libwagtenib, the proof checkers for C, and runs programs in C, R
 	@checks/needs.sh link
 	@examples/link/link.sh
 
-install: crates/wagtenib/out/link/libwagtenib.a ## installs libwagtenib, its header and its pkg-config file below PREFIX=/usr/local
-	install -d $(DESTDIR)$(PREFIX)/include $(DESTDIR)$(PREFIX)/lib/pkgconfig
-	install -m 644 include/wagtenib.h $(DESTDIR)$(PREFIX)/include
-	install -m 644 crates/wagtenib/out/link/libwagtenib.a $(DESTDIR)$(PREFIX)/lib
-	install -m 755 crates/wagtenib/out/link/libwagtenib.so $(DESTDIR)$(PREFIX)/lib
-	sed 's|@PREFIX@|$(PREFIX)|' include/wagtenib.pc.in > $(DESTDIR)$(PREFIX)/lib/pkgconfig/wagtenib.pc
+# BUILT is the folder in which the crates' builds lie.
+install: $(PROGRAMS:%=install-%) install-library ## installs what is built, below PREFIX=/usr/local: ctlog, ctlogd, ctmonitor, watch.sh as ctmonitor-watch, and libwagtenib
+	@[ -n "$(wildcard $(PROGRAMS:%=$(BUILT)/%/out/%) $(LIBRARY).a)" ] || { echo "make install: nothing is built" >&2; exit 1; }
 
-crates/wagtenib/out/link/libwagtenib.a:
-	@$(MAKE) --silent link
+$(PROGRAMS:%=install-%): install-%:
+	@if [ -x $(BUILT)/$*/out/$* ]; then install -d $(TO)/bin && install -m 755 $(BUILT)/$*/out/$* $(TO)/bin && echo "$(PREFIX)/bin/$*"; \
+	else echo "$* isn't built: make demo builds ctlog and ctmonitor, make serve ctlogd"; fi
+	@if [ $* = ctmonitor ] && [ -x $(BUILT)/$*/out/$* ]; then install -m 755 examples/monitor/watch.sh $(TO)/bin/ctmonitor-watch && echo "$(PREFIX)/bin/ctmonitor-watch"; fi
+
+install-library:
+	@if [ -f $(LIBRARY).a ]; then \
+	  install -d $(TO)/include $(TO)/lib/pkgconfig && \
+	  install -m 644 include/wagtenib.h $(TO)/include && \
+	  install -m 644 $(LIBRARY).a $(TO)/lib && \
+	  install -m 755 $(LIBRARY).so $(TO)/lib/libwagtenib.so.$(VERSION) && \
+	  ln -sf libwagtenib.so.$(VERSION) $(TO)/lib/libwagtenib.so.0 && \
+	  ln -sf libwagtenib.so.0 $(TO)/lib/libwagtenib.so && \
+	  sed 's|@PREFIX@|$(PREFIX)|' include/wagtenib.pc.in > $(TO)/lib/pkgconfig/wagtenib.pc && \
+	  echo "$(PREFIX)/lib/libwagtenib.so.$(VERSION), libwagtenib.a, wagtenib.h and wagtenib.pc"; \
+	else echo "libwagtenib isn't built: make link builds it"; fi
 
 # After `rt run -- --help` in crates/ctlog, which builds it.
 fuzz: ## runs ctlog on random and damaged lines for SECONDS=60, and compares it with an independent program

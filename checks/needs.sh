@@ -1,10 +1,41 @@
 #!/usr/bin/env bash
-# Says what a target of the Makefile lacks here, and how long it takes on so many processors: needs.sh demo|test|check|link.
-# The times are those that docs/GATE.md has, shared out over the processors.
+# Says what a target of the Makefile lacks here, and how long it takes on so many processors: needs.sh demo|serve|test|check|link.
+# `needs.sh figures` prints the times on four processors, with which examples/scripts.py compares README.md and docs/GATE.md.
 set -u
 cd "$(dirname "$0")/.."
 what=$1
 missing=0
+
+# The processor minutes that a target takes where nothing was proved before, all on the faster machine of docs/GATE.md.
+work_of() {
+  case $1 in
+    demo) echo 41 ;;
+    serve) echo 48 ;;
+    test) echo 126 ;;
+    link) echo 6 ;;
+  esac
+}
+
+# The minutes that target $1 takes on $2 processors, rounded to five. The gate proves crates side by side: a third is added where processors
+# share them, and more than eight gain little. The others prove crate after crate, so that four processors are taken to halve the time.
+minutes() {
+  python3 - "$1" "$(work_of "$1")" "$2" <<'END'
+import sys
+
+what, work, processors = sys.argv[1], int(sys.argv[2]), int(sys.argv[3])
+taken = work / min(processors, 4) ** 0.5
+if what == "test" and processors > 1:
+    taken = work * 4 / 3 / min(processors, 8)
+print(max(5, round(taken / 5) * 5))
+END
+}
+
+if [ "$what" = figures ]; then
+  for target in demo serve test; do
+    echo "make $target: $(minutes $target 4) minutes ($(work_of $target) of one processor)"
+  done
+  exit
+fi
 
 lacks() {
   echo "make $what lacks $1" >&2
@@ -30,24 +61,12 @@ kit=$(rt version)
 [[ $(<README.md) == *"$kit"* ]] || echo "This kit is $kit, and another than README.md names: proofs made with that one may fail here." >&2
 
 processors=$(python3 -c 'import os; print(len(os.sched_getaffinity(0)))')
-# The minutes that so many processor minutes take here, rounded to five. The gate proves crates side by side: a third is added where processors share
-# them, and more than eight gain little. The others prove crate after crate, so that four processors are taken to halve the time.
-minutes() {
-  python3 - "$1" "$processors" "$what" <<'END'
-import sys
-
-work, processors, what = int(sys.argv[1]), int(sys.argv[2]), sys.argv[3]
-taken = work / min(processors, 4) ** 0.5
-if what == "test" and processors > 1:
-    taken = work * 4 / 3 / min(processors, 8)
-print(max(5, round(taken / 5) * 5))
-END
-}
 [ "$processors" = 1 ] && on="one processor" || on="$processors processors"
 case $what in
-  demo) work=41 first="ctlog, ctmonitor and the crates below them. Where nothing was proved before, that" ;;
-  link) work=6 first="the library and the crates below it. Where nothing was proved before, that" ;;
-  test) work=180 first="everything, from nothing. That" ;;
+  demo) first="ctlog, ctmonitor and the crates below them. Where nothing was proved before, that" ;;
+  serve) first="ctlogd and the crates below it. Where nothing was proved before, that" ;;
+  link) first="the library and the crates below it. Where nothing was proved before, that" ;;
+  test) first="everything, from nothing. That" ;;
   *) exit 0 ;;
 esac
-echo "make $what proves $first takes some $(minutes $work) minutes on $on ($work of one processor)."
+echo "make $what proves $first takes some $(minutes "$what" "$processors") minutes on $on ($(work_of "$what") of one processor)."

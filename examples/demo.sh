@@ -76,8 +76,8 @@ watch() {
 
 [ -n "${CTLOG:-}" ] || build ctlog
 
-echo "The first session of README.md: $program --fronts 1 --ring 4 --close-at 7 < examples/first-session.jsonl"
-"$program" --fronts 1 --ring 4 --close-at 7 <examples/first-session.jsonl >"$work/first-session" || fail "$program ended with status $?"
+echo "The first session of README.md: $program --fronts 1 --ring 4096 --close-at 7 < examples/first-session.jsonl"
+"$program" --fronts 1 --ring 4096 --close-at 7 <examples/first-session.jsonl >"$work/first-session" || fail "$program ended with status $?"
 cat "$work/first-session"
 diff "$work/first-session" examples/first-session.expected.jsonl >&2 || fail "the replies differ from examples/first-session.expected.jsonl"
 echo

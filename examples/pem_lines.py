@@ -7,6 +7,9 @@ Each file is a chain, the end entity first, as web servers are given it and as `
 between the certificates is passed over. It gives one line, an add-chain by front N (0 where it isn't given). Nothing is printed where a file has
 no certificate, or one that isn't read, or a precertificate: that is submitted by add-pre-chain, with its issuer's key hash and its
 TBSCertificate, for which a parser of X.509 is needed.
+
+On standard error it says how large a ring `ctlog` needs for them: a front's lines are done before the operator's settle any of them, so that a
+submission without a place is answered with `full`, and isn't in the log.
 """
 import argparse
 import base64
@@ -17,6 +20,8 @@ import sys
 
 CERTIFICATE = re.compile(r"-----BEGIN CERTIFICATE-----(.*?)-----END CERTIFICATE-----", re.S)
 LONGEST_LINE = 1 << 20
+# The places of a front's ring that ctlog gives at most.
+MOST_PLACES = 4096
 # The poison extension's name, 1.3.6.1.4.1.11129.2.4.3 (RFC 6962, section 3.1), in DER.
 POISON = bytes.fromhex("060a2b06010401d679020403")
 
@@ -64,6 +69,9 @@ def main():
         except (OSError, ValueError) as error:
             sys.exit(f"pem_lines.py: {file}: {getattr(error, 'strerror', None) or error}")
     print("\n".join(lines))
+    told = f"pem_lines.py: {len(lines)} submissions of front {words.front}: ctlog takes them with --ring {len(lines)} or more"
+    most = f", of at most {MOST_PLACES}: put a line of shift between every {MOST_PLACES}"
+    print(told + most * (len(lines) > MOST_PLACES), file=sys.stderr)
 
 
 if __name__ == "__main__":

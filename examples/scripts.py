@@ -5,8 +5,10 @@ log of its own. It runs no ctlog.
 It prints one line where all is as expected; else it says what isn't, and ends with status 1.
 """
 import json
+import os
 import pathlib
 import random
+import re
 import subprocess
 import sys
 import tempfile
@@ -28,7 +30,7 @@ DAMAGED = 1000
 LIVE, LIVE_FRONTS = HERE.parent / "crates" / "ctlogd", 2
 # The stored inputs, each with the fronts, ring and moments under which its replies are expected.
 INPUTS = {
-    "first-session": "1 4 0 7",
+    "first-session": "1 4096 0 7",
     "real-chains": "1 32 1767225600000 1767225660000",
     "four-fronts": "4 32 1767225600000 1767225660000",
 }
@@ -117,12 +119,66 @@ def try_live():
     return count
 
 
+def make_install(folder, built):
+    """Runs `make install` over the builds in a folder, into folder/to."""
+    environment = {name: value for name, value in os.environ.items() if name not in ("MAKEFLAGS", "MFLAGS", "MAKELEVEL")}
+    words = [f"BUILT={built}", f"DESTDIR={folder}/to", "PREFIX=/opt/log"]
+    return subprocess.run(["make", "--silent", "install", *words], cwd=HERE.parent, env=environment, capture_output=True, text=True)
+
+
+def installed(folder):
+    """The files and links below a folder, each with its text."""
+    return {str(path.relative_to(folder)): path.read_text() for path in folder.rglob("*") if not path.is_dir()}
+
+
+def try_install(folder):
+    """What is built is installed, byte for byte, and what isn't is named. Builds are made up: files of some words."""
+    ran = make_install(folder, folder / "nothing")
+    if not ran.returncode or installed(folder):
+        fail(f"make install, with nothing built: status {ran.returncode}, {installed(folder)}")
+    sources = {"bin/ctlog": "ctlog/out/ctlog", "bin/ctmonitor": "ctmonitor/out/ctmonitor"}
+    sources |= {f"lib/libwagtenib.{name}": f"wagtenib/out/link/libwagtenib.{end}" for name, end in (("a", "a"), ("so.0.1.0", "so"))}
+    for path in sources.values():
+        (folder / "built" / path).parent.mkdir(parents=True, exist_ok=True)
+        (folder / "built" / path).write_text(f"made up: {path}")
+        (folder / "built" / path).chmod(0o755)
+    ran = make_install(folder, folder / "built")
+    due = {path: f"made up: {source}" for path, source in sources.items()}
+    due |= {f"lib/libwagtenib.{end}": due["lib/libwagtenib.so.0.1.0"] for end in ("so.0", "so")}
+    due["bin/ctmonitor-watch"] = (HERE / "monitor" / "watch.sh").read_text()
+    due["include/wagtenib.h"] = (HERE.parent / "include" / "wagtenib.h").read_text()
+    due["lib/pkgconfig/wagtenib.pc"] = (HERE.parent / "include" / "wagtenib.pc.in").read_text().replace("@PREFIX@", "/opt/log")
+    to = folder / "to" / "opt" / "log"
+    if ran.returncode or "ctlogd isn't built" not in ran.stdout or "ctlog isn't built" in ran.stdout:
+        fail(f"make install: status {ran.returncode}: {ran.stdout}{ran.stderr}")
+    if installed(to) != due or installed(folder / "to") != {f"opt/log/{path}": text for path, text in due.items()}:
+        fail(f"make install: {sorted(path for path, _ in installed(folder / 'to').items() ^ {f'opt/log/{path}': text for path, text in due.items()}.items())}")
+    if not all(os.access(to / path, os.X_OK) for path in due if path.startswith("bin/")):
+        fail("make install: a program can't be run")
+    return len(due)
+
+
+def try_figures():
+    """README.md and docs/GATE.md have the times of checks/needs.sh, and no others in that form."""
+    told = dict(re.findall(r"^make (\w+): (.+)$", subprocess.run([HERE.parent / "checks" / "needs.sh", "figures"], capture_output=True, text=True).stdout, re.M))
+    rows = {page: re.findall(r"^\| `make (\w+)` \|.*?(\d+ minutes \(\d+ of one processor\))", (HERE.parent / page).read_text(), re.M) for page in ("README.md", "docs/GATE.md")}
+    if set(told) != {"demo", "serve", "test"} or {target for target, _ in rows["README.md"]} != set(told):
+        fail(f"README.md has the times of {rows['README.md']}, checks/needs.sh those of {told}")
+    for page, found in rows.items():
+        for target, time in found:
+            if told.get(target) != time:
+                fail(f"{page} says of make {target} {time}, checks/needs.sh {told.get(target)}")
+
+
 def main():
     try_reasons()
     try_agreement()
     outputs = try_live()
     with tempfile.TemporaryDirectory() as folder:
         chains = try_pem(pathlib.Path(folder))
+    with tempfile.TemporaryDirectory() as folder:
+        files = try_install(pathlib.Path(folder))
+    try_figures()
     for name, words in INPUTS.items():
         ran = run("expected.py", *words.split(), given=(HERE / f"{name}.jsonl").read_bytes())
         if ran.stdout != (HERE / f"{name}.expected.jsonl").read_bytes():
@@ -132,7 +188,7 @@ def main():
         fail(f"monitor/watch_check.py: {watched.stderr.decode()}")
     sys.stdout.write(watched.stdout.decode())
     stored = len(lines_of("bad-lines"))
-    rest = f"{chains} chains, {len(INPUTS)} inputs and {outputs} damaged outputs"
+    rest = f"{chains} chains, {len(INPUTS)} inputs, {outputs} damaged outputs and {files} installed files"
     print(f"examples/scripts.py: as expected, over {stored} stored lines, {DAMAGED} damaged ones, {rest}.")
 
 

@@ -20,7 +20,7 @@ proved=$PWD/crates/wagtenib/out/libwagtenib.a
 mkdir -p "$out"
 rm -f "$out"/libwagtenib.*
 ar rcs "$out/libwagtenib.a" "$work"/*.o
-"$compiler" -shared -o "$out/libwagtenib.so" -Wl,-soname,libwagtenib.so -Wl,--whole-archive "$out/libwagtenib.a" -Wl,--no-whole-archive
+"$compiler" -shared -o "$out/libwagtenib.so" -Wl,-soname,libwagtenib.so.0 -Wl,--whole-archive "$out/libwagtenib.a" -Wl,--no-whole-archive
 nm "$out/libwagtenib.a" >"$work/names" 2>/dev/null
 python3 examples/link/names.py "$work/names"
 

@@ -11,7 +11,7 @@ use Rattle.ct_verify.specs.ConsistencyEvidence.{IsAcceptedFor, IsBeginning}
 use Rattle.ct_verify.specs.InclusionEvidence.{IsAccepted}
 use Rattle.ct_verify.specs.Laws.{AreHashes, SomeCollide}
 use Rattle.ct_verify.specs.Verdict.{AcceptsInclusion, AcceptsConsistency}
-use Rattle.ct_guard.specs.Guarded.{Passes, PassesReceipt, IsLater}
+use Rattle.ct_guard.specs.Guarded.{PassesHead, PassesReceipt, IsLater}
 use Rattle.ct_guard.specs.History.{Passed, ArePassed, BeginsAll, AreBeginnings, PassedHeadsAgree, PassedReceiptsStand}
 
 -- ---- beginnings
@@ -54,7 +54,7 @@ module _ (H : List ℕ → List ℕ) (hash_length : (x : List ℕ) → length (H
   later last head E D p a b hashes (inr (inl s)) = inl (none_begins E D (sym a.0 ∙ s.0))
   later last head E D p a b hashes (inr (inr c)) = accepted last head E D p a b hashes c
 
-  behind : (last head : Head) (E D p : List (List ℕ)) → IsHeadOfAll H E last → IsHeadOfAll H D head → AreHashes p → Passes H (Some last) head p
+  behind : (last head : Head) (E D p : List (List ℕ)) → IsHeadOfAll H E last → IsHeadOfAll H D head → AreHashes p → PassesHead H (Some last) head p
       → IsBeginning E D ⊎ SomeCollide H
   behind last head E D p a b hashes (inl same) = one_root last head E D a b (sym (ap (λ h. h.tree_size) same)) (ap (λ h. h.root) same)
   behind last head E D p a b hashes (inr l) = later last head E D p a b hashes l.1

@@ -20,45 +20,45 @@ IsLater H last head p =
 
 -- why the tree of a head with as many leaves or more doesn't go on that of the last one. Fork: one size, and another root.
 -- Inconsistent: more leaves, and the consistency proof is refused
-abbrev pub RefusesLater : (List ℕ → List ℕ) → Head → Head → List (List ℕ) → HeadRefusal → Type 0
-RefusesLater H last head p SizeFalls = ⊥
-RefusesLater H last head p MomentNotLater = ⊥
-RefusesLater H last head p Fork = (head.tree_size ≡ last.tree_size) × (¬ (head.root ≡ last.root))
-RefusesLater H last head p (Inconsistent fault) =
+abbrev pub StopsLater : (List ℕ → List ℕ) → Head → Head → List (List ℕ) → HeadRefusal → Type 0
+StopsLater H last head p SizeFalls = ⊥
+StopsLater H last head p MomentNotLater = ⊥
+StopsLater H last head p Fork = (head.tree_size ≡ last.tree_size) × (¬ (head.root ≡ last.root))
+StopsLater H last head p (Inconsistent fault) =
     (0 < last.tree_size) × (last.tree_size < head.tree_size)
     × RefusesConsistency H last.tree_size head.tree_size last.root head.root p fault
 
 -- a head is let through behind the last one by the proof p: it is the first; or the last one once more; or it is later, and its tree
 -- goes on the last one's
-abbrev pub Passes : (List ℕ → List ℕ) → Option Head → Head → List (List ℕ) → Type 0
-Passes H None head p = ⊤
-Passes H (Some last) head p = (head ≡ last) ⊎ ((last.timestamp < head.timestamp) × IsLater H last head p)
+abbrev pub PassesHead : (List ℕ → List ℕ) → Option Head → Head → List (List ℕ) → Type 0
+PassesHead H None head p = ⊤
+PassesHead H (Some last) head p = (head ≡ last) ⊎ ((last.timestamp < head.timestamp) × IsLater H last head p)
 
 -- why a head is refused behind the last one: it is another one with fewer leaves (SizeFalls); it has as many leaves or more, and isn't
 -- later (MomentNotLater); it is later, and its tree doesn't go on (Fork, Inconsistent)
-abbrev pub Refuses : (List ℕ → List ℕ) → Option Head → Head → List (List ℕ) → HeadRefusal → Type 0
-Refuses H None head p refusal = ⊥
-Refuses H (Some last) head p SizeFalls = head.tree_size < last.tree_size
-Refuses H (Some last) head p MomentNotLater =
+abbrev pub StopsHead : (List ℕ → List ℕ) → Option Head → Head → List (List ℕ) → HeadRefusal → Type 0
+StopsHead H None head p refusal = ⊥
+StopsHead H (Some last) head p SizeFalls = head.tree_size < last.tree_size
+StopsHead H (Some last) head p MomentNotLater =
     (¬ (head ≡ last)) × (last.tree_size ≤ head.tree_size) × (head.timestamp ≤ last.timestamp)
-Refuses H (Some last) head p Fork = (last.timestamp < head.timestamp) × RefusesLater H last head p Fork
-Refuses H (Some last) head p (Inconsistent fault) = (last.timestamp < head.timestamp) × RefusesLater H last head p (Inconsistent fault)
+StopsHead H (Some last) head p Fork = (last.timestamp < head.timestamp) × StopsLater H last head p Fork
+StopsHead H (Some last) head p (Inconsistent fault) = (last.timestamp < head.timestamp) × StopsLater H last head p (Inconsistent fault)
 
 -- the bytes are those of a leaf
-abbrev pub IsLeaf : List ℕ → Type 0
-IsLeaf b = (t : ℕ) × (e : SignedEntry) × (x : List ℕ) × LeafText t e x b
+abbrev pub IsLeafBytes : List ℕ → Type 0
+IsLeafBytes b = (t : ℕ) × (e : SignedEntry) × (x : List ℕ) × LeafText t e x b
 
 -- a receipt over these bytes is let through: they are a leaf, and the path p leads from it at index m to the last head's root
 abbrev pub PassesReceipt : (List ℕ → List ℕ) → Option Head → List ℕ → ℕ → List (List ℕ) → Type 0
 PassesReceipt H None b m p = ⊥
-PassesReceipt H (Some last) b m p = IsLeaf b × AcceptsInclusion H (hash_leaf H b) m last.tree_size p last.root
+PassesReceipt H (Some last) b m p = IsLeafBytes b × AcceptsInclusion H (hash_leaf H b) m last.tree_size p last.root
 
 -- why a receipt is refused: there is no head yet (NoHead); the bytes are no leaf, with the first fault (NoLeaf); they are one, and the
 -- path is refused (NotThere)
-abbrev pub RefusesReceipt : (List ℕ → List ℕ) → Option Head → List ℕ → ℕ → List (List ℕ) → ReceiptRefusal → Type 0
-RefusesReceipt H None b m p NoHead = ⊤
-RefusesReceipt H None b m p (NoLeaf fault) = ⊥
-RefusesReceipt H None b m p (NotThere fault) = ⊥
-RefusesReceipt H (Some last) b m p NoHead = ⊥
-RefusesReceipt H (Some last) b m p (NoLeaf fault) = LeafFaulty fault b
-RefusesReceipt H (Some last) b m p (NotThere fault) = IsLeaf b × RefusesInclusion H (hash_leaf H b) m last.tree_size p last.root fault
+abbrev pub StopsReceipt : (List ℕ → List ℕ) → Option Head → List ℕ → ℕ → List (List ℕ) → ReceiptRefusal → Type 0
+StopsReceipt H None b m p NoHead = ⊤
+StopsReceipt H None b m p (NoLeaf fault) = ⊥
+StopsReceipt H None b m p (NotThere fault) = ⊥
+StopsReceipt H (Some last) b m p NoHead = ⊥
+StopsReceipt H (Some last) b m p (NoLeaf fault) = LeafFaulty fault b
+StopsReceipt H (Some last) b m p (NotThere fault) = IsLeafBytes b × RefusesInclusion H (hash_leaf H b) m last.tree_size p last.root fault

@@ -5,7 +5,7 @@ use Rattle.ct_tree.specs.declared.head.Head.{Head}
 use Rattle.ct_monitor.specs.Heads.{IsHeadOfAll}
 use Rattle.ct_verify.specs.ConsistencyEvidence.{IsBeginning}
 use Rattle.ct_verify.specs.Laws.{AreHashes, SomeCollide}
-use Rattle.ct_guard.specs.Guarded.{Passes, PassesReceipt}
+use Rattle.ct_guard.specs.Guarded.{PassesHead, PassesReceipt}
 
 -- A head that was let through: the head, the proof that was handed in with it (elements of 32 bytes), and the leaves of the list whose
 -- head it is, which nobody need have.
@@ -18,7 +18,7 @@ pub record Passed : Type 0 where
 unfoldable pub ArePassed : (List ℕ → List ℕ) → Option Head → List Passed → Type 0
 ArePassed H last [] = ⊤
 ArePassed H last (s ∷ steps) =
-    Passes H last s.head s.proof × AreHashes s.proof × IsHeadOfAll H s.leaves s.head × ArePassed H (Some s.head) steps
+    PassesHead H last s.head s.proof × AreHashes s.proof × IsHeadOfAll H s.leaves s.head × ArePassed H (Some s.head) steps
 
 -- the list D begins that of each of these heads
 unfoldable pub BeginsAll : List (List ℕ) → List Passed → Type 0

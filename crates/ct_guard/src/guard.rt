@@ -1,6 +1,6 @@
 //! What may be signed.
 ghost use Rattle.std.specs.Prelude.{◌≡◌, ◌≤◌, Some, None, MatchResult, OnOk, OnErr};
-ghost use Rattle.ct_guard.specs.Guarded.{Passes, PassesReceipt, Refuses, RefusesLater, RefusesReceipt, IsLater};
+ghost use Rattle.ct_guard.specs.Guarded.{PassesHead, PassesReceipt, StopsHead, StopsLater, StopsReceipt, IsLater};
 
 use crate::refusal::{HeadRefusal, ReceiptRefusal};
 use ct_codec::lend_leaf;
@@ -21,7 +21,7 @@ fn goes_on<H: NodeHash>(
     proof: &[[u8; 32]],
 ) -> Result<(), HeadRefusal>
     requires larger { last.now.tree_size ≤ head.now.tree_size }
-    ensures { MatchResult result (λ _. IsLater H.digest last.now head.now proof.now) (RefusesLater H.digest last.now head.now proof.now) }
+    ensures { MatchResult result (λ _. IsLater H.digest last.now head.now proof.now) (StopsLater H.digest last.now head.now proof.now) }
 {
     if head.tree_size == last.tree_size {
         return if is_same_digest(&head.root, &last.root) {
@@ -62,13 +62,13 @@ impl Guard {
     ///
     /// # Errors
     /// In this order: `SizeFalls`, `MomentNotLater`, `Fork`, `Inconsistent`. The guard is then as it was.
-    pub fn pass<H: NodeHash>(
+    pub fn pass_head<H: NodeHash>(
         &mut self,
         h: &H,
         head: &Head,
         proof: &[[u8; 32]],
     ) -> Result<(), HeadRefusal>
-        ensures passes { MatchResult result (λ _. Passes H.digest self.old.last head.now proof.now) (Refuses H.digest self.old.last head.now proof.now) }
+        ensures passes { MatchResult result (λ _. PassesHead H.digest self.old.last head.now proof.now) (StopsHead H.digest self.old.last head.now proof.now) }
         ensures next { OnOk result (self.new.last ≡ Some head.now) }
         ensures unchanged { OnErr result (self.new ≡ self.old) }
     {
@@ -103,7 +103,7 @@ pub fn pass_receipt<H: NodeHash>(
     path: &[[u8; 32]],
 ) -> Result<(), ReceiptRefusal>
     ensures { MatchResult result (λ _. PassesReceipt H.digest guard.now.last leaf.now index path.now)
-        (RefusesReceipt H.digest guard.now.last leaf.now index path.now) }
+        (StopsReceipt H.digest guard.now.last leaf.now index path.now) }
 {
     let Some(last) = guard.last else {
         return Err(ReceiptRefusal::NoHead);
