@@ -9,6 +9,7 @@ to a minute of a processor. Without a name it looks, in a moment, whether all ed
 stands in both. With names it has rt try the crates' edits of this folder, over a copy of the repository with what is proved there.
 """
 import pathlib
+import re
 import shutil
 import subprocess
 import sys
@@ -34,7 +35,7 @@ def why_not(edit, crate):
             text = texts.setdefault(path, (crate / path).read_text())
             if text.count(old) != 1:
                 return f"an 'old:' text is in {path} {text.count(old)} times, and not once"
-            texts[path] = text.replace(old, line[len("new:"):].removeprefix(" "))
+            texts[path] = text.replace(old, re.sub("^ ", "", line[len("new:"):]))
             old, pairs = None, pairs + 1
     return None if pairs else "it has no 'old:' and 'new:' pair"
 
