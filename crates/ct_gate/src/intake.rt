@@ -1,6 +1,7 @@
 //! A front's end of the gate, which accepts submissions.
 
 ghost use Rattle.std.specs.Prelude.{◌≡◌, ◌<◌, ◌≤◌, true, MatchBool, MatchResult};
+ghost use Rattle.rtrb.specs.Ring.{known_free, ProducerLooked};
 ghost use Rattle.ct_gate.specs.Ends.{SameIntake};
 ghost use Rattle.ct_gate.specs.Sending.{Accepts, Refuses};
 
@@ -62,6 +63,20 @@ impl Model for Intake {
         × (producer_capacity i.producer ≤ i.room + length (sent i.producer)) };
 }
 
+// How many places of the ring are free: those counted before, or, where none was, all that a look finds.
+fn free_places(producer: &mut Producer<Item>, counted: usize) -> usize
+    requires { counted ≤ known_free producer.old }
+    ensures looked { ProducerLooked producer.old producer.new }
+    ensures counted { 0 < counted → result ≡ counted }
+    ensures found { counted ≡ 0 → result ≡ known_free producer.new }
+{
+    if counted == 0 {
+        producer.slots()
+    } else {
+        counted
+    }
+}
+
 impl Intake {
     /// The number of its front.
     pub fn number(&self) -> u16
@@ -91,9 +106,7 @@ impl Intake {
         ensures free { MatchBool result (0 < self.new.free) ((self.old.free ≡ 0) × (self.new.free ≡ 0)) }
         ensures kept { self.old.free ≤ self.new.free }
     {
-        if self.room == 0 {
-            self.room = self.producer.slots();
-        }
+        self.room = free_places(&mut self.producer, self.room);
         self.room > 0
     }
 
@@ -102,7 +115,7 @@ impl Intake {
     ///
     /// The refusals, in order: `Shutdown` where a glance at the gate word, or an earlier refused draw, showed the
     /// shutdown; `FrontSpent` where 2^32 submissions of this front were accepted; `Full` where no free place of the ring is known
-    /// before the call and after it (that it looks is tested). Then one draw is made, which is `Shutdown` too where the gate was shut in between.
+    /// before the call and after it (where none is counted it looks, which is tested too). Then one draw is made, which is `Shutdown` too where the gate was shut in between.
     pub fn send(&mut self, submission: Submission) -> Result<u64, (Refusal, Submission)>
         ensures same { SameIntake self.old self.new }
         ensures shutdown { self.old.knows_shutdown ≡ true → self.new.knows_shutdown ≡ true }

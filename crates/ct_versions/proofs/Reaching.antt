@@ -1,5 +1,5 @@
 -- What two have seen of one line.
-use Rattle.std.proofs.Common.{◌≡◌, ℕ, ◌-◌, ◌≤◌, List, length, ap, sym, ◌∙◌, subst, arith, inl, inr}
+use Rattle.std.proofs.Common.{◌≡◌, ℕ, ◌-◌, ◌<◌, ◌≤◌, List, length, ap, sym, ◌∙◌, subst, arith, inl, inr}
 use Rattle.std.proofs.lemmas.Bool.{cases_lt}
 use Rattle.std.proofs.lemmas.Option.{get_or_from_slice_get, same_Some}
 use Rattle.std.specs.Prelude.{Some, slice_get}
@@ -28,6 +28,27 @@ two_seen xs ys zs (cs, kept) x y px py line heads =
             let e : i ≡ j = omega arith in
             let one : newest xs ≡ newest ys = same_Some (newest xs) (newest ys) (sym atx ∙ ap (slice_get zs) e ∙ aty) in
             subst (λ (z : Publication). Extends (newest xs).state z.state) one (Extends-refl (newest xs).state)
+      ]
+    ]
+
+-- what was seen of a line begins the publication that nothing comes behind
+pub begun_by : (xs ys zs : List Publication) → ((cs : List Cell) × IsKept cs zs) → Ends xs (newest xs) → Ends ys (newest ys) → IsPrefix xs zs
+    → IsPrefix ys zs → (newest ys).line ≡ (newest xs).line → (k : ℕ) → (newest xs).turn ≡ k
+    → ((i j : ℕ) (p q : Publication) → i < j → slice_get zs i ≡ Some p → slice_get zs j ≡ Some q → q.line ≡ p.line → p.turn ≡ k → ⊥)
+    → Extends (newest ys).state (newest xs).state
+begun_by xs ys zs (cs, kept) x y px py line k turn behind =
+    let i = length xs - 1 in
+    let j = length ys - 1 in
+    let atx : slice_get zs i ≡ Some (newest xs) = prefix_get xs zs i (newest xs) px x in
+    let aty : slice_get zs j ≡ Some (newest ys) = prefix_get ys zs j (newest ys) py y in
+    elim (cases_lt j i) [
+      | inl below ↦ (kept.newer j i (newest ys) (newest xs) below aty atx (sym line)).extends
+      | inr above ↦ elim (cases_lt i j) [
+        | inl after ↦ absurd (behind i j (newest xs) (newest ys) after atx aty line turn)
+        | inr there ↦
+            let e : i ≡ j = omega arith in
+            let one : newest xs ≡ newest ys = same_Some (newest xs) (newest ys) (sym atx ∙ ap (slice_get zs) e ∙ aty) in
+            subst (λ (z : Publication). Extends z.state (newest xs).state) one (Extends-refl (newest xs).state)
       ]
     ]
 

@@ -3,10 +3,10 @@ use Rattle.std.proofs.Common.{◌≡◌, ℕ, zero, suc, ◌-◌, ◌<◌, true,
 use Rattle.std.proofs.lemmas.List.{append-nil}
 use Rattle.std.proofs.lemmas.Bool.{false≢true}
 use Rattle.std.specs.Prelude.{slice_set}
-use Rattle.logbook.specs.Pages.{Cell, Nib, cell, adds, gives, may_write, no_nib, step, Moves}
+use Rattle.logbook.specs.Pages.{Cell, Nib, cell, adds, gives, keeps, may_write, no_nib, step, Moves}
 use Rattle.ct_core.specs.Settlement.{Lawful}
 use Rattle.ct_core.specs.Core.{Extends}
-use Rattle.ct_versions.specs.Publications.{AddsToLine, Ends, IsHome, IsKept, IsRight, MakesRight, OpensLine, newest}
+use Rattle.ct_versions.specs.Publications.{AddsToLine, Ends, HoldsTurn, IsHome, IsKept, IsRight, MakesRight, OpensLine, newest}
 use Rattle.ct_versions.specs.declared.publications.Publication.{Publication}
 use Rattle.ct_versions.proofs.Lines.{ends_push, kept_add, kept_more, newer_than_all}
 use Rattle.ct_versions.proofs.Prefixes.{prefix_get}
@@ -121,5 +121,29 @@ add_moves v e n f ends right extends heads law cs all kept pre away =
             (stays_home cs f n p.line named) law,
         inl (refl, refl),
         ends_push all x,
+      ),
+    )
+
+-- whoever has the turn of a line sees that nothing in it comes behind
+pub turn_holds : (v : List Publication) (e : Publication) (n : Nib) (f : ℕ → ℕ) → n.right ≡ may_write
+    → Moves IsKept shown moved 0 (v, (n, None)) f (HoldsTurn (step 0 0 0 e) (v, (n, None)))
+turn_holds v e n f right cs all kept pre away =
+    let here = away right in
+    let one = slice_set cs 0 (f (cell cs 0).0, true) in
+    let nobody : IsHome cs n.key → ⊥ = λ h. false≢true (sym here.1 ∙ h) in (
+      home_within cs 0 kept.word,
+      kept.word,
+      (
+        keeps,
+        [],
+        None,
+        tt,
+        subst (IsKept one) (sym (append-nil all)) (kept_more cs one all (λ k h. home_set cs 0 (f (cell cs 0).0) k h) kept),
+        inl (refl, refl),
+        (
+          refl,
+          λ i j p q below atp atq line turn. nobody (subst (IsHome cs) turn
+              (kept.over i j p q below (prefix_get v all i p pre atp) (prefix_get v all j q pre atq) line)),
+        ),
       ),
     )

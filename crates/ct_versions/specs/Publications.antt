@@ -63,6 +63,11 @@ OpensLine s v found w = Ends w.0 (record { line = v.1.0.key; state = s.ask.state
 abbrev pub AddsToLine : Step Publication → View Publication ℕ → ℕ → View Publication ℕ → Type 0
 AddsToLine s v found w = Ends w.0 (record { line = (newest v.0).line; state = s.ask.state; turn = s.ask.turn })
 
+-- what a step tells that is made with the pen of a turn: the pen stays, and of what was seen nothing in its line comes behind that turn's publication
+abbrev pub HoldsTurn : Step Publication → View Publication ℕ → ℕ → View Publication ℕ → Type 0
+HoldsTurn s v found w = (w.1.0 ≡ v.1.0) × ((i j : ℕ) (p q : Publication) → i < j → slice_get v.0 i ≡ Some p → slice_get v.0 j ≡ Some q → q.line ≡ p.line
+    → p.turn ≡ v.1.0.key → ⊥)
+
 -- what was seen of a book: its newest publication
 pub record Reach : Type 0 where
   pub book : Book

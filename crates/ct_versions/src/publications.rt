@@ -75,6 +75,24 @@ struct Asked<'a> {
     turn: &'a Pen,
 }
 
+// The step that looks whether anything comes behind a turn.
+struct HoldTurn;
+
+impl Play<Publication, u64> for HoldTurn {
+    ghost use Rattle.ct_versions.specs.Publications.{HoldsTurn};
+
+    ghost then = { HoldsTurn };
+}
+
+impl Plain<(), Publication, u64> for HoldTurn {
+    ghost use Rattle.std.specs.Prelude.{None};
+    ghost use Rattle.ct_versions.specs.Publications.{no_publication};
+
+    ghost ask = { λ about. no_publication };
+
+    ghost state = { λ about. None };
+}
+
 // The step that begins a line, and the one by which it goes on.
 struct Open;
 
@@ -204,6 +222,20 @@ impl Reached {
         true
     }
 
+    // What another has seen of the line begins the state whose turn this is: nobody else adds to the line.
+    fn vouch_for(&self, head: &Word<Publication, u64, Law>, turn: &mut Pen, other: &Reached)
+        requires head { head.now ≡ head_of self.now.book }
+        requires turn { (turn.old.book ≡ self.now.book) × IsRight turn.old.nib self.now.last.turn }
+        requires series { series_of other.now ≡ series_of self.now }
+        ensures turn { (turn.new.book ≡ turn.old.book) × (turn.new.nib ≡ turn.old.nib) }
+        ensures begins { Extends other.now.last.state self.now.last.state }
+    {
+        let mut both = self.seen.again();
+        both.learn(&other.seen);
+        let mut offer = both.plain::<Nothing, (), HoldTurn>(&());
+        head.compare_exchange::<HoldTurn, Nothing>(0, 0, &mut both, &mut offer, turn);
+    }
+
     // Adds a state to the line at this turn, and makes the right to the next turn. It can't fail: nobody else has the turn.
     fn announce(&mut self, head: &Word<Publication, u64, Law>, turn: &mut Pen, next: &Published)
         requires head { head.now ≡ head_of self.old.book }
@@ -261,6 +293,16 @@ impl Announcer {
         ensures { result ≡ self.now }
     {
         self.reached.again()
+    }
+
+    /// What another has seen of the line begins the newest state: nobody else adds to it.
+    pub fn vouch_for(&mut self, other: &Reached)
+        requires { series_of other.now ≡ series_of self.old }
+        ensures same { self.new ≡ self.old }
+        ensures begins { Extends other.now.last.state self.old.last.state }
+    {
+        let head = &self.head;
+        self.reached.vouch_for(head, &mut self.turn, other);
     }
 
     /// Adds a state.

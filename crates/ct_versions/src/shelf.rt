@@ -158,6 +158,15 @@ impl Shelf {
         self.show(rt, version);
     }
 
+    /// What a viewer of these publications has seen begins the newest state: nobody else publishes. It takes no memory and doesn't wait.
+    pub fn vouch_for(&mut self, viewer: &Viewer)
+        requires { viewer.now.series ≡ self.old.series }
+        ensures same { self.new ≡ self.old }
+        ensures begins { Extends viewer.now.seen self.old.seen }
+    {
+        self.announcer.vouch_for(viewer.reached());
+    }
+
     /// Waits until nobody looks, and ends it.
     pub fn close<R: Wait>(self, rt: &R) {
         let Shelf {

@@ -91,6 +91,12 @@ impl Viewer {
         }
     }
 
+    pub(crate) fn reached(&self) -> &Reached
+        ensures { sight_of result.now ≡ self.now }
+    {
+        &self.reached
+    }
+
     /// The reply to a query (RFC 6962, sections 4.3 to 4.6 and 4.8) at the state that is shown, which is seen from then on. It takes no
     /// lock and doesn't wait.
     ///
