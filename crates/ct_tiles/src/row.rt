@@ -1,0 +1,93 @@
+//! The tiles of one level, one behind the other.
+ghost use Rattle.std.specs.Prelude.{◌≡◌, ◌*◌, ◌^◌, ◌<◌, ◌≤◌, ◌++◌, length, take, drop, IfOk, MatchOption};
+ghost use Rattle.ct_tiles.specs.Tiles.{up, behind, lone_root};
+
+use ct_tree::NodeHash;
+use ct_tree::reference::root;
+use std::alloc::{AllocError, Global};
+
+/// The tiles of a level from an index on to its end: 256 hashes each, fewer in the last one.
+#[derive(Drop)]
+pub struct Row {
+    /// The index of the first tile in its level.
+    pub first: u64,
+    /// The hashes of all the tiles, in order.
+    pub hashes: Vec<[u8; 32]>,
+}
+
+impl Row {
+    /// The tile at a place of the row, whose index in its level is `first` + `place`: 256 hashes, or 1 to 255 in the
+    /// last one, which is partial. None behind the last one. Takes no memory.
+    pub fn tile(&self, place: usize) -> Option<&[[u8; 32]]>
+        requires { place < 2 ^ 48 }
+        ensures { MatchOption result (length self.now.hashes.items ≤ 256 * place)
+            (λ t. t.now ≡ take 256 (drop (256 * place) self.now.hashes.items)) }
+    {
+        let start = 256 * place;
+        if start >= self.hashes.len() {
+            return None;
+        }
+        let left = self.hashes.len() - start;
+        let width = if left < 256 { left } else { 256 };
+        let end = start + width;
+        Some(&self.hashes[start..end])
+    }
+}
+
+// The hashes of both, in order.
+pub(crate) fn joined(
+    alloc: Global,
+    front: &[[u8; 32]],
+    back: &[[u8; 32]],
+) -> Result<Vec<[u8; 32]>, AllocError>
+    ensures { IfOk result (λ v. v.items ≡ front.now ++ back.now) }
+{
+    let mut hashes = Vec::new(alloc);
+    hashes.extend_from_slice(front)?;
+    hashes.extend_from_slice(back)?;
+    Ok(hashes)
+}
+
+// The roots of the full tiles.
+pub(crate) fn full_roots<H: NodeHash>(
+    alloc: Global,
+    h: &H,
+    row: &[[u8; 32]],
+) -> Result<Vec<[u8; 32]>, AllocError>
+    ensures { IfOk result (λ v. v.items ≡ up H.digest 256 row.now) }
+{
+    let count = row.len() / 256;
+    let mut roots = Vec::with_capacity(alloc, count)?;
+    for i in 0..count {
+        let start = 256 * i;
+        let end = start + 256;
+        let tile = &row[start..end];
+        roots.push(root(h, tile))?;
+    }
+    Ok(roots)
+}
+
+// The hashes behind the full tiles.
+pub(crate) fn partial(alloc: Global, row: &[[u8; 32]]) -> Result<Vec<[u8; 32]>, AllocError>
+    ensures { IfOk result (λ v. v.items ≡ behind 256 row.now) }
+{
+    let start = 256 * (row.len() / 256);
+    let mut hashes = Vec::new(alloc);
+    hashes.extend_from_slice(&row[start..])?;
+    Ok(hashes)
+}
+
+// The root of some hashes, and nothing of none.
+pub(crate) fn root_alone<H: NodeHash>(
+    alloc: Global,
+    h: &H,
+    hashes: &[[u8; 32]],
+) -> Result<Vec<[u8; 32]>, AllocError>
+    ensures { IfOk result (λ v. v.items ≡ lone_root H.digest hashes.now) }
+{
+    let mut lone = Vec::new(alloc);
+    if !hashes.is_empty() {
+        lone.push(root(h, hashes))?;
+    }
+    Ok(lone)
+}
