@@ -1,0 +1,4 @@
+pub mod TileLeaf
+pub mod Faults
+pub mod Lent
+pub mod Laws

@@ -1,0 +1,20 @@
+//! The leaves of a log's data tiles (TileLeaf, C2SP static-ct-api, "Log Entries"), written and read exactly.
+//!
+//! - `TileLeaf` is a leaf as a data tile holds it: the TimestampedEntry of RFC 6962 section 3.4, the precertificate where the entry is one,
+//!   and the SHA-256 fingerprints of the chain's issuers. Its parts stand where they were read or submitted: none is copied.
+//! - `tile_leaf_of` makes it of a submission, `push_tile_leaf` writes it, `tile_leaf_at` reads it from the front of bytes and
+//!   `leaf_input` gives the bytes of the tree's leaf, of which the leaf hash is taken.
+//!
+//! The extensions are any bytes, so a leaf with an extension of a later version is read, and hashed, like any other.
+#![tactic(auto)]
+
+mod fault;
+pub mod laws;
+mod leaf;
+mod reading;
+mod writing;
+
+pub use fault::TileFault;
+pub use leaf::{TileLeaf, tile_leaf_of};
+pub use reading::tile_leaf_at;
+pub use writing::{leaf_input, push_tile_leaf};
