@@ -22,7 +22,7 @@ import answers
 
 HERE = pathlib.Path(__file__).resolve().parent
 BUILT = HERE.parent.parent / "crates" / "ctmonitor" / "out" / "ctmonitor"
-LEAVES = [answers.leaf(answers.MOMENT + i, b"certificate %d of example.org" % i, None) for i in range(30)]
+LEAVES = [answers.leaf(answers.MOMENT + i, b"certificate %d of example.org" % i, None) for i in range(40)]
 FORKED = LEAVES[:2] + [answers.leaf(answers.MOMENT, b"another", None)] + LEAVES[3:]
 
 
@@ -128,10 +128,10 @@ def try_days(watch):
     if log.asked != [0] or watch.path(log, "verdicts").read_text().count('"name":"example.org"') != 8:
         fail("the first day: the names of 8 entries were to be told")
     watch.ends("the same head", 0, log.url, says="accepted 8 leaves")
-    log.size, log.most, log.now = 30, 1, log.now + 1000
-    watch.ends("two pieces at most", 0, log.url, "--pieces", "2", says="accepted 8 leaves, has read 10 of 30")
-    watch.ends("all pieces", 0, log.url, says="accepted 30 leaves")
-    if log.asked != [0, *range(8, 30)]:
+    log.size, log.most, log.now = 40, 1, log.now + 1000
+    watch.ends("two pieces at most", 0, log.url, "--pieces", "2", says="accepted 8 leaves, has read 10 of 40")
+    watch.ends("all pieces", 0, log.url, says="accepted 40 leaves")
+    if log.asked != [0, *range(8, 40)]:
         fail(f"the entries were asked for from {log.asked} on")
     return log
 
@@ -210,7 +210,7 @@ def try_several(watch, followed, forked):
     if (watch.folder / closed.split("//")[1].replace(":", "_") / "state").exists():
         fail("a closed port has a state")
     output = watch.ends("a closed port and a log", 5, f"{closed} {followed.url}", says=f"{closed}: can't be reached")
-    if f"{followed.url}: accepted 30 leaves" not in output:
+    if f"{followed.url}: accepted 40 leaves" not in output:
         fail(f"a closed port and a log: the log has no line: {output}")
     forked.leaves, forked.size = FORKED, 8
     watch.ends("a closed port and a fork", 3, f"{closed} {forked.url}", says='"verdict":"fork"')
