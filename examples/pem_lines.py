@@ -69,7 +69,7 @@ def main():
         except (OSError, ValueError) as error:
             sys.exit(f"pem_lines.py: {file}: {getattr(error, 'strerror', None) or error}")
     print("\n".join(lines))
-    told = f"pem_lines.py: {len(lines)} submissions of front {words.front}: ctlog takes them with --ring {len(lines)} or more"
+    told = f"pem_lines.py: for these lines of front {words.front} ctlog needs --ring {len(lines)} or more"
     most = f", of at most {MOST_PLACES}: put a line of shift between every {MOST_PLACES}"
     print(told + most * (len(lines) > MOST_PLACES), file=sys.stderr)
 

@@ -94,6 +94,8 @@ def try_pem(folder):
     ran = run("pem_lines.py", *files)
     if ran.returncode or ran.stdout.splitlines() != list(chains):
         fail(f"pem_lines.py makes other lines than those of real-chains.jsonl: {ran.stderr.decode()}")
+    if f"--ring {len(files)} or more\n" not in ran.stderr.decode():
+        fail(f"pem_lines.py doesn't say that these lines need {len(files)} places: {ran.stderr.decode()}")
     precert = next(request for _, request in requests if request["op"] == "add-pre-chain" and request["chain"])
     (folder / "precert.pem").write_text(pem_of(precert["chain"]))
     try_refusal(folder / "precert.pem", "a precertificate", "is a precertificate")
@@ -152,7 +154,7 @@ def try_install(folder):
     if ran.returncode or "ctlogd isn't built" not in ran.stdout or "ctlog isn't built" in ran.stdout:
         fail(f"make install: status {ran.returncode}: {ran.stdout}{ran.stderr}")
     if installed(to) != due or installed(folder / "to") != {f"opt/log/{path}": text for path, text in due.items()}:
-        fail(f"make install: {sorted(path for path, _ in installed(folder / 'to').items() ^ {f'opt/log/{path}': text for path, text in due.items()}.items())}")
+        fail(f"make install: it installed {sorted(installed(folder / 'to'))}, or another text")
     if not all(os.access(to / path, os.X_OK) for path in due if path.startswith("bin/")):
         fail("make install: a program can't be run")
     return len(due)
@@ -160,8 +162,10 @@ def try_install(folder):
 
 def try_figures():
     """README.md and docs/GATE.md have the times of checks/needs.sh, and no others in that form."""
-    told = dict(re.findall(r"^make (\w+): (.+)$", subprocess.run([HERE.parent / "checks" / "needs.sh", "figures"], capture_output=True, text=True).stdout, re.M))
-    rows = {page: re.findall(r"^\| `make (\w+)` \|.*?(\d+ minutes \(\d+ of one processor\))", (HERE.parent / page).read_text(), re.M) for page in ("README.md", "docs/GATE.md")}
+    needs = subprocess.run([HERE.parent / "checks" / "needs.sh", "figures"], capture_output=True, text=True)
+    told = dict(re.findall(r"^make (\w+): (.+)$", needs.stdout, re.M))
+    row = re.compile(r"^\| `make (\w+)` \|.*?(\d+ minutes \(\d+ of one processor\))", re.M)
+    rows = {page: row.findall((HERE.parent / page).read_text()) for page in ("README.md", "docs/GATE.md")}
     if set(told) != {"demo", "serve", "test"} or {target for target, _ in rows["README.md"]} != set(told):
         fail(f"README.md has the times of {rows['README.md']}, checks/needs.sh those of {told}")
     for page, found in rows.items():

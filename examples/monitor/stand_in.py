@@ -57,7 +57,10 @@ def bytes_of(value):
 
 
 def head_of(value):
-    return value and {"sha256_root_hash": answers.text(bytes_of(value["sha256_root_hash"])), "timestamp": number(value["timestamp"]), "tree_size": number(value["tree_size"])}
+    if value is None:
+        return None
+    root = answers.text(bytes_of(value["sha256_root_hash"]))
+    return {"sha256_root_hash": root, "timestamp": number(value["timestamp"]), "tree_size": number(value["tree_size"])}
 
 
 def subtrees_of(value):
@@ -111,7 +114,8 @@ class Watcher:
             if head["tree_size"] == known["tree_size"]:
                 if head["sha256_root_hash"] == known["sha256_root_hash"]:
                     return {"verdict": "again"}
-                return {"verdict": "fork", "known_root_hash": known["sha256_root_hash"], "known_timestamp": known["timestamp"], "tree_size": known["tree_size"]}
+                told = {"known_root_hash": known["sha256_root_hash"], "known_timestamp": known["timestamp"], "tree_size": known["tree_size"]}
+                return {"verdict": "fork", **told}
         self.waiting = self.waiting or head
         return self.settle()
 

@@ -22,13 +22,13 @@ import answers
 
 HERE = pathlib.Path(__file__).resolve().parent
 BUILT = HERE.parent.parent / "crates" / "ctmonitor" / "out" / "ctmonitor"
-LEAVES = [answers.leaf(answers.MOMENT + i, b"certificate %d of example.org" % i, None) for i in range(30)]
+LEAVES = [answers.leaf(answers.MOMENT + i, b"certificate %d of example.org" % i, None) for i in range(40)]
 FORKED = LEAVES[:2] + [answers.leaf(answers.MOMENT, b"another", None)] + LEAVES[3:]
-NOW = int(time.time() * 1000)
 
 
 class Log:
-    """A log that answers `size` of its leaves at the moment `now`, `most` in one answer. `instead` has texts or statuses to answer in a call's place."""
+    """A log that answers `size` of its leaves at the moment `now`, `most` in one answer. `instead` has what a call is answered in place of that: a
+    text, a status of HTTP before the right text, or how many bytes behind the right text are announced and never come."""
 
     def __init__(self):
         self.leaves, self.size, self.now, self.most, self.instead = LEAVES, 8, answers.MOMENT + 1000, 256, {}
@@ -61,10 +61,11 @@ class Log:
     def answer(self, handler):
         url = urllib.parse.urlsplit(handler.path)
         call = url.path.removeprefix("/ct/v1/")
-        text = self.instead[call] if call in self.instead else self.text_of(call, urllib.parse.parse_qs(url.query))
-        status, body = (text, b"") if isinstance(text, int) else (200, text.encode())
+        other = self.instead.get(call)
+        body = (other if isinstance(other, str) else self.text_of(call, urllib.parse.parse_qs(url.query))).encode()
+        status, missing = {"status": 200, "missing": 0, **(other if isinstance(other, dict) else {})}.values()
         handler.send_response(status)
-        handler.send_header("Content-Length", str(len(body)))
+        handler.send_header("Content-Length", str(len(body) + missing))
         handler.end_headers()
         handler.wfile.write(body)
 
@@ -127,10 +128,10 @@ def try_days(watch):
     if log.asked != [0] or watch.path(log, "verdicts").read_text().count('"name":"example.org"') != 8:
         fail("the first day: the names of 8 entries were to be told")
     watch.ends("the same head", 0, log.url, says="accepted 8 leaves")
-    log.size, log.most, log.now = 30, 1, log.now + 1000
-    watch.ends("two pieces at most", 0, log.url, "--pieces", "2", says="accepted 8 leaves, has read 10 of 30")
-    watch.ends("all pieces", 0, log.url, says="accepted 30 leaves")
-    if log.asked != [0, *range(8, 30)]:
+    log.size, log.most, log.now = 40, 1, log.now + 1000
+    watch.ends("two pieces at most", 0, log.url, "--pieces", "2", says="accepted 8 leaves, has read 10 of 40")
+    watch.ends("all pieces", 0, log.url, says="accepted 40 leaves")
+    if log.asked != [0, *range(8, 40)]:
         fail(f"the entries were asked for from {log.asked} on")
     return log
 
@@ -157,7 +158,8 @@ def try_alarms(watch):
     watch.ends("a first head", 0, log.url)
     good = watch.path(log).read_bytes()
     log.leaves = FORKED
-    damages = {"one digit": good.replace(b'"size":8', b'"size":9', 1), "no byte": b"", "zeros": bytes(len(good)), "a line's end": b"\n", "half": good[: len(good) // 2]}
+    damages = {"no byte": b"", "zeros": bytes(len(good)), "a line's end": b"\n", "half": good[: len(good) // 2]}
+    damages["one digit"] = good.replace(b'"size":8', b'"size":9', 1)
     for what, damaged in damages.items():
         watch.path(log).write_bytes(damaged)
         watch.leaves_unchanged(f"a damaged state ({what}) and a fork", 4, log, says="the state")
@@ -175,19 +177,26 @@ def try_alarms(watch):
     return log
 
 
+PAGE = "<html>\n</html>\n"
+FORGED = answers.line(answers.state(answers.head(FORKED[:8], 1), None, FORKED[:8], FORKED[:8]))
+# What a log answers in place of a head, and in place of entries, with the status that is due.
+NO_HEADS = [("a state", 4, FORGED), ("a page", 4, PAGE), ("nothing", 5, ""), ("an empty line", 5, "\n"), ("entries", 5, '{"entries":[]}')]
+NO_ENTRIES = [("no entries", 5, '{"entries":[]}'), ("a page", 4, PAGE), ("entries from elsewhere", 5, '{"entries":[],"start":3}')]
+NO_ANSWERS = [("with 404", 5, {"status": 404}), ("with 503", 5, {"status": 503}), ("less than announced", 5, {"missing": 9})]
+
+
 def try_no_answers(watch):
     """What is no answer is told, and leaves the state as it is: none on a first day, the one that stands there later."""
-    log, page = Log(), "<html>\n</html>\n"
-    forged = answers.state(answers.head(FORKED[:8], 1), None, FORKED[:8], FORKED[:8])
+    log = Log()
     for day in ("first", "second"):
-        for what, status, text in (("a state", 4, answers.line(forged)), ("a page", 4, page), ("nothing", 5, ""), ("an empty line", 5, "\n"), ("404", 5, 404), ("503", 5, 503), ("entries", 5, '{"entries":[]}')):
-            log.instead = {"get-sth": text}
+        for what, status, answer in NO_HEADS + NO_ANSWERS:
+            log.instead = {"get-sth": answer}
             watch.leaves_unchanged(f"get-sth answers {what} on the {day} day", status, log, says=log.url)
         log.instead = {}
         watch.ends("a head again", 0, log.url, says="accepted 8 leaves")
     log.size = 20
-    for what, status, text in (("no entries", 5, '{"entries":[]}'), ("a page", 4, page), ("500", 5, 500), ("entries from elsewhere", 5, '{"entries":[],"start":3}')):
-        log.instead = {"get-entries": text}
+    for what, status, answer in NO_ENTRIES + NO_ANSWERS:
+        log.instead = {"get-entries": answer}
         watch.ends(f"get-entries answers {what}", status, log.url, says=log.url)
         if watch.state(log)["all"]["size"] != 8:
             fail(f"get-entries answers {what}: the state has read it")
@@ -201,19 +210,29 @@ def try_several(watch, followed, forked):
     if (watch.folder / closed.split("//")[1].replace(":", "_") / "state").exists():
         fail("a closed port has a state")
     output = watch.ends("a closed port and a log", 5, f"{closed} {followed.url}", says=f"{closed}: can't be reached")
-    if f"{followed.url}: accepted 30 leaves" not in output:
+    if f"{followed.url}: accepted 40 leaves" not in output:
         fail(f"a closed port and a log: the log has no line: {output}")
     forked.leaves, forked.size = FORKED, 8
     watch.ends("a closed port and a fork", 3, f"{closed} {forked.url}", says='"verdict":"fork"')
-    watch.ends("an old head", 6, followed.url, "--older-than", "1", says="OLD") if NOW - followed.now > 7200_000 else None
-    young = Log()
-    young.now = NOW
-    watch.ends("a young head", 0, young.url, "--older-than", "1000")
+    old, young = Log(), Log()
+    old.now, young.now = 1000, int(time.time() * 1000)
+    watch.ends("a head of the year 1970", 6, f"{old.url} {young.url}", "--older-than", "1000", says=f"{old.url}: OLD")
+    watch.ends("a head of now", 0, young.url, "--older-than", "1000", says="accepted 8 leaves")
+    watch.ends("the same, however old", 0, f"{old.url} {young.url}", says=f"{old.url}: accepted 8 leaves")
+
+
+# Judges that don't do as ctmonitor does, with the status that is due.
+BAD_JUDGES = [
+    ("is killed", 1, "grep -q . && kill -9 $$; exit 0"),
+    ("has no memory", 1, "grep -q . && exit 1; exit 0"),
+    ("writes no state", 1, "echo hello"),
+    ("refuses its words", 2, "exit 2"),
+]
 
 
 def try_judges(watch, log, judge):
     """A judge that isn't there, ends early or writes no state leaves the state as it is; so do wrong words."""
-    for what, status, line in (("is killed", 1, "[ -t 9 ]; grep -q . && kill -9 $$; exit 0"), ("has no memory", 1, "grep -q . && exit 1; exit 0"), ("writes no state", 1, "echo hello"), ("refuses its words", 2, "exit 2")):
+    for what, status, line in BAD_JUDGES:
         watch.put_judge(line)
         watch.leaves_unchanged(f"ctmonitor {what}", status, log)
     watch.put_judge(f'exec {judge} "$@"')
@@ -244,7 +263,9 @@ def main():
     if missing:
         print(f"examples/monitor/stand_in.py: as expected in {runs} runs. watch.sh wasn't tried: {' and '.join(missing)} isn't here.")
         return
-    judge, which = (BUILT, "the built ctmonitor") if os.access(BUILT, os.X_OK) else (f"{sys.executable} {HERE / 'stand_in.py'}", "its stand-in, since ctmonitor isn't built")
+    judge, which = f"{sys.executable} {HERE / 'stand_in.py'}", "its stand-in, since ctmonitor isn't built"
+    if os.access(BUILT, os.X_OK):
+        judge, which = BUILT, "the built ctmonitor"
     with tempfile.TemporaryDirectory() as folder:
         watch = Watch(pathlib.Path(folder), judge)
         followed = try_days(watch)
