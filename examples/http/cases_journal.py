@@ -110,6 +110,25 @@ def every_byte(folder):
     return f"{tried} damaged bytes ({same} of them with the same log)"
 
 
+def every_cut(folder):
+    """A small journal cut off at each of its bytes: with the file of heads it is refused, without it the whole batches are the
+    log, or it is refused."""
+    content, _ = made(folder)
+    journal, beginnings = content["journal.jsonl"], set()
+    heads, entries = taken_up(folder)
+    for noted in (content["heads.jsonl"], None):
+        for length in range(len(journal)):
+            put(folder, {**content, "journal.jsonl": journal[:length], "heads.jsonl": noted})
+            found = taken_up(folder)
+            hold(found is None or not noted, "cut off at byte", length, "a log starts that lost what is noted")
+            if found:
+                many = len(found[0])
+                hold(found[0] == heads[:many] and found[1] == entries[: len(found[1])], "cut off at byte", length, "another log starts")
+                beginnings.add(many)
+    hold(beginnings == set(range(len(heads))), "the beginnings have so many heads:", beginnings)
+    return f"{2 * len(journal)} cuts"
+
+
 def refused(folder, content, why, *words, program=LOG):
     """A start over these files ends with status 1, a sentence that says why, and the files as they were."""
     put(folder, content)
@@ -275,4 +294,4 @@ def long_batches(folder):
     return f"{len(batches)} batches, the longest of {max(batches)} bytes"
 
 
-CASES = (every_byte, damages, keys, old_journal, full_disk, long_batches)
+CASES = (every_byte, every_cut, damages, keys, old_journal, full_disk, long_batches)
