@@ -7,6 +7,7 @@ import pathlib
 import resource
 import shutil
 import sys
+import threading
 import time
 
 from harness import HERE, LOG, Client, Front, hold, leaves_of, started, text
@@ -107,6 +108,25 @@ def every_byte(folder):
                 hold(found in (None, whole), "with byte", place, "another, and heads", heads and len(heads), "another log starts")
                 tried, same = tried + 1, same + (found == whole)
     return f"{tried} damaged bytes ({same} of them with the same log)"
+
+
+def every_cut(folder):
+    """A small journal cut off at each of its bytes: with the file of heads it is refused, without it the whole batches are the
+    log, or it is refused."""
+    content, _ = made(folder)
+    journal, beginnings = content["journal.jsonl"], set()
+    heads, entries = taken_up(folder)
+    for noted in (content["heads.jsonl"], None):
+        for length in range(len(journal)):
+            put(folder, {**content, "journal.jsonl": journal[:length], "heads.jsonl": noted})
+            found = taken_up(folder)
+            hold(found is None or not noted, "cut off at byte", length, "a log starts that lost what is noted")
+            if found:
+                many = len(found[0])
+                hold(found[0] == heads[:many] and found[1] == entries[: len(found[1])], "cut off at byte", length, "another log starts")
+                beginnings.add(many)
+    hold(beginnings == set(range(len(heads))), "the beginnings have so many heads:", beginnings)
+    return f"{2 * len(journal)} cuts"
 
 
 def refused(folder, content, why, *words, program=LOG):
@@ -249,4 +269,29 @@ def full_disk(folder):
     return f"a full disk, {len(answers)} submissions to it"
 
 
-CASES = (every_byte, damages, keys, old_journal, full_disk)
+def long_batches(folder):
+    """Long submissions that wait together are published in batches that fit into memory, and each is answered."""
+    front, answers = started(folder, LOG, "--every", "2"), []
+    certificates = [b"%d" % number + bytes(740_000) for number in range(12)]
+
+    def submit(certificate):
+        answers.append(Client(front.port).call("add-chain", {"chain": [text(certificate)]})[0])
+
+    threads = [threading.Thread(target=submit, args=(certificate,)) for certificate in certificates]
+    for thread in threads:
+        thread.start()
+    for thread in threads:
+        thread.join()
+    hold(answers == [200] * 12, "long submissions are answered with", answers)
+    hold(front.end() == (0, ""), "the front doesn't end in order")
+    batches, length = [], 0
+    for line in files(folder)["journal.jsonl"].splitlines(True):
+        length += len(line)
+        if b'"op":"publish"' in line:
+            batches.append(length)
+            length = 0
+    hold(sum(batches) > 11_000_000 and max(batches) < 8_001_000, "batches have so many bytes:", batches)
+    return f"{len(batches)} batches, the longest of {max(batches)} bytes"
+
+
+CASES = (every_byte, every_cut, damages, keys, old_journal, full_disk, long_batches)

@@ -1,11 +1,11 @@
 """Cases of connections and requests, by raw sockets: what is no request with an end beyond doubt, and clients that are slow."""
+import contextlib
 import grp
 import json
 import os
 import pathlib
 import pwd
 import shutil
-import signal
 import socket
 import subprocess
 import threading
@@ -14,25 +14,32 @@ import time
 from harness import LOG, Client, hold, started, text
 
 INNER = b"GET /key HTTP/1.1\r\nHost: log\r\n\r\n"
-# Requests that are refused, with what they hide: each is answered once, and the connection is closed.
-UNCLEAR = {
-    "a GET with a body": b"GET /ct/v1/get-sth HTTP/1.1\r\nHost: log\r\nContent-Length: %d\r\n\r\n" % len(INNER) + INNER,
-    "a HEAD with a body": b"HEAD /ct/v1/get-sth HTTP/1.1\r\nHost: log\r\nContent-Length: %d\r\n\r\n" % len(INNER) + INNER,
-    "a GET in chunks": b"GET /ct/v1/get-sth HTTP/1.1\r\nHost: log\r\nTransfer-Encoding: chunked\r\n\r\n0\r\n\r\n" + INNER,
-    "a POST in chunks": b"POST /ct/v1/add-chain HTTP/1.1\r\nHost: log\r\nContent-Length: 2\r\nTransfer-Encoding: chunked\r\n\r\n{}" + INNER,
-    "two lengths": b"POST /ct/v1/add-chain HTTP/1.1\r\nHost: log\r\nContent-Length: 2\r\nContent-Length: 3\r\n\r\n{}" + INNER,
-    "one length twice": b"POST /ct/v1/add-chain HTTP/1.1\r\nHost: log\r\nContent-Length: 2\r\nContent-Length: 2\r\n\r\n{}" + INNER,
-    "a length with a sign": b"POST /ct/v1/add-chain HTTP/1.1\r\nHost: log\r\nContent-Length: +2\r\n\r\n{}" + INNER,
-    "a length in hexadecimal": b"POST /ct/v1/add-chain HTTP/1.1\r\nHost: log\r\nContent-Length: 0x2\r\n\r\n{}" + INNER,
-    "a list of lengths": b"POST /ct/v1/add-chain HTTP/1.1\r\nHost: log\r\nContent-Length: 2, 2\r\n\r\n{}" + INNER,
-    "no length": b"POST /ct/v1/add-chain HTTP/1.1\r\nHost: log\r\n\r\n" + INNER,
-    "a length behind a line that is no header": b"GET /ct/v1/get-sth HTTP/1.1\r\nno header\r\nContent-Length: %d\r\n\r\n" % len(INNER) + INNER,
-    "a name with a blank": b"GET /ct/v1/get-sth HTTP/1.1\r\nHost: log\r\nContent-Length : %d\r\n\r\n" % len(INNER) + INNER,
-    "an address that is none": b"GET http://[/ HTTP/1.1\r\nHost: log\r\n\r\n" + INNER,
-    "no version": b"GET /ct/v1/get-sth\r\n" + INNER,
-    "another version": b"GET /ct/v1/get-sth HTTP/2.0\r\nHost: log\r\n\r\n" + INNER,
-    "another method": b"BREW /ct/v1/get-sth HTTP/1.1\r\nHost: log\r\n\r\n" + INNER,
-}
+# The beginning of a request, which the next one on the connection would be the rest of.
+BEGUN = b"GET /key HTTP/1.1\r\nHost: log\r\nRest: "
+
+
+def unclear(inner):
+    """Requests that are refused, with what they hide: each is answered once, and the connection is closed."""
+    get, post = b"GET /ct/v1/get-sth HTTP/1.1\r\nHost: log\r\n", b"POST /ct/v1/add-chain HTTP/1.1\r\nHost: log\r\n"
+    length = b"Content-Length: %d\r\n\r\n" % len(inner) + inner
+    return {
+        "a GET with a body": get + length,
+        "a HEAD with a body": get.replace(b"GET", b"HEAD") + length,
+        "a GET in chunks": get + b"Transfer-Encoding: chunked\r\n\r\n0\r\n\r\n" + inner,
+        "a POST in chunks": post + b"Content-Length: 2\r\nTransfer-Encoding: chunked\r\n\r\n{}" + inner,
+        "two lengths": post + b"Content-Length: 2\r\nContent-Length: 3\r\n\r\n{}" + inner,
+        "one length twice": post + b"Content-Length: 2\r\nContent-Length: 2\r\n\r\n{}" + inner,
+        "a length with a sign": post + b"Content-Length: +2\r\n\r\n{}" + inner,
+        "a length in hexadecimal": post + b"Content-Length: 0x2\r\n\r\n{}" + inner,
+        "a list of lengths": post + b"Content-Length: 2, 2\r\n\r\n{}" + inner,
+        "no length": post + b"\r\n" + inner,
+        "a length behind a line that is no header": get + b"no header\r\n" + length,
+        "a name with a blank": get + length.replace(b":", b" :", 1),
+        "an address that is none": b"GET http://[/ HTTP/1.1\r\nHost: log\r\n\r\n" + inner,
+        "no version": b"GET /ct/v1/get-sth\r\n" + inner,
+        "another version": get.replace(b"/1.1", b"/2.0") + b"\r\n" + inner,
+        "another method": get.replace(b"GET", b"BREW") + b"\r\n" + inner,
+    }
 
 
 def connected(port, source="127.0.0.1", **options):
@@ -60,7 +67,8 @@ def all_of(connection):
 
 def unclear_requests(folder):
     front = started(folder, LOG)
-    for name, request in UNCLEAR.items():
+    requests = unclear(INNER)
+    for name, request in requests.items():
         with connected(front.port) as connection:
             connection.sendall(request)
             found = all_of(connection)
@@ -72,7 +80,7 @@ def unclear_requests(folder):
         head, _, rest = all_of(connection).partition(b"\r\n\r\n")
     hold(head.startswith(b"HTTP/1.1 200") and b"Content-Length: " in head and not rest, "HEAD is answered with", head, rest)
     hold(front.end() == (0, ""), "the front doesn't end in order")
-    return f"{len(UNCLEAR)} requests without a sure end"
+    return f"{len(requests)} requests without a sure end"
 
 
 NGINX = """
@@ -122,19 +130,18 @@ def behind_nginx(folder):
     try:
         wait_for_port(port)
         Client(port).get("add-chain", {"chain": [text(b"a certificate")]})
-        for turn in range(3):
-            for number, (name, request) in enumerate(UNCLEAR.items()):
-                with connected(port) as connection:
-                    connection.sendall(request)
-                    connection.shutdown(socket.SHUT_WR)
-                    all_of(connection)
-                status, answer = Client(port).call("get-entries", start=0, end=1000 * turn + number)
-                hold(status == 200 and len(answer.get("entries", [])) == 1, "behind", name, "get-entries is answered with", status, answer)
+        requests = [(name, request) for inner in (INNER, BEGUN) for name, request in unclear(inner).items()]
+        for number, (name, request) in enumerate(requests):
+            with connected(port) as connection:
+                connection.sendall(request)
+                connection.recv(1 << 16)
+            status, answer = Client(port).call("get-entries", start=0, end=number)
+            hold(status == 200 and len(answer.get("entries", [])) == 1, "behind", name, "get-entries is answered with", status, answer)
     finally:
         proxy.terminate()
         proxy.wait()
     hold(front.end() == (0, ""), "the front doesn't end in order")
-    return f"{3 * len(UNCLEAR)} such requests through nginx"
+    return f"{len(requests)} such requests through nginx"
 
 
 def trickle(connections, stopped):
@@ -148,35 +155,40 @@ def trickle(connections, stopped):
                 continue
 
 
-def slow_clients(folder):
-    """257 connections of one address that send a byte now and then: other addresses are answered, and SIGTERM ends the front."""
-    front = started(folder, LOG, "--patience", "5")
+@contextlib.contextmanager
+def trickling(connections):
     stopped = threading.Event()
-    connections = [connected(front.port) for _ in range(257)]
     thread = threading.Thread(target=trickle, args=(connections, stopped))
     thread.start()
     try:
-        for number in range(5):
-            Client(front.port, "127.0.0.2").get("add-chain", {"chain": [text(b"%d" % number)]})
-        hold(front.end() == (0, ""), "the front doesn't end in order")
+        yield
     finally:
-        front.process.kill()
         stopped.set()
         thread.join()
         for connection in connections:
             connection.close()
+
+
+def slow_clients(folder):
+    """257 connections of one address that send a byte now and then: other addresses are answered, and SIGTERM ends the front."""
+    front = started(folder, LOG, "--patience", "5")
+    with trickling([connected(front.port) for _ in range(257)]):
+        for number in range(5):
+            Client(front.port, "127.0.0.2").get("add-chain", {"chain": [text(b"%d" % number)]})
+        hold(front.end() == (0, ""), "the front doesn't end in order")
     return "257 slow connections of one address"
 
 
 def all_places_taken(folder):
-    """With all places taken by slow clients of several addresses, SIGTERM ends the front."""
+    """With all places taken by slow clients of several addresses, and more of them waiting, SIGTERM ends the front."""
     front = started(folder, LOG, "--clients", "8", "--patience", "5")
-    connections = [connected(front.port, f"127.0.0.{2 + number % 5}") for number in range(20)]
+    connections = [connected(front.port, f"127.0.0.{2 + number % 5}") for number in range(8)]
     for connection in connections:
-        connection.send(b"G")
-    hold(front.end() == (0, ""), "the front doesn't end in order")
-    for connection in connections:
-        connection.close()
+        connection.sendall(b"GET /key HTTP/1.1\r\nHost: log\r\n\r\n")
+        hold(connection.recv(1 << 16).startswith(b"HTTP/1.1 200"), "a connection isn't answered")
+    with trickling(connections + [connected(front.port, f"127.0.0.{2 + number % 5}") for number in range(12)]):
+        time.sleep(1)
+        hold(front.end() == (0, ""), "the front doesn't end in order")
     return "all places taken"
 
 
@@ -208,23 +220,24 @@ def is_closed(connection):
 
 
 def slow_reader(folder):
-    """A client that reads slowly and steadily gets its answer whole, though it takes longer than a connection may be idle."""
+    """A client that reads slowly and steadily, for 17 seconds, gets its answer whole, though a connection may be idle for two."""
     front, big = started(folder, LOG, "--idle", "2"), b"x" * 700_000
     client = Client(front.port)
-    for number in range(2):
+    for number in range(8):
         client.get("add-chain", {"chain": [text(b"%d" % number + big)]})
     begun = time.monotonic()
     with connected(front.port, SO_RCVBUF=4096) as connection:
-        connection.sendall(b"GET /ct/v1/get-entries?start=0&end=0 HTTP/1.1\r\nHost: log\r\nConnection: close\r\n\r\n")
+        connection.sendall(b"GET /ct/v1/get-entries?start=0&end=7 HTTP/1.1\r\nHost: log\r\nConnection: close\r\n\r\n")
         found = b""
         while True:
-            piece = connection.recv(20_000 if time.monotonic() - begun < 6 else 1 << 20)
+            piece = connection.recv(8_000 if time.monotonic() - begun < 17 else 1 << 20)
             if not piece:
                 break
             found += piece
-            time.sleep(0.1 if time.monotonic() - begun < 6 else 0)
+            time.sleep(0.1 if time.monotonic() - begun < 17 else 0)
     head, _, body = found.partition(b"\r\n\r\n")
-    hold(head.startswith(b"HTTP/1.1 200") and len(json.loads(body)["entries"]) == 1, "a slow reader got", len(body), "bytes")
+    whole = b"Content-Length: %d\r\n" % len(body) in head
+    hold(head.startswith(b"HTTP/1.1 200") and whole and json.loads(body)["entries"], "a slow reader got", len(body), "bytes of", head)
     hold(front.end() == (0, ""), "the front doesn't end in order")
     return f"a slow reader of {len(body)} bytes"
 

@@ -61,7 +61,11 @@ class Front:
         return self.wait()
 
     def wait(self):
-        _, fault = self.process.communicate(timeout=60)
+        try:
+            _, fault = self.process.communicate(timeout=60)
+        except subprocess.TimeoutExpired:
+            self.process.kill()
+            raise Wrong("the front doesn't end") from None
         return self.process.returncode, fault
 
 

@@ -117,7 +117,7 @@ class Signer:
             pem = way.new() if self.new or way is Without else read(path)
             self.key, self.pem = way(path, pem), pem
             right = way is Without or (self.key.public.startswith(BEFORE_POINT) and len(self.key.public) == LENGTH)
-        except (ValueError, TypeError, subprocess.SubprocessError) as fault:
+        except Exception as fault:
             raise Broken(f"{path} isn't read as a key by {way.name}: {type(fault).__name__}; nothing was changed") from None
         if not right:
             raise Broken(f"{path} has a key that isn't one over P-256; nothing was changed")

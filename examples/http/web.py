@@ -29,6 +29,8 @@ LONGEST_BODY = 1_000_000
 SLOWEST = 10_000
 # How long what a refused client still writes is read and passed over, in seconds, and how much of it.
 LINGER, PASSED_OVER = 5, 8 * LONGEST_BODY
+# What the system holds of an answer on its way, in bytes: a larger room would hide that a client reads nothing.
+ON_ITS_WAY = 1 << 16
 LENGTH = re.compile(r"[0-9]{1,20}")
 TOO_MANY = b'HTTP/1.1 503 Service Unavailable\r\nRetry-After: 1\r\nConnection: close\r\n\r\n{"error_message": "too-many-connections"}'
 
@@ -40,8 +42,9 @@ def status_of(refusal):
 class Connection(io.RawIOBase):
     """A socket with ends: each read and each write has to get on within `idle` seconds, and all before the moment `until`."""
 
-    def __init__(self, socket, idle):
-        self.socket, self.idle, self.until = socket, idle, 0
+    def __init__(self, made, idle):
+        self.socket, self.idle, self.until = made, idle, 0
+        made.setsockopt(socket.SOL_SOCKET, socket.SO_SNDBUF, ON_ITS_WAY)
 
     def set_limit(self):
         left = min(self.idle, self.until - time.monotonic())
