@@ -1,5 +1,5 @@
 """How many places a growth asks for, where the source shows that it is no more than there may be need of: a sum of lengths, of parameters, and of
-literals below 2^20. What is named by a `let` of the function or by a constant of the crate is judged by what it names."""
+literals below 2^20, or less or a part of one. What is named by a `let` of the function or by a constant of the crate is judged by what it names."""
 import re
 
 from source import closing
@@ -50,6 +50,9 @@ def is_bounded(expression, signature, body, known):
     terms = parts(expression, "+")
     if len(terms) > 1:
         return all(is_bounded(term, signature, body, known) for term in terms)
+    for sign in "-/":
+        if len(parts(expression, sign)) > 1:
+            return is_bounded(parts(expression, sign)[0], signature, body, known)
     if LENGTH.match(expression) or FLAG.match(expression) or (SMALL.match(expression) and closing(expression, expression.index("(")) == len(expression)):
         return True
     if found := SUM.match(expression) or CAST.match(expression):

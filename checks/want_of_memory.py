@@ -129,6 +129,7 @@ fn f(alloc: Global) -> Answer { let room: Vec<u8> = Vec::with_capacity(alloc, mo
 fn f(items: &mut Vec<u8>) -> Answer { items.reserve(1_048_576)?; }
 fn f(alloc: Global, list: &[u8]) -> Answer { let len = list.len(); let len = len << 40; let room: Vec<u8> = Vec::with_capacity(alloc, len)?; }
 fn f(alloc: Global) -> Answer { let room = Joined::with_room(alloc, HUGE)?; }
+fn f(alloc: Global) -> Answer { let room: Vec<u8> = Vec::with_capacity(alloc, usize::MAX / 2)?; }
 fn f(alloc: Global, mut len: usize) -> Answer { len <<= 40; let room: Vec<u8> = Vec::with_capacity(alloc, len)?; }
 fn f(alloc: Global) -> Answer { let mut len = 1; len = usize::MAX; let room: Vec<u8> = Vec::with_capacity(alloc, len)?; }
 std::mem::forget(value);
@@ -161,6 +162,7 @@ fn f(alloc: Global, list: &[u8]) -> Answer { let len = list.len() + 1; let room:
 fn f(alloc: Global, a: &[u8]) -> Answer { let mut both = Vec::with_capacity(alloc, a.len().saturating_add(self.rest.len()))?; }
 fn f(alloc: Global, options: Options) -> Answer { let room = Joined::with_room(alloc, options.fronts)?; }
 fn f(items: &mut Vec<u8>) -> Answer { items.reserve(1)?; }
+fn f(alloc: Global, row: &[u8]) -> Answer { let count = row.len() / 256; let room: Vec<u8> = Vec::with_capacity(alloc, count)?; }
 let input = BufReader::with_capacity(alloc, CAPACITY, input)?;
 Err(AllocError) => 8,
 DecodeFault::Memory => 8,
