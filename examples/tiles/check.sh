@@ -1,0 +1,29 @@
+#!/usr/bin/env bash
+# Writes the tiles of logs of several sizes by tile_lines, and has golang.org/x/mod/sumdb/tlog read them and check their proofs; where Go isn't
+# installed hashlib computes the lines, and they are compared. Wants tile_lines to be built (`rt run` in crates/tile_lines), and for Go Debian's
+# golang-go and golang-golang-x-mod-dev.
+#
+#     check.sh [SIZE ..]
+set -euo pipefail
+here=$(cd "$(dirname "$0")" && pwd)
+program=${PROGRAM:-$here/../../crates/tile_lines/out/tile_lines}
+[ -x "$program" ] || { echo "check.sh: tile_lines isn't built: run \`rt run\` in crates/tile_lines" >&2; exit 1; }
+sizes=("$@")
+[ ${#sizes[@]} -gt 0 ] || sizes=(1 255 256 257 65535 65536 65537 200000)
+work=$(mktemp -d)
+trap 'rm -rf "$work"' EXIT
+packages=/usr/share/gocode
+if command -v go >/dev/null && [ -d $packages/src/golang.org/x/mod/sumdb/tlog ]; then
+  GO111MODULE=off GOPATH=$packages GOCACHE=$work/go go build -o "$work/check" "$here/check.go"
+  for size in "${sizes[@]}"; do
+    "$program" "$size" 1000 | python3 "$here/files.py" "$work/$size"
+    "$work/check" "$work/$size" 10000
+    rm -rf "${work:?}/$size"
+  done
+else
+  echo "check.sh: Go or golang.org/x/mod isn't installed: the lines are compared with hashlib's" >&2
+  for size in "${sizes[@]}"; do
+    cmp <("$program" "$size" 1000) <(python3 "$here/expected.py" "$size" 1000)
+    echo "leaves $size the same"
+  done
+fi
