@@ -5,16 +5,19 @@
 //! - `tile_leaf_of` makes it of a submission, `push_tile_leaf` writes it, `tile_leaf_at` reads it from the front of bytes and
 //!   `leaf_input` gives the bytes of the tree's leaf, of which the leaf hash is taken.
 //!
-//! The extensions are any bytes, so a leaf with an extension of a later version is read, and hashed, like any other.
+//! The extensions are any bytes: `leaf_index` reads the index where they name it and nothing else. So a leaf with an extension of a later
+//! version is read, and hashed, like any other.
 #![tactic(auto)]
 
 mod fault;
+mod index;
 pub mod laws;
 mod leaf;
 mod reading;
 mod writing;
 
 pub use fault::TileFault;
+pub use index::leaf_index;
 pub use leaf::{TileLeaf, tile_leaf_of};
 pub use reading::tile_leaf_at;
 pub use writing::{leaf_input, push_tile_leaf};
