@@ -139,14 +139,14 @@ def try_install(folder):
     if not ran.returncode or installed(folder):
         fail(f"make install, with nothing built: status {ran.returncode}, {installed(folder)}")
     sources = {"bin/ctlog": "ctlog/out/ctlog", "bin/ctmonitor": "ctmonitor/out/ctmonitor"}
-    sources |= {f"lib/libwagtenib.{name}": f"wagtenib/out/link/libwagtenib.{end}" for name, end in (("a", "a"), ("so.0.1.0", "so"))}
+    sources.update({f"lib/libwagtenib.{name}": f"wagtenib/out/link/libwagtenib.{end}" for name, end in (("a", "a"), ("so.0.1.0", "so"))})
     for path in sources.values():
         (folder / "built" / path).parent.mkdir(parents=True, exist_ok=True)
         (folder / "built" / path).write_text(f"made up: {path}")
         (folder / "built" / path).chmod(0o755)
     ran = make_install(folder, folder / "built")
     due = {path: f"made up: {source}" for path, source in sources.items()}
-    due |= {f"lib/libwagtenib.{end}": due["lib/libwagtenib.so.0.1.0"] for end in ("so.0", "so")}
+    due.update({f"lib/libwagtenib.{end}": due["lib/libwagtenib.so.0.1.0"] for end in ("so.0", "so")})
     due["bin/ctmonitor-watch"] = (HERE / "monitor" / "watch.sh").read_text()
     due["include/wagtenib.h"] = (HERE.parent / "include" / "wagtenib.h").read_text()
     due["lib/pkgconfig/wagtenib.pc"] = (HERE.parent / "include" / "wagtenib.pc.in").read_text().replace("@PREFIX@", "/opt/log")

@@ -60,7 +60,7 @@ class Log:
 
     def answer(self, handler):
         url = urllib.parse.urlsplit(handler.path)
-        call = url.path.removeprefix("/ct/v1/")
+        call = url.path.split("/")[-1]
         other = self.instead.get(call)
         body = (other if isinstance(other, str) else self.text_of(call, urllib.parse.parse_qs(url.query))).encode()
         status, missing = {"status": 200, "missing": 0, **(other if isinstance(other, dict) else {})}.values()
