@@ -27,7 +27,8 @@ for number, line in enumerate(sys.stdin):
             sys.stdout.write(told[: len(told) // 2])
             sys.stdout.flush()
             os._exit(0)
-        told = {"other": "no reply", "empty": json.dumps({"line": number, "reply": {}}), "unasked": '{"line":99999,"reply":{}}'}[sys.argv[2]]
+        empty = json.dumps({"line": number, "reply": {}})
+        told = {"other": "no reply", "empty": empty, "unasked": '{"line":99999,"reply":{}}'}[sys.argv[2]]
     print(told, flush=True)
 """
 
@@ -60,7 +61,8 @@ def place_of(client, sct, certificate):
 def under_load(folder, turn, stop):
     """Starts a front, stops it while 32 clients submit, and starts it again: what was answered is there, at its place."""
     front, answered, ended = started(folder, LOG), [], []
-    threads = [threading.Thread(target=submit, args=(front.port, b"%d-%d" % (turn, part), answered, ended)) for part in range(CLIENTS)]
+    names = [b"%d-%d" % (turn, part) for part in range(CLIENTS)]
+    threads = [threading.Thread(target=submit, args=(front.port, name, answered, ended)) for name in names]
     for thread in threads:
         thread.start()
     while len(answered) < 2 * CLIENTS:
@@ -77,14 +79,16 @@ def under_load(folder, turn, stop):
     places = {leaf: place for place, leaf in enumerate(leaves)}
     for certificate, sct, place in answered:
         found = places.get(leaf_of(sct, certificate))
-        hold(found is not None and place in (None, found), "after a restart", certificate, "that was answered stands at", found, "not", place)
+        right = found is not None and place in (None, found)
+        hold(right, "after a restart", certificate, "that was answered stands at", found, "not", place)
     hold(front.end() == (0, ""), "the front doesn't end in order")
     return len(answered)
 
 
 def stopped_under_load(folder):
     """SIGTERM under load, again and again on one log."""
-    return f"{sum(under_load(folder, turn, lambda front: front.end()[0]) for turn in range(ROUNDS))} timestamps around {ROUNDS} stops"
+    told = sum(under_load(folder, turn, lambda front: front.end()[0]) for turn in range(ROUNDS))
+    return f"{told} timestamps around {ROUNDS} stops"
 
 
 def retired_under_load(folder):
@@ -102,7 +106,8 @@ def retired_under_load(folder):
 def log_that_fails(folder):
     """Whatever ends a thread of the front ends the front with status 1: a reply that is cut off, that is none, that lacks its
     keys, or that nobody asked for."""
-    rows = [("get-entries", kind) for kind in ("cut", "other", "unasked")] + [("take", "empty"), ("take", "cut"), ("receipt", "other")]
+    rows = [("get-entries", kind) for kind in ("cut", "other", "unasked")]
+    rows += [("take", "empty"), ("take", "cut"), ("receipt", "other")]
     for number, (op, kind) in enumerate(rows):
         front = started(f"{folder}-{number}", [sys.executable, "-c", FAULTY, op, kind], "--signer", "none")
         client = threading.Thread(target=ask_in_vain, args=(front.port, op))
@@ -177,8 +182,6 @@ def wrong_clock(folder):
         hold(time.monotonic() < until, "with the clock set back nothing is taken")
     status, fault = front.end()
     hold(status == 0 and "clock-ahead" in fault and "start the front again" in fault, "of the clock the front says", fault)
-    where.write_text("0")
-    content = files(folder)
     where.write_text("86400")
     front = WithClock(folder, where)
     Client(front.port).get("add-chain", {"chain": [text(b"a day ahead")]})
