@@ -6,6 +6,7 @@ import os
 import pathlib
 import resource
 import shutil
+import socket
 import sys
 import threading
 import time
@@ -149,26 +150,29 @@ def damages(folder):
     now = journal.rindex(b'"now":') + 6
     later = journal[:now] + bytes([journal[now] ^ 3]) + journal[now + 1 :]
     name = "journal.jsonl is damaged between the bytes"
-    for note in (heads, b"", None):
-        refused(folder, {**content, "journal.jsonl": flipped, "heads.jsonl": note}, name)
-        refused(folder, {**content, "journal.jsonl": later, "heads.jsonl": note}, name)
-        refused(folder, {**content, "journal.jsonl": journal + bytes(512), "heads.jsonl": note}, name)
-        refused(folder, {**content, "journal.jsonl": bytes(len(journal)), "heads.jsonl": note}, name)
-        refused(folder, {**content, "journal.jsonl": journal[:-1] + b"}", "heads.jsonl": note}, name)
-    refused(folder, {**content, "journal.jsonl": journal.replace(b'"batch"', b'"bitch"')}, name)
-    refused(folder, {**content, "journal.jsonl": b""}, "the journal ends before a head")
-    refused(folder, {**content, "journal.jsonl": journal[:middle]}, "the journal ends before a head")
-    refused(folder, {**content, "heads.jsonl": heads + bytes(200)}, "the journal ends before a head")
-    refused(folder, {**content, "heads.jsonl": heads[:90] + b"\xff" + heads[91:]}, "another head")
-    refused(folder, {**content, "heads.jsonl": heads[:-40] + bytes(40)}, "another head")
+    cut, other = "the journal ends before a head", "another head"
+    contents = (flipped, later, journal + bytes(512), bytes(len(journal)), journal[:-1] + b"}")
+    rows = [({"journal.jsonl": damaged, "heads.jsonl": note}, name) for note in (heads, b"", None) for damaged in contents]
+    rows += [
+        ({"journal.jsonl": journal.replace(b'"batch"', b'"botch"')}, name),
+        ({"journal.jsonl": b""}, cut),
+        ({"journal.jsonl": journal[:middle]}, cut),
+        ({"heads.jsonl": heads + bytes(200)}, cut),
+        ({"heads.jsonl": heads[:90] + b"\xff" + heads[91:]}, other),
+        ({"heads.jsonl": heads[:-40] + bytes(40)}, other),
+    ]
+    for damaged, why in rows:
+        refused(folder, {**content, **damaged}, why)
     # (what a kill in mid-writing leaves)
     torn = {**content, "heads.jsonl": heads[:-20]}, {**content, "journal.jsonl": journal + b'{"who":0,"op":"add-ch'}
+    with socket.create_server(("127.0.0.1", 0)) as taken:
+        refused(folder, torn[1], "in use", "--port", str(taken.getsockname()[1]))
     for whole in (*torn, content):
         put(folder, whole)
         front = started(folder, LOG)
         hold(Client(front.port).get("get-entries", start=0, end=5) == entries, "other entries are taken up")
         hold(front.end() == (0, ""), "the front doesn't end in order")
-    return "24 refused starts"
+    return f"{len(rows) + 1} refused starts"
 
 
 def keys(folder):
@@ -193,7 +197,7 @@ def keys(folder):
         client.get("add-chain", {"chain": [text(b"while the key is away")]})
         status, fault = front.end()
         hold(status == 0 and fault.startswith("front: openssl doesn't sign"), "of a missing key the front says", fault)
-    return "6 keys that aren't the log's"
+    return f"{len(rows) + 1 + bool(front)} keys that aren't the log's"
 
 
 def old_digest(lines):
@@ -271,6 +275,12 @@ def full_disk(folder):
     status, fault = front.end()
     told = fault.splitlines()
     hold(status == 0 and "disk-full" in told[0] and told[-1] == "front: publishes again", "of a full disk the front says", fault)
+    front = started(folder, LOG)
+    client = Client(front.port)
+    resource.prlimit(front.process.pid, resource.RLIMIT_FSIZE, (journal.stat().st_size + 200, limit[1]))
+    hold(submit(21)[0] == 503, "a full disk takes a certificate")
+    status, fault = front.end()
+    hold(status == 1 and "not all that was accepted is published" in fault, "with a full disk the front ends with", status, fault)
     front = started(folder, LOG)
     found = leaves_of(Client(front.port))
     for number in answered:
