@@ -92,15 +92,59 @@ def stopped_under_load(folder):
 
 
 def retired_under_load(folder):
-    """SIGUSR1 under load, and a stop while submissions may still be under way: the log starts again each time."""
+    """SIGUSR1 under load, and a stop while submissions may still be under way: the log starts again each time, and what was
+    accepted stands in the journal before the shutdown."""
 
     def stop(front):
         front.process.send_signal(signal.SIGUSR1)
         time.sleep(0.02)
         return front.end()[0]
 
-    told = sum(under_load(f"{folder}-{turn}", turn, stop) for turn in range(ROUNDS))
+    told = 0
+    for turn in range(ROUNDS):
+        own = f"{folder}-{turn}"
+        told += under_load(own, turn, stop)
+        last = files(own)["journal.jsonl"].splitlines()[-1]
+        hold(b'"op":"shutdown"' in last, "behind the shutdown the journal has", last[:200])
     return f"{told} timestamps around {ROUNDS} ends of the taking"
+
+
+# Stands before a log, and lets a submission wait two seconds, all behind it too; a file says that it has come.
+DELAYED = """
+import pathlib, subprocess, sys, time
+program = subprocess.Popen(sys.argv[2:], stdin=subprocess.PIPE)
+for line in sys.stdin.buffer:
+    if b"add-chain" in line:
+        pathlib.Path(sys.argv[1]).touch()
+        time.sleep(2)
+    program.stdin.write(line)
+    program.stdin.flush()
+program.stdin.close()
+sys.exit(program.wait())
+"""
+
+
+def retired_with_one_under_way(folder):
+    """SIGUSR1 while a submission is on its way to the log: it is answered, and stands in the journal before the shutdown."""
+    come, answers = pathlib.Path(folder + "-come"), []
+    front = started(folder, [sys.executable, "-c", DELAYED, str(come), *LOG])
+    chain = {"chain": [text(b"under way")]}
+    thread = threading.Thread(target=lambda: answers.append(Client(front.port).call("add-chain", chain)))
+    thread.start()
+    until = time.monotonic() + 60
+    while not come.exists():
+        hold(time.monotonic() < until, "the submission doesn't come to the log")
+        time.sleep(0.01)
+    front.process.send_signal(signal.SIGUSR1)
+    thread.join()
+    hold(answers[0][0] == 200 and front.end() == (0, ""), "what was under way is answered with", answers)
+    lines = files(folder)["journal.jsonl"].splitlines()
+    hold(b'"op":"shutdown"' in lines[-1] and any(b"add-chain" in line for line in lines), "the journal ends with", lines[-1])
+    front = started(folder, LOG)
+    leaves = leaves_of(Client(front.port))
+    hold(leaves == [leaf_of(answers[0][1], b"under way")], "after a restart the entries are", leaves)
+    hold(front.end() == (0, ""), "the front doesn't end in order")
+    return "one submission under way"
 
 
 def log_that_fails(folder):
@@ -218,4 +262,4 @@ def repeats(folder):
     return f"{len(answers)} submissions of one certificate"
 
 
-CASES = (stopped_under_load, retired_under_load, log_that_fails, log_that_hangs, wrong_clock, repeats)
+CASES = (stopped_under_load, retired_under_load, retired_with_one_under_way, log_that_fails, log_that_hangs, wrong_clock, repeats)
