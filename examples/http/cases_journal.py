@@ -6,6 +6,7 @@ import os
 import pathlib
 import resource
 import shutil
+import socket
 import sys
 import threading
 import time
@@ -123,7 +124,8 @@ def every_cut(folder):
             hold(found is None or not noted, "cut off at byte", length, "a log starts that lost what is noted")
             if found:
                 many = len(found[0])
-                hold(found[0] == heads[:many] and found[1] == entries[: len(found[1])], "cut off at byte", length, "another log starts")
+                same = found[0] == heads[:many] and found[1] == entries[: len(found[1])]
+                hold(same, "cut off at byte", length, "another log starts")
                 beginnings.add(many)
     hold(beginnings == set(range(len(heads))), "the beginnings have so many heads:", beginnings)
     return f"{2 * len(journal)} cuts"
@@ -148,32 +150,37 @@ def damages(folder):
     now = journal.rindex(b'"now":') + 6
     later = journal[:now] + bytes([journal[now] ^ 3]) + journal[now + 1 :]
     name = "journal.jsonl is damaged between the bytes"
-    for note in (heads, b"", None):
-        refused(folder, {**content, "journal.jsonl": flipped, "heads.jsonl": note}, name)
-        refused(folder, {**content, "journal.jsonl": later, "heads.jsonl": note}, name)
-        refused(folder, {**content, "journal.jsonl": journal + bytes(512), "heads.jsonl": note}, name)
-        refused(folder, {**content, "journal.jsonl": bytes(len(journal)), "heads.jsonl": note}, name)
-        refused(folder, {**content, "journal.jsonl": journal[:-1] + b"}", "heads.jsonl": note}, name)
-    refused(folder, {**content, "journal.jsonl": journal.replace(b'"batch"', b'"bitch"')}, name)
-    refused(folder, {**content, "journal.jsonl": b""}, "the journal ends before a head")
-    refused(folder, {**content, "journal.jsonl": journal[:middle]}, "the journal ends before a head")
-    refused(folder, {**content, "heads.jsonl": heads + bytes(200)}, "the journal ends before a head")
-    refused(folder, {**content, "heads.jsonl": heads[:90] + b"\xff" + heads[91:]}, "another head")
-    refused(folder, {**content, "heads.jsonl": heads[:-40] + bytes(40)}, "another head")
+    cut, other = "the journal ends before a head", "another head"
+    contents = (flipped, later, journal + bytes(512), bytes(len(journal)), journal[:-1] + b"}")
+    rows = [({"journal.jsonl": damaged, "heads.jsonl": note}, name) for note in (heads, b"", None) for damaged in contents]
+    rows += [
+        ({"journal.jsonl": journal.replace(b'"batch"', b'"botch"')}, name),
+        ({"journal.jsonl": b""}, cut),
+        ({"journal.jsonl": journal[:middle]}, cut),
+        ({"heads.jsonl": heads + bytes(200)}, cut),
+        ({"heads.jsonl": heads[:90] + b"\xff" + heads[91:]}, other),
+        ({"heads.jsonl": heads[:-40] + bytes(40)}, other),
+    ]
+    for damaged, why in rows:
+        refused(folder, {**content, **damaged}, why)
     # (what a kill in mid-writing leaves)
-    for whole in ({**content, "heads.jsonl": heads[:-20]}, {**content, "journal.jsonl": journal + b'{"who":0,"op":"add-ch'}, content):
+    torn = {**content, "heads.jsonl": heads[:-20]}, {**content, "journal.jsonl": journal + b'{"who":0,"op":"add-ch'}
+    with socket.create_server(("127.0.0.1", 0)) as taken:
+        refused(folder, torn[1], "in use", "--port", str(taken.getsockname()[1]))
+    for whole in (*torn, content):
         put(folder, whole)
         front = started(folder, LOG)
         hold(Client(front.port).get("get-entries", start=0, end=5) == entries, "other entries are taken up")
         hold(front.end() == (0, ""), "the front doesn't end in order")
-    return "24 refused starts"
+    return f"{len(rows) + 1} refused starts"
 
 
 def keys(folder):
     """A key that is missing, another's, empty or none isn't taken beside a journal that names its log; nothing is written."""
     content, _ = made(folder)
     other = made(folder + "-other")[0]["key.pem"]
-    for key, why in ((None, "is missing"), (other, "names the log"), (b"", "isn't read as a key"), (b"\0" * 241, "isn't read as a key")):
+    rows = [(None, "is missing"), (other, "names the log"), (b"", "isn't read as a key"), (b"\0" * 241, "isn't read as a key")]
+    for key, why in rows:
         refused(folder, {**content, "key.pem": key}, why)
     refused(folder, content, "names the log", "--signer", "none")
     if shutil.which("openssl"):
@@ -190,7 +197,7 @@ def keys(folder):
         client.get("add-chain", {"chain": [text(b"while the key is away")]})
         status, fault = front.end()
         hold(status == 0 and fault.startswith("front: openssl doesn't sign"), "of a missing key the front says", fault)
-    return "6 keys that aren't the log's"
+    return f"{len(rows) + 1 + bool(front)} keys that aren't the log's"
 
 
 def old_digest(lines):
@@ -210,8 +217,12 @@ def old_form(batches):
 def old_journal(folder):
     """A journal of the form before, with a batch behind `shutdown`, is taken up with all its entries where its heads are noted,
     and named; without its heads it is refused."""
-    chains = [[{"who": 0, "op": "add-chain", "chain": [text(b"%d" % n)]}, {"who": "operator", "op": "sequence", "from": 0, "count": 1, "now": n}] for n in (5, 9)]
-    batches = [(chains[0], {"op": "publish", "now": 6}), ([], {"op": "shutdown"}), (chains[1], {"op": "publish", "now": 10})]
+
+    def settled(now):
+        chain = {"who": 0, "op": "add-chain", "chain": [text(b"%d" % now)]}
+        return [chain, {"who": "operator", "op": "sequence", "from": 0, "count": 1, "now": now}]
+
+    batches = [(settled(5), {"op": "publish", "now": 6}), ([], {"op": "shutdown"}), (settled(9), {"op": "publish", "now": 10})]
     journal, inside, heads = old_form(batches), Inside(1, 8), b""
     for lines, last in batches:
         for line in [*lines, {"who": "operator", **last}]:
@@ -227,7 +238,8 @@ def old_journal(folder):
         front = started(folder, LOG)
         client = Client(front.port)
         answer = client.call("add-chain", {"chain": ["QQ=="]})
-        hold(client.get("get-sth")["tree_size"] == 2 and answer == (503, {"error_message": "shutdown"}), "the journal isn't taken up:", answer)
+        hold(answer == (503, {"error_message": "shutdown"}), "behind a shutdown add-chain is answered with", answer)
+        hold(client.get("get-sth")["tree_size"] == 2, "the entry behind the shutdown isn't taken up")
         hold(front.end() == (0, ""), "the front doesn't end in order")
     content = files(folder)
     hold(content["journal.jsonl"].startswith(journal), "what stood in the journal was changed")
@@ -248,13 +260,14 @@ def full_disk(folder):
         return status, answer
 
     hold(submit(0)[0] == 200, "the first certificate isn't taken")
-    resource.prlimit(front.process.pid, resource.RLIMIT_FSIZE, (journal.stat().st_size + 700, resource.RLIM_INFINITY))
+    limit = resource.prlimit(front.process.pid, resource.RLIMIT_FSIZE)
+    resource.prlimit(front.process.pid, resource.RLIMIT_FSIZE, (journal.stat().st_size + 700, limit[1]))
     answers = [submit(number) for number in range(1, 12)]
     hold((503, {"error_message": "disk-full"}) in answers, "a full disk is answered with", answers)
     hold(all(status in (200, 503) for status, _ in answers), "a full disk is answered with", answers)
     size = client.get("get-sth")["tree_size"]
     hold(size >= 1 and len(client.get("get-entries", start=0, end=0)["entries"]) == 1, "reads don't go on")
-    resource.prlimit(front.process.pid, resource.RLIMIT_FSIZE, (resource.RLIM_INFINITY, resource.RLIM_INFINITY))
+    resource.prlimit(front.process.pid, resource.RLIMIT_FSIZE, limit)
     until = time.monotonic() + 60
     while submit(20)[0] != 200:
         hold(time.monotonic() < until, "with room again nothing is taken")
@@ -263,15 +276,22 @@ def full_disk(folder):
     told = fault.splitlines()
     hold(status == 0 and "disk-full" in told[0] and told[-1] == "front: publishes again", "of a full disk the front says", fault)
     front = started(folder, LOG)
+    client = Client(front.port)
+    resource.prlimit(front.process.pid, resource.RLIMIT_FSIZE, (journal.stat().st_size + 200, limit[1]))
+    hold(submit(21)[0] == 503, "a full disk takes a certificate")
+    status, fault = front.end()
+    hold(status == 1 and "not all that was accepted is published" in fault, "with a full disk the front ends with", status, fault)
+    front = started(folder, LOG)
     found = leaves_of(Client(front.port))
-    hold(all(any(b"certificate %d\0" % number in entry for entry in found) for number in answered), "an entry that was answered is gone")
+    for number in answered:
+        hold(any(b"certificate %d\0" % number in entry for entry in found), "an entry that was answered is gone:", number)
     hold(front.end() == (0, ""), "the front doesn't end in order")
     return f"a full disk, {len(answers)} submissions to it"
 
 
 def long_batches(folder):
     """Long submissions that wait together are published in batches that fit into memory, and each is answered."""
-    front, answers = started(folder, LOG, "--every", "2"), []
+    front, answers = started(folder, LOG, "--every", "5", "--patience", "60"), []
     certificates = [b"%d" % number + bytes(740_000) for number in range(12)]
 
     def submit(certificate):

@@ -27,7 +27,8 @@ for number, line in enumerate(sys.stdin):
             sys.stdout.write(told[: len(told) // 2])
             sys.stdout.flush()
             os._exit(0)
-        told = {"other": "no reply", "empty": json.dumps({"line": number, "reply": {}}), "unasked": '{"line":99999,"reply":{}}'}[sys.argv[2]]
+        empty = json.dumps({"line": number, "reply": {}})
+        told = {"other": "no reply", "empty": empty, "unasked": '{"line":99999,"reply":{}}'}[sys.argv[2]]
     print(told, flush=True)
 """
 
@@ -60,7 +61,8 @@ def place_of(client, sct, certificate):
 def under_load(folder, turn, stop):
     """Starts a front, stops it while 32 clients submit, and starts it again: what was answered is there, at its place."""
     front, answered, ended = started(folder, LOG), [], []
-    threads = [threading.Thread(target=submit, args=(front.port, b"%d-%d" % (turn, part), answered, ended)) for part in range(CLIENTS)]
+    names = [b"%d-%d" % (turn, part) for part in range(CLIENTS)]
+    threads = [threading.Thread(target=submit, args=(front.port, name, answered, ended)) for name in names]
     for thread in threads:
         thread.start()
     while len(answered) < 2 * CLIENTS:
@@ -77,32 +79,79 @@ def under_load(folder, turn, stop):
     places = {leaf: place for place, leaf in enumerate(leaves)}
     for certificate, sct, place in answered:
         found = places.get(leaf_of(sct, certificate))
-        hold(found is not None and place in (None, found), "after a restart", certificate, "that was answered stands at", found, "not", place)
+        right = found is not None and place in (None, found)
+        hold(right, "after a restart", certificate, "that was answered stands at", found, "not", place)
     hold(front.end() == (0, ""), "the front doesn't end in order")
     return len(answered)
 
 
 def stopped_under_load(folder):
     """SIGTERM under load, again and again on one log."""
-    return f"{sum(under_load(folder, turn, lambda front: front.end()[0]) for turn in range(ROUNDS))} timestamps around {ROUNDS} stops"
+    told = sum(under_load(folder, turn, lambda front: front.end()[0]) for turn in range(ROUNDS))
+    return f"{told} timestamps around {ROUNDS} stops"
 
 
 def retired_under_load(folder):
-    """SIGUSR1 under load, and a stop while submissions may still be under way: the log starts again each time."""
+    """SIGUSR1 under load, and a stop while submissions may still be under way: the log starts again each time, and what was
+    accepted stands in the journal before the shutdown."""
 
     def stop(front):
         front.process.send_signal(signal.SIGUSR1)
         time.sleep(0.02)
         return front.end()[0]
 
-    told = sum(under_load(f"{folder}-{turn}", turn, stop) for turn in range(ROUNDS))
+    told = 0
+    for turn in range(ROUNDS):
+        own = f"{folder}-{turn}"
+        told += under_load(own, turn, stop)
+        last = files(own)["journal.jsonl"].splitlines()[-1]
+        hold(b'"op":"shutdown"' in last, "behind the shutdown the journal has", last[:200])
     return f"{told} timestamps around {ROUNDS} ends of the taking"
+
+
+# Stands before a log, and lets a submission wait two seconds, all behind it too; a file says that it has come.
+DELAYED = """
+import pathlib, subprocess, sys, time
+program = subprocess.Popen(sys.argv[2:], stdin=subprocess.PIPE)
+for line in sys.stdin.buffer:
+    if b"add-chain" in line:
+        pathlib.Path(sys.argv[1]).touch()
+        time.sleep(2)
+    program.stdin.write(line)
+    program.stdin.flush()
+program.stdin.close()
+sys.exit(program.wait())
+"""
+
+
+def retired_with_one_under_way(folder):
+    """SIGUSR1 while a submission is on its way to the log: it is answered, and stands in the journal before the shutdown."""
+    come, answers = pathlib.Path(folder + "-come"), []
+    front = started(folder, [sys.executable, "-c", DELAYED, str(come), *LOG])
+    chain = {"chain": [text(b"under way")]}
+    thread = threading.Thread(target=lambda: answers.append(Client(front.port).call("add-chain", chain)))
+    thread.start()
+    until = time.monotonic() + 60
+    while not come.exists():
+        hold(time.monotonic() < until, "the submission doesn't come to the log")
+        time.sleep(0.01)
+    front.process.send_signal(signal.SIGUSR1)
+    thread.join()
+    hold(answers[0][0] == 200 and front.end() == (0, ""), "what was under way is answered with", answers)
+    lines = files(folder)["journal.jsonl"].splitlines()
+    hold(b'"op":"shutdown"' in lines[-1] and any(b"add-chain" in line for line in lines), "the journal ends with", lines[-1])
+    front = started(folder, LOG)
+    leaves = leaves_of(Client(front.port))
+    hold(leaves == [leaf_of(answers[0][1], b"under way")], "after a restart the entries are", leaves)
+    hold(front.end() == (0, ""), "the front doesn't end in order")
+    return "one submission under way"
 
 
 def log_that_fails(folder):
     """Whatever ends a thread of the front ends the front with status 1: a reply that is cut off, that is none, that lacks its
     keys, or that nobody asked for."""
-    rows = [("get-entries", kind) for kind in ("cut", "other", "unasked")] + [("take", "empty"), ("take", "cut"), ("receipt", "other")]
+    rows = [("get-entries", kind) for kind in ("cut", "other", "unasked")]
+    rows += [("take", "empty"), ("take", "cut"), ("receipt", "other")]
     for number, (op, kind) in enumerate(rows):
         front = started(f"{folder}-{number}", [sys.executable, "-c", FAULTY, op, kind], "--signer", "none")
         client = threading.Thread(target=ask_in_vain, args=(front.port, op))
@@ -177,8 +226,6 @@ def wrong_clock(folder):
         hold(time.monotonic() < until, "with the clock set back nothing is taken")
     status, fault = front.end()
     hold(status == 0 and "clock-ahead" in fault and "start the front again" in fault, "of the clock the front says", fault)
-    where.write_text("0")
-    content = files(folder)
     where.write_text("86400")
     front = WithClock(folder, where)
     Client(front.port).get("add-chain", {"chain": [text(b"a day ahead")]})
@@ -215,4 +262,4 @@ def repeats(folder):
     return f"{len(answers)} submissions of one certificate"
 
 
-CASES = (stopped_under_load, retired_under_load, log_that_fails, log_that_hangs, wrong_clock, repeats)
+CASES = (stopped_under_load, retired_under_load, retired_with_one_under_way, log_that_fails, log_that_hangs, wrong_clock, repeats)

@@ -136,7 +136,8 @@ def behind_nginx(folder):
                 connection.sendall(request)
                 connection.recv(1 << 16)
             status, answer = Client(port).call("get-entries", start=0, end=number)
-            hold(status == 200 and len(answer.get("entries", [])) == 1, "behind", name, "get-entries is answered with", status, answer)
+            right = status == 200 and len(answer.get("entries", [])) == 1
+            hold(right, "behind", name, "get-entries is answered with", status, answer)
     finally:
         proxy.terminate()
         proxy.wait()
@@ -237,7 +238,8 @@ def slow_reader(folder):
             time.sleep(0.1 if time.monotonic() - begun < 17 else 0)
     head, _, body = found.partition(b"\r\n\r\n")
     whole = b"Content-Length: %d\r\n" % len(body) in head
-    hold(head.startswith(b"HTTP/1.1 200") and whole and json.loads(body)["entries"], "a slow reader got", len(body), "bytes of", head)
+    right = head.startswith(b"HTTP/1.1 200") and whole and json.loads(body)["entries"]
+    hold(right, "a slow reader got", len(body), "bytes of", head)
     hold(front.end() == (0, ""), "the front doesn't end in order")
     return f"a slow reader of {len(body)} bytes"
 
@@ -254,7 +256,8 @@ def long_answers(folder):
     while found < many + 40:
         status, body = client.send(f"/ct/v1/get-entries?start={found}&end={many + 39}")
         entries = json.loads(body)["entries"]
-        hold(status == 200 and entries and (len(body) < 1_100_000 or len(entries) == 1), "get-entries answers", len(body), "bytes")
+        right = status == 200 and entries and (len(body) < 1_100_000 or len(entries) == 1)
+        hold(right, "get-entries answers", len(body), "bytes")
         found += len(entries)
         sizes.append(len(entries))
     hold(sizes[0] == 1 and sizes[-1] > 30, "get-entries answers so many entries:", sizes)

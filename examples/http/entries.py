@@ -1,7 +1,7 @@
 """What the front knows of each entry: its identity, by which a certificate that comes again is known, and how long it is.
 
 A submission's identity is what the log tells entries apart by: the entry's type and the signed entry without its moment (RFC
-6962, section 3.1). An entry takes some 170 bytes here, for good, a tenth of what the log itself takes for one of 1,500 bytes.
+6962, section 3.1). An entry takes some 160 bytes here, for good.
 """
 import array
 import base64

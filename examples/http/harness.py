@@ -74,7 +74,8 @@ class Client:
     answer as status and value."""
 
     def __init__(self, port, source=None):
-        self.connection = http.client.HTTPConnection("127.0.0.1", port, timeout=60, source_address=(source, 0) if source else None)
+        own = (source, 0) if source else None
+        self.connection = http.client.HTTPConnection("127.0.0.1", port, timeout=60, source_address=own)
         self.used = time.monotonic()
 
     def send(self, path, body=None, method=None):

@@ -25,7 +25,8 @@ from notes import Notes
 from program import line_of
 
 END = re.compile(rb',"batch":"([0-9a-f]{64})"\}\n$')
-ID = re.compile(rb'\{"who":"operator","op":"sequence","from":0,"count":0,"now":0,"log_id":"([0-9A-Za-z+/=]*)","batch":"[0-9a-f]{64}"\}\n')
+NAMED = rb'\{"who":"operator","op":"sequence","from":0,"count":0,"now":0,"log_id":"([0-9A-Za-z+/=]*)"'
+ID = re.compile(NAMED + END.pattern)
 # What may stand behind the last whole batch: lines of submissions and of `sequence`, and a part of a line.
 SUBMISSIONS, PART = ("add-chain", "add-pre-chain"), re.compile(rb'\{[^{}\x00-\x1f\x7f-\xff]*\}?')
 

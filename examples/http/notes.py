@@ -28,13 +28,14 @@ class Notes:
         elif line.startswith(noted):
             self.missing.append(line)
         else:
-            where = f"{self.path} at byte {self.end}"
-            raise Broken(f"the journal gives another head (number {number}) than {where}: one of the two is damaged; nothing was changed")
+            where = f"{self.path} at byte {self.end}: one of the two is damaged"
+            raise Broken(f"the journal gives another head (number {number}) than {where}; nothing was changed")
 
     def check_end(self):
         """Behind the journal's last head there is none."""
         if self.next():
-            raise Broken(f"the journal ends before a head that was published: {self.path} has it at byte {self.end}; nothing was changed")
+            where = f"{self.path} has it at byte {self.end}"
+            raise Broken(f"the journal ends before a head that was published: {where}; nothing was changed")
 
     def open(self):
         """Goes on behind the last head that is noted whole."""

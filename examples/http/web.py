@@ -32,7 +32,8 @@ LINGER, PASSED_OVER = 5, 8 * LONGEST_BODY
 # What the system holds of an answer on its way, in bytes: a larger room would hide that a client reads nothing.
 ON_ITS_WAY = 1 << 16
 LENGTH = re.compile(r"[0-9]{1,20}")
-TOO_MANY = b'HTTP/1.1 503 Service Unavailable\r\nRetry-After: 1\r\nConnection: close\r\n\r\n{"error_message": "too-many-connections"}'
+TOO_MANY = b"HTTP/1.1 503 Service Unavailable\r\nRetry-After: 1\r\nConnection: close\r\n\r\n"
+TOO_MANY += b'{"error_message": "too-many-connections"}'
 
 
 def status_of(refusal):
