@@ -3,11 +3,11 @@ use Rattle.std.proofs.Common.{◌≡◌, ◌∙◌, ℕ, List, ◌++◌, refl, s
 use Rattle.ct_codec.specs.Bytes.{num, vec}
 use Rattle.ct_codec.specs.Leaf.{SignedEntry, certificate, precertificate, entry_text, type_of}
 use Rattle.ct_codec.proofs.Apart.{num_split, vec_split, entry_split}
-use Rattle.ct_tile_leaves.specs.TileLeaf.{IsBeside, beside_text}
+use Rattle.ct_tile_leaves.specs.TileLeaf.{IsBesideEntry, beside_text}
 use Rattle.ct_tile_leaves.specs.Laws.{TileLeavesStandApart, SignedTimestampsAreHeld}
 use Rattle.ct_tile_leaves.proofs.Fields.{five_parts}
 
-beside_split : (d e : SignedEntry) (x y r s : List ℕ) → d ≡ e → IsBeside d x → IsBeside e y → beside_text d x ++ r ≡ beside_text e y ++ s → (x ≡ y)
+beside_split : (d e : SignedEntry) (x y r s : List ℕ) → d ≡ e → IsBesideEntry d x → IsBesideEntry e y → beside_text d x ++ r ≡ beside_text e y ++ s → (x ≡ y)
     × (r ≡ s)
 beside_split (certificate c) (certificate f) x y r s one h k e = (h ∙ sym k, e)
 beside_split (precertificate k c) (precertificate l f) x y r s one h i e = vec_split 3 x y r s h.1 i.1 e

@@ -4,7 +4,7 @@ use Rattle.ct_codec.specs.Bytes.{num, vec}
 use Rattle.ct_codec.specs.Leaf.{SignedEntry, precertificate, IsEntry, entry_text}
 use Rattle.ct_codec.specs.Faults.{VectorCut, VectorFaulty, EntryFaulty}
 use Rattle.ct_codec.specs.declared.fault.DecodeFault.TheVariants.{Truncated}
-use Rattle.ct_tile_leaves.specs.TileLeaf.{IsBeside, beside_text}
+use Rattle.ct_tile_leaves.specs.TileLeaf.{IsBesideEntry, beside_text}
 use Rattle.ct_tile_leaves.specs.declared.fault.TileFault.{TileFault}
 use Rattle.ct_tile_leaves.specs.declared.fault.TileFault.TheVariants.{Field, PartialFingerprint}
 
@@ -25,7 +25,7 @@ BesideFaulty _ _ b = ⊥
 -- fingerprints
 abbrev pub FaultyBehindExtensions : SignedEntry → TileFault → List ℕ → Type 0
 FaultyBehindExtensions e f b =
-    BesideFaulty e f b ⊎ ((p r : List ℕ) × IsBeside e p × (b ≡ beside_text e p ++ r) × FingerprintsFaulty f r)
+    BesideFaulty e f b ⊎ ((p r : List ℕ) × IsBesideEntry e p × (b ≡ beside_text e p ++ r) × FingerprintsFaulty f r)
 
 -- the fault of what stands behind the entry e of a tile leaf: that of the extensions, or behind them that of what follows
 abbrev pub FaultyBehindEntry : SignedEntry → TileFault → List ℕ → Type 0

@@ -15,9 +15,9 @@ pub record Tiled : Type 0 where
 
 -- p can stand as the precertificate beside the entry: no bytes beside a certificate, and 1 to 2^24 - 1 bytes beside a precertificate's
 -- entry
-abbrev pub IsBeside : SignedEntry → List ℕ → Type 0
-IsBeside (certificate c) p = p ≡ []
-IsBeside (precertificate k c) p = IsCertificate p
+abbrev pub IsBesideEntry : SignedEntry → List ℕ → Type 0
+IsBesideEntry (certificate c) p = p ≡ []
+IsBesideEntry (precertificate k c) p = IsCertificate p
 
 -- the precertificate p as a vector, or no bytes where the entry is a certificate
 abbrev pub beside_text : SignedEntry → List ℕ → List ℕ
@@ -37,7 +37,7 @@ pub record IsTileLeaf (l : Tiled) : Type 0 where
   pub timestamp : l.timestamp < 2 ^ 64
   pub entry : IsEntry l.entry
   pub extensions : length l.extensions < 2 ^ 16
-  pub precertificate : IsBeside l.entry l.precertificate
+  pub precertificate : IsBesideEntry l.entry l.precertificate
   pub fingerprints : AreFingerprints l.fingerprints
   pub fits : length l.fingerprints < 2 ^ 16
 

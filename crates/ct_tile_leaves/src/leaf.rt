@@ -4,7 +4,7 @@ ghost use Rattle.std.specs.Prelude.{◌≡◌, ◌<◌, ◌^◌, length};
 ghost use Rattle.ct_codec.specs.Submitted.{entry_of, precertificate_text};
 ghost use Rattle.ct_codec.specs.Parts.{joined};
 ghost use Rattle.ct_codec.specs.Decoded.{entry_lent};
-ghost use Rattle.ct_tile_leaves.specs.TileLeaf.{IsTileLeaf, IsBeside, beside_text};
+ghost use Rattle.ct_tile_leaves.specs.TileLeaf.{IsTileLeaf, IsBesideEntry, beside_text};
 ghost use Rattle.ct_tile_leaves.specs.Lent.{tiled};
 
 use ct_codec::{LentEntry, Submission};
@@ -37,7 +37,7 @@ fn lent_entry<S: Allocator>(submission: &Submission<S>) -> LentEntry<'_>
 
 // The precertificate, or no bytes where a certificate was submitted.
 fn precertificate_of<S: Allocator>(submission: &Submission<S>) -> &[u8]
-    ensures beside { IsBeside (entry_of submission.now) result.now }
+    ensures beside { IsBesideEntry (entry_of submission.now) result.now }
     ensures text { beside_text (entry_of submission.now) result.now ≡ precertificate_text submission.now }
 {
     submission.in_range();

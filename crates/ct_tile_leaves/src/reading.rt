@@ -3,7 +3,7 @@
 ghost use Rattle.std.specs.Prelude.{◌≡◌, ◌<◌, ◌^◌, ◌++◌, length, IfOk, IfErr};
 ghost use Rattle.ct_codec.specs.Bytes.{vec};
 ghost use Rattle.ct_codec.specs.Decoded.{entry_lent};
-ghost use Rattle.ct_tile_leaves.specs.TileLeaf.{IsBeside, beside_text, AreFingerprints, BeginsWith};
+ghost use Rattle.ct_tile_leaves.specs.TileLeaf.{IsBesideEntry, beside_text, AreFingerprints, BeginsWith};
 ghost use Rattle.ct_tile_leaves.specs.Faults.{FingerprintsFaulty, BesideFaulty, TileLeafFaulty};
 ghost use Rattle.ct_tile_leaves.specs.Lent.{tiled};
 
@@ -33,7 +33,7 @@ fn precertificate_at<'a>(
     reader: &mut Reader<'a>,
     entry: LentEntry<'_>,
 ) -> Result<&'a [u8], TileFault>
-    ensures found { IfOk result (λ p. IsBeside (entry_lent entry.entry) p.now × (reader.old ≡ beside_text (entry_lent entry.entry) p.now ++ reader.new)) }
+    ensures found { IfOk result (λ p. IsBesideEntry (entry_lent entry.entry) p.now × (reader.old ≡ beside_text (entry_lent entry.entry) p.now ++ reader.new)) }
     ensures fault { IfErr result (λ f. BesideFaulty (entry_lent entry.entry) f reader.old) }
 {
     match entry {

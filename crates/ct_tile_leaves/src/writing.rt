@@ -5,7 +5,7 @@ ghost use Rattle.ct_codec.specs.Bytes.{vec};
 ghost use Rattle.ct_codec.specs.Leaf.{IsEntry, entry_text, timestamped_text};
 ghost use Rattle.ct_codec.specs.Decoded.{entry_lent};
 ghost use Rattle.ct_codec.specs.declared.refusal.Refusal.TheVariants as Refusal;
-ghost use Rattle.ct_tile_leaves.specs.TileLeaf.{IsTileLeaf, IsBeside, beside_text, tile_leaf_text, leaf_of};
+ghost use Rattle.ct_tile_leaves.specs.TileLeaf.{IsTileLeaf, IsBesideEntry, beside_text, tile_leaf_text, leaf_of};
 ghost use Rattle.ct_tile_leaves.specs.Lent.{tiled};
 
 use crate::leaf::TileLeaf;
@@ -60,7 +60,7 @@ fn push_beside<A: Allocator>(
     entry: LentEntry<'_>,
     precertificate: &[u8],
 ) -> Result<(), Refusal>
-    requires { IsBeside (entry_lent entry) precertificate.now }
+    requires { IsBesideEntry (entry_lent entry) precertificate.now }
     ensures written { OnOk result (out.new.items ≡ out.old.items ++ beside_text (entry_lent entry.entry) precertificate.now) }
     ensures memory { IsOkUnless result Refusal.Memory }
 {

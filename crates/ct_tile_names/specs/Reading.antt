@@ -18,11 +18,12 @@ abbrev pub is_data : Content → Bool
 is_data (Hashes level) = false
 is_data Entries = true
 
+-- the level of a tile's hashes; 0 where it has entries
 abbrev pub level_number : Content → ℕ
 level_number (Hashes level) = level
 level_number Entries = 0
 
--- and for its width: 0 where it isn't written
+-- the width that a name writes; 0 for a full tile, whose width is not written
 abbrev pub width_number : ℕ → ℕ
 width_number width = if nat_lt width 256 then width else 0
 
