@@ -1,0 +1,20 @@
+-- A path out of the tiles of a list isn't refused.
+use Rattle.std.proofs.Common.{◌≡◌, ◌<◌, ◌≤◌, ℕ, List, [], length, take, get_or, sym, arith}
+use Rattle.ct_tree.specs.Tree.{mth, path}
+use Rattle.std.proofs.lemmas.List.{length-take-le}
+use Rattle.ct_tile_reader.specs.Given.{GivesTilesOf}
+use Rattle.ct_verify.specs.Verdict.{AcceptsInclusion, RefusesInclusion}
+use Rattle.ct_verify.specs.declared.fault.ProofFault.{ProofFault}
+use Rattle.ct_verify.proofs.Equations.{path_accepted, path_not_refused}
+
+pub never : (H : List ℕ → List ℕ) (D : List (List ℕ)) (leaf : List ℕ) (m n : ℕ) (p : List (List ℕ)) (root : List ℕ) (fault : ProofFault)
+    → length D ≡ n → m < n → leaf ≡ get_or D m [] → root ≡ mth H D → p ≡ path H m D → RefusesInclusion H leaf m n p root fault → ⊥
+never H D leaf m n p root fault size below l r e refused =
+    let accepted : AcceptsInclusion H leaf m n p root = rw (l, sym size, r, e) (path_accepted H m D (omega (arith, size, below))) in
+    path_not_refused H leaf m n p root fault accepted refused
+
+pub never_of_tiles : (H : List ℕ → List ℕ) (given : ℕ → ℕ → List ℕ) (D : List (List ℕ)) (leaf : List ℕ) (m n : ℕ) (p : List (List ℕ)) (root : List ℕ) (fault : ProofFault)
+    → ((E : List (List ℕ)) → GivesTilesOf H given E → n ≤ length E → p ≡ path H m (take n E)) → RefusesInclusion H leaf m n p root fault
+    → GivesTilesOf H given D → n ≤ length D → m < n → leaf ≡ get_or (take n D) m [] → root ≡ mth H (take n D) → ⊥
+never_of_tiles H given D leaf m n p root fault made refused tiles inside below l r =
+    never H (take n D) leaf m n p root fault (length-take-le n D inside) below l r (made D tiles inside) refused

@@ -1,0 +1,39 @@
+//! Paths that are checked before they are answered.
+ghost use Rattle.std.specs.Prelude.{◌≡◌, ◌<◌, ◌≤◌, ℕ, List, [], length, take, get_or, IfOk, IfErr, MatchResult};
+ghost use Rattle.ct_tree.specs.Tree.{mth};
+ghost use Rattle.ct_verify.specs.Verdict.{AcceptsInclusion};
+ghost use Rattle.ct_tile_reader.specs.Given.{GivesTilesOf};
+ghost use Rattle.ct_verify.specs.declared.evidence.EvidenceFault.TheVariants.{ProofRefused, Memory};
+
+use crate::source::TileSource;
+use crate::walk::path;
+use ct_tree::NodeHash;
+use ct_verify::{EvidenceFault, ProofFault, verify_inclusion};
+use std::alloc::Global;
+
+/// The audit path of the leaf at index `m` in the tree of the first `n` leaves, checked against a root before it is
+/// answered (RFC 6962, section 2.1.1; RFC 9162, section 2.1.3.2), so that tiles from anywhere may be used. Errors: the
+/// verifier's own refusal, IndexOutOfRange where `m` isn't below `n`, or want of memory. Out of the tiles of a list that
+/// has this leaf and this root no path is refused.
+pub fn checked_path<H: NodeHash, T: TileSource>(
+    alloc: Global,
+    h: &H,
+    tiles: &T,
+    leaf_hash: &[u8; 32],
+    m: u64,
+    n: u64,
+    root: &[u8; 32],
+) -> Result<Vec<[u8; 32]>, EvidenceFault>
+    ensures accepted { IfOk result (λ path. AcceptsInclusion H.digest leaf_hash.now m n path.items root.now) }
+    ensures never_refused { IfErr result (λ fault. (D : List (List ℕ)) → GivesTilesOf H.digest (T.given tiles.now) D → n ≤ length D → m < n
+        → leaf_hash.now ≡ get_or (take n D) m [] → root.now ≡ mth H.digest (take n D) → fault ≡ Memory) }
+{
+    if m >= n {
+        return Err(EvidenceFault::ProofRefused(ProofFault::IndexOutOfRange));
+    }
+    let path = path(alloc, h, tiles, m, n)?;
+    match verify_inclusion(h, leaf_hash, m, n, &path, root) {
+        Ok(()) => Ok(path),
+        Err(fault) => Err(EvidenceFault::ProofRefused(fault)),
+    }
+}
