@@ -1,0 +1,36 @@
+//! Why there is no checkpoint.
+
+ghost use Rattle.std.specs.Prelude.{◌≡◌};
+ghost use Rattle.ct_checkpoint.specs.declared.fault.CheckpointFault.TheVariants.{Memory};
+
+use std::alloc::AllocError;
+use thiserror::Error;
+
+/// Why a text is no checkpoint. A fault's text is its name.
+#[derive(Clone, Copy, Debug, PartialEq, Eq, Error)]
+pub enum CheckpointFault {
+    /// There is no first line, or the origin in it is empty.
+    #[error("BadOrigin")]
+    BadOrigin,
+    /// There is no second line, or it is no number below 2^64.
+    #[error("BadSize")]
+    BadSize,
+    /// There is no third line, or it is not the base64 of 32 bytes.
+    #[error("BadRoot")]
+    BadRoot,
+    /// The text is not the one that is written for this origin, size and root: the size has a leading zero or a plus, or something follows
+    /// the third line.
+    #[error("NotAsWritten")]
+    NotAsWritten,
+    /// A growth was refused. The text has no fault.
+    #[error("Memory")]
+    Memory,
+}
+
+impl From<AllocError> for CheckpointFault {
+    ghost from_gives = { λ _ e. e ≡ Memory };
+
+    fn from(_e: AllocError) -> CheckpointFault {
+        CheckpointFault::Memory
+    }
+}

@@ -1,0 +1,58 @@
+use ct_checkpoint::{CheckpointFault, read_checkpoint, write_checkpoint};
+use std::alloc::AllocError;
+
+// The root is the SHA-256 of the empty string, as RFC 6962 section 2.1 gives it for no leaves.
+const ROOT: [u8; 32] = [
+    0xe3, 0xb0, 0xc4, 0x42, 0x98, 0xfc, 0x1c, 0x14, 0x9a, 0xfb, 0xf4, 0xc8, 0x99, 0x6f, 0xb9, 0x24,
+    0x27, 0xae, 0x41, 0xe4, 0x64, 0x9b, 0x93, 0x4c, 0xa4, 0x95, 0x99, 0x1b, 0x78, 0x52, 0xb8, 0x55,
+];
+
+const TEXT: &str = "example.com/log\n20852163\n47DEQpj8HBSa+/TImW+5JCeuQeRkm5NMpJWZG3hSuFU=\n";
+
+#[test]
+fn a_checkpoint_is_written_and_read(rt: HostRuntime) -> Result<(), AllocError> {
+    let text = write_checkpoint(rt.alloc(), "example.com/log", 20_852_163, &ROOT)?;
+    assert!(rt; text.as_str() == TEXT);
+    let Ok(read) = read_checkpoint(rt.alloc(), TEXT) else {
+        assert!(rt; false);
+        return Ok(());
+    };
+    assert!(rt; read.origin == "example.com/log" && read.size == 20_852_163 && read.root == ROOT);
+    Ok(())
+}
+
+#[test]
+fn other_texts_are_refused(rt: HostRuntime) {
+    let alloc = rt.alloc();
+    assert!(rt; read_checkpoint(alloc, "").err() == Some(CheckpointFault::BadOrigin));
+    assert!(rt; read_checkpoint(alloc, "\n1\n").err() == Some(CheckpointFault::BadOrigin));
+    assert!(rt; read_checkpoint(alloc, "a\n1").err() == Some(CheckpointFault::BadSize));
+    assert!(rt;
+        read_checkpoint(alloc, "a\n18446744073709551616\n").err() == Some(CheckpointFault::BadSize)
+    );
+    assert!(rt; read_checkpoint(alloc, "a\n1\n47DEQpj8\n").err() == Some(CheckpointFault::BadRoot));
+    assert!(rt;
+        read_checkpoint(
+            alloc,
+            "a\n1\n47DEQpj8HBSa-_TImW-5JCeuQeRkm5NMpJWZG3hSuFU=\n"
+        )
+        .err()
+            == Some(CheckpointFault::BadRoot)
+    );
+    assert!(rt;
+        read_checkpoint(
+            alloc,
+            "a\n01\n47DEQpj8HBSa+/TImW+5JCeuQeRkm5NMpJWZG3hSuFU=\n"
+        )
+        .err()
+            == Some(CheckpointFault::NotAsWritten)
+    );
+    assert!(rt;
+        read_checkpoint(
+            alloc,
+            "a\n1\n47DEQpj8HBSa+/TImW+5JCeuQeRkm5NMpJWZG3hSuFU=\nmore\n"
+        )
+        .err()
+            == Some(CheckpointFault::NotAsWritten)
+    );
+}
