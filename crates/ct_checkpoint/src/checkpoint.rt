@@ -4,7 +4,6 @@ ghost use Rattle.std.specs.Prelude.{◌≡◌, ◌<◌, length, IfOk, string_byt
 ghost use Rattle.ct_checkpoint.specs.Checkpoint.{checkpoint_text};
 
 use crate::fault::CheckpointFault;
-use base64::DecodeAllocError;
 use base64::engine::general_purpose::STANDARD;
 use std::alloc::{AllocError, Global};
 
@@ -35,11 +34,7 @@ pub fn write_checkpoint(
 
 // The 32 bytes whose base64 the text is.
 fn root_of(alloc: Global, text: &str) -> Result<[u8; 32], CheckpointFault> {
-    let bytes = match STANDARD.decode(alloc, text.as_bytes()) {
-        Ok(bytes) => bytes,
-        Err(DecodeAllocError::OutOfMemory) => return Err(CheckpointFault::Memory),
-        Err(_) => return Err(CheckpointFault::BadRoot),
-    };
+    let bytes = STANDARD.decode(alloc, text.as_bytes())?;
     match bytes.as_slice().first_chunk::<32>() {
         Some(root) if bytes.len() == 32 => Ok(*root),
         _ => Err(CheckpointFault::BadRoot),

@@ -3,6 +3,7 @@
 ghost use Rattle.std.specs.Prelude.{◌≡◌};
 ghost use Rattle.ct_checkpoint.specs.declared.fault.CheckpointFault.TheVariants.{Memory};
 
+use base64::DecodeAllocError;
 use std::alloc::AllocError;
 use thiserror::Error;
 
@@ -32,5 +33,14 @@ impl From<AllocError> for CheckpointFault {
 
     fn from(_e: AllocError) -> CheckpointFault {
         CheckpointFault::Memory
+    }
+}
+
+impl From<DecodeAllocError> for CheckpointFault {
+    fn from(error: DecodeAllocError) -> CheckpointFault {
+        match error {
+            DecodeAllocError::DecodeError(_) => CheckpointFault::BadRoot,
+            DecodeAllocError::OutOfMemory => CheckpointFault::Memory,
+        }
     }
 }
