@@ -7,8 +7,8 @@ use Rattle.ct_parties.specs.declared.fault.Fault.{Fault}
 use Rattle.ct_parties.specs.declared.fault.Fault.TheVariants as fault
 use Rattle.ct_core.specs.Settlement.{Log, IsFinal}
 use Rattle.ct_core.specs.Leaf.{Entry}
-use Rattle.ct_core.specs.Core.{Begins, CoreState, IsCovered, clock_of, last_moment}
-use Rattle.ct_house.specs.House.{HouseState, FrontView, FinalState, IsAllSettled, AreConsistent, accepted_lists}
+use Rattle.ct_core.specs.Core.{Begins, CoreState, Extends, IsCovered, clock_of, last_moment}
+use Rattle.ct_house.specs.House.{HouseState, FrontView, FinalState, IsAllSettled, accepted_lists}
 
 -- the clock refuses to close the log at now: leaves are newer, or the last head isn't older
 abbrev pub IsLate : CoreState → ℕ → Type 0
@@ -56,11 +56,11 @@ abbrev pub KeepsCount : HouseState → HouseState → Type 0
 KeepsCount old new = (n : ℕ) → old.accepted ≡ Some n → new.accepted ≡ Some n
 
 -- What a house with these fronts leaves that was closed at now: the log is final for what they accepted, goes on from what the
--- sequencer left, and no front was shown another log: what each has seen begins it, or is begun by it. Where the sequencer was
+-- sequencer left, and no front was shown another log: what each has seen begins it. Where the sequencer was
 -- shut before, the number that its shutdown found is that of what was accepted.
 pub record Closes (s : HouseState) (fronts : List FrontView) (now : ℕ) (left : FinalState) : Type 0 where
   pub final : IsFinal (accepted_lists fronts) left.accepted left.log
   pub counted : (n : ℕ) → s.accepted ≡ Some n → left.accepted ≡ n
   pub in_time : IsLate s.core now → ⊥
   pub ends : EndsAt s now left.log
-  pub consistent : All (λ (f : FrontView). AreConsistent f.sight.seen left.log) fronts
+  pub seen : All (λ (f : FrontView). Extends f.sight.seen left.log) fronts

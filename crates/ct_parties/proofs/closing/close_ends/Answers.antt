@@ -4,7 +4,8 @@ use Rattle.std.specs.Vec.{with_items}
 use Rattle.std.proofs.lemmas.List.{with_items_is}
 use Rattle.std.proofs.lemmas.Option.{same_Some}
 use Rattle.ct_core.specs.Settlement.{IsFinal}
-use Rattle.ct_house.specs.House.{AreConsistent, HouseName, FrontView, IsOfHouse, IsAllSettled, accepted_lists}
+use Rattle.ct_core.specs.Core.{Extends}
+use Rattle.ct_house.specs.House.{HouseName, FrontView, IsOfHouse, IsAllSettled, accepted_lists}
 use Rattle.ct_parties.proofs.ClosingLemmas.{closing_fault, ends_at}
 use Rattle.ct_parties.proofs.closing.close_ends.Goals as goal
 
@@ -34,8 +35,7 @@ returns-in-Ok-clause-closes g c =
       counted = λ n is. same_Some c.finish.result.accepted n (sym c.finish.ensures.same.1 ∙ c.in-Ok.ensures.counted n is);
       in_time = c.in-Ok.ensures.ready.in_time;
       ends = ends_at _ _ _ _ _ _ c.in-Ok.ensures.ready c.in-Ok.ensures.kept c.finish.ensures.same.0;
-      consistent = subst (λ (l : List FrontView). All (λ (f : FrontView). AreConsistent f.sight.seen c.finish.result.log) l) (same ∙ before)
-          c.finish.ensures.consistent;
+      seen = subst (λ (l : List FrontView). All (λ (f : FrontView). Extends f.sight.seen c.finish.result.log) l) (same ∙ before) c.finish.ensures.seen;
     }
 
 pub returns-in-Err-clause-faults : goal.returns-in-Err-clause-faults
