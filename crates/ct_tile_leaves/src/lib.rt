@@ -1,4 +1,4 @@
-//! The leaves of a log's data tiles (TileLeaf, C2SP static-ct-api, "Log Entries"), written and read exactly.
+//! The leaves of a log's data tiles (TileLeaf, C2SP static-ct-api, "Log Entries"), written, and read with the first fault by name.
 //!
 //! - `TileLeaf` is a leaf as a data tile holds it: the TimestampedEntry of RFC 6962 section 3.4, the precertificate where the entry is one,
 //!   and the SHA-256 fingerprints of the chain's issuers. Its parts stand where they were read or submitted: none is copied.
