@@ -82,16 +82,26 @@ looks_both a b c p q = record { intake = q.intake ∙ p.intake; moves = moves_bo
 
 -- a front that looked goes on, and so does one that submitted
 pub looks_on : (a b : FrontView) → Looks a b → FrontGoesOn a b
-looks_on a b l = record { same = subst (λ (i : IntakeView). SameIntake a.intake i) (sym l.intake) (same_none a.intake); moves = l.moves }
+looks_on a b l = record {
+  same = subst (λ (i : IntakeView). SameIntake a.intake i) (sym l.intake) (same_none a.intake);
+  moves = l.moves;
+  shutdown = λ known. ap (λ (i : IntakeView). i.knows_shutdown) l.intake ∙ known;
+}
 
-pub submits_on : (a b : FrontView) → SameIntake a.intake b.intake → b.sight ≡ a.sight → FrontGoesOn a b
-submits_on a b same sight = record { same = same; moves = subst (λ (s : Sight). Moves a.sight s) (sym sight) (moves_none a.sight) }
+pub submits_on : (a b : FrontView) → SameIntake a.intake b.intake → b.sight ≡ a.sight
+    → (a.intake.knows_shutdown ≡ true → b.intake.knows_shutdown ≡ true) → FrontGoesOn a b
+submits_on a b same sight shutdown = record {
+  same = same;
+  moves = subst (λ (s : Sight). Moves a.sight s) (sym sight) (moves_none a.sight);
+  shutdown = shutdown;
+}
 
 pub front_goes_on_nothing : (a : FrontView) → FrontGoesOn a a
-front_goes_on_nothing a = record { same = same_none a.intake; moves = moves_none a.sight }
+front_goes_on_nothing a = record { same = same_none a.intake; moves = moves_none a.sight; shutdown = λ known. known }
 
 pub front_goes_on_both : (a b c : FrontView) → FrontGoesOn a b → FrontGoesOn b c → FrontGoesOn a c
 front_goes_on_both a b c p q = record {
   same = (q.same.0 ∙ p.same.0, q.same.1 ∙ p.same.1, q.same.2 ∙ p.same.2, q.same.3 ∙ p.same.3);
   moves = moves_both a.sight b.sight c.sight p.moves q.moves;
+  shutdown = λ known. q.shutdown (p.shutdown known);
 }

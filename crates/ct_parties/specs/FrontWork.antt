@@ -56,10 +56,12 @@ FrontDoes a (SubmitPrecert hash tbs chain) r b = Submits a (precert hash tbs.ite
 FrontDoes a (AwaitSize n) r b = Awaits b.sight.seen n r × Looks a b
 FrontDoes a (Ask q) r b = Shows b.sight.seen q r × Looks a b
 
--- the front is of the same ring, and never went back: what it had seen begins what it has seen now
+-- The front is of the same ring (`same`), and never went back: what it had seen begins what it has seen now (`moves`), and if it knew
+-- of the shutdown, it knows of it now (`shutdown`), so that it is told `shutdown` from then on.
 pub record FrontGoesOn (a b : FrontView) : Type 0 where
   pub same : SameIntake a.intake b.intake
   pub moves : Moves a.sight b.sight
+  pub shutdown : a.intake.knows_shutdown ≡ true → b.intake.knows_shutdown ≡ true
 
 -- a front does its tasks in turn, and the lines of its answers stand behind what was written before
 abbrev pub FrontServes : FrontView → List FrontTask → List ℕ → FrontView → List ℕ → Type 0

@@ -1,6 +1,6 @@
 //! The lines of a front, done in order.
 
-ghost use Rattle.std.specs.Prelude.{◌≡◌, ◌++◌, map, IfOk, IfErr, OnOk};
+ghost use Rattle.std.specs.Prelude.{◌≡◌, ◌++◌, map, true, IfOk, IfErr, OnOk};
 ghost use Rattle.ct_codec.specs.Submitted.{x509, precert};
 ghost use Rattle.ct_core.specs.Replies.{Answer, a_head};
 ghost use Rattle.ct_core.specs.declared.query.Query.TheVariants.{GetSth};
@@ -24,6 +24,7 @@ fn send(front: &mut Front, submission: Submission, accepted: &Bell) -> Result<Re
     ensures sends { Sends front.old.intake submission (answered result) front.new.intake }
     ensures same { SameIntake front.old.intake front.new.intake }
     ensures sight { front.new.sight ≡ front.old.sight }
+    ensures shutdown { front.old.intake.knows_shutdown ≡ true → front.new.intake.knows_shutdown ≡ true }
 {
     match front.submit(submission) {
         Ok(ticket) => {
@@ -39,6 +40,7 @@ fn submit_chain(front: &mut Front, chain: Vec<Vec<u8>>, accepted: &Bell) -> Resu
     ensures submits { Submits front.old (x509 (map (λ c. c.items) chain.items)) (answered result) front.new }
     ensures same { SameIntake front.old.intake front.new.intake }
     ensures sight { front.new.sight ≡ front.old.sight }
+    ensures shutdown { front.old.intake.knows_shutdown ≡ true → front.new.intake.knows_shutdown ≡ true }
 {
     let submission = Submission::x509(chain)?;
     send(front, submission, accepted)
@@ -55,6 +57,7 @@ fn submit_precert(
     ensures submits { Submits front.old (precert issuer_key_hash tbs.items (map (λ c. c.items) chain.items)) (answered result) front.new }
     ensures same { SameIntake front.old.intake front.new.intake }
     ensures sight { front.new.sight ≡ front.old.sight }
+    ensures shutdown { front.old.intake.knows_shutdown ≡ true → front.new.intake.knows_shutdown ≡ true }
 {
     let submission = Submission::precert(issuer_key_hash, tbs, chain)?;
     send(front, submission, accepted)
@@ -94,7 +97,7 @@ fn await_size<R: Wait>(
 {
     let turns = waiting.turns;
     let mut turn = 0;
-    while turn < turns {
+    while turn < turns && !waiting.is_over() {
         let seen = waiting.heads.rung();
         if size <= published_size(alloc, front)? {
             return Ok(Reply::Reached(size));

@@ -35,7 +35,7 @@ fn settle_some<R: Threads + Wait + Sync>(
 {
     let turns = waiting.turns;
     let mut turn = 0;
-    while turn < turns {
+    while turn < turns && !waiting.is_over() {
         let seen = waiting.accepted.rung();
         match sequencer.take(rt, alloc, front, most, now) {
             Ok(settled) => {

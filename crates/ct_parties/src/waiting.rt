@@ -3,8 +3,8 @@
 
 ghost use Rattle.std.specs.Prelude.{◌≡◌, ◌<◌, ◌≤◌, ◌+◌, ◌-◌, ◌^◌};
 
-use std::sync::Wait;
-use std::sync::atomic::{AtomicU64, Ordering};
+use std::sync::atomic::{AtomicBool, AtomicU64, Ordering};
+use std::sync::{Arc, Wait};
 use std::thread::yield_now;
 use std::time::Duration;
 
@@ -82,6 +82,8 @@ pub struct Waiting {
     pub heads: Bell,
     /// Rung when a front accepted a submission.
     pub accepted: Bell,
+    // Whether the run is to end, if anything ends it: then no line waits any more.
+    stopped: Option<Arc<AtomicBool>>,
 }
 
 impl Waiting {
@@ -93,6 +95,27 @@ impl Waiting {
             turns,
             heads: Bell::new(),
             accepted: Bell::new(),
+            stopped: None,
+        }
+    }
+
+    /// The same in a run that may be broken off: once the flag is set, no line waits any more, and those that do are late.
+    pub fn until(turns: u64, stopped: Arc<AtomicBool>) -> Waiting
+        ensures { result.turns ≡ turns }
+    {
+        Waiting {
+            turns,
+            heads: Bell::new(),
+            accepted: Bell::new(),
+            stopped: Some(stopped),
+        }
+    }
+
+    /// Whether no line waits any more.
+    pub fn is_over(&self) -> bool {
+        match &self.stopped {
+            Some(stopped) => stopped.load(Ordering::SeqCst),
+            None => false,
         }
     }
 }
