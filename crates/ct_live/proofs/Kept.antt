@@ -46,7 +46,7 @@ asks_line : (fronts k : ℕ) (a b : List ℕ) (ss : List (ℕ × LiveStep)) → 
 asks_line fronts k [] b ss long_a long_b p = absurd (omega (arith, long_a))
 asks_line fronts k (x ∷ a) [] ss long_a long_b p = absurd (omega (arith, long_b))
 asks_line fronts k (x ∷ a) (y ∷ b) [] long_a long_b p = absurd p
-asks_line fronts k (x ∷ a) (y ∷ b) (s ∷ ss) long_a long_b p = (p.0, asks_long fronts (x ∷ a) (y ∷ b) s.1 long_a long_b p.1, p.2)
+asks_line fronts k (x ∷ a) (y ∷ b) (s ∷ ss) long_a long_b p = (p.0, asks_long fronts (x ∷ a) (y ∷ b) s.1 long_a long_b p.1, p.2, p.3)
 
 kept_asks_line : (fronts k : ℕ) (xs : List ℕ) (ss : List (ℕ × LiveStep)) → AllAskLive fronts ((k, kept_line xs) ∷ []) ss
     → AllAskLive fronts ((k, first_piece 10 xs) ∷ []) ss

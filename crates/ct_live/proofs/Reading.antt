@@ -76,7 +76,7 @@ asks_both fronts [] two [] ts p q = q
 asks_both fronts [] two (s ∷ ss) ts p q = absurd p
 asks_both fronts ((k, []) ∷ one) two ss ts p q = asks_both fronts one two ss ts p q
 asks_both fronts ((k, b ∷ bs) ∷ one) two [] ts p q = absurd p
-asks_both fronts ((k, b ∷ bs) ∷ one) two (s ∷ ss) ts p q = (p.0, p.1, asks_both fronts one two ss ts p.2 q)
+asks_both fronts ((k, b ∷ bs) ∷ one) two (s ∷ ss) ts p q = (p.0, p.1, p.2, asks_both fronts one two ss ts p.3 q)
 
 pub gives_no_lines : (fronts : ℕ) (a : Inlets) → GivesLines fronts [] a a
 gives_no_lines fronts a steps h = ([], tt, subst (λ (l : List (ℕ × LiveStep)). HaveGiven l a) (sym (append-nil steps)) h)

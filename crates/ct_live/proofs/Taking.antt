@@ -40,11 +40,12 @@ took_some front max most now c n old new xs some is t more early count few all t
   none = λ e. absurd (omega arith);
 }
 
-pub took_refused : (front max now : ℕ) (old new : HouseState) (xs : List Item) (e : Refusal) → 0 < max → Takes old new front xs now → SettlesMore old new xs now
-    → (now < clock_of old.core → new ≡ old) → e ≡ settle_refusal old.core now → TakesWhatIsThere front max now old (refused e) new
-took_refused front max now old new xs e some t more early why = record {
+pub took_refused : (front max most now : ℕ) (old new : HouseState) (xs : List Item) (e : Refusal) → 0 < max → most ≡ min max 256
+    → Takes old new front xs now → SettlesMore old new xs now
+    → (now < clock_of old.core → new ≡ old) → length xs < most → e ≡ settle_refusal old.core now → TakesWhatIsThere front max now old (refused e) new
+took_refused front max most now old new xs e some is t more early fewer why = record {
   items = xs;
   settling = settling front now old new xs t more early;
-  answer = (some, why);
+  answer = (subst (λ k. length xs < k) is fewer, why);
   none = λ e. absurd (omega arith);
 }

@@ -45,9 +45,9 @@ AllAnswerFirst [] [] [] = Unit {0}
 AllAnswerFirst (a ∷ fronts) (ts ∷ tasks) (xs ∷ texts) = AnswersFirst FrontReplies a ts xs × AllAnswerFirst fronts tasks texts
 AllAnswerFirst _ _ _ = ⊥
 
--- The house's parties were given what the first of the input's lines ask, and nothing else; each answered the first of its tasks in
--- turn; and a beginning was written of a merge of these answers, each party's in their order, each with its line's number. The
--- first line has the number n.
+-- The house's parties were given what the first of the input's lines ask, none of which closes the log, and nothing else; each answered
+-- the first of its tasks in turn; and a beginning was written of a merge of these answers, each party's in their order, each with its
+-- line's number. The first line has the number n.
 pub record RepliesSome (count n : ℕ) (input : Option (List ℕ)) (house : HouseState) (fronts : List FrontView) (old new : Option (List ℕ)) : Type 0 where
   pub lines : List (ℕ × List ℕ)
   pub of_input : AreFirstLinesOf n input lines

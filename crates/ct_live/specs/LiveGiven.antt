@@ -10,7 +10,7 @@ use Rattle.ct_pipes.specs.Rings.{all_sent}
 use Rattle.ct_live.specs.LiveLines.{AsksLive}
 use Rattle.ct_live.specs.LiveRuns.{GivesOn}
 use Rattle.ct_live.specs.LiveServed.{AllAskLive, AreGiven, AreLinesOf, numbered_from}
-use Rattle.ct_live.specs.LiveTasks.{LiveStep, closes}
+use Rattle.ct_live.specs.LiveTasks.{LiveStep, closes, LeavesOpen}
 use Rattle.ct_live.specs.declared.giving.End.{End}
 use Rattle.ct_live.specs.declared.giving.End.TheVariants.{Close, Input}
 use Rattle.ct_live.specs.declared.giving.GiveFault.{GiveFault}
@@ -32,9 +32,10 @@ fault_of_left give_case.Stopped = fault_case.Threads
 abbrev pub HaveGiven : List (ℕ × LiveStep) → Inlets → Type 0
 HaveGiven steps inlets = AreGiven steps (all_sent inlets.fronts.items) (sent inlets.operator)
 
--- the step of the line with this number was given to its party; or it closes the log at this moment, and nobody was given anything
+-- The step of the line with this number leaves the log open, and was given to its party; or it closes the log at this moment, and nobody
+-- was given anything.
 abbrev pub GivesStep : ℕ → LiveStep → Option ℕ → Inlets → Inlets → Type 0
-GivesStep k s None old new = (steps : List (ℕ × LiveStep)) → HaveGiven steps old → HaveGiven (steps ++ (k, s) ∷ []) new
+GivesStep k s None old new = LeavesOpen s × ((steps : List (ℕ × LiveStep)) → HaveGiven steps old → HaveGiven (steps ++ (k, s) ∷ []) new)
 GivesStep k s (Some now) old new = (s ≡ closes now) × (new ≡ old)
 
 -- what these lines ask was given, and nothing else

@@ -14,7 +14,7 @@ use Rattle.ct_pipes.specs.declared.answering.Numbered.{Numbered}
 use Rattle.ct_tree.specs.declared.head.Head.{Head}
 use Rattle.ct_live.specs.LiveLines.{AsksLive}
 use Rattle.ct_live.specs.LiveReplies.{object_text}
-use Rattle.ct_live.specs.LiveTasks.{LiveStep, front_does, operator_does, closes}
+use Rattle.ct_live.specs.LiveTasks.{LiveStep, front_does, operator_does, closes, LeavesOpen}
 use Rattle.ct_live.specs.declared.asking.DeskTask.{DeskTask}
 
 -- lines with their numbers, of which the first has this one
@@ -26,13 +26,14 @@ numbered_from n (line ∷ lines) = (n, line) ∷ numbered_from (n + 1) lines
 abbrev pub AreLinesOf : ℕ → Option (List ℕ) → List (ℕ × List ℕ) → Type 0
 AreLinesOf n input lines = IfSome input (λ bytes. lines ≡ numbered_from n (lines_of bytes))
 
--- the steps are what a live log with so many fronts does for the lines, each with its line's number: for an empty line there is none
+-- The steps are what a live log with so many fronts does for the lines, each with its line's number: for an empty line there is none.
+-- None of these lines closes the log: each step leaves it open.
 abbrev pub AllAskLive : ℕ → List (ℕ × List ℕ) → List (ℕ × LiveStep) → Type 0
 AllAskLive fronts [] [] = Unit {0}
 AllAskLive fronts [] (s ∷ ss) = ⊥
 AllAskLive fronts ((k, []) ∷ lines) ss = AllAskLive fronts lines ss
 AllAskLive fronts ((k, b ∷ bs) ∷ lines) [] = ⊥
-AllAskLive fronts ((k, b ∷ bs) ∷ lines) (s ∷ ss) = (s.0 ≡ k) × AsksLive fronts (b ∷ bs) s.1 × AllAskLive fronts lines ss
+AllAskLive fronts ((k, b ∷ bs) ∷ lines) (s ∷ ss) = (s.0 ≡ k) × AsksLive fronts (b ∷ bs) s.1 × LeavesOpen s.1 × AllAskLive fronts lines ss
 
 -- what a step gives a front to do, with the front's number and the line's
 abbrev pub front_given : ℕ × LiveStep → Option (ℕ × (ℕ × FrontAsked))
@@ -86,8 +87,9 @@ IsClosingText log None text = text ≡ []
 IsClosingText log (Some (k, behind)) text =
     (h : Head) × IsLastHead log h × (text ≡ tagged k (object_text (a_published_head h)) ++ concat (closed_replies log behind))
 
--- The parties, of so many fronts, were given what the first of these lines ask, and nothing else: all lines, and the log is closed at
--- close_at; or those before one that closes it at now.
+-- The parties, of so many fronts, were given what the first of these lines ask, and nothing else: all lines, of which none closes the
+-- log, and it is closed at close_at; or those before the first one that closes it, which does so at now. `first` are these lines, `cut`
+-- says where they end, `steps` are what they ask, by `asked`, and `given` says that the parties' tasks are these.
 pub record AreTasksOf (fronts close_at : ℕ) (lines : List (ℕ × List ℕ)) (front_tasks : List (List (Numbered FrontTask)))
     (desk_tasks : List (Numbered DeskTask)) (now : ℕ) (behind : Option (ℕ × List (ℕ × List ℕ))) : Type 0 where
   pub first : List (ℕ × List ℕ)

@@ -12,6 +12,12 @@ pub data LiveStep : Type 0 where
   operator_does : DeskTask → LiveStep
   closes : ℕ → LiveStep
 
+-- the step leaves the log open: it is a front's or the operator's, and doesn't close the log
+abbrev pub LeavesOpen : LiveStep → Type 0
+LeavesOpen (front_does f r) = Unit {0}
+LeavesOpen (operator_does t) = Unit {0}
+LeavesOpen (closes now) = ⊥
+
 -- the step that a task is
 abbrev pub live_step : LiveTask → LiveStep
 live_step (Front n t) = front_does n (task_asked t)

@@ -170,7 +170,7 @@ fn give_next<R: Wait, B: BufRead + Drop>(
     }
 }
 
-/// Gives out what the lines ask for as they come, until one closes the log, or the input ends.
+/// Gives out what the lines ask for as they come, until one closes the log, or the input ends, or all are to end.
 pub fn give_out<R: Wait, B: BufRead + Drop>(
     rt: &R,
     alloc: Global,
@@ -186,6 +186,9 @@ pub fn give_out<R: Wait, B: BufRead + Drop>(
 {
     let mut buffer = Vec::new(alloc);
     for _ in rt.forever() {
+        if places.has_stopped() {
+            return Err(GiveFault::Stopped);
+        }
         match give_next(rt, alloc, places, count, giver, &mut buffer)? {
             Some(end) => return Ok(end),
             None => {}

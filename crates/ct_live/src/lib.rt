@@ -33,6 +33,6 @@ mod workers;
 pub use asking::{DeskTask, LiveTask, live_task};
 pub use desk::Desk;
 pub use front::LiveFront;
-pub use live::serve_live;
+pub use live::{TURNS, serve_live};
 pub use replying::{DeskReply, desk_object, reply_object};
 pub use threads::Served;

@@ -18,13 +18,18 @@ use crate::threads::{Out, Served, Start, run_threads};
 use crate::workers::{DeskWorker, FrontWorker};
 use ct_house::{Front, Sequencer, open};
 use ct_parties::{Fault, FrontTask, Options, Waiting};
-use ct_pipes::{Numbered, NumberedLines, PLACES, Pipes, Places, Worker, open as open_pipes};
+use ct_pipes::{
+    Breaker, Numbered, NumberedLines, PLACES, Pipes, Places, Worker, open as open_pipes,
+};
 use ct_tree::Memory;
 use rtrb::{Consumer, Producer, RingBuffer};
 use std::alloc::Global;
 use std::io::{BufRead, BufReader, Read, Write};
-use std::sync::Wait;
+use std::sync::{Arc, Wait};
 use std::thread::Threads;
+
+/// How many turns a line may wait in the process.
+pub const TURNS: u64 = 50_000_000;
 
 // How many bytes are asked of the reader at a time.
 const CAPACITY: usize = 65_536;
@@ -143,13 +148,40 @@ fn open_ends(alloc: Global, fronts: u16) -> Result<Ends, Memory>
     })
 }
 
+// Where the threads wait: for one another, and in a line for another party. Whatever has all end ends both.
+#[derive(Drop)]
+struct Waits {
+    places: Places,
+    waiting: Waiting,
+}
+
+// The places of so many parties, and lines that wait so many turns.
+fn open_waits(
+    alloc: Global,
+    parties: usize,
+    turns: u64,
+    breaker: Arc<Breaker>,
+) -> Result<Waits, Memory> {
+    let stopped = breaker.flag()?;
+    let places = Places::new(alloc, parties, breaker)?;
+    Ok(Waits {
+        places,
+        waiting: Waiting::until(turns, stopped),
+    })
+}
+
 // New rings for all parties, and the places where these wait.
-fn prepare(alloc: Global, fronts: u16) -> Result<(Ends, Places), Memory>
+fn prepare(
+    alloc: Global,
+    fronts: u16,
+    turns: u64,
+    breaker: Arc<Breaker>,
+) -> Result<(Ends, Waits), Memory>
     ensures { IfOk result (λ p. AreOpened fronts p.0) }
 {
     let ends = open_ends(alloc, fronts)?;
-    let places = Places::new(alloc, usize::from(fronts) + 1)?;
-    Ok((ends, places))
+    let waits = open_waits(alloc, usize::from(fronts) + 1, turns, breaker)?;
+    Ok((ends, waits))
 }
 
 // Serves a house that was opened.
@@ -221,6 +253,7 @@ fn serve_lines<H: Threads + Wait + Sync, B: BufRead + Drop + Send, W: Write + Dr
     alloc: Global,
     options: Options,
     turns: u64,
+    breaker: Arc<Breaker>,
     input: B,
     output: W,
 ) -> Served<W>
@@ -231,7 +264,7 @@ fn serve_lines<H: Threads + Wait + Sync, B: BufRead + Drop + Send, W: Write + Dr
     ensures late { IfErr result.result (λ f. f ≡ Fault.ClockBack → IsServedLate options.fronts options.ring options.open_at options.close_at
         (B.remaining input) (W.contents output) (W.contents result.output)) }
 {
-    let (ends, places) = match prepare(alloc, options.fronts) {
+    let (ends, waits) = match prepare(alloc, options.fronts, turns, breaker) {
         Ok(prepared) => prepared,
         Err(error) => {
             return Served {
@@ -241,10 +274,18 @@ fn serve_lines<H: Threads + Wait + Sync, B: BufRead + Drop + Send, W: Write + Dr
         }
     };
     let lines = NumberedLines::new(input);
-    let waiting = Waiting::new(turns);
     match open(rt, alloc, options.fronts, options.ring, options.open_at) {
         Ok((sequencer, fronts)) => serve_house(
-            rt, alloc, options, &places, &waiting, lines, ends, sequencer, fronts, output,
+            rt,
+            alloc,
+            options,
+            &waits.places,
+            &waits.waiting,
+            lines,
+            ends,
+            sequencer,
+            fronts,
+            output,
         ),
         Err(refusal) => Served {
             output,
@@ -256,6 +297,10 @@ fn serve_lines<H: Threads + Wait + Sync, B: BufRead + Drop + Send, W: Write + Dr
 /// Runs a live log over the lines of the input: each is replied to as soon as its reply is known, with its number. A line that
 /// waits for another party looks `turns` times.
 ///
+/// Where a fault breaks it off, all threads end without another line being read, and the breaker, which who made the input may
+/// share, tells so: an input that waits has to end its wait then, with any error. A line that waits ends, and may be replied to
+/// with `late`. No clause says when.
+///
 /// # Errors
 ///
 /// The fault that ended the run: `Read`, `Write`, `Threads`, `Memory`, or `ClockBack` where the clock refuses the moment of
@@ -266,6 +311,7 @@ pub fn serve_live<H: Threads + Wait + Sync, I: Read + Drop + Send, W: Write + Dr
     alloc: Global,
     options: Options,
     turns: u64,
+    breaker: Arc<Breaker>,
     input: I,
     output: W,
 ) -> Served<W>
@@ -277,7 +323,7 @@ pub fn serve_live<H: Threads + Wait + Sync, I: Read + Drop + Send, W: Write + Dr
         (I.remaining input) (W.contents output) (W.contents result.output)) }
 {
     match BufReader::with_capacity(alloc, CAPACITY, input) {
-        Ok(reader) => serve_lines(rt, alloc, options, turns, reader, output),
+        Ok(reader) => serve_lines(rt, alloc, options, turns, breaker, reader, output),
         Err(error) => Served {
             output,
             result: Err(Fault::from(error.kind())),

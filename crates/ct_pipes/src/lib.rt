@@ -17,13 +17,16 @@
 //!   were received, and `write_left` writes what is left of the answers. Both show that what came out of each ring is a beginning
 //!   of what went in, whatever happened before.
 //! - `places` is where these threads wait for one another, and what they tell each other beside the rings. No proof rests
-//!   on it: it only ends waits.
+//!   on it: it only ends waits. `breaker` has all of them end.
+//! - `ahead` reads an input ahead in a thread of its own, so that the breaker ends the reader's wait for it too.
 //!
 //! `specs/Parts.antt`, `Rings`, `Written`, `Lines`, `Answered`, `Working`, `Waiting`, `Tagged` and `Opening` are the words of
 //! the contracts.
 #![tactic(auto)]
 
+mod ahead;
 mod answering;
+mod breaker;
 mod ending;
 mod lines;
 mod opening;
@@ -34,7 +37,9 @@ mod tagging;
 mod workers;
 mod writer;
 
+pub use ahead::{ReadAhead, read_ahead};
 pub use answering::{Numbered, Party, PartyFault, answer_all};
+pub use breaker::Breaker;
 pub use ending::{are_taken, write_left};
 pub use lines::NumberedLines;
 pub use opening::{PLACES, Pipes, open};

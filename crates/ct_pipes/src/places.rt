@@ -3,9 +3,10 @@
 ghost use Rattle.std.specs.Prelude.{◌≡◌, IfOk};
 ghost use Rattle.ct_pipes.specs.Waiting.{party_places};
 
+use crate::breaker::Breaker;
 use std::alloc::{AllocError, Global};
-use std::sync::Wait;
 use std::sync::atomic::{AtomicBool, AtomicU64, Ordering};
+use std::sync::{Arc, Wait};
 use std::thread::Parker;
 
 /// A thread that may wait: the reader, the writer, or the party with this number.
@@ -20,20 +21,19 @@ pub enum Seat {
 /// is told here: it only ends waits.
 #[derive(Drop)]
 pub struct Places {
-    reader: Parker,
+    // Whether all are to end, though there may be more to do, and where the reader waits.
+    breaker: Arc<Breaker>,
     writer: Parker,
     parties: Vec<Parker>,
     // Whether the reader gives no more tasks.
     given: AtomicBool,
     // How many parties have ended.
     ended: AtomicU64,
-    // Whether all are to end, though there may be more to do.
-    stopped: AtomicBool,
 }
 
 impl Places {
-    /// Places for so many parties.
-    pub fn new(alloc: Global, parties: usize) -> Result<Places, AllocError>
+    /// Places for so many parties, in a run that this breaker ends.
+    pub fn new(alloc: Global, parties: usize, breaker: Arc<Breaker>) -> Result<Places, AllocError>
         ensures { IfOk result (λ p. party_places p ≡ parties) }
     {
         let mut parkers = Vec::new(alloc);
@@ -41,19 +41,18 @@ impl Places {
             parkers.push(Parker::new())?;
         }
         Ok(Places {
-            reader: Parker::new(),
+            breaker,
             writer: Parker::new(),
             parties: parkers,
             given: AtomicBool::new(false),
             ended: AtomicU64::new(0),
-            stopped: AtomicBool::new(false),
         })
     }
 
     /// Has this thread go on, or not wait the next time.
     pub fn wake(&self, seat: Seat) {
         match seat {
-            Seat::Reader => self.reader.unpark(),
+            Seat::Reader => self.breaker.wake(),
             Seat::Writer => self.writer.unpark(),
             Seat::Party(number) => {
                 if let Some(parker) = self.parties.get(number) {
@@ -66,7 +65,7 @@ impl Places {
     /// Waits in this thread's place until another wakes it. There is no wait for a party that isn't there.
     pub fn wait<R: Wait>(&self, rt: &R, seat: Seat) {
         match seat {
-            Seat::Reader => self.reader.park(rt),
+            Seat::Reader => self.breaker.wait(rt),
             Seat::Writer => self.writer.park(rt),
             Seat::Party(number) => {
                 if let Some(parker) = self.parties.get(number) {
@@ -106,14 +105,13 @@ impl Places {
 
     /// Has all end: nobody waits from now on.
     pub fn stop(&self) {
-        self.stopped.store(true, Ordering::SeqCst);
-        self.reader.unpark();
+        self.breaker.stop();
         self.writer.unpark();
         self.wake_parties();
     }
 
     /// Whether all are to end.
     pub fn has_stopped(&self) -> bool {
-        self.stopped.load(Ordering::SeqCst)
+        self.breaker.has_stopped()
     }
 }

@@ -4,6 +4,9 @@
 //! writes each reply with its line's number. Where a line closes the log, or the input ends, it closes the log, which then
 //! replies to the lines behind.
 //!
+//! Standard input is read by a thread of its own, so that a run which a fault breaks off ends without another line: where it is
+//! still open then, that thread ends with the process.
+//!
 //! - `program` has `run`, which does all this over any reader and any two writers, by `serve_live` of `ct_live`; `ct_options`
 //!   reads the command line, and has the lines of faults.
 #![tactic(auto)]
@@ -17,14 +20,16 @@ ghost use Rattle.ctlogd.specs.LiveRuns.{IsLiveDone, IsLiveBrokenOff};
 
 mod program;
 
+use ct_live::TURNS;
 use ct_options::{Program, refuse_words, report, texts};
 use ct_parties::Fault;
-use program::{Ended, TURNS, run};
-use std::alloc::Global;
+use ct_pipes::{Breaker, ReadAhead, read_ahead};
+use program::{Ended, run};
+use std::alloc::{AllocError, Global};
 use std::io;
 use std::io::{Read, Write};
 use std::process::ExitCode;
-use std::sync::Wait;
+use std::sync::{Arc, Wait};
 use std::thread::Threads;
 
 // The words of the command line. Std's contracts don't say which these are.
@@ -38,6 +43,7 @@ fn run_words<H: Threads + Wait + Sync, I: Read + Drop + Send, W: Write + Drop + 
     rt: &H,
     alloc: Global,
     words: &[String],
+    breaker: Arc<Breaker>,
     input: I,
     output: W,
     faults: &mut E,
@@ -52,11 +58,45 @@ fn run_words<H: Threads + Wait + Sync, I: Read + Drop + Send, W: Write + Drop + 
     ensures quiet { result.status ≡ 0 → faults.new ≡ faults.old }
 {
     match texts(alloc, words) {
-        Ok(texts) => run(rt, alloc, &texts, TURNS, input, output, faults),
+        Ok(texts) => run(rt, alloc, &texts, TURNS, breaker, input, output, faults),
         Err(error) => {
             let status = report(Program::Ctlogd, Fault::from(error), faults);
             Ended { status, output }
         }
+    }
+}
+
+// An input that is read ahead, and what has a read of it end.
+#[derive(Drop)]
+struct Source<H: Wait + Copy, I: Read + Copy> {
+    breaker: Arc<Breaker>,
+    input: ReadAhead<H, I>,
+}
+
+// Nothing is read of the input before the log asks for it.
+fn open_source<H: Threads + Wait + Copy + Send + 'static, I: Read + Copy + Send + 'static>(
+    rt: &H,
+    alloc: Global,
+    input: I,
+) -> Result<Source<H, I>, AllocError> {
+    let breaker = Arc::new(alloc, Breaker::new(alloc)?)?;
+    let own = Arc::try_clone(&breaker)?;
+    let input = read_ahead(*rt, alloc, own, input)?;
+    Ok(Source { breaker, input })
+}
+
+// Runs the program over these words and an input that is read ahead.
+fn run_ahead<
+    H: Threads + Wait + Sync + Copy + Send + 'static,
+    I: Read + Copy + Send + 'static,
+    W: Write + Drop + Send,
+    E: Write,
+>(rt: &H, alloc: Global, words: &[String], input: I, output: W, faults: &mut E) -> u8 {
+    match open_source(rt, alloc, input) {
+        Ok(Source { breaker, input }) => {
+            run_words(rt, alloc, words, breaker, input, output, faults).status
+        }
+        Err(error) => report(Program::Ctlogd, Fault::from(error), faults),
     }
 }
 
@@ -66,7 +106,7 @@ fn main(rt: HostRuntime) -> ExitCode {
     let mut output = std::io::writer(&rt);
     let mut faults = rt.stderr();
     let status = match collected(&rt) {
-        Ok(words) => run_words(&rt, alloc, &words, input, output, &mut faults).status,
+        Ok(words) => run_ahead(&rt, alloc, &words, input, output, &mut faults),
         Err(error) => refuse_words(alloc, Program::Ctlogd, &error, &mut output, &mut faults),
     };
     ExitCode::from(status)

@@ -14,13 +14,11 @@ ghost use Rattle.ctlogd.specs.LiveRuns.{IsLiveDone, IsLiveBrokenOff};
 use ct_live::{Served, serve_live};
 use ct_options::{Program, answer_command_line, read_options, report};
 use ct_parties::Options;
+use ct_pipes::Breaker;
 use std::alloc::Global;
 use std::io::{Read, Write};
-use std::sync::Wait;
+use std::sync::{Arc, Wait};
 use std::thread::Threads;
-
-/// How many turns a line may wait in the process.
-pub const TURNS: u64 = 50_000_000;
 
 /// A run that has ended: its exit status, and its output.
 #[derive(Drop)]
@@ -35,6 +33,7 @@ fn serve<H: Threads + Wait + Sync, I: Read + Drop + Send, W: Write + Drop + Send
     alloc: Global,
     options: Options,
     turns: u64,
+    breaker: Arc<Breaker>,
     input: I,
     output: W,
     faults: &mut E,
@@ -49,7 +48,7 @@ fn serve<H: Threads + Wait + Sync, I: Read + Drop + Send, W: Write + Drop + Send
         × SendsSome (E.contents faults.old) (E.contents faults.new) (fault_line (name_of Program.Ctlogd) f) }
     ensures quiet { result.status ≡ 0 → faults.new ≡ faults.old }
 {
-    let Served { output, result } = serve_live(rt, alloc, options, turns, input, output);
+    let Served { output, result } = serve_live(rt, alloc, options, turns, breaker, input, output);
     match result {
         Ok(()) => Ended { status: 0, output },
         Err(fault) => {
@@ -60,7 +59,8 @@ fn serve<H: Threads + Wait + Sync, I: Read + Drop + Send, W: Write + Drop + Send
 }
 
 /// Runs the program over its command line, whose first word is its name, and answers its exit status, with the output. A
-/// line that waits for another party looks `turns` times.
+/// line that waits for another party looks `turns` times. Where a fault breaks it off, it ends without another line being read,
+/// if the input ends its wait by the breaker.
 ///
 /// - 0: the words ask for a log with these numbers, and what `serve_live` promises was written; or they ask for help or for
 ///   the version, which was written. Nothing was written among the faults.
@@ -75,6 +75,7 @@ pub fn run<'a, H: Threads + Wait + Sync, I: Read + Drop + Send, W: Write + Drop 
     alloc: Global,
     words: &'a [&'a str],
     turns: u64,
+    breaker: Arc<Breaker>,
     input: I,
     output: W,
     faults: &mut E,
@@ -89,7 +90,7 @@ pub fn run<'a, H: Threads + Wait + Sync, I: Read + Drop + Send, W: Write + Drop 
     ensures quiet { result.status ≡ 0 → faults.new ≡ faults.old }
 {
     match read_options(alloc, Program::Ctlogd, words) {
-        Ok(options) => serve(rt, alloc, options, turns, input, output, faults),
+        Ok(options) => serve(rt, alloc, options, turns, breaker, input, output, faults),
         Err(error) => {
             let mut output = output;
             let status = answer_command_line(alloc, Program::Ctlogd, &error, &mut output, faults);

@@ -1,18 +1,16 @@
 // A reader that goes by what the writer was given, the writer, and a run of a live log over both.
-use ct_live::{Served, serve_live};
+use ct_live::{Served, TURNS, serve_live};
 use ct_parties::{Fault, Options};
-use std::alloc::Global;
+use ct_pipes::Breaker;
+use std::alloc::{AllocError, Global};
 use std::io;
 use std::io::{ErrorKind, Read, Write};
-use std::sync::Wait;
 use std::sync::atomic::{AtomicU64, Ordering};
+use std::sync::{Arc, Wait};
 use std::thread::{Threads, yield_now};
 
 // How often the reader looks for replies, and the writer for lines, before they give up.
 const LOOKS: u32 = 20_000_000;
-
-// How many turns a line waits.
-pub(crate) const TURNS: u64 = 50_000_000;
 
 // What a call that fails does.
 #[derive(Clone, Copy)]
@@ -130,13 +128,14 @@ impl Read for Source<'_> {
     }
 }
 
-// A writer that takes 40 bytes a call at most. Where it has patience for so many lines, its first call waits until they were given, and fails
+// A writer that takes so many bytes a call at most. Where it has patience for so many lines, its first call waits until they were given, and fails
 // where others are given then.
 #[derive(Drop)]
 struct Sink<'a> {
     taken: Vec<u8>,
     // How many of the lines in it are whole.
     lines: u64,
+    width: usize,
     patience: u64,
     pace: &'a Pace,
     calls: Calls,
@@ -172,7 +171,7 @@ impl Write for Sink<'_> {
         if self.patience > 0 && self.calls.made == 1 && !self.wait() {
             return Err(io::Error::from(ErrorKind::TimedOut));
         }
-        let n = buf.len().min(40);
+        let n = buf.len().min(self.width);
         let bytes = &buf[..n];
         self.taken.extend_from_slice(bytes)?;
         if bytes.ends_with(b"\n") {
@@ -200,6 +199,8 @@ pub(crate) struct Run {
     pub(crate) step: usize,
     // How many replies may be left when it gives the next line.
     pub(crate) lag: u64,
+    // How many bytes the writer takes a call at most.
+    pub(crate) width: usize,
     // How many lines the writer waits for in its first call.
     pub(crate) patience: u64,
     pub(crate) turns: u64,
@@ -213,6 +214,7 @@ impl Run {
         Run {
             step: 65_536,
             lag: 0,
+            width: 40,
             patience: 0,
             turns: TURNS,
             reads: Calls::all_succeed(),
@@ -229,7 +231,20 @@ pub(crate) struct Outcome {
     pub(crate) writes: u64,
 }
 
-// Runs a log with two fronts and rings of four places, open at 0, and closed at 9 where the input ends.
+// The numbers of a log with two fronts and rings of four places, open at 0, and closed at 9 where the input ends.
+pub(crate) const OPTIONS: Options = Options {
+    fronts: 2,
+    ring: 4,
+    open_at: 0,
+    close_at: 9,
+};
+
+// What has the threads of a run end.
+pub(crate) fn new_breaker(alloc: Global) -> Result<Arc<Breaker>, AllocError> {
+    Ok(Arc::new(alloc, Breaker::new(alloc)?)?)
+}
+
+// Runs such a log.
 pub(crate) fn outcome_of<H: Threads + Wait + Sync>(
     rt: &H,
     alloc: Global,
@@ -252,20 +267,28 @@ pub(crate) fn outcome_of<H: Threads + Wait + Sync>(
     let sink = Sink {
         taken: Vec::new(alloc),
         lines: 0,
+        width: run.width,
         patience: run.patience,
         pace: &pace,
         calls: run.writes,
     };
-    let options = Options {
-        fronts: 2,
-        ring: 4,
-        open_at: 0,
-        close_at: 9,
+    let breaker = match new_breaker(alloc) {
+        Ok(breaker) => breaker,
+        Err(error) => {
+            return Outcome {
+                result: Err(Fault::from(error)),
+                output: Vec::new(alloc),
+                writes: 0,
+            };
+        }
     };
-    let Served { output, result } = serve_live(rt, alloc, options, run.turns, source, sink);
+    let Served { output, result } = serve_live(
+        rt, alloc, OPTIONS, run.turns, breaker, source, sink,
+    );
     let Sink {
         taken,
         lines: _,
+        width: _,
         patience: _,
         pace: _,
         calls,

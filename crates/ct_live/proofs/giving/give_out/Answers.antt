@@ -1,4 +1,4 @@
-use Rattle.std.proofs.Common.{◌∙◌}
+use Rattle.std.proofs.Common.{◌∙◌, refl}
 use Rattle.ct_live.proofs.Joined.{gives_none, gives_both, gives_count}
 use Rattle.ct_live.proofs.Reading.{given_begun, given_up_to, line_given, nothing_given, some_given}
 use Rattle.ct_live.proofs.giving.give_out.Goals as goal
@@ -39,3 +39,11 @@ pub returns-in-Some-2-clause-begun : goal.returns-in-Some-2-clause-begun
 returns-in-Some-2-clause-begun g c =
     given_begun c.args.count _ _ _ _ _ _ _ c.requires
     (given_up_to _ _ _ _ _ _ _ _ _ _ _ _ c.loop.invariant.read c.in-Some-2.is c.in_ok-end.ensures.given)
+
+pub returns-then-has_stopped-clause-same : goal.returns-then-has_stopped-clause-same
+returns-then-has_stopped-clause-same g c = c.loop.invariant.same
+
+pub returns-then-has_stopped-clause-begun : goal.returns-then-has_stopped-clause-begun
+returns-then-has_stopped-clause-begun g c =
+    some_given c.args.count _ _ _ _ c.args.giver.now.inlets c.loop.giver.inlets c.loop.giver.inlets c.requires c.loop.invariant.read
+    (record { fronts = refl; operator = refl })

@@ -15,7 +15,7 @@ returns-in-Ok g c =
 
 pub returns-in-Err : goal.returns-in-Err
 returns-in-Err g c =
-    let (xs, takes, more) = c.in-Err.ensures.taken in
-    took_refused c.args.from c.args.max c.args.now c.args.sequencer.now c.take.new.self xs c.in-Err.refusal (omega (arith, c.if-max-eq0.false)) takes
-    (c.take.ensures.listed xs takes)
-    c.take.ensures.early c.in-Err.ensures.refused
+    let (xs, takes, fewer) = c.in-Err.ensures.taken in
+    took_refused c.args.from c.args.max c.min-most.result c.args.now c.args.sequencer.now c.take.new.self xs c.in-Err.refusal
+    (omega (arith, c.if-max-eq0.false)) (omega (arith, c.min-most.ensures)) takes (c.take.ensures.listed xs takes)
+    c.take.ensures.early fewer c.in-Err.ensures.refused
