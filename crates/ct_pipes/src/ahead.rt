@@ -49,8 +49,7 @@ impl Room {
 // Reads a piece of the input.
 fn read_piece<I: Read>(alloc: Global, input: &mut I, buffer: &mut [u8]) -> Piece {
     let count = input.read(buffer)?;
-    let mut bytes = Vec::with_capacity(alloc, count)?;
-    bytes.extend_from_slice(&buffer[..count])?;
+    let bytes = Vec::from_slice(alloc, &buffer[..count])?;
     Ok(bytes)
 }
 
