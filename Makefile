@@ -79,6 +79,7 @@ sources: ## looks through the sources, the documents and the scripts of examples
 	@PYTHONDONTWRITEBYTECODE=1 python3 checks/want_of_memory.py
 	@PYTHONDONTWRITEBYTECODE=1 python3 checks/definitions.py
 	@PYTHONDONTWRITEBYTECODE=1 python3 checks/wrong_bodies.py
+	@PYTHONDONTWRITEBYTECODE=1 python3 checks/header.py
 	@docs/check.sh
 	@PYTHONDONTWRITEBYTECODE=1 python3 examples/scripts.py
 

@@ -1,0 +1,92 @@
+#!/usr/bin/env python3
+"""The header of the library for C says what the library's functions are: which there are, their arguments in order and their types, the fields
+of its struct in order, and the number of each fault. No contract sees these, since clauses name arguments and fields. The script makes what the
+header has to say from the sources of `wagtenib`, prints each line that differs, and ends with status 1 where there is one."""
+import re
+import sys
+
+from source import CRATES, ROOT, blanked, closing, without_clauses
+
+HEADER = ROOT / "include" / "wagtenib.h"
+# What stands in C for a type of an argument; `*` behind a list is how many elements it has, whatever the header calls that.
+TYPES = {
+    "u32": "uint32_t {}",
+    "u64": "uint64_t {}",
+    "usize": "size_t {}",
+    "&[u8; 32]": "const uint8_t {}[32]",
+    "&mut [u8; 32]": "uint8_t {}[32]",
+    "&[u8]": "const uint8_t *{}, size_t *",
+    "&[[u8; 32]]": "const uint8_t *{}, size_t *",
+    "&mut [[u8; 32]]": "uint8_t *{}, size_t *",
+    "&mut usize": "size_t *{}",
+    "&mut LeafInfo": "struct wagtenib_leaf_info *{}",
+    "Global": None,
+}
+ALIASES = {"LeafInfo": "wagtenib_leaf_info"}
+
+
+def parts(text):
+    """The parts of a list between the commas that stand outside of brackets."""
+    return [part.strip() for part in re.split(r",(?![^\[]*\])", text) if part.strip()]
+
+
+def prototype(name, arguments, result):
+    """How C declares a function of the library."""
+    said = [(TYPES[kind], word) for word, kind in (re.split(r"\s*:\s*", part, 1) for part in parts(arguments))]
+    declared = ", ".join(kind.format(word) for kind, word in said if kind)
+    return f"{'uint32_t' if result == 'u32' else 'void'} {name}({declared})"
+
+
+def declared_functions(text):
+    """What the sources say of the functions, as C declares them."""
+    for found in re.finditer(r"\bextern\s+fn (\w+)\(", text):
+        end = closing(text, found.end() - 1)
+        result = re.match(r"\s*->\s*(\w+)", text[end:])
+        yield prototype(found.group(1), " ".join(text[found.end() : end - 1].split()), result and result.group(1))
+
+
+def declared_structs(text):
+    """The fields of each struct that C sees, in order."""
+    for found in re.finditer(r"#\[repr\(C\)\](?:\s*#\[[^\]]*\])*\s*pub struct (\w+) \{([^}]*)\}", text):
+        fields = re.findall(r"pub (\w+): (\w+)", found.group(2))
+        yield f"struct {ALIASES[found.group(1)]} {{ " + " ".join(TYPES[kind].format(word) + ";" for word, kind in fields) + " }"
+
+
+def shouted(name):
+    """A fault's name as a constant of C has it."""
+    return "WAGTENIB_" + re.sub(r"(?<=[a-z])(?=[A-Z])", "_", name).upper()
+
+
+def declared_numbers(text):
+    """The number of each fault that the sources name."""
+    for name, number in re.findall(r"\w+Fault::(\w+) => (\d+)", text):
+        yield f"{shouted(name)} = {number}"
+
+
+def header_lines(text):
+    """What the header says, in the same form."""
+    text = re.sub(r"/\*.*?\*/", " ", text, flags=re.S)
+    for found in re.finditer(r"\b(uint32_t|void) (wagtenib_\w+)\(([^)]*)\);", text):
+        yield re.sub(r"(\*\w+), size_t \w+", r"\1, size_t *", f"{found.group(1)} {found.group(2)}({' '.join(found.group(3).split())})")
+    for found in re.finditer(r"\bstruct (\w+) \{([^}]*)\};", text):
+        yield f"struct {found.group(1)} {{ {' '.join(found.group(2).split())} }}"
+    for name, number in re.findall(r"\b(WAGTENIB_\w+) = (\d+)", text):
+        yield f"{name} = {number}"
+
+
+def main():
+    text = "\n".join(without_clauses(blanked(path.read_text())) for path in sorted((CRATES / "wagtenib" / "src").rglob("*.rt")))
+    made = set(declared_functions(text)) | set(declared_structs(text)) | set(declared_numbers(text))
+    said = set(header_lines(HEADER.read_text()))
+    # These two are no faults of another crate.
+    made |= {"WAGTENIB_OK = 0", "WAGTENIB_FULL = 9"}
+    for line in sorted(made - said):
+        print(f"include/wagtenib.h lacks: {line}")
+    for line in sorted(said - made):
+        print(f"include/wagtenib.h says, and the sources don't: {line}")
+    if made != said:
+        sys.exit(1)
+
+
+if __name__ == "__main__":
+    main()
