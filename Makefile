@@ -77,6 +77,7 @@ wrong: ## has the prover refuse the wrong bodies of CRATE=ct_core that the gate 
 # What no contract can say of the sources, what docs/DEFINITIONS.md is made from, and what the documents name.
 sources: ## looks through the sources, the documents and the scripts of examples/, in seconds and without a proof
 	@PYTHONDONTWRITEBYTECODE=1 python3 checks/want_of_memory.py
+	@PYTHONDONTWRITEBYTECODE=1 python3 checks/told_faults.py
 	@PYTHONDONTWRITEBYTECODE=1 python3 checks/definitions.py
 	@PYTHONDONTWRITEBYTECODE=1 python3 checks/wrong_bodies.py
 	@PYTHONDONTWRITEBYTECODE=1 python3 checks/header.py
