@@ -20,7 +20,7 @@ use Rattle.ct_live.specs.LiveGiven.{GivesUpTo, ReadsOn}
 use Rattle.ct_live.specs.LiveLate.{IsServedLate, RepliesLate, RunsLate}
 use Rattle.ct_live.specs.LiveOpening.{AreOpened}
 use Rattle.ct_live.specs.LiveParties.{DeskReplies, FrontReplies}
-use Rattle.ct_live.specs.LiveReplied.{AllAnswer, IsMomentOf, RepliesLive, Rings, RunsLive}
+use Rattle.ct_live.specs.LiveReplied.{AllAnswer, IsMomentOf, IsServedLive, RepliesLive, Rings, RunsLive}
 use Rattle.ct_live.specs.LiveRuns.{FrontWorker, worker_fronts, worker_tasks, worker_answers, AllReply, DeskStep, DeskWorks}
 use Rattle.ct_live.specs.LiveServed.{AreLinesOf, AreTasksOf, IsClosingText}
 use Rattle.ct_live.specs.declared.asking.DeskTask.{DeskTask}
@@ -265,6 +265,17 @@ replies_as n close_at next input e workers o house fronts old new r i tasks answ
     subst (λ (h : HouseState). RepliesLive n close_at next input h fronts old new) same
     (subst (λ (l : List FrontView). RepliesLive n close_at next input o.desk.sequencer l old new) all
     (replies_live n close_at next input e workers o old i tasks answers own_answers own_tasks new r))
+
+pub live_as : (count places open_at close_at next : ℕ) (input left : Option (List ℕ)) (house : HouseState) (fronts : List FrontView) (old new : Option (List ℕ))
+    → IsNewHouse house fronts count places open_at → next ≡ 0 → left ≡ input → RepliesLive count close_at next left house fronts old new
+    → IsServedLive count places open_at close_at input old new
+live_as count places open_at close_at next input left house fronts old new opened none same replied = record {
+  house = house;
+  fronts = fronts;
+  opened = opened;
+  replied = subst (λ (k : ℕ). RepliesLive count close_at k input house fronts old new) none
+      (subst (λ (o : Option (List ℕ)). RepliesLive count close_at next o house fronts old new) same replied);
+}
 
 pub late_as : (count places open_at close_at next : ℕ) (input left : Option (List ℕ)) (house : HouseState) (fronts : List FrontView) (old new : Option (List ℕ))
     → IsNewHouse house fronts count places open_at → next ≡ 0 → left ≡ input → RepliesLate count close_at next left house fronts old new

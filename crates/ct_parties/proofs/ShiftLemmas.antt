@@ -115,7 +115,11 @@ successors_same published [] [] all = tt
 successors_same published [] (b ∷ after) all = absurd all
 successors_same published (a ∷ before) [] all = absurd all
 successors_same published (a ∷ before) (b ∷ after) (first, rest) = (
-  record { same = same_none a.front.intake b.front.intake first.0.intake; moves = first.0.sight },
+  record {
+    same = same_none a.front.intake b.front.intake first.0.intake;
+    moves = first.0.sight;
+    shutdown = λ known. ap (λ (i : IntakeView). i.knows_shutdown) first.0.intake ∙ known;
+  },
   successors_same published before after rest,
 )
 
