@@ -151,10 +151,11 @@ def refused_in_turn(program, step):
         folder = pathlib.Path(name)
         shim = folder / "refuse.so"
         subprocess.run(["cc", "-shared", "-fPIC", "-O2", "-o", shim, HERE / "sweep" / "refuse.c", "-ldl"], check=True)
-        growth, made = step, step
-        while growth <= made:
+        growth, is_reached = step, True
+        while is_reached:
             outcome, made = refused(program, shim, folder, lines, growth)
             found[outcome] += 1
+            is_reached = made >= growth
             growth += step
     claim(any(outcome.startswith("broken off") for outcome in found), "no run was broken off")
     return found
