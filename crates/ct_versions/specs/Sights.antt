@@ -6,7 +6,7 @@ use Rattle.ct_core.specs.Settlement.{Log}
 use Rattle.ct_core.specs.Core.{Extends}
 use Rattle.ct_versions.specs.Publications.{Reach, Series, series_of}
 
--- What contracts see of a shelf, a viewer and a bulletin: whose publications they are, and the newest state that was seen.
+-- What contracts see of a viewer and a bulletin: whose publications they are, and the newest state that was seen.
 pub record Sight : Type 0 where
   pub series : Series
   pub seen : Log
@@ -14,6 +14,20 @@ pub record Sight : Type 0 where
 -- the sight that a reach of the book gives
 abbrev pub sight_of : Reach → Sight
 sight_of r = record { series = series_of r; seen = r.last.state }
+
+-- What contracts see of a shelf: whose publications they are, the newest state, and the state that is shown to those that look.
+pub record ShelfView : Type 0 where
+  pub series : Series
+  pub seen : Log
+  pub shown : Log
+
+-- the shelf whose newest publication is reached here, and that shows what was reached there
+abbrev pub shelf_of : Reach → Reach → ShelfView
+shelf_of reached shown = record { series = series_of reached; seen = reached.last.state; shown = shown.last.state }
+
+-- what one sees that has seen the shelf's newest state
+abbrev pub sight_at : ShelfView → Sight
+sight_at s = record { series = s.series; seen = s.seen }
 
 -- the same publications, and a state that the older one begins
 pub record Moves (older newer : Sight) : Type 0 where

@@ -1,13 +1,13 @@
 //! The writer: it announces what is published, and shows it.
 
-ghost use Rattle.std.specs.Prelude.{◌≡◌, ◌<◌, ◌^◌, drop, length, IfOk, IsOkUnless, MatchResult, Some};
+ghost use Rattle.std.specs.Prelude.{◌≡◌, ◌<◌, ◌^◌, drop, length, IfOk, OnOk, OnErr, IsOkUnless, MatchResult, Some};
 ghost use Rattle.std.specs.Arc.{arc_value};
 ghost use Rattle.left_right.specs.Sides.{view};
 ghost use Rattle.ct_codec.specs.declared.refusal.Refusal.TheVariants.{Memory};
 ghost use Rattle.ct_core.specs.Settlement.{Lawful};
 ghost use Rattle.ct_core.specs.Core.{Extends};
 ghost use Rattle.ct_versions.specs.Publications.{series_of};
-ghost use Rattle.ct_versions.specs.Sights.{last_of};
+ghost use Rattle.ct_versions.specs.Sights.{last_of, sight_at};
 
 use crate::publications::Announcer;
 use crate::version::{Notes, Sees, Version, VersionWriter};
@@ -19,8 +19,8 @@ use std::alloc::{AllocError, Global};
 use std::marker::Model;
 use std::sync::{Arc, Wait};
 
-/// Where published states are shown. It can't be dropped: `close` ends it. Contracts see whose publications these are, and the newest
-/// state.
+/// Where published states are shown. It can't be dropped: `close` ends it. Contracts see whose publications these are, the newest
+/// state, and the one that viewers find.
 pub struct Shelf {
     writer: VersionWriter,
     announcer: Announcer,
@@ -30,11 +30,11 @@ impl Model for Shelf {
     ghost use Rattle.std.specs.Prelude.{◌≡◌};
     ghost use Rattle.left_right.specs.Sides.{view as view_of};
     ghost use Rattle.ct_versions.specs.Publications.{series_of};
-    ghost use Rattle.ct_versions.specs.Sights.{Sight, sight_of, Knows};
+    ghost use Rattle.ct_versions.specs.Sights.{ShelfView, shelf_of, Knows};
 
-    ghost Value = { Sight };
+    ghost Value = { ShelfView };
 
-    ghost view = { λ s. sight_of s.announcer };
+    ghost view = { λ s. shelf_of s.announcer s.writer.desk.shown.value };
 
     ghost invariant = { λ s. (series_of s.writer.desk.shown.value ≡ series_of s.announcer) × Knows (series_of s.announcer) (view_of s.writer.desk.place) };
 }
@@ -60,6 +60,8 @@ fn turn<R: Wait>(writer: VersionWriter, rt: &R) -> (VersionWriter, Result<(), Al
     ensures series { series_of result.0.desk.shown.value ≡ series_of writer.desk.shown.value }
     ensures view { MatchResult result.1 (λ _. view result.0.desk.place ≡ Some result.0.desk.shown.value)
         (λ _. view result.0.desk.place ≡ view writer.desk.place) }
+    ensures shows { MatchResult result.1 (λ _. result.0.desk.shown.value ≡ last_of writer.desk.shown.value (drop writer.behind writer.log.items))
+        (λ _. result.0.desk.shown.value ≡ writer.desk.shown.value) }
 {
     writer.publish_as::<Sees, R>(rt)
 }
@@ -77,6 +79,7 @@ impl Shelf {
         requires viewers { (0 < viewers) × (viewers < 2 ^ 32) }
         requires lawful { Lawful (arc_value state) }
         ensures seen { IfOk result (λ s. s.seen ≡ arc_value state) }
+        ensures shown { IfOk result (λ s. s.shown ≡ arc_value state) }
         ensures memory { IsOkUnless result Refusal.Memory }
     {
         let other = Arc::try_clone(&state)?;
@@ -106,7 +109,7 @@ impl Shelf {
     /// Refused with `Memory`, also where there are as many viewers as there is room for.
     pub fn viewer(&mut self) -> Result<Viewer, Refusal>
         ensures same { self.new ≡ self.old }
-        ensures viewer { IfOk result (λ v. v ≡ self.old) }
+        ensures viewer { IfOk result (λ v. v ≡ sight_at self.old) }
         ensures memory { IsOkUnless result Refusal.Memory }
     {
         let mut reader = self.writer.factory().reader()?;
@@ -116,46 +119,55 @@ impl Shelf {
 
     /// A token of all publications so far.
     pub fn bulletin(&self) -> Bulletin
-        ensures { result ≡ self.now }
+        ensures { result ≡ sight_at self.now }
     {
         Bulletin::new(self.announcer.reached())
     }
 
-    // Shows a version of this line.
-    fn show<R: Wait>(&mut self, rt: &R, version: Version)
+    // Shows a version of this line, in place of the one that is shown.
+    fn show<R: Wait>(&mut self, rt: &R, version: Version) -> Result<(), Refusal>
         requires { series_of version ≡ self.old.series }
-        ensures { self.new ≡ self.old }
+        ensures shown { OnOk result (self.new ≡ record self.old { shown = version.last.state }) }
+        ensures stays { OnErr result (self.new ≡ self.old) }
+        ensures memory { IsOkUnless result Refusal.Memory }
     {
-        if self.writer.append(version).is_ok() {
-            let _ = replace_with(
-                &mut self.writer,
-                rt,
-                |writer: VersionWriter, rt: &R| -> (VersionWriter, Result<(), AllocError>)
-                    requires { series_of (last_of writer.desk.shown.value (drop writer.behind writer.log.items)) ≡ series_of writer.desk.shown.value }
-                    ensures series { series_of result.0.desk.shown.value ≡ series_of writer.desk.shown.value }
-                    ensures view { MatchResult result.1 (λ _. view result.0.desk.place ≡ Some result.0.desk.shown.value)
-                        (λ _. view result.0.desk.place ≡ view writer.desk.place) }
-                { turn(writer, rt) },
-            );
+        if let Err(version) = self.writer.append(version) {
+            return Err(Refusal::from(NotAppended { version }));
         }
+        replace_with(
+            &mut self.writer,
+            rt,
+            |writer: VersionWriter, rt: &R| -> (VersionWriter, Result<(), AllocError>)
+                requires { series_of (last_of writer.desk.shown.value (drop writer.behind writer.log.items)) ≡ series_of writer.desk.shown.value }
+                ensures series { series_of result.0.desk.shown.value ≡ series_of writer.desk.shown.value }
+                ensures view { MatchResult result.1 (λ _. view result.0.desk.place ≡ Some result.0.desk.shown.value)
+                    (λ _. view result.0.desk.place ≡ view writer.desk.place) }
+                ensures shows { MatchResult result.1 (λ _. result.0.desk.shown.value ≡ last_of writer.desk.shown.value (drop writer.behind writer.log.items))
+                    (λ _. result.0.desk.shown.value ≡ writer.desk.shown.value) }
+            { turn(writer, rt) },
+        )?;
+        Ok(())
     }
 
     /// Publishes a state that the newest one begins, with a head more, and shows it. It waits for those that still look at the state
     /// before the newest one.
     ///
-    /// The state is published in any case. Where memory is refused for showing it, it is shown with the next one; there is room for
-    /// it from `open` on.
-    pub fn publish<R: Wait>(&mut self, rt: &R, next: Arc<Published>)
+    /// The state is published in any case. Refused with `Memory` where there is none for showing it: viewers find the state that they
+    /// found before, and this one is shown with the next. The room for it is there from `open` on.
+    pub fn publish<R: Wait>(&mut self, rt: &R, next: Arc<Published>) -> Result<(), Refusal>
         requires extends { Extends self.old.seen (arc_value next) }
         requires newer { length self.old.seen.heads < length (arc_value next).heads }
         requires lawful { Lawful (arc_value next) }
         ensures series { self.new.series ≡ self.old.series }
         ensures seen { self.new.seen ≡ arc_value next }
+        ensures shown { OnOk result (self.new.shown ≡ arc_value next) }
+        ensures stays { OnErr result (self.new.shown ≡ self.old.shown) }
+        ensures memory { IsOkUnless result Refusal.Memory }
     {
         let announcer = &mut self.announcer;
         announcer.announce(&next);
         let version = Version::new(next, announcer.reached());
-        self.show(rt, version);
+        self.show(rt, version)
     }
 
     /// What a viewer of these publications has seen begins the newest state: nobody else publishes. It takes no memory and doesn't wait.

@@ -4,7 +4,7 @@ use Rattle.std.proofs.lemmas.List.Elements.{All-pop, All-cons, All-same}
 use Rattle.std.specs.Prelude.{Some}
 use Rattle.ct_gate.specs.Ends.{IntakeView}
 use Rattle.ct_core.specs.Core.{Extends}
-use Rattle.ct_versions.specs.Sights.{Sight}
+use Rattle.ct_versions.specs.Sights.{ShelfView}
 use Rattle.ct_house.specs.House.{FrontView}
 use Rattle.ct_house.proofs.FinishLemmas.{moved_more, done_more}
 use Rattle.ct_house.proofs.sequencer.intakes_of.Goals as goal
@@ -20,7 +20,7 @@ loop-end-preserved c =
     let intake = ap (λ (f : FrontView). f.intake) c.end.view_is in
     let is : Extends x.sight.seen c.args.shelf.now.seen =
     subst (λ (f : FrontView). Extends f.sight.seen c.args.shelf.now.seen) c.end.view_is
-    (subst (λ (s : Sight). Extends c.end.inside.viewer.seen s.seen) still c.vouch_for.ensures.begins) in
+    (subst (λ (s : ShelfView). Extends c.end.inside.viewer.seen s.seen) still c.vouch_for.ensures.begins) in
     let left = c.in-Some.ensures.cases in
     let size = c.push_reserved.ensures.len in
     let capacity = c.push_reserved.ensures.capacity in (
