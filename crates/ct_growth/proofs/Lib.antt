@@ -1,0 +1,5 @@
+pub mod Steps
+pub mod Agree
+pub mod Roots
+pub mod EdgesTell
+pub mod Widths

@@ -1,0 +1,4 @@
+pub mod Leaves
+pub mod Growths
+pub mod History
+pub mod Believed
