@@ -27,7 +27,7 @@ row_of H level D B Z =
     ∙ take_at X (added H level (D ++ B) Z) (length X) refl)
 
 -- the leaves that an attempt's step adds behind the leaves D
-abbrev new_leaves : List (List ℕ) → Attempt → List (List ℕ)
+abbrev pub new_leaves : List (List ℕ) → Attempt → List (List ℕ)
 new_leaves D a = indexed_leaves a.now (length D) (map entry_of a.batch)
 
 is_of : (H : List ℕ → List ℕ) (D Z : List (List ℕ)) (a : Attempt) → IsGrowth H D (map entry_of a.batch) a.now a.growth
@@ -56,11 +56,11 @@ is_of H D Z a p =
     }
 
 -- steps that carry on, and begin at or behind an index
-record Carried (H : List ℕ → List ℕ) (since from : ℕ) (D : List (List ℕ)) (steps : List Attempt) : Type 0 where
-  carry : CarryOn H since D steps
-  behind : All (λ a. from ≤ a.growth.first) steps
+pub record Carried (H : List ℕ → List ℕ) (since from : ℕ) (D : List (List ℕ)) (steps : List Attempt) : Type 0 where
+  pub carry : CarryOn H since D steps
+  pub behind : All (λ a. from ≤ a.growth.first) steps
 
-carried_none : (H : List ℕ → List ℕ) (since from : ℕ) (D : List (List ℕ)) → Carried H since from D []
+pub carried_none : (H : List ℕ → List ℕ) (since from : ℕ) (D : List (List ℕ)) → Carried H since from D []
 carried_none H since from D = record {
   carry = record {
     all = All-nil (IsOfList H D);
@@ -71,7 +71,7 @@ carried_none H since from D = record {
 }
 
 -- one step before those that carry on from its state
-carried_more : (H : List ℕ → List ℕ) (since : ℕ) (known Z : List (List ℕ)) (a : Attempt) (steps : List Attempt) → since ≤ a.now
+pub carried_more : (H : List ℕ → List ℕ) (since : ℕ) (known Z : List (List ℕ)) (a : Attempt) (steps : List Attempt) → since ≤ a.now
     → IsGrowth H known (map entry_of a.batch) a.now a.growth
     → Carried H a.growth.state.timestamp (length (known ++ new_leaves known a)) ((known ++ new_leaves known a) ++ Z) steps
     → Carried H since (length known) ((known ++ new_leaves known a) ++ Z) (a ∷ steps)
@@ -103,7 +103,7 @@ agree_from H held known (a ∷ rest) s (made, inl (took, seen, more)) =
     let N = new_leaves known a in
     let behind = agree_from H a.growth.state (known ++ N) rest g.state more in
     let e : (known ++ N) ++ behind.0 ≡ known ++ (N ++ behind.0) = append_assoc known N behind.0 in
-    let since : held.timestamp ≤ a.now = omega (arith, made.0, ap (λ (x : State). x.timestamp) seen) in
+    let since : held.timestamp ≤ a.now = omega (arith, made.0.0, ap (λ (x : State). x.timestamp) seen) in
     let kept : taken (a ∷ rest) ≡ a ∷ taken rest = ap (λ b. cond b (a ∷ taken rest) (taken rest)) took in (
       N ++ behind.0,
       subst (λ (D : List (List ℕ)). Carried H held.timestamp (length known) D (taken (a ∷ rest))) e

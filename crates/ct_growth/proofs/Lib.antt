@@ -3,3 +3,4 @@ pub mod Agree
 pub mod Roots
 pub mod EdgesTell
 pub mod Widths
+pub mod HandedAgree

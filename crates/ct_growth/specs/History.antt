@@ -4,7 +4,7 @@ use Rattle.ct_codec.specs.Submitted.{Submitted, entry_of}
 use Rattle.ct_tree.specs.Tree.{hash_leaf, mth_of_leaves}
 use Rattle.ct_tiles.specs.Tiles.{hashes}
 use Rattle.ct_growth.specs.Leaves.{receipts_from, receipt_parts}
-use Rattle.ct_growth.specs.Growths.{IsState, IsGrowth}
+use Rattle.ct_growth.specs.Growths.{IsState, IsGrowth, MayGrow}
 use Rattle.ct_growth.specs.declared.growth.Growth.{Growth}
 use Rattle.ct_growth.specs.declared.growth.State.{State}
 
@@ -19,7 +19,7 @@ pub record Attempt : Type 0 where
 
 -- the attempt's step is what `grow` answers of its state, its batch and its moment
 abbrev pub IsMade : (List ℕ → List ℕ) → Attempt → Type 0
-IsMade H a = (a.seen.timestamp ≤ a.now) × ((D : List (List ℕ)) → IsState H a.seen D → IsGrowth H D (map entry_of a.batch) a.now a.growth)
+IsMade H a = MayGrow a.seen (length a.batch) a.now × ((D : List (List ℕ)) → IsState H a.seen D → IsGrowth H D (map entry_of a.batch) a.now a.growth)
 
 -- Attempts in the order in which the register answered, from the state that it held on: it took a state only in place of the one that
 -- it held. Who made an attempt, and what became of them afterwards, isn't said.

@@ -2,3 +2,4 @@ pub mod Leaves
 pub mod Growths
 pub mod History
 pub mod Believed
+pub mod Handed

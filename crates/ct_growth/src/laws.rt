@@ -1,6 +1,7 @@
 //! What follows over many steps, each a clause of a function that does nothing.
 
 ghost use Rattle.ct_growth.specs.Believed.{BelievedEdgesTell, EdgesAreBelieved};
+ghost use Rattle.ct_growth.specs.Handed.{HandedSequencersAgree};
 ghost use Rattle.ct_growth.specs.Leaves.{ReceiptsAreLeaves};
 ghost use Rattle.ct_growth.specs.History.{SequencersAgree};
 
@@ -9,6 +10,14 @@ ghost use Rattle.ct_growth.specs.History.{SequencersAgree};
 #[tactic(auto, using(crate::proofs::Agree::sequencers_agree))]
 pub fn sequencers()
     ensures { SequencersAgree }
+{}
+
+/// The same where the register holds heads alone, and each sequencer was handed the right edge by whoever keeps it, and believed it
+/// ([`crate::State::believed`]): all that was written and promised is of one list of leaves, or two different strings with one
+/// digest are given.
+#[tactic(auto, using(crate::proofs::HandedAgree::handed_sequencers_agree))]
+pub fn sequencers_over_heads()
+    ensures { HandedSequencersAgree }
 {}
 
 /// What a receipt says under its signature is the leaf that it names: RFC 6962, section 3.4, with an extension that names the index.

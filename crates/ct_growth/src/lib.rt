@@ -8,6 +8,7 @@
 //!   change, the new head, and the next state. Nothing is stored, and the state that was given stays as it was.
 //! - [`laws::sequencers`] is what holds of a log that many sequencers carry on over one register, which takes a state only in
 //!   place of the one that it holds: all that was written and promised by the steps that it took is of one list of leaves.
+//!   [`laws::sequencers_over_heads`] says the same of a register that holds heads alone, over edges that were believed.
 //!
 //! Who carries on a log keeps nothing of a step before the register took its state: no receipt is given out, and no tile is put
 //! under its public name. Of a step that wasn't taken nothing is promised.
