@@ -1,0 +1,66 @@
+-- When partial tiles that somebody kept are believed to be the right edge of a head's tree. H is any hash function on byte lists with
+-- hashes of 32 bytes, and D a list of leaves.
+use Rattle.std.specs.Prelude.{◌≡◌, ◌⊎◌, ℕ, zero, suc, ◌/◌, ◌%◌, ◌^◌, ◌<◌, List, [], ◌∷◌, ◌++◌, length, map, All}
+use Rattle.ct_tree.specs.Tree.{hash_leaf, mth, mth_of_leaves}
+use Rattle.ct_tree.specs.declared.head.Head.{Head}
+use Rattle.ct_tiles.specs.Edge.{IsEdge}
+use Rattle.ct_tiles.specs.Tiles.{lone_root}
+use Rattle.ct_verify.specs.Laws.{AreHashes, SomeCollide}
+use Rattle.ct_growth.specs.declared.believed.EdgeFault.{EdgeFault}
+use Rattle.ct_growth.specs.declared.believed.EdgeFault.TheVariants.{OtherWidths, OtherRoot, Memory}
+use Rattle.ct_growth.specs.declared.growth.State.{State}
+
+-- how many hashes the partial tiles of n leaves have, those of the first `levels` levels, level 0 first: a level has n / 256^level hashes
+unfoldable pub tile_widths : ℕ → ℕ → List ℕ
+tile_widths zero n = []
+tile_widths (suc levels) n = tile_widths levels n ++ (n / 256 ^ levels % 256) ∷ []
+
+-- what partial tiles give to the level above the last of them, where `carried` comes from below the first: the hashes of a tile, and behind
+-- them what is carried there, have one root, which is carried on
+unfoldable pub carried_over : (List ℕ → List ℕ) → List (List (List ℕ)) → List (List ℕ) → List (List ℕ)
+carried_over H [] carried = carried
+carried_over H (tile ∷ tiles) carried = carried_over H tiles (lone_root H (tile ++ carried))
+
+-- the root that partial tiles give, level 0 first
+abbrev pub edge_root : (List ℕ → List ℕ) → List (List (List ℕ)) → List ℕ
+edge_root H tiles = mth H (carried_over H tiles [])
+
+-- partial tiles are as wide as those of n leaves
+abbrev pub HaveWidths : ℕ → List (List (List ℕ)) → Type 0
+HaveWidths n tiles = map length tiles ≡ tile_widths 8 n
+
+-- partial tiles, level 0 first, are believed for a head: they are as wide as those of its size (widths), their hashes have 32 bytes (hashes),
+-- and its root comes of them (root)
+pub record AreBelieved (H : List ℕ → List ℕ) (head : Head) (tiles : List (List (List ℕ))) : Type 0 where
+  pub widths : HaveWidths head.tree_size tiles
+  pub hashes : All AreHashes tiles
+  pub root : edge_root H tiles ≡ head.root
+
+-- the state is that of the head (edge, moment) with these partial tiles, which are believed (believed)
+pub record BelievesState (H : List ℕ → List ℕ) (head : Head) (tiles : List (List (List ℕ))) (state : State) : Type 0 where
+  pub believed : AreBelieved H head tiles
+  pub edge : state.edge ≡ (head.tree_size, tiles)
+  pub moment : state.timestamp ≡ head.timestamp
+
+-- Why partial tiles aren't believed for a head. OtherWidths: one is wider or narrower than that of the head's size, or there are not 8.
+-- OtherRoot: they are as wide, and another root comes of them. Memory: they are as wide
+abbrev pub StopsBelief : (List ℕ → List ℕ) → Head → List (List (List ℕ)) → EdgeFault → Type 0
+StopsBelief H head tiles OtherWidths = HaveWidths head.tree_size tiles → ⊥
+StopsBelief H head tiles OtherRoot = HaveWidths head.tree_size tiles × (edge_root H tiles ≡ head.root → ⊥)
+StopsBelief H head tiles Memory = HaveWidths head.tree_size tiles
+
+-- the head is that of the leaves D, of which there are fewer than 2^64
+abbrev pub IsHeadOver : (List ℕ → List ℕ) → List (List ℕ) → Head → Type 0
+IsHeadOver H D head = (head.tree_size ≡ length D) × (head.root ≡ mth_of_leaves H D) × (length D < 2 ^ 64)
+
+-- partial tiles that are believed for the head of a list are the right edge of that list, or two different strings with one hash are given
+abbrev pub BelievedEdgesTell : Type 0
+BelievedEdgesTell =
+    (H : List ℕ → List ℕ) → ((x : List ℕ) → length (H x) ≡ 32) → (head : Head) (D : List (List ℕ)) (tiles : List (List (List ℕ)))
+    → IsHeadOver H D head → AreBelieved H head tiles → IsEdge H (head.tree_size, tiles) (map (hash_leaf H) D) ⊎ SomeCollide H
+
+-- the right edge of a list is believed for the list's head
+abbrev pub EdgesAreBelieved : Type 0
+EdgesAreBelieved =
+    (H : List ℕ → List ℕ) → ((x : List ℕ) → length (H x) ≡ 32) → (head : Head) (D : List (List ℕ)) (tiles : List (List (List ℕ)))
+    → IsHeadOver H D head → IsEdge H (head.tree_size, tiles) (map (hash_leaf H) D) → AreBelieved H head tiles

@@ -1,0 +1,41 @@
+-- What one step of a log has to do with its leaves. H is any hash function on byte lists, and D the list of the log's leaves.
+use Rattle.std.specs.Prelude.{◌≡◌, ℕ, ◌+◌, ◌<◌, ◌≤◌, ◌^◌, List, ◌++◌, length, map}
+use Rattle.ct_codec.specs.Leaf.{SignedEntry}
+use Rattle.ct_codec.specs.declared.refusal.Refusal.TheVariants as refused
+use Rattle.ct_tree.specs.Tree.{hash_leaf, mth_of_leaves}
+use Rattle.ct_tiles.specs.Tiles.{rows}
+use Rattle.ct_tiles.specs.Edge.{IsEdge}
+use Rattle.ct_growth.specs.Leaves.{indexed_leaves, receipts_from, receipt_parts}
+use Rattle.ct_growth.specs.declared.growth.Growth.{Growth}
+use Rattle.ct_growth.specs.declared.growth.GrowthFault.{GrowthFault}
+use Rattle.ct_growth.specs.declared.growth.GrowthFault.TheVariants.{ClockBack, Full, Refused}
+use Rattle.ct_growth.specs.declared.growth.State.{State}
+
+-- the state is that of a log with the leaves D: its edge is that of their tiles
+abbrev pub IsState : (List ℕ → List ℕ) → State → List (List ℕ) → Type 0
+IsState H state D = IsEdge H state.edge (map (hash_leaf H) D)
+
+-- so many submissions may be taken in at the moment `now`: it isn't before the state's, and a leaf's index has 40 bits
+abbrev pub MayGrow : State → ℕ → ℕ → Type 0
+MayGrow state count now = (state.timestamp ≤ now) × (state.edge.0 + count ≤ 2 ^ 40)
+
+-- Why so many submissions aren't taken in at the moment `now`. ClockBack: it is before the state's. Full: it isn't, and the log would have
+-- more than 2^40 leaves. Refused: they may be taken in, and the refusal is for want of memory
+abbrev pub StopsGrowth : State → ℕ → ℕ → GrowthFault → Type 0
+StopsGrowth state count now ClockBack = now < state.timestamp
+StopsGrowth state count now Full = (state.timestamp ≤ now) × (2 ^ 40 < state.edge.0 + count)
+StopsGrowth state count now (Refused refusal) = MayGrow state count now × (refusal ≡ refused.Memory)
+
+-- A step took these entries into the log with the leaves D at the moment `now`. The first new leaf's index is the number of leaves (first);
+-- each entry has its receipt, in order, from that index on (receipts); the tiles that are new or change are written (rows); the head is of
+-- all leaves (size, root) and of this moment (timestamp); and so is the next state (state, moment).
+pub record IsGrowth (H : List ℕ → List ℕ) (D : List (List ℕ)) (entries : List SignedEntry) (now : ℕ) (g : Growth) : Type 0 where
+  pub first : g.first ≡ length D
+  pub receipts : map receipt_parts g.receipts.items ≡ receipts_from now (length D) entries
+  pub rows : map (λ r. (r.first, r.hashes.items)) g.rows.items
+      ≡ rows H 256 8 (map (hash_leaf H) D) (map (hash_leaf H) (indexed_leaves now (length D) entries))
+  pub size : g.head.tree_size ≡ length (D ++ indexed_leaves now (length D) entries)
+  pub root : g.head.root ≡ mth_of_leaves H (D ++ indexed_leaves now (length D) entries)
+  pub timestamp : g.head.timestamp ≡ now
+  pub state : IsState H g.state (D ++ indexed_leaves now (length D) entries)
+  pub moment : g.state.timestamp ≡ now

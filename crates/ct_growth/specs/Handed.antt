@@ -1,0 +1,39 @@
+-- Many sequencers over one register that holds the log's head, each of them handed the right edge by whoever keeps it. H is any hash
+-- function on byte lists with hashes of 32 bytes.
+use Rattle.std.specs.Prelude.{◌≡◌, ◌⊎◌, ⊤, true, false, ℕ, List, [], ◌∷◌, length, map, take}
+use Rattle.ct_tree.specs.declared.head.Head.{Head}
+use Rattle.ct_verify.specs.Laws.{SomeCollide}
+use Rattle.ct_growth.specs.Believed.{BelievesState, IsHeadOver}
+use Rattle.ct_growth.specs.History.{Attempt, IsMade, taken, CarryOn}
+
+-- An attempt that was handed its right edge: the head that was read (head), the partial tiles that were handed in (tiles), and the attempt
+-- from the state that was believed of these (attempt).
+pub record HandedAttempt : Type 0 where
+  pub head : Head
+  pub tiles : List (List (List ℕ))
+  pub attempt : Attempt
+
+-- the attempt's state is what `State::believed` answers of the head and the tiles, and its step is what `grow` answers of that state
+abbrev pub IsMadeOfHanded : (List ℕ → List ℕ) → HandedAttempt → Type 0
+IsMadeOfHanded H b = BelievesState H b.head b.tiles b.attempt.seen × IsMade H b.attempt
+
+-- Attempts in the order in which the register answered, from the head that it held on: it took a head only in place of the one that it
+-- held. Where the tiles came from isn't said.
+unfoldable pub AreHandedAttempts : (List ℕ → List ℕ) → Head → List HandedAttempt → Type 0
+AreHandedAttempts H held [] = ⊤
+AreHandedAttempts H held (b ∷ rest) =
+    IsMadeOfHanded H b
+    × (((b.attempt.took ≡ true) × (b.head ≡ held) × AreHandedAttempts H b.attempt.growth.head rest)
+    ⊎ ((b.attempt.took ≡ false) × AreHandedAttempts H held rest))
+
+-- the attempts themselves
+abbrev pub attempts_of : List HandedAttempt → List Attempt
+attempts_of attempts = map (λ b. b.attempt) attempts
+
+-- There is one list of leaves, which begins with those that were known, that all the steps carry on whose heads the register took; or two
+-- different strings with one hash are given.
+abbrev pub HandedSequencersAgree : Type 0
+HandedSequencersAgree =
+    (H : List ℕ → List ℕ) → ((x : List ℕ) → length (H x) ≡ 32) → (held : Head) (known : List (List ℕ)) (attempts : List HandedAttempt)
+    → IsHeadOver H known held → AreHandedAttempts H held attempts
+    → ((D : List (List ℕ)) × (known ≡ take (length known) D) × CarryOn H held.timestamp D (taken (attempts_of attempts))) ⊎ SomeCollide H

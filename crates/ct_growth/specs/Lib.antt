@@ -1,0 +1,5 @@
+pub mod Leaves
+pub mod Growths
+pub mod History
+pub mod Believed
+pub mod Handed

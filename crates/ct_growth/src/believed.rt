@@ -1,0 +1,160 @@
+//! A state whose right edge was kept elsewhere, by whoever need not be trusted.
+
+ghost use Rattle.std.specs.Prelude.{◌≡◌, ◌++◌, length, map, All, IfOk, MatchResult};
+ghost use Rattle.std.specs.Bool.{MatchBool};
+ghost use Rattle.ct_tiles.specs.Tiles.{lone_root};
+ghost use Rattle.ct_verify.specs.Laws.{AreHashes};
+ghost use Rattle.ct_growth.specs.Believed.{tile_widths, edge_root, BelievesState, StopsBelief};
+ghost use Rattle.ct_growth.specs.declared.believed.EdgeFault.TheVariants.{Memory};
+
+use crate::growth::State;
+use ct_tiles::Edge;
+use ct_tree::reference::root;
+use ct_tree::{Head, NodeHash, is_same_digest};
+use std::alloc::{AllocError, Global};
+use thiserror::Error;
+
+/// Why partial tiles aren't believed.
+#[derive(Clone, Copy, PartialEq, Eq, Debug, Error)]
+pub enum EdgeFault {
+    /// They aren't those of 8 levels, or one of them hasn't as many hashes as the size asks for.
+    #[error("the partial tiles are not as wide as those of this size")]
+    OtherWidths,
+    /// They give another root.
+    #[error("the partial tiles give another root")]
+    OtherRoot,
+    /// A growth was refused.
+    #[error("there is no memory for the root of the partial tiles")]
+    Memory,
+}
+
+impl From<AllocError> for EdgeFault {
+    ghost from_gives = { λ _ fault. fault ≡ Memory };
+
+    fn from(_e: AllocError) -> EdgeFault {
+        EdgeFault::Memory
+    }
+}
+
+// A law, which does nothing: a hash has 32 bytes.
+fn is_hash(hash: &[u8; 32])
+    ensures { length hash.now ≡ 32 }
+{
+    let _ = hash;
+}
+
+// A law, which does nothing: hashes have 32 bytes.
+fn are_hashes(hashes: &[[u8; 32]])
+    ensures { AreHashes hashes.now }
+{
+    for hash in hashes {
+        is_hash(hash);
+    }
+}
+
+// A law, which does nothing: the hashes of partial tiles have 32 bytes.
+fn all_are_hashes(tiles: &[Vec<[u8; 32]>])
+    ensures { All AreHashes (map (λ t. t.items) tiles.now) }
+{
+    for tile in tiles {
+        are_hashes(tile);
+    }
+}
+
+// Whether partial tiles, level 0 first, are as wide as those of so many leaves.
+fn have_widths(tiles: &[Vec<[u8; 32]>], size: u64) -> bool
+    ensures { MatchBool result (map length (map (λ t. t.items) tiles.now) ≡ tile_widths 8 size) (map length (map (λ t. t.items) tiles.now) ≡ tile_widths 8 size → ⊥) }
+{
+    if tiles.len() != 8 {
+        return false;
+    }
+    let mut rest = size;
+    for tile in tiles {
+        if tile.len() as u64 != rest % 256 {
+            return false;
+        }
+        rest /= 256;
+    }
+    true
+}
+
+// The hashes of a partial tile and what is carried there, in order.
+fn with_carried(
+    alloc: Global,
+    tile: &[[u8; 32]],
+    carried: &[[u8; 32]],
+) -> Result<Vec<[u8; 32]>, AllocError>
+    ensures { IfOk result (λ v. v.items ≡ tile.now ++ carried.now) }
+{
+    let mut hashes = Vec::new(alloc);
+    hashes.extend_from_slice(tile)?;
+    hashes.extend_from_slice(carried)?;
+    Ok(hashes)
+}
+
+// The root of some hashes, and nothing of none.
+fn carried_on<H: NodeHash>(
+    alloc: Global,
+    h: &H,
+    hashes: &[[u8; 32]],
+) -> Result<Vec<[u8; 32]>, AllocError>
+    ensures { IfOk result (λ v. v.items ≡ lone_root H.digest hashes.now) }
+{
+    let mut lone = Vec::new(alloc);
+    if !hashes.is_empty() {
+        lone.push(root(h, hashes))?;
+    }
+    Ok(lone)
+}
+
+// The root that partial tiles give, level 0 first.
+fn root_of_tiles<H: NodeHash>(
+    alloc: Global,
+    h: &H,
+    tiles: &[Vec<[u8; 32]>],
+) -> Result<[u8; 32], AllocError>
+    ensures { IfOk result (λ r. r ≡ edge_root H.digest (map (λ t. t.items) tiles.now)) }
+{
+    let mut carried = Vec::new(alloc);
+    for tile in tiles {
+        let hashes = with_carried(alloc, tile, &carried)?;
+        carried = carried_on(alloc, h, &hashes)?;
+    }
+    Ok(root(h, &carried))
+}
+
+impl State {
+    /// The state of which this is the head, with the partial tiles, level 0 first, that whoever keeps them handed in: they are
+    /// believed where their widths are those of the head's size, and the head's root comes of them. So they are the right edge of
+    /// the head's tree, or two different strings with one digest are given ([`crate::laws::edges`]).
+    ///
+    /// Hashes at most 8 times 256 nodes, and takes memory for one level at a time.
+    ///
+    /// # Errors
+    /// In this order: `OtherWidths`; `Memory` where a growth was refused; `OtherRoot`.
+    pub fn believed<H: NodeHash>(
+        alloc: Global,
+        h: &H,
+        head: &Head,
+        tiles: Vec<Vec<[u8; 32]>>,
+    ) -> Result<State, EdgeFault>
+        ensures { MatchResult result (λ s. BelievesState H.digest head.now (map (λ t. t.items) tiles.items) s)
+            (StopsBelief H.digest head.now (map (λ t. t.items) tiles.items)) }
+    {
+        all_are_hashes(&tiles);
+        if !have_widths(&tiles, head.tree_size) {
+            return Err(EdgeFault::OtherWidths);
+        }
+        let root = root_of_tiles(alloc, h, &tiles)?;
+        if !is_same_digest(&root, &head.root) {
+            return Err(EdgeFault::OtherRoot);
+        }
+        let Some(edge) = Edge::from_parts(head.tree_size, tiles) else {
+            return Err(EdgeFault::OtherWidths);
+        };
+        Ok(State {
+            edge,
+            timestamp: head.timestamp,
+        })
+    }
+}

@@ -1,0 +1,35 @@
+//! What follows over many steps, each a clause of a function that does nothing.
+
+ghost use Rattle.ct_growth.specs.Believed.{BelievedEdgesTell, EdgesAreBelieved};
+ghost use Rattle.ct_growth.specs.Handed.{HandedSequencersAgree};
+ghost use Rattle.ct_growth.specs.Leaves.{ReceiptsAreLeaves};
+ghost use Rattle.ct_growth.specs.History.{SequencersAgree};
+
+/// However many sequencers carry on a log over one register, and wherever they stop: all that was written and promised by the steps
+/// whose states the register took is of one list of leaves, and neither their moments nor their sizes fall.
+#[tactic(auto, using(crate::proofs::Agree::sequencers_agree))]
+pub fn sequencers()
+    ensures { SequencersAgree }
+{}
+
+/// The same where the register holds heads alone, and each sequencer was handed the right edge by whoever keeps it, and believed it
+/// ([`crate::State::believed`]): all that was written and promised is of one list of leaves, or two different strings with one
+/// digest are given.
+#[tactic(auto, using(crate::proofs::HandedAgree::handed_sequencers_agree))]
+pub fn sequencers_over_heads()
+    ensures { HandedSequencersAgree }
+{}
+
+/// What a receipt says under its signature is the leaf that it names: RFC 6962, section 3.4, with an extension that names the index.
+#[tactic(auto, using(crate::proofs::Steps::receipts_are_leaves))]
+pub fn receipts()
+    ensures { ReceiptsAreLeaves }
+{}
+
+/// Partial tiles that are believed for the head of a list of leaves are the right edge of that list, or two different strings with one
+/// digest are given. The right edge of a list is believed for its head.
+#[tactic(auto, using(crate::proofs::EdgesTell::believed_edges_tell, crate::proofs::EdgesTell::edges_are_believed))]
+pub fn edges()
+    ensures tell { BelievedEdgesTell }
+    ensures believed { EdgesAreBelieved }
+{}

@@ -1,0 +1,27 @@
+//! One step of a tiled log: a state and a batch of submissions in; receipts, tiles, a head to be signed and the next state out.
+//!
+//! - [`State`] is all that a sequencer keeps of a log: the right edge of its tiles, and the moment of its last head.
+//! - [`State::believed`] is the state of a head whose partial tiles were kept elsewhere: they are believed where their widths are
+//!   those of its size and its root comes of them. So they are the right edge of its tree, or two different strings with one digest
+//!   are given ([`laws::edges`]).
+//! - [`grow`] takes a batch into the log at a moment: a [`Receipt`] for each submission, in order, the tiles that are new or
+//!   change, the new head, and the next state. Nothing is stored, and the state that was given stays as it was.
+//! - [`laws::sequencers`] is what holds of a log that many sequencers carry on over one register, which takes a state only in
+//!   place of the one that it holds: all that was written and promised by the steps that it took is of one list of leaves.
+//!   [`laws::sequencers_over_heads`] says the same of a register that holds heads alone, over edges that were believed.
+//!
+//! Who carries on a log keeps nothing of a step before the register took its state: no receipt is given out, and no tile is put
+//! under its public name. Of a step that wasn't taken nothing is promised.
+//!
+//! A leaf is that of RFC 6962, section 3.4, whose one extension names its index in the log (C2SP static-ct-api), so a log has at
+//! most 2^40 leaves. Sizes count leaves, and moments are milliseconds.
+#![tactic(auto)]
+
+mod believed;
+mod growth;
+pub mod laws;
+mod receipts;
+
+pub use believed::EdgeFault;
+pub use growth::{Growth, GrowthFault, State, grow};
+pub use receipts::Receipt;
