@@ -24,7 +24,9 @@ case $what in
     go vet wagtenib/service/chains wagtenib/service/stores
     ;;
   fuzz)
-    go test wagtenib/service/chains -run '^$' -fuzz FuzzChain -fuzztime "${1:-60}s"
+    for target in FuzzPoison FuzzFinalIssuer FuzzChain FuzzRoots; do
+      go test wagtenib/service/chains -run '^$' -fuzz "^$target\$" -fuzztime "${1:-60}s" -parallel "${PROCESSORS:-2}"
+    done
     ;;
   *)
     echo "build.sh test [PACKAGE [WORD..]] | fuzz [SECONDS] | vet" >&2
