@@ -10,13 +10,14 @@ out=$PWD/out
 packages=$(dpkg-query -L golang-github-lib-pq-dev 2>/dev/null | sed -n 's|/src/github.com$||p')
 mkdir -p "$out/path/src/wagtenib"
 ln -sfn "$PWD" "$out/path/src/wagtenib/service"
-export GO111MODULE=off GOPATH=$out/path:$packages GOPROXY=off GOFLAGS="-tags=libsqlite3 -p=${PROCESSORS:-2}" CGO_ENABLED=1
+[ -n "${HOME:-}" ] || export GOCACHE="${GOCACHE:-$out/cache}"
+export GO111MODULE=off GOPATH=$out/path:$packages GOPROXY=off GOFLAGS="-tags=libsqlite3 -p=${PROCESSORS:-$(nproc)}" CGO_ENABLED=1
 case $what in
   test)
     package=${1:-}
     shift || true
     if [ -n "$package" ]; then set -- "$@" "wagtenib/service/$package"; else set -- wagtenib/service/chains wagtenib/service/stores; fi
-    go test "$@"
+    go test -count=1 "$@"
     ;;
   vet)
     unformatted=$(gofmt -l chains stores)
@@ -25,7 +26,7 @@ case $what in
     ;;
   fuzz)
     for target in FuzzPoison FuzzFinalIssuer FuzzChain FuzzRoots; do
-      go test wagtenib/service/chains -run '^$' -fuzz "^$target\$" -fuzztime "${1:-60}s" -parallel "${PROCESSORS:-2}"
+      go test wagtenib/service/chains -run '^$' -fuzz "^$target\$" -fuzztime "${1:-60}s" -fuzzminimizetime 1s -parallel "${PROCESSORS:-2}"
     done
     ;;
   *)

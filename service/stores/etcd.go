@@ -10,7 +10,7 @@ import (
 
 	"go.etcd.io/etcd/clientv3"
 	"go.etcd.io/etcd/etcdserver/api/v3rpc/rpctypes"
-	"google.golang.org/grpc"
+	"go.uber.org/zap"
 )
 
 // Etcd says where a cluster is, and under which prefix a log's keys lie in it. TLS and names of users stand in the client's
@@ -36,7 +36,12 @@ func (at Etcd) open() (*clientv3.Client, error) {
 	if config.DialKeepAliveTime == 0 {
 		config.DialKeepAliveTime, config.DialKeepAliveTimeout = 5*time.Second, 5*time.Second
 	}
-	config.DialOptions = append([]grpc.DialOption{}, config.DialOptions...)
+	// What the client warns of, the calls say.
+	if config.LogConfig == nil {
+		quiet := zap.NewProductionConfig()
+		quiet.Level = zap.NewAtomicLevelAt(zap.ErrorLevel)
+		config.LogConfig = &quiet
+	}
 	client, err := clientv3.New(config)
 	if err != nil {
 		return nil, fmt.Errorf("stores: etcd: %w", err)
