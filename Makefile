@@ -1,4 +1,4 @@
-.PHONY: help demo test check link install install-library install-ctlog install-ctlogd install-ctmonitor fuzz load sweep wrong sources serve interop
+.PHONY: help demo test check service-test service-engines link install install-library install-ctlog install-ctlogd install-ctmonitor fuzz load sweep wrong sources serve interop
 
 SECONDS ?= 60
 RUNS ?= 20
@@ -12,7 +12,7 @@ VERSION = $(shell sed -n 's/^Version: //p' include/wagtenib.pc.in)
 TO = $(DESTDIR)$(PREFIX)
 
 help: ## says what each target does
-	@sed -n 's/^\([a-z]*\):.*## /make \1	/p' Makefile | expand -t 15
+	@sed -n 's/^\([a-z-]*\):.*## /make \1	/p' Makefile | expand -t 24
 
 demo: ## builds ctlog and ctmonitor, and runs them on a first session, real certificates and a log that forks
 	@checks/needs.sh demo
@@ -21,12 +21,19 @@ demo: ## builds ctlog and ctmonitor, and runs them on a first session, real cert
 test: ## the gate: proves every crate from nothing, and runs the tests and the program
 	@checks/needs.sh test
 	@$(MAKE) --silent sources
+	@$(MAKE) --silent service-test
 	@PYTHONDONTWRITEBYTECODE=1 python3 checks/gate.py
 
 check: ## for daily work: proves what changed
 	@checks/needs.sh check
 	@$(MAKE) --silent sources
 	rt all check
+
+service-test: ## builds and tests the Go part, without engines; where Go isn't installed, it says so
+	@service/test.sh
+
+service-engines: ## the same with engines on loopback: those of etcd, PostgreSQL and Ceph that are installed
+	@service/test.sh engines
 
 link: ## builds libwagtenib, the proof checkers for C, and runs programs in C, Rust and Python over it
 	@checks/needs.sh link

@@ -1,10 +1,10 @@
 #!/usr/bin/env python3
 """What the documents name is there: links, files, functions, words of the code, and targets of the Makefile.
 
-It reads README.md, docs/*.md and the README.md of bench/ and examples/. A link has to lead to a file, and its # to a heading there. In code
+It reads README.md, docs/*.md and the README.md of bench/, examples/ and service/. A link has to lead to a file, and its # to a heading there. In code
 (spans and blocks) a path has to be a file of this repository, `Type::name` a function or a case, `name()` a function, `make name` a target; a
 name with a capital inside or an underscore, and a span of one word, have to stand in the code outside of comments, or in elsewhere.txt. And
-`make help` has to tell each target. A block below a comment `<!-- from FILE -->` has only text of that file, in its order (a line of `..` stands
+`make help` has to tell each target but the parts of `make install`. A block below a comment `<!-- from FILE -->` has only text of that file, in its order (a line of `..` stands
 for what is left out, and lines may be broken otherwise). A table below '| Crate | What it knows |' has to name the crates of crates.txt, each once.
 It prints each thing that isn't so, and ends with status 1 where there is one. Before that it tries itself on a page where each of these is wrong.
 """
@@ -22,7 +22,7 @@ PATH = re.compile(r"(?<![\w/.<-])(?:[\w.-]+/)*[\w-]+(?:\.[\w-]+)*\.(?:rt|antt|py
 PAIR = re.compile(r"\b([A-Za-z]\w*)::([A-Za-z]\w*)")
 CALL = re.compile(r"(?<![\w.])([a-z]\w*)\(\)")
 NAME = re.compile(r"\b(?:[A-Z][a-z0-9]+(?:[A-Z][a-z0-9]*)+|[a-z]+(?:_[a-z0-9]+)+)\b")
-MAKE = re.compile(r"\bmake ([a-z]+)")
+MAKE = re.compile(r"\bmake ([a-z]+(?:-[a-z]+)*)")
 QUOTED = re.compile(r"^<!-- from (\S+) -->\n+(```.*?^```$|(?:^ {4}[^\n]*\n)+)", re.M | re.S)
 TABLE = re.compile(r"^\| Crate \| What it knows \|\n\|[-|]+\|\n((?:\|.*\n)*)", re.M)
 # No code: this script's own page of faults, and the words of elsewhere.
@@ -46,7 +46,7 @@ def files():
 
 
 def pages():
-    return [ROOT / "README.md", *sorted((ROOT / "docs").glob("*.md")), ROOT / "bench" / "README.md", ROOT / "examples" / "README.md"]
+    return [ROOT / "README.md", *sorted((ROOT / "docs").glob("*.md")), *(ROOT / folder / "README.md" for folder in ("bench", "examples", "service"))]
 
 
 def words_of_code(paths):
@@ -81,7 +81,8 @@ def anchors(text):
 
 def targets():
     text = (ROOT / "Makefile").read_text()
-    return set(re.findall(r"^([a-z]+):", text, re.M)), set(re.findall(r"^([a-z]+):.*## ", text, re.M))
+    name = r"^([a-z]+(?:-[a-z]+)*):"
+    return set(re.findall(name, text, re.M)), set(re.findall(name + ".*## ", text, re.M))
 
 
 def faults_of_tables(text):
@@ -215,7 +216,7 @@ def main():
     found = version_faults()
     if not TABLE.search((ROOT / "docs" / "ARCHITECTURE.md").read_text()):
         found.append("docs/ARCHITECTURE.md has no table of crates")
-    found += [f"make help doesn't tell of {name}" for name in sorted(repository.targets - repository.told)]
+    found += [f"make help doesn't tell of {name}" for name in sorted(repository.targets - repository.told) if not name.startswith("install-")]
     for page in pages():
         found += [f"{page.relative_to(ROOT)}: {fault}" for fault in dict.fromkeys(repository.faults(page.read_text(), page))]
     for fault in found:

@@ -1,0 +1,36 @@
+#!/usr/bin/env bash
+# Builds and tests the Go part with the packages of Debian alone: build.sh test [PACKAGE [WORD..]] | fuzz [SECONDS] | vet.
+# Debian's packages of Go lie below one folder, as GOPATH has it. So modules are off, and nothing is fetched; this folder is put
+# beside theirs, as the import path wagtenib/service, in out/.
+set -eu
+cd "$(dirname "$0")"
+what=${1:-test}
+shift || true
+out=$PWD/out
+packages=$(dpkg-query -L golang-github-lib-pq-dev 2>/dev/null | sed -n 's|/src/github.com$||p')
+mkdir -p "$out/path/src/wagtenib"
+ln -sfn "$PWD" "$out/path/src/wagtenib/service"
+[ -n "${HOME:-}" ] || export GOCACHE="${GOCACHE:-$out/cache}"
+export GO111MODULE=off GOPATH=$out/path:$packages GOPROXY=off GOFLAGS="-tags=libsqlite3 -p=${PROCESSORS:-$(nproc)}" CGO_ENABLED=1
+case $what in
+  test)
+    package=${1:-}
+    shift || true
+    if [ -n "$package" ]; then set -- "$@" "wagtenib/service/$package"; else set -- wagtenib/service/chains wagtenib/service/stores; fi
+    go test -count=1 "$@"
+    ;;
+  vet)
+    unformatted=$(gofmt -l chains stores)
+    [ -z "$unformatted" ] || { echo "gofmt would change $unformatted" >&2; exit 1; }
+    go vet wagtenib/service/chains wagtenib/service/stores
+    ;;
+  fuzz)
+    for target in FuzzPoison FuzzFinalIssuer FuzzChain FuzzRoots; do
+      go test wagtenib/service/chains -run '^$' -fuzz "^$target\$" -fuzztime "${1:-60}s" -fuzzminimizetime 1s -parallel "${PROCESSORS:-2}"
+    done
+    ;;
+  *)
+    echo "build.sh test [PACKAGE [WORD..]] | fuzz [SECONDS] | vet" >&2
+    exit 1
+    ;;
+esac

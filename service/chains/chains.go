@@ -1,0 +1,244 @@
+// Package chains checks the certificate chains that are submitted to a log (RFC 6962, section 3.1), and makes of each what goes
+// into the log (section 3.2).
+//
+// A chain is checked so that who misissued is known, and no more: every certificate is signed by the next one, which may sign
+// certificates, and the last one is a root of the log or signed by one. Names, dates, purposes, lengths of paths and critical
+// extensions that nobody knows don't matter, since a log shows what was issued and not what is valid; but what crypto/x509
+// doesn't read is refused. A log may take only certificates that end within a window, so that it can be closed one day.
+package chains
+
+import (
+	"crypto/rsa"
+	"crypto/sha256"
+	"crypto/x509"
+	"fmt"
+	"sync/atomic"
+	"time"
+)
+
+// The bounds of a chain.
+const (
+	// MostCertificates is how many certificates may be submitted in one chain.
+	MostCertificates = 16
+	// LongestCertificate is how many bytes one may have.
+	LongestCertificate = 256 << 10
+	// MostBytes is how many bytes they may have together.
+	MostBytes = 700 << 10
+	// MostKeyBits is how many bits the RSA key of an issuer may have. (The time of a signature's check grows with their square.)
+	MostKeyBits = 8192
+)
+
+// EntryType is the type of an entry (RFC 6962, section 3.1, LogEntryType).
+type EntryType uint16
+
+// The types of entries.
+const (
+	X509Entry    EntryType = 0
+	PrecertEntry EntryType = 1
+)
+
+// Entry is what goes into the log.
+type Entry struct {
+	Type EntryType
+	// Certificate is the certificate, of an X509Entry; nil of a PrecertEntry.
+	Certificate []byte
+	// IssuerKeyHash is SHA-256 over the key of the issuer of the final certificate (its SubjectPublicKeyInfo in DER), and
+	// TBSCertificate what that one will have without signature and timestamps; of a PrecertEntry.
+	IssuerKeyHash  [32]byte
+	TBSCertificate []byte
+	// Precertificate is what was submitted, of a PrecertEntry.
+	Precertificate []byte
+	// Issuers are the certificates behind the first one in DER, each the issuer of the one before it, up to a root of the log
+	// and with it. There are none where the certificate is a root.
+	Issuers [][]byte
+}
+
+// Window is when the certificates of a log end: From <= notAfter < To. A zero time bounds nothing.
+type Window struct {
+	From, To time.Time
+}
+
+func (w Window) has(moment time.Time) bool {
+	return (w.From.IsZero() || !moment.Before(w.From)) && (w.To.IsZero() || moment.Before(w.To))
+}
+
+// Checker checks chains against a log's roots and its window. Its methods may be called at once.
+type Checker struct {
+	roots  atomic.Pointer[Roots]
+	window Window
+	// signed checks a signature; the fuzzer has another one.
+	signed func(certificate, issuer *x509.Certificate) error
+}
+
+// NewChecker makes a checker.
+func NewChecker(roots *Roots, window Window) *Checker {
+	c := &Checker{window: window, signed: checkSignature}
+	c.roots.Store(roots)
+	return c
+}
+
+// Roots are those that chains are checked against.
+func (c *Checker) Roots() *Roots { return c.roots.Load() }
+
+// Reload reads the roots anew from a file. At an error those from before stay.
+func (c *Checker) Reload(path string) error {
+	roots, err := LoadRoots(path)
+	if err == nil {
+		c.roots.Store(roots)
+	}
+	return err
+}
+
+// Certificate checks a chain in DER whose first is a certificate (add-chain), and gives its entry. An error wraps a Refusal.
+func (c *Checker) Certificate(chain [][]byte) (*Entry, error) {
+	path, err := c.check(chain)
+	if err != nil {
+		return nil, err
+	}
+	if hasPoison(path[0]) {
+		return nil, fmt.Errorf("%w: it has the poison extension", IsPrecertificate)
+	}
+	return &Entry{Type: X509Entry, Certificate: path[0].Raw, Issuers: issuersOf(path)}, nil
+}
+
+// Precertificate checks a chain in DER whose first is a precertificate (add-pre-chain), and gives its entry. An error wraps a
+// Refusal.
+func (c *Checker) Precertificate(chain [][]byte) (*Entry, error) {
+	path, err := c.check(chain)
+	if err != nil {
+		return nil, err
+	}
+	if !hasPoison(path[0]) {
+		return nil, fmt.Errorf("%w: no extension of it is %s", NoPoison, oidPoison)
+	}
+	if len(path) < 2 {
+		return nil, fmt.Errorf("%w: a root is no precertificate", NoFinalIssuer)
+	}
+	issuer, final := path[1], (*finalIssuer)(nil)
+	if signsPrecertificates(path[1]) {
+		if len(path) < 3 {
+			return nil, fmt.Errorf("%w: the precertificate signing certificate is a root", NoFinalIssuer)
+		}
+		issuer, final = path[2], finalIssuerBehind(path[1])
+	}
+	tbs, err := withoutPoison(path[0].RawTBSCertificate, final)
+	if err != nil {
+		return nil, err
+	}
+	return &Entry{
+		Type:           PrecertEntry,
+		IssuerKeyHash:  sha256.Sum256(issuer.RawSubjectPublicKeyInfo),
+		TBSCertificate: tbs,
+		Precertificate: path[0].Raw,
+		Issuers:        issuersOf(path),
+	}, nil
+}
+
+func issuersOf(path []*x509.Certificate) [][]byte {
+	issuers := make([][]byte, 0, len(path)-1)
+	for _, issuer := range path[1:] {
+		issuers = append(issuers, issuer.Raw)
+	}
+	return issuers
+}
+
+// check reads a chain and gives it with a root at its end. Signatures are checked from the root down, so that no key is worked
+// with that a root doesn't stand for.
+func (c *Checker) check(chain [][]byte) ([]*x509.Certificate, error) {
+	path, err := parse(chain)
+	if err != nil {
+		return nil, err
+	}
+	if !c.window.has(path[0].NotAfter) {
+		return nil, fmt.Errorf("%w: it ends %s", OutsideWindow, path[0].NotAfter.UTC().Format(time.RFC3339))
+	}
+	last := len(path) - 1
+	for i := range path[:last] {
+		if string(path[i].RawIssuer) != string(path[i+1].RawSubject) {
+			return nil, fmt.Errorf("%w: certificate %d", NotIssuedByNext, i)
+		}
+	}
+	root, err := c.rootOf(path[last])
+	if err != nil {
+		return nil, err
+	}
+	for i := last - 1; i >= 0; i-- {
+		if err := c.issued(path[i], path[i+1]); err != nil {
+			return nil, fmt.Errorf("%w: of certificate %d", err, i)
+		}
+	}
+	if root != nil {
+		path = append(path, root)
+	}
+	return path, nil
+}
+
+// parse reads the certificates of a chain, within the bounds.
+func parse(chain [][]byte) ([]*x509.Certificate, error) {
+	if len(chain) == 0 {
+		return nil, fmt.Errorf("%w: no certificate", EmptyChain)
+	}
+	if len(chain) > MostCertificates {
+		return nil, fmt.Errorf("%w: %d certificates", ChainTooLong, len(chain))
+	}
+	bytes := 0
+	for i, der := range chain {
+		if len(der) > LongestCertificate {
+			return nil, fmt.Errorf("%w: certificate %d of %d bytes", CertificateTooLong, i, len(der))
+		}
+		bytes += len(der)
+	}
+	if bytes > MostBytes {
+		return nil, fmt.Errorf("%w: %d bytes", ChainTooLong, bytes)
+	}
+	path := make([]*x509.Certificate, 0, len(chain)+1)
+	for i, der := range chain {
+		certificate, err := x509.ParseCertificate(der)
+		if err != nil {
+			return nil, fmt.Errorf("%w: certificate %d: %v", NoCertificate, i, err)
+		}
+		path = append(path, certificate)
+	}
+	return path, nil
+}
+
+// rootOf gives the root that issued the last certificate of a chain; nil where it is a root itself.
+func (c *Checker) rootOf(last *x509.Certificate) (*x509.Certificate, error) {
+	roots := c.roots.Load()
+	if roots.has(last) {
+		return nil, nil
+	}
+	why := fmt.Errorf("%w: none has the name of the issuer of the last certificate", UnknownRoot)
+	for _, root := range roots.issuers(last) {
+		err := c.issued(last, root)
+		if err == nil {
+			return root, nil
+		}
+		why = fmt.Errorf("%w: %v: of the last certificate", UnknownRoot, err)
+	}
+	return nil, why
+}
+
+// issued says whether a certificate is signed by an issuer who may.
+func (c *Checker) issued(certificate, issuer *x509.Certificate) error {
+	// Certificates of version 1 have no extension that would say so; only a root may be one, as a chain's other issuers are
+	// taken from who submits them.
+	authority := issuer.BasicConstraintsValid && issuer.IsCA
+	if issuer.Version < 3 && !issuer.BasicConstraintsValid {
+		authority = c.roots.Load().has(issuer)
+	}
+	if !authority || issuer.KeyUsage != 0 && issuer.KeyUsage&x509.KeyUsageCertSign == 0 {
+		return fmt.Errorf("%w: the issuer", NotAnAuthority)
+	}
+	if key, ok := issuer.PublicKey.(*rsa.PublicKey); ok && key.N.BitLen() > MostKeyBits {
+		return fmt.Errorf("%w: the issuer's, of %d bits", KeyTooLong, key.N.BitLen())
+	}
+	return c.signed(certificate, issuer)
+}
+
+func checkSignature(certificate, issuer *x509.Certificate) error {
+	if err := issuer.CheckSignature(certificate.SignatureAlgorithm, certificate.RawTBSCertificate, certificate.Signature); err != nil {
+		return fmt.Errorf("%w: %v", BadSignature, err)
+	}
+	return nil
+}

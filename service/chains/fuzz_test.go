@@ -1,0 +1,232 @@
+package chains
+
+import (
+	"bytes"
+	"crypto/sha256"
+	"crypto/x509"
+	"crypto/x509/pkix"
+	"encoding/asn1"
+	"errors"
+	"math/big"
+	"testing"
+	"time"
+)
+
+// seeds are certificates: the real precertificates and their issuers, and some of crypto/x509's.
+func seeds(t testing.TB) (certificates [][]byte) {
+	for _, line := range realPrecertificates(t) {
+		certificates = append(certificates, line.Chain...)
+	}
+	key := newKey(t)
+	template := authority("a root")
+	template.NotAfter = time.Unix(1798761600, 0)
+	template.SubjectKeyId = []byte{1, 2, 3}
+	certificates = append(certificates, signedBy(t, template, template, &key.PublicKey, key))
+	template = &x509.Certificate{
+		SerialNumber: big.NewInt(128), NotAfter: time.Unix(1798761600, 0), AuthorityKeyId: []byte{4, 5},
+		ExtraExtensions:    []pkix.Extension{{Id: oidPoison, Critical: true, Value: []byte{5, 0}}, {Id: asn1.ObjectIdentifier{1, 2, 3}}},
+		UnknownExtKeyUsage: []asn1.ObjectIdentifier{oidSignPrecertificate},
+	}
+	return append(certificates, signedBy(t, template, template, &key.PublicKey, key))
+}
+
+// values reads the values of DER that follow one another, by encoding/asn1.
+func values(der []byte) (found []asn1.RawValue, err error) {
+	for err == nil && len(der) > 0 {
+		var value asn1.RawValue
+		der, err = asn1.Unmarshal(der, &value)
+		found = append(found, value)
+	}
+	return found, err
+}
+
+// inside gives the values in the one value that these bytes are.
+func inside(der []byte) ([]asn1.RawValue, error) {
+	var value asn1.RawValue
+	rest, err := asn1.Unmarshal(der, &value)
+	if err == nil && len(rest) > 0 {
+		err = errors.New("bytes behind it")
+	}
+	if err != nil {
+		return nil, err
+	}
+	return values(value.Bytes)
+}
+
+// wrapped puts values into one.
+func wrapped(t *testing.T, class, tag int, inner []asn1.RawValue) asn1.RawValue {
+	t.Helper()
+	var content []byte
+	for _, value := range inner {
+		content = append(content, value.FullBytes...)
+	}
+	whole := asn1.RawValue{Class: class, Tag: tag, IsCompound: true, Bytes: content}
+	der, err := asn1.Marshal(whole)
+	if err != nil {
+		t.Fatal(err)
+	}
+	whole.FullBytes = der
+	return whole
+}
+
+// plainly takes the poison extension out by encoding/asn1, and also gives the place where it was: a second way to the same.
+func plainly(t *testing.T, tbs []byte) (made []byte, place int, err error) {
+	fields, err := inside(tbs)
+	if err != nil || len(fields) == 0 {
+		return nil, 0, errors.New("no fields")
+	}
+	last := len(fields) - 1
+	lists, err := values(fields[last].Bytes)
+	if err != nil || len(lists) != 1 {
+		return nil, 0, errors.New("no list")
+	}
+	extensions, err := values(lists[0].Bytes)
+	if err != nil {
+		return nil, 0, err
+	}
+	var kept []asn1.RawValue
+	for i, whole := range extensions {
+		var extension pkix.Extension
+		if _, err := asn1.Unmarshal(whole.FullBytes, &extension); err == nil && extension.Id.Equal(oidPoison) {
+			place = i
+		} else {
+			kept = append(kept, whole)
+		}
+	}
+	fields = fields[:last]
+	if len(kept) > 0 {
+		fields = append(fields, wrapped(t, asn1.ClassContextSpecific, 3, []asn1.RawValue{wrapped(t, asn1.ClassUniversal, asn1.TagSequence, kept)}))
+	}
+	return wrapped(t, asn1.ClassUniversal, asn1.TagSequence, fields).FullBytes, place, nil
+}
+
+// poisoned puts the poison extension back to its place.
+func poisoned(t *testing.T, tbs []byte, place int) []byte {
+	fields, err := inside(tbs)
+	if err != nil {
+		t.Fatal(err)
+	}
+	var extensions []asn1.RawValue
+	if last := len(fields) - 1; fields[last].Class == asn1.ClassContextSpecific && fields[last].Tag == 3 {
+		lists, err := values(fields[last].Bytes)
+		if err != nil {
+			t.Fatal(err)
+		}
+		if extensions, err = values(lists[0].Bytes); err != nil {
+			t.Fatal(err)
+		}
+		fields = fields[:last]
+	}
+	extensions = append(extensions[:place:place], append([]asn1.RawValue{{FullBytes: poison}}, extensions[place:]...)...)
+	list := wrapped(t, asn1.ClassUniversal, asn1.TagSequence, extensions)
+	fields = append(fields, wrapped(t, asn1.ClassContextSpecific, 3, []asn1.RawValue{list}))
+	return wrapped(t, asn1.ClassUniversal, asn1.TagSequence, fields).FullBytes
+}
+
+// FuzzPoison: what is made of any bytes is what encoding/asn1 makes of them, and with the poison put back it is these bytes again.
+// Else they are refused.
+func FuzzPoison(f *testing.F) {
+	for _, der := range seeds(f) {
+		if certificate, err := x509.ParseCertificate(der); err == nil {
+			f.Add(certificate.RawTBSCertificate)
+		}
+	}
+	f.Fuzz(func(t *testing.T, tbs []byte) {
+		made, err := withoutPoison(tbs, nil)
+		if err != nil {
+			if RefusalOf(err) == "" {
+				t.Errorf("an error without a name: %v", err)
+			}
+			return
+		}
+		want, place, err := plainly(t, tbs)
+		if err != nil || !bytes.Equal(made, want) {
+			t.Errorf("made\n%x, and by encoding/asn1\n%x, %v", made, want, err)
+		}
+		if back := poisoned(t, made, place); !bytes.Equal(back, tbs) {
+			t.Errorf("%x\nwith the poison put back is\n%x", tbs, back)
+		}
+	})
+}
+
+// FuzzFinalIssuer: a TBSCertificate with another issuer is made, whose name and key are the ones that were given, or it is
+// refused.
+func FuzzFinalIssuer(f *testing.F) {
+	for _, der := range seeds(f) {
+		if certificate, err := x509.ParseCertificate(der); err == nil {
+			f.Add(certificate.RawTBSCertificate, []byte{0x30, 0}, []byte{1})
+		}
+	}
+	f.Fuzz(func(t *testing.T, tbs, name, key []byte) {
+		if _, err := inside(name); err != nil || name[0] != 0x30 {
+			return // crypto/x509 reads no such name
+		}
+		made, err := withoutPoison(tbs, &finalIssuer{name, key})
+		if err != nil {
+			if RefusalOf(err) == "" {
+				t.Errorf("an error without a name: %v", err)
+			}
+			return
+		}
+		again, err := withoutPoison(poisoned(t, made, 0), nil)
+		if err != nil || !bytes.Equal(again, made) || !bytes.Contains(made, name) {
+			t.Errorf("%x, %v", made, err)
+		}
+	})
+}
+
+// FuzzChain: whatever two certificates are, with any signatures, a chain of them has an entry that is made of them, or it is
+// refused by name.
+func FuzzChain(f *testing.F) {
+	all := seeds(f)
+	roots, err := ParseRoots(inPEM(all[1]))
+	if err != nil {
+		f.Fatal(err)
+	}
+	for i := range all {
+		f.Add(all[i], all[(i+1)%len(all)])
+	}
+	c := NewChecker(roots, Window{})
+	c.signed = func(_, _ *x509.Certificate) error { return nil }
+	f.Fuzz(func(t *testing.T, first, second []byte) {
+		for _, chain := range [][][]byte{{first}, {first, second}} {
+			entry, err := c.Certificate(chain)
+			if (entry == nil) == (RefusalOf(err) == "") {
+				t.Errorf("a certificate: %v", err)
+			}
+			if entry != nil && !bytes.Equal(entry.Certificate, first) {
+				t.Error("another certificate")
+			}
+			entry, err = c.Precertificate(chain)
+			if (entry == nil) == (RefusalOf(err) == "") {
+				t.Errorf("a precertificate: %v", err)
+			}
+			if entry != nil {
+				ofItsIssuer(t, entry, first)
+			}
+		}
+	})
+}
+
+// ofItsIssuer: the key is that of one of the issuers.
+func ofItsIssuer(t *testing.T, entry *Entry, first []byte) {
+	found := false
+	for _, der := range entry.Issuers {
+		issuer, err := x509.ParseCertificate(der)
+		found = found || err == nil && sha256.Sum256(issuer.RawSubjectPublicKeyInfo) == entry.IssuerKeyHash
+	}
+	if !found || !bytes.Equal(entry.Precertificate, first) || len(entry.TBSCertificate) == 0 {
+		t.Error("another entry")
+	}
+}
+
+// FuzzRoots: any text has roots, or it is an error.
+func FuzzRoots(f *testing.F) {
+	f.Add(inPEM(seeds(f)...))
+	f.Fuzz(func(t *testing.T, text []byte) {
+		roots, err := ParseRoots(text)
+		if err == nil && len(roots.Certificates()) == 0 {
+			t.Error("no roots, and no error")
+		}
+	})
+}

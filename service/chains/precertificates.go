@@ -1,0 +1,204 @@
+package chains
+
+import (
+	"bytes"
+	"crypto/x509"
+	"encoding/asn1"
+	"fmt"
+
+	"golang.org/x/crypto/cryptobyte"
+	tags "golang.org/x/crypto/cryptobyte/asn1"
+)
+
+var (
+	// The poison extension, and the purpose of a certificate that signs precertificates (RFC 6962, section 3.1).
+	oidPoison             = asn1.ObjectIdentifier{1, 3, 6, 1, 4, 1, 11129, 2, 4, 3}
+	oidSignPrecertificate = asn1.ObjectIdentifier{1, 3, 6, 1, 4, 1, 11129, 2, 4, 4}
+	// The authority key identifier (RFC 5280, section 4.2.1.1).
+	oidAuthorityKey = asn1.ObjectIdentifier{2, 5, 29, 35}
+)
+
+// The one form of the poison extension: its OID, critical, and NULL in an OCTET STRING.
+var poison = []byte{0x30, 0x13, 0x06, 0x0a, 0x2b, 0x06, 0x01, 0x04, 0x01, 0xd6, 0x79, 0x02, 0x04, 0x03, 0x01, 0x01, 0xff, 0x04, 0x02, 0x05, 0x00}
+
+// The tags of a TBSCertificate's fields that may be left out (RFC 5280, section 4.1).
+var (
+	tagVersion       = tags.Tag(0).ContextSpecific().Constructed()
+	tagIssuerUnique  = tags.Tag(1).ContextSpecific()
+	tagSubjectUnique = tags.Tag(2).ContextSpecific()
+	tagExtensions    = tags.Tag(3).ContextSpecific().Constructed()
+)
+
+func hasPoison(certificate *x509.Certificate) bool {
+	return extensionOf(certificate, oidPoison) != nil
+}
+
+// extensionOf gives the value of an extension, or nil.
+func extensionOf(certificate *x509.Certificate, oid asn1.ObjectIdentifier) []byte {
+	for _, extension := range certificate.Extensions {
+		if extension.Id.Equal(oid) {
+			return append([]byte{}, extension.Value...)
+		}
+	}
+	return nil
+}
+
+// signsPrecertificates says whether a certificate is a precertificate signing certificate.
+func signsPrecertificates(certificate *x509.Certificate) bool {
+	for _, purpose := range certificate.UnknownExtKeyUsage {
+		if purpose.Equal(oidSignPrecertificate) {
+			return true
+		}
+	}
+	return false
+}
+
+// finalIssuer is what a TBSCertificate has of the issuer of the final certificate: its name, and the value of the authority key
+// identifier, or nil.
+type finalIssuer struct {
+	name, authorityKey []byte
+}
+
+// finalIssuerBehind gives what a precertificate signing certificate says of who issued it.
+func finalIssuerBehind(signing *x509.Certificate) *finalIssuer {
+	return &finalIssuer{signing.RawIssuer, extensionOf(signing, oidAuthorityKey)}
+}
+
+// noDER is the error where a TBSCertificate isn't one. (Of what crypto/x509 reads, all are.)
+func noDER(what string) error {
+	return fmt.Errorf("%w: %s isn't as it has to be in DER", NoCertificate, what)
+}
+
+// withoutPoison gives a TBSCertificate without the poison extension and, where a precertificate signing certificate signed it,
+// with the name and the authority key identifier of the final issuer (RFC 6962, section 3.2). All other bytes stay as they are,
+// but for the lengths around them. Where no extension is left, it has none.
+func withoutPoison(tbs []byte, final *finalIssuer) ([]byte, error) {
+	input := cryptobyte.String(tbs)
+	var fields cryptobyte.String
+	if !input.ReadASN1(&fields, tags.SEQUENCE) || !input.Empty() {
+		return nil, noDER("a TBSCertificate")
+	}
+	before, issuer, behind, extensions, err := fieldsOf(fields)
+	if err != nil {
+		return nil, err
+	}
+	if final != nil {
+		issuer = final.name
+	}
+	kept, err := extensionsKept(extensions, final)
+	if err != nil {
+		return nil, err
+	}
+	var b cryptobyte.Builder
+	b.AddASN1(tags.SEQUENCE, func(b *cryptobyte.Builder) {
+		b.AddBytes(before)
+		b.AddBytes(issuer)
+		b.AddBytes(behind)
+		if len(kept) > 0 {
+			b.AddASN1(tagExtensions, func(b *cryptobyte.Builder) {
+				b.AddASN1(tags.SEQUENCE, func(b *cryptobyte.Builder) { b.AddBytes(kept) })
+			})
+		}
+	})
+	made, err := b.Bytes()
+	if err != nil {
+		return nil, fmt.Errorf("%w: %v", NoCertificate, err)
+	}
+	return made, nil
+}
+
+// fieldsOf cuts the fields of a TBSCertificate: those before the issuer, the issuer, those behind it, each as all its bytes, and
+// the extensions one after the other.
+func fieldsOf(fields cryptobyte.String) (before, issuer, behind []byte, extensions cryptobyte.String, err error) {
+	read := func(into *[]byte, tag tags.Tag) bool {
+		var element cryptobyte.String
+		if !fields.ReadASN1Element(&element, tag) {
+			return false
+		}
+		*into = append(*into, element...)
+		return true
+	}
+	if fields.PeekASN1Tag(tagVersion) && !read(&before, tagVersion) {
+		return nil, nil, nil, nil, noDER("a version")
+	}
+	// serialNumber, signature; issuer; validity, subject, subjectPublicKeyInfo
+	if !read(&before, tags.INTEGER) || !read(&before, tags.SEQUENCE) || !read(&issuer, tags.SEQUENCE) ||
+		!read(&behind, tags.SEQUENCE) || !read(&behind, tags.SEQUENCE) || !read(&behind, tags.SEQUENCE) {
+		return nil, nil, nil, nil, noDER("a TBSCertificate's field")
+	}
+	for _, tag := range []tags.Tag{tagIssuerUnique, tagSubjectUnique} {
+		if fields.PeekASN1Tag(tag) && !read(&behind, tag) {
+			return nil, nil, nil, nil, noDER("a unique identifier")
+		}
+	}
+	var explicit cryptobyte.String
+	if !fields.ReadASN1(&explicit, tagExtensions) || !fields.Empty() ||
+		!explicit.ReadASN1(&extensions, tags.SEQUENCE) || !explicit.Empty() {
+		return nil, nil, nil, nil, noDER("a list of extensions")
+	}
+	return before, issuer, behind, extensions, nil
+}
+
+// extensionsKept gives the extensions without the poison extension, which has to be there once, one after the other.
+func extensionsKept(extensions cryptobyte.String, final *finalIssuer) ([]byte, error) {
+	var kept []byte
+	poisons := 0
+	for !extensions.Empty() {
+		var element, content cryptobyte.String
+		var oid asn1.ObjectIdentifier
+		if !extensions.ReadASN1Element(&element, tags.SEQUENCE) {
+			return nil, noDER("an extension")
+		}
+		whole := element
+		if !element.ReadASN1(&content, tags.SEQUENCE) || !content.ReadASN1ObjectIdentifier(&oid) {
+			return nil, noDER("an extension")
+		}
+		switch {
+		case oid.Equal(oidPoison):
+			if !bytes.Equal(whole, poison) {
+				return nil, fmt.Errorf("%w: it isn't critical, or its value isn't NULL", BadPoison)
+			}
+			poisons++
+		case final != nil && oid.Equal(oidAuthorityKey):
+			replaced, err := withValue(whole, final.authorityKey)
+			if err != nil {
+				return nil, err
+			}
+			kept = append(kept, replaced...)
+		default:
+			kept = append(kept, whole...)
+		}
+	}
+	if poisons != 1 {
+		return nil, fmt.Errorf("%w: it is there %d times", NoPoison, poisons)
+	}
+	return kept, nil
+}
+
+// withValue gives an extension with another value; whether it is critical stays as it is.
+func withValue(extension cryptobyte.String, value []byte) ([]byte, error) {
+	if value == nil {
+		return nil, fmt.Errorf("%w: the precertificate has one", NoAuthorityKey)
+	}
+	var content, oid, critical, old cryptobyte.String
+	if !extension.ReadASN1(&content, tags.SEQUENCE) || !content.ReadASN1Element(&oid, tags.OBJECT_IDENTIFIER) {
+		return nil, noDER("an extension")
+	}
+	if content.PeekASN1Tag(tags.BOOLEAN) && !content.ReadASN1Element(&critical, tags.BOOLEAN) {
+		return nil, noDER("an extension")
+	}
+	if !content.ReadASN1(&old, tags.OCTET_STRING) || !content.Empty() {
+		return nil, noDER("an extension")
+	}
+	var b cryptobyte.Builder
+	b.AddASN1(tags.SEQUENCE, func(b *cryptobyte.Builder) {
+		b.AddBytes(oid)
+		b.AddBytes(critical)
+		b.AddASN1OctetString(value)
+	})
+	made, err := b.Bytes()
+	if err != nil {
+		return nil, fmt.Errorf("%w: %v", NoCertificate, err)
+	}
+	return made, nil
+}

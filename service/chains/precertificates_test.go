@@ -1,0 +1,195 @@
+package chains
+
+import (
+	"bufio"
+	"bytes"
+	"encoding/base64"
+	"encoding/hex"
+	"encoding/json"
+	"encoding/pem"
+	"os"
+	"os/exec"
+	"reflect"
+	"testing"
+)
+
+func inPEM(certificates ...[]byte) (text []byte) {
+	for _, der := range certificates {
+		text = append(text, pem.EncodeToMemory(&pem.Block{Type: "CERTIFICATE", Bytes: der})...)
+	}
+	return text
+}
+
+// TestPrecertificatesAreTheirFinalCertificates: openssl issues a precertificate and, of the same request, serial number and
+// dates, the final certificate. The entry's TBSCertificate is the final one's, as openssl cuts it.
+func TestPrecertificatesAreTheirFinalCertificates(t *testing.T) {
+	a := madeByOpenssl(t)
+	c := NewChecker(a.roots(t, "root"), Window{})
+	for _, test := range []struct {
+		final, issuer      string
+		submitted, issuers []string
+	}{
+		{"final", "middle", []string{"precertificate", "middle"}, []string{"middle", "root"}},
+		{"final", "middle", []string{"precertificate", "middle", "root"}, []string{"middle", "root"}},
+		{"final-of-rsa", "rsa", []string{"precertificate-of-rsa", "rsa"}, []string{"rsa", "root"}},
+		{"final-of-root", "root", []string{"precertificate-of-root"}, []string{"root"}},
+		{"final-of-signed", "middle", []string{"signed", "signing", "middle"}, []string{"signing", "middle", "root"}},
+		{"final-of-signed-bare", "middle", []string{"signed-bare", "signing", "middle"}, []string{"signing", "middle", "root"}},
+		{"final-of-signed-of-root", "root", []string{"signed-of-root", "signing-of-root"}, []string{"signing-of-root", "root"}},
+	} {
+		entry, err := c.Precertificate(a.chain(t, test.submitted...))
+		if err != nil {
+			t.Errorf("%s: %v", test.submitted, err)
+			continue
+		}
+		if got, want := hex.EncodeToString(entry.IssuerKeyHash[:]), a.keyHash(t, test.issuer); got != want {
+			t.Errorf("%s: the issuer's key hash is %s, and openssl has %s", test.submitted, got, want)
+		}
+		if want := a.tbs(t, test.final); !bytes.Equal(entry.TBSCertificate, want) {
+			t.Errorf("%s: the TBSCertificate\n%x\nisn't that of openssl\n%x", test.submitted, entry.TBSCertificate, want)
+		}
+		if entry.Type != PrecertEntry || entry.Certificate != nil || !bytes.Equal(entry.Precertificate, a.chain(t, test.submitted[0])[0]) {
+			t.Errorf("%s: another entry", test.submitted)
+		}
+		if !reflect.DeepEqual(entry.Issuers, a.chain(t, test.issuers...)) {
+			t.Errorf("%s: other issuers", test.submitted)
+		}
+	}
+}
+
+// example is the program's side in Python: examples/http/der.py, which stands on no library for X.509.
+const example = "../../examples/http"
+
+// inPython is what der.py makes of a chain: the issuer's key hash and the TBSCertificate, or its refusal.
+type inPython struct {
+	Hash, TBS []byte
+	Refusal   string
+}
+
+// askPython has der.py go over chains.
+func askPython(t *testing.T, chains [][][]byte, roots [][]byte) (answers []inPython) {
+	t.Helper()
+	const program = `
+import base64, json, sys
+sys.path.insert(0, sys.argv[1])
+import der
+def decoded(texts):
+    return [base64.b64decode(text) for text in texts]
+def made(chain, roots):
+    try:
+        parts = der.precertificate(chain, roots)
+        return dict(zip(("Hash", "TBS"), [base64.b64encode(part).decode() for part in parts]))
+    except der.NoCertificate as refusal:
+        return {"Refusal": str(refusal)}
+given = json.load(sys.stdin)
+print(json.dumps([made(decoded(chain), decoded(given["Roots"])) for chain in given["Chains"]]))
+`
+	given, err := json.Marshal(struct {
+		Chains [][][]byte
+		Roots  [][]byte
+	}{chains, roots})
+	if err != nil {
+		t.Fatal(err)
+	}
+	command := exec.Command("python3", "-B", "-c", program, example)
+	command.Stdin, command.Stderr = bytes.NewReader(given), os.Stderr
+	output, err := command.Output()
+	if err != nil {
+		t.Fatal(err)
+	}
+	if err := json.Unmarshal(output, &answers); err != nil || len(answers) != len(chains) {
+		t.Fatalf("%d answers of %d: %v", len(answers), len(chains), err)
+	}
+	return answers
+}
+
+func wantsPython(t *testing.T) {
+	if _, err := exec.LookPath("python3"); err != nil {
+		t.Skip("python3 isn't installed")
+	}
+}
+
+// TestPrecertificatesAgreeWithTheExample: both make the same of a chain, or refuse it.
+func TestPrecertificatesAgreeWithTheExample(t *testing.T) {
+	wantsPython(t)
+	a := madeByOpenssl(t)
+	roots := a.roots(t, "root")
+	tests := []struct {
+		names []string
+		here  Refusal
+		there string
+	}{
+		{names: []string{"precertificate", "middle"}},
+		{names: []string{"precertificate-of-rsa", "rsa", "root"}},
+		{names: []string{"precertificate-of-root"}},
+		{names: []string{"poison-alone", "middle"}},
+		{[]string{"leaf", "middle"}, NoPoison, "no-poison"},
+		{[]string{"poison-uncritical", "middle"}, BadPoison, "no-poison"},
+		{[]string{"poison-of-a-number", "middle"}, BadPoison, "no-poison"},
+		{[]string{"precertificate", "root"}, NotIssuedByNext, "no-issuer"},
+	}
+	var chains [][][]byte
+	for _, test := range tests {
+		chains = append(chains, a.chain(t, test.names...))
+	}
+	for i, there := range askPython(t, chains, roots.Certificates()) {
+		test := tests[i]
+		entry, err := NewChecker(roots, Window{}).Precertificate(chains[i])
+		if RefusalOf(err) != test.here || there.Refusal != test.there || (err == nil) != (test.here == "") {
+			t.Errorf("%s: %v here, %q there", test.names, err, there.Refusal)
+		}
+		if err == nil && (!bytes.Equal(entry.IssuerKeyHash[:], there.Hash) || !bytes.Equal(entry.TBSCertificate, there.TBS)) {
+			t.Errorf("%s: they made two things of it", test.names)
+		}
+	}
+}
+
+// realPrecertificates reads those of the example's real chains, with what stands beside them there: the issuer's key hash and the
+// TBSCertificate, which came from elsewhere.
+func realPrecertificates(t testing.TB) (found []real) {
+	t.Helper()
+	file, err := os.Open(example + "/../real-chains.jsonl")
+	if err != nil {
+		t.Fatal(err)
+	}
+	defer file.Close()
+	lines := bufio.NewScanner(file)
+	lines.Buffer(nil, 1<<20)
+	for lines.Scan() {
+		var line real
+		if json.Unmarshal(lines.Bytes(), &line) == nil && line.Op == "add-pre-chain" && len(line.Chain) == 2 {
+			found = append(found, line)
+		}
+	}
+	if err := lines.Err(); err != nil || len(found) == 0 {
+		t.Fatalf("no real precertificate is found: %v", err)
+	}
+	return found
+}
+
+type real struct {
+	Op    string
+	Hash  string `json:"issuer_key_hash"`
+	TBS   string `json:"tbs"`
+	Chain [][]byte
+}
+
+func TestRealPrecertificates(t *testing.T) {
+	for i, line := range realPrecertificates(t) {
+		roots, err := ParseRoots(inPEM(line.Chain[1]))
+		if err != nil {
+			t.Fatal(err)
+		}
+		for _, chain := range [][][]byte{line.Chain, line.Chain[:1]} {
+			entry, err := NewChecker(roots, Window{}).Precertificate(chain)
+			if err != nil {
+				t.Errorf("number %d: %v", i, err)
+				continue
+			}
+			hash, tbs := base64.StdEncoding.EncodeToString(entry.IssuerKeyHash[:]), base64.StdEncoding.EncodeToString(entry.TBSCertificate)
+			if hash != line.Hash || tbs != line.TBS || !reflect.DeepEqual(entry.Issuers, line.Chain[1:]) {
+				t.Errorf("number %d: another entry", i)
+			}
+		}
+	}
+}

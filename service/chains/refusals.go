@@ -1,0 +1,55 @@
+package chains
+
+import "errors"
+
+// Refusal is why a chain isn't taken: one word of the list below. Errors of this package wrap one, and say more behind it.
+type Refusal string
+
+func (r Refusal) Error() string { return string(r) }
+
+// The refusals.
+const (
+	// EmptyChain: there is no certificate.
+	EmptyChain Refusal = "empty-chain"
+	// ChainTooLong: there are more than MostCertificates, or they have more than MostBytes together.
+	ChainTooLong Refusal = "chain-too-long"
+	// CertificateTooLong: one has more than LongestCertificate bytes.
+	CertificateTooLong Refusal = "certificate-too-long"
+	// NoCertificate: bytes aren't a certificate that crypto/x509 reads.
+	NoCertificate Refusal = "no-certificate"
+	// NotIssuedByNext: a certificate's issuer isn't the subject of the next one.
+	NotIssuedByNext Refusal = "not-issued-by-next"
+	// UnknownRoot: the last one is no root of the log, and no root issued it.
+	UnknownRoot Refusal = "unknown-root"
+	// NotAnAuthority: an issuer may not issue certificates (basicConstraints, keyUsage).
+	NotAnAuthority Refusal = "not-an-authority"
+	// KeyTooLong: an issuer has an RSA key of more than MostKeyBits.
+	KeyTooLong Refusal = "key-too-long"
+	// BadSignature: a signature isn't the issuer's, or is of a kind that crypto/x509 doesn't check (MD5, DSA).
+	BadSignature Refusal = "bad-signature"
+	// OutsideWindow: the first one's notAfter lies outside of the log's window.
+	OutsideWindow Refusal = "outside-window"
+	// IsPrecertificate: a certificate has the poison extension.
+	IsPrecertificate Refusal = "is-precertificate"
+	// NoPoison: a precertificate lacks the poison extension.
+	NoPoison Refusal = "no-poison"
+	// BadPoison: the poison extension isn't critical, or its value isn't NULL.
+	BadPoison Refusal = "bad-poison"
+	// NoFinalIssuer: behind a precertificate signing certificate there is no issuer of the final certificate.
+	NoFinalIssuer Refusal = "no-final-issuer"
+	// NoAuthorityKey: a precertificate names an authority's key, and the precertificate signing certificate doesn't.
+	NoAuthorityKey Refusal = "no-authority-key"
+)
+
+// Refusals are all of them.
+var Refusals = []Refusal{
+	EmptyChain, ChainTooLong, CertificateTooLong, NoCertificate, NotIssuedByNext, UnknownRoot, NotAnAuthority, KeyTooLong, BadSignature,
+	OutsideWindow, IsPrecertificate, NoPoison, BadPoison, NoFinalIssuer, NoAuthorityKey,
+}
+
+// RefusalOf gives the refusal that an error wraps, or none.
+func RefusalOf(err error) Refusal {
+	var refusal Refusal
+	errors.As(err, &refusal)
+	return refusal
+}

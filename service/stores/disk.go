@@ -1,0 +1,142 @@
+package stores
+
+import (
+	"errors"
+	"fmt"
+	"io/fs"
+	"os"
+	"path/filepath"
+	"sync"
+	"time"
+)
+
+// temporary is the folder of files that aren't whole yet. No name of an object begins with a point.
+const temporary = ".writing"
+
+// abandoned is how old a file in it is that nobody writes any more. (Who still does, is told that it isn't there.)
+const abandoned = time.Hour
+
+// mostSynced is how many folders are remembered as written to the disk.
+const mostSynced = 4096
+
+// disk writes files below a folder so that what is acknowledged stays when power fails: a file is written under a name of its
+// own, then to the disk, then gets its name, and then the folders with that name go to the disk.
+type disk struct {
+	root   string
+	mu     sync.Mutex
+	synced map[string]bool
+}
+
+// openDisk makes the folder where it isn't there, and takes away what killed writers left.
+func openDisk(root string) (*disk, error) {
+	root, err := filepath.Abs(root)
+	if err != nil {
+		return nil, fmt.Errorf("stores: folder: %w", err)
+	}
+	d := &disk{root: root, synced: map[string]bool{}}
+	if err := os.MkdirAll(filepath.Join(root, temporary), 0o755); err != nil {
+		return nil, fmt.Errorf("stores: folder: %w", err)
+	}
+	if err := syncFolder(filepath.Dir(root)); err != nil {
+		return nil, err
+	}
+	if err := d.sweep(); err != nil {
+		return nil, err
+	}
+	return d, syncFolder(root)
+}
+
+// sweep takes away the files of writers that were killed.
+func (d *disk) sweep() error {
+	folder := filepath.Join(d.root, temporary)
+	entries, err := os.ReadDir(folder)
+	if err != nil {
+		return fmt.Errorf("stores: folder: %w", err)
+	}
+	for _, entry := range entries {
+		info, err := entry.Info()
+		if err != nil || time.Since(info.ModTime()) < abandoned {
+			continue
+		}
+		if err := os.Remove(filepath.Join(folder, entry.Name())); err != nil && !errors.Is(err, fs.ErrNotExist) {
+			return fmt.Errorf("stores: folder: %w", err)
+		}
+	}
+	return nil
+}
+
+// write makes a file of the content that has no public name yet, on the disk, and gives its path.
+func (d *disk) write(content []byte) (path string, err error) {
+	file, err := os.CreateTemp(filepath.Join(d.root, temporary), "file-")
+	if err != nil {
+		return "", fmt.Errorf("stores: write: %w", err)
+	}
+	defer func() {
+		if closing := file.Close(); err == nil && closing != nil {
+			err = fmt.Errorf("stores: write: %w", closing)
+		}
+		if err != nil {
+			os.Remove(file.Name())
+		}
+	}()
+	if _, err := file.Write(content); err != nil {
+		return "", fmt.Errorf("stores: write: %w", err)
+	}
+	if err := file.Chmod(0o644); err != nil {
+		return "", fmt.Errorf("stores: write: %w", err)
+	}
+	if err := file.Sync(); err != nil {
+		return "", fmt.Errorf("stores: write: %w", err)
+	}
+	return file.Name(), nil
+}
+
+// keep sees to it that a folder below the root is on the disk, with all names on the way to it.
+func (d *disk) keep(folder string) error {
+	if err := syncFolder(folder); err != nil {
+		return err
+	}
+	var walked []string
+	for folder != d.root && !d.isSynced(folder) {
+		walked = append(walked, folder)
+		folder = filepath.Dir(folder)
+		if err := syncFolder(folder); err != nil {
+			return err
+		}
+	}
+	d.setSynced(walked)
+	return nil
+}
+
+// isSynced says whether the folder's own name is known to be on the disk, and so those of all folders above it.
+func (d *disk) isSynced(folder string) bool {
+	d.mu.Lock()
+	defer d.mu.Unlock()
+	return d.synced[folder]
+}
+
+func (d *disk) setSynced(folders []string) {
+	d.mu.Lock()
+	defer d.mu.Unlock()
+	if len(d.synced)+len(folders) > mostSynced {
+		d.synced = map[string]bool{}
+	}
+	for _, folder := range folders {
+		d.synced[folder] = true
+	}
+}
+
+func syncFolder(path string) error {
+	folder, err := os.Open(path)
+	if err != nil {
+		return fmt.Errorf("stores: folder: %w", err)
+	}
+	err = folder.Sync()
+	if closing := folder.Close(); err == nil {
+		err = closing
+	}
+	if err != nil {
+		return fmt.Errorf("stores: folder: %w", err)
+	}
+	return nil
+}

@@ -1,0 +1,244 @@
+package stores
+
+import (
+	"context"
+	"encoding/binary"
+	"errors"
+	"fmt"
+	"strconv"
+	"time"
+
+	"go.etcd.io/etcd/clientv3"
+	"go.etcd.io/etcd/etcdserver/api/v3rpc/rpctypes"
+	"go.uber.org/zap"
+)
+
+// Etcd says where a cluster is, and under which prefix a log's keys lie in it. TLS and names of users stand in the client's
+// own Config.
+type Etcd struct {
+	Config clientv3.Config
+	Prefix string
+}
+
+// mostOperations is how many operations go into one transaction: etcd takes 128 by default.
+const mostOperations = 100
+
+// open connects a client. The first call of it finds out whether a member answers.
+func (at Etcd) open() (*clientv3.Client, error) {
+	if at.Prefix == "" {
+		return nil, fmt.Errorf("%w: an empty prefix in etcd", ErrName)
+	}
+	config := at.Config
+	if config.DialTimeout == 0 {
+		config.DialTimeout = 5 * time.Second
+	}
+	// A member that stopped answering is left behind.
+	if config.DialKeepAliveTime == 0 {
+		config.DialKeepAliveTime, config.DialKeepAliveTimeout = 5*time.Second, 5*time.Second
+	}
+	// What the client warns of, the calls say.
+	if config.LogConfig == nil {
+		quiet := zap.NewProductionConfig()
+		quiet.Level = zap.NewAtomicLevelAt(zap.ErrorLevel)
+		config.LogConfig = &quiet
+	}
+	client, err := clientv3.New(config)
+	if err != nil {
+		return nil, fmt.Errorf("stores: etcd: %w", err)
+	}
+	return client, nil
+}
+
+// inEtcd keeps the register in two keys.
+//
+// It asks of the cluster: transactions and reads are linearizable (reads are, unless they are said to be serializable, which
+// none here is), and what a majority acknowledged stays: members keep their data folders, and fsync is left on
+// (--unsafe-no-fsync isn't given). A restore from a backup sets the register back, and isn't to be done to a log.
+type inEtcd struct {
+	client          *clientv3.Client
+	text, published string
+}
+
+// OpenEtcd opens the register below a prefix.
+func OpenEtcd(at Etcd) (Register, error) {
+	client, err := at.open()
+	if err != nil {
+		return nil, err
+	}
+	return &inEtcd{client, at.Prefix + "/text", at.Prefix + "/published"}, nil
+}
+
+// isAbsent is true of a key that isn't there.
+func isAbsent(key string) clientv3.Cmp { return clientv3.Compare(clientv3.Version(key), "=", 0) }
+
+// inOrder writes a number so that the order of texts is that of numbers.
+func inOrder(number uint64) string { return fmt.Sprintf("%020d", number) }
+
+// sent wraps the error of a write: it is unknown whether it was done, unless etcd says that it wasn't.
+func sent(what string, err error) error {
+	var said rpctypes.EtcdError
+	if errors.As(err, &said) && (said == rpctypes.ErrNoSpace || said == rpctypes.ErrRequestTooLarge || said == rpctypes.ErrTooManyOps) {
+		return fmt.Errorf("stores: etcd: %s: %w", what, err)
+	}
+	return fmt.Errorf("%w: etcd: %s: %v", ErrUnknown, what, err)
+}
+
+func (e *inEtcd) Create(ctx context.Context, text string) error {
+	if err := checkText(text); err != nil {
+		return err
+	}
+	answer, err := e.client.Txn(ctx).If(isAbsent(e.text), isAbsent(e.published)).
+		Then(clientv3.OpPut(e.text, text), clientv3.OpPut(e.published, inOrder(0))).Commit()
+	if err != nil {
+		return sent("create", err)
+	}
+	if !answer.Succeeded {
+		return ErrExists
+	}
+	return nil
+}
+
+func (e *inEtcd) get(ctx context.Context, key string) (string, error) {
+	answer, err := e.client.Get(ctx, key)
+	if err != nil {
+		return "", fmt.Errorf("stores: etcd: read: %w", err)
+	}
+	if len(answer.Kvs) == 0 {
+		return "", ErrAbsent
+	}
+	return string(answer.Kvs[0].Value), nil
+}
+
+func (e *inEtcd) Read(ctx context.Context) (string, error) { return e.get(ctx, e.text) }
+
+func (e *inEtcd) Swap(ctx context.Context, old, new string) error {
+	if err := checkText(old, new); err != nil {
+		return err
+	}
+	// That no key is there is false of each comparison with a value.
+	answer, err := e.client.Txn(ctx).If(clientv3.Compare(clientv3.Value(e.text), "=", old)).
+		Then(clientv3.OpPut(e.text, new)).Else(clientv3.OpGet(e.text)).Commit()
+	if err != nil {
+		return sent("swap", err)
+	}
+	if answer.Succeeded {
+		return nil
+	}
+	standing := answer.Responses[0].GetResponseRange().Kvs
+	switch {
+	case len(standing) == 0:
+		return ErrAbsent
+	case string(standing[0].Value) == new:
+		return nil
+	}
+	return ErrLost
+}
+
+func (e *inEtcd) Published(ctx context.Context) (uint64, error) {
+	text, err := e.get(ctx, e.published)
+	if err != nil {
+		return 0, err
+	}
+	number, err := strconv.ParseUint(text, 10, 63)
+	if err != nil {
+		return 0, fmt.Errorf("stores: etcd: published: %w", err)
+	}
+	return number, nil
+}
+
+func (e *inEtcd) Raise(ctx context.Context, published uint64) error {
+	if err := checkNumbers(published); err != nil {
+		return err
+	}
+	answer, err := e.client.Txn(ctx).If(clientv3.Compare(clientv3.Value(e.published), "<", inOrder(published))).
+		Then(clientv3.OpPut(e.published, inOrder(published))).Else(clientv3.OpGet(e.published)).Commit()
+	if err != nil {
+		return sent("raise", err)
+	}
+	if !answer.Succeeded && len(answer.Responses[0].GetResponseRange().Kvs) == 0 {
+		return ErrAbsent
+	}
+	return nil
+}
+
+func (e *inEtcd) Close() error { return e.client.Close() }
+
+// placesInEtcd keeps a key for each identity. etcd holds all keys in memory and has a quota of 2 GB by default: this is for
+// small logs.
+type placesInEtcd struct {
+	client *clientv3.Client
+	prefix string
+}
+
+// OpenEtcdPlaces opens the places below a prefix.
+func OpenEtcdPlaces(at Etcd) (Places, error) {
+	client, err := at.open()
+	if err != nil {
+		return nil, err
+	}
+	return &placesInEtcd{client, at.Prefix + "/place/"}, nil
+}
+
+func (e *placesInEtcd) key(identity Identity) string { return e.prefix + string(identity[:]) }
+
+// placeBytes is the value of an identity's key: index and timestamp, eight bytes each.
+func placeBytes(place Place) string {
+	var value [16]byte
+	binary.BigEndian.PutUint64(value[:8], place.Index)
+	binary.BigEndian.PutUint64(value[8:], place.Timestamp)
+	return string(value[:])
+}
+
+func placeOf(value []byte) (Place, error) {
+	if len(value) != 16 {
+		return Place{}, fmt.Errorf("stores: etcd: a place of %d bytes", len(value))
+	}
+	return Place{binary.BigEndian.Uint64(value[:8]), binary.BigEndian.Uint64(value[8:])}, nil
+}
+
+func (e *placesInEtcd) Find(ctx context.Context, identities []Identity) (map[Identity]Place, error) {
+	identities, err := distinct(identities)
+	if err != nil {
+		return nil, err
+	}
+	found := map[Identity]Place{}
+	return found, parts(len(identities), mostOperations, func(from, to int) error {
+		var gets []clientv3.Op
+		for _, identity := range identities[from:to] {
+			gets = append(gets, clientv3.OpGet(e.key(identity)))
+		}
+		answer, err := e.client.Txn(ctx).Then(gets...).Commit()
+		if err != nil {
+			return fmt.Errorf("stores: etcd: find: %w", err)
+		}
+		for i, response := range answer.Responses {
+			for _, pair := range response.GetResponseRange().Kvs {
+				if found[identities[from+i]], err = placeOf(pair.Value); err != nil {
+					return err
+				}
+			}
+		}
+		return nil
+	})
+}
+
+func (e *placesInEtcd) Add(ctx context.Context, placed []Placed) error {
+	placed, err := firsts(placed)
+	if err != nil {
+		return err
+	}
+	return parts(len(placed), mostOperations, func(from, to int) error {
+		var adds []clientv3.Op
+		for _, p := range placed[from:to] {
+			key := e.key(p.Identity)
+			put := []clientv3.Op{clientv3.OpPut(key, placeBytes(p.Place))}
+			adds = append(adds, clientv3.OpTxn([]clientv3.Cmp{isAbsent(key)}, put, nil))
+		}
+		if _, err := e.client.Txn(ctx).Then(adds...).Commit(); err != nil {
+			return fmt.Errorf("stores: etcd: add: %w", err)
+		}
+		return nil
+	})
+}
+
+func (e *placesInEtcd) Close() error { return e.client.Close() }

@@ -1,0 +1,119 @@
+package stores
+
+import (
+	"bytes"
+	"errors"
+	"fmt"
+	"os"
+	"path/filepath"
+	"strings"
+	"syscall"
+	"testing"
+)
+
+// smallDisk is a file system in memory of so many bytes; only root can mount one.
+func smallDisk(t *testing.T, size int) string {
+	t.Helper()
+	folder := t.TempDir()
+	if err := syscall.Mount("tmpfs", folder, "tmpfs", 0, fmt.Sprintf("size=%d", size)); err != nil {
+		t.Skipf("no small file system can be mounted here, which wants root: %v", err)
+	}
+	t.Cleanup(func() { must(t, syscall.Unmount(folder, 0)) })
+	return folder
+}
+
+// fill fills the file system below a folder to the last byte, and gives the way to make room again.
+func fill(t *testing.T, folder string) (room func()) {
+	t.Helper()
+	path := filepath.Join(folder, "ballast")
+	file, err := os.Create(path)
+	must(t, err)
+	for size := 1 << 16; size > 0; {
+		if _, err := file.Write(make([]byte, size)); err != nil {
+			size /= 2
+		}
+	}
+	must(t, file.Close())
+	return func() { must(t, os.Remove(path)) }
+}
+
+func isFull(err error) bool {
+	return errors.Is(err, syscall.ENOSPC)
+}
+
+func TestFolderOnAFullDisk(t *testing.T) {
+	disk, ctx := smallDisk(t, 4<<20), limited(t)
+	store, err := OpenFolder(filepath.Join(disk, "store"))
+	must(t, err)
+	content := func(i int) []byte { return bytes.Repeat([]byte{byte(i)}, 100_000) }
+	name := func(i int) string { return fmt.Sprintf("tile/%d", i) }
+	kept := 0
+	for err == nil {
+		if err = store.Put(ctx, name(kept), content(kept)); err == nil {
+			kept++
+		}
+	}
+	if !isFull(err) || kept < 30 {
+		t.Fatalf("behind %d objects: %v", kept, err)
+	}
+	for i := 0; i < kept; i++ {
+		if got, err := store.Get(ctx, name(i), manyBytes); err != nil || !bytes.Equal(got, content(i)) {
+			t.Errorf("object %d: %d bytes, %v", i, len(got), err)
+		}
+	}
+	if _, err := store.Get(ctx, name(kept), manyBytes); !errors.Is(err, ErrAbsent) {
+		t.Errorf("what wasn't acknowledged: %v", err)
+	}
+	if left, err := os.ReadDir(filepath.Join(disk, "store", temporary)); err != nil || len(left) > 0 {
+		t.Errorf("half files are left: %v, %v", left, err)
+	}
+	must(t, store.Delete(ctx, name(0)))
+	must(t, store.Put(ctx, name(kept), content(kept)))
+}
+
+func TestFileOnAFullDisk(t *testing.T) {
+	disk, ctx := smallDisk(t, 1<<20), limited(t)
+	register, err := OpenFile(filepath.Join(disk, "register"))
+	must(t, err)
+	must(t, register.Create(ctx, "first"))
+	must(t, register.Raise(ctx, 5))
+	room := fill(t, disk)
+	long := strings.Repeat("x", MostText)
+	if err := register.Swap(ctx, "first", long); !isFull(err) || errors.Is(err, ErrUnknown) {
+		t.Errorf("Swap: %v", err)
+	}
+	if err := register.Raise(ctx, 6); !isFull(err) || errors.Is(err, ErrUnknown) {
+		t.Errorf("Raise: %v", err)
+	}
+	standsAs(t, register, "first", 5)
+	room()
+	must(t, register.Swap(ctx, "first", long))
+	must(t, register.Raise(ctx, 6))
+	standsAs(t, register, long, 6)
+}
+
+func TestSQLiteOnAFullDisk(t *testing.T) {
+	disk, ctx := smallDisk(t, 4<<20), limited(t)
+	store, err := OpenSQLite(ctx, filepath.Join(disk, "places.db"))
+	must(t, err)
+	defer store.Close()
+	_, all, want := someOf(0, 500)
+	must(t, store.Add(ctx, all))
+	room := fill(t, disk)
+	kept := 500
+	for ; err == nil && kept < 500_000; kept += 500 {
+		_, more, _ := someOf(kept, kept+500)
+		err = store.Add(ctx, more)
+	}
+	if err == nil || !strings.Contains(err.Error(), "full") {
+		t.Fatalf("behind %d places: %v", kept, err)
+	}
+	asked, _, _ := someOf(0, 500)
+	finds(t, store, asked, want)
+	room()
+	last := kept - 500
+	_, more, want := someOf(last, kept)
+	must(t, store.Add(ctx, more))
+	asked, _, _ = someOf(last, kept)
+	finds(t, store, asked, want)
+}

@@ -1,0 +1,142 @@
+package stores
+
+import (
+	"fmt"
+	"strings"
+)
+
+// The bounds of a name.
+const (
+	mostName  = 200
+	mostParts = 16
+)
+
+// checkName says whether a name is of the form that Objects states.
+func checkName(name string) error {
+	if len(name) > mostName {
+		return fmt.Errorf("%w: of %d bytes", ErrName, len(name))
+	}
+	parts := strings.Split(name, "/")
+	if len(parts) > mostParts {
+		return fmt.Errorf("%w: of %d parts", ErrName, len(parts))
+	}
+	for _, part := range parts {
+		if part == "" || part[0] == '.' || strings.IndexFunc(part, notInNames) >= 0 {
+			return fmt.Errorf("%w: %.80q", ErrName, name)
+		}
+	}
+	return nil
+}
+
+func notInNames(c rune) bool {
+	letter := 'a' <= c && c <= 'z' || 'A' <= c && c <= 'Z'
+	return !letter && !('0' <= c && c <= '9') && c != '-' && c != '_' && c != '.'
+}
+
+// checkObject checks what is put.
+func checkObject(name string, content []byte) error {
+	if len(content) > MostObject {
+		return fmt.Errorf("%w: object %.80q of %d bytes", ErrTooLong, name, len(content))
+	}
+	return checkName(name)
+}
+
+// checkPrefix says whether names can begin so: with whole parts, and a slash behind them, or with anything (an empty text).
+func checkPrefix(prefix string) error {
+	if prefix == "" {
+		return nil
+	}
+	if !strings.HasSuffix(prefix, "/") {
+		return fmt.Errorf("%w: a prefix ends with a slash: %.80q", ErrName, prefix)
+	}
+	return checkName(strings.TrimSuffix(prefix, "/"))
+}
+
+// checkAfter says whether a text is a name or the beginning of one, or none: what List begins behind.
+func checkAfter(text string) error {
+	if len(text) > mostName || strings.IndexFunc(strings.ReplaceAll(text, "/", ""), notInNames) >= 0 {
+		return fmt.Errorf("%w: %.80q", ErrName, text)
+	}
+	return nil
+}
+
+// atMost bounds how many names are listed.
+func atMost(most int) int {
+	if most < 0 {
+		return 0
+	}
+	if most > MostListed {
+		return MostListed
+	}
+	return most
+}
+
+func checkText(texts ...string) error {
+	for _, text := range texts {
+		if len(text) > MostText {
+			return fmt.Errorf("%w: text of %d bytes", ErrTooLong, len(text))
+		}
+		if text == "" {
+			return fmt.Errorf("%w: an empty text", ErrName)
+		}
+	}
+	return nil
+}
+
+func checkNumbers(numbers ...uint64) error {
+	for _, number := range numbers {
+		if number > MostNumber {
+			return fmt.Errorf("%w: %d", ErrNumber, number)
+		}
+	}
+	return nil
+}
+
+// firsts checks a list of places, and gives it without those whose identity stands earlier in it.
+func firsts(placed []Placed) ([]Placed, error) {
+	if len(placed) > MostPlaces {
+		return nil, fmt.Errorf("%w: %d places", ErrTooLong, len(placed))
+	}
+	seen := make(map[Identity]bool, len(placed))
+	first := make([]Placed, 0, len(placed))
+	for _, p := range placed {
+		if err := checkNumbers(p.Place.Index, p.Place.Timestamp); err != nil {
+			return nil, err
+		}
+		if !seen[p.Identity] {
+			seen[p.Identity] = true
+			first = append(first, p)
+		}
+	}
+	return first, nil
+}
+
+// distinct checks a list of identities, and gives each once.
+func distinct(identities []Identity) ([]Identity, error) {
+	if len(identities) > MostPlaces {
+		return nil, fmt.Errorf("%w: %d identities", ErrTooLong, len(identities))
+	}
+	seen := make(map[Identity]bool, len(identities))
+	once := make([]Identity, 0, len(identities))
+	for _, identity := range identities {
+		if !seen[identity] {
+			seen[identity] = true
+			once = append(once, identity)
+		}
+	}
+	return once, nil
+}
+
+// parts cuts a list of n into parts of at most size, and gives each part's bounds.
+func parts(n, size int, each func(from, to int) error) error {
+	for from := 0; from < n; from += size {
+		to := from + size
+		if to > n {
+			to = n
+		}
+		if err := each(from, to); err != nil {
+			return err
+		}
+	}
+	return nil
+}

@@ -1,0 +1,148 @@
+package stores
+
+import (
+	"context"
+	"crypto/sha256"
+	"errors"
+	"fmt"
+	"reflect"
+	"testing"
+	"time"
+)
+
+func identity(i int) Identity { return sha256.Sum256([]byte(fmt.Sprint(i))) }
+
+func placed(i int) Placed {
+	return Placed{identity(i), Place{uint64(i), 1767225600000 + uint64(i)}}
+}
+
+// someOf gives the identities of a range of numbers, and what is to be found of them where all of these are there.
+func someOf(from, to int) (identities []Identity, all []Placed, found map[Identity]Place) {
+	found = map[Identity]Place{}
+	for i := from; i < to; i++ {
+		identities, all = append(identities, identity(i)), append(all, placed(i))
+		found[identity(i)] = placed(i).Place
+	}
+	return identities, all, found
+}
+
+func finds(t *testing.T, store Places, identities []Identity, want map[Identity]Place) {
+	t.Helper()
+	if got, err := store.Find(limited(t), identities); err != nil || !reflect.DeepEqual(got, want) {
+		t.Errorf("found %d places of %d, %v; %d should be", len(got), len(identities), err, len(want))
+	}
+}
+
+func TestPlacesAreFound(t *testing.T) {
+	eachOf(t, placeStores, func(t *testing.T, at trial[Places]) {
+		store, ctx := at.opened(t), limited(t)
+		asked, all, want := someOf(0, 1200)
+		finds(t, store, asked, map[Identity]Place{})
+		finds(t, store, nil, map[Identity]Place{})
+		must(t, store.Add(ctx, nil))
+		start := time.Now()
+		must(t, store.Add(ctx, all))
+		took(t, at.name+": added 1200 at once", 1, start)
+		must(t, store.Add(ctx, all))
+		start = time.Now()
+		finds(t, store, asked, want)
+		took(t, at.name+": found 1200 at once", 1, start)
+		more, _, _ := someOf(1200, 1300)
+		finds(t, store, append(more, append(asked, asked...)...), want)
+		finds(t, at.opened(t), asked, want)
+	})
+}
+
+func TestPlacesKeepTheFirst(t *testing.T) {
+	eachOf(t, placeStores, func(t *testing.T, at trial[Places]) {
+		store, ctx := at.opened(t), limited(t)
+		first, later := Placed{identity(0), Place{5, 50}}, Placed{identity(0), Place{9, 90}}
+		must(t, store.Add(ctx, []Placed{first, later, placed(1)}))
+		must(t, store.Add(ctx, []Placed{later, placed(2)}))
+		asked := []Identity{identity(0), identity(1), identity(2)}
+		want := map[Identity]Place{identity(0): first.Place, identity(1): placed(1).Place, identity(2): placed(2).Place}
+		finds(t, store, asked, want)
+		largest := Placed{identity(3), Place{MostNumber, MostNumber}}
+		zero := Placed{Identity{}, Place{0, 0}}
+		must(t, store.Add(ctx, []Placed{largest, zero}))
+		finds(t, at.opened(t), []Identity{identity(3), {}}, map[Identity]Place{identity(3): largest.Place, {}: {}})
+	})
+}
+
+func TestPlacesHaveBounds(t *testing.T) {
+	eachOf(t, placeStores, func(t *testing.T, at trial[Places]) {
+		store, ctx := at.opened(t), limited(t)
+		asked, all, want := someOf(0, MostPlaces+1)
+		if err := store.Add(ctx, all); !errors.Is(err, ErrTooLong) {
+			t.Errorf("Add of too many: %v", err)
+		}
+		if _, err := store.Find(ctx, asked); !errors.Is(err, ErrTooLong) {
+			t.Errorf("Find of too many: %v", err)
+		}
+		for _, wrong := range []Place{{MostNumber + 1, 0}, {0, MostNumber + 1}} {
+			if err := store.Add(ctx, []Placed{all[0], {identity(1), wrong}}); !errors.Is(err, ErrNumber) {
+				t.Errorf("Add of %v: %v", wrong, err)
+			}
+		}
+		finds(t, store, asked[:MostPlaces], map[Identity]Place{})
+		must(t, store.Add(ctx, all[:MostPlaces]))
+		delete(want, identity(MostPlaces))
+		finds(t, store, asked[:MostPlaces], want)
+		ended, cancel := context.WithCancel(ctx)
+		cancel()
+		if err := store.Add(ended, all[MostPlaces:]); err == nil {
+			t.Error("Add behind the end of its context")
+		}
+		if _, err := store.Find(ended, asked[:1]); err == nil {
+			t.Error("Find behind the end of its context")
+		}
+	})
+}
+
+// TestPlacesOfManyAtOnce has 16 add the same identities at other places, in other orders: each keeps one that was said, and
+// the same for all readers from the first on.
+func TestPlacesOfManyAtOnce(t *testing.T) {
+	eachOf(t, placeStores, func(t *testing.T, at trial[Places]) {
+		stores, ctx := []Places{at.opened(t), at.opened(t)}, limited(t)
+		const many = 40
+		asked, _, _ := someOf(0, many)
+		seen := make([]map[Identity]Place, 16)
+		start := time.Now()
+		for i, err := range each(16, func(i int) (err error) {
+			var mine []Placed
+			for j := 0; j < many; j++ {
+				mine = append(mine, Placed{identity((j*7 + i) % many), Place{uint64(i), uint64(i)}})
+			}
+			if err := stores[i%2].Add(ctx, mine); err != nil {
+				return err
+			}
+			seen[i], err = stores[(i+1)%2].Find(ctx, asked)
+			return err
+		}) {
+			if err != nil {
+				t.Fatalf("%d: %v", i, err)
+			}
+			if len(seen[i]) != many || !reflect.DeepEqual(seen[i], seen[0]) {
+				t.Errorf("%d finds %d places, or others than the first one", i, len(seen[i]))
+			}
+		}
+		took(t, at.name+": added and found by 16", 16, start)
+		for _, place := range seen[0] {
+			if place.Index != place.Timestamp || place.Index >= 16 {
+				t.Errorf("a place that nobody said: %v", place)
+			}
+		}
+	})
+}
+
+// TestLogsAreApart: two logs in one engine don't see one another.
+func TestLogsAreApart(t *testing.T) {
+	eachOf(t, placeStores, func(t *testing.T, at trial[Places]) {
+		if at.folder {
+			t.Skip("a folder has one log")
+		}
+		one, other := at.opened(t), trial[Places]{at.implementation, at.place + "-other"}.opened(t)
+		must(t, one.Add(limited(t), []Placed{placed(1)}))
+		finds(t, other, []Identity{identity(1)}, map[Identity]Place{})
+	})
+}

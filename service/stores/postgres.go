@@ -1,0 +1,238 @@
+package stores
+
+import (
+	"context"
+	"database/sql"
+	"errors"
+	"fmt"
+
+	"github.com/lib/pq"
+)
+
+// Postgres says where a database is, in the form of libpq (a URL or key=value), and by which name a log is known in it.
+type Postgres struct {
+	Source, Log string
+}
+
+// mostConnections is how many connections to a database one store opens.
+const mostConnections = 4
+
+// tables are made where they aren't there. Two who make them at once would fail on one another, but for the lock.
+const tables = `select pg_advisory_xact_lock(4957128866342178);
+create table if not exists ct_register (log text primary key, text bytea not null, published bigint not null);
+create table if not exists ct_places (log text, identity bytea, index bigint not null, timestamp bigint not null, primary key (log, identity))`
+
+// open connects, sees whether the server keeps what it acknowledges, and makes the tables.
+func (at Postgres) open(ctx context.Context) (*sql.DB, error) {
+	db, err := sql.Open("postgres", at.Source)
+	if err != nil {
+		return nil, fmt.Errorf("stores: PostgreSQL: %w", err)
+	}
+	db.SetMaxOpenConns(mostConnections)
+	if err := prepare(ctx, db); err != nil {
+		db.Close()
+		return nil, err
+	}
+	return db, nil
+}
+
+func prepare(ctx context.Context, db *sql.DB) error {
+	for _, setting := range []string{"fsync", "full_page_writes", "synchronous_commit"} {
+		var value string
+		if err := db.QueryRowContext(ctx, "select current_setting($1)", setting).Scan(&value); err != nil {
+			return fmt.Errorf("stores: PostgreSQL: %w", err)
+		}
+		if value == "off" {
+			return fmt.Errorf("%w: PostgreSQL has %s off", ErrUnsafe, setting)
+		}
+	}
+	if _, err := db.ExecContext(ctx, tables); err != nil {
+		return fmt.Errorf("stores: PostgreSQL: tables: %w", err)
+	}
+	return nil
+}
+
+// inPostgres keeps the register in a row.
+//
+// It asks of the server: fsync, full_page_writes and synchronous_commit are on (all three are looked at), and where a standby
+// may take over, synchronous_standby_names names it, so that it has all that was acknowledged, and one server alone writes.
+type inPostgres struct {
+	db  *sql.DB
+	log string
+}
+
+// OpenPostgres opens the register of a log.
+func OpenPostgres(ctx context.Context, at Postgres) (Register, error) {
+	db, err := at.open(ctx)
+	if err != nil {
+		return nil, err
+	}
+	return &inPostgres{db, at.Log}, nil
+}
+
+// written wraps the error of a write: unless the server says that it refused it, it may have been done.
+func written(what string, err error) error {
+	var said *pq.Error
+	if errors.As(err, &said) && (said.Code.Class() == "22" || said.Code.Class() == "23" || said.Code.Class() == "40" || said.Code.Class() == "53") {
+		return fmt.Errorf("stores: PostgreSQL: %s: %w", what, err)
+	}
+	return fmt.Errorf("%w: PostgreSQL: %s: %v", ErrUnknown, what, err)
+}
+
+// changed makes a write, and says whether it changed a row. It goes over one connection: the pool itself would make a write
+// again on another where the first broke, and would so tell a swap that was done that it lost.
+func (p *inPostgres) changed(ctx context.Context, what, statement string, values ...any) (bool, error) {
+	connection, err := p.db.Conn(ctx)
+	if err != nil {
+		return false, fmt.Errorf("stores: PostgreSQL: %s: %w", what, err)
+	}
+	defer connection.Close()
+	result, err := connection.ExecContext(ctx, statement, values...)
+	if err != nil {
+		return false, written(what, err)
+	}
+	rows, err := result.RowsAffected()
+	if err != nil {
+		return false, written(what, err)
+	}
+	return rows > 0, nil
+}
+
+func (p *inPostgres) Create(ctx context.Context, text string) error {
+	if err := checkText(text); err != nil {
+		return err
+	}
+	done, err := p.changed(ctx, "create", "insert into ct_register values ($1, $2, 0) on conflict do nothing", p.log, []byte(text))
+	if err == nil && !done {
+		return ErrExists
+	}
+	return err
+}
+
+// read reads the row. That what it reads stays is the server's: a row is seen once its transaction is on the disk.
+func (p *inPostgres) read(ctx context.Context) (text string, published uint64, err error) {
+	var bytes []byte
+	err = p.db.QueryRowContext(ctx, "select text, published from ct_register where log = $1", p.log).Scan(&bytes, &published)
+	if errors.Is(err, sql.ErrNoRows) {
+		return "", 0, ErrAbsent
+	}
+	if err != nil {
+		return "", 0, fmt.Errorf("stores: PostgreSQL: read: %w", err)
+	}
+	return string(bytes), published, nil
+}
+
+func (p *inPostgres) Read(ctx context.Context) (string, error) {
+	text, _, err := p.read(ctx)
+	return text, err
+}
+
+func (p *inPostgres) Swap(ctx context.Context, old, new string) error {
+	if err := checkText(old, new); err != nil {
+		return err
+	}
+	done, err := p.changed(ctx, "swap", "update ct_register set text = $3 where log = $1 and text = $2", p.log, []byte(old), []byte(new))
+	if err != nil || done {
+		return err
+	}
+	standing, err := p.Read(ctx)
+	switch {
+	case err != nil:
+		return err
+	case standing == new:
+		return nil
+	}
+	return ErrLost
+}
+
+func (p *inPostgres) Published(ctx context.Context) (uint64, error) {
+	_, published, err := p.read(ctx)
+	return published, err
+}
+
+func (p *inPostgres) Raise(ctx context.Context, published uint64) error {
+	if err := checkNumbers(published); err != nil {
+		return err
+	}
+	done, err := p.changed(ctx, "raise", "update ct_register set published = $2 where log = $1 and published < $2", p.log, int64(published))
+	if err != nil || done {
+		return err
+	}
+	_, _, err = p.read(ctx)
+	return err
+}
+
+func (p *inPostgres) Close() error { return p.db.Close() }
+
+// placesInPostgres keeps a row for each identity.
+type placesInPostgres struct {
+	db  *sql.DB
+	log string
+}
+
+// OpenPostgresPlaces opens the places of a log.
+func OpenPostgresPlaces(ctx context.Context, at Postgres) (Places, error) {
+	db, err := at.open(ctx)
+	if err != nil {
+		return nil, err
+	}
+	return &placesInPostgres{db, at.Log}, nil
+}
+
+func (p *placesInPostgres) Find(ctx context.Context, identities []Identity) (map[Identity]Place, error) {
+	identities, err := distinct(identities)
+	if err != nil {
+		return nil, err
+	}
+	asked := make(pq.ByteaArray, len(identities))
+	for i := range identities {
+		asked[i] = identities[i][:]
+	}
+	rows, err := p.db.QueryContext(ctx, "select identity, index, timestamp from ct_places where log = $1 and identity = any($2)", p.log, asked)
+	if err != nil {
+		return nil, fmt.Errorf("stores: PostgreSQL: find: %w", err)
+	}
+	return scanPlaces(rows)
+}
+
+// scanPlaces reads rows of identity, index and timestamp.
+func scanPlaces(rows *sql.Rows) (map[Identity]Place, error) {
+	defer rows.Close()
+	found := map[Identity]Place{}
+	for rows.Next() {
+		var bytes []byte
+		var place Place
+		if err := rows.Scan(&bytes, &place.Index, &place.Timestamp); err != nil {
+			return nil, fmt.Errorf("stores: find: %w", err)
+		}
+		var identity Identity
+		if copy(identity[:], bytes) != len(identity) || len(bytes) != len(identity) {
+			return nil, fmt.Errorf("stores: find: an identity of %d bytes", len(bytes))
+		}
+		found[identity] = place
+	}
+	if err := rows.Err(); err != nil {
+		return nil, fmt.Errorf("stores: find: %w", err)
+	}
+	return found, nil
+}
+
+func (p *placesInPostgres) Add(ctx context.Context, placed []Placed) error {
+	placed, err := firsts(placed)
+	if err != nil || len(placed) == 0 {
+		return err
+	}
+	identities, indexes, timestamps := make(pq.ByteaArray, len(placed)), make(pq.Int64Array, len(placed)), make(pq.Int64Array, len(placed))
+	for i := range placed {
+		identities[i] = placed[i].Identity[:]
+		indexes[i], timestamps[i] = int64(placed[i].Place.Index), int64(placed[i].Place.Timestamp)
+	}
+	// In the order of identities, so that of two such calls neither waits for the other.
+	const add = `insert into ct_places select $1, i, n, t from unnest($2::bytea[], $3::bigint[], $4::bigint[]) as u(i, n, t) order by i on conflict do nothing`
+	if _, err := p.db.ExecContext(ctx, add, p.log, identities, indexes, timestamps); err != nil {
+		return fmt.Errorf("stores: PostgreSQL: add: %w", err)
+	}
+	return nil
+}
+
+func (p *placesInPostgres) Close() error { return p.db.Close() }

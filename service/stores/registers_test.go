@@ -1,0 +1,281 @@
+package stores
+
+import (
+	"context"
+	"errors"
+	"fmt"
+	"math/rand"
+	"strings"
+	"testing"
+	"time"
+)
+
+// allBytes is a text of every byte.
+func allBytes() string {
+	var text [256]byte
+	for i := range text {
+		text[i] = byte(i)
+	}
+	return string(text[:])
+}
+
+// standsAs fails the test unless this text and number stand.
+func standsAs(t *testing.T, register Register, text string, published uint64) {
+	t.Helper()
+	if got, err := register.Read(limited(t)); err != nil || got != text {
+		t.Errorf("%.40q stands, %v, and %.40q should", got, err, text)
+	}
+	if got, err := register.Published(limited(t)); err != nil || got != published {
+		t.Errorf("%d is published, %v, and %d should be", got, err, published)
+	}
+}
+
+func TestRegisterIsCreatedOnce(t *testing.T) {
+	eachOf(t, registers, func(t *testing.T, at trial[Register]) {
+		register, ctx := at.opened(t), limited(t)
+		_, reading := register.Read(ctx)
+		_, asking := register.Published(ctx)
+		for what, err := range map[string]error{"Read": reading, "Published": asking, "Swap": register.Swap(ctx, "a", "b"), "Raise": register.Raise(ctx, 1)} {
+			if !errors.Is(err, ErrAbsent) {
+				t.Errorf("%s before Create: %v", what, err)
+			}
+		}
+		won := 0
+		for _, err := range each(16, func(i int) error { return register.Create(ctx, "first") }) {
+			if err == nil {
+				won++
+			} else if !errors.Is(err, ErrExists) {
+				t.Errorf("Create: %v", err)
+			}
+		}
+		if won != 1 {
+			t.Errorf("%d of 16 created it", won)
+		}
+		standsAs(t, register, "first", 0)
+		must(t, register.Raise(ctx, 7))
+		if err := register.Create(ctx, "again"); !errors.Is(err, ErrExists) {
+			t.Errorf("Create once more: %v", err)
+		}
+		standsAs(t, at.opened(t), "first", 7)
+	})
+}
+
+func TestRegisterSwapsTheTextThatWasRead(t *testing.T) {
+	eachOf(t, registers, func(t *testing.T, at trial[Register]) {
+		register, ctx := at.opened(t), limited(t)
+		must(t, register.Create(ctx, "a"))
+		must(t, register.Swap(ctx, "a", "b"))
+		must(t, register.Swap(ctx, "a", "b"))
+		for _, old := range []string{"a", "B", "b ", "bb", allBytes()} {
+			if err := register.Swap(ctx, old, "c"); !errors.Is(err, ErrLost) {
+				t.Errorf("Swap over %.20q: %v", old, err)
+			}
+		}
+		standsAs(t, register, "b", 0)
+		longest := strings.Repeat("x", MostText)
+		must(t, register.Swap(ctx, "b", longest))
+		must(t, register.Swap(ctx, longest, allBytes()))
+		standsAs(t, at.opened(t), allBytes(), 0)
+		for _, texts := range [][2]string{{allBytes(), longest + "x"}, {longest + "x", "d"}} {
+			if err := register.Swap(ctx, texts[0], texts[1]); !errors.Is(err, ErrTooLong) {
+				t.Errorf("Swap of too long a text: %v", err)
+			}
+		}
+		for _, texts := range [][2]string{{allBytes(), ""}, {"", "d"}} {
+			if err := register.Swap(ctx, texts[0], texts[1]); !errors.Is(err, ErrName) {
+				t.Errorf("Swap of no text: %v", err)
+			}
+		}
+		standsAs(t, register, allBytes(), 0)
+	})
+}
+
+func TestRegisterLetsOneOfManyWin(t *testing.T) {
+	eachOf(t, registers, func(t *testing.T, at trial[Register]) {
+		ctx := limited(t)
+		var handles []Register
+		for i := 0; i < 16; i++ {
+			handles = append(handles, at.opened(t))
+		}
+		must(t, handles[0].Create(ctx, "0"))
+		const rounds = 20
+		start := time.Now()
+		for round := 0; round < rounds; round++ {
+			old, err := handles[0].Read(ctx)
+			must(t, err)
+			text := func(i int) string { return fmt.Sprintf("round %d by %d", round, i) }
+			winner := -1
+			for i, err := range each(16, func(i int) error { return handles[i].Swap(ctx, old, text(i)) }) {
+				switch {
+				case err == nil && winner >= 0:
+					t.Errorf("both %d and %d win", winner, i)
+				case err == nil:
+					winner = i
+				case !errors.Is(err, ErrLost):
+					t.Errorf("a loser is told %v", err)
+				}
+			}
+			if winner < 0 {
+				t.Fatal("nobody wins")
+			}
+			standsAs(t, handles[round%16], text(winner), 0)
+		}
+		took(t, at.name+": swaps by 16", 16*rounds, start)
+	})
+}
+
+func TestRegisterHasOneHistory(t *testing.T) {
+	eachOf(t, registers, func(t *testing.T, at trial[Register]) {
+		const many, swaps = 16, 5
+		ctx, register := limited(t), at.opened(t)
+		must(t, register.Create(ctx, "start 0"))
+		follows := make([]map[string]string, many)
+		for i, err := range each(many, func(i int) error {
+			follows[i] = map[string]string{}
+			for done := 0; done < swaps; {
+				old, err := register.Read(ctx)
+				if err != nil {
+					return err
+				}
+				new := fmt.Sprintf("%d's %d: %d", i, done, number(old)+1)
+				err = register.Swap(ctx, old, new)
+				if err == nil {
+					follows[i][old] = new
+					done++
+				} else if !errors.Is(err, ErrLost) {
+					return err
+				}
+			}
+			return nil
+		}) {
+			if err != nil {
+				t.Fatalf("%d: %v", i, err)
+			}
+		}
+		text, length := "start 0", 0
+		for length <= many*swaps {
+			next := ""
+			for _, mine := range follows {
+				if follow, ok := mine[text]; ok && next != "" {
+					t.Fatalf("both %q and %q follow %q", next, follow, text)
+				} else if ok {
+					next = follow
+				}
+			}
+			if next == "" {
+				break
+			}
+			text = next
+			length++
+		}
+		if length != many*swaps {
+			t.Errorf("a history of %d swaps, and %d were acknowledged", length, many*swaps)
+		}
+		standsAs(t, register, text, 0)
+	})
+}
+
+func TestPublishedNeverFalls(t *testing.T) {
+	eachOf(t, registers, func(t *testing.T, at trial[Register]) {
+		ctx, register, other := limited(t), at.opened(t), at.opened(t)
+		must(t, register.Create(ctx, "a"))
+		const many, raises = 15, 8
+		watching := make(chan struct{})
+		largest := make([]uint64, many)
+		errs := each(many+1, func(i int) error {
+			if i == many {
+				return watch(ctx, other, watching)
+			}
+			numbers := rand.New(rand.NewSource(int64(i)))
+			for done := 0; done < raises; done++ {
+				// By the number of digits, so that an order of texts would be seen.
+				number := uint64(numbers.Int63n(int64(1) << numbers.Intn(60)))
+				if err := register.Raise(ctx, number); err != nil {
+					return err
+				}
+				if number > largest[i] {
+					largest[i] = number
+				}
+				if now, err := other.Published(ctx); err != nil || now < largest[i] {
+					return fmt.Errorf("%d is published, %v, behind %d that was acknowledged", now, err, largest[i])
+				}
+			}
+			if i == 0 {
+				close(watching)
+			}
+			return nil
+		})
+		most := uint64(0)
+		for i, err := range errs {
+			if err != nil {
+				t.Error(err)
+			}
+			if i < many && largest[i] > most {
+				most = largest[i]
+			}
+		}
+		standsAs(t, register, "a", most)
+		must(t, register.Raise(ctx, MostNumber))
+		must(t, register.Raise(ctx, 3))
+		if err := register.Raise(ctx, MostNumber+1); !errors.Is(err, ErrNumber) {
+			t.Errorf("Raise to more than may be: %v", err)
+		}
+		standsAs(t, at.opened(t), "a", MostNumber)
+	})
+}
+
+// watch reads the published number until it is told to end, and fails where it falls.
+func watch(ctx context.Context, register Register, until chan struct{}) error {
+	for last := uint64(0); ; {
+		now, err := register.Published(ctx)
+		if err != nil || now < last {
+			return fmt.Errorf("published fell from %d to %d, %v", last, now, err)
+		}
+		last = now
+		select {
+		case <-until:
+			return nil
+		case <-time.After(time.Millisecond):
+		}
+	}
+}
+
+// TestRegisterSettlesByReading has swaps whose context ends at any moment. Whatever they say, the text that stands is the old
+// one or theirs; it is theirs where they say nil; and one that has lost never stands later.
+func TestRegisterSettlesByReading(t *testing.T) {
+	eachOf(t, registers, func(t *testing.T, at trial[Register]) {
+		ctx, register := limited(t), at.opened(t)
+		must(t, register.Create(ctx, "text 0"))
+		start := time.Now()
+		must(t, register.Swap(ctx, "text 0", "text 1"))
+		usual := time.Since(start)
+		stands, outcomes := "text 1", map[string]int{}
+		for i := 2; i < 42; i++ {
+			short, cancel := context.WithTimeout(ctx, time.Duration(rand.Int63n(int64(3*usual))))
+			new := fmt.Sprintf("text %d", i)
+			err := register.Swap(short, stands, new)
+			cancel()
+			read, reading := register.Read(ctx)
+			must(t, reading)
+			switch {
+			case err == nil && read != new:
+				t.Fatalf("%q stands behind a swap to %q that was acknowledged", read, new)
+			case read != new && read != stands:
+				t.Fatalf("%q stands behind a swap from %q to %q", read, stands, new)
+			case errors.Is(err, ErrLost) || errors.Is(err, ErrAbsent):
+				t.Fatalf("a swap from what stands: %v", err)
+			}
+			outcomes[fmt.Sprintf("acknowledged %t, done %t", err == nil, read == new)]++
+			settled := fmt.Sprintf("settled %d", i)
+			if err := register.Swap(ctx, read, settled); errors.Is(err, ErrLost) {
+				// The swap that was given up came in behind the read.
+				must(t, register.Swap(ctx, new, settled))
+			} else {
+				must(t, err)
+			}
+			stands = settled
+		}
+		standsAs(t, register, stands, 0)
+		t.Logf("%s: %v", at.name, outcomes)
+	})
+}

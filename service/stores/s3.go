@@ -1,0 +1,222 @@
+package stores
+
+import (
+	"bytes"
+	"context"
+	"crypto/sha256"
+	"encoding/hex"
+	"errors"
+	"fmt"
+	"io"
+	"net/http"
+	"time"
+
+	"github.com/minio/minio-go/v7"
+	"github.com/minio/minio-go/v7/pkg/credentials"
+)
+
+// S3 says where a bucket is.
+type S3 struct {
+	// Endpoint is a host with a port, Bucket a bucket that is there.
+	Endpoint, Bucket string
+	// Region may be empty.
+	Region string
+	// Key and Secret are the credentials.
+	Key, Secret string
+	// TLS says whether the endpoint is asked over TLS.
+	TLS bool
+	// Conditional says that the engine has conditional puts (If-None-Match: *), so that of two calls at once one wins. It is
+	// tried when the bucket is opened. Without it each Put reads before it puts.
+	Conditional bool
+}
+
+// bucket keeps objects in a bucket of an engine that speaks S3's protocol.
+//
+// It asks of the engine: a read of a new name after its acknowledged put sees it, and so does a list; what is acknowledged
+// stays. Of Ceph: pools whose size and min_size keep an acknowledged write through the failures that are meant to be borne.
+type bucket struct {
+	core        minio.Core
+	name        string
+	conditional bool
+}
+
+// waits bounds a call that no context ends earlier.
+const waits = 30 * time.Second
+
+// ifAbsent marks the context of a put that may only be done where no object is.
+type ifAbsent struct{}
+
+// condition adds the header to such puts; minio-go has no option for it. A header that isn't signed is taken by S3.
+type condition struct{ http.RoundTripper }
+
+func (c condition) RoundTrip(request *http.Request) (*http.Response, error) {
+	if request.Method == http.MethodPut && request.Context().Value(ifAbsent{}) != nil {
+		request = request.Clone(request.Context())
+		request.Header.Set("If-None-Match", "*")
+	}
+	return c.RoundTripper.RoundTrip(request)
+}
+
+// OpenS3 opens the objects in a bucket; ErrAbsent where there is no such bucket, ErrUnsafe where conditional puts are said to
+// be there and aren't.
+func OpenS3(ctx context.Context, at S3) (Objects, error) {
+	transport, err := minio.DefaultTransport(at.TLS)
+	if err != nil {
+		return nil, fmt.Errorf("stores: S3: %w", err)
+	}
+	transport.ResponseHeaderTimeout = waits
+	client, err := minio.New(at.Endpoint, &minio.Options{
+		Creds:        credentials.NewStaticV4(at.Key, at.Secret, ""),
+		Secure:       at.TLS,
+		Region:       at.Region,
+		BucketLookup: minio.BucketLookupPath,
+		Transport:    condition{transport},
+	})
+	if err != nil {
+		return nil, fmt.Errorf("stores: S3: %w", err)
+	}
+	there, err := client.BucketExists(ctx, at.Bucket)
+	if err != nil {
+		return nil, fmt.Errorf("stores: S3: %w", err)
+	}
+	if !there {
+		return nil, fmt.Errorf("%w: bucket %s", ErrAbsent, at.Bucket)
+	}
+	b := &bucket{minio.Core{Client: client}, at.Bucket, at.Conditional}
+	if at.Conditional {
+		return b, b.tryConditions(ctx)
+	}
+	return b, nil
+}
+
+// tryConditions puts two contents under one name of its own, of which the second has to be refused.
+func (b *bucket) tryConditions(ctx context.Context) error {
+	const name = "conditional-put/tried"
+	for _, content := range []string{"first", "second"} {
+		err := b.put(context.WithValue(ctx, ifAbsent{}, true), name, []byte(content))
+		if err != nil && !isRefused(err) {
+			return fmt.Errorf("stores: S3: conditional put: %w", err)
+		}
+		if err == nil && content == "second" {
+			return fmt.Errorf("%w: a conditional put over an object isn't refused", ErrUnsafe)
+		}
+	}
+	return nil
+}
+
+// isRefused says whether an error is the refusal of a conditional put.
+func isRefused(err error) bool {
+	return minio.ToErrorResponse(err).StatusCode == http.StatusPreconditionFailed
+}
+
+func isNoObject(err error) bool {
+	return minio.ToErrorResponse(err).Code == "NoSuchKey"
+}
+
+func (b *bucket) put(ctx context.Context, name string, content []byte) error {
+	sum := sha256.Sum256(content)
+	// The whole content's hash is signed, and no chunks, which not every engine takes.
+	options := minio.PutObjectOptions{DisableContentSha256: true, DisableMultipart: true}
+	_, err := b.core.PutObject(ctx, b.name, name, bytes.NewReader(content), int64(len(content)), "", hex.EncodeToString(sum[:]), options)
+	return err
+}
+
+func (b *bucket) Put(ctx context.Context, name string, content []byte) error {
+	if err := checkObject(name, content); err != nil {
+		return err
+	}
+	if b.conditional {
+		ctx = context.WithValue(ctx, ifAbsent{}, true)
+	} else if err := b.compare(ctx, name, content); !errors.Is(err, ErrAbsent) {
+		return err
+	}
+	err := b.put(ctx, name, content)
+	if err != nil && isRefused(err) {
+		return b.compare(ctx, name, content)
+	}
+	if err != nil {
+		return fmt.Errorf("stores: put %s: %w", name, err)
+	}
+	return nil
+}
+
+// compare says whether the content stands under the name.
+func (b *bucket) compare(ctx context.Context, name string, content []byte) error {
+	standing, err := b.Get(ctx, name, int64(len(content)))
+	if errors.Is(err, ErrTooLong) || err == nil && !bytes.Equal(standing, content) {
+		return fmt.Errorf("stores: put %s: %w", name, ErrOther)
+	}
+	return err
+}
+
+func (b *bucket) Get(ctx context.Context, name string, most int64) ([]byte, error) {
+	if err := checkName(name); err != nil {
+		return nil, err
+	}
+	content, err := b.get(ctx, name, most)
+	if err != nil {
+		return nil, fmt.Errorf("stores: get %s: %w", name, err)
+	}
+	return content, nil
+}
+
+func (b *bucket) get(ctx context.Context, name string, most int64) ([]byte, error) {
+	body, info, _, err := b.core.GetObject(ctx, b.name, name, minio.GetObjectOptions{})
+	if err != nil {
+		if isNoObject(err) {
+			return nil, ErrAbsent
+		}
+		return nil, err
+	}
+	defer body.Close()
+	if info.Size > most {
+		return nil, fmt.Errorf("%w: %d bytes", ErrTooLong, info.Size)
+	}
+	content := make([]byte, info.Size)
+	if _, err := io.ReadFull(body, content); err != nil {
+		return nil, err
+	}
+	return content, nil
+}
+
+func (b *bucket) List(ctx context.Context, prefix, after string, most int) ([]string, error) {
+	if err := checkPrefix(prefix); err != nil {
+		return nil, err
+	}
+	if err := checkAfter(after); err != nil {
+		return nil, err
+	}
+	most = atMost(most)
+	if most == 0 {
+		return nil, nil
+	}
+	ctx, cancel := context.WithCancel(ctx)
+	defer cancel()
+	options := minio.ListObjectsOptions{Prefix: prefix, StartAfter: after, MaxKeys: most, Recursive: true}
+	var found []string
+	for object := range b.core.Client.ListObjects(ctx, b.name, options) {
+		if len(found) == most {
+			cancel()
+			continue
+		}
+		if object.Err != nil {
+			return nil, fmt.Errorf("stores: list %s: %w", prefix, object.Err)
+		}
+		if checkName(object.Key) == nil {
+			found = append(found, object.Key)
+		}
+	}
+	return found, nil
+}
+
+func (b *bucket) Delete(ctx context.Context, name string) error {
+	if err := checkName(name); err != nil {
+		return err
+	}
+	if err := b.core.RemoveObject(ctx, b.name, name, minio.RemoveObjectOptions{}); err != nil && !isNoObject(err) {
+		return fmt.Errorf("stores: delete %s: %w", name, err)
+	}
+	return nil
+}
+
+func (b *bucket) Close() error { return nil }

@@ -1,0 +1,106 @@
+package stores
+
+import (
+	"context"
+	"database/sql"
+	"fmt"
+	"net/url"
+	"os"
+	"path/filepath"
+	"strings"
+
+	// Its driver of database/sql, "sqlite3".
+	_ "github.com/mattn/go-sqlite3"
+)
+
+// mostVariables is how many values go into one statement.
+const mostVariables = 500
+
+// inSQLite keeps a row for each identity in a file. Several processes may use it at once, on one machine.
+//
+// It asks of the file system what SQLite does (locks that exclude, fsync that keeps). The write-ahead log is synced at each
+// commit (synchronous=FULL): in that mode NORMAL would lose the last commits when power fails.
+type inSQLite struct {
+	db *sql.DB
+}
+
+// OpenSQLite opens the places in a file, and makes it where it isn't there.
+func OpenSQLite(ctx context.Context, path string) (Places, error) {
+	path, err := filepath.Abs(path)
+	if err != nil {
+		return nil, fmt.Errorf("stores: SQLite: %w", err)
+	}
+	if err := os.MkdirAll(filepath.Dir(path), 0o755); err != nil {
+		return nil, fmt.Errorf("stores: SQLite: %w", err)
+	}
+	settings := url.Values{"_journal_mode": {"WAL"}, "_synchronous": {"FULL"}, "_busy_timeout": {"10000"}, "_txlock": {"immediate"}}
+	source := url.URL{Scheme: "file", Path: path, RawQuery: settings.Encode()}
+	db, err := sql.Open("sqlite3", source.String())
+	if err != nil {
+		return nil, fmt.Errorf("stores: SQLite: %w", err)
+	}
+	db.SetMaxOpenConns(mostConnections)
+	const table = `create table if not exists places (identity blob primary key, "index" integer not null, timestamp integer not null) without rowid`
+	if _, err := db.ExecContext(ctx, table); err != nil {
+		db.Close()
+		return nil, fmt.Errorf("stores: SQLite: table: %w", err)
+	}
+	if err := syncFolder(filepath.Dir(path)); err != nil {
+		db.Close()
+		return nil, err
+	}
+	return &inSQLite{db}, nil
+}
+
+func (s *inSQLite) Find(ctx context.Context, identities []Identity) (map[Identity]Place, error) {
+	identities, err := distinct(identities)
+	if err != nil {
+		return nil, err
+	}
+	found := map[Identity]Place{}
+	return found, parts(len(identities), mostVariables, func(from, to int) error {
+		var values []any
+		for i := range identities[from:to] {
+			values = append(values, identities[from+i][:])
+		}
+		places := strings.Repeat(", ?", to-from)[2:]
+		rows, err := s.db.QueryContext(ctx, `select identity, "index", timestamp from places where identity in (`+places+`)`, values...)
+		if err != nil {
+			return fmt.Errorf("stores: SQLite: find: %w", err)
+		}
+		some, err := scanPlaces(rows)
+		for identity, place := range some {
+			found[identity] = place
+		}
+		return err
+	})
+}
+
+func (s *inSQLite) Add(ctx context.Context, placed []Placed) error {
+	placed, err := firsts(placed)
+	if err != nil || len(placed) == 0 {
+		return err
+	}
+	tx, err := s.db.BeginTx(ctx, nil)
+	if err != nil {
+		return fmt.Errorf("stores: SQLite: add: %w", err)
+	}
+	defer tx.Rollback()
+	add, err := tx.PrepareContext(ctx, "insert into places values (?, ?, ?) on conflict do nothing")
+	if err != nil {
+		return fmt.Errorf("stores: SQLite: add: %w", err)
+	}
+	defer add.Close()
+	for i := range placed {
+		place := placed[i].Place
+		if _, err := add.ExecContext(ctx, placed[i].Identity[:], int64(place.Index), int64(place.Timestamp)); err != nil {
+			return fmt.Errorf("stores: SQLite: add: %w", err)
+		}
+	}
+	if err := tx.Commit(); err != nil {
+		return fmt.Errorf("stores: SQLite: add: %w", err)
+	}
+	return nil
+}
+
+func (s *inSQLite) Close() error { return s.db.Close() }

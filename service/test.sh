@@ -1,0 +1,18 @@
+#!/usr/bin/env bash
+# Looks through the Go part and tests it: test.sh, in under a minute and without engines; test.sh engines, with those that are
+# installed, in some minutes. Where Go or one of its packages isn't installed, it says so in one line, and ends well.
+set -eu
+cd "$(dirname "$0")"
+if ! missing=$(../checks/needs.sh service-test 2>&1); then
+  echo "service: the Go part isn't tried, for want of $(sed 's/^make service-test lacks //' <<<"$missing" | paste -sd '#' | sed 's/#/, /g')."
+  exit 0
+fi
+began=$SECONDS
+./build.sh vet
+if [ "${1:-}" = engines ]; then
+  ./engines.sh run ./build.sh test
+  echo "service: the Go part is as expected, in $((SECONDS - began)) s."
+else
+  ./build.sh test
+  echo "service: the Go part is as expected, in $((SECONDS - began)) s, without engines (make service-engines tries those that are installed)."
+fi
