@@ -341,7 +341,7 @@ def killed(folder, here=HERE, kills=KILLS, places=PLACES):
         for thread in threads:
             thread.join()
         status, fault = front.wait()
-        hold(status == 1 and "the signer ended" in fault, "a kill of the signer leaves status", status, fault)
+        hold(status == 1 and "the signer" in fault, "a kill of the signer leaves status", status, fault)
         check_state(folder, signed_in(noted)[0], pathlib.Path(here) / "signer.py")
     front = started(folder, LOG)
     leaves, (heads, receipts) = leaves_of(Client(front.port)), signed_in(noted)

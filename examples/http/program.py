@@ -44,20 +44,21 @@ class Program:
         self.process = subprocess.Popen(words, stdin=subprocess.PIPE, stdout=subprocess.PIPE, start_new_session=True)
         self.writing, self.number, self.waiting, self.ended = threading.Lock(), 0, {}, threading.Event()
         self.name, self.ending, self.patience = name, ending, patience
-        self.reader = ending.thread(name, self.read)
+        self.reader = ending.thread(name, self.read, self.wake)
         ending.thread(f"the watch over {name}", self.watch)
 
     def read(self):
-        try:
-            for line in self.process.stdout:
-                if not line.endswith(b"\n"):
-                    return
-                answer = json.loads(line)
-                self.waiting.pop(answer["line"]).come(answer["reply"])
-        finally:
-            self.ended.set()
-            for answer in list(self.waiting.values()):
-                answer.there.set()
+        for line in self.process.stdout:
+            if not line.endswith(b"\n"):
+                return
+            answer = json.loads(line)
+            self.waiting.pop(answer["line"]).come(answer["reply"])
+
+    def wake(self):
+        """Ends each wait: no more replies come."""
+        self.ended.set()
+        for answer in list(self.waiting.values()):
+            answer.there.set()
 
     def watch(self):
         while not self.ended.wait(min(1, self.patience / 4)):

@@ -30,8 +30,8 @@ class Sequencer:
         self.entries, self.clock, self.heads, self.published = entries, clock, heads, kept.published
         # The head that was published and isn't let through yet. The next batch waits for it.
         self.passed, self.waiting_head = passed, heads[-1] if heads else None
-        # The guard's last head stays the same while timestamps are asked for.
-        self.signing, self.head_signature = threading.Lock(), None
+        # The guard's last head stays the same while timestamps are asked for. Where its state isn't on disk, `unkept`, none are.
+        self.signing, self.unkept, self.head_signature = threading.Lock(), False, None
         # Submissions whose tickets came and that weren't taken yet, in each front's order: line and identity.
         self.accepted = [collections.deque() for _ in range(words.fronts)]
         # Lines that were taken and aren't in the journal yet: where the disk is full they wait here.
@@ -177,6 +177,7 @@ class Sequencer:
                 signature = answer.get()["signature"]
             except Refused as refused:
                 if str(refused) == "disk-full":
+                    self.unkept = True
                     raise Held("disk-full", "the guard's state can't be written") from None
                 if str(refused) != "not-signed":
                     raise Broken(f"the signer refuses the head at {head['timestamp']}: {refused}") from None
@@ -192,7 +193,7 @@ class Sequencer:
             if new:
                 self.heads.append(head)
                 self.published += 1
-            self.passed, self.waiting_head, self.head_signature = head, None, signature
+            self.passed, self.waiting_head, self.unkept, self.head_signature = head, None, False, signature
             self.new_head.notify_all()
 
     def sign_due(self):
@@ -208,6 +209,8 @@ class Sequencer:
         """The leaves of entries that the last head covers, each with the signer's answer; all are asked for before one is waited
         for. A leaf's audit path is that in the last head's tree."""
         with self.signing:
+            if self.unkept:
+                raise Refused("disk-full")
             size = self.heads[-1]["tree_size"]
             asked = [line_of(who=self.next_front(), op="get-entry-and-proof", leaf_index=index, tree_size=size) for index in indexes]
             found = [answer.get() for answer in [self.program.send(line) for line in asked]]

@@ -156,7 +156,11 @@ class Signer:
         head = head_in(self.state, self.kept.path)
         check_agreement(head, before, last, self.kept.path)
         self.guard = Guard([*self.words.guard, "--receipts", self.words.receipts], self.state)
-        if head and self.guard.ask({**head, "consistency": []})[1] != self.state:
+        try:
+            right = head is None or self.guard.ask({**head, "consistency": []})[1] == self.state
+        except Refused:
+            right = False
+        if not right:
             raise Broken(f"guard-damaged: the guard doesn't take {self.kept.path} up; nothing was changed")
         return {"last": head}
 
