@@ -469,9 +469,11 @@ def key_alone(folder):
     # (the reader closes it)
     while reader in openers(path):
         hold(time.monotonic() < until, "the signer doesn't close the key")
+        time.sleep(0.02)
     while starting.is_alive():
         look()
         hold(time.monotonic() < until, "the front doesn't start")
+        time.sleep(0.02)
     [front] = fronts
     hold(front.port, "the front doesn't start")
     hold(reader == front.signer_id() and any(word.endswith(b"signer.py") for word in words), "the key is read by", words)
@@ -492,7 +494,8 @@ def limit_files(process, length):
 
 
 def full_disk_of_the_signer(folder, program=HERE / "signer.py"):
-    """Where the guard's state has no room, neither its head is signed nor a receipt in its tree; with room again all goes on."""
+    """Where the guard's state has no room, neither its head is signed nor a receipt in its tree; with room again all goes on, and so
+    it does behind a kill."""
     leaves, path = [leaf(k) for k in range(5)], pathlib.Path(folder + "-asked/guard.json")
     first, second = head_of(leaves[:3], 1000), head_of(leaves, 2000)
     with Asked(folder + "-asked", program) as asked:
@@ -520,9 +523,24 @@ def full_disk_of_the_signer(folder, program=HERE / "signer.py"):
     while client.call("add-chain", {"chain": [text(b"0")]})[0] != 200:
         hold(time.monotonic() < until, "with room again nothing is taken")
         time.sleep(0.1)
-    status, fault = front.end()
+    limit_files(front.signer_id(), 10)
+    hold(client.call("add-chain", {"chain": [text(b"before a kill")]})[0] == 503, "a full disk takes a certificate")
+    resource.prlimit(front.signer_id(), resource.RLIMIT_FSIZE, limits)
+    while client.call("add-chain", {"chain": [text(b"before a kill")]})[0] != 200:
+        hold(time.monotonic() < until, "with room again nothing is taken")
+        time.sleep(0.1)
+    limit_files(front.signer_id(), 10)
+    hold(client.call("add-chain", {"chain": [text(b"killed")]})[0] == 503, "a full disk takes a certificate")
+    time.sleep(1.5)
+    status, fault = front.end(signal.SIGKILL)
     told = fault.splitlines()
-    hold(status == 0 and "disk-full" in told[0] and told[-1] == "front: publishes again", "of a full disk the front says", fault)
+    wanted = ["front: disk-full: the guard's state can't be written", "front: publishes again"]
+    hold(told == [*wanted, *wanted, wanted[0]], "of a full disk the front says", fault)
+    front = started(folder, LOG)
+    found = leaves_of(Client(front.port))
+    for name in (b"before", b"0", b"before a kill", b"killed"):
+        hold(any(vector(name) in entry for entry in found), "after a kill while the disk is full an entry is away:", name)
+    hold(front.end() == (0, ""), "the front doesn't end in order")
     return "a full disk, by a test and by a front"
 
 
@@ -552,7 +570,7 @@ def guard_that_ends(folder):
             status, answer = Client(front.port).call("add-chain", {"chain": [text(b"without a guard")]})
             hold(status == 503, "without a guard a client is answered with", status, answer)
         status, fault = front.wait()
-        hold(status == 1 and ("the signer" in fault), "without a guard the front ends with", status, fault)
+        hold(status == 1 and "the signer" in fault, "without a guard the front ends with", status, fault)
         front = started(own, LOG)
         leaves = leaves_of(Client(front.port))
         hold(len(leaves) == 2, "after a guard's end the entries are", leaves)
