@@ -12,8 +12,9 @@ NUMBER = re.compile(r"[0-9]{1,20}")
 
 
 class Calls:
-    def __init__(self, program, sequencer, signer, roots):
-        self.program, self.sequencer, self.signer, self.roots = program, sequencer, signer, roots
+    def __init__(self, program, sequencer, own, roots):
+        """`own` has the log's id and key, as the signer tells them."""
+        self.program, self.sequencer, self.own, self.roots = program, sequencer, own, roots
         self.gets = {
             "get-sth": ((), self.get_sth),
             "get-sth-consistency": (("first", "second"), self.get_sth_consistency),
@@ -31,7 +32,7 @@ class Calls:
         return lambda **keys: self.ask(op, **keys)
 
     def get_sth(self):
-        return self.signer.head(*self.sequencer.last_head())
+        return self.sequencer.signed_head()
 
     def get_sth_consistency(self, first, second):
         """The log has no proof from a tree to itself: it is the empty one."""
@@ -52,7 +53,10 @@ class Calls:
         return {"certificates": [base64.b64encode(root).decode() for root in self.roots]}
 
     def add(self, request):
-        return self.signer.timestamp(self.sequencer.submit(identity_of(request), request))
+        """A signed certificate timestamp. The moment stands in the leaf (section 3.4)."""
+        leaf, signature = self.sequencer.submit(identity_of(request), request)
+        moment = int.from_bytes(leaf[2:10], "big")
+        return {"sct_version": 0, "id": self.own["log_id"], "timestamp": moment, "extensions": "", "signature": signature}
 
     def add_chain(self, chain):
         if not chain:
@@ -104,4 +108,4 @@ class Calls:
 
     def key(self):
         """The log's id and public key, in DER: no call of RFC 6962; clients keep a log's key from elsewhere."""
-        return {"key": base64.b64encode(self.signer.key.public).decode(), "log_id": self.signer.log_id}
+        return {"key": self.own["key"], "log_id": self.own["log_id"]}

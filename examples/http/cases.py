@@ -1,9 +1,10 @@
 #!/usr/bin/env python3
 """Tries the front in what can go wrong around it: cases.py [NAME..]
 
-A case is a function of a folder of its own, in cases_journal.py (the state's folder), cases_wire.py (connections and requests)
-or cases_life.py (signals, the log's end, the clock, repeats); with names only those run. Each runs a front over stand_in.py, or
-over what LOG="PROGRAM WORD.." names, and says what it tried. A case that isn't as it has to be ends the run with status 1.
+A case is a function of a folder of its own, in cases_journal.py (the state's folder), cases_wire.py (connections and requests),
+cases_life.py (signals, the log's end, the clock, repeats) or cases_signer.py (what is signed, and the guard's state); with names
+only those run. Each runs a front over stand_in.py, or over what LOG="PROGRAM WORD.." names, with ctguard where it is built or
+what GUARD names, and says what it tried. A case that isn't as it has to be ends the run with status 1.
 """
 import pathlib
 import sys
@@ -12,10 +13,11 @@ import time
 
 import cases_journal
 import cases_life
+import cases_signer
 import cases_wire
 from harness import Wrong
 
-CASES = {case.__name__: case for module in (cases_journal, cases_wire, cases_life) for case in module.CASES}
+CASES = {case.__name__: case for module in (cases_journal, cases_wire, cases_life, cases_signer) for case in module.CASES}
 
 
 def run(names):

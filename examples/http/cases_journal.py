@@ -21,7 +21,7 @@ from entries import Entries  # noqa: E402
 from faults import Broken, Refused  # noqa: E402
 from journal import Journal  # noqa: E402
 
-FOLDER = ("journal.jsonl", "heads.jsonl", "key.pem")
+FOLDER = ("journal.jsonl", "heads.jsonl", "key.pem", "guard.json")
 
 
 class Inside:
@@ -196,7 +196,7 @@ def keys(folder):
         away.rename(lying)
         client.get("add-chain", {"chain": [text(b"while the key is away")]})
         status, fault = front.end()
-        hold(status == 0 and fault.startswith("front: openssl doesn't sign"), "of a missing key the front says", fault)
+        hold(status == 0 and fault.startswith("signer: openssl doesn't sign"), "of a missing key the front says", fault)
     return f"{len(rows) + 1 + bool(front)} keys that aren't the log's"
 
 
@@ -230,10 +230,12 @@ def old_journal(folder):
                 inside.ask(**line)
         if last["op"] == "publish":
             heads += json.dumps(inside.ask(who=0, op="get-sth"), separators=(",", ":"), sort_keys=True).encode() + b"\n"
-    key = made(folder)[0]["key.pem"]
-    refused(folder, {"journal.jsonl": journal, "heads.jsonl": b"", "key.pem": key}, "is of the form before")
+    # (the line that an operator writes)
+    guard, key = b'{"guard":1,"last":%s}\n' % heads.splitlines()[-1], made(folder)[0]["key.pem"]
+    refused(folder, {"journal.jsonl": journal, "heads.jsonl": b"", "key.pem": key, "guard.json": guard}, "is of the form before")
     refused(folder, {"journal.jsonl": journal, "heads.jsonl": heads}, "is missing")
-    put(folder, {"journal.jsonl": journal, "heads.jsonl": heads, "key.pem": key})
+    refused(folder, {"journal.jsonl": journal, "heads.jsonl": heads, "key.pem": key}, "guard-missing")
+    put(folder, {"journal.jsonl": journal, "heads.jsonl": heads, "key.pem": key, "guard.json": guard})
     for _ in range(2):
         front = started(folder, LOG)
         client = Client(front.port)

@@ -13,14 +13,15 @@ from harness import HERE, LOG, Client, Front, Wrong, hold, leaf_of, leaves_of, s
 import merkle  # noqa: E402
 
 CLIENTS, ROUNDS = 32, 20
-# A log of no entries that does as it is told by the name of the call: it cuts its reply off, answers what is no reply, answers
+# A log of one entry at most that does as it is told by the name of the call: it cuts its reply off, answers what is no reply, answers
 # without the reply's keys, closes its output, or answers nothing.
 FAULTY = """
 import json, os, sys, time
-head = {"sha256_root_hash": "A" * 43 + "=", "signature_input": "", "timestamp": 0, "tree_size": 0, "settled": 0, "ticket": 0}
+head = {"sha256_root_hash": "A" * 43 + "=", "timestamp": 0, "tree_size": 0, "settled": 1, "ticket": 0}
 for number, line in enumerate(sys.stdin):
     request = json.loads(line)
     head["timestamp"] = request.get("now", head["timestamp"])
+    head["tree_size"] |= request["op"] == "take"
     told = json.dumps({"line": number, "reply": head})
     if request["op"] == sys.argv[1]:
         if sys.argv[2] == "cut":
@@ -151,7 +152,7 @@ def log_that_fails(folder):
     """Whatever ends a thread of the front ends the front with status 1: a reply that is cut off, that is none, that lacks its
     keys, or that nobody asked for."""
     rows = [("get-entries", kind) for kind in ("cut", "other", "unasked")]
-    rows += [("take", "empty"), ("take", "cut"), ("receipt", "other")]
+    rows += [("take", "empty"), ("take", "cut"), *(("get-entry-and-proof", kind) for kind in ("other", "empty"))]
     for number, (op, kind) in enumerate(rows):
         front = started(f"{folder}-{number}", [sys.executable, "-c", FAULTY, op, kind], "--signer", "none")
         client = threading.Thread(target=ask_in_vain, args=(front.port, op))

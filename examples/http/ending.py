@@ -25,17 +25,18 @@ class Ending:
         while not self.asked and not self.come.wait(0.1):
             pass
 
-    def thread(self, name, body):
-        """Starts a thread. Whatever ends it ends the front, but where an end in order was asked for and nothing is raised."""
-        thread = threading.Thread(target=self.run, args=(name, body), name=name, daemon=True)
+    def thread(self, name, body, then=lambda: None):
+        """Starts a thread. Whatever ends it ends the front, but where an end in order was asked for and nothing is raised. `then` is
+        called behind that, so that what others meet through it isn't the first reason."""
+        thread = threading.Thread(target=self.run, args=(name, body, then), name=name, daemon=True)
         thread.start()
         return thread
 
-    def run(self, name, body):
+    def run(self, name, body, then):
         try:
             body()
+            if not self.asked:
+                self.fail(f"{name} ended")
         except BaseException as fault:
             self.fail(f"{name} ended: {type(fault).__name__}: {fault}")
-            return
-        if not self.asked:
-            self.fail(f"{name} ended")
+        then()

@@ -5,8 +5,9 @@
 
 PROGRAM is ctlogd, or stand_in.py: it is started with `--fronts` and `--ring`, and answers each line as its reply is known.
 Submissions go to its fronts by turns. On a timer the operator takes what was accepted, the journal has it on disk, and a
-head is published; an add-chain is answered once a head covers it. Nothing that isn't in the journal is ever shown: see
-docs/SERVICE.md, also for what a service owes that is left out here.
+head is published; an add-chain is answered once a head covers it. Nothing that isn't in the journal is ever shown. signer.py,
+a process of its own, has the key, and signs what ctguard lets through. See docs/SERVICE.md, also for what a service owes that
+is left out here.
 
 SIGTERM and Ctrl-C publish what was accepted, and end. SIGUSR1 ends the taking of submissions for good, and goes on
 answering. Whatever thread ends, and where the log ends, the front ends with status 1: a supervisor starts it again.
@@ -17,6 +18,7 @@ import collections
 import os
 import pathlib
 import re
+import shlex
 import signal
 import sys
 import threading
@@ -33,6 +35,9 @@ from program import Program
 from sequencer import HEADS_SHOWN, Sequencer
 from web import Server
 
+HERE = pathlib.Path(__file__).resolve().parent
+SIGNER = [sys.executable, str(HERE / "signer.py")]
+CTGUARD, GUARD_STAND_IN = HERE.parent.parent / "crates/ctguard/out/ctguard", [sys.executable, str(HERE / "guard_stand_in.py")]
 PEM = re.compile(r"-----BEGIN CERTIFICATE-----(.*?)-----END CERTIFICATE-----", re.S)
 
 
@@ -60,61 +65,106 @@ def words_given():
     options.add_argument("--clock-ahead", type=float, default=300, help="seconds that the last head may be ahead [default: 300]")
     options.add_argument("--roots", help="a file of PEM: what get-roots answers")
     options.add_argument("--signer", choices=list(signing.WAYS), help="what signs [default: the first that is there]")
+    options.add_argument("--guard", help="PROGRAM WORD.. [default: ctguard, where it isn't built guard_stand_in.py]")
+    options.add_argument("--receipts", choices=("in-head", "promised"), default="in-head", help="ctguard's [default: in-head]")
     options.add_argument("program", nargs="+", metavar="PROGRAM")
-    return options.parse_args()
+    words = options.parse_args()
+    words.guard = shlex.split(words.guard or "") or ([str(CTGUARD)] if CTGUARD.exists() else GUARD_STAND_IN)
+    return words
 
 
-def opened(words, ending):
-    """The state's folder looked through, what signs, and the log made again. Nothing is written."""
-    kept = Journal(words.state)
-    signer = signing.Signer(os.path.join(words.state, "key.pem"), words.signer, kept.fresh())
-    if kept.log_id not in (None, signer.log_id):
-        named, given = kept.log_id or "without a key", signer.log_id or "none"
-        raise Broken(f"{kept.path} names the log {named}, and the key here is that of {given}; nothing was changed")
-    program = Program([*words.program, "--fronts", str(words.fronts), "--ring", str(words.ring)], ending, words.patience)
-    entries, heads = Entries(), collections.deque(maxlen=HEADS_SHOWN)
-    try:
-        kept.replay(program, words.fronts, words.ring, entries, heads)
-        clock = Clock(heads[-1]["timestamp"] if heads else 0, words.clock_step, words.clock_ahead)
-        return program, kept, signer, Sequencer(program, kept, words, entries, clock, heads)
-    except BaseException as fault:
-        program.kill()
-        if isinstance(fault, Refused):
-            raise Broken(f"{words.program[0]} doesn't take the journal: {ending.fault or fault}") from None
-        raise
+class Opened:
+    """The state's folder looked through, the signer, and the log made again. Nothing is written."""
+
+    def __init__(self, words, ending):
+        self.words, self.ending, self.programs = words, ending, []
+        self.journal, self.entries, self.heads = Journal(words.state), Entries(), collections.deque(maxlen=HEADS_SHOWN)
+        try:
+            self.open()
+        except BaseException as fault:
+            self.kill()
+            if isinstance(fault, Refused):
+                raise Broken(f"{self.programs[-1].name} doesn't take the journal: {ending.fault or fault}") from None
+            raise
+
+    def start(self, name, line):
+        self.programs.append(Program(name, line, self.ending, self.words.patience))
+        return self.programs[-1]
+
+    def ask_signer(self, **keys):
+        try:
+            return self.signer.ask(**keys)
+        except Refused as refused:
+            raise Broken(self.ending.fault or refused) from None
+
+    def open(self):
+        words, kept = self.words, self.journal
+        way = ["--signer", words.signer] if words.signer else []
+        self.signer = self.start("the signer", [*SIGNER, "--state", words.state, *way, "--receipts", words.receipts, "--", *words.guard])
+        self.own = self.ask_signer(op="open", fresh=kept.fresh())
+        if kept.log_id not in (None, self.own["log_id"]):
+            named, given = kept.log_id or "without a key", self.own["log_id"] or "none"
+            raise Broken(f"{kept.path} names the log {named}, and the key here is that of {given}; nothing was changed")
+        self.program = self.start("the log", [*words.program, "--fronts", str(words.fronts), "--ring", str(words.ring)])
+        kept.replay(self.program, words.fronts, words.ring, self.entries, self.heads)
+        before, last = [None, None, *self.heads][-2:]
+        passed = self.ask_signer(op="begin", before=before, last=last)["last"]
+        clock = Clock(last["timestamp"] if last else 0, words.clock_step, words.clock_ahead)
+        self.sequencer = Sequencer(self.program, self.signer, kept, words, self.entries, clock, self.heads, passed)
+
+    def keep(self):
+        """All is taken up: from here on there is writing."""
+        self.ask_signer(op="keep")
+        self.sequencer.let_through()
+        self.journal.open(self.own["log_id"])
+        if not self.heads:
+            self.sequencer.step(forced=True)
+
+    def end(self):
+        """Ends the programs; why that wasn't in order."""
+        for program in self.programs:
+            status = program.end() if not self.ending.fault else None
+            if status:
+                self.ending.fail(f"{program.name} ended with status {status}")
+        return self.ending.fault
+
+    def kill(self):
+        for program in self.programs:
+            program.kill()
 
 
 def serve(words):
     ending, stopping = Ending(), threading.Event()
-    program, kept, signer, sequencer = opened(words, ending)
-    server = Server(words, Calls(program, sequencer, signer, roots_of(words.roots)))
-    # All is taken up: from here on there is writing.
-    signer.keep()
-    kept.open(signer.log_id)
-    if not sequencer.heads:
-        sequencer.step(forced=True)
+    log = Opened(words, ending)
+    sequencer = log.sequencer
+    try:
+        server = Server(words, Calls(log.program, sequencer, log.own, roots_of(words.roots)))
+        log.keep()
+    except BaseException:
+        log.kill()
+        raise
     for number in (signal.SIGTERM, signal.SIGINT):
         signal.signal(number, lambda *_: ending.ask())
     signal.signal(signal.SIGUSR1, lambda *_: setattr(sequencer, "retiring", True))
     timer = ending.thread("the timer", lambda: sequencer.run(stopping))
     ending.thread("the server", server.serve_forever)
-    tell(words, server, sequencer, signer)
+    tell(words, server, sequencer, log.own)
     ending.wait()
     if not ending.fault:
         stop(words, ending, server, stopping, timer)
-    status = program.end() if not ending.fault else None
-    if ending.fault or status:
-        program.kill()
-        sys.exit(f"front: {ending.fault or f'the log ended with status {status}'}; started again it takes the journal up")
+    if log.end():
+        log.kill()
+        sys.exit(f"front: {ending.fault}; started again it takes the journal up")
 
 
-def tell(words, server, sequencer, signer):
+def tell(words, server, sequencer, own):
     """One line of the start, with the address."""
-    if not signer.log_id:
+    if not own["log_id"]:
         why = "as --signer none has it" if words.signer else "neither python3-cryptography nor openssl is there"
         print(f"front: nothing is signed: {why}", file=sys.stderr)
     address, size = f"http://{words.address}:{server.server_address[1]}/", sequencer.heads[-1]["tree_size"]
-    print(f"{address} with {sequencer.published} heads, {size} entries, signed by {signer.key.name}", flush=True)
+    signed = f"signed by {own['signed_by']} through {pathlib.Path(words.guard[-1]).name}"
+    print(f"{address} with {sequencer.published} heads, {size} entries, {signed}", flush=True)
 
 
 def stop(words, ending, server, stopping, timer):

@@ -16,6 +16,9 @@ HERE = pathlib.Path(__file__).resolve().parent
 STAND_IN = [sys.executable, str(HERE / "stand_in.py")]
 # The log of the cases: LOG="PROGRAM WORD.." is another one.
 LOG = shlex.split(os.environ.get("LOG", "")) or STAND_IN
+# The guard, in its place the one that GUARD="PROGRAM WORD.." names.
+CTGUARD, GUARD_STAND_IN = HERE.parent.parent / "crates/ctguard/out/ctguard", [sys.executable, str(HERE / "guard_stand_in.py")]
+GUARD = shlex.split(os.environ.get("GUARD", "")) or ([str(CTGUARD)] if CTGUARD.exists() else GUARD_STAND_IN)
 FRONTS = 3
 # How long a client keeps a connection that it doesn't use, in seconds. The front closes it after 15.
 KEPT = 5
@@ -43,17 +46,24 @@ class Front:
 
     def __init__(self, folder, program, *words, fronts=FRONTS, ring=64, front=(sys.executable, str(HERE / "front.py"))):
         self.folder = folder
-        options = ["--port", "0", "--state", folder, "--fronts", str(fronts), "--ring", str(ring), "--every", "0.05", *words]
-        line = [*front, *options, "--", *program]
+        options = ["--port", "0", "--state", folder, "--fronts", str(fronts), "--ring", str(ring), "--every", "0.05"]
+        line = [*front, *options, "--guard", shlex.join(GUARD), *words, "--", *program]
         self.process = subprocess.Popen(line, stdout=subprocess.PIPE, stderr=subprocess.PIPE, text=True)
         self.told = self.process.stdout.readline()
         found = re.match(r"http://127\.0\.0\.1:(\d+)/", self.told)
         self.port = int(found[1]) if found else None
 
+    def children(self):
+        """The front's processes: the signer's first, then the log's."""
+        own = self.process.pid
+        return [int(child) for child in pathlib.Path(f"/proc/{own}/task/{own}/children").read_text().split()]
+
     def program_id(self):
         """The process of the log."""
-        own = self.process.pid
-        return int(pathlib.Path(f"/proc/{own}/task/{own}/children").read_text().split()[0])
+        return self.children()[1]
+
+    def signer_id(self):
+        return self.children()[0]
 
     def end(self, number=signal.SIGTERM):
         """Sends the signal, and answers the status and what was told of the end."""

@@ -1,4 +1,4 @@
-"""The file of heads: each head that was published, noted behind its publication, for the comparison at the next start.
+"""The file of heads: each head that was let through, noted behind it, for the comparison at the next start.
 
 It tells what the journal alone can't: that its end was cut off where a batch ends, or that the log makes another head of the
 same lines. It isn't waited for: it is on disk whenever the system writes it.

@@ -1,4 +1,4 @@
-"""The live log as calls: each writes a line to the program, and waits for the reply with that line's number."""
+"""The live log and the signer as calls: each writes a line to the program, and waits for the reply with that line's number."""
 import json
 import os
 import signal
@@ -27,7 +27,7 @@ class Answer:
         self.there.set()
 
     def get(self):
-        """The reply. The wait has an end: the program's watch ends a log that leaves a line unanswered."""
+        """The reply. The wait has an end: the program's watch ends one that leaves a line unanswered."""
         self.there.wait()
         if "error" in self.reply:
             raise Refused(self.reply["error"])
@@ -39,31 +39,32 @@ class Program:
     lock: a full pipe in one direction can't stop the other. The program's end is the front's, and so is a line that it leaves
     unanswered for `patience` seconds, by whatever thread it is waited for: then it is killed, which ends every wait."""
 
-    def __init__(self, words, ending, patience):
+    def __init__(self, name, words, ending, patience):
         # A group of its own: a Ctrl-C at the terminal is the front's, which ends the program by the end of its input.
         self.process = subprocess.Popen(words, stdin=subprocess.PIPE, stdout=subprocess.PIPE, start_new_session=True)
         self.writing, self.number, self.waiting, self.ended = threading.Lock(), 0, {}, threading.Event()
-        self.ending, self.patience = ending, patience
-        self.reader = ending.thread("the log", self.read)
-        ending.thread("the watch over the log", self.watch)
+        self.name, self.ending, self.patience = name, ending, patience
+        self.reader = ending.thread(name, self.read, self.wake)
+        ending.thread(f"the watch over {name}", self.watch)
 
     def read(self):
-        try:
-            for line in self.process.stdout:
-                if not line.endswith(b"\n"):
-                    return
-                answer = json.loads(line)
-                self.waiting.pop(answer["line"]).come(answer["reply"])
-        finally:
-            self.ended.set()
-            for answer in list(self.waiting.values()):
-                answer.there.set()
+        for line in self.process.stdout:
+            if not line.endswith(b"\n"):
+                return
+            answer = json.loads(line)
+            self.waiting.pop(answer["line"]).come(answer["reply"])
+
+    def wake(self):
+        """Ends each wait: no more replies come."""
+        self.ended.set()
+        for answer in list(self.waiting.values()):
+            answer.there.set()
 
     def watch(self):
         while not self.ended.wait(min(1, self.patience / 4)):
             oldest = list(self.waiting.values())[:1]
             if oldest and time.monotonic() - oldest[0].sent > self.patience:
-                self.ending.fail(f"the log left a line unanswered for {self.patience:g} s")
+                self.ending.fail(f"{self.name} left a line unanswered for {self.patience:g} s")
                 self.kill()
         self.reader.join()
 
@@ -103,6 +104,6 @@ class Program:
             finally:
                 self.writing.release()
         if not self.ended.wait(self.patience):
-            self.ending.fail(f"the log didn't end within {self.patience:g} s")
+            self.ending.fail(f"{self.name} didn't end within {self.patience:g} s")
             self.kill()
         return self.process.wait()

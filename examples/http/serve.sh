@@ -1,6 +1,7 @@
 #!/usr/bin/env bash
-# Serves a log over HTTP from the top of the repository: `make serve`. ctlogd is built where it isn't; words go to front.py.
-# With LOG="PROGRAM WORD.." another program is served, such as LOG="python3 examples/http/stand_in.py", which needs no kit.
+# Serves a log over HTTP from the top of the repository: `make serve`. ctlogd and ctguard are built where they aren't; words go to
+# front.py. With LOG="PROGRAM WORD.." another program is served, such as LOG="python3 examples/http/stand_in.py", which needs no
+# kit: then ctguard isn't built either, and where it isn't there its stand-in serves.
 set -eu
 cd "$(dirname "$0")/../.."
 export PYTHONDONTWRITEBYTECODE=1
@@ -12,6 +13,9 @@ if [ -z "${LOG:-}" ] && [ ! -x "$log" ]; then
   fi
   checks/needs.sh serve
   examples/build.py ctlogd run -- --help
+fi
+if [ -z "${LOG:-}" ] && [ -d crates/ctguard ] && [ ! -x crates/ctguard/out/ctguard ]; then
+  examples/build.py ctguard run -- --help
 fi
 # $log is a command line: its words are to be split.
 # shellcheck disable=SC2086

@@ -1,8 +1,7 @@
-"""Signs tree heads and certificate timestamps with ECDSA over P-256 and SHA-256 (RFC 6962, section 2.1.4).
+"""Signs bytes with ECDSA over P-256 and SHA-256 (RFC 6962, section 2.1.4): for signer.py, the one process that reads the key.
 
-What is signed are the bytes that the log names. python3-cryptography signs where it is there, else the command `openssl`, a
-process for each signature; where neither is, nothing is signed. The key lies in a file as PEM. It is made with a new journal and
-never beside one that is there.
+python3-cryptography signs where it is there, else the command `openssl`, a process for each signature; where neither is, nothing
+is signed. The key lies in a file as PEM. It is made with a new journal and never beside one that is there.
 """
 import base64
 import hashlib
@@ -11,7 +10,6 @@ import os
 import shutil
 import subprocess
 import sys
-import threading
 
 from disk import write_new
 from faults import Broken, Refused
@@ -104,8 +102,9 @@ def chosen(wanted=None):
     return way
 
 
-class Signer:
-    """Signatures as RFC 6962 has them: a DigitallySigned in base64 (RFC 5246, section 4.7: SHA-256 is 4, ECDSA is 3)."""
+class Key:
+    """The log's key. Signatures are as RFC 6962 has them: a DigitallySigned in base64 (RFC 5246, section 4.7: SHA-256 is 4, ECDSA
+    is 3)."""
 
     def __init__(self, path, wanted, fresh):
         """With `fresh` a key is made where none lies there; `keep` writes it."""
@@ -121,7 +120,6 @@ class Signer:
             raise Broken(f"{path} isn't read as a key by {way.name}: {type(fault).__name__}; nothing was changed") from None
         if not right:
             raise Broken(f"{path} has a key that isn't one over P-256; nothing was changed")
-        self.lock, self.last = threading.Lock(), (None, None)
         self.log_id = base64.b64encode(hashlib.sha256(self.key.public).digest()).decode() if self.key.public else ""
 
     def keep(self):
@@ -133,22 +131,10 @@ class Signer:
         try:
             signature = self.key.sign(message)
         except (OSError, ValueError, subprocess.SubprocessError) as fault:
-            print(f"front: {self.key.name} doesn't sign with {self.path}: {fault}", file=sys.stderr, flush=True)
+            print(f"signer: {self.key.name} doesn't sign with {self.path}: {fault}", file=sys.stderr, flush=True)
             raise Refused("not-signed") from None
         text = b"\x04\x03" + len(signature).to_bytes(2, "big") + signature if signature else b""
         return base64.b64encode(text).decode()
-
-    def timestamp(self, message):
-        """A signed certificate timestamp, as add-chain answers it. The moment stands in what is signed (section 3.2)."""
-        moment, signature = int.from_bytes(message[2:10], "big"), self.signed(message)
-        return {"sct_version": 0, "id": self.log_id, "timestamp": moment, "extensions": "", "signature": signature}
-
-    def head(self, head, message):
-        """A signed tree head, as get-sth answers it. The signature of the last one is kept."""
-        with self.lock:
-            if self.last[0] != message:
-                self.last = message, self.signed(message)
-            return {**head, "tree_head_signature": self.last[1]}
 
 
 def read(path):
