@@ -1,13 +1,13 @@
 -- The steps on the two copies keep the rule: what is shown is always of one line.
 use Rattle.std.proofs.Common.{◌≡◌, ◌≢◌, ℕ, List, set, refl, ap, sym, ◌∙◌, subst, ⊎_elim}
 use Rattle.std.proofs.lemmas.Option.{same_Some, none-some}
-use Rattle.std.specs.Prelude.{Option, Some, None, Result, Ok, Err, MatchResult}
+use Rattle.std.specs.Prelude.{Option, Some, None}
 use mathlib.Core.Option.{some}
 use lib.ListN.{get_elem?}
 use Rattle.left_right.specs.Register.{Admits, TurnsAt, Forks, Merges}
 use Rattle.atomic_table.proofs.Lists.{at_set, at_snoc}
-use Rattle.ct_versions.specs.Publications.{Reach, Series, series_of}
-use Rattle.ct_versions.specs.Sights.{AllFit, Fits, Sees, Knows}
+use Rattle.ct_versions.specs.Publications.{Reach, series_of}
+use Rattle.ct_versions.specs.Sights.{AllFit, Fits, Sees}
 
 none_fits : (x : Reach) → Fits x None
 none_fits x r e = absurd (none-some r e)
@@ -38,10 +38,3 @@ merges seat v other w x views h at apart there =
     let b : Fits x w = ⊎_elim (λ (t : (other ≡ seat) × (w ≡ w)). absurd (apart t.0))
     (λ (t : (other ≢ seat) × (get_elem? views other ≡ some w)). h other w t.1) (at_set views seat other w w there) in
     set_fit x (set views seat w) other None (set_fit x views seat w h b) (none_fits x)
-
--- it is still known whose publications are shown, whether the turn was made or not
-pub still_known : {E : Type 0} (s : Series) (x y : Reach) (v w : Option Reach) (done : Result Unit E) → (series_of x ≡ s) × Knows s v
-    → series_of y ≡ series_of x → MatchResult done (λ _. w ≡ Some y) (λ _. w ≡ v)
-    → (series_of y ≡ s) × Knows s w
-still_known s x y v w (Ok _) k e m = (e ∙ k.0, (y, m, e ∙ k.0))
-still_known s x y v w (Err _) k e m = (e ∙ k.0, subst (Knows s) (sym m) k.1)
