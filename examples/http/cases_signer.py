@@ -53,7 +53,7 @@ def asked_receipt(index, leaves, value=None):
 
 
 class Asked:
-    """A signer that a test asks in the front's place."""
+    """A signer that a test asks in the front's place. It is killed behind the test."""
 
     def __init__(self, folder, program=HERE / "signer.py", receipts="in-head"):
         os.makedirs(folder, exist_ok=True)
@@ -148,34 +148,35 @@ def forgeries():
     return leaves, rows
 
 
+def check_forgeries(asked, path, leaves, rows):
+    """None of these is signed, and the state stays; what is right is signed, over the bytes of RFC 6962."""
+    kept, second = path.read_bytes(), head_of(leaves[:5], 2000)
+    hold(kept == signer_module.state_of(second), "the state on disk is", kept)
+    for request, why in rows:
+        reply = asked.ask(request)
+        right = reply.keys() == {"error"} and (reply["error"] == why or why[-1] == " " and reply["error"].startswith(why))
+        hold(right and path.read_bytes() == kept, request, "is to be refused as", why, "and is answered with", reply)
+    asked.signs({**asked_head(leaves[:5], 2000), "op": "open"}, head_text(second))
+    for index in (0, 1, 2, 4):
+        asked.signs(asked_receipt(index, leaves[:5]), leaves[index])
+
+
 def forged(folder, program=HERE / "signer.py"):
     """A forked head, an older one, one with a false proof, a receipt that isn't in the tree, a tree head's bytes in the place of a
-    leaf: none is signed, and nothing changes. Again after a restart. What is right is signed, over the bytes of RFC 6962."""
+    leaf: none is signed, neither at first nor behind a kill."""
     leaves, rows = forgeries()
-    second, path = head_of(leaves[:5], 2000), pathlib.Path(folder) / "guard.json"
+    first, second, path = head_of(leaves[:3], 1000), head_of(leaves[:5], 2000), pathlib.Path(folder) / "guard.json"
     with Asked(folder, program) as asked:
         hold(asked.ask(asked_head(leaves[:3], 1000)) == {"error": "not-begun"}, "a head is signed before the start")
-        asked.number, asked.own = 0, None
     with Asked(folder, program) as asked:
         asked.begun()
         hold(asked.ask(asked_receipt(0, leaves)) == {"error": "no-head"}, "a receipt is signed before a head")
-        asked.signs(asked_head(leaves[:3], 1000), head_text(head_of(leaves[:3], 1000)))
+        asked.signs(asked_head(leaves[:3], 1000), head_text(first))
         asked.signs(asked_head(leaves[:5], 2000, 3), head_text(second))
-        for turn in range(2):
-            kept = path.read_bytes()
-            hold(kept == signer_module.state_of(second), "the state on disk is", kept)
-            for request, why in rows:
-                reply = asked.ask(request)
-                right = reply.keys() == {"error"} and (reply["error"] == why or why[-1] == " " and reply["error"].startswith(why))
-                hold(right and path.read_bytes() == kept, request, "is to be refused as", why, "and is answered with", reply)
-            asked.signs({**asked_head(leaves[:5], 2000), "op": "open"}, head_text(second))
-            for index in (0, 1, 2, 4):
-                asked.signs(asked_receipt(index, leaves[:5]), leaves[index])
-            if turn == 0:
-                asked.process.kill()
-                asked.end()
-                asked.__init__(folder, program)
-                asked.begun(head_of(leaves[:3], 1000), second)
+        check_forgeries(asked, path, leaves, rows)
+    with Asked(folder, program) as asked:
+        asked.begun(first, second)
+        check_forgeries(asked, path, leaves, rows)
         asked.signs(asked_head(leaves, 3000, 5), head_text(head_of(leaves, 3000)))
     with Asked(folder + "-promised", program, "promised") as asked:
         asked.begun().signs({"leaf_input": text(leaf(9))}, leaf(9))
@@ -583,7 +584,7 @@ def guard_that_ends(folder):
 SIGNER, GUARDED = "signer.py", "guard_stand_in.py"
 SIGNED, KEPT = 'return {"signature": self.key.signed(', "        self.kept.write(self.state)\n"
 ASKED = "        message, state = self.guard.ask(request)\n        self.state = state or self.state\n"
-BEGUN = "self.words.receipts], self.state)\n        if head and"
+BEGUN = "self.words.receipts], self.state)\n        try:\n            right = head is None"
 WRONG = {
     "a receipt is signed unasked": (
         SIGNER,
@@ -592,7 +593,7 @@ WRONG = {
         forged,
     ),
     "other bytes are signed than the guard's": (SIGNER, SIGNED + "message)}", SIGNED + "message[:49])}", forged),
-    "the guard begins anew": (SIGNER, BEGUN, BEGUN.replace("self.state", "state_of(None)").replace("head", "False"), forged),
+    "the guard begins anew": (SIGNER, BEGUN, BEGUN.replace("self.state", "state_of(None)").replace("head is None", "True"), forged),
     "an option is forgotten": (SIGNER, '"--receipts", self.words.receipts], self.state)', "], self.state)", forged),
     "the state is the first one": (SIGNER, "write_new(self.path, line)", "write_new(self.path, state_of(None))", forged),
     "the state is on disk behind the signature": (

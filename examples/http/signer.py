@@ -69,12 +69,12 @@ def check_agreement(state, before, last, path):
         return head["timestamp"] if head else -1
 
     if moment(state) > moment(last):
-        why = "guard-ahead: {} has a head at {} that the journal ends before"
+        why = "guard-ahead: {} has a head at {} that isn't in the journal any more"
     elif moment(state) < moment(before):
-        why = "guard-behind: the head in {}, at {}, is older than the journal's last but one"
+        why = "guard-behind: {} has a head at {}, which is older than the last but one of the journal"
     else:
-        why = "guard-other: {} has a head at {} that the journal doesn't have"
-    raise Broken(why.format(path, moment(state)) + "; nothing was changed")
+        why = "guard-other: {} has a head at {} that isn't one of the journal"
+    raise Broken(f"{why.format(path, moment(state))}; that one's last head is {compact(last).decode()}; nothing was changed")
 
 
 class Kept:
