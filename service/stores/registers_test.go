@@ -5,6 +5,8 @@ import (
 	"errors"
 	"fmt"
 	"math/rand"
+	"os"
+	"path/filepath"
 	"strings"
 	"testing"
 	"time"
@@ -58,6 +60,33 @@ func TestRegisterIsCreatedOnce(t *testing.T) {
 		}
 		standsAs(t, at.opened(t), "first", 7)
 	})
+}
+
+// TestFileWhoseTextIsLost: nothing is made in its place, since a log would begin anew.
+func TestFileWhoseTextIsLost(t *testing.T) {
+	root, ctx := t.TempDir(), limited(t)
+	register, err := OpenFile(root)
+	must(t, err)
+	must(t, register.Create(ctx, "a"))
+	must(t, register.Raise(ctx, 5))
+	must(t, os.Remove(filepath.Join(root, textFile)))
+	if err := register.Create(ctx, "b"); !errors.Is(err, ErrExists) {
+		t.Errorf("Create: %v", err)
+	}
+	if _, err := register.Read(ctx); !errors.Is(err, ErrAbsent) {
+		t.Errorf("Read: %v", err)
+	}
+	if _, err := register.Published(ctx); !errors.Is(err, ErrAbsent) {
+		t.Errorf("Published: %v", err)
+	}
+	if err := register.Swap(ctx, "a", "b"); !errors.Is(err, ErrAbsent) {
+		t.Errorf("Swap: %v", err)
+	}
+	must(t, os.WriteFile(filepath.Join(root, textFile), []byte("a"), 0o644))
+	must(t, os.WriteFile(filepath.Join(root, publishedFile), []byte("-5"), 0o644))
+	if err := register.Raise(ctx, 6); err == nil {
+		t.Error("Raise over what is no number")
+	}
 }
 
 func TestRegisterSwapsTheTextThatWasRead(t *testing.T) {

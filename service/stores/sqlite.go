@@ -5,7 +5,6 @@ import (
 	"database/sql"
 	"fmt"
 	"net/url"
-	"os"
 	"path/filepath"
 	"strings"
 
@@ -30,8 +29,8 @@ func OpenSQLite(ctx context.Context, path string) (Places, error) {
 	if err != nil {
 		return nil, fmt.Errorf("stores: SQLite: %w", err)
 	}
-	if err := os.MkdirAll(filepath.Dir(path), 0o755); err != nil {
-		return nil, fmt.Errorf("stores: SQLite: %w", err)
+	if err := makeFolder(filepath.Dir(path)); err != nil {
+		return nil, err
 	}
 	settings := url.Values{"_journal_mode": {"WAL"}, "_synchronous": {"FULL"}, "_busy_timeout": {"10000"}, "_txlock": {"immediate"}}
 	source := url.URL{Scheme: "file", Path: path, RawQuery: settings.Encode()}
