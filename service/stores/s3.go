@@ -190,11 +190,11 @@ func (b *bucket) List(ctx context.Context, prefix, after string, most int) ([]st
 	if most == 0 {
 		return nil, nil
 	}
-	ctx, cancel := context.WithCancel(ctx)
+	listing, cancel := context.WithCancel(ctx)
 	defer cancel()
 	options := minio.ListObjectsOptions{Prefix: prefix, StartAfter: after, MaxKeys: most, Recursive: true}
 	var found []string
-	for object := range b.core.Client.ListObjects(ctx, b.name, options) {
+	for object := range b.core.Client.ListObjects(listing, b.name, options) {
 		if len(found) == most {
 			cancel()
 			continue
@@ -205,6 +205,10 @@ func (b *bucket) List(ctx context.Context, prefix, after string, most int) ([]st
 		if checkName(object.Key) == nil {
 			found = append(found, object.Key)
 		}
+	}
+	// minio-go ends a list with its context, and says nothing.
+	if err := ctx.Err(); err != nil {
+		return nil, fmt.Errorf("stores: list %s: %w", prefix, err)
 	}
 	return found, nil
 }
