@@ -8,6 +8,7 @@ import (
 	"os"
 	"path/filepath"
 	"strings"
+	"syscall"
 	"testing"
 	"time"
 )
@@ -111,7 +112,7 @@ func TestRegisterSwapsTheTextThatWasRead(t *testing.T) {
 			}
 		}
 		for _, texts := range [][2]string{{allBytes(), ""}, {"", "d"}} {
-			if err := register.Swap(ctx, texts[0], texts[1]); !errors.Is(err, ErrName) {
+			if err := register.Swap(ctx, texts[0], texts[1]); !errors.Is(err, ErrEmpty) {
 				t.Errorf("Swap of no text: %v", err)
 			}
 		}
@@ -307,4 +308,41 @@ func TestRegisterSettlesByReading(t *testing.T) {
 		standsAs(t, register, stands, 0)
 		t.Logf("%s: %v", at.name, outcomes)
 	})
+}
+
+func TestRegisterEndsWithItsContext(t *testing.T) {
+	eachOf(t, registers, func(t *testing.T, at trial[Register]) {
+		register := at.opened(t)
+		must(t, register.Create(limited(t), "text"))
+		ended, cancel := context.WithCancel(limited(t))
+		cancel()
+		_, reading := register.Read(ended)
+		_, asking := register.Published(ended)
+		calls := map[string]error{"Read": reading, "Published": asking, "Raise": register.Raise(ended, 1), "Swap": register.Swap(ended, "text", "other")}
+		for what, err := range calls {
+			if err == nil || errors.Is(err, ErrLost) || errors.Is(err, ErrAbsent) {
+				t.Errorf("%s: %v", what, err)
+			}
+		}
+		standsAs(t, register, "text", 0)
+	})
+}
+
+// TestFileWaitsForItsLock: as long as the context lets it.
+func TestFileWaitsForItsLock(t *testing.T) {
+	root := t.TempDir()
+	register, err := OpenFile(root)
+	must(t, err)
+	must(t, register.Create(limited(t), "text"))
+	lock, err := os.Open(filepath.Join(root, lockFile))
+	must(t, err)
+	must(t, syscall.Flock(int(lock.Fd()), syscall.LOCK_EX))
+	short, cancel := context.WithTimeout(limited(t), 50*time.Millisecond)
+	defer cancel()
+	if err := register.Swap(short, "text", "other"); !errors.Is(err, context.DeadlineExceeded) {
+		t.Errorf("Swap of a register that is locked: %v", err)
+	}
+	time.AfterFunc(50*time.Millisecond, func() { lock.Close() })
+	must(t, register.Swap(limited(t), "text", "another"))
+	standsAs(t, register, "another", 0)
 }

@@ -9,7 +9,6 @@ import (
 	"fmt"
 	"io"
 	"net/http"
-	"time"
 
 	"github.com/minio/minio-go/v7"
 	"github.com/minio/minio-go/v7/pkg/credentials"
@@ -39,9 +38,6 @@ type bucket struct {
 	name        string
 	conditional bool
 }
-
-// waits bounds a call that no context ends earlier.
-const waits = 30 * time.Second
 
 // ifAbsent marks the context of a put that may only be done where no object is.
 type ifAbsent struct{}
