@@ -5,7 +5,8 @@
 # are (STORES_ETCD, STORES_POSTGRES, STORES_S3), and stops them behind it. ENGINES="etcd postgres" starts these alone. One line is
 # said of each that isn't there. It ends with the command's status.
 #
-# The command may kill an engine's process (-9) and have it started again: engines.sh again ENGINES_FOLDER NAME.
+# The command may kill an engine's process (-9) and have it started again, and stop it for some seconds: engines.sh again|pause
+# FOLDER NAME [SECONDS], of which STORES_AGAIN and STORES_PAUSE are all but the last words.
 set -eu
 what=${1:-}
 shift || true
@@ -43,15 +44,28 @@ if [ "$what" = again ] && [ $# = 2 ]; then
   launch "$2"
   exit
 fi
-[ "$what" = run ] && [ $# -gt 0 ] || { echo "engines.sh run COMMAND.. | again FOLDER NAME" >&2; exit 1; }
+if [ "$what" = pause ] && [ $# = 3 ]; then
+  id=$(cat "$1/$2.id")
+  stopped="$id $(pgrep -P "$id" | tr '\n' ' ')"
+  # Its words are ids.
+  # shellcheck disable=SC2086
+  kill -STOP $stopped
+  sleep "$3"
+  # shellcheck disable=SC2086
+  kill -CONT $stopped
+  exit
+fi
+if [ "$what" != run ] || [ $# = 0 ]; then
+  echo "engines.sh run COMMAND.. | again FOLDER NAME | pause FOLDER NAME SECONDS" >&2
+  exit 1
+fi
 engines=${ENGINES-etcd postgres s3}
 work=$(mktemp -d)
 chmod 755 "$work"
 
-# The last that was started ends first.
 end() {
   local ids
-  ids=$(ls -t "$work"/*.id 2>/dev/null | xargs -r cat)
+  ids=$(cat "$work"/*.id 2>/dev/null || true)
   for id in $ids; do kill -TERM "$id" 2>/dev/null || true; done
   for _ in $(seq 30); do
     for id in $ids; do kill -0 "$id" 2>/dev/null && break; done || break
@@ -156,8 +170,8 @@ END
 }
 
 began=$SECONDS
-STORES_AGAIN="$(cd "$(dirname "$0")" && pwd)/engines.sh again $work"
-export STORES_AGAIN
+here=$(cd "$(dirname "$0")" && pwd)
+export STORES_AGAIN="$here/engines.sh again $work" STORES_PAUSE="$here/engines.sh pause $work"
 for engine in $engines; do "start_$engine"; done
 [ -z "$engines" ] || echo "engines.sh: started in $((SECONDS - began)) s"
 "$@"

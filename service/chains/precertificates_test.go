@@ -57,6 +57,43 @@ func TestPrecertificatesAreTheirFinalCertificates(t *testing.T) {
 	}
 }
 
+// TestReplacedValue: an extension gets another value, and is as critical as it was. (RFC 5280, section 4.2.1.1, has it uncritical;
+// a log takes what was issued.)
+func TestReplacedValue(t *testing.T) {
+	for _, test := range []struct{ extension, value, want string }{
+		{"300a0603551d230403300102", "8001ff", "300a0603551d2304038001ff"},
+		{"300a0603551d230403300102", "", "30070603551d230400"},
+		{"300d0603551d230101ff0403300102", "80", "300b0603551d230101ff040180"},
+		{"300d0603551d230101ff0403300102", hex.EncodeToString(make([]byte, 128)), "3081" + "8b" + "0603551d230101ff048180" + hex.EncodeToString(make([]byte, 128))},
+	} {
+		extension, value := unhex(t, test.extension), unhex(t, test.value)
+		got, err := withValue(extension, value)
+		if err != nil || hex.EncodeToString(got) != test.want {
+			t.Errorf("%s with %s: %x, %v", test.extension, test.value, got, err)
+		}
+	}
+	for what, wrong := range map[string]string{
+		"no sequence":            "0603551d23",
+		"no value":               "30050603551d23",
+		"a value that is no DER": "300a0603551d230404300102",
+		"bytes behind it":        "300c0603551d2304033001020500",
+		"no boolean":             "300d0603551d230102ff0403300102",
+	} {
+		if got, err := withValue(unhex(t, wrong), []byte{1}); RefusalOf(err) != NoCertificate {
+			t.Errorf("%s: %x, %v", what, got, err)
+		}
+	}
+}
+
+func unhex(t *testing.T, text string) []byte {
+	t.Helper()
+	bytes, err := hex.DecodeString(text)
+	if err != nil {
+		t.Fatal(err)
+	}
+	return bytes
+}
+
 // example is the program's side in Python: examples/http/der.py, which stands on no library for X.509.
 const example = "../../examples/http"
 

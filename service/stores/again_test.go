@@ -70,7 +70,7 @@ func whileEnginesDie(t *testing.T, engine string, write writer) (acknowledged in
 // inTurn runs a test on every engine that can be killed, one after the other.
 func inTurn[T interface{ Close() error }](t *testing.T, all []implementation[T], test func(t *testing.T, at trial[T])) {
 	for _, one := range all {
-		if one.folder {
+		if one.folder || one.inMemory {
 			continue
 		}
 		t.Run(one.name, func(t *testing.T) {

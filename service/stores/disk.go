@@ -19,6 +19,9 @@ const abandoned = time.Hour
 // mostSynced is how many folders are remembered as written to the disk.
 const mostSynced = 4096
 
+// fsync is File.Sync; the tests look at what is synced when.
+var fsync = (*os.File).Sync
+
 // disk writes files below a folder so that what is acknowledged stays when power fails: a file is written under a name of its
 // own, then to the disk, then gets its name, and then the folders with that name go to the disk.
 type disk struct {
@@ -34,8 +37,8 @@ func openDisk(root string) (*disk, error) {
 		return nil, fmt.Errorf("stores: folder: %w", err)
 	}
 	d := &disk{root: root, synced: map[string]bool{}}
-	if err := os.MkdirAll(filepath.Join(root, temporary), 0o755); err != nil {
-		return nil, fmt.Errorf("stores: folder: %w", err)
+	if err := makeFolder(filepath.Join(root, temporary)); err != nil {
+		return nil, err
 	}
 	if err := syncFolder(filepath.Dir(root)); err != nil {
 		return nil, err
@@ -44,6 +47,24 @@ func openDisk(root string) (*disk, error) {
 		return nil, err
 	}
 	return d, syncFolder(root)
+}
+
+// makeFolder makes a folder and those above it where they aren't there, and writes the names of those that it made to the disk.
+func makeFolder(path string) error {
+	err := os.Mkdir(path, 0o755)
+	if errors.Is(err, fs.ErrNotExist) {
+		if err := makeFolder(filepath.Dir(path)); err != nil {
+			return err
+		}
+		err = os.Mkdir(path, 0o755)
+	}
+	if errors.Is(err, fs.ErrExist) {
+		return nil
+	}
+	if err != nil {
+		return fmt.Errorf("stores: folder: %w", err)
+	}
+	return syncFolder(filepath.Dir(path))
 }
 
 // sweep takes away the files of writers that were killed.
@@ -85,7 +106,7 @@ func (d *disk) write(content []byte) (path string, err error) {
 	if err := file.Chmod(0o644); err != nil {
 		return "", fmt.Errorf("stores: write: %w", err)
 	}
-	if err := file.Sync(); err != nil {
+	if err := fsync(file); err != nil {
 		return "", fmt.Errorf("stores: write: %w", err)
 	}
 	return file.Name(), nil
@@ -131,7 +152,7 @@ func syncFolder(path string) error {
 	if err != nil {
 		return fmt.Errorf("stores: folder: %w", err)
 	}
-	err = folder.Sync()
+	err = fsync(folder)
 	if closing := folder.Close(); err == nil {
 		err = closing
 	}

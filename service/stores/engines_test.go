@@ -32,8 +32,8 @@ type implementation[T any] struct {
 	open    func(ctx context.Context, place string) (T, error)
 	// oneWins: of two puts at once of two contents, one wins.
 	oneWins bool
-	// folder: the place is one, and what is kept lies in it.
-	folder bool
+	// folder: the place is one, and what is kept lies in it. inMemory: it lies in this process.
+	folder, inMemory bool
 }
 
 func wants(address, package_ string) string {
@@ -70,6 +70,10 @@ func openS3At(ctx context.Context, place string, conditional bool) (Objects, err
 var objectStores = []implementation[Objects]{
 	{name: "folder", oneWins: true, folder: true,
 		open: func(_ context.Context, place string) (Objects, error) { return OpenFolder(place) }},
+	{name: "s3-in-memory", oneWins: true, inMemory: true,
+		open: func(ctx context.Context, place string) (Objects, error) { return openFake(ctx, place, true) }},
+	{name: "s3-in-memory-without-conditions", inMemory: true,
+		open: func(ctx context.Context, place string) (Objects, error) { return openFake(ctx, place, false) }},
 	{name: "s3", missing: wants(s3Address, "radosgw"), oneWins: true,
 		open: func(ctx context.Context, place string) (Objects, error) { return openS3At(ctx, place, true) }},
 	{name: "s3-without-conditions", missing: wants(s3Address, "radosgw"),

@@ -26,7 +26,7 @@ const mostOperations = 100
 // open connects a client. The first call of it finds out whether a member answers.
 func (at Etcd) open() (*clientv3.Client, error) {
 	if at.Prefix == "" {
-		return nil, fmt.Errorf("%w: an empty prefix in etcd", ErrName)
+		return nil, fmt.Errorf("%w: the prefix in etcd", ErrEmpty)
 	}
 	config := at.Config
 	if config.DialTimeout == 0 {

@@ -123,6 +123,9 @@ const kills = 8
 
 func TestObjectsOutliveKills(t *testing.T) {
 	eachOf(t, objectStores, func(t *testing.T, at trial[Objects]) {
+		if at.inMemory {
+			t.Skip("what it keeps ends with the process")
+		}
 		at.opened(t)
 		ctx, last := limited(t), 0
 		for kill := 0; kill < kills; kill++ {

@@ -77,7 +77,7 @@ func checkText(texts ...string) error {
 			return fmt.Errorf("%w: text of %d bytes", ErrTooLong, len(text))
 		}
 		if text == "" {
-			return fmt.Errorf("%w: an empty text", ErrName)
+			return fmt.Errorf("%w: the text", ErrEmpty)
 		}
 	}
 	return nil

@@ -5,6 +5,7 @@ import (
 	"crypto/sha256"
 	"errors"
 	"fmt"
+	"path/filepath"
 	"reflect"
 	"testing"
 	"time"
@@ -145,4 +146,28 @@ func TestLogsAreApart(t *testing.T) {
 		must(t, one.Add(limited(t), []Placed{placed(1)}))
 		finds(t, other, []Identity{identity(1)}, map[Identity]Place{})
 	})
+}
+
+// TestSQLiteEndsWithItsContext: also where another process doesn't let it write.
+func TestSQLiteEndsWithItsContext(t *testing.T) {
+	path := filepath.Join(t.TempDir(), "places.db")
+	one, err := OpenSQLite(limited(t), path)
+	must(t, err)
+	other, err := OpenSQLite(limited(t), path)
+	must(t, err)
+	defer one.Close()
+	defer other.Close()
+	holding, err := one.(*inSQLite).db.BeginTx(limited(t), nil)
+	must(t, err)
+	start := time.Now()
+	short, cancel := context.WithTimeout(limited(t), 300*time.Millisecond)
+	defer cancel()
+	err = other.Add(short, []Placed{placed(1)})
+	if taken := time.Since(start); err == nil || taken > 2*time.Second {
+		t.Errorf("Add beside one that writes: %v, behind %v", err, taken)
+	}
+	// What is there is read all the same.
+	finds(t, other, []Identity{identity(1)}, map[Identity]Place{})
+	must(t, holding.Rollback())
+	must(t, other.Add(limited(t), []Placed{placed(1)}))
 }

@@ -24,12 +24,17 @@ create table if not exists ct_places (log text, identity bytea, index bigint not
 
 // open connects, sees whether the server keeps what it acknowledges, and makes the tables.
 func (at Postgres) open(ctx context.Context) (*sql.DB, error) {
-	db, err := sql.Open("postgres", at.Source)
+	if at.Log == "" {
+		return nil, fmt.Errorf("%w: the name of a log", ErrEmpty)
+	}
+	connector, err := pq.NewConnector(at.Source)
 	if err != nil {
 		return nil, fmt.Errorf("stores: PostgreSQL: %w", err)
 	}
+	connector.Dialer(impatient{})
+	db := sql.OpenDB(connector)
 	db.SetMaxOpenConns(mostConnections)
-	if err := prepare(ctx, db); err != nil {
+	if _, err := within(ctx, func() (any, error) { return nil, prepare(ctx, db) }); err != nil {
 		db.Close()
 		return nil, err
 	}
@@ -82,16 +87,18 @@ func written(what string, err error) error {
 // changed makes a write, and says whether it changed a row. It goes over one connection: the pool itself would make a write
 // again on another where the first broke, and would so tell a swap that was done that it lost.
 func (p *inPostgres) changed(ctx context.Context, what, statement string, values ...any) (bool, error) {
-	connection, err := p.db.Conn(ctx)
-	if err != nil {
-		return false, fmt.Errorf("stores: PostgreSQL: %s: %w", what, err)
-	}
-	defer connection.Close()
-	result, err := connection.ExecContext(ctx, statement, values...)
-	if err != nil {
-		return false, written(what, err)
-	}
-	rows, err := result.RowsAffected()
+	rows, err := within(ctx, func() (int64, error) {
+		connection, err := p.db.Conn(ctx)
+		if err != nil {
+			return 0, err
+		}
+		defer connection.Close()
+		result, err := connection.ExecContext(ctx, statement, values...)
+		if err != nil {
+			return 0, err
+		}
+		return result.RowsAffected()
+	})
 	if err != nil {
 		return false, written(what, err)
 	}
@@ -109,22 +116,31 @@ func (p *inPostgres) Create(ctx context.Context, text string) error {
 	return err
 }
 
+// row is the register's.
+type row struct {
+	text      []byte
+	published uint64
+}
+
 // read reads the row. That what it reads stays is the server's: a row is seen once its transaction is on the disk.
-func (p *inPostgres) read(ctx context.Context) (text string, published uint64, err error) {
-	var bytes []byte
-	err = p.db.QueryRowContext(ctx, "select text, published from ct_register where log = $1", p.log).Scan(&bytes, &published)
+func (p *inPostgres) read(ctx context.Context) (row, error) {
+	read, err := within(ctx, func() (read row, err error) {
+		const one = "select text, published from ct_register where log = $1"
+		err = p.db.QueryRowContext(ctx, one, p.log).Scan(&read.text, &read.published)
+		return read, err
+	})
 	if errors.Is(err, sql.ErrNoRows) {
-		return "", 0, ErrAbsent
+		return row{}, ErrAbsent
 	}
 	if err != nil {
-		return "", 0, fmt.Errorf("stores: PostgreSQL: read: %w", err)
+		return row{}, fmt.Errorf("stores: PostgreSQL: read: %w", err)
 	}
-	return string(bytes), published, nil
+	return read, nil
 }
 
 func (p *inPostgres) Read(ctx context.Context) (string, error) {
-	text, _, err := p.read(ctx)
-	return text, err
+	read, err := p.read(ctx)
+	return string(read.text), err
 }
 
 func (p *inPostgres) Swap(ctx context.Context, old, new string) error {
@@ -146,8 +162,8 @@ func (p *inPostgres) Swap(ctx context.Context, old, new string) error {
 }
 
 func (p *inPostgres) Published(ctx context.Context) (uint64, error) {
-	_, published, err := p.read(ctx)
-	return published, err
+	read, err := p.read(ctx)
+	return read.published, err
 }
 
 func (p *inPostgres) Raise(ctx context.Context, published uint64) error {
@@ -158,7 +174,7 @@ func (p *inPostgres) Raise(ctx context.Context, published uint64) error {
 	if err != nil || done {
 		return err
 	}
-	_, _, err = p.read(ctx)
+	_, err = p.read(ctx)
 	return err
 }
 
@@ -188,11 +204,14 @@ func (p *placesInPostgres) Find(ctx context.Context, identities []Identity) (map
 	for i := range identities {
 		asked[i] = identities[i][:]
 	}
-	rows, err := p.db.QueryContext(ctx, "select identity, index, timestamp from ct_places where log = $1 and identity = any($2)", p.log, asked)
-	if err != nil {
-		return nil, fmt.Errorf("stores: PostgreSQL: find: %w", err)
-	}
-	return scanPlaces(rows)
+	return within(ctx, func() (map[Identity]Place, error) {
+		const some = "select identity, index, timestamp from ct_places where log = $1 and identity = any($2)"
+		rows, err := p.db.QueryContext(ctx, some, p.log, asked)
+		if err != nil {
+			return nil, fmt.Errorf("stores: PostgreSQL: find: %w", err)
+		}
+		return scanPlaces(rows)
+	})
 }
 
 // scanPlaces reads rows of identity, index and timestamp.
@@ -229,7 +248,8 @@ func (p *placesInPostgres) Add(ctx context.Context, placed []Placed) error {
 	}
 	// In the order of identities, so that of two such calls neither waits for the other.
 	const add = `insert into ct_places select $1, i, n, t from unnest($2::bytea[], $3::bigint[], $4::bigint[]) as u(i, n, t) order by i on conflict do nothing`
-	if _, err := p.db.ExecContext(ctx, add, p.log, identities, indexes, timestamps); err != nil {
+	_, err = within(ctx, func() (sql.Result, error) { return p.db.ExecContext(ctx, add, p.log, identities, indexes, timestamps) })
+	if err != nil {
 		return fmt.Errorf("stores: PostgreSQL: add: %w", err)
 	}
 	return nil

@@ -5,7 +5,10 @@ import (
 	"errors"
 	"fmt"
 	"math/rand"
+	"os"
+	"path/filepath"
 	"strings"
+	"syscall"
 	"testing"
 	"time"
 )
@@ -60,6 +63,33 @@ func TestRegisterIsCreatedOnce(t *testing.T) {
 	})
 }
 
+// TestFileWhoseTextIsLost: nothing is made in its place, since a log would begin anew.
+func TestFileWhoseTextIsLost(t *testing.T) {
+	root, ctx := t.TempDir(), limited(t)
+	register, err := OpenFile(root)
+	must(t, err)
+	must(t, register.Create(ctx, "a"))
+	must(t, register.Raise(ctx, 5))
+	must(t, os.Remove(filepath.Join(root, textFile)))
+	if err := register.Create(ctx, "b"); !errors.Is(err, ErrExists) {
+		t.Errorf("Create: %v", err)
+	}
+	if _, err := register.Read(ctx); !errors.Is(err, ErrAbsent) {
+		t.Errorf("Read: %v", err)
+	}
+	if _, err := register.Published(ctx); !errors.Is(err, ErrAbsent) {
+		t.Errorf("Published: %v", err)
+	}
+	if err := register.Swap(ctx, "a", "b"); !errors.Is(err, ErrAbsent) {
+		t.Errorf("Swap: %v", err)
+	}
+	must(t, os.WriteFile(filepath.Join(root, textFile), []byte("a"), 0o644))
+	must(t, os.WriteFile(filepath.Join(root, publishedFile), []byte("-5"), 0o644))
+	if err := register.Raise(ctx, 6); err == nil {
+		t.Error("Raise over what is no number")
+	}
+}
+
 func TestRegisterSwapsTheTextThatWasRead(t *testing.T) {
 	eachOf(t, registers, func(t *testing.T, at trial[Register]) {
 		register, ctx := at.opened(t), limited(t)
@@ -82,7 +112,7 @@ func TestRegisterSwapsTheTextThatWasRead(t *testing.T) {
 			}
 		}
 		for _, texts := range [][2]string{{allBytes(), ""}, {"", "d"}} {
-			if err := register.Swap(ctx, texts[0], texts[1]); !errors.Is(err, ErrName) {
+			if err := register.Swap(ctx, texts[0], texts[1]); !errors.Is(err, ErrEmpty) {
 				t.Errorf("Swap of no text: %v", err)
 			}
 		}
@@ -278,4 +308,41 @@ func TestRegisterSettlesByReading(t *testing.T) {
 		standsAs(t, register, stands, 0)
 		t.Logf("%s: %v", at.name, outcomes)
 	})
+}
+
+func TestRegisterEndsWithItsContext(t *testing.T) {
+	eachOf(t, registers, func(t *testing.T, at trial[Register]) {
+		register := at.opened(t)
+		must(t, register.Create(limited(t), "text"))
+		ended, cancel := context.WithCancel(limited(t))
+		cancel()
+		_, reading := register.Read(ended)
+		_, asking := register.Published(ended)
+		calls := map[string]error{"Read": reading, "Published": asking, "Raise": register.Raise(ended, 1), "Swap": register.Swap(ended, "text", "other")}
+		for what, err := range calls {
+			if err == nil || errors.Is(err, ErrLost) || errors.Is(err, ErrAbsent) {
+				t.Errorf("%s: %v", what, err)
+			}
+		}
+		standsAs(t, register, "text", 0)
+	})
+}
+
+// TestFileWaitsForItsLock: as long as the context lets it.
+func TestFileWaitsForItsLock(t *testing.T) {
+	root := t.TempDir()
+	register, err := OpenFile(root)
+	must(t, err)
+	must(t, register.Create(limited(t), "text"))
+	lock, err := os.Open(filepath.Join(root, lockFile))
+	must(t, err)
+	must(t, syscall.Flock(int(lock.Fd()), syscall.LOCK_EX))
+	short, cancel := context.WithTimeout(limited(t), 50*time.Millisecond)
+	defer cancel()
+	if err := register.Swap(short, "text", "other"); !errors.Is(err, context.DeadlineExceeded) {
+		t.Errorf("Swap of a register that is locked: %v", err)
+	}
+	time.AfterFunc(50*time.Millisecond, func() { lock.Close() })
+	must(t, register.Swap(limited(t), "text", "another"))
+	standsAs(t, register, "another", 0)
 }

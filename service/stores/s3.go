@@ -9,7 +9,6 @@ import (
 	"fmt"
 	"io"
 	"net/http"
-	"time"
 
 	"github.com/minio/minio-go/v7"
 	"github.com/minio/minio-go/v7/pkg/credentials"
@@ -39,9 +38,6 @@ type bucket struct {
 	name        string
 	conditional bool
 }
-
-// waits bounds a call that no context ends earlier.
-const waits = 30 * time.Second
 
 // ifAbsent marks the context of a put that may only be done where no object is.
 type ifAbsent struct{}
@@ -190,11 +186,11 @@ func (b *bucket) List(ctx context.Context, prefix, after string, most int) ([]st
 	if most == 0 {
 		return nil, nil
 	}
-	ctx, cancel := context.WithCancel(ctx)
+	listing, cancel := context.WithCancel(ctx)
 	defer cancel()
 	options := minio.ListObjectsOptions{Prefix: prefix, StartAfter: after, MaxKeys: most, Recursive: true}
 	var found []string
-	for object := range b.core.Client.ListObjects(ctx, b.name, options) {
+	for object := range b.core.Client.ListObjects(listing, b.name, options) {
 		if len(found) == most {
 			cancel()
 			continue
@@ -205,6 +201,10 @@ func (b *bucket) List(ctx context.Context, prefix, after string, most int) ([]st
 		if checkName(object.Key) == nil {
 			found = append(found, object.Key)
 		}
+	}
+	// minio-go ends a list with its context, and says nothing.
+	if err := ctx.Err(); err != nil {
+		return nil, fmt.Errorf("stores: list %s: %w", prefix, err)
 	}
 	return found, nil
 }

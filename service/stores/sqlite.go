@@ -3,14 +3,14 @@ package stores
 import (
 	"context"
 	"database/sql"
+	"errors"
 	"fmt"
 	"net/url"
-	"os"
 	"path/filepath"
 	"strings"
+	"time"
 
-	// Its driver of database/sql, "sqlite3".
-	_ "github.com/mattn/go-sqlite3"
+	"github.com/mattn/go-sqlite3"
 )
 
 // mostVariables is how many values go into one statement.
@@ -30,10 +30,10 @@ func OpenSQLite(ctx context.Context, path string) (Places, error) {
 	if err != nil {
 		return nil, fmt.Errorf("stores: SQLite: %w", err)
 	}
-	if err := os.MkdirAll(filepath.Dir(path), 0o755); err != nil {
-		return nil, fmt.Errorf("stores: SQLite: %w", err)
+	if err := makeFolder(filepath.Dir(path)); err != nil {
+		return nil, err
 	}
-	settings := url.Values{"_journal_mode": {"WAL"}, "_synchronous": {"FULL"}, "_busy_timeout": {"10000"}, "_txlock": {"immediate"}}
+	settings := url.Values{"_journal_mode": {"WAL"}, "_synchronous": {"FULL"}, "_busy_timeout": {"50"}, "_txlock": {"immediate"}}
 	source := url.URL{Scheme: "file", Path: path, RawQuery: settings.Encode()}
 	db, err := sql.Open("sqlite3", source.String())
 	if err != nil {
@@ -41,15 +41,41 @@ func OpenSQLite(ctx context.Context, path string) (Places, error) {
 	}
 	db.SetMaxOpenConns(mostConnections)
 	const table = `create table if not exists places (identity blob primary key, "index" integer not null, timestamp integer not null) without rowid`
-	if _, err := db.ExecContext(ctx, table); err != nil {
+	err = unlessBusy(ctx, "table", func() error {
+		_, err := db.ExecContext(ctx, table)
+		return err
+	})
+	if err != nil {
 		db.Close()
-		return nil, fmt.Errorf("stores: SQLite: table: %w", err)
+		return nil, err
 	}
 	if err := syncFolder(filepath.Dir(path)); err != nil {
 		db.Close()
 		return nil, err
 	}
 	return &inSQLite{db}, nil
+}
+
+// unlessBusy does what others may keep from being done, again and again until the context ends. (SQLite's own waiting doesn't end
+// with it.)
+func unlessBusy(ctx context.Context, what string, do func() error) error {
+	for {
+		err := do()
+		var said sqlite3.Error
+		busy := errors.As(err, &said) && (said.Code == sqlite3.ErrBusy || said.Code == sqlite3.ErrLocked)
+		if busy {
+			select {
+			case <-time.After(5 * time.Millisecond):
+				continue
+			case <-ctx.Done():
+				err = ctx.Err()
+			}
+		}
+		if err != nil {
+			return fmt.Errorf("stores: SQLite: %s: %w", what, err)
+		}
+		return nil
+	}
 }
 
 func (s *inSQLite) Find(ctx context.Context, identities []Identity) (map[Identity]Place, error) {
@@ -64,15 +90,17 @@ func (s *inSQLite) Find(ctx context.Context, identities []Identity) (map[Identit
 			values = append(values, identities[from+i][:])
 		}
 		places := strings.Repeat(", ?", to-from)[2:]
-		rows, err := s.db.QueryContext(ctx, `select identity, "index", timestamp from places where identity in (`+places+`)`, values...)
-		if err != nil {
-			return fmt.Errorf("stores: SQLite: find: %w", err)
-		}
-		some, err := scanPlaces(rows)
-		for identity, place := range some {
-			found[identity] = place
-		}
-		return err
+		return unlessBusy(ctx, "find", func() error {
+			rows, err := s.db.QueryContext(ctx, `select identity, "index", timestamp from places where identity in (`+places+`)`, values...)
+			if err != nil {
+				return err
+			}
+			some, err := scanPlaces(rows)
+			for identity, place := range some {
+				found[identity] = place
+			}
+			return err
+		})
 	})
 }
 
@@ -81,26 +109,27 @@ func (s *inSQLite) Add(ctx context.Context, placed []Placed) error {
 	if err != nil || len(placed) == 0 {
 		return err
 	}
+	return unlessBusy(ctx, "add", func() error { return s.add(ctx, placed) })
+}
+
+func (s *inSQLite) add(ctx context.Context, placed []Placed) error {
 	tx, err := s.db.BeginTx(ctx, nil)
 	if err != nil {
-		return fmt.Errorf("stores: SQLite: add: %w", err)
+		return err
 	}
 	defer tx.Rollback()
 	add, err := tx.PrepareContext(ctx, "insert into places values (?, ?, ?) on conflict do nothing")
 	if err != nil {
-		return fmt.Errorf("stores: SQLite: add: %w", err)
+		return err
 	}
 	defer add.Close()
 	for i := range placed {
 		place := placed[i].Place
 		if _, err := add.ExecContext(ctx, placed[i].Identity[:], int64(place.Index), int64(place.Timestamp)); err != nil {
-			return fmt.Errorf("stores: SQLite: add: %w", err)
+			return err
 		}
 	}
-	if err := tx.Commit(); err != nil {
-		return fmt.Errorf("stores: SQLite: add: %w", err)
-	}
-	return nil
+	return tx.Commit()
 }
 
 func (s *inSQLite) Close() error { return s.db.Close() }

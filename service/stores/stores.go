@@ -29,6 +29,8 @@ const (
 var (
 	// ErrName: a name isn't of the form that Objects states. Nothing was done.
 	ErrName = errors.New("stores: no such name can be")
+	// ErrEmpty: a text is empty, or the name by which a log is known in an engine. Nothing was done.
+	ErrEmpty = errors.New("stores: empty")
 	// ErrTooLong: an object, a text or a list is longer than its bound. Nothing was done.
 	ErrTooLong = errors.New("stores: too long")
 	// ErrNumber: a number is larger than MostNumber. Nothing was done.

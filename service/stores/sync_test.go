@@ -1,0 +1,117 @@
+package stores
+
+import (
+	"errors"
+	"os"
+	"path/filepath"
+	"reflect"
+	"strings"
+	"testing"
+)
+
+// syncs are the paths that are written to the disk while a call is made, below a root, in their order. A file that isn't named
+// yet is "file", and with " (named)" behind it where the public name stands by then.
+func syncs(t *testing.T, root, public string, call func() error) (paths []string) {
+	t.Helper()
+	fsync = func(file *os.File) error {
+		path, err := filepath.Rel(root, file.Name())
+		must(t, err)
+		if strings.HasPrefix(path, temporary+"/") {
+			path = "file"
+		}
+		if _, err := os.Stat(filepath.Join(root, public)); err == nil {
+			path += " (named)"
+		}
+		paths = append(paths, path)
+		return file.Sync()
+	}
+	defer func() { fsync = (*os.File).Sync }()
+	must(t, call())
+	return paths
+}
+
+func syncedAs(t *testing.T, what string, got, want []string) {
+	t.Helper()
+	if !reflect.DeepEqual(got, want) {
+		t.Errorf("%s: synced %q, and %q should be", what, got, want)
+	}
+}
+
+// TestFolderSyncs: an object is on the disk before it has its name, and its folders with their names before Put returns.
+func TestFolderSyncs(t *testing.T) {
+	root, ctx := t.TempDir(), limited(t)
+	store, err := OpenFolder(root)
+	must(t, err)
+	put := func(name string) []string {
+		return syncs(t, root, name, func() error { return store.Put(ctx, name, []byte("x")) })
+	}
+	syncedAs(t, "an object in new folders", put("a/b/c"), []string{"file", "a/b (named)", "a (named)", ". (named)"})
+	syncedAs(t, "another one", put("a/b/d"), []string{"file", "a/b (named)"})
+	// Who put it first may have been killed before it was on the disk.
+	syncedAs(t, "the same once more", put("a/b/c"), []string{"file (named)", "a/b (named)"})
+	again, err := OpenFolder(root)
+	must(t, err)
+	store = again
+	syncedAs(t, "one in folders of others", put("a/b/e"), []string{"file", "a/b (named)", "a (named)", ". (named)"})
+	syncedAs(t, "one at the top", put("f"), []string{"file", ". (named)"})
+}
+
+// TestFileSyncs: a text is on the disk before it has its name, and the folder before Swap and Read return.
+func TestFileSyncs(t *testing.T) {
+	root, ctx := t.TempDir(), limited(t)
+	register, err := OpenFile(root)
+	must(t, err)
+	got := syncs(t, root, textFile, func() error { return register.Create(ctx, "a") })
+	syncedAs(t, "Create", got, []string{"file", ".", "file", ". (named)"})
+	read := func() error { _, err := register.Read(ctx); return err }
+	syncedAs(t, "Read", syncs(t, root, "none", read), []string{"."})
+	swap := func() error { return register.Swap(ctx, "a", "b") }
+	// (it reads, and so syncs, first)
+	syncedAs(t, "Swap", syncs(t, root, "none", swap), []string{".", "file", "."})
+	raise := func() error { return register.Raise(ctx, 5) }
+	syncedAs(t, "Raise", syncs(t, root, "none", raise), []string{".", ".", "file", "."})
+}
+
+// TestFailedSyncs: where the disk doesn't take it, nothing is acknowledged; a swap is unknown once the text has its name.
+func TestFailedSyncs(t *testing.T) {
+	fault := errors.New("the disk is broken")
+	broken := func(folders bool) {
+		fsync = func(file *os.File) error {
+			if info, err := file.Stat(); err != nil || info.IsDir() == folders {
+				return fault
+			}
+			return file.Sync()
+		}
+	}
+	defer func() { fsync = (*os.File).Sync }()
+	root, ctx := t.TempDir(), limited(t)
+	store, err := OpenFolder(filepath.Join(root, "objects"))
+	must(t, err)
+	register, err := OpenFile(filepath.Join(root, "register"))
+	must(t, err)
+	must(t, register.Create(ctx, "a"))
+	for _, folders := range []bool{false, true} {
+		broken(folders)
+		if err := store.Put(ctx, "x", nil); !errors.Is(err, fault) {
+			t.Errorf("Put, folders %t: %v", folders, err)
+		}
+	}
+	broken(false)
+	if err := register.Swap(ctx, "a", "b"); !errors.Is(err, fault) || errors.Is(err, ErrUnknown) {
+		t.Errorf("Swap on a disk that takes no file: %v", err)
+	}
+	fsync = (*os.File).Sync
+	standsAs(t, register, "a", 0)
+	calls := 0
+	fsync = func(file *os.File) error {
+		if calls++; calls == 3 { // that of the folder, behind the one of reading and the file's
+			return fault
+		}
+		return file.Sync()
+	}
+	if err := register.Swap(ctx, "a", "b"); !errors.Is(err, ErrUnknown) {
+		t.Errorf("Swap on a disk that doesn't take its name: %v", err)
+	}
+	fsync = (*os.File).Sync
+	standsAs(t, register, "b", 0)
+}
