@@ -6,11 +6,12 @@
 N is how many histories: each has up to eight lines, from where the guard stands, of a made-up log that goes on and of one that forks from it
 there: heads and receipts with proofs that are right, false, too long and too short, older and later ones, among damaged lines. Up to a hundred
 histories of one log are one run, in one process, and five runs are one after the other: each but the first begins with the line that the one
-before ended with, or with that line damaged, or with none. It prints one line, and ends with status 1 at the first difference, with the input kept
-in the working folder.
+before ended with, or with that line damaged, or with none. First of all the program has to reply to a line before its input goes on. It prints one
+line, and ends with status 1 at the first difference, with the input kept in the working folder.
 """
 import pathlib
 import random
+import select
 import subprocess
 import sys
 
@@ -142,9 +143,22 @@ def compare(program, given, origin, promised):
     return wanted
 
 
+def replies_at_once(program):
+    """Has the program reply to a line before its input goes on."""
+    line = history.line(history.Log([]).head(0, 0, 1)) + b"\n"
+    with subprocess.Popen([program], stdin=subprocess.PIPE, stdout=subprocess.PIPE) as running:
+        running.stdin.write(line)
+        running.stdin.flush()
+        ready, _, _ = select.select([running.stdout], [], [], 10)
+        running.stdin.close()
+        if not ready or running.stdout.read() != model.run(line)[0]:
+            sys.exit(f"fuzz.py: {program} doesn't reply to a line before its input ends, or otherwise than the model")
+
+
 def main():
     program, count = sys.argv[1], int(sys.argv[2])
     seed = int(sys.argv[3]) if len(sys.argv) > 3 else 1
+    replies_at_once(program)
     chance, made, lines, runs, let_through = random.Random(seed), 0, 0, 0, 0
     state = None
     while made < count:

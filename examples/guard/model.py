@@ -219,6 +219,8 @@ class Guard:
             value = json_of(line)
             last = value["last"]
             if last is not None:
+                if not (is_number(last["tree_size"]) and is_number(last["timestamp"])):
+                    return False
                 last = (last["tree_size"], last["timestamp"], base64.b64decode(last["sha256_root_hash"]))
             if line != written(state_of(last)).encode() or (last and len(last[2]) != 32):
                 return False
