@@ -1,4 +1,4 @@
-.PHONY: help demo test check service-test service-engines link install install-library install-ctlog install-ctlogd install-ctmonitor fuzz load sweep wrong sources serve interop
+.PHONY: help demo test check service-test service-engines link install install-library install-ctlog install-ctlogd install-ctmonitor install-ctguard fuzz load sweep wrong sources serve interop
 
 SECONDS ?= 60
 RUNS ?= 20
@@ -6,7 +6,7 @@ PREFIX ?= /usr/local
 PORT ?= 8618
 BUILT ?= crates
 
-PROGRAMS := ctlog ctlogd ctmonitor
+PROGRAMS := ctlog ctlogd ctmonitor ctguard
 LIBRARY = $(BUILT)/wagtenib/out/link/libwagtenib
 VERSION = $(shell sed -n 's/^Version: //p' include/wagtenib.pc.in)
 TO = $(DESTDIR)$(PREFIX)
@@ -40,12 +40,12 @@ link: ## builds libwagtenib, the proof checkers for C, and runs programs in C, R
 	@examples/link/link.sh
 
 # BUILT is the folder in which the crates' builds lie.
-install: $(PROGRAMS:%=install-%) install-library ## installs what is built, below PREFIX=/usr/local: ctlog, ctlogd, ctmonitor, watch.sh as ctmonitor-watch, and libwagtenib
+install: $(PROGRAMS:%=install-%) install-library ## installs what is built, below PREFIX=/usr/local: ctlog, ctlogd, ctmonitor, ctguard, watch.sh as ctmonitor-watch, and libwagtenib
 	@[ -n "$(wildcard $(PROGRAMS:%=$(BUILT)/%/out/%) $(LIBRARY).a)" ] || { echo "make install: nothing is built" >&2; exit 1; }
 
 $(PROGRAMS:%=install-%): install-%:
 	@if [ -x $(BUILT)/$*/out/$* ]; then install -d $(TO)/bin && install -m 755 $(BUILT)/$*/out/$* $(TO)/bin && echo "$(PREFIX)/bin/$*"; \
-	else echo "$* isn't built: make demo builds ctlog and ctmonitor, make serve ctlogd"; fi
+	else echo "$* isn't built: make demo builds ctlog and ctmonitor, make serve ctlogd, and rt run in crates/ctguard that one"; fi
 	@if [ $* = ctmonitor ] && [ -x $(BUILT)/$*/out/$* ]; then install -m 755 examples/monitor/watch.sh $(TO)/bin/ctmonitor-watch && echo "$(PREFIX)/bin/ctmonitor-watch"; fi
 
 install-library:

@@ -14,6 +14,7 @@ FAULT = re.compile(r"\b(?:\w*Fault|Refusal)::(Read|Write|Threads|Closed|Late|Sto
 # How often each file tells each of these faults, and where.
 TOLD = {
     "ct_follow/src/program.rt": {"Read": (1, "behind the last turn over the lines")},
+    "ct_guard_lines/src/program.rt": {"Read": (1, "behind the last turn over the lines")},
     "ct_lines/src/serving.rt": {"Endless": (1, "behind the last turn over the reader's calls")},
     "ct_live/src/closed.rt": {"Read": (1, "behind the last turn over the lines")},
     "ct_live/src/ending.rt": {

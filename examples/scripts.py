@@ -1,6 +1,6 @@
 #!/usr/bin/env python3
-"""Tries the scripts that stand beside the programs, bad_lines.py, pem_lines.py, expected.py and check.py on stored input, and monitor/watch.sh on a
-log of its own. It runs no ctlog.
+"""Tries the scripts that stand beside the programs, bad_lines.py, pem_lines.py, expected.py, check.py and guard/model.py on stored input, and
+monitor/watch.sh on a log of its own. It runs no ctlog.
 
 It prints one line where all is as expected; else it says what isn't, and ends with status 1.
 """
@@ -28,6 +28,8 @@ NO_REQUEST = b"this line is no request"
 DAMAGED = 1000
 # The stored run of ctlogd, and its fronts.
 LIVE, LIVE_FRONTS = HERE.parent / "crates" / "ctlogd", 2
+# The stored run of ctguard.
+GUARD = HERE.parent / "crates" / "ctguard"
 # The stored inputs, each with the fronts, ring and moments under which its replies are expected.
 INPUTS = {
     "first-session": "1 4096 0 7",
@@ -128,6 +130,14 @@ def make_install(folder, built):
     return subprocess.run(["make", "--silent", "install", *words], cwd=HERE.parent, env=environment, capture_output=True, text=True)
 
 
+def try_guard():
+    """guard/model.py writes the stored output of ctguard over its words and input."""
+    words, given = (GUARD / "args").read_text().split("\n")[:-1], (GUARD / "stdin").read_bytes()
+    ran = run("guard/model.py", *words, given=given)
+    if ran.stdout != (GUARD / "stdout").read_bytes() or ran.returncode:
+        fail(f"guard/model.py writes another output than crates/ctguard/stdout, with status {ran.returncode}: {ran.stderr.decode()}")
+
+
 def installed(folder):
     """The files and links below a folder, each with its text."""
     return {str(path.relative_to(folder)): path.read_text() for path in folder.rglob("*") if not path.is_dir()}
@@ -183,6 +193,7 @@ def main():
     with tempfile.TemporaryDirectory() as folder:
         files = try_install(pathlib.Path(folder))
     try_figures()
+    try_guard()
     for name, words in INPUTS.items():
         ran = run("expected.py", *words.split(), given=(HERE / f"{name}.jsonl").read_bytes())
         if ran.stdout != (HERE / f"{name}.expected.jsonl").read_bytes():

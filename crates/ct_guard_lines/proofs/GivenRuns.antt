@@ -1,0 +1,215 @@
+-- Heads whose bytes were given, over many runs.
+use Rattle.std.proofs.Common.{◌≡◌, ◌∙◌, ◌⊎◌, ◌==◌, ℕ, List, [], ◌∷◌, ◌++◌, length, map, Bool, true, false, if◌then◌else◌, Option, Some, None, All, sym, refl, ap, subst, inl, inr, codes}
+use Rattle.std.proofs.lemmas.Bool.{eqb-true}
+use Rattle.std.proofs.lemmas.List.{append_assoc}
+use Rattle.std.proofs.lemmas.List.Elements.{All-nil, All-cons, All-head, All-tail}
+use Rattle.std.proofs.lemmas.Option.{same_Some, none-some}
+use Rattle.std.specs.Prelude.{⊤, option_map, option_and_then}
+use Rattle.std.specs.Io.BufRead.{first_piece, drop_through}
+use Rattle.serde_json.specs.Data.{Data, Items, no_items, item}
+use Rattle.serde_json.specs.Find.{get, as_array}
+use Rattle.sha2.specs.Sha256.{sha256}
+use Rattle.sha2.proofs.Facts256.{length-sha256}
+use Rattle.ct_guard.specs.Guarded.{PassesHead}
+use Rattle.ct_guard.specs.History.{Passed, ArePassed, AreBeginnings}
+use Rattle.ct_guard.specs.declared.refusal.ReceiptRefusal.TheVariants.{NoHead, NoLeaf, NotThere}
+use Rattle.ct_guard.proofs.History.{passed_heads_agree}
+use Rattle.ct_lines.specs.Fields.{hash_of, hash_in, bytes_in, each_item, hashes_of_items, hashes_at}
+use Rattle.ct_monitor.specs.Heads.{IsHeadOfAll}
+use Rattle.ct_tree.specs.declared.head.Head.{Head}
+use Rattle.ct_verify.specs.Laws.{AreHashes, SomeCollide}
+use Rattle.ct_guard_lines.specs.Asks.{Ask, for_head, for_receipt, for_promise, for_nothing, head_ask, receipt_ask, promise_ask, leaf_ask, ask_or_nothing, ask_or, no_state_or, ask_in, Requests}
+use Rattle.ct_guard_lines.specs.Given.{AskComes}
+use Rattle.ct_guard_lines.specs.GuardSession.{GuardOptions, GuardStep, Replies, StepsLine, GuardsLines, StartsAt, GuardRun, IsGuardState, last_head}
+use Rattle.ct_guard_lines.specs.GuardHistory.{RunMade, TakeUp, given_head, given_heads, all_given, GivenHeadsAgree}
+use Rattle.ct_guard_lines.specs.GuardState.{guard_state_text, IsLastValue, head_fields}
+use Rattle.ct_guard_lines.specs.declared.guarding.Guarding.{Guarding}
+use Rattle.ct_guard_lines.specs.declared.replies.Outcome.{Outcome}
+use Rattle.ct_guard_lines.specs.declared.replies.Outcome.TheVariants.{LetThrough, HeadRefused, ReceiptRefused, BadLine}
+use Rattle.ct_guard_lines.specs.declared.settings.Receipts.{Receipts}
+use Rattle.ct_guard_lines.specs.declared.settings.Receipts.TheVariants.{InHead, Promised}
+use Rattle.ct_guard_lines.proofs.ReadBack.{states_differ}
+
+-- ---- the proof that is handed in with a head has elements of 32 bytes
+
+abbrev OfHash : Option (List ℕ) → Type 0
+OfHash None = ⊤
+OfHash (Some h) = length h ≡ 32
+
+abbrev OfHashes : Option (List (List ℕ)) → Type 0
+OfHashes None = ⊤
+OfHashes (Some hs) = AreHashes hs
+
+if_hash : (b : Bool) (bytes : List ℕ) → b ≡ (length bytes == 32) → OfHash (if b then Some bytes else None)
+if_hash true bytes e = eqb-true (length bytes) 32 (sym e)
+if_hash false bytes e = tt
+
+of_hash : (o : Option (List ℕ)) → OfHash (option_and_then hash_of o)
+of_hash None = tt
+of_hash (Some bytes) = if_hash (length bytes == 32) bytes refl
+
+cons_hashes : (x : Option (List ℕ)) (y : Option (List (List ℕ))) → OfHash x → OfHashes y
+    → OfHashes (option_and_then (λ b. option_map (λ bs. b ∷ bs) y) x)
+cons_hashes None y h hs = tt
+cons_hashes (Some b) None h hs = tt
+cons_hashes (Some b) (Some bs) h hs = All-cons (λ s. length s ≡ 32) b bs h hs
+
+each_hash : (ds : Items) → OfHashes (each_item hash_in ds)
+each_hash no_items = All-nil (λ s. length s ≡ 32)
+each_hash (item d ds) = cons_hashes (hash_in d) (each_item hash_in ds) (of_hash (bytes_in d)) (each_hash ds)
+
+of_hashes : (o : Option Items) → OfHashes (option_and_then hashes_of_items o)
+of_hashes None = tt
+of_hashes (Some ds) = each_hash ds
+
+-- of a head's ask the proof is of hashes
+abbrev ProofHashes : Ask → Type 0
+ProofHashes (for_head head p) = AreHashes p
+ProofHashes (for_receipt b i p) = ⊤
+ProofHashes (for_promise b) = ⊤
+ProofHashes for_nothing = ⊤
+
+abbrev AskHashes : Option Ask → Type 0
+AskHashes None = ⊤
+AskHashes (Some a) = ProofHashes a
+
+head_hashes : (h : Option Head) (o : Option (List (List ℕ))) → OfHashes o
+    → AskHashes (option_and_then (λ head. option_map (λ proof. for_head head proof) o) h)
+head_hashes None o hs = tt
+head_hashes (Some head) None hs = tt
+head_hashes (Some head) (Some p) hs = hs
+
+receipt_hashes : (x : Option (List ℕ)) (y : Option ℕ) (z : Option (List (List ℕ)))
+    → AskHashes (option_and_then (λ leaf. option_and_then (λ index. option_map (λ path. for_receipt leaf index path) z) y) x)
+receipt_hashes None y z = tt
+receipt_hashes (Some b) None z = tt
+receipt_hashes (Some b) (Some i) None = tt
+receipt_hashes (Some b) (Some i) (Some p) = tt
+
+promise_hashes : (x : Option (List ℕ)) → AskHashes (option_map (λ leaf. for_promise leaf) x)
+promise_hashes None = tt
+promise_hashes (Some b) = tt
+
+leaf_hashes : (r : Receipts) (d : Data) → AskHashes (leaf_ask r d)
+leaf_hashes InHead d = receipt_hashes _ _ _
+leaf_hashes Promised d = promise_hashes _
+
+some_ask : (state : Option Data) (a b : Option Ask) → AskHashes a → AskHashes b → ProofHashes (ask_or_nothing (no_state_or state (ask_or a b)))
+some_ask (Some d) a b x y = tt
+some_ask None (Some a) b x y = x
+some_ask None None (Some b) x y = y
+some_ask None None None x y = tt
+
+ask_hashes : (r : Receipts) (d : Data) → ProofHashes (ask_in r d)
+ask_hashes r d =
+    some_ask (get (codes "guard") d) (head_ask d) (leaf_ask r d)
+    (head_hashes (head_fields d) (hashes_at (codes "consistency") d) (of_hashes (option_and_then as_array (get (codes "consistency") d)))) (leaf_hashes r d)
+
+line_hashes : (r : Receipts) (line : List ℕ) (a : Ask) → Requests r line a → ProofHashes a
+line_hashes r line a (inl is) = subst ProofHashes (sym is.2.2) (ask_hashes r is.2.0)
+line_hashes r line a (inr none) = subst ProofHashes (sym none.0) tt
+
+-- ---- heads that were given are heads that were let through
+
+abbrev pair_of : Passed → Head × List (List ℕ)
+pair_of p = (p.head, p.proof)
+
+abbrev IsItsHead : Passed → Type 0
+IsItsHead p = IsHeadOfAll sha256 p.leaves p.head
+
+-- whatever lists these heads are of, they were let through one after the other behind this head
+abbrev Through : Option Head → List (Head × List (List ℕ)) → Type 0
+Through last given = (passed : List Passed) → map pair_of passed ≡ given → All IsItsHead passed → ArePassed sha256 last passed
+
+abbrev front : {A : Type 0} → A → List A → A
+front a [] = a
+front a (x ∷ xs) = x
+
+abbrev behind : {A : Type 0} → List A → List A
+behind [] = []
+behind (x ∷ xs) = xs
+
+one_through : (last : Option Head) (head : Head) (p : List (List ℕ)) (given : List (Head × List (List ℕ))) → PassesHead sha256 last head p → AreHashes p
+    → Through (Some head) given → Through last ((head, p) ∷ given)
+unfolding ArePassed
+one_through last head p given passes hashes rest [] e heads = absurd (cc)
+one_through last head p given passes hashes rest (q ∷ passed) e heads =
+    let pair : (q.head, q.proof) ≡ (head, p) = ap (front (head, p)) e in
+    let same : q.head ≡ head = ap (λ x. x.0) pair in
+    let proof : q.proof ≡ p = ap (λ x. x.1) pair in
+    let here : PassesHead sha256 last q.head q.proof = rw (same, proof) passes in (
+      here,
+      subst AreHashes (sym proof) hashes,
+      All-head IsItsHead q passed heads,
+      subst (λ (h : Head). ArePassed sha256 (Some h) passed) (sym same) (rest passed (ap behind e) (All-tail IsItsHead q passed heads)),
+    )
+
+from_same : (last next : Option Head) (given : List (Head × List (List ℕ))) → next ≡ last → Through next given → Through last given
+from_same last next given same rest = subst (λ (o : Option Head). Through o given) same rest
+
+one_ask : (last next : Option Head) (a : Ask) (o : Outcome) (given : List (Head × List (List ℕ))) → AskComes last a o next → ProofHashes a
+    → Through next given → Through last (given_head (Some (a, o)) ++ given)
+one_ask last next (for_head head p) LetThrough given comes hashes rest =
+    one_through last head p given comes.0 hashes (subst (λ (o : Option Head). Through o given) comes.1 rest)
+one_ask last next (for_head head p) (HeadRefused r) given comes hashes rest = from_same last next given comes.1 rest
+one_ask last next (for_head head p) (ReceiptRefused r) given comes hashes rest = absurd comes
+one_ask last next (for_head head p) BadLine given comes hashes rest = absurd comes
+one_ask last next (for_receipt b i p) LetThrough given comes hashes rest = from_same last next given comes.1 rest
+one_ask last next (for_receipt b i p) (HeadRefused r) given comes hashes rest = absurd comes
+one_ask last next (for_receipt b i p) (ReceiptRefused r) given comes hashes rest = from_same last next given comes.1 rest
+one_ask last next (for_receipt b i p) BadLine given comes hashes rest = absurd comes
+one_ask last next (for_promise b) LetThrough given comes hashes rest = from_same last next given comes.1 rest
+one_ask last next (for_promise b) (HeadRefused r) given comes hashes rest = absurd comes
+one_ask last next (for_promise b) (ReceiptRefused NoHead) given comes hashes rest = absurd comes
+one_ask last next (for_promise b) (ReceiptRefused (NoLeaf f)) given comes hashes rest = from_same last next given comes.1 rest
+one_ask last next (for_promise b) (ReceiptRefused (NotThere f)) given comes hashes rest = absurd comes
+one_ask last next (for_promise b) BadLine given comes hashes rest = absurd comes
+one_ask last next for_nothing LetThrough given comes hashes rest = absurd comes
+one_ask last next for_nothing (HeadRefused r) given comes hashes rest = absurd comes
+one_ask last next for_nothing (ReceiptRefused r) given comes hashes rest = absurd comes
+one_ask last next for_nothing BadLine given comes hashes rest = from_same last next given comes rest
+
+one_line : (s : GuardOptions) (before : Guarding) (line : List ℕ) (step : GuardStep) (given : List (Head × List (List ℕ))) → StepsLine s before line step
+    → Through (last_head step.after) given → Through (last_head before) (given_head step.gave ++ given)
+one_line s before [] step given t rest =
+    subst (λ (o : Option (Ask × Outcome)). Through (last_head before) (given_head o ++ given)) (sym t.0)
+    (subst (λ (g : Guarding). Through (last_head g) given) t.2 rest)
+one_line s before (b ∷ bs) step given t rest =
+    subst (λ (o : Option (Ask × Outcome)). Through (last_head before) (given_head o ++ given)) (sym t.noted)
+    (one_ask (last_head before) (last_head step.after) t.ask t.outcome given t.comes (line_hashes s.receipts (b ∷ bs) t.ask t.requests) rest)
+
+all_lines : (s : GuardOptions) (before : Guarding) (steps : List GuardStep) (input text : List ℕ) (last : Guarding) (given : List (Head × List (List ℕ)))
+    → GuardsLines s before steps input text last → Through (last_head last) given → Through (last_head before) (given_heads steps ++ given)
+all_lines s before [] input text last given t rest = subst (λ (g : Guarding). Through (last_head g) given) t.2 rest
+all_lines s before (step ∷ steps) input text last given t rest =
+    let more : Through (last_head step.after) (given_heads steps ++ given) =
+    all_lines s step.after steps (drop_through 10 input) t.2.0 last given t.2.1 rest in
+    subst (λ (g : List (Head × List (List ℕ))). Through (last_head before) g) (sym (append_assoc (given_head step.gave) (given_heads steps) given))
+    (one_line s before (first_piece 10 input) step (given_heads steps ++ given) t.1 more)
+
+none_left : (last : Option Head) → Through last []
+unfolding ArePassed
+none_left last [] e heads = tt
+none_left last (q ∷ passed) e heads = absurd (cc)
+
+-- a run that begins with the line of this state begins with its head
+start_is : (input left : List ℕ) (start last : Option Head) → StartsAt input start left → IsGuardState (first_piece 10 input) last → start ≡ last
+start_is input left start last (inl none) is = absurd (none.0 last is)
+start_is input left start last (inr taken) is = states_differ start last taken.1.1 is.1 (sym taken.1.0 ∙ is.0)
+
+all_runs : (last : Option Head) (runs : List RunMade) → IsLastValue last → TakeUp (guard_state_text last) runs → Through last (all_given runs)
+all_runs last [] kept f = none_left last
+all_runs last (r ∷ runs) kept f =
+    let run : GuardRun r.options r.input r.text r.status = r.did in
+    let same : last_head run.start ≡ last = start_is r.input run.left (last_head run.start) last run.starts (f.0, kept) in
+    from_same last (last_head run.start) (given_heads run.steps ++ all_given runs) same
+    (all_lines r.options run.start run.steps run.left run.told run.last (all_given runs) run.lines (all_runs (last_head run.last) runs run.kept f.1))
+
+-- ---- the law
+
+pub given_agree : GivenHeadsAgree
+given_agree first runs f passed e heads =
+    let run : GuardRun first.options first.input first.text first.status = first.did in
+    let through : Through (last_head run.start) (given_heads run.steps ++ all_given runs) =
+    all_lines first.options run.start run.steps run.left run.told run.last (all_given runs) run.lines (all_runs (last_head run.last) runs run.kept f) in
+    passed_heads_agree sha256 length-sha256 (last_head run.start) passed (through passed e heads)

@@ -1,0 +1,90 @@
+-- A state's line is read back as that state.
+use Rattle.std.proofs.Common.{◌≡◌, ◌≢◌, ◌∙◌, ◌<◌, ◌≤◌, ◌^◌, ℕ, refl, sym, ap, subst, inl, inr, arith, IsUtf8, List, [], ◌∷◌, ◌++◌, length, append-nil, eq-eqb, Some, None, Option}
+use Rattle.std.proofs.lemmas.Option.{same_Some, none-some}
+use Rattle.std.specs.Prelude.{option_and_then, Result, Ok, Err, MatchResult, IfOk}
+use Rattle.std.specs.Result.{result_ok}
+use Rattle.base64.specs.Engines.{standard}
+use Rattle.base64.specs.GeneralPurpose.{IsBytes, IsConsistent}
+use Rattle.base64.proofs.EngineFacts.{decode_of-encode_of}
+use Rattle.json.specs.Json as json
+use Rattle.json.specs.Lex.{tokens}
+use Rattle.json.specs.Tree.{json_tokens, depth, HasNumbers}
+use Rattle.json.proofs.Printed.Decimals.{IsNumber-decimal}
+use Rattle.json.proofs.Printed.Tokens.{tokens-print}
+use Rattle.json.proofs.Printed.Trees.{value-json_tokens, ArePrintable-json_tokens}
+use Rattle.serde_json.specs.Data.{Data}
+use Rattle.serde_json.specs.Read.{of_json, read, max_depth}
+use Rattle.serde_json.specs.Written.{outline, compact_text}
+use Rattle.serde_json.proofs.Numbers.{number_of-decimal}
+use Rattle.serde_json.proofs.Texts.{print-outline}
+use Rattle.ct_lines.specs.Fields.{bytes_of}
+use Rattle.ct_lines.specs.ReplyText.{base64_text}
+use Rattle.ct_tree.specs.declared.head.Head.{Head}
+use Rattle.ct_guard_lines.proofs.Plain.{state_plain}
+use Rattle.ct_guard_lines.specs.GuardSession.{IsGuardState, IsNoState}
+use Rattle.ct_guard_lines.specs.GuardState.{StateReadBack, StatesDiffer, IsHeadValue, IsLastValue, last_of_line, last_of_state, ReadsLast, guard_state_data, guard_state_text}
+
+-- ---- a text without floats is read back
+
+text_read : (d : Data) → HasNumbers (outline d) → depth (outline d) ≤ 127 → of_json (outline d) ≡ Some d → read (compact_text d) ≡ Some d
+text_read d numbers shallow back =
+    let ts = json_tokens (outline d) in
+    let same : tokens (compact_text d) ≡ ts ++ [] =
+    ap tokens (sym (print-outline d)) ∙ tokens-print ts (ArePrintable-json_tokens (outline d) numbers) ∙ sym (append-nil ts) in
+    ap (λ r. option_and_then of_json (option_and_then (λ p. json.if_last p.0 p.1) r))
+    (ap (json.value max_depth) same ∙ value-json_tokens (outline d) max_depth [] shallow) ∙ back
+
+-- ---- a state's fields
+
+consistent : IsConsistent standard
+consistent = refl
+
+base_back : (b : List ℕ) → IsBytes b → bytes_of (base64_text b) ≡ Some b
+unfolding bytes_of base64_text
+base_back b bytes = ap result_ok (decode_of-encode_of standard b consistent bytes)
+
+one : 1 < 2 ^ 64
+one = omega arith
+
+of_none : of_json (outline (guard_state_data None)) ≡ Some (guard_state_data None)
+of_none = rw (number_of-decimal 1 one) refl
+
+of_some : (head : Head) → IsHeadValue head → of_json (outline (guard_state_data (Some head))) ≡ Some (guard_state_data (Some head))
+of_some head v = rw (number_of-decimal 1 one, number_of-decimal head.timestamp v.1, number_of-decimal head.tree_size v.0) refl
+
+fields_back : (head : Head) → IsHeadValue head → last_of_state (guard_state_data (Some head)) ≡ Some (Some head)
+fields_back head v = rw (base_back head.root v.2, eq-eqb (length head.root) 32 v.3) refl
+
+pub state_read_back : StateReadBack
+unfolding guard_state_text
+state_read_back None v =
+    ap (option_and_then last_of_state) (text_read (guard_state_data None) (IsNumber-decimal 1 one, (tt, tt)) (omega arith) of_none)
+state_read_back (Some head) v =
+    ap (option_and_then last_of_state) (text_read (guard_state_data (Some head))
+    (IsNumber-decimal 1 one, ((tt, (IsNumber-decimal head.timestamp v.1, (IsNumber-decimal head.tree_size v.0, tt))), tt)) (omega arith) (of_some head v))
+    ∙ fields_back head v
+
+pub states_differ : StatesDiffer
+states_differ a b va vb e = same_Some a b (sym (state_read_back a va) ∙ ap last_of_line e ∙ state_read_back b vb)
+
+-- ---- a line that is no state's
+
+pub line_of_state : (line : List ℕ) (last : Option Head) → IsGuardState line last → last_of_line line ≡ Some last
+line_of_state line last is = ap last_of_line is.0 ∙ state_read_back last is.1
+
+pub not_read : (line : List ℕ) (o : Option (Option Head)) → ReadsLast line o → o ≡ None → IsNoState line
+not_read line o (inl r) none last is = none-some last (sym (sym r.1 ∙ none) ∙ line_of_state line last is)
+not_read line o (inr r) none last is =
+    none-some last (sym (r.1 (subst IsUtf8 (sym is.0) (state_plain last is.1))) ∙ line_of_state line last is)
+
+pub other_text : (line : List ℕ) (o : Option (Option Head)) (last : Option Head) → ReadsLast line o → o ≡ Some last → line ≢ guard_state_text last
+    → IsNoState line
+other_text line o last (inl r) found other next is =
+    let same : last ≡ next = same_Some last next (sym (sym r.1 ∙ found) ∙ line_of_state line next is) in other (is.0 ∙ ap guard_state_text (sym same))
+other_text line o last (inr r) found other next is = absurd (none-some last (sym r.0 ∙ found))
+
+-- a line that is no JSON
+pub err_last : {F : Type 0} (r : Result (Option (Option Head)) F) (line : List ℕ) (memory : Type 0)
+    → MatchResult r (λ o. (o ≡ None) × (memory → ⊥)) (λ _. memory) → ((memory → ⊥) → IsUtf8 line → read line ≡ None) → IfOk r (λ o. ReadsLast line o)
+err_last (Ok o) line memory from err = inr (from.0, λ u. ap (option_and_then last_of_state) (err from.1 u))
+err_last (Err f) line memory from err = tt

@@ -1,0 +1,71 @@
+-- What a line asks of a guard.
+use Rattle.std.specs.Prelude.{◌≡◌, ◌⊎◌, ◌≤◌, ℕ, List, length, Option, Some, None, option_map, option_and_then, codes}
+use Rattle.std.specs.Str.{IsUtf8}
+use Rattle.serde_json.specs.Data.{Data}
+use Rattle.serde_json.specs.Find.{get}
+use Rattle.serde_json.specs.Read.{read}
+use Rattle.ct_tree.specs.declared.head.Head.{Head}
+use Rattle.ct_lines.specs.Fields.{number_at, bytes_at, hashes_at}
+use Rattle.ct_guard_lines.specs.GuardState.{head_fields}
+use Rattle.ct_guard_lines.specs.declared.request.Request.{Request}
+use Rattle.ct_guard_lines.specs.declared.request.Request.TheVariants as request
+use Rattle.ct_guard_lines.specs.declared.settings.Receipts.{Receipts}
+use Rattle.ct_guard_lines.specs.declared.settings.Receipts.TheVariants.{InHead, Promised}
+
+-- What a line asks for: the bytes of a tree head, with a consistency proof from the last one; those of a receipt, by its leaf's bytes, its
+-- leaf index and an audit path in the last head's tree; those of a receipt by its leaf's bytes alone; or nothing that there is.
+pub data Ask : Type 0 where
+  for_head : Head → List (List ℕ) → Ask
+  for_receipt : List ℕ → ℕ → List (List ℕ) → Ask
+  for_promise : List ℕ → Ask
+  for_nothing : Ask
+
+-- what the code's request asks for
+abbrev pub ask_of : Request → Ask
+ask_of (request.Head head proof) = for_head head proof.items
+ask_of (request.Receipt leaf index path) = for_receipt leaf.items index path.items
+ask_of (request.Promise leaf) = for_promise leaf.items
+ask_of request.Other = for_nothing
+
+-- a tree head and the consistency proof from the last one (RFC 6962, sections 4.3 and 4.4)
+abbrev pub head_ask : Data → Option Ask
+head_ask d = option_and_then (λ head. option_map (λ proof. for_head head proof) (hashes_at (codes "consistency") d)) (head_fields d)
+
+-- a leaf, its leaf index and an audit path (RFC 6962, sections 4.5 and 4.6)
+abbrev pub receipt_ask : Data → Option Ask
+receipt_ask d = option_and_then
+    (λ leaf. option_and_then (λ index. option_map (λ path. for_receipt leaf index path)
+    (hashes_at (codes "audit_path") d)) (number_at (codes "leaf_index") d)) (bytes_at (codes "leaf_input") d)
+
+-- a leaf alone (RFC 6962, section 4.6)
+abbrev pub promise_ask : Data → Option Ask
+promise_ask d = option_map (λ leaf. for_promise leaf) (bytes_at (codes "leaf_input") d)
+
+-- what is asked of a receipt: a path in the last head's tree, or, of a log that promises a merge, its leaf alone
+abbrev pub leaf_ask : Receipts → Data → Option Ask
+leaf_ask InHead d = receipt_ask d
+leaf_ask Promised d = promise_ask d
+
+-- the ask, or nothing that there is
+abbrev pub ask_or_nothing : Option Ask → Ask
+ask_or_nothing None = for_nothing
+ask_or_nothing (Some ask) = ask
+
+-- the first ask, or else the second
+abbrev pub ask_or : Option Ask → Option Ask → Option Ask
+ask_or None other = other
+ask_or (Some ask) other = Some ask
+
+-- nothing where a state stands, or else the ask
+abbrev pub no_state_or : Option Data → Option Ask → Option Ask
+no_state_or None other = other
+no_state_or (Some d) other = None
+
+-- what a JSON value asks for, by its keys: nothing where it has the key `guard`; then a head; then a receipt
+abbrev pub ask_in : Receipts → Data → Ask
+ask_in receipts d = ask_or_nothing (no_state_or (get (codes "guard") d) (ask_or (head_ask d) (leaf_ask receipts d)))
+
+-- the line asks for this: it has at most 1,048,576 bytes, is UTF-8, and is JSON that asks for it; or it asks for nothing that there is
+abbrev pub Requests : Receipts → List ℕ → Ask → Type 0
+Requests receipts line a = ((length line ≤ 1048576) × IsUtf8 line × ((d : Data) × (read line ≡ Some d) × (a ≡ ask_in receipts d)))
+    ⊎ ((a ≡ for_nothing) × (length line ≤ 1048576 → IsUtf8 line → (d : Data) → read line ≡ Some d → ⊥))

@@ -1,0 +1,71 @@
+-- The line of a guard's state: the head that was let through last, if one was.
+use Rattle.std.specs.Prelude.{◌≡◌, ◌⊎◌, ◌<◌, ◌^◌, ⊤, ℕ, List, length, Some, None, option_map, option_and_then, codes}
+use Rattle.std.specs.Str.{IsUtf8}
+use Rattle.std.specs.declared.option.Option.{Option}
+use Rattle.base64.specs.GeneralPurpose.{IsBytes}
+use Rattle.serde_json.specs.Data.{Data, null, boolean, number, string, array, object, member, no_members}
+use Rattle.serde_json.specs.Find.{get}
+use Rattle.serde_json.specs.Read.{read}
+use Rattle.serde_json.specs.Written.{compact_text}
+use Rattle.ct_lines.specs.Fields.{number_at, hash_at}
+use Rattle.ct_lines.specs.ReplyText.{number_data, bytes_data}
+use Rattle.ct_tree.specs.declared.head.Head.{Head}
+
+-- the object of the last head, or null
+abbrev pub last_data : Option Head → Data
+last_data None = null
+last_data (Some head) = object (member (codes "sha256_root_hash") (bytes_data head.root)
+    (member (codes "timestamp") (number_data head.timestamp) (member (codes "tree_size") (number_data head.tree_size) no_members)))
+
+-- the object of a guard's state
+abbrev pub guard_state_data : Option Head → Data
+guard_state_data last = object (member (codes "guard") (number_data 1) (member (codes "last") (last_data last) no_members))
+
+-- the line of a guard's state, without its end
+unfoldable pub guard_state_text : Option Head → List ℕ
+guard_state_text last = compact_text (guard_state_data last)
+
+-- the tree head that an object has, under the names of get-sth (RFC 6962, section 4.3)
+abbrev pub head_fields : Data → Option Head
+head_fields d = option_and_then
+    (λ root. option_and_then (λ size. option_map (λ moment. record { tree_size = size; timestamp = moment; root = root })
+    (number_at (codes "timestamp") d)) (number_at (codes "tree_size") d)) (hash_at (codes "sha256_root_hash") d)
+
+-- the last head that a value is: none where it is null
+abbrev pub last_in : Data → Option (Option Head)
+last_in null = Some None
+last_in (boolean b) = None
+last_in (number n) = None
+last_in (string s) = None
+last_in (array ds) = None
+last_in (object ms) = option_map (λ head. Some head) (head_fields (object ms))
+
+-- the last head that a state's object has
+abbrev pub last_of_state : Data → Option (Option Head)
+last_of_state d = option_and_then last_in (get (codes "last") d)
+
+-- the last head of the state that a line is, however it is written
+abbrev pub last_of_line : List ℕ → Option (Option Head)
+last_of_line line = option_and_then last_of_state (read line)
+
+-- the line is read as that of the state with this last head: it is UTF-8, and this is it, or none where it is no state's; or it isn't
+-- read at all
+abbrev pub ReadsLast : List ℕ → Option (Option Head) → Type 0
+ReadsLast line o = (IsUtf8 line × (o ≡ last_of_line line)) ⊎ ((o ≡ None) × (IsUtf8 line → last_of_line line ≡ None))
+
+-- the head is one that the code can have: numbers below 2^64, and a root of 32 bytes
+abbrev pub IsHeadValue : Head → Type 0
+IsHeadValue head = (head.tree_size < 2 ^ 64) × (head.timestamp < 2 ^ 64) × IsBytes head.root × (length head.root ≡ 32)
+
+-- so is the last head, if there is one
+abbrev pub IsLastValue : Option Head → Type 0
+IsLastValue None = ⊤
+IsLastValue (Some head) = IsHeadValue head
+
+-- A state's line is read as the very state that it was written for.
+abbrev pub StateReadBack : Type 0
+StateReadBack = (last : Option Head) → IsLastValue last → last_of_line (guard_state_text last) ≡ Some last
+
+-- Two states with one line are one.
+abbrev pub StatesDiffer : Type 0
+StatesDiffer = (a b : Option Head) → IsLastValue a → IsLastValue b → guard_state_text a ≡ guard_state_text b → a ≡ b

@@ -1,0 +1,219 @@
+//! The program over the words of a command line, a reader of lines and a writer of replies.
+
+ghost use Rattle.std.specs.Prelude.{◌≡◌, ◌≢◌, ◌++◌, ◌∷◌, [], IfOk, OnOk, OnErr, map, string_bytes};
+ghost use Rattle.std.specs.Io.KnownBytes.{Appends};
+ghost use Rattle.ct_lines.specs.Sends.{SendsSome};
+ghost use Rattle.ct_guard_lines.specs.GuardWords.{guard_asked, IsGuardAnswered};
+ghost use Rattle.ct_guard_lines.specs.GuardFaults.{guard_fault_line};
+ghost use Rattle.ct_guard_lines.specs.declared.fault.Fault.{Fault as FaultOf};
+ghost use Rattle.ct_guard_lines.specs.GuardSession.{options_of, last_head, GuardsFirst, GuardsLine, OneGuarded, GetsLine, IsGuarded, IsAllGuarded, IsGuardRun, IsGuardStatus, guard_status};
+ghost use Rattle.ct_guard_lines.specs.GuardState.{guard_state_text, IsLastValue};
+
+use crate::command::{Command, command_of};
+use crate::fault::Fault;
+use crate::guarding::Guarding;
+use crate::settings::Settings;
+use ct_lines::{send, tell};
+use ct_pipes::NumberedLines;
+use std::alloc::Global;
+use std::io::{BufRead, BufReader, Read, Write};
+
+// How the program is called.
+const USAGE: &str =
+    "usage: ctguard [--origin TEXT] [--receipts in-head|promised] < lines > replies\n";
+
+// The version of the programs (include/wagtenib.pc.in).
+const VERSION: &str = "ctguard 0.1.0\n";
+
+// How many lines are read at most, so that the loop ends.
+const LINES: u64 = 1 << 50;
+
+// Reads the next line into `line`, without its end, in place of what stood there, and answers whether there was one. Of a line that
+// is longer than a line may be a beginning is kept that is so too.
+fn next_line<B: BufRead + Drop>(
+    lines: &mut NumberedLines<B>,
+    line: &mut Vec<u8>,
+) -> Result<bool, Fault>
+    ensures { IfOk result (λ some. GetsLine some (B.remaining lines.old.input) (B.remaining lines.new.input) line.new.items) }
+{
+    match lines.read(line)? {
+        Some(_number) => Ok(true),
+        None => Ok(false),
+    }
+}
+
+// Takes the next line, and answers whether none was left.
+fn take_next<B: BufRead + Drop, W: Write>(
+    alloc: Global,
+    settings: &Settings,
+    guarding: &mut Guarding,
+    lines: &mut NumberedLines<B>,
+    line: &mut Vec<u8>,
+    writer: &mut W,
+) -> Result<bool, Fault>
+    ensures { IfOk result (λ done. OneGuarded (GuardsLine (options_of settings.now)) guarding.old guarding.new
+        (B.remaining lines.old.input) (B.remaining lines.new.input) (W.contents writer.old) (W.contents writer.new) done) }
+{
+    let some = next_line(lines, line)?;
+    if some {
+        let text = guarding.take_line(alloc, settings, line)?;
+        send(writer, &text)?;
+        return Ok(false);
+    }
+    Ok(true)
+}
+
+// Takes the first line, where a state may stand, and answers whether none was left.
+fn take_start<B: BufRead + Drop, W: Write>(
+    alloc: Global,
+    settings: &Settings,
+    guarding: &mut Guarding,
+    lines: &mut NumberedLines<B>,
+    line: &mut Vec<u8>,
+    writer: &mut W,
+) -> Result<bool, Fault>
+    ensures { IfOk result (λ done. OneGuarded (GuardsFirst (options_of settings.now)) guarding.old guarding.new
+        (B.remaining lines.old.input) (B.remaining lines.new.input) (W.contents writer.old) (W.contents writer.new) done) }
+{
+    let some = next_line(lines, line)?;
+    if some {
+        let text = guarding.take_first(alloc, settings, line)?;
+        send(writer, &text)?;
+        return Ok(false);
+    }
+    Ok(true)
+}
+
+// Takes the lines that are left.
+fn take_lines<B: BufRead + Drop, W: Write>(
+    alloc: Global,
+    settings: &Settings,
+    guarding: &mut Guarding,
+    lines: &mut NumberedLines<B>,
+    line: &mut Vec<u8>,
+    writer: &mut W,
+) -> Result<(), Fault>
+    ensures { OnOk result (IsGuarded (options_of settings.now) guarding.old guarding.new
+        (B.remaining lines.old.input) (W.contents writer.old) (W.contents writer.new)) }
+{
+    for turn in 0..LINES {
+        let done = take_next(alloc, settings, guarding, lines, line, writer)?;
+        if done {
+            return Ok(());
+        }
+    }
+    Err(Fault::Read)
+}
+
+// Takes all lines, of which the first may be a state.
+fn take_all<B: BufRead + Drop, W: Write>(
+    alloc: Global,
+    settings: &Settings,
+    guarding: &mut Guarding,
+    input: B,
+    writer: &mut W,
+) -> Result<(), Fault>
+    ensures { OnOk result (IsAllGuarded (options_of settings.now) guarding.old guarding.new
+        (B.remaining input) (W.contents writer.old) (W.contents writer.new)) }
+{
+    let mut lines = NumberedLines::new(input);
+    let mut line = Vec::new(alloc);
+    let done = take_start(alloc, settings, guarding, &mut lines, &mut line, writer)?;
+    if done {
+        return Ok(());
+    }
+    take_lines(alloc, settings, guarding, &mut lines, &mut line, writer)?;
+    Ok(())
+}
+
+// Writes the state as the last line, and answers the exit status.
+fn finish<W: Write>(alloc: Global, guarding: &Guarding, writer: &mut W) -> Result<u8, Fault>
+    ensures status { IfOk result (λ status. status ≡ guard_status guarding.now) }
+    ensures written { OnOk result (Appends (W.contents writer.old) (W.contents writer.new) (guard_state_text (last_head guarding.now) ++ 10 ∷ [])) }
+    ensures kept { OnOk result (IsLastValue (last_head guarding.now)) }
+{
+    let text = guarding.last_line(alloc)?;
+    send(writer, &text)?;
+    Ok(guarding.status())
+}
+
+/// Reads the lines of an input, of which the first may be a state, and writes a reply to each, and the state as the last line.
+/// Answers the exit status: 4 where a line was none, else 0.
+///
+/// # Errors
+///
+/// `Memory`, where a growth is refused; `Read`, where the input can't be read, or has 2^50 lines; `Write`, where the output can't be
+/// written. No state is written then, unless the last write alone failed.
+pub fn run<B: BufRead + Drop, W: Write>(
+    alloc: Global,
+    settings: &Settings,
+    input: B,
+    writer: &mut W,
+) -> Result<u8, Fault>
+    ensures written { IfOk result (λ status. IsGuardRun (options_of settings.now) (B.remaining input) (W.contents writer.old) (W.contents writer.new) status) }
+    ensures status { IfOk result (λ status. IsGuardStatus status) }
+{
+    let mut guarding = Guarding::new();
+    take_all(alloc, settings, &mut guarding, input, writer)?;
+    finish(alloc, &guarding, writer)
+}
+
+// Does what the words ask for, and answers the exit status.
+fn do_asked<R: Read + Drop, W: Write, E: Write>(
+    alloc: Global,
+    words: &[String],
+    input: R,
+    output: &mut W,
+    faults: &mut E,
+) -> Result<u8, Fault>
+    ensures answered { IfOk result (λ status. IsGuardAnswered (guard_asked (map string_bytes words.now)) (R.remaining input)
+        (W.contents output.old) (W.contents output.new) (E.contents faults.old) (E.contents faults.new) status) }
+    ensures status { IfOk result (λ status. status ≢ 1) }
+    ensures quiet { OnErr result (E.contents faults.new ≡ E.contents faults.old) }
+{
+    match command_of(alloc, words)? {
+        Command::Guard(settings) => {
+            let reader = BufReader::new(alloc, input)?;
+            run(alloc, &settings, reader, output)
+        }
+        Command::Help => {
+            send(output, USAGE.as_bytes())?;
+            Ok(0)
+        }
+        Command::Version => {
+            send(output, VERSION.as_bytes())?;
+            Ok(0)
+        }
+        Command::Refused => {
+            tell(faults, USAGE.as_bytes());
+            Ok(2)
+        }
+    }
+}
+
+/// Does what the words of a command line ask for, the program's name left out, and answers the exit status.
+///
+/// - 0, 4: `run` read the input and wrote its replies, with that status; or, for 0, the words ask for help or the version, which was
+///   written on the output.
+/// - 1: a fault broke it off, and its line was written among the faults, as far as it could be.
+/// - 2: the words ask for nothing that there is. How the program is called was written among the faults, as far as it could be.
+pub fn answer_words<R: Read + Drop, W: Write, E: Write>(
+    alloc: Global,
+    words: &[String],
+    input: R,
+    output: &mut W,
+    faults: &mut E,
+) -> u8
+    ensures answered { result ≢ 1 → IsGuardAnswered (guard_asked (map string_bytes words.now)) (R.remaining input)
+        (W.contents output.old) (W.contents output.new) (E.contents faults.old) (E.contents faults.new) result }
+    ensures fault { result ≡ 1 → (f : FaultOf)
+        × SendsSome (E.contents faults.old) (E.contents faults.new) (guard_fault_line f) }
+{
+    match do_asked(alloc, words, input, output, faults) {
+        Ok(status) => status,
+        Err(fault) => {
+            tell(faults, fault.text().as_bytes());
+            1
+        }
+    }
+}

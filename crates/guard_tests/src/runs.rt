@@ -1,0 +1,407 @@
+// What is expected was computed by another program: examples/guard/runs.py, with hashlib alone.
+use ct_guard_lines::{Fault, Receipts, Settings, answer_words, run};
+use std::alloc::Global;
+use std::io;
+use std::io::{BufReader, ErrorKind, Read, Write};
+use std::test::Fail;
+
+const GROWS: &str = "{\"consistency\":[],\"sha256_root_hash\":\"tC/H6/wngKBZT+R1LE6M9CmYJyFREld3ZJUnHyM+Mao=\",\"timestamp\":1000,\"tree_size\":3}
+{\"consistency\":[],\"sha256_root_hash\":\"tC/H6/wngKBZT+R1LE6M9CmYJyFREld3ZJUnHyM+Mao=\",\"timestamp\":1000,\"tree_size\":3}
+{\"audit_path\":[\"ICTSyBj4WUTC5AcFQqweauD2frL1HZEjEp+S9EMMDBI=\"],\"leaf_index\":2,\"leaf_input\":\"AAAAAAAAAAAACQABAAAAAAAAAAAAAAAAAAAAAAAAAAAAAAAAAAAAAAAAAAAAAANERUYAAA==\"}
+{\"audit_path\":[\"G4v/RJyXOCuDizhm/Efa15/HuIiR7l92+pKY/RnKIa8=\",\"WLkJ1EMlnhas/il9fn13m8ePmiHCzRDLcQENWyi98tg=\"],\"leaf_index\":0,\"leaf_input\":\"AAAAAAAAAAAABwAAAAABQQAA\"}
+{\"consistency\":[\"WLkJ1EMlnhas/il9fn13m8ePmiHCzRDLcQENWyi98tg=\",\"kJ7lVU9Uv4QMRjHA0xrLeOY5J+pwDGg8ul1aXGm+u1I=\",\"ICTSyBj4WUTC5AcFQqweauD2frL1HZEjEp+S9EMMDBI=\",\"7yJYS/QYboh+K6ENtg51g8NH8ZYaVsbfwYqteF9m4jE=\"],\"sha256_root_hash\":\"LW4H9OJXMvRh4el4Z1azUPNn4JuV2havF4zTozlYYlM=\",\"timestamp\":1001,\"tree_size\":5}
+{\"consistency\":[],\"sha256_root_hash\":\"LW4H9OJXMvRh4el4Z1azUPNn4JuV2havF4zTozlYYlM=\",\"timestamp\":1002,\"tree_size\":5}
+{\"audit_path\":[\"KvhQ5T2VCGlB+8g95YvHFQA+SHydXPy1vVsIWdVUI00=\"],\"leaf_index\":4,\"leaf_input\":\"AAAAAAAAAAAACwAAAAADSElKAAA=\"}
+{\"consistency\":[\"7yJYS/QYboh+K6ENtg51g8NH8ZYaVsbfwYqteF9m4jE=\",\"/5/bu9L6hCbB5MRU+Vs/mGjZVnPSvrn5wzMO1Kp9Sog=\",\"1hDItcfCD64oPq6A6IpZbVKsrf+dhf6AfqaYb0ftB6g=\",\"KvhQ5T2VCGlB+8g95YvHFQA+SHydXPy1vVsIWdVUI00=\",\"nKCKZ7sB0pdowuRpeDlPuGfQ6Ng+2atm2rEgAod9h7o=\"],\"sha256_root_hash\":\"du7qhEIOEAlx4PW0CquqrFCQdYGOPWhEpj2aF749hls=\",\"timestamp\":2000,\"tree_size\":9}
+";
+
+const GROWS_TEXT: &str = "{\"sign\":\"AAEAAAAAAAAD6AAAAAAAAAADtC/H6/wngKBZT+R1LE6M9CmYJyFREld3ZJUnHyM+Mao=\",\"state\":{\"guard\":1,\"last\":{\"sha256_root_hash\":\"tC/H6/wngKBZT+R1LE6M9CmYJyFREld3ZJUnHyM+Mao=\",\"timestamp\":1000,\"tree_size\":3}}}
+{\"sign\":\"AAEAAAAAAAAD6AAAAAAAAAADtC/H6/wngKBZT+R1LE6M9CmYJyFREld3ZJUnHyM+Mao=\",\"state\":{\"guard\":1,\"last\":{\"sha256_root_hash\":\"tC/H6/wngKBZT+R1LE6M9CmYJyFREld3ZJUnHyM+Mao=\",\"timestamp\":1000,\"tree_size\":3}}}
+{\"sign\":\"AAAAAAAAAAAACQABAAAAAAAAAAAAAAAAAAAAAAAAAAAAAAAAAAAAAAAAAAAAAANERUYAAA==\"}
+{\"sign\":\"AAAAAAAAAAAABwAAAAABQQAA\"}
+{\"sign\":\"AAEAAAAAAAAD6QAAAAAAAAAFLW4H9OJXMvRh4el4Z1azUPNn4JuV2havF4zTozlYYlM=\",\"state\":{\"guard\":1,\"last\":{\"sha256_root_hash\":\"LW4H9OJXMvRh4el4Z1azUPNn4JuV2havF4zTozlYYlM=\",\"timestamp\":1001,\"tree_size\":5}}}
+{\"sign\":\"AAEAAAAAAAAD6gAAAAAAAAAFLW4H9OJXMvRh4el4Z1azUPNn4JuV2havF4zTozlYYlM=\",\"state\":{\"guard\":1,\"last\":{\"sha256_root_hash\":\"LW4H9OJXMvRh4el4Z1azUPNn4JuV2havF4zTozlYYlM=\",\"timestamp\":1002,\"tree_size\":5}}}
+{\"sign\":\"AAAAAAAAAAAACwAAAAADSElKAAA=\"}
+{\"sign\":\"AAEAAAAAAAAH0AAAAAAAAAAJdu7qhEIOEAlx4PW0CquqrFCQdYGOPWhEpj2aF749hls=\",\"state\":{\"guard\":1,\"last\":{\"sha256_root_hash\":\"du7qhEIOEAlx4PW0CquqrFCQdYGOPWhEpj2aF749hls=\",\"timestamp\":2000,\"tree_size\":9}}}
+{\"guard\":1,\"last\":{\"sha256_root_hash\":\"du7qhEIOEAlx4PW0CquqrFCQdYGOPWhEpj2aF749hls=\",\"timestamp\":2000,\"tree_size\":9}}
+";
+
+const FIRST_MOMENT: &str = "{\"consistency\":[],\"sha256_root_hash\":\"47DEQpj8HBSa+/TImW+5JCeuQeRkm5NMpJWZG3hSuFU=\",\"timestamp\":0,\"tree_size\":0}
+{\"consistency\":[],\"sha256_root_hash\":\"47DEQpj8HBSa+/TImW+5JCeuQeRkm5NMpJWZG3hSuFU=\",\"timestamp\":1,\"tree_size\":0}
+{\"consistency\":[],\"sha256_root_hash\":\"KvhQ5T2VCGlB+8g95YvHFQA+SHydXPy1vVsIWdVUI00=\",\"timestamp\":2,\"tree_size\":4}
+{\"consistency\":[\"1ceKgGTFOd69yRn7+sk+4wWqx12bgK0s+gsmUrfGxN0=\",\"nKCKZ7sB0pdowuRpeDlPuGfQ6Ng+2atm2rEgAod9h7o=\"],\"sha256_root_hash\":\"du7qhEIOEAlx4PW0CquqrFCQdYGOPWhEpj2aF749hls=\",\"timestamp\":18446744073709551615,\"tree_size\":9}
+";
+
+const FIRST_MOMENT_TEXT: &str = "{\"sign\":\"AAEAAAAAAAAAAAAAAAAAAAAA47DEQpj8HBSa+/TImW+5JCeuQeRkm5NMpJWZG3hSuFU=\",\"state\":{\"guard\":1,\"last\":{\"sha256_root_hash\":\"47DEQpj8HBSa+/TImW+5JCeuQeRkm5NMpJWZG3hSuFU=\",\"timestamp\":0,\"tree_size\":0}}}
+{\"sign\":\"AAEAAAAAAAAAAQAAAAAAAAAA47DEQpj8HBSa+/TImW+5JCeuQeRkm5NMpJWZG3hSuFU=\",\"state\":{\"guard\":1,\"last\":{\"sha256_root_hash\":\"47DEQpj8HBSa+/TImW+5JCeuQeRkm5NMpJWZG3hSuFU=\",\"timestamp\":1,\"tree_size\":0}}}
+{\"sign\":\"AAEAAAAAAAAAAgAAAAAAAAAEKvhQ5T2VCGlB+8g95YvHFQA+SHydXPy1vVsIWdVUI00=\",\"state\":{\"guard\":1,\"last\":{\"sha256_root_hash\":\"KvhQ5T2VCGlB+8g95YvHFQA+SHydXPy1vVsIWdVUI00=\",\"timestamp\":2,\"tree_size\":4}}}
+{\"sign\":\"AAH//////////wAAAAAAAAAJdu7qhEIOEAlx4PW0CquqrFCQdYGOPWhEpj2aF749hls=\",\"state\":{\"guard\":1,\"last\":{\"sha256_root_hash\":\"du7qhEIOEAlx4PW0CquqrFCQdYGOPWhEpj2aF749hls=\",\"timestamp\":18446744073709551615,\"tree_size\":9}}}
+{\"guard\":1,\"last\":{\"sha256_root_hash\":\"du7qhEIOEAlx4PW0CquqrFCQdYGOPWhEpj2aF749hls=\",\"timestamp\":18446744073709551615,\"tree_size\":9}}
+";
+
+const REFUSALS: &str = "{\"audit_path\":[\"G4v/RJyXOCuDizhm/Efa15/HuIiR7l92+pKY/RnKIa8=\",\"WLkJ1EMlnhas/il9fn13m8ePmiHCzRDLcQENWyi98tg=\"],\"leaf_index\":0,\"leaf_input\":\"AAAAAAAAAAAABwAAAAABQQAA\"}
+{\"consistency\":[],\"sha256_root_hash\":\"tC/H6/wngKBZT+R1LE6M9CmYJyFREld3ZJUnHyM+Mao=\",\"timestamp\":1000,\"tree_size\":3}
+{\"consistency\":[],\"sha256_root_hash\":\"ICTSyBj4WUTC5AcFQqweauD2frL1HZEjEp+S9EMMDBI=\",\"timestamp\":2000,\"tree_size\":2}
+{\"consistency\":[\"WLkJ1EMlnhas/il9fn13m8ePmiHCzRDLcQENWyi98tg=\",\"kJ7lVU9Uv4QMRjHA0xrLeOY5J+pwDGg8ul1aXGm+u1I=\",\"ICTSyBj4WUTC5AcFQqweauD2frL1HZEjEp+S9EMMDBI=\",\"7yJYS/QYboh+K6ENtg51g8NH8ZYaVsbfwYqteF9m4jE=\"],\"sha256_root_hash\":\"LW4H9OJXMvRh4el4Z1azUPNn4JuV2havF4zTozlYYlM=\",\"timestamp\":1000,\"tree_size\":5}
+{\"consistency\":[\"WLkJ1EMlnhas/il9fn13m8ePmiHCzRDLcQENWyi98tg=\",\"kJ7lVU9Uv4QMRjHA0xrLeOY5J+pwDGg8ul1aXGm+u1I=\",\"ICTSyBj4WUTC5AcFQqweauD2frL1HZEjEp+S9EMMDBI=\",\"7yJYS/QYboh+K6ENtg51g8NH8ZYaVsbfwYqteF9m4jE=\"],\"sha256_root_hash\":\"LW4H9OJXMvRh4el4Z1azUPNn4JuV2havF4zTozlYYlM=\",\"timestamp\":999,\"tree_size\":5}
+{\"consistency\":[],\"sha256_root_hash\":\"tC/H6/wngKBZT+R1LE6M9CmYJyFREld3ZJUnHyM+Mao=\",\"timestamp\":999,\"tree_size\":3}
+{\"consistency\":[],\"sha256_root_hash\":\"qN9o9JhcHg/IFkD3wQl0B+SCUFRkyYwe6TDeV47MKyI=\",\"timestamp\":1001,\"tree_size\":3}
+{\"consistency\":[],\"sha256_root_hash\":\"qN9o9JhcHg/IFkD3wQl0B+SCUFRkyYwe6TDeV47MKyI=\",\"timestamp\":1000,\"tree_size\":3}
+{\"consistency\":[],\"sha256_root_hash\":\"LW4H9OJXMvRh4el4Z1azUPNn4JuV2havF4zTozlYYlM=\",\"timestamp\":1001,\"tree_size\":5}
+{\"consistency\":[\"WLkJ1EMlnhas/il9fn13m8ePmiHCzRDLcQENWyi98tg=\",\"kJ7lVU9Uv4QMRjHA0xrLeOY5J+pwDGg8ul1aXGm+u1I=\",\"ICTSyBj4WUTC5AcFQqweauD2frL1HZEjEp+S9EMMDBI=\"],\"sha256_root_hash\":\"LW4H9OJXMvRh4el4Z1azUPNn4JuV2havF4zTozlYYlM=\",\"timestamp\":1001,\"tree_size\":5}
+{\"consistency\":[\"WLkJ1EMlnhas/il9fn13m8ePmiHCzRDLcQENWyi98tg=\",\"kJ7lVU9Uv4QMRjHA0xrLeOY5J+pwDGg8ul1aXGm+u1I=\",\"ICTSyBj4WUTC5AcFQqweauD2frL1HZEjEp+S9EMMDBI=\",\"7yJYS/QYboh+K6ENtg51g8NH8ZYaVsbfwYqteF9m4jE=\",\"AAAAAAAAAAAAAAAAAAAAAAAAAAAAAAAAAAAAAAAAAAA=\"],\"sha256_root_hash\":\"LW4H9OJXMvRh4el4Z1azUPNn4JuV2havF4zTozlYYlM=\",\"timestamp\":1001,\"tree_size\":5}
+{\"consistency\":[\"OIa9wvY0409SXbmSRB1WShj6+4VR4R9qNGlFwfemtV0=\",\"kJ7lVU9Uv4QMRjHA0xrLeOY5J+pwDGg8ul1aXGm+u1I=\",\"ICTSyBj4WUTC5AcFQqweauD2frL1HZEjEp+S9EMMDBI=\",\"7yJYS/QYboh+K6ENtg51g8NH8ZYaVsbfwYqteF9m4jE=\"],\"sha256_root_hash\":\"LBP/6HN+xoqfAqfl9xCZ49JGQb/r4mZM608IgF6PeJU=\",\"timestamp\":1001,\"tree_size\":5}
+{\"consistency\":[\"WLkJ1EMlnhas/il9fn13m8ePmiHCzRDLcQENWyi98tg=\",\"kJ7lVU9Uv4QMRjHA0xrLeOY5J+pwDGg8ul1aXGm+u1I=\",\"ICTSyBj4WUTC5AcFQqweauD2frL1HZEjEp+S9EMMDBI=\",\"7yJYS/QYboh+K6ENtg51g8NH8ZYaVsbfwYqteF9m4jE=\"],\"sha256_root_hash\":\"LBP/6HN+xoqfAqfl9xCZ49JGQb/r4mZM608IgF6PeJU=\",\"timestamp\":1001,\"tree_size\":5}
+{\"audit_path\":[\"G4v/RJyXOCuDizhm/Efa15/HuIiR7l92+pKY/RnKIa8=\",\"WLkJ1EMlnhas/il9fn13m8ePmiHCzRDLcQENWyi98tg=\"],\"leaf_index\":3,\"leaf_input\":\"AAAAAAAAAAAABwAAAAABQQAA\"}
+{\"audit_path\":[\"G4v/RJyXOCuDizhm/Efa15/HuIiR7l92+pKY/RnKIa8=\",\"WLkJ1EMlnhas/il9fn13m8ePmiHCzRDLcQENWyi98tg=\"],\"leaf_index\":1,\"leaf_input\":\"AAAAAAAAAAAABwAAAAABQQAA\"}
+{\"audit_path\":[],\"leaf_index\":0,\"leaf_input\":\"AAAAAAAAAAAABwAAAAABQQAA\"}
+{\"audit_path\":[\"G4v/RJyXOCuDizhm/Efa15/HuIiR7l92+pKY/RnKIa8=\",\"WLkJ1EMlnhas/il9fn13m8ePmiHCzRDLcQENWyi98tg=\",\"AAAAAAAAAAAAAAAAAAAAAAAAAAAAAAAAAAAAAAAAAAA=\"],\"leaf_index\":0,\"leaf_input\":\"AAAAAAAAAAAABwAAAAABQQAA\"}
+{\"audit_path\":[\"ICTSyBj4WUTC5AcFQqweauD2frL1HZEjEp+S9EMMDBI=\"],\"leaf_index\":2,\"leaf_input\":\"AAAAAAAAAAAACQABAAAAAAAAAAAAAAAAAAAAAAAAAAAAAAAAAAAAAAAAAAAAAAVvdGhlcgAA\"}
+{\"audit_path\":[\"G4v/RJyXOCuDizhm/Efa15/HuIiR7l92+pKY/RnKIa8=\",\"WLkJ1EMlnhas/il9fn13m8ePmiHCzRDLcQENWyi98tg=\"],\"leaf_index\":0,\"leaf_input\":\"\"}
+{\"audit_path\":[\"G4v/RJyXOCuDizhm/Efa15/HuIiR7l92+pKY/RnKIa8=\",\"WLkJ1EMlnhas/il9fn13m8ePmiHCzRDLcQENWyi98tg=\"],\"leaf_index\":0,\"leaf_input\":\"AQ==\"}
+{\"audit_path\":[\"G4v/RJyXOCuDizhm/Efa15/HuIiR7l92+pKY/RnKIa8=\",\"WLkJ1EMlnhas/il9fn13m8ePmiHCzRDLcQENWyi98tg=\"],\"leaf_index\":0,\"leaf_input\":\"AAE=\"}
+{\"audit_path\":[\"G4v/RJyXOCuDizhm/Efa15/HuIiR7l92+pKY/RnKIa8=\",\"WLkJ1EMlnhas/il9fn13m8ePmiHCzRDLcQENWyi98tg=\"],\"leaf_index\":0,\"leaf_input\":\"AAAAAAAAAAAABwAAAAABQQAAAA==\"}
+{\"audit_path\":[\"G4v/RJyXOCuDizhm/Efa15/HuIiR7l92+pKY/RnKIa8=\",\"WLkJ1EMlnhas/il9fn13m8ePmiHCzRDLcQENWyi98tg=\"],\"leaf_index\":0,\"leaf_input\":\"AAAAAAAAAAAAAAAC\"}
+{\"audit_path\":[\"G4v/RJyXOCuDizhm/Efa15/HuIiR7l92+pKY/RnKIa8=\",\"WLkJ1EMlnhas/il9fn13m8ePmiHCzRDLcQENWyi98tg=\"],\"leaf_index\":0,\"leaf_input\":\"AAAAAAAAAAAAAAAAAAAA\"}
+{\"consistency\":[\"WLkJ1EMlnhas/il9fn13m8ePmiHCzRDLcQENWyi98tg=\",\"kJ7lVU9Uv4QMRjHA0xrLeOY5J+pwDGg8ul1aXGm+u1I=\",\"ICTSyBj4WUTC5AcFQqweauD2frL1HZEjEp+S9EMMDBI=\",\"7yJYS/QYboh+K6ENtg51g8NH8ZYaVsbfwYqteF9m4jE=\"],\"sha256_root_hash\":\"LW4H9OJXMvRh4el4Z1azUPNn4JuV2havF4zTozlYYlM=\",\"timestamp\":1001,\"tree_size\":5}
+";
+
+const REFUSALS_TEXT: &str = "{\"refused\":\"no-head\"}
+{\"sign\":\"AAEAAAAAAAAD6AAAAAAAAAADtC/H6/wngKBZT+R1LE6M9CmYJyFREld3ZJUnHyM+Mao=\",\"state\":{\"guard\":1,\"last\":{\"sha256_root_hash\":\"tC/H6/wngKBZT+R1LE6M9CmYJyFREld3ZJUnHyM+Mao=\",\"timestamp\":1000,\"tree_size\":3}}}
+{\"refused\":\"size-falls\"}
+{\"refused\":\"moment-not-later\"}
+{\"refused\":\"moment-not-later\"}
+{\"refused\":\"moment-not-later\"}
+{\"refused\":\"fork\"}
+{\"refused\":\"moment-not-later\"}
+{\"fault\":\"empty-path\",\"refused\":\"inconsistent\"}
+{\"fault\":\"path-too-short\",\"refused\":\"inconsistent\"}
+{\"fault\":\"path-too-long\",\"refused\":\"inconsistent\"}
+{\"fault\":\"first-mismatch\",\"refused\":\"inconsistent\"}
+{\"fault\":\"root-mismatch\",\"refused\":\"inconsistent\"}
+{\"fault\":\"index-out-of-range\",\"refused\":\"not-there\"}
+{\"fault\":\"root-mismatch\",\"refused\":\"not-there\"}
+{\"fault\":\"path-too-short\",\"refused\":\"not-there\"}
+{\"fault\":\"path-too-long\",\"refused\":\"not-there\"}
+{\"fault\":\"root-mismatch\",\"refused\":\"not-there\"}
+{\"fault\":\"truncated\",\"refused\":\"no-leaf\"}
+{\"fault\":\"bad-version\",\"refused\":\"no-leaf\"}
+{\"fault\":\"bad-leaf-type\",\"refused\":\"no-leaf\"}
+{\"fault\":\"trailing\",\"refused\":\"no-leaf\"}
+{\"fault\":\"bad-entry-type\",\"refused\":\"no-leaf\"}
+{\"fault\":\"empty-vector\",\"refused\":\"no-leaf\"}
+{\"sign\":\"AAEAAAAAAAAD6QAAAAAAAAAFLW4H9OJXMvRh4el4Z1azUPNn4JuV2havF4zTozlYYlM=\",\"state\":{\"guard\":1,\"last\":{\"sha256_root_hash\":\"LW4H9OJXMvRh4el4Z1azUPNn4JuV2havF4zTozlYYlM=\",\"timestamp\":1001,\"tree_size\":5}}}
+{\"guard\":1,\"last\":{\"sha256_root_hash\":\"LW4H9OJXMvRh4el4Z1azUPNn4JuV2havF4zTozlYYlM=\",\"timestamp\":1001,\"tree_size\":5}}
+";
+
+const BAD_LINES: &str = "hello
+[]
+{}
+{\"sha256_root_hash\":\"tC/H6/wngKBZT+R1LE6M9CmYJyFREld3ZJUnHyM+Mao=\",\"timestamp\":1000,\"tree_size\":3}
+{\"audit_path\":[\"G4v/RJyXOCuDizhm/Efa15/HuIiR7l92+pKY/RnKIa8=\",\"WLkJ1EMlnhas/il9fn13m8ePmiHCzRDLcQENWyi98tg=\"],\"leaf_input\":\"AAAAAAAAAAAABwAAAAABQQAA\"}
+{\"guard\":1,\"last\":null}
+{\"consistency\":\"\",\"sha256_root_hash\":\"tC/H6/wngKBZT+R1LE6M9CmYJyFREld3ZJUnHyM+Mao=\",\"timestamp\":1000,\"tree_size\":3,\"guard\":1}
+{\"consistency\":[],\"sha256_root_hash\":\"tC/H6/wngKBZT+R1LE6M9CmYJyFREld3ZJUnHyM+Mao=\",\"timestamp\":-1,\"tree_size\":3}
+{\"consistency\":[],\"sha256_root_hash\":\"tC/H6/wngKBZT+R1LE6M9CmYJyFREld3ZJUnHyM+Mao=\",\"timestamp\":18446744073709551616,\"tree_size\":3}
+{\"consistency\":[],\"sha256_root_hash\":\"QQ==\",\"timestamp\":1000,\"tree_size\":3}
+{\"consistency\":[],\"sha256_root_hash\":\"tC/H6/wngKBZT+R1LE6M9CmYJyFREld3ZJUnHyM+Mao=\",\"timestamp\":1000,\"tree_size\":3,\"tree_head_signature\":\"BAMAAA==\"}
+";
+
+const BAD_LINES_TEXT: &str = "{\"refused\":\"bad-line\"}
+{\"refused\":\"bad-line\"}
+{\"refused\":\"bad-line\"}
+{\"refused\":\"bad-line\"}
+{\"refused\":\"bad-line\"}
+{\"refused\":\"bad-line\"}
+{\"refused\":\"bad-line\"}
+{\"refused\":\"bad-line\"}
+{\"refused\":\"bad-line\"}
+{\"refused\":\"bad-line\"}
+{\"sign\":\"AAEAAAAAAAAD6AAAAAAAAAADtC/H6/wngKBZT+R1LE6M9CmYJyFREld3ZJUnHyM+Mao=\",\"state\":{\"guard\":1,\"last\":{\"sha256_root_hash\":\"tC/H6/wngKBZT+R1LE6M9CmYJyFREld3ZJUnHyM+Mao=\",\"timestamp\":1000,\"tree_size\":3}}}
+{\"guard\":1,\"last\":{\"sha256_root_hash\":\"tC/H6/wngKBZT+R1LE6M9CmYJyFREld3ZJUnHyM+Mao=\",\"timestamp\":1000,\"tree_size\":3}}
+";
+
+const TAKEN_UP: &str = "{\"guard\":1,\"last\":{\"sha256_root_hash\":\"LW4H9OJXMvRh4el4Z1azUPNn4JuV2havF4zTozlYYlM=\",\"timestamp\":1002,\"tree_size\":5}}
+{\"consistency\":[],\"sha256_root_hash\":\"LW4H9OJXMvRh4el4Z1azUPNn4JuV2havF4zTozlYYlM=\",\"timestamp\":1002,\"tree_size\":5}
+{\"audit_path\":[\"KvhQ5T2VCGlB+8g95YvHFQA+SHydXPy1vVsIWdVUI00=\"],\"leaf_index\":4,\"leaf_input\":\"AAAAAAAAAAAACwAAAAADSElKAAA=\"}
+{\"consistency\":[\"7yJYS/QYboh+K6ENtg51g8NH8ZYaVsbfwYqteF9m4jE=\",\"/5/bu9L6hCbB5MRU+Vs/mGjZVnPSvrn5wzMO1Kp9Sog=\",\"1hDItcfCD64oPq6A6IpZbVKsrf+dhf6AfqaYb0ftB6g=\",\"KvhQ5T2VCGlB+8g95YvHFQA+SHydXPy1vVsIWdVUI00=\",\"nKCKZ7sB0pdowuRpeDlPuGfQ6Ng+2atm2rEgAod9h7o=\"],\"sha256_root_hash\":\"du7qhEIOEAlx4PW0CquqrFCQdYGOPWhEpj2aF749hls=\",\"timestamp\":2000,\"tree_size\":9}
+{\"consistency\":[],\"sha256_root_hash\":\"du7qhEIOEAlx4PW0CquqrFCQdYGOPWhEpj2aF749hls=\",\"timestamp\":1500,\"tree_size\":9}
+";
+
+const TAKEN_UP_TEXT: &str = "{\"checkpoint\":\"log.example/2026\\n5\\nLW4H9OJXMvRh4el4Z1azUPNn4JuV2havF4zTozlYYlM=\\n\",\"sign\":\"AAEAAAAAAAAD6gAAAAAAAAAFLW4H9OJXMvRh4el4Z1azUPNn4JuV2havF4zTozlYYlM=\",\"state\":{\"guard\":1,\"last\":{\"sha256_root_hash\":\"LW4H9OJXMvRh4el4Z1azUPNn4JuV2havF4zTozlYYlM=\",\"timestamp\":1002,\"tree_size\":5}}}
+{\"sign\":\"AAAAAAAAAAAACwAAAAADSElKAAA=\"}
+{\"checkpoint\":\"log.example/2026\\n9\\ndu7qhEIOEAlx4PW0CquqrFCQdYGOPWhEpj2aF749hls=\\n\",\"sign\":\"AAEAAAAAAAAH0AAAAAAAAAAJdu7qhEIOEAlx4PW0CquqrFCQdYGOPWhEpj2aF749hls=\",\"state\":{\"guard\":1,\"last\":{\"sha256_root_hash\":\"du7qhEIOEAlx4PW0CquqrFCQdYGOPWhEpj2aF749hls=\",\"timestamp\":2000,\"tree_size\":9}}}
+{\"refused\":\"moment-not-later\"}
+{\"guard\":1,\"last\":{\"sha256_root_hash\":\"du7qhEIOEAlx4PW0CquqrFCQdYGOPWhEpj2aF749hls=\",\"timestamp\":2000,\"tree_size\":9}}
+";
+
+const DAMAGED: &str = "{\"guard\":1,\"last\":{\"sha256_root_hash\":\"LW4H9OJXMvRh4el4Z1azUPNn4JuV2havF4zTozlYYlM=\",\"timestamp\":01002,\"tree_size\":5}}
+{\"consistency\":[],\"sha256_root_hash\":\"du7qhEIOEAlx4PW0CquqrFCQdYGOPWhEpj2aF749hls=\",\"timestamp\":2000,\"tree_size\":9}
+";
+
+const DAMAGED_TEXT: &str = "{\"refused\":\"bad-line\"}
+{\"sign\":\"AAEAAAAAAAAH0AAAAAAAAAAJdu7qhEIOEAlx4PW0CquqrFCQdYGOPWhEpj2aF749hls=\",\"state\":{\"guard\":1,\"last\":{\"sha256_root_hash\":\"du7qhEIOEAlx4PW0CquqrFCQdYGOPWhEpj2aF749hls=\",\"timestamp\":2000,\"tree_size\":9}}}
+{\"guard\":1,\"last\":{\"sha256_root_hash\":\"du7qhEIOEAlx4PW0CquqrFCQdYGOPWhEpj2aF749hls=\",\"timestamp\":2000,\"tree_size\":9}}
+";
+
+const BLANK_IN_IT: &str = "{\"guard\":1, \"last\":{\"sha256_root_hash\":\"LW4H9OJXMvRh4el4Z1azUPNn4JuV2havF4zTozlYYlM=\", \"timestamp\":1002, \"tree_size\":5}}
+{\"consistency\":[],\"sha256_root_hash\":\"du7qhEIOEAlx4PW0CquqrFCQdYGOPWhEpj2aF749hls=\",\"timestamp\":2000,\"tree_size\":9}
+";
+
+const BLANK_IN_IT_TEXT: &str = "{\"refused\":\"bad-line\"}
+{\"sign\":\"AAEAAAAAAAAH0AAAAAAAAAAJdu7qhEIOEAlx4PW0CquqrFCQdYGOPWhEpj2aF749hls=\",\"state\":{\"guard\":1,\"last\":{\"sha256_root_hash\":\"du7qhEIOEAlx4PW0CquqrFCQdYGOPWhEpj2aF749hls=\",\"timestamp\":2000,\"tree_size\":9}}}
+{\"guard\":1,\"last\":{\"sha256_root_hash\":\"du7qhEIOEAlx4PW0CquqrFCQdYGOPWhEpj2aF749hls=\",\"timestamp\":2000,\"tree_size\":9}}
+";
+
+const MISPLACED: &str = "
+{\"guard\":1,\"last\":{\"sha256_root_hash\":\"LW4H9OJXMvRh4el4Z1azUPNn4JuV2havF4zTozlYYlM=\",\"timestamp\":1002,\"tree_size\":5}}
+{\"consistency\":[],\"sha256_root_hash\":\"du7qhEIOEAlx4PW0CquqrFCQdYGOPWhEpj2aF749hls=\",\"timestamp\":2000,\"tree_size\":9}
+";
+
+const MISPLACED_TEXT: &str = "{\"refused\":\"bad-line\"}
+{\"sign\":\"AAEAAAAAAAAH0AAAAAAAAAAJdu7qhEIOEAlx4PW0CquqrFCQdYGOPWhEpj2aF749hls=\",\"state\":{\"guard\":1,\"last\":{\"sha256_root_hash\":\"du7qhEIOEAlx4PW0CquqrFCQdYGOPWhEpj2aF749hls=\",\"timestamp\":2000,\"tree_size\":9}}}
+{\"guard\":1,\"last\":{\"sha256_root_hash\":\"du7qhEIOEAlx4PW0CquqrFCQdYGOPWhEpj2aF749hls=\",\"timestamp\":2000,\"tree_size\":9}}
+";
+
+const NONE_BEFORE: &str = "{\"guard\":1,\"last\":null}
+{\"audit_path\":[\"G4v/RJyXOCuDizhm/Efa15/HuIiR7l92+pKY/RnKIa8=\",\"WLkJ1EMlnhas/il9fn13m8ePmiHCzRDLcQENWyi98tg=\"],\"leaf_index\":0,\"leaf_input\":\"AAAAAAAAAAAABwAAAAABQQAA\"}
+{\"consistency\":[],\"sha256_root_hash\":\"tC/H6/wngKBZT+R1LE6M9CmYJyFREld3ZJUnHyM+Mao=\",\"timestamp\":1000,\"tree_size\":3}
+";
+
+const NONE_BEFORE_TEXT: &str = "{\"refused\":\"no-head\"}
+{\"sign\":\"AAEAAAAAAAAD6AAAAAAAAAADtC/H6/wngKBZT+R1LE6M9CmYJyFREld3ZJUnHyM+Mao=\",\"state\":{\"guard\":1,\"last\":{\"sha256_root_hash\":\"tC/H6/wngKBZT+R1LE6M9CmYJyFREld3ZJUnHyM+Mao=\",\"timestamp\":1000,\"tree_size\":3}}}
+{\"guard\":1,\"last\":{\"sha256_root_hash\":\"tC/H6/wngKBZT+R1LE6M9CmYJyFREld3ZJUnHyM+Mao=\",\"timestamp\":1000,\"tree_size\":3}}
+";
+
+const PROMISED: &str = "{\"leaf_input\":\"AAAAAAAAAAAADwAAAAACT1AAAA==\"}
+{\"audit_path\":[\"fV9+kfNWc6WhrBC4FWQ8cnZ9Z8PW7wGOv6AnRvHlwco=\",\"WLkJ1EMlnhas/il9fn13m8ePmiHCzRDLcQENWyi98tg=\"],\"leaf_index\":-1,\"leaf_input\":\"AAAAAAAAAAAACAAAAAACQkMAAA==\"}
+{\"audit_path\":[\"G4v/RJyXOCuDizhm/Efa15/HuIiR7l92+pKY/RnKIa8=\",\"WLkJ1EMlnhas/il9fn13m8ePmiHCzRDLcQENWyi98tg=\"],\"leaf_index\":0,\"leaf_input\":\"AAE=\"}
+{\"consistency\":[],\"sha256_root_hash\":\"du7qhEIOEAlx4PW0CquqrFCQdYGOPWhEpj2aF749hls=\",\"timestamp\":2000,\"tree_size\":9}
+";
+
+const PROMISED_TEXT: &str = "{\"sign\":\"AAAAAAAAAAAADwAAAAACT1AAAA==\"}
+{\"sign\":\"AAAAAAAAAAAACAAAAAACQkMAAA==\"}
+{\"fault\":\"bad-leaf-type\",\"refused\":\"no-leaf\"}
+{\"sign\":\"AAEAAAAAAAAH0AAAAAAAAAAJdu7qhEIOEAlx4PW0CquqrFCQdYGOPWhEpj2aF749hls=\",\"state\":{\"guard\":1,\"last\":{\"sha256_root_hash\":\"du7qhEIOEAlx4PW0CquqrFCQdYGOPWhEpj2aF749hls=\",\"timestamp\":2000,\"tree_size\":9}}}
+{\"guard\":1,\"last\":{\"sha256_root_hash\":\"du7qhEIOEAlx4PW0CquqrFCQdYGOPWhEpj2aF749hls=\",\"timestamp\":2000,\"tree_size\":9}}
+";
+
+const LAST_COUNTS: &str = "{\"audit_path\":[\"G4v/RJyXOCuDizhm/Efa15/HuIiR7l92+pKY/RnKIa8=\",\"WLkJ1EMlnhas/il9fn13m8ePmiHCzRDLcQENWyi98tg=\"],\"leaf_index\":0,\"leaf_input\":\"AAAAAAAAAAAABwAAAAABQQAA\"}
+{\"consistency\":[],\"sha256_root_hash\":\"tC/H6/wngKBZT+R1LE6M9CmYJyFREld3ZJUnHyM+Mao=\",\"timestamp\":1000,\"tree_size\":3}
+{\"audit_path\":[\"G4v/RJyXOCuDizhm/Efa15/HuIiR7l92+pKY/RnKIa8=\",\"WLkJ1EMlnhas/il9fn13m8ePmiHCzRDLcQENWyi98tg=\"],\"leaf_index\":0,\"leaf_input\":\"AAAAAAAAAAAABwAAAAABQQAA\"}
+";
+
+const LAST_COUNTS_TEXT: &str = "{\"refused\":\"no-head\"}
+{\"checkpoint\":\"log.example/2026\\n3\\ntC/H6/wngKBZT+R1LE6M9CmYJyFREld3ZJUnHyM+Mao=\\n\",\"sign\":\"AAEAAAAAAAAD6AAAAAAAAAADtC/H6/wngKBZT+R1LE6M9CmYJyFREld3ZJUnHyM+Mao=\",\"state\":{\"guard\":1,\"last\":{\"sha256_root_hash\":\"tC/H6/wngKBZT+R1LE6M9CmYJyFREld3ZJUnHyM+Mao=\",\"timestamp\":1000,\"tree_size\":3}}}
+{\"sign\":\"AAAAAAAAAAAABwAAAAABQQAA\"}
+{\"guard\":1,\"last\":{\"sha256_root_hash\":\"tC/H6/wngKBZT+R1LE6M9CmYJyFREld3ZJUnHyM+Mao=\",\"timestamp\":1000,\"tree_size\":3}}
+";
+
+const NOTHING_TEXT: &str = "{\"guard\":1,\"last\":null}
+";
+
+const TOO_LONG_TEXT: &str = "{\"refused\":\"bad-line\"}
+{\"sign\":\"AAEAAAAAAAAD6gAAAAAAAAAFLW4H9OJXMvRh4el4Z1azUPNn4JuV2havF4zTozlYYlM=\",\"state\":{\"guard\":1,\"last\":{\"sha256_root_hash\":\"LW4H9OJXMvRh4el4Z1azUPNn4JuV2havF4zTozlYYlM=\",\"timestamp\":1002,\"tree_size\":5}}}
+{\"sign\":\"AAAAAAAAAAAACwAAAAADSElKAAA=\"}
+{\"sign\":\"AAEAAAAAAAAH0AAAAAAAAAAJdu7qhEIOEAlx4PW0CquqrFCQdYGOPWhEpj2aF749hls=\",\"state\":{\"guard\":1,\"last\":{\"sha256_root_hash\":\"du7qhEIOEAlx4PW0CquqrFCQdYGOPWhEpj2aF749hls=\",\"timestamp\":2000,\"tree_size\":9}}}
+{\"refused\":\"moment-not-later\"}
+{\"guard\":1,\"last\":{\"sha256_root_hash\":\"du7qhEIOEAlx4PW0CquqrFCQdYGOPWhEpj2aF749hls=\",\"timestamp\":2000,\"tree_size\":9}}
+";
+
+const USAGE: &str =
+    "usage: ctguard [--origin TEXT] [--receipts in-head|promised] < lines > replies\n";
+
+// Whether the program over these words and this input writes this on its output, and this among its faults, and ends with this
+// status.
+fn answers(
+    alloc: Global,
+    line: &str,
+    input: &str,
+    text: &str,
+    told: &str,
+    status: u8,
+) -> Result<bool, Fail> {
+    let mut words = Vec::new(alloc);
+    for word in line.split_ascii_whitespace() {
+        words.push(String::from_str(alloc, word)?)?;
+    }
+    let mut output = Vec::new(alloc);
+    let mut faults = Vec::new(alloc);
+    let found = answer_words(alloc, &words, input.as_bytes(), &mut output, &mut faults);
+    let are_written = output.as_slice() == text.as_bytes() && faults.as_slice() == told.as_bytes();
+    Ok(found == status && are_written)
+}
+
+// Each refusal by its name, the same head again, receipts that are promised, the state carried from run to run, damaged, and in the
+// wrong place.
+#[test]
+fn runs(rt: HostRuntime) -> Result<(), Fail> {
+    for (words, input, text, status) in [
+        ("", GROWS, GROWS_TEXT, 0),
+        ("", FIRST_MOMENT, FIRST_MOMENT_TEXT, 0),
+        ("", REFUSALS, REFUSALS_TEXT, 0),
+        ("--receipts in-head", BAD_LINES, BAD_LINES_TEXT, 4),
+        ("--origin log.example/2026", TAKEN_UP, TAKEN_UP_TEXT, 0),
+        ("", DAMAGED, DAMAGED_TEXT, 4),
+        ("", BLANK_IN_IT, BLANK_IN_IT_TEXT, 4),
+        ("", MISPLACED, MISPLACED_TEXT, 4),
+        ("", NONE_BEFORE, NONE_BEFORE_TEXT, 0),
+        ("--receipts promised", PROMISED, PROMISED_TEXT, 0),
+        ("--receipts promised --origin other --receipts in-head --origin log.example/2026", LAST_COUNTS, LAST_COUNTS_TEXT, 0),
+        ("", "", NOTHING_TEXT, 0),
+    ] {
+        assert!(rt; answers(rt.alloc(), words, input, text, "", status)?);
+    }
+    Ok(())
+}
+
+// What the command line asks for is done.
+#[test]
+fn command_lines(rt: HostRuntime) -> Result<(), Fail> {
+    for (words, text, told, status) in [
+        ("--help", USAGE, "", 0),
+        ("--origin a -h b", USAGE, "", 0),
+        ("--receipts promised --version", "ctguard 0.1.0\n", "", 0),
+        ("--origin", "", USAGE, 2),
+        ("--receipts", "", USAGE, 2),
+        ("--receipts sometimes", "", USAGE, 2),
+        ("--Origin a", "", USAGE, 2),
+        ("--origin=a", "", USAGE, 2),
+        ("lines", "", USAGE, 2),
+    ] {
+        assert!(rt; answers(rt.alloc(), words, G        ("", GROWS, GROWS_TEXT, 0),
+        ("", FIRST_MOMENT, FIRST_MOMENT_TEXT, 0),
+        ("", REFUSALS, REFUSALS_TEXT, 0),
+        ("--receipts in-head", BAD_LINES, BAD_LINES_TEXT, 4),
+        ("--origin log.example/2026", TAKEN_UP, TAKEN_UP_TEXT, 0),
+        ("", DAMAGED, DAMAGED_TEXT, 4),
+        ("", BLANK_IN_IT, BLANK_IN_IT_TEXT, 4),
+        ("", MISPLACED, MISPLACED_TEXT, 4),
+        ("", NONE_BEFORE, NONE_BEFORE_TEXT, 0),
+        ("--receipts promised", PROMISED, PROMISED_TEXT, 0),
+        ("--receipts promised --origin other --receipts in-head --origin log.example/2026", LAST_COUNTS, LAST_COUNTS_TEXT, 0),
+        ("", "", NOTHING_TEXT, 0),, text, told, status)?);
+    }
+    Ok(())
+}
+
+// An origin that is empty, or has a line end, is refused.
+#[test]
+fn origins(rt: HostRuntime) -> Result<(), Fail> {
+    let alloc = rt.alloc();
+    for (origin, wanted) in [("", 2), ("a\nb", 2), ("\n", 2), ("a b", 0)] {
+        let mut words = Vec::new(alloc);
+        words.push(String::from_str(alloc, "--origin")?)?;
+        words.push(String::from_str(alloc, origin)?)?;
+        let mut output = Vec::new(alloc);
+        let mut faults = Vec::new(alloc);
+        let found = answer_words(alloc, &words, G        ("", GROWS, GROWS_TEXT, 0),
+        ("", FIRST_MOMENT, FIRST_MOMENT_TEXT, 0),
+        ("", REFUSALS, REFUSALS_TEXT, 0),
+        ("--receipts in-head", BAD_LINES, BAD_LINES_TEXT, 4),
+        ("--origin log.example/2026", TAKEN_UP, TAKEN_UP_TEXT, 0),
+        ("", DAMAGED, DAMAGED_TEXT, 4),
+        ("", BLANK_IN_IT, BLANK_IN_IT_TEXT, 4),
+        ("", MISPLACED, MISPLACED_TEXT, 4),
+        ("", NONE_BEFORE, NONE_BEFORE_TEXT, 0),
+        ("--receipts promised", PROMISED, PROMISED_TEXT, 0),
+        ("--receipts promised --origin other --receipts in-head --origin log.example/2026", LAST_COUNTS, LAST_COUNTS_TEXT, 0),
+        ("", "", NOTHING_TEXT, 0),.as_bytes(), &mut output, &mut faults);
+        assert!(rt; found == wanted);
+        assert!(rt; output.is_empty() == (wanted == 2));
+    }
+    Ok(())
+}
+
+// A head is none where it stands behind 1,048,576 blanks, nor is a state, and what stands behind such a line is read.
+#[test]
+fn a_line_that_is_too_long(rt: HostRuntime) -> Result<(), Fail> {
+    let alloc = rt.alloc();
+    let mut lines = Vec::new(alloc);
+    for _ in 0..256 {
+        lines.extend_from_slice(&[b' '; 4096])?;
+    }
+    lines.extend_from_slice(TAKEN_UP.as_bytes())?;
+    let mut output = Vec::new(alloc);
+    let settings = Settings {
+        origin: None,
+        receipts: Receipts::InHead,
+    };
+    let reader = BufReader::new(alloc, lines.as_slice())?;
+    assert!(rt; run(alloc, &settings, reader, &mut output) == Ok(4));
+    assert!(rt; output.as_slice() == TOO_LONG_TEXT.as_bytes());
+    Ok(())
+}
+
+// A reader that fails with this.
+#[derive(Drop)]
+struct NoInput(ErrorKind);
+
+impl Read for NoInput {
+    fn read(&mut self, _buf: &mut [u8]) -> io::Result<usize> {
+        Err(io::Error::from(self.0))
+    }
+}
+
+// A writer that takes this many bytes, and then fails.
+#[derive(Drop)]
+struct Room(usize);
+
+impl Write for Room {
+    fn write(&mut self, buf: &[u8]) -> io::Result<usize> {
+        if self.0 == 0 {
+            return Err(io::Error::from(ErrorKind::BrokenPipe));
+        }
+        let n = buf.len().min(self.0).min(5);
+        self.0 -= n;
+        Ok(n)
+    }
+
+    fn flush(&mut self) -> io::Result<()> {
+        Ok(())
+    }
+}
+
+// A fault that ends the program is told by its line.
+#[test]
+fn told_faults(rt: HostRuntime) -> Result<(), Fail> {
+    let alloc = rt.alloc();
+    for (kind, told) in [
+        (ErrorKind::BrokenPipe, "ctguard: read\n"),
+        (ErrorKind::OutOfMemory, "ctguard: memory\n"),
+    ] {
+        let mut output = Vec::new(alloc);
+        let mut faults = Vec::new(alloc);
+        let status = answer_words(alloc, &[], NoInput(kind), &mut output, &mut faults);
+        assert!(rt; status == 1);
+        assert!(rt; output.is_empty());
+        assert!(rt; faults.as_slice() == told.as_bytes());
+    }
+    Ok(())
+}
+
+#[test]
+fn an_output_that_fails(rt: HostRuntime) -> Result<(), Fail> {
+    let alloc = rt.alloc();
+    for room in [0, 1, 40, 200] {
+        let settings = Settings {
+            origin: None,
+            receipts: Receipts::Promised,
+        };
+        let mut output = Room(room);
+        let reader = BufReader::new(alloc, G        ("", GROWS, GROWS_TEXT, 0),
+        ("", FIRST_MOMENT, FIRST_MOMENT_TEXT, 0),
+        ("", REFUSALS, REFUSALS_TEXT, 0),
+        ("--receipts in-head", BAD_LINES, BAD_LINES_TEXT, 4),
+        ("--origin log.example/2026", TAKEN_UP, TAKEN_UP_TEXT, 0),
+        ("", DAMAGED, DAMAGED_TEXT, 4),
+        ("", BLANK_IN_IT, BLANK_IN_IT_TEXT, 4),
+        ("", MISPLACED, MISPLACED_TEXT, 4),
+        ("", NONE_BEFORE, NONE_BEFORE_TEXT, 0),
+        ("--receipts promised", PROMISED, PROMISED_TEXT, 0),
+        ("--receipts promised --origin other --receipts in-head --origin log.example/2026", LAST_COUNTS, LAST_COUNTS_TEXT, 0),
+        ("", "", NOTHING_TEXT, 0),.as_bytes())?;
+        assert!(rt; run(alloc, &settings, reader, &mut output) == Err(Fault::Write));
+    }
+    Ok(())
+}

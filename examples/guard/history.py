@@ -1,0 +1,70 @@
+"""Histories of a made-up log as ctguard's lines (docs/GUARD.md): heads, forks, older heads, false proofs, receipts, damaged lines.
+
+The trees are hashlib's alone (examples/merkle.py). `Log` keeps each subtree's hash, so that a history of some hundred lines takes milliseconds.
+"""
+import base64
+import json
+import struct
+
+from merkle import leaf_hash, node_hash, sha256, split
+
+
+def text(data):
+    return base64.b64encode(data).decode()
+
+
+def line(value):
+    return json.dumps(value, separators=(",", ":")).encode()
+
+
+def leaf(moment, certificate, key_hash=b""):
+    kind = b"\0\1" + key_hash if key_hash else b"\0\0"
+    return b"\0\0" + struct.pack(">Q", moment) + kind + len(certificate).to_bytes(3, "big") + certificate + b"\0\0"
+
+
+class Log:
+    """A list of leaves, with the roots of its subtrees."""
+
+    def __init__(self, leaves):
+        self.leaves, self.known = list(leaves), {}
+
+    def fork(self, cut, leaves):
+        """A log that has the first of these leaves, and then others."""
+        forked = Log(self.leaves[:cut] + leaves)
+        forked.known = {(start, end): root for (start, end), root in self.known.items() if end <= cut}
+        return forked
+
+    def root(self, start, end):
+        if (start, end) not in self.known:
+            if end == start:
+                self.known[start, end] = sha256(b"")
+            elif end - start == 1:
+                self.known[start, end] = leaf_hash(self.leaves[start])
+            else:
+                k = split(end - start)
+                self.known[start, end] = node_hash(self.root(start, start + k), self.root(start + k, end))
+        return self.known[start, end]
+
+    def path(self, index, start, end):
+        if end - start == 1:
+            return []
+        k = start + split(end - start)
+        if index < k:
+            return self.path(index, start, k) + [self.root(k, end)]
+        return self.path(index, k, end) + [self.root(start, k)]
+
+    def subproof(self, first, start, end, whole):
+        if first == end:
+            return [] if whole else [self.root(start, end)]
+        k = start + split(end - start)
+        if first <= k:
+            return self.subproof(first, start, k, whole) + [self.root(k, end)]
+        return self.subproof(first, k, end, False) + [self.root(start, k)]
+
+    def head(self, first, size, moment):
+        """The line of a head, with the proof from the first leaves, as far as there is one."""
+        proof = self.subproof(first, 0, size, True) if 0 < first < size else []
+        return {"consistency": [text(one) for one in proof], "sha256_root_hash": text(self.root(0, size)), "timestamp": moment, "tree_size": size}
+
+    def receipt(self, index, size):
+        return {"audit_path": [text(one) for one in self.path(index, 0, size)], "leaf_index": index, "leaf_input": text(self.leaves[index])}

@@ -1,0 +1,256 @@
+#!/usr/bin/env python3
+"""Replies to the lines of ctguard (docs/GUARD.md) as the page says it: a second program beside ctguard, plain, slow and proved nowhere.
+
+    model.py [--origin TEXT] [--receipts in-head|promised] < lines > replies
+
+Nothing but hashlib is used for the tree; what JSON a line is comes from examples/expected.py, which shares no code with ctguard either.
+"""
+import argparse
+import base64
+import pathlib
+import struct
+import sys
+
+sys.path.insert(0, str(pathlib.Path(__file__).resolve().parent.parent))
+
+from expected import is_bytes, is_hash, is_list_of, is_number, json_of  # noqa: E402
+from merkle import leaf_hash, node_hash, sha256, split  # noqa: E402,F401
+
+
+class Refused(Exception):
+    """Why nothing is let through: the name, and the fault of a proof or of a leaf where there is one."""
+
+
+def text(data):
+    return base64.b64encode(data).decode()
+
+
+def quoted(value):
+    """A text as compact JSON, with the shortest escapes (RFC 8259)."""
+    short = {'"': '\\"', "\\": "\\\\", "\b": "\\b", "\f": "\\f", "\n": "\\n", "\r": "\\r", "\t": "\\t"}
+    return '"' + "".join(short.get(c) or (f"\\u{ord(c):04x}" if c < " " else c) for c in value) + '"'
+
+
+def written(value):
+    """A value as compact JSON, its keys as they stand."""
+    if value is None:
+        return "null"
+    if isinstance(value, dict):
+        return "{" + ",".join(f"{quoted(key)}:{written(one)}" for key, one in value.items()) + "}"
+    return str(value) if isinstance(value, int) else quoted(value)
+
+
+def state_of(last):
+    """The state's object: last is a size, a moment and a root."""
+    shown = last and {"sha256_root_hash": text(last[2]), "timestamp": last[1], "tree_size": last[0]}
+    return {"guard": 1, "last": shown}
+
+
+def refused(name, fault=None):
+    return {"fault": fault, "refused": name} if fault else {"refused": name}
+
+
+# ---- proofs (RFC 9162, sections 2.1.3.2 and 2.1.4.2), by plain recursion
+
+def path_length(index, size):
+    if size == 1:
+        return 0
+    k = split(size)
+    return 1 + (path_length(index, k) if index < k else path_length(index - k, size - k))
+
+
+def rebuilt(index, size, found, path):
+    """The root to which a path as long as PATH leads."""
+    if size == 1:
+        return found
+    k = split(size)
+    if index < k:
+        return node_hash(rebuilt(index, k, found, path[:-1]), path[-1])
+    return node_hash(path[-1], rebuilt(index - k, size - k, found, path[:-1]))
+
+
+def inclusion_fault(leaf, index, size, path, root):
+    if index >= size:
+        return "index-out-of-range"
+    wanted = path_length(index, size)
+    if len(path) != wanted:
+        return "path-too-long" if len(path) > wanted else "path-too-short"
+    return None if rebuilt(index, size, leaf_hash(leaf), path) == root else "root-mismatch"
+
+
+def proof_length(first, size, whole):
+    """The length of SUBPROOF (RFC 6962, section 2.1.2)."""
+    if first == size:
+        return 0 if whole else 1
+    k = split(size)
+    return 1 + (proof_length(first, k, whole) if first <= k else proof_length(first - k, size - k, False))
+
+
+def both_roots(first, size, whole, known, proof):
+    """The roots of the first leaves and of all, which a proof as long as SUBPROOF gives."""
+    if first == size:
+        return (known, known) if whole else (proof[-1], proof[-1])
+    k = split(size)
+    if first <= k:
+        older, newer = both_roots(first, k, whole, known, proof[:-1])
+        return older, node_hash(newer, proof[-1])
+    older, newer = both_roots(first - k, size - k, False, known, proof[:-1])
+    return node_hash(proof[-1], older), node_hash(proof[-1], newer)
+
+
+def consistency_fault(first, second, first_root, second_root, proof):
+    if not 0 < first < second:
+        return "sizes-out-of-range"
+    if not proof:
+        return "empty-path"
+    wanted = proof_length(first, second, True)
+    if len(proof) != wanted:
+        return "path-too-long" if len(proof) > wanted else "path-too-short"
+    older, newer = both_roots(first, second, True, first_root, proof)
+    if older != first_root:
+        return "first-mismatch"
+    return None if newer == second_root else "root-mismatch"
+
+
+def leaf_fault(leaf):
+    """The first fault of a leaf's bytes from the left (MerkleTreeLeaf, RFC 6962, section 3.4)."""
+    def number(at, width):
+        return int.from_bytes(leaf[at : at + width], "big") if at + width <= len(leaf) else None
+
+    for at, fault in ((0, "bad-version"), (1, "bad-leaf-type")):
+        if number(at, 1) != 0:
+            return "truncated" if at >= len(leaf) else fault
+    if len(leaf) < 12:
+        return "truncated"
+    kind = number(10, 2)
+    if kind > 1:
+        return "bad-entry-type"
+    at = 12 + 32 * kind
+    length = number(at, 3)
+    if length is None:
+        return "truncated"
+    if length == 0:
+        return "empty-vector"
+    at += 3 + length
+    extensions = number(at, 2) if at <= len(leaf) else None
+    if extensions is None or at + 2 + extensions > len(leaf):
+        return "truncated"
+    return "trailing" if at + 2 + extensions < len(leaf) else None
+
+
+class Guard:
+    """What is known behind a line."""
+
+    def __init__(self, origin=None, promised=False):
+        self.origin, self.promised, self.last, self.bad = origin, promised, None, False
+
+    def pass_head(self, head, proof):
+        if self.last and head != self.last:
+            last = self.last
+            if head[0] < last[0]:
+                raise Refused("size-falls")
+            if head[1] <= last[1]:
+                raise Refused("moment-not-later")
+            if head[0] == last[0]:
+                if head[2] != last[2]:
+                    raise Refused("fork")
+            elif last[0] > 0:
+                fault = consistency_fault(last[0], head[0], last[2], head[2], proof)
+                if fault:
+                    raise Refused("inconsistent", fault)
+        self.last = head
+
+    def pass_receipt(self, leaf, index, path):
+        if not self.promised and not self.last:
+            raise Refused("no-head")
+        fault = leaf_fault(leaf)
+        if fault:
+            raise Refused("no-leaf", fault)
+        if not self.promised:
+            fault = inclusion_fault(leaf, index, self.last[0], path, self.last[2])
+            if fault:
+                raise Refused("not-there", fault)
+
+    def head_reply(self, value):
+        head = (value["tree_size"], value["timestamp"], base64.b64decode(value["sha256_root_hash"]))
+        self.pass_head(head, [base64.b64decode(one) for one in value["consistency"]])
+        size, moment, root = head
+        reply = {"sign": text(b"\0\1" + struct.pack(">QQ", moment, size) + root), "state": state_of(head)}
+        if self.origin is None:
+            return reply
+        return {"checkpoint": f"{self.origin}\n{size}\n{text(root)}\n", **reply}
+
+    def receipt_reply(self, value):
+        leaf = base64.b64decode(value["leaf_input"])
+        path = [] if self.promised else [base64.b64decode(one) for one in value["audit_path"]]
+        self.pass_receipt(leaf, None if self.promised else value["leaf_index"], path)
+        return {"sign": text(leaf)}
+
+    def is_head(self, value):
+        keys = {"sha256_root_hash": is_hash, "tree_size": is_number, "timestamp": is_number, "consistency": is_list_of(is_hash)}
+        return all(key in value and is_right(value[key]) for key, is_right in keys.items())
+
+    def is_receipt(self, value):
+        keys = {"leaf_input": is_bytes}
+        if not self.promised:
+            keys.update(leaf_index=is_number, audit_path=is_list_of(is_hash))
+        return all(key in value and is_right(value[key]) for key, is_right in keys.items())
+
+    def reply(self, line):
+        """The reply to a line that isn't empty, as a value."""
+        try:
+            value = json_of(line)
+        except ValueError:
+            value = None
+        if isinstance(value, dict) and "guard" not in value:
+            try:
+                if self.is_head(value):
+                    return self.head_reply(value)
+                if self.is_receipt(value):
+                    return self.receipt_reply(value)
+            except Refused as refusal:
+                return refused(*refusal.args)
+        self.bad = True
+        return refused("bad-line")
+
+    def take_state(self, line):
+        """Whether a line is a state's, byte for byte, which is then taken up."""
+        try:
+            value = json_of(line)
+            last = value["last"]
+            if last is not None:
+                if not (is_number(last["tree_size"]) and is_number(last["timestamp"])):
+                    return False
+                last = (last["tree_size"], last["timestamp"], base64.b64decode(last["sha256_root_hash"]))
+            if line != written(state_of(last)).encode() or (last and len(last[2]) != 32):
+                return False
+        except (ValueError, KeyError, TypeError):
+            return False
+        self.last = last
+        return True
+
+
+def run(given, origin=None, promised=False):
+    """What is written for an input, and the exit status."""
+    guard, out = Guard(origin, promised), []
+    lines = given.split(b"\n")
+    if lines[0] and guard.take_state(lines[0]):
+        lines = lines[1:]
+    for line in filter(None, lines):
+        out.append(written(guard.reply(line)) + "\n")
+    out.append(written(state_of(guard.last)) + "\n")
+    return "".join(out).encode(), 4 if guard.bad else 0
+
+
+def main():
+    parser = argparse.ArgumentParser(description="Replies to the lines of ctguard as docs/GUARD.md says it.")
+    parser.add_argument("--origin")
+    parser.add_argument("--receipts", choices=("in-head", "promised"), default="in-head")
+    words = parser.parse_args()
+    out, status = run(sys.stdin.buffer.read(), words.origin, words.receipts == "promised")
+    sys.stdout.buffer.write(out)
+    sys.exit(status)
+
+
+if __name__ == "__main__":
+    main()
