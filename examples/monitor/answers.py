@@ -118,6 +118,14 @@ def found(start, end):
                 yield {"entry": i, "name": name, "timestamp": MOMENT + i, "type": "precert" if key_hash else "x509"}
 
 
+def older(moment, start, end):
+    """The lines of these entries where their head has that moment: of a name, and where the head is older than the entry."""
+    for i in range(start, end):
+        yield from found(i, i + 1)
+        if moment < MOMENT + i:
+            yield {"entry": i, "head_timestamp": moment, "timestamp": MOMENT + i, "verdict": "older-than-entry"}
+
+
 def runs():
     """Each run: its name, the exit status, its lines, and what is to be written."""
     one, two = head(LOG[:8], MOMENT + 1000), head(LOG, MOMENT + 2000)
@@ -128,6 +136,7 @@ def runs():
     after_one = state(one, None, LOG[:8], LOG[:8])
     between = state(one, two, LOG[:8], LOG[:14])
     forked = {"verdict": "fork", "known_root_hash": one["sha256_root_hash"], "known_timestamp": one["timestamp"], "tree_size": 8}
+    not_later = lambda known: {"verdict": "time-not-later", "known_root_hash": known["sha256_root_hash"], "known_timestamp": known["timestamp"], "known_tree_size": known["tree_size"]}
     inconsistent = {"verdict": "inconsistent", "fault": "root-mismatch"}
     mismatch = {"verdict": "root-mismatch", "computed_root_hash": text(mth(LOG))}
     bad_line, bad_state = {"error": "bad-line"}, {"error": "bad-state"}
@@ -137,9 +146,16 @@ def runs():
     yield "day3", 0, [between, two, entries(LOG, 14, 20), head(LOG[:2], MOMENT)], [again, *found(14, 20), accepted(20), stale, state(two, None, LOG, LOG)]
     yield "fork", 3, [after_one, head(OTHER[:8], MOMENT + 1500)], [forked, after_one]
     yield "shrunk", 3, [after_one, head(LOG[:5], MOMENT + 1500)], [shrunk, after_one]
+    yield "same-moment", 3, [after_one, head(LOG, MOMENT + 1000)], [not_later(one), after_one]
+    yield "earlier", 3, [after_one, head(LOG, MOMENT + 999), two], [not_later(one), pending(8, 20), state(one, two, LOG[:8], LOG[:8])]
+    some, soon = head(LOG[:14], MOMENT + 1800), head(LOG[:8], MOMENT + 5)
+    yield "earlier-than-waiting", 3, [after_one, some, head(LOG, MOMENT + 1500)], [pending(8, 14), not_later(some), state(one, some, LOG[:8], LOG[:8])]
+    yield "older-than-entry", 3, [soon, entries(LOG, 0, 20)], [pending(0, 8), *older(MOMENT + 5, 0, 8), accepted(8), state(soon, None, LOG[:8], LOG[:8])]
+    last = head(LOG[:8], MOMENT + 7)
+    yield "as-old-as-entry", 0, [last, entries(LOG, 0, 20)], [pending(0, 8), *found(0, 8), accepted(8), state(last, None, LOG[:8], LOG[:8])]
     yield "rewritten", 3, [after_one, head(OTHER, MOMENT + 2000), proof(8, OTHER), entries(LOG, 8, 20)], [pending(8, 20), inconsistent, *found(8, 20), mismatch, after_one]
     yield "alarm-and-bad", 3, [after_one, {"hello": 1}, head(LOG[:5], MOMENT + 1500), {"hello": 1}], [bad_line, shrunk, bad_line, after_one]
-    yield "gaps", 0, [after_one, entries(LOG, 8, 10), two, entries(LOG, 9, 11), entries(LOG, 7, 9), proof(8, LOG), head(LOG, MOMENT + 9)], [gap(8), pending(8, 20), gap(8), gap(8), {"verdict": "consistent"}, again, state(one, two, LOG[:8], LOG[:8])]
+    yield "gaps", 0, [after_one, entries(LOG, 8, 10), two, entries(LOG, 9, 11), entries(LOG, 7, 9), proof(8, LOG), head(LOG, MOMENT + 2009)], [gap(8), pending(8, 20), gap(8), gap(8), {"verdict": "consistent"}, again, state(one, two, LOG[:8], LOG[:8])]
     yield "bad", 4, [{"entries": []}, {"hello": 1}, dict(after_one, state=2), after_one, proof(1, LOG[:3])], [gap(0), bad_line, bad_state, bad_state, gap(0), nothing]
     yield "damaged", 4, [dict(after_one, sure=peaks(LOG[:7])), two], [bad_state, pending(0, 20), state(None, two, [], [])]
     yield "no-check", 4, [{k: v for k, v in after_one.items() if k != "check"}], [bad_state, nothing]

@@ -17,7 +17,7 @@ sys.path.insert(0, str(pathlib.Path(__file__).resolve().parent.parent))
 
 import merkle  # noqa: E402
 
-ALARMS = ("fork", "shrunk", "root-mismatch", "inconsistent")
+ALARMS = ("fork", "shrunk", "time-not-later", "root-mismatch", "inconsistent", "older-than-entry")
 
 
 def node(left, right):
@@ -109,26 +109,30 @@ class Watcher:
 
     def take_head(self, head):
         for known in filter(None, (self.accepted, self.waiting)):
+            told = {"known_root_hash": known["sha256_root_hash"], "known_timestamp": known["timestamp"]}
             if head["tree_size"] < known["tree_size"]:
                 return {"verdict": "stale" if head["timestamp"] < known["timestamp"] else "shrunk"}
             if head["tree_size"] == known["tree_size"]:
                 if head["sha256_root_hash"] == known["sha256_root_hash"]:
                     return {"verdict": "again"}
-                told = {"known_root_hash": known["sha256_root_hash"], "known_timestamp": known["timestamp"], "tree_size": known["tree_size"]}
-                return {"verdict": "fork", **told}
+                return {"verdict": "fork", **told, "tree_size": known["tree_size"]}
+            if head["timestamp"] <= known["timestamp"]:
+                return {"verdict": "time-not-later", **told, "known_tree_size": known["tree_size"]}
         self.waiting = self.waiting or head
         return self.settle()
 
     def found(self, index, leaf):
-        """The lines of the names that stand in a leaf's certificate, or of what it lacks."""
+        """The lines of the names that stand in a leaf's certificate, and of the waiting head where it is older; or of what the leaf lacks."""
         if fault := fault_of(leaf):
             yield {"entry": index, "fault": fault}
             return
-        precert = leaf[10:12] == b"\0\1"
+        timestamp, precert = int.from_bytes(leaf[2:10], "big"), leaf[10:12] == b"\0\1"
         certificate = leaf[12 + 32 * precert + 3 : -2].lower()
         for name in self.names:
             if name.encode() in certificate:
-                yield {"entry": index, "name": name, "timestamp": int.from_bytes(leaf[2:10], "big"), "type": "precert" if precert else "x509"}
+                yield {"entry": index, "name": name, "timestamp": timestamp, "type": "precert" if precert else "x509"}
+        if self.waiting["timestamp"] < timestamp:
+            yield {"entry": index, "head_timestamp": self.waiting["timestamp"], "timestamp": timestamp, "verdict": "older-than-entry"}
 
     def take_entries(self, start, leaves):
         if self.waiting is None or start != self.all.size:

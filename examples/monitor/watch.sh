@@ -69,7 +69,7 @@ judge() {
     *) say "ctmonitor ended with status $status" && return 1 ;;
   esac
   case $status in
-    3) alarm=alarm.$(date +%s) && mkdir -p "$alarm" && cp lines told "$alarm" && say "ALARM, kept in $PWD/$alarm: $(grep -E '"(fork|shrunk|root-mismatch|inconsistent)"' told | tail -n 1)" ;;
+    3) alarm=alarm.$(date +%s) && mkdir -p "$alarm" && cp lines told "$alarm" && say "ALARM, kept in $PWD/$alarm: $(grep -E '"(fork|shrunk|time-not-later|root-mismatch|inconsistent|older-than-entry)"' told | tail -n 1)" ;;
     4) say "a line was none, or the state is damaged; the state is left as it was: $(grep '"error"' told | tail -n 1)" ;;
     0) replace || { say "the state can't be written, and is left as it was" && return 1; } ;;
   esac

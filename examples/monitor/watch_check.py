@@ -153,7 +153,7 @@ def try_interrupted(watch):
 
 
 def try_alarms(watch):
-    """A fork, a smaller log and other leaves are alarms, of which the lines are kept; a damaged state is told also where the log forked."""
+    """A fork, a smaller log, other leaves and moments that go back are alarms, of which the lines are kept; a damaged state is told also where the log forked."""
     log = Log()
     watch.ends("a first head", 0, log.url)
     good = watch.path(log).read_bytes()
@@ -174,6 +174,13 @@ def try_alarms(watch):
     watch.ends("a rewritten log", 3, log.url, says='"verdict":"root-mismatch"')
     if watch.state(log)["accepted"]["tree_size"] != 8:
         fail("a rewritten log: another head was accepted")
+    log.leaves, log.now = LEAVES, log.now - 2
+    watch.leaves_unchanged("a log that goes back in time", 3, log, says='"verdict":"time-not-later"')
+    early = Log()
+    early.now = answers.MOMENT + 3
+    watch.ends("a head older than entries", 3, early.url, says='"verdict":"older-than-entry"')
+    if watch.state(early)["accepted"]:
+        fail("a head older than entries: the state was replaced behind them")
     return log
 
 
@@ -194,7 +201,7 @@ def try_no_answers(watch):
             watch.leaves_unchanged(f"get-sth answers {what} on the {day} day", status, log, says=log.url)
         log.instead = {}
         watch.ends("a head again", 0, log.url, says="accepted 8 leaves")
-    log.size = 20
+    log.size, log.now = 20, log.now + 1
     for what, status, answer in NO_ENTRIES + NO_ANSWERS:
         log.instead = {"get-entries": answer}
         watch.ends(f"get-entries answers {what}", status, log.url, says=log.url)
@@ -215,7 +222,7 @@ def try_several(watch, followed, forked):
     forked.leaves, forked.size = FORKED, 8
     watch.ends("a closed port and a fork", 3, f"{closed} {forked.url}", says='"verdict":"fork"')
     old, young = Log(), Log()
-    old.now, young.now = 1000, int(time.time() * 1000)
+    old.leaves, old.now, young.now = [answers.leaf(i, b"an old certificate", None) for i in range(8)], 1000, int(time.time() * 1000)
     watch.ends("a head of the year 1970", 6, f"{old.url} {young.url}", "--older-than", "1000", says=f"{old.url}: OLD")
     watch.ends("a head of now", 0, young.url, "--older-than", "1000", says="accepted 8 leaves")
     watch.ends("the same, however old", 0, f"{old.url} {young.url}", says=f"{old.url}: accepted 8 leaves")

@@ -7,7 +7,7 @@ use Rattle.serde_json.specs.Written.{has_float, items_have_float, compact_text}
 use Rattle.ct_lines.specs.ReplyText.{bytes_data}
 use Rattle.ct_tree.specs.declared.head.Head.{Head}
 use Rattle.ct_watch.specs.WatcherState.{WatcherState}
-use Rattle.ct_watch.specs.declared.verdict.Verdict.TheVariants.{Accepted, Pending, Again, Stale, Shrunk, Fork, RootMismatch, Gap, Consistent, Inconsistent}
+use Rattle.ct_watch.specs.declared.verdict.Verdict.TheVariants.{Accepted, Pending, Again, Stale, Shrunk, Fork, TimeNotLater, RootMismatch, Gap, Consistent, Inconsistent}
 use Rattle.ct_follow.specs.StateText.{maybe_head_data, state_data, check_data}
 use Rattle.ct_follow.specs.VerdictText.{outcome_data}
 use Rattle.ct_follow.specs.declared.verdicts.Outcome.{Outcome}
@@ -20,6 +20,7 @@ outcome_no_float s (Said Again) = refl
 outcome_no_float s (Said Stale) = refl
 outcome_no_float s (Said Shrunk) = refl
 outcome_no_float s (Said (Fork known)) = refl
+outcome_no_float s (Said (TimeNotLater known)) = refl
 outcome_no_float s (Said (RootMismatch root)) = refl
 outcome_no_float s (Said Gap) = refl
 outcome_no_float s (Said Consistent) = refl

@@ -1,5 +1,5 @@
 -- What is written of an entry.
-use Rattle.std.specs.Prelude.{◌≡◌, ◌⊎◌, ◌+◌, ℕ, List, [], ◌∷◌, ◌++◌, if◌then◌else◌, codes}
+use Rattle.std.specs.Prelude.{◌≡◌, ◌⊎◌, ◌+◌, ℕ, Bool, false, ◌||◌, List, [], ◌∷◌, ◌++◌, if◌then◌else◌, nat_lt, codes}
 use Rattle.serde_json.specs.Data.{Data, string, object, member, no_members}
 use Rattle.ct_codec.specs.Leaf.{SignedEntry, certificate, precertificate, signed_of, LeafText}
 use Rattle.ct_codec.specs.Faults.{LeafFaulty}
@@ -44,21 +44,32 @@ abbrev pub found_lines : ℕ → ℕ → List ℕ → List ℕ → List (List �
 found_lines index timestamp kind low [] = []
 found_lines index timestamp kind low (name ∷ names) = found_line index timestamp kind low name ++ found_lines index timestamp kind low names
 
--- the lines of an entry: one for each watched name that stands in its lowered certificate or TBSCertificate, or one that it is no leaf,
--- with its first fault
-abbrev pub IsEntryText : List (List ℕ) → ℕ → List ℕ → List ℕ → Type 0
-IsEntryText names index leaf text =
-    ((timestamp : ℕ) × (e : SignedEntry) × (x : List ℕ) × LeafText timestamp e x leaf
-    × (text ≡ found_lines index timestamp (kind_word e) (lower (signed_of e)) names))
-    ⊎ ((f : DecodeFault) × LeafFaulty f leaf × (text ≡ line_of (leaf_fault_data index f)))
+-- the object of an entry of that timestamp whose tree head is older than it, of that moment (both in milliseconds)
+abbrev pub newer_data : ℕ → ℕ → ℕ → Data
+newer_data index moment timestamp = object (member (codes "entry") (number_data index) (member (codes "head_timestamp") (number_data moment)
+    (member (codes "timestamp") (number_data timestamp) (member (codes "verdict") (string (codes "older-than-entry")) no_members))))
 
--- the lines of entries from an index on
-abbrev pub AreEntryTexts : List (List ℕ) → ℕ → List (List ℕ) → List ℕ → Type 0
-AreEntryTexts names index [] text = text ≡ []
-AreEntryTexts names index (leaf ∷ leaves) text =
-    (one rest : List ℕ) × IsEntryText names index leaf one × AreEntryTexts names (index + 1) leaves rest × (text ≡ one ++ rest)
+-- its line, where the head is older (RFC 6962, section 3.5: a head is at least as recent as each entry of its tree)
+abbrev pub newer_line : ℕ → ℕ → ℕ → List ℕ
+newer_line index moment timestamp = if nat_lt moment timestamp then line_of (newer_data index moment timestamp) else []
+
+-- The lines of an entry of the tree whose head has that moment, and whether the head is older than it: a line for each watched name
+-- that stands in its lowered certificate or TBSCertificate, and one where the head is older; or one line that it is no leaf, with its
+-- first fault.
+abbrev pub IsEntryText : List (List ℕ) → ℕ → ℕ → List ℕ → Bool → List ℕ → Type 0
+IsEntryText names moment index leaf older text =
+    ((timestamp : ℕ) × (e : SignedEntry) × (x : List ℕ) × LeafText timestamp e x leaf × (older ≡ nat_lt moment timestamp)
+    × (text ≡ found_lines index timestamp (kind_word e) (lower (signed_of e)) names ++ newer_line index moment timestamp))
+    ⊎ ((f : DecodeFault) × LeafFaulty f leaf × (older ≡ false) × (text ≡ line_of (leaf_fault_data index f)))
+
+-- the lines of entries from an index on, and whether the head is older than one of them
+abbrev pub AreEntryTexts : List (List ℕ) → ℕ → ℕ → List (List ℕ) → Bool → List ℕ → Type 0
+AreEntryTexts names moment index [] older text = (older ≡ false) × (text ≡ [])
+AreEntryTexts names moment index (leaf ∷ leaves) older text =
+    (one rest : List ℕ) × (than_one than_rest : Bool) × IsEntryText names moment index leaf than_one one
+    × AreEntryTexts names moment (index + 1) leaves than_rest rest × (older ≡ than_one || than_rest) × (text ≡ one ++ rest)
 
 -- the lines of entries that were read with this verdict: none, where that is that they don't begin in the right place
-abbrev pub ReadTexts : List (List ℕ) → Verdict → ℕ → List (List ℕ) → List ℕ → Type 0
-ReadTexts names Gap index leaves text = text ≡ []
-ReadTexts names v index leaves text = AreEntryTexts names index leaves text
+abbrev pub ReadTexts : List (List ℕ) → ℕ → Verdict → ℕ → List (List ℕ) → Bool → List ℕ → Type 0
+ReadTexts names moment Gap index leaves older text = (older ≡ false) × (text ≡ [])
+ReadTexts names moment v index leaves older text = AreEntryTexts names moment index leaves older text

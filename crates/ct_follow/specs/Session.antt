@@ -14,6 +14,7 @@ use Rattle.ct_follow.specs.EntryText.{ReadTexts}
 use Rattle.ct_follow.specs.StateText.{state_text}
 use Rattle.ct_follow.specs.Texts.{line_of}
 use Rattle.ct_follow.specs.VerdictText.{outcome_data, wanted_size}
+use Rattle.ct_tree.specs.declared.head.Head.{Head}
 use Rattle.ct_follow.specs.declared.monitor.Monitor.{Monitor}
 use Rattle.ct_follow.specs.declared.verdicts.Outcome.{Outcome}
 use Rattle.ct_follow.specs.declared.verdicts.Outcome.TheVariants.{Said, BadLine, BadState}
@@ -36,10 +37,15 @@ StateSays s a o t = (w : Watched) → Keeps sha256 s w → (next : Watched) × K
 abbrev pub leaves_taken : WatcherState → List (List ℕ) → List (List ℕ)
 leaves_taken s E = take (wanted_size s - s.all.0) E
 
--- the lines of the entries that are read, where any are
-abbrev pub AreTexts : List (List ℕ) → WatcherState → Answered → Outcome → List ℕ → Type 0
-AreTexts names s (leaves_from start E) (Said v) text = ReadTexts names v s.all.0 (leaves_taken s E) text
-AreTexts names s a o text = text ≡ []
+-- the moment of the waiting head, in milliseconds; 0 where none waits, and then no entry is read
+abbrev pub moment_of : Option Head → ℕ
+moment_of None = 0
+moment_of (Some head) = head.timestamp
+
+-- the lines of the entries that are read, where any are, and whether the waiting head is older than one of them
+abbrev pub AreTexts : List (List ℕ) → WatcherState → Answered → Outcome → Bool → List ℕ → Type 0
+AreTexts names s (leaves_from start E) (Said v) older text = ReadTexts names (moment_of s.waiting) v s.all.0 (leaves_taken s E) older text
+AreTexts names s a o older text = (older ≡ false) × (text ≡ [])
 
 -- whether what a line comes to speaks against the log
 abbrev pub is_alarm : Outcome → Bool
@@ -58,17 +64,19 @@ pub record LineStep : Type 0 where
   pub after : Monitor
 
 -- a line that isn't empty: what it is and what it comes to, what is written (the lines of entries, and behind them the verdict), what is
--- known of the log then, and whether a verdict spoke against it so far, and a line was none
+-- known of the log then, whether the head that waits is older than an entry that was read, whether that or a verdict spoke against the
+-- log so far, and whether a line was none
 pub record Tells (names : List (List ℕ)) (before : Monitor) (line : List ℕ) (step : LineStep) : Type 0 where
   pub answer : Answered
   pub outcome : Outcome
   pub entries : List ℕ
+  pub older : Bool
   pub noted : step.outcome ≡ Some outcome
   pub reads : Reads line answer
   pub says : StateSays before.watcher answer outcome step.after.watcher
-  pub lists : AreTexts names before.watcher answer outcome entries
+  pub lists : AreTexts names before.watcher answer outcome older entries
   pub written : step.text ≡ entries ++ line_of (outcome_data step.after.watcher outcome)
-  pub alarm : step.after.alarm ≡ before.alarm || is_alarm outcome
+  pub alarm : step.after.alarm ≡ (older || before.alarm) || is_alarm outcome
   pub bad : step.after.bad ≡ before.bad || is_bad outcome
 
 -- what any line gives: an empty one is passed over
@@ -107,7 +115,7 @@ pub record TakesAll (names : List (List ℕ)) (before : Monitor) (input text : L
   pub bad : start.bad ≡ before.bad
   pub takes : TakesLines names start steps left text last
 
--- the exit status: 3 where a verdict spoke against the log, else 4 where a line was none, else 0
+-- the exit status: 3 where something spoke against the log, a verdict or the moment of an entry, else 4 where a line was none, else 0
 abbrev pub status_of : Monitor → ℕ
 status_of m = if m.alarm then 3 else (if m.bad then 4 else 0)
 

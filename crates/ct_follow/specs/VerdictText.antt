@@ -8,7 +8,7 @@ use Rattle.ct_verify.specs.declared.fault.ProofFault.{ProofFault}
 use Rattle.ct_verify.specs.declared.fault.ProofFault.TheVariants as fault
 use Rattle.ct_watch.specs.WatcherState.{WatcherState}
 use Rattle.ct_watch.specs.declared.verdict.Verdict.{Verdict}
-use Rattle.ct_watch.specs.declared.verdict.Verdict.TheVariants.{Accepted, Pending, Again, Stale, Shrunk, Fork, RootMismatch, Gap, Consistent, Inconsistent}
+use Rattle.ct_watch.specs.declared.verdict.Verdict.TheVariants.{Accepted, Pending, Again, Stale, Shrunk, Fork, TimeNotLater, RootMismatch, Gap, Consistent, Inconsistent}
 use Rattle.ct_follow.specs.declared.verdicts.Outcome.{Outcome}
 use Rattle.ct_follow.specs.declared.verdicts.Outcome.TheVariants.{Said, BadLine, BadState}
 
@@ -44,6 +44,11 @@ abbrev pub fork_data : Head → Data
 fork_data known = object (member (codes "known_root_hash") (bytes_data known.root) (member (codes "known_timestamp") (number_data known.timestamp)
     (member (codes "tree_size") (number_data known.tree_size) (member (codes "verdict") (string (codes "fork")) no_members))))
 
+-- that of time-not-later: of a larger head beside the known one, which is told whole
+abbrev pub not_later_data : Head → Data
+not_later_data known = object (member (codes "known_root_hash") (bytes_data known.root) (member (codes "known_timestamp") (number_data known.timestamp)
+    (member (codes "known_tree_size") (number_data known.tree_size) (member (codes "verdict") (string (codes "time-not-later")) no_members))))
+
 -- that of root-mismatch
 abbrev pub mismatch_data : List ℕ → Data
 mismatch_data root = object (member (codes "computed_root_hash") (bytes_data root) (member (codes "verdict") (string (codes "root-mismatch")) no_members))
@@ -73,6 +78,7 @@ said_data s Again = word_data (codes "again")
 said_data s Stale = word_data (codes "stale")
 said_data s Shrunk = word_data (codes "shrunk")
 said_data s (Fork known) = fork_data known
+said_data s (TimeNotLater known) = not_later_data known
 said_data s (RootMismatch root) = mismatch_data root
 said_data s Gap = gap_data s.all.0
 said_data s Consistent = word_data (codes "consistent")

@@ -1,10 +1,10 @@
 //! What is written of an entry: a line for each watched name that stands in its certificate, or one where it is no leaf.
 
-ghost use Rattle.std.specs.Prelude.{◌≡◌, ◌+◌, ◌<◌, ◌^◌, ◌++◌, ℕ, List, IfOk, OnOk, length, map, string_bytes};
+ghost use Rattle.std.specs.Prelude.{◌≡◌, ◌+◌, ◌<◌, ◌^◌, ◌++◌, ℕ, ◌||◌, List, IfOk, OnOk, length, map, nat_lt, string_bytes};
 ghost use Rattle.serde_json.specs.View.{view};
 ghost use Rattle.ct_codec.specs.Decoded.{entry_lent};
 ghost use Rattle.ct_codec.specs.Leaf.{signed_of};
-ghost use Rattle.ct_follow.specs.EntryText.{leaf_fault_name, leaf_fault_data, found_data, found_line, found_lines, kind_word, IsEntryText, AreEntryTexts, ReadTexts};
+ghost use Rattle.ct_follow.specs.EntryText.{leaf_fault_name, leaf_fault_data, found_data, found_line, found_lines, kind_word, newer_data, newer_line, IsEntryText, AreEntryTexts, ReadTexts};
 
 use crate::names::{is_named, lowered};
 use crate::text::push_line;
@@ -94,64 +94,114 @@ fn push_found(
     Ok(())
 }
 
-// Adds the lines of an entry.
+fn newer_value(alloc: Global, index: u64, moment: u64, timestamp: u64) -> Result<Value, AllocError>
+    ensures { IfOk result (λ v. view v ≡ newer_data index moment timestamp) }
+{
+    json!(in alloc; {"entry": index, "head_timestamp": moment, "timestamp": timestamp, "verdict": "older-than-entry"})
+}
+
+// Whether a head of that moment is older than an entry of this timestamp.
+fn is_older(moment: u64, timestamp: u64) -> bool
+    ensures { result ≡ nat_lt moment timestamp }
+{
+    moment < timestamp
+}
+
+// Adds a line where the head of that moment is older than the entry, and answers whether it is.
+fn push_if_newer(
+    alloc: Global,
+    text: &mut Vec<u8>,
+    moment: u64,
+    index: u64,
+    timestamp: u64,
+) -> Result<bool, AllocError>
+    ensures older { IfOk result (λ older. older ≡ nat_lt moment timestamp) }
+    ensures written { OnOk result (text.new.items ≡ text.old.items ++ newer_line index moment timestamp) }
+{
+    let older = is_older(moment, timestamp);
+    if older {
+        let value = newer_value(alloc, index, moment, timestamp)?;
+        push_line(alloc, text, &value)?;
+    }
+    Ok(older)
+}
+
+// Adds the lines of an entry of the tree whose head has that moment, and answers whether the head is older.
+#[tactic(auto, using(crate::proofs::EntryTold::told_behind))]
 fn push_entry(
     alloc: Global,
     text: &mut Vec<u8>,
     names: &[String],
+    moment: u64,
     index: u64,
     leaf_input: &[u8],
-) -> Result<(), AllocError>
-    ensures { OnOk result ((one : List ℕ) × IsEntryText (map string_bytes names.now) index leaf_input.now one × (text.new.items ≡ text.old.items ++ one)) }
+) -> Result<bool, AllocError>
+    ensures { IfOk result (λ older. (one : List ℕ) × IsEntryText (map string_bytes names.now) moment index leaf_input.now older one
+        × (text.new.items ≡ text.old.items ++ one)) }
 {
     match lend_leaf(leaf_input) {
         Ok(leaf) => {
             let (kind, certificate) = kind_and_certificate(&leaf.entry);
             let low = lowered(alloc, certificate)?;
-            push_found(alloc, text, names, index, leaf.timestamp, kind, &low)
+            push_found(alloc, text, names, index, leaf.timestamp, kind, &low)?;
+            push_if_newer(alloc, text, moment, index, leaf.timestamp)
         }
         Err(fault) => {
             let value = fault_value(alloc, index, fault)?;
-            push_line(alloc, text, &value)
+            push_line(alloc, text, &value)?;
+            Ok(false)
         }
     }
 }
 
-// Adds the lines of entries from an index on.
+// Whether one of the two holds.
+pub(crate) fn either(first: bool, second: bool) -> bool
+    ensures { result ≡ first || second }
+{
+    first || second
+}
+
+// Adds the lines of entries from an index on, and answers whether the head of that moment is older than one of them.
 fn push_entries(
     alloc: Global,
     text: &mut Vec<u8>,
     names: &[String],
+    moment: u64,
     first: u64,
     leaves: &[Vec<u8>],
-) -> Result<(), AllocError>
+) -> Result<bool, AllocError>
     requires { first + length leaves.now < 2 ^ 64 }
-    ensures { OnOk result ((more : List ℕ) × AreEntryTexts (map string_bytes names.now) first (map (λ l. l.items) leaves.now) more
+    ensures { IfOk result (λ older. (more : List ℕ) × AreEntryTexts (map string_bytes names.now) moment first (map (λ l. l.items) leaves.now) older more
         × (text.new.items ≡ text.old.items ++ more)) }
 {
     let mut index = first;
+    let mut older = false;
     for leaf in leaves {
-        push_entry(alloc, text, names, index, leaf)?;
+        let than_one = push_entry(alloc, text, names, moment, index, leaf)?;
+        older = either(older, than_one);
         index += 1;
     }
-    Ok(())
+    Ok(older)
 }
 
-// Adds the lines of entries that were read with this verdict: none, where that is that they don't begin in the right place.
+// Adds the lines of entries that were read with this verdict: none, where that is that they don't begin in the right place. Answers
+// whether the head of that moment is older than one of them.
 pub(crate) fn push_read(
     alloc: Global,
     text: &mut Vec<u8>,
     names: &[String],
+    moment: u64,
     verdict: &Verdict,
     first: u64,
     leaves: &[Vec<u8>],
-) -> Result<(), AllocError>
+) -> Result<bool, AllocError>
     requires { first + length leaves.now < 2 ^ 64 }
-    ensures { OnOk result ((more : List ℕ) × ReadTexts (map string_bytes names.now) verdict.now first (map (λ l. l.items) leaves.now) more
+    ensures { IfOk result (λ older. (more : List ℕ)
+        × ReadTexts (map string_bytes names.now) moment verdict.now first (map (λ l. l.items) leaves.now) older more
         × (text.new.items ≡ text.old.items ++ more)) }
 {
     if matches!(verdict, Verdict::Gap) {
-        return Ok(());
+        return Ok(false);
     }
-    push_entries(alloc, text, names, first, leaves)
+    push_entries(alloc, text, names, moment, first, leaves)
 }

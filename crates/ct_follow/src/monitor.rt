@@ -1,18 +1,18 @@
 //! Who takes the lines, one after the other.
 
-ghost use Rattle.std.specs.Prelude.{◌≡◌, ◌⊎◌, ◌+◌, ◌-◌, ◌<◌, ◌≤◌, ◌^◌, ◌++◌, ◌∷◌, ◌||◌, [], ℕ, List, IfOk, OnOk, false, length, map, min, string_bytes, unwrap_or};
+ghost use Rattle.std.specs.Prelude.{◌≡◌, ◌⊎◌, ◌+◌, ◌-◌, ◌<◌, ◌≤◌, ◌^◌, ◌++◌, ◌∷◌, ◌||◌, [], ℕ, Bool, List, IfOk, OnOk, false, length, map, min, string_bytes, unwrap_or};
 ghost use Rattle.sha2.specs.Sha256.{sha256};
 ghost use Rattle.ct_watch.specs.Watched.{Watched};
 ghost use Rattle.ct_watch.specs.Verdicts.{EntriesSay, after_entries};
 ghost use Rattle.ct_watch.specs.WatcherState.{Keeps};
 ghost use Rattle.ct_follow.specs.Answers.{answer_read, leaves_from};
-ghost use Rattle.ct_follow.specs.Session.{AreTexts, StateSays, LineGives, FirstGives, status_of, is_alarm, is_bad};
+ghost use Rattle.ct_follow.specs.Session.{AreTexts, moment_of, StateSays, LineGives, FirstGives, status_of, is_alarm, is_bad};
 ghost use Rattle.ct_follow.specs.StateText.{state_text};
 ghost use Rattle.ct_follow.specs.VerdictText.{wanted_size};
 ghost use Rattle.ct_follow.specs.declared.verdicts.Outcome.TheVariants.{Said};
 
 use crate::answer::{Answer, read_answer};
-use crate::entries::push_read;
+use crate::entries::{either, push_read};
 use crate::state::{read_state, state_line};
 use crate::verdicts::{Outcome, push_outcome, wanted};
 use ct_tree::Sha256Hash;
@@ -24,7 +24,7 @@ use std::alloc::{AllocError, Global};
 pub struct Monitor {
     /// What the log has handed out.
     pub watcher: Watcher<Sha256Hash>,
-    /// Whether a verdict spoke against the log.
+    /// Whether something spoke against the log: a verdict, or an entry that is later than its head.
     pub alarm: bool,
     /// Whether a line was none.
     pub bad: bool,
@@ -44,6 +44,16 @@ fn leaves_wanted(watcher: &Watcher<Sha256Hash>, available: usize) -> usize
     }
     let room = (wanted - read) as usize;
     if room < available { room } else { available }
+}
+
+// The moment of the waiting head.
+fn waiting_moment(watcher: &Watcher<Sha256Hash>) -> u64
+    ensures { result ≡ moment_of watcher.now.waiting }
+{
+    match watcher.waiting() {
+        Some(head) => head.timestamp,
+        None => 0,
+    }
 }
 
 // Takes leaves from an index on, or from the last one read on where it isn't told.
@@ -82,16 +92,25 @@ impl Monitor {
         text: &mut Vec<u8>,
     ) -> Result<Verdict, AllocError>
         ensures says { IfOk result (λ v. StateSays self.old.watcher (leaves_from start (map (λ l. l.items) leaves.now)) (Said v) self.new.watcher) }
-        ensures lists { IfOk result (λ v. (more : List ℕ)
-            × AreTexts (map string_bytes names.now) self.old.watcher (leaves_from start (map (λ l. l.items) leaves.now)) (Said v) more
-            × (text.new.items ≡ text.old.items ++ more)) }
-        ensures alarm { self.new.alarm ≡ self.old.alarm }
+        ensures lists { IfOk result (λ v. (older : Bool) × (more : List ℕ)
+            × AreTexts (map string_bytes names.now) self.old.watcher (leaves_from start (map (λ l. l.items) leaves.now)) (Said v) older more
+            × (text.new.items ≡ text.old.items ++ more) × (self.new.alarm ≡ older || self.old.alarm)) }
         ensures bad { self.new.bad ≡ self.old.bad }
     {
         let first = self.watcher.all().size();
         let count = leaves_wanted(&self.watcher, leaves.len());
+        let moment = waiting_moment(&self.watcher);
         let verdict = take_leaves(&mut self.watcher, start, leaves)?;
-        push_read(alloc, text, names, &verdict, first, &leaves[..count])?;
+        let older = push_read(
+            alloc,
+            text,
+            names,
+            moment,
+            &verdict,
+            first,
+            &leaves[..count],
+        )?;
+        self.alarm = either(older, self.alarm);
         Ok(verdict)
     }
 
@@ -104,10 +123,9 @@ impl Monitor {
         text: &mut Vec<u8>,
     ) -> Result<Outcome, AllocError>
         ensures says { IfOk result (λ o. StateSays self.old.watcher (answer_read answer) o self.new.watcher) }
-        ensures lists { IfOk result (λ o. (more : List ℕ)
-            × AreTexts (map string_bytes names.now) self.old.watcher (answer_read answer) o more
-            × (text.new.items ≡ text.old.items ++ more)) }
-        ensures alarm { self.new.alarm ≡ self.old.alarm }
+        ensures lists { IfOk result (λ o. (older : Bool) × (more : List ℕ)
+            × AreTexts (map string_bytes names.now) self.old.watcher (answer_read answer) o older more
+            × (text.new.items ≡ text.old.items ++ more) × (self.new.alarm ≡ older || self.old.alarm)) }
         ensures bad { self.new.bad ≡ self.old.bad }
     {
         match answer {
@@ -188,7 +206,7 @@ impl Monitor {
         Ok(text)
     }
 
-    // The exit status: 3 where a verdict spoke against the log, else 4 where a line was none, else 0.
+    // The exit status: 3 where something spoke against the log, else 4 where a line was none, else 0.
     pub(crate) fn status(&self) -> u8
         ensures { result ≡ status_of self.now }
     {

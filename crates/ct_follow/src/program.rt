@@ -121,7 +121,8 @@ fn finish<W: Write>(alloc: Global, monitor: &Monitor, writer: &mut W) -> Result<
 }
 
 /// Reads a log's answers, a line each, and writes the verdicts, and the state as the last line. Answers the exit status: 3
-/// where a verdict speaks against the log, else 4 where a line was none, else 0.
+/// where a verdict speaks against the log, or a head is older than an entry of its tree (RFC 6962, section 3.5), else 4 where
+/// a line was none, else 0.
 pub fn run<B: BufRead, W: Write>(
     alloc: Global,
     names: &[String],

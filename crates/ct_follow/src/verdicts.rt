@@ -3,7 +3,7 @@
 ghost use Rattle.std.specs.Prelude.{◌≡◌, IfOk, OnOk, ◌++◌};
 ghost use Rattle.serde_json.specs.View.{view};
 ghost use Rattle.ct_follow.specs.Texts.{line_of};
-ghost use Rattle.ct_follow.specs.VerdictText.{proof_fault_name, wanted_size, word_data, accepted_data, pending_data, gap_data, fork_data, mismatch_data, inconsistent_data, error_data, said_data, outcome_data};
+ghost use Rattle.ct_follow.specs.VerdictText.{proof_fault_name, wanted_size, word_data, accepted_data, pending_data, gap_data, fork_data, not_later_data, mismatch_data, inconsistent_data, error_data, said_data, outcome_data};
 
 use crate::text::push_line;
 use ct_lines::bytes_value;
@@ -71,6 +71,13 @@ fn fork_value(alloc: Global, known: &Head) -> Result<Value, AllocError>
     json!(in alloc; {"known_root_hash": root, "known_timestamp": known.timestamp, "tree_size": known.tree_size, "verdict": "fork"})
 }
 
+fn not_later_value(alloc: Global, known: &Head) -> Result<Value, AllocError>
+    ensures { IfOk result (λ v. view v ≡ not_later_data known.now) }
+{
+    let root = bytes_value(alloc, &known.root)?;
+    json!(in alloc; {"known_root_hash": root, "known_timestamp": known.timestamp, "known_tree_size": known.tree_size, "verdict": "time-not-later"})
+}
+
 fn mismatch_value(alloc: Global, computed: &[u8; 32]) -> Result<Value, AllocError>
     ensures { IfOk result (λ v. view v ≡ mismatch_data computed.now) }
 {
@@ -116,6 +123,7 @@ fn verdict_value(
         Verdict::Stale => word_value(alloc, "stale"),
         Verdict::Shrunk => word_value(alloc, "shrunk"),
         Verdict::Fork(known) => fork_value(alloc, known),
+        Verdict::TimeNotLater(known) => not_later_value(alloc, known),
         Verdict::RootMismatch(computed) => mismatch_value(alloc, computed),
         Verdict::Gap => gap_value(alloc, size),
         Verdict::Consistent => word_value(alloc, "consistent"),

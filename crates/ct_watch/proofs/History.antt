@@ -9,7 +9,7 @@ use Rattle.ct_watch.specs.Watched.{Watched, waiting_or, read_on, after_verdict, 
 use Rattle.ct_watch.specs.Verdicts.{IsSaid, WaitingSays, HeadSays, EntriesSay, after_entries}
 use Rattle.ct_watch.specs.History.{SaysAccepted, IsStep, AreSteps, IsOfBeginning, AcceptedHeadsAgree}
 use Rattle.ct_watch.specs.declared.verdict.Verdict.{Verdict}
-use Rattle.ct_watch.specs.declared.verdict.Verdict.TheVariants.{Accepted, Pending, Again, Stale, Shrunk, Fork, RootMismatch, Gap, Consistent, Inconsistent}
+use Rattle.ct_watch.specs.declared.verdict.Verdict.TheVariants.{Accepted, Pending, Again, Stale, Shrunk, Fork, TimeNotLater, RootMismatch, Gap, Consistent, Inconsistent}
 use Rattle.ct_watch.proofs.Steps.{said_changes_nothing}
 
 -- a step keeps the sure leaves, and accepts a head of the new ones
@@ -29,6 +29,7 @@ said_accepts_nothing (Some known) head Again s a = a
 said_accepts_nothing (Some known) head Stale s a = a
 said_accepts_nothing (Some known) head Shrunk s a = a
 said_accepts_nothing (Some known) head (Fork other) s a = a
+said_accepts_nothing (Some known) head (TimeNotLater other) s a = a
 said_accepts_nothing (Some known) head (RootMismatch root) s a = a
 said_accepts_nothing (Some known) head Gap s a = a
 said_accepts_nothing (Some known) head Consistent s a = a
@@ -48,6 +49,7 @@ settled_grows H w head Again s = absurd s
 settled_grows H w head Stale s = absurd s
 settled_grows H w head Shrunk s = absurd s
 settled_grows H w head (Fork known) s = absurd s
+settled_grows H w head (TimeNotLater known) s = absurd s
 settled_grows H w head Gap s = absurd s
 settled_grows H w head Consistent s = absurd s
 settled_grows H w head (Inconsistent fault) s = absurd s
@@ -66,6 +68,7 @@ read_grows H w head E Again s = absurd s
 read_grows H w head E Stale s = absurd s
 read_grows H w head E Shrunk s = absurd s
 read_grows H w head E (Fork known) s = absurd s
+read_grows H w head E (TimeNotLater known) s = absurd s
 read_grows H w head E Gap s = absurd s
 read_grows H w head E Consistent s = absurd s
 read_grows H w head E (Inconsistent fault) s = absurd s

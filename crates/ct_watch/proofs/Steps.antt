@@ -11,7 +11,7 @@ use Rattle.ct_watch.specs.Watched.{Watched, leaves_read, read_on, with_more, aft
 use Rattle.ct_watch.specs.Verdicts.{IsSaid, LeavesSay, WaitingSays, EntriesSay, after_entries}
 use Rattle.ct_watch.specs.WatcherState.{WatcherState, Keeps}
 use Rattle.ct_watch.specs.declared.verdict.Verdict.{Verdict}
-use Rattle.ct_watch.specs.declared.verdict.Verdict.TheVariants.{Accepted, Pending, Again, Stale, Shrunk, Fork, RootMismatch, Gap, Consistent, Inconsistent}
+use Rattle.ct_watch.specs.declared.verdict.Verdict.TheVariants.{Accepted, Pending, Again, Stale, Shrunk, Fork, TimeNotLater, RootMismatch, Gap, Consistent, Inconsistent}
 
 -- a verdict that stands against a head at once changes nothing
 pub said_changes_nothing : (w : Watched) (waiting : Head) (known : Option Head) (head : Head) (v : Verdict) → IsSaid known head v
@@ -23,6 +23,7 @@ said_changes_nothing w waiting (Some known) head Again s = refl
 said_changes_nothing w waiting (Some known) head Stale s = refl
 said_changes_nothing w waiting (Some known) head Shrunk s = refl
 said_changes_nothing w waiting (Some known) head (Fork other) s = refl
+said_changes_nothing w waiting (Some known) head (TimeNotLater other) s = refl
 said_changes_nothing w waiting (Some known) head (RootMismatch root) s = absurd s
 said_changes_nothing w waiting (Some known) head Gap s = absurd s
 said_changes_nothing w waiting (Some known) head Consistent s = absurd s
@@ -70,6 +71,7 @@ after_read H w head E Again s = absurd s
 after_read H w head E Stale s = absurd s
 after_read H w head E Shrunk s = absurd s
 after_read H w head E (Fork known) s = absurd s
+after_read H w head E (TimeNotLater known) s = absurd s
 after_read H w head E Gap s = absurd s
 after_read H w head E Consistent s = absurd s
 after_read H w head E (Inconsistent fault) s = absurd s

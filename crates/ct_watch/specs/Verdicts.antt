@@ -6,33 +6,39 @@ use Rattle.ct_tree.specs.declared.head.Head.{Head}
 use Rattle.ct_verify.specs.Verdict.{AcceptsConsistency, RefusesConsistency}
 use Rattle.ct_watch.specs.Watched.{Watched, leaves_read, waiting_or, read_on, after_verdict}
 use Rattle.ct_watch.specs.declared.verdict.Verdict.{Verdict}
-use Rattle.ct_watch.specs.declared.verdict.Verdict.TheVariants.{Accepted, Pending, Again, Stale, Shrunk, Fork, RootMismatch, Gap, Consistent, Inconsistent}
+use Rattle.ct_watch.specs.declared.verdict.Verdict.TheVariants.{Accepted, Pending, Again, Stale, Shrunk, Fork, TimeNotLater, RootMismatch, Gap, Consistent, Inconsistent}
 
--- a verdict speaks against the log: a shrunk log, a fork, a root that isn't that of the leaves, an inconsistent proof
+-- a verdict speaks against the log: a shrunk log, a fork, a larger head that isn't later, a root that isn't that of the leaves, an
+-- inconsistent proof
 abbrev pub accuses : Verdict → Bool
 accuses Shrunk = true
 accuses (Fork known) = true
+accuses (TimeNotLater known) = true
 accuses (RootMismatch root) = true
 accuses (Inconsistent fault) = true
 accuses v = false
 
--- a head beside a known one that has as many leaves or more
+-- The verdict on a head beside a known one, unless it has more leaves and a later moment. Each head of a log is later than the ones
+-- before (RFC 6962, section 3.5), so of two heads the later one has as many leaves or more: `Shrunk` and `TimeNotLater` say the same of
+-- two heads, the one where the smaller comes second, the other where the larger does.
 abbrev pub IsBeside : Head → Head → Verdict → Type 0
 IsBeside known head Stale = (head.tree_size < known.tree_size) × (head.timestamp < known.timestamp)
 IsBeside known head Shrunk = (head.tree_size < known.tree_size) × (known.timestamp ≤ head.timestamp)
 IsBeside known head Again = (head.tree_size ≡ known.tree_size) × (head.root ≡ known.root)
 IsBeside known head (Fork other) = (other ≡ known) × (head.tree_size ≡ known.tree_size) × (¬ (head.root ≡ known.root))
+IsBeside known head (TimeNotLater other) = (other ≡ known) × (known.tree_size < head.tree_size) × (head.timestamp ≤ known.timestamp)
 IsBeside known head v = ⊥
 
--- the verdict that stands against a head at once beside the known one, if any is: stale, shrunk, again, fork
+-- the verdict that stands against a head at once beside the known one, if any is: stale, shrunk, again, fork, not
+-- later
 abbrev pub IsSaid : Option Head → Head → Verdict → Type 0
 IsSaid None head v = ⊥
 IsSaid (Some known) head v = IsBeside known head v
 
--- the head has more leaves than the known one, if any is
-abbrev pub IsLarger : Option Head → Head → Type 0
-IsLarger None head = ⊤
-IsLarger (Some known) head = known.tree_size < head.tree_size
+-- the head has more leaves than the known one, if any is, and a later moment
+abbrev pub IsGrownLater : Option Head → Head → Type 0
+IsGrownLater None head = ⊤
+IsGrownLater (Some known) head = (known.tree_size < head.tree_size) × (known.timestamp < head.timestamp)
 
 -- a head beside the leaves D: accepted, where it is that of D; a root mismatch, where it has their number and another root than
 -- theirs, which is told; pending, where it has another number
@@ -46,11 +52,11 @@ LeavesSay H D head v = ⊥
 abbrev pub WaitingSays : (List ℕ → List ℕ) → Watched → Head → Verdict → Type 0
 WaitingSays H w head v = LeavesSay H (leaves_read w) head v
 
--- the verdict on a head: beside the accepted one, then beside the waiting one; where it is larger than both, the verdict on the one that
--- waits now
+-- the verdict on a head: beside the accepted one, then beside the waiting one; where it is larger and later than both, the verdict on
+-- the one that waits now
 abbrev pub HeadSays : (List ℕ → List ℕ) → Watched → Head → Verdict → Type 0
 HeadSays H w head v = IsSaid w.accepted head v
-    ⊎ (IsLarger w.accepted head × (IsSaid w.waiting head v ⊎ (IsLarger w.waiting head × WaitingSays H w (waiting_or w.waiting head) v)))
+    ⊎ (IsGrownLater w.accepted head × (IsSaid w.waiting head v ⊎ (IsGrownLater w.waiting head × WaitingSays H w (waiting_or w.waiting head) v)))
 
 -- the verdict on the leaves E from the index start on, where this head waits
 abbrev pub EntriesSay : (List ℕ → List ℕ) → Watched → Option Head → ℕ → List (List ℕ) → Verdict → Type 0

@@ -20,6 +20,8 @@ pub enum Verdict {
     Shrunk,
     /// The known head of this size has another root.
     Fork(Head),
+    /// More leaves than the known head has, which is this one, and not at a later moment (RFC 6962, section 3.5).
+    TimeNotLater(Head),
     /// The waiting head's root isn't that of the leaves read, which is this one. They are let go.
     RootMismatch([u8; 32]),
     /// The entries don't begin where the leaves read end, or no head waits; no two heads are there that a proof could join.
@@ -38,6 +40,7 @@ impl Verdict {
         match self {
             Verdict::Shrunk
             | Verdict::Fork(_)
+            | Verdict::TimeNotLater(_)
             | Verdict::RootMismatch(_)
             | Verdict::Inconsistent(_) => true,
             Verdict::Accepted

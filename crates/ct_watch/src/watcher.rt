@@ -6,7 +6,7 @@ ghost use Rattle.ct_tree.specs.declared.head.Head.{Head};
 ghost use Rattle.ct_monitor.specs.Heads.{IsHeadOfAll};
 ghost use Rattle.ct_watch.specs.declared.verdict.Verdict.TheVariants.{Accepted};
 ghost use Rattle.ct_watch.specs.Watched.{Watched, after_verdict, nothing_seen, read_on, waiting_or, with_more};
-ghost use Rattle.ct_watch.specs.Verdicts.{EntriesSay, HeadSays, IsLarger, IsSaid, LeavesSay, ProofSays, WaitingSays, after_entries};
+ghost use Rattle.ct_watch.specs.Verdicts.{EntriesSay, HeadSays, IsGrownLater, IsSaid, LeavesSay, ProofSays, WaitingSays, after_entries};
 ghost use Rattle.ct_watch.specs.WatcherState.{Keeps, WatcherState};
 
 use crate::verdict::Verdict;
@@ -16,15 +16,19 @@ use ct_verify::verify_consistency;
 use std::alloc::{AllocError, Global};
 use std::marker::Model;
 
-// What is said of a head beside a known one, unless it has more leaves.
+// What is said of a head beside a known one, unless it has more leaves and a later moment.
 fn beside(known: Option<Head>, head: &Head) -> Option<Verdict>
-    ensures { MatchOption result (IsLarger known head.now) (λ v. IsSaid known head.now v) }
+    ensures { MatchOption result (IsGrownLater known head.now) (λ v. IsSaid known head.now v) }
 {
     let Some(known) = known else {
         return None;
     };
     if head.tree_size > known.tree_size {
-        return None;
+        return if head.timestamp > known.timestamp {
+            None
+        } else {
+            Some(Verdict::TimeNotLater(known))
+        };
     }
     if head.tree_size < known.tree_size {
         return if head.timestamp < known.timestamp {
@@ -174,7 +178,7 @@ impl<H: NodeHash + Drop> Watcher<H> {
         }
     }
 
-    /// Takes a tree head. One that is larger than the accepted and the waiting one waits from then on, where none did.
+    /// Takes a tree head. One that is larger and later than the accepted and the waiting one waits from then on, where none did.
     ///
     /// # Errors
     /// A growth was refused, and nothing has changed.

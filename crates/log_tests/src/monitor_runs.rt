@@ -133,6 +133,62 @@ const BAD_START_TEXT: &str = "{\"have\":0,\"tree_size\":3,\"verdict\":\"pending\
 {\"accepted\":null,\"all\":{\"size\":1,\"subtrees\":[\"3z9hmASpL9tAVxktxD3XSOp3itxSvEmM6AUkwBS4ERk=\"]},\"check\":\"pdwXz4hTg9hGu5PVnQF81yEV+bMY46DLIqMSWkxkdtc=\",\"state\":1,\"sure\":{\"size\":0,\"subtrees\":[]},\"waiting\":{\"sha256_root_hash\":\"dv3rKEarhKJfwvErnuGj1blcq4uE2dJxDJA464QuXLE=\",\"timestamp\":1000,\"tree_size\":3}}
 ";
 
+const EARLIER: &str =
+    "{\"accepted\":{\"sha256_root_hash\":\"dv3rKEarhKJfwvErnuGj1blcq4uE2dJxDJA464QuXLE=\",\"timestamp\":1000,\"tree_size\":3},\"all\":{\"size\":3,\"subtrees\":[\"Py/NFubB2mUOAIpXnoymxA6HZtecDWMEQ8n6bwOq56k=\",\"oFjqfYAK/lGj6hkUnsapTE3hV3XTYaK2y1tWfH0XeDI=\"]},\"check\":\"KEr+k3cXzfILQGFzGwR2US4VmzfDVUBq8tk7ekcgvSs=\",\"state\":1,\"sure\":{\"size\":3,\"subtrees\":[\"Py/NFubB2mUOAIpXnoymxA6HZtecDWMEQ8n6bwOq56k=\",\"oFjqfYAK/lGj6hkUnsapTE3hV3XTYaK2y1tWfH0XeDI=\"]},\"waiting\":null}
+{\"sha256_root_hash\":\"+JuScP/25evggmYa6kRhKnhGJQ7QT0noqh2FNn1GF1o=\",\"timestamp\":999,\"tree_size\":5}
+{\"sha256_root_hash\":\"+JuScP/25evggmYa6kRhKnhGJQ7QT0noqh2FNn1GF1o=\",\"timestamp\":1000,\"tree_size\":5}
+{\"sha256_root_hash\":\"+JuScP/25evggmYa6kRhKnhGJQ7QT0noqh2FNn1GF1o=\",\"timestamp\":2000,\"tree_size\":5}
+{\"sha256_root_hash\":\"DhU+r+dYGI9Tkf35I5vPS5tjhXyZpRW5xoZOc/6jttE=\",\"timestamp\":2000,\"tree_size\":6}
+";
+
+const EARLIER_TEXT: &str =
+    "{\"known_root_hash\":\"dv3rKEarhKJfwvErnuGj1blcq4uE2dJxDJA464QuXLE=\",\"known_timestamp\":1000,\"known_tree_size\":3,\"verdict\":\"time-not-later\"}
+{\"known_root_hash\":\"dv3rKEarhKJfwvErnuGj1blcq4uE2dJxDJA464QuXLE=\",\"known_timestamp\":1000,\"known_tree_size\":3,\"verdict\":\"time-not-later\"}
+{\"have\":3,\"tree_size\":5,\"verdict\":\"pending\"}
+{\"known_root_hash\":\"+JuScP/25evggmYa6kRhKnhGJQ7QT0noqh2FNn1GF1o=\",\"known_timestamp\":2000,\"known_tree_size\":5,\"verdict\":\"time-not-later\"}
+{\"accepted\":{\"sha256_root_hash\":\"dv3rKEarhKJfwvErnuGj1blcq4uE2dJxDJA464QuXLE=\",\"timestamp\":1000,\"tree_size\":3},\"all\":{\"size\":3,\"subtrees\":[\"Py/NFubB2mUOAIpXnoymxA6HZtecDWMEQ8n6bwOq56k=\",\"oFjqfYAK/lGj6hkUnsapTE3hV3XTYaK2y1tWfH0XeDI=\"]},\"check\":\"UA/fcG7EBKn8y5v40C2+pvaZhKrC+ch+rxsK5xZQd0Q=\",\"state\":1,\"sure\":{\"size\":3,\"subtrees\":[\"Py/NFubB2mUOAIpXnoymxA6HZtecDWMEQ8n6bwOq56k=\",\"oFjqfYAK/lGj6hkUnsapTE3hV3XTYaK2y1tWfH0XeDI=\"]},\"waiting\":{\"sha256_root_hash\":\"+JuScP/25evggmYa6kRhKnhGJQ7QT0noqh2FNn1GF1o=\",\"timestamp\":2000,\"tree_size\":5}}
+";
+
+const OLDER: &str =
+    "{\"sha256_root_hash\":\"dv3rKEarhKJfwvErnuGj1blcq4uE2dJxDJA464QuXLE=\",\"timestamp\":8,\"tree_size\":3}
+{\"entries\":[{\"leaf_input\":\"AAAAAAAAAAAABwAAAAAaY2VydGlmaWNhdGUgb2YgRXhhbXBsZS5vcmcAAA==\"},{\"leaf_input\":\"AAAAAAAAAAAACAAAAAAZY2VydGlmaWNhdGUgb2YgZXhhbXBsZS5vcgAA\"},{\"leaf_input\":\"AAAAAAAAAAAACQABLHDhK3oGRvkiefQnx7OOczTY5Tic/xZ6HcMOc/gmtoMAABCAd3d3LkVYQU1QTEUuT1JHAAA=\"},{\"leaf_input\":\"AAAAAAAAAAAACgAAAAAbY2VydGlmaWNhdGUgb2YgZXhhbXBsZS5vcmdzAAA=\"},{\"leaf_input\":\"AAAAAAAAAAAACwAAAAABRAAA\"}],\"start\":0}
+";
+
+const OLDER_TEXT: &str =
+    "{\"have\":0,\"tree_size\":3,\"verdict\":\"pending\"}
+{\"entry\":0,\"name\":\"example.org\",\"timestamp\":7,\"type\":\"x509\"}
+{\"entry\":2,\"name\":\"example.org\",\"timestamp\":9,\"type\":\"precert\"}
+{\"entry\":2,\"head_timestamp\":8,\"timestamp\":9,\"verdict\":\"older-than-entry\"}
+{\"tree_size\":3,\"verdict\":\"accepted\"}
+{\"accepted\":{\"sha256_root_hash\":\"dv3rKEarhKJfwvErnuGj1blcq4uE2dJxDJA464QuXLE=\",\"timestamp\":8,\"tree_size\":3},\"all\":{\"size\":3,\"subtrees\":[\"Py/NFubB2mUOAIpXnoymxA6HZtecDWMEQ8n6bwOq56k=\",\"oFjqfYAK/lGj6hkUnsapTE3hV3XTYaK2y1tWfH0XeDI=\"]},\"check\":\"Mu/VBKq+RkmzAf0lPe7YuuBG0w54kbCl5Hu0Pq+15Gc=\",\"state\":1,\"sure\":{\"size\":3,\"subtrees\":[\"Py/NFubB2mUOAIpXnoymxA6HZtecDWMEQ8n6bwOq56k=\",\"oFjqfYAK/lGj6hkUnsapTE3hV3XTYaK2y1tWfH0XeDI=\"]},\"waiting\":null}
+";
+
+const AS_OLD: &str =
+    "{\"sha256_root_hash\":\"dv3rKEarhKJfwvErnuGj1blcq4uE2dJxDJA464QuXLE=\",\"timestamp\":9,\"tree_size\":3}
+{\"entries\":[{\"leaf_input\":\"AAAAAAAAAAAABwAAAAAaY2VydGlmaWNhdGUgb2YgRXhhbXBsZS5vcmcAAA==\"},{\"leaf_input\":\"AAAAAAAAAAAACAAAAAAZY2VydGlmaWNhdGUgb2YgZXhhbXBsZS5vcgAA\"},{\"leaf_input\":\"AAAAAAAAAAAACQABLHDhK3oGRvkiefQnx7OOczTY5Tic/xZ6HcMOc/gmtoMAABCAd3d3LkVYQU1QTEUuT1JHAAA=\"},{\"leaf_input\":\"AAAAAAAAAAAACgAAAAAbY2VydGlmaWNhdGUgb2YgZXhhbXBsZS5vcmdzAAA=\"},{\"leaf_input\":\"AAAAAAAAAAAACwAAAAABRAAA\"}],\"start\":0}
+";
+
+const AS_OLD_TEXT: &str =
+    "{\"have\":0,\"tree_size\":3,\"verdict\":\"pending\"}
+{\"entry\":0,\"name\":\"example.org\",\"timestamp\":7,\"type\":\"x509\"}
+{\"entry\":2,\"name\":\"example.org\",\"timestamp\":9,\"type\":\"precert\"}
+{\"tree_size\":3,\"verdict\":\"accepted\"}
+{\"accepted\":{\"sha256_root_hash\":\"dv3rKEarhKJfwvErnuGj1blcq4uE2dJxDJA464QuXLE=\",\"timestamp\":9,\"tree_size\":3},\"all\":{\"size\":3,\"subtrees\":[\"Py/NFubB2mUOAIpXnoymxA6HZtecDWMEQ8n6bwOq56k=\",\"oFjqfYAK/lGj6hkUnsapTE3hV3XTYaK2y1tWfH0XeDI=\"]},\"check\":\"pldDovNNTefQR+F8PGpZYFhkzuyS0PvrhwZury91qMk=\",\"state\":1,\"sure\":{\"size\":3,\"subtrees\":[\"Py/NFubB2mUOAIpXnoymxA6HZtecDWMEQ8n6bwOq56k=\",\"oFjqfYAK/lGj6hkUnsapTE3hV3XTYaK2y1tWfH0XeDI=\"]},\"waiting\":null}
+";
+
+// The leaves before the last are the numbers from 0 on, each in four bytes: 2^20 - 1 of them have 20 perfect subtrees.
+const LONG: &str =
+    "{\"accepted\":{\"sha256_root_hash\":\"WsZf0bwA5ZYDjDYfXhu2XzcxslP3HM8Ol9uYZZLP/dk=\",\"timestamp\":1000,\"tree_size\":1048575},\"all\":{\"size\":1048575,\"subtrees\":[\"ig+0//hnB/r2oKC+Y92fG0/ycvEPCucZ934DVXsJZXU=\",\"6Ee3GZJJsk2tC1Z86YCXeTxUYkEmgxedUJN82nuaFpA=\",\"0xfHl8zQ1J6WNfwWkgxMjBitNPp4uwYn/9XNMgw8Cho=\",\"8rY7gWSYxlRqOxIj2a7CkWDxEmoj9gh2GElmLf0J1sM=\",\"n9nlhucML4Bx3RGUhDCDX5ivK5GNvYuQy53Ew9XztQo=\",\"/IbmxGqOTYZxUcywXKrqtnOaVTVy1+ksQjp+ymfeoP4=\",\"vMySWzawqe5hWC5DTHAQmMs0XEO7hzw7VSR27JC8300=\",\"73ra+Rozz6zVUmEgNCk0dVUT7wYhTAMA1eZDb1nJbV8=\",\"n3ekq5mseBZdNE9Isy/4N0MFzlKOWM++kaGcLkGyvrU=\",\"88o7pTuZzsW/B8OXJ17goRllhtm38EhB/t9WtOl5Yb0=\",\"mKpqIFktVaWcYYOTon+IPbLUsnwC/OlxjgITccG/Rwg=\",\"YL6TVefIminls0Ad4g5ktfSlyuuH+xHBzxUZOPwt6T0=\",\"kmjGHuTCPYz4QbKWDvEkZ+Hgz+YfLW4E0opTpDpanp4=\",\"E9KMCQe6stR/XthuVR4VGeXo3OTIlZyeJrtEnSG+d48=\",\"rgN82lsV2gI8bxbPxHjyH/GAObzgjnAyGbay+3V8b2o=\",\"bDMcQSvpBPmjPb/5mt2VGDEXvmKm7r42j2hz9LfHPUM=\",\"BAWthzbepSZkJeRSfOvG5YHL1JYGbg1vDMo8HSujgzQ=\",\"vGR+J6xErWI+hIYEZhinyVGpNR2UiEAYSoEERQhJvdk=\",\"CVvLIVwMzynowtWXnfdkoUBiNt5aw+TfCmwuUPfpBc4=\",\"9oG63J8rY7M3F5ZBYcKYu9+p1pDMfovs/FqseJumXOI=\"]},\"check\":\"MX0r9Zzq38ucnTRnLuq1BxsXUUoVZr8b9gxekekGGv0=\",\"state\":1,\"sure\":{\"size\":1048575,\"subtrees\":[\"ig+0//hnB/r2oKC+Y92fG0/ycvEPCucZ934DVXsJZXU=\",\"6Ee3GZJJsk2tC1Z86YCXeTxUYkEmgxedUJN82nuaFpA=\",\"0xfHl8zQ1J6WNfwWkgxMjBitNPp4uwYn/9XNMgw8Cho=\",\"8rY7gWSYxlRqOxIj2a7CkWDxEmoj9gh2GElmLf0J1sM=\",\"n9nlhucML4Bx3RGUhDCDX5ivK5GNvYuQy53Ew9XztQo=\",\"/IbmxGqOTYZxUcywXKrqtnOaVTVy1+ksQjp+ymfeoP4=\",\"vMySWzawqe5hWC5DTHAQmMs0XEO7hzw7VSR27JC8300=\",\"73ra+Rozz6zVUmEgNCk0dVUT7wYhTAMA1eZDb1nJbV8=\",\"n3ekq5mseBZdNE9Isy/4N0MFzlKOWM++kaGcLkGyvrU=\",\"88o7pTuZzsW/B8OXJ17goRllhtm38EhB/t9WtOl5Yb0=\",\"mKpqIFktVaWcYYOTon+IPbLUsnwC/OlxjgITccG/Rwg=\",\"YL6TVefIminls0Ad4g5ktfSlyuuH+xHBzxUZOPwt6T0=\",\"kmjGHuTCPYz4QbKWDvEkZ+Hgz+YfLW4E0opTpDpanp4=\",\"E9KMCQe6stR/XthuVR4VGeXo3OTIlZyeJrtEnSG+d48=\",\"rgN82lsV2gI8bxbPxHjyH/GAObzgjnAyGbay+3V8b2o=\",\"bDMcQSvpBPmjPb/5mt2VGDEXvmKm7r42j2hz9LfHPUM=\",\"BAWthzbepSZkJeRSfOvG5YHL1JYGbg1vDMo8HSujgzQ=\",\"vGR+J6xErWI+hIYEZhinyVGpNR2UiEAYSoEERQhJvdk=\",\"CVvLIVwMzynowtWXnfdkoUBiNt5aw+TfCmwuUPfpBc4=\",\"9oG63J8rY7M3F5ZBYcKYu9+p1pDMfovs/FqseJumXOI=\"]},\"waiting\":null}
+{\"sha256_root_hash\":\"yDW98btgoYkTTBnSHq2cJrfhkIlfrTvg1ZvJd8SPBSA=\",\"timestamp\":2000,\"tree_size\":1048576}
+{\"entries\":[{\"leaf_input\":\"AAAAAAAAAAAACwAAAAABRAAA\"}],\"start\":1048575}
+";
+
+const LONG_TEXT: &str =
+    "{\"have\":1048575,\"tree_size\":1048576,\"verdict\":\"pending\"}
+{\"tree_size\":1048576,\"verdict\":\"accepted\"}
+{\"accepted\":{\"sha256_root_hash\":\"yDW98btgoYkTTBnSHq2cJrfhkIlfrTvg1ZvJd8SPBSA=\",\"timestamp\":2000,\"tree_size\":1048576},\"all\":{\"size\":1048576,\"subtrees\":[\"yDW98btgoYkTTBnSHq2cJrfhkIlfrTvg1ZvJd8SPBSA=\"]},\"check\":\"0TiqabaWvj5qaNC9tMv2m5BIK+yB6Zg1D27ySIvz5qk=\",\"state\":1,\"sure\":{\"size\":1048576,\"subtrees\":[\"yDW98btgoYkTTBnSHq2cJrfhkIlfrTvg1ZvJd8SPBSA=\"]},\"waiting\":null}
+";
+
 const EMPTY_HEAD: &str =
     "{\"sha256_root_hash\":\"47DEQpj8HBSa+/TImW+5JCeuQeRkm5NMpJWZG3hSuFU=\",\"timestamp\":7,\"tree_size\":0}";
 
@@ -177,6 +233,10 @@ fn runs(rt: HostRuntime) -> Result<(), Fail> {
         (DAMAGED, DAMAGED_TEXT, 4),
         (MISPLACED, MISPLACED_TEXT, 4),
         (BAD_START, BAD_START_TEXT, 4),
+        (LONG, LONG_TEXT, 0),
+        (EARLIER, EARLIER_TEXT, 3),
+        (OLDER, OLDER_TEXT, 3),
+        (AS_OLD, AS_OLD_TEXT, 0),
     ] {
         assert!(rt; writes(rt.alloc(), input, text, status)?);
     }

@@ -4,6 +4,8 @@
 #[cfg(test)]
 mod evidence;
 #[cfg(test)]
+mod fault_texts;
+#[cfg(test)]
 mod forged_proofs;
 #[cfg(test)]
 mod guard;

@@ -392,6 +392,23 @@ all (3, true)";
     assert!(rt; watched(&rt, rows) == 9);
 }
 
+// A larger head is later than the known ones, the accepted and the waiting one. The roots are those of the test before.
+#[test]
+fn a_larger_head_is_later(rt: HostRuntime) {
+    let rows = "\
+head 3 7 ABC (Pending, false)
+entries 0 ABC (Accepted, false)
+head 4 7 ABCD (TimeNotLater(Head { tree_size: 3, timestamp: 7, root: [150, 29, 46, 43, 226, 15, 83, 143, 253, 245, 105, 98, 168, 109, 27, 209, 101, 73, 143, 34, 38, 132, 238, 76, 94, 2, 193, 233, 248, 82, 173, 197] }), true)
+head 4 6 ABCD (TimeNotLater(Head { tree_size: 3, timestamp: 7, root: [150, 29, 46, 43, 226, 15, 83, 143, 253, 245, 105, 98, 168, 109, 27, 209, 101, 73, 143, 34, 38, 132, 238, 76, 94, 2, 193, 233, 248, 82, 173, 197] }), true)
+head 4 8 ABCD (Pending, false)
+head 5 8 ABCDE (TimeNotLater(Head { tree_size: 4, timestamp: 8, root: [92, 141, 198, 23, 210, 135, 164, 41, 126, 178, 188, 184, 27, 55, 100, 75, 81, 56, 229, 122, 212, 97, 198, 87, 219, 21, 33, 9, 227, 252, 159, 202] }), true)
+head 5 7 ABCDE (TimeNotLater(Head { tree_size: 3, timestamp: 7, root: [150, 29, 46, 43, 226, 15, 83, 143, 253, 245, 105, 98, 168, 109, 27, 209, 101, 73, 143, 34, 38, 132, 238, 76, 94, 2, 193, 233, 248, 82, 173, 197] }), true)
+head 5 9 ABCDE (Pending, false)
+entries 3 DE (Accepted, false)
+accepted 4 8 ABCD (true, true)";
+    assert!(rt; watched(&rt, rows) == 10);
+}
+
 // So many leaves, from a number on: each is its number in four bytes.
 fn numbered_leaves(alloc: Global, first: u64, count: u64) -> Result<Vec<Vec<u8>>, AllocError> {
     let mut leaves = Vec::new(alloc);

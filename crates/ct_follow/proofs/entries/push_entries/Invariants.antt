@@ -6,6 +6,6 @@ use Rattle.ct_follow.proofs.entries.push_entries.Given as goal
 abbrev pub invariant-loop-leaf : goal.invariant-loop-leaf
 invariant-loop-leaf l = record {
   place : l.index ≡ l.first + l.leaf-index;
-  told : IsTold (map string_bytes l.names) l.first l.index (map (λ v. v.items) l.leaves) (map (λ v. v.items) (drop l.leaf-index l.leaves))
-      l.fn.text.items l.text.items;
+  told : IsTold (map string_bytes l.names) l.moment l.first l.index (map (λ v. v.items) l.leaves) (map (λ v. v.items) (drop l.leaf-index l.leaves))
+      l.fn.text.items l.text.items l.older;
 }

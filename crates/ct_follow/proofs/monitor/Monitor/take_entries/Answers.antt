@@ -2,7 +2,7 @@ use Rattle.std.proofs.Common.{◌≡◌, ◌∙◌, ◌-◌, ℕ, List, Vec, Glo
 use Rattle.std.specs.Prelude.{string_bytes}
 use Rattle.ct_watch.proofs.Steps.{as_far_as}
 use Rattle.ct_follow.specs.EntryText.{ReadTexts}
-use Rattle.ct_follow.specs.Session.{leaves_taken}
+use Rattle.ct_follow.specs.Session.{leaves_taken, moment_of}
 use Rattle.ct_follow.specs.VerdictText.{wanted_size}
 use Rattle.ct_follow.proofs.monitor.Monitor.take_entries.Goals as goal
 
@@ -19,9 +19,13 @@ returns-clause-lists c =
     let taken : map bytes (take n leaves) ≡ leaves_taken s (map bytes leaves) =
     as_far_as leaves n (wanted_size s - s.all.0) c.leaves_wanted-count.ensures.as_far in
     let first : c.size-first.result ≡ s.all.0 = c.size-first.ensures ∙ ap (λ p. p.0) c.all.ensures in
-    let lists = c.in_ok-push_read.ensures in (
+    let older = c.in_ok-older.older in
+    let lists = c.in_ok-older.ensures in
+    let here = subst (λ (m : ℕ). ReadTexts names m v c.size-first.result (map bytes (take n leaves)) older lists.0) c.waiting_moment-moment.ensures lists.1 in (
+      older,
       lists.0,
-      subst (λ (E : List (List ℕ)). ReadTexts names v s.all.0 E lists.0) taken
-          (subst (λ (i : ℕ). ReadTexts names v i (map bytes (take n leaves)) lists.0) first lists.1),
+      subst (λ (E : List (List ℕ)). ReadTexts names (moment_of s.waiting) v s.all.0 E older lists.0) taken
+          (subst (λ (i : ℕ). ReadTexts names (moment_of s.waiting) v i (map bytes (take n leaves)) older lists.0) first here),
       lists.2,
+      c.either-self.ensures,
     )

@@ -16,15 +16,16 @@ returns c =
     gives_some (map string_bytes c.args.names.now) c.args.self.now c.args.line.now step c.is_empty.result c.is_empty.ensures c.if-is_empty.false (record {
       answer = answer_read c.in_ok-answer.answer;
       outcome = o;
-      entries = lists.0;
+      entries = lists.1;
+      older = lists.0;
       noted = refl;
       reads = c.in_ok-answer.ensures;
       says = subst (λ (s : WatcherState). StateSays c.args.self.now.watcher (answer_read c.in_ok-answer.answer) o s) (sym c.note.ensures.watcher)
           c.in_ok-outcome.ensures.says;
-      lists = lists.1;
+      lists = lists.2;
       written = c.in_ok-push_outcome.ensures ∙ ap (λ (t : List ℕ). t ++ line_of (outcome_data c.note.new.self.watcher o))
-          (lists.2 ∙ ap (λ (t : List ℕ). t ++ lists.0) c.new-text.ensures.items);
-      alarm = c.note.ensures.alarm ∙ ap (λ (b : Bool). b || is_alarm o) c.in_ok-outcome.ensures.alarm;
+          (lists.3 ∙ ap (λ (t : List ℕ). t ++ lists.1) c.new-text.ensures.items);
+      alarm = c.note.ensures.alarm ∙ ap (λ (b : Bool). b || is_alarm o) lists.4;
       bad = c.note.ensures.bad ∙ ap (λ (b : Bool). b || is_bad o) c.in_ok-outcome.ensures.bad;
     })
 
