@@ -1,5 +1,5 @@
 #!/usr/bin/env bash
-# Looks through the Go part and tests it: test.sh, in under a minute and without engines; test.sh engines, with those that are
+# Looks through the Go part and tests it: test.sh, without engines, in seconds once it was built; test.sh engines, with those that are
 # installed, in some minutes. Where Go or one of its packages isn't installed, it says so in one line, and ends well.
 set -eu
 cd "$(dirname "$0")"

@@ -230,3 +230,17 @@ func TestRealPrecertificates(t *testing.T) {
 		}
 	}
 }
+
+func BenchmarkRealPrecertificate(b *testing.B) {
+	line := realPrecertificates(b)[0]
+	roots, err := ParseRoots(inPEM(line.Chain[1]))
+	if err != nil {
+		b.Fatal(err)
+	}
+	c := NewChecker(roots, Window{})
+	for i := 0; i < b.N; i++ {
+		if _, err := c.Precertificate(line.Chain); err != nil {
+			b.Fatal(err)
+		}
+	}
+}
