@@ -1,9 +1,8 @@
 -- Heads whose bytes were given, over many runs.
-use Rattle.std.proofs.Common.{◌≡◌, ◌∙◌, ◌⊎◌, ◌==◌, ℕ, List, [], ◌∷◌, ◌++◌, length, map, Bool, true, false, if◌then◌else◌, Option, Some, None, All, sym, refl, ap, subst, inl, inr, codes}
+use Rattle.std.proofs.Common.{◌≡◌, ◌∙◌, ◌==◌, ℕ, List, [], ◌∷◌, ◌++◌, length, map, Bool, true, false, if◌then◌else◌, Option, Some, None, All, sym, refl, ap, subst, inl, inr, codes}
 use Rattle.std.proofs.lemmas.Bool.{eqb-true}
 use Rattle.std.proofs.lemmas.List.{append_assoc}
 use Rattle.std.proofs.lemmas.List.Elements.{All-nil, All-cons, All-head, All-tail}
-use Rattle.std.proofs.lemmas.Option.{same_Some, none-some}
 use Rattle.std.specs.Prelude.{⊤, option_map, option_and_then}
 use Rattle.std.specs.Io.BufRead.{first_piece, drop_through}
 use Rattle.serde_json.specs.Data.{Data, Items, no_items, item}
@@ -11,16 +10,16 @@ use Rattle.serde_json.specs.Find.{get, as_array}
 use Rattle.sha2.specs.Sha256.{sha256}
 use Rattle.sha2.proofs.Facts256.{length-sha256}
 use Rattle.ct_guard.specs.Guarded.{PassesHead}
-use Rattle.ct_guard.specs.History.{Passed, ArePassed, AreBeginnings}
+use Rattle.ct_guard.specs.History.{Passed, ArePassed}
 use Rattle.ct_guard.specs.declared.refusal.ReceiptRefusal.TheVariants.{NoHead, NoLeaf, NotThere}
 use Rattle.ct_guard.proofs.History.{passed_heads_agree}
 use Rattle.ct_lines.specs.Fields.{hash_of, hash_in, bytes_in, each_item, hashes_of_items, hashes_at}
 use Rattle.ct_monitor.specs.Heads.{IsHeadOfAll}
 use Rattle.ct_tree.specs.declared.head.Head.{Head}
-use Rattle.ct_verify.specs.Laws.{AreHashes, SomeCollide}
-use Rattle.ct_guard_lines.specs.Asks.{Ask, for_head, for_receipt, for_promise, for_nothing, head_ask, receipt_ask, promise_ask, leaf_ask, ask_or_nothing, ask_or, no_state_or, ask_in, Requests}
+use Rattle.ct_verify.specs.Laws.{AreHashes}
+use Rattle.ct_guard_lines.specs.Asks.{Ask, for_head, for_receipt, for_promise, for_nothing, head_ask, leaf_ask, ask_or_nothing, ask_or, no_state_or, ask_in, Requests}
 use Rattle.ct_guard_lines.specs.Given.{AskComes}
-use Rattle.ct_guard_lines.specs.GuardSession.{GuardOptions, GuardStep, Replies, StepsLine, GuardsLines, StartsAt, GuardRun, IsGuardState, last_head}
+use Rattle.ct_guard_lines.specs.GuardSession.{GuardOptions, GuardStep, StepsLine, GuardsLines, StartsAt, GuardRun, IsGuardState, last_head}
 use Rattle.ct_guard_lines.specs.GuardHistory.{RunMade, TakeUp, given_head, given_heads, all_given, GivenHeadsAgree}
 use Rattle.ct_guard_lines.specs.GuardState.{guard_state_text, IsLastValue, head_fields}
 use Rattle.ct_guard_lines.specs.declared.guarding.Guarding.{Guarding}

@@ -1,6 +1,5 @@
 -- Taking the lines of an input, one after the other.
 use Rattle.std.proofs.Common.{◌≡◌, ◌∙◌, ◌<◌, ◌++◌, ℕ, List, [], ◌∷◌, length, Bool, true, false, if◌then◌else◌, Option, Some, None, sym, refl, ap, subst, inl, inr}
-use Rattle.std.proofs.Common.{arith}
 use Rattle.std.proofs.lemmas.List.{append_assoc}
 use Rattle.std.proofs.lemmas.Option.{same_Some, none-some}
 use Rattle.std.specs.Prelude.{IfSome, IfOk, OnOk, Result, Ok, Err}
@@ -8,7 +7,7 @@ use Rattle.std.specs.Io.BufRead.{drop_through, first_piece}
 use Rattle.std.specs.Io.KnownBytes.{Appends}
 use Rattle.std.proofs.KnownBytes.{Appends-nil, Appends-trans}
 use Rattle.ct_guard_lines.specs.GuardSession.{GuardOptions, GuardStep, GuardsLine, GuardsFirst, GuardsLines, GuardsAll, GetsLine, OneGuarded, IsGuarded, IsAllGuarded}
-use Rattle.ct_guard_lines.specs.GuardSession.{GuardRun, IsGuardRun, IsGuardStatus, guard_status, last_head, IsNoState}
+use Rattle.ct_guard_lines.specs.GuardSession.{IsGuardRun, IsGuardStatus, guard_status, last_head, IsNoState}
 use Rattle.ct_guard_lines.specs.GuardState.{guard_state_text, IsLastValue}
 use Rattle.ct_guard_lines.specs.declared.guarding.Guarding.{Guarding}
 use Rattle.ct_guard_lines.proofs.Kept.{line_kept, first_kept}

@@ -1,12 +1,12 @@
 -- A line of which a beginning is kept gives what that beginning gives.
-use Rattle.std.proofs.Common.{◌≡◌, ◌∙◌, ◌<◌, ◌≤◌, ℕ, List, [], ◌∷◌, length, Bool, true, false, sym, refl, ap, subst, arith, inl, inr, Some, None, Option}
+use Rattle.std.proofs.Common.{◌≡◌, ◌∙◌, ◌<◌, ℕ, List, [], ◌∷◌, length, Bool, true, false, sym, refl, ap, subst, arith, inl, inr, Some, None, Option}
 use Rattle.std.proofs.lemmas.Bool.{eqb-true}
 use Rattle.std.specs.Prelude.{◌==◌}
 use Rattle.std.specs.Io.BufRead.{drop_through, first_piece}
 use Rattle.ct_pipes.specs.Lines.{kept_line, IsNextLine}
 use Rattle.ct_pipes.proofs.Pieces.{whole_or_long}
 use Rattle.ct_guard_lines.specs.Asks.{Ask, Requests}
-use Rattle.ct_guard_lines.specs.GuardSession.{GuardOptions, GuardStep, Replies, StepsLine, GuardsLine, GuardsFirst, KeepsLine, GetsLine, IsNoState, IsGuardState}
+use Rattle.ct_guard_lines.specs.GuardSession.{GuardOptions, GuardStep, Replies, StepsLine, GuardsLine, GuardsFirst, KeepsLine, GetsLine, IsNoState}
 use Rattle.ct_guard_lines.specs.declared.guarding.Guarding.{Guarding}
 use Rattle.ct_guard_lines.specs.declared.settings.Receipts.{Receipts}
 use Rattle.ct_guard_lines.proofs.Short.{state_short}

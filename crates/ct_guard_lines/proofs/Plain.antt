@@ -1,5 +1,5 @@
 -- A state's line is UTF-8.
-use Rattle.std.proofs.Common.{◌≡◌, ◌<◌, ◌^◌, ℕ, Bool, true, false, refl, arith, List, [], ◌∷◌, ◌++◌, IsUtf8, decimal, Some, None, Option, codes}
+use Rattle.std.proofs.Common.{◌<◌, ◌^◌, ℕ, Bool, true, false, refl, arith, List, [], ◌∷◌, ◌++◌, IsUtf8, decimal, Some, None, Option, codes}
 use Rattle.std.proofs.lemmas.Fmt.{IsAscii-decimal}
 use Rattle.std.proofs.lemmas.Str.{IsUtf8-append, IsUtf8-nil, IsUtf8-from_ascii}
 use Rattle.base64.specs.Engines.{standard}

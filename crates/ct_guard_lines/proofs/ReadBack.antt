@@ -1,5 +1,5 @@
 -- A state's line is read back as that state.
-use Rattle.std.proofs.Common.{◌≡◌, ◌≢◌, ◌∙◌, ◌<◌, ◌≤◌, ◌^◌, ℕ, refl, sym, ap, subst, inl, inr, arith, IsUtf8, List, [], ◌∷◌, ◌++◌, length, append-nil, eq-eqb, Some, None, Option}
+use Rattle.std.proofs.Common.{◌≡◌, ◌≢◌, ◌∙◌, ◌<◌, ◌≤◌, ◌^◌, ℕ, refl, sym, ap, subst, inl, inr, arith, IsUtf8, List, [], ◌++◌, length, append-nil, eq-eqb, Some, None, Option}
 use Rattle.std.proofs.lemmas.Option.{same_Some, none-some}
 use Rattle.std.specs.Prelude.{option_and_then, Result, Ok, Err, MatchResult, IfOk}
 use Rattle.std.specs.Result.{result_ok}
@@ -22,7 +22,7 @@ use Rattle.ct_lines.specs.ReplyText.{base64_text}
 use Rattle.ct_tree.specs.declared.head.Head.{Head}
 use Rattle.ct_guard_lines.proofs.Plain.{state_plain}
 use Rattle.ct_guard_lines.specs.GuardSession.{IsGuardState, IsNoState}
-use Rattle.ct_guard_lines.specs.GuardState.{StateReadBack, StatesDiffer, IsHeadValue, IsLastValue, last_of_line, last_of_state, ReadsLast, guard_state_data, guard_state_text}
+use Rattle.ct_guard_lines.specs.GuardState.{StateReadBack, StatesDiffer, IsHeadValue, last_of_line, last_of_state, ReadsLast, guard_state_data, guard_state_text}
 
 -- ---- a text without floats is read back
 

@@ -1,14 +1,14 @@
 -- A state's line is no longer than a line may be.
-use Rattle.std.proofs.Common.{◌≡◌, ◌∙◌, ◌<◌, ◌≤◌, ◌+◌, ◌*◌, ◌^◌, ◌/◌, ◌%◌, nat_lt, ℕ, Bool, true, false, cond, refl, sym, ap, arith, List, [], ◌∷◌, ◌++◌, length, length-append, decimal, Some, None, Option, codes}
+use Rattle.std.proofs.Common.{◌≡◌, ◌<◌, ◌≤◌, ◌+◌, ◌*◌, ◌^◌, ◌/◌, ◌%◌, nat_lt, ℕ, Bool, true, false, cond, arith, List, [], ◌∷◌, ◌++◌, length, length-append, Some, None, Option, codes}
 use Rattle.std.proofs.lemmas.Fmt.{length-decimal-le}
 use Rattle.std.proofs.lemmas.List.{length-replicate}
-use Rattle.std.specs.Prelude.{flat_map, replicate}
+use Rattle.std.specs.Prelude.{replicate}
 use Rattle.std.specs.Char.{digit_char}
 use Rattle.base64.specs.Engines.{standard}
 use Rattle.base64.specs.GeneralPurpose.{engine_symbols}
 use Rattle.base64.specs.Rfc4648.{encode_symbols, padding_len}
 use Rattle.json.specs.Print.{escape, escape_byte, escape_letter, quoted}
-use Rattle.serde_json.specs.Data.{Data, null, object, Members, no_members, member}
+use Rattle.serde_json.specs.Data.{Data, Members, no_members, member}
 use Rattle.serde_json.specs.Written.{compact_text, members_text, comma_if}
 use Rattle.ct_lines.specs.ReplyText.{base64_text, bytes_data, number_data}
 use Rattle.ct_tree.specs.declared.head.Head.{Head}

@@ -1,5 +1,5 @@
 -- How the words of the command line are read, one after the other.
-use Rattle.std.proofs.Common.{◌≡◌, ◌∙◌, ap, sym, ℕ, List, [], ◌∷◌}
+use Rattle.std.proofs.Common.{◌≡◌, ◌∙◌, ap, sym, ℕ, List, ◌∷◌}
 use Rattle.ct_guard_lines.specs.GuardSession.{GuardOptions}
 use Rattle.ct_guard_lines.specs.GuardWords.{GuardCall, guard_call, guard_call_made, behind_word, ReadsWord}
 use Rattle.ct_guard_lines.specs.declared.command.Awaited.{Awaited}

@@ -1,6 +1,6 @@
 -- What the words of ctguard's command line ask for, the program's name left out: `[--origin TEXT] [--receipts in-head|promised]`, or help,
 -- or the version.
-use Rattle.std.specs.Prelude.{◌≡◌, ℕ, List, [], ◌∷◌, Bool, true, false, not, ◌&&◌, ◌==◌, nat_eq, length, Option, Some, None, if◌then◌else◌, codes, bytes_eq}
+use Rattle.std.specs.Prelude.{◌≡◌, ℕ, List, [], ◌∷◌, Bool, not, ◌&&◌, ◌==◌, nat_eq, length, Option, Some, None, if◌then◌else◌, codes, bytes_eq}
 use Rattle.std.specs.List.{list_any}
 use Rattle.std.specs.Io.KnownBytes.{Appends}
 use Rattle.ct_lines.specs.Sends.{SendsSome}

@@ -5,7 +5,8 @@ use std::io;
 use std::io::{BufReader, ErrorKind, Read, Write};
 use std::test::Fail;
 
-const GROWS: &str = "{\"consistency\":[],\"sha256_root_hash\":\"tC/H6/wngKBZT+R1LE6M9CmYJyFREld3ZJUnHyM+Mao=\",\"timestamp\":1000,\"tree_size\":3}
+const GROWS: &str =
+    "{\"consistency\":[],\"sha256_root_hash\":\"tC/H6/wngKBZT+R1LE6M9CmYJyFREld3ZJUnHyM+Mao=\",\"timestamp\":1000,\"tree_size\":3}
 {\"consistency\":[],\"sha256_root_hash\":\"tC/H6/wngKBZT+R1LE6M9CmYJyFREld3ZJUnHyM+Mao=\",\"timestamp\":1000,\"tree_size\":3}
 {\"audit_path\":[\"ICTSyBj4WUTC5AcFQqweauD2frL1HZEjEp+S9EMMDBI=\"],\"leaf_index\":2,\"leaf_input\":\"AAAAAAAAAAAACQABAAAAAAAAAAAAAAAAAAAAAAAAAAAAAAAAAAAAAAAAAAAAAANERUYAAA==\"}
 {\"audit_path\":[\"G4v/RJyXOCuDizhm/Efa15/HuIiR7l92+pKY/RnKIa8=\",\"WLkJ1EMlnhas/il9fn13m8ePmiHCzRDLcQENWyi98tg=\"],\"leaf_index\":0,\"leaf_input\":\"AAAAAAAAAAAABwAAAAABQQAA\"}
@@ -15,7 +16,8 @@ const GROWS: &str = "{\"consistency\":[],\"sha256_root_hash\":\"tC/H6/wngKBZT+R1
 {\"consistency\":[\"7yJYS/QYboh+K6ENtg51g8NH8ZYaVsbfwYqteF9m4jE=\",\"/5/bu9L6hCbB5MRU+Vs/mGjZVnPSvrn5wzMO1Kp9Sog=\",\"1hDItcfCD64oPq6A6IpZbVKsrf+dhf6AfqaYb0ftB6g=\",\"KvhQ5T2VCGlB+8g95YvHFQA+SHydXPy1vVsIWdVUI00=\",\"nKCKZ7sB0pdowuRpeDlPuGfQ6Ng+2atm2rEgAod9h7o=\"],\"sha256_root_hash\":\"du7qhEIOEAlx4PW0CquqrFCQdYGOPWhEpj2aF749hls=\",\"timestamp\":2000,\"tree_size\":9}
 ";
 
-const GROWS_TEXT: &str = "{\"sign\":\"AAEAAAAAAAAD6AAAAAAAAAADtC/H6/wngKBZT+R1LE6M9CmYJyFREld3ZJUnHyM+Mao=\",\"state\":{\"guard\":1,\"last\":{\"sha256_root_hash\":\"tC/H6/wngKBZT+R1LE6M9CmYJyFREld3ZJUnHyM+Mao=\",\"timestamp\":1000,\"tree_size\":3}}}
+const GROWS_TEXT: &str =
+    "{\"sign\":\"AAEAAAAAAAAD6AAAAAAAAAADtC/H6/wngKBZT+R1LE6M9CmYJyFREld3ZJUnHyM+Mao=\",\"state\":{\"guard\":1,\"last\":{\"sha256_root_hash\":\"tC/H6/wngKBZT+R1LE6M9CmYJyFREld3ZJUnHyM+Mao=\",\"timestamp\":1000,\"tree_size\":3}}}
 {\"sign\":\"AAEAAAAAAAAD6AAAAAAAAAADtC/H6/wngKBZT+R1LE6M9CmYJyFREld3ZJUnHyM+Mao=\",\"state\":{\"guard\":1,\"last\":{\"sha256_root_hash\":\"tC/H6/wngKBZT+R1LE6M9CmYJyFREld3ZJUnHyM+Mao=\",\"timestamp\":1000,\"tree_size\":3}}}
 {\"sign\":\"AAAAAAAAAAAACQABAAAAAAAAAAAAAAAAAAAAAAAAAAAAAAAAAAAAAAAAAAAAAANERUYAAA==\"}
 {\"sign\":\"AAAAAAAAAAAABwAAAAABQQAA\"}
@@ -26,20 +28,23 @@ const GROWS_TEXT: &str = "{\"sign\":\"AAEAAAAAAAAD6AAAAAAAAAADtC/H6/wngKBZT+R1LE
 {\"guard\":1,\"last\":{\"sha256_root_hash\":\"du7qhEIOEAlx4PW0CquqrFCQdYGOPWhEpj2aF749hls=\",\"timestamp\":2000,\"tree_size\":9}}
 ";
 
-const FIRST_MOMENT: &str = "{\"consistency\":[],\"sha256_root_hash\":\"47DEQpj8HBSa+/TImW+5JCeuQeRkm5NMpJWZG3hSuFU=\",\"timestamp\":0,\"tree_size\":0}
+const FIRST_MOMENT: &str =
+    "{\"consistency\":[],\"sha256_root_hash\":\"47DEQpj8HBSa+/TImW+5JCeuQeRkm5NMpJWZG3hSuFU=\",\"timestamp\":0,\"tree_size\":0}
 {\"consistency\":[],\"sha256_root_hash\":\"47DEQpj8HBSa+/TImW+5JCeuQeRkm5NMpJWZG3hSuFU=\",\"timestamp\":1,\"tree_size\":0}
 {\"consistency\":[],\"sha256_root_hash\":\"KvhQ5T2VCGlB+8g95YvHFQA+SHydXPy1vVsIWdVUI00=\",\"timestamp\":2,\"tree_size\":4}
 {\"consistency\":[\"1ceKgGTFOd69yRn7+sk+4wWqx12bgK0s+gsmUrfGxN0=\",\"nKCKZ7sB0pdowuRpeDlPuGfQ6Ng+2atm2rEgAod9h7o=\"],\"sha256_root_hash\":\"du7qhEIOEAlx4PW0CquqrFCQdYGOPWhEpj2aF749hls=\",\"timestamp\":18446744073709551615,\"tree_size\":9}
 ";
 
-const FIRST_MOMENT_TEXT: &str = "{\"sign\":\"AAEAAAAAAAAAAAAAAAAAAAAA47DEQpj8HBSa+/TImW+5JCeuQeRkm5NMpJWZG3hSuFU=\",\"state\":{\"guard\":1,\"last\":{\"sha256_root_hash\":\"47DEQpj8HBSa+/TImW+5JCeuQeRkm5NMpJWZG3hSuFU=\",\"timestamp\":0,\"tree_size\":0}}}
+const FIRST_MOMENT_TEXT: &str =
+    "{\"sign\":\"AAEAAAAAAAAAAAAAAAAAAAAA47DEQpj8HBSa+/TImW+5JCeuQeRkm5NMpJWZG3hSuFU=\",\"state\":{\"guard\":1,\"last\":{\"sha256_root_hash\":\"47DEQpj8HBSa+/TImW+5JCeuQeRkm5NMpJWZG3hSuFU=\",\"timestamp\":0,\"tree_size\":0}}}
 {\"sign\":\"AAEAAAAAAAAAAQAAAAAAAAAA47DEQpj8HBSa+/TImW+5JCeuQeRkm5NMpJWZG3hSuFU=\",\"state\":{\"guard\":1,\"last\":{\"sha256_root_hash\":\"47DEQpj8HBSa+/TImW+5JCeuQeRkm5NMpJWZG3hSuFU=\",\"timestamp\":1,\"tree_size\":0}}}
 {\"sign\":\"AAEAAAAAAAAAAgAAAAAAAAAEKvhQ5T2VCGlB+8g95YvHFQA+SHydXPy1vVsIWdVUI00=\",\"state\":{\"guard\":1,\"last\":{\"sha256_root_hash\":\"KvhQ5T2VCGlB+8g95YvHFQA+SHydXPy1vVsIWdVUI00=\",\"timestamp\":2,\"tree_size\":4}}}
 {\"sign\":\"AAH//////////wAAAAAAAAAJdu7qhEIOEAlx4PW0CquqrFCQdYGOPWhEpj2aF749hls=\",\"state\":{\"guard\":1,\"last\":{\"sha256_root_hash\":\"du7qhEIOEAlx4PW0CquqrFCQdYGOPWhEpj2aF749hls=\",\"timestamp\":18446744073709551615,\"tree_size\":9}}}
 {\"guard\":1,\"last\":{\"sha256_root_hash\":\"du7qhEIOEAlx4PW0CquqrFCQdYGOPWhEpj2aF749hls=\",\"timestamp\":18446744073709551615,\"tree_size\":9}}
 ";
 
-const REFUSALS: &str = "{\"audit_path\":[\"G4v/RJyXOCuDizhm/Efa15/HuIiR7l92+pKY/RnKIa8=\",\"WLkJ1EMlnhas/il9fn13m8ePmiHCzRDLcQENWyi98tg=\"],\"leaf_index\":0,\"leaf_input\":\"AAAAAAAAAAAABwAAAAABQQAA\"}
+const REFUSALS: &str =
+    "{\"audit_path\":[\"G4v/RJyXOCuDizhm/Efa15/HuIiR7l92+pKY/RnKIa8=\",\"WLkJ1EMlnhas/il9fn13m8ePmiHCzRDLcQENWyi98tg=\"],\"leaf_index\":0,\"leaf_input\":\"AAAAAAAAAAAABwAAAAABQQAA\"}
 {\"consistency\":[],\"sha256_root_hash\":\"tC/H6/wngKBZT+R1LE6M9CmYJyFREld3ZJUnHyM+Mao=\",\"timestamp\":1000,\"tree_size\":3}
 {\"consistency\":[],\"sha256_root_hash\":\"ICTSyBj4WUTC5AcFQqweauD2frL1HZEjEp+S9EMMDBI=\",\"timestamp\":2000,\"tree_size\":2}
 {\"consistency\":[\"WLkJ1EMlnhas/il9fn13m8ePmiHCzRDLcQENWyi98tg=\",\"kJ7lVU9Uv4QMRjHA0xrLeOY5J+pwDGg8ul1aXGm+u1I=\",\"ICTSyBj4WUTC5AcFQqweauD2frL1HZEjEp+S9EMMDBI=\",\"7yJYS/QYboh+K6ENtg51g8NH8ZYaVsbfwYqteF9m4jE=\"],\"sha256_root_hash\":\"LW4H9OJXMvRh4el4Z1azUPNn4JuV2havF4zTozlYYlM=\",\"timestamp\":1000,\"tree_size\":5}
@@ -121,21 +126,24 @@ const BAD_LINES_TEXT: &str = "{\"refused\":\"bad-line\"}
 {\"guard\":1,\"last\":{\"sha256_root_hash\":\"tC/H6/wngKBZT+R1LE6M9CmYJyFREld3ZJUnHyM+Mao=\",\"timestamp\":1000,\"tree_size\":3}}
 ";
 
-const TAKEN_UP: &str = "{\"guard\":1,\"last\":{\"sha256_root_hash\":\"LW4H9OJXMvRh4el4Z1azUPNn4JuV2havF4zTozlYYlM=\",\"timestamp\":1002,\"tree_size\":5}}
+const TAKEN_UP: &str =
+    "{\"guard\":1,\"last\":{\"sha256_root_hash\":\"LW4H9OJXMvRh4el4Z1azUPNn4JuV2havF4zTozlYYlM=\",\"timestamp\":1002,\"tree_size\":5}}
 {\"consistency\":[],\"sha256_root_hash\":\"LW4H9OJXMvRh4el4Z1azUPNn4JuV2havF4zTozlYYlM=\",\"timestamp\":1002,\"tree_size\":5}
 {\"audit_path\":[\"KvhQ5T2VCGlB+8g95YvHFQA+SHydXPy1vVsIWdVUI00=\"],\"leaf_index\":4,\"leaf_input\":\"AAAAAAAAAAAACwAAAAADSElKAAA=\"}
 {\"consistency\":[\"7yJYS/QYboh+K6ENtg51g8NH8ZYaVsbfwYqteF9m4jE=\",\"/5/bu9L6hCbB5MRU+Vs/mGjZVnPSvrn5wzMO1Kp9Sog=\",\"1hDItcfCD64oPq6A6IpZbVKsrf+dhf6AfqaYb0ftB6g=\",\"KvhQ5T2VCGlB+8g95YvHFQA+SHydXPy1vVsIWdVUI00=\",\"nKCKZ7sB0pdowuRpeDlPuGfQ6Ng+2atm2rEgAod9h7o=\"],\"sha256_root_hash\":\"du7qhEIOEAlx4PW0CquqrFCQdYGOPWhEpj2aF749hls=\",\"timestamp\":2000,\"tree_size\":9}
 {\"consistency\":[],\"sha256_root_hash\":\"du7qhEIOEAlx4PW0CquqrFCQdYGOPWhEpj2aF749hls=\",\"timestamp\":1500,\"tree_size\":9}
 ";
 
-const TAKEN_UP_TEXT: &str = "{\"checkpoint\":\"log.example/2026\\n5\\nLW4H9OJXMvRh4el4Z1azUPNn4JuV2havF4zTozlYYlM=\\n\",\"sign\":\"AAEAAAAAAAAD6gAAAAAAAAAFLW4H9OJXMvRh4el4Z1azUPNn4JuV2havF4zTozlYYlM=\",\"state\":{\"guard\":1,\"last\":{\"sha256_root_hash\":\"LW4H9OJXMvRh4el4Z1azUPNn4JuV2havF4zTozlYYlM=\",\"timestamp\":1002,\"tree_size\":5}}}
+const TAKEN_UP_TEXT: &str =
+    "{\"checkpoint\":\"log.example/2026\\n5\\nLW4H9OJXMvRh4el4Z1azUPNn4JuV2havF4zTozlYYlM=\\n\",\"sign\":\"AAEAAAAAAAAD6gAAAAAAAAAFLW4H9OJXMvRh4el4Z1azUPNn4JuV2havF4zTozlYYlM=\",\"state\":{\"guard\":1,\"last\":{\"sha256_root_hash\":\"LW4H9OJXMvRh4el4Z1azUPNn4JuV2havF4zTozlYYlM=\",\"timestamp\":1002,\"tree_size\":5}}}
 {\"sign\":\"AAAAAAAAAAAACwAAAAADSElKAAA=\"}
 {\"checkpoint\":\"log.example/2026\\n9\\ndu7qhEIOEAlx4PW0CquqrFCQdYGOPWhEpj2aF749hls=\\n\",\"sign\":\"AAEAAAAAAAAH0AAAAAAAAAAJdu7qhEIOEAlx4PW0CquqrFCQdYGOPWhEpj2aF749hls=\",\"state\":{\"guard\":1,\"last\":{\"sha256_root_hash\":\"du7qhEIOEAlx4PW0CquqrFCQdYGOPWhEpj2aF749hls=\",\"timestamp\":2000,\"tree_size\":9}}}
 {\"refused\":\"moment-not-later\"}
 {\"guard\":1,\"last\":{\"sha256_root_hash\":\"du7qhEIOEAlx4PW0CquqrFCQdYGOPWhEpj2aF749hls=\",\"timestamp\":2000,\"tree_size\":9}}
 ";
 
-const DAMAGED: &str = "{\"guard\":1,\"last\":{\"sha256_root_hash\":\"LW4H9OJXMvRh4el4Z1azUPNn4JuV2havF4zTozlYYlM=\",\"timestamp\":01002,\"tree_size\":5}}
+const DAMAGED: &str =
+    "{\"guard\":1,\"last\":{\"sha256_root_hash\":\"LW4H9OJXMvRh4el4Z1azUPNn4JuV2havF4zTozlYYlM=\",\"timestamp\":01002,\"tree_size\":5}}
 {\"consistency\":[],\"sha256_root_hash\":\"du7qhEIOEAlx4PW0CquqrFCQdYGOPWhEpj2aF749hls=\",\"timestamp\":2000,\"tree_size\":9}
 ";
 
@@ -144,7 +152,8 @@ const DAMAGED_TEXT: &str = "{\"refused\":\"bad-line\"}
 {\"guard\":1,\"last\":{\"sha256_root_hash\":\"du7qhEIOEAlx4PW0CquqrFCQdYGOPWhEpj2aF749hls=\",\"timestamp\":2000,\"tree_size\":9}}
 ";
 
-const BLANK_IN_IT: &str = "{\"guard\":1, \"last\":{\"sha256_root_hash\":\"LW4H9OJXMvRh4el4Z1azUPNn4JuV2havF4zTozlYYlM=\", \"timestamp\":1002, \"tree_size\":5}}
+const BLANK_IN_IT: &str =
+    "{\"guard\":1, \"last\":{\"sha256_root_hash\":\"LW4H9OJXMvRh4el4Z1azUPNn4JuV2havF4zTozlYYlM=\", \"timestamp\":1002, \"tree_size\":5}}
 {\"consistency\":[],\"sha256_root_hash\":\"du7qhEIOEAlx4PW0CquqrFCQdYGOPWhEpj2aF749hls=\",\"timestamp\":2000,\"tree_size\":9}
 ";
 
@@ -186,7 +195,8 @@ const PROMISED_TEXT: &str = "{\"sign\":\"AAAAAAAAAAAADwAAAAACT1AAAA==\"}
 {\"guard\":1,\"last\":{\"sha256_root_hash\":\"du7qhEIOEAlx4PW0CquqrFCQdYGOPWhEpj2aF749hls=\",\"timestamp\":2000,\"tree_size\":9}}
 ";
 
-const LAST_COUNTS: &str = "{\"audit_path\":[\"G4v/RJyXOCuDizhm/Efa15/HuIiR7l92+pKY/RnKIa8=\",\"WLkJ1EMlnhas/il9fn13m8ePmiHCzRDLcQENWyi98tg=\"],\"leaf_index\":0,\"leaf_input\":\"AAAAAAAAAAAABwAAAAABQQAA\"}
+const LAST_COUNTS: &str =
+    "{\"audit_path\":[\"G4v/RJyXOCuDizhm/Efa15/HuIiR7l92+pKY/RnKIa8=\",\"WLkJ1EMlnhas/il9fn13m8ePmiHCzRDLcQENWyi98tg=\"],\"leaf_index\":0,\"leaf_input\":\"AAAAAAAAAAAABwAAAAABQQAA\"}
 {\"consistency\":[],\"sha256_root_hash\":\"tC/H6/wngKBZT+R1LE6M9CmYJyFREld3ZJUnHyM+Mao=\",\"timestamp\":1000,\"tree_size\":3}
 {\"audit_path\":[\"G4v/RJyXOCuDizhm/Efa15/HuIiR7l92+pKY/RnKIa8=\",\"WLkJ1EMlnhas/il9fn13m8ePmiHCzRDLcQENWyi98tg=\"],\"leaf_index\":0,\"leaf_input\":\"AAAAAAAAAAAABwAAAAABQQAA\"}
 ";
