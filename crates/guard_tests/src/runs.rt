@@ -257,7 +257,12 @@ fn runs(rt: HostRuntime) -> Result<(), Fail> {
         ("", MISPLACED, MISPLACED_TEXT, 4),
         ("", NONE_BEFORE, NONE_BEFORE_TEXT, 0),
         ("--receipts promised", PROMISED, PROMISED_TEXT, 0),
-        ("--receipts promised --origin other --receipts in-head --origin log.example/2026", LAST_COUNTS, LAST_COUNTS_TEXT, 0),
+        (
+            "--receipts promised --origin other --receipts in-head --origin log.example/2026",
+            LAST_COUNTS,
+            LAST_COUNTS_TEXT,
+            0,
+        ),
         ("", "", NOTHING_TEXT, 0),
     ] {
         assert!(rt; answers(rt.alloc(), words, input, text, "", status)?);
@@ -279,18 +284,7 @@ fn command_lines(rt: HostRuntime) -> Result<(), Fail> {
         ("--origin=a", "", USAGE, 2),
         ("lines", "", USAGE, 2),
     ] {
-        assert!(rt; answers(rt.alloc(), words, G        ("", GROWS, GROWS_TEXT, 0),
-        ("", FIRST_MOMENT, FIRST_MOMENT_TEXT, 0),
-        ("", REFUSALS, REFUSALS_TEXT, 0),
-        ("--receipts in-head", BAD_LINES, BAD_LINES_TEXT, 4),
-        ("--origin log.example/2026", TAKEN_UP, TAKEN_UP_TEXT, 0),
-        ("", DAMAGED, DAMAGED_TEXT, 4),
-        ("", BLANK_IN_IT, BLANK_IN_IT_TEXT, 4),
-        ("", MISPLACED, MISPLACED_TEXT, 4),
-        ("", NONE_BEFORE, NONE_BEFORE_TEXT, 0),
-        ("--receipts promised", PROMISED, PROMISED_TEXT, 0),
-        ("--receipts promised --origin other --receipts in-head --origin log.example/2026", LAST_COUNTS, LAST_COUNTS_TEXT, 0),
-        ("", "", NOTHING_TEXT, 0),, text, told, status)?);
+        assert!(rt; answers(rt.alloc(), words, GROWS, text, told, status)?);
     }
     Ok(())
 }
@@ -305,18 +299,7 @@ fn origins(rt: HostRuntime) -> Result<(), Fail> {
         words.push(String::from_str(alloc, origin)?)?;
         let mut output = Vec::new(alloc);
         let mut faults = Vec::new(alloc);
-        let found = answer_words(alloc, &words, G        ("", GROWS, GROWS_TEXT, 0),
-        ("", FIRST_MOMENT, FIRST_MOMENT_TEXT, 0),
-        ("", REFUSALS, REFUSALS_TEXT, 0),
-        ("--receipts in-head", BAD_LINES, BAD_LINES_TEXT, 4),
-        ("--origin log.example/2026", TAKEN_UP, TAKEN_UP_TEXT, 0),
-        ("", DAMAGED, DAMAGED_TEXT, 4),
-        ("", BLANK_IN_IT, BLANK_IN_IT_TEXT, 4),
-        ("", MISPLACED, MISPLACED_TEXT, 4),
-        ("", NONE_BEFORE, NONE_BEFORE_TEXT, 0),
-        ("--receipts promised", PROMISED, PROMISED_TEXT, 0),
-        ("--receipts promised --origin other --receipts in-head --origin log.example/2026", LAST_COUNTS, LAST_COUNTS_TEXT, 0),
-        ("", "", NOTHING_TEXT, 0),.as_bytes(), &mut output, &mut faults);
+        let found = answer_words(alloc, &words, GROWS.as_bytes(), &mut output, &mut faults);
         assert!(rt; found == wanted);
         assert!(rt; output.is_empty() == (wanted == 2));
     }
@@ -399,18 +382,7 @@ fn an_output_that_fails(rt: HostRuntime) -> Result<(), Fail> {
             receipts: Receipts::Promised,
         };
         let mut output = Room(room);
-        let reader = BufReader::new(alloc, G        ("", GROWS, GROWS_TEXT, 0),
-        ("", FIRST_MOMENT, FIRST_MOMENT_TEXT, 0),
-        ("", REFUSALS, REFUSALS_TEXT, 0),
-        ("--receipts in-head", BAD_LINES, BAD_LINES_TEXT, 4),
-        ("--origin log.example/2026", TAKEN_UP, TAKEN_UP_TEXT, 0),
-        ("", DAMAGED, DAMAGED_TEXT, 4),
-        ("", BLANK_IN_IT, BLANK_IN_IT_TEXT, 4),
-        ("", MISPLACED, MISPLACED_TEXT, 4),
-        ("", NONE_BEFORE, NONE_BEFORE_TEXT, 0),
-        ("--receipts promised", PROMISED, PROMISED_TEXT, 0),
-        ("--receipts promised --origin other --receipts in-head --origin log.example/2026", LAST_COUNTS, LAST_COUNTS_TEXT, 0),
-        ("", "", NOTHING_TEXT, 0),.as_bytes())?;
+        let reader = BufReader::new(alloc, GROWS.as_bytes())?;
         assert!(rt; run(alloc, &settings, reader, &mut output) == Err(Fault::Write));
     }
     Ok(())
