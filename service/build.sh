@@ -1,17 +1,20 @@
 #!/usr/bin/env bash
 # Builds and tests the Go part with the packages of Debian alone: build.sh test [PACKAGE [WORD..]] | fuzz [SECONDS] | vet.
 # Debian's packages of Go lie below one folder, as GOPATH has it. So modules are off, and nothing is fetched; this folder is put
-# beside theirs, as the import path wagtenib/service, in out/.
+# beside theirs, as the import path wagtenib/service, by a link in a folder of its own, which goes at the end. (The gate takes no
+# links in the repository.)
 set -eu
 cd "$(dirname "$0")"
 what=${1:-test}
 shift || true
-out=$PWD/out
+path=$(mktemp -d)
+trap 'rm -rf "$path"' EXIT
 packages=$(dpkg-query -L golang-github-lib-pq-dev 2>/dev/null | sed -n 's|/src/github.com$||p')
-mkdir -p "$out/path/src/wagtenib"
-ln -sfn "$PWD" "$out/path/src/wagtenib/service"
-[ -n "${HOME:-}" ] || export GOCACHE="${GOCACHE:-$out/cache}"
-export GO111MODULE=off GOPATH=$out/path:$packages GOPROXY=off GOFLAGS="-tags=libsqlite3 -p=${PROCESSORS:-$(nproc)}" CGO_ENABLED=1
+mkdir -p "$path/src/wagtenib"
+ln -s "$PWD" "$path/src/wagtenib/service"
+[ -n "${HOME:-}" ] || export GOCACHE="${GOCACHE:-$path/cache}"
+export GO111MODULE=off GOPATH=$path:$packages GOPROXY=off CGO_ENABLED=1
+export GOFLAGS="-trimpath -tags=libsqlite3 -p=${PROCESSORS:-$(nproc)}"
 case $what in
   test)
     package=${1:-}
