@@ -6,16 +6,17 @@ ghost use Rattle.ct_lines.specs.Sends.{SendsSome};
 ghost use Rattle.ct_follow.specs.CommandWords.{monitor_call, IsAnswered};
 ghost use Rattle.ct_follow.specs.Faults.{monitor_fault_line};
 ghost use Rattle.ct_follow.specs.declared.fault.Fault.{Fault as FaultOf};
-ghost use Rattle.ct_follow.specs.Session.{FirstGives, LineGives, OneTaken, ReadsLine, IsTaken, IsAllTaken, IsRun, IsRunStatus, status_of};
+ghost use Rattle.ct_follow.specs.Session.{FirstGives, KeptGives, LineGives, OneTaken, IsTaken, IsAllTaken, IsRun, IsRunStatus, status_of};
 ghost use Rattle.ct_follow.specs.StateText.{state_text};
 
+use crate::answer::LONGEST;
 use crate::command::{Command, command_of};
 use crate::fault::Fault;
 use crate::monitor::Monitor;
-use ct_lines::{content, send, tell};
+use ct_lines::{next_line, send, tell};
 use ct_tree::Sha256Hash;
 use ct_watch::Watcher;
-use std::alloc::Global;
+use std::alloc::{AllocError, Global};
 use std::io::{BufRead, BufReader, Read, Write};
 
 // How the program is called.
@@ -24,13 +25,36 @@ const USAGE: &str = "usage: ctmonitor [--name NAME].. < lines > verdicts\n";
 // How many lines are read at most, so that the loop ends.
 const LINES: u64 = 1 << 50;
 
-// Reads the next line, with its end. There is none where nothing is left.
-fn read_line<B: BufRead>(alloc: Global, reader: &mut B) -> Result<Option<Vec<u8>>, Fault>
-    ensures { IfOk result (λ line. ReadsLine line (B.remaining reader.old) (B.remaining reader.new)) }
+// How many bytes of a line are kept, its end among them: two more than the longest line has.
+const KEPT: usize = 16_777_218;
+
+// Takes a line of which this was kept, and answers what is written of it.
+fn line_text(
+    alloc: Global,
+    names: &[String],
+    monitor: &mut Monitor,
+    kept: &[u8],
+) -> Result<Vec<u8>, AllocError>
+    ensures { IfOk result (λ t. KeptGives (LineGives (map string_bytes names.now)) monitor.old kept.now t.items monitor.new) }
 {
-    let mut line = Vec::new(alloc);
-    let count = reader.read_until(b'\n', &mut line)?;
-    if count == 0 { Ok(None) } else { Ok(Some(line)) }
+    monitor.take_line(alloc, names, kept)
+}
+
+// The same of the first line, where a state may stand: one that is too long is none.
+fn first_text(
+    alloc: Global,
+    names: &[String],
+    monitor: &mut Monitor,
+    kept: &[u8],
+) -> Result<Vec<u8>, AllocError>
+    ensures { IfOk result (λ t. KeptGives (FirstGives (map string_bytes names.now)) monitor.old kept.now t.items monitor.new) }
+{
+    let is_short = kept.len() <= LONGEST;
+    if is_short {
+        monitor.take_first(alloc, names, kept)
+    } else {
+        monitor.take_line(alloc, names, kept)
+    }
 }
 
 // Takes the next line, and answers whether none was left.
@@ -44,10 +68,12 @@ fn take_next<B: BufRead, W: Write>(
     ensures { IfOk result (λ done. OneTaken (LineGives (map string_bytes names.now)) monitor.old monitor.new
         (B.remaining reader.old) (B.remaining reader.new) (W.contents writer.old) (W.contents writer.new) done) }
 {
-    let Some(line) = read_line(alloc, reader)? else {
+    let mut line = Vec::new(alloc);
+    let is_line = next_line(reader, KEPT, &mut line)?;
+    if !is_line {
         return Ok(true);
-    };
-    let text = monitor.take_line(alloc, names, content(&line))?;
+    }
+    let text = line_text(alloc, names, monitor, &line)?;
     send(writer, &text)?;
     Ok(false)
 }
@@ -63,10 +89,12 @@ fn take_start<B: BufRead, W: Write>(
     ensures { IfOk result (λ done. OneTaken (FirstGives (map string_bytes names.now)) monitor.old monitor.new
         (B.remaining reader.old) (B.remaining reader.new) (W.contents writer.old) (W.contents writer.new) done) }
 {
-    let Some(line) = read_line(alloc, reader)? else {
+    let mut line = Vec::new(alloc);
+    let is_line = next_line(reader, KEPT, &mut line)?;
+    if !is_line {
         return Ok(true);
-    };
-    let text = monitor.take_first(alloc, names, content(&line))?;
+    }
+    let text = first_text(alloc, names, monitor, &line)?;
     send(writer, &text)?;
     Ok(false)
 }

@@ -228,18 +228,40 @@ fn told_faults(rt: HostRuntime) -> Result<(), Fail> {
     Ok(())
 }
 
-// A head is no line of the log's where it stands behind 16,777,216 blanks.
+// What is written for the longest line, one that has a byte more, and a short one, each the same head.
+const LONG_LINES_TEXT: &str = "{\"tree_size\":0,\"verdict\":\"accepted\"}
+{\"error\":\"bad-line\"}
+{\"verdict\":\"again\"}
+{\"accepted\":{\"sha256_root_hash\":\"47DEQpj8HBSa+/TImW+5JCeuQeRkm5NMpJWZG3hSuFU=\",\"timestamp\":7,\"tree_size\":0},\"all\":{\"size\":0,\"subtrees\":[]},\"check\":\"LgJ1EFuRcyBcxNdImmUa4U9vyQiLZb1A09/NOvPEZRg=\",\"state\":1,\"sure\":{\"size\":0,\"subtrees\":[]},\"waiting\":null}
+";
+
+// Adds the head, and blanks before it: 4,096 of them so often, and so many more.
+fn push_head(input: &mut Vec<u8>, times: usize, more: usize) -> Result<(), Fail> {
+    let blanks = [b' '; 4096];
+    for _ in 0..times {
+        input.extend_from_slice(&blanks)?;
+    }
+    for _ in 0..more {
+        input.push(b' ')?;
+    }
+    input.extend_from_slice(EMPTY_HEAD.as_bytes())?;
+    input.push(b'\n')?;
+    Ok(())
+}
+
+// A head has 95 bytes, and the longest line 4,096 times 4,096.
 #[test]
 fn a_line_that_is_too_long(rt: HostRuntime) -> Result<(), Fail> {
     let alloc = rt.alloc();
-    let mut line = Vec::new(alloc);
-    for _ in 0..4096 {
-        line.extend_from_slice(&[b' '; 4096])?;
-    }
-    line.extend_from_slice(EMPTY_HEAD.as_bytes())?;
+    let mut input = Vec::new(alloc);
+    push_head(&mut input, 4095, 4096 - 95)?;
+    push_head(&mut input, 4095, 4096 - 94)?;
+    push_head(&mut input, 0, 0)?;
     let mut output = Vec::new(alloc);
-    let mut reader = BufReader::new(alloc, line.as_slice())?;
+    let mut reader = BufReader::new(alloc, input.as_slice())?;
+    assert!(rt; EMPTY_HEAD.len() == 95);
     assert!(rt; run(alloc, &[], &mut reader, &mut output) == Ok(4));
+    assert!(rt; output.as_slice() == LONG_LINES_TEXT.as_bytes());
     Ok(())
 }
 
