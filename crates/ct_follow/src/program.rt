@@ -1,16 +1,17 @@
 //! The program over the words of a command line, a reader of lines and a writer of verdicts.
 
-ghost use Rattle.std.specs.Prelude.{◌≡◌, ◌≢◌, ◌++◌, ◌∷◌, [], IfOk, OnOk, OnErr, map, string_bytes};
+ghost use Rattle.std.specs.Prelude.{◌≡◌, ◌≢◌, ◌⊎◌, ◌++◌, ◌∷◌, [], IfOk, OnOk, OnErr, map, string_bytes};
 ghost use Rattle.std.specs.Io.KnownBytes.{Appends};
 ghost use Rattle.ct_lines.specs.Sends.{SendsSome};
-ghost use Rattle.ct_follow.specs.CommandWords.{monitor_call, IsAnswered};
+ghost use Rattle.ct_follow.specs.CommandWords.{monitor_call, unreadable_text, IsAnswered};
 ghost use Rattle.ct_follow.specs.Faults.{monitor_fault_line};
 ghost use Rattle.ct_follow.specs.declared.fault.Fault.{Fault as FaultOf};
+ghost use Rattle.ct_follow.specs.declared.fault.Fault.TheVariants.{Read as ReadFault};
 ghost use Rattle.ct_follow.specs.Session.{FirstGives, KeptGives, LineGives, OneTaken, IsTaken, IsAllTaken, IsRun, IsRunStatus, status_of};
 ghost use Rattle.ct_follow.specs.StateText.{state_text};
 
 use crate::answer::LONGEST;
-use crate::command::{Command, command_of};
+use crate::command::{Command, command_of, refusal};
 use crate::fault::Fault;
 use crate::monitor::Monitor;
 use ct_lines::{next_line, send, tell};
@@ -19,8 +20,42 @@ use ct_watch::Watcher;
 use std::alloc::{AllocError, Global};
 use std::io::{BufRead, BufReader, Read, Write};
 
-// How the program is called.
-const USAGE: &str = "usage: ctmonitor [--name NAME].. < lines > verdicts\n";
+// How the program is called, and what it does.
+const HELP: &str = "Usage: ctmonitor [OPTIONS] < lines > verdicts
+
+Options:
+      --name <NAME>  A name to look for in the entries, letters of either case alike; it may be given more than once
+  -h, --help         Print help
+  -V, --version      Print version
+
+Watches a Certificate Transparency log (RFC 6962) by what it answers. Answers come on standard input, a line of JSON each:
+a state of an earlier run on the first line, and then of get-sth, get-entries (with `start` beside `entries`) and
+get-sth-consistency. Verdicts go to standard output, and the state as the last line; docs/MONITOR.md has their form.
+
+Exit status:
+  0  nothing speaks against the log
+  1  memory was refused, or reading or writing failed: keep the old state
+  2  the words are refused
+  3  an alarm: a verdict speaks against the log
+  4  a line was none of a log's, or the state wasn't taken up
+";
+
+// The version of the programs and of the library for C (include/wagtenib.pc.in).
+const VERSION: &str = "ctmonitor 0.1.0\n";
+
+// Why words are refused of which the last is `--name`.
+const UNNAMED: &str = "error: a value is required for '--name <NAME>' but none was supplied
+
+For more information, try '--help'.
+";
+
+// Why words are refused of which one isn't UTF-8.
+const UNREADABLE: &str = "error: an argument isn't UTF-8
+
+Usage: ctmonitor [OPTIONS] < lines > verdicts
+
+For more information, try '--help'.
+";
 
 // How many lines are read at most, so that the loop ends.
 const LINES: u64 = 1 << 50;
@@ -165,6 +200,23 @@ pub fn run<B: BufRead, W: Write>(
     finish(alloc, &monitor, writer)
 }
 
+// Writes a text that was asked for, and answers the exit status 0.
+fn notice<W: Write>(text: &str, output: &mut W) -> Result<u8, Fault>
+    ensures { IfOk result (λ status. (status ≡ 0) × Appends (W.contents output.old) (W.contents output.new) text.now) }
+{
+    send(output, text.as_bytes())?;
+    Ok(0)
+}
+
+// Tells, as far as it can be written, why words are refused, and answers the exit status 2.
+fn refuse<E: Write>(text: &[u8], faults: &mut E) -> u8
+    ensures status { result ≡ 2 }
+    ensures told { SendsSome (E.contents faults.old) (E.contents faults.new) text.now }
+{
+    tell(faults, text);
+    2
+}
+
 // Does what the words ask for, and answers the exit status.
 fn do_asked<R: Read + Drop, W: Write, E: Write>(
     alloc: Global,
@@ -183,23 +235,22 @@ fn do_asked<R: Read + Drop, W: Write, E: Write>(
             let mut reader = BufReader::new(alloc, input)?;
             run(alloc, &names, &mut reader, output)
         }
-        Command::Help => {
-            send(output, USAGE.as_bytes())?;
-            Ok(0)
+        Command::Help => notice(HELP, output),
+        Command::Version => notice(VERSION, output),
+        Command::Refused(word) => {
+            let text = refusal(alloc, word.as_str())?;
+            Ok(refuse(&text, faults))
         }
-        Command::Refused => {
-            tell(faults, USAGE.as_bytes());
-            Ok(2)
-        }
+        Command::Unnamed => Ok(refuse(UNNAMED.as_bytes(), faults)),
     }
 }
 
 /// Does what the words of a command line ask for, the program's name left out, and answers the exit status.
 ///
-/// - 0, 3, 4: `run` read the input and wrote its verdicts, with that status; or, for 0, the words ask for help, which was written
-///   on the output.
+/// - 0, 3, 4: `run` read the input and wrote its verdicts, with that status; or, for 0, the words ask for help or the version, which
+///   was written on the output.
 /// - 1: a fault broke it off, and its line was written among the faults, as far as it could be.
-/// - 2: the words ask for nothing that there is. How the program is called was written among the faults, as far as it could be.
+/// - 2: the words ask for nothing that there is. Which word is none that there is was written among the faults, as far as it could be.
 pub fn answer_words<R: Read + Drop, W: Write, E: Write>(
     alloc: Global,
     words: &[String],
@@ -215,6 +266,24 @@ pub fn answer_words<R: Read + Drop, W: Write, E: Write>(
     match do_asked(alloc, words, input, output, faults) {
         Ok(status) => status,
         Err(fault) => {
+            tell(faults, fault.text().as_bytes());
+            1
+        }
+    }
+}
+
+/// Answers a command line whose words couldn't be read, for which this fault came, and answers the exit status.
+///
+/// - 1: there was no memory: the fault's line was written among the faults, as far as it could be.
+/// - 2: a word isn't UTF-8, which was written among the faults, as far as it could be.
+pub fn refuse_words<E: Write>(fault: Fault, faults: &mut E) -> u8
+    ensures status { (result ≡ 1) ⊎ (result ≡ 2) }
+    ensures fault { result ≡ 1 → SendsSome (E.contents faults.old) (E.contents faults.new) (monitor_fault_line fault) }
+    ensures refused { result ≡ 2 → (fault ≡ ReadFault) × SendsSome (E.contents faults.old) (E.contents faults.new) unreadable_text }
+{
+    match fault {
+        Fault::Read => refuse(UNREADABLE.as_bytes(), faults),
+        fault => {
             tell(faults, fault.text().as_bytes());
             1
         }
