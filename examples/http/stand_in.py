@@ -159,6 +159,8 @@ def main():
     options.add_argument("--open-at", type=int, default=0)
     options.add_argument("--close-at", type=int, default=9007199254740991)
     words = options.parse_args()
+    if words.close_at < words.open_at:
+        options.error("the moment of '--open-at' is behind that of '--close-at'")
     Live(words.fronts, words.ring, words.open_at, words.close_at).run(sys.stdin.buffer)
 
 

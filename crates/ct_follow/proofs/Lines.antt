@@ -1,44 +1,89 @@
 -- Taking the lines of an input, one after the other.
 use Rattle.std.proofs.Common.{◌≡◌, ◌∙◌, ◌<◌, ℕ, List, [], ◌∷◌, ◌++◌, length, Bool, true, false, if◌then◌else◌, Option, Some, None, Vec, Global, sym, refl, ap, subst, inl, inr}
-use Rattle.std.proofs.Common.{arith}
+use Rattle.std.proofs.Common.{◌≤◌, arith}
+use Rattle.ct_lines.specs.Lines.{kept_line, IsFirstLine}
+use Rattle.ct_lines.proofs.KeptLines.{whole_or_long}
 use Rattle.std.proofs.lemmas.List.{append_assoc}
 use Rattle.std.proofs.lemmas.Option.{same_Some, none-some}
 use Rattle.std.specs.Prelude.{IfSome, IfOk, OnOk, Result, Ok, Err}
 use Rattle.sha2.specs.Sha256.{sha256}
 use Rattle.ct_watch.specs.Watched.{nothing_seen}
 use Rattle.ct_watch.specs.WatcherState.{Keeps}
-use Rattle.std.specs.Io.BufRead.{take_through, drop_through, first_piece, strip_last, DropsThrough}
-use Rattle.std.specs.Io.KnownBytes.{Appends, IsAtEnd}
+use Rattle.std.specs.Io.BufRead.{drop_through, first_piece}
+use Rattle.std.specs.Io.KnownBytes.{Appends}
 use Rattle.std.proofs.KnownBytes.{Appends-nil, Appends-trans}
-use Rattle.ct_follow.specs.Session.{LineStep, LineGives, FirstGives, TakesLines, TakesAll, ReadsLine, OneTaken, IsTaken, IsAllTaken, IsRun, IsRunStatus, status_of}
+use Rattle.ct_follow.specs.Answers.{Answered, Reads}
+use Rattle.ct_follow.specs.Session.{LineStep, Tells, KeptGives, LineGives, FirstGives, TakesLines, TakesAll, OneTaken, IsTaken, IsAllTaken, IsRun, IsRunStatus}
+use Rattle.ct_follow.specs.Session.{status_of}
 use Rattle.ct_follow.specs.StateText.{state_text}
 use Rattle.ct_follow.specs.declared.monitor.Monitor.{Monitor}
 
--- ---- one line is read
+-- ---- what is kept of a line
 
-taken_some : (left raw : List ℕ) → raw ≡ take_through 10 left → 0 < length raw → 0 < length left
-taken_some [] raw e some = absurd (omega (arith, some, ap length e))
-taken_some (b ∷ bs) raw e some = omega arith
+-- a line that is too long is none, whatever its bytes are
+reads_long : (a b : List ℕ) (what : Answered) → 16777216 < length a → 16777216 < length b → Reads a what → Reads b what
+reads_long a b what long_a long_b (inl r) = absurd (omega (arith, long_a, r.0))
+reads_long a b what long_a long_b (inr r) = inr (r.0, λ fits. absurd (omega (arith, long_b, fits)))
 
-pub read_some : (line : Vec ℕ Global) (source source_next : Option (List ℕ)) → IfSome source (λ xs. line.items ≡ take_through 10 xs)
-    → DropsThrough source source_next 10 → 0 < length line.items → ReadsLine (Some line) source source_next
-read_some line None source_next bytes drops some = tt
-read_some line (Some xs) source_next bytes drops some = (taken_some xs line.items bytes some, bytes, drops)
+gives_long : (names : List (List ℕ)) (before : Monitor) (a b : List ℕ) (text : List ℕ) (after : Monitor) → 16777216 < length a → 16777216 < length b
+    → LineGives names before a text after → LineGives names before b text after
+gives_long names before [] b text after long_a long_b g = absurd (omega (arith, long_a))
+gives_long names before (x ∷ a) [] text after long_a long_b g = absurd (omega (arith, long_b))
+gives_long names before (x ∷ a) (y ∷ b) text after long_a long_b g =
+    let t : Tells names before (x ∷ a) g.0 = g.1 in (
+      g.0,
+      record {
+        answer = t.answer;
+        outcome = t.outcome;
+        entries = t.entries;
+        noted = t.noted;
+        reads = reads_long (x ∷ a) (y ∷ b) t.answer long_a long_b t.reads;
+        says = t.says;
+        lists = t.lists;
+        written = t.written;
+        alarm = t.alarm;
+        bad = t.bad;
+      },
+      g.2,
+      g.3,
+    )
 
-pub read_none : (source source_next : Option (List ℕ)) → IsAtEnd source → DropsThrough source source_next 10
-    → IfSome source (λ xs. (xs ≡ []) × (source_next ≡ Some []))
-read_none None source_next end drops = tt
-read_none (Some xs) source_next end drops = (end, drops ∙ ap (λ y. Some (drop_through 10 y)) end)
+-- what is kept of a line gives what the line gives
+pub kept_gives : (names : List (List ℕ)) (before : Monitor) (kept text : List ℕ) (after : Monitor) → LineGives names before kept text after
+    → KeptGives (LineGives names) before kept text after
+kept_gives names before kept text after g xs is = elim (whole_or_long 16777216 xs) [
+  | inl same ↦ subst (λ (l : List ℕ). LineGives names before l text after) (is ∙ same) g
+  | inr long ↦ gives_long names before (kept_line 16777218 xs) (first_piece 10 xs) text after long.0 long.1
+      (subst (λ (l : List ℕ). LineGives names before l text after) is g)
+]
+
+-- so it is of the first line, where what is kept isn't longer than the longest line
+pub first_kept_gives : (names : List (List ℕ)) (before : Monitor) (kept text : List ℕ) (after : Monitor) → length kept ≤ 16777216
+    → FirstGives names before kept text after → KeptGives (FirstGives names) before kept text after
+first_kept_gives names before kept text after short g xs is = elim (whole_or_long 16777216 xs) [
+  | inl same ↦ subst (λ (l : List ℕ). FirstGives names before l text after) (is ∙ same) g
+  | inr long ↦ absurd (omega (arith, short, ap length is, long.0))
+]
+
+-- and where it is longer, since no state is
+pub long_first_gives : (names : List (List ℕ)) (before : Monitor) (kept text : List ℕ) (after : Monitor) → LineGives names before kept text after
+    → KeptGives (FirstGives names) before kept text after
+long_first_gives names before kept text after g xs is = inr (kept_gives names before kept text after g xs is)
+
+-- the same of each text that a result has
+pub each_gives : {E : Type 0} (P Q : List ℕ → Type 0) (r : Result (Vec ℕ Global) E) → ((t : List ℕ) → P t → Q t) → IfOk r (λ t. P t.items)
+    → IfOk r (λ t. Q t.items)
+each_gives P Q (Ok t) f p = f t.items p
+each_gives P Q (Err e) f p = p
 
 -- ---- and taken
 
-pub one_taken : (gives : Monitor → List ℕ → List ℕ → Monitor → Type 0) (before after : Monitor) (line : Vec ℕ Global) (text : List ℕ)
-    (source source_next sink sink_next : Option (List ℕ)) → ReadsLine (Some line) source source_next
-    → gives before (strip_last 10 line.items) text after → Appends sink sink_next text
+pub one_taken : (gives : Monitor → List ℕ → List ℕ → Monitor → Type 0) (before after : Monitor) (line text : List ℕ)
+    (source source_next sink sink_next : Option (List ℕ)) → IsFirstLine 16777218 source source_next line
+    → KeptGives gives before line text after → Appends sink sink_next text
     → OneTaken gives before after source source_next sink sink_next false
 one_taken gives before after line text None source_next sink sink_next r g w = tt
-one_taken gives before after line text (Some xs) source_next sink sink_next r g w =
-    (r.0, r.2, (text, subst (λ (l : List ℕ). gives before (strip_last 10 l) text after) r.1 g, w))
+one_taken gives before after line text (Some xs) source_next sink sink_next r g w = (r.0, r.2, (text, g xs r.1, w))
 
 -- ---- all lines
 

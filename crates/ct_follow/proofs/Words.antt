@@ -1,9 +1,9 @@
 -- How the words of the command line are read, one after the other.
 use Rattle.std.proofs.Common.{◌≡◌, ◌∙◌, refl, ap, sym, subst, Bool, true, false, if◌then◌else◌, ℕ, List, [], ◌∷◌, ◌++◌, map, codes}
-use Rattle.std.specs.Prelude.{bytes_eq}
+use Rattle.std.specs.Prelude.{◌||◌, bytes_eq, IfOk, Result, Ok, Err}
 use Rattle.std.specs.Char.{to_ascii_lowercase}
-use Rattle.std.proofs.lemmas.Slice.Eq.{bytes_eq-Decides}
-use Rattle.ct_follow.specs.CommandWords.{MonitorCall, watching, usage, nothing, with_name, asked_alone, monitor_call}
+use Rattle.ct_follow.specs.CommandWords.{MonitorCall, watching, usage, version, no_such_word, no_name, with_name, asked_alone, call_made, monitor_call}
+use Rattle.ct_follow.specs.declared.command.Command.{Command}
 
 -- the same with these names more, before the others
 abbrev pub with_names : List (List ℕ) → MonitorCall → MonitorCall
@@ -13,7 +13,7 @@ with_names (name ∷ names) call = with_name name (with_names names call)
 -- what the words ask for; where `--name` stands before them, the first is a name
 abbrev pub call_behind : Bool → List (List ℕ) → MonitorCall
 call_behind false words = monitor_call words
-call_behind true [] = nothing
+call_behind true [] = no_name
 call_behind true (name ∷ words) = with_name (map to_ascii_lowercase name) (monitor_call words)
 
 pub one_name_more : (names : List (List ℕ)) (name : List ℕ) (call : MonitorCall)
@@ -25,24 +25,34 @@ pub names_watched : (names : List (List ℕ)) → with_names names (watching [])
 names_watched [] = refl
 names_watched (n ∷ names) = ap (with_name n) (names_watched names)
 
-pub names_unused : (names : List (List ℕ)) → with_names names usage ≡ usage
-names_unused [] = refl
-names_unused (n ∷ names) = ap (with_name n) (names_unused names)
+pub names_unnamed : (names : List (List ℕ)) → with_names names no_name ≡ no_name
+names_unnamed [] = refl
+names_unnamed (n ∷ names) = ap (with_name n) (names_unnamed names)
 
-pub names_refused : (names : List (List ℕ)) → with_names names nothing ≡ nothing
-names_refused [] = refl
-names_refused (n ∷ names) = ap (with_name n) (names_refused names)
+-- names that stand before a word that says alone what is asked for
+alone_unused : (name word : List ℕ) → with_name name (asked_alone word) ≡ asked_alone word
+alone_unused name word = at (bytes_eq word (codes "-h") || bytes_eq word (codes "--help")) (bytes_eq word (codes "-V") || bytes_eq word (codes "--version"))
+  where
+    at : (h v : Bool) → with_name name (if h then usage else (if v then version else no_such_word word))
+        ≡ (if h then usage else (if v then version else no_such_word word))
+    at true v = refl
+    at false true = refl
+    at false false = refl
+
+names_unused : (names : List (List ℕ)) (word : List ℕ) → with_names names (asked_alone word) ≡ asked_alone word
+names_unused [] word = refl
+names_unused (n ∷ names) word = ap (with_name n) (names_unused names word) ∙ alone_unused n word
 
 pub name_next : (word : List ℕ) (words : List (List ℕ)) → bytes_eq word (codes "--name") ≡ true
     → monitor_call (word ∷ words) ≡ call_behind true words
-name_next word [] e = subst (λ (w : List ℕ). asked_alone w ≡ nothing) (sym ((bytes_eq-Decides word (codes "--name")).0 e)) refl
+name_next word [] e = ap (λ (b : Bool). if b then no_name else asked_alone word) e
 name_next word (name ∷ words) e =
     ap (λ (b : Bool). if b then with_name (map to_ascii_lowercase name) (monitor_call words) else asked_alone word) e
 
-pub no_name : (word : List ℕ) (words : List (List ℕ)) → bytes_eq word (codes "--name") ≡ false
+pub not_named : (word : List ℕ) (words : List (List ℕ)) → bytes_eq word (codes "--name") ≡ false
     → monitor_call (word ∷ words) ≡ asked_alone word
-no_name word [] e = refl
-no_name word (name ∷ words) e =
+not_named word [] e = ap (λ (b : Bool). if b then no_name else asked_alone word) e
+not_named word (name ∷ words) e =
     ap (λ (b : Bool). if b then with_name (map to_ascii_lowercase name) (monitor_call words) else asked_alone word) e
 
 -- what was read of all words: these names, and what is left to read
@@ -61,8 +71,8 @@ stands_as names seen is_value known left words stands n e =
 
 -- none is left
 pub ends_unnamed : (names words : List (List ℕ)) (is_value : Bool) (left : List (List ℕ)) → Stands names is_value left words → is_value ≡ true → left ≡ []
-    → nothing ≡ monitor_call words
-ends_unnamed names words is_value left stands e l = sym (names_refused names) ∙ as_left names words is_value true left [] stands e l
+    → no_name ≡ monitor_call words
+ends_unnamed names words is_value left stands e l = sym (names_unnamed names) ∙ as_left names words is_value true left [] stands e l
 
 pub ends_watching : (names words : List (List ℕ)) (is_value : Bool) (left : List (List ℕ)) → Stands names is_value left words → is_value ≡ false → left ≡ []
     → watching names ≡ monitor_call words
@@ -81,16 +91,12 @@ reads_option names words is_value left more word stands e l named =
 
 pub reads_other : (names words : List (List ℕ)) (is_value : Bool) (left more : List (List ℕ)) (word : List ℕ) → Stands names is_value left words
     → is_value ≡ false → left ≡ word ∷ more → bytes_eq word (codes "--name") ≡ false
-    → with_names names (asked_alone word) ≡ monitor_call words
+    → asked_alone word ≡ monitor_call words
 reads_other names words is_value left more word stands e l named =
-    sym (ap (with_names names) (no_name word more named)) ∙ as_left names words is_value false left (word ∷ more) stands e l
+    sym (ap (with_names names) (not_named word more named) ∙ names_unused names word) ∙ as_left names words is_value false left (word ∷ more) stands e l
 
-pub ends_usage : (names words : List (List ℕ)) (word : List ℕ) → with_names names (asked_alone word) ≡ monitor_call words
-    → bytes_eq word (codes "--help") ≡ true → usage ≡ monitor_call words
-ends_usage names words word other e =
-    sym (names_unused names) ∙ sym (ap (λ (b : Bool). with_names names (if b then usage else nothing)) e) ∙ other
-
-pub ends_refused : (names words : List (List ℕ)) (word : List ℕ) → with_names names (asked_alone word) ≡ monitor_call words
-    → bytes_eq word (codes "--help") ≡ false → nothing ≡ monitor_call words
-ends_refused names words word other e =
-    sym (names_refused names) ∙ sym (ap (λ (b : Bool). with_names names (if b then usage else nothing)) e) ∙ other
+-- and the command is what it asks for
+pub ends_alone : {E : Type 0} (r : Result Command E) (word : List ℕ) (words : List (List ℕ)) → IfOk r (λ c. call_made c ≡ asked_alone word)
+    → asked_alone word ≡ monitor_call words → IfOk r (λ c. call_made c ≡ monitor_call words)
+ends_alone (Ok c) word words made same = made ∙ same
+ends_alone (Err e) word words made same = made

@@ -1,11 +1,11 @@
 -- What a run writes, line by line.
-use Rattle.std.specs.Prelude.{◌≡◌, ◌<◌, ◌-◌, ℕ, Bool, true, false, ◌||◌, List, [], ◌∷◌, ◌++◌, length, take, unwrap_or, ◌⊎◌, Some, None, IfSome, Vec}
+use Rattle.std.specs.Prelude.{◌≡◌, ◌<◌, ◌-◌, ℕ, Bool, true, false, ◌||◌, List, [], ◌∷◌, ◌++◌, length, take, unwrap_or, ◌⊎◌, Some, None, IfSome}
 use Rattle.std.specs.Prelude.{if◌then◌else◌}
 use Rattle.std.specs.declared.option.Option.{Option}
-use Rattle.std.specs.Global.{Global}
-use Rattle.std.specs.Io.BufRead.{first_piece, drop_through, take_through}
+use Rattle.std.specs.Io.BufRead.{first_piece, drop_through}
 use Rattle.std.specs.Io.KnownBytes.{Appends}
 use Rattle.sha2.specs.Sha256.{sha256}
+use Rattle.ct_lines.specs.Lines.{kept_line}
 use Rattle.ct_watch.specs.Watched.{Watched, leaves_read, waiting_or, after_verdict, nothing_seen}
 use Rattle.ct_watch.specs.Verdicts.{accuses, HeadSays, EntriesSay, ProofSays, after_entries}
 use Rattle.ct_watch.specs.WatcherState.{WatcherState, Keeps}
@@ -136,10 +136,9 @@ pub record Runs (names : List (List ℕ)) (input text : List ℕ) (status : ℕ)
   pub written : text ≡ told ++ (state_text last.watcher ++ 10 ∷ [])
   pub ends : status ≡ status_of last
 
--- a line was read with its end, or none is left, where the bytes are known
-abbrev pub ReadsLine : Option (Vec ℕ Global) → Option (List ℕ) → Option (List ℕ) → Type 0
-ReadsLine None source source_next = IfSome source (λ xs. (xs ≡ []) × (source_next ≡ Some []))
-ReadsLine (Some line) source source_next = IfSome source (λ xs. (0 < length xs) × (line.items ≡ take_through 10 xs) × (source_next ≡ Some (drop_through 10 xs)))
+-- what is kept of the first line of an input, 16,777,218 bytes at most, gives what the whole line gives
+abbrev pub KeptGives : (Monitor → List ℕ → List ℕ → Monitor → Type 0) → Monitor → List ℕ → List ℕ → Monitor → Type 0
+KeptGives gives before kept text after = (xs : List ℕ) → kept ≡ kept_line 16777218 xs → gives before (first_piece 10 xs) text after
 
 -- a line was taken, and what it gives was written; or none is left (true), and nothing has changed
 abbrev pub OneTaken : (Monitor → List ℕ → List ℕ → Monitor → Type 0) → Monitor → Monitor → Option (List ℕ) → Option (List ℕ)

@@ -9,7 +9,8 @@
 //! - `monitor` takes one line after the other.
 //! - `fault` names what ends a run before the state is written.
 //! - `laws` says what holds of many runs.
-//! - `program` has `run`, and `answer_words`, which does what the words of a command line ask for.
+//! - `program` has `run`, and `answer_words`, which does what the words of a command line ask for; `refuse_words` answers words that
+//!   couldn't be read.
 #![tactic(auto)]
 
 mod answer;
@@ -25,4 +26,4 @@ mod text;
 mod verdicts;
 
 pub use fault::Fault;
-pub use program::{answer_words, run};
+pub use program::{answer_words, refuse_words, run};

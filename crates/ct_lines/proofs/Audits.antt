@@ -1,10 +1,8 @@
 -- What an audit stands on: the head of a size, the log's own leaf and path, and what the verdict is then.
-use Rattle.std.proofs.Common.{◌≡◌, suc, ◌<◌, ◌≤◌, ℕ, List, [], ◌∷◌, length, map, take, get_or, Option, Some, None, Result, Ok, Err, Bool, true, false, cond}
-use Rattle.std.proofs.Common.{refl, sym, ap, ◌∙◌, subst, arith, rules, inl, inr}
-use Rattle.std.specs.Prelude.{not, ◌==◌, ◌||◌, ◌⊎◌, IfSome, MatchResult, IsOkUnless, option_map, is_some, slice_get, if◌then◌else◌}
-use Rattle.std.specs.List.{find, list_any, All, Contains}
-use Rattle.std.proofs.lemmas.Bool.Decides.{nat_tests}
-use Rattle.std.proofs.lemmas.Bool.{false≢true}
+use Rattle.std.proofs.Common.{◌≡◌, ◌<◌, ◌≤◌, ℕ, List, [], length, map, take, Option, Some, None, true, false, cond}
+use Rattle.std.proofs.Common.{refl, sym, ap, ◌∙◌, subst, arith, rules}
+use Rattle.std.specs.Prelude.{not, IfSome, is_some, slice_get}
+use Rattle.std.specs.List.{Contains}
 use Rattle.std.proofs.lemmas.List.{length-map, length-take-le, get_or-map}
 use Rattle.std.proofs.lemmas.List.Elements.{All-contains}
 use Rattle.std.proofs.lemmas.Option.{slice_get_within, get_or_from_slice_get}
@@ -12,9 +10,8 @@ use Rattle.sha2.specs.Sha256.{sha256}
 use Rattle.ct_tree.specs.Tree.{hash_leaf, mth_of_leaves, path}
 use Rattle.ct_tree.specs.declared.head.Head.{Head}
 use Rattle.ct_verify.specs.Evidence.{evid, IsAudited}
-use Rattle.ct_verify.specs.Verdict.{AcceptsInclusion}
 use Rattle.ct_core.specs.Tree.{sha256_leaf, path_of, tree_hash}
-use Rattle.ct_core.specs.Leaf.{Entry, leaf_at, leaves_of}
+use Rattle.ct_core.specs.Leaf.{Entry, leaf_at}
 use Rattle.ct_core.specs.Settlement.{Log, Lawful, IsHeadOf}
 use Rattle.ct_core.specs.Answers.{is_size, first_leaves, answer, text_of, entry_found}
 use Rattle.ct_codec.specs.declared.refusal.Refusal.TheVariants.{UnknownSize}

@@ -8,3 +8,4 @@ pub mod Serving
 pub mod Sends
 pub mod Progress
 pub mod Laws
+pub mod Lines

@@ -1,7 +1,6 @@
 //! Requests read from lines.
 
 ghost use Rattle.std.specs.Prelude.{◌≡◌, ◌⊎◌, ◌≤◌, length, IfOk, IfErr, IsErrOf, option_map};
-ghost use Rattle.std.specs.Io.BufRead.{strip_last};
 ghost use Rattle.serde_json.specs.View.{view};
 ghost use Rattle.ct_lines.specs.Asked.{Asked, IsRequest, asked_in, consistency_asked, proof_by_hash_asked, entries_asked, entry_and_proof_asked, receipt_asked, query_asked, chain_asked, pre_chain_asked, sequence_asked, audit_asked, front_asks, operator_asks, frozen_asks, party_at};
 ghost use Rattle.ct_lines.specs.Requests.{asked, front_asked, operator_asked, frozen_asked, audit_of, party};
@@ -13,16 +12,6 @@ use ct_codec::Refusal;
 use ct_core::Query;
 use serde_json::Value;
 use std::alloc::{AllocError, Global};
-
-/// The line without its end, the byte 0A.
-pub fn content(line: &[u8]) -> &[u8]
-    ensures { result.now ≡ strip_last 10 line.now }
-{
-    match line.split_last() {
-        Some((last, front)) if *last == b'\n' => front,
-        _ => line,
-    }
-}
 
 // The longest line, in bytes, without its end.
 pub(crate) const LONGEST: usize = 1_048_576;

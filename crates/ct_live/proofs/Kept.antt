@@ -9,9 +9,9 @@ use Rattle.ct_core.specs.Replies.{Answer}
 use Rattle.ct_core.specs.Settlement.{Log}
 use Rattle.ct_lines.specs.Frozen.{answer_if, line_answer}
 use Rattle.ct_lines.proofs.Asking.{too_long}
-use Rattle.ct_pipes.specs.Lines.{kept_line, IsNextLine}
+use Rattle.ct_lines.specs.Lines.{kept_line, IsNextLine}
 use Rattle.ct_pipes.specs.Tagged.{tagged}
-use Rattle.ct_pipes.proofs.Pieces.{whole_or_long}
+use Rattle.ct_lines.proofs.KeptLines.{whole_or_long}
 use Rattle.ct_live.specs.LiveLines.{AsksLive, live_asked_in, live_request_of, live_request_step, live_step_for}
 use Rattle.ct_live.specs.LiveGiven.{GivesLines}
 use Rattle.ct_live.specs.LiveReplies.{object_text}
@@ -35,10 +35,10 @@ asks_long fronts a b s long_a long_b (t, inr (bad, none), step) = (
       ∙ sym (ap (live_step_for fronts b) bad),
 )
 
-pub asks_kept : (fronts : ℕ) (xs : List ℕ) (s : LiveStep) → AsksLive fronts (kept_line xs) s → AsksLive fronts (first_piece 10 xs) s
-asks_kept fronts xs s asks = elim (whole_or_long xs) [
+pub asks_kept : (fronts : ℕ) (xs : List ℕ) (s : LiveStep) → AsksLive fronts (kept_line 1048578 xs) s → AsksLive fronts (first_piece 10 xs) s
+asks_kept fronts xs s asks = elim (whole_or_long 1048576 xs) [
   | inl same ↦ subst (λ (l : List ℕ). AsksLive fronts l s) same asks
-  | inr long ↦ asks_long fronts (kept_line xs) (first_piece 10 xs) s long.0 long.1 asks
+  | inr long ↦ asks_long fronts (kept_line 1048578 xs) (first_piece 10 xs) s long.0 long.1 asks
 ]
 
 asks_line : (fronts k : ℕ) (a b : List ℕ) (ss : List (ℕ × LiveStep)) → 1048576 < length a → 1048576 < length b → AllAskLive fronts ((k, a) ∷ []) ss
@@ -48,15 +48,15 @@ asks_line fronts k (x ∷ a) [] ss long_a long_b p = absurd (omega (arith, long_
 asks_line fronts k (x ∷ a) (y ∷ b) [] long_a long_b p = absurd p
 asks_line fronts k (x ∷ a) (y ∷ b) (s ∷ ss) long_a long_b p = (p.0, asks_long fronts (x ∷ a) (y ∷ b) s.1 long_a long_b p.1, p.2, p.3)
 
-kept_asks_line : (fronts k : ℕ) (xs : List ℕ) (ss : List (ℕ × LiveStep)) → AllAskLive fronts ((k, kept_line xs) ∷ []) ss
+kept_asks_line : (fronts k : ℕ) (xs : List ℕ) (ss : List (ℕ × LiveStep)) → AllAskLive fronts ((k, kept_line 1048578 xs) ∷ []) ss
     → AllAskLive fronts ((k, first_piece 10 xs) ∷ []) ss
-kept_asks_line fronts k xs ss p = elim (whole_or_long xs) [
+kept_asks_line fronts k xs ss p = elim (whole_or_long 1048576 xs) [
   | inl same ↦ subst (λ (l : List ℕ). AllAskLive fronts ((k, l) ∷ []) ss) same p
-  | inr long ↦ asks_line fronts k (kept_line xs) (first_piece 10 xs) ss long.0 long.1 p
+  | inr long ↦ asks_line fronts k (kept_line 1048578 xs) (first_piece 10 xs) ss long.0 long.1 p
 ]
 
-kept_some : (xs : List ℕ) → kept_line xs ≢ [] → first_piece 10 xs ≢ []
-kept_some xs some = elim (whole_or_long xs) [
+kept_some : (xs : List ℕ) → kept_line 1048578 xs ≢ [] → first_piece 10 xs ≢ []
+kept_some xs some = elim (whole_or_long 1048576 xs) [
   | inl same ↦ λ e. some (same ∙ e)
   | inr long ↦ λ e. absurd (omega (arith, long.1, ap length e))
 ]
@@ -66,9 +66,9 @@ abbrev pub whole_line : Option (List ℕ) → List ℕ → List ℕ
 whole_line None line = line
 whole_line (Some xs) line = first_piece 10 xs
 
-kept_piece : (n m k : ℕ) (xs : List ℕ) (later : Option (List ℕ)) (line : List ℕ) → IsNextLine n m (Some xs) later line (Some k) → line ≡ kept_line xs
+kept_piece : (n m k : ℕ) (xs : List ℕ) (later : Option (List ℕ)) (line : List ℕ) → IsNextLine n m (Some xs) later line (Some k) → line ≡ kept_line 1048578 xs
 kept_piece n m k xs later line is =
-    let first : (0 < length xs) × (line ≡ kept_line xs) × (later ≡ Some (drop_through 10 xs)) = is.2 in
+    let first : (0 < length xs) × (line ≡ kept_line 1048578 xs) × (later ≡ Some (drop_through 10 xs)) = is.2 in
     first.1
 
 -- it asks what is kept of it
@@ -98,10 +98,10 @@ replies_long log k (x ∷ a) (y ∷ b) long_a long_b =
     let same : line_answer log (x ∷ a) ≡ line_answer log (y ∷ b) = ap (answer_if log) (too_long (x ∷ a) long_a ∙ sym (too_long (y ∷ b) long_b)) in
     ap (λ (r : Answer). tagged k (object_text r) ∷ []) same
 
-kept_replies : (log : Log) (k : ℕ) (xs : List ℕ) → closed_replies log ((k, kept_line xs) ∷ []) ≡ closed_replies log ((k, first_piece 10 xs) ∷ [])
-kept_replies log k xs = elim (whole_or_long xs) [
+kept_replies : (log : Log) (k : ℕ) (xs : List ℕ) → closed_replies log ((k, kept_line 1048578 xs) ∷ []) ≡ closed_replies log ((k, first_piece 10 xs) ∷ [])
+kept_replies log k xs = elim (whole_or_long 1048576 xs) [
   | inl same ↦ ap (λ (l : List ℕ). closed_replies log ((k, l) ∷ [])) same
-  | inr long ↦ replies_long log k (kept_line xs) (first_piece 10 xs) long.0 long.1
+  | inr long ↦ replies_long log k (kept_line 1048578 xs) (first_piece 10 xs) long.0 long.1
 ]
 
 pub whole_replies : (log : Log) (n m k : ℕ) (left later : Option (List ℕ)) (line : List ℕ) → IsNextLine n m left later line (Some k)

@@ -6,7 +6,7 @@ use Rattle.rtrb.specs.Ring.{sent}
 use Rattle.ct_parties.specs.Lines.{lines_of}
 use Rattle.ct_parties.proofs.LineLemmas.{first_line_cut}
 use Rattle.ct_parties.specs.declared.task.FrontTask.{FrontTask}
-use Rattle.ct_pipes.specs.Lines.{IsNextLine}
+use Rattle.ct_lines.specs.Lines.{IsNextLine}
 use Rattle.ct_pipes.specs.Rings.{all_sent}
 use Rattle.ct_pipes.specs.declared.answering.Numbered.{Numbered}
 use Rattle.ct_live.specs.LiveGiven.{AreFirstLinesOf, AreRead, EndsReading, HaveGiven, ReadsOn}

@@ -8,7 +8,7 @@ use Rattle.ct_core.specs.Settlement.{Log}
 use Rattle.ct_lines.specs.Frozen.{line_answer}
 use Rattle.ct_lines.specs.Sends.{SendsSome}
 use Rattle.ct_parties.specs.Lines.{lines_of}
-use Rattle.ct_pipes.specs.Lines.{IsNextLine}
+use Rattle.ct_lines.specs.Lines.{IsNextLine}
 use Rattle.ct_pipes.specs.Tagged.{tagged}
 use Rattle.ct_pipes.specs.Written.{WritesBeginning}
 use Rattle.ct_pipes.proofs.Sending.{some_of_all}

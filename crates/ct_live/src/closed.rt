@@ -11,9 +11,9 @@ ghost use Rattle.ct_live.specs.LiveServed.{closed_replies};
 
 use crate::replying::reply_object;
 use ct_core::{Published, Reply};
-use ct_lines::{frozen_reply, send};
+use ct_lines::{NumberedLines, frozen_reply, send};
 use ct_parties::Fault;
-use ct_pipes::{NumberedLines, tag};
+use ct_pipes::tag;
 use ct_tree::Memory;
 use std::alloc::Global;
 use std::io::{BufRead, Write};

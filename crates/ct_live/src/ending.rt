@@ -19,10 +19,9 @@ use crate::front::LiveFront;
 use crate::giving::{End, GiveFault, Giver, Inlets};
 use crate::workers::DeskWorker;
 use ct_house::{Front, Sequencer};
+use ct_lines::NumberedLines;
 use ct_parties::{Fault, FrontTask, close};
-use ct_pipes::{
-    Joined, Numbered, NumberedLines, PartyFault, StartFault, WriteFailed, are_taken, write_left,
-};
+use ct_pipes::{Joined, Numbered, PartyFault, StartFault, WriteFailed, are_taken, write_left};
 use ct_tree::Memory;
 use rtrb::{Consumer, Producer};
 use std::alloc::Global;

@@ -17,10 +17,9 @@ use crate::giving::{Giver, Inlets};
 use crate::threads::{Out, Served, Start, run_threads};
 use crate::workers::{DeskWorker, FrontWorker};
 use ct_house::{Front, Sequencer, open};
+use ct_lines::NumberedLines;
 use ct_parties::{Fault, FrontTask, Options, Waiting};
-use ct_pipes::{
-    Breaker, Numbered, NumberedLines, PLACES, Pipes, Places, Worker, open as open_pipes,
-};
+use ct_pipes::{Breaker, Numbered, PLACES, Pipes, Places, Worker, open as open_pipes};
 use ct_tree::Memory;
 use rtrb::{Consumer, Producer, RingBuffer};
 use std::alloc::Global;

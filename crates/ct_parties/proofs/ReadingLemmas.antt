@@ -1,11 +1,13 @@
 -- What was given out of the lines that were read.
-use Rattle.std.proofs.Common.{◌≡◌, ◌<◌, ℕ, List, [], ◌∷◌, ◌++◌, length, Option, Some, None, false, refl, sym, ap, subst, ◌∙◌, arith, append_assoc, append-nil}
+use Rattle.std.proofs.Common.{◌≡◌, ◌<◌, ℕ, List, [], ◌∷◌, ◌++◌, length, Option, Some, None, true, false, inl, inr, refl, sym, ap, subst, ◌∙◌, arith, append_assoc, append-nil}
 use Rattle.std.proofs.lemmas.Option.{same_Some, none-some}
 use Rattle.std.specs.Prelude.{IfSome}
-use Rattle.std.specs.Io.BufRead.{drop_through, first_piece, strip_last, take_through, DropsThrough}
+use Rattle.std.specs.Io.BufRead.{drop_through, first_piece}
+use Rattle.ct_lines.specs.Lines.{kept_line, IsFirstLine, TakesNext}
+use Rattle.ct_lines.proofs.KeptLines.{whole_or_long}
 use Rattle.ct_parties.specs.Lines.{lines_of}
 use Rattle.ct_parties.specs.Output.{AreStepsOf}
-use Rattle.ct_parties.specs.Plans.{IsPlanOf, LineTaken}
+use Rattle.ct_parties.specs.Plans.{GivesOut, IsPlanOf, LineTaken}
 use Rattle.ct_parties.specs.Tasks.{Step, AsksFor, AllAskFor}
 use Rattle.ct_parties.specs.declared.plan.Plan.{Plan}
 use Rattle.ct_parties.proofs.LineLemmas.{first_line_cut}
@@ -31,14 +33,42 @@ pub asked_nothing : (fronts : ℕ) (line : List ℕ) → length line ≡ 0 → A
 asked_nothing fronts [] none = tt
 asked_nothing fronts (b ∷ bs) none = absurd (omega arith)
 
--- a line of which this was read, with its end
-pub line_of_bytes : (read line : List ℕ) (source source_next : Option (List ℕ)) → IfSome source (λ xs. read ≡ take_through 10 xs)
-    → DropsThrough source source_next 10
-    → 0 < length read → line ≡ strip_last 10 read
-    → IfSome source (λ xs. (0 < length xs) × (line ≡ first_piece 10 xs) × (source_next ≡ Some (drop_through 10 xs)))
-line_of_bytes read line None source_next bytes drops some is = tt
-line_of_bytes read line (Some []) source_next bytes drops some is = absurd (omega (arith, some, ap length bytes))
-line_of_bytes read line (Some (x ∷ xs)) source_next bytes drops some is = (omega arith, is ∙ ap (strip_last 10) bytes, drops)
+-- a line that is too long for a request asks what any other such line asks
+asks_long : (fronts : ℕ) (a b : List ℕ) (s : Step) → 1048576 < length a → 1048576 < length b → AsksFor fronts a s → AsksFor fronts b s
+asks_long fronts a b s long_a long_b (inl (r, is, e)) = absurd (omega (arith, long_a, is.fits))
+asks_long fronts a b s long_a long_b (inr (bad, none)) = inr (bad, λ r is. omega (arith, long_b, is.fits))
+
+asks_alike : (fronts : ℕ) (a b : List ℕ) (ss : List Step) → 1048576 < length a → 1048576 < length b → AllAskFor fronts (a ∷ []) ss
+    → AllAskFor fronts (b ∷ []) ss
+asks_alike fronts [] b ss long_a long_b p = absurd (omega (arith, long_a))
+asks_alike fronts (x ∷ a) [] ss long_a long_b p = absurd (omega (arith, long_b))
+asks_alike fronts (x ∷ a) (y ∷ b) [] long_a long_b p = absurd p
+asks_alike fronts (x ∷ a) (y ∷ b) (s ∷ ss) long_a long_b p = (asks_long fronts (x ∷ a) (y ∷ b) s long_a long_b p.0, p.1)
+
+-- what is kept of a line asks what the line asks
+asks_kept : (fronts : ℕ) (xs : List ℕ) (ss : List Step) → AllAskFor fronts (kept_line 1048578 xs ∷ []) ss → AllAskFor fronts (first_piece 10 xs ∷ []) ss
+asks_kept fronts xs ss p = elim (whole_or_long 1048576 xs) [
+  | inl same ↦ subst (λ (l : List ℕ). AllAskFor fronts (l ∷ []) ss) same p
+  | inr long ↦ asks_alike fronts (kept_line 1048578 xs) (first_piece 10 xs) ss long.0 long.1 p
+]
+
+-- the line of which this was kept was read, and what it asks for was added
+pub line_taken : (fronts : ℕ) (p q : Plan) (kept : List ℕ) (source source_next : Option (List ℕ)) → GivesOut fronts p q kept
+    → IsFirstLine 1048578 source source_next kept → LineTaken fronts p q source source_next false
+line_taken fronts p q kept None source_next gives is = (kept, gives, tt)
+line_taken fronts p q kept (Some xs) source_next gives is = (
+  first_piece 10 xs,
+  λ ss given.
+      let (more, asks, given_then) = gives ss given in
+      (more, asks_kept fronts xs more (subst (λ (l : List ℕ). AllAskFor fronts (l ∷ []) more) is.1 asks), given_then),
+  (is.0, refl, is.2),
+)
+
+-- none was left
+pub none_taken : (fronts : ℕ) (p : Plan) (line : List ℕ) (source source_next : Option (List ℕ)) → TakesNext 1048578 source source_next line false
+    → LineTaken fronts p p source source_next true
+none_taken fronts p line None source_next t = (tt, refl)
+none_taken fronts p line (Some xs) source_next t = (t.0, refl)
 
 -- what the next line asks for is done as well
 next_line : (fronts : ℕ) (input rest line : List ℕ) (done more : List Step) → 0 < length rest → line ≡ first_piece 10 rest

@@ -7,7 +7,7 @@ ghost use Rattle.ct_parties.specs.Tasks.{Step};
 
 use crate::fault::Fault;
 use crate::plan::Plan;
-use ct_lines::content;
+use ct_lines::{REQUEST_KEPT, next_line};
 use std::alloc::Global;
 use std::io::{BufRead, BufReader, Read};
 
@@ -29,15 +29,14 @@ fn take_line<R: BufRead>(
     ensures taken { IfOk result (λ done. LineTaken fronts plan.old plan.new (R.remaining input.old) (R.remaining input.new) done) }
     ensures faults { IfErr result (λ f. (f ≡ Fault.Read) ⊎ (f ≡ Fault.Memory)) }
 {
-    buffer.clear();
-    let count = match input.read_until(b'\n', buffer) {
-        Ok(count) => count,
+    let is_line = match next_line(input, REQUEST_KEPT, buffer) {
+        Ok(is_line) => is_line,
         Err(error) => return Err(Fault::from(error.kind())),
     };
-    if count == 0 {
+    if !is_line {
         return Ok(true);
     }
-    plan.add_line(alloc, fronts, content(buffer))?;
+    plan.add_line(alloc, fronts, buffer)?;
     Ok(false)
 }
 
@@ -58,7 +57,8 @@ fn give_out<R: BufRead>(alloc: Global, fronts: u16, input: &mut R) -> Result<Pla
 }
 
 /// Reads the input to its end, and gives its lines out to so many fronts, to the operator and to the closed log, shift by
-/// shift. No more than a line of it is held at a time. An empty line is nobody's.
+/// shift. No more than a line of it is held at a time, and of a line that is too long for a request no more than 1,048,578 bytes.
+/// An empty line is nobody's.
 ///
 /// # Errors
 ///

@@ -5,4 +5,3 @@ pub mod Beside
 pub mod Opened
 pub mod Turns
 pub mod Joining
-pub mod Pieces

@@ -1,7 +1,6 @@
 pub mod Parts
 pub mod Rings
 pub mod Written
-pub mod Lines
 pub mod Tagged
 pub mod Opening
 pub mod Answered

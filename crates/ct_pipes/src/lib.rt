@@ -6,8 +6,7 @@
 //! The parts, in the order in which a program puts them together:
 //!
 //! - `opening` makes the rings: `open`, of whose ends each thread has its own.
-//! - `lines` cuts an input into numbered lines, as it comes, for the reader's thread; `post` has `give`, by which it gives
-//!   each party its tasks, and waits where a ring is full.
+//! - `post` has `give`, by which the reader's thread gives each party its tasks, and waits where a ring is full.
 //! - `workers` has the parties' threads: `start_workers` and `join_workers`. A thread hands back the party with the ends of its
 //!   rings (`Worked`), also where it ended before its time, and `Joined` has those of all threads: a program makes room for them
 //!   before it starts any, so that they can be joined without memory. What a party does is its own (`Party`, in `answering`):
@@ -20,7 +19,7 @@
 //!   on it: it only ends waits. `breaker` has all of them end.
 //! - `ahead` reads an input ahead in a thread of its own, so that the breaker ends the reader's wait for it too.
 //!
-//! `specs/Parts.antt`, `Rings`, `Written`, `Lines`, `Answered`, `Working`, `Waiting`, `Tagged` and `Opening` are the words of
+//! `specs/Parts.antt`, `Rings`, `Written`, `Answered`, `Working`, `Waiting`, `Tagged` and `Opening` are the words of
 //! the contracts.
 #![tactic(auto)]
 
@@ -28,7 +27,6 @@ mod ahead;
 mod answering;
 mod breaker;
 mod ending;
-mod lines;
 mod opening;
 mod output;
 mod places;
@@ -41,7 +39,6 @@ pub use ahead::{ReadAhead, read_ahead};
 pub use answering::{Numbered, Party, PartyFault, answer_all};
 pub use breaker::Breaker;
 pub use ending::{are_taken, write_left};
-pub use lines::NumberedLines;
 pub use opening::{PLACES, Pipes, open};
 pub use output::WriteFailed;
 pub use places::{Places, Seat};

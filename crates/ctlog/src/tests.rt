@@ -389,7 +389,20 @@ fn command_lines_that_are_refused(rt: HostRuntime) {
         "9007199254740992",
     ];
     let none = ["ctlog", "--fronts", "1"];
-    let table: [&[&str]; 6] = [&seventeen, &no_front, &no_places, &places, &late, &none];
+    let behind = [
+        "ctlog",
+        "--fronts",
+        "1",
+        "--ring",
+        "4",
+        "--open-at",
+        "9",
+        "--close-at",
+        "5",
+    ];
+    let table: [&[&str]; 7] = [
+        &seventeen, &no_front, &no_places, &places, &late, &none, &behind,
+    ];
     for words in table {
         let outcome = outcome_of(&rt, rt.alloc(), words, 9, b"");
         assert!(rt; outcome.status == 2 && outcome.output.is_empty());
@@ -411,6 +424,25 @@ fn the_greatest_numbers(rt: HostRuntime) {
     ];
     let outcome = outcome_of(&rt, rt.alloc(), &words, 9, b"");
     assert!(rt; outcome.status == 0 && outcome.output.is_empty() && outcome.faults.is_empty());
+}
+
+// The refusal says which two options don't fit.
+#[test]
+fn an_opening_behind_the_closing(rt: HostRuntime) {
+    let words = [
+        "ctlog",
+        "--fronts=1",
+        "--ring=4",
+        "--open-at=9",
+        "--close-at=5",
+    ];
+    let outcome = outcome_of(&rt, rt.alloc(), &words, 9, b"");
+    assert!(rt; outcome.status == 2);
+    assert!(rt;
+        outcome.faults.starts_with(
+            b"error: the moment of '--open-at' is behind that of '--close-at'\n"
+        )
+    );
 }
 
 // The log opens at 5 and, where no moment is asked for, closes at 2^53 - 1.

@@ -2,8 +2,7 @@
 //! does is `answer_words` of `ct_follow`, over the process's words, standard input, output and error.
 #![tactic(auto)]
 
-use ct_follow::{Fault, answer_words};
-use ct_lines::tell;
+use ct_follow::{Fault, answer_words, refuse_words};
 use std::io;
 use std::process::ExitCode;
 
@@ -21,10 +20,7 @@ fn main(rt: HostRuntime) -> ExitCode {
             let (_, words) = words.split_at(usize::from(!words.is_empty()));
             answer_words(rt.alloc(), words, rt.reader(), &mut output, &mut faults)
         }
-        Err(fault) => {
-            tell(&mut faults, fault.text().as_bytes());
-            1
-        }
+        Err(fault) => refuse_words(fault, &mut faults),
     };
     ExitCode::from(status)
 }

@@ -3,6 +3,8 @@
 #![tactic(auto)]
 
 #[cfg(test)]
+mod bounded_lines;
+#[cfg(test)]
 mod core_answers;
 #[cfg(test)]
 mod core_log;

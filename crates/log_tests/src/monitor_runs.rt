@@ -1,5 +1,5 @@
 // What is expected was computed by another program: examples/monitor/answers.py, with hashlib alone, over short leaves.
-use ct_follow::{Fault, answer_words, run};
+use ct_follow::{Fault, answer_words, refuse_words, run};
 use std::alloc::Global;
 use std::io;
 use std::io::{BufReader, ErrorKind, Read, Write};
@@ -202,7 +202,39 @@ fn writes(alloc: Global, input: &str, text: &str, status: u8) -> Result<bool, Fa
     Ok(found == Ok(status) && output.as_slice() == text.as_bytes())
 }
 
-const USAGE: &str = "usage: ctmonitor [--name NAME].. < lines > verdicts\n";
+const HELP_BEGINS: &str = "Usage: ctmonitor [OPTIONS] < lines > verdicts
+
+Options:
+      --name <NAME>  ";
+
+const HELP_ENDS: &str =
+    "\n  4  a line was none of a log's, or the state wasn't taken up\n";
+
+const UNNAMED: &str = "error: a value is required for '--name <NAME>' but none was supplied
+
+For more information, try '--help'.
+";
+
+const REFUSED_NAME: &str = "error: unexpected argument '--Name' found
+
+Usage: ctmonitor [OPTIONS] < lines > verdicts
+
+For more information, try '--help'.
+";
+
+const REFUSED_WORD: &str = "error: unexpected argument 'example.org' found
+
+Usage: ctmonitor [OPTIONS] < lines > verdicts
+
+For more information, try '--help'.
+";
+
+const UNREADABLE: &str = "error: an argument isn't UTF-8
+
+Usage: ctmonitor [OPTIONS] < lines > verdicts
+
+For more information, try '--help'.
+";
 
 // Whether the program over these words writes this on its output, and this among its faults, and ends with this status, where its
 // input is that of the first head.
@@ -260,13 +292,46 @@ fn truncated_states(rt: HostRuntime) -> Result<(), Fail> {
 fn command_lines(rt: HostRuntime) -> Result<(), Fail> {
     for (words, text, told, status) in [
         ("--name EXAMPLE.org", TO_THE_FIRST_HEAD_TEXT, "", 0),
-        ("--help", USAGE, "", 0),
-        ("--name a --help b", USAGE, "", 0),
-        ("--name", "", USAGE, 2),
-        ("--name a --Name b", "", USAGE, 2),
-        ("example.org", "", USAGE, 2),
+        ("--version", "ctmonitor 0.1.0\n", "", 0),
+        ("--name a -V b", "ctmonitor 0.1.0\n", "", 0),
+        ("--name a --name", "", UNNAMED, 2),
+        ("--name a --Name b", "", REFUSED_NAME, 2),
+        ("example.org --help", "", REFUSED_WORD, 2),
     ] {
         assert!(rt; answers(rt.alloc(), words, text, told, status)?);
+    }
+    Ok(())
+}
+
+// Help is written on the output, whatever stands behind it.
+#[test]
+fn help(rt: HostRuntime) -> Result<(), Fail> {
+    let alloc = rt.alloc();
+    for line in ["--help", "-h", "--name a --help b"] {
+        let mut words = Vec::new(alloc);
+        for word in line.split_ascii_whitespace() {
+            words.push(String::from_str(alloc, word)?)?;
+        }
+        let mut output = Vec::new(alloc);
+        let mut faults = Vec::new(alloc);
+        let status = answer_words(alloc, &words, b"".as_slice(), &mut output, &mut faults);
+        assert!(rt; status == 0 && faults.is_empty());
+        assert!(rt; output.starts_with(HELP_BEGINS.as_bytes()));
+        assert!(rt; output.ends_with(HELP_ENDS.as_bytes()));
+    }
+    Ok(())
+}
+
+// Words that can't be read are refused, and want of memory is a fault.
+#[test]
+fn words_that_cannot_be_read(rt: HostRuntime) -> Result<(), Fail> {
+    for (fault, told, due) in [
+        (Fault::Read, UNREADABLE, 2),
+        (Fault::Memory, "ctmonitor: memory\n", 1),
+    ] {
+        let mut faults = Vec::new(rt.alloc());
+        let status = refuse_words(fault, &mut faults);
+        assert!(rt; status == due && faults.as_slice() == told.as_bytes());
     }
     Ok(())
 }
@@ -288,18 +353,40 @@ fn told_faults(rt: HostRuntime) -> Result<(), Fail> {
     Ok(())
 }
 
-// A head is no line of the log's where it stands behind 16,777,216 blanks.
+// What is written for the longest line, one that has a byte more, and a short one, each the same head.
+const LONG_LINES_TEXT: &str = "{\"tree_size\":0,\"verdict\":\"accepted\"}
+{\"error\":\"bad-line\"}
+{\"verdict\":\"again\"}
+{\"accepted\":{\"sha256_root_hash\":\"47DEQpj8HBSa+/TImW+5JCeuQeRkm5NMpJWZG3hSuFU=\",\"timestamp\":7,\"tree_size\":0},\"all\":{\"size\":0,\"subtrees\":[]},\"check\":\"LgJ1EFuRcyBcxNdImmUa4U9vyQiLZb1A09/NOvPEZRg=\",\"state\":1,\"sure\":{\"size\":0,\"subtrees\":[]},\"waiting\":null}
+";
+
+// Adds the head, and blanks before it: 4,096 of them so often, and so many more.
+fn push_head(input: &mut Vec<u8>, times: usize, more: usize) -> Result<(), Fail> {
+    let blanks = [b' '; 4096];
+    for _ in 0..times {
+        input.extend_from_slice(&blanks)?;
+    }
+    for _ in 0..more {
+        input.push(b' ')?;
+    }
+    input.extend_from_slice(EMPTY_HEAD.as_bytes())?;
+    input.push(b'\n')?;
+    Ok(())
+}
+
+// A head has 95 bytes, and the longest line 4,096 times 4,096.
 #[test]
 fn a_line_that_is_too_long(rt: HostRuntime) -> Result<(), Fail> {
     let alloc = rt.alloc();
-    let mut line = Vec::new(alloc);
-    for _ in 0..4096 {
-        line.extend_from_slice(&[b' '; 4096])?;
-    }
-    line.extend_from_slice(EMPTY_HEAD.as_bytes())?;
+    let mut input = Vec::new(alloc);
+    push_head(&mut input, 4095, 4096 - 95)?;
+    push_head(&mut input, 4095, 4096 - 94)?;
+    push_head(&mut input, 0, 0)?;
     let mut output = Vec::new(alloc);
-    let mut reader = BufReader::new(alloc, line.as_slice())?;
+    let mut reader = BufReader::new(alloc, input.as_slice())?;
+    assert!(rt; EMPTY_HEAD.len() == 95);
     assert!(rt; run(alloc, &[], &mut reader, &mut output) == Ok(4));
+    assert!(rt; output.as_slice() == LONG_LINES_TEXT.as_bytes());
     Ok(())
 }
 

@@ -3,7 +3,7 @@ use Rattle.std.proofs.lemmas.List.{at_drop_more, at_drop_all}
 use Rattle.std.specs.Prelude.{String, string_bytes}
 use Rattle.std.specs.Char.{to_ascii_lowercase}
 use Rattle.std.proofs.lemmas.List.{map-append}
-use Rattle.ct_follow.proofs.Words.{stands_as, ends_unnamed, ends_watching, reads_name, reads_option, reads_other, ends_usage, ends_refused}
+use Rattle.ct_follow.proofs.Words.{stands_as, ends_unnamed, ends_watching, reads_name, reads_option, reads_other, ends_alone}
 use Rattle.ct_follow.proofs.command.command_of.Goals.{then-is_value+in_ok-to_ascii_lowercase+in_ok-push, else-is_value+then-eq}
 use Rattle.ct_follow.proofs.command.command_of.Goals as goal
 
@@ -21,8 +21,8 @@ returns-else-is_value-2 c =
     ends_watching (map string_bytes c.loop-word.names.items) (map string_bytes words) c.loop-word.is_value
     (map string_bytes (drop c.loop-word.word-index words)) c.loop-word.invariant c.if-is_value-2.false none
 
-pub returns-then-eq-2 : goal.returns-then-eq-2
-returns-then-eq-2 c =
+pub returns-else-eq : goal.returns-else-eq
+returns-else-eq c =
     let words = c.args.words.now in
     let i = c.loop-word.word-index in
     let x = c.word-item.result in
@@ -31,21 +31,7 @@ returns-then-eq-2 c =
     let other = reads_other (map string_bytes c.loop-word.names.items) (map string_bytes words) c.loop-word.is_value (map string_bytes (drop i words))
     (map string_bytes (drop (i + 1) words)) (string_bytes x) c.loop-word.invariant c.if-is_value.false left
     (rw c.as_str.ensures.value at (sym c.eq.ensures ∙ c.if-eq.false)) in
-    ends_usage (map string_bytes c.loop-word.names.items) (map string_bytes words) (string_bytes x) other
-    (rw c.as_str-else-eq.ensures.value at (sym c.eq-else-eq.ensures ∙ c.if-eq-2.true))
-
-pub returns-else-eq-2 : goal.returns-else-eq-2
-returns-else-eq-2 c =
-    let words = c.args.words.now in
-    let i = c.loop-word.word-index in
-    let x = c.word-item.result in
-    let left : map string_bytes (drop i words) ≡ string_bytes x ∷ map string_bytes (drop (i + 1) words) =
-    at_drop_more (map string_bytes) words i x c.loop-word-test.true ∙ rw (← c.word-item.is) refl in
-    let other = reads_other (map string_bytes c.loop-word.names.items) (map string_bytes words) c.loop-word.is_value (map string_bytes (drop i words))
-    (map string_bytes (drop (i + 1) words)) (string_bytes x) c.loop-word.invariant c.if-is_value.false left
-    (rw c.as_str.ensures.value at (sym c.eq.ensures ∙ c.if-eq.false)) in
-    ends_refused (map string_bytes c.loop-word.names.items) (map string_bytes words) (string_bytes x) other
-    (rw c.as_str-else-eq.ensures.value at (sym c.eq-else-eq.ensures ∙ c.if-eq-2.false))
+    ends_alone c.command_alone.result (string_bytes x) (map string_bytes words) (rw c.as_str-else-eq.ensures.value at c.command_alone.ensures) other
 
 pub loop-word-preserved : goal.loop-word-preserved
 loop-word-preserved c =

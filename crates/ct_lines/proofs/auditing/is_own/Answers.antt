@@ -1,4 +1,4 @@
-use Rattle.std.proofs.Common.{◌∙◌, sym, ap, List, ℕ}
+use Rattle.std.proofs.Common.{◌∙◌, sym, ap}
 use Rattle.ct_core.specs.Replies.{shown, shown_text}
 use Rattle.ct_lines.proofs.Audits.{own_audited}
 use Rattle.ct_lines.proofs.auditing.is_own.Goals as goal

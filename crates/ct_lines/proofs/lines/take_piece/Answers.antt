@@ -3,19 +3,19 @@ use Rattle.std.proofs.lemmas.List.Elements.{All-more}
 use Rattle.std.specs.Io.BufRead.{FillKeeps, DropsConsumable}
 use Rattle.std.proofs.BufReadLemmas.{Consumes_shown, zero_unless_positive}
 use Rattle.std.proofs.Transfers.{StopsAt-take}
-use Rattle.ct_pipes.proofs.Pieces.{kept_more, no_piece}
-use Rattle.ct_pipes.proofs.lines.take_piece.Goals.{then-end-eq0, else-end-eq0}
-use Rattle.ct_pipes.proofs.lines.take_piece.Goals as goal
+use Rattle.ct_lines.proofs.KeptLines.{kept_more, no_piece}
+use Rattle.ct_lines.proofs.lines.take_piece.Goals.{then-end-eq0, else-end-eq0}
+use Rattle.ct_lines.proofs.lines.take_piece.Goals as goal
 
 pub returns-then-eq : goal.returns-then-eq
-returns-then-eq g c = no_piece _ _ c.args.line.now.items _ _ c.requires refl c.fill_buf.follows.holds-at-none.0 (search rules)
+returns-then-eq g c = no_piece c.args.most _ _ c.args.line.now.items _ _ c.requires refl c.fill_buf.follows.holds-at-none.0 (search rules)
 
 pub returns-else-eq : goal.returns-else-eq
-returns-else-eq g c = no_piece _ _ c.args.line.now.items _ _ c.requires refl c.fill_buf.follows.holds-at-none.0 (search rules)
+returns-else-eq g c = no_piece c.args.most _ _ c.args.line.now.items _ _ c.requires refl c.fill_buf.follows.holds-at-none.0 (search rules)
 
 pub returns-in_err-extend_from_slice : goal.returns-in_err-extend_from_slice
 returns-in_err-extend_from_slice g c =
-    no_piece _ _ c.args.line.now.items _ _ c.requires c.in_err-extend_from_slice.ensures.items c.fill_buf.follows.holds-at-none.0 (search rules)
+    no_piece c.args.most _ _ c.args.line.now.items _ _ c.requires c.in_err-extend_from_slice.ensures.items c.fill_buf.follows.holds-at-none.0 (search rules)
 
 pub returns : goal.returns
 returns g c =
@@ -30,7 +30,7 @@ returns g c =
     record {
       bytes = take end.result shown;
       taken = moved.0;
-      kept = c.in_ok-extend_from_slice.ensures.items ∙ kept_more 1048578 c.min-kept.result end.result c.args.line.now.items shown c.requires (search rules);
+      kept = c.in_ok-extend_from_slice.ensures.items ∙ kept_more c.args.most c.min-kept.result end.result c.args.line.now.items shown c.requires (search rules);
       stops = StopsAt-take _ _ _ end.ensures.bound end.ensures.before;
       goes_on = λ more. elim c.if-end-eq0.branch [
         | then-end-eq0 w ↦ absurd (more (ap Ok (search rules)))

@@ -1,6 +1,6 @@
 use Rattle.std.proofs.Common.{◌≢◌, ◌-◌, All, subst, rules, arith, take-take}
 use Rattle.std.proofs.lemmas.List.Elements.{All-take, All-more}
-use Rattle.ct_pipes.proofs.lines.through.Goals as goal
+use Rattle.ct_lines.proofs.lines.through.Goals as goal
 
 pub loop-i-preserved : goal.loop-i-preserved
 loop-i-preserved c = (search rules, All-more (λ x. x ≢ 10) _ _ 0 (search rules) c.loop-i.invariant.1 (search rules))

@@ -1,5 +1,5 @@
 use Rattle.std.proofs.Common.{length, take, ◌-◌, ◌≤◌, ◌≢◌, All}
-use Rattle.ct_pipes.proofs.lines.through.Given as goal
+use Rattle.ct_lines.proofs.lines.through.Given as goal
 
 abbrev pub invariant-loop-i : goal.invariant-loop-i
 invariant-loop-i l = (l.i ≤ length l.bytes) × All (λ x. x ≢ 10) (take l.i l.bytes)

@@ -1,15 +1,16 @@
 -- What is kept of a line, piece by piece.
 use Rattle.std.proofs.Common.{◌≡◌, ◌⊎◌, inl, inr, ◌≢◌, ◌<◌, ◌≤◌, ◌+◌, ◌-◌, ℕ, zero, suc, Bool, true, false, cond, List, [], ◌∷◌, ◌++◌, All, length, take, min}
-use Rattle.std.proofs.Common.{Option, Some, None, Result, Ok, IfSome, refl, sym, ap, ◌∙◌, arith, append-nil, le_refl, length-take-le, take_all}
+use Rattle.std.proofs.Common.{Option, Some, None, Result, Ok, Err, IfSome, refl, sym, ap, ◌∙◌, arith, append-nil, le_refl, length-take-le, take_all}
 use Rattle.std.proofs.lemmas.Bool.{cases_lt}
 use Rattle.std.proofs.lemmas.List.{length-take}
 use Rattle.std.proofs.lemmas.List.Elements.{All-append}
 use Rattle.std.proofs.Math.Seq.{take-append-add}
+use Rattle.std.specs.Prelude.{OnErr}
 use Rattle.std.proofs.KnownBytes.{Consumes-nil, Consumes-kept, Consumes-trans}
 use Rattle.std.proofs.BufReadLemmas.{Consumes_through, take_through-nil, take_through_nonempty}
 use Rattle.std.specs.Io.KnownBytes.{Consumes, Keeps}
-use Rattle.std.specs.Io.BufRead.{ends_with_byte, first_piece, strip_last, take_through, DropsThrough}
-use Rattle.ct_pipes.specs.Lines.{kept_line, IsKeptOf, IsFirstLine, TakesPiece, TakesFirstLine}
+use Rattle.std.specs.Io.BufRead.{drop_through, ends_with_byte, first_piece, strip_last, take_through, DropsThrough}
+use Rattle.ct_lines.specs.Lines.{kept_line, IsKeptOf, IsFirstLine, TakesNext, TakesPiece, TakesFirstLine}
 
 -- the first of so many, and the first of these
 take_within : (xs : List ℕ) (room end n : ℕ) → n ≡ min end room → take n xs ≡ take room (take end xs)
@@ -40,16 +41,21 @@ kept_more most n end line shown small is =
     ap (λ l. line ++ l) (take_within shown room end n is) ∙ sym (take-append-add line (take end shown) room)
     ∙ ap (λ k. take k (line ++ take end shown)) whole
 
+-- of an error
+pub of_error : {T E P : Type 0} (r : Result T E) → P → OnErr r P
+of_error (Ok v) p = tt
+of_error (Err e) p = p
+
 all_of_none : All (λ (x : ℕ). x ≢ 10) []
 all_of_none k d below = λ e. absurd (omega (arith, below))
 
 -- nothing was taken
-pub no_piece : {E : Type 0} (a b : Option (List ℕ)) (line line_then : List ℕ) (r : Result Bool E) → length line ≤ 1048578 → line_then ≡ line → Keeps a b
-    → r ≢ Ok true → TakesPiece a b line line_then r
-no_piece a b line line_then r small same kept more = record {
+pub no_piece : {E : Type 0} (most : ℕ) (a b : Option (List ℕ)) (line line_then : List ℕ) (r : Result Bool E) → length line ≤ most → line_then ≡ line
+    → Keeps a b → r ≢ Ok true → TakesPiece most a b line line_then r
+no_piece most a b line line_then r small same kept more = record {
   bytes = [];
   taken = Consumes-kept a a b [] (Consumes-nil a) kept;
-  kept = same ∙ sym (ap (take 1048578) (append-nil line) ∙ take_all 1048578 line small);
+  kept = same ∙ sym (ap (take most) (append-nil line) ∙ take_all most line small);
   stops = all_of_none;
   goes_on = λ e. all_of_none;
   ends = λ e. absurd (more e);
@@ -57,26 +63,31 @@ no_piece a b line line_then r small same kept more = record {
 }
 
 -- some bytes were taken, none of which is 0A, and their beginning is kept
-pub record TakenSoFar (left left_then : Option (List ℕ)) (line : List ℕ) : Type 0 where
+pub record TakenSoFar (most : ℕ) (left left_then : Option (List ℕ)) (line : List ℕ) : Type 0 where
   pub bytes : List ℕ
   pub taken : Consumes left left_then bytes
   pub goes_on : All (λ x. x ≢ 10) bytes
-  pub kept : line ≡ take 1048578 bytes
+  pub kept : line ≡ take most bytes
 
-pub none_so_far : (a : Option (List ℕ)) (line : List ℕ) → line ≡ [] → TakenSoFar a a line
-none_so_far a line none = record { bytes = []; taken = Consumes-nil a; goes_on = all_of_none; kept = none }
+take_none : (n : ℕ) → take {A = ℕ} n [] ≡ []
+take_none zero = refl
+take_none (suc n) = refl
 
-pub has_room : (a b : Option (List ℕ)) (line : List ℕ) → TakenSoFar a b line → length line ≤ 1048578
-has_room a b line t =
-    let long = ap length t.kept ∙ length-take 1048578 t.bytes in
+pub none_so_far : (most : ℕ) (a : Option (List ℕ)) (line : List ℕ) → line ≡ [] → TakenSoFar most a a line
+none_so_far most a line none = record { bytes = []; taken = Consumes-nil a; goes_on = all_of_none; kept = none ∙ sym (take_none most) }
+
+pub has_room : (most : ℕ) (a b : Option (List ℕ)) (line : List ℕ) → TakenSoFar most a b line → length line ≤ most
+has_room most a b line t =
+    let long = ap length t.kept ∙ length-take most t.bytes in
     omega (arith, long)
 
-module _ {E : Type 0} (a b c : Option (List ℕ)) (line line_then : List ℕ) (r : Result Bool E) (t : TakenSoFar a b line) (p : TakesPiece b c line line_then r)
+module _ {E : Type 0} (most : ℕ) (a b c : Option (List ℕ)) (line line_then : List ℕ) (r : Result Bool E) (t : TakenSoFar most a b line)
+    (p : TakesPiece most b c line line_then r)
   where
-    kept_then : line_then ≡ take 1048578 (t.bytes ++ p.bytes)
-    kept_then = p.kept ∙ ap (λ l. take 1048578 (l ++ p.bytes)) t.kept ∙ take_again 1048578 t.bytes p.bytes
+    kept_then : line_then ≡ take most (t.bytes ++ p.bytes)
+    kept_then = p.kept ∙ ap (λ l. take most (l ++ p.bytes)) t.kept ∙ take_again most t.bytes p.bytes
 
-    pub more_so_far : r ≢ Ok true → TakenSoFar a c line_then
+    pub more_so_far : r ≢ Ok true → TakenSoFar most a c line_then
     more_so_far more = record {
       bytes = t.bytes ++ p.bytes;
       taken = Consumes-trans a b c t.bytes p.bytes t.taken p.taken;
@@ -84,20 +95,20 @@ module _ {E : Type 0} (a b c : Option (List ℕ)) (line line_then : List ℕ) (r
       kept = kept_then;
     }
 
-    pub kept_so_far : IsKeptOf a c line_then
+    pub kept_so_far : IsKeptOf most a c line_then
     kept_so_far = (t.bytes ++ p.bytes, Consumes-trans a b c t.bytes p.bytes t.taken p.taken, kept_then)
 
-    pub line_taken : r ≡ Ok true → TakesFirstLine a c line_then
+    pub line_taken : r ≡ Ok true → TakesFirstLine most a c line_then
     line_taken done =
         let read = Consumes_through 10 a b c t.bytes p.bytes t.taken t.goes_on p.taken p.stops (p.ends done) (p.at_end done) in
         at a read.0 read.1
       where
-        at : (o : Option (List ℕ)) → IfSome o (λ xs. t.bytes ++ p.bytes ≡ take_through 10 xs) → DropsThrough o c 10 → TakesFirstLine o c line_then
+        at : (o : Option (List ℕ)) → IfSome o (λ xs. t.bytes ++ p.bytes ≡ take_through 10 xs) → DropsThrough o c 10 → TakesFirstLine most o c line_then
         at None e d = tt
-        at (Some xs) e d = (kept_then ∙ ap (take 1048578) e, d)
+        at (Some xs) e d = (kept_then ∙ ap (take most) e, d)
 
-pub kept_at_last : (a b : Option (List ℕ)) (line : List ℕ) → TakenSoFar a b line → IsKeptOf a b line
-kept_at_last a b line t = (t.bytes, t.taken, t.kept)
+pub kept_at_last : (most : ℕ) (a b : Option (List ℕ)) (line : List ℕ) → TakenSoFar most a b line → IsKeptOf most a b line
+kept_at_last most a b line t = (t.bytes, t.taken, t.kept)
 
 stripped : (l : List ℕ) → take (length (strip_last 10 l)) l ≡ strip_last 10 l
 stripped l = at (ends_with_byte 10 l)
@@ -112,19 +123,26 @@ cut_to_content l shown content cut same is at =
     at ∙ ap (λ k. take (length k) l) (is ∙ ap (strip_last 10) same) ∙ stripped l
 
 -- where some of the line was kept, it is the first one
-pub first_line : (a b : Option (List ℕ)) (line content : List ℕ) → TakesFirstLine a b line → 0 < length line → content ≡ strip_last 10 line → IsFirstLine a b
-    content
-first_line None b line content t some is = tt
-first_line (Some xs) b line content t some is =
-    let long = ap length t.0 ∙ length-take 1048578 (take_through 10 xs) in
+pub first_line : (most : ℕ) (a b : Option (List ℕ)) (line content : List ℕ) → TakesFirstLine most a b line → 0 < length line
+    → content ≡ strip_last 10 line → IsFirstLine most a b content
+first_line most None b line content t some is = tt
+first_line most (Some xs) b line content t some is =
+    let long = ap length t.0 ∙ length-take most (take_through 10 xs) in
     (take_through_nonempty 10 xs (omega (arith, long, some)), is ∙ ap (strip_last 10) t.0, t.1)
 
 -- nothing was left where nothing was kept
-pub none_left : (a b : Option (List ℕ)) (line : List ℕ) → TakesFirstLine a b line → length line ≡ 0 → IfSome a (λ xs. xs ≡ [])
-none_left None b line t none = tt
-none_left (Some xs) b line t none =
-    let long = ap length t.0 ∙ length-take 1048578 (take_through 10 xs) in
-    take_through-nil 10 xs (omega (arith, long, none))
+pub none_left : (most : ℕ) (a b : Option (List ℕ)) (line content : List ℕ) → 0 < most → TakesFirstLine most a b line → length line ≡ 0
+    → TakesNext most a b content false
+none_left most None b line content room t none = tt
+none_left most (Some xs) b line content room t none =
+    let long = ap length t.0 ∙ length-take most (take_through 10 xs) in
+    let nothing = take_through-nil 10 xs (omega (arith, long, none, room)) in
+    (nothing, t.1 ∙ ap (λ l. Some (drop_through 10 l)) nothing)
+
+-- the same of a reader that numbers its lines
+pub none_left_to_number : (most : ℕ) (a b : Option (List ℕ)) (line : List ℕ) → TakesNext most a b line false → IfSome a (λ xs. xs ≡ [])
+none_left_to_number most None b line t = tt
+none_left_to_number most (Some xs) b line t = t.0
 
 strip_one : (l : List ℕ) → length l ≤ length (strip_last 10 l) + 1
 strip_one l = at (ends_with_byte 10 l)
@@ -135,14 +153,14 @@ strip_one l = at (ends_with_byte 10 l)
         omega (arith, long)
     at false = omega arith
 
--- What is kept of a line is the line, or both are longer than any request.
-pub whole_or_long : (xs : List ℕ)
-    → (kept_line xs ≡ first_piece 10 xs) ⊎ ((1048576 < length (kept_line xs)) × (1048576 < length (first_piece 10 xs)))
-whole_or_long xs =
+-- What is kept of a line is the line, or both are longer than this many bytes, which are two less than are kept.
+pub whole_or_long : (longest : ℕ) (xs : List ℕ)
+    → (kept_line (longest + 2) xs ≡ first_piece 10 xs) ⊎ ((longest < length (kept_line (longest + 2) xs)) × (longest < length (first_piece 10 xs)))
+whole_or_long longest xs =
     let line = take_through 10 xs in
-    let kept = take 1048578 line in
-    let long = length-take 1048578 line in
-    elim (cases_lt 1048578 (length line)) [
+    let kept = take (longest + 2) line in
+    let long = length-take (longest + 2) line in
+    elim (cases_lt (longest + 2) (length line)) [
       | inl more ↦ inr (omega (arith, more, long, strip_one kept), omega (arith, more, strip_one line))
-      | inr whole ↦ inl (ap (strip_last 10) (take_all 1048578 line whole))
+      | inr whole ↦ inl (ap (strip_last 10) (take_all (longest + 2) line whole))
     ]

@@ -1,0 +1,14 @@
+use Rattle.std.proofs.Common.{rules}
+use Rattle.ct_lines.proofs.KeptLines.{cut_to_content, first_line, none_left}
+use Rattle.ct_lines.proofs.lines.next_line.Goals as goal
+
+pub returns-then-is_empty-clause-line : goal.returns-then-is_empty-clause-line
+returns-then-is_empty-clause-line g c =
+    none_left c.args.most _ _ c.take_line.new.line.items c.take_line.new.line.items c.requires c.in_ok-take_line.ensures.line (search rules)
+
+pub returns-clause-line : goal.returns-clause-line
+returns-clause-line g c =
+    let line = c.take_line.new.line.items in
+    let cut = cut_to_content line c.deref.result.now c.content-end.result.now c.truncate.new.self.items c.deref.ensures.value c.content-end.ensures (search
+    rules) in
+    first_line c.args.most _ _ line c.truncate.new.self.items c.in_ok-take_line.ensures.line (search rules) cut
