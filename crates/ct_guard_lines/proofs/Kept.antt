@@ -3,8 +3,8 @@ use Rattle.std.proofs.Common.{◌≡◌, ◌∙◌, ◌<◌, ℕ, List, [], ◌�
 use Rattle.std.proofs.lemmas.Bool.{eqb-true}
 use Rattle.std.specs.Prelude.{◌==◌}
 use Rattle.std.specs.Io.BufRead.{drop_through, first_piece}
-use Rattle.ct_pipes.specs.Lines.{kept_line, IsNextLine}
-use Rattle.ct_pipes.proofs.Pieces.{whole_or_long}
+use Rattle.ct_lines.specs.Lines.{kept_line, IsNextLine}
+use Rattle.ct_lines.proofs.KeptLines.{whole_or_long}
 use Rattle.ct_guard_lines.specs.Asks.{Ask, Requests}
 use Rattle.ct_guard_lines.specs.GuardSession.{GuardOptions, GuardStep, Replies, StepsLine, GuardsLine, GuardsFirst, KeepsLine, GetsLine, IsNoState}
 use Rattle.ct_guard_lines.specs.declared.guarding.Guarding.{Guarding}
@@ -17,8 +17,8 @@ pub got_line : (n m k : ℕ) (source source_next : Option (List ℕ)) (line : Li
     → GetsLine true source source_next line
 got_line n m k None source_next line is = tt
 got_line n m k (Some xs) source_next line is =
-    let first : (0 < length xs) × (line ≡ kept_line xs) × (source_next ≡ Some (drop_through 10 xs)) = is.2 in
-    let kept : KeepsLine (kept_line xs) (first_piece 10 xs) = whole_or_long xs in
+    let first : (0 < length xs) × (line ≡ kept_line 1048578 xs) × (source_next ≡ Some (drop_through 10 xs)) = is.2 in
+    let kept : KeepsLine (kept_line 1048578 xs) (first_piece 10 xs) = whole_or_long 1048576 xs in
     (first.0, subst (λ (l : List ℕ). KeepsLine l (first_piece 10 xs)) (sym first.1) kept, first.2)
 
 pub got_none : (n m : ℕ) (source source_next : Option (List ℕ)) (line : List ℕ) → IsNextLine n m source source_next line None

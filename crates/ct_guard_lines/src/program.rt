@@ -13,8 +13,7 @@ use crate::command::{Command, command_of};
 use crate::fault::Fault;
 use crate::guarding::Guarding;
 use crate::settings::Settings;
-use ct_lines::{send, tell};
-use ct_pipes::NumberedLines;
+use ct_lines::{NumberedLines, send, tell};
 use std::alloc::Global;
 use std::io::{BufRead, BufReader, Read, Write};
 
