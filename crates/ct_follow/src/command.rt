@@ -68,6 +68,8 @@ pub(crate) fn refusal(alloc: Global, word: &str) -> Result<Vec<u8>, AllocError>
     let mut text = Vec::new(alloc);
     text.extend_from_slice(b"error: unexpected argument '")?;
     text.extend_from_slice(word.as_bytes())?;
-    text.extend_from_slice(b"' found\n\nUsage: ctmonitor [OPTIONS] < lines > verdicts\n\nFor more information, try '--help'.\n")?;
+    text.extend_from_slice(
+        b"' found\n\nUsage: ctmonitor [OPTIONS] < lines > verdicts\n\nFor more information, try '--help'.\n",
+    )?;
     Ok(text)
 }
