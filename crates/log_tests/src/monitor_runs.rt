@@ -154,8 +154,7 @@ const OLDER: &str =
 {\"entries\":[{\"leaf_input\":\"AAAAAAAAAAAABwAAAAAaY2VydGlmaWNhdGUgb2YgRXhhbXBsZS5vcmcAAA==\"},{\"leaf_input\":\"AAAAAAAAAAAACAAAAAAZY2VydGlmaWNhdGUgb2YgZXhhbXBsZS5vcgAA\"},{\"leaf_input\":\"AAAAAAAAAAAACQABLHDhK3oGRvkiefQnx7OOczTY5Tic/xZ6HcMOc/gmtoMAABCAd3d3LkVYQU1QTEUuT1JHAAA=\"},{\"leaf_input\":\"AAAAAAAAAAAACgAAAAAbY2VydGlmaWNhdGUgb2YgZXhhbXBsZS5vcmdzAAA=\"},{\"leaf_input\":\"AAAAAAAAAAAACwAAAAABRAAA\"}],\"start\":0}
 ";
 
-const OLDER_TEXT: &str =
-    "{\"have\":0,\"tree_size\":3,\"verdict\":\"pending\"}
+const OLDER_TEXT: &str = "{\"have\":0,\"tree_size\":3,\"verdict\":\"pending\"}
 {\"entry\":0,\"name\":\"example.org\",\"timestamp\":7,\"type\":\"x509\"}
 {\"entry\":2,\"name\":\"example.org\",\"timestamp\":9,\"type\":\"precert\"}
 {\"entry\":2,\"head_timestamp\":8,\"timestamp\":9,\"verdict\":\"older-than-entry\"}
@@ -168,8 +167,7 @@ const AS_OLD: &str =
 {\"entries\":[{\"leaf_input\":\"AAAAAAAAAAAABwAAAAAaY2VydGlmaWNhdGUgb2YgRXhhbXBsZS5vcmcAAA==\"},{\"leaf_input\":\"AAAAAAAAAAAACAAAAAAZY2VydGlmaWNhdGUgb2YgZXhhbXBsZS5vcgAA\"},{\"leaf_input\":\"AAAAAAAAAAAACQABLHDhK3oGRvkiefQnx7OOczTY5Tic/xZ6HcMOc/gmtoMAABCAd3d3LkVYQU1QTEUuT1JHAAA=\"},{\"leaf_input\":\"AAAAAAAAAAAACgAAAAAbY2VydGlmaWNhdGUgb2YgZXhhbXBsZS5vcmdzAAA=\"},{\"leaf_input\":\"AAAAAAAAAAAACwAAAAABRAAA\"}],\"start\":0}
 ";
 
-const AS_OLD_TEXT: &str =
-    "{\"have\":0,\"tree_size\":3,\"verdict\":\"pending\"}
+const AS_OLD_TEXT: &str = "{\"have\":0,\"tree_size\":3,\"verdict\":\"pending\"}
 {\"entry\":0,\"name\":\"example.org\",\"timestamp\":7,\"type\":\"x509\"}
 {\"entry\":2,\"name\":\"example.org\",\"timestamp\":9,\"type\":\"precert\"}
 {\"tree_size\":3,\"verdict\":\"accepted\"}
@@ -183,8 +181,7 @@ const LONG: &str =
 {\"entries\":[{\"leaf_input\":\"AAAAAAAAAAAACwAAAAABRAAA\"}],\"start\":1048575}
 ";
 
-const LONG_TEXT: &str =
-    "{\"have\":1048575,\"tree_size\":1048576,\"verdict\":\"pending\"}
+const LONG_TEXT: &str = "{\"have\":1048575,\"tree_size\":1048576,\"verdict\":\"pending\"}
 {\"tree_size\":1048576,\"verdict\":\"accepted\"}
 {\"accepted\":{\"sha256_root_hash\":\"yDW98btgoYkTTBnSHq2cJrfhkIlfrTvg1ZvJd8SPBSA=\",\"timestamp\":2000,\"tree_size\":1048576},\"all\":{\"size\":1048576,\"subtrees\":[\"yDW98btgoYkTTBnSHq2cJrfhkIlfrTvg1ZvJd8SPBSA=\"]},\"check\":\"0TiqabaWvj5qaNC9tMv2m5BIK+yB6Zg1D27ySIvz5qk=\",\"state\":1,\"sure\":{\"size\":1048576,\"subtrees\":[\"yDW98btgoYkTTBnSHq2cJrfhkIlfrTvg1ZvJd8SPBSA=\"]},\"waiting\":null}
 ";
