@@ -16,13 +16,34 @@ fn is_told<T: Display>(alloc: Global, fault: &T, words: &str) -> bool {
 fn each_fault_of_a_proof(rt: HostRuntime) {
     let alloc = rt.alloc();
     let faults = [
-        (ProofFault::IndexOutOfRange, "the leaf index is not below the tree size"),
-        (ProofFault::PathTooLong, "the path has more elements than a proof at this place has"),
-        (ProofFault::PathTooShort, "the path has fewer elements than a proof at this place has"),
-        (ProofFault::RootMismatch, "the path leads to another root than the tree head's"),
-        (ProofFault::EmptyPath, "the consistency proof has no elements"),
-        (ProofFault::FirstMismatch, "the path leads to another root than the first tree head's"),
-        (ProofFault::SizesOutOfRange, "the first tree is empty, or is not smaller than the second"),
+        (
+            ProofFault::IndexOutOfRange,
+            "the leaf index is not below the tree size",
+        ),
+        (
+            ProofFault::PathTooLong,
+            "the path has more elements than a proof at this place has",
+        ),
+        (
+            ProofFault::PathTooShort,
+            "the path has fewer elements than a proof at this place has",
+        ),
+        (
+            ProofFault::RootMismatch,
+            "the path leads to another root than the tree head's",
+        ),
+        (
+            ProofFault::EmptyPath,
+            "the consistency proof has no elements",
+        ),
+        (
+            ProofFault::FirstMismatch,
+            "the path leads to another root than the first tree head's",
+        ),
+        (
+            ProofFault::SizesOutOfRange,
+            "the first tree is empty, or is not smaller than the second",
+        ),
     ];
     for (fault, words) in &faults {
         assert!(rt; is_told(alloc, fault, words));
@@ -35,19 +56,43 @@ fn each_fault_of_evidence(rt: HostRuntime) {
     let refused = EvidenceFault::ProofRefused(ProofFault::PathTooShort);
     let words = "the proof is refused: the path has fewer elements than a proof at this place has";
     assert!(rt; is_told(alloc, &refused, words));
-    assert!(rt; is_told(alloc, &EvidenceFault::Memory, "there is no memory for the two strings"));
+    assert!(rt;
+        is_told(
+            alloc,
+            &EvidenceFault::Memory,
+            "there is no memory for the two strings"
+        )
+    );
 }
 
 #[test]
 fn each_fault_of_a_head(rt: HostRuntime) {
     let alloc = rt.alloc();
     let faults = [
-        (MonitorFault::RootMismatch, "the root is not that of the kept and the new leaves"),
-        (MonitorFault::Shrunk, "the head has fewer leaves than are kept"),
-        (MonitorFault::Fork, "the last head has this size and another root"),
-        (MonitorFault::TimeNotLater, "the head is not later than the last one"),
-        (MonitorFault::CountMismatch, "the kept and the new leaves are not as many as the head says"),
-        (MonitorFault::Memory, "there is no memory for the new leaves"),
+        (
+            MonitorFault::RootMismatch,
+            "the root is not that of the kept and the new leaves",
+        ),
+        (
+            MonitorFault::Shrunk,
+            "the head has fewer leaves than are kept",
+        ),
+        (
+            MonitorFault::Fork,
+            "the last head has this size and another root",
+        ),
+        (
+            MonitorFault::TimeNotLater,
+            "the head is not later than the last one",
+        ),
+        (
+            MonitorFault::CountMismatch,
+            "the kept and the new leaves are not as many as the head says",
+        ),
+        (
+            MonitorFault::Memory,
+            "there is no memory for the new leaves",
+        ),
     ];
     for (fault, words) in &faults {
         assert!(rt; is_told(alloc, fault, words));
