@@ -41,6 +41,7 @@ gives_long names before (x ∷ a) (y ∷ b) text after long_a long_b g =
         says = t.says;
         lists = t.lists;
         written = t.written;
+        older = t.older;
         alarm = t.alarm;
         bad = t.bad;
       },
