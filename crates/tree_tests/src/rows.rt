@@ -9,8 +9,8 @@ use std::fmt::Debug;
 // Google's reference implementation): none, 00, 10, 20 21, 30 31, 40 to 43, 50 to 57, 60 to 6f. `N01` is the node over
 // leaves 0 and 1, and so on; `MTH_3` is the root of the first three leaves, and `MTH_0` that of none. The roots are the
 // published ones, and all values were computed anew by another program (Python's hashlib). So were those of the tree of
-// the leaves 41, 42, 43: `A`, `AB` and `ABC` are the roots of its first leaves, `B` and `C` the hashes of its last ones,
-// and `ALL_1100` and `ALL_3000` are the roots of the 1,100 and 3,000 leaves that are the numbers from 0 on, in four bytes
+// the leaves 41 to 45: `A`, `AB`, `ABC`, `ABCD` and `ABCDE` are the roots of its first leaves, `B` and `C` the hashes of
+// two of them, and `ALL_1100` and `ALL_3000` are the roots of the 1,100 and 3,000 leaves that are the numbers from 0 on, in four bytes
 // each. `SESSION` is the root of the two leaves of README.md's first session, and `SESSION_0` the hash of its first leaf.
 // The others are no hashes of anything.
 const NAMED: &str = "\
@@ -36,6 +36,8 @@ MTH_8 5dc9da79a70659a9ad559cb701ded9a2ab9d823aad2f4960cfe370eff4604328
 A c00b4d3c929cb5cc316691ed4636f634576f2c9b2954767234c5274e9dde185d
 AB ed692f01f7f6c46930d7ad8f9adad3f9f38b7379cf6a8d2f399a0ba1e914fe25
 ABC 961d2e2be20f538ffdf56962a86d1bd165498f222684ee4c5e02c1e9f852adc5
+ABCD 5c8dc617d287a4297eb2bcb81b37644b5138e57ad461c657db152109e3fc9fca
+ABCDE 2bdbcd79bf92b8dad52ba685f01bef520f0cda04468a13a6bd27bfbeebff64d7
 B 87afe6086fe4571e37657e76281301f189c75ebae1d2eaafb56d578067a1d95e
 C b563a5e69628743929eddec0ccfeb0745c39577e12a72e84915edd6633cb97f2
 ALL_1100 0042f3cbb00b374fbbdc5a18bafb7fb39539bdfc70fdb05e7bdaf9c0829ac7ec
