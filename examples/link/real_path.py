@@ -15,7 +15,7 @@ import sys
 
 HERE = pathlib.Path(__file__).resolve().parent
 sys.path.insert(0, str(HERE.parent))
-from merkle import leaf_hash, node_hash, sha256, split  # noqa: E402
+from merkle import leaf_hash, path_length, root_by_path, sha256  # noqa: E402
 
 # The size is one that logs of this field reach within a year.
 SIZE, INDEX, TIMESTAMP = 1_234_567_890, 987_654_321, 1_767_225_600_000
@@ -32,24 +32,6 @@ def leaf(certificate):
     return b"\0\0" + TIMESTAMP.to_bytes(8, "big") + b"\0\0" + len(certificate).to_bytes(3, "big") + certificate + b"\0\0"
 
 
-def length(index, size):
-    """How many hashes PATH(index, D) has for a list D of that size."""
-    if size == 1:
-        return 0
-    k = split(size)
-    return 1 + (length(index, k) if index < k else length(index - k, size - k))
-
-
-def root(found, index, size, hashes):
-    """MTH of a list in which PATH of the leaf of this hash, at that index, is these hashes."""
-    if size == 1:
-        return found
-    k = split(size)
-    if index < k:
-        return node_hash(root(found, index, k, hashes[:-1]), hashes[-1])
-    return node_hash(hashes[-1], root(found, index - k, size - k, hashes[:-1]))
-
-
 def main():
     verify = ctypes.CDLL(sys.argv[1]).wagtenib_verify_inclusion
     verify.argtypes = [ctypes.c_char_p, ctypes.c_uint64, ctypes.c_uint64, ctypes.c_char_p, ctypes.c_size_t, ctypes.c_char_p]
@@ -57,8 +39,8 @@ def main():
     header = (HERE.parent.parent / "include" / "wagtenib.h").read_text()
     names = {int(number): name for name, number in re.findall(r"WAGTENIB_(\w+) = (\d+)", header)}
     mine, other = (leaf_hash(leaf(certificate)) for certificate in certificates()[:2])
-    path = [sha256(b"hash %d" % at) for at in range(length(INDEX, SIZE))]
-    top = root(mine, INDEX, SIZE, path)
+    path = [sha256(b"hash %d" % at) for at in range(path_length(INDEX, SIZE))]
+    top = root_by_path(mine, INDEX, SIZE, path)
     bent = path[:8] + [bytes([path[8][0] ^ 1]) + path[8][1:]] + path[9:]
     cases = [
         ("the path, from the leaf to the root", "OK", mine, INDEX, path),
