@@ -18,6 +18,7 @@ import pathlib
 import re
 import resource
 import shutil
+import signal
 import subprocess
 import sys
 import tempfile
@@ -232,30 +233,41 @@ class Build:
         return found
 
     def work(self, room):
-        """Does all of it, and answers what failed: a proof, a part's name, or None."""
-        waiting, parts = {}, {}
+        """Does all of it, and answers what failed: a proof, a part's name, or None. However it ends, no rt is left at work."""
         with concurrent.futures.ThreadPoolExecutor(self.places + 1) as pool, concurrent.futures.ThreadPoolExecutor(1) as shows:
-            while not self.failed:
-                waiting.update(self.begin(pool, room))
-                parts.update(self.show(shows))
-                if not waiting and not parts:
-                    break
-                ended = concurrent.futures.wait([*waiting, *parts], timeout=EVERY, return_when=concurrent.futures.FIRST_COMPLETED).done
-                if not ended:
-                    self.beat()
-                for future in ended:
-                    if waiting.pop(future, None):
-                        self.end(future.result())
-                    else:
-                        self.failed = self.failed or future.result()
-                        del parts[future]
-            for proof in self.running:
-                if self.failed and proof.ran:
-                    proof.ran.terminate()
+            try:
+                self.loop(pool, shows, room)
+            finally:
+                for proof in self.running:
+                    if proof.ran and proof.ran.poll() is None:
+                        proof.ran.terminate()
         return self.failed
+
+    def loop(self, pool, shows, room):
+        """Begins proofs and parts, and takes in those that have ended, until all have or one fails."""
+        waiting, parts = {}, {}
+        while not self.failed:
+            waiting.update(self.begin(pool, room))
+            parts.update(self.show(shows))
+            if not waiting and not parts:
+                break
+            ended = concurrent.futures.wait([*waiting, *parts], timeout=EVERY, return_when=concurrent.futures.FIRST_COMPLETED).done
+            if not ended:
+                self.beat()
+            for future in ended:
+                if waiting.pop(future, None):
+                    self.end(future.result())
+                else:
+                    self.failed = self.failed or future.result()
+                    del parts[future]
+
+
+def stop(*_):
+    sys.exit("stopped; what was proved is kept")
 
 
 def main():
+    signal.signal(signal.SIGTERM, stop)
     words = sys.argv[1:]
     script = words[1] if words[:1] == ["--show"] else None
     if script:
@@ -282,4 +294,4 @@ if __name__ == "__main__":
     try:
         main()
     except KeyboardInterrupt:
-        sys.exit("stopped; what was proved is kept")
+        stop()
