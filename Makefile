@@ -14,7 +14,7 @@ TO = $(DESTDIR)$(PREFIX)
 help: ## says what each target does
 	@sed -n 's/^\([a-z-]*\):.*## /make \1	/p' Makefile | expand -t 24
 
-demo: ## builds ctlog and ctmonitor, and runs them on a first session, real certificates and a log that forks
+demo: ## proves ctlog and ctmonitor, and shows something of each layer as soon as it is proved
 	@checks/needs.sh demo
 	@examples/demo.sh
 

@@ -7,7 +7,6 @@ It is plain and slow, proved nowhere, and shares no code with ctguard: hashlib, 
 """
 import argparse
 import base64
-import hashlib
 import json
 import os
 import pathlib
@@ -16,6 +15,7 @@ import sys
 sys.path.insert(0, str(pathlib.Path(__file__).resolve().parent.parent))
 
 import expected  # noqa: E402
+from merkle import fault_of_path, fault_of_proof  # noqa: E402
 
 HEAD = {"sha256_root_hash": expected.is_hash, "timestamp": expected.is_number, "tree_size": expected.is_number}
 ARE_HASHES = expected.is_list_of(expected.is_hash)
@@ -23,70 +23,6 @@ ARE_HASHES = expected.is_list_of(expected.is_hash)
 
 class Refused(Exception):
     """What is refused: its name, and of a proof or a leaf the fault's."""
-
-
-def node(left, right):
-    return hashlib.sha256(b"\1" + left + right).digest()
-
-
-def split(size):
-    return 1 << ((size - 1).bit_length() - 1)
-
-
-def path_length(index, size):
-    """How many hashes PATH has (RFC 6962, section 2.1.1)."""
-    if size == 1:
-        return 0
-    k = split(size)
-    return 1 + (path_length(index, k) if index < k else path_length(index - k, size - k))
-
-
-def root_by(index, size, found, path):
-    """The root to which a path of that length leads."""
-    if size == 1:
-        return found
-    k, last = split(size), path[-1]
-    if index < k:
-        return node(root_by(index, k, found, path[:-1]), last)
-    return node(last, root_by(index - k, size - k, found, path[:-1]))
-
-
-def fault_of_path(leaf, index, size, path, root):
-    if index >= size:
-        return "index-out-of-range"
-    if len(path) != path_length(index, size):
-        return "path-too-long" if len(path) > path_length(index, size) else "path-too-short"
-    right = root_by(index, size, hashlib.sha256(b"\0" + leaf).digest(), path) == root
-    return None if right else "root-mismatch"
-
-
-def proof_length(first, second, whole=True):
-    """How many hashes SUBPROOF has (section 2.1.2)."""
-    if first == second:
-        return 0 if whole else 1
-    k = split(second)
-    return 1 + (proof_length(first, k, whole) if first <= k else proof_length(first - k, second - k, False))
-
-
-def roots_by(first, second, whole, root, path):
-    """The roots of both trees, to which a proof of that length leads."""
-    if first == second:
-        return (root, root) if whole else (path[0], path[0])
-    k, last = split(second), path[-1]
-    if first <= k:
-        old, new = roots_by(first, k, whole, root, path[:-1])
-        return old, node(new, last)
-    old, new = roots_by(first - k, second - k, False, root, path[:-1])
-    return node(last, old), node(last, new)
-
-
-def fault_of_proof(first, second, first_root, second_root, path):
-    if not path:
-        return "empty-path"
-    if len(path) != proof_length(first, second):
-        return "path-too-long" if len(path) > proof_length(first, second) else "path-too-short"
-    old, new = roots_by(first, second, True, first_root, path)
-    return "first-mismatch" if old != first_root else "root-mismatch" if new != second_root else None
 
 
 def fault_of_leaf(leaf):
