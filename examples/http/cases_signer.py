@@ -24,6 +24,8 @@ import signer as signer_module  # noqa: E402
 from faults import Broken  # noqa: E402
 
 KILLS, CLIENTS, CHANCE = 20, 8, random.Random(2)
+# The signer's file and the guard's, from the folder of this one.
+SIGNER, GUARDED = "signer.py", "../guard/model.py"
 HEAD_KEYS = ("sha256_root_hash", "timestamp", "tree_size")
 
 
@@ -57,8 +59,8 @@ class Asked:
 
     def __init__(self, folder, program=HERE / "signer.py", receipts="in-head"):
         os.makedirs(folder, exist_ok=True)
-        # (a copy of the signer has a guard beside it)
-        guard = GUARD if program.parent == HERE else [sys.executable, str(program.parent / "guard_stand_in.py")]
+        # (a copy of the signer has a copy of the guard beside it)
+        guard = GUARD if program.parent == HERE else [sys.executable, str(program.parent / GUARDED)]
         line = [sys.executable, str(program), "--state", folder, "--receipts", receipts, "--", *guard]
         self.process = subprocess.Popen(line, stdin=subprocess.PIPE, stdout=subprocess.PIPE, start_new_session=True)
         self.number, self.own = 0, None
@@ -581,7 +583,6 @@ def guard_that_ends(folder):
 
 # Wrong signers and guards, by what is wrong: the file, what stands in it, what stands there in its place, and the case that has to
 # see it.
-SIGNER, GUARDED = "signer.py", "guard_stand_in.py"
 SIGNED, KEPT = 'return {"signature": self.key.signed(', "        self.kept.write(self.state)\n"
 ASKED = "        message, state = self.guard.ask(request)\n        self.state = state or self.state\n"
 BEGUN = "self.words.receipts], self.state)\n        try:\n            right = head is None"
@@ -620,9 +621,10 @@ def wrong_signers(folder):
     """Signers and guards that are wrong, each in one way: a case sees each."""
     for number, (name, (file, old, new, case)) in enumerate(WRONG.items()):
         here, source = pathlib.Path(f"{folder}-{number}/http"), (HERE / file).read_text()
-        shutil.copytree(HERE, here, ignore=shutil.ignore_patterns("__pycache__"))
-        for path in ("expected.py", "merkle.py"):
-            shutil.copy(HERE.parent / path, here.parent / path)
+        for below in (HERE, HERE / GUARDED.rsplit("/", 1)[0]):
+            shutil.copytree(below, here.parent / below.resolve().name, ignore=shutil.ignore_patterns("__pycache__"))
+        for path in HERE.parent.glob("*.py"):
+            shutil.copy(path, here.parent)
         hold(source.count(old) == 1, file, "has so often what is to be wrong:", source.count(old), name)
         (here / file).write_text(source.replace(old, new))
         try:

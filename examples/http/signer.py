@@ -3,7 +3,7 @@
 
     signer.py --state DIR [--signer WAY] [--receipts in-head|promised] -- GUARD [WORD..]
 
-GUARD is ctguard, or guard_stand_in.py. The front starts this process and asks it by lines, an object of JSON each; its answer to
+GUARD is ctguard, or guard/model.py. The front starts this process and asks it by lines, an object of JSON each; its answer to
 line N (from 0) is {"line":N,"reply":R}, or {"error":NAME} for R. First come three, once and in this order:
 
     {"op":"open","fresh":B}                whether the journal is new: the key is looked at, and the guard's state
