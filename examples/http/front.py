@@ -66,7 +66,7 @@ def words_given():
     options.add_argument("--clock-step", type=float, default=3600, help="seconds that the clock may jump ahead [default: 3600]")
     options.add_argument("--clock-ahead", type=float, default=300, help="seconds that the last head may be ahead [default: 300]")
     options.add_argument("--roots", help="a file of PEM: what get-roots answers")
-    options.add_argument("--signer", choices=list(signing.WAYS), help="what signs [default: the first that is there]")
+    signing.add_options(options)
     options.add_argument("--guard", help="PROGRAM WORD.. [default: ctguard, where it isn't built guard/model.py]")
     options.add_argument("--receipts", choices=("in-head", "promised"), default="in-head", help="ctguard's [default: in-head]")
     options.add_argument("program", nargs="+", metavar="PROGRAM")
@@ -101,7 +101,7 @@ class Opened:
 
     def open(self):
         words, kept = self.words, self.journal
-        way = ["--signer", words.signer] if words.signer else []
+        way = [word for name in ("signer", "key") if getattr(words, name) for word in (f"--{name}", getattr(words, name))]
         self.signer = self.start("the signer", [*SIGNER, "--state", words.state, *way, "--receipts", words.receipts, "--", *words.guard])
         self.own = self.ask_signer(op="open", fresh=kept.fresh())
         if kept.log_id not in (None, self.own["log_id"]):
