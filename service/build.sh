@@ -14,6 +14,7 @@ mkdir -p "$path/src/wagtenib"
 ln -s "$PWD" "$path/src/wagtenib/service"
 [ -n "${HOME:-}" ] || export GOCACHE="${GOCACHE:-$path/cache}"
 export GO111MODULE=off GOPATH=$path:$packages GOPROXY=off CGO_ENABLED=1
+folders=$(find . -name '*.go' -printf '%h\n' | sort -u | sed 's|^\./||')
 export GOFLAGS="-trimpath -tags=libsqlite3 -p=${PROCESSORS:-$(nproc)}"
 case $what in
   test)
@@ -23,9 +24,9 @@ case $what in
     go test -count=1 "$@"
     ;;
   vet)
-    unformatted=$(gofmt -l chains stores)
+    unformatted=$(gofmt -l .)
     [ -z "$unformatted" ] || { echo "gofmt would change $unformatted" >&2; exit 1; }
-    go vet wagtenib/service/chains wagtenib/service/stores
+    sed 's|^|wagtenib/service/|' <<<"$folders" | xargs go vet
     ;;
   fuzz)
     for target in FuzzPoison FuzzFinalIssuer FuzzChain FuzzRoots; do
