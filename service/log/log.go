@@ -14,6 +14,8 @@ import (
 var (
 	// ErrBusy: so many wait already that no more is taken. To be sent again later (503 with Retry-After at a front).
 	ErrBusy = errors.New("log: busy")
+	// ErrTooLarge: the entry has more bytes than one of a log may have. It will never be taken.
+	ErrTooLarge = errors.New("log: entry too large")
 	// ErrEnded: the log takes no more.
 	ErrEnded = errors.New("log: ended")
 	// ErrClock: the machine's clock isn't where it was expected, and nothing is stepped until it is.
@@ -72,8 +74,8 @@ type Figures struct {
 
 // Log is one log. Its methods may be called at once.
 type Log interface {
-	// Submit answers once the head that covers the entry is published; ErrBusy, ErrEnded, ErrClock, ErrStore, or the context's
-	// error. An entry whose submission wasn't answered may stand in the log all the same.
+	// Submit answers once the head that covers the entry is published; ErrBusy, ErrTooLarge, ErrEnded, ErrClock, ErrStore, or the
+	// context's error. An entry whose submission wasn't answered may stand in the log all the same.
 	Submit(ctx context.Context, entry Entry) (Place, error)
 	// Checkpoint is the newest published head.
 	Checkpoint(ctx context.Context) (Head, error)
