@@ -44,11 +44,11 @@ lacks() {
 
 # The Go part stands on Debian's packages, and on nothing of the kit.
 if [ "$what" = service-test ]; then
-  for pair in go:golang-go gofmt:golang-go gcc:gcc openssl:openssl; do
+  for pair in go:golang-go gofmt:golang-go gcc:gcc openssl:openssl python3:python3; do
     command -v "${pair%:*}" >/dev/null || lacks "${pair%:*} (Debian: ${pair#*:})"
   done
   for package in libsqlite3-dev golang-github-mattn-go-sqlite3-dev golang-github-lib-pq-dev golang-etcd-server-dev \
-    golang-github-minio-minio-go-v7-dev golang-golang-x-crypto-dev; do
+    golang-github-minio-minio-go-v7-dev golang-golang-x-crypto-dev golang-golang-x-mod-dev; do
     [ "$(dpkg-query -W -f '${db:Status-Status}' "$package" 2>/dev/null)" = installed ] || lacks "Debian's $package"
   done
   exit "$missing"
