@@ -45,12 +45,12 @@ lacks() {
 # The Go part stands on Debian's packages, and on nothing of the kit.
 if [ "$what" = service ] || [ "$what" = service-test ]; then
   tools="go:golang-go gcc:gcc"
-  [ "$what" = service ] || tools+=" gofmt:golang-go openssl:openssl"
+  [ "$what" = service ] || tools+=" gofmt:golang-go openssl:openssl python3:python3"
   for pair in $tools; do
     command -v "${pair%:*}" >/dev/null || lacks "${pair%:*} (Debian: ${pair#*:})"
   done
   for package in libsqlite3-dev golang-github-mattn-go-sqlite3-dev golang-github-lib-pq-dev golang-etcd-server-dev \
-    golang-github-minio-minio-go-v7-dev golang-github-prometheus-client-golang-dev golang-golang-x-crypto-dev; do
+    golang-github-minio-minio-go-v7-dev golang-github-prometheus-client-golang-dev golang-golang-x-crypto-dev golang-golang-x-mod-dev; do
     [ "$(dpkg-query -W -f '${db:Status-Status}' "$package" 2>/dev/null)" = installed ] || lacks "Debian's $package"
   done
   exit "$missing"
