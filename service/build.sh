@@ -21,7 +21,7 @@ case $what in
     package=${1:-}
     shift || true
     if [ -n "$package" ]; then set -- "$@" "wagtenib/service/$package"; else set -- $(sed 's|^|wagtenib/service/|' <<<"$folders"); fi
-    go test -count=1 -timeout 170s "$@"
+    go test -count=1 "$@"
     ;;
   vet)
     unformatted=$(gofmt -l .)

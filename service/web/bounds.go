@@ -131,3 +131,24 @@ func (o *open) Close() error {
 	o.once.Do(o.closed)
 	return err
 }
+
+// few is a listener that closes what comes above the room of a channel.
+type few struct {
+	net.Listener
+	room chan struct{}
+}
+
+func (l few) Accept() (net.Conn, error) {
+	for {
+		connection, err := l.Listener.Accept()
+		if err != nil {
+			return nil, err
+		}
+		select {
+		case l.room <- struct{}{}:
+			return &open{Conn: connection, closed: func() { <-l.room }}, nil
+		default:
+			connection.Close()
+		}
+	}
+}

@@ -9,19 +9,32 @@ import (
 	"sync"
 )
 
+// mostOfOthers is how many connections operators have, or the other nodes: they don't count as clients.
+const mostOfOthers = 64
+
 // Server answers requests on listeners until it is ended.
 type Server struct {
-	front *Front
-	http  *http.Server
-	mutex sync.Mutex
+	front  *Front
+	http   *http.Server
+	bounds func(net.Listener) net.Listener
+	mutex  sync.Mutex
 	// fresh are the connections on which no request was read yet.
 	fresh  map[net.Conn]bool
 	ending bool
 }
 
-// Serve makes a server that answers by a handler, the front itself or its Operator, within the front's limits.
+// ServeOthers makes a server for operators or other nodes: with the front's limits of time, and connections of its own.
+func (f *Front) ServeOthers(handler http.Handler) *Server {
+	s := f.Serve(handler)
+	own := make(chan struct{}, mostOfOthers)
+	s.bounds = func(l net.Listener) net.Listener { return few{l, own} }
+	return s
+}
+
+// Serve makes a server for clients, within the front's limits.
 func (f *Front) Serve(handler http.Handler) *Server {
 	s := &Server{front: f, fresh: map[net.Conn]bool{}}
+	s.bounds = func(l net.Listener) net.Listener { return bounded{l, f} }
 	limits := f.limits
 	s.http = &http.Server{
 		Handler:           handler,
@@ -55,7 +68,7 @@ func (s *Server) remember(connection net.Conn, state http.ConnState) {
 
 // Listen answers what comes to a listener, over TLS where there is a configuration of it. It returns nil once the server ends.
 func (s *Server) Listen(listener net.Listener, over *tls.Config) error {
-	listener = bounded{listener, s.front}
+	listener = s.bounds(listener)
 	if over != nil {
 		over = over.Clone()
 		over.NextProtos = []string{"http/1.1"}
