@@ -153,7 +153,7 @@ func wait(s *settings, front *web.Front, checker *chains.Checker, certificate *w
 					lines.Error("reload", "of", of, "fault", err)
 					return
 				}
-				lines.Info("reload", "of", of, "roots", len(checker.Roots().Certificates()))
+				lines.Info("reload", "of", of)
 			}
 			reloaded("roots", checker.Reload(s.roots))
 			if certificate != nil {
