@@ -11,7 +11,8 @@ import argparse
 import json
 import sys
 
-from expected import DEEPEST, FRONT_OPS, LONGEST_LINE, OTHER_OPS, is_bytes, is_hash, is_number, json_of, nesting
+from expected import FRONT_OPS, OTHER_OPS
+from json_lines import DEEPEST, LONGEST_LINE, is_bytes, is_hash, is_number, json_of, nesting
 
 NUMBER, BYTES = "a number from 0 to 18446744073709551615", "base64 with padding"
 WANTED = {is_number: NUMBER, is_bytes: BYTES, is_hash: f"{BYTES}, of 32 bytes"}

@@ -18,8 +18,9 @@ import pathlib
 import re
 import sys
 
+from json_lines import LONGEST_LINE
+
 CERTIFICATE = re.compile(r"-----BEGIN CERTIFICATE-----(.*?)-----END CERTIFICATE-----", re.S)
-LONGEST_LINE = 1 << 20
 # The places of a front's ring that ctlog gives at most.
 MOST_PLACES = 4096
 # The poison extension's name, 1.3.6.1.4.1.11129.2.4.3 (RFC 6962, section 3.1), in DER.

@@ -1,6 +1,6 @@
 #!/usr/bin/env python3
-"""Tries the scripts that stand beside the programs, bad_lines.py, pem_lines.py, expected.py, check.py and guard/model.py on stored input, and
-monitor/watch.sh on a log of its own. It runs no ctlog.
+"""Tries the scripts that stand beside the programs, bad_lines.py, pem_lines.py, expected.py, check.py, guard/model.py and those of tiles/ on
+stored input, tiles/step.py on random histories, and monitor/watch.sh on a log of its own. It runs no ctlog.
 
 It prints one line where all is as expected; else it says what isn't, and ends with status 1.
 """
@@ -138,6 +138,17 @@ def try_guard():
         fail(f"guard/model.py writes another output than crates/ctguard/stdout, with status {ran.returncode}: {ran.stderr.decode()}")
 
 
+def try_tiles():
+    """tiles/growth.py and tiles/expected.py write the stored outputs of growth_lines and of tile_lines; tiles/step.py answers two random
+    histories as the leaves have it."""
+    for script, program in (("growth", "growth_lines"), ("expected", "tile_lines")):
+        if run(f"tiles/{script}.py").stdout != (HERE.parent / "crates" / program / "stdout").read_bytes():
+            fail(f"tiles/{script}.py writes another output than crates/{program}/stdout")
+    ran = run("tiles/histories.py", "--histories", 2)
+    if ran.returncode:
+        fail(f"tiles/histories.py: {ran.stderr.decode()}")
+
+
 def installed(folder):
     """The files and links below a folder, each with its text."""
     return {str(path.relative_to(folder)): path.read_text() for path in folder.rglob("*") if not path.is_dir()}
@@ -221,6 +232,7 @@ def main():
     try_figures()
     quotations = try_quotations()
     try_guard()
+    try_tiles()
     for name, words in INPUTS.items():
         ran = run("expected.py", *words.split(), given=(HERE / f"{name}.jsonl").read_bytes())
         if ran.stdout != (HERE / f"{name}.expected.jsonl").read_bytes():

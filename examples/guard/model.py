@@ -3,41 +3,25 @@
 
     model.py [--origin TEXT] [--receipts in-head|promised] < lines > replies
 
-Nothing but hashlib is used for the tree; what JSON a line is comes from examples/expected.py, which shares no code with ctguard either.
+It serves where ctguard isn't built, too: each reply is handed on before the next line is read. Nothing but hashlib is used for the tree;
+what JSON a line is comes from examples/json_lines.py, which shares no code with ctguard either.
 """
 import argparse
 import base64
+import io
+import os
 import pathlib
 import struct
 import sys
 
 sys.path.insert(0, str(pathlib.Path(__file__).resolve().parent.parent))
 
-from expected import is_bytes, is_hash, is_list_of, is_number, json_of  # noqa: E402
+from json_lines import is_bytes, is_hash, is_list_of, is_number, json_line, json_of, lines_of, text  # noqa: E402
 from merkle import fault_of_path, fault_of_proof  # noqa: E402
 
 
 class Refused(Exception):
     """Why nothing is let through: the name, and the fault of a proof or of a leaf where there is one."""
-
-
-def text(data):
-    return base64.b64encode(data).decode()
-
-
-def quoted(value):
-    """A text as compact JSON, with the shortest escapes (RFC 8259)."""
-    short = {'"': '\\"', "\\": "\\\\", "\b": "\\b", "\f": "\\f", "\n": "\\n", "\r": "\\r", "\t": "\\t"}
-    return '"' + "".join(short.get(c) or (f"\\u{ord(c):04x}" if c < " " else c) for c in value) + '"'
-
-
-def written(value):
-    """A value as compact JSON, its keys as they stand."""
-    if value is None:
-        return "null"
-    if isinstance(value, dict):
-        return "{" + ",".join(f"{quoted(key)}:{written(one)}" for key, one in value.items()) + "}"
-    return str(value) if isinstance(value, int) else quoted(value)
 
 
 def state_of(last):
@@ -160,7 +144,7 @@ class Guard:
                 if not (is_number(last["tree_size"]) and is_number(last["timestamp"])):
                     return False
                 last = (last["tree_size"], last["timestamp"], base64.b64decode(last["sha256_root_hash"]))
-            if line != written(state_of(last)).encode() or (last and len(last[2]) != 32):
+            if line != json_line(state_of(last)) or (last and len(last[2]) != 32):
                 return False
         except (ValueError, KeyError, TypeError):
             return False
@@ -168,16 +152,18 @@ class Guard:
         return True
 
 
+def replies(guard, lines):
+    """The reply to each line, as bytes, before the next one is read, and behind them the state."""
+    for number, line in enumerate(lines):
+        if line and not (number == 0 and guard.take_state(line)):
+            yield json_line(guard.reply(line)) + b"\n"
+    yield json_line(state_of(guard.last)) + b"\n"
+
+
 def run(given, origin=None, promised=False):
     """What is written for an input, and the exit status."""
-    guard, out = Guard(origin, promised), []
-    lines = given.split(b"\n")
-    if lines[0] and guard.take_state(lines[0]):
-        lines = lines[1:]
-    for line in filter(None, lines):
-        out.append(written(guard.reply(line)) + "\n")
-    out.append(written(state_of(guard.last)) + "\n")
-    return "".join(out).encode(), 4 if guard.bad else 0
+    guard = Guard(origin, promised)
+    return b"".join(replies(guard, lines_of(io.BytesIO(given)))), 4 if guard.bad else 0
 
 
 def main():
@@ -185,9 +171,15 @@ def main():
     parser.add_argument("--origin")
     parser.add_argument("--receipts", choices=("in-head", "promised"), default="in-head")
     words = parser.parse_args()
-    out, status = run(sys.stdin.buffer.read(), words.origin, words.receipts == "promised")
-    sys.stdout.buffer.write(out)
-    sys.exit(status)
+    guard = Guard(words.origin, words.receipts == "promised")
+    try:
+        for reply in replies(guard, lines_of(sys.stdin.buffer)):
+            sys.stdout.buffer.write(reply)
+            sys.stdout.buffer.flush()
+    except OSError:
+        print("ctguard: read or write", file=sys.stderr, flush=True)
+        os._exit(1)
+    sys.exit(4 if guard.bad else 0)
 
 
 if __name__ == "__main__":

@@ -4,9 +4,11 @@
     growth.py
 
 What is signed in a receipt is RFC 6962, section 3.2, with an extension that names the leaf's index (C2SP static-ct-api); these bytes are the
-leaf's, too (section 3.4). Roots and tiles are computed by expected.py.
+leaf's, too (section 3.4), and here those of the data tiles. Roots and tiles are computed by expected.py.
 """
 from expected import digest, levels, mth, name
+from leaves import Submission, signed_bytes
+from states import State, written
 
 BATCHES = (3, 0, 253, 10)
 WORDS = {"widths": "the partial tiles are not as wide as those of this size", "root": "the partial tiles give another root"}
@@ -15,13 +17,9 @@ WORDS = {"widths": "the partial tiles are not as wide as those of this size", "r
 def leaf(index, moment):
     """The bytes of the leaf at an index."""
     certificate = index.to_bytes(8, "big")
-    if index % 3 == 2:
-        tbs = certificate + b"\xff"
-        entry = b"\0\x01" + digest(certificate) + len(tbs).to_bytes(3, "big") + tbs
-    else:
-        entry = b"\0\0" + len(certificate).to_bytes(3, "big") + certificate
-    extension = b"\0" + (5).to_bytes(2, "big") + index.to_bytes(5, "big")
-    return b"\0\0" + moment.to_bytes(8, "big") + entry + len(extension).to_bytes(2, "big") + extension
+    precertificate = index % 3 == 2
+    submission = Submission(certificate + b"\xff", digest(certificate)) if precertificate else Submission(certificate)
+    return signed_bytes(submission, moment, index)
 
 
 def main():
@@ -34,17 +32,16 @@ def main():
         texts += leaves
         before = [len(found) for found in levels(hashes)]
         hashes += [digest(b"\0" + signed) for signed in leaves]
-        now, written = levels(hashes), b""
+        now, objects = levels(hashes), b""
         for level, found in enumerate(now):
             for index in range(before[level] // 256, -(-len(found) // 256)):
                 tile = found[256 * index : 256 * index + 256]
-                written += b"".join(tile)
+                objects += b"".join(tile)
                 print(name(level, index, len(tile)), digest(b"".join(tile)).hex())
         for index in range(first // 256, len(texts) // 256):
             print(f"tile/data/{index}", digest(b"".join(texts[256 * index : 256 * index + 256])).hex())
         partial = b"".join(texts[len(texts) // 256 * 256 :])
-        fields = len(hashes).to_bytes(8, "big") + moment.to_bytes(8, "big") + mth(hashes)
-        line = "growth " + (fields + digest(written) + digest(partial) + digest(line.encode())).hex()
+        line = written(State(len(hashes), moment, mth(hashes), digest(objects), digest(partial), digest(line.encode())))
         print(line)
         print("read again: true")
         print("a moment before: the moment is before that of the last head")
