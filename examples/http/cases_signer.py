@@ -560,28 +560,46 @@ def token(folder):
 SIGNING, FRONTING, OTHER = 1, 65534, 2
 
 
+@contextlib.contextmanager
 def as_user(user, words, groups=(), **more):
-    return subprocess.Popen(words, user=user, group=user, extra_groups=groups, stdout=subprocess.PIPE, stderr=subprocess.PIPE, **more)
+    """A process of a user, which is taken off behind it."""
+    with subprocess.Popen(words, user=user, group=user, extra_groups=groups, stdout=subprocess.PIPE, stderr=subprocess.PIPE, **more) as process:
+        try:
+            yield process
+        finally:
+            process.kill()
 
 
 def can(user, groups, python, code, *words):
     """Whether a user gets through some Python."""
-    process = as_user(user, [python, "-c", code, *words], groups)
-    process.communicate()
+    with as_user(user, [python, "-c", code, *words], groups) as process:
+        process.communicate()
     return process.returncode == 0
 
 
 def signer_at(folder, path, python):
-    """The signer of a user of its own, at its socket."""
+    """The signer of a user of its own, which is to listen at a socket."""
     guard = GUARD if GUARD[0] != sys.executable else [python, *GUARD[1:]]
     with contextlib.suppress(FileNotFoundError):
         os.unlink(path)
-    process = as_user(SIGNING, [python, str(HERE / "signer.py"), "--state", folder, "--listen", path, "--", *guard])
+    return as_user(SIGNING, [python, str(HERE / "signer.py"), "--state", folder, "--listen", path, "--", *guard])
+
+
+def listens(process, path):
     until = time.monotonic() + 30
     while not os.path.exists(path):
         hold(time.monotonic() < until and process.poll() is None, "the signer doesn't listen")
         time.sleep(0.02)
-    return process
+
+
+def signed_through(front, number, fault):
+    """Has a front of another user sign a receipt and a head; the log's id."""
+    told = front.stdout.readline()
+    hold("the signer at" in told, "the front says", told, told or fault())
+    client = Client(int(told.split(":")[2].split("/")[0]))
+    sct, head = client.get("add-chain", {"chain": [text(b"certificate %d" % number)]}), client.get("get-sth")
+    hold(head["tree_head_signature"] and head["tree_size"] == number + 1, "a head isn't signed:", head)
+    return sct["id"]
 
 
 def two_users(folder):
@@ -596,28 +614,22 @@ def two_users(folder):
     for user, mode in ((SIGNING, 0o711), (FRONTING, 0o700)):
         own[user].mkdir(mode)
         os.chown(own[user], user, user)
-    state, path = str(own[SIGNING]), str(own[SIGNING] / "socket")
+    state, path, seen = str(own[SIGNING]), str(own[SIGNING] / "socket"), set()
     come, log = "import socket, sys; socket.socket(socket.AF_UNIX).connect(sys.argv[1])", [python, *LOG[1:]] if LOG[0] == sys.executable else LOG
-    seen, front_words = [], [python, str(HERE / "front.py"), "--port", "0", "--state", str(own[FRONTING]), "--signer-at", path, "--", *log]
-    for number, killed in enumerate(("front", "signer", None)):
-        signing_process = signer_at(state, path, python)
-        hold(not can(OTHER, (), python, come, path), "another user opens the signer's socket")
-        front = as_user(FRONTING, front_words, (SIGNING,), text=True)
-        told = front.stdout.readline()
-        hold("the signer at" in told, "the front says", told, told or front.communicate()[1])
-        client = Client(int(told.split(":")[2].split("/")[0]))
-        seen.append(client.get("add-chain", {"chain": [text(b"certificate %d" % number)]})["id"])
-        hold(client.get("get-sth")["tree_head_signature"] and client.get("get-sth")["tree_size"] == number + 1, "a head isn't signed")
-        hold(not can(FRONTING, (SIGNING,), python, there, f"{state}/key.pem"), "the front's user reads the key")
-        if killed:
-            {"front": front, "signer": signing_process}[killed].kill()
-        else:
-            front.terminate()
-        fault = front.communicate(timeout=60)[1]
-        hold(front.returncode == {"front": -9, "signer": 1}.get(killed, 0), "the front ends with", front.returncode, fault)
-        fault = signing_process.communicate(timeout=60)[1]
-        hold(signing_process.returncode == (-9 if killed == "signer" else 0), "the signer ends with", signing_process.returncode, fault)
-    hold(len(set(seen)) == 1 and not (own[FRONTING] / "key.pem").exists(), "the keys are", seen)
+    words = [python, str(HERE / "front.py"), "--port", "0", "--state", str(own[FRONTING]), "--signer-at", path, "--", *log]
+    # What ends first, and the status of the front and of the signer.
+    for number, (first, statuses) in enumerate((("front", (-9, 0)), ("signer", (1, -9)), (None, (0, 0)))):
+        with signer_at(state, path, python) as signing_process:
+            listens(signing_process, path)
+            hold(not can(OTHER, (), python, come, path), "another user opens the signer's socket")
+            with as_user(FRONTING, words, (SIGNING,), text=True) as front:
+                seen.add(signed_through(front, number, lambda: front.communicate()[1]))
+                hold(not can(FRONTING, (SIGNING,), python, there, f"{state}/key.pem"), "the front's user reads the key")
+                (signing_process if first == "signer" else front).send_signal(signal.SIGKILL if first else signal.SIGTERM)
+                faults = [process.communicate(timeout=60)[1] for process in (front, signing_process)]
+        found = (front.returncode, signing_process.returncode)
+        hold(found == statuses, "front and signer end with", found, faults)
+    hold(len(seen) == 1 and not (own[FRONTING] / "key.pem").exists(), "the keys are", seen)
     return "a front and a signer of two users, and two kills"
 
 
