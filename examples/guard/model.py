@@ -17,7 +17,7 @@ import sys
 sys.path.insert(0, str(pathlib.Path(__file__).resolve().parent.parent))
 
 from json_lines import is_bytes, is_hash, is_list_of, is_number, json_line, json_of, lines_of, text  # noqa: E402
-from merkle import leaf_hash, node_hash, split  # noqa: E402
+from merkle import fault_of_path, fault_of_proof  # noqa: E402
 
 
 class Refused(Exception):
@@ -32,68 +32,6 @@ def state_of(last):
 
 def refused(name, fault=None):
     return {"fault": fault, "refused": name} if fault else {"refused": name}
-
-
-# ---- proofs (RFC 9162, sections 2.1.3.2 and 2.1.4.2), by plain recursion
-
-def path_length(index, size):
-    if size == 1:
-        return 0
-    k = split(size)
-    return 1 + (path_length(index, k) if index < k else path_length(index - k, size - k))
-
-
-def rebuilt(index, size, found, path):
-    """The root to which a path as long as PATH leads."""
-    if size == 1:
-        return found
-    k = split(size)
-    if index < k:
-        return node_hash(rebuilt(index, k, found, path[:-1]), path[-1])
-    return node_hash(path[-1], rebuilt(index - k, size - k, found, path[:-1]))
-
-
-def inclusion_fault(leaf, index, size, path, root):
-    if index >= size:
-        return "index-out-of-range"
-    wanted = path_length(index, size)
-    if len(path) != wanted:
-        return "path-too-long" if len(path) > wanted else "path-too-short"
-    return None if rebuilt(index, size, leaf_hash(leaf), path) == root else "root-mismatch"
-
-
-def proof_length(first, size, whole):
-    """The length of SUBPROOF (RFC 6962, section 2.1.2)."""
-    if first == size:
-        return 0 if whole else 1
-    k = split(size)
-    return 1 + (proof_length(first, k, whole) if first <= k else proof_length(first - k, size - k, False))
-
-
-def both_roots(first, size, whole, known, proof):
-    """The roots of the first leaves and of all, which a proof as long as SUBPROOF gives."""
-    if first == size:
-        return (known, known) if whole else (proof[-1], proof[-1])
-    k = split(size)
-    if first <= k:
-        older, newer = both_roots(first, k, whole, known, proof[:-1])
-        return older, node_hash(newer, proof[-1])
-    older, newer = both_roots(first - k, size - k, False, known, proof[:-1])
-    return node_hash(proof[-1], older), node_hash(proof[-1], newer)
-
-
-def consistency_fault(first, second, first_root, second_root, proof):
-    if not 0 < first < second:
-        return "sizes-out-of-range"
-    if not proof:
-        return "empty-path"
-    wanted = proof_length(first, second, True)
-    if len(proof) != wanted:
-        return "path-too-long" if len(proof) > wanted else "path-too-short"
-    older, newer = both_roots(first, second, True, first_root, proof)
-    if older != first_root:
-        return "first-mismatch"
-    return None if newer == second_root else "root-mismatch"
 
 
 def leaf_fault(leaf):
@@ -139,7 +77,7 @@ class Guard:
                 if head[2] != last[2]:
                     raise Refused("fork")
             elif last[0] > 0:
-                fault = consistency_fault(last[0], head[0], last[2], head[2], proof)
+                fault = fault_of_proof(last[0], head[0], last[2], head[2], proof)
                 if fault:
                     raise Refused("inconsistent", fault)
         self.last = head
@@ -151,7 +89,7 @@ class Guard:
         if fault:
             raise Refused("no-leaf", fault)
         if not self.promised:
-            fault = inclusion_fault(leaf, index, self.last[0], path, self.last[2])
+            fault = fault_of_path(leaf, index, self.last[0], path, self.last[2])
             if fault:
                 raise Refused("not-there", fault)
 

@@ -1,0 +1,488 @@
+// Package check judges a log from what it published in a folder, and from the timestamps that it answered, by the log's public key
+// alone. It is independent of what writes a log: it uses no other package of this repository.
+//
+// It holds the whole log in memory: it is for trials.
+package check
+
+import (
+	"bytes"
+	"crypto/ecdsa"
+	"crypto/sha256"
+	"crypto/x509"
+	"encoding/base64"
+	"encoding/binary"
+	"encoding/hex"
+	"errors"
+	"fmt"
+	"io/fs"
+	"os"
+	"path/filepath"
+	"regexp"
+	"sort"
+	"strconv"
+	"strings"
+)
+
+// Answer is a timestamp that was answered, with what was submitted.
+type Answer struct {
+	// Certificate is the certificate; or IssuerKeyHash and TBSCertificate are there, of a precertificate.
+	Certificate    []byte `json:"certificate,omitempty"`
+	IssuerKeyHash  []byte `json:"issuer_key_hash,omitempty"`
+	TBSCertificate []byte `json:"tbs_certificate,omitempty"`
+	Timestamp      uint64 `json:"timestamp"`
+	Extensions     []byte `json:"extensions"`
+	// Signature is the DigitallySigned.
+	Signature []byte `json:"signature"`
+	LogID     []byte `json:"log_id"`
+}
+
+// Report is what a log that is right has.
+type Report struct {
+	Heads, Leaves, Tiles, Issuers, Answers int
+	// Repeats is how many leaves have the entry of one before them.
+	Repeats int
+}
+
+// errWrong is what every verdict wraps.
+var errWrong = errors.New("check")
+
+func wrong(form string, words ...any) error {
+	return fmt.Errorf("%w: "+form, append([]any{errWrong}, words...)...)
+}
+
+type hash = [32]byte
+
+// folder is what is looked at.
+type folder struct {
+	objects map[string][]byte
+	key     *ecdsa.PublicKey
+	logID   hash
+	leaves  []leaf
+	// rows has at k the hashes of the perfect subtrees of 2^k leaves.
+	rows [][]hash
+}
+
+// leaf is an entry: its MerkleTreeLeaf, its bytes in a data tile, and what it is an entry of.
+type leaf struct {
+	merkle, inTile, entry []byte
+	timestamp, index      uint64
+	issuers               []hash
+}
+
+// Folder judges the objects below a folder by a log's key (its SubjectPublicKeyInfo in DER).
+func Folder(path string, key []byte, answers []Answer) (Report, error) {
+	parsed, err := x509.ParsePKIXPublicKey(key)
+	if err != nil {
+		return Report{}, wrong("the key: %v", err)
+	}
+	public, ok := parsed.(*ecdsa.PublicKey)
+	if !ok {
+		return Report{}, wrong("the key isn't one of ECDSA")
+	}
+	f := &folder{objects: map[string][]byte{}, key: public, logID: sha256.Sum256(key)}
+	if err := f.read(path); err != nil {
+		return Report{}, err
+	}
+	heads, err := f.heads()
+	if err != nil {
+		return Report{}, err
+	}
+	if len(heads) == 0 {
+		return Report{}, wrong("there is no head")
+	}
+	top := heads[len(heads)-1].size
+	if err := f.readLeaves(top); err != nil {
+		return Report{}, err
+	}
+	for _, h := range heads {
+		if err := f.judgeHead(h); err != nil {
+			return Report{}, err
+		}
+	}
+	report := Report{Heads: len(heads), Leaves: len(f.leaves), Answers: len(answers)}
+	if report.Tiles, err = f.judgeTiles(top); err != nil {
+		return Report{}, err
+	}
+	if report.Issuers, err = f.judgeIssuers(); err != nil {
+		return Report{}, err
+	}
+	for i, a := range answers {
+		if err := f.judgeAnswer(a); err != nil {
+			return Report{}, fmt.Errorf("answer %d: %w", i, err)
+		}
+	}
+	seen := map[string]bool{}
+	for _, l := range f.leaves {
+		seen[string(l.entry)] = true
+	}
+	report.Repeats = len(f.leaves) - len(seen)
+	return report, nil
+}
+
+// read reads all files that have public names.
+func (f *folder) read(path string) error {
+	return filepath.WalkDir(path, func(at string, entry fs.DirEntry, err error) error {
+		if err != nil {
+			return err
+		}
+		name, err := filepath.Rel(path, at)
+		if err != nil || name == "." {
+			return err
+		}
+		if strings.HasPrefix(name, ".") || name == "staging" {
+			if entry.IsDir() {
+				return filepath.SkipDir
+			}
+			return nil
+		}
+		if entry.IsDir() {
+			return nil
+		}
+		f.objects[filepath.ToSlash(name)], err = os.ReadFile(at)
+		return err
+	})
+}
+
+type head struct {
+	size, moment uint64
+	root         hash
+	signature    []byte
+	name         string
+}
+
+var headForm = regexp.MustCompile(`^heads/(\d{20})-(\d{20})$`)
+
+// heads reads the signed notes, in the order of their names, and judges what doesn't want the leaves.
+func (f *folder) heads() ([]head, error) {
+	var heads []head
+	for name, content := range f.objects {
+		if !strings.HasPrefix(name, "heads/") {
+			continue
+		}
+		words := headForm.FindStringSubmatch(name)
+		if words == nil {
+			return nil, wrong("%s: that is no head's name", name)
+		}
+		h, err := f.note(string(content))
+		if err != nil {
+			return nil, fmt.Errorf("%s: %w", name, err)
+		}
+		if h.name = name; fmt.Sprintf("heads/%020d-%020d", h.size, h.moment) != name {
+			return nil, wrong("%s: it is the head of %d leaves at %d", name, h.size, h.moment)
+		}
+		heads = append(heads, h)
+	}
+	sort.Slice(heads, func(i, j int) bool { return heads[i].name < heads[j].name })
+	for i := 1; i < len(heads); i++ {
+		if heads[i].moment <= heads[i-1].moment {
+			return nil, wrong("%s isn't later than %s", heads[i].name, heads[i-1].name)
+		}
+	}
+	return heads, nil
+}
+
+// note reads a checkpoint with one signature (C2SP tlog-checkpoint, static-ct-api), and checks that.
+func (f *folder) note(text string) (head, error) {
+	body, signatures, ok := strings.Cut(text, "\n\n")
+	lines := strings.Split(body, "\n")
+	if !ok || len(lines) != 3 || strings.Count(signatures, "\n") != 1 || !strings.HasSuffix(signatures, "\n") {
+		return head{}, wrong("no signed note")
+	}
+	size, err := strconv.ParseUint(lines[1], 10, 63)
+	if err != nil || strconv.FormatUint(size, 10) != lines[1] {
+		return head{}, wrong("no size")
+	}
+	root, err := base64.StdEncoding.Strict().DecodeString(lines[2])
+	if err != nil || len(root) != 32 {
+		return head{}, wrong("no root")
+	}
+	words := strings.Split(strings.TrimSuffix(signatures, "\n"), " ")
+	if len(words) != 3 || words[0] != "—" || words[1] != lines[0] {
+		return head{}, wrong("the signature isn't the origin's")
+	}
+	blob, err := base64.StdEncoding.Strict().DecodeString(words[2])
+	if err != nil || len(blob) < 13 {
+		return head{}, wrong("no signature")
+	}
+	id := sha256.Sum256(append([]byte(lines[0]+"\n\x05"), f.logID[:]...))
+	if !bytes.Equal(id[:4], blob[:4]) {
+		return head{}, wrong("the signature is another key's")
+	}
+	h := head{size: size, moment: binary.BigEndian.Uint64(blob[4:12]), signature: blob[12:]}
+	copy(h.root[:], root)
+	message := []byte{0, 1}
+	message = binary.BigEndian.AppendUint64(message, h.moment)
+	message = binary.BigEndian.AppendUint64(message, h.size)
+	return h, f.signed(append(message, root...), h.signature)
+}
+
+// signed checks a DigitallySigned of ECDSA with SHA-256.
+func (f *folder) signed(message, signature []byte) error {
+	if len(signature) < 4 || signature[0] != 4 || signature[1] != 3 || int(signature[2])<<8|int(signature[3]) != len(signature)-4 {
+		return wrong("no DigitallySigned")
+	}
+	if digest := sha256.Sum256(message); !ecdsa.VerifyASN1(f.key, digest[:], signature[4:]) {
+		return wrong("the signature isn't the key's")
+	}
+	return nil
+}
+
+// nameOf is a tile's name (C2SP tlog-tiles).
+func nameOf(level string, index, width uint64) string {
+	name := fmt.Sprintf("%03d", index%1000)
+	for index /= 1000; index > 0; index /= 1000 {
+		name = fmt.Sprintf("x%03d/", index%1000) + name
+	}
+	if name = "tile/" + level + "/" + name; width < 256 {
+		name += fmt.Sprintf(".p/%d", width)
+	}
+	return name
+}
+
+// readLeaves reads so many leaves out of their data tiles, and makes the hashes of all perfect subtrees.
+func (f *folder) readLeaves(size uint64) error {
+	for index := uint64(0); 256*index < size; index++ {
+		width := size - 256*index
+		if width > 256 {
+			width = 256
+		}
+		name := nameOf("data", index, width)
+		content, ok := f.objects[name]
+		if !ok {
+			return wrong("%s is missing", name)
+		}
+		leaves, err := leavesOf(content)
+		if err != nil {
+			return fmt.Errorf("%s: %w", name, err)
+		}
+		if uint64(len(leaves)) != width {
+			return wrong("%s has %d leaves", name, len(leaves))
+		}
+		f.leaves = append(f.leaves, leaves...)
+	}
+	row := make([]hash, 0, len(f.leaves))
+	for i, l := range f.leaves {
+		if l.index != uint64(i) {
+			return wrong("leaf %d says that it is leaf %d", i, l.index)
+		}
+		if i > 0 && l.timestamp < f.leaves[i-1].timestamp {
+			return wrong("leaf %d is earlier than the one before it", i)
+		}
+		row = append(row, sha256.Sum256(append([]byte{0}, l.merkle...)))
+	}
+	for f.rows = append(f.rows, row); len(row) > 1; f.rows = append(f.rows, row) {
+		above := make([]hash, 0, len(row)/2)
+		for i := 0; i+1 < len(row); i += 2 {
+			above = append(above, node(row[i], row[i+1]))
+		}
+		row = above
+	}
+	return nil
+}
+
+func node(left, right hash) hash {
+	return sha256.Sum256(append(append([]byte{1}, left[:]...), right[:]...))
+}
+
+// leavesOf reads the tile leaves of a data tile (C2SP static-ct-api).
+func leavesOf(tile []byte) ([]leaf, error) {
+	var leaves []leaf
+	at := 0
+	number := func(length int) uint64 {
+		var n uint64
+		for i := 0; i < length; i++ {
+			if at >= len(tile) {
+				at = len(tile) + 1
+				return 0
+			}
+			n = n<<8 | uint64(tile[at])
+			at++
+		}
+		return n
+	}
+	skip := func(length uint64) { at += int(length) }
+	for at < len(tile) {
+		from := at
+		l := leaf{timestamp: number(8)}
+		precertificate := number(2)
+		if precertificate > 1 {
+			return nil, wrong("leaf %d is of type %d", len(leaves), precertificate)
+		}
+		entry := at - 2
+		if precertificate == 1 {
+			skip(32)
+		}
+		skip(number(3))
+		entryEnd := at
+		if number(2) != 8 || number(1) != 0 || number(2) != 5 {
+			return nil, wrong("leaf %d has other extensions than leaf_index", len(leaves))
+		}
+		l.index = number(5)
+		merkleEnd := at
+		if precertificate == 1 {
+			skip(number(3))
+		}
+		chain := number(2)
+		if chain%32 != 0 {
+			return nil, wrong("leaf %d has no chain of fingerprints", len(leaves))
+		}
+		for ; chain > 0; chain -= 32 {
+			var issuer hash
+			if at+32 <= len(tile) {
+				copy(issuer[:], tile[at:])
+			}
+			skip(32)
+			l.issuers = append(l.issuers, issuer)
+		}
+		if at > len(tile) {
+			return nil, wrong("leaf %d isn't whole", len(leaves))
+		}
+		l.entry, l.inTile = tile[entry:entryEnd], tile[from:at]
+		l.merkle = append([]byte{0, 0}, tile[from:merkleEnd]...)
+		leaves = append(leaves, l)
+	}
+	return leaves, nil
+}
+
+// mth is the Merkle Tree Hash of the first leaves (RFC 6962, section 2.1).
+func (f *folder) mth(size uint64) hash {
+	if size == 0 {
+		return sha256.Sum256(nil)
+	}
+	var peaks []hash
+	for k, at := 63, uint64(0); k >= 0; k-- {
+		if size>>uint(k)&1 == 1 {
+			peaks = append(peaks, f.rows[k][at>>uint(k)])
+			at += 1 << uint(k)
+		}
+	}
+	root := peaks[len(peaks)-1]
+	for i := len(peaks) - 2; i >= 0; i-- {
+		root = node(peaks[i], root)
+	}
+	return root
+}
+
+// judgeHead sees that a head is the tree's, and that each tile that it wants is there.
+func (f *folder) judgeHead(h head) error {
+	if h.root != f.mth(h.size) {
+		return wrong("%s isn't MTH of the leaves", h.name)
+	}
+	for level := 0; h.size>>uint(8*level) > 0; level++ {
+		hashes := h.size >> uint(8*level)
+		if width := hashes % 256; width > 0 {
+			if name := nameOf(strconv.Itoa(level), hashes/256, width); f.objects[name] == nil {
+				return wrong("%s: %s is missing", h.name, name)
+			}
+		}
+		for index := uint64(0); index < hashes/256; index++ {
+			if name := nameOf(strconv.Itoa(level), index, 256); f.objects[name] == nil {
+				return wrong("%s: %s is missing", h.name, name)
+			}
+		}
+	}
+	if width := h.size % 256; width > 0 {
+		if name := nameOf("data", h.size/256, width); f.objects[name] == nil {
+			return wrong("%s: %s is missing", h.name, name)
+		}
+	}
+	return nil
+}
+
+var tileForm = regexp.MustCompile(`^tile/(data|\d+)/((?:x\d{3}/)*\d{3})(?:\.p/(\d+))?$`)
+
+// judgeTiles sees that every tile is the defined one, and that there is none of what no head covers.
+func (f *folder) judgeTiles(size uint64) (count int, err error) {
+	for name, content := range f.objects {
+		if !strings.HasPrefix(name, "tile/") {
+			continue
+		}
+		words := tileForm.FindStringSubmatch(name)
+		if words == nil {
+			return 0, wrong("%s: that is no tile's name", name)
+		}
+		index, err := strconv.ParseUint(strings.NewReplacer("x", "", "/", "").Replace(words[2]), 10, 40)
+		if err != nil {
+			return 0, wrong("%s: it has no index", name)
+		}
+		width := uint64(256)
+		if words[3] != "" {
+			if width, err = strconv.ParseUint(words[3], 10, 8); err != nil || width == 0 {
+				return 0, wrong("%s: it has no width", name)
+			}
+		}
+		if nameOf(words[1], index, width) != name {
+			return 0, wrong("%s is written otherwise", name)
+		}
+		level, defined := 0, []byte(nil)
+		if words[1] != "data" {
+			if level, err = strconv.Atoi(words[1]); err != nil || level > 7 {
+				return 0, wrong("%s: it has no level", name)
+			}
+		}
+		if 256*index+width > size>>uint(8*level) {
+			return 0, wrong("%s has more than the %d leaves of the last head", name, size)
+		}
+		for at := 256 * index; at < 256*index+width; at++ {
+			if words[1] == "data" {
+				defined = append(defined, f.leaves[at].inTile...)
+			} else {
+				defined = append(defined, f.rows[8*level][at][:]...)
+			}
+		}
+		if !bytes.Equal(content, defined) {
+			return 0, wrong("%s isn't the defined tile", name)
+		}
+		count++
+	}
+	return count, nil
+}
+
+// judgeIssuers sees that every issuer is there, under its own hash.
+func (f *folder) judgeIssuers() (count int, err error) {
+	for name, content := range f.objects {
+		if digest := sha256.Sum256(content); strings.HasPrefix(name, "issuer/") {
+			if name != "issuer/"+hex.EncodeToString(digest[:]) {
+				return 0, wrong("%s is another issuer", name)
+			}
+			count++
+		}
+	}
+	for i, l := range f.leaves {
+		for _, issuer := range l.issuers {
+			if name := "issuer/" + hex.EncodeToString(issuer[:]); f.objects[name] == nil {
+				return 0, wrong("leaf %d: %s is missing", i, name)
+			}
+		}
+	}
+	return count, nil
+}
+
+// judgeAnswer sees that a timestamp is signed, and that its entry stands in its place.
+func (f *folder) judgeAnswer(a Answer) error {
+	if !bytes.Equal(a.LogID, f.logID[:]) {
+		return wrong("a timestamp of another log")
+	}
+	if len(a.Extensions) != 8 || !bytes.Equal(a.Extensions[:3], []byte{0, 0, 5}) {
+		return wrong("a timestamp without leaf_index")
+	}
+	index := binary.BigEndian.Uint64(append([]byte{0, 0, 0}, a.Extensions[3:]...))
+	entry, content := []byte{0, 0}, a.Certificate
+	if len(a.Certificate) == 0 {
+		entry, content = append([]byte{0, 1}, a.IssuerKeyHash...), a.TBSCertificate
+	}
+	entry = append(entry, byte(len(content)>>16), byte(len(content)>>8), byte(len(content)))
+	entry = append(entry, content...)
+	message := binary.BigEndian.AppendUint64([]byte{0, 0}, a.Timestamp)
+	message = append(append(append(message, entry...), 0, 8), a.Extensions...)
+	if err := f.signed(message, a.Signature); err != nil {
+		return err
+	}
+	if index >= uint64(len(f.leaves)) {
+		return wrong("a timestamp of leaf %d, and the last head has %d leaves", index, len(f.leaves))
+	}
+	if !bytes.Equal(f.leaves[index].merkle, message) {
+		return wrong("leaf %d isn't what its timestamp is of", index)
+	}
+	return nil
+}

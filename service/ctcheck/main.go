@@ -1,0 +1,66 @@
+// Command ctcheck judges a log from what it published in a folder: ctcheck FOLDER KEY.PEM [ANSWERS..]. KEY.PEM has the log's public
+// key; a file of answers has a JSON object a line, as check.Answer has it. It says what it saw, or what is wrong, with status 1.
+package main
+
+import (
+	"bufio"
+	"encoding/json"
+	"encoding/pem"
+	"fmt"
+	"os"
+
+	"wagtenib/service/check"
+)
+
+func main() {
+	if len(os.Args) < 3 {
+		fmt.Fprintln(os.Stderr, "ctcheck FOLDER KEY.PEM [ANSWERS..]")
+		os.Exit(2)
+	}
+	report, err := judge(os.Args[1], os.Args[2], os.Args[3:])
+	if err != nil {
+		fmt.Fprintln(os.Stderr, err)
+		os.Exit(1)
+	}
+	fmt.Printf("%d heads, %d leaves (%d repeats), %d tiles, %d issuers, %d timestamps: all as they have to be\n",
+		report.Heads, report.Leaves, report.Repeats, report.Tiles, report.Issuers, report.Answers)
+}
+
+func judge(folder, keyFile string, answerFiles []string) (check.Report, error) {
+	content, err := os.ReadFile(keyFile)
+	if err != nil {
+		return check.Report{}, err
+	}
+	block, _ := pem.Decode(content)
+	if block == nil || block.Type != "PUBLIC KEY" {
+		return check.Report{}, fmt.Errorf("ctcheck: %s is no public key in PEM", keyFile)
+	}
+	var answers []check.Answer
+	for _, name := range answerFiles {
+		if answers, err = readAnswers(name, answers); err != nil {
+			return check.Report{}, err
+		}
+	}
+	return check.Folder(folder, block.Bytes, answers)
+}
+
+// mostLine is how long an answer's line may be.
+const mostLine = 1 << 20
+
+func readAnswers(name string, answers []check.Answer) ([]check.Answer, error) {
+	file, err := os.Open(name)
+	if err != nil {
+		return nil, err
+	}
+	defer file.Close()
+	lines := bufio.NewScanner(file)
+	lines.Buffer(nil, mostLine)
+	for lines.Scan() {
+		var a check.Answer
+		if err := json.Unmarshal(lines.Bytes(), &a); err != nil {
+			return nil, fmt.Errorf("ctcheck: %s: %w", name, err)
+		}
+		answers = append(answers, a)
+	}
+	return answers, lines.Err()
+}

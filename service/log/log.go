@@ -1,0 +1,89 @@
+// Package log says what a front sees of a log: submissions that are answered with their places, the newest published head, and
+// the published objects. The sequencer of wagtenib/service/sequencer is one.
+package log
+
+import (
+	"context"
+	"errors"
+	"time"
+
+	"wagtenib/service/chains"
+)
+
+// What Submit refuses by. Each is found by errors.Is; what it wraps says more.
+var (
+	// ErrBusy: so many wait already that no more is taken. To be sent again later (503 with Retry-After at a front).
+	ErrBusy = errors.New("log: busy")
+	// ErrTooLarge: the entry has more bytes than one of a log may have. It will never be taken.
+	ErrTooLarge = errors.New("log: entry too large")
+	// ErrEnded: the log takes no more.
+	ErrEnded = errors.New("log: ended")
+	// ErrClock: the machine's clock isn't where it was expected, and nothing is stepped until it is.
+	ErrClock = errors.New("log: the clock isn't where it was expected")
+	// ErrStore: a store, the register, the step or the signer doesn't answer, or gives what can't be.
+	ErrStore = errors.New("log: a store doesn't give what it has to")
+)
+
+// Entry is what chains.Checker gives of a submission, with its issuers' certificates.
+type Entry = chains.Entry
+
+// Place is where an entry stands, with the signed certificate timestamp that says so (RFC 6962, section 3.2).
+type Place struct {
+	// LeafIndex counts from 0; it is below 2^40.
+	LeafIndex uint64
+	// Timestamp is in milliseconds since 1970.
+	Timestamp uint64
+	// Extensions are the bytes of CtExtensions, without their length: the extension leaf_index (C2SP static-ct-api).
+	Extensions []byte
+	// Signature is the DigitallySigned: the two bytes of the algorithms, two of length, and the signature.
+	Signature []byte
+	// LogID is SHA-256 over the log's key (its SubjectPublicKeyInfo in DER).
+	LogID [32]byte
+}
+
+// Head is a published tree head.
+type Head struct {
+	// Note is the signed note (C2SP tlog-checkpoint and static-ct-api), with its signature lines.
+	Note []byte
+	// TreeSize is the number of entries, Timestamp in milliseconds since 1970.
+	TreeSize, Timestamp uint64
+	// RootHash is the Merkle Tree Hash of the entries (RFC 6962, section 2.1).
+	RootHash [32]byte
+	// Signature is the DigitallySigned over the TreeHeadSignature (RFC 6962, section 3.5), as Place.Signature is.
+	Signature []byte
+}
+
+// Figures are what an operator looks at. Those that count, count since the start of the process.
+type Figures struct {
+	// Queue is how many submissions wait, and MostQueue at how many no more is taken.
+	Queue, MostQueue int
+	// Entries is the size of the newest published head, and HeadAge its age by the machine's clock.
+	Entries uint64
+	HeadAge time.Duration
+	// Steps counts swaps that were won, LostSwaps those that another node was faster with, Unknown those whose outcome had to be
+	// settled by reading the register.
+	Steps, LostSwaps, Unknown uint64
+	// Repeats counts submissions that were answered with a place that they had, Helped the heads of others that were rolled out,
+	// HandedOver the submissions that another node answered.
+	Repeats, Helped, HandedOver uint64
+	// StepStarts counts how often the step's process was started.
+	StepStarts uint64
+	// Fault is what keeps the log from going on, in one line; empty where nothing does.
+	Fault string
+}
+
+// Log is one log. Its methods may be called at once.
+type Log interface {
+	// Submit answers once the head that covers the entry is published; ErrBusy, ErrTooLarge, ErrEnded, ErrClock, ErrStore, or the
+	// context's error. An entry whose submission wasn't answered may stand in the log all the same.
+	Submit(ctx context.Context, entry Entry) (Place, error)
+	// Checkpoint is the newest published head.
+	Checkpoint(ctx context.Context) (Head, error)
+	// Object reads a published object by its name (tile/.., issuer/..); stores.ErrAbsent where there is none, stores.ErrName
+	// where none can be.
+	Object(ctx context.Context, name string) ([]byte, error)
+	// End takes no more, publishes, and answers who waits, within the context.
+	End(ctx context.Context) error
+	// Figures are those of this moment.
+	Figures() Figures
+}

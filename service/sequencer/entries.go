@@ -1,0 +1,154 @@
+package sequencer
+
+import (
+	"crypto/sha256"
+	"encoding/binary"
+	"fmt"
+	"strings"
+
+	"wagtenib/service/chains"
+	"wagtenib/service/log"
+	"wagtenib/service/step"
+	"wagtenib/service/stores"
+)
+
+// submissionOf makes of an entry what the step takes.
+func submissionOf(entry log.Entry) (step.Submission, error) {
+	var s step.Submission
+	switch entry.Type {
+	case chains.X509Entry:
+		s.LeafCertificate = entry.Certificate
+	case chains.PrecertEntry:
+		s.IssuerKeyHash, s.TBSCertificate, s.PreCertificate = entry.IssuerKeyHash[:], entry.TBSCertificate, entry.Precertificate
+	default:
+		return s, fmt.Errorf("%w: an entry of type %d", ErrConfig, entry.Type)
+	}
+	for _, issuer := range entry.Issuers {
+		fingerprint := sha256.Sum256(issuer)
+		s.Chain = append(s.Chain, fingerprint[:])
+	}
+	return s, checkSubmission(s)
+}
+
+// checkSubmission says whether a submission is one of a certificate or of a precertificate, within the bounds.
+func checkSubmission(s step.Submission) error {
+	if bytes := len(s.LeafCertificate) + len(s.PreCertificate) + len(s.TBSCertificate); bytes > MostEntry {
+		return fmt.Errorf("%w: %d bytes, of at most %d", log.ErrTooLarge, bytes, MostEntry)
+	}
+	plain := len(s.LeafCertificate) > 0 && len(s.IssuerKeyHash)+len(s.PreCertificate)+len(s.TBSCertificate) == 0
+	pre := len(s.LeafCertificate) == 0 && len(s.IssuerKeyHash) == 32 && len(s.PreCertificate) > 0 && len(s.TBSCertificate) > 0
+	if plain == pre || len(s.Chain) > chains.MostCertificates {
+		return fmt.Errorf("%w: a submission is of a certificate, or of a precertificate", ErrConfig)
+	}
+	for _, fingerprint := range s.Chain {
+		if len(fingerprint) != sha256.Size {
+			return fmt.Errorf("%w: a fingerprint of %d bytes", ErrConfig, len(fingerprint))
+		}
+	}
+	return nil
+}
+
+// identityOf is SHA-256 over what of a submission stands in its leaf: the type, and the certificate, or the issuer's key hash and
+// the TBSCertificate.
+func identityOf(s step.Submission) stores.Identity {
+	if len(s.LeafCertificate) > 0 {
+		return identity(chains.X509Entry, s.LeafCertificate)
+	}
+	return identity(chains.PrecertEntry, append(append([]byte{}, s.IssuerKeyHash...), s.TBSCertificate...))
+}
+
+func identity(of chains.EntryType, what []byte) stores.Identity {
+	return sha256.Sum256(append([]byte{byte(of >> 8), byte(of)}, what...))
+}
+
+// leaf is an entry of a data tile.
+type leaf struct {
+	index, timestamp uint64
+	identity         stores.Identity
+	// signed is the TimestampedEntry with two bytes before it: a MerkleTreeLeaf, and what is under a timestamp's signature
+	// (RFC 6962, sections 3.4 and 3.2).
+	signed []byte
+}
+
+// reader cuts a data tile.
+type reader struct {
+	rest  []byte
+	wrong bool
+}
+
+func (r *reader) take(length int) []byte {
+	if r.wrong || length > len(r.rest) {
+		r.wrong = true
+		return nil
+	}
+	taken := r.rest[:length:length]
+	r.rest = r.rest[length:]
+	return taken
+}
+
+func (r *reader) number(length int) (number uint64) {
+	for _, b := range r.take(length) {
+		number = number<<8 | uint64(b)
+	}
+	return number
+}
+
+func (r *reader) vector(lengthBytes int) []byte { return r.take(int(r.number(lengthBytes))) }
+
+// leavesOf reads the tile leaves of a data tile (C2SP static-ct-api), at most 256.
+func leavesOf(tile []byte) ([]leaf, error) {
+	var leaves []leaf
+	for r := (&reader{rest: tile}); len(r.rest) > 0; {
+		if len(leaves) == tileWidth {
+			return nil, fmt.Errorf("%w: a data tile of more than %d entries", ErrDamaged, tileWidth)
+		}
+		one, before := leaf{}, r.rest
+		one.timestamp = r.number(8)
+		of := chains.EntryType(r.number(2))
+		switch of {
+		case chains.X509Entry:
+			one.identity = identity(of, r.vector(3))
+		case chains.PrecertEntry:
+			keyHash := r.take(32)
+			one.identity = identity(of, append(append([]byte{}, keyHash...), r.vector(3)...))
+		default:
+			r.wrong = true
+		}
+		extensions := r.vector(2)
+		end := len(before) - len(r.rest)
+		if of == chains.PrecertEntry {
+			r.vector(3)
+		}
+		r.vector(2)
+		if r.wrong || len(extensions) != len(extensionsOf(0)) || string(extensions[:3]) != string(extensionsOf(0)[:3]) {
+			return nil, fmt.Errorf("%w: entry %d of a data tile isn't one", ErrDamaged, len(leaves))
+		}
+		one.index = binary.BigEndian.Uint64(append([]byte{0, 0, 0}, extensions[3:]...))
+		one.signed = append([]byte{0, 0}, before[:end]...)
+		leaves = append(leaves, one)
+	}
+	return leaves, nil
+}
+
+// extensionsOf are a timestamp's: leaf_index, type 0, two bytes of length and five of the index (C2SP static-ct-api).
+func extensionsOf(index uint64) []byte {
+	return append([]byte{0, 0, 5}, eight(index)[3:]...)
+}
+
+// placesIn gives the places of all entries in a step's objects. Of a partial tile that grew, it gives those from before as well.
+func placesIn(objects []step.Object) ([]stores.Placed, error) {
+	var placed []stores.Placed
+	for _, object := range objects {
+		if !strings.HasPrefix(object.Name, dataPrefix) {
+			continue
+		}
+		leaves, err := leavesOf(object.Content)
+		if err != nil {
+			return nil, fmt.Errorf("%s: %w", object.Name, err)
+		}
+		for _, l := range leaves {
+			placed = append(placed, stores.Placed{Identity: l.identity, Place: stores.Place{Index: l.index, Timestamp: l.timestamp}})
+		}
+	}
+	return placed, nil
+}

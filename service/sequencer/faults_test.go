@@ -1,0 +1,550 @@
+package sequencer
+
+import (
+	"context"
+	"errors"
+	"fmt"
+	"io"
+	"net/http/httptest"
+	"os"
+	"path/filepath"
+	"strings"
+	"sync"
+	"testing"
+	"time"
+
+	"wagtenib/service/log"
+	"wagtenib/service/step"
+	"wagtenib/service/stores"
+)
+
+// TestRegisterSetBack copies a register, goes on, and puts the copy back: a node that runs stops, and none starts.
+func TestRegisterSetBack(t *testing.T) {
+	p, ctx, got := newPlace(t), limited(t), &answers{}
+	register := filepath.Join(string(p), "register")
+	s := started(t, p.config(t), hooks{})
+	must(t, got.submitAll(ctx, s, 0, 20, 8))
+	old := map[string][]byte{}
+	for _, name := range []string{"text", "published"} {
+		content, err := os.ReadFile(filepath.Join(register, name))
+		must(t, err)
+		old[name] = content
+	}
+	must(t, got.submitAll(ctx, s, 20, 40, 8))
+	for name, content := range old {
+		old := filepath.Join(string(p), "old")
+		must(t, os.WriteFile(old, content, 0o644))
+		must(t, os.Rename(old, filepath.Join(register, name)))
+	}
+	_, err := s.Submit(ctx, entryOf(50))
+	wants(t, err, log.ErrStore, ErrSetBack)
+	_, err = New(ctx, p.config(t))
+	wants(t, err, ErrSetBack)
+	if fault := s.Figures().Fault; !strings.Contains(fault, ErrSetBack.Error()) {
+		t.Errorf("its figures say %q", fault)
+	}
+	if report := p.right(t, got); report.Leaves != 40 {
+		t.Fatalf("%+v", report)
+	}
+}
+
+// TestRegisterEmptied takes the register away: none is created over a store that has anything of a log, and a node that runs stops.
+func TestRegisterEmptied(t *testing.T) {
+	for _, left := range []string{"", "heads", "heads tile"} {
+		p, ctx, got := newPlace(t), limited(t), &answers{}
+		s := started(t, p.config(t), hooks{})
+		must(t, got.submitAll(ctx, s, 0, 5, 1))
+		for _, name := range []string{"text", "published"} {
+			must(t, os.Remove(filepath.Join(string(p), "register", name)))
+		}
+		_, err := s.Submit(ctx, entryOf(50))
+		wants(t, err, log.ErrStore, ErrSetBack)
+		for _, part := range strings.Fields(left) {
+			must(t, os.RemoveAll(filepath.Join(p.objects(), part)))
+		}
+		_, err = New(ctx, p.config(t))
+		wants(t, err, ErrSetBack)
+	}
+	p, ctx := newPlace(t), limited(t)
+	config := p.config(t)
+	config.Create = false
+	_, err := New(ctx, config)
+	wants(t, err, ErrSetBack)
+	must(t, config.Register.Create(ctx, "no log's"))
+	_, err = New(ctx, config)
+	wants(t, err, ErrDamaged)
+}
+
+// TestDamagedTiles takes away or bends what a step, a roll-out or a repeat wants. Each is refused by name, and there is no further head.
+func TestDamagedTiles(t *testing.T) {
+	remove := func(path string) error { return os.Remove(path) }
+	bend := func(path string) error {
+		content, err := os.ReadFile(path)
+		if err == nil {
+			content[len(content)/2] ^= 1
+			err = os.WriteFile(path, content, 0o644)
+		}
+		return err
+	}
+	cut := func(path string) error { return os.Truncate(path, 7) }
+	for _, object := range []string{"tile/0/001.p/44", "tile/1/000.p/1", "tile/data/001.p/44"} {
+		for how, damage := range map[string]func(string) error{"removed": remove, "bent": bend, "cut": cut} {
+			t.Run(object+" "+how, func(t *testing.T) {
+				p, ctx, got := newPlace(t), limited(t), &answers{}
+				s := started(t, p.config(t), hooks{})
+				must(t, got.submitAll(ctx, s, 0, 300, 300))
+				must(t, s.End(ctx))
+				must(t, damage(filepath.Join(p.objects(), object)))
+				again := started(t, p.config(t), hooks{})
+				_, err := again.Submit(ctx, entryOf(1000))
+				wants(t, err, log.ErrStore, ErrDamaged)
+				if !strings.Contains(err.Error(), object) {
+					t.Errorf("%v doesn't name %s", err, object)
+				}
+				// A second one is refused at once.
+				_, err = again.Submit(ctx, entryOf(1001))
+				wants(t, err, log.ErrStore, ErrDamaged)
+				if head, err := again.Checkpoint(ctx); err != nil || head.TreeSize != 300 {
+					t.Errorf("%+v, %v", head, err)
+				}
+			})
+		}
+	}
+}
+
+// TestDamagedRepeats bends tiles that only a repeat wants.
+func TestDamagedRepeats(t *testing.T) {
+	for _, object := range []string{"tile/0/000", "tile/data/000"} {
+		p, ctx, got := newPlace(t), limited(t), &answers{}
+		s := started(t, p.config(t), hooks{})
+		must(t, got.submitAll(ctx, s, 0, 300, 300))
+		first := got.all[0]
+		for _, a := range got.all {
+			if string(a.Extensions) == string(extensionsOf(0)) {
+				first = a
+			}
+		}
+		path := filepath.Join(p.objects(), object)
+		content, err := os.ReadFile(path)
+		must(t, err)
+		bent := append([]byte{}, content...)
+		// (a byte of the first entry, or of its hash)
+		bent[16] ^= 1
+		must(t, os.WriteFile(path, bent, 0o644))
+		var repeat int
+		for n := 0; n < 300; n++ {
+			if a := answerOf(entryOf(n), log.Place{}); string(a.Certificate)+string(a.TBSCertificate) == string(first.Certificate)+string(first.TBSCertificate) {
+				repeat = n
+			}
+		}
+		_, err = s.Submit(ctx, entryOf(repeat))
+		wants(t, err, log.ErrStore, ErrDamaged)
+		must(t, os.WriteFile(path, content, 0o644))
+		for {
+			// Put right, it is answered once a round has seen it.
+			place, err := s.Submit(ctx, entryOf(repeat))
+			if err == nil {
+				got.add(answerOf(entryOf(repeat), place))
+				break
+			}
+			wants(t, err, ErrDamaged)
+			time.Sleep(quick)
+		}
+		p.right(t, got)
+	}
+}
+
+// TestDamagedBundle has a node that died behind its swap leave a bundle that is bent, or gone.
+func TestDamagedBundle(t *testing.T) {
+	for _, how := range []string{"bent", "gone"} {
+		p, ctx := newPlace(t), limited(t)
+		killed, err := child{Place: string(p), KillAt: "swapped", KillOn: 2, From: 0, To: 50}.run(&answers{})
+		must(t, err)
+		if !killed {
+			t.Fatal("it wasn't killed")
+		}
+		bundles, err := filepath.Glob(filepath.Join(p.objects(), "staging/*"))
+		must(t, err)
+		for _, bundle := range bundles {
+			if how == "bent" {
+				must(t, os.WriteFile(bundle, []byte("\x00\x01a"), 0o644))
+			} else {
+				must(t, os.Remove(bundle))
+			}
+		}
+		s := started(t, p.config(t), hooks{})
+		_, err = s.Submit(ctx, entryOf(100))
+		wants(t, err, log.ErrStore, ErrDamaged)
+		if !strings.Contains(err.Error(), "staging/") {
+			t.Error(err)
+		}
+	}
+}
+
+// TestWrongPlaces gives repeats places that aren't theirs. None is believed: each is a new entry, and no lie is signed.
+func TestWrongPlaces(t *testing.T) {
+	p, ctx, got := newPlace(t), limited(t), &answers{}
+	config := p.config(t)
+	var wrong []stores.Placed
+	for n, place := range []stores.Place{{Index: 0, Timestamp: 0}, {Index: 1 << 50, Timestamp: 7}, {Index: 3, Timestamp: 1}} {
+		submission, err := submissionOf(entryOf(100 + n))
+		must(t, err)
+		wrong = append(wrong, stores.Placed{Identity: identityOf(submission), Place: place})
+	}
+	must(t, config.Places.Add(ctx, wrong))
+	s := started(t, config, hooks{})
+	must(t, got.submitAll(ctx, s, 0, 10, 10))
+	must(t, got.submitAll(ctx, s, 100, 103, 3))
+	if report := p.right(t, got); report.Leaves != 13 {
+		t.Fatalf("%+v", report)
+	}
+}
+
+// TestFullQueue stops a node in a step, and fills its queue.
+func TestFullQueue(t *testing.T) {
+	p, ctx, got := newPlace(t), limited(t), &answers{}
+	config := p.config(t)
+	config.MostQueue, config.MostBatch = 3, 1
+	release, stopped := make(chan struct{}), make(chan struct{}, 100)
+	s := started(t, config, hooks{phase: func(name string) {
+		if name == "bundle put" {
+			stopped <- struct{}{}
+			<-release
+		}
+	}})
+	var all sync.WaitGroup
+	for n := 0; n < 3; n++ {
+		all.Add(1)
+		go func(n int) {
+			defer all.Done()
+			if err := got.submitAll(ctx, s, n, n+1, 1); err != nil {
+				t.Error(err)
+			}
+		}(n)
+	}
+	<-stopped
+	for s.Figures().Queue < 3 {
+		time.Sleep(time.Millisecond)
+	}
+	_, err := s.Submit(ctx, entryOf(9))
+	wants(t, err, log.ErrBusy)
+	close(release)
+	all.Wait()
+	must(t, got.submitAll(ctx, s, 9, 10, 1))
+	if report := p.right(t, got); report.Leaves != 4 {
+		t.Fatalf("%+v", report)
+	}
+	large := entryOf(1)
+	large.Certificate = make([]byte, MostEntry+1)
+	_, err = s.Submit(ctx, large)
+	wants(t, err, log.ErrTooLarge)
+}
+
+// TestGivenUp has who waits give up: the seat is free again.
+func TestGivenUp(t *testing.T) {
+	p, ctx := newPlace(t), limited(t)
+	config := p.config(t)
+	config.MostQueue = 1
+	release := make(chan struct{})
+	s := started(t, config, hooks{phase: func(name string) {
+		if name == "stepped" {
+			<-release
+		}
+	}})
+	for n := 0; n < 3; n++ {
+		short, cancel := context.WithTimeout(ctx, 5*time.Millisecond)
+		_, err := s.Submit(short, entryOf(n))
+		cancel()
+		wants(t, err, context.DeadlineExceeded)
+	}
+	close(release)
+	got := &answers{}
+	must(t, got.submitAll(ctx, s, 5, 6, 1))
+	p.right(t, got)
+}
+
+// TestClock sets a node's clock two hours ahead while it runs, and back.
+func TestClock(t *testing.T) {
+	p, ctx, got := newPlace(t), limited(t), &answers{}
+	var mu sync.Mutex
+	var ahead time.Duration
+	set := func(to time.Duration) {
+		mu.Lock()
+		defer mu.Unlock()
+		ahead = to
+	}
+	s := started(t, p.config(t), hooks{now: func() time.Time {
+		mu.Lock()
+		defer mu.Unlock()
+		return time.Now().Add(ahead)
+	}})
+	must(t, got.submitAll(ctx, s, 0, 5, 1))
+	set(2 * time.Hour)
+	_, err := s.Submit(ctx, entryOf(7))
+	wants(t, err, log.ErrClock)
+	set(-2 * time.Hour)
+	// A clock that is behind takes nothing back: moments go on by a millisecond.
+	for deadline := time.Now().Add(20 * time.Second); s.Figures().Fault != "" && time.Now().Before(deadline); {
+		time.Sleep(quick)
+	}
+	must(t, got.submitAll(ctx, s, 10, 15, 1))
+	if report := p.right(t, got); report.Leaves != 10 {
+		t.Fatalf("%+v", report)
+	}
+}
+
+// unsure is a register that says of some swaps that it doesn't know: of those that it did, and of those that it didn't.
+type unsure struct {
+	stores.Register
+	swaps int
+}
+
+func (u *unsure) Swap(ctx context.Context, old, new string) error {
+	u.swaps++
+	switch u.swaps % 4 {
+	case 1:
+		return fmt.Errorf("%w: it wasn't done", stores.ErrUnknown)
+	case 2:
+		if err := u.Register.Swap(ctx, old, new); err != nil {
+			return err
+		}
+		return fmt.Errorf("%w: it was done", stores.ErrUnknown)
+	}
+	return u.Register.Swap(ctx, old, new)
+}
+
+func TestUnknownSwaps(t *testing.T) {
+	p, ctx, got := newPlace(t), limited(t), &answers{}
+	config := p.config(t)
+	config.Register = &unsure{Register: config.Register}
+	s := started(t, config, hooks{})
+	must(t, got.submitAll(ctx, s, 0, 60, 8))
+	report := p.right(t, got)
+	if f := s.Figures(); report.Leaves != 60 || f.Unknown == 0 || f.LostSwaps != 0 {
+		t.Fatalf("%+v %+v", report, f)
+	}
+}
+
+// failing is a store of objects of which one request in some fails, before or behind what it does.
+type failing struct {
+	stores.Objects
+	mu    sync.Mutex
+	calls int
+	every int
+}
+
+var errTried = errors.New("a store that fails")
+
+func (f *failing) fails(behind bool) bool {
+	f.mu.Lock()
+	defer f.mu.Unlock()
+	f.calls++
+	return f.every > 0 && f.calls%f.every == 0 && (f.calls/f.every%2 == 0) == behind
+}
+
+func (f *failing) Put(ctx context.Context, name string, content []byte) error {
+	if f.fails(false) {
+		return errTried
+	}
+	err := f.Objects.Put(ctx, name, content)
+	if f.fails(true) {
+		return errTried
+	}
+	return err
+}
+
+func (f *failing) Get(ctx context.Context, name string, most int64) ([]byte, error) {
+	if f.fails(false) {
+		return nil, errTried
+	}
+	return f.Objects.Get(ctx, name, most)
+}
+
+// TestFailingStore has one call in ten fail: who waits is answered all the same, and nothing comes in twice.
+func TestFailingStore(t *testing.T) {
+	p, ctx, got := newPlace(t), limited(t), &answers{}
+	config := p.config(t)
+	config.Patience = longest
+	store := &failing{Objects: config.Objects}
+	config.Objects = store
+	s := started(t, config, hooks{})
+	// (the issuers first: a submission whose issuers can't be put is refused)
+	must(t, got.submitAll(ctx, s, 0, 15, 15))
+	store.mu.Lock()
+	store.every = 10
+	store.mu.Unlock()
+	must(t, got.submitAll(ctx, s, 15, 100, 8))
+	if report := p.right(t, got); report.Leaves != 100 {
+		t.Fatalf("%+v", report)
+	}
+}
+
+// TestHandingOver has two nodes with one secret: the second hands what it has to the first, and goes on alone when that one is gone.
+func TestHandingOver(t *testing.T) {
+	p, ctx, got := newPlace(t), limited(t), &answers{}
+	var nodes [2]*Sequencer
+	var servers [2]*httptest.Server
+	for i := range nodes {
+		config := p.config(t)
+		servers[i] = httptest.NewUnstartedServer(nil)
+		config.Address, config.Secret = "http://"+servers[i].Listener.Addr().String()+"/sequence", "the secret of these nodes"
+		nodes[i] = started(t, config, hooks{})
+		servers[i].Config.Handler = nodes[i].Handler()
+		servers[i].Start()
+		t.Cleanup(servers[i].Close)
+	}
+	must(t, got.submitAll(ctx, nodes[0], 0, 20, 8))
+	must(t, got.submitAll(ctx, nodes[1], 10, 60, 8))
+	if f := nodes[1].Figures(); f.HandedOver == 0 || f.Steps > 1 {
+		t.Errorf("the second node handed over too little: %+v", f)
+	}
+	servers[0].Close()
+	must(t, nodes[0].End(ctx))
+	must(t, got.submitAll(ctx, nodes[1], 50, 80, 8))
+	if report := p.right(t, got); report.Leaves != 80 {
+		t.Fatalf("%+v", report)
+	}
+	for header, body := range map[string]string{"": "{}", "Bearer the secret of those nodes": "{}", "Bearer the secret of these nodes": "no"} {
+		request := httptest.NewRequest("POST", "/", strings.NewReader(body))
+		request.Header.Set("Authorization", header)
+		reply := httptest.NewRecorder()
+		nodes[1].Handler().ServeHTTP(reply, request)
+		if reply.Code != 403 && reply.Code != 400 {
+			t.Errorf("%q %q: %d", header, body, reply.Code)
+		}
+		io.Copy(io.Discard, reply.Body)
+	}
+}
+
+// TestHeadsWithoutEntries has a log without submissions go on publishing heads of one size, of which the newest is answered.
+func TestHeadsWithoutEntries(t *testing.T) {
+	p, ctx, got := newPlace(t), limited(t), &answers{}
+	config := p.config(t)
+	config.Refresh = time.Millisecond
+	s := started(t, config, hooks{})
+	must(t, got.submitAll(ctx, s, 0, 3, 1))
+	first, err := s.Checkpoint(ctx)
+	must(t, err)
+	for deadline := time.Now().Add(20 * time.Second); ; time.Sleep(quick) {
+		next, err := s.Checkpoint(ctx)
+		must(t, err)
+		if next.TreeSize == first.TreeSize && next.Timestamp > first.Timestamp {
+			break
+		}
+		if time.Now().After(deadline) {
+			t.Fatal("there is no newer head")
+		}
+	}
+	must(t, s.End(ctx))
+	// Another node, which saw none of them, finds the newest.
+	last, err := s.Checkpoint(ctx)
+	must(t, err)
+	found, err := (&Sequencer{config: s.config, logID: s.logID, clock: s.clock}).Checkpoint(ctx)
+	must(t, err)
+	if found.Timestamp != last.Timestamp || string(found.Note) != string(last.Note) {
+		t.Errorf("%+v, and not %+v", found, last)
+	}
+	if report := p.right(t, got); report.Heads < 5 {
+		t.Fatalf("%+v", report)
+	}
+}
+
+// TestEndAnswers ends a node with a full queue: who waits is answered, and who comes later is refused.
+func TestEndAnswers(t *testing.T) {
+	p, ctx, got := newPlace(t), limited(t), &answers{}
+	config := p.config(t)
+	// The round behind the first one begins once all wait.
+	config.Interval = 400 * time.Millisecond
+	s := started(t, config, hooks{})
+	must(t, got.submitAll(ctx, s, 0, 5, 5))
+	done := make(chan error, 1)
+	go func() { done <- got.submitAll(ctx, s, 5, 55, 50) }()
+	for s.Figures().Queue < 50 {
+		time.Sleep(100 * time.Microsecond)
+	}
+	time.Sleep(20 * time.Millisecond)
+	must(t, s.End(ctx))
+	must(t, <-done)
+	_, err := s.Submit(ctx, entryOf(99))
+	wants(t, err, log.ErrEnded)
+	if report := p.right(t, got); report.Leaves != 55 || report.Answers != 55 {
+		t.Fatalf("%+v", report)
+	}
+}
+
+// TestEndInTime ends a node whose step doesn't come back.
+func TestEndInTime(t *testing.T) {
+	p, ctx := newPlace(t), limited(t)
+	config := p.config(t)
+	s := started(t, config, hooks{})
+	must(t, (&answers{}).submitAll(ctx, s, 0, 1, 1))
+	stuck, err := step.NewClient([]string{"sleep", "60"}, time.Minute)
+	must(t, err)
+	s.config.Step = stuck
+	done := make(chan error, 1)
+	go func() {
+		_, err := s.Submit(ctx, entryOf(5))
+		done <- err
+	}()
+	for stuck.Starts() == 0 {
+		time.Sleep(time.Millisecond)
+	}
+	short, cancel := context.WithTimeout(ctx, 200*time.Millisecond)
+	defer cancel()
+	began := time.Now()
+	if err := s.End(short); err == nil || time.Since(began) > 5*time.Second {
+		t.Errorf("%v in %v", err, time.Since(began))
+	}
+	wants(t, <-done, log.ErrEnded)
+}
+
+// TestPlantedOrders has a node do in a wrong order what is right in the order of this package: the checker sees each.
+func TestPlantedOrders(t *testing.T) {
+	t.Run(tilesFirst, func(t *testing.T) {
+		p, got := newPlace(t), &answers{}
+		_, err := child{Place: string(p), Plant: tilesFirst, KillAt: "stepped", KillOn: 100, From: 0, To: 5}.run(got)
+		must(t, err)
+		// It dies between its tiles and its swap; another one goes on with other entries.
+		killed, err := child{Place: string(p), Plant: tilesFirst, KillAt: "bundle put", KillOn: 1, From: 5, To: 8}.run(got)
+		must(t, err)
+		if !killed {
+			t.Fatal("it wasn't killed")
+		}
+		s := started(t, p.config(t), hooks{})
+		_ = got.submitAll(limited(t), s, 20, 40, 1)
+		if report, err := p.judged(got.all); err == nil {
+			t.Fatalf("the checker sees nothing: %+v", report)
+		} else {
+			t.Log(err)
+		}
+	})
+	t.Run(answerFirst, func(t *testing.T) {
+		p, got := newPlace(t), &answers{}
+		killed, err := child{Place: string(p), Plant: answerFirst, KillAt: "bundle put", KillOn: 3, From: 0, To: 50}.run(got)
+		must(t, err)
+		if !killed || len(got.all) == 0 {
+			t.Fatal("it wasn't killed, or answered nothing")
+		}
+		s := started(t, p.config(t), hooks{})
+		must(t, got.submitAll(limited(t), s, 60, 80, 8))
+		if report, err := p.judged(got.all); err == nil {
+			t.Fatalf("the checker sees nothing: %+v", report)
+		} else {
+			t.Log(err)
+		}
+	})
+	t.Run(noWait, func(t *testing.T) {
+		p, got := newPlace(t), &answers{}
+		s := started(t, p.config(t), hooks{plant: noWait})
+		short, cancel := context.WithTimeout(limited(t), 3*time.Second)
+		defer cancel()
+		for n := 0; n < 600 && short.Err() == nil; n += 37 {
+			_ = got.submitAll(short, s, n, n+37, 37)
+		}
+		if report, err := p.judged(got.all); err == nil {
+			t.Fatalf("the checker sees nothing: %+v", report)
+		} else {
+			t.Log(err)
+		}
+	})
+}

@@ -1,0 +1,62 @@
+package sequencer
+
+import (
+	"fmt"
+	"sync"
+	"testing"
+)
+
+// phases are those in which a node is killed.
+var phases = []string{"stepped", "bundle put", "swapped", "tiles out", "places added", "head out", "published", "answered"}
+
+// TestKillsAtEachPhase kills (-9) a node in each phase of its second and fourth step, and has the next one go on. What was answered
+// is in its place, and what wasn't and is submitted again comes in once.
+func TestKillsAtEachPhase(t *testing.T) {
+	for _, phase := range phases {
+		phase := phase
+		t.Run(phase, func(t *testing.T) {
+			t.Parallel()
+			p, got := newPlace(t), &answers{}
+			for i, on := range []int{2, 4} {
+				killed, err := child{Place: string(p), KillAt: phase, KillOn: on, From: 100 * i, To: 100*i + 200}.run(got)
+				must(t, err)
+				if !killed {
+					t.Fatal("the node wasn't killed")
+				}
+			}
+			s := started(t, p.config(t), hooks{})
+			must(t, got.submitAll(limited(t), s, 0, 300, 32))
+			if report := p.right(t, got); report.Leaves != 300 {
+				t.Fatalf("%+v", report)
+			}
+		})
+	}
+}
+
+// TestNodesAtOnce has three processes carry one log, with the same submissions among them, each killed once in another phase.
+func TestNodesAtOnce(t *testing.T) {
+	p, got := newPlace(t), &answers{}
+	var all sync.WaitGroup
+	failed := make(chan error, 3)
+	for i, phase := range []string{"bundle put", "swapped", "tiles out"} {
+		all.Add(1)
+		go func(i int, phase string) {
+			defer all.Done()
+			if _, err := (child{Place: string(p), KillAt: phase, KillOn: 3, From: 40 * i, To: 40*i + 100}).run(got); err != nil {
+				failed <- fmt.Errorf("node %d: %w", i, err)
+				return
+			}
+			if _, err := (child{Place: string(p), From: 40 * i, To: 40*i + 100}).run(got); err != nil {
+				failed <- fmt.Errorf("node %d: %w", i, err)
+			}
+		}(i, phase)
+	}
+	all.Wait()
+	close(failed)
+	for err := range failed {
+		t.Error(err)
+	}
+	if report := p.right(t, got); report.Leaves != 180 {
+		t.Fatalf("%+v", report)
+	}
+}

@@ -1,0 +1,199 @@
+package sequencer
+
+import (
+	"bytes"
+	"context"
+	"crypto/subtle"
+	"encoding/json"
+	"errors"
+	"fmt"
+	"io"
+	"net"
+	"net/http"
+	"net/url"
+	"sync"
+	"time"
+
+	"wagtenib/service/log"
+	"wagtenib/service/step"
+)
+
+// Nodes that compete starve each other: who won knows the next state first, and wins again. So a node hands what it has to the
+// one that set the newest state, and makes steps itself only where that one doesn't answer, or did nothing for a while.
+const (
+	// handsWithin is how old the newest state may be.
+	handsWithin = 3 * time.Second
+	// aloneFor is how long a node does all itself behind one that didn't answer.
+	aloneFor = 2 * time.Second
+	// mostHanding is how many are handed over at once, each a batch, and mostHanded how long one may take.
+	mostHanding = 4
+	mostHanded  = 10 * time.Second
+	// mostBody is how many bytes a batch has, with base64 and names around it, and its reply.
+	mostBody = 2*MostBatchBytes + MostBatch*chainBytes
+	// chainBytes bounds the fingerprints of a submission, in base64.
+	chainBytes  = 1 << 10
+	leastSecret = 16
+)
+
+func (c *Config) settlePeers() error {
+	if c.Address == "" && c.Secret == "" {
+		return nil
+	}
+	u, err := url.Parse(c.Address)
+	if err != nil || u.Scheme != "http" && u.Scheme != "https" || u.Host == "" || u.User != nil || len(c.Address) > 200 || len(c.Secret) < leastSecret {
+		return fmt.Errorf("%w: a node's address is a URL, and the nodes' secret has at least %d bytes", ErrConfig, leastSecret)
+	}
+	if c.Peers == nil {
+		c.Peers = &http.Client{
+			Timeout: mostHanded,
+			Transport: &http.Transport{
+				DialContext:         (&net.Dialer{Timeout: time.Second}).DialContext,
+				TLSHandshakeTimeout: 2 * time.Second, IdleConnTimeout: time.Minute, MaxIdleConnsPerHost: mostHanding,
+			},
+			CheckRedirect: func(*http.Request, []*http.Request) error { return http.ErrUseLastResponse },
+		}
+	}
+	return nil
+}
+
+// handedOver is a batch on its way to another node, and handedBack its answers.
+type handedOver struct {
+	Submissions []step.Submission `json:"submissions"`
+}
+
+type handedBack struct {
+	Places []handedPlace `json:"places"`
+}
+
+// handedPlace is a place; without a signature there is none.
+type handedPlace struct {
+	LeafIndex uint64 `json:"leaf_index"`
+	Timestamp uint64 `json:"timestamp"`
+	Signature []byte `json:"signature,omitempty"`
+}
+
+// handOver hands who waits to the node that set the newest state, and says whether that is to be done.
+func (s *Sequencer) handOver(k known) bool {
+	s.mu.Lock()
+	alone := time.Now().Before(s.alone)
+	s.mu.Unlock()
+	if s.config.Address == "" || k.node == "" || k.node == s.config.Address || alone || time.Since(k.seen) > handsWithin || s.queue.hasHanded() {
+		return false
+	}
+	select {
+	case s.handing <- struct{}{}:
+	default:
+		return true
+	}
+	batch := s.queue.take(s.config.MostBatch, MostBatchBytes)
+	if len(batch) == 0 {
+		<-s.handing
+		return false
+	}
+	go func() {
+		defer func() { <-s.handing }()
+		defer s.queue.giveBack(batch)
+		if err := s.hand(k.node, batch); err != nil {
+			s.mu.Lock()
+			s.alone = time.Now().Add(aloneFor)
+			s.mu.Unlock()
+		}
+	}()
+	return true
+}
+
+var errNode = errors.New("sequencer: another node doesn't answer")
+
+// hand has another node take a batch, and answers those whom it answers.
+func (s *Sequencer) hand(node string, batch []*waiting) error {
+	ctx, cancel := context.WithTimeout(context.Background(), mostHanded)
+	defer cancel()
+	over := handedOver{}
+	for _, w := range batch {
+		over.Submissions = append(over.Submissions, w.submission)
+	}
+	body, err := json.Marshal(over)
+	if err != nil {
+		return err
+	}
+	request, err := http.NewRequestWithContext(ctx, http.MethodPost, node, bytes.NewReader(body))
+	if err != nil {
+		return err
+	}
+	request.Header.Set("Authorization", "Bearer "+s.config.Secret)
+	request.Header.Set("Content-Type", "application/json")
+	reply, err := s.config.Peers.Do(request)
+	if err != nil {
+		return err
+	}
+	defer reply.Body.Close()
+	var back handedBack
+	if reply.StatusCode != http.StatusOK {
+		return fmt.Errorf("%w: %s", errNode, reply.Status)
+	}
+	if err := json.NewDecoder(io.LimitReader(reply.Body, mostBody)).Decode(&back); err != nil {
+		return err
+	}
+	if len(back.Places) != len(batch) {
+		return errNode
+	}
+	missing := 0
+	for i, place := range back.Places {
+		if len(place.Signature) == 0 {
+			missing++
+			continue
+		}
+		s.handed.Add(1)
+		s.queue.answer(batch[i], answer{place: log.Place{LeafIndex: place.LeafIndex, Timestamp: place.Timestamp, Extensions: extensionsOf(place.LeafIndex), Signature: place.Signature, LogID: s.logID}})
+	}
+	if missing > 0 {
+		return fmt.Errorf("%w: to %d of %d", errNode, missing, len(batch))
+	}
+	return nil
+}
+
+// Handler takes what other nodes hand over, at the address that they find in the register. Whoever knows the nodes' secret has
+// entries taken into the log whose chains were checked by no one here.
+func (s *Sequencer) Handler() http.Handler {
+	return http.HandlerFunc(func(w http.ResponseWriter, r *http.Request) {
+		shown, wanted := []byte(r.Header.Get("Authorization")), []byte("Bearer "+s.config.Secret)
+		if s.config.Secret == "" || subtle.ConstantTimeCompare(shown, wanted) != 1 {
+			http.Error(w, "the nodes' secret isn't shown", http.StatusForbidden)
+			return
+		}
+		if r.Method != http.MethodPost {
+			http.Error(w, "POST alone", http.StatusMethodNotAllowed)
+			return
+		}
+		var over handedOver
+		if err := json.NewDecoder(http.MaxBytesReader(w, r.Body, mostBody)).Decode(&over); err != nil || len(over.Submissions) > MostBatch {
+			http.Error(w, "no batch", http.StatusBadRequest)
+			return
+		}
+		back := s.takeHanded(r.Context(), over.Submissions)
+		w.Header().Set("Content-Type", "application/json")
+		// Who doesn't read it asks again.
+		_ = json.NewEncoder(w).Encode(back)
+	})
+}
+
+// takeHanded submits what another node handed over, all at once.
+func (s *Sequencer) takeHanded(ctx context.Context, submissions []step.Submission) handedBack {
+	back := handedBack{Places: make([]handedPlace, len(submissions))}
+	var all sync.WaitGroup
+	for i, submission := range submissions {
+		if checkSubmission(submission) != nil {
+			continue
+		}
+		all.Add(1)
+		go func(i int, submission step.Submission) {
+			defer all.Done()
+			place, err := s.submit(ctx, &waiting{ctx: ctx, submission: submission, identity: identityOf(submission), handed: true})
+			if err == nil {
+				back.Places[i] = handedPlace{place.LeafIndex, place.Timestamp, place.Signature}
+			}
+		}(i, submission)
+	}
+	all.Wait()
+	return back
+}

@@ -1,0 +1,222 @@
+package sequencer
+
+import (
+	"context"
+	"crypto/rand"
+	"encoding/hex"
+	"errors"
+	"fmt"
+	"strings"
+	"time"
+
+	"wagtenib/service/step"
+	"wagtenib/service/stores"
+)
+
+// The names of objects that aren't the step's.
+const (
+	headsPrefix   = "heads/"
+	stagingPrefix = "staging/"
+	tilesPrefix   = "tile/"
+)
+
+// known is what stood in the register. Its text is three lines: the state's line, the node that set it, and a number of chance.
+type known struct {
+	text, line string
+	state      step.State
+	// node is where the node that set it is asked; empty where it isn't.
+	node string
+	seen time.Time
+}
+
+const (
+	nodeWord  = "node "
+	saltWord  = "salt "
+	nowhere   = "-"
+	saltBytes = 16
+)
+
+// textOf writes a register's text for a state's line.
+func textOf(line, node string) (string, error) {
+	var salt [saltBytes]byte
+	if _, err := rand.Read(salt[:]); err != nil {
+		return "", fmt.Errorf("sequencer: %w", err)
+	}
+	if node == "" {
+		node = nowhere
+	}
+	return line + "\n" + nodeWord + node + "\n" + saltWord + hex.EncodeToString(salt[:]) + "\n", nil
+}
+
+func readText(text string) (known, error) {
+	lines := strings.Split(text, "\n")
+	if len(lines) != 4 || lines[3] != "" || !strings.HasPrefix(lines[1], nodeWord) || !strings.HasPrefix(lines[2], saltWord) {
+		return known{}, fmt.Errorf("%w: the register's text isn't one of a log: %.40q", ErrDamaged, text)
+	}
+	state, err := step.ParseState(lines[0])
+	if err != nil {
+		return known{}, fmt.Errorf("%w: the register: %v", ErrDamaged, err)
+	}
+	k := known{text: text, line: lines[0], state: state, node: strings.TrimPrefix(lines[1], nodeWord), seen: time.Now()}
+	if k.node == nowhere {
+		k.node = ""
+	}
+	return k, nil
+}
+
+// bundleName is where the bundle of a state's line is.
+func bundleName(line [32]byte) string { return stagingPrefix + hex.EncodeToString(line[:]) }
+
+// headName is where the head of a state is. Names are in the order of states.
+func headName(s step.State) string {
+	return fmt.Sprintf("%s%020d-%020d", headsPrefix, s.Size, s.Moment)
+}
+
+// later says whether a state may come behind another.
+func later(s, than step.State) bool { return s.Size >= than.Size && s.Moment > than.Moment }
+
+// mostTries is how often what others change meanwhile is looked at again.
+const mostTries = 50
+
+// takeUp reads the register at the start. One that knows less than the store is refused, and so is one that is gone.
+func (s *Sequencer) takeUp(ctx context.Context) error {
+	for try := 0; try < mostTries; try++ {
+		text, err := s.config.Register.Read(ctx)
+		if errors.Is(err, stores.ErrAbsent) {
+			if err := s.create(ctx); err != nil {
+				return err
+			}
+			continue
+		}
+		if err != nil {
+			return fmt.Errorf("sequencer: %w", err)
+		}
+		k, err := readText(text)
+		if err != nil {
+			return err
+		}
+		published, err := s.config.Register.Published(ctx)
+		if err != nil {
+			return fmt.Errorf("sequencer: %w", err)
+		}
+		further, err := s.config.Objects.List(ctx, headsPrefix, headName(k.state), 1)
+		if err != nil {
+			return fmt.Errorf("sequencer: %w", err)
+		}
+		if len(further) == 0 && published <= k.state.Size {
+			s.mu.Lock()
+			s.newest = k
+			s.mu.Unlock()
+			return nil
+		}
+		// Another node may have set it meanwhile.
+		again, err := s.config.Register.Read(ctx)
+		if err != nil {
+			return fmt.Errorf("sequencer: %w", err)
+		}
+		if again == text {
+			return fmt.Errorf("%w: it has %d entries at %d ms; the store has %v, and %d are published", ErrSetBack, k.state.Size, k.state.Moment, further, published)
+		}
+	}
+	return fmt.Errorf("%w: in %d tries it didn't stand still", ErrSetBack, mostTries)
+}
+
+// create makes the register of a new log, where the store has nothing of one.
+func (s *Sequencer) create(ctx context.Context) error {
+	if !s.config.Create {
+		return fmt.Errorf("%w: there is none, and none is to be created", ErrSetBack)
+	}
+	for _, prefix := range []string{headsPrefix, tilesPrefix, stagingPrefix} {
+		names, err := s.config.Objects.List(ctx, prefix, "", 1)
+		if err != nil {
+			return fmt.Errorf("sequencer: %w", err)
+		}
+		if len(names) > 0 {
+			return fmt.Errorf("%w: there is none, and the store has %s", ErrSetBack, names[0])
+		}
+	}
+	moment, err := s.clock.moment(0)
+	if err != nil {
+		return err
+	}
+	line, err := s.config.Step.Begin(ctx, moment)
+	if err != nil {
+		return fmt.Errorf("sequencer: %w", err)
+	}
+	text, err := textOf(line, s.config.Address)
+	if err != nil {
+		return err
+	}
+	err = s.config.Register.Create(ctx, text)
+	if errors.Is(err, stores.ErrExists) {
+		// Another node created it; or its text is gone, and what is published isn't.
+		if _, err := s.config.Register.Read(ctx); errors.Is(err, stores.ErrAbsent) {
+			return fmt.Errorf("%w: its text is gone", ErrSetBack)
+		}
+		return nil
+	}
+	if err != nil && !errors.Is(err, stores.ErrUnknown) {
+		return fmt.Errorf("sequencer: %w", err)
+	}
+	return nil
+}
+
+// learn reads the register. A text that isn't a later state's than the one before is never taken up again.
+func (s *Sequencer) learn(ctx context.Context) (known, error) {
+	text, err := s.config.Register.Read(ctx)
+	s.mu.Lock()
+	defer s.mu.Unlock()
+	if errors.Is(err, stores.ErrAbsent) {
+		s.stopped = true
+		return known{}, fmt.Errorf("%w: it is gone, and had %d entries at %d ms", ErrSetBack, s.newest.state.Size, s.newest.state.Moment)
+	}
+	if err != nil {
+		return known{}, fmt.Errorf("sequencer: %w", err)
+	}
+	if text == s.newest.text {
+		return s.newest, nil
+	}
+	k, err := readText(text)
+	if err != nil {
+		return known{}, err
+	}
+	if !later(k.state, s.newest.state) {
+		s.stopped = true
+		return known{}, fmt.Errorf("%w: it had %d entries at %d ms, and has %d at %d ms", ErrSetBack, s.newest.state.Size, s.newest.state.Moment, k.state.Size, k.state.Moment)
+	}
+	s.newest = k
+	return k, nil
+}
+
+// swap has the register decide on a step. Where the outcome is unknown it is tried again, which settles it; where it stays so,
+// the next round's reading does.
+func (s *Sequencer) swap(ctx context.Context, old, new string) (won bool, err error) {
+	for try := 0; try < mostSwaps; try++ {
+		err = s.swapOnce(ctx, old, new)
+		if err == nil {
+			return true, nil
+		}
+		if errors.Is(err, stores.ErrLost) {
+			return false, nil
+		}
+		if errors.Is(err, stores.ErrUnknown) {
+			s.unknown.Add(1)
+		}
+		if wait(ctx, 20*time.Millisecond) != nil {
+			break
+		}
+	}
+	return false, fmt.Errorf("sequencer: swap: %w", err)
+}
+
+// mostSwaps is how often a swap is tried, and mostSwap how long one may take.
+const (
+	mostSwaps = 5
+	mostSwap  = 10 * time.Second
+)
+
+func (s *Sequencer) swapOnce(ctx context.Context, old, new string) error {
+	ctx, cancel := context.WithTimeout(ctx, mostSwap)
+	defer cancel()
+	return s.config.Register.Swap(ctx, old, new)
+}

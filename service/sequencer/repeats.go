@@ -1,0 +1,190 @@
+package sequencer
+
+import (
+	"context"
+	"errors"
+	"fmt"
+	"sort"
+
+	"golang.org/x/mod/sumdb/tlog"
+
+	"wagtenib/service/log"
+	"wagtenib/service/step"
+	"wagtenib/service/stores"
+)
+
+const (
+	// tileWidth is how many hashes, or entries, a full tile has, and tileHeight their logarithm.
+	tileWidth, tileHeight = 256, 8
+	dataPrefix            = "tile/data/"
+)
+
+// tileName is the name of a tile of a tree (C2SP tlog-tiles); level data is -1.
+func tileName(tile tlog.Tile) string {
+	// tlog writes tile/8/LEVEL/..; C2SP leaves the height out.
+	const before = "tile/8/"
+	return "tile/" + tile.Path()[len(before):]
+}
+
+// tiles reads the hash tiles of a tree, for tlog, which checks them against its root.
+type tiles struct {
+	ctx  context.Context
+	s    *Sequencer
+	seen map[string][]byte
+	// failed is why one couldn't be read.
+	failed error
+}
+
+// mostSeen is how many tiles one round keeps.
+const mostSeen = 512
+
+func (t *tiles) Height() int { return tileHeight }
+
+func (t *tiles) SaveTiles([]tlog.Tile, [][]byte) {}
+
+func (t *tiles) ReadTiles(wanted []tlog.Tile) ([][]byte, error) {
+	var contents [][]byte
+	for _, tile := range wanted {
+		name := tileName(tile)
+		content, ok := t.seen[name]
+		if !ok {
+			var err error
+			if content, err = t.s.read(t.ctx, name); err != nil {
+				t.failed = err
+				return nil, err
+			}
+			if len(t.seen) >= mostSeen {
+				t.seen = map[string][]byte{}
+			}
+			t.seen[name] = content
+		}
+		contents = append(contents, content)
+	}
+	return contents, nil
+}
+
+// read reads an object of the newest state, out of the step's edge or the store.
+func (s *Sequencer) read(ctx context.Context, name string) ([]byte, error) {
+	if content, ok := s.edge[name]; ok {
+		return content, nil
+	}
+	content, err := s.config.Objects.Get(ctx, name, stores.MostObject)
+	if errors.Is(err, stores.ErrAbsent) {
+		return nil, fmt.Errorf("%w: %s is missing", ErrDamaged, name)
+	}
+	if err != nil {
+		return nil, fmt.Errorf("sequencer: %w", err)
+	}
+	return content, nil
+}
+
+// answerRepeats answers those whose entry stands in the log, with its first place, and gives the others. The state is rolled out,
+// so all its places are there. A place is believed only where the entry stands in its data tile, and that one's leaf in the tree.
+func (s *Sequencer) answerRepeats(ctx context.Context, k known, batch []*waiting) (rest []*waiting, err error) {
+	identities := make([]stores.Identity, 0, len(batch))
+	for _, w := range batch {
+		identities = append(identities, w.identity)
+	}
+	found, err := s.config.Places.Find(ctx, identities)
+	if err != nil {
+		return batch, fmt.Errorf("sequencer: %w", err)
+	}
+	if len(found) == 0 {
+		return batch, nil
+	}
+	var repeats []*waiting
+	for _, w := range batch {
+		if _, ok := found[w.identity]; ok {
+			repeats = append(repeats, w)
+		} else {
+			rest = append(rest, w)
+		}
+	}
+	// In the order of places, so that each tile is read once.
+	sort.SliceStable(repeats, func(i, j int) bool { return found[repeats[i].identity].Index < found[repeats[j].identity].Index })
+	tree := s.treeOf(ctx, k.state)
+	for i, w := range repeats {
+		l, err := tree.leafAt(found[w.identity].Index)
+		if err != nil {
+			return append(repeats[i:], rest...), err
+		}
+		if l == nil || l.identity != w.identity || l.timestamp != found[w.identity].Timestamp {
+			// The places are wrong: it is a new entry.
+			rest = append(rest, w)
+			continue
+		}
+		place, err := s.sign(ctx, l.index, l.timestamp, l.signed)
+		if err != nil {
+			return append(repeats[i:], rest...), err
+		}
+		s.repeats.Add(1)
+		s.queue.answer(w, answer{place: place})
+	}
+	return rest, nil
+}
+
+// sign signs a timestamp.
+func (s *Sequencer) sign(ctx context.Context, index, timestamp uint64, message []byte) (log.Place, error) {
+	signed, err := s.config.Signer.Sign(ctx, message)
+	if err != nil {
+		return log.Place{}, fmt.Errorf("sequencer: %w", err)
+	}
+	return log.Place{LeafIndex: index, Timestamp: timestamp, Extensions: extensionsOf(index), Signature: signed, LogID: s.logID}, nil
+}
+
+// tree reads the entries of a state.
+type tree struct {
+	s      *Sequencer
+	state  step.State
+	tiles  *tiles
+	hashes tlog.HashReader
+	ctx    context.Context
+	// name and leaves are the data tile's that was read last.
+	name   string
+	leaves []leaf
+}
+
+func (s *Sequencer) treeOf(ctx context.Context, state step.State) *tree {
+	root := tlog.Tree{N: int64(state.Size), Hash: tlog.Hash(state.Root)}
+	reader := &tiles{ctx: ctx, s: s, seen: map[string][]byte{}}
+	return &tree{s: s, state: state, ctx: ctx, tiles: reader, hashes: tlog.TileHashReader(root, reader)}
+}
+
+// leafAt gives the entry at an index, whose leaf hash is the tree's; none where the tree has no such index. A data tile that is
+// missing, or isn't the tree's, is ErrDamaged.
+func (t *tree) leafAt(index uint64) (*leaf, error) {
+	if index >= t.state.Size {
+		return nil, nil
+	}
+	tile := tlog.Tile{H: tileHeight, L: -1, N: int64(index / tileWidth), W: tileWidth}
+	if tile.N == int64(t.state.Size/tileWidth) {
+		tile.W = int(t.state.Size % tileWidth)
+	}
+	name := tileName(tile)
+	if name != t.name {
+		content, err := t.s.read(t.ctx, name)
+		if err != nil {
+			return nil, err
+		}
+		leaves, err := leavesOf(content)
+		if err != nil {
+			return nil, fmt.Errorf("%s: %w", name, err)
+		}
+		if len(leaves) != tile.W {
+			return nil, fmt.Errorf("%w: %s has %d entries", ErrDamaged, name, len(leaves))
+		}
+		t.name, t.leaves = name, leaves
+	}
+	l := &t.leaves[index%tileWidth]
+	hashes, err := t.hashes.ReadHashes([]int64{tlog.StoredHashIndex(0, int64(index))})
+	if err != nil {
+		if t.tiles.failed != nil {
+			return nil, t.tiles.failed
+		}
+		return nil, fmt.Errorf("%w: the hash tiles above entry %d: %v", ErrDamaged, index, err)
+	}
+	if l.index != index || tlog.RecordHash(l.signed) != hashes[0] {
+		return nil, fmt.Errorf("%w: entry %d of %s isn't the tree's", ErrDamaged, index, name)
+	}
+	return l, nil
+}

@@ -1,0 +1,304 @@
+package sequencer
+
+import (
+	"bytes"
+	"context"
+	"crypto/sha256"
+	"encoding/base64"
+	"encoding/binary"
+	"errors"
+	"fmt"
+	"strconv"
+	"strings"
+	"sync"
+
+	"wagtenib/service/log"
+	"wagtenib/service/signer"
+	"wagtenib/service/step"
+	"wagtenib/service/stores"
+)
+
+// mostPuts is how many objects are put at once.
+const mostPuts = 8
+
+// isRolledOut says whether a state's head is published; then all of the state is.
+func (s *Sequencer) isRolledOut(ctx context.Context, k known) (bool, error) {
+	if k.state.IsBegin() || s.rolled == k.line {
+		return true, nil
+	}
+	published, err := s.config.Register.Published(ctx)
+	if err != nil {
+		return false, fmt.Errorf("sequencer: %w", err)
+	}
+	if published < k.state.Size {
+		return false, nil
+	}
+	head, err := s.readHead(ctx, headName(k.state))
+	if errors.Is(err, stores.ErrAbsent) {
+		return false, nil
+	}
+	if err != nil {
+		return false, err
+	}
+	if err := matches(head, k.state); err != nil {
+		return false, err
+	}
+	s.see(head)
+	s.rolled = k.line
+	return true, nil
+}
+
+func matches(head log.Head, state step.State) error {
+	if head.TreeSize != state.Size || head.Timestamp != state.Moment || head.RootHash != state.Root {
+		return fmt.Errorf("%w: %s is of another tree than the register's state", ErrDamaged, headName(state))
+	}
+	return nil
+}
+
+// see keeps the newest published head.
+func (s *Sequencer) see(head log.Head) {
+	s.mu.Lock()
+	defer s.mu.Unlock()
+	if s.head == nil || head.TreeSize >= s.head.TreeSize && head.Timestamp > s.head.Timestamp {
+		s.head = &head
+	}
+}
+
+// help rolls out a state from its bundle.
+func (s *Sequencer) help(ctx context.Context, k known) error {
+	name := bundleName(step.Digest(k.line))
+	bundle, err := s.config.Objects.Get(ctx, name, stores.MostObject)
+	if errors.Is(err, stores.ErrAbsent) {
+		if newest, learned := s.learn(ctx); learned != nil || newest.text != k.text {
+			// It was rolled out, and the state is past.
+			return learned
+		}
+		return fmt.Errorf("%w: %s, the newest state's bundle, is missing", ErrDamaged, name)
+	}
+	if err != nil {
+		return fmt.Errorf("sequencer: %w", err)
+	}
+	resumed, err := s.config.Step.Resume(ctx, k.line, bundle)
+	var refusal step.Refusal
+	if errors.As(err, &refusal) {
+		return fmt.Errorf("%w: %s: %v", ErrDamaged, name, err)
+	}
+	if err != nil {
+		return fmt.Errorf("sequencer: %w", err)
+	}
+	placed, err := placesIn(resumed.Objects)
+	if err != nil {
+		return err
+	}
+	s.helped.Add(1)
+	return s.rollOut(ctx, k, resumed.Objects, resumed.Head, placed)
+}
+
+// rollOut publishes a state that stands, or stood, in the register: objects, places, head, published size. It may be done again.
+func (s *Sequencer) rollOut(ctx context.Context, k known, objects []step.Object, head step.Head, placed []stores.Placed) error {
+	if err := s.putAll(ctx, objects); err != nil {
+		return err
+	}
+	s.phase("tiles out")
+	for len(placed) > 0 {
+		some := placed
+		if len(some) > stores.MostPlaces {
+			some = some[:stores.MostPlaces]
+		}
+		if err := s.config.Places.Add(ctx, some); err != nil {
+			return fmt.Errorf("sequencer: %w", err)
+		}
+		placed = placed[len(some):]
+	}
+	s.phase("places added")
+	published, err := s.putHead(ctx, k.state, head)
+	if err != nil {
+		return err
+	}
+	s.phase("head out")
+	if err := s.config.Register.Raise(ctx, k.state.Size); err != nil {
+		return fmt.Errorf("sequencer: %w", err)
+	}
+	s.phase("published")
+	s.see(published)
+	s.rolled = k.line
+	// The bundle before isn't needed any more. What stays of it where this fails is in nobody's way.
+	_ = s.config.Objects.Delete(ctx, bundleName(k.state.Before))
+	return nil
+}
+
+// putAll puts objects under their public names, some at once.
+func (s *Sequencer) putAll(ctx context.Context, objects []step.Object) error {
+	ctx, cancel := context.WithCancel(ctx)
+	defer cancel()
+	var all sync.WaitGroup
+	room, failed := make(chan struct{}, mostPuts), make(chan error, len(objects))
+	for _, object := range objects {
+		room <- struct{}{}
+		all.Add(1)
+		go func(object step.Object) {
+			defer all.Done()
+			if err := s.config.Objects.Put(ctx, object.Name, object.Content); err != nil {
+				failed <- err
+				cancel()
+			}
+			<-room
+		}(object)
+	}
+	all.Wait()
+	if len(failed) == 0 {
+		return nil
+	}
+	err := <-failed
+	if errors.Is(err, stores.ErrOther) {
+		return fmt.Errorf("%w: %v", ErrDamaged, err)
+	}
+	return fmt.Errorf("sequencer: %w", err)
+}
+
+// putHead signs a state's head, and puts it. Where another node put one, that is the head: signatures of one head differ.
+func (s *Sequencer) putHead(ctx context.Context, state step.State, head step.Head) (log.Head, error) {
+	signed, err := s.config.Signer.Sign(ctx, head.Sign)
+	if err != nil {
+		return log.Head{}, fmt.Errorf("sequencer: %w", err)
+	}
+	made := log.Head{TreeSize: state.Size, Timestamp: state.Moment, RootHash: state.Root, Signature: signed}
+	made.Note = s.note(head.Checkpoint, made)
+	name := headName(state)
+	err = s.config.Objects.Put(ctx, name, made.Note)
+	if errors.Is(err, stores.ErrOther) {
+		if made, err = s.readHead(ctx, name); err == nil {
+			err = matches(made, state)
+		}
+	}
+	if err != nil {
+		return log.Head{}, fmt.Errorf("sequencer: %w", err)
+	}
+	return made, nil
+}
+
+// keyID is what a signature's line names the key by (C2SP static-ct-api; signatures of type 5).
+func (s *Sequencer) keyID() []byte {
+	id := sha256.Sum256(append([]byte(s.config.Origin+"\n\x05"), s.logID[:]...))
+	return id[:4]
+}
+
+// signatureLine is what stands before the signature.
+func (s *Sequencer) signatureLine() string { return "— " + s.config.Origin + " " }
+
+// note writes a signed note: its body, an empty line, and a line with the moment and the signature.
+func (s *Sequencer) note(body string, head log.Head) []byte {
+	blob := s.keyID()
+	blob = append(blob, eight(head.Timestamp)...)
+	blob = append(blob, head.Signature...)
+	return []byte(body + "\n" + s.signatureLine() + base64.StdEncoding.EncodeToString(blob) + "\n")
+}
+
+func eight(number uint64) []byte {
+	var b [8]byte
+	binary.BigEndian.PutUint64(b[:], number)
+	return b[:]
+}
+
+// mostNote is how many bytes a signed note has at most.
+const mostNote = 16 << 10
+
+// readHead reads a head, and checks its signature.
+func (s *Sequencer) readHead(ctx context.Context, name string) (log.Head, error) {
+	note, err := s.config.Objects.Get(ctx, name, mostNote)
+	if err != nil {
+		return log.Head{}, fmt.Errorf("sequencer: %w", err)
+	}
+	head, err := s.parseNote(note)
+	if err != nil {
+		return log.Head{}, fmt.Errorf("%w: %s: %v", ErrDamaged, name, err)
+	}
+	return head, nil
+}
+
+var errNote = errors.New("it isn't a signed head of this log")
+
+func (s *Sequencer) parseNote(note []byte) (log.Head, error) {
+	lines := strings.Split(string(note), "\n")
+	if len(lines) != 6 || lines[0] != s.config.Origin || lines[3] != "" || lines[5] != "" || !strings.HasPrefix(lines[4], s.signatureLine()) {
+		return log.Head{}, errNote
+	}
+	size, err := strconv.ParseUint(lines[1], 10, 64)
+	if err != nil {
+		return log.Head{}, errNote
+	}
+	root, err := base64.StdEncoding.DecodeString(lines[2])
+	if err != nil || len(root) != 32 {
+		return log.Head{}, errNote
+	}
+	blob, err := base64.StdEncoding.DecodeString(strings.TrimPrefix(lines[4], s.signatureLine()))
+	if err != nil || len(blob) < 12 || !bytes.Equal(blob[:4], s.keyID()) {
+		return log.Head{}, errNote
+	}
+	head := log.Head{Note: note, TreeSize: size, Timestamp: binary.BigEndian.Uint64(blob[4:12]), Signature: blob[12:]}
+	copy(head.RootHash[:], root)
+	// RFC 6962, section 3.5: version 1 is 0, tree_hash is 1.
+	message := append(append(append([]byte{0, 1}, eight(head.Timestamp)...), eight(size)...), root...)
+	if err := signer.Check(s.config.Signer.Key(), message, head.Signature); err != nil {
+		return log.Head{}, err
+	}
+	return head, nil
+}
+
+// Checkpoint is log.Log's. It never falls behind what is published when it is called.
+func (s *Sequencer) Checkpoint(ctx context.Context) (log.Head, error) {
+	head, err := s.checkpoint(ctx)
+	if err != nil {
+		return log.Head{}, fault{log.ErrStore, err}
+	}
+	return head, nil
+}
+
+func (s *Sequencer) checkpoint(ctx context.Context) (log.Head, error) {
+	published, err := s.config.Register.Published(ctx)
+	if err != nil {
+		return log.Head{}, fmt.Errorf("sequencer: %w", err)
+	}
+	text, err := s.config.Register.Read(ctx)
+	if err != nil {
+		return log.Head{}, fmt.Errorf("sequencer: %w", err)
+	}
+	k, err := readText(text)
+	if err != nil {
+		return log.Head{}, err
+	}
+	s.mu.Lock()
+	seen := s.head
+	s.mu.Unlock()
+	if seen != nil && seen.TreeSize >= published && (seen.TreeSize > published || seen.Timestamp >= k.state.Moment || k.state.Size > published) {
+		return *seen, nil
+	}
+	head, err := s.publishedHead(ctx, published)
+	if err != nil {
+		return log.Head{}, err
+	}
+	s.see(head)
+	return head, nil
+}
+
+// publishedHead reads the newest head of a size.
+func (s *Sequencer) publishedHead(ctx context.Context, size uint64) (log.Head, error) {
+	newest, prefix := "", fmt.Sprintf("%s%020d-", headsPrefix, size)
+	for after := prefix; ; after = newest {
+		names, err := s.config.Objects.List(ctx, headsPrefix, after, stores.MostListed)
+		if err != nil {
+			return log.Head{}, fmt.Errorf("sequencer: %w", err)
+		}
+		ours := 0
+		for ; ours < len(names) && strings.HasPrefix(names[ours], prefix); ours++ {
+			newest = names[ours]
+		}
+		if ours < stores.MostListed {
+			break
+		}
+	}
+	if newest == "" {
+		return log.Head{}, fmt.Errorf("sequencer: no head of %d entries is published: %w", size, stores.ErrAbsent)
+	}
+	return s.readHead(ctx, newest)
+}

@@ -1,0 +1,356 @@
+package sequencer
+
+import (
+	"context"
+	"errors"
+	"fmt"
+	"math/rand"
+	"strings"
+	"time"
+
+	"wagtenib/service/log"
+	"wagtenib/service/step"
+	"wagtenib/service/stores"
+)
+
+const (
+	// looks is how often a node without submissions looks at the register.
+	looks = time.Second
+	// helpsAfter is how long a node waits for another one's head before it rolls it out, and up to as much more by chance, since
+	// all would help at once otherwise.
+	helpsAfter = 400 * time.Millisecond
+	// mostRound is how long a round may take, and mostBackoff how far two that fail are apart.
+	mostRound   = 2 * time.Minute
+	mostBackoff = 5 * time.Second
+)
+
+// wait waits, or gives the context's error.
+func wait(ctx context.Context, long time.Duration) error {
+	timer := time.NewTimer(long)
+	defer timer.Stop()
+	select {
+	case <-timer.C:
+		return nil
+	case <-ctx.Done():
+		return ctx.Err()
+	}
+}
+
+// loop makes round after round until the queue has ended and is empty, or the context ends.
+func (s *Sequencer) loop(ctx context.Context) {
+	defer close(s.ended)
+	backoff, began := s.config.Interval, time.Time{}
+	for ctx.Err() == nil {
+		some, ending := s.queue.state()
+		if !some && ending && s.queue.length() == 0 {
+			return
+		}
+		if !some {
+			s.idle(ctx)
+		}
+		if until := s.config.Interval - time.Since(began); until > 0 && !ending {
+			_ = wait(ctx, until)
+		}
+		began = time.Now()
+		round, cancel := context.WithTimeout(ctx, mostRound)
+		err := s.round(round)
+		cancel()
+		s.settle(err)
+		if err == nil {
+			backoff = s.config.Interval
+			continue
+		}
+		_ = wait(ctx, backoff)
+		if backoff *= 2; backoff > mostBackoff {
+			backoff = mostBackoff
+		}
+	}
+}
+
+// idle waits for a submission, or until the register is looked at anyway.
+func (s *Sequencer) idle(ctx context.Context) {
+	timer := time.NewTimer(looks)
+	defer timer.Stop()
+	select {
+	case <-s.queue.changed:
+	case <-timer.C:
+	case <-ctx.Done():
+	}
+}
+
+// settle keeps what a round failed by. Where waiting a little longer doesn't help, all who wait are told.
+func (s *Sequencer) settle(err error) {
+	s.mu.Lock()
+	if err == nil {
+		s.fault = nil
+		s.mu.Unlock()
+		return
+	}
+	if s.fault == nil {
+		s.faultSince = time.Now()
+	}
+	kind := log.ErrStore
+	if errors.Is(err, log.ErrClock) {
+		kind = log.ErrClock
+	}
+	s.fault = fault{kind, err}
+	s.mu.Unlock()
+	if standing := s.standing(); standing != nil {
+		s.queue.answerAll(standing)
+	}
+}
+
+// round learns the newest state, has it rolled out, and takes who waits one step further.
+func (s *Sequencer) round(ctx context.Context) error {
+	s.mu.Lock()
+	stopped, why := s.stopped, s.fault
+	s.mu.Unlock()
+	if stopped && why != nil {
+		var f fault
+		if errors.As(why, &f) {
+			return f.why
+		}
+		return why
+	}
+	k, err := s.learn(ctx)
+	if err != nil {
+		return err
+	}
+	if s.handOver(k) {
+		return nil
+	}
+	if s.test.plant != noWait {
+		ready, err := s.haveRolledOut(ctx, k)
+		if err != nil || !ready {
+			return err
+		}
+	}
+	batch := s.queue.take(s.config.MostBatch, MostBatchBytes)
+	defer func() { s.queue.giveBack(batch) }()
+	if batch, err = s.answerRepeats(ctx, k, batch); err != nil {
+		return err
+	}
+	if len(batch) == 0 && !s.isStale(k) {
+		return nil
+	}
+	return s.advance(ctx, k, batch)
+}
+
+// isStale says whether a head without new entries is due: none was ever published, or the newest is too old.
+func (s *Sequencer) isStale(k known) bool {
+	return k.state.IsBegin() || s.clock.wall().UnixMilli()-int64(k.state.Moment) > s.config.Refresh.Milliseconds()
+}
+
+// haveRolledOut sees to it that a state is rolled out: its own node does it, or this one. It says no where the next round is to
+// look again.
+func (s *Sequencer) haveRolledOut(ctx context.Context, k known) (bool, error) {
+	done, err := s.isRolledOut(ctx, k)
+	if done || err != nil {
+		return done, err
+	}
+	if k.node != s.config.Address || k.node == "" {
+		if patience := helpsAfter + time.Duration(rand.Int63n(int64(helpsAfter))); time.Since(k.seen) < patience {
+			return false, wait(ctx, 10*time.Millisecond)
+		}
+	}
+	s.phase("helping")
+	if err := s.help(ctx, k); err != nil {
+		return false, err
+	}
+	return s.rolled == k.line, nil
+}
+
+// group puts those with one identity together: the first of each is the entry, and the others get its place.
+func group(batch []*waiting) [][]*waiting {
+	var groups [][]*waiting
+	at := map[stores.Identity]int{}
+	for _, w := range batch {
+		i, ok := at[w.identity]
+		if !ok {
+			i = len(groups)
+			at[w.identity] = i
+			groups = append(groups, nil)
+		}
+		groups[i] = append(groups[i], w)
+	}
+	return groups
+}
+
+// advance makes a step from a state that is rolled out, and has it decided and published.
+func (s *Sequencer) advance(ctx context.Context, k known, batch []*waiting) error {
+	groups := group(batch)
+	submissions := make([]step.Submission, 0, len(groups))
+	for _, g := range groups {
+		submissions = append(submissions, g[0].submission)
+	}
+	now, err := s.clock.moment(k.state.Moment)
+	if err != nil {
+		return err
+	}
+	stepped, edge, err := s.step(ctx, k, submissions, now)
+	if err != nil {
+		return err
+	}
+	objects, err := step.Objects(stepped.Bundle)
+	if err != nil {
+		return fmt.Errorf("sequencer: %w", err)
+	}
+	text, err := textOf(stepped.Line, s.config.Address)
+	if err != nil {
+		return err
+	}
+	s.phase("stepped")
+	if err := s.planted(ctx, objects, groups, stepped.Receipts); err != nil {
+		return err
+	}
+	name := bundleName(step.Digest(stepped.Line))
+	if err := s.config.Objects.Put(ctx, name, stepped.Bundle); err != nil {
+		return fmt.Errorf("sequencer: %w", err)
+	}
+	s.phase("bundle put")
+	won, err := s.swap(ctx, k.text, text)
+	if err != nil {
+		return err
+	}
+	if !won {
+		s.lost.Add(1)
+		return s.lose(ctx, stepped.Line, name)
+	}
+	s.steps.Add(1)
+	s.phase("swapped")
+	s.keepEdge(edge, objects)
+	if k, err = s.learn(ctx); err != nil {
+		return err
+	}
+	if k.text != text {
+		// Another node was quick enough to roll it out and to go on. Who waits here is answered as a repeat.
+		return nil
+	}
+	return s.publish(ctx, k, stepped, objects, groups)
+}
+
+// lose takes the bundle of a step away that was never decided.
+func (s *Sequencer) lose(ctx context.Context, line, name string) error {
+	k, err := s.learn(ctx)
+	if err == nil && k.line != line {
+		// Two nodes may have made the same step. Behind the state that stands, it isn't needed by either.
+		_ = s.config.Objects.Delete(ctx, name)
+	}
+	return err
+}
+
+// publish rolls out a step that was just decided, and answers.
+func (s *Sequencer) publish(ctx context.Context, k known, stepped *step.Stepped, objects []step.Object, groups [][]*waiting) error {
+	placed := make([]stores.Placed, 0, len(groups))
+	for i, g := range groups {
+		r := stepped.Receipts[i]
+		placed = append(placed, stores.Placed{Identity: g[0].identity, Place: stores.Place{Index: r.LeafIndex, Timestamp: r.Timestamp}})
+	}
+	if s.config.BehindSwap {
+		if err := s.answer(ctx, groups, stepped.Receipts); err != nil {
+			return err
+		}
+	}
+	if s.skips(k) {
+		return nil
+	}
+	if err := s.rollOut(ctx, k, objects, stepped.Head, placed); err != nil {
+		return err
+	}
+	if err := s.answer(ctx, groups, stepped.Receipts); err != nil {
+		return err
+	}
+	s.phase("answered")
+	return nil
+}
+
+// answer signs the timestamps of a step, and answers who still waits for them.
+func (s *Sequencer) answer(ctx context.Context, groups [][]*waiting, receipts []step.Receipt) error {
+	for i, g := range groups {
+		for _, w := range g {
+			if !s.queue.holds(w) {
+				continue
+			}
+			place, err := s.sign(ctx, receipts[i].LeafIndex, receipts[i].Timestamp, receipts[i].Sign)
+			if err != nil {
+				return err
+			}
+			s.queue.answer(w, answer{place: place})
+		}
+	}
+	return nil
+}
+
+// step asks the program, over the edge that is remembered, and where it doesn't believe that, over the store's.
+func (s *Sequencer) step(ctx context.Context, k known, batch []step.Submission, now uint64) (*step.Stepped, map[string][]byte, error) {
+	names, err := s.config.Step.Needs(ctx, k.line)
+	if err != nil {
+		return nil, nil, fmt.Errorf("sequencer: %w", err)
+	}
+	for {
+		remembered := len(s.edge) > 0
+		edge, contents := map[string][]byte{}, make([][]byte, 0, len(names))
+		for _, name := range names {
+			content, err := s.read(ctx, name)
+			if err != nil {
+				return nil, nil, err
+			}
+			edge[name] = content
+			contents = append(contents, content)
+		}
+		stepped, err := s.config.Step.Step(ctx, k.line, contents, batch, now)
+		if err == nil {
+			return stepped, edge, nil
+		}
+		if !errors.Is(err, step.Edge) && !errors.Is(err, step.Entries) {
+			return nil, nil, fmt.Errorf("sequencer: %w", err)
+		}
+		s.edge = map[string][]byte{}
+		if !remembered {
+			return nil, nil, fmt.Errorf("%w: %s: %v", ErrDamaged, strings.Join(names, ", "), err)
+		}
+	}
+}
+
+// keepEdge remembers what the next step may want: the partial tiles of this one, and those from before that may have stayed.
+func (s *Sequencer) keepEdge(edge map[string][]byte, objects []step.Object) {
+	s.edge = edge
+	for _, object := range objects {
+		if !strings.Contains(object.Name, partial) {
+			continue
+		}
+		// Of one level the last is the edge's.
+		level := object.Name[:strings.IndexByte(object.Name[len(tilesPrefix):], '/')+len(tilesPrefix)+1]
+		for name := range s.edge {
+			if strings.HasPrefix(name, level) {
+				delete(s.edge, name)
+			}
+		}
+		s.edge[object.Name] = object.Content
+	}
+}
+
+// partial stands in the names of partial tiles.
+const partial = ".p/"
+
+// The orders that a log must not have, which the tests plant.
+const (
+	tilesFirst  = "tiles first"
+	answerFirst = "answer first"
+	noWait      = "no wait for the roll-out"
+)
+
+func (s *Sequencer) planted(ctx context.Context, objects []step.Object, groups [][]*waiting, receipts []step.Receipt) error {
+	switch s.test.plant {
+	case tilesFirst:
+		return s.putAll(ctx, objects)
+	case answerFirst:
+		return s.answer(ctx, groups, receipts)
+	}
+	return nil
+}
+
+// skips says whether a test has this node end its round here.
+func (s *Sequencer) skips(k known) bool {
+	return s.test.plant == noWait && k.state.Size%2 == 1
+}

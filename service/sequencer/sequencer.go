@@ -1,0 +1,289 @@
+// Package sequencer carries one log over a register, objects and places (wagtenib/service/stores), with the program that makes
+// its steps (wagtenib/service/step). Any number of nodes may carry the same log.
+//
+// A step goes in this order, which is what keeps a log one list of entries whoever dies where:
+//
+//  1. the newest state is rolled out, by whomever: its objects, places and head are there;
+//  2. submissions that stand in the log already are answered with their first place;
+//  3. the program steps from the newest state, over the edge's tiles, which it believes only where they are the state's;
+//  4. the step's bundle is put, under a name of its own;
+//  5. the register is swapped from the newest state to the step's: the one decision;
+//  6. the objects are put under their public names, the places added, the head is signed and put;
+//  7. the published size is raised;
+//  8. the timestamps are signed and answered.
+//
+// Whatever is done behind 5 is done again by any node, from the bundle, with the same outcome.
+package sequencer
+
+import (
+	"context"
+	"crypto/sha256"
+	"errors"
+	"fmt"
+	"net/http"
+	"strings"
+	"sync"
+	"sync/atomic"
+	"time"
+
+	"wagtenib/service/log"
+	"wagtenib/service/signer"
+	"wagtenib/service/step"
+	"wagtenib/service/stores"
+)
+
+// The bounds.
+const (
+	// MostEntry is how many bytes an entry may have: its certificate, or its TBSCertificate and its precertificate. 255 of them and
+	// a batch make a request that the step's program takes.
+	MostEntry = 128 << 10
+	// MostBatchBytes is how many bytes a step's new entries have together.
+	MostBatchBytes = 12 << 20
+	// MostBatch is how many entries one step takes in, at most.
+	MostBatch = 1024
+	// Ahead is how far a step's moment may be ahead of what the monotonic clock leads one to expect.
+	Ahead = time.Hour
+)
+
+// What keeps a log from going on, beside what package log names. Each is found by errors.Is, beside log.ErrStore.
+var (
+	// ErrSetBack: the register is gone or was set back, or the store has a head that the register doesn't know. It is not taken up.
+	ErrSetBack = errors.New("sequencer: the register is older than the log")
+	// ErrDamaged: an object is missing, or isn't the one that the register's state names.
+	ErrDamaged = errors.New("sequencer: an object isn't the log's")
+	// ErrConfig: a configuration can't be.
+	ErrConfig = errors.New("sequencer: no such configuration can be")
+)
+
+// Config says what a log stands on.
+type Config struct {
+	Objects  stores.Objects
+	Register stores.Register
+	Places   stores.Places
+	// Step is the program, which was given Origin.
+	Step   *step.Client
+	Signer signer.Signer
+	// Origin is the log's name in checkpoints (C2SP tlog-checkpoint).
+	Origin string
+	// Create says that a register that was never created is to be. It isn't over a store that has anything of a log.
+	Create bool
+	// Interval is how far two steps are apart at least; 500 ms where it is 0.
+	Interval time.Duration
+	// Refresh is how old a head gets before one without new entries is made; an hour where it is 0.
+	Refresh time.Duration
+	// MostQueue is how many submissions wait at most, 4,096 where it is 0, and MostQueueBytes how many bytes of entries, 64 MiB.
+	MostQueue, MostQueueBytes int
+	// MostBatch is how many entries a step takes in, at most the constant's, which it is where it is 0.
+	MostBatch int
+	// Patience is how long something may fail before who waits is told; 5 s where it is 0.
+	Patience time.Duration
+	// BehindSwap answers behind the swap, and not once the head is published: sooner, but a merge is owed until then.
+	BehindSwap bool
+	// Address is where other nodes find this one's Handler, as http://HOST:PORT/PATH; none where it is empty. Secret is what they
+	// show each other; at least 16 bytes.
+	Address, Secret string
+	// Peers asks other nodes; one with time limits where it is nil.
+	Peers *http.Client
+}
+
+func (c *Config) settle() error {
+	switch {
+	case c.Objects == nil || c.Register == nil || c.Places == nil || c.Step == nil || c.Signer == nil:
+		return fmt.Errorf("%w: a store, the step or the signer isn't there", ErrConfig)
+	case c.Origin == "" || strings.ContainsAny(c.Origin, " +\n\r\t"):
+		return fmt.Errorf("%w: an origin has neither spaces nor a plus sign", ErrConfig)
+	case c.Interval < 0 || c.Refresh < 0 || c.Patience < 0 || c.MostQueue < 0 || c.MostQueueBytes < 0 || c.MostBatch < 0 || c.MostBatch > MostBatch:
+		return fmt.Errorf("%w: a bound is below 0, or a batch above %d", ErrConfig, MostBatch)
+	}
+	orElse(&c.Interval, 500*time.Millisecond)
+	orElse(&c.Refresh, time.Hour)
+	orElse(&c.Patience, 5*time.Second)
+	orElse(&c.MostQueue, 4096)
+	orElse(&c.MostQueueBytes, 64<<20)
+	orElse(&c.MostBatch, MostBatch)
+	return c.settlePeers()
+}
+
+func orElse[T comparable](value *T, standard T) {
+	var zero T
+	if *value == zero {
+		*value = standard
+	}
+}
+
+// Sequencer is a node of a log: a log.Log.
+type Sequencer struct {
+	config  Config
+	logID   [32]byte
+	queue   *queue
+	issuers *issuers
+	clock   *clock
+	// cancel ends all that the loop does, and ended is closed behind it.
+	cancel context.CancelFunc
+	ended  chan struct{}
+
+	// The loop's own.
+	// edge has tiles of the newest state that need not be read, and rolled is the line of the last state that is rolled out.
+	edge   map[string][]byte
+	rolled string
+
+	mu sync.Mutex
+	// newest is what the register had when it was read last, and head the newest published one of those that were seen.
+	newest known
+	head   *log.Head
+	// fault is what keeps the log from going on, and since when; stopped one that stays.
+	fault      error
+	faultSince time.Time
+	stopped    bool
+	// alone is until when nothing is handed over, since a node didn't answer.
+	alone time.Time
+
+	steps, lost, unknown, repeats, helped, handed atomic.Uint64
+	// handing holds who hands over.
+	handing chan struct{}
+
+	test hooks
+}
+
+// hooks are the tests': phase is called between what is done, and plant names what is done in another order.
+type hooks struct {
+	phase func(string)
+	plant string
+	now   func() time.Time
+}
+
+func (s *Sequencer) phase(name string) {
+	if s.test.phase != nil {
+		s.test.phase(name)
+	}
+}
+
+// fault is a failure of a kind that package log names.
+type fault struct{ kind, why error }
+
+func (f fault) Error() string        { return f.kind.Error() + ": " + f.why.Error() }
+func (f fault) Is(target error) bool { return target == f.kind }
+func (f fault) Unwrap() error        { return f.why }
+
+// New looks at the register and the store, and begins to carry the log. It refuses with ErrSetBack what it must not take up.
+func New(ctx context.Context, config Config) (*Sequencer, error) { return start(ctx, config, hooks{}) }
+
+func start(ctx context.Context, config Config, test hooks) (*Sequencer, error) {
+	if err := config.settle(); err != nil {
+		return nil, err
+	}
+	s := &Sequencer{
+		config:  config,
+		logID:   sha256.Sum256(config.Signer.Key()),
+		queue:   newQueue(config.MostQueue, config.MostQueueBytes),
+		issuers: newIssuers(config.Objects),
+		clock:   newClock(test.now),
+		ended:   make(chan struct{}),
+		edge:    map[string][]byte{},
+		handing: make(chan struct{}, mostHanding),
+		test:    test,
+	}
+	if err := s.takeUp(ctx); err != nil {
+		return nil, err
+	}
+	running, cancel := context.WithCancel(context.Background())
+	s.cancel = cancel
+	go s.loop(running)
+	return s, nil
+}
+
+// Submit is log.Log's.
+func (s *Sequencer) Submit(ctx context.Context, entry log.Entry) (log.Place, error) {
+	submission, err := submissionOf(entry)
+	if err != nil {
+		return log.Place{}, err
+	}
+	return s.submit(ctx, &waiting{ctx: ctx, submission: submission, identity: identityOf(submission), issuers: entry.Issuers})
+}
+
+func (s *Sequencer) submit(ctx context.Context, w *waiting) (log.Place, error) {
+	if err := s.standing(); err != nil {
+		return log.Place{}, err
+	}
+	w.done = make(chan answer, 1)
+	if err := s.queue.seat(w); err != nil {
+		return log.Place{}, err
+	}
+	if err := s.issuers.put(ctx, w.issuers); err != nil {
+		s.queue.leave(w)
+		return log.Place{}, fault{log.ErrStore, err}
+	}
+	if err := s.queue.add(w); err != nil {
+		return log.Place{}, err
+	}
+	select {
+	case came := <-w.done:
+		return came.place, came.err
+	case <-ctx.Done():
+		s.queue.leave(w)
+		return log.Place{}, fmt.Errorf("sequencer: %w", ctx.Err())
+	}
+}
+
+// standing gives what keeps the log from going on, where it has for longer than Patience.
+func (s *Sequencer) standing() error {
+	s.mu.Lock()
+	defer s.mu.Unlock()
+	if s.fault != nil && (s.stopped || time.Since(s.faultSince) > s.config.Patience || isNamed(s.fault)) {
+		return s.fault
+	}
+	return nil
+}
+
+// isNamed says whether a fault is one that waiting a little doesn't mend.
+func isNamed(err error) bool {
+	return errors.Is(err, ErrDamaged) || errors.Is(err, ErrSetBack) || errors.Is(err, log.ErrClock)
+}
+
+// Object is log.Log's.
+func (s *Sequencer) Object(ctx context.Context, name string) ([]byte, error) {
+	if !strings.HasPrefix(name, "tile/") && !strings.HasPrefix(name, "issuer/") {
+		return nil, fmt.Errorf("%w: %.80q isn't published", stores.ErrName, name)
+	}
+	content, err := s.config.Objects.Get(ctx, name, stores.MostObject)
+	if err != nil && !errors.Is(err, stores.ErrAbsent) && !errors.Is(err, stores.ErrName) {
+		return nil, fault{log.ErrStore, err}
+	}
+	return content, err
+}
+
+// End is log.Log's. The stores, the step and the signer stay open.
+func (s *Sequencer) End(ctx context.Context) error {
+	s.queue.end()
+	select {
+	case <-s.ended:
+	case <-ctx.Done():
+		s.cancel()
+		<-s.ended
+	}
+	s.cancel()
+	if left := s.queue.answerAll(log.ErrEnded); left > 0 {
+		return fmt.Errorf("sequencer: %d who waited were told so at the end: %w", left, ctx.Err())
+	}
+	return nil
+}
+
+// Figures is log.Log's.
+func (s *Sequencer) Figures() log.Figures {
+	s.mu.Lock()
+	defer s.mu.Unlock()
+	f := log.Figures{
+		Queue: s.queue.length(), MostQueue: s.config.MostQueue,
+		Steps: s.steps.Load(), LostSwaps: s.lost.Load(), Unknown: s.unknown.Load(),
+		Repeats: s.repeats.Load(), Helped: s.helped.Load(), HandedOver: s.handed.Load(),
+		StepStarts: s.config.Step.Starts(),
+	}
+	if s.head != nil {
+		f.Entries = s.head.TreeSize
+		f.HeadAge = time.Duration(s.clock.wall().UnixMilli()-int64(s.head.Timestamp)) * time.Millisecond
+	}
+	if s.fault != nil {
+		f.Fault = s.fault.Error()
+	}
+	return f
+}

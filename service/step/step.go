@@ -1,0 +1,391 @@
+// Package step asks the program that makes the steps of a log, cttile: a process at the other end of two pipes, with an object of
+// JSON a line. It keeps nothing from one request to the next, so it is killed where it doesn't answer, and started again.
+package step
+
+import (
+	"bufio"
+	"bytes"
+	"context"
+	"crypto/sha256"
+	"encoding/json"
+	"errors"
+	"fmt"
+	"io"
+	"os/exec"
+	"sync/atomic"
+	"time"
+)
+
+// The bounds of lines, in bytes without their ends.
+const (
+	// MostRequest is the program's own.
+	MostRequest = 64 << 20
+	// MostReply is how much of a reply is read.
+	MostReply = 160 << 20
+)
+
+// What requests fail by, beside a Refusal. Each is found by errors.Is.
+var (
+	// ErrTooLong: a request is longer than MostRequest. It wasn't sent.
+	ErrTooLong = errors.New("step: request too long")
+	// ErrProcess: the process doesn't start, ended, or gave no reply in time. The next request starts another.
+	ErrProcess = errors.New("step: the process gives no reply")
+	// ErrReply: the reply isn't one to the request.
+	ErrReply = errors.New("step: not a reply")
+)
+
+// Refusal is the name by which the program refused a request; nothing has changed then.
+type Refusal string
+
+func (r Refusal) Error() string { return "step: refused: " + string(r) }
+
+// The refusals.
+const (
+	BadLine   Refusal = "bad-line"
+	BadState  Refusal = "bad-state"
+	Edge      Refusal = "edge"
+	Entries   Refusal = "entries"
+	ClockBack Refusal = "clock-back"
+	Full      Refusal = "full"
+	Bundle    Refusal = "bundle"
+)
+
+// Client asks one process, one request at a time. Its methods may be called at once.
+type Client struct {
+	command []string
+	limit   time.Duration
+	starts  uint64
+	// turn holds the process, or nil where none runs; who took it asks.
+	turn chan *process
+}
+
+// NewClient takes the program's command, and how long a request may take. The process is started by the first request.
+func NewClient(command []string, limit time.Duration) (*Client, error) {
+	if len(command) == 0 {
+		return nil, fmt.Errorf("%w: there is no command", ErrProcess)
+	}
+	c := &Client{command: command, limit: limit, turn: make(chan *process, 1)}
+	c.turn <- nil
+	return c, nil
+}
+
+// Starts is how often the process was started.
+func (c *Client) Starts() uint64 { return atomic.LoadUint64(&c.starts) }
+
+// Close ends the process.
+func (c *Client) Close() error {
+	p := <-c.turn
+	if p != nil {
+		p.end()
+	}
+	c.turn <- nil
+	return nil
+}
+
+// process is a running program.
+type process struct {
+	command *exec.Cmd
+	in      io.WriteCloser
+	out     *bufio.Reader
+	said    *last
+}
+
+// last keeps the last bytes that were written: what a process said on standard error.
+type last struct{ bytes []byte }
+
+const mostSaid = 500
+
+func (l *last) Write(b []byte) (int, error) {
+	l.bytes = append(l.bytes, b...)
+	if behind := len(l.bytes) - mostSaid; behind > 0 {
+		l.bytes = append([]byte{}, l.bytes[behind:]...)
+	}
+	return len(b), nil
+}
+
+func (c *Client) start() (*process, error) {
+	command := exec.Command(c.command[0], c.command[1:]...)
+	p := &process{command: command, said: &last{}}
+	command.Stderr = p.said
+	in, err := command.StdinPipe()
+	if err != nil {
+		return nil, fmt.Errorf("%w: %v", ErrProcess, err)
+	}
+	out, err := command.StdoutPipe()
+	if err != nil {
+		return nil, fmt.Errorf("%w: %v", ErrProcess, err)
+	}
+	if err := command.Start(); err != nil {
+		return nil, fmt.Errorf("%w: %v", ErrProcess, err)
+	}
+	p.in, p.out = in, bufio.NewReaderSize(out, 1<<16)
+	atomic.AddUint64(&c.starts, 1)
+	return p, nil
+}
+
+// end kills the process, and gives what it said last.
+func (p *process) end() string {
+	p.in.Close()
+	p.command.Process.Kill()
+	p.command.Wait()
+	return string(bytes.TrimSpace(p.said.bytes))
+}
+
+// exchange writes a line and reads one.
+func (p *process) exchange(line []byte) ([]byte, error) {
+	// A process may begin to reply before it has read all; the pipe to it is written beside the reading.
+	written := make(chan error, 1)
+	go func() {
+		_, err := p.in.Write(line)
+		written <- err
+	}()
+	reply, err := readLine(p.out, MostReply)
+	if err != nil {
+		// The writer ends once the process is killed, which the caller does.
+		return nil, err
+	}
+	return reply, <-written
+}
+
+// readLine reads a line of at most so many bytes.
+func readLine(from *bufio.Reader, most int) ([]byte, error) {
+	var line []byte
+	for {
+		part, err := from.ReadSlice('\n')
+		if len(line)+len(part) > most {
+			return nil, fmt.Errorf("a line of more than %d bytes", most)
+		}
+		line = append(line, part...)
+		if err == nil {
+			return line[:len(line)-1], nil
+		}
+		if err != bufio.ErrBufferFull {
+			return nil, err
+		}
+	}
+}
+
+// ask sends a request, and reads its reply into an object.
+func (c *Client) ask(ctx context.Context, request, reply any) error {
+	line, err := json.Marshal(request)
+	if err != nil {
+		return fmt.Errorf("step: request: %w", err)
+	}
+	if len(line) > MostRequest {
+		return fmt.Errorf("%w: %d bytes", ErrTooLong, len(line))
+	}
+	answered, err := c.exchange(ctx, append(line, '\n'))
+	if err != nil {
+		return err
+	}
+	if bytes.HasPrefix(answered, []byte(`{"refused":`)) {
+		var refused struct{ Refused Refusal }
+		if err := json.Unmarshal(answered, &refused); err != nil {
+			return fmt.Errorf("%w: %v", ErrReply, err)
+		}
+		return refused.Refused
+	}
+	if err := json.Unmarshal(answered, reply); err != nil {
+		return fmt.Errorf("%w: %v", ErrReply, err)
+	}
+	return nil
+}
+
+// exchange has the process reply to a line, and starts it where none runs. One that doesn't reply in time is killed.
+func (c *Client) exchange(ctx context.Context, line []byte) ([]byte, error) {
+	var p *process
+	select {
+	case p = <-c.turn:
+	case <-ctx.Done():
+		return nil, fmt.Errorf("%w: %v", ErrProcess, ctx.Err())
+	}
+	if p == nil {
+		started, err := c.start()
+		if err != nil {
+			c.turn <- nil
+			return nil, err
+		}
+		p = started
+	}
+	type outcome struct {
+		reply []byte
+		err   error
+	}
+	done := make(chan outcome, 1)
+	go func() {
+		reply, err := p.exchange(line)
+		done <- outcome{reply, err}
+	}()
+	timer := time.NewTimer(c.limit)
+	defer timer.Stop()
+	var why error
+	select {
+	case came := <-done:
+		if came.err == nil {
+			c.turn <- p
+			return came.reply, nil
+		}
+		why = came.err
+	case <-timer.C:
+		why = fmt.Errorf("none in %v", c.limit)
+	case <-ctx.Done():
+		why = ctx.Err()
+	}
+	said := p.end()
+	c.turn <- nil
+	return nil, fmt.Errorf("%w: %v %.500s", ErrProcess, why, said)
+}
+
+// Submission is one entry of a batch, as the program reads it.
+type Submission struct {
+	// Chain are the fingerprints of the issuers.
+	Chain [][]byte `json:"chain"`
+	// LeafCertificate is the certificate; or the other three are there, of a precertificate.
+	LeafCertificate []byte `json:"leaf_certificate,omitempty"`
+	IssuerKeyHash   []byte `json:"issuer_key_hash,omitempty"`
+	PreCertificate  []byte `json:"pre_certificate,omitempty"`
+	TBSCertificate  []byte `json:"tbs_certificate,omitempty"`
+}
+
+// Receipt is where an entry of a batch stands, and the bytes under its timestamp's signature (RFC 6962, section 3.2).
+type Receipt struct {
+	LeafIndex uint64 `json:"leaf_index"`
+	Timestamp uint64 `json:"timestamp"`
+	Sign      []byte `json:"sign"`
+}
+
+// Head is a head that is to be signed.
+type Head struct {
+	// Checkpoint is the body of its note, and Sign the bytes under its signature (RFC 6962, section 3.5).
+	Checkpoint string `json:"checkpoint"`
+	Sign       []byte `json:"sign"`
+	Head       struct {
+		RootHash  []byte `json:"sha256_root_hash"`
+		Timestamp uint64 `json:"timestamp"`
+		TreeSize  uint64 `json:"tree_size"`
+	} `json:"head"`
+}
+
+// check compares a head with the state that it is of.
+func (h Head) check(s State) error {
+	if h.Head.TreeSize != s.Size || h.Head.Timestamp != s.Moment || !bytes.Equal(h.Head.RootHash, s.Root[:]) {
+		return fmt.Errorf("%w: the head isn't the state's", ErrReply)
+	}
+	if h.Checkpoint == "" || len(h.Sign) == 0 {
+		return fmt.Errorf("%w: the head has no note, or nothing to be signed", ErrReply)
+	}
+	return nil
+}
+
+// Begin gives the line of a log without entries.
+func (c *Client) Begin(ctx context.Context, moment uint64) (string, error) {
+	var reply struct{ State string }
+	if err := c.ask(ctx, map[string]any{"begin": moment}, &reply); err != nil {
+		return "", err
+	}
+	s, err := ParseState(reply.State)
+	if err == nil && (s.Size != 0 || s.Moment != moment || !s.IsBegin()) {
+		err = fmt.Errorf("%w: the state isn't that of a log without entries", ErrReply)
+	}
+	return reply.State, err
+}
+
+// Needs gives the names of the objects that a step from this line wants: its edge.
+func (c *Client) Needs(ctx context.Context, line string) ([]string, error) {
+	var reply struct{ Names []string }
+	if err := c.ask(ctx, map[string]any{"needs": line}, &reply); err != nil {
+		return nil, err
+	}
+	for _, name := range reply.Names {
+		if err := checkTile(name); err != nil {
+			return nil, fmt.Errorf("%w: %v", ErrReply, err)
+		}
+	}
+	return reply.Names, nil
+}
+
+// Stepped is what a step gives.
+type Stepped struct {
+	Head
+	Line     string    `json:"state"`
+	Bundle   []byte    `json:"bundle"`
+	Receipts []Receipt `json:"receipts"`
+	// State is the line's.
+	State State `json:"-"`
+}
+
+// Step gives the state behind a batch, with the objects that it publishes. The edge are the contents of the names that Needs
+// gives, in that order.
+func (c *Client) Step(ctx context.Context, line string, edge [][]byte, batch []Submission, now uint64) (*Stepped, error) {
+	if edge == nil {
+		edge = [][]byte{}
+	}
+	if batch == nil {
+		batch = []Submission{}
+	}
+	for i := range batch {
+		if batch[i].Chain == nil {
+			batch[i].Chain = [][]byte{}
+		}
+	}
+	reply := &Stepped{}
+	if err := c.ask(ctx, map[string]any{"state": line, "edge": edge, "batch": batch, "now": now}, reply); err != nil {
+		return nil, err
+	}
+	before, err := ParseState(line)
+	if err != nil {
+		return nil, err
+	}
+	if reply.State, err = ParseState(reply.Line); err != nil {
+		return nil, fmt.Errorf("%w: %v", ErrReply, err)
+	}
+	s := reply.State
+	if s.Size != before.Size+uint64(len(batch)) || s.Moment != now || s.Before != Digest(line) || s.Bundle != sha256.Sum256(reply.Bundle) {
+		return nil, fmt.Errorf("%w: the state isn't the one behind this batch", ErrReply)
+	}
+	if len(reply.Receipts) != len(batch) {
+		return nil, fmt.Errorf("%w: %d receipts of %d entries", ErrReply, len(reply.Receipts), len(batch))
+	}
+	for i, r := range reply.Receipts {
+		if r.LeafIndex != before.Size+uint64(i) || r.Timestamp != now || len(r.Sign) == 0 {
+			return nil, fmt.Errorf("%w: receipt %d isn't the entry's", ErrReply, i)
+		}
+	}
+	return reply, reply.Head.check(s)
+}
+
+// Resumed is what is published of a step that was decided.
+type Resumed struct {
+	Head
+	Objects []Object
+}
+
+// Resume reads the bundle that belongs to a state's line.
+func (c *Client) Resume(ctx context.Context, line string, bundle []byte) (*Resumed, error) {
+	s, err := ParseState(line)
+	if err != nil {
+		return nil, err
+	}
+	var reply struct {
+		Head
+		Objects [][2]json.RawMessage `json:"objects"`
+	}
+	if err := c.ask(ctx, map[string]any{"resume": line, "bundle": bundle}, &reply); err != nil {
+		return nil, err
+	}
+	resumed := &Resumed{Head: reply.Head}
+	for _, pair := range reply.Objects {
+		var object Object
+		if err := json.Unmarshal(pair[0], &object.Name); err != nil {
+			return nil, fmt.Errorf("%w: %v", ErrReply, err)
+		}
+		if err := json.Unmarshal(pair[1], &object.Content); err != nil {
+			return nil, fmt.Errorf("%w: %v", ErrReply, err)
+		}
+		if err := checkTile(object.Name); err != nil {
+			return nil, fmt.Errorf("%w: %v", ErrReply, err)
+		}
+		resumed.Objects = append(resumed.Objects, object)
+	}
+	return resumed, reply.Head.check(s)
+}

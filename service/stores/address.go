@@ -1,0 +1,216 @@
+package stores
+
+import (
+	"context"
+	"errors"
+	"fmt"
+	"net/url"
+	"os"
+	"strings"
+
+	"go.etcd.io/etcd/clientv3"
+)
+
+// ErrAddress: a text isn't an address of a store of this kind. It is wrapped with why, and without what may be secret in it.
+var ErrAddress = errors.New("stores: no such address can be")
+
+// The environment's names of S3's credentials, for an address that has none.
+const (
+	environmentKey    = "AWS_ACCESS_KEY_ID"
+	environmentSecret = "AWS_SECRET_ACCESS_KEY"
+)
+
+// ObjectsAt opens the objects at an address:
+//
+//	folder:PATH
+//	s3://[KEY:SECRET@]HOST[:PORT]/BUCKET[?tls=no][&region=REGION][&conditional=no]
+//
+// Without KEY and SECRET, AWS_ACCESS_KEY_ID and AWS_SECRET_ACCESS_KEY of the environment are taken. Over S3 the endpoint is asked
+// over TLS and conditional puts are used, unless the address says no.
+func ObjectsAt(ctx context.Context, address string) (Objects, error) {
+	kind, rest, _ := strings.Cut(address, ":")
+	switch kind {
+	case "folder":
+		path, err := pathOf("folder", rest)
+		if err != nil {
+			return nil, err
+		}
+		return OpenFolder(path)
+	case "s3":
+		at, err := parseS3(address)
+		if err != nil {
+			return nil, err
+		}
+		return OpenS3(ctx, at)
+	}
+	return nil, fmt.Errorf("%w: objects are at folder:PATH or s3://HOST/BUCKET, not at %.20q", ErrAddress, kind)
+}
+
+// RegisterAt opens the register at an address:
+//
+//	file:PATH                                           a folder with the register's files
+//	etcd://[USER:PASSWORD@]HOST:PORT[,HOST:PORT..]/PREFIX
+//	postgres://[USER[:PASSWORD]@]HOST[:PORT]/DATABASE?log=NAME[&..]      the rest as libpq has it
+func RegisterAt(ctx context.Context, address string) (Register, error) {
+	kind, rest, _ := strings.Cut(address, ":")
+	switch kind {
+	case "file":
+		path, err := pathOf("file", rest)
+		if err != nil {
+			return nil, err
+		}
+		return OpenFile(path)
+	case "etcd":
+		at, err := parseEtcd(address)
+		if err != nil {
+			return nil, err
+		}
+		return OpenEtcd(at)
+	case "postgres", "postgresql":
+		at, err := parsePostgres(address)
+		if err != nil {
+			return nil, err
+		}
+		return OpenPostgres(ctx, at)
+	}
+	return nil, fmt.Errorf("%w: a register is at file:PATH, etcd://.. or postgres://.., not at %.20q", ErrAddress, kind)
+}
+
+// PlacesAt opens the places at an address: sqlite:PATH, a file, or one of etcd or PostgreSQL as RegisterAt has them.
+func PlacesAt(ctx context.Context, address string) (Places, error) {
+	kind, rest, _ := strings.Cut(address, ":")
+	switch kind {
+	case "sqlite":
+		path, err := pathOf("sqlite", rest)
+		if err != nil {
+			return nil, err
+		}
+		return OpenSQLite(ctx, path)
+	case "etcd":
+		at, err := parseEtcd(address)
+		if err != nil {
+			return nil, err
+		}
+		return OpenEtcdPlaces(at)
+	case "postgres", "postgresql":
+		at, err := parsePostgres(address)
+		if err != nil {
+			return nil, err
+		}
+		return OpenPostgresPlaces(ctx, at)
+	}
+	return nil, fmt.Errorf("%w: places are at sqlite:PATH, etcd://.. or postgres://.., not at %.20q", ErrAddress, kind)
+}
+
+// pathOf takes a path as it stands: it isn't a URL's, and a percent sign is one.
+func pathOf(kind, path string) (string, error) {
+	if path == "" {
+		return "", fmt.Errorf("%w: %s: without a path", ErrAddress, kind)
+	}
+	return path, nil
+}
+
+// parsed reads a URL with a host. (The URL's own error would show a password.)
+func parsed(address, kind string) (*url.URL, url.Values, error) {
+	u, err := url.Parse(address)
+	if err != nil || u.Host == "" || u.Fragment != "" {
+		return nil, nil, fmt.Errorf("%w: %s:// wants a host, and a path behind it", ErrAddress, kind)
+	}
+	query, err := url.ParseQuery(u.RawQuery)
+	if err != nil {
+		return nil, nil, fmt.Errorf("%w: %s: words behind the question mark", ErrAddress, kind)
+	}
+	return u, query, nil
+}
+
+// word takes a value out of a query: none, or one.
+func word(query url.Values, name string) (string, error) {
+	values := query[name]
+	query.Del(name)
+	if len(values) > 1 {
+		return "", fmt.Errorf("%w: %s stands twice", ErrAddress, name)
+	}
+	if len(values) == 0 {
+		return "", nil
+	}
+	return values[0], nil
+}
+
+// flag takes a yes or no out of a query; without one it is yes.
+func flag(query url.Values, name string) (bool, error) {
+	value, err := word(query, name)
+	if err == nil && value != "" && value != "yes" && value != "no" {
+		err = fmt.Errorf("%w: %s is yes or no", ErrAddress, name)
+	}
+	return value != "no", err
+}
+
+// nothingElse refuses what is left of a query.
+func nothingElse(query url.Values, kind string) error {
+	for name := range query {
+		return fmt.Errorf("%w: %s has no word %.40q", ErrAddress, kind, name)
+	}
+	return nil
+}
+
+func parseS3(address string) (at S3, err error) {
+	u, query, err := parsed(address, "s3")
+	if err != nil {
+		return S3{}, err
+	}
+	at.Endpoint, at.Bucket = u.Host, strings.Trim(u.Path, "/")
+	if at.Bucket == "" || strings.Contains(at.Bucket, "/") {
+		return S3{}, fmt.Errorf("%w: s3 wants one bucket behind the host", ErrAddress)
+	}
+	at.Key, at.Secret = os.Getenv(environmentKey), os.Getenv(environmentSecret)
+	if u.User != nil {
+		at.Key = u.User.Username()
+		at.Secret, _ = u.User.Password()
+	}
+	if at.Key == "" || at.Secret == "" {
+		return S3{}, fmt.Errorf("%w: s3 wants a key and a secret, in the address or as %s and %s", ErrAddress, environmentKey, environmentSecret)
+	}
+	if at.Region, err = word(query, "region"); err != nil {
+		return S3{}, err
+	}
+	if at.TLS, err = flag(query, "tls"); err != nil {
+		return S3{}, err
+	}
+	if at.Conditional, err = flag(query, "conditional"); err != nil {
+		return S3{}, err
+	}
+	return at, nothingElse(query, "s3")
+}
+
+func parseEtcd(address string) (at Etcd, err error) {
+	u, query, err := parsed(address, "etcd")
+	if err != nil {
+		return Etcd{}, err
+	}
+	at.Prefix = strings.Trim(u.Path, "/")
+	if at.Prefix == "" {
+		return Etcd{}, fmt.Errorf("%w: etcd wants a prefix behind the hosts", ErrAddress)
+	}
+	at.Config = clientv3.Config{Endpoints: strings.Split(u.Host, ",")}
+	if u.User != nil {
+		at.Config.Username = u.User.Username()
+		at.Config.Password, _ = u.User.Password()
+	}
+	return at, nothingElse(query, "etcd")
+}
+
+func parsePostgres(address string) (at Postgres, err error) {
+	u, query, err := parsed(address, "postgres")
+	if err != nil {
+		return Postgres{}, err
+	}
+	if at.Log, err = word(query, "log"); err != nil {
+		return Postgres{}, err
+	}
+	if at.Log == "" {
+		return Postgres{}, fmt.Errorf("%w: postgres wants a log's name: ?log=NAME", ErrAddress)
+	}
+	u.RawQuery = query.Encode()
+	at.Source = u.String()
+	return at, nil
+}
