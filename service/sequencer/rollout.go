@@ -164,6 +164,9 @@ func (s *Sequencer) putHead(ctx context.Context, state step.State, head step.Hea
 	}
 	made := log.Head{TreeSize: state.Size, Timestamp: state.Moment, RootHash: state.Root, Signature: signed}
 	made.Note = s.note(head.Checkpoint, made)
+	if again, err := s.parseNote(made.Note); err != nil || matches(again, state) != nil {
+		return log.Head{}, fmt.Errorf("sequencer: the step's note isn't one of %s: %w", s.config.Origin, errNote)
+	}
 	name := headName(state)
 	err = s.config.Objects.Put(ctx, name, made.Note)
 	if errors.Is(err, stores.ErrOther) {
