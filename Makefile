@@ -1,4 +1,4 @@
-.PHONY: help demo test check service-test service-engines link install install-library install-ctlog install-ctlogd install-ctmonitor install-ctguard fuzz load sweep wrong sources serve interop
+.PHONY: help demo test check service service-test service-engines link install install-library install-ctlog install-ctlogd install-ctmonitor install-ctguard fuzz load sweep wrong sources serve interop
 
 SECONDS ?= 60
 RUNS ?= 20
@@ -28,6 +28,10 @@ check: ## for daily work: proves what changed
 	@checks/needs.sh check
 	@$(MAKE) --silent sources
 	rt all check
+
+service: ## builds service/out/ctserve, the service in Go (docs/OPERATING.md)
+	@checks/needs.sh service
+	@service/build.sh build
 
 service-test: ## builds and tests the Go part, without engines; where Go isn't installed, it says so
 	@service/test.sh

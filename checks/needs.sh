@@ -1,5 +1,5 @@
 #!/usr/bin/env bash
-# Says what a target of the Makefile lacks here, and how long it takes on so many processors: needs.sh demo|serve|test|check|link|service-test.
+# Says what a target of the Makefile lacks here, and how long it takes on so many processors: needs.sh demo|serve|test|check|link|service|service-test.
 # `needs.sh figures` prints the times on four processors, with which examples/scripts.py compares README.md and docs/GATE.md.
 set -u
 cd "$(dirname "$0")/.."
@@ -43,12 +43,14 @@ lacks() {
 }
 
 # The Go part stands on Debian's packages, and on nothing of the kit.
-if [ "$what" = service-test ]; then
-  for pair in go:golang-go gofmt:golang-go gcc:gcc openssl:openssl python3:python3; do
+if [ "$what" = service ] || [ "$what" = service-test ]; then
+  tools="go:golang-go gcc:gcc"
+  [ "$what" = service ] || tools+=" gofmt:golang-go openssl:openssl python3:python3"
+  for pair in $tools; do
     command -v "${pair%:*}" >/dev/null || lacks "${pair%:*} (Debian: ${pair#*:})"
   done
   for package in libsqlite3-dev golang-github-mattn-go-sqlite3-dev golang-github-lib-pq-dev golang-etcd-server-dev \
-    golang-github-minio-minio-go-v7-dev golang-golang-x-crypto-dev golang-golang-x-mod-dev; do
+    golang-github-minio-minio-go-v7-dev golang-github-prometheus-client-golang-dev golang-golang-x-crypto-dev golang-golang-x-mod-dev; do
     [ "$(dpkg-query -W -f '${db:Status-Status}' "$package" 2>/dev/null)" = installed ] || lacks "Debian's $package"
   done
   exit "$missing"

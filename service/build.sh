@@ -1,5 +1,5 @@
 #!/usr/bin/env bash
-# Builds and tests the Go part with the packages of Debian alone: build.sh test [PACKAGE [WORD..]] | fuzz [SECONDS] | vet.
+# Builds and tests the Go part with the packages of Debian alone: build.sh test [PACKAGE [WORD..]] | fuzz [SECONDS] | vet | build.
 # Debian's packages of Go lie below one folder, as GOPATH has it. So modules are off, and nothing is fetched; this folder is put
 # beside theirs, as the import path wagtenib/service, by a link in a folder of its own, which goes at the end. (The gate takes no
 # links in the repository.)
@@ -20,7 +20,7 @@ case $what in
   test)
     package=${1:-}
     shift || true
-    if [ -n "$package" ]; then set -- "$@" "wagtenib/service/$package"; else set -- wagtenib/service/chains wagtenib/service/stores; fi
+    if [ -n "$package" ]; then set -- "$@" "wagtenib/service/$package"; else set -- $(sed 's|^|wagtenib/service/|' <<<"$folders"); fi
     go test -count=1 "$@"
     ;;
   vet)
@@ -28,13 +28,20 @@ case $what in
     [ -z "$unformatted" ] || { echo "gofmt would change $unformatted" >&2; exit 1; }
     sed 's|^|wagtenib/service/|' <<<"$folders" | xargs go vet
     ;;
+  build)
+    mkdir -p out
+    go build -o out/ctserve wagtenib/service/ctserve
+    ;;
   fuzz)
     for target in FuzzPoison FuzzFinalIssuer FuzzChain FuzzRoots; do
       go test wagtenib/service/chains -run '^$' -fuzz "^$target\$" -fuzztime "${1:-60}s" -fuzzminimizetime 1s -parallel "${PROCESSORS:-2}"
     done
+    for target in FuzzHandlers FuzzConnections FuzzDataTile; do
+      go test wagtenib/service/web -run '^$' -fuzz "^$target\$" -fuzztime "${1:-60}s" -fuzzminimizetime 1s -parallel "${PROCESSORS:-2}"
+    done
     ;;
   *)
-    echo "build.sh test [PACKAGE [WORD..]] | fuzz [SECONDS] | vet" >&2
+    echo "build.sh test [PACKAGE [WORD..]] | fuzz [SECONDS] | vet | build" >&2
     exit 1
     ;;
 esac

@@ -1,0 +1,530 @@
+package main
+
+import (
+	"bufio"
+	"bytes"
+	"context"
+	"crypto/tls"
+	"crypto/x509"
+	"encoding/json"
+	"errors"
+	"fmt"
+	"io"
+	"net"
+	"net/http"
+	"os"
+	"os/exec"
+	"path/filepath"
+	"strings"
+	"syscall"
+	"testing"
+	"time"
+
+	"wagtenib/service/web/standin"
+)
+
+// The tests start this program again as ctserve, over a log in memory where every is set.
+const (
+	childKey = "CTSERVE_TEST"
+	everyKey = "CTSERVE_TEST_EVERY"
+)
+
+func TestMain(m *testing.M) {
+	if os.Getenv(childKey) == "" {
+		os.Exit(m.Run())
+	}
+	open := openNode
+	if every := os.Getenv(everyKey); every != "" {
+		open = func(ctx context.Context, n node) (*opened, error) {
+			duration, err := time.ParseDuration(every)
+			if err != nil {
+				return nil, err
+			}
+			of, err := standin.New(duration)
+			return &opened{log: of, nodes: http.NotFoundHandler(), close: func() {}}, err
+		}
+	}
+	os.Exit(run(os.Args[1:], os.Stderr, open))
+}
+
+// program is a ctserve that runs.
+type program struct {
+	t                 *testing.T
+	command           *exec.Cmd
+	lines             chan map[string]any
+	clients, operator string
+	done              chan error
+}
+
+// started starts one and waits until it serves.
+func started(t *testing.T, every string, words ...string) *program {
+	t.Helper()
+	p := &program{t: t, command: exec.Command(os.Args[0], words...), lines: make(chan map[string]any, 1000), done: make(chan error, 1)}
+	p.command.Env = append(os.Environ(), childKey+"=1", everyKey+"="+every)
+	errors, err := p.command.StderrPipe()
+	if err != nil {
+		t.Fatal(err)
+	}
+	if err := p.command.Start(); err != nil {
+		t.Fatal(err)
+	}
+	go func() {
+		defer close(p.lines)
+		for scanner := bufio.NewScanner(errors); scanner.Scan(); {
+			line := map[string]any{}
+			if err := json.Unmarshal(scanner.Bytes(), &line); err != nil {
+				line["text"] = scanner.Text()
+			}
+			p.lines <- line
+		}
+		p.done <- p.command.Wait()
+	}()
+	t.Cleanup(func() { p.command.Process.Kill() })
+	for {
+		line := p.until("listening", "serving", "end")
+		switch {
+		case line["event"] == "listening" && line["for"] == "clients":
+			p.clients = line["address"].(string)
+		case line["event"] == "listening" && line["for"] == "operator":
+			p.operator = line["address"].(string)
+		case line["event"] == "serving":
+			return p
+		case line["event"] == "end":
+			t.Fatalf("it ends: %v", line)
+		}
+	}
+}
+
+// until gives the next line of one of these events.
+func (p *program) until(events ...string) map[string]any {
+	p.t.Helper()
+	for late := time.After(20 * time.Second); ; {
+		select {
+		case line, more := <-p.lines:
+			if !more {
+				p.t.Fatalf("it ended without a line of %v", events)
+			}
+			for _, event := range events {
+				if line["event"] == event {
+					return line
+				}
+			}
+		case <-late:
+			p.t.Fatalf("no line of %v in time", events)
+		}
+	}
+}
+
+// ends gives the status by which it ends.
+func (p *program) ends() int {
+	p.t.Helper()
+	go func() {
+		for range p.lines {
+		}
+	}()
+	select {
+	case err := <-p.done:
+		var status *exec.ExitError
+		if errors.As(err, &status) {
+			return status.ExitCode()
+		}
+		return 0
+	case <-time.After(20 * time.Second):
+		p.t.Fatal("it doesn't end")
+		return -1
+	}
+}
+
+func (p *program) signal(which syscall.Signal) {
+	p.t.Helper()
+	if err := p.command.Process.Signal(which); err != nil {
+		p.t.Fatal(err)
+	}
+}
+
+// place is a folder with the files that a log needs, and an authority among its roots.
+type place struct {
+	t         *testing.T
+	folder    string
+	authority *standin.Authority
+}
+
+func newPlace(t *testing.T) *place {
+	t.Helper()
+	authority, err := standin.NewAuthority("A root")
+	if err != nil {
+		t.Fatal(err)
+	}
+	p := &place{t, t.TempDir(), authority}
+	p.write("roots.pem", authority.PEM())
+	_, key, err := authority.KeyPair()
+	if err != nil {
+		t.Fatal(err)
+	}
+	p.write("log.pem", key)
+	return p
+}
+
+func (p *place) path(name string) string { return filepath.Join(p.folder, name) }
+
+func (p *place) write(name string, content []byte) {
+	p.t.Helper()
+	if err := os.WriteFile(p.path(name), content, 0o600); err != nil {
+		p.t.Fatal(err)
+	}
+}
+
+// words are those that start a log here, at ports of its own.
+func (p *place) words(more ...string) []string {
+	return append([]string{"--listen", "127.0.0.1:0", "--operator-listen", "127.0.0.1:0", "--origin", "log.example/test", "--roots", p.path("roots.pem"),
+		"--signing-key", p.path("log.pem"), "--folder", p.path("log")}, more...)
+}
+
+func (p *place) submission() []byte {
+	p.t.Helper()
+	der, err := p.authority.Issue(false, time.Date(2027, 1, 1, 0, 0, 0, 0, time.UTC))
+	if err != nil {
+		p.t.Fatal(err)
+	}
+	return standin.Submission(der)
+}
+
+func post(address string, body []byte) (int, string) {
+	answer, err := http.Post("http://"+address+"/ct/v1/add-chain", "application/json", bytes.NewReader(body))
+	if err != nil {
+		return 0, err.Error()
+	}
+	defer answer.Body.Close()
+	text, err := io.ReadAll(answer.Body)
+	if err != nil {
+		return 0, err.Error()
+	}
+	return answer.StatusCode, string(text)
+}
+
+func get(address, path string) (int, string) {
+	answer, err := http.Get("http://" + address + path)
+	if err != nil {
+		return 0, err.Error()
+	}
+	defer answer.Body.Close()
+	text, err := io.ReadAll(answer.Body)
+	if err != nil {
+		return 0, err.Error()
+	}
+	return answer.StatusCode, string(text)
+}
+
+// At SIGTERM who waits is answered, idle connections and half requests don't hold it up, and it ends by itself with status 0.
+func TestEndBySIGTERM(t *testing.T) {
+	at := newPlace(t)
+	p := started(t, "1h", at.words()...)
+	type came struct {
+		status int
+		text   string
+	}
+	answers := make(chan came, 5)
+	for i := 0; i < 5; i++ {
+		body := at.submission()
+		go func() {
+			status, text := post(p.clients, body)
+			answers <- came{status, text}
+		}()
+	}
+	idle, err := net.Dial("tcp", p.clients)
+	if err != nil {
+		t.Fatal(err)
+	}
+	defer idle.Close()
+	half, err := net.Dial("tcp", p.clients)
+	if err != nil {
+		t.Fatal(err)
+	}
+	defer half.Close()
+	fmt.Fprint(half, "POST /ct/v1/add-chain HTTP/1.1\r\nHost: log\r\nContent-Le")
+	for until := time.Now().Add(10 * time.Second); ; time.Sleep(10 * time.Millisecond) {
+		if _, text := get(p.operator, "/metrics"); strings.Contains(text, "ctserve_queue 5\n") {
+			break
+		}
+		if time.Now().After(until) {
+			t.Fatal("no five wait")
+		}
+	}
+	began := time.Now()
+	p.signal(syscall.SIGTERM)
+	for i := 0; i < 5; i++ {
+		if answer := <-answers; answer.status != 200 || !strings.Contains(answer.text, `"sct_version":0`) {
+			t.Errorf("who waited: %d %s", answer.status, answer.text)
+		}
+	}
+	if status := p.ends(); status != 0 || time.Since(began) > 5*time.Second {
+		t.Errorf("it ended with status %d after %v", status, time.Since(began))
+	}
+}
+
+// Where who waits can't be answered within the time, it ends all the same, and says so.
+func TestEndWithinItsBound(t *testing.T) {
+	at := newPlace(t)
+	p := started(t, "1h", at.words("--end-within", "300ms")...)
+	slow, err := net.Dial("tcp", p.clients)
+	if err != nil {
+		t.Fatal(err)
+	}
+	defer slow.Close()
+	fmt.Fprint(slow, "POST /ct/v1/add-chain HTTP/1.1\r\nHost: log\r\nContent-Length: 100\r\n\r\n{")
+	for until := time.Now().Add(10 * time.Second); ; time.Sleep(10 * time.Millisecond) {
+		if _, text := get(p.operator, "/metrics"); strings.Contains(text, "ctserve_waiting_bytes 1\n") {
+			break
+		}
+		if time.Now().After(until) {
+			t.Fatal("the body isn't read")
+		}
+	}
+	began := time.Now()
+	p.signal(syscall.SIGTERM)
+	if line := p.until("end"); line["level"] != "error" || !strings.Contains(fmt.Sprint(line["fault"]), "clients") {
+		t.Errorf("it says %v", line)
+	}
+	if status := p.ends(); status != 1 || time.Since(began) > 3*time.Second {
+		t.Errorf("it ended with status %d after %v", status, time.Since(began))
+	}
+}
+
+// A second signal ends it at once.
+func TestSecondSignal(t *testing.T) {
+	at := newPlace(t)
+	p := started(t, "1h", at.words()...)
+	slow, err := net.Dial("tcp", p.clients)
+	if err != nil {
+		t.Fatal(err)
+	}
+	defer slow.Close()
+	fmt.Fprint(slow, "POST /ct/v1/add-chain HTTP/1.1\r\nHost: log\r\nContent-Length: 100\r\n\r\n{")
+	time.Sleep(100 * time.Millisecond)
+	p.signal(syscall.SIGTERM)
+	p.until("ending")
+	time.Sleep(100 * time.Millisecond)
+	p.signal(syscall.SIGTERM)
+	if status := p.ends(); status != -1 {
+		t.Errorf("it ended with status %d, and not by the signal", status)
+	}
+}
+
+func TestReloadBySIGHUP(t *testing.T) {
+	at := newPlace(t)
+	p := started(t, "20ms", at.words()...)
+	other, err := standin.NewAuthority("Another root")
+	if err != nil {
+		t.Fatal(err)
+	}
+	der, err := other.Issue(false, time.Date(2027, 1, 1, 0, 0, 0, 0, time.UTC))
+	if err != nil {
+		t.Fatal(err)
+	}
+	if status, text := post(p.clients, standin.Submission(der)); status != 400 || !strings.Contains(text, "unknown-root") {
+		t.Errorf("before: %d %s", status, text)
+	}
+	at.write("roots.pem", append(at.authority.PEM(), other.PEM()...))
+	p.signal(syscall.SIGHUP)
+	if line := p.until("reload"); line["level"] != "info" || line["of"] != "roots" {
+		t.Errorf("it says %v", line)
+	}
+	if status, text := post(p.clients, standin.Submission(der)); status != 200 {
+		t.Errorf("after: %d %s", status, text)
+	}
+	at.write("roots.pem", []byte("none"))
+	p.signal(syscall.SIGHUP)
+	if line := p.until("reload"); line["level"] != "error" {
+		t.Errorf("it says %v", line)
+	}
+	if status, text := post(p.clients, standin.Submission(der)); status != 200 {
+		t.Errorf("with a file of no roots: %d %s", status, text)
+	}
+	if _, text := get(p.operator, "/metrics"); !strings.Contains(text, `ctserve_reloads_total{of="roots",outcome="failed"} 1`+"\n") {
+		t.Error("the reload that failed isn't counted")
+	}
+	p.signal(syscall.SIGINT)
+	if status := p.ends(); status != 0 {
+		t.Errorf("it ended with status %d", status)
+	}
+}
+
+func TestServesTLSAndAWindow(t *testing.T) {
+	at := newPlace(t)
+	certificate, key, err := at.authority.KeyPair()
+	if err != nil {
+		t.Fatal(err)
+	}
+	at.write("tls.pem", certificate)
+	at.write("tls.key", key)
+	p := started(t, "20ms", at.words("--tls-certificate", at.path("tls.pem"), "--tls-key", at.path("tls.key"), "--not-after-to", "2027-01-01")...)
+	roots := x509.NewCertPool()
+	roots.AddCert(at.authority.Root)
+	config := &tls.Config{RootCAs: roots, ServerName: "host-3.example"}
+	client := &http.Client{Transport: &http.Transport{TLSClientConfig: config}}
+	answer, err := client.Post("https://"+p.clients+"/ct/v1/add-chain", "application/json", bytes.NewReader(at.submission()))
+	if err != nil {
+		t.Fatal(err)
+	}
+	text, _ := io.ReadAll(answer.Body)
+	if answer.StatusCode != 400 || !strings.Contains(string(text), "outside-window") {
+		t.Errorf("a certificate that ends at the window's end: %d %s", answer.StatusCode, text)
+	}
+	if status, _ := get(p.clients, "/"); status != 400 {
+		t.Errorf("in the clear: %d", status)
+	}
+}
+
+// What the words and the file of settings have to be.
+func TestSettings(t *testing.T) {
+	at := newPlace(t)
+	at.write("secret", []byte("sixteen bytes or more\n"))
+	files := 0
+	file := func(text string) []string {
+		files++
+		name := fmt.Sprintf("conf%d", files)
+		at.write(name, []byte(text))
+		return []string{"--config", at.path(name)}
+	}
+	needed := "roots a\norigin b\nsigning-key c\n"
+	for _, test := range []struct {
+		words []string
+		why   string
+	}{
+		{nil, "--roots is needed"},
+		{[]string{"--roots", "a", "--origin", "b"}, "--signing-key is needed"},
+		{[]string{"--nothing"}, "not defined"},
+		{[]string{"word"}, `"word" isn't expected`},
+		{[]string{"--config", at.path("missing")}, "no such file"},
+		{file("nothing 7"), `line 1: there is no setting "nothing"`},
+		{file("config x"), `line 1: there is no setting "config"`},
+		{file("# x\n\norigin a\norigin b"), "line 4: origin stands in line 3 already"},
+		{file("idle-within soon"), "line 1: idle-within"},
+		{file(needed + "tls-key x"), "go together"},
+		{file(needed + "idle-within 0s"), "above 0"},
+		{file(needed + "most-connections 0"), "above 0"},
+		{file(needed + "most-waiting-bytes 1000"), "1048576"},
+		{file(needed + "not-after-from 2027-01-01\nnot-after-to 2027-01-01"), "isn't before"},
+		{file(needed + "not-after-from soon"), "not-after-from"},
+		{file(needed + "proxies 1.2.3"), "proxies"},
+		{file(needed + "nodes-listen 127.0.0.1:1"), "go together"},
+		{file(needed + "nodes-listen 127.0.0.1:1\nnodes-address http://x/\nnodes-secret " + at.path("none")), "no such file"},
+	} {
+		if _, err := parse(test.words, io.Discard); !errors.Is(err, errUsage) || !strings.Contains(err.Error(), test.why) {
+			t.Errorf("%q: %v, and not %s", test.words, err, test.why)
+		}
+	}
+	s, err := parse(append(file(needed+"# a comment\n  idle-within   5s # behind\nproxies 127.0.0.1, 10.1.2.3/8\nnot-after-from 2027-01-01\ncreate true\n"+
+		"nodes-listen 127.0.0.1:1\nnodes-address http://x/\nnodes-secret "+at.path("secret")), "--origin", "z", "--step", "a b"), io.Discard)
+	if err != nil {
+		t.Fatal(err)
+	}
+	if s.node.origin != "z" || s.limits.Idle != 5*time.Second || fmt.Sprint(s.proxies) != "[127.0.0.1/32 10.0.0.0/8]" || !s.node.create ||
+		s.window.From.Year() != 2027 || s.node.secret != "sixteen bytes or more" || strings.Join(s.node.step, " ") != "a b --origin z" ||
+		s.node.store != "folder:ct-log/objects" || s.node.register != "file:ct-log/register" || s.node.places != "sqlite:ct-log/places" {
+		t.Errorf("%+v", s)
+	}
+	for _, test := range []struct {
+		words  []string
+		status int
+	}{{[]string{"--help"}, 0}, {[]string{"--nothing"}, 2}, {at.words("--roots", at.path("none")), 1}, {at.words("--listen", "127.0.0.1:x"), 1}, {at.words("--tls-certificate", "none", "--tls-key", "none"), 1}} {
+		open := func(context.Context, node) (*opened, error) {
+			of, err := standin.New(0)
+			return &opened{log: of, close: func() {}}, err
+		}
+		if status := run(test.words, io.Discard, open); status != test.status {
+			t.Errorf("%q: status %d, not %d", test.words, status, test.status)
+		}
+	}
+}
+
+// Over the real log, on a folder: a start makes no log unasked; what was answered is there after a kill, and a repeat has its
+// place; and all that is read fits together. The step's program is the plain one of examples/tiles.
+func TestRealLog(t *testing.T) {
+	python, err := exec.LookPath("python3")
+	if err != nil {
+		t.Skip("for want of python3")
+	}
+	// The tests' folder is found by a link.
+	here, err := filepath.EvalSymlinks(os.Getenv("PWD"))
+	if err != nil {
+		t.Fatal(err)
+	}
+	steps := filepath.Join(here, "../../examples/tiles/step.py")
+	at := newPlace(t)
+	words := at.words("--step", python+" "+steps, "--interval", "50ms")
+	if status := run(words, io.Discard, openNode); status != 1 {
+		t.Errorf("a log is made unasked: status %d", status)
+	}
+	p := started(t, "", append(words, "--create")...)
+	first := at.submission()
+	status, answer := post(p.clients, first)
+	if status != 200 {
+		t.Fatalf("%d %s", status, answer)
+	}
+	answers := make(chan int, 20)
+	for i := 0; i < 20; i++ {
+		body := at.submission()
+		go func() {
+			status, _ := post(p.clients, body)
+			answers <- status
+		}()
+	}
+	for i := 0; i < 20; i++ {
+		if status := <-answers; status != 200 {
+			t.Errorf("one of twenty: %d", status)
+		}
+	}
+	p.signal(syscall.SIGKILL)
+	p.ends()
+	p = started(t, "", words...)
+	if status, text := get(p.clients, "/readyz"); status != 200 {
+		t.Errorf("/readyz: %d %s", status, text)
+	}
+	place := func(text string) string {
+		var told struct {
+			Timestamp  uint64 `json:"timestamp"`
+			Extensions []byte `json:"extensions"`
+		}
+		if err := json.Unmarshal([]byte(text), &told); err != nil {
+			t.Fatalf("%s: %v", text, err)
+		}
+		return fmt.Sprint(told)
+	}
+	if status, text := post(p.clients, first); status != 200 || place(text) != place(answer) {
+		t.Errorf("again: %d %s, first %s", status, text, answer)
+	}
+	_, checkpoint := get(p.clients, "/checkpoint")
+	if !strings.HasPrefix(checkpoint, "log.example/test\n21\n") {
+		t.Errorf("/checkpoint: %q", checkpoint)
+	}
+	var head struct {
+		Size uint64 `json:"tree_size"`
+		Root []byte `json:"sha256_root_hash"`
+	}
+	if _, text := get(p.clients, "/ct/v1/get-sth"); json.Unmarshal([]byte(text), &head) != nil || head.Size != 21 {
+		t.Errorf("get-sth: %s", text)
+	}
+	var listed struct {
+		Entries []struct {
+			LeafInput []byte `json:"leaf_input"`
+		} `json:"entries"`
+	}
+	if _, text := get(p.clients, "/ct/v1/get-entries?start=0&end=100"); json.Unmarshal([]byte(text), &listed) != nil || len(listed.Entries) != 21 {
+		t.Fatalf("get-entries: %s", text)
+	}
+	var hashes [][32]byte
+	for _, entry := range listed.Entries {
+		hashes = append(hashes, standin.LeafHash(entry.LeafInput))
+	}
+	if root := standin.MerkleTreeHash(hashes); !bytes.Equal(root[:], head.Root) {
+		t.Error("the entries haven't the head's root")
+	}
+	if _, tile := get(p.clients, "/tile/0/000.p/21"); len(tile) != 21*32 || !strings.HasPrefix(tile, string(hashes[0][:])) {
+		t.Errorf("the tile has %d bytes", len(tile))
+	}
+	p.signal(syscall.SIGTERM)
+	if status := p.ends(); status != 0 {
+		t.Errorf("it ended with status %d", status)
+	}
+}

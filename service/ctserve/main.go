@@ -1,0 +1,184 @@
+// Command ctserve serves a Certificate Transparency log over HTTP: RFC 6962's calls, and C2SP static-ct-api.
+//
+// SIGHUP has it read the roots and the certificate of TLS anew. SIGTERM and SIGINT end it: it takes no more, publishes, answers
+// who waits, and ends with status 0; where that isn't done within its time, with 1. A second one ends it at once.
+package main
+
+import (
+	"context"
+	"crypto/tls"
+	"encoding/hex"
+	"errors"
+	"flag"
+	"fmt"
+	"io"
+	"net"
+	"net/http"
+	"os"
+	"os/signal"
+	"syscall"
+
+	"wagtenib/service/chains"
+	"wagtenib/service/log"
+	"wagtenib/service/web"
+)
+
+// opened is a log that was opened, the handler of what other nodes ask it, and what closes what it stands on.
+type opened struct {
+	log   log.Log
+	nodes http.Handler
+	close func()
+}
+
+type opener func(context.Context, node) (*opened, error)
+
+func main() { os.Exit(run(os.Args[1:], os.Stderr, openNode)) }
+
+// run serves until a signal ends it, and gives the status: 0 at an end in order, 1 at another, 2 where the words aren't ones.
+func run(words []string, to io.Writer, open opener) int {
+	s, err := parse(words, to)
+	if errors.Is(err, flag.ErrHelp) {
+		return 0
+	}
+	if err != nil {
+		fmt.Fprintln(to, err)
+		return 2
+	}
+	signals := make(chan os.Signal, 4)
+	signal.Notify(signals, syscall.SIGHUP, syscall.SIGTERM, syscall.SIGINT)
+	lines := web.NewLines(to)
+	if err := serve(s, lines, signals, open); err != nil {
+		lines.Error("end", "fault", err)
+		return 1
+	}
+	lines.Info("end")
+	return 0
+}
+
+// served is one listener with its server.
+type served struct {
+	of       string
+	address  string
+	over     *tls.Config
+	handler  http.Handler
+	listener net.Listener
+	server   *web.Server
+}
+
+func serve(s *settings, lines *web.Lines, signals <-chan os.Signal, open opener) (err error) {
+	roots, err := chains.LoadRoots(s.roots)
+	if err != nil {
+		return err
+	}
+	var certificate *web.Certificate
+	var over *tls.Config
+	if s.certificate != "" {
+		if certificate, err = web.LoadCertificate(s.certificate, s.key); err != nil {
+			return err
+		}
+		over = certificate.Config()
+	}
+	opening, cancel := context.WithTimeout(context.Background(), s.node.openWithin)
+	of, err := open(opening, s.node)
+	cancel()
+	if err != nil {
+		return err
+	}
+	defer of.close()
+	checker := chains.NewChecker(roots, s.window)
+	front := web.New(of.log, checker, web.Options{Limits: s.limits, Proxies: s.proxies, Lines: lines, LogRequests: s.logRequests})
+
+	servers := []*served{{of: "clients", address: s.listen, over: over, handler: front}}
+	if s.listenNodes != "" {
+		servers = append(servers, &served{of: "nodes", address: s.listenNodes, handler: of.nodes})
+	}
+	if s.operator != "" {
+		servers = append(servers, &served{of: "operator", address: s.operator, handler: front.Operator()})
+	}
+	failed := make(chan error, len(servers))
+	for _, each := range servers {
+		if each.listener, err = net.Listen("tcp", each.address); err != nil {
+			break
+		}
+		lines.Info("listening", "for", each.of, "address", each.listener.Addr(), "tls", each.over != nil)
+	}
+	for _, each := range servers {
+		if err != nil {
+			if each.listener != nil {
+				each.listener.Close()
+			}
+			continue
+		}
+		each := each
+		if each.server = front.Serve(each.handler); each.of != "clients" {
+			each.server = front.ServeOthers(each.handler)
+		}
+		go func() { failed <- each.server.Listen(each.listener, each.over) }()
+	}
+	if err == nil {
+		tellHead(s, of.log, lines)
+		err = wait(s, front, checker, certificate, lines, signals, failed)
+	}
+	// From here on another signal ends the process.
+	signal.Reset(syscall.SIGTERM, syscall.SIGINT)
+	return ended(s, front, of.log, servers, err)
+}
+
+// tellHead tells what is served, from where it goes on.
+func tellHead(s *settings, of log.Log, lines *web.Lines) {
+	ctx, cancel := context.WithTimeout(context.Background(), s.limits.Reading)
+	defer cancel()
+	head, err := of.Checkpoint(ctx)
+	if err != nil {
+		lines.Warn("serving", "origin", s.node.origin, "fault", err)
+		return
+	}
+	lines.Info("serving", "origin", s.node.origin, "entries", head.TreeSize, "root_hash", hex.EncodeToString(head.RootHash[:]))
+}
+
+// wait reloads at SIGHUP, and returns at a signal that ends, or where a server fails.
+func wait(s *settings, front *web.Front, checker *chains.Checker, certificate *web.Certificate, lines *web.Lines, signals <-chan os.Signal, failed <-chan error) error {
+	for {
+		select {
+		case err := <-failed:
+			return err
+		case came := <-signals:
+			if came != syscall.SIGHUP {
+				lines.Info("ending", "signal", came)
+				return nil
+			}
+			reloaded := func(of string, err error) {
+				front.Reloaded(of, err)
+				if err != nil {
+					lines.Error("reload", "of", of, "fault", err)
+					return
+				}
+				lines.Info("reload", "of", of)
+			}
+			reloaded("roots", checker.Reload(s.roots))
+			if certificate != nil {
+				reloaded("certificate", certificate.Reload())
+			}
+		}
+	}
+}
+
+// ended takes no more, has the log publish and answer who waits, and then ends the servers, within the time for it. Reading goes
+// on until the log has ended.
+func ended(s *settings, front *web.Front, of log.Log, servers []*served, why error) error {
+	ctx, cancel := context.WithTimeout(context.Background(), s.endWithin)
+	defer cancel()
+	front.Refuse()
+	if err := of.End(ctx); why == nil {
+		why = err
+	}
+	for _, each := range servers {
+		if each.server == nil {
+			continue
+		}
+		if err := each.server.End(ctx); why == nil && err != nil {
+			why = fmt.Errorf("who waits at the listener for %s isn't answered: %w", each.of, err)
+		}
+	}
+	return why
+}

@@ -1,0 +1,149 @@
+package main
+
+import (
+	"bytes"
+	"fmt"
+	"io"
+	"net"
+	"net/http"
+	"os"
+	"os/exec"
+	"path/filepath"
+	"strings"
+	"syscall"
+	"testing"
+	"time"
+)
+
+// nginxBefore starts nginx by the file for operators, at a port of loopback without TLS, and gives its address.
+func nginxBefore(t *testing.T, clients string) string {
+	t.Helper()
+	nginx, err := exec.LookPath("nginx")
+	if err != nil {
+		if nginx = "/usr/sbin/nginx"; !isThere(nginx) {
+			t.Skip("nginx isn't installed")
+		}
+	}
+	listener, err := net.Listen("tcp", "127.0.0.1:0")
+	if err != nil {
+		t.Fatal(err)
+	}
+	address := listener.Addr().String()
+	listener.Close()
+	text, err := os.ReadFile("../nginx.conf")
+	if err != nil {
+		t.Fatal(err)
+	}
+	folder := t.TempDir()
+	site := string(text)
+	for _, change := range [][2]string{
+		{"listen 443 ssl http2;", "listen " + address + ";"}, {"ssl_certificate /etc/ssl/log.example.pem;", ""}, {"ssl_certificate_key /etc/ssl/log.example.key;", ""},
+		{"server 127.0.0.1:8618;", "server " + clients + ";"}, {"/var/cache/nginx/ctserve", folder + "/cache"},
+	} {
+		if strings.Count(site, change[0]) != 1 {
+			t.Fatalf("nginx.conf has %q %d times", change[0], strings.Count(site, change[0]))
+		}
+		site = strings.Replace(site, change[0], change[1], 1)
+	}
+	paths := ""
+	for _, kind := range []string{"client_body", "proxy", "fastcgi", "uwsgi", "scgi"} {
+		paths += fmt.Sprintf("%s_temp_path %s/%s;\n", kind, folder, kind)
+	}
+	whole := fmt.Sprintf("daemon off; pid %s/pid; error_log stderr; events {}\nhttp { access_log off;\n%s%s}\n", folder, paths, site)
+	conf := filepath.Join(folder, "nginx.conf")
+	if err := os.WriteFile(conf, []byte(whole), 0o600); err != nil {
+		t.Fatal(err)
+	}
+	if os.Getuid() == 0 {
+		// Its workers are of another user.
+		if err := os.Chmod(filepath.Dir(folder), 0o711); err != nil {
+			t.Fatal(err)
+		}
+	}
+	var said bytes.Buffer
+	command := exec.Command(nginx, "-p", folder, "-c", conf)
+	command.Stderr = &said
+	if err := command.Start(); err != nil {
+		t.Fatal(err)
+	}
+	t.Cleanup(func() {
+		command.Process.Signal(syscall.SIGTERM)
+		command.Wait()
+	})
+	for until := time.Now().Add(10 * time.Second); ; time.Sleep(20 * time.Millisecond) {
+		if status, _ := get(address, "/healthz"); status == 200 {
+			return address
+		}
+		if time.Now().After(until) {
+			t.Fatalf("nginx doesn't answer: %s", said.String())
+		}
+	}
+}
+
+func isThere(path string) bool {
+	_, err := os.Stat(path)
+	return err == nil
+}
+
+// Behind nginx: submissions and reading go through, tiles are kept by nginx and refusals aren't, and a client is counted by its
+// own address.
+func TestBehindNginx(t *testing.T) {
+	at := newPlace(t)
+	p := started(t, "20ms", at.words("--proxies", "127.0.0.1", "--most-connections-by-address", "1", "--log-requests")...)
+	address := nginxBefore(t, p.clients)
+	if status, text := post(address, at.submission()); status != 200 {
+		t.Fatalf("%d %s", status, text)
+	}
+	// A body in chunks comes as one with a length.
+	request, _ := http.NewRequest("POST", "http://"+address+"/ct/v1/add-chain", io.MultiReader(bytes.NewReader(at.submission())))
+	if answer, err := http.DefaultClient.Do(request); err != nil || answer.StatusCode != 200 {
+		t.Errorf("in chunks: %v, %v", answer, err)
+	} else {
+		answer.Body.Close()
+	}
+	if status, text := post(address, make([]byte, 2<<20)); status != 413 {
+		t.Errorf("a large body: %d %s", status, text)
+	}
+	if status, text := post(address, []byte(`{"chain":["AAAA"]}`)); status != 400 || !strings.Contains(text, "no-certificate") {
+		t.Errorf("a bad chain: %d %s", status, text)
+	}
+	tiles := func() int {
+		_, text := get(p.operator, "/metrics")
+		count := 0
+		for _, line := range strings.Split(text, "\n") {
+			fmt.Sscanf(line, `ctserve_requests_total{call="tile",status="200"} %d`, &count)
+		}
+		return count
+	}
+	for i := 0; i < 3; i++ {
+		if status, _ := get(address, "/tile/data/000.p/2"); status != 200 {
+			t.Errorf("a tile: %d", status)
+		}
+		if status, _ := get(address, "/tile/data/009"); status != 404 {
+			t.Errorf("no tile: %d", status)
+		}
+	}
+	if count := tiles(); count != 1 {
+		t.Errorf("the log was asked for the tile %d times", count)
+	}
+	if _, text := get(p.operator, "/metrics"); !strings.Contains(text, `ctserve_requests_total{call="tile",status="404"} 3`+"\n") {
+		t.Error("a tile that isn't there is kept as one")
+	}
+	// What a client says of its address isn't believed: nginx says 127.0.0.1, whatever stands there.
+	request, _ = http.NewRequest("GET", "http://"+address+"/ct/v1/get-roots", nil)
+	request.Header.Set("X-Forwarded-For", "203.0.113.7")
+	answer, err := http.DefaultClient.Do(request)
+	if err != nil {
+		t.Fatal(err)
+	}
+	answer.Body.Close()
+	for {
+		line := p.until("request")
+		if line["call"] == "get-roots" {
+			if line["address"] != "127.0.0.1" {
+				t.Errorf("the client is taken for %v", line["address"])
+			}
+			break
+		}
+	}
+}

@@ -1,0 +1,60 @@
+package main
+
+import (
+	"context"
+	"fmt"
+	"os"
+
+	"wagtenib/service/sequencer"
+	"wagtenib/service/signer"
+	"wagtenib/service/step"
+	"wagtenib/service/stores"
+)
+
+// openNode opens what a log stands on, and begins to carry it.
+func openNode(ctx context.Context, n node) (of *opened, err error) {
+	var closers []func() error
+	closeAll := func() {
+		for i := len(closers) - 1; i >= 0; i-- {
+			closers[i]()
+		}
+	}
+	defer func() {
+		if err != nil {
+			closeAll()
+		}
+	}()
+	config := sequencer.Config{
+		Origin: n.origin, Create: n.create, Interval: n.interval, Refresh: n.refresh, MostQueue: n.mostQueue, MostBatch: n.mostBatch,
+		BehindSwap: n.behindSwap, Address: n.address, Secret: n.secret,
+	}
+	if config.Signer, err = signer.Open(n.signingKey); err != nil {
+		return nil, err
+	}
+	if n.makesFolder {
+		if err := os.MkdirAll(n.folder, 0o755); err != nil {
+			return nil, fmt.Errorf("ctserve: %w", err)
+		}
+	}
+	if config.Objects, err = stores.ObjectsAt(ctx, n.store); err != nil {
+		return nil, err
+	}
+	closers = append(closers, config.Objects.Close)
+	if config.Register, err = stores.RegisterAt(ctx, n.register); err != nil {
+		return nil, err
+	}
+	closers = append(closers, config.Register.Close)
+	if config.Places, err = stores.PlacesAt(ctx, n.places); err != nil {
+		return nil, err
+	}
+	closers = append(closers, config.Places.Close)
+	if config.Step, err = step.NewClient(n.step, n.stepWithin); err != nil {
+		return nil, err
+	}
+	closers = append(closers, config.Step.Close)
+	s, err := sequencer.New(ctx, config)
+	if err != nil {
+		return nil, err
+	}
+	return &opened{log: s, nodes: s.Handler(), close: closeAll}, nil
+}

@@ -1,0 +1,225 @@
+package main
+
+import (
+	"bufio"
+	"errors"
+	"flag"
+	"fmt"
+	"io"
+	"net/netip"
+	"os"
+	"path/filepath"
+	"strings"
+	"time"
+
+	"wagtenib/service/chains"
+	"wagtenib/service/web"
+)
+
+// settings are what the command line and the file of settings say.
+type settings struct {
+	listen, operator           string
+	certificate, key           string
+	proxies                    []netip.Prefix
+	roots                      string
+	window                     chains.Window
+	limits                     web.Limits
+	endWithin                  time.Duration
+	logRequests                bool
+	node                       node
+	listenNodes, nodesSecretAt string
+}
+
+// node is what the log stands on.
+type node struct {
+	origin, signingKey                        string
+	folder, store, register, places           string
+	step                                      []string
+	stepWithin, interval, refresh, openWithin time.Duration
+	mostQueue, mostBatch                      int
+	behindSwap, create, makesFolder           bool
+	address, secret                           string
+}
+
+// errUsage: the command line or the file of settings isn't one.
+var errUsage = errors.New("ctserve")
+
+// parse reads the command line, and the file that it names. What stands on the command line counts.
+func parse(words []string, help io.Writer) (*settings, error) {
+	s := &settings{limits: web.DefaultLimits()}
+	flags := flag.NewFlagSet("ctserve", flag.ContinueOnError)
+	flags.SetOutput(help)
+	flags.Usage = func() {
+		fmt.Fprint(help, "ctserve serves a Certificate Transparency log over HTTP. Each word may also stand as a line 'name value' in the file of --config.\n\n")
+		flags.PrintDefaults()
+	}
+	config := flags.String("config", "", "`file` with a line 'name value' for each of these, and comments behind #")
+	flags.StringVar(&s.listen, "listen", "127.0.0.1:8618", "`address` for clients")
+	flags.StringVar(&s.operator, "operator-listen", "127.0.0.1:8619", "`address` for /metrics, /healthz and /readyz; none where it is empty")
+	flags.StringVar(&s.certificate, "tls-certificate", "", "`file` with the certificate chain of TLS in PEM, read again at SIGHUP; without it clients are answered in the clear")
+	flags.StringVar(&s.key, "tls-key", "", "`file` with its key in PEM")
+	flags.Func("proxies", "`prefixes` with commas between them, of proxies whose X-Forwarded-For is believed", func(text string) (err error) {
+		s.proxies, err = prefixes(text)
+		return err
+	})
+	flags.StringVar(&s.roots, "roots", "", "`file` with the log's roots in PEM, read again at SIGHUP")
+	flags.Func("not-after-from", "certificates that end before this `moment` are refused (2026-07-01 or 2026-07-01T00:00:00Z)", moment(&s.window.From))
+	flags.Func("not-after-to", "certificates that end at this `moment` or later are refused", moment(&s.window.To))
+	flags.DurationVar(&s.endWithin, "end-within", 30*time.Second, "how long an end by SIGTERM may take, until who waits isn't answered")
+	flags.BoolVar(&s.logRequests, "log-requests", false, "tell each request, and not only those that fail at the log's side")
+
+	flags.IntVar(&s.limits.Connections, "most-connections", s.limits.Connections, "connections at once")
+	flags.IntVar(&s.limits.ConnectionsByAddress, "most-connections-by-address", s.limits.ConnectionsByAddress, "connections at once of one address, or one /64; of a client behind a proxy requests at once")
+	flags.IntVar(&s.limits.Checks, "most-checks", s.limits.Checks, "chains that are checked at once")
+	flags.Int64Var(&s.limits.WaitingBytes, "most-waiting-bytes", s.limits.WaitingBytes, "bytes of all submissions that are read or wait")
+	flags.DurationVar(&s.limits.Headers, "headers-within", s.limits.Headers, "how long the headers of a request may take")
+	flags.DurationVar(&s.limits.Request, "request-within", s.limits.Request, "how long a request with its body may take")
+	flags.DurationVar(&s.limits.Submission, "submission-within", s.limits.Submission, "how long a submission waits")
+	flags.DurationVar(&s.limits.Answer, "answer-within", s.limits.Answer, "how long an answer may take to be sent")
+	flags.DurationVar(&s.limits.Idle, "idle-within", s.limits.Idle, "how long a connection is kept between requests")
+
+	n := &s.node
+	flags.StringVar(&n.origin, "origin", "", "the log's `name` in checkpoints, as log.example/2027h1")
+	flags.StringVar(&n.signingKey, "signing-key", "", "`file` with the log's key in PEM, of P-256, that none but its owner may read")
+	flags.StringVar(&n.folder, "folder", "ct-log", "`folder` of the objects, the register and the places, where no other address is given")
+	flags.StringVar(&n.store, "store", "", "`address` of the objects: folder:PATH, s3://HOST/BUCKET")
+	flags.StringVar(&n.register, "register", "", "`address` of the register: file:PATH, etcd://HOST:PORT/PREFIX, postgres://HOST/DATABASE?log=NAME")
+	flags.StringVar(&n.places, "places", "", "`address` of the places of identities: sqlite:PATH, etcd://HOST:PORT/PREFIX, postgres://HOST/DATABASE?log=NAME")
+	flags.Func("step", "the `command` of the program that makes the steps, with its words (default \"cttile\"); it is given --origin", func(text string) error {
+		n.step = strings.Fields(text)
+		return nil
+	})
+	flags.DurationVar(&n.stepWithin, "step-within", 30*time.Second, "how long a step may take, until its program is killed")
+	flags.DurationVar(&n.interval, "interval", 500*time.Millisecond, "how far two heads are apart at least")
+	flags.DurationVar(&n.refresh, "refresh", time.Hour, "how old a head gets before one without new entries is made")
+	flags.DurationVar(&n.openWithin, "open-within", 30*time.Second, "how long the stores may take to open")
+	flags.IntVar(&n.mostQueue, "most-queue", 4096, "submissions that wait")
+	flags.IntVar(&n.mostBatch, "most-batch", 1024, "entries of one step")
+	flags.BoolVar(&n.behindSwap, "answer-behind-swap", false, "answer once an entry is decided, and not once its head is published: a merge is owed until then")
+	flags.BoolVar(&n.create, "create", false, "make a log where there is none; without it, an empty register ends the start")
+	flags.StringVar(&s.listenNodes, "nodes-listen", "", "`address` for the other nodes of the log; none where it is empty")
+	flags.StringVar(&n.address, "nodes-address", "", "`URL` by which other nodes find this one")
+	flags.StringVar(&s.nodesSecretAt, "nodes-secret", "", "`file` with what the nodes show each other, 16 bytes or more")
+
+	if err := flags.Parse(words); err != nil {
+		if errors.Is(err, flag.ErrHelp) {
+			return nil, err
+		}
+		return nil, fmt.Errorf("%w: %v", errUsage, err)
+	}
+	if flags.NArg() > 0 {
+		return nil, fmt.Errorf("%w: %q isn't expected", errUsage, flags.Arg(0))
+	}
+	if *config != "" {
+		if err := readSettings(flags, *config); err != nil {
+			return nil, fmt.Errorf("%w: %v", errUsage, err)
+		}
+	}
+	if err := s.settle(); err != nil {
+		return nil, fmt.Errorf("%w: %v", errUsage, err)
+	}
+	return s, nil
+}
+
+// readSettings sets from a file what the command line doesn't.
+func readSettings(flags *flag.FlagSet, path string) error {
+	file, err := os.Open(path)
+	if err != nil {
+		return err
+	}
+	defer file.Close()
+	given := map[string]bool{"config": true}
+	flags.Visit(func(f *flag.Flag) { given[f.Name] = true })
+	lines, seen := bufio.NewScanner(file), map[string]int{}
+	for number := 1; lines.Scan(); number++ {
+		line, _, _ := strings.Cut(lines.Text(), "#")
+		name, value, _ := strings.Cut(strings.TrimSpace(line), " ")
+		value = strings.TrimSpace(value)
+		switch {
+		case name == "":
+			continue
+		case flags.Lookup(name) == nil || name == "config":
+			return fmt.Errorf("%s, line %d: there is no setting %q", path, number, name)
+		case seen[name] > 0:
+			return fmt.Errorf("%s, line %d: %s stands in line %d already", path, number, name, seen[name])
+		}
+		seen[name] = number
+		if given[name] {
+			continue
+		}
+		if err := flags.Set(name, value); err != nil {
+			return fmt.Errorf("%s, line %d: %s: %v", path, number, name, err)
+		}
+	}
+	return lines.Err()
+}
+
+// settle looks at what has to go together, and fills in what follows from the rest.
+func (s *settings) settle() error {
+	n, l := &s.node, s.limits
+	for _, needed := range []struct{ name, value string }{{"roots", s.roots}, {"origin", n.origin}, {"signing-key", n.signingKey}} {
+		if needed.value == "" {
+			return fmt.Errorf("--%s is needed", needed.name)
+		}
+	}
+	if (s.certificate == "") != (s.key == "") {
+		return errors.New("--tls-certificate and --tls-key go together")
+	}
+	if !s.window.From.IsZero() && !s.window.To.IsZero() && !s.window.From.Before(s.window.To) {
+		return errors.New("--not-after-from isn't before --not-after-to")
+	}
+	for _, time := range []time.Duration{s.endWithin, l.Headers, l.Request, l.Submission, l.Answer, l.Idle, n.stepWithin, n.interval, n.refresh, n.openWithin} {
+		if time <= 0 {
+			return errors.New("a time is above 0")
+		}
+	}
+	if l.Connections < 1 || l.ConnectionsByAddress < 1 || l.Checks < 1 || l.WaitingBytes < web.MostBody || n.mostQueue < 1 || n.mostBatch < 1 {
+		return fmt.Errorf("a bound is above 0, and --most-waiting-bytes at least %d", web.MostBody)
+	}
+	if len(n.step) == 0 {
+		n.step = []string{"cttile"}
+	}
+	n.step = append(n.step, "--origin", n.origin)
+	for _, address := range []struct {
+		of   *string
+		text string
+	}{{&n.store, "folder:" + filepath.Join(n.folder, "objects")}, {&n.register, "file:" + filepath.Join(n.folder, "register")}, {&n.places, "sqlite:" + filepath.Join(n.folder, "places")}} {
+		if *address.of == "" {
+			*address.of, n.makesFolder = address.text, true
+		}
+	}
+	if (s.listenNodes == "") != (n.address == "") || (n.address == "") != (s.nodesSecretAt == "") {
+		return errors.New("--nodes-listen, --nodes-address and --nodes-secret go together")
+	}
+	if s.nodesSecretAt != "" {
+		secret, err := os.ReadFile(s.nodesSecretAt)
+		if err != nil {
+			return err
+		}
+		n.secret = strings.TrimSpace(string(secret))
+	}
+	return nil
+}
+
+func prefixes(text string) (found []netip.Prefix, err error) {
+	for _, part := range strings.Split(text, ",") {
+		prefix, err := netip.ParsePrefix(strings.TrimSpace(part))
+		if address, fault := netip.ParseAddr(strings.TrimSpace(part)); fault == nil {
+			prefix, err = address.Prefix(address.BitLen())
+		}
+		if err != nil {
+			return nil, err
+		}
+		found = append(found, prefix.Masked())
+	}
+	return found, nil
+}
+
+func moment(into *time.Time) func(string) error {
+	return func(text string) (err error) {
+		if *into, err = time.Parse("2006-01-02", text); err != nil {
+			*into, err = time.Parse(time.RFC3339, text)
+		}
+		return err
+	}
+}

@@ -1,0 +1,154 @@
+package web
+
+import (
+	"net"
+	"net/netip"
+	"sync"
+	"sync/atomic"
+)
+
+// budget counts bytes up to a bound.
+type budget struct {
+	most int64
+	used atomic.Int64
+}
+
+func (b *budget) take(bytes int64) bool {
+	if b.used.Add(bytes) > b.most {
+		b.used.Add(-bytes)
+		return false
+	}
+	return true
+}
+
+func (b *budget) give(bytes int64) { b.used.Add(-bytes) }
+
+// counts counts by address, up to a bound for each. An address of IPv6 counts with its /64, which one customer has.
+type counts struct {
+	most  int
+	mutex sync.Mutex
+	of    map[netip.Addr]int
+}
+
+func (c *counts) take(address netip.Addr) bool {
+	address = groupOf(address)
+	c.mutex.Lock()
+	defer c.mutex.Unlock()
+	if c.of[address] >= c.most {
+		return false
+	}
+	if c.of == nil {
+		c.of = map[netip.Addr]int{}
+	}
+	c.of[address]++
+	return true
+}
+
+func (c *counts) give(address netip.Addr) {
+	address = groupOf(address)
+	c.mutex.Lock()
+	defer c.mutex.Unlock()
+	if c.of[address]--; c.of[address] <= 0 {
+		delete(c.of, address)
+	}
+}
+
+func groupOf(address netip.Addr) netip.Addr {
+	if !address.Is6() {
+		return address
+	}
+	prefix, err := address.Prefix(64)
+	if err != nil {
+		return address
+	}
+	return prefix.Addr()
+}
+
+// addressOf reads an address and port. What isn't one is the zero address.
+func addressOf(text string) netip.Addr {
+	pair, err := netip.ParseAddrPort(text)
+	if err != nil {
+		return netip.Addr{}
+	}
+	return pair.Addr().Unmap().WithZone("")
+}
+
+// connections counts those that are open.
+type connections struct {
+	open      atomic.Int64
+	byAddress counts
+}
+
+// bounded is a listener that closes what comes above the bounds of a front. Those of a proxy count altogether alone.
+type bounded struct {
+	net.Listener
+	front *Front
+}
+
+func (l bounded) Accept() (net.Conn, error) {
+	for {
+		connection, err := l.Listener.Accept()
+		if err != nil {
+			return nil, err
+		}
+		if taken := l.front.takeConnection(connection); taken != nil {
+			return taken, nil
+		}
+		connection.Close()
+	}
+}
+
+func (f *Front) takeConnection(connection net.Conn) net.Conn {
+	if f.connections.open.Add(1) > int64(f.limits.Connections) {
+		f.connections.open.Add(-1)
+		f.metrics.refused.WithLabelValues("all").Inc()
+		return nil
+	}
+	address := addressOf(connection.RemoteAddr().String())
+	counted := !f.isProxy(address)
+	if counted && !f.connections.byAddress.take(address) {
+		f.connections.open.Add(-1)
+		f.metrics.refused.WithLabelValues("address").Inc()
+		return nil
+	}
+	return &open{Conn: connection, closed: func() {
+		f.connections.open.Add(-1)
+		if counted {
+			f.connections.byAddress.give(address)
+		}
+	}}
+}
+
+// open is a connection that counts.
+type open struct {
+	net.Conn
+	once   sync.Once
+	closed func()
+}
+
+func (o *open) Close() error {
+	err := o.Conn.Close()
+	o.once.Do(o.closed)
+	return err
+}
+
+// few is a listener that closes what comes above the room of a channel.
+type few struct {
+	net.Listener
+	room chan struct{}
+}
+
+func (l few) Accept() (net.Conn, error) {
+	for {
+		connection, err := l.Listener.Accept()
+		if err != nil {
+			return nil, err
+		}
+		select {
+		case l.room <- struct{}{}:
+			return &open{Conn: connection, closed: func() { <-l.room }}, nil
+		default:
+			connection.Close()
+		}
+	}
+}

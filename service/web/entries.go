@@ -1,0 +1,267 @@
+package web
+
+import (
+	"context"
+	"crypto/sha256"
+	"encoding/hex"
+	"errors"
+	"fmt"
+	"net/http"
+	"net/url"
+	"sync"
+
+	"golang.org/x/crypto/cryptobyte"
+
+	"wagtenib/service/chains"
+	"wagtenib/service/log"
+	"wagtenib/service/stores"
+)
+
+// getSTH answers the newest published head (RFC 6962, section 4.3).
+func (f *Front) getSTH(w http.ResponseWriter, r *http.Request) error {
+	ctx, cancel := f.reading(r)
+	defer cancel()
+	head, err := f.log.Checkpoint(ctx)
+	if err != nil {
+		return err
+	}
+	w.Header().Set("Cache-Control", forASecond)
+	writeJSON(w, http.StatusOK, struct {
+		TreeSize  uint64 `json:"tree_size"`
+		Timestamp uint64 `json:"timestamp"`
+		RootHash  []byte `json:"sha256_root_hash"`
+		Signature []byte `json:"tree_head_signature"`
+	}{head.TreeSize, head.Timestamp, head.RootHash[:], head.Signature})
+	return nil
+}
+
+// notYet answers the calls that want proofs.
+func (f *Front) notYet(w http.ResponseWriter, r *http.Request) error {
+	return refusal{
+		status: http.StatusNotImplemented, name: "not-implemented",
+		detail: "this log doesn't make proofs for its readers yet: they follow from its tiles (https://c2sp.org/static-ct-api)",
+	}
+}
+
+// entryOf is one entry as get-entries answers it (RFC 6962, section 4.6).
+type entryOf struct {
+	LeafInput []byte `json:"leaf_input"`
+	ExtraData []byte `json:"extra_data"`
+}
+
+// getEntries answers entries of the newest head from start on: as many as were asked for, but none of another data tile, and
+// within the bounds.
+func (f *Front) getEntries(w http.ResponseWriter, r *http.Request) error {
+	query, err := url.ParseQuery(r.URL.RawQuery)
+	if err != nil {
+		return badParameter("the query isn't one")
+	}
+	start, err := parameter(query, "start")
+	if err != nil {
+		return err
+	}
+	end, err := parameter(query, "end")
+	if err != nil {
+		return err
+	}
+	if start > end {
+		return badParameter("start is behind end")
+	}
+	ctx, cancel := f.reading(r)
+	defer cancel()
+	entries, err := f.entries(ctx, start, end)
+	if err != nil {
+		return err
+	}
+	w.Header().Set("Cache-Control", forASecond)
+	writeJSON(w, http.StatusOK, struct {
+		Entries []entryOf `json:"entries"`
+	}{entries})
+	return nil
+}
+
+func badParameter(detail string) error {
+	return refusal{status: http.StatusBadRequest, name: "bad-parameter", detail: detail}
+}
+
+func parameter(query url.Values, name string) (uint64, error) {
+	if len(query[name]) != 1 {
+		return 0, badParameter(name + " stands there once")
+	}
+	value, ok := number(query[name][0], stores.MostNumber)
+	if !ok {
+		return 0, badParameter(name + " is a number from 0")
+	}
+	return value, nil
+}
+
+func (f *Front) entries(ctx context.Context, start, end uint64) ([]entryOf, error) {
+	head, leaves, err := f.dataTile(ctx, start)
+	if err != nil {
+		return nil, err
+	}
+	if end >= head.TreeSize {
+		end = head.TreeSize - 1
+	}
+	var entries []entryOf
+	bytes := 0
+	for at := start % fullWidth; at < uint64(len(leaves)) && len(entries) < MostEntries && start+uint64(len(entries)) <= end; at++ {
+		entry, err := f.entryOf(ctx, leaves[at])
+		if err != nil {
+			return nil, err
+		}
+		bytes += len(entry.LeafInput) + len(entry.ExtraData)
+		if len(entries) > 0 && bytes > MostEntryBytes {
+			break
+		}
+		entries = append(entries, entry)
+	}
+	return entries, nil
+}
+
+// dataTile reads the tile of an entry as the newest head has it. A partial tile may go between the head and the read, where the
+// full one came to stand.
+func (f *Front) dataTile(ctx context.Context, index uint64) (log.Head, []tileLeaf, error) {
+	for again := false; ; again = true {
+		head, err := f.log.Checkpoint(ctx)
+		if err != nil {
+			return head, nil, err
+		}
+		if index >= head.TreeSize {
+			return head, nil, badParameter(fmt.Sprintf("the log has %d entries", head.TreeSize))
+		}
+		name := tileName{data: true, index: index / fullWidth, width: fullWidth}
+		if first := name.index * fullWidth; head.TreeSize-first < fullWidth {
+			name.width = head.TreeSize - first
+		}
+		content, err := f.read(ctx, name.String())
+		if errors.Is(err, stores.ErrAbsent) && name.width != fullWidth && !again {
+			continue
+		}
+		if err != nil {
+			return head, nil, missing(err)
+		}
+		leaves, ok := readDataTile(content)
+		if !ok || uint64(len(leaves)) != name.width {
+			return head, nil, fmt.Errorf("%w: %s isn't a tile of %d entries", log.ErrStore, name, name.width)
+		}
+		return head, leaves, nil
+	}
+}
+
+// tileLeaf is an entry of a data tile (C2SP static-ct-api, TileLeaf), cut out of it.
+type tileLeaf struct {
+	timestampedEntry []byte
+	kind             chains.EntryType
+	precertificate   []byte
+	// issuers are the fingerprints of the chain, 32 bytes each.
+	issuers []byte
+}
+
+// readDataTile reads a data tile: all of it, or none.
+func readDataTile(content []byte) (leaves []tileLeaf, ok bool) {
+	for tile := cryptobyte.String(content); !tile.Empty(); {
+		leaf, ok := readTileLeaf(&tile)
+		if !ok {
+			return nil, false
+		}
+		leaves = append(leaves, leaf)
+	}
+	return leaves, true
+}
+
+func readTileLeaf(tile *cryptobyte.String) (leaf tileLeaf, ok bool) {
+	whole := *tile
+	var timestamp, kind, certificate, extensions, precertificate, issuers cryptobyte.String
+	var number uint16
+	if !tile.ReadBytes((*[]byte)(&timestamp), 8) || !tile.ReadBytes((*[]byte)(&kind), 2) || !kind.ReadUint16(&number) {
+		return leaf, false
+	}
+	leaf.kind = chains.EntryType(number)
+	switch leaf.kind {
+	case chains.X509Entry:
+	case chains.PrecertEntry:
+		if !tile.Skip(sha256.Size) {
+			return leaf, false
+		}
+	default:
+		return leaf, false
+	}
+	if !tile.ReadUint24LengthPrefixed(&certificate) || !tile.ReadUint16LengthPrefixed(&extensions) {
+		return leaf, false
+	}
+	leaf.timestampedEntry = whole[:len(whole)-len(*tile)]
+	if leaf.kind == chains.PrecertEntry && !tile.ReadUint24LengthPrefixed(&precertificate) {
+		return leaf, false
+	}
+	if !tile.ReadUint16LengthPrefixed(&issuers) || len(issuers)%sha256.Size != 0 {
+		return leaf, false
+	}
+	leaf.precertificate, leaf.issuers = precertificate, issuers
+	return leaf, true
+}
+
+// entryOf makes of a leaf what RFC 6962 answers: a MerkleTreeLeaf (section 3.4), and the chain (section 4.6: of a precertificate
+// a PrecertChainEntry, of a certificate its certificate_chain alone).
+func (f *Front) entryOf(ctx context.Context, leaf tileLeaf) (entryOf, error) {
+	var extra cryptobyte.Builder
+	if leaf.kind == chains.PrecertEntry {
+		extra.AddUint24LengthPrefixed(func(b *cryptobyte.Builder) { b.AddBytes(leaf.precertificate) })
+	}
+	var fault error
+	extra.AddUint24LengthPrefixed(func(chain *cryptobyte.Builder) {
+		for rest := leaf.issuers; len(rest) > 0 && fault == nil; rest = rest[sha256.Size:] {
+			var certificate []byte
+			if certificate, fault = f.issuerOf(ctx, *(*[32]byte)(rest)); fault == nil {
+				chain.AddUint24LengthPrefixed(func(b *cryptobyte.Builder) { b.AddBytes(certificate) })
+			}
+		}
+	})
+	if fault != nil {
+		return entryOf{}, fault
+	}
+	data, err := extra.Bytes()
+	if err != nil {
+		return entryOf{}, fmt.Errorf("%w: a chain that is too long: %v", log.ErrStore, err)
+	}
+	// Version v1 and the type timestamped_entry are two bytes of zero.
+	return entryOf{append([]byte{0, 0}, leaf.timestampedEntry...), data}, nil
+}
+
+// mostIssuerBytes is how many bytes of issuers are kept at hand.
+const mostIssuerBytes = 16 << 20
+
+// issuers keeps some issuers at hand.
+type issuers struct {
+	mutex sync.Mutex
+	kept  map[[32]byte][]byte
+	bytes int
+}
+
+// issuerOf gives an issuer by its fingerprint, and only bytes that have it.
+func (f *Front) issuerOf(ctx context.Context, fingerprint [32]byte) ([]byte, error) {
+	f.issuers.mutex.Lock()
+	certificate := f.issuers.kept[fingerprint]
+	f.issuers.mutex.Unlock()
+	if certificate != nil {
+		return certificate, nil
+	}
+	name := "issuer/" + hex.EncodeToString(fingerprint[:])
+	certificate, err := f.read(ctx, name)
+	if err != nil {
+		return nil, missing(err)
+	}
+	if sha256.Sum256(certificate) != fingerprint {
+		return nil, fmt.Errorf("%w: %s has another content", log.ErrStore, name)
+	}
+	f.issuers.mutex.Lock()
+	defer f.issuers.mutex.Unlock()
+	if f.issuers.kept == nil || f.issuers.bytes+len(certificate) > mostIssuerBytes {
+		f.issuers.kept, f.issuers.bytes = map[[32]byte][]byte{}, 0
+	}
+	if _, there := f.issuers.kept[fingerprint]; !there {
+		f.issuers.kept[fingerprint] = certificate
+		f.issuers.bytes += len(certificate)
+	}
+	return certificate, nil
+}

@@ -1,0 +1,101 @@
+package web
+
+import (
+	"bytes"
+	"encoding/json"
+	"fmt"
+	"io"
+	"strings"
+	"sync"
+	"time"
+)
+
+// mostLines is how many lines are written in a second. Those above are counted, and told by one line.
+const mostLines = 200
+
+// Lines writes what is told, one JSON object a line: time, level, event, and what belongs to it. A nil one writes nothing.
+type Lines struct {
+	mutex   sync.Mutex
+	to      io.Writer
+	now     func() time.Time
+	second  int64
+	written int
+	dropped int
+}
+
+// NewLines writes lines to w.
+func NewLines(w io.Writer) *Lines { return &Lines{to: w, now: time.Now} }
+
+// Info tells what is as it should be. Words are keys, each with its value behind it.
+func (l *Lines) Info(event string, words ...any) { l.tell("info", event, words) }
+
+// Warn tells what an operator may want to look at.
+func (l *Lines) Warn(event string, words ...any) { l.tell("warn", event, words) }
+
+// Error tells what an operator has to look at.
+func (l *Lines) Error(event string, words ...any) { l.tell("error", event, words) }
+
+func (l *Lines) tell(level, event string, words []any) {
+	if l == nil {
+		return
+	}
+	l.mutex.Lock()
+	defer l.mutex.Unlock()
+	now := l.now().UTC()
+	if second := now.Unix(); second != l.second {
+		dropped := l.dropped
+		l.second, l.written, l.dropped = second, 0, 0
+		if dropped > 0 {
+			l.to.Write(line(now, "warn", "dropped", []any{"lines", dropped}))
+		}
+	}
+	if l.written >= mostLines && level != "error" {
+		l.dropped++
+		return
+	}
+	l.written++
+	l.to.Write(line(now, level, event, words))
+}
+
+func line(now time.Time, level, event string, words []any) []byte {
+	var text bytes.Buffer
+	text.WriteByte('{')
+	words = append([]any{"time", now.Format("2006-01-02T15:04:05.000Z"), "level", level, "event", event}, words...)
+	for i := 0; i+1 < len(words); i += 2 {
+		if words[i+1] == "" {
+			continue
+		}
+		if i > 0 {
+			text.WriteByte(',')
+		}
+		key, _ := json.Marshal(fmt.Sprint(words[i]))
+		value, err := json.Marshal(plain(words[i+1]))
+		if err != nil {
+			value, _ = json.Marshal(fmt.Sprint(words[i+1]))
+		}
+		text.Write(key)
+		text.WriteByte(':')
+		text.Write(value)
+	}
+	text.WriteString("}\n")
+	return text.Bytes()
+}
+
+// plain makes texts of errors and durations, which JSON has not.
+func plain(value any) any {
+	switch value := value.(type) {
+	case error:
+		return value.Error()
+	case time.Duration:
+		return value.String()
+	case fmt.Stringer:
+		return value.String()
+	}
+	return value
+}
+
+// Write tells lines of net/http.
+func (l *Lines) Write(text []byte) (int, error) {
+	l.Warn("http", "text", strings.TrimSpace(string(text)))
+	return len(text), nil
+}

@@ -1,0 +1,126 @@
+package web
+
+import (
+	"net/http"
+	"strconv"
+	"time"
+
+	"github.com/prometheus/client_golang/prometheus"
+	"github.com/prometheus/client_golang/prometheus/collectors"
+	"github.com/prometheus/client_golang/prometheus/promhttp"
+)
+
+// metrics are what Prometheus reads. Labels have the names of calls, statuses and refusals, and nothing that a client says.
+type metrics struct {
+	registry *prometheus.Registry
+	requests *prometheus.CounterVec
+	seconds  *prometheus.HistogramVec
+	refusals *prometheus.CounterVec
+	refused  *prometheus.CounterVec
+	reloads  *prometheus.CounterVec
+}
+
+func newMetrics(f *Front) *metrics {
+	counter := func(name, help string, labels ...string) *prometheus.CounterVec {
+		return prometheus.NewCounterVec(prometheus.CounterOpts{Name: name, Help: help}, labels)
+	}
+	m := &metrics{
+		registry: prometheus.NewRegistry(),
+		requests: counter("ctserve_requests_total", "Requests that were answered.", "call", "status"),
+		seconds: prometheus.NewHistogramVec(prometheus.HistogramOpts{
+			Name: "ctserve_request_seconds", Help: "How long requests took.",
+			Buckets: []float64{.0005, .001, .0025, .005, .01, .025, .05, .1, .25, .5, 1, 2, 4, 8, 16, 32},
+		}, []string{"call"}),
+		refusals: counter("ctserve_refusals_total", "Requests that were refused, by the refusal's name.", "call", "refusal"),
+		refused:  counter("ctserve_connections_refused_total", "Connections that were closed at once: there were too many, altogether or of an address.", "bound"),
+		reloads:  counter("ctserve_reloads_total", "Reloads of the roots and of the certificate of TLS.", "of", "outcome"),
+	}
+	for _, bound := range []string{"all", "address"} {
+		m.refused.WithLabelValues(bound)
+	}
+	m.registry.MustRegister(m.requests, m.seconds, m.refusals, m.refused, m.reloads, figures{f},
+		collectors.NewGoCollector(), collectors.NewProcessCollector(collectors.ProcessCollectorOpts{}))
+	return m
+}
+
+func (m *metrics) request(call string, status int, refusal string, took time.Duration) {
+	m.requests.WithLabelValues(call, strconv.Itoa(status)).Inc()
+	m.seconds.WithLabelValues(call).Observe(took.Seconds())
+	if refusal != "" {
+		m.refusals.WithLabelValues(call, refusal).Inc()
+	}
+}
+
+// Reloaded counts a reload of the roots or of the certificate of TLS.
+func (f *Front) Reloaded(of string, err error) {
+	outcome := "done"
+	if err != nil {
+		outcome = "failed"
+	}
+	f.metrics.reloads.WithLabelValues(of, outcome).Inc()
+}
+
+// figures collects the log's figures, as they are at one moment.
+type figures struct{ front *Front }
+
+func described(name, help string) *prometheus.Desc {
+	return prometheus.NewDesc(name, help, nil, nil)
+}
+
+var (
+	descEntries    = described("ctserve_entries", "Entries of the newest published head.")
+	descHeadAge    = described("ctserve_head_age_seconds", "How old the newest published head is.")
+	descQueue      = described("ctserve_queue", "Submissions that wait.")
+	descMostQueue  = described("ctserve_queue_most", "At how many that wait no more is taken.")
+	descFault      = described("ctserve_fault", "1 where something keeps the log from going on.")
+	descSteps      = described("ctserve_steps_total", "Swaps of the register that were won.")
+	descLost       = described("ctserve_lost_swaps_total", "Swaps of the register that another node was faster with.")
+	descUnknown    = described("ctserve_unknown_swaps_total", "Swaps whose outcome was settled by reading the register.")
+	descRepeats    = described("ctserve_repeats_total", "Submissions that were answered with the place that they had.")
+	descHelped     = described("ctserve_helped_total", "Heads of other nodes that were rolled out.")
+	descHandedOver = described("ctserve_handed_over_total", "Submissions that another node answered.")
+	descStepStarts = described("ctserve_step_starts_total", "How often the step's process was started.")
+	descOpen       = described("ctserve_connections", "Connections that are open.")
+	descWaiting    = described("ctserve_waiting_bytes", "Bytes of the submissions that are read, checked or wait.")
+	descRoots      = described("ctserve_roots", "Roots that chains are checked against.")
+)
+
+func (c figures) Describe(to chan<- *prometheus.Desc) { prometheus.DescribeByCollect(c, to) }
+
+func (c figures) Collect(to chan<- prometheus.Metric) {
+	f := c.front.log.Figures()
+	gauge := func(of *prometheus.Desc, value float64) {
+		to <- prometheus.MustNewConstMetric(of, prometheus.GaugeValue, value)
+	}
+	count := func(of *prometheus.Desc, value uint64) {
+		to <- prometheus.MustNewConstMetric(of, prometheus.CounterValue, float64(value))
+	}
+	fault := 0.0
+	if f.Fault != "" {
+		fault = 1
+	}
+	gauge(descEntries, float64(f.Entries))
+	gauge(descHeadAge, f.HeadAge.Seconds())
+	gauge(descQueue, float64(f.Queue))
+	gauge(descMostQueue, float64(f.MostQueue))
+	gauge(descFault, fault)
+	count(descSteps, f.Steps)
+	count(descLost, f.LostSwaps)
+	count(descUnknown, f.Unknown)
+	count(descRepeats, f.Repeats)
+	count(descHelped, f.Helped)
+	count(descHandedOver, f.HandedOver)
+	count(descStepStarts, f.StepStarts)
+	gauge(descOpen, float64(c.front.connections.open.Load()))
+	gauge(descWaiting, float64(c.front.waiting.used.Load()))
+	gauge(descRoots, float64(len(c.front.checker.Roots().Certificates())))
+}
+
+// Operator answers an operator: /metrics, and /healthz and /readyz as clients see them.
+func (f *Front) Operator() http.Handler {
+	mux := http.NewServeMux()
+	mux.Handle("/metrics", promhttp.HandlerFor(f.metrics.registry, promhttp.HandlerOpts{MaxRequestsInFlight: 4, Timeout: 10 * time.Second}))
+	mux.Handle("/healthz", f)
+	mux.Handle("/readyz", f)
+	return mux
+}

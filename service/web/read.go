@@ -1,0 +1,100 @@
+package web
+
+import (
+	"context"
+	"errors"
+	"fmt"
+	"net/http"
+	"strings"
+
+	"wagtenib/service/log"
+	"wagtenib/service/stores"
+)
+
+// How long answers may be kept by caches.
+const (
+	forEver     = "public, max-age=31536000, immutable"
+	forAWhile   = "public, max-age=60"
+	forASecond  = "public, max-age=1"
+	anybodyElse = "*"
+)
+
+func (f *Front) reading(r *http.Request) (context.Context, context.CancelFunc) {
+	return context.WithTimeout(r.Context(), f.limits.Reading)
+}
+
+// read reads an object of the log. What isn't for want of the object or of time is the store's fault.
+func (f *Front) read(ctx context.Context, name string) ([]byte, error) {
+	content, err := f.log.Object(ctx, name)
+	switch {
+	case err == nil:
+		return content, nil
+	case ctx.Err() != nil:
+		return nil, ctx.Err()
+	case errors.Is(err, stores.ErrAbsent), errors.Is(err, stores.ErrName):
+		return nil, fmt.Errorf("%s: %w", name, err)
+	}
+	return nil, fmt.Errorf("%w: %s: %v", log.ErrStore, name, err)
+}
+
+// missing says of an object that the log has to have that it is the store's fault where it isn't there.
+func missing(err error) error {
+	if errors.Is(err, stores.ErrAbsent) || errors.Is(err, stores.ErrName) {
+		return fmt.Errorf("%w: %v", log.ErrStore, err)
+	}
+	return err
+}
+
+// checkpoint answers the newest published head as a signed note.
+func (f *Front) checkpoint(w http.ResponseWriter, r *http.Request) error {
+	ctx, cancel := f.reading(r)
+	defer cancel()
+	head, err := f.log.Checkpoint(ctx)
+	if err != nil {
+		return err
+	}
+	f.object(w, forASecond, "text/plain; charset=utf-8", head.Note)
+	return nil
+}
+
+// tile answers a tile of hashes or of entries. A partial one has its content for ever, too, but it goes once the full one stands.
+func (f *Front) tile(w http.ResponseWriter, r *http.Request) error {
+	name, ok := readTileName(strings.TrimPrefix(r.URL.Path, "/tile/"))
+	if !ok {
+		return refusal{status: http.StatusNotFound, name: "no-such-path", detail: "this is no tile's name"}
+	}
+	ctx, cancel := f.reading(r)
+	defer cancel()
+	content, err := f.read(ctx, name.String())
+	if err != nil {
+		return err
+	}
+	keep := forEver
+	if name.width != fullWidth {
+		keep = forAWhile
+	}
+	f.object(w, keep, "application/octet-stream", content)
+	return nil
+}
+
+// issuer answers a certificate by its fingerprint.
+func (f *Front) issuer(w http.ResponseWriter, r *http.Request) error {
+	fingerprint := strings.TrimPrefix(r.URL.Path, "/issuer/")
+	if !isFingerprint(fingerprint) {
+		return refusal{status: http.StatusNotFound, name: "no-such-path", detail: "this is no issuer's name"}
+	}
+	ctx, cancel := f.reading(r)
+	defer cancel()
+	content, err := f.read(ctx, "issuer/"+fingerprint)
+	if err != nil {
+		return err
+	}
+	f.object(w, forEver, "application/pkix-cert", content)
+	return nil
+}
+
+func (f *Front) object(w http.ResponseWriter, keep, kind string, content []byte) {
+	w.Header().Set("Cache-Control", keep)
+	w.Header().Set("Access-Control-Allow-Origin", anybodyElse)
+	write(w, http.StatusOK, kind, content)
+}

@@ -1,0 +1,256 @@
+package web
+
+import (
+	"bytes"
+	"encoding/json"
+	"fmt"
+	"net/http/httptest"
+	"strings"
+	"testing"
+	"time"
+
+	"golang.org/x/crypto/cryptobyte"
+
+	"wagtenib/service/chains"
+	"wagtenib/service/web/standin"
+)
+
+// served looks at the status, the type and the cache's time of an answer, and that HEAD has the same without the content.
+func (f *fixture) served(path, kind, keep string) []byte {
+	f.t.Helper()
+	w := f.get(path)
+	header := w.Header()
+	if w.Code != 200 || header.Get("Content-Type") != kind || header.Get("Cache-Control") != keep || header.Get("X-Content-Type-Options") != "nosniff" {
+		f.t.Errorf("%s: %d %v", path, w.Code, header)
+	}
+	if header.Get("Content-Length") != fmt.Sprint(w.Body.Len()) {
+		f.t.Errorf("%s: Content-Length %s of %d", path, header.Get("Content-Length"), w.Body.Len())
+	}
+	head := f.do("HEAD", path, nil)
+	if head.Code != 200 || fmt.Sprint(head.Header()) != fmt.Sprint(header) {
+		f.t.Errorf("HEAD %s: %d %v", path, head.Code, head.Header())
+	}
+	return w.Body.Bytes()
+}
+
+func TestObjectsAreServed(t *testing.T) {
+	f := newFixture(t, 0, nil)
+	f.fill(260)
+	note := f.served("/checkpoint", "text/plain; charset=utf-8", "public, max-age=1")
+	if !bytes.HasPrefix(note, []byte("log.example/stand-in\n260\n")) {
+		t.Errorf("/checkpoint: %q", note)
+	}
+	for path, length := range map[string]int{"/tile/0/000": 256 * 32, "/tile/0/001.p/4": 4 * 32, "/tile/data/000": 0, "/tile/data/001.p/4": 0} {
+		keep := "public, max-age=31536000, immutable"
+		if strings.Contains(path, ".p/") {
+			keep = "public, max-age=60"
+		}
+		content := f.served(path, "application/octet-stream", keep)
+		if length > 0 && len(content) != length {
+			t.Errorf("%s has %d bytes", path, len(content))
+		}
+	}
+	issuer := f.served("/issuer/"+fingerprintOf(f.authority.Root.Raw), "application/pkix-cert", "public, max-age=31536000, immutable")
+	if !bytes.Equal(issuer, f.authority.Root.Raw) {
+		t.Error("the issuer is another one")
+	}
+	for _, path := range []string{"/tile/0/002", "/tile/0/000.p/255", "/tile/1/000.p/2", "/tile/data/x001/000", "/issuer/" + strings.Repeat("0", 64)} {
+		refused(t, path, f.get(path), 404, "absent")
+	}
+}
+
+func TestNames(t *testing.T) {
+	for text, want := range map[string]tileName{
+		"0/000":                  {level: 0, width: 256},
+		"5/000.p/1":              {level: 5, width: 1},
+		"0/x001/x234/067":        {index: 1234067, width: 256},
+		"data/x123/000.p/255":    {data: true, index: 123000, width: 255},
+		"0/x004/x294/x967/295":   {index: 1<<32 - 1, width: 256},
+		"data/x001/x000/000.p/9": {data: true, index: 1000000, width: 9},
+	} {
+		name, ok := readTileName(text)
+		if !ok || name != want || name.String() != "tile/"+text {
+			t.Errorf("%s: %v %v %s", text, name, ok, name)
+		}
+	}
+	for _, text := range []string{
+		"", "0", "0/", "/000", "6/000", "00/000", "01/000", "-1/000", "+1/000", "data", "data/", "Data/000", "entries/000", "names/000",
+		"0/0", "0/00", "0/0000", "0/1000", "0/x000", "0/x000/000", "0/x000/x001/000", "0/001/000", "0/x001/x000", "0/X001/000", "0/x01/000", "0/x001//000",
+		"0/x004/x294/x967/296", "0/x001/x000/x000/x000/000", "0/000/", "0/000.p", "0/000.p/", "0/000.p/0", "0/000.p/256", "0/000.p/01", "0/000.p/1/", "0/000.p/+1",
+		"0/000.p/1.p/1", "0/000.P/1", "0/000 ", " 0/000", "0/00\u0660", "0/000\x00", "0/x001.p/1/000", "../checkpoint", "0/..", "0/x../000",
+	} {
+		if name, ok := readTileName(text); ok {
+			t.Errorf("%q is read as %s", text, name)
+		}
+	}
+	for _, text := range []string{"", "ab", strings.Repeat("A", 64), strings.Repeat("a", 63), strings.Repeat("a", 65), strings.Repeat("g", 64), strings.Repeat("a", 63) + "/"} {
+		if isFingerprint(text) {
+			t.Errorf("%q is taken for a fingerprint", text)
+		}
+	}
+}
+
+func TestTreeHead(t *testing.T) {
+	f := newFixture(t, 0, nil)
+	f.fill(3)
+	var told struct {
+		Size      uint64 `json:"tree_size"`
+		Timestamp uint64 `json:"timestamp"`
+		Root      []byte `json:"sha256_root_hash"`
+		Signature []byte `json:"tree_head_signature"`
+	}
+	w := f.get("/ct/v1/get-sth")
+	if err := json.Unmarshal(w.Body.Bytes(), &told); err != nil || w.Code != 200 {
+		t.Fatal(w.Code, err)
+	}
+	head, _ := f.log.Checkpoint(httptest.NewRequest("GET", "/", nil).Context())
+	if told.Size != 3 || told.Timestamp != head.Timestamp || !bytes.Equal(told.Root, head.RootHash[:]) || !f.verifies(standin.HeadSigned(head), told.Signature) {
+		t.Errorf("get-sth: %s", w.Body)
+	}
+}
+
+// entries asks for entries, and gives them.
+func (f *fixture) entries(start, end uint64) []entryOf {
+	f.t.Helper()
+	w := f.get(fmt.Sprintf("/ct/v1/get-entries?start=%d&end=%d", start, end))
+	var told struct {
+		Entries []entryOf `json:"entries"`
+	}
+	if err := json.Unmarshal(w.Body.Bytes(), &told); err != nil || w.Code != 200 {
+		f.t.Fatalf("entries from %d to %d: %d %s", start, end, w.Code, w.Body)
+	}
+	return told.Entries
+}
+
+// All entries that are answered have the head's root, and each has the chain that was submitted.
+func TestEntriesAreTheHeads(t *testing.T) {
+	f := newFixture(t, 0, nil)
+	certificates := f.fill(515)
+	var hashes [][32]byte
+	for len(hashes) < 515 {
+		start := len(hashes)
+		entries := f.entries(uint64(start), 100000)
+		if len(entries) == 0 {
+			t.Fatalf("none from %d on", start)
+		}
+		for i, entry := range entries {
+			hashes = append(hashes, standin.LeafHash(entry.LeafInput))
+			certificate := certificates[start+i]
+			if !bytes.Contains(entry.LeafInput, certificate) || entry.LeafInput[14] != byte(len(certificate)) {
+				t.Fatalf("entry %d isn't what was submitted", start+i)
+			}
+			var chain, issuer cryptobyte.String
+			extra := cryptobyte.String(entry.ExtraData)
+			if !extra.ReadUint24LengthPrefixed(&chain) || !extra.Empty() || !chain.ReadUint24LengthPrefixed(&issuer) || !chain.Empty() {
+				t.Fatalf("entry %d: its chain: %x", start+i, entry.ExtraData)
+			}
+			if !bytes.Equal(issuer, f.authority.Root.Raw) {
+				t.Fatalf("entry %d: its issuer is another one", start+i)
+			}
+		}
+	}
+	head, _ := f.log.Checkpoint(httptest.NewRequest("GET", "/", nil).Context())
+	if standin.MerkleTreeHash(hashes) != head.RootHash {
+		t.Error("they haven't the head's root")
+	}
+	for _, test := range []struct{ start, end, count uint64 }{{0, 0, 1}, {7, 9, 3}, {255, 256, 1}, {256, 1 << 62, 256}, {512, 515, 3}, {514, 514, 1}, {0, 511, 256}} {
+		if entries := f.entries(test.start, test.end); uint64(len(entries)) != test.count {
+			t.Errorf("%d to %d: %d entries, not %d", test.start, test.end, len(entries), test.count)
+		}
+	}
+}
+
+func TestPrecertificatesEntry(t *testing.T) {
+	f := newFixture(t, 5*time.Millisecond, nil)
+	precertificate := f.issue(true)
+	if w := f.do("POST", "/ct/v1/add-pre-chain", standin.Submission(precertificate)); w.Code != 200 {
+		t.Fatal(w.Body)
+	}
+	wanted, err := f.checker.Precertificate([][]byte{precertificate})
+	if err != nil {
+		t.Fatal(err)
+	}
+	entry := f.entries(0, 0)[0]
+	leaf := cryptobyte.String(entry.LeafInput)
+	var version, kind uint8
+	var number uint16
+	var timestamp, keyHash []byte
+	var tbs, extensions, submitted, chain, issuer cryptobyte.String
+	if !leaf.ReadUint8(&version) || !leaf.ReadUint8(&kind) || !leaf.ReadBytes(&timestamp, 8) || !leaf.ReadUint16(&number) || !leaf.ReadBytes(&keyHash, 32) ||
+		!leaf.ReadUint24LengthPrefixed(&tbs) || !leaf.ReadUint16LengthPrefixed(&extensions) || !leaf.Empty() {
+		t.Fatalf("the leaf: %x", entry.LeafInput)
+	}
+	if version != 0 || kind != 0 || chains.EntryType(number) != chains.PrecertEntry || !bytes.Equal(keyHash, wanted.IssuerKeyHash[:]) || !bytes.Equal(tbs, wanted.TBSCertificate) {
+		t.Errorf("the leaf has another content: %x", entry.LeafInput)
+	}
+	extra := cryptobyte.String(entry.ExtraData)
+	if !extra.ReadUint24LengthPrefixed(&submitted) || !extra.ReadUint24LengthPrefixed(&chain) || !extra.Empty() || !chain.ReadUint24LengthPrefixed(&issuer) || !chain.Empty() {
+		t.Fatalf("the chain: %x", entry.ExtraData)
+	}
+	if !bytes.Equal(submitted, precertificate) || !bytes.Equal(issuer, f.authority.Root.Raw) {
+		t.Error("the chain is another one")
+	}
+}
+
+func TestParametersAreRefused(t *testing.T) {
+	f := newFixture(t, 0, nil)
+	refused(t, "an empty log", f.get("/ct/v1/get-entries?start=0&end=0"), 400, "bad-parameter")
+	f.fill(3)
+	for _, query := range []string{
+		"", "start=0", "end=0", "start=1&end=0", "start=3&end=3", "start=-1&end=0", "start=+0&end=0", "start=00&end=0", "start=0x1&end=1", "start=0&end=1&end=1",
+		"start=0&end=", "start=0&end=9223372036854775808", "start=0&end=99999999999999999999", "start=0;end=0", "start=0&end=%zz", "start=%30%30&end=1", "start=1e0&end=1",
+	} {
+		refused(t, query, f.get("/ct/v1/get-entries?"+query), 400, "bad-parameter")
+	}
+}
+
+// An answer has as many bytes as the bound says, and one entry that has more by itself comes alone.
+func TestEntriesAreBoundedByBytes(t *testing.T) {
+	f := newFixture(t, 0, nil)
+	f.fill(3)
+	big := make([]byte, 700000)
+	var b cryptobyte.Builder
+	for i := 0; i < 3; i++ {
+		b.AddUint64(7)
+		b.AddUint16(0)
+		b.AddUint24LengthPrefixed(func(b *cryptobyte.Builder) { b.AddBytes(big) })
+		b.AddUint16LengthPrefixed(func(b *cryptobyte.Builder) {})
+		b.AddUint16LengthPrefixed(func(b *cryptobyte.Builder) {})
+	}
+	f.log.Change("tile/data/000.p/3", b.BytesOrPanic())
+	for start := uint64(0); start < 3; start++ {
+		if entries := f.entries(start, 2); len(entries) != 1 {
+			t.Errorf("%d entries from %d on", len(entries), start)
+		}
+	}
+}
+
+// What a store gives that can't be is a fault of the store, and no entry.
+func TestDamagedObjects(t *testing.T) {
+	f := newFixture(t, 0, nil)
+	f.fill(2)
+	w := f.get("/tile/data/000.p/2")
+	tile := w.Body.Bytes()
+	for what, content := range map[string][]byte{
+		"missing": nil, "empty": {}, "short": tile[:len(tile)-1], "long": append(append([]byte(nil), tile...), 0), "one": tile[:len(tile)/2],
+		"of another type": append([]byte{0, 0, 0, 0, 0, 0, 0, 0, 0, 2}, tile[10:]...),
+	} {
+		f.log.Change("tile/data/000.p/2", content)
+		refused(t, what, f.get("/ct/v1/get-entries?start=0&end=1"), 503, "store")
+	}
+	f.log.Change("tile/data/000.p/2", tile)
+	issuer := "issuer/" + fingerprintOf(f.authority.Root.Raw)
+	f.log.Change(issuer, []byte("another"))
+	refused(t, "another issuer", f.get("/ct/v1/get-entries?start=0&end=1"), 503, "store")
+	f.log.Change(issuer, nil)
+	refused(t, "no issuer", f.get("/ct/v1/get-entries?start=0&end=1"), 503, "store")
+	f.log.Change(issuer, f.authority.Root.Raw)
+	if entries := f.entries(0, 1); len(entries) != 2 {
+		t.Errorf("%d entries", len(entries))
+	}
+	// From now on it is at hand.
+	f.log.Change(issuer, nil)
+	if entries := f.entries(0, 1); len(entries) != 2 {
+		t.Errorf("%d entries", len(entries))
+	}
+}

@@ -1,0 +1,98 @@
+package web
+
+import (
+	"context"
+	"crypto/tls"
+	stdlog "log"
+	"net"
+	"net/http"
+	"sync"
+)
+
+// mostOfOthers is how many connections operators have, or the other nodes: they don't count as clients.
+const mostOfOthers = 64
+
+// Server answers requests on listeners until it is ended.
+type Server struct {
+	front  *Front
+	http   *http.Server
+	bounds func(net.Listener) net.Listener
+	mutex  sync.Mutex
+	// fresh are the connections on which no request was read yet.
+	fresh  map[net.Conn]bool
+	ending bool
+}
+
+// ServeOthers makes a server for operators or other nodes: with the front's limits of time, and connections of its own.
+func (f *Front) ServeOthers(handler http.Handler) *Server {
+	s := f.Serve(handler)
+	own := make(chan struct{}, mostOfOthers)
+	s.bounds = func(l net.Listener) net.Listener { return few{l, own} }
+	return s
+}
+
+// Serve makes a server for clients, within the front's limits.
+func (f *Front) Serve(handler http.Handler) *Server {
+	s := &Server{front: f, fresh: map[net.Conn]bool{}}
+	s.bounds = func(l net.Listener) net.Listener { return bounded{l, f} }
+	limits := f.limits
+	s.http = &http.Server{
+		Handler:           handler,
+		ReadHeaderTimeout: limits.Headers,
+		ReadTimeout:       limits.Request,
+		// It runs from where the headers end.
+		WriteTimeout:   limits.Request + limits.Submission + limits.Answer,
+		IdleTimeout:    limits.Idle,
+		MaxHeaderBytes: MostHeader,
+		// HTTP/2 would have many requests on one connection, which counts as one.
+		TLSNextProto: map[string]func(*http.Server, *tls.Conn, http.Handler){},
+		ErrorLog:     stdlog.New(f.options.Lines, "", 0),
+		ConnState:    s.remember,
+	}
+	return s
+}
+
+func (s *Server) remember(connection net.Conn, state http.ConnState) {
+	s.mutex.Lock()
+	defer s.mutex.Unlock()
+	if state != http.StateNew {
+		delete(s.fresh, connection)
+		return
+	}
+	if s.ending {
+		connection.Close()
+		return
+	}
+	s.fresh[connection] = true
+}
+
+// Listen answers what comes to a listener, over TLS where there is a configuration of it. It returns nil once the server ends.
+func (s *Server) Listen(listener net.Listener, over *tls.Config) error {
+	listener = s.bounds(listener)
+	if over != nil {
+		over = over.Clone()
+		over.NextProtos = []string{"http/1.1"}
+		listener = tls.NewListener(listener, over)
+	}
+	err := s.http.Serve(listener)
+	if err == http.ErrServerClosed {
+		return nil
+	}
+	return err
+}
+
+// End takes no more connections, closes those on which nothing is asked, and waits for the answers that are under way, within
+// the context; then it closes all.
+func (s *Server) End(ctx context.Context) error {
+	s.mutex.Lock()
+	s.ending = true
+	for connection := range s.fresh {
+		connection.Close()
+	}
+	s.mutex.Unlock()
+	err := s.http.Shutdown(ctx)
+	if err != nil {
+		s.http.Close()
+	}
+	return err
+}

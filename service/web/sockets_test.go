@@ -1,0 +1,404 @@
+package web
+
+import (
+	"bufio"
+	"bytes"
+	"context"
+	"crypto/tls"
+	"encoding/pem"
+	"errors"
+	"fmt"
+	"io"
+	"net"
+	"net/http"
+	"net/netip"
+	"strings"
+	"syscall"
+	"testing"
+	"time"
+
+	"wagtenib/service/web/standin"
+)
+
+// listening serves a front on loopback, and gives its address and how it is ended.
+func (f *fixture) listening(over *tls.Config) (address string, server *Server) {
+	f.t.Helper()
+	listener, err := net.Listen("tcp", "127.0.0.1:0")
+	if err != nil {
+		f.t.Fatal(err)
+	}
+	server = f.front.Serve(f.front)
+	done := make(chan error, 1)
+	go func() { done <- server.Listen(listener, over) }()
+	f.t.Cleanup(func() {
+		ctx, cancel := context.WithTimeout(context.Background(), 5*time.Second)
+		defer cancel()
+		server.End(ctx)
+		if err := <-done; err != nil {
+			f.t.Errorf("the server ended by %v", err)
+		}
+	})
+	return listener.Addr().String(), server
+}
+
+func dial(t testing.TB, address string) net.Conn {
+	t.Helper()
+	connection, err := net.Dial("tcp", address)
+	if err != nil {
+		t.Fatal(err)
+	}
+	connection.SetDeadline(time.Now().Add(10 * time.Second))
+	t.Cleanup(func() { connection.Close() })
+	return connection
+}
+
+// said sends bytes on a connection of their own, and gives the statuses of all answers until the other side closes.
+func said(t testing.TB, address, text string) (statuses []int) {
+	t.Helper()
+	connection := dial(t, address)
+	if _, err := connection.Write([]byte(text)); err != nil {
+		t.Fatal(err)
+	}
+	connection.(*net.TCPConn).CloseWrite()
+	return answersOn(t, connection)
+}
+
+func answersOn(t testing.TB, connection net.Conn) (statuses []int) {
+	t.Helper()
+	reader := bufio.NewReader(connection)
+	for {
+		if _, err := reader.Peek(1); err != nil {
+			var late net.Error
+			if errors.As(err, &late) && late.Timeout() {
+				t.Errorf("after %v the other side waits", statuses)
+			}
+			return statuses
+		}
+		answer, err := http.ReadResponse(reader, nil)
+		if err != nil {
+			t.Errorf("after %v: %v", statuses, err)
+			return statuses
+		}
+		// Where the other side closes before it read all that came, the end of its answer may be lost.
+		if _, err := io.Copy(io.Discard, answer.Body); err != nil && !errors.Is(err, syscall.ECONNRESET) {
+			t.Errorf("an answer breaks off: %v", err)
+		}
+		statuses = append(statuses, answer.StatusCode)
+	}
+}
+
+// One request or none comes of each of these, and what stands where a second one might be hidden is never answered.
+func TestUnclearRequests(t *testing.T) {
+	f := newFixture(t, 10*time.Millisecond, nil)
+	address, _ := f.listening(nil)
+	const hidden = "GET /healthz HTTP/1.1\r\nHost: hidden\r\n\r\n"
+	get := "GET /healthz HTTP/1.1\r\nHost: log\r\n"
+	post := "POST /ct/v1/add-chain HTTP/1.1\r\nHost: log\r\n"
+	for _, test := range []struct {
+		what, text string
+		statuses   []int
+	}{
+		{"two requests one behind the other", get + "\r\n" + get + "\r\n", []int{200, 200}},
+		{"a GET with a body", get + fmt.Sprintf("Content-Length: %d\r\n\r\n", len(hidden)) + hidden, []int{400}},
+		{"a GET with a body in chunks", get + "Transfer-Encoding: chunked\r\n\r\n0\r\n\r\n" + hidden, []int{400}},
+		{"a GET with an announced body", get + "Content-Length: 100\r\n\r\n", []int{400}},
+		{"two lengths", post + fmt.Sprintf("Content-Length: 2\r\nContent-Length: %d\r\n\r\n{}", len(hidden)+2) + hidden, []int{400}},
+		{"two lengths in one", post + "Content-Length: 2, 3\r\n\r\n{}" + hidden, []int{400}},
+		{"a length twice", post + "Content-Length: 2\r\nContent-Length: 2\r\nConnection: close\r\n\r\n{}", []int{400}},
+		{"a length and chunks", post + "Content-Length: 2\r\nTransfer-Encoding: chunked\r\n\r\n0\r\n\r\n" + hidden, []int{411}},
+		{"chunks and a length", post + "Transfer-Encoding: chunked\r\nContent-Length: 5\r\n\r\n2\r\n{}\r\n0\r\n\r\n" + hidden, []int{411}},
+		{"chunks", post + "Transfer-Encoding: chunked\r\n\r\n2\r\n{}\r\n0\r\n\r\n" + hidden, []int{411}},
+		{"chunks by another name", post + "Transfer-Encoding: xchunked\r\n\r\n2\r\n{}\r\n0\r\n\r\n" + hidden, []int{501}},
+		{"chunks twice", post + "Transfer-Encoding: chunked\r\nTransfer-Encoding: identity\r\n\r\n" + hidden, []int{501}},
+		{"chunks behind a space", post + "Transfer-Encoding : chunked\r\n\r\n0\r\n\r\n" + hidden, []int{400}},
+		{"a length with a sign", post + "Content-Length: +2\r\n\r\n{}" + hidden, []int{400}},
+		{"a negative length", post + "Content-Length: -1\r\n\r\n" + hidden, []int{400}},
+		{"a length that is a word", post + "Content-Length: two\r\n\r\n" + hidden, []int{400}},
+		{"a huge length", post + "Content-Length: 99999999999999999999\r\n\r\n" + hidden, []int{400}},
+		{"a length above the bound", post + "Content-Length: 1048577\r\n\r\n" + hidden, []int{413}},
+		{"a body that breaks off", post + "Content-Length: 100\r\n\r\n{}", []int{408}},
+		{"no length", post + "\r\n" + hidden, []int{400, 200}},
+		{"a POST where one reads", "POST /checkpoint HTTP/1.1\r\nHost: log\r\nContent-Length: 2\r\n\r\n{}" + get + "\r\n", []int{405, 200}},
+		{"no host", "GET /healthz HTTP/1.1\r\n\r\n" + hidden, []int{400}},
+		{"two hosts", get + "Host: other\r\n\r\n" + hidden, []int{400}},
+		{"no version", "GET /healthz\r\n\r\n" + hidden, []int{400}},
+		{"another version", "GET /healthz HTTP/3.0\r\nHost: log\r\n\r\n" + hidden, []int{505}},
+		{"HTTP/2 without asking", "PRI * HTTP/2.0\r\n\r\nSM\r\n\r\n", []int{404}},
+		{"a space before the first header", "GET /healthz HTTP/1.1\r\n Host: log\r\n\r\n" + hidden, []int{400}},
+		{"a zero byte", "GET /healthz HTTP/1.1\r\nHost: log\r\nX: \x00\r\n\r\n" + hidden, []int{400}},
+		{"headers above the bound", get + "X: " + strings.Repeat("x", 2*MostHeader) + "\r\n\r\n", []int{431}},
+		{"not HTTP", "\x16\x03\x01\x02\x00\x01\x00\x01\xfc\r\n\r\n", []int{400}},
+		{"nothing", "", nil},
+	} {
+		if statuses := said(t, address, test.text); fmt.Sprint(statuses) != fmt.Sprint(test.statuses) {
+			t.Errorf("%s: %v, not %v", test.what, statuses, test.statuses)
+		}
+	}
+	if size := f.log.Figures().Entries; size != 0 {
+		t.Errorf("%d entries came of it", size)
+	}
+}
+
+// Who sends or takes too slowly is cut off, and others are answered meanwhile.
+func TestSlowClients(t *testing.T) {
+	f := newFixture(t, 10*time.Millisecond, func(o *Options) {
+		o.Limits.Headers, o.Limits.Request, o.Limits.Idle = 200*time.Millisecond, 400*time.Millisecond, 300*time.Millisecond
+		o.Limits.Submission, o.Limits.Answer = 100*time.Millisecond, 100*time.Millisecond
+	})
+	address, _ := f.listening(nil)
+	f.log.Change("tile/data/000", make([]byte, 32<<20))
+	slow := map[string]func(net.Conn){
+		"nothing at all": func(net.Conn) {},
+		"headers, a byte at a time": func(c net.Conn) {
+			for _, sign := range []byte("GET /healthz HTTP/1.1\r\nHost: log\r\nX: " + strings.Repeat("x", 1000)) {
+				if _, err := c.Write([]byte{sign}); err != nil {
+					return
+				}
+				time.Sleep(20 * time.Millisecond)
+			}
+		},
+		"a body, a byte at a time": func(c net.Conn) {
+			fmt.Fprintf(c, "POST /ct/v1/add-chain HTTP/1.1\r\nHost: log\r\nContent-Length: 1000\r\n\r\n")
+			for i := 0; i < 1000; i++ {
+				if _, err := c.Write([]byte{'{'}); err != nil {
+					return
+				}
+				time.Sleep(20 * time.Millisecond)
+			}
+		},
+		"a body that doesn't come": func(c net.Conn) {
+			fmt.Fprintf(c, "POST /ct/v1/add-chain HTTP/1.1\r\nHost: log\r\nContent-Length: 1000\r\n\r\n")
+		},
+		"idle behind a request": func(c net.Conn) { fmt.Fprintf(c, "GET /healthz HTTP/1.1\r\nHost: log\r\n\r\n") },
+	}
+	ended := make(chan string, len(slow))
+	for what, send := range slow {
+		connection := dial(t, address)
+		go func(what string, send func(net.Conn)) {
+			go send(connection)
+			io.Copy(io.Discard, connection)
+			ended <- what
+		}(what, send)
+	}
+	// One that asks for a large object and takes none of it: its handler ends.
+	greedy := dial(t, address)
+	greedy.(*net.TCPConn).SetReadBuffer(4096)
+	fmt.Fprintf(greedy, "GET /tile/data/000 HTTP/1.1\r\nHost: log\r\n\r\n")
+	if statuses := said(t, address, "GET /healthz HTTP/1.1\r\nHost: log\r\n\r\n"); fmt.Sprint(statuses) != "[200]" {
+		t.Errorf("another one: %v", statuses)
+	}
+	left := map[string]bool{}
+	for what := range slow {
+		left[what] = true
+	}
+	for until := time.After(3 * time.Second); len(left) > 0; {
+		select {
+		case what := <-ended:
+			delete(left, what)
+		case <-until:
+			t.Fatalf("not cut off within 3 s: %v", left)
+		}
+	}
+	for until := time.Now().Add(3 * time.Second); f.front.connections.open.Load() > 0; time.Sleep(5 * time.Millisecond) {
+		if time.Now().After(until) {
+			t.Fatalf("%d connections stay open", f.front.connections.open.Load())
+		}
+	}
+	if used := f.front.waiting.used.Load(); used != 0 {
+		t.Errorf("%d bytes are still counted", used)
+	}
+}
+
+func TestConnectionsAreBounded(t *testing.T) {
+	for _, test := range []struct {
+		what          string
+		all, by, most int
+		proxy         bool
+	}{
+		{"by address", 100, 3, 3, false},
+		{"altogether", 4, 100, 4, false},
+		{"of a proxy", 5, 1, 5, true},
+	} {
+		f := newFixture(t, 0, func(o *Options) {
+			o.Limits.Connections, o.Limits.ConnectionsByAddress = test.all, test.by
+			if test.proxy {
+				o.Proxies = []netip.Prefix{netip.MustParsePrefix("127.0.0.1/32")}
+			}
+		})
+		address, _ := f.listening(nil)
+		var open []net.Conn
+		for i := 0; i < test.most; i++ {
+			connection := dial(t, address)
+			fmt.Fprintf(connection, "GET /healthz HTTP/1.1\r\nHost: log\r\n\r\n")
+			if answer, err := http.ReadResponse(bufio.NewReader(connection), nil); err != nil || answer.StatusCode != 200 {
+				t.Fatalf("%s: connection %d: %v", test.what, i, err)
+			}
+			open = append(open, connection)
+		}
+		above := dial(t, address)
+		if n, err := above.Read(make([]byte, 1)); n != 0 || err == nil {
+			t.Errorf("%s: one above the bound is answered: %v", test.what, err)
+		}
+		open[0].Close()
+		for until := time.Now().Add(3 * time.Second); ; time.Sleep(5 * time.Millisecond) {
+			again := dial(t, address)
+			fmt.Fprintf(again, "GET /healthz HTTP/1.1\r\nHost: log\r\nConnection: close\r\n\r\n")
+			if answer, err := http.ReadResponse(bufio.NewReader(again), nil); err == nil && answer.StatusCode == 200 {
+				break
+			}
+			if time.Now().After(until) {
+				t.Fatalf("%s: where one went, none is taken", test.what)
+			}
+		}
+	}
+}
+
+// Where the server ends, who waits is answered, and idle connections and those that say nothing are closed, within the bound.
+func TestServerEnds(t *testing.T) {
+	f := newFixture(t, 0, nil)
+	address, server := f.listening(nil)
+	idle, silent, half, waits := dial(t, address), dial(t, address), dial(t, address), dial(t, address)
+	fmt.Fprintf(idle, "GET /healthz HTTP/1.1\r\nHost: log\r\n\r\n")
+	idleReader := bufio.NewReader(idle)
+	if answer, err := http.ReadResponse(idleReader, nil); err != nil || answer.StatusCode != 200 {
+		t.Fatal(err)
+	} else {
+		io.Copy(io.Discard, answer.Body)
+	}
+	fmt.Fprintf(half, "GET /healthz HT")
+	body := standin.Submission(f.issue(false))
+	fmt.Fprintf(waits, "POST /ct/v1/add-chain HTTP/1.1\r\nHost: log\r\nContent-Length: %d\r\n\r\n%s", len(body), body)
+	for f.log.Figures().Queue == 0 || f.front.connections.open.Load() < 4 {
+		time.Sleep(time.Millisecond)
+	}
+	f.front.Refuse()
+	began := time.Now()
+	ctx, cancel := context.WithTimeout(context.Background(), 10*time.Second)
+	defer cancel()
+	f.log.End(ctx)
+	if err := server.End(ctx); err != nil {
+		t.Errorf("it doesn't end: %v", err)
+	}
+	if took := time.Since(began); took > 2*time.Second {
+		t.Errorf("it took %v", took)
+	}
+	if statuses := answersOn(t, waits); fmt.Sprint(statuses) != "[200]" {
+		t.Errorf("who waited: %v", statuses)
+	}
+	for what, connection := range map[string]io.Reader{"idle": idleReader, "silent": silent, "half": half} {
+		if n, err := connection.Read(make([]byte, 1)); n != 0 || err == nil {
+			t.Errorf("%s: %d bytes, %v", what, n, err)
+		}
+	}
+	if _, err := net.Dial("tcp", address); err == nil {
+		t.Error("connections are still taken")
+	}
+}
+
+// A submission that isn't answered in time is closed with all others once the bound is over.
+func TestServerEndsWithinItsBound(t *testing.T) {
+	f := newFixture(t, 0, nil)
+	address, server := f.listening(nil)
+	waits := dial(t, address)
+	body := standin.Submission(f.issue(false))
+	fmt.Fprintf(waits, "POST /ct/v1/add-chain HTTP/1.1\r\nHost: log\r\nContent-Length: %d\r\n\r\n%s", len(body), body)
+	for f.log.Figures().Queue == 0 {
+		time.Sleep(time.Millisecond)
+	}
+	ctx, cancel := context.WithTimeout(context.Background(), 50*time.Millisecond)
+	defer cancel()
+	if err := server.End(ctx); !errors.Is(err, context.DeadlineExceeded) {
+		t.Errorf("End: %v", err)
+	}
+	if n, err := waits.Read(make([]byte, 1)); n != 0 || err == nil {
+		t.Errorf("who waited: %d bytes, %v", n, err)
+	}
+}
+
+// A client that goes while it waits is seen: its submission's context ends.
+func TestClientsThatGo(t *testing.T) {
+	f := newFixture(t, 0, nil)
+	address, _ := f.listening(nil)
+	body := standin.Submission(f.issue(false))
+	connection := dial(t, address)
+	fmt.Fprintf(connection, "POST /ct/v1/add-chain HTTP/1.1\r\nHost: log\r\nContent-Length: %d\r\n\r\n%s", len(body), body)
+	for f.log.Figures().Queue == 0 {
+		time.Sleep(time.Millisecond)
+	}
+	if f.front.waiting.used.Load() != int64(len(body)) {
+		t.Errorf("%d bytes wait", f.front.waiting.used.Load())
+	}
+	connection.Close()
+	for until := time.Now().Add(3 * time.Second); f.front.waiting.used.Load() != 0; time.Sleep(time.Millisecond) {
+		if time.Now().After(until) {
+			t.Fatal("its bytes are still counted")
+		}
+	}
+}
+
+// writeKeyPair writes a new certificate and its key into a folder, and gives the certificate.
+func writeKeyPair(t testing.TB, folder string, authority *standin.Authority) []byte {
+	t.Helper()
+	certificate, key, err := authority.KeyPair()
+	if err != nil {
+		t.Fatal(err)
+	}
+	writeFile(t, folder+"/cert.pem", certificate)
+	writeFile(t, folder+"/key.pem", key)
+	block, _ := pem.Decode(certificate)
+	return block.Bytes
+}
+
+// Over TLS: from version 1.2 on, by HTTP/1.1, and a handshake has its time.
+func TestTLS(t *testing.T) {
+	f := newFixture(t, 0, func(o *Options) { o.Limits.Headers = 200 * time.Millisecond })
+	folder := t.TempDir()
+	certificate := writeKeyPair(t, folder, f.authority)
+	kept, err := LoadCertificate(folder+"/cert.pem", folder+"/key.pem")
+	if err != nil {
+		t.Fatal(err)
+	}
+	address, _ := f.listening(kept.Config())
+	ask := func(config *tls.Config) (*tls.ConnectionState, error) {
+		config.InsecureSkipVerify = true
+		connection, err := tls.Dial("tcp", address, config)
+		if err != nil {
+			return nil, err
+		}
+		defer connection.Close()
+		fmt.Fprintf(connection, "GET /healthz HTTP/1.1\r\nHost: log\r\n\r\n")
+		answer, err := http.ReadResponse(bufio.NewReader(connection), nil)
+		if err == nil && answer.StatusCode != 200 {
+			err = errors.New(answer.Status)
+		}
+		state := connection.ConnectionState()
+		return &state, err
+	}
+	state, err := ask(&tls.Config{NextProtos: []string{"h2", "http/1.1"}})
+	if err != nil || state.NegotiatedProtocol != "http/1.1" || !bytes.Equal(state.PeerCertificates[0].Raw, certificate) {
+		t.Errorf("%v, %v", state, err)
+	}
+	if _, err := ask(&tls.Config{MaxVersion: tls.VersionTLS11}); err == nil {
+		t.Error("TLS 1.1 is taken")
+	}
+	silent := dial(t, address)
+	began := time.Now()
+	if n, err := silent.Read(make([]byte, 1)); n != 0 || err == nil || time.Since(began) > 3*time.Second {
+		t.Errorf("a handshake that doesn't come: %d bytes, %v", n, err)
+	}
+	// A reload takes the new pair, and keeps the old one where that isn't one.
+	certificate = writeKeyPair(t, folder, f.authority)
+	if err := kept.Reload(); err != nil {
+		t.Fatal(err)
+	}
+	if state, err := ask(&tls.Config{}); err != nil || !bytes.Equal(state.PeerCertificates[0].Raw, certificate) {
+		t.Errorf("after a reload: %v", err)
+	}
+	writeFile(t, folder+"/key.pem", []byte("none"))
+	if err := kept.Reload(); err == nil {
+		t.Error("a key that is none is taken")
+	}
+	if state, err := ask(&tls.Config{}); err != nil || !bytes.Equal(state.PeerCertificates[0].Raw, certificate) {
+		t.Errorf("after a reload that failed: %v", err)
+	}
+}

@@ -1,0 +1,92 @@
+package standin
+
+import (
+	"crypto/ecdsa"
+	"crypto/elliptic"
+	"crypto/rand"
+	"crypto/x509"
+	"crypto/x509/pkix"
+	"encoding/asn1"
+	"encoding/base64"
+	"encoding/json"
+	"encoding/pem"
+	"fmt"
+	"math/big"
+	"sync/atomic"
+	"time"
+)
+
+// Authority is a root that issues certificates and precertificates.
+type Authority struct {
+	Root *x509.Certificate
+	key  *ecdsa.PrivateKey
+	leaf *ecdsa.PrivateKey
+	last atomic.Int64
+}
+
+// NewAuthority makes one with a new key.
+func NewAuthority(name string) (*Authority, error) {
+	key, err := ecdsa.GenerateKey(elliptic.P256(), rand.Reader)
+	if err != nil {
+		return nil, err
+	}
+	leaf, err := ecdsa.GenerateKey(elliptic.P256(), rand.Reader)
+	if err != nil {
+		return nil, err
+	}
+	template := &x509.Certificate{
+		SerialNumber: big.NewInt(1), Subject: pkix.Name{CommonName: name}, BasicConstraintsValid: true, IsCA: true, KeyUsage: x509.KeyUsageCertSign,
+		NotBefore: time.Date(2026, 1, 1, 0, 0, 0, 0, time.UTC), NotAfter: time.Date(2036, 1, 1, 0, 0, 0, 0, time.UTC),
+	}
+	der, err := x509.CreateCertificate(rand.Reader, template, template, &key.PublicKey, key)
+	if err != nil {
+		return nil, err
+	}
+	root, err := x509.ParseCertificate(der)
+	return &Authority{Root: root, key: key, leaf: leaf}, err
+}
+
+// PEM is the root as a file of roots has it.
+func (a *Authority) PEM() []byte {
+	return pem.EncodeToMemory(&pem.Block{Type: "CERTIFICATE", Bytes: a.Root.Raw})
+}
+
+// Issue issues a certificate of its own, or with the poison a precertificate; it ends at a moment.
+func (a *Authority) Issue(poison bool, notAfter time.Time) ([]byte, error) {
+	number := a.last.Add(1) + 1
+	template := &x509.Certificate{
+		SerialNumber: big.NewInt(number), Subject: pkix.Name{CommonName: fmt.Sprintf("host-%d.example", number)},
+		DNSNames: []string{fmt.Sprintf("host-%d.example", number)}, NotBefore: a.Root.NotBefore, NotAfter: notAfter,
+	}
+	if poison {
+		template.ExtraExtensions = []pkix.Extension{{Id: asn1.ObjectIdentifier{1, 3, 6, 1, 4, 1, 11129, 2, 4, 3}, Critical: true, Value: []byte{5, 0}}}
+	}
+	return x509.CreateCertificate(rand.Reader, template, a.Root, &a.leaf.PublicKey, a.key)
+}
+
+// Submission is the body of add-chain and add-pre-chain.
+func Submission(chain ...[]byte) []byte {
+	texts := []string{}
+	for _, der := range chain {
+		texts = append(texts, base64.StdEncoding.EncodeToString(der))
+	}
+	body, err := json.Marshal(map[string][]string{"chain": texts})
+	if err != nil {
+		panic(err)
+	}
+	return body
+}
+
+// KeyPair makes a server's certificate with its key, in PEM.
+func (a *Authority) KeyPair() (certificate, key []byte, err error) {
+	der, err := a.Issue(false, a.Root.NotAfter)
+	if err != nil {
+		return nil, nil, err
+	}
+	private, err := x509.MarshalPKCS8PrivateKey(a.leaf)
+	if err != nil {
+		return nil, nil, err
+	}
+	certificate = pem.EncodeToMemory(&pem.Block{Type: "CERTIFICATE", Bytes: der})
+	return certificate, pem.EncodeToMemory(&pem.Block{Type: "PRIVATE KEY", Bytes: private}), nil
+}

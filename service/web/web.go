@@ -1,0 +1,268 @@
+// Package web answers a log's calls over HTTP: those of RFC 6962, section 4, and of C2SP static-ct-api. It only transports: what
+// it answers comes from a log.Log, and which chains are taken a chains.Checker says.
+//
+// It speaks HTTP/1.1. Nothing in it grows without a bound: connections are counted, altogether and by address; bodies and the
+// submissions that wait have so many bytes together; each request has its time.
+package web
+
+import (
+	"net/http"
+	"net/netip"
+	"runtime"
+	"runtime/debug"
+	"strings"
+	"sync/atomic"
+	"time"
+
+	"wagtenib/service/chains"
+	"wagtenib/service/log"
+)
+
+// The bounds that no option moves.
+const (
+	// MostHeader is how many bytes the headers of a request may have.
+	MostHeader = 16 << 10
+	// MostBody is how many bytes a submission may have. (A chain has at most chains.MostBytes, in base64.)
+	MostBody = 1 << 20
+	// MostEntries is how many entries get-entries answers at most.
+	MostEntries = 256
+	// MostEntryBytes is how many bytes they may have together, in base64 not counted, but for the first one.
+	MostEntryBytes = 1000000
+)
+
+// Limits are the bounds that an operator may move.
+type Limits struct {
+	// Headers is how long the headers of a request may take, and Request the whole of it, with its body.
+	Headers, Request time.Duration
+	// Submission is how long a submission waits to be checked and to be in a published head.
+	Submission time.Duration
+	// Reading is how long a call that reads the log waits for it.
+	Reading time.Duration
+	// Answer is how long an answer may take to be sent.
+	Answer time.Duration
+	// Idle is how long a connection is kept between two requests.
+	Idle time.Duration
+	// Connections is how many there are at once, and ConnectionsByAddress how many of one address (of IPv6, of one /64), or
+	// requests at once where a proxy says for whom it asks.
+	Connections, ConnectionsByAddress int
+	// Checks is how many chains are checked at once.
+	Checks int
+	// WaitingBytes is how many bytes the bodies of all submissions have that are read, checked or wait.
+	WaitingBytes int64
+}
+
+// DefaultLimits are those of a log on one machine.
+func DefaultLimits() Limits {
+	return Limits{
+		Headers: 10 * time.Second, Request: 20 * time.Second, Submission: 30 * time.Second, Reading: 10 * time.Second,
+		Answer: 60 * time.Second, Idle: 60 * time.Second,
+		Connections: 4096, ConnectionsByAddress: 64,
+		Checks: 2 * runtime.GOMAXPROCS(0), WaitingBytes: 64 << 20,
+	}
+}
+
+// Options are how a front is set up.
+type Options struct {
+	Limits Limits
+	// Proxies are the addresses of those whose X-Forwarded-For is believed: its last address.
+	Proxies []netip.Prefix
+	// Lines takes what is to be told; nil tells nothing.
+	Lines *Lines
+	// LogRequests tells every request, and not only those that fail at the log's side.
+	LogRequests bool
+}
+
+// Front answers the calls of one log. It is an http.Handler, for clients; Operator is the one for operators.
+type Front struct {
+	log         log.Log
+	checker     *chains.Checker
+	options     Options
+	limits      Limits
+	metrics     *metrics
+	ending      atomic.Bool
+	checks      chan struct{}
+	waiting     budget
+	requests    counts
+	connections connections
+	roots       atomic.Pointer[encodedRoots]
+	issuers     issuers
+}
+
+// New makes a front.
+func New(of log.Log, checker *chains.Checker, options Options) *Front {
+	limits := options.Limits
+	if limits.Checks < 1 {
+		limits.Checks = 1
+	}
+	f := &Front{
+		log: of, checker: checker, options: options, limits: limits,
+		checks:   make(chan struct{}, limits.Checks),
+		waiting:  budget{most: limits.WaitingBytes},
+		requests: counts{most: limits.ConnectionsByAddress},
+	}
+	f.connections.byAddress.most = limits.ConnectionsByAddress
+	f.metrics = newMetrics(f)
+	return f
+}
+
+// Refuse has all submissions refused from now on, and /readyz say that the log ends.
+func (f *Front) Refuse() { f.ending.Store(true) }
+
+// call is what one path, or all paths below one, are answered by.
+type call struct {
+	name   string
+	method string
+	serve  func(*Front, http.ResponseWriter, *http.Request) error
+}
+
+var (
+	calls = map[string]call{
+		"/":                          {"page", http.MethodGet, (*Front).page},
+		"/checkpoint":                {"checkpoint", http.MethodGet, (*Front).checkpoint},
+		"/healthz":                   {"healthz", http.MethodGet, (*Front).healthz},
+		"/readyz":                    {"readyz", http.MethodGet, (*Front).readyz},
+		"/ct/v1/add-chain":           {"add-chain", http.MethodPost, (*Front).addChain},
+		"/ct/v1/add-pre-chain":       {"add-pre-chain", http.MethodPost, (*Front).addPreChain},
+		"/ct/v1/get-roots":           {"get-roots", http.MethodGet, (*Front).getRoots},
+		"/ct/v1/get-sth":             {"get-sth", http.MethodGet, (*Front).getSTH},
+		"/ct/v1/get-entries":         {"get-entries", http.MethodGet, (*Front).getEntries},
+		"/ct/v1/get-sth-consistency": {"get-sth-consistency", http.MethodGet, (*Front).notYet},
+		"/ct/v1/get-proof-by-hash":   {"get-proof-by-hash", http.MethodGet, (*Front).notYet},
+		"/ct/v1/get-entry-and-proof": {"get-entry-and-proof", http.MethodGet, (*Front).notYet},
+	}
+	tileCall   = call{"tile", http.MethodGet, (*Front).tile}
+	issuerCall = call{"issuer", http.MethodGet, (*Front).issuer}
+	noCall     = call{"none", "", nil}
+)
+
+// callOf gives the call of a request. A path is taken as it stands: none is cleaned, and none has characters of its name encoded.
+func callOf(r *http.Request) call {
+	if r.URL.RawPath != "" {
+		return noCall
+	}
+	if c, there := calls[r.URL.Path]; there {
+		return c
+	}
+	switch {
+	case strings.HasPrefix(r.URL.Path, "/tile/"):
+		return tileCall
+	case strings.HasPrefix(r.URL.Path, "/issuer/"):
+		return issuerCall
+	}
+	return noCall
+}
+
+// ServeHTTP answers a client.
+func (f *Front) ServeHTTP(w http.ResponseWriter, r *http.Request) {
+	began := time.Now()
+	c := callOf(r)
+	a := &answer{ResponseWriter: w}
+	defer func() {
+		if fault := recover(); fault != nil {
+			if fault == http.ErrAbortHandler {
+				panic(fault)
+			}
+			f.options.Lines.Error("panic", "call", c.name, "fault", fault, "stack", string(debug.Stack()))
+			f.refuse(a, refusal{status: http.StatusInternalServerError, name: "internal"})
+		}
+		f.told(c, a, r, time.Since(began))
+	}()
+	a.Header().Set("X-Content-Type-Options", "nosniff")
+	client := f.clientOf(r)
+	if !f.requests.take(client) {
+		f.refuse(a, refusal{status: http.StatusTooManyRequests, name: "too-many-requests", after: 1})
+		return
+	}
+	defer f.requests.give(client)
+	if err := f.serve(c, a, r); err != nil {
+		f.refuse(a, refusalOf(err))
+	}
+}
+
+func (f *Front) serve(c call, w http.ResponseWriter, r *http.Request) error {
+	if c.serve == nil {
+		return refusal{status: http.StatusNotFound, name: "no-such-path"}
+	}
+	if r.Method != c.method && !(r.Method == http.MethodHead && c.method == http.MethodGet) {
+		w.Header().Set("Allow", allowed(c))
+		return refusal{status: http.StatusMethodNotAllowed, name: "method"}
+	}
+	if c.method == http.MethodGet && r.ContentLength != 0 {
+		return refusal{status: http.StatusBadRequest, name: "body", detail: "a request that reads has none", closes: true}
+	}
+	return c.serve(f, w, r)
+}
+
+func allowed(c call) string {
+	if c.method == http.MethodGet {
+		return "GET, HEAD"
+	}
+	return c.method
+}
+
+// answer remembers what was answered.
+type answer struct {
+	http.ResponseWriter
+	status  int
+	bytes   int64
+	refusal string
+	detail  string
+}
+
+func (a *answer) WriteHeader(status int) {
+	if a.status == 0 {
+		a.status = status
+	}
+	a.ResponseWriter.WriteHeader(status)
+}
+
+func (a *answer) Write(bytes []byte) (int, error) {
+	if a.status == 0 {
+		a.status = http.StatusOK
+	}
+	n, err := a.ResponseWriter.Write(bytes)
+	a.bytes += int64(n)
+	return n, err
+}
+
+// told counts a request, and tells it.
+func (f *Front) told(c call, a *answer, r *http.Request, took time.Duration) {
+	f.metrics.request(c.name, a.status, a.refusal, took)
+	fault := a.status >= 500 && a.status != http.StatusNotImplemented && c.name != "readyz"
+	if !fault && !f.options.LogRequests {
+		return
+	}
+	tell := f.options.Lines.Info
+	if fault {
+		tell = f.options.Lines.Warn
+	}
+	tell("request", "call", c.name, "method", r.Method, "status", a.status, "refusal", a.refusal, "detail", a.detail,
+		"bytes", a.bytes, "ms", float64(took.Microseconds())/1000, "address", f.clientOf(r).String())
+}
+
+// clientOf is for whom a request is: the peer, or where that is one of the proxies, whom it names.
+func (f *Front) clientOf(r *http.Request) netip.Addr {
+	peer := addressOf(r.RemoteAddr)
+	if !f.isProxy(peer) {
+		return peer
+	}
+	named := r.Header.Values("X-Forwarded-For")
+	if len(named) == 0 {
+		return peer
+	}
+	last := named[len(named)-1]
+	last = strings.TrimSpace(last[strings.LastIndexByte(last, ',')+1:])
+	if address, err := netip.ParseAddr(last); err == nil {
+		return address.Unmap().WithZone("")
+	}
+	return peer
+}
+
+func (f *Front) isProxy(address netip.Addr) bool {
+	for _, proxy := range f.options.Proxies {
+		if proxy.Contains(address) {
+			return true
+		}
+	}
+	return false
+}

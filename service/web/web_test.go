@@ -1,0 +1,502 @@
+package web
+
+import (
+	"bytes"
+	"context"
+	"crypto/ecdsa"
+	"crypto/sha256"
+	"encoding/base64"
+	"encoding/hex"
+	"encoding/json"
+	"errors"
+	"fmt"
+	"net/http"
+	"net/http/httptest"
+	"net/netip"
+	"strings"
+	"sync"
+	"testing"
+	"time"
+
+	"wagtenib/service/chains"
+	"wagtenib/service/log"
+	"wagtenib/service/web/standin"
+)
+
+// fixture is a front of a log in memory.
+type fixture struct {
+	t         testing.TB
+	log       *standin.Log
+	authority *standin.Authority
+	checker   *chains.Checker
+	front     *Front
+	lines     *text
+}
+
+// text is what was written, by several at once.
+type text struct {
+	mutex  sync.Mutex
+	buffer bytes.Buffer
+}
+
+func (b *text) Write(some []byte) (int, error) {
+	b.mutex.Lock()
+	defer b.mutex.Unlock()
+	return b.buffer.Write(some)
+}
+
+func (b *text) String() string {
+	b.mutex.Lock()
+	defer b.mutex.Unlock()
+	return b.buffer.String()
+}
+
+var ends = time.Date(2027, 1, 1, 0, 0, 0, 0, time.UTC)
+
+func newFixture(t testing.TB, every time.Duration, change func(*Options)) *fixture {
+	t.Helper()
+	authority, err := standin.NewAuthority("A root")
+	if err != nil {
+		t.Fatal(err)
+	}
+	roots, err := chains.ParseRoots(authority.PEM())
+	if err != nil {
+		t.Fatal(err)
+	}
+	of, err := standin.New(every)
+	if err != nil {
+		t.Fatal(err)
+	}
+	t.Cleanup(func() { of.End(context.Background()) })
+	window := chains.Window{From: ends.AddDate(-1, 0, 0), To: ends.AddDate(1, 0, 0)}
+	f := &fixture{t: t, log: of, authority: authority, checker: chains.NewChecker(roots, window), lines: &text{}}
+	options := Options{Limits: DefaultLimits(), Lines: NewLines(f.lines)}
+	if change != nil {
+		change(&options)
+	}
+	f.front = New(of, f.checker, options)
+	return f
+}
+
+func (f *fixture) do(method, target string, body []byte) *httptest.ResponseRecorder {
+	r := httptest.NewRequest(method, target, bytes.NewReader(body))
+	w := httptest.NewRecorder()
+	f.front.ServeHTTP(w, r)
+	return w
+}
+
+func (f *fixture) get(target string) *httptest.ResponseRecorder { return f.do("GET", target, nil) }
+
+func (f *fixture) issue(poison bool) []byte {
+	f.t.Helper()
+	der, err := f.authority.Issue(poison, ends)
+	if err != nil {
+		f.t.Fatal(err)
+	}
+	return der
+}
+
+// fill adds entries to the log, without the front.
+func (f *fixture) fill(count int) (certificates [][]byte) {
+	f.t.Helper()
+	one := f.issue(false)
+	var entries []log.Entry
+	for i := 0; i < count; i++ {
+		entry := log.Entry{Certificate: append([]byte{byte(i >> 8), byte(i)}, one...), Issuers: [][]byte{f.authority.Root.Raw}}
+		certificates, entries = append(certificates, entry.Certificate), append(entries, entry)
+	}
+	f.log.Add(entries)
+	return certificates
+}
+
+// refused says whether an answer is a refusal of this status and name, which no cache keeps.
+func refused(t testing.TB, what string, w *httptest.ResponseRecorder, status int, name string) {
+	t.Helper()
+	var told struct {
+		Message string `json:"error_message"`
+		Detail  string `json:"detail"`
+	}
+	if err := json.Unmarshal(w.Body.Bytes(), &told); err != nil {
+		t.Fatalf("%s: %d %q: %v", what, w.Code, w.Body, err)
+	}
+	if w.Code != status || told.Message != name || w.Header().Get("Cache-Control") != "no-store" {
+		t.Errorf("%s: %d %s (%s), %q, where %d %s was expected", what, w.Code, told.Message, told.Detail, w.Header()["Cache-Control"], status, name)
+	}
+}
+
+// verifies says whether a DigitallySigned is the log's over some bytes.
+func (f *fixture) verifies(signed, signature []byte) bool {
+	digest := sha256.Sum256(signed)
+	return len(signature) > 4 && bytes.HasPrefix(signature, []byte{4, 3, 0}) && int(signature[3]) == len(signature)-4 &&
+		ecdsa.VerifyASN1(&f.log.Key.PublicKey, digest[:], signature[4:])
+}
+
+func TestSubmissionsAreAnsweredWithTimestamps(t *testing.T) {
+	f := newFixture(t, 10*time.Millisecond, nil)
+	for number, test := range []struct {
+		path string
+		der  []byte
+		take func([][]byte) (*chains.Entry, error)
+	}{
+		{"/ct/v1/add-chain", f.issue(false), f.checker.Certificate},
+		{"/ct/v1/add-pre-chain", f.issue(true), f.checker.Precertificate},
+	} {
+		w := f.do("POST", test.path, standin.Submission(test.der, f.authority.Root.Raw))
+		if w.Code != 200 || w.Header().Get("Content-Type") != "application/json" || w.Header().Get("Cache-Control") != "no-store" {
+			t.Fatalf("%s: %d %v %s", test.path, w.Code, w.Header(), w.Body)
+		}
+		var keys map[string]any
+		if err := json.Unmarshal(w.Body.Bytes(), &keys); err != nil || len(keys) != 5 || keys["sct_version"] != 0.0 {
+			t.Errorf("%s: %v, %v", test.path, keys, err)
+		}
+		var told signedTimestamp
+		if err := json.Unmarshal(w.Body.Bytes(), &told); err != nil {
+			t.Fatal(err)
+		}
+		entry, err := test.take([][]byte{test.der})
+		if err != nil {
+			t.Fatal(err)
+		}
+		if !bytes.Equal(told.Extensions, []byte{0, 0, 5, 0, 0, 0, 0, byte(number)}) {
+			t.Errorf("%s: extensions %x", test.path, told.Extensions)
+		}
+		if !f.verifies(standin.TimestampSigned(*entry, told.Timestamp, told.Extensions), told.Signature) || len(told.ID) != 32 {
+			t.Errorf("%s: the signature isn't over the entry: %s", test.path, w.Body)
+		}
+	}
+}
+
+func TestChainsAreRefusedByName(t *testing.T) {
+	f := newFixture(t, 10*time.Millisecond, nil)
+	other, err := standin.NewAuthority("Another root")
+	if err != nil {
+		t.Fatal(err)
+	}
+	foreign, _ := other.Issue(false, ends)
+	late, _ := f.authority.Issue(false, ends.AddDate(1, 0, 0))
+	certificate, precertificate := f.issue(false), f.issue(true)
+	forged := append([]byte(nil), certificate...)
+	forged[len(forged)-1] ^= 1
+	for _, test := range []struct {
+		name, path string
+		chain      [][]byte
+	}{
+		{"empty-chain", "add-chain", nil},
+		{"no-certificate", "add-chain", [][]byte{[]byte("none")}},
+		{"chain-too-long", "add-chain", bytes.SplitN(bytes.Repeat([]byte("a"), 17), nil, 17)},
+		{"certificate-too-long", "add-chain", [][]byte{make([]byte, chains.LongestCertificate+1)}},
+		{"not-issued-by-next", "add-chain", [][]byte{certificate, other.Root.Raw}},
+		{"unknown-root", "add-chain", [][]byte{foreign}},
+		{"unknown-root", "add-chain", [][]byte{foreign, other.Root.Raw}},
+		{"unknown-root", "add-chain", [][]byte{forged}},
+		{"bad-signature", "add-chain", [][]byte{forged, f.authority.Root.Raw}},
+		{"outside-window", "add-chain", [][]byte{late}},
+		{"is-precertificate", "add-chain", [][]byte{precertificate}},
+		{"no-poison", "add-pre-chain", [][]byte{certificate}},
+	} {
+		w := f.do("POST", "/ct/v1/"+test.path, standin.Submission(test.chain...))
+		refused(t, test.name, w, 400, test.name)
+	}
+	if size := f.log.Figures().Entries; size != 0 {
+		t.Errorf("%d entries came of them", size)
+	}
+}
+
+func TestBodiesAreRefused(t *testing.T) {
+	f := newFixture(t, 10*time.Millisecond, func(o *Options) { o.Limits.WaitingBytes = 4096 })
+	for _, body := range []string{"", "chain", `{"chain":"AAAA"}`, `{"chain":["!"]}`, `[]`, `{"chain":[]} {}`, `{"chain":[7]}`, `{"chain":["AAAA"]`} {
+		refused(t, body, f.do("POST", "/ct/v1/add-chain", []byte(body)), 400, "no-submission")
+	}
+	refused(t, "no chain", f.do("POST", "/ct/v1/add-chain", []byte(`{}`)), 400, "empty-chain")
+	refused(t, "bytes", f.do("POST", "/ct/v1/add-chain", make([]byte, MostBody+1)), 413, "body-too-large")
+	refused(t, "bytes that wait", f.do("POST", "/ct/v1/add-chain", make([]byte, 4097)), 503, "busy")
+	if used := f.front.waiting.used.Load(); used != 0 {
+		t.Errorf("%d bytes are still counted", used)
+	}
+	r := httptest.NewRequest("POST", "/ct/v1/add-chain", strings.NewReader("{}"))
+	r.ContentLength = -1
+	w := httptest.NewRecorder()
+	f.front.ServeHTTP(w, r)
+	refused(t, "without a length", w, 411, "length-required")
+	if w.Header().Get("Connection") != "close" {
+		t.Error("a connection whose bodies end nobody knows where isn't closed")
+	}
+}
+
+// What the log answers comes out with its status, and where it is of a moment, with the time to ask again.
+func TestErrorsOfTheLog(t *testing.T) {
+	f := newFixture(t, 10*time.Millisecond, func(o *Options) { o.Limits.Submission, o.Limits.Reading = 50*time.Millisecond, 50*time.Millisecond })
+	body := standin.Submission(f.issue(false))
+	for _, test := range []struct {
+		err    error
+		status int
+		name   string
+		after  string
+	}{
+		{log.ErrBusy, 503, "busy", "1"},
+		{log.ErrTooLarge, 400, "entry-too-large", ""},
+		{log.ErrEnded, 503, "ended", "10"},
+		{log.ErrClock, 503, "clock", "10"},
+		{log.ErrStore, 503, "store", "5"},
+		{fmt.Errorf("deep inside: %w", log.ErrStore), 503, "store", "5"},
+		{context.DeadlineExceeded, 503, "late", "5"},
+		{errors.New("secret of the machine"), 500, "internal", ""},
+	} {
+		f.log.Break(test.err)
+		w := f.do("POST", "/ct/v1/add-chain", body)
+		refused(t, "add-chain "+test.name, w, test.status, test.name)
+		if after := w.Header().Get("Retry-After"); after != test.after {
+			t.Errorf("%s: Retry-After %q", test.name, after)
+		}
+		if strings.Contains(w.Body.String(), "secret") {
+			t.Errorf("a client is told %s", w.Body)
+		}
+		for _, path := range []string{"/checkpoint", "/ct/v1/get-sth", "/ct/v1/get-entries?start=0&end=0"} {
+			refused(t, path+" "+test.name, f.get(path), test.status, test.name)
+		}
+		if unready := f.get("/readyz"); unready.Code != 503 {
+			t.Errorf("%s: /readyz %d", test.name, unready.Code)
+		}
+	}
+	refused(t, "a tile", f.get("/tile/0/000.p/1"), 503, "store")
+	if !strings.Contains(f.lines.String(), "secret of the machine") {
+		t.Error("the operator isn't told it")
+	}
+	f.log.Break(nil)
+	if w := f.get("/readyz"); w.Code != 200 || w.Body.String() != "ready\n" {
+		t.Errorf("/readyz: %d %s", w.Code, w.Body)
+	}
+}
+
+func TestFullQueue(t *testing.T) {
+	f := newFixture(t, 0, nil)
+	f.log.MostQueue = 3
+	var all sync.WaitGroup
+	answers := make(chan *httptest.ResponseRecorder, 3)
+	for i := 0; i < 3; i++ {
+		body := standin.Submission(f.issue(false))
+		all.Add(1)
+		go func() {
+			defer all.Done()
+			answers <- f.do("POST", "/ct/v1/add-chain", body)
+		}()
+	}
+	for f.log.Figures().Queue < 3 {
+		time.Sleep(time.Millisecond)
+	}
+	w := f.do("POST", "/ct/v1/add-chain", standin.Submission(f.issue(false)))
+	refused(t, "the fourth", w, 503, "busy")
+	if w.Header().Get("Retry-After") != "1" {
+		t.Error("it isn't told when to come again")
+	}
+	refused(t, "/readyz", f.get("/readyz"), 503, "busy")
+	f.log.Publish()
+	all.Wait()
+	for i := 0; i < 3; i++ {
+		if w := <-answers; w.Code != 200 {
+			t.Errorf("one that waited: %d %s", w.Code, w.Body)
+		}
+	}
+}
+
+// A submission that isn't answered within its time is refused, and one whose client goes takes no more room.
+func TestSubmissionsThatWait(t *testing.T) {
+	f := newFixture(t, 0, func(o *Options) { o.Limits.Submission = 30 * time.Millisecond })
+	w := f.do("POST", "/ct/v1/add-chain", standin.Submission(f.issue(false)))
+	refused(t, "late", w, 503, "late")
+	ctx, cancel := context.WithCancel(context.Background())
+	r := httptest.NewRequest("POST", "/ct/v1/add-chain", bytes.NewReader(standin.Submission(f.issue(false)))).WithContext(ctx)
+	cancel()
+	w = httptest.NewRecorder()
+	f.front.ServeHTTP(w, r)
+	refused(t, "gone", w, 503, "gone")
+	if used := f.front.waiting.used.Load(); used != 0 {
+		t.Errorf("%d bytes are still counted", used)
+	}
+}
+
+func TestRoots(t *testing.T) {
+	f := newFixture(t, 0, nil)
+	for i := 0; i < 2; i++ {
+		var told struct {
+			Certificates [][]byte `json:"certificates"`
+		}
+		w := f.get("/ct/v1/get-roots")
+		if err := json.Unmarshal(w.Body.Bytes(), &told); err != nil || w.Code != 200 {
+			t.Fatal(w.Code, err)
+		}
+		if len(told.Certificates) != 1 || !bytes.Equal(told.Certificates[0], f.authority.Root.Raw) {
+			t.Errorf("roots: %s", w.Body)
+		}
+	}
+}
+
+func TestCallsThatWantProofs(t *testing.T) {
+	f := newFixture(t, 0, nil)
+	for _, path := range []string{"get-sth-consistency?first=0&second=1", "get-proof-by-hash?hash=AA&tree_size=1", "get-entry-and-proof?leaf_index=0&tree_size=1"} {
+		refused(t, path, f.get("/ct/v1/"+path), 501, "not-implemented")
+	}
+}
+
+func TestMethodsAndPaths(t *testing.T) {
+	f := newFixture(t, 0, nil)
+	for path, c := range calls {
+		for _, method := range []string{"GET", "POST", "PUT", "DELETE", "PATCH", "OPTIONS", "HEAD", "X"} {
+			if method == c.method || method == "HEAD" && c.method == "GET" {
+				continue
+			}
+			w := f.do(method, path, nil)
+			refused(t, method+" "+path, w, 405, "method")
+			if w.Header().Get("Allow") != allowed(c) {
+				t.Errorf("%s %s: Allow %q", method, path, w.Header().Get("Allow"))
+			}
+		}
+		if c.method == "GET" {
+			refused(t, path, f.do("GET", path, []byte("x")), 400, "body")
+		}
+	}
+	for _, path := range []string{
+		"//", "/checkpoint/", "//checkpoint", "/./checkpoint", "/ct/v1/../v1/get-sth", "/check%70oint", "/ct%2fv1/get-sth", "/tile", "/tile/", "/issuer/",
+		"/index.html", "/metrics", "/ct/v1/", "/tile/0/000%2ep/1", "/issuer/../checkpoint", "/Checkpoint",
+	} {
+		refused(t, path, f.get(path), 404, "no-such-path")
+	}
+}
+
+func TestPage(t *testing.T) {
+	f := newFixture(t, 0, nil)
+	w := f.get("/")
+	if w.Code != 200 || w.Header().Get("Content-Type") != "text/html; charset=utf-8" || !bytes.Equal(w.Body.Bytes(), pageText) {
+		t.Errorf("/: %d %v", w.Code, w.Header())
+	}
+	_, script, _ := strings.Cut(w.Body.String(), "<script>")
+	script, _, _ = strings.Cut(script, "</script>")
+	hash := sha256.Sum256([]byte(script))
+	if policy := w.Header().Get("Content-Security-Policy"); script == "" || !strings.Contains(policy, base64.StdEncoding.EncodeToString(hash[:])) {
+		t.Errorf("the page's script may not run: %s", policy)
+	}
+}
+
+func TestMetricsAndHealth(t *testing.T) {
+	f := newFixture(t, 0, func(o *Options) { o.LogRequests = true })
+	f.fill(5)
+	f.get("/checkpoint")
+	f.get("/nothing/of/this")
+	f.do("POST", "/ct/v1/add-chain", []byte("{}"))
+	ask := func(path string) *httptest.ResponseRecorder {
+		w := httptest.NewRecorder()
+		f.front.Operator().ServeHTTP(w, httptest.NewRequest("GET", path, nil))
+		return w
+	}
+	w := ask("/metrics")
+	for _, line := range []string{
+		`ctserve_requests_total{call="checkpoint",status="200"} 1`,
+		`ctserve_requests_total{call="none",status="404"} 1`,
+		`ctserve_refusals_total{call="add-chain",refusal="empty-chain"} 1`,
+		`ctserve_request_seconds_count{call="checkpoint"} 1`,
+		"ctserve_entries 5", "ctserve_queue 0", "ctserve_queue_most 1024", "ctserve_lost_swaps_total 3", "ctserve_fault 0", "ctserve_roots 1",
+		"ctserve_waiting_bytes 0", `ctserve_connections_refused_total{bound="address"} 0`,
+	} {
+		if !strings.Contains(w.Body.String(), line+"\n") {
+			t.Errorf("/metrics lacks %s", line)
+		}
+	}
+	if !strings.Contains(w.Body.String(), "\nctserve_head_age_seconds 0.") {
+		t.Error("/metrics lacks the head's age")
+	}
+	for path, text := range map[string]string{"/healthz": "ok\n", "/readyz": "ready\n"} {
+		if w := ask(path); w.Code != 200 || w.Body.String() != text {
+			t.Errorf("%s: %d %s", path, w.Code, w.Body)
+		}
+	}
+	f.front.Refuse()
+	refused(t, "/readyz", ask("/readyz"), 503, "ended")
+	refused(t, "add-chain", f.do("POST", "/ct/v1/add-chain", standin.Submission(f.issue(false))), 503, "ended")
+	for _, line := range strings.Split(strings.TrimSpace(f.lines.String()), "\n") {
+		var told map[string]any
+		if err := json.Unmarshal([]byte(line), &told); err != nil || told["event"] != "request" || told["time"] == "" {
+			t.Errorf("a line: %s: %v", line, err)
+		}
+	}
+}
+
+// A panic of the log is a refusal, and is told.
+func TestPanic(t *testing.T) {
+	f := newFixture(t, 0, nil)
+	f.front.log = nil
+	refused(t, "a panic", f.get("/checkpoint"), 500, "internal")
+	if !strings.Contains(f.lines.String(), `"event":"panic"`) {
+		t.Error("it isn't told")
+	}
+}
+
+func TestLinesAreBounded(t *testing.T) {
+	var told text
+	l := NewLines(&told)
+	now := time.Unix(1000, 0)
+	l.now = func() time.Time { return now }
+	for i := 0; i < mostLines+7; i++ {
+		l.Info("x", "quoted \"\n", errors.New("\"\n"), "number", 7, "nothing", "", "none")
+	}
+	l.Error("y")
+	now = now.Add(time.Second)
+	l.Info("z")
+	lines := strings.Split(strings.TrimSpace(told.String()), "\n")
+	if len(lines) != mostLines+3 || !strings.Contains(lines[mostLines+1], `"lines":7`) {
+		t.Errorf("%d lines, at their end %s", len(lines), lines[len(lines)-2:])
+	}
+	for _, line := range lines {
+		if !json.Valid([]byte(line)) {
+			t.Errorf("no JSON: %s", line)
+		}
+	}
+	(*Lines)(nil).Info("nothing")
+}
+
+// Whom a proxy names is believed of a proxy alone, and its last name; one client's requests are bounded, another's aren't.
+func TestClientsBehindProxies(t *testing.T) {
+	f := newFixture(t, 0, func(o *Options) {
+		o.Proxies = []netip.Prefix{netip.MustParsePrefix("127.0.0.0/8"), netip.MustParsePrefix("::1/128")}
+		o.Limits.ConnectionsByAddress = 1
+	})
+	for _, test := range []struct{ peer, named, client string }{
+		{"192.0.2.1:7", "", "192.0.2.1"},
+		{"192.0.2.1:7", "198.51.100.7", "192.0.2.1"},
+		{"127.0.0.1:7", "198.51.100.7", "198.51.100.7"},
+		{"127.0.0.1:7", "203.0.113.1, 198.51.100.7", "198.51.100.7"},
+		{"[::1]:7", "2001:db8::7", "2001:db8::7"},
+		{"[::ffff:127.0.0.1]:7", "::ffff:198.51.100.7", "198.51.100.7"},
+		{"127.0.0.1:7", "nobody", "127.0.0.1"},
+		{"127.0.0.1:7", "", "127.0.0.1"},
+	} {
+		r := httptest.NewRequest("GET", "/", nil)
+		r.RemoteAddr = test.peer
+		if test.named != "" {
+			r.Header.Set("X-Forwarded-For", test.named)
+		}
+		if client := f.front.clientOf(r).String(); client != test.client {
+			t.Errorf("%s for %q is %s", test.peer, test.named, client)
+		}
+	}
+	one, same, other := netip.MustParseAddr("2001:db8::1"), netip.MustParseAddr("2001:db8::2:3"), netip.MustParseAddr("2001:db8:0:1::1")
+	if !f.front.requests.take(one) || f.front.requests.take(same) || !f.front.requests.take(other) {
+		t.Error("addresses of IPv6 don't count by /64")
+	}
+	r := httptest.NewRequest("GET", "/", nil)
+	r.RemoteAddr = "[2001:db8::77]:7"
+	w := httptest.NewRecorder()
+	f.front.ServeHTTP(w, r)
+	refused(t, "a second request", w, 429, "too-many-requests")
+	f.front.requests.give(one)
+	f.front.requests.give(other)
+	if len(f.front.requests.of) != 0 {
+		t.Error("addresses stay behind")
+	}
+}
+
+func fingerprintOf(der []byte) string {
+	fingerprint := sha256.Sum256(der)
+	return hex.EncodeToString(fingerprint[:])
+}
+
+var _ http.Handler = (*Front)(nil)
