@@ -276,7 +276,14 @@ func (s *Sequencer) checkpoint(ctx context.Context) (log.Head, error) {
 	if seen != nil && seen.TreeSize >= published && (seen.TreeSize > published || seen.Timestamp >= k.state.Moment || k.state.Size > published) {
 		return *seen, nil
 	}
-	head, err := s.publishedHead(ctx, published)
+	head, err := log.Head{}, stores.ErrAbsent
+	if k.state.Size == published {
+		head, err = s.readHead(ctx, headName(k.state))
+	}
+	if errors.Is(err, stores.ErrAbsent) {
+		// The newest state's isn't out yet.
+		head, err = s.publishedHead(ctx, published)
+	}
 	if err != nil {
 		return log.Head{}, err
 	}

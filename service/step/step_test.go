@@ -124,6 +124,7 @@ func TestWrongPrograms(t *testing.T) {
 	for name, lines := range map[string]string{
 		"is silent":        "exec sleep 60",
 		"doesn't read":     "exec sleep 60 </dev/null",
+		"has a child":      "sleep 60; echo",
 		"ends":             "exit 1",
 		"replies no JSON":  "read x; echo no",
 		"replies a list":   "read x; echo '[]'",
