@@ -11,6 +11,7 @@ import (
 
 // TestCheckerSees makes a log that is right, and bends what it published in one place at a time: the checker says what is wrong.
 func TestCheckerSees(t *testing.T) {
+	t.Parallel()
 	p, got := newPlace(t), &answers{}
 	s := started(t, p.config(t), hooks{})
 	must(t, got.submitAll(limited(t), s, 0, 100, 100))

@@ -12,6 +12,7 @@ var phases = []string{"stepped", "bundle put", "swapped", "tiles out", "places a
 // TestKillsAtEachPhase kills (-9) a node in each phase of its second and fourth step, and has the next one go on. What was answered
 // is in its place, and what wasn't and is submitted again comes in once.
 func TestKillsAtEachPhase(t *testing.T) {
+	t.Parallel()
 	for _, phase := range phases {
 		phase := phase
 		t.Run(phase, func(t *testing.T) {
@@ -35,6 +36,7 @@ func TestKillsAtEachPhase(t *testing.T) {
 
 // TestNodesAtOnce has three processes carry one log, with the same submissions among them, each killed once in another phase.
 func TestNodesAtOnce(t *testing.T) {
+	t.Parallel()
 	p, got := newPlace(t), &answers{}
 	var all sync.WaitGroup
 	failed := make(chan error, 3)
@@ -63,6 +65,7 @@ func TestNodesAtOnce(t *testing.T) {
 
 // TestPausesAtEachPhase stops a node in a phase while another one carries the log on, and lets it go on behind that.
 func TestPausesAtEachPhase(t *testing.T) {
+	t.Parallel()
 	for _, phase := range phases {
 		phase := phase
 		t.Run(phase, func(t *testing.T) {
