@@ -1,4 +1,4 @@
-.PHONY: help demo test check service service-test service-engines link install install-library install-ctlog install-ctlogd install-ctmonitor install-ctguard fuzz load sweep wrong sources serve interop
+.PHONY: help demo test check service service-test service-engines link install install-library install-ctlog install-ctlogd install-ctmonitor install-ctguard fuzz load sweep wrong sources serve tiles interop
 
 SECONDS ?= 60
 RUNS ?= 20
@@ -14,7 +14,7 @@ TO = $(DESTDIR)$(PREFIX)
 help: ## says what each target does
 	@sed -n 's/^\([a-z-]*\):.*## /make \1	/p' Makefile | expand -t 24
 
-demo: ## builds ctlog and ctmonitor, and runs them on a first session, real certificates and a log that forks
+demo: ## proves ctlog and ctmonitor, and shows something of each layer as soon as it is proved
 	@checks/needs.sh demo
 	@examples/demo.sh
 
@@ -101,3 +101,7 @@ serve: ## serves ctlogd over HTTP at PORT=8618 (RFC 6962, section 4), with its j
 
 interop: ## has certspotter follow a log over HTTP to verified heads, and a client in Go submit to it and check what it answers
 	@LOG="$(LOG)" examples/http/interop.sh
+
+# After `rt run` in crates/tile_lines, which builds it.
+tiles: ## has golang.org/x/mod/sumdb/tlog read the tiles of logs of eight sizes and check their proofs; without Go, hashlib compares the lines
+	@examples/tiles/check.sh

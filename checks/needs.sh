@@ -9,23 +9,21 @@ missing=0
 # The processor minutes that a target takes where nothing was proved before, all on the faster machine of docs/GATE.md.
 work_of() {
   case $1 in
-    demo) echo 41 ;;
+    demo) echo 46 ;;
     serve) echo 48 ;;
     test) echo 126 ;;
     link) echo 6 ;;
   esac
 }
 
-# The minutes that target $1 takes on $2 processors, rounded to five. The gate proves crates side by side: a third is added where processors
-# share them, and more than eight gain little. The others prove crate after crate, so that four processors are taken to halve the time.
+# The minutes that target $1 takes on $2 processors, rounded to five. Crates are proved side by side: a third is added where processors share
+# them, and more than eight gain little, of a program's own crates more than four.
 minutes() {
   python3 - "$1" "$(work_of "$1")" "$2" <<'END'
 import sys
 
 what, work, processors = sys.argv[1], int(sys.argv[2]), int(sys.argv[3])
-taken = work / min(processors, 4) ** 0.5
-if what == "test" and processors > 1:
-    taken = work * 4 / 3 / min(processors, 8)
+taken = work if processors == 1 else work * 4 / 3 / min(processors, 8 if what == "test" else 4)
 print(max(5, round(taken / 5) * 5))
 END
 }
@@ -62,7 +60,7 @@ if command -v python3 >/dev/null && ! python3 -c 'import sys; sys.exit(sys.versi
   lacks "a python3 of 3.8 or later: this one is $(python3 --version 2>&1)"
 fi
 case $what in
-  demo) tools="cmp cut diff grep mktemp realpath sed seq sort tail uniq wc" ;;
+  demo) tools="cmp cut diff grep mktemp realpath sed seq sort tail uniq wc" ;; # (and a C compiler, where its part is to be linked)
   link) tools="${CC:-cc} ar mktemp nm sed" ;;
   *) tools= ;;
 esac
@@ -77,7 +75,7 @@ kit=$(rt version)
 processors=$(python3 -c 'import os; print(len(os.sched_getaffinity(0)))')
 [ "$processors" = 1 ] && on="one processor" || on="$processors processors"
 case $what in
-  demo) first="ctlog, ctmonitor and the crates below them. Where nothing was proved before, that" ;;
+  demo) first="ctlog, ctmonitor, libwagtenib, growth_lines and the crates below them. Where nothing was proved before, that" ;;
   serve) first="ctlogd and the crates below it. Where nothing was proved before, that" ;;
   link) first="the library and the crates below it. Where nothing was proved before, that" ;;
   test) first="everything, from nothing. That" ;;

@@ -1,95 +1,285 @@
 #!/usr/bin/env python3
-"""Runs a command of rt in a crate's folder, and says as it goes which crate is being proved, how many of its functions are, and for how long.
+"""Proves and builds crates and all below them, and says as it goes what is proved, how much of the rest is, and for how long.
 
-    build.py CRATE lib|run [WORDS..]
+    build.py CRATE ..
+    build.py --show SCRIPT PART=CRATE[,CRATE].. ..
 
-What rt prints is kept, and printed where it fails. The status is rt's. Where all is proved already it prints one line.
+With --show it runs `SCRIPT PART` as soon as the crates of a part are built, and prints what that writes in one piece. The crates of an earlier part go
+first, and of one part's those with the longest chain of crates above them, which gets a second processor where there are four.
+
+Crates that don't stand on each other are proved side by side, as many as processors and memory allow. Only one rt works in a crate's folder, and in
+those of all crates below it; so each of them works in a copy of the sources, where it finds what rt has built in the others, and the programs are
+put together here. Where rt can't keep that beside the kit, crate after crate is proved here. rt decides what has to be proved: a library that is
+newer than its sources and those below it is only not asked for. What rt prints is kept, and printed where it fails.
 """
+import concurrent.futures
 import os
 import pathlib
 import re
+import resource
+import shutil
 import subprocess
 import sys
+import tempfile
 import threading
 import time
 
 ROOT = pathlib.Path(__file__).resolve().parent.parent
-BEGINS = re.compile(r"rt: chose --jobs \d+ for (\w+)")
 SO_FAR = re.compile(r"so far: (\d+) of (\d+) functions checked")
 PROVED = re.compile(r"logic=proved functions=(\d+)")
 # How often it says where it is, in seconds, while nothing else happens.
 EVERY = 30
+# The memory that a proof is taken to need, in bytes, and the most proofs at a time.
+MEMORY, MOST = 2_000_000_000, 8
 
 
-def crates_below(crate):
-    """The crate with all that it stands on, of this repository."""
-    lines = [line.partition(":") for line in (ROOT / "crates.txt").read_text().splitlines() if line and line[0] != "#"]
-    uses = {head.split()[0]: below.split() for head, _, below in lines}
-    found, waiting = set(), [crate]
-    while waiting:
-        name = waiting.pop()
-        if name in uses and name not in found:
-            found.add(name)
-            waiting += uses[name]
-    return found
+class Crates:
+    """What crates.txt says."""
+
+    def __init__(self):
+        lines = [line.partition(":") for line in (ROOT / "crates.txt").read_text().splitlines() if line and line[0] != "#"]
+        uses = {head.split()[0]: below.split() for head, _, below in lines}
+        self.uses = {name: [it for it in below if it in uses] for name, below in uses.items()}
+        self.archives = {head.split()[0] for head, _, _ in lines if "staticlib" in head.split()}
+
+    def below(self, *names):
+        """These crates and all that they stand on, lowest first."""
+        found = {}
+        for name in names:
+            found.update(dict.fromkeys(self.below(*self.uses[name])))
+            found[name] = None
+        return [*found]
+
+    def is_program(self, name):
+        return (ROOT / "crates" / name / "src" / "main.rt").exists()
+
+    def is_put_together(self, name):
+        """Whether a crate is built for itself, and not for crates above it."""
+        return self.is_program(name) or name in self.archives
+
+    def sources(self, name):
+        return [path for part in ("src", "specs", "proofs") for path in (ROOT / "crates" / name / part).rglob("*") if path.is_file()]
+
+    def size(self, name):
+        """A crate's bytes, by which its proof's time is guessed."""
+        return sum(path.stat().st_size for path in self.sources(name))
+
+    def is_built(self, name):
+        """Whether a library was built after each of its sources, and of those below it, was last written."""
+        built = ROOT / "crates" / name / "out" / "rlib" / "stamp"
+        paths = [ROOT / "crates.txt", *(path for below in self.below(name) for path in self.sources(below))]
+        return built.exists() and built.stat().st_mtime > max(path.stat().st_mtime for path in paths)
+
+    def behind(self, names):
+        """For each of these crates the longest chain of work that begins with it."""
+        found = {}
+        for name in reversed(names):
+            found[name] = self.size(name) + max((found[it] for it in found if name in self.uses[it]), default=0)
+        return found
 
 
-class Progress:
-    """What rt has said so far, in a few words."""
+def processors():
+    return len(os.sched_getaffinity(0))
 
-    def __init__(self, crate):
-        self.start, self.crates = time.monotonic(), crates_below(crate)
-        self.crate, self.functions, self.done, self.log = None, "", 0, []
+
+def places():
+    """How many proofs may run side by side."""
+    said = subprocess.run(["rt", "doc"], capture_output=True, text=True).stdout.strip()
+    kept = pathlib.Path(said).resolve().parent.parent / "rattle-kept"
+    free = re.search(r"MemAvailable:\s+(\d+)", pathlib.Path("/proc/meminfo").read_text())
+    can_share = said and os.access(kept if kept.exists() else kept.parent, os.W_OK)
+    return max(1, min(processors(), MOST, int(free[1]) * 1024 // MEMORY)) if can_share and free else 1
+
+
+class Proof:
+    """One rt at work on a crate."""
+
+    def __init__(self, name, top, jobs):
+        self.name, self.jobs, self.top = name, jobs, top
+        self.log, self.functions, self.so_far, self.status = [], None, "", None
+        self.start = time.monotonic()
+        self.ran = None
+
+    def words(self, is_program):
+        jobs = ["--jobs", str(self.jobs)] if self.jobs else []
+        return ["rt", "run", *jobs, "--", "--help"] if is_program else ["rt", "lib", *jobs]
+
+    def run(self, is_program):
+        """Runs rt to its end."""
+        how = {"stdout": subprocess.PIPE, "stderr": subprocess.STDOUT, "stdin": subprocess.DEVNULL, "errors": "replace"}
+        # (rt is a Python program: with this its own lines come as they are written)
+        environment = {**os.environ, "PYTHONUNBUFFERED": "1"}
+        self.ran = subprocess.Popen(self.words(is_program), cwd=self.top / "crates" / self.name, env=environment, **how)
+        for line in self.ran.stdout:
+            self.log.append(line)
+            if so_far := SO_FAR.search(line):
+                self.so_far = f" ({so_far[1]} of {so_far[2]} functions)"
+            elif proved := PROVED.search(line):
+                self.functions = int(proved[1])
+        self.status = self.ran.wait()
+        return self
+
+    def took(self):
+        return f"{int(time.monotonic() - self.start)} s"
+
+
+class Build:
+    """All that is to be proved, in which order, and what is shown of it."""
+
+    def __init__(self, crates, parts, script):
+        self.crates, self.parts, self.script = crates, dict(parts), script
+        self.start, self.turn = time.monotonic(), threading.Lock()
+        wanted = [name for part in parts.values() for name in part]
+        self.all = crates.below(*wanted)
+        self.behind, self.rank = crates.behind(self.all), {}
+        for number, part in enumerate(parts.values()):
+            for name in crates.below(*part):
+                self.rank.setdefault(name, number)
+        built = {name for name in self.all if not crates.is_put_together(name) and crates.is_built(name)}
+        self.left = [name for name in self.all if name not in built]
+        self.done, self.count, self.running = set(built), 0, {}
+        self.places = places() if len(self.left) > 1 and any(not crates.is_put_together(name) for name in self.left) else 1
+        # The checkout itself is for what is put together; where proofs don't run side by side, it is for all.
+        self.copies, self.failed = [], None
 
     def say(self, text):
-        seconds = int(time.monotonic() - self.start)
-        print(f"  {seconds // 60:3} min {seconds % 60:02} s  {text}", flush=True)
+        with self.turn:
+            seconds = int(time.monotonic() - self.start)
+            print(f"  {seconds // 60:3} min {seconds % 60:02} s  {text}", flush=True)
 
-    def take(self, line):
-        """Takes in a line of rt's."""
-        self.log.append(line)
-        if begins := BEGINS.search(line):
-            self.crate, self.functions = begins[1], ""
-            self.say(f"{self.crate} ..")
-        elif so_far := SO_FAR.search(line):
-            self.functions = f"{so_far[1]} of {so_far[2]} functions"
-        elif (proved := PROVED.search(line)) and self.crate:
-            self.done += 1
-            self.say(f"{self.crate}: proved, {proved[1]} functions ({self.done} of at most {len(self.crates)} crates)")
-            self.crate, self.functions = None, ""
+    def copy(self, room):
+        """A copy of the sources, for one rt."""
+        top = pathlib.Path(tempfile.mkdtemp(prefix="copy", dir=room))
+        shutil.copytree(ROOT / "crates", top / "crates", ignore=shutil.ignore_patterns("out"))
+        for name in ("crates.txt", "HANDLES"):
+            if (ROOT / name).exists():
+                shutil.copy(ROOT / name, top / name)
+        return top
+
+    def place(self, name, room):
+        """A folder for the crate's proof, or None while there is none."""
+        if self.places == 1 or self.crates.is_put_together(name):
+            return None if ROOT in self.running.values() else ROOT
+        free = [top for top in self.copies if top not in self.running.values()]
+        if not free and len(self.copies) < self.places:
+            self.copies.append(self.copy(room))
+            free = self.copies[-1:]
+        return free[0] if free else None
+
+    def ready(self):
+        """The crates that can begin, those that matter most first."""
+        found = [name for name in self.left if all(it in self.done for it in self.crates.uses[name])]
+        return sorted(found, key=lambda name: (self.rank[name], -self.behind[name]))
+
+    def jobs(self, name, idle, others):
+        """How many jobs the proof of a crate gets of the idle processors, on which so many crates wait, itself among them; 0 leaves it to rt."""
+        if self.places == 1:
+            return 0
+        is_longest = self.behind[name] == max(self.behind[it] for it in self.left)
+        return max(1, min(4, idle // others), min(2, idle) if is_longest and self.places >= 4 else 1)
+
+    def begin(self, pool, room):
+        """Begins as many proofs as there are places for, and answers those."""
+        begun = {}
+        ready = self.ready()
+        for at, name in enumerate(ready):
+            idle = self.places - sum(proof.jobs or 1 for proof in self.running)
+            if idle < 1:
+                break
+            top = self.place(name, room)
+            if top is None:
+                continue
+            proof = Proof(name, top, self.jobs(name, idle, len(ready) - at))
+            self.left.remove(name)
+            self.running[proof] = top
+            begun[pool.submit(proof.run, self.crates.is_program(name))] = proof
+        return begun
+
+    def end(self, proof):
+        """Takes in a proof that has ended."""
+        del self.running[proof]
+        self.done.add(proof.name)
+        if proof.status:
+            self.failed = self.failed or proof
+        elif proof.functions is not None:
+            self.count += 1
+            self.say(f"{proof.name}: proved, {proof.functions} functions, in {proof.took()} ({len(self.done)} of {len(self.all)} crates)")
+        else:
+            self.say(f"{proof.name}: proved before ({len(self.done)} of {len(self.all)} crates)")
 
     def beat(self):
-        """Says where it is, now and then."""
-        self.say(f"{self.crate} .. {self.functions}".rstrip() if self.crate else "rt looks through the sources, or puts the program together")
+        """Says where it is."""
+        at = [f"{proof.name}{proof.so_far}" for proof in self.running if proof.status is None]
+        if at:
+            self.say(f"at work on {', '.join(at)}")
+
+    def shown(self, part):
+        """Runs the script on a part, and prints what it wrote."""
+        ran = subprocess.run([self.script, part], stdout=subprocess.PIPE, stderr=subprocess.STDOUT, stdin=subprocess.DEVNULL)
+        with self.turn:
+            sys.stdout.flush()
+            sys.stdout.buffer.write(b"\n" + ran.stdout + b"\n")
+            sys.stdout.flush()
+        return part if ran.returncode else None
+
+    def show(self, pool):
+        """Begins to show the parts whose crates are built."""
+        found = {}
+        for part, names in list(self.parts.items()):
+            if self.script and all(name in self.done for name in names):
+                del self.parts[part]
+                found[pool.submit(self.shown, part)] = part
+        return found
+
+    def work(self, room):
+        """Does all of it, and answers what failed: a proof, a part's name, or None."""
+        waiting, parts = {}, {}
+        with concurrent.futures.ThreadPoolExecutor(self.places + 1) as pool, concurrent.futures.ThreadPoolExecutor(1) as shows:
+            while not self.failed:
+                waiting.update(self.begin(pool, room))
+                parts.update(self.show(shows))
+                if not waiting and not parts:
+                    break
+                ended = concurrent.futures.wait([*waiting, *parts], timeout=EVERY, return_when=concurrent.futures.FIRST_COMPLETED).done
+                if not ended:
+                    self.beat()
+                for future in ended:
+                    if waiting.pop(future, None):
+                        self.end(future.result())
+                    else:
+                        self.failed = self.failed or future.result()
+                        del parts[future]
+            for proof in self.running:
+                if self.failed and proof.ran:
+                    proof.ran.terminate()
+        return self.failed
 
 
 def main():
-    crate, *words = sys.argv[1:]
-    progress, ended = Progress(crate), threading.Event()
-
-    def beats():
-        while not ended.wait(EVERY):
-            progress.beat()
-
-    threading.Thread(target=beats, daemon=True).start()
-    how = {"stdout": subprocess.PIPE, "stderr": subprocess.STDOUT, "stdin": subprocess.DEVNULL, "errors": "replace"}
-    # (rt is a Python program: with this its own lines come as they are written)
-    ran = subprocess.Popen(["rt", *words], cwd=ROOT / "crates" / crate, env={**os.environ, "PYTHONUNBUFFERED": "1"}, **how)
-    try:
-        for line in ran.stdout:
-            progress.take(line)
-        status = ran.wait()
-    except KeyboardInterrupt:
-        ran.wait()
-        sys.exit("stopped; what was proved is kept")
-    ended.set()
-    if status:
-        sys.stderr.write("".join(progress.log))
-        print(f"{crate} was not built: rt {' '.join(words)} ended with status {status}", file=sys.stderr)
+    words = sys.argv[1:]
+    script = words[1] if words[:1] == ["--show"] else None
+    if script:
+        parts = {part: [name for name in names.split(",") if name] for part, _, names in (word.partition("=") for word in words[2:])}
     else:
-        progress.say(f"{crate} is built" if progress.done else f"{crate} was built before, and nothing has changed since")
-    sys.exit(status if status >= 0 else 1)
+        parts = {"all": words}
+    build = Build(Crates(), parts, script)
+    # (a copy's builds take some GB: a folder of the disk, not of memory)
+    disk = None if "TMPDIR" in os.environ or not os.access("/var/tmp", os.W_OK) else "/var/tmp"
+    with tempfile.TemporaryDirectory(prefix="wagtenib-", dir=disk) as room:
+        failed = build.work(room)
+    if isinstance(failed, Proof):
+        sys.stderr.write("".join(failed.log))
+        sys.exit(f"{failed.name} was not built: rt ended with status {failed.status}")
+    if failed:
+        sys.exit(f"{script} {failed} failed; what was proved is kept")
+    used = resource.getrusage(resource.RUSAGE_CHILDREN)
+    minutes = (used.ru_utime + used.ru_stime) / 60
+    if build.count:
+        build.say(f"{build.count} crates proved, in {minutes:.1f} processor minutes")
 
 
 if __name__ == "__main__":
-    main()
+    try:
+        main()
+    except KeyboardInterrupt:
+        sys.exit("stopped; what was proved is kept")

@@ -1,11 +1,27 @@
 #!/usr/bin/env bash
-# Builds ctlog, runs it on the first session of README.md and on real certificate chains, through one front and through four at once, and
-# compares what it writes with what is expected. Then builds ctmonitor, and watches with it that log, and a made-up one over three days
-# that forks, is rewritten, and shrinks. With CTLOG=PATH or CTMONITOR=PATH another program with the same command line is run in its place.
+# Proves the crates below the programs, and shows something of each layer as soon as it is proved: an audit path as long as a real log's, and
+# forged ones; a log that forks, is rewritten, and shrinks, watched by ctmonitor; ctlog on the first session of README.md and on real certificate
+# chains, through one front and through four at once; its answers watched; and the steps of a log on tiles. Each part quotes what is proved of it, and
+# compares what is written with what is expected.
+#
+#     demo.sh          all parts
+#     demo.sh PART     one of them, whose crates are built: path, monitor, log, watched or tiles
+#
+# With CTLOG=PATH or CTMONITOR=PATH another program with the same command line is run in its place, in the parts of these two alone.
 set -eu
+export PYTHONDONTWRITEBYTECODE=1
 program=${CTLOG:+$(realpath "$CTLOG")}
 monitor=${CTMONITOR:+$(realpath "$CTMONITOR")}
 cd "$(dirname "$0")/.."
+if [ $# = 0 ]; then
+  [ -n "$program" ] || ctlog=ctlog
+  [ -n "$monitor" ] || ctmonitor=ctmonitor
+  own="monitor=${ctmonitor-} log=${ctlog-} watched=${ctlog-},${ctmonitor-}"
+  [ -n "$program$monitor" ] || own="path=wagtenib $own tiles=growth_lines"
+  # (each word is a part)
+  # shellcheck disable=SC2086
+  exec examples/build.py --show examples/demo.sh $own
+fi
 program=${program:-crates/ctlog/out/ctlog}
 monitor=${monitor:-crates/ctmonitor/out/ctmonitor}
 ring=32
@@ -19,10 +35,10 @@ fail() {
   exit 1
 }
 
-build() {
-  echo "Building $1: rt proves it and the crates below it, and says which it is at."
-  examples/build.py "$1" run -- --help || fail "$1 was not built"
-  echo
+# Says what is proved, in words and in those of a file of the sources, which stand on standard input.
+proved() {
+  echo "Proved, in $1: $2"
+  sed 's/^/    | /'
 }
 
 # Runs the program on the lines of examples/$2.jsonl with $1 fronts. The replies come to $work/$2, and once more
@@ -49,8 +65,7 @@ compare() {
 
 # Has an independent program compute the same replies.
 recompute() {
-  command -v python3 >/dev/null || return 0
-  PYTHONDONTWRITEBYTECODE=1 python3 examples/expected.py "$1" "$ring" "$open_at" "$close_at" <"examples/$2.jsonl" |
+  python3 examples/expected.py "$1" "$ring" "$open_at" "$close_at" <"examples/$2.jsonl" |
     cmp -s - "$work/$2.shown" || fail "examples/expected.py computes other replies"
   echo "An independent program (examples/expected.py, hashlib alone) computes the same replies."
 }
@@ -74,52 +89,27 @@ watch() {
   [ "$status" = "$(cat "$work/$1.status")" ] || fail "ctmonitor ended the run $1 with status $status"
 }
 
-[ -n "${CTLOG:-}" ] || build ctlog
+show_path() {
+  echo "== An audit path as long as a real log's, and forged ones, checked by libwagtenib =="
+  proved crates/wagtenib/src/proofs.rt "whatever the hashes and numbers are, the answer is 0 exactly where the path leads from the leaf to the root, and else the number of a fault that it has" <<'END'
+ensures { Judges result (AcceptsInclusion sha256 leaf_hash.now leaf_index tree_size path.now root.now)
+    (RefusesInclusion sha256 leaf_hash.now leaf_index tree_size path.now root.now) }
+END
+  if command -v "${CC:-cc}" >/dev/null && command -v ar >/dev/null; then
+    examples/link/library.sh
+    python3 examples/link/real_path.py "$PWD/crates/wagtenib/out/link/libwagtenib.so" || fail "examples/link/real_path.py finds other answers"
+  else
+    echo "It isn't linked and run, since no C compiler with ar is here."
+  fi
+}
 
-echo "The first session of README.md: $program --fronts 1 --ring 4096 --close-at 7 < examples/first-session.jsonl"
-"$program" --fronts 1 --ring 4096 --close-at 7 <examples/first-session.jsonl >"$work/first-session" || fail "$program ended with status $?"
-cat "$work/first-session"
-diff "$work/first-session" examples/first-session.expected.jsonl >&2 || fail "the replies differ from examples/first-session.expected.jsonl"
-echo
-
-echo "One front: $program --fronts 1 --ring $ring --open-at $open_at --close-at $close_at < examples/real-chains.jsonl"
-run 1 real-chains
-compare 1 real-chains
-echo "$(grep -c '"add-chain"' examples/real-chains.jsonl) chains of certificates and $(grep -c '"add-pre-chain"' examples/real-chains.jsonl) of precertificates, some twice, two empty; settled, shut down, and closed. The tree head:"
-tail -n 1 "$work/real-chains"
-echo "Each of the $(grep -c . "$work/real-chains") replies is the expected one."
-recompute 1 real-chains
-echo
-
-echo "Four fronts in threads: $program --fronts 4 .. < examples/four-fronts.jsonl"
-for _ in 1 2 3; do
-  run 4 four-fronts
-  compare 4 four-fronts
-done
-shown=0
-for front in 0 1 2 3; do
-  show "front $front" "$(lines_of "$front")"
-done
-show "the operator, and a line that is no request" $(($(lines_of '"operator"') + 1))
-show "the frozen log" "$(lines_of '"frozen"')"
-echo "In three runs each of the $(grep -c . "$work/four-fronts") replies is the expected one, and the tickets are those that were to be given, each once."
-recompute 4 four-fronts
-if command -v python3 >/dev/null; then
-  echo "Another (examples/check.py) finds in what ctlog wrote:"
-  PYTHONDONTWRITEBYTECODE=1 python3 examples/check.py 4 examples/four-fronts.jsonl "$work/four-fronts" || fail "examples/check.py finds a fault"
-fi
-echo
-
-[ -n "${CTMONITOR:-}" ] || build ctmonitor
-echo "ctlog | ctmonitor: the head and the entries of the first log, as they were replied, and a watched name"
-{ cat examples/real-chains.jsonl && echo '{"who":"frozen","op":"get-entries","start":0,"end":99}'; } |
-  "$program" --fronts 1 --ring "$ring" --open-at "$open_at" --close-at "$close_at" | tail -n 2 |
-  "$monitor" --name microsoft.com >"$work/watched" || fail "ctmonitor ended with status $?"
-grep -q '"verdict":"accepted"' "$work/watched" || fail "ctmonitor didn't accept ctlog's head"
-cut -c1-120 "$work/watched" | sed 's/^/    /'
-if command -v python3 >/dev/null; then
-  echo "A made-up log over three days, and what it does on the fourth (examples/monitor/answers.py, hashlib alone, says what is to be written):"
-  PYTHONDONTWRITEBYTECODE=1 python3 examples/monitor/answers.py "$work" || fail "examples/monitor/answers.py failed"
+show_monitor() {
+  echo "== A made-up log over three days, and what it does on the fourth, watched by ctmonitor =="
+  proved crates/ct_watch/src/watcher.rt "where a head is accepted, whatever the leaves D that were read, its size and root are those of D" <<'END'
+ensures compared { IfOk result (λ v. v ≡ Accepted → (D : List (List ℕ)) → Stands H.digest self.old.all (map (hash_leaf H.digest) D)
+    → IsHeadOfAll H.digest D (waiting_or self.old.waiting head)) }
+END
+  python3 examples/monitor/answers.py "$work" || fail "examples/monitor/answers.py failed"
   for path in "$work"/*.in; do
     watch "$(basename "$path" .in)"
   done
@@ -127,5 +117,70 @@ if command -v python3 >/dev/null; then
     echo "  $run: status $(cat "$work/$run.status")"
     grep '"verdict"' "$work/$run.told" | cut -c1-120 | sed 's/^/    /'
   done
-  echo "In each of $(ls "$work"/*.in | wc -l) runs the verdicts, the state and the exit status are those."
-fi
+  echo "In each of $(ls "$work"/*.in | wc -l) runs the verdicts, the state and the exit status are those that examples/monitor/answers.py computes, by hashlib alone."
+}
+
+show_log() {
+  echo "== The first session of README.md: $program --fronts 1 --ring 4096 --close-at 7 < examples/first-session.jsonl =="
+  proved crates/ctlog/src/main.rt "where the exit status is 0, what is written is what a log replies to all that was read, in some order between its fronts" <<'END'
+ensures done { result ≡ 0 → IsDone (asked_of (name_of Program.Ctlog) words.now) (R.remaining input.old) (W.contents output.old) (W.contents output.new) }
+END
+  "$program" --fronts 1 --ring 4096 --close-at 7 <examples/first-session.jsonl >"$work/first-session" || fail "$program ended with status $?"
+  cat "$work/first-session"
+  diff "$work/first-session" examples/first-session.expected.jsonl >&2 || fail "the replies differ from examples/first-session.expected.jsonl"
+  echo
+
+  echo "One front: $program --fronts 1 --ring $ring --open-at $open_at --close-at $close_at < examples/real-chains.jsonl"
+  run 1 real-chains
+  compare 1 real-chains
+  echo "$(grep -c '"add-chain"' examples/real-chains.jsonl) chains of certificates and $(grep -c '"add-pre-chain"' examples/real-chains.jsonl) of precertificates, some twice, two empty; settled, shut down, and closed. The tree head:"
+  tail -n 1 "$work/real-chains"
+  echo "Each of the $(grep -c . "$work/real-chains") replies is the expected one."
+  recompute 1 real-chains
+  echo
+
+  echo "Four fronts in threads: $program --fronts 4 .. < examples/four-fronts.jsonl"
+  for _ in 1 2 3; do
+    run 4 four-fronts
+    compare 4 four-fronts
+  done
+  shown=0
+  for front in 0 1 2 3; do
+    show "front $front" "$(lines_of "$front")"
+  done
+  show "the operator, and a line that is no request" $(($(lines_of '"operator"') + 1))
+  show "the frozen log" "$(lines_of '"frozen"')"
+  echo "In three runs each of the $(grep -c . "$work/four-fronts") replies is the expected one, and the tickets are those that were to be given, each once."
+  recompute 4 four-fronts
+  echo "Another (examples/check.py) finds in what ctlog wrote:"
+  python3 examples/check.py 4 examples/four-fronts.jsonl "$work/four-fronts" || fail "examples/check.py finds a fault"
+}
+
+show_watched() {
+  echo "== ctlog | ctmonitor: the head and the entries of that log, as they were replied, and a watched name =="
+  proved crates/ct_follow/src/program.rt "where the exit status isn't 1, what is written, and the status, are what a run over these answers of a log gives" <<'END'
+ensures answered { result ≢ 1 → IsAnswered (monitor_call (map string_bytes words.now)) (R.remaining input)
+    (W.contents output.old) (W.contents output.new) (E.contents faults.old) (E.contents faults.new) result }
+END
+  { cat examples/real-chains.jsonl && echo '{"who":"frozen","op":"get-entries","start":0,"end":99}'; } |
+    "$program" --fronts 1 --ring "$ring" --open-at "$open_at" --close-at "$close_at" | tail -n 2 |
+    "$monitor" --name microsoft.com >"$work/watched" || fail "ctmonitor ended with status $?"
+  grep -q '"verdict":"accepted"' "$work/watched" || fail "ctmonitor didn't accept ctlog's head"
+  cut -c1-120 "$work/watched" | sed 's/^/    /'
+}
+
+show_tiles() {
+  echo "== A log on tiles: steps with 3, 0, 253 and 10 certificates, by growth_lines =="
+  proved crates/ct_growth/src/growth.rt "whatever list D of leaves the state is of, the receipts, tiles, head and next state are those of D with the batch behind it" <<'END'
+ensures growth { IfOk result (λ g. (D : List (List ℕ)) → IsState H.digest state.now D → IsGrowth H.digest D (map entry_of batch.now) now g) }
+END
+  crates/growth_lines/out/growth_lines >"$work/growth" || fail "growth_lines ended with status $?"
+  grep -E '^(tile|growth|bent|seven|believed)' "$work/growth" | cut -c1-120 | sed 's/^/    /'
+  python3 examples/tiles/growth.py | cmp -s - "$work/growth" || fail "examples/tiles/growth.py computes other lines"
+  echo "An independent program (examples/tiles/growth.py, hashlib alone) computes the same $(grep -c . "$work/growth") lines, of $(grep -c ^receipt "$work/growth") receipts."
+}
+
+case $1 in
+  path | monitor | log | watched | tiles) "show_$1" ;;
+  *) fail "no part is named $1" ;;
+esac

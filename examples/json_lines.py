@@ -84,8 +84,8 @@ def json_of(line, longest=LONGEST_LINE):
 
 
 def json_line(value):
-    """A value as a line of compact JSON, its keys in the order of their bytes, and with the shortest escapes (RFC 8259)."""
-    return json.dumps(value, separators=(",", ":"), sort_keys=True, ensure_ascii=False).encode() + b"\n"
+    """A value as compact JSON in UTF-8, its keys in the order of their bytes, and with the shortest escapes (RFC 8259)."""
+    return json.dumps(value, separators=(",", ":"), sort_keys=True, ensure_ascii=False).encode()
 
 
 def lines_of(stream, longest=LONGEST_LINE):

@@ -1,6 +1,5 @@
-"""The tree of RFC 6962, section 2.1, by plain recursion, and the checking of proofs by the steps of RFC 9162, section 2.1.3.
-
-For expected.py and check.py. Nothing but hashlib is used, and nothing of ctlog's code.
+"""The tree of RFC 6962, section 2.1, by plain recursion, and the checking of proofs, by the steps of RFC 9162, section 2.1.3, and by recursion with the
+fault of a false one. Nothing but hashlib is used, and no code of a crate.
 """
 import hashlib
 
@@ -91,3 +90,64 @@ def extends(first, second, first_root, second_root, hashes):
             sr = node_hash(sr, sibling)
         fn, sn = fn >> 1, sn >> 1
     return sn == 0 and fr == first_root and sr == second_root
+
+
+def path_length(m, n):
+    """How many hashes PATH(m, D) has for n leaves D."""
+    if n == 1:
+        return 0
+    k = split(n)
+    return 1 + (path_length(m, k) if m < k else path_length(m - k, n - k))
+
+
+def root_by_path(found, m, n, hashes):
+    """MTH of n leaves of which that at m has the hash `found`, and PATH is these hashes."""
+    if n == 1:
+        return found
+    k = split(n)
+    if m < k:
+        return node_hash(root_by_path(found, m, k, hashes[:-1]), hashes[-1])
+    return node_hash(hashes[-1], root_by_path(found, m - k, n - k, hashes[:-1]))
+
+
+def fault_of_path(leaf, m, n, hashes, wanted):
+    """Why the path doesn't lead from the leaf at m to the wanted root of n leaves, or None."""
+    if m >= n:
+        return "index-out-of-range"
+    length = path_length(m, n)
+    if len(hashes) != length:
+        return "path-too-long" if len(hashes) > length else "path-too-short"
+    return None if root_by_path(leaf_hash(leaf), m, n, hashes) == wanted else "root-mismatch"
+
+
+def proof_length(m, n, whole=True):
+    """How many hashes SUBPROOF(m, D, whole) has for n leaves D."""
+    if m == n:
+        return 0 if whole else 1
+    k = split(n)
+    return 1 + (proof_length(m, k, whole) if m <= k else proof_length(m - k, n - k, False))
+
+
+def roots_by_proof(m, n, known, hashes, whole=True):
+    """MTH of the first m and of all n leaves, of which SUBPROOF is these hashes, and the first root, where the whole is asked for, the known one."""
+    if m == n:
+        return (known, known) if whole else (hashes[-1], hashes[-1])
+    k = split(n)
+    if m <= k:
+        old, new = roots_by_proof(m, k, known, hashes[:-1], whole)
+        return old, node_hash(new, hashes[-1])
+    old, new = roots_by_proof(m - k, n - k, known, hashes[:-1], False)
+    return node_hash(hashes[-1], old), node_hash(hashes[-1], new)
+
+
+def fault_of_proof(first, second, first_root, second_root, hashes):
+    """Why the proof doesn't lead to both roots, or None."""
+    if not 0 < first < second:
+        return "sizes-out-of-range"
+    if not hashes:
+        return "empty-path"
+    length = proof_length(first, second)
+    if len(hashes) != length:
+        return "path-too-long" if len(hashes) > length else "path-too-short"
+    old, new = roots_by_proof(first, second, first_root, hashes)
+    return "first-mismatch" if old != first_root else "root-mismatch" if new != second_root else None

@@ -195,6 +195,32 @@ def try_figures():
                 fail(f"{page} says of make {target} {time}, checks/needs.sh {told.get(target)}")
 
 
+# A sentence of demo.sh, with the clause that it quotes.
+QUOTED = re.compile(r"^  proved (\S+) \"[^\"]+\" <<'END'\n(.*?)^END$", re.M | re.S)
+
+
+def misquoted(text):
+    """The quotations in a text of demo.sh that don't stand in the file that they name, line by line."""
+    for file, quoted in QUOTED.findall(text):
+        lines = [line.strip() for line in (HERE.parent / file).read_text().splitlines()]
+        words = [line.strip() for line in quoted.splitlines()]
+        if not any(lines[at : at + len(words)] == words for at in range(len(lines))):
+            yield f"{file}: {words[0]}"
+
+
+def try_quotations():
+    """Each part of demo.sh quotes a clause of the sources; of a wrong quotation it is told."""
+    text = (HERE / "demo.sh").read_text()
+    count, parts = len(QUOTED.findall(text)), re.findall(r"^show_\w+\(\)", text, re.M)
+    if not count or not count == text.count("  proved ") == len(parts):
+        fail(f"demo.sh has {count} quotations for {len(parts)} parts")
+    if found := [*misquoted(text)]:
+        fail(f"demo.sh quotes what isn't there: {found}")
+    if len([*misquoted(re.sub(r"^ensures ", "ensures no_", text, flags=re.M))]) != count:
+        fail("a wrong quotation in demo.sh isn't found")
+    return count
+
+
 def main():
     try_reasons()
     try_agreement()
@@ -204,6 +230,7 @@ def main():
     with tempfile.TemporaryDirectory() as folder:
         files = try_install(pathlib.Path(folder))
     try_figures()
+    quotations = try_quotations()
     try_guard()
     try_tiles()
     for name, words in INPUTS.items():
@@ -215,7 +242,7 @@ def main():
         fail(f"monitor/watch_check.py: {watched.stderr.decode()}")
     sys.stdout.write(watched.stdout.decode())
     stored = len(lines_of("bad-lines"))
-    rest = f"{chains} chains, {len(INPUTS)} inputs, {outputs} damaged outputs and {files} installed files"
+    rest = f"{chains} chains, {len(INPUTS)} inputs, {outputs} damaged outputs, {quotations} quotations and {files} installed files"
     print(f"examples/scripts.py: as expected, over {stored} stored lines, {DAMAGED} damaged ones, {rest}.")
 
 

@@ -3,41 +3,25 @@
 
     model.py [--origin TEXT] [--receipts in-head|promised] < lines > replies
 
-Nothing but hashlib is used for the tree; what JSON a line is comes from examples/expected.py, which shares no code with ctguard either.
+It serves where ctguard isn't built, too: each reply is handed on before the next line is read. Nothing but hashlib is used for the tree;
+what JSON a line is comes from examples/json_lines.py, which shares no code with ctguard either.
 """
 import argparse
 import base64
+import io
+import os
 import pathlib
 import struct
 import sys
 
 sys.path.insert(0, str(pathlib.Path(__file__).resolve().parent.parent))
 
-from expected import is_bytes, is_hash, is_list_of, is_number, json_of  # noqa: E402
-from merkle import leaf_hash, node_hash, sha256, split  # noqa: E402,F401
+from json_lines import is_bytes, is_hash, is_list_of, is_number, json_line, json_of, lines_of, text  # noqa: E402
+from merkle import fault_of_path, fault_of_proof  # noqa: E402
 
 
 class Refused(Exception):
     """Why nothing is let through: the name, and the fault of a proof or of a leaf where there is one."""
-
-
-def text(data):
-    return base64.b64encode(data).decode()
-
-
-def quoted(value):
-    """A text as compact JSON, with the shortest escapes (RFC 8259)."""
-    short = {'"': '\\"', "\\": "\\\\", "\b": "\\b", "\f": "\\f", "\n": "\\n", "\r": "\\r", "\t": "\\t"}
-    return '"' + "".join(short.get(c) or (f"\\u{ord(c):04x}" if c < " " else c) for c in value) + '"'
-
-
-def written(value):
-    """A value as compact JSON, its keys as they stand."""
-    if value is None:
-        return "null"
-    if isinstance(value, dict):
-        return "{" + ",".join(f"{quoted(key)}:{written(one)}" for key, one in value.items()) + "}"
-    return str(value) if isinstance(value, int) else quoted(value)
 
 
 def state_of(last):
@@ -48,68 +32,6 @@ def state_of(last):
 
 def refused(name, fault=None):
     return {"fault": fault, "refused": name} if fault else {"refused": name}
-
-
-# ---- proofs (RFC 9162, sections 2.1.3.2 and 2.1.4.2), by plain recursion
-
-def path_length(index, size):
-    if size == 1:
-        return 0
-    k = split(size)
-    return 1 + (path_length(index, k) if index < k else path_length(index - k, size - k))
-
-
-def rebuilt(index, size, found, path):
-    """The root to which a path as long as PATH leads."""
-    if size == 1:
-        return found
-    k = split(size)
-    if index < k:
-        return node_hash(rebuilt(index, k, found, path[:-1]), path[-1])
-    return node_hash(path[-1], rebuilt(index - k, size - k, found, path[:-1]))
-
-
-def inclusion_fault(leaf, index, size, path, root):
-    if index >= size:
-        return "index-out-of-range"
-    wanted = path_length(index, size)
-    if len(path) != wanted:
-        return "path-too-long" if len(path) > wanted else "path-too-short"
-    return None if rebuilt(index, size, leaf_hash(leaf), path) == root else "root-mismatch"
-
-
-def proof_length(first, size, whole):
-    """The length of SUBPROOF (RFC 6962, section 2.1.2)."""
-    if first == size:
-        return 0 if whole else 1
-    k = split(size)
-    return 1 + (proof_length(first, k, whole) if first <= k else proof_length(first - k, size - k, False))
-
-
-def both_roots(first, size, whole, known, proof):
-    """The roots of the first leaves and of all, which a proof as long as SUBPROOF gives."""
-    if first == size:
-        return (known, known) if whole else (proof[-1], proof[-1])
-    k = split(size)
-    if first <= k:
-        older, newer = both_roots(first, k, whole, known, proof[:-1])
-        return older, node_hash(newer, proof[-1])
-    older, newer = both_roots(first - k, size - k, False, known, proof[:-1])
-    return node_hash(proof[-1], older), node_hash(proof[-1], newer)
-
-
-def consistency_fault(first, second, first_root, second_root, proof):
-    if not 0 < first < second:
-        return "sizes-out-of-range"
-    if not proof:
-        return "empty-path"
-    wanted = proof_length(first, second, True)
-    if len(proof) != wanted:
-        return "path-too-long" if len(proof) > wanted else "path-too-short"
-    older, newer = both_roots(first, second, True, first_root, proof)
-    if older != first_root:
-        return "first-mismatch"
-    return None if newer == second_root else "root-mismatch"
 
 
 def leaf_fault(leaf):
@@ -155,7 +77,7 @@ class Guard:
                 if head[2] != last[2]:
                     raise Refused("fork")
             elif last[0] > 0:
-                fault = consistency_fault(last[0], head[0], last[2], head[2], proof)
+                fault = fault_of_proof(last[0], head[0], last[2], head[2], proof)
                 if fault:
                     raise Refused("inconsistent", fault)
         self.last = head
@@ -167,7 +89,7 @@ class Guard:
         if fault:
             raise Refused("no-leaf", fault)
         if not self.promised:
-            fault = inclusion_fault(leaf, index, self.last[0], path, self.last[2])
+            fault = fault_of_path(leaf, index, self.last[0], path, self.last[2])
             if fault:
                 raise Refused("not-there", fault)
 
@@ -222,7 +144,7 @@ class Guard:
                 if not (is_number(last["tree_size"]) and is_number(last["timestamp"])):
                     return False
                 last = (last["tree_size"], last["timestamp"], base64.b64decode(last["sha256_root_hash"]))
-            if line != written(state_of(last)).encode() or (last and len(last[2]) != 32):
+            if line != json_line(state_of(last)) or (last and len(last[2]) != 32):
                 return False
         except (ValueError, KeyError, TypeError):
             return False
@@ -230,16 +152,18 @@ class Guard:
         return True
 
 
+def replies(guard, lines):
+    """The reply to each line, as bytes, before the next one is read, and behind them the state."""
+    for number, line in enumerate(lines):
+        if line and not (number == 0 and guard.take_state(line)):
+            yield json_line(guard.reply(line)) + b"\n"
+    yield json_line(state_of(guard.last)) + b"\n"
+
+
 def run(given, origin=None, promised=False):
     """What is written for an input, and the exit status."""
-    guard, out = Guard(origin, promised), []
-    lines = given.split(b"\n")
-    if lines[0] and guard.take_state(lines[0]):
-        lines = lines[1:]
-    for line in filter(None, lines):
-        out.append(written(guard.reply(line)) + "\n")
-    out.append(written(state_of(guard.last)) + "\n")
-    return "".join(out).encode(), 4 if guard.bad else 0
+    guard = Guard(origin, promised)
+    return b"".join(replies(guard, lines_of(io.BytesIO(given)))), 4 if guard.bad else 0
 
 
 def main():
@@ -247,9 +171,15 @@ def main():
     parser.add_argument("--origin")
     parser.add_argument("--receipts", choices=("in-head", "promised"), default="in-head")
     words = parser.parse_args()
-    out, status = run(sys.stdin.buffer.read(), words.origin, words.receipts == "promised")
-    sys.stdout.buffer.write(out)
-    sys.exit(status)
+    guard = Guard(words.origin, words.receipts == "promised")
+    try:
+        for reply in replies(guard, lines_of(sys.stdin.buffer)):
+            sys.stdout.buffer.write(reply)
+            sys.stdout.buffer.flush()
+    except OSError:
+        print("ctguard: read or write", file=sys.stderr, flush=True)
+        os._exit(1)
+    sys.exit(4 if guard.bad else 0)
 
 
 if __name__ == "__main__":

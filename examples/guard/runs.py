@@ -74,8 +74,8 @@ RUNS = {
     "refusals": ([], REFUSALS),
     "bad-lines": (["--receipts", "in-head"], BAD_LINES),
     "taken-up": (["--origin", ORIGIN], [state(LOG, 5, 1002), head(5, 5, 1002), receipt(4, 5), head(5, 9, 2000), head(9, 9, 1500)]),
-    "damaged": ([], [model.written(state(LOG, 5, 1002)).replace("1002", "01002").encode(), head(0, 9, 2000)]),
-    "blank-in-it": ([], [model.written(state(LOG, 5, 1002)).replace(",", ", ").encode(), head(0, 9, 2000)]),
+    "damaged": ([], [model.json_line(state(LOG, 5, 1002)).replace(b"1002", b"01002"), head(0, 9, 2000)]),
+    "blank-in-it": ([], [model.json_line(state(LOG, 5, 1002)).replace(b",", b", "), head(0, 9, 2000)]),
     "misplaced": ([], [b"", state(LOG, 5, 1002), head(0, 9, 2000)]),
     "none-before": ([], [model.state_of(None), receipt(0, 3), head(0, 3, 1000)]),
     "promised": (["--receipts", "promised"], [none_of(receipt(8, 9), "leaf_index", "audit_path"), receipt(1, 3, leaf_index=-1), receipt(0, 3, leaf_input="AAE="), head(0, 9, 2000)]),
@@ -85,7 +85,7 @@ RUNS = {
 
 
 def given(lines):
-    return b"".join((one if isinstance(one, bytes) else model.written(one).encode() if "guard" in one else history.line(one)) + b"\n" for one in lines)
+    return b"".join((one if isinstance(one, bytes) else model.json_line(one) if "guard" in one else history.line(one)) + b"\n" for one in lines)
 
 
 def run_of(name):

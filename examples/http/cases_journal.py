@@ -67,9 +67,9 @@ def put(folder, content):
             (pathlib.Path(folder) / name).write_bytes(value)
 
 
-def made(folder, many=3, program=LOG, **more):
+def made(folder, many=3, program=LOG, words=(), **more):
     """A small log that ended in order: its files, and the entries that it answers."""
-    front = started(folder, program, **more)
+    front = started(folder, program, *words, **more)
     client = Client(front.port)
     for number in range(many):
         client.get("add-chain", {"chain": [text(b"certificate %d" % number), text(b"its issuer")]})

@@ -21,9 +21,12 @@ from harness import GUARD, HERE, LOG, Client, Front, Wrong, bytes_of, hold, leaf
 import merkle  # noqa: E402
 import p256  # noqa: E402
 import signer as signer_module  # noqa: E402
+import signing  # noqa: E402
 from faults import Broken  # noqa: E402
 
 KILLS, CLIENTS, CHANCE = 20, 8, random.Random(2)
+# The signer's file and the guard's, from the folder of this one.
+SIGNER, GUARDED = "signer.py", "../guard/model.py"
 HEAD_KEYS = ("sha256_root_hash", "timestamp", "tree_size")
 
 
@@ -55,11 +58,11 @@ def asked_receipt(index, leaves, value=None):
 class Asked:
     """A signer that a test asks in the front's place. It is killed behind the test."""
 
-    def __init__(self, folder, program=HERE / "signer.py", receipts="in-head"):
+    def __init__(self, folder, program=HERE / "signer.py", receipts="in-head", words=()):
         os.makedirs(folder, exist_ok=True)
-        # (a copy of the signer has a guard beside it)
-        guard = GUARD if program.parent == HERE else [sys.executable, str(program.parent / "guard_stand_in.py")]
-        line = [sys.executable, str(program), "--state", folder, "--receipts", receipts, "--", *guard]
+        # (a copy of the signer has a copy of the guard beside it)
+        guard = GUARD if program.parent == HERE else [sys.executable, str(program.parent / GUARDED)]
+        line = [sys.executable, str(program), "--state", folder, "--receipts", receipts, *words, "--", *guard]
         self.process = subprocess.Popen(line, stdin=subprocess.PIPE, stdout=subprocess.PIPE, start_new_session=True)
         self.number, self.own = 0, None
 
@@ -487,6 +490,72 @@ def key_alone(folder):
     return "one reader of the key"
 
 
+def made_token(folder):
+    """A token of softhsm in a folder, with a key that was made there; its URI, the file of its PIN, and a URI of a second key. None where
+    no token can be made."""
+    modules = [path / "softhsm/libsofthsm2.so" for path in (*pathlib.Path("/usr/lib").glob("*-linux-gnu"), pathlib.Path("/usr/lib"))]
+    module, tools = next((path for path in modules if path.exists()), None), ("softhsm2-util", "pkcs11-tool", "openssl")
+    engine = subprocess.run(["openssl", "engine", "pkcs11"], capture_output=True) if shutil.which("openssl") else None
+    if not module or not all(map(shutil.which, tools)) or engine.returncode:
+        return None
+    folder.mkdir()
+    (folder / "tokens").mkdir()
+    (folder / "conf").write_text(f"directories.tokendir = {folder}/tokens\nobjectstore.backend = file\nlog.level = ERROR\n")
+    (folder / "pin").write_text("8765")
+    os.environ["SOFTHSM2_CONF"] = str(folder / "conf")
+    words = ["softhsm2-util", "--init-token", "--free", "--label", "log-token", "--so-pin", "12345678", "--pin", "8765"]
+    subprocess.run(words, check=True, capture_output=True)
+    for number, label in enumerate(("log", "other"), 1):
+        key = ["--keypairgen", "--key-type", "EC:prime256v1", "--id", f"0{number}", "--label", label]
+        subprocess.run(["pkcs11-tool", "--module", module, "--login", "--pin", "8765", *key], check=True, capture_output=True)
+    uris = [f"pkcs11:token=log-token;object={label}?pin-source=file:{folder}/pin" for label in ("log", "other")]
+    return uris[0], folder / "pin", uris[1]
+
+
+def check_token(folder, uri, pin):
+    """A signer over a token's key signs, and doesn't without the PIN; what is to be signed isn't taken for one."""
+    leaves, key = [leaf(0), leaf(1)], signing.WithToken(uri)
+    with Asked(folder, words=("--key", uri)) as asked:
+        asked.begun().signs(asked_head(leaves, 1000), head_text(head_of(leaves, 1000)))
+        asked.signs(asked_receipt(1, leaves), leaves[1])
+        for wrong in ("", "1234"):
+            pin.write_text(wrong)
+            reply = asked.ask(asked_receipt(1, leaves))
+            hold(reply == {"error": "not-signed"}, "with the PIN", wrong, "a receipt is answered with", reply)
+            with contextlib.suppress(subprocess.SubprocessError):
+                raise Wrong(f"a message is taken for a PIN: {key.sign(b'8765' + bytes([10]) + b'the rest')}")
+        pin.write_text("8765")
+        asked.signs(asked_receipt(0, leaves), leaves[0])
+        hold(asked.end() == 0, "the signer doesn't end in order")
+        return asked.own
+
+
+def token(folder):
+    """A key of a PKCS#11 token signs, and the folder has none. Another key of the token, a wrong PIN, none, and a URI without one are
+    refused, and nothing is written."""
+    before = os.environ.get("SOFTHSM2_CONF")
+    try:
+        found = made_token(pathlib.Path(folder + "-token"))
+        if found is None:
+            return "nothing: softhsm2, pkcs11-tool or openssl's engine pkcs11 isn't there"
+        uri, pin, other = found
+        own = check_token(folder + "-asked", uri, pin)
+        content, _ = made(folder, words=("--key", uri))
+        hold("key.pem" not in content and own["log_id"].encode() in content["journal.jsonl"], "a token's key is in the folder, or isn't the log's")
+        refused(folder, content, "names the log", "--key", other)
+        refused(folder, content, "isn't read as a key", "--key", uri.replace("object=log", "object=none"))
+        for wrong in ("", "1234"):
+            pin.write_text(wrong)
+            refused(folder, content, "isn't read as a key", "--key", uri)
+        for words in ((uri.split("?")[0],), (uri.replace("pin-source=file:", "pin-value="),), ("key.pem",), (uri, "--signer", "openssl")):
+            ran = subprocess.run([sys.executable, HERE / "signer.py", "--state", folder, "--key", *words, "--", "guard"], capture_output=True)
+            hold(ran.returncode == 2, "the words", words, "end with status", ran.returncode)
+        return "two keys of a token of softhsm"
+    finally:
+        os.environ.pop("SOFTHSM2_CONF", None)
+        os.environ.update({"SOFTHSM2_CONF": before} if before else {})
+
+
 def limit_files(process, length):
     """Has a process's files end there, as on a full disk; answers the limits before."""
     limits = resource.prlimit(process, resource.RLIMIT_FSIZE)
@@ -581,7 +650,6 @@ def guard_that_ends(folder):
 
 # Wrong signers and guards, by what is wrong: the file, what stands in it, what stands there in its place, and the case that has to
 # see it.
-SIGNER, GUARDED = "signer.py", "guard_stand_in.py"
 SIGNED, KEPT = 'return {"signature": self.key.signed(', "        self.kept.write(self.state)\n"
 ASKED = "        message, state = self.guard.ask(request)\n        self.state = state or self.state\n"
 BEGUN = "self.words.receipts], self.state)\n        try:\n            right = head is None"
@@ -620,9 +688,10 @@ def wrong_signers(folder):
     """Signers and guards that are wrong, each in one way: a case sees each."""
     for number, (name, (file, old, new, case)) in enumerate(WRONG.items()):
         here, source = pathlib.Path(f"{folder}-{number}/http"), (HERE / file).read_text()
-        shutil.copytree(HERE, here, ignore=shutil.ignore_patterns("__pycache__"))
-        for path in ("expected.py", "merkle.py"):
-            shutil.copy(HERE.parent / path, here.parent / path)
+        for below in (HERE, HERE / GUARDED.rsplit("/", 1)[0]):
+            shutil.copytree(below, here.parent / below.resolve().name, ignore=shutil.ignore_patterns("__pycache__"))
+        for path in HERE.parent.glob("*.py"):
+            shutil.copy(path, here.parent)
         hold(source.count(old) == 1, file, "has so often what is to be wrong:", source.count(old), name)
         (here / file).write_text(source.replace(old, new))
         try:
@@ -636,4 +705,4 @@ def wrong_signers(folder):
     return f"{len(WRONG)} signers and guards that are wrong"
 
 
-CASES = (forged, log_that_lies, killed, guard_states, key_alone, full_disk_of_the_signer, one_signer, guard_that_ends, wrong_signers)
+CASES = (forged, log_that_lies, killed, guard_states, key_alone, token, full_disk_of_the_signer, one_signer, guard_that_ends, wrong_signers)

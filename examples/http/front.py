@@ -37,7 +37,9 @@ from web import Server
 
 HERE = pathlib.Path(__file__).resolve().parent
 SIGNER = [sys.executable, str(HERE / "signer.py")]
-CTGUARD, GUARD_STAND_IN = HERE.parent.parent / "crates/ctguard/out/ctguard", [sys.executable, str(HERE / "guard_stand_in.py")]
+CTGUARD, GUARD_MODEL = HERE.parent.parent / "crates/ctguard/out/ctguard", HERE.parent / "guard/model.py"
+# The guard where none is named: ctguard, and where it isn't built the model of it.
+GUARD = [str(CTGUARD)] if CTGUARD.exists() else [sys.executable, str(GUARD_MODEL)]
 PEM = re.compile(r"-----BEGIN CERTIFICATE-----(.*?)-----END CERTIFICATE-----", re.S)
 
 
@@ -64,12 +66,12 @@ def words_given():
     options.add_argument("--clock-step", type=float, default=3600, help="seconds that the clock may jump ahead [default: 3600]")
     options.add_argument("--clock-ahead", type=float, default=300, help="seconds that the last head may be ahead [default: 300]")
     options.add_argument("--roots", help="a file of PEM: what get-roots answers")
-    options.add_argument("--signer", choices=list(signing.WAYS), help="what signs [default: the first that is there]")
-    options.add_argument("--guard", help="PROGRAM WORD.. [default: ctguard, where it isn't built guard_stand_in.py]")
+    signing.add_options(options)
+    options.add_argument("--guard", help="PROGRAM WORD.. [default: ctguard, where it isn't built guard/model.py]")
     options.add_argument("--receipts", choices=("in-head", "promised"), default="in-head", help="ctguard's [default: in-head]")
     options.add_argument("program", nargs="+", metavar="PROGRAM")
     words = options.parse_args()
-    words.guard = shlex.split(words.guard or "") or ([str(CTGUARD)] if CTGUARD.exists() else GUARD_STAND_IN)
+    words.guard = shlex.split(words.guard or "") or GUARD
     return words
 
 
@@ -99,7 +101,7 @@ class Opened:
 
     def open(self):
         words, kept = self.words, self.journal
-        way = ["--signer", words.signer] if words.signer else []
+        way = [word for name in ("signer", "key") if getattr(words, name) for word in (f"--{name}", getattr(words, name))]
         self.signer = self.start("the signer", [*SIGNER, "--state", words.state, *way, "--receipts", words.receipts, "--", *words.guard])
         self.own = self.ask_signer(op="open", fresh=kept.fresh())
         if kept.log_id not in (None, self.own["log_id"]):

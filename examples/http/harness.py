@@ -12,13 +12,14 @@ import sys
 import time
 import urllib.parse
 
+import front
+
 HERE = pathlib.Path(__file__).resolve().parent
 STAND_IN = [sys.executable, str(HERE / "stand_in.py")]
 # The log of the cases: LOG="PROGRAM WORD.." is another one.
 LOG = shlex.split(os.environ.get("LOG", "")) or STAND_IN
 # The guard, in its place the one that GUARD="PROGRAM WORD.." names.
-CTGUARD, GUARD_STAND_IN = HERE.parent.parent / "crates/ctguard/out/ctguard", [sys.executable, str(HERE / "guard_stand_in.py")]
-GUARD = shlex.split(os.environ.get("GUARD", "")) or ([str(CTGUARD)] if CTGUARD.exists() else GUARD_STAND_IN)
+GUARD = shlex.split(os.environ.get("GUARD", "")) or front.GUARD
 FRONTS = 3
 # How long a client keeps a connection that it doesn't use, in seconds. The front closes it after 15.
 KEPT = 5

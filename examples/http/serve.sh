@@ -12,10 +12,10 @@ if [ -z "${LOG:-}" ] && [ ! -x "$log" ]; then
     exit 1
   fi
   checks/needs.sh serve
-  examples/build.py ctlogd run -- --help
+  examples/build.py ctlogd
 fi
 if [ -z "${LOG:-}" ] && [ -d crates/ctguard ] && [ ! -x crates/ctguard/out/ctguard ]; then
-  examples/build.py ctguard run -- --help
+  examples/build.py ctguard
 fi
 # $log is a command line: its words are to be split.
 # shellcheck disable=SC2086

@@ -1,9 +1,9 @@
 #!/usr/bin/env python3
 """Signs what the guard lets through, and nothing else: the one process that reads the log's key.
 
-    signer.py --state DIR [--signer WAY] [--receipts in-head|promised] -- GUARD [WORD..]
+    signer.py --state DIR [--signer WAY | --key pkcs11:URI] [--receipts in-head|promised] -- GUARD [WORD..]
 
-GUARD is ctguard, or guard_stand_in.py. The front starts this process and asks it by lines, an object of JSON each; its answer to
+GUARD is ctguard, or guard/model.py. The front starts this process and asks it by lines, an object of JSON each; its answer to
 line N (from 0) is {"line":N,"reply":R}, or {"error":NAME} for R. First come three, once and in this order:
 
     {"op":"open","fresh":B}                whether the journal is new: the key is looked at, and the guard's state
@@ -143,7 +143,8 @@ class Signer:
 
     def open(self, fresh):
         self.kept = Kept(self.words.state)
-        self.key = signing.Key(os.path.join(self.words.state, "key.pem"), self.words.signer, fresh)
+        words, path = self.words, os.path.join(self.words.state, "key.pem")
+        self.key = signing.KeyOfToken(words.key) if words.key else signing.KeyInFile(path, words.signer, fresh)
         if self.kept.line is None and not fresh:
             raise Broken(f"guard-missing: {self.kept.path} is missing beside a journal: put it back; nothing was changed")
         self.state = state_of(None) if self.kept.line is None else self.kept.line
@@ -208,8 +209,8 @@ class Signer:
 
 def main():
     options = argparse.ArgumentParser(description="Signs what the guard lets through. Behind -- stands ctguard.")
-    options.add_argument("--state", required=True, help="the folder of the key and the guard's state")
-    options.add_argument("--signer", choices=list(signing.WAYS), help="what signs [default: the first that is there]")
+    options.add_argument("--state", required=True, help="the folder of the guard's state, and of the key where it is a file")
+    signing.add_options(options)
     options.add_argument("--receipts", choices=("in-head", "promised"), default="in-head", help="[default: in-head]")
     options.add_argument("guard", nargs="+", metavar="GUARD")
     try:

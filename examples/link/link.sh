@@ -4,23 +4,15 @@ set -eu
 cd "$(dirname "$0")/../.."
 out=$PWD/crates/wagtenib/out/link
 compiler=${CC:-cc}
-for tool in "$compiler" ar nm python3; do
+for tool in "$compiler" nm python3; do
   command -v "$tool" >/dev/null || { echo "link: $tool isn't here" >&2; exit 1; }
 done
 work=$(mktemp -d)
 trap 'rm -rf "$work"' EXIT
 
 echo "Building libwagtenib: rt proves it and the crates below it, and says which it is at."
-examples/build.py wagtenib lib
-
-# The archive gets the kit's three functions over malloc inside, so that it needs the C library alone.
-heap=$(dirname "$(rt doc)")/c/liblibc_c.a
-proved=$PWD/crates/wagtenib/out/libwagtenib.a
-(cd "$work" && ar x "$heap" heap.pic.o && ar x "$proved")
-mkdir -p "$out"
-rm -f "$out"/libwagtenib.*
-ar rcs "$out/libwagtenib.a" "$work"/*.o
-"$compiler" -shared -o "$out/libwagtenib.so" -Wl,-soname,libwagtenib.so.0 -Wl,--whole-archive "$out/libwagtenib.a" -Wl,--no-whole-archive
+examples/build.py wagtenib
+examples/link/library.sh
 nm "$out/libwagtenib.a" >"$work/names" 2>/dev/null
 python3 examples/link/names.py "$work/names"
 

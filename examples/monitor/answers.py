@@ -1,21 +1,20 @@
 #!/usr/bin/env python3
 """Answers of a made-up log of real certificates over three days, as a log's front end writes them, and what ctmonitor has to write.
 
-Every hash, verdict and state line here is computed by this script alone (hashlib), so it is a second program beside ctmonitor.
+Every hash, verdict and state line here is computed by this script over ../merkle.py (hashlib), so it is a second program beside ctmonitor.
 It writes NAME.in and NAME.out for each run into the folder that is named.
 """
 import base64
-import hashlib
 import json
 import struct
 import sys
 from pathlib import Path
 
+sys.path.insert(0, str(Path(__file__).resolve().parent.parent))
+
+import merkle  # noqa: E402
+
 NAMES = ["microsoft.com", "debian"]
-
-
-def sha256(data):
-    return hashlib.sha256(data).digest()
 
 
 def text(data):
@@ -26,34 +25,12 @@ def line(value):
     return json.dumps(value, separators=(",", ":"), sort_keys=True) + "\n"
 
 
-def mth(leaves):
-    if not leaves:
-        return sha256(b"")
-    if len(leaves) == 1:
-        return sha256(b"\0" + leaves[0])
-    k = 1
-    while 2 * k < len(leaves):
-        k *= 2
-    return sha256(b"\1" + mth(leaves[:k]) + mth(leaves[k:]))
-
-
-def subproof(m, leaves, whole):
-    if m == len(leaves):
-        return [] if whole else [mth(leaves)]
-    k = 1
-    while 2 * k < len(leaves):
-        k *= 2
-    if m <= k:
-        return subproof(m, leaves[:k], whole) + [mth(leaves[k:])]
-    return subproof(m - k, leaves[k:], False) + [mth(leaves[:k])]
-
-
 def subtrees(leaves):
     """The perfect subtrees' roots, largest first."""
     roots, at = [], 0
     for bit in reversed(range(64)):
         if len(leaves) >> bit & 1:
-            roots.append(mth(leaves[at : at + (1 << bit)]))
+            roots.append(merkle.root(leaves[at : at + (1 << bit)]))
             at += 1 << bit
     return roots
 
@@ -64,7 +41,7 @@ def leaf(moment, certificate, key_hash):
 
 
 def head(leaves, moment):
-    return {"tree_size": len(leaves), "timestamp": moment, "sha256_root_hash": text(mth(leaves)), "tree_head_signature": "BAMAAA=="}
+    return {"tree_size": len(leaves), "timestamp": moment, "sha256_root_hash": text(merkle.root(leaves)), "tree_head_signature": "BAMAAA=="}
 
 
 def entries(leaves, start, end):
@@ -72,7 +49,7 @@ def entries(leaves, start, end):
 
 
 def proof(first, leaves):
-    return {"consistency": [text(x) for x in subproof(first, leaves, True)]}
+    return {"consistency": [text(x) for x in merkle.proof(first, leaves)]}
 
 
 def shown(h):
@@ -85,7 +62,7 @@ def peaks(leaves):
 
 def state(accepted, waiting, sure, read):
     value = {"accepted": shown(accepted), "waiting": shown(waiting), "sure": peaks(sure), "all": peaks(read), "state": 1, "check": None}
-    value["check"] = text(sha256(line(value)[:-1].encode()))
+    value["check"] = text(merkle.sha256(line(value)[:-1].encode()))
     return value
 
 
@@ -138,7 +115,7 @@ def runs():
     forked = {"verdict": "fork", "known_root_hash": one["sha256_root_hash"], "known_timestamp": one["timestamp"], "tree_size": 8}
     not_later = lambda known: {"verdict": "time-not-later", "known_root_hash": known["sha256_root_hash"], "known_timestamp": known["timestamp"], "known_tree_size": known["tree_size"]}
     inconsistent = {"verdict": "inconsistent", "fault": "root-mismatch"}
-    mismatch = {"verdict": "root-mismatch", "computed_root_hash": text(mth(LOG))}
+    mismatch = {"verdict": "root-mismatch", "computed_root_hash": text(merkle.root(LOG))}
     bad_line, bad_state = {"error": "bad-line"}, {"error": "bad-state"}
     nothing = state(None, None, [], [])
     yield "day1", 0, [one, entries(LOG, 0, 5), entries(LOG, 5, 8)], [pending(0, 8), *found(0, 5), pending(5, 8), *found(5, 8), accepted(8), after_one]
@@ -162,7 +139,7 @@ def runs():
     yield "no-start", 0, [one, {"entries": entries(LOG, 0, 20)["entries"]}], [pending(0, 8), *found(0, 8), accepted(8), after_one]
     yield "bad-start", 4, [one, dict(entries(LOG, 0, 8), start="0")], [pending(0, 8), bad_line, state(None, one, [], [])]
     yield "no-leaf", 3, [one, {"start": 0, "entries": [{"leaf_input": "AAAA"}] + entries(LOG, 1, 8)["entries"]}], [
-        pending(0, 8), {"entry": 0, "fault": "truncated"}, *found(1, 8), {"verdict": "root-mismatch", "computed_root_hash": text(mth([b"\0\0\0"] + LOG[1:8]))}, nothing]
+        pending(0, 8), {"entry": 0, "fault": "truncated"}, *found(1, 8), {"verdict": "root-mismatch", "computed_root_hash": text(merkle.root([b"\0\0\0"] + LOG[1:8]))}, nothing]
     yield "empty-log", 0, [head([], MOMENT), {"entries": []}], [accepted(0), gap(0), state(head([], MOMENT), None, [], [])]
 
 

@@ -20,10 +20,6 @@ import merkle  # noqa: E402
 ALARMS = ("fork", "shrunk", "time-not-later", "root-mismatch", "inconsistent", "older-than-entry")
 
 
-def node(left, right):
-    return answers.sha256(b"\1" + left + right)
-
-
 class Subtrees:
     """The perfect subtrees of a list of leaves, largest first."""
 
@@ -31,15 +27,15 @@ class Subtrees:
         self.size, self.roots = size, list(roots)
 
     def with_leaf(self, leaf):
-        roots, root, size = self.roots[:], answers.sha256(b"\0" + leaf), self.size
+        roots, root, size = self.roots[:], merkle.leaf_hash(leaf), self.size
         while size & 1:
-            root, size = node(roots.pop(), root), size >> 1
+            root, size = merkle.node_hash(roots.pop(), root), size >> 1
         return Subtrees(self.size + 1, roots + [root])
 
     def root(self):
-        found = self.roots[-1] if self.roots else answers.sha256(b"")
+        found = self.roots[-1] if self.roots else merkle.sha256(b"")
         for left in self.roots[-2::-1]:
-            found = node(left, found)
+            found = merkle.node_hash(left, found)
         return found
 
     def told(self):
@@ -79,7 +75,7 @@ class Watcher:
 
     def state(self):
         value = {"accepted": self.accepted, "waiting": self.waiting, "sure": self.sure.told(), "all": self.all.told(), "state": 1, "check": None}
-        value["check"] = answers.text(answers.sha256(answers.line(value)[:-1].encode()))
+        value["check"] = answers.text(merkle.sha256(answers.line(value)[:-1].encode()))
         return answers.line(value)
 
     def take_up(self, line):

@@ -269,7 +269,7 @@ def answer_all(origin):
     for line in filter(None, lines_of(sys.stdin.buffer, LONGEST)):
         reply = reply_to(line, origin)
         status = 4 if reply == {"refused": "bad-line"} else status
-        sys.stdout.buffer.write(json_line(reply))
+        sys.stdout.buffer.write(json_line(reply) + b"\n")
         sys.stdout.buffer.flush()
     return status
 

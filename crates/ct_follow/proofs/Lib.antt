@@ -5,3 +5,6 @@ pub mod Lines
 pub mod Taken
 pub mod Runs
 pub mod Words
+pub mod StateTexts
+pub mod PlainTexts
+pub mod TextRuns

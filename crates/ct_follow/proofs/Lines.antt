@@ -5,17 +5,21 @@ use Rattle.ct_lines.specs.Lines.{kept_line, IsFirstLine}
 use Rattle.ct_lines.proofs.KeptLines.{whole_or_long}
 use Rattle.std.proofs.lemmas.List.{append_assoc}
 use Rattle.std.proofs.lemmas.Option.{same_Some, none-some}
-use Rattle.std.specs.Prelude.{IfSome, IfOk, OnOk, Result, Ok, Err}
+use Rattle.std.specs.Prelude.{IfSome, IfOk, OnOk, MatchResult, Result, Ok, Err}
+use Rattle.std.specs.Str.{IsUtf8}
+use Rattle.serde_json.specs.Read.{read}
 use Rattle.sha2.specs.Sha256.{sha256}
 use Rattle.ct_watch.specs.Watched.{nothing_seen}
-use Rattle.ct_watch.specs.WatcherState.{Keeps}
+use Rattle.ct_watch.specs.WatcherState.{Keeps, WatcherState}
 use Rattle.std.specs.Io.BufRead.{drop_through, first_piece}
 use Rattle.std.specs.Io.KnownBytes.{Appends}
 use Rattle.std.proofs.KnownBytes.{Appends-nil, Appends-trans}
 use Rattle.ct_follow.specs.Answers.{Answered, Reads}
 use Rattle.ct_follow.specs.Session.{LineStep, Tells, KeptGives, LineGives, FirstGives, TakesLines, TakesAll, OneTaken, IsTaken, IsAllTaken, IsRun, IsRunStatus}
 use Rattle.ct_follow.specs.Session.{status_of}
-use Rattle.ct_follow.specs.StateText.{state_text}
+use Rattle.ct_follow.specs.StateText.{state_text, IsLineOfState, IsNoStateLine, IsOfBytes, ReadsState}
+use Rattle.ct_follow.proofs.PlainTexts.{state_is_utf8}
+use Rattle.ct_follow.proofs.StateTexts.{empty_is_none, no_value}
 use Rattle.ct_follow.specs.declared.monitor.Monitor.{Monitor}
 
 -- ---- what is kept of a line
@@ -66,10 +70,19 @@ first_kept_gives names before kept text after short g xs is = elim (whole_or_lon
   | inr long ↦ absurd (omega (arith, short, ap length is, long.0))
 ]
 
+-- a line that is too long is no state's
+pub long_is_none : (line : List ℕ) → 16777216 < length line → IsNoStateLine line
+long_is_none line long s l = absurd (omega (arith, long, l.1))
+
 -- and where it is longer, since no state is
-pub long_first_gives : (names : List (List ℕ)) (before : Monitor) (kept text : List ℕ) (after : Monitor) → LineGives names before kept text after
-    → KeptGives (FirstGives names) before kept text after
-long_first_gives names before kept text after g xs is = inr (kept_gives names before kept text after g xs is)
+pub long_first_gives : (names : List (List ℕ)) (before : Monitor) (kept text : List ℕ) (after : Monitor) → 16777216 < length kept
+    → LineGives names before kept text after → KeptGives (FirstGives names) before kept text after
+long_first_gives names before kept text after long g xs is =
+    let whole : 16777216 < length (first_piece 10 xs) = elim (whole_or_long 16777216 xs) [
+      | inl same ↦ omega (arith, long, ap length (is ∙ same))
+      | inr both ↦ both.1
+    ] in
+    inr (long_is_none (first_piece 10 xs) whole, kept_gives names before kept text after g xs is)
 
 -- the same of each text that a result has
 pub each_gives : {E : Type 0} (P Q : List ℕ → Type 0) (r : Result (Vec ℕ Global) E) → ((t : List ℕ) → P t → Q t) → IfOk r (λ t. P t.items)
@@ -152,7 +165,8 @@ ends_here names first now last (Some input) (Some xs) source_next sink_first sin
 
 none_taken : (names : List (List ℕ)) (before last : Monitor) (input : List ℕ) → input ≡ [] → last ≡ before → TakesAll names before input [] last
 none_taken names before last input nil same =
-    record { start = before; left = input; steps = []; begins = inl (refl, refl); alarm = refl; bad = refl; takes = (nil, refl, same) }
+    let no_state = subst (λ (l : List ℕ). IsNoStateLine (first_piece 10 l)) (sym nil) empty_is_none in
+    record { start = before; left = input; steps = []; begins = inl (refl, refl, no_state); alarm = refl; bad = refl; takes = (nil, refl, same) }
 
 pub ends_at_once : (names : List (List ℕ)) (before last : Monitor) (source source_next sink sink_next : Option (List ℕ))
     → OneTaken (FirstGives names) before last source source_next sink sink_next true
@@ -172,7 +186,8 @@ first_and_rest names before first last steps input text rest some (inl state) t 
   bad = state.3;
   takes = subst (λ (x : List ℕ). TakesLines names first steps (drop_through 10 input) (x ++ rest) last) (sym state.1) t;
 }
-first_and_rest names before first last steps input text rest some (inr line) t =
+first_and_rest names before first last steps input text rest some (inr given) t =
+    let line = given.1 in
     let s : LineStep = line.0 in
     let rest_taken : TakesLines names s.after steps (drop_through 10 input) rest last =
     subst (λ (m : Monitor). TakesLines names m steps (drop_through 10 input) rest last) (sym line.3) t in
@@ -180,7 +195,7 @@ first_and_rest names before first last steps input text rest some (inr line) t =
       start = before;
       left = input;
       steps = s ∷ steps;
-      begins = inl (refl, refl);
+      begins = inl (refl, refl, given.0);
       alarm = refl;
       bad = refl;
       takes = (some, line.1, (rest, rest_taken, ap (λ (x : List ℕ). x ++ rest) (sym line.2)));
@@ -204,13 +219,13 @@ ends_later names before first last (Some input) (Some xs) source_last sink sink_
 
 done : (names : List (List ℕ)) (new last : Monitor) (source source_next sink sink_next sink_last : Option (List ℕ)) (status : ℕ)
     → Keeps sha256 new.watcher nothing_seen → new.alarm ≡ false → new.bad ≡ false
-    → IsAllTaken names new last source source_next sink sink_next → status ≡ status_of last
+    → IsAllTaken names new last source source_next sink sink_next → status ≡ status_of last → IsOfBytes last.watcher
     → Appends sink_next sink_last (state_text last.watcher ++ 10 ∷ []) → IsRun names source source_next sink sink_last status
-done names new last None source_next sink sink_next sink_last status fresh alarm bad t s w = tt
-done names new last (Some input) source_next sink sink_next sink_last status fresh alarm bad t s w =
+done names new last None source_next sink sink_next sink_last status fresh alarm bad t s b w = tt
+done names new last (Some input) source_next sink sink_next sink_last status fresh alarm bad t s b w =
     let line = state_text last.watcher ++ 10 ∷ [] in (
       t.0 ++ line,
-      record { new = new; last = last; told = t.0; fresh = fresh; no_alarm = alarm; none_bad = bad; takes = t.1; written = refl; ends = s },
+      record { new = new; last = last; told = t.0; fresh = fresh; no_alarm = alarm; none_bad = bad; of_bytes = b; takes = t.1; written = refl; ends = s },
       Appends-trans sink sink_next sink_last t.0 line t.2 w,
       t.3,
     )
@@ -227,8 +242,25 @@ run_status m (Err f) s = s
 pub run_done : {F : Type 0} (names : List (List ℕ)) (new last : Monitor) (source source_next sink sink_next sink_last : Option (List ℕ)) (r : Result ℕ F)
     → Keeps sha256 new.watcher nothing_seen → new.alarm ≡ false → new.bad ≡ false
     → IsAllTaken names new last source source_next sink sink_next → IfOk r (λ s. s ≡ status_of last)
-    → OnOk r (Appends sink_next sink_last (state_text last.watcher ++ 10 ∷ []))
+    → IsOfBytes last.watcher → OnOk r (Appends sink_next sink_last (state_text last.watcher ++ 10 ∷ []))
     → IfOk r (λ status. IsRun names source source_next sink sink_last status)
-run_done names new last source source_next sink sink_next sink_last (Ok status) fresh alarm bad t s w =
-    done names new last source source_next sink sink_next sink_last status fresh alarm bad t s w
-run_done names new last source source_next sink sink_next sink_last (Err f) fresh alarm bad t s w = s
+run_done names new last source source_next sink sink_next sink_last (Ok status) fresh alarm bad t s b w =
+    done names new last source source_next sink sink_next sink_last status fresh alarm bad t s b w
+run_done names new last source source_next sink sink_next sink_last (Err f) fresh alarm bad t s b w = s
+
+-- ---- the first line
+
+pub line_taken : (line : List ℕ) (o : Option WatcherState) (w : WatcherState) → ReadsState line o → o ≡ Some w → IsLineOfState line w
+line_taken line None w reads is = absurd (none-some w is)
+line_taken line (Some s) w reads is = subst (λ (t : WatcherState). IsLineOfState line t) (same_Some s w is) reads
+
+pub line_passed : (line : List ℕ) (o : Option WatcherState) → ReadsState line o → o ≡ None → IsNoStateLine line
+line_passed line None reads is = reads
+line_passed line (Some s) reads is = absurd (none-some s (sym is))
+
+-- a line that is no JSON, or no UTF-8
+pub err_state : {F : Type 0} (r : Result (Option WatcherState) F) (line : List ℕ) (memory : Type 0)
+    → MatchResult r (λ o. (o ≡ None) × (memory → ⊥)) (λ _. memory) → ((memory → ⊥) → IsUtf8 line → read line ≡ None) → IfOk r (λ o. ReadsState line o)
+err_state (Ok None) line memory from err = λ s l. no_value line (err from.1 (subst IsUtf8 (sym l.2) (state_is_utf8 s l.0))) s l
+err_state (Ok (Some w)) line memory from err = absurd (none-some w (sym from.0))
+err_state (Err f) line memory from err = tt

@@ -1,5 +1,5 @@
 -- Accepted heads over many runs.
-use Rattle.std.proofs.Common.{◌≡◌, ◌∙◌, ℕ, List, [], ◌∷◌, take, Option, Some, None, All, sym, ap, subst, arith, inl, inr}
+use Rattle.std.proofs.Common.{◌≡◌, ◌∙◌, ℕ, List, [], ◌∷◌, take, Option, Some, None, All, sym, refl, ap, subst, arith, inl, inr}
 use Rattle.std.specs.Prelude.{⊤}
 use Rattle.std.proofs.lemmas.Option.{same_Some, none-some}
 use Rattle.std.proofs.lemmas.List.Elements.{All-tail, All-get_or}
@@ -10,20 +10,22 @@ use Rattle.ct_monitor.specs.Heads.{IsHeadOfAll}
 use Rattle.ct_watch.specs.Watched.{Watched, nothing_seen}
 use Rattle.ct_watch.specs.Verdicts.{ProofSays}
 use Rattle.ct_watch.specs.WatcherState.{WatcherState, Keeps}
-use Rattle.ct_watch.specs.History.{SaysAccepted, IsStep, AreSteps, IsOfBeginning}
+use Rattle.ct_watch.specs.History.{SaysAccepted, IsStep, AreSteps, after_steps, IsOfBeginning}
 use Rattle.ct_watch.specs.declared.verdict.Verdict.{Verdict}
 use Rattle.ct_watch.specs.declared.verdict.Verdict.TheVariants.{Accepted}
 use Rattle.ct_watch.proofs.History.{accepted_heads_agree}
 use Rattle.ct_follow.specs.Answers.{Answered, a_head, leaves_from, a_proof, a_state, no_answer}
 use Rattle.ct_follow.specs.Session.{AnswerSays, LineStep, TakesLine, TakesLines}
-use Rattle.ct_follow.specs.History.{RunTaken, FollowOn, IsOfFirst, AreOfFirst, RunsAreOfFirst, RunsAgree}
+use Rattle.ct_follow.specs.History.{RunTaken, FollowOn, after_runs, IsOfFirst, AreOfFirst, RunsAreOfFirst, LineHands, LinesHand, RunsHand, RunsAgree}
 use Rattle.ct_follow.specs.declared.monitor.Monitor.{Monitor}
 use Rattle.ct_follow.specs.declared.verdicts.Outcome.{Outcome}
 use Rattle.ct_follow.specs.declared.verdicts.Outcome.TheVariants.{Said, BadLine, BadState}
 
--- a list of ct_watch's steps from w on, of which Q follows at each list D that they agree with
-abbrev Shows : Watched → (List (List ℕ) → Type 0) → Type 0
-Shows w Q = (L : List (Verdict × Watched)) × AreSteps sha256 w L × ((D : List (List ℕ)) → All (IsOfBeginning sha256 D) L → Q D)
+-- a list of ct_watch's steps from w on, of which Q follows at each list D that they agree with, behind which t stands for what was handed
+-- out, and R holds of that
+abbrev Shows : WatcherState → Watched → (List (List ℕ) → Type 0) → (Watched → Type 0) → Type 0
+Shows t w Q R = (L : List (Verdict × Watched)) × AreSteps sha256 w L × ((D : List (List ℕ)) → All (IsOfBeginning sha256 D) L → Q D)
+    × Keeps sha256 t (after_steps w L) × R (after_steps w L)
 
 -- the outcome is a verdict, and which it is
 abbrev IsVerdict : Outcome → Type 0
@@ -50,10 +52,11 @@ proof_not_accepted : (first second : Option Head) (p : List (List ℕ)) (v : Ver
 proof_not_accepted first second p v e says = never first second p (subst (ProofSays sha256 first second p) e says)
 
 -- a verdict that is one of ct_watch's steps
-one_step : (w next : Watched) (v : Verdict) (s : WatcherState) (Q : List (List ℕ) → Type 0) → Keeps sha256 s next → IsStep sha256 w v next → Shows next Q
-    → Shows w (λ D. Agrees s (Said v) D × Q D)
+one_step : (t : WatcherState) (w next : Watched) (v : Verdict) (s : WatcherState) (Q : List (List ℕ) → Type 0) (R : Watched → Type 0) → Keeps sha256 s next
+    → IsStep sha256 w v next → Shows t next Q R
+    → Shows t w (λ D. Agrees s (Said v) D × Q D) R
 unfolding AreSteps
-one_step w next v s Q k step rest = (
+one_step t w next v s Q R k step rest = (
   (v, next) ∷ rest.0,
   (step, rest.1),
   λ D all. (
@@ -63,66 +66,92 @@ one_step w next v s Q k step rest = (
         (found.0, found.1, k.accepted ∙ found.2, found.3),
     rest.2 D (All-tail (IsOfBeginning sha256 D) (v, next) rest.0 all),
   ),
+  rest.3,
+  rest.4,
 )
 
 -- nothing that ct_watch counts
-no_step : (w next : Watched) (o : Outcome) (s : WatcherState) (Q : List (List ℕ) → Type 0) → next ≡ w → ((D : List (List ℕ)) → Agrees s o D) → Shows next Q
-    → Shows w (λ D. Agrees s o D × Q D)
-no_step w next o s Q same agrees rest = (rest.0, subst (λ (x : Watched). AreSteps sha256 x rest.0) same rest.1, λ D all. (agrees D, rest.2 D all))
+no_step : (t : WatcherState) (w next : Watched) (o : Outcome) (s : WatcherState) (Q : List (List ℕ) → Type 0) (R : Watched → Type 0) → next ≡ w
+    → ((D : List (List ℕ)) → Agrees s o D) → Shows t next Q R
+    → Shows t w (λ D. Agrees s o D × Q D) R
+no_step t w next o s Q R same agrees rest = (
+  rest.0,
+  subst (λ (x : Watched). AreSteps sha256 x rest.0) same rest.1,
+  λ D all. (agrees D, rest.2 D all),
+  subst (λ (x : Watched). Keeps sha256 t (after_steps x rest.0)) same rest.3,
+  subst (λ (x : Watched). R (after_steps x rest.0)) same rest.4,
+)
 
-one_answer : (w next : Watched) (a : Answered) (o : Outcome) (s : WatcherState) (Q : List (List ℕ) → Type 0) → Keeps sha256 s next
-    → AnswerSays w a o next → Shows next Q
-    → Shows w (λ D. Agrees s o D × Q D)
-one_answer w next (a_head head) (Said v) s Q k says rest = one_step w next v s Q k (inl (head, says.0, says.1)) rest
-one_answer w next (a_head head) BadLine s Q k says rest = absurd says
-one_answer w next (a_head head) BadState s Q k says rest = absurd says
-one_answer w next (leaves_from start E) (Said v) s Q k says rest = one_step w next v s Q k (inr (_, E, says.0, says.1)) rest
-one_answer w next (leaves_from start E) BadLine s Q k says rest = absurd says
-one_answer w next (leaves_from start E) BadState s Q k says rest = absurd says
-one_answer w next (a_proof p) (Said v) s Q k says rest =
-    no_step w next (Said v) s Q says.1 (λ D e. absurd (proof_not_accepted w.accepted w.waiting p v (ap (said_of v) e) says.0)) rest
-one_answer w next (a_proof p) BadLine s Q k says rest = absurd says
-one_answer w next (a_proof p) BadState s Q k says rest = absurd says
-one_answer w next a_state (Said v) s Q k says rest = absurd says
-one_answer w next a_state BadLine s Q k says rest = absurd says
-one_answer w next a_state BadState s Q k says rest = no_step w next BadState s Q says (λ D. not_said s BadState D (λ x. x)) rest
-one_answer w next no_answer (Said v) s Q k says rest = absurd says
-one_answer w next no_answer BadLine s Q k says rest = no_step w next BadLine s Q says (λ D. not_said s BadLine D (λ x. x)) rest
-one_answer w next no_answer BadState s Q k says rest = absurd says
+one_answer : (t : WatcherState) (w next : Watched) (a : Answered) (o : Outcome) (s : WatcherState) (Q : List (List ℕ) → Type 0) (R : Watched → Type 0)
+    → Keeps sha256 s next → AnswerSays w a o next → Shows t next Q R
+    → Shows t w (λ D. Agrees s o D × Q D) R
+one_answer t w next (a_head head) (Said v) s Q R k says rest = one_step t w next v s Q R k (inl (head, says.0, says.1)) rest
+one_answer t w next (a_head head) BadLine s Q R k says rest = absurd says
+one_answer t w next (a_head head) BadState s Q R k says rest = absurd says
+one_answer t w next (leaves_from start E) (Said v) s Q R k says rest = one_step t w next v s Q R k (inr (_, E, says.0, says.1)) rest
+one_answer t w next (leaves_from start E) BadLine s Q R k says rest = absurd says
+one_answer t w next (leaves_from start E) BadState s Q R k says rest = absurd says
+one_answer t w next (a_proof p) (Said v) s Q R k says rest =
+    no_step t w next (Said v) s Q R says.1 (λ D e. absurd (proof_not_accepted w.accepted w.waiting p v (ap (said_of v) e) says.0)) rest
+one_answer t w next (a_proof p) BadLine s Q R k says rest = absurd says
+one_answer t w next (a_proof p) BadState s Q R k says rest = absurd says
+one_answer t w next a_state (Said v) s Q R k says rest = absurd says
+one_answer t w next a_state BadLine s Q R k says rest = absurd says
+one_answer t w next a_state BadState s Q R k says rest = no_step t w next BadState s Q R says (λ D. not_said s BadState D (λ x. x)) rest
+one_answer t w next no_answer (Said v) s Q R k says rest = absurd says
+one_answer t w next no_answer BadLine s Q R k says rest = no_step t w next BadLine s Q R says (λ D. not_said s BadLine D (λ x. x)) rest
+one_answer t w next no_answer BadState s Q R k says rest = absurd says
 
 -- what a line gave, and what follows of the state behind it
-one_line : (names : List (List ℕ)) (before : Monitor) (line : List ℕ) (step : LineStep) (w : Watched) (Q : List (List ℕ) → Type 0)
-    → Keeps sha256 before.watcher w → TakesLine names before line step
-    → ((next : Watched) → Keeps sha256 step.after.watcher next → Shows next Q) → Shows w (λ D. IsOfFirst D step × Q D)
-one_line names before [] step w Q k t rest =
-    let behind = rest w (subst (λ (m : Monitor). Keeps sha256 m.watcher w) (sym t.2) k) in
-    (behind.0, behind.1, λ D all. (λ e. absurd (none-some (Said Accepted) (sym t.0 ∙ e)), behind.2 D all))
-one_line names before (b ∷ bs) step w Q k t rest =
-    let says = t.says w k in
-    let shown = one_answer w says.0 t.answer t.outcome step.after.watcher Q says.1 says.2 (rest says.0 says.1) in
-    (shown.0, shown.1, λ D all. let both = shown.2 D all in (λ e. both.0 (same_Some t.outcome (Said Accepted) (sym t.noted ∙ e)), both.1))
+one_line : (t : WatcherState) (names : List (List ℕ)) (before : Monitor) (line : List ℕ) (step : LineStep) (w : Watched) (Q : List (List ℕ) → Type 0)
+    (R : Watched → Watched → Type 0) → Keeps sha256 before.watcher w → (takes : TakesLine names before line step)
+    → ((next : Watched) → Keeps sha256 step.after.watcher next → Shows t next Q (R next))
+    → Shows t w (λ D. IsOfFirst D step × Q D) (λ final. (middle : Watched) × LineHands names before line step takes w middle × R middle final)
+one_line t names before [] step w Q R k takes rest =
+    let behind = rest w (subst (λ (m : Monitor). Keeps sha256 m.watcher w) (sym takes.2) k) in
+    (behind.0, behind.1, λ D all. (λ e. absurd (none-some (Said Accepted) (sym takes.0 ∙ e)), behind.2 D all), behind.3, (w, refl, behind.4))
+one_line t names before (b ∷ bs) step w Q R k takes rest =
+    let says = takes.says w k in
+    let shown = one_answer t w says.0 takes.answer takes.outcome step.after.watcher Q (R says.0) says.1 says.2 (rest says.0 says.1) in (
+      shown.0,
+      shown.1,
+      λ D all. let both = shown.2 D all in (λ e. both.0 (same_Some takes.outcome (Said Accepted) (sym takes.noted ∙ e)), both.1),
+      shown.3,
+      (says.0, says.2, shown.4),
+    )
 
-all_lines : (names : List (List ℕ)) (before : Monitor) (steps : List LineStep) (input text : List ℕ) (last : Monitor) (w : Watched)
-    (Q : List (List ℕ) → Type 0) → Keeps sha256 before.watcher w
-    → TakesLines names before steps input text last → ((next : Watched) → Keeps sha256 last.watcher next → Shows next Q)
-    → Shows w (λ D. AreOfFirst D steps × Q D)
-all_lines names before [] input text last w Q k t rest =
-    let behind = rest w (subst (λ (m : Monitor). Keeps sha256 m.watcher w) (sym t.2) k) in
-    (behind.0, behind.1, λ D all. (tt, behind.2 D all))
-all_lines names before (s ∷ steps) input text last w Q k t rest =
-    let shown = one_line names before (first_piece 10 input) s w (λ D. AreOfFirst D steps × Q D) k t.1
-    (λ next keeps. all_lines names s.after steps (drop_through 10 input) t.2.0 last next Q keeps t.2.1 rest) in
-    (shown.0, shown.1, λ D all. let both = shown.2 D all in ((both.0, both.1.0), both.1.1))
+all_lines : (t : WatcherState) (names : List (List ℕ)) (before : Monitor) (steps : List LineStep) (input text : List ℕ) (last : Monitor) (w : Watched)
+    (Q : List (List ℕ) → Type 0) (R : Watched → Watched → Type 0) → Keeps sha256 before.watcher w
+    → (takes : TakesLines names before steps input text last) → ((next : Watched) → Keeps sha256 last.watcher next → Shows t next Q (R next))
+    → Shows t w (λ D. AreOfFirst D steps × Q D) (λ final. (next : Watched) × LinesHand names before steps input text last takes w next × R next final)
+all_lines t names before [] input text last w Q R k takes rest =
+    let behind = rest w (subst (λ (m : Monitor). Keeps sha256 m.watcher w) (sym takes.2) k) in
+    (behind.0, behind.1, λ D all. (tt, behind.2 D all), behind.3, (w, refl, behind.4))
+all_lines t names before (s ∷ steps) input text last w Q R k takes rest =
+    let left = drop_through 10 input in
+    let shown = one_line t names before (first_piece 10 input) s w (λ D. AreOfFirst D steps × Q D)
+    (λ middle final. (next : Watched) × LinesHand names s.after steps left takes.2.0 last takes.2.1 middle next × R next final) k takes.1
+    (λ next keeps. all_lines t names s.after steps left takes.2.0 last next Q R keeps takes.2.1 rest) in
+    let h = shown.4 in (
+      shown.0,
+      shown.1,
+      λ D all. let both = shown.2 D all in ((both.0, both.1.0), both.1.1),
+      shown.3,
+      (h.2.0, (h.0, h.1, h.2.1), h.2.2),
+    )
 
-all_runs : (s : WatcherState) (runs : List RunTaken) (w : Watched) → Keeps sha256 s w → FollowOn s runs → Shows w (λ D. RunsAreOfFirst D runs)
-unfolding FollowOn AreSteps
-all_runs s [] w k f = ([], tt, λ D all. tt)
+all_runs : (s : WatcherState) (runs : List RunTaken) (w : Watched) → Keeps sha256 s w → (f : FollowOn s runs)
+    → Shows (after_runs s runs) w (λ D. RunsAreOfFirst D runs) (RunsHand s runs f w)
+unfolding FollowOn AreSteps RunsHand
+all_runs s [] w k f = ([], tt, λ D all. tt, k, refl)
 all_runs s (r ∷ runs) w k f =
-    all_lines r.names r.start r.steps r.lines r.told r.last w (λ D. RunsAreOfFirst D runs) (subst (λ (x : WatcherState). Keeps sha256 x w) (sym f.0) k) f.1
+    let start = subst (λ (x : WatcherState). Keeps sha256 x w) (sym f.0) k in
+    all_lines (after_runs r.last.watcher runs) r.names r.start r.steps r.lines r.told r.last w (λ D. RunsAreOfFirst D runs)
+    (λ middle final. RunsHand r.last.watcher runs f.2 middle final) start f.1
     (λ next keeps. all_runs r.last.watcher runs next keeps f.2)
 
 pub runs_agree : RunsAgree
 runs_agree s runs k f =
     let shown = all_runs s runs nothing_seen k f in
-    let agree = accepted_heads_agree sha256 shown.0 shown.1 in
-    (agree.0, shown.2 agree.0 agree.1)
+    let last = after_steps nothing_seen shown.0 in
+    (last, (shown.4, shown.3, shown.2 last.sure (accepted_heads_agree sha256 shown.0 shown.1)))

@@ -11,7 +11,7 @@ use Rattle.ct_watch.specs.Verdicts.{accuses, HeadSays, EntriesSay, ProofSays, af
 use Rattle.ct_watch.specs.WatcherState.{WatcherState, Keeps}
 use Rattle.ct_follow.specs.Answers.{Answered, a_head, leaves_from, a_proof, a_state, no_answer, Reads}
 use Rattle.ct_follow.specs.EntryText.{ReadTexts}
-use Rattle.ct_follow.specs.StateText.{state_text}
+use Rattle.ct_follow.specs.StateText.{state_text, IsOfBytes, IsLineOfState, IsNoStateLine}
 use Rattle.ct_follow.specs.Texts.{line_of}
 use Rattle.ct_follow.specs.VerdictText.{outcome_data, wanted_size}
 use Rattle.ct_tree.specs.declared.head.Head.{Head}
@@ -94,16 +94,17 @@ TakesLines names before [] input text last = (input ≡ []) × (text ≡ []) × 
 TakesLines names before (s ∷ steps) input text last = (0 < length input) × TakesLine names before (first_piece 10 input) s
     × ((rest : List ℕ) × TakesLines names s.after steps (drop_through 10 input) rest last × (text ≡ s.text ++ rest))
 
--- The first line, where a state may stand: one that is taken up is that state's line, with no verdict so far. Any other line is
--- one of the log's.
+-- The first line, where a state may stand: a state's line is taken up as that state, with no verdict so far. Any line that is no state's
+-- is one of the log's.
 abbrev pub FirstGives : List (List ℕ) → Monitor → List ℕ → List ℕ → Monitor → Type 0
-FirstGives names before line text after = ((line ≡ state_text after.watcher) × (text ≡ []) × (after.alarm ≡ before.alarm) × (after.bad ≡ before.bad))
-    ⊎ LineGives names before line text after
+FirstGives names before line text after = (IsLineOfState line after.watcher × (text ≡ []) × (after.alarm ≡ before.alarm) × (after.bad ≡ before.bad))
+    ⊎ (IsNoStateLine line × LineGives names before line text after)
 
--- A run begins with nothing seen, or with the state whose line is the first of the input; `left` is the input without that line.
+-- A run begins with the state whose line is the first of the input, and with nothing seen exactly where that is no state's; `left` is the
+-- input without that line.
 abbrev pub BeginsAt : WatcherState → List ℕ → WatcherState → List ℕ → Type 0
-BeginsAt new input start left = ((left ≡ input) × (start ≡ new))
-    ⊎ ((0 < length input) × (first_piece 10 input ≡ state_text start) × (left ≡ drop_through 10 input))
+BeginsAt new input start left = ((left ≡ input) × (start ≡ new) × IsNoStateLine (first_piece 10 input))
+    ⊎ ((0 < length input) × IsLineOfState (first_piece 10 input) start × (left ≡ drop_through 10 input))
 
 -- all lines of the input, of which the first may be a state, give this text and lead to `last`
 pub record TakesAll (names : List (List ℕ)) (before : Monitor) (input text : List ℕ) (last : Monitor) : Type 0 where
@@ -123,8 +124,8 @@ status_of m = if m.alarm then 3 else (if m.bad then 4 else 0)
 abbrev pub IsRunStatus : ℕ → Type 0
 IsRunStatus status = (status ≡ 0) ⊎ ((status ≡ 3) ⊎ (status ≡ 4))
 
--- A run over the input, from nothing seen: its text is what its lines have to tell, and behind it the line of the state that it ends in;
--- and its exit status.
+-- A run over the input, from nothing seen: its text is what its lines have to tell, and behind it the line of the state that it ends in,
+-- whose hashes are 32 bytes and whose numbers fit 64 bits; and its exit status.
 pub record Runs (names : List (List ℕ)) (input text : List ℕ) (status : ℕ) : Type 0 where
   pub new : Monitor
   pub last : Monitor
@@ -132,6 +133,7 @@ pub record Runs (names : List (List ℕ)) (input text : List ℕ) (status : ℕ)
   pub fresh : Keeps sha256 new.watcher nothing_seen
   pub no_alarm : new.alarm ≡ false
   pub none_bad : new.bad ≡ false
+  pub of_bytes : IsOfBytes last.watcher
   pub takes : TakesAll names new input told last
   pub written : text ≡ told ++ (state_text last.watcher ++ 10 ∷ [])
   pub ends : status ≡ status_of last

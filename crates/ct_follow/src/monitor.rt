@@ -7,13 +7,13 @@ ghost use Rattle.ct_watch.specs.Verdicts.{EntriesSay, after_entries};
 ghost use Rattle.ct_watch.specs.WatcherState.{Keeps};
 ghost use Rattle.ct_follow.specs.Answers.{answer_read, leaves_from};
 ghost use Rattle.ct_follow.specs.Session.{AreTexts, moment_of, StateSays, LineGives, FirstGives, status_of, is_alarm, is_bad};
-ghost use Rattle.ct_follow.specs.StateText.{state_text};
+ghost use Rattle.ct_follow.specs.StateText.{state_text, IsOfBytes};
 ghost use Rattle.ct_follow.specs.VerdictText.{wanted_size};
 ghost use Rattle.ct_follow.specs.declared.verdicts.Outcome.TheVariants.{Said};
 
 use crate::answer::{Answer, read_answer};
 use crate::entries::{either, push_read};
-use crate::state::{read_state, state_line};
+use crate::state::{is_of_bytes, read_state, state_line};
 use crate::verdicts::{Outcome, push_outcome, wanted};
 use ct_tree::Sha256Hash;
 use ct_watch::{Verdict, Watcher};
@@ -188,7 +188,8 @@ impl Monitor {
     ) -> Result<Vec<u8>, AllocError>
         ensures { IfOk result (λ t. FirstGives (map string_bytes names.now) self.old line.now t.items self.new) }
     {
-        match read_state(alloc, line)? {
+        let found = read_state(alloc, line)?;
+        match found {
             Some(watcher) => {
                 self.watcher = watcher;
                 Ok(Vec::new(alloc))
@@ -199,8 +200,10 @@ impl Monitor {
 
     // The state, as a line with its end.
     pub(crate) fn last_line(&self, alloc: Global) -> Result<Vec<u8>, AllocError>
-        ensures { IfOk result (λ t. t.items ≡ state_text self.now.watcher ++ 10 ∷ []) }
+        ensures line { IfOk result (λ t. t.items ≡ state_text self.now.watcher ++ 10 ∷ []) }
+        ensures of_bytes { IsOfBytes self.now.watcher }
     {
+        is_of_bytes(&self.watcher);
         let mut text = state_line(alloc, &self.watcher)?.into_bytes();
         text.push(b'\n')?;
         Ok(text)

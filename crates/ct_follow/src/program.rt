@@ -8,7 +8,7 @@ ghost use Rattle.ct_follow.specs.Faults.{monitor_fault_line};
 ghost use Rattle.ct_follow.specs.declared.fault.Fault.{Fault as FaultOf};
 ghost use Rattle.ct_follow.specs.declared.fault.Fault.TheVariants.{Read as ReadFault};
 ghost use Rattle.ct_follow.specs.Session.{FirstGives, KeptGives, LineGives, OneTaken, IsTaken, IsAllTaken, IsRun, IsRunStatus, status_of};
-ghost use Rattle.ct_follow.specs.StateText.{state_text};
+ghost use Rattle.ct_follow.specs.StateText.{state_text, IsOfBytes};
 
 use crate::answer::LONGEST;
 use crate::command::{Command, command_of, refusal};
@@ -176,6 +176,7 @@ fn take_all<B: BufRead, W: Write>(
 // Writes the state as the last line, and answers the exit status.
 fn finish<W: Write>(alloc: Global, monitor: &Monitor, writer: &mut W) -> Result<u8, Fault>
     ensures status { IfOk result (λ status. status ≡ status_of monitor.now) }
+    ensures of_bytes { IsOfBytes monitor.now.watcher }
     ensures written { OnOk result (Appends (W.contents writer.old) (W.contents writer.new) (state_text monitor.now.watcher ++ 10 ∷ [])) }
 {
     let text = monitor.last_line(alloc)?;

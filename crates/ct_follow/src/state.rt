@@ -1,11 +1,13 @@
 //! The state between two runs, as a line of JSON.
 
-ghost use Rattle.std.specs.Prelude.{◌≡◌, IfOk, IfSome, false, string_bytes};
+ghost use Rattle.std.specs.Prelude.{◌≡◌, ◌<◌, ◌≤◌, ◌^◌, All, IfOk, Some, false, length, option_and_then, string_bytes};
 ghost use Rattle.serde_json.specs.Data.{null};
+ghost use Rattle.serde_json.specs.Find.{get};
+ghost use Rattle.serde_json.specs.Read.{read as read_text};
 ghost use Rattle.serde_json.specs.View.{view};
 ghost use Rattle.serde_json.specs.Written.{compact_text};
 ghost use Rattle.sha2.specs.Sha256.{sha256};
-ghost use Rattle.ct_follow.specs.StateText.{maybe_head_data, peaks_data, state_data, check_data, state_text};
+ghost use Rattle.ct_follow.specs.StateText.{maybe_head_data, peaks_data, state_data, check_data, state_text, IsRootHash, ArePeaksOfBytes, IsNoneOrOfBytes, IsOfBytes, peaks_in, peaks_at, head_at, state_in, ReadsState};
 
 use crate::answer::LONGEST;
 use crate::fault::UnreadState;
@@ -16,6 +18,62 @@ use ct_watch::Watcher;
 use serde_json::{Value, json};
 use sha2::{Digest, Sha256};
 use std::alloc::{AllocError, Global};
+
+// A law, which does nothing: what the type says of a hash.
+fn is_digest(hash: [u8; 32])
+    ensures { IsRootHash hash }
+{}
+
+// A law, which does nothing: what the type says of hashes.
+fn are_digests(hashes: &[[u8; 32]])
+    ensures { All IsRootHash hashes.now }
+{
+    for hash in hashes {
+        is_digest(*hash);
+    }
+}
+
+// A law, which does nothing: what the type says of a head.
+fn is_head(tree_size: u64, timestamp: u64, root: [u8; 32])
+    ensures size { tree_size < 2 ^ 64 }
+    ensures moment { timestamp < 2 ^ 64 }
+    ensures root { IsRootHash root }
+{
+    is_digest(root);
+}
+
+// A law, which does nothing: what the type says of a head that may be there.
+fn is_maybe_head(head: Option<Head>)
+    ensures { IsNoneOrOfBytes head }
+{
+    match head {
+        Some(head) => is_head(head.tree_size, head.timestamp, head.root),
+        None => {}
+    }
+}
+
+// A law, which does nothing: what the type says of a number.
+fn is_number(number: u64)
+    ensures { number < 2 ^ 64 }
+{}
+
+// A law, which does nothing: what the type says of subtrees.
+fn are_peaks(peaks: &Peaks)
+    ensures { ArePeaksOfBytes peaks.now }
+{
+    is_number(peaks.size());
+    are_digests(peaks.subtrees());
+}
+
+// A law, which does nothing: what the type says of a state.
+pub(crate) fn is_of_bytes(watcher: &Watcher<Sha256Hash>)
+    ensures { IsOfBytes watcher.now }
+{
+    is_maybe_head(watcher.accepted());
+    is_maybe_head(watcher.waiting());
+    are_peaks(watcher.sure());
+    are_peaks(watcher.all());
+}
 
 // A head as a log answers it, without a signature.
 fn head_value(alloc: Global, head: Option<Head>) -> Result<Value, AllocError>
@@ -91,20 +149,33 @@ pub(crate) fn state_line(alloc: Global, watcher: &Watcher<Sha256Hash>) -> Result
     value.to_string(alloc)
 }
 
-fn peaks(alloc: Global, value: &Value, key: &str) -> Result<Option<Peaks>, AllocError> {
-    let Some(field) = value.get(key) else {
+// The number of leaves and the subtrees that an object has.
+fn peaks_of(alloc: Global, value: &Value) -> Result<Option<Peaks>, AllocError>
+    ensures { IfOk result (λ o. o ≡ peaks_in (view value.now)) }
+{
+    let Some(size) = fields::number(value, "size") else {
         return Ok(None);
     };
-    let Some(size) = fields::number(field, "size") else {
-        return Ok(None);
-    };
-    match fields::hashes(alloc, field, "subtrees")? {
+    match fields::hashes(alloc, value, "subtrees")? {
         Some(subtrees) => Ok(Some(Peaks::from_parts(size, subtrees))),
         None => Ok(None),
     }
 }
 
-fn head(alloc: Global, value: &Value, key: &str) -> Result<Option<Head>, AllocError> {
+// Those under a key.
+fn peaks(alloc: Global, value: &Value, key: &str) -> Result<Option<Peaks>, AllocError>
+    ensures { IfOk result (λ o. o ≡ peaks_at key.now (view value.now)) }
+{
+    match value.get(key) {
+        Some(field) => peaks_of(alloc, field),
+        None => Ok(None),
+    }
+}
+
+// The tree head under a key.
+fn head(alloc: Global, value: &Value, key: &str) -> Result<Option<Head>, AllocError>
+    ensures { IfOk result (λ o. o ≡ head_at key.now (view value.now)) }
+{
     match value.get(key) {
         Some(field) => crate::answer::head(alloc, field),
         None => Ok(None),
@@ -112,7 +183,9 @@ fn head(alloc: Global, value: &Value, key: &str) -> Result<Option<Head>, AllocEr
 }
 
 // The watcher that a value's parts make, whatever its check is.
-fn parts(alloc: Global, value: &Value) -> Result<Option<Watcher<Sha256Hash>>, AllocError> {
+fn parts(alloc: Global, value: &Value) -> Result<Option<Watcher<Sha256Hash>>, AllocError>
+    ensures { IfOk result (λ o. o ≡ state_in (view value.now)) }
+{
     let Some(sure) = peaks(alloc, value, "sure")? else {
         return Ok(None);
     };
@@ -124,27 +197,41 @@ fn parts(alloc: Global, value: &Value) -> Result<Option<Watcher<Sha256Hash>>, Al
     Ok(Some(Watcher::from_parts(Sha256Hash, accepted, waiting, sure, all)))
 }
 
-// The watcher whose state the line is, byte for byte.
-pub(crate) fn read_state(
+// The watcher whose state the line is, byte for byte, where the line was read as this value.
+fn state_of(
     alloc: Global,
     line: &[u8],
+    value: &Value,
 ) -> Result<Option<Watcher<Sha256Hash>>, AllocError>
-    ensures { IfOk result (λ o. IfSome o (λ s. line.now ≡ state_text s)) }
+    requires short { length line.now ≤ 16777216 }
+    requires read { read_text line.now ≡ Some (view value.now) }
+    ensures { IfOk result (λ o. ReadsState line.now o) }
 {
-    if line.len() > LONGEST {
-        return Ok(None);
-    }
-    let value = match Value::from_slice(alloc, line) {
-        Ok(value) => value,
-        Err(error) => return UnreadState::from(error).state,
-    };
-    let Some(watcher) = parts(alloc, &value)? else {
+    let Some(watcher) = parts(alloc, value)? else {
         return Ok(None);
     };
+    is_of_bytes(&watcher);
     let written = state_line(alloc, &watcher)?;
     if written.as_bytes() == line {
         Ok(Some(watcher))
     } else {
         Ok(None)
+    }
+}
+
+// The watcher whose state the line is, byte for byte; none exactly where it is no state's.
+pub(crate) fn read_state(
+    alloc: Global,
+    line: &[u8],
+) -> Result<Option<Watcher<Sha256Hash>>, AllocError>
+    ensures { IfOk result (λ o. ReadsState line.now o) }
+{
+    let is_long = line.len() > LONGEST;
+    if is_long {
+        return Ok(None);
+    }
+    match Value::from_slice(alloc, line) {
+        Ok(value) => state_of(alloc, line, &value),
+        Err(error) => UnreadState::from(error).state,
     }
 }

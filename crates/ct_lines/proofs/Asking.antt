@@ -1,6 +1,8 @@
 -- What a line asks, as a relation and as a function.
 use Rattle.std.proofs.Common.{inl, inr, ◌≡◌, ◌<◌, ℕ, List, [], ◌∷◌, length, Vec, Global, Option, Some, None, Result, Ok, Err, Bool, true, false, ◌&&◌, nat_le}
-use Rattle.std.proofs.Common.{cond, refl, sym, ap, subst, ◌∙◌, arith}
+use Rattle.std.proofs.Common.{cond, refl, sym, ap, subst, ◌∙◌, arith, take, take_all}
+use Rattle.std.proofs.lemmas.Bool.{cases_lt}
+use Rattle.std.proofs.lemmas.List.{length-take}
 use Rattle.std.specs.Prelude.{◌≢◌, option_and_then, IfOk, MatchResult}
 use Rattle.std.specs.declared.alloc.AllocError.{AllocError}
 use Rattle.std.specs.Str.{is_utf8}
@@ -15,9 +17,7 @@ use Rattle.ct_core.specs.declared.query.Reply.{Reply}
 use Rattle.ct_core.specs.Settlement.{Log}
 use Rattle.ct_core.specs.Replies.{refused}
 use Rattle.ct_lines.specs.ReplyText.{answered, reply_line}
-use Rattle.ct_lines.specs.declared.standing.StandingLine.{StandingLine}
 use Rattle.ct_lines.specs.Serving.{reply_if}
-use Rattle.ct_lines.specs.Progress.{StandsFor, StandsAs}
 use Rattle.ct_lines.specs.Frozen.{request_of, asked_answer, answer_if, line_answer, Answers, frozen_reply}
 
 -- what a text asks
@@ -87,7 +87,24 @@ pub reply_too_long : (log : Log) (line : List ℕ) → 1048576 < length line →
 unfolding frozen_reply
 reply_too_long log line h = ap reply_line (sym (ap (answer_if log) (too_long line h)))
 
-pub too_long_stands : (log : Log) (held : StandingLine) (line text : List ℕ) → held.too_long ≡ true → text ≡ reply_line (refused BadLine)
-    → StandsFor held line → text ∷ [] ≡ reply_if (frozen_reply log) line
-too_long_stands log held [] text e same s = absurd (omega (arith, subst (λ t. StandsAs t held.bytes.items []) e s))
-too_long_stands log held (b ∷ bs) text e same s = ap (λ t. t ∷ []) (same ∙ reply_too_long log (b ∷ bs) (subst (λ t. StandsAs t held.bytes.items (b ∷ bs)) e s))
+-- the reply to what is kept of a line is the line's
+reply_kept : (log : Log) (line kept : List ℕ) → kept ≡ take 1048578 line → frozen_reply log kept ≡ frozen_reply log line
+reply_kept log line kept is = elim (cases_lt 1048578 (length line)) [
+  | inl more ↦
+      let long = ap length is ∙ length-take {A = ℕ} 1048578 line in
+      sym (reply_too_long log kept (omega (arith, long, more))) ∙ reply_too_long log line (omega (arith, more))
+  | inr whole ↦ ap (frozen_reply log) (is ∙ take_all 1048578 line whole)
+]
+
+pub kept_replied : (log : Log) (line kept text : List ℕ) → kept ≡ take 1048578 line → 0 < length kept → text ≡ frozen_reply log kept
+    → text ∷ [] ≡ reply_if (frozen_reply log) line
+kept_replied log [] kept text is some same =
+    let long = ap length is ∙ length-take {A = ℕ} 1048578 [] in
+    absurd (omega (arith, long, some))
+kept_replied log (b ∷ bs) kept text is some same = ap (λ t. t ∷ []) (same ∙ reply_kept log (b ∷ bs) kept is)
+
+pub none_replied : (log : Log) (line kept : List ℕ) → kept ≡ take 1048578 line → length kept ≡ 0 → [] ≡ reply_if (frozen_reply log) line
+none_replied log [] kept is none = refl
+none_replied log (b ∷ bs) kept is none =
+    let long = ap length is ∙ length-take {A = ℕ} 1048578 (b ∷ bs) in
+    absurd (omega (arith, long, none))

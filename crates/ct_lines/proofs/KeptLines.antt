@@ -1,10 +1,11 @@
 -- What is kept of a line, piece by piece.
-use Rattle.std.proofs.Common.{◌≡◌, ◌⊎◌, inl, inr, ◌≢◌, ◌<◌, ◌≤◌, ◌+◌, ◌-◌, ℕ, zero, suc, Bool, true, false, cond, List, [], ◌∷◌, ◌++◌, All, length, take, min}
-use Rattle.std.proofs.Common.{Option, Some, None, Result, Ok, Err, IfSome, refl, sym, ap, ◌∙◌, arith, append-nil, le_refl, length-take-le, take_all}
-use Rattle.std.proofs.lemmas.Bool.{cases_lt}
-use Rattle.std.proofs.lemmas.List.{length-take}
-use Rattle.std.proofs.lemmas.List.Elements.{All-append}
-use Rattle.std.proofs.Math.Seq.{take-append-add}
+use Rattle.std.proofs.Common.{◌≡◌, ◌⊎◌, inl, inr, ◌≢◌, ◌<◌, ◌≤◌, ◌+◌, ◌-◌, ℕ, zero, suc, Bool, true, false, cond, List, [], ◌∷◌, ◌++◌, All, length, take, get_or, min, eqb, ◌&&◌}
+use Rattle.std.proofs.Common.{Option, Some, None, Result, Ok, Err, IfSome, refl, sym, ap, ◌∙◌, arith, append_assoc, append-nil, le_refl, length-append}
+use Rattle.std.proofs.Common.{length-take-le, ne_eqb, take_all}
+use Rattle.std.proofs.lemmas.Bool.{cases_lt, lt-ltb}
+use Rattle.std.proofs.lemmas.List.{length-take, take-append-le}
+use Rattle.std.proofs.lemmas.List.Elements.{All-append, All-get_or, All-take}
+use Rattle.std.proofs.Math.Seq.{get_or-append_seam, take-append-add, take-append_seam}
 use Rattle.std.specs.Prelude.{OnErr}
 use Rattle.std.proofs.KnownBytes.{Consumes-nil, Consumes-kept, Consumes-trans}
 use Rattle.std.proofs.BufReadLemmas.{Consumes_through, take_through-nil, take_through_nonempty}
@@ -46,7 +47,7 @@ pub of_error : {T E P : Type 0} (r : Result T E) → P → OnErr r P
 of_error (Ok v) p = tt
 of_error (Err e) p = p
 
-all_of_none : All (λ (x : ℕ). x ≢ 10) []
+pub all_of_none : All (λ (x : ℕ). x ≢ 10) []
 all_of_none k d below = λ e. absurd (omega (arith, below))
 
 -- nothing was taken
@@ -164,3 +165,50 @@ whole_or_long longest xs =
       | inl more ↦ inr (omega (arith, more, long, strip_one kept), omega (arith, more, strip_one line))
       | inr whole ↦ inl (ap (strip_last 10) (take_all (longest + 2) line whole))
     ]
+
+pub kept_fits : (most : ℕ) (kept xs : List ℕ) → kept ≡ take most xs → length kept ≤ most
+kept_fits most kept xs is =
+    let long = ap length is ∙ length-take most xs in
+    omega (arith, long)
+
+-- more is kept behind what is kept
+pub kept_on : (most : ℕ) (kept after xs ys : List ℕ) → kept ≡ take most xs → after ≡ take most (kept ++ ys) → after ≡ take most (xs ++ ys)
+kept_on most kept after xs ys is more = more ∙ ap (λ l. take most (l ++ ys)) is ∙ take_again most xs ys
+
+-- bytes of which the last one is at k
+strip_at : (xs : List ℕ) (k : ℕ) → length xs ≡ k + 1 → strip_last 10 xs ≡ cond (eqb (get_or xs k 0) 10) (take k xs) xs
+strip_at xs k e = ap (λ (t : Bool). stripped t (length xs - 1)) (lt-ltb 0 (length xs) (omega (arith, e))) ∙ ap (λ (n : ℕ). stripped true n) (omega (arith, e))
+  where
+    stripped : Bool → ℕ → List ℕ
+    stripped t n = cond (t && eqb (get_or xs n 0) 10) (take n xs) xs
+
+strip_end : (xs : List ℕ) → strip_last 10 (xs ++ 10 ∷ []) ≡ xs
+strip_end xs =
+    strip_at (xs ++ 10 ∷ []) (length xs) (length-append xs (10 ∷ []))
+    ∙ ap (λ b. cond (eqb b 10) (take (length xs) (xs ++ 10 ∷ [])) (xs ++ 10 ∷ [])) (get_or-append_seam xs 10 [] 0) ∙ take-append_seam xs (10 ∷ [])
+
+strip_other : (xs : List ℕ) → All (λ x. x ≢ 10) xs → strip_last 10 xs ≡ xs
+strip_other [] other = refl
+strip_other (x ∷ xs) other =
+    strip_at (x ∷ xs) (length xs) (omega arith)
+    ∙ ap (λ (t : Bool). cond t (take (length xs) (x ∷ xs)) (x ∷ xs)) (ne_eqb (get_or (x ∷ xs) (length xs) 0) 10
+    (All-get_or (λ y. y ≢ 10) (x ∷ xs) (length xs) 0 (omega arith) other))
+
+strip_kept : (most : ℕ) (xs : List ℕ) → All (λ x. x ≢ 10) xs → strip_last 10 (take most (xs ++ 10 ∷ [])) ≡ take most xs
+strip_kept most xs other = elim (cases_lt (length xs) most) [
+  | inl whole ↦
+      let long = length-append xs (10 ∷ []) in
+      ap (strip_last 10) (take_all most (xs ++ 10 ∷ []) (omega (arith, long, whole))) ∙ strip_end xs ∙ sym (take_all most xs (omega (arith, whole)))
+  | inr more ↦ ap (strip_last 10) (take-append-le most xs (10 ∷ []) more) ∙ strip_other (take most xs) (All-take (λ x. x ≢ 10) most xs other)
+]
+
+-- what is kept of a line that the input ends
+pub ends_here : (most : ℕ) (kept line : List ℕ) → kept ≡ take most line → All (λ x. x ≢ 10) line → strip_last 10 kept ≡ take most line
+ends_here most kept line is other = ap (strip_last 10) is ∙ strip_other (take most line) (All-take (λ x. x ≢ 10) most line other)
+
+-- what is kept of a line with its end
+pub ends_on : (most : ℕ) (kept held line bs : List ℕ) → kept ≡ take most line
+    → held ≡ take most (kept ++ (bs ++ 10 ∷ [])) → All (λ x. x ≢ 10) (line ++ bs) → strip_last 10 held ≡ take most (line ++ bs)
+ends_on most kept held line bs is end other =
+    ap (strip_last 10) (kept_on most kept held line (bs ++ 10 ∷ []) is end ∙ ap (take most) (sym (append_assoc line bs (10 ∷ []))))
+    ∙ strip_kept most (line ++ bs) other

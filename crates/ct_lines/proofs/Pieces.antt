@@ -1,7 +1,8 @@
--- Serving a piece of the input, byte by byte.
-use Rattle.std.proofs.Common.{◌≡◌, ◌<◌, ◌+◌, ℕ, List, [], ◌∷◌, ◌++◌, length, take, drop, get_or, Option, Bool, false, cond, nat_eq, refl, sym, ap, subst, ◌∙◌}
+-- Serving a piece of the input, line by line.
+use Rattle.std.proofs.Common.{◌≡◌, ◌≢◌, ◌<◌, ◌≤◌, ◌+◌, ◌-◌, ℕ, List, [], ◌∷◌, ◌++◌, All, length, take, drop, Option, Bool, true, false, cond, nat_eq, refl, sym, ap, subst, ◌∙◌}
 use Rattle.std.proofs.Common.{arith, append_assoc, append-nil, length-append, take-append-drop}
-use Rattle.std.proofs.lemmas.List.{take_more, take_at, length-take-le, drop_more, drop_at}
+use Rattle.std.proofs.lemmas.List.{take_at, take_more, length-take-le, drop_at}
+use Rattle.std.proofs.lemmas.List.Elements.{All-append, All-head, All-tail}
 use Rattle.std.proofs.lemmas.Grind.{common_steps}
 use Rattle.std.specs.Io.KnownBytes.{Appends, Consumes}
 use Rattle.std.proofs.KnownBytes.{Appends-nil, Appends-trans, Consumes-trans}
@@ -11,8 +12,9 @@ use Rattle.ct_lines.specs.declared.fault.ServeFault.{ServeFault}
 use Rattle.ct_lines.specs.declared.fault.ServeFault.TheVariants.{Read, Write, Memory, Endless}
 use Rattle.ct_lines.specs.Frozen.{cut, replies}
 use Rattle.ct_lines.specs.Serving.{count_in, reply_if, ended, IsShort, IsCutOff, RepliedToEnded, IsEndedBy}
-use Rattle.ct_lines.specs.Progress.{StandsFor, ServesPiece, StopsBefore, IsStopped, Goes, StopsWithin}
-use Rattle.ct_lines.specs.declared.standing.StandingLine.{StandingLine}
+use Rattle.ct_lines.proofs.KeptLines.{all_of_none, ends_here, ends_on, kept_fits, kept_on}
+use Rattle.ct_lines.specs.Lines.{IsPiece}
+use Rattle.ct_lines.specs.Progress.{StandsFor, EndsAs, ServesPiece, StopsBefore, IsStopped, Goes, StopsWithin}
 
 -- the replies from a line on, first its own
 pub line_first : (reply : List ℕ → List ℕ) (m : List ℕ) (ls : List (List ℕ)) → replies reply (m ∷ ls) ≡ reply_if reply m ++ replies reply ls
@@ -32,6 +34,20 @@ served_byte reply line p m rs b other s = record {
       ap (λ l. replies reply (ended line l)) (append_assoc p (b ∷ []) more) ∙ s.ends_on (b ∷ more)
       ∙ ap (λ (t : Bool). rs ++ replies reply (cond t (m ∷ ended [] more) (ended (m ++ b ∷ []) more))) other;
 }
+
+pub not_ten : (b : ℕ) → b ≢ 10 → nat_eq b 10 ≡ false
+not_ten b h = grind (arith, common_steps)
+
+-- bytes of which none is the end of a line
+pub served_bytes : (reply : List ℕ → List ℕ) (line p m bs : List ℕ) (rs : List (List ℕ)) → All (λ x. x ≢ 10) bs → ServesPiece reply line p rs m
+    → ServesPiece reply line (p ++ bs) rs (m ++ bs)
+served_bytes reply line p m [] rs other s =
+    subst (λ l. ServesPiece reply line (p ++ []) rs l) (sym (append-nil m)) (subst (λ l. ServesPiece reply line l rs m) (sym (append-nil p)) s)
+served_bytes reply line p m (b ∷ bs) rs other s =
+    let one = served_byte reply line p m rs b (not_ten b (All-head (λ x. x ≢ 10) b bs other)) s in
+    let more = served_bytes reply line (p ++ b ∷ []) (m ++ b ∷ []) bs rs (All-tail (λ x. x ≢ 10) b bs other) one in
+    subst (λ l. ServesPiece reply line (p ++ b ∷ bs) rs l) (append_assoc m (b ∷ []) bs)
+    (subst (λ l. ServesPiece reply line l rs ((m ++ b ∷ []) ++ bs)) (append_assoc p (b ∷ []) bs) more)
 
 pub served_end : (reply : List ℕ → List ℕ) (line p m : List ℕ) (rs : List (List ℕ)) → ServesPiece reply line p rs m
     → ServesPiece reply line (p ++ 10 ∷ []) (rs ++ reply_if reply m) []
@@ -87,9 +103,9 @@ pub stop_here : (reply : List ℕ → List ℕ) (line bytes : List ℕ) (a b : O
     → (next : List ℕ) × IsShort next (reply_if reply line) × StopsBefore (Write k) next (reply_if reply line) × Appends a b next
 stop_here reply line bytes a b k e w = (take w.0 bytes, subst (λ l. IsShort (take w.0 bytes) l) e (short_take w.0 bytes w.1), omega (arith, ap length e), w.2)
 
-pub goes_none : (reply : List ℕ → List ℕ) (old : Option (List ℕ)) (held : StandingLine) (count : ℕ) (line : List ℕ) → StandsFor held line
-    → Goes reply old old held count count line []
-goes_none reply old held count line s = record {
+pub goes_none : (reply : List ℕ → List ℕ) (old : Option (List ℕ)) (kept : List ℕ) (count : ℕ) (line : List ℕ) → StandsFor kept line
+    → Goes reply old old kept count count line []
+goes_none reply old kept count line s = record {
   texts = [];
   line2 = line;
   stands = s;
@@ -98,51 +114,68 @@ goes_none reply old held count line s = record {
   counted = omega arith;
 }
 
-pub goes_byte : (reply : List ℕ → List ℕ) (old new : Option (List ℕ)) (held after : StandingLine) (count n b : ℕ) (line p : List ℕ)
-    → Goes reply old new held count n line p → ((l : List ℕ) → StandsFor held l → StandsFor after (l ++ b ∷ [])) → nat_eq b 10 ≡ false
-    → Goes reply old new after count n line (p ++ b ∷ [])
-goes_byte reply old new held after count n b line p g keep other = record {
+-- of a line of which nothing was read nothing is kept
+pub stands_empty : (kept : List ℕ) → kept ≡ [] → StandsFor kept []
+stands_empty kept none = (none, all_of_none)
+
+-- what is kept of the line that stands has room
+pub has_stood : (reply : List ℕ → List ℕ) (old new : Option (List ℕ)) (kept : List ℕ) (count n : ℕ) (line p : List ℕ) → Goes reply old new kept count n line p
+    → length kept ≤ 1048578
+has_stood reply old new kept count n line p g = kept_fits 1048578 kept g.line2 g.stands.0
+
+-- more of a line, of whose bytes none is its end
+pub goes_bytes : (reply : List ℕ → List ℕ) (old new : Option (List ℕ)) (kept after : List ℕ) (count n : ℕ) (line p bs : List ℕ)
+    → Goes reply old new kept count n line p → All (λ x. x ≢ 10) bs → after ≡ take 1048578 (kept ++ bs) → Goes reply old new after count n line (p ++ bs)
+goes_bytes reply old new kept after count n line p bs g other is = record {
   texts = g.texts;
-  line2 = g.line2 ++ b ∷ [];
-  stands = keep g.line2 g.stands;
-  served = served_byte reply line p g.line2 g.texts b other g.served;
+  line2 = g.line2 ++ bs;
+  stands = (kept_on 1048578 kept after g.line2 bs g.stands.0 is, All-append (λ x. x ≢ 10) g.line2 bs g.stands.1 other);
+  served = served_bytes reply line p g.line2 bs g.texts other g.served;
   written = g.written;
   counted = g.counted;
 }
 
-pub goes_end : (reply : List ℕ → List ℕ) (old mid new : Option (List ℕ)) (held after : StandingLine) (count n m : ℕ) (line p : List ℕ)
-    → Goes reply old mid held count n line p
-    → ((l : List ℕ) → StandsFor held l → Appends mid new (concat (reply_if reply l)) × (m ≡ n + length (reply_if reply l))) → StandsFor after []
-    → Goes reply old new after count m line (p ++ 10 ∷ [])
-goes_end reply old mid new held after count n m line p g write empty =
-    let w = write g.line2 g.stands in
-    let own = reply_if reply g.line2 in
+-- the rest of a line, with its end
+pub goes_end : (reply : List ℕ → List ℕ) (old mid new : Option (List ℕ)) (kept held : List ℕ) (count n m : ℕ) (line p bs : List ℕ)
+    → Goes reply old mid kept count n line p → All (λ x. x ≢ 10) bs → held ≡ take 1048578 (kept ++ (bs ++ 10 ∷ []))
+    → ((l : List ℕ) → EndsAs held l → Appends mid new (concat (reply_if reply l)) × (m ≡ n + length (reply_if reply l)))
+    → Goes reply old new [] count m line (p ++ (bs ++ 10 ∷ []))
+goes_end reply old mid new kept held count n m line p bs g other is write =
+    let whole = g.line2 ++ bs in
+    let w = write whole (ends_on 1048578 kept held g.line2 bs g.stands.0 is (All-append (λ x. x ≢ 10) g.line2 bs g.stands.1 other)) in
+    let own = reply_if reply whole in
+    let served = served_end reply line (p ++ bs) whole g.texts (served_bytes reply line p g.line2 bs g.texts other g.served) in
     record {
       texts = g.texts ++ own;
       line2 = [];
-      stands = empty;
-      served = served_end reply line p g.line2 g.texts g.served;
+      stands = stands_empty [] refl;
+      served = subst (λ l. ServesPiece reply line l (g.texts ++ own) []) (append_assoc p bs (10 ∷ [])) served;
       written = subst (λ l. Appends old new l) (sym (concat-append g.texts own)) (Appends-trans old mid new (concat g.texts) (concat own) g.written w.0);
       counted = omega (arith, w.1, g.counted, length-append g.texts own);
     }
 
-pub stops_end : (reply : List ℕ → List ℕ) (old mid new : Option (List ℕ)) (held : StandingLine) (count n : ℕ) (f : ServeFault) (line p rest : List ℕ)
-    → Goes reply old mid held count n line p
-    → ((l : List ℕ) → StandsFor held l → (next : List ℕ) × IsShort next (reply_if reply l) × StopsBefore f next (reply_if reply l)
-    × Appends mid new next) → count_in f ≡ n → StopsWithin reply old new count f line (p ++ 10 ∷ rest)
-stops_end reply old mid new held count n f line p rest g stop same =
-    let s = stop g.line2 g.stands in
+pub stops_end : (reply : List ℕ → List ℕ) (old mid new : Option (List ℕ)) (kept held : List ℕ) (count n : ℕ) (f : ServeFault) (line p bs rest : List ℕ)
+    → Goes reply old mid kept count n line p → All (λ x. x ≢ 10) bs → held ≡ take 1048578 (kept ++ (bs ++ 10 ∷ []))
+    → ((l : List ℕ) → EndsAs held l → (next : List ℕ) × IsShort next (reply_if reply l) × StopsBefore f next (reply_if reply l)
+    × Appends mid new next) → count_in f ≡ n → StopsWithin reply old new count f line (p ++ ((bs ++ 10 ∷ []) ++ rest))
+stops_end reply old mid new kept held count n f line p bs rest g other is stop same =
+    let whole = g.line2 ++ bs in
+    let s = stop whole (ends_on 1048578 kept held g.line2 bs g.stands.0 is (All-append (λ x. x ≢ 10) g.line2 bs g.stands.1 other)) in
+    let served = served_bytes reply line p g.line2 bs g.texts other g.served in
+    let order : (p ++ bs) ++ 10 ∷ rest ≡ p ++ ((bs ++ 10 ∷ []) ++ rest) =
+    append_assoc p bs (10 ∷ rest) ∙ ap (λ l. p ++ l) (sym (append_assoc bs (10 ∷ []) rest)) in
     record {
       texts = g.texts;
       next = s.0;
-      stopped = stopped_end reply line p g.line2 rest s.0 g.texts f g.served s.1 s.2;
+      stopped = subst (λ l. IsStopped reply line l g.texts s.0 f) order
+          (stopped_end reply line (p ++ bs) whole rest s.0 g.texts f served s.1 s.2);
       written = Appends-trans old mid new (concat g.texts) s.0 g.written s.3;
       counted = same ∙ g.counted;
     }
 
-pub stops_between : (reply : List ℕ → List ℕ) (old new : Option (List ℕ)) (held : StandingLine) (count n : ℕ) (line p rest : List ℕ)
-    → Goes reply old new held count n line p → StopsWithin reply old new count (Memory n) line (p ++ rest)
-stops_between reply old new held count n line p rest g = record {
+pub stops_between : (reply : List ℕ → List ℕ) (old new : Option (List ℕ)) (kept : List ℕ) (count n : ℕ) (line p rest : List ℕ)
+    → Goes reply old new kept count n line p → StopsWithin reply old new count (Memory n) line (p ++ rest)
+stops_between reply old new kept count n line p rest g = record {
   texts = g.texts;
   next = [];
   stopped = stopped_between reply line p g.line2 rest g.texts n g.served;
@@ -150,44 +183,55 @@ stops_between reply old new held count n line p rest g = record {
   counted = g.counted;
 }
 
-pub piece_at : (xs : List ℕ) (i b : ℕ) → i < length xs → get_or xs i 0 ≡ b → xs ≡ take i xs ++ b ∷ drop (i + 1) xs
-piece_at xs i b h e = sym (take-append-drop i xs) ∙ ap (λ l. take i xs ++ l) (drop_more xs i 0 h ∙ ap (λ k. k ∷ drop (i + 1) xs) e)
+-- a piece that ends a line
+line_end : (bs : List ℕ) (n : ℕ) → IsPiece bs n true → take n bs ≡ take (n - 1) bs ++ 10 ∷ []
+line_end bs n p =
+    let e = p.ends refl in
+    let last : (n - 1) + 1 ≡ n = omega (arith, e.0) in
+    let below : n - 1 < length bs = omega (arith, e.0, p.within) in
+    ap (λ k. take k bs) (sym last) ∙ take_more bs (n - 1) 0 below ∙ ap (λ b. take (n - 1) bs ++ b ∷ []) e.1
 
-pub piece_more : (xs : List ℕ) (i b : ℕ) → i < length xs → get_or xs i 0 ≡ b → take (i + 1) xs ≡ take i xs ++ b ∷ []
-piece_more xs i b h e = take_more xs i 0 h ∙ ap (λ k. take i xs ++ k ∷ []) e
+-- the same of what is left of a piece behind what is done
+pub goes_bytes_at : (reply : List ℕ → List ℕ) (old new : Option (List ℕ)) (kept after : List ℕ) (count n k : ℕ) (line done rest : List ℕ)
+    → Goes reply old new kept count n line done → IsPiece rest k false → after ≡ take 1048578 (kept ++ take k rest)
+    → Goes reply old new after count n line (done ++ take k rest)
+goes_bytes_at reply old new kept after count n k line done rest g p is =
+    goes_bytes reply old new kept after count n line done (take k rest) g (p.goes_on refl) is
 
-pub not_ten : (b : ℕ) → (b ≡ 10 → ⊥) → nat_eq b 10 ≡ false
-not_ten b h = grind (arith, common_steps)
+pub goes_end_at : (reply : List ℕ → List ℕ) (old mid new : Option (List ℕ)) (kept held after : List ℕ) (count n m k : ℕ) (line done rest : List ℕ)
+    → Goes reply old mid kept count n line done → IsPiece rest k true → held ≡ take 1048578 (kept ++ take k rest)
+    → ((l : List ℕ) → EndsAs held l → Appends mid new (concat (reply_if reply l)) × (m ≡ n + length (reply_if reply l))) → after ≡ []
+    → Goes reply old new after count m line (done ++ take k rest)
+goes_end_at reply old mid new kept held after count n m k line done rest g p is write none =
+    let cut = line_end rest k p in
+    let own = is ∙ ap (λ l. take 1048578 (kept ++ l)) cut in
+    let went = goes_end reply old mid new kept held count n m line done (take (k - 1) rest) g p.before own write in
+    subst (λ l. Goes reply old new l count m line (done ++ take k rest)) (sym none)
+    (subst (λ l. Goes reply old new [] count m line (done ++ l)) (sym cut) went)
 
--- the same at a place of the piece
-pub goes_byte_at : (reply : List ℕ → List ℕ) (old new : Option (List ℕ)) (held after : StandingLine) (count n i : ℕ) (line xs : List ℕ) → i < length xs
-    → (get_or xs i 0 ≡ 10 → ⊥) → Goes reply old new held count n line (take i xs)
-    → ((l : List ℕ) → StandsFor held l → StandsFor after (l ++ get_or xs i 0 ∷ [])) → Goes reply old new after count n line (take (i + 1) xs)
-goes_byte_at reply old new held after count n i line xs h other g keep =
-    subst (λ (q : List ℕ). Goes reply old new after count n line q) (sym (piece_more xs i (get_or xs i 0) h refl))
-    (goes_byte reply old new held after count n (get_or xs i 0) line (take i xs) g keep (not_ten (get_or xs i 0) other))
-
-pub goes_end_at : (reply : List ℕ → List ℕ) (old mid new : Option (List ℕ)) (held after : StandingLine) (count n m i : ℕ) (line xs : List ℕ)
-    → i < length xs → get_or xs i 0 ≡ 10 → Goes reply old mid held count n line (take i xs)
-    → ((l : List ℕ) → StandsFor held l → Appends mid new (concat (reply_if reply l)) × (m ≡ n + length (reply_if reply l))) → StandsFor after []
-    → Goes reply old new after count m line (take (i + 1) xs)
-goes_end_at reply old mid new held after count n m i line xs h ten g write empty =
-    subst (λ (q : List ℕ). Goes reply old new after count m line q) (sym (piece_more xs i 10 h ten))
-    (goes_end reply old mid new held after count n m line (take i xs) g write empty)
-
-pub stops_end_at : (reply : List ℕ → List ℕ) (old mid new : Option (List ℕ)) (held : StandingLine) (count n i : ℕ) (f : ServeFault) (line xs : List ℕ)
-    → i < length xs → get_or xs i 0 ≡ 10 → Goes reply old mid held count n line (take i xs)
-    → ((l : List ℕ) → StandsFor held l → (next : List ℕ) × IsShort next (reply_if reply l) × StopsBefore f next (reply_if reply l)
+pub stops_end_at : (reply : List ℕ → List ℕ) (old mid new : Option (List ℕ)) (kept held : List ℕ) (count n k : ℕ) (f : ServeFault)
+    (line xs done rest : List ℕ) → xs ≡ done ++ rest → Goes reply old mid kept count n line done → IsPiece rest k true
+    → held ≡ take 1048578 (kept ++ take k rest)
+    → ((l : List ℕ) → EndsAs held l → (next : List ℕ) × IsShort next (reply_if reply l) × StopsBefore f next (reply_if reply l)
     × Appends mid new next) → count_in f ≡ n → StopsWithin reply old new count f line xs
-stops_end_at reply old mid new held count n i f line xs h ten g stop same =
-    subst (λ (q : List ℕ). StopsWithin reply old new count f line q) (sym (piece_at xs i 10 h ten))
-    (stops_end reply old mid new held count n f line (take i xs) (drop (i + 1) xs) g stop same)
+stops_end_at reply old mid new kept held count n k f line xs done rest order g p is stop same =
+    let cut = line_end rest k p in
+    let own = is ∙ ap (λ l. take 1048578 (kept ++ l)) cut in
+    let stopped = stops_end reply old mid new kept held count n f line done (take (k - 1) rest) (drop k rest) g p.before own stop same in
+    let whole : xs ≡ done ++ ((take (k - 1) rest ++ 10 ∷ []) ++ drop k rest) =
+    order ∙ ap (λ l. done ++ l) (sym (take-append-drop k rest) ∙ ap (λ l. l ++ drop k rest) cut) in
+    subst (λ l. StopsWithin reply old new count f line l) (sym whole) stopped
 
-pub stops_between_at : (reply : List ℕ → List ℕ) (old new : Option (List ℕ)) (held : StandingLine) (count n i : ℕ) (line xs : List ℕ)
-    → Goes reply old new held count n line (take i xs) → StopsWithin reply old new count (Memory n) line xs
-stops_between_at reply old new held count n i line xs g =
-    subst (λ (q : List ℕ). StopsWithin reply old new count (Memory n) line q) (take-append-drop i xs)
-    (stops_between reply old new held count n line (take i xs) (drop i xs) g)
+pub stops_between_at : (reply : List ℕ → List ℕ) (old new : Option (List ℕ)) (kept : List ℕ) (count n : ℕ) (line xs done rest : List ℕ)
+    → xs ≡ done ++ rest → Goes reply old new kept count n line done → StopsWithin reply old new count (Memory n) line xs
+stops_between_at reply old new kept count n line xs done rest order g =
+    subst (λ l. StopsWithin reply old new count (Memory n) line l) (sym order) (stops_between reply old new kept count n line done rest g)
+
+-- what is done, and what is left then
+pub done_more : (xs done rest left : List ℕ) (k : ℕ) → xs ≡ done ++ rest → left ≡ drop k rest → xs ≡ (done ++ take k rest) ++ left
+done_more xs done rest left k order is =
+    order ∙ ap (λ l. done ++ l) (sym (take-append-drop k rest)) ∙ sym (append_assoc done (take k rest) (drop k rest))
+    ∙ ap (λ l. (done ++ take k rest) ++ l) (sym is)
 
 served_then : (reply : List ℕ → List ℕ) (line p m q k : List ℕ) (rs ss : List (List ℕ)) → ServesPiece reply line p rs m → ServesPiece reply m q ss k
     → ServesPiece reply line (p ++ q) (rs ++ ss) k
@@ -200,10 +244,10 @@ served_then reply line p m q k rs ss s t = record {
       ∙ sym (append_assoc rs ss (replies reply (ended k more)));
 }
 
-pub goes_then : (reply : List ℕ → List ℕ) (old mid new : Option (List ℕ)) (held after : StandingLine) (count n m : ℕ) (line p q : List ℕ)
-    → Goes reply old mid held count n line p → ((l : List ℕ) → StandsFor held l → Goes reply mid new after n m l q)
+pub goes_then : (reply : List ℕ → List ℕ) (old mid new : Option (List ℕ)) (kept after : List ℕ) (count n m : ℕ) (line p q : List ℕ)
+    → Goes reply old mid kept count n line p → ((l : List ℕ) → StandsFor kept l → Goes reply mid new after n m l q)
     → Goes reply old new after count m line (p ++ q)
-goes_then reply old mid new held after count n m line p q g then =
+goes_then reply old mid new kept after count n m line p q g then =
     let h = then g.line2 g.stands in
     record {
       texts = g.texts ++ h.texts;
@@ -247,9 +291,9 @@ ended_by reply input whole later next (Memory k) e n why =
 ended_by reply input whole later next (Endless k) e n why = absurd why
 
 -- where the reader is called again, no reply is owed
-pub cut_between : (reply : List ℕ → List ℕ) (old new : Option (List ℕ)) (held : StandingLine) (n : ℕ) (input : List ℕ) → Goes reply old new held 0 n [] input
+pub cut_between : (reply : List ℕ → List ℕ) (old new : Option (List ℕ)) (kept : List ℕ) (n : ℕ) (input : List ℕ) → Goes reply old new kept 0 n [] input
     → (written : List ℕ) × Appends old new written × IsCutOff (replies reply (cut [] input)) written n × RepliedToEnded reply input written n
-cut_between reply old new held n input g =
+cut_between reply old new kept n input g =
     let over : replies reply (ended [] input) ≡ g.texts =
     ap (λ l. replies reply (ended [] l)) (sym (append-nil input)) ∙ g.served.ends_on [] ∙ append-nil g.texts in
     let order : replies reply (cut [] input) ≡ g.texts ++ replies reply (cut g.line2 []) =
@@ -260,9 +304,9 @@ cut_between reply old new held n input g =
       (append-nil (concat g.texts) ∙ ap concat (sym over), omega (arith, g.counted, ap length over)),
     )
 
-pub cut_stopped : (reply : List ℕ → List ℕ) (old mid new : Option (List ℕ)) (held : StandingLine) (n : ℕ) (f : ServeFault) (input q : List ℕ)
-    → Goes reply old mid held 0 n [] input → ((l : List ℕ) → StandsFor held l → StopsWithin reply mid new n f l q) → CutOff reply old new (input ++ q) f
-cut_stopped reply old mid new held n f input q g stop =
+pub cut_stopped : (reply : List ℕ → List ℕ) (old mid new : Option (List ℕ)) (kept : List ℕ) (n : ℕ) (f : ServeFault) (input q : List ℕ)
+    → Goes reply old mid kept 0 n [] input → ((l : List ℕ) → StandsFor kept l → StopsWithin reply mid new n f l q) → CutOff reply old new (input ++ q) f
+cut_stopped reply old mid new kept n f input q g stop =
     let h = stop g.line2 g.stands in
     let text : concat (g.texts ++ h.texts) ++ h.next ≡ concat g.texts ++ (concat h.texts ++ h.next) =
     ap (λ l. l ++ h.next) (concat-append g.texts h.texts) ∙ append_assoc (concat g.texts) (concat h.texts) h.next in
@@ -276,21 +320,21 @@ cut_stopped reply old mid new held n f input q g stop =
     )
 
 -- at the end of the input the last line is answered
-pub served_whole : (reply : List ℕ → List ℕ) (old mid new : Option (List ℕ)) (held : StandingLine) (n m : ℕ) (input : List ℕ)
-    → Goes reply old mid held 0 n [] input → ((l : List ℕ) → StandsFor held l → Appends mid new (concat (reply_if reply l))
+pub served_whole : (reply : List ℕ → List ℕ) (old mid new : Option (List ℕ)) (kept : List ℕ) (n m : ℕ) (input : List ℕ)
+    → Goes reply old mid kept 0 n [] input → ((l : List ℕ) → EndsAs kept l → Appends mid new (concat (reply_if reply l))
     × (m ≡ n + length (reply_if reply l))) → Appends old new (concat (replies reply (cut [] input)))
-served_whole reply old mid new held n m input g write =
-    let w = write g.line2 g.stands in
+served_whole reply old mid new kept n m input g write =
+    let w = write g.line2 (ends_here 1048578 kept g.line2 g.stands.0 g.stands.1) in
     let own = reply_if reply g.line2 in
     let order : replies reply (cut [] input) ≡ g.texts ++ own =
     ap (λ l. replies reply (cut [] l)) (sym (append-nil input)) ∙ g.served.goes_on [] ∙ ap (λ l. g.texts ++ l) (line_first reply g.line2 [] ∙ append-nil own) in
     subst (λ l. Appends old new l) (sym (ap concat order ∙ concat-append g.texts own)) (Appends-trans old mid new (concat g.texts) (concat own) g.written w.0)
 
-pub cut_last : (reply : List ℕ → List ℕ) (old mid new : Option (List ℕ)) (held : StandingLine) (n : ℕ) (f : ServeFault) (input : List ℕ)
-    → Goes reply old mid held 0 n [] input → ((l : List ℕ) → StandsFor held l → (next : List ℕ) × IsShort next (reply_if reply l)
+pub cut_last : (reply : List ℕ → List ℕ) (old mid new : Option (List ℕ)) (kept : List ℕ) (n : ℕ) (f : ServeFault) (input : List ℕ)
+    → Goes reply old mid kept 0 n [] input → ((l : List ℕ) → EndsAs kept l → (next : List ℕ) × IsShort next (reply_if reply l)
     × StopsBefore f next (reply_if reply l) × Appends mid new next) → count_in f ≡ n → CutOff reply old new input f
-cut_last reply old mid new held n f input g stop same =
-    let s = stop g.line2 g.stands in
+cut_last reply old mid new kept n f input g stop same =
+    let s = stop g.line2 (ends_here 1048578 kept g.line2 g.stands.0 g.stands.1) in
     let order : replies reply (cut [] input) ≡ g.texts ++ (reply_if reply g.line2 ++ []) =
     ap (λ l. replies reply (cut [] l)) (sym (append-nil input)) ∙ g.served.goes_on [] ∙ ap (λ l. g.texts ++ l) (line_first reply g.line2 []) in
     let size : count_in f ≡ length g.texts = omega (arith, g.counted, same) in (

@@ -1,5 +1,5 @@
 -- The next line of an input.
-use Rattle.std.specs.Prelude.{◌≡◌, ◌≢◌, ◌<◌, ◌+◌, ℕ, Bool, true, false, List, [], ◌++◌, All, length, take, Option, Some, None, Result, Ok, IfSome, OnSome}
+use Rattle.std.specs.Prelude.{◌≡◌, ◌≢◌, ◌<◌, ◌≤◌, ◌+◌, ◌-◌, ℕ, Bool, true, false, List, [], ◌++◌, All, length, slice_index, take, Option, Some, None, Result, Ok, IfSome, OnSome}
 use Rattle.std.specs.Io.{StopsAt, IsEmptyOrEndsWith}
 use Rattle.std.specs.Io.KnownBytes.{Consumes, IsAtEnd}
 use Rattle.std.specs.Io.BufRead.{drop_through, strip_last, take_through}
@@ -29,6 +29,14 @@ IsNextLine next next_then left left_then line None = (next_then ≡ next) × IfS
 -- some bytes were taken, from left to left_then, and of these the first `most` are kept
 abbrev pub IsKeptOf : ℕ → Option (List ℕ) → Option (List ℕ) → List ℕ → Type 0
 IsKeptOf most left left_then kept = (bs : List ℕ) × Consumes left left_then bs × (kept ≡ take most bs)
+
+-- Some bytes are cut behind `end` of them, but for none at all: behind the first byte 0A where the line ends, and else where none was.
+pub record IsPiece (bytes : List ℕ) (end : ℕ) (is_ended : Bool) : Type 0 where
+  pub within : end ≤ length bytes
+  pub some : 0 < length bytes → 0 < end
+  pub before : All (λ x. x ≢ 10) (take (end - 1) bytes)
+  pub ends : is_ended ≡ true → (0 < end) × (slice_index bytes (end - 1) ≡ 10)
+  pub goes_on : is_ended ≡ false → All (λ x. x ≢ 10) (take end bytes)
 
 -- Some bytes were taken, from left to left_then, which have the byte 0A at their end or nowhere. These are kept behind what was kept
 -- before (line), as far as there is room for `most` bytes (line_then). Where the line is done (r) they end at that byte, or none was left.

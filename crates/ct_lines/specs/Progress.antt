@@ -1,21 +1,20 @@
 -- How far serving has come within the input.
-use Rattle.std.specs.Prelude.{◌≡◌, ◌<◌, ◌+◌, ℕ, List, [], ◌++◌, length, Option, Bool, true, false}
+use Rattle.std.specs.Prelude.{◌≡◌, ◌≢◌, ◌<◌, ◌+◌, ℕ, List, [], ◌++◌, All, length, take, Option}
 use Rattle.std.specs.List.{concat}
+use Rattle.std.specs.Io.BufRead.{strip_last}
 use Rattle.std.specs.Io.KnownBytes.{Appends}
-use Rattle.ct_lines.specs.declared.standing.StandingLine.{StandingLine}
 use Rattle.ct_lines.specs.declared.fault.ServeFault.{ServeFault}
 use Rattle.ct_lines.specs.declared.fault.ServeFault.TheVariants.{Read, Write, Memory, Endless}
 use Rattle.ct_lines.specs.Frozen.{cut, replies}
 use Rattle.ct_lines.specs.Serving.{count_in, ended, IsShort}
 
--- a line that may be too long, of which these bytes are kept
-abbrev pub StandsAs : Bool → List ℕ → List ℕ → Type 0
-StandsAs false kept line = kept ≡ line
-StandsAs true kept line = 1048576 < length line
+-- what is kept of the line that stands, of whose bytes none is its end
+abbrev pub StandsFor : List ℕ → List ℕ → Type 0
+StandsFor kept line = (kept ≡ take 1048578 line) × All (λ x. x ≢ 10) line
 
--- the line that stands
-abbrev pub StandsFor : StandingLine → List ℕ → Type 0
-StandsFor standing line = StandsAs standing.too_long standing.bytes.items line
+-- what is kept of a line that ended, with its end or without
+abbrev pub EndsAs : List ℕ → List ℕ → Type 0
+EndsAs kept line = strip_last 10 kept ≡ take 1048578 line
 
 -- from `line`, a piece of the input gives these replies, and `line2` stands behind it
 pub record ServesPiece (reply : List ℕ → List ℕ) (line piece : List ℕ) (texts : List (List ℕ)) (line2 : List ℕ) : Type 0 where
@@ -36,11 +35,11 @@ pub record IsStopped (reply : List ℕ → List ℕ) (line piece : List ℕ) (te
   pub short : IsShort next later
   pub why : StopsBefore fault next later
 
--- a piece was served from `line`: its replies are written and counted, and the line behind it stands
-pub record Goes (reply : List ℕ → List ℕ) (old new : Option (List ℕ)) (standing : StandingLine) (count n : ℕ) (line piece : List ℕ) : Type 0 where
+-- a piece was served from `line`: its replies are written and counted, and of the line that stands behind it this is kept
+pub record Goes (reply : List ℕ → List ℕ) (old new : Option (List ℕ)) (kept : List ℕ) (count n : ℕ) (line piece : List ℕ) : Type 0 where
   pub texts : List (List ℕ)
   pub line2 : List ℕ
-  pub stands : StandsFor standing line2
+  pub stands : StandsFor kept line2
   pub served : ServesPiece reply line piece texts line2
   pub written : Appends old new (concat texts)
   pub counted : n ≡ count + length texts

@@ -5,8 +5,7 @@
 //! - `frozen_reply` is a closed log's reply to a line. `serve_frozen` reads request lines from a reader, and writes the replies
 //!   of a closed log to a writer.
 //! - `next_line` reads an input line by line, and holds no more of a line than is asked for; `NumberedLines` numbers request
-//!   lines. `content` is a line without its end. `write_whole` writes bytes, `send` hands them on as well, and `tell` doesn't say
-//!   whether it could: for the programs.
+//!   lines. `write_whole` writes bytes, `send` hands them on as well, and `tell` doesn't say whether it could: for the programs.
 //! - `fields` reads what stands under a key of a JSON object; `bytes_value` and `hashes_value` are bytes and hashes as JSON.
 //!
 //! What a line asks and how a reply is written are defined in `specs/`, over `serde_json`'s own words for the value
@@ -26,13 +25,12 @@ mod reading;
 mod request;
 mod sending;
 mod serving;
-mod standing;
 mod wanting;
 mod writing;
 
 pub use fault::{ServeFault, Unwritten};
 pub use frozen::frozen_reply;
-pub use lines::{NumberedLines, REQUEST_KEPT, content, next_line};
+pub use lines::{NumberedLines, REQUEST_KEPT, next_line};
 pub use reading::read_line;
 pub use request::{Audit, FrontRequest, FrozenRequest, OperatorRequest, Request};
 pub use sending::{send, tell, write_whole};

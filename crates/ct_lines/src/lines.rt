@@ -1,9 +1,10 @@
 //! An input cut into lines, as it comes, of each of which no more is held than is asked for.
 
-ghost use Rattle.std.specs.Prelude.{◌≡◌, ◌≢◌, ◌<◌, ◌≤◌, ◌-◌, ◌^◌, [], All, take, length, IfOk, OnOk, OnErr};
+ghost use Rattle.std.specs.Prelude.{◌≡◌, ◌≢◌, ◌<◌, ◌≤◌, ◌-◌, ◌++◌, ◌^◌, [], All, take, length, IfOk, OnOk, OnErr};
 ghost use Rattle.std.specs.Io.BufRead.{strip_last};
-ghost use Rattle.ct_lines.specs.Lines.{IsKeptOf, IsNextLine, TakesNext, TakesPiece, TakesFirstLine};
+ghost use Rattle.ct_lines.specs.Lines.{IsPiece, IsKeptOf, IsNextLine, TakesNext, TakesPiece, TakesFirstLine};
 
+use std::alloc::AllocError;
 use std::io;
 use std::io::{BufRead, ErrorKind};
 
@@ -13,8 +14,8 @@ const LINES: u64 = 1 << 50;
 /// How many bytes of a request line are kept, its end among them: two more than the longest request has.
 pub const REQUEST_KEPT: usize = 1_048_578;
 
-/// The line without its end, the byte 0A.
-pub fn content(line: &[u8]) -> &[u8]
+// The line without its end, the byte 0A.
+pub(crate) fn content(line: &[u8]) -> &[u8]
     ensures { result.now ≡ strip_last 10 line.now }
 {
     match line.split_last() {
@@ -39,6 +40,25 @@ fn through(bytes: &[u8]) -> usize
     i
 }
 
+// Cuts some bytes behind the first 0A, or at their end, and keeps of what is before the cut what there is room for. It answers
+// where the cut is, and whether the line ended there.
+pub(crate) fn cut_piece(
+    bytes: &[u8],
+    most: usize,
+    line: &mut Vec<u8>,
+) -> Result<(usize, bool), AllocError>
+    requires { length line.old.items ≤ most }
+    ensures piece { IfOk result (λ p. IsPiece bytes.now p.0 p.1) }
+    ensures kept { IfOk result (λ p. line.new.items ≡ take most (line.old.items ++ take p.0 bytes.now)) }
+    ensures same { OnErr result (line.new.items ≡ line.old.items) }
+{
+    let end = through(bytes);
+    let kept = end.min(most - line.len());
+    line.extend_from_slice(&bytes[..kept])?;
+    let is_ended = end > 0 && bytes[end - 1] == b'\n';
+    Ok((end, is_ended))
+}
+
 // Takes what stands in the reader's buffer, up to and including the first byte 0A, and keeps of it what there is room for. It
 // answers whether the line ended, at that byte or at the end of the input.
 fn take_piece<R: BufRead>(input: &mut R, most: usize, line: &mut Vec<u8>) -> io::Result<bool>
@@ -55,12 +75,9 @@ fn take_piece<R: BufRead>(input: &mut R, most: usize, line: &mut Vec<u8>) -> io:
             };
         }
     };
-    let end = through(available);
-    let kept = end.min(most - line.len());
-    line.extend_from_slice(&available[..kept])?;
-    let is_done = end == 0 || available[end - 1] == b'\n';
+    let (end, is_ended) = cut_piece(available, most, line)?;
     input.consume(end);
-    Ok(is_done)
+    Ok(end == 0 || is_ended)
 }
 
 // Takes the next line with its end, and keeps of it what there is room for in an empty vector.

@@ -5,14 +5,12 @@ ghost use Rattle.std.specs.Io.KnownBytes.{Appends, Consumes, IsAtEnd};
 ghost use Rattle.std.specs.List.{concat};
 ghost use Rattle.ct_lines.specs.Frozen.{frozen_reply, frozen_replies, frozen_text};
 ghost use Rattle.ct_lines.specs.Serving.{count_in, reply_if, as_list, IsShort, IsCutOff, IsEndedBy};
-ghost use Rattle.ct_lines.specs.Progress.{StandsFor, Goes, StopsBefore, StopsWithin};
+ghost use Rattle.ct_lines.specs.Progress.{StandsFor, EndsAs, Goes, StopsBefore, StopsWithin};
 
 use crate::fault::{GrowthRefused, ReadFailed, ServeFault, WriteFailed};
 use crate::frozen::frozen_reply;
+use crate::lines::{REQUEST_KEPT, content, cut_piece};
 use crate::sending::write_bytes;
-use crate::standing::StandingLine;
-use crate::writing::reply_text;
-use ct_codec::Refusal;
 use ct_core::Published;
 use ct_tree::Memory;
 use std::alloc::Global;
@@ -21,51 +19,44 @@ use std::io::{Read, Write};
 // How often the reader is called at most: so many pieces have fewer lines than a u64 counts, and the loop ends.
 const READS: u64 = 1 << 50;
 
-// The reply to the line that stands, or none where it is empty.
-fn standing_reply(
-    alloc: Global,
-    log: &Published,
-    standing: &StandingLine,
-) -> Result<Option<Vec<u8>>, Memory>
-    ensures { IfOk result (λ o. (line : List ℕ) → StandsFor standing.now line → as_list o ≡ reply_if (frozen_reply log.now) line) }
+// The reply to a line that ended, of which this is kept, or none where it is empty.
+fn ended_reply(alloc: Global, log: &Published, kept: &[u8]) -> Result<Option<Vec<u8>>, Memory>
+    ensures { IfOk result (λ o. (line : List ℕ) → EndsAs kept.now line → as_list o ≡ reply_if (frozen_reply log.now) line) }
 {
-    if standing.too_long {
-        let reply = reply_text(alloc, &Err(Refusal::BadLine))?;
-        return Ok(Some(reply));
-    }
-    if standing.bytes.is_empty() {
+    let line = content(kept);
+    if line.is_empty() {
         return Ok(None);
     }
-    let reply = frozen_reply(alloc, log, &standing.bytes)?;
+    let reply = frozen_reply(alloc, log, line)?;
     Ok(Some(reply))
 }
 
-// Replies to the line that stands, which ends, and forgets it. Answers the number of replies, of which `count` are
+// Replies to the line that ended, of which this is kept, and forgets it. Answers the number of replies, of which `count` are
 // written before.
 fn end_line<W: Write>(
     alloc: Global,
     log: &Published,
     writer: &mut W,
-    standing: &mut StandingLine,
+    kept: &mut Vec<u8>,
     count: u64,
 ) -> Result<u64, ServeFault>
     requires { count + 1 < 2 ^ 64 }
-    ensures written { IfOk result (λ n. (line : List ℕ) → StandsFor standing.old line
+    ensures written { IfOk result (λ n. (line : List ℕ) → EndsAs kept.old.items line
         → Appends (W.contents writer.old) (W.contents writer.new) (concat (reply_if (frozen_reply log.now) line))
         × (n ≡ count + length (reply_if (frozen_reply log.now) line))) }
     ensures bounded { IfOk result (λ n. n ≤ count + 1) }
-    ensures forgotten { OnOk result (StandsFor standing.new []) }
+    ensures forgotten { OnOk result (kept.new.items ≡ []) }
     ensures counted { IfErr result (λ f. count_in f ≡ count) }
-    ensures stopped { IfErr result (λ f. (line : List ℕ) → StandsFor standing.old line
+    ensures stopped { IfErr result (λ f. (line : List ℕ) → EndsAs kept.old.items line
         → (next : List ℕ) × IsShort next (reply_if (frozen_reply log.now) line)
         × StopsBefore f next (reply_if (frozen_reply log.now) line)
         × Appends (W.contents writer.old) (W.contents writer.new) next) }
 {
-    let reply = match standing_reply(alloc, log, standing) {
+    let reply = match ended_reply(alloc, log, kept) {
         Ok(reply) => reply,
         Err(error) => return Err(ServeFault::from(GrowthRefused { count, error })),
     };
-    standing.clear();
+    kept.clear();
     let Some(bytes) = reply else {
         return Ok(count);
     };
@@ -75,38 +66,41 @@ fn end_line<W: Write>(
     }
 }
 
-// Serves a piece of the input: replies to each line that ends in it, and keeps the line that stands behind it.
+// Serves a piece of the input: replies to each line that ends in it, and keeps what it has of the line that stands behind it.
 fn feed<W: Write>(
     alloc: Global,
     log: &Published,
     writer: &mut W,
-    standing: &mut StandingLine,
+    kept: &mut Vec<u8>,
     count: u64,
     piece: &[u8],
 ) -> Result<u64, ServeFault>
-    requires { count + length piece.now < 2 ^ 64 }
+    requires room { length kept.old.items ≤ 1048578 }
+    requires counts { count + length piece.now < 2 ^ 64 }
     ensures bounded { IfOk result (λ n. n ≤ count + length piece.now) }
-    ensures served { IfOk result (λ n. (line : List ℕ) → StandsFor standing.old line
-        → Goes (frozen_reply log.now) (W.contents writer.old) (W.contents writer.new) standing.new count n line piece.now) }
-    ensures stopped { IfErr result (λ f. (line : List ℕ) → StandsFor standing.old line
+    ensures served { IfOk result (λ n. (line : List ℕ) → StandsFor kept.old.items line
+        → Goes (frozen_reply log.now) (W.contents writer.old) (W.contents writer.new) kept.new.items count n line piece.now) }
+    ensures stopped { IfErr result (λ f. (line : List ℕ) → StandsFor kept.old.items line
         → StopsWithin (frozen_reply log.now) (W.contents writer.old) (W.contents writer.new) count f line piece.now) }
 {
     let mut total = count;
-    for byte in piece {
-        if *byte == b'\n' {
-            match end_line(alloc, log, writer, standing, total) {
+    let mut rest = piece;
+    while !rest.is_empty() {
+        let (end, is_ended) = match cut_piece(rest, REQUEST_KEPT, kept) {
+            Ok(cut) => cut,
+            Err(error) => {
+                let count = total;
+                return Err(ServeFault::from(GrowthRefused { count, error }));
+            }
+        };
+        if is_ended {
+            match end_line(alloc, log, writer, kept, total) {
                 Ok(more) => total = more,
                 Err(fault) => return Err(fault),
             }
-        } else {
-            match standing.push(*byte) {
-                Ok(()) => {}
-                Err(error) => {
-                    let count = total;
-                    return Err(ServeFault::from(GrowthRefused { count, error }));
-                }
-            }
         }
+        let (_, left) = rest.split_at(end);
+        rest = left;
     }
     Ok(total)
 }
@@ -117,7 +111,7 @@ fn feed<W: Write>(
 /// request, one of more than 1,048,576 bytes among them, and a request of a front or of the operator are replied to with
 /// `bad-line`. Each whole line that was read is replied to before the reader is called again. Memory is taken for one
 /// line and its reply at a time, for all leaves only where an audit's leaf and path are another's and lead to the head's
-/// root. Of a line that is too long no more is kept than of the longest line. The writer isn't flushed.
+/// root. Of a line that is too long no more is kept than two bytes over the longest one. The writer isn't flushed.
 ///
 /// # Errors
 ///
@@ -147,21 +141,21 @@ pub fn serve_frozen<R: Read, W: Write>(
         × Appends (W.contents writer.old) (W.contents writer.new) written
         × IsEndedBy (frozen_reply log.now) input written f) }
 {
-    let mut standing = StandingLine::new(alloc);
+    let mut kept = Vec::new(alloc);
     let mut count = 0;
     let mut buffer = [0u8; 8192];
     for turn in 0..READS {
         let space: &mut [u8] = &mut buffer;
         match reader.read(space) {
             Ok(0) => {
-                return match end_line(alloc, log, writer, &mut standing, count) {
+                return match end_line(alloc, log, writer, &mut kept, count) {
                     Ok(_) => Ok(()),
                     Err(fault) => Err(fault),
                 };
             }
             Ok(n) => {
                 let (piece, _) = buffer.split_at(n);
-                match feed(alloc, log, writer, &mut standing, count, piece) {
+                match feed(alloc, log, writer, &mut kept, count, piece) {
                     Ok(more) => count = more,
                     Err(fault) => return Err(fault),
                 }

@@ -1,11 +1,11 @@
--- A path out of the tiles of a list isn't refused.
-use Rattle.std.proofs.Common.{◌≡◌, ◌<◌, ◌≤◌, ℕ, List, [], length, take, get_or, sym, arith}
-use Rattle.ct_tree.specs.Tree.{mth, path}
-use Rattle.std.proofs.lemmas.List.{length-take-le}
+-- A path or proof out of the tiles of a list isn't refused.
+use Rattle.std.proofs.Common.{◌≡◌, ◌∙◌, ◌<◌, ◌≤◌, ℕ, List, [], length, take, get_or, sym, ap, arith}
+use Rattle.ct_tree.specs.Tree.{mth, path, proof}
+use Rattle.std.proofs.lemmas.List.{length-take-le, take-take}
 use Rattle.ct_tile_reader.specs.Given.{GivesTilesOf}
-use Rattle.ct_verify.specs.Verdict.{AcceptsInclusion, RefusesInclusion}
+use Rattle.ct_verify.specs.Verdict.{AcceptsInclusion, RefusesInclusion, AcceptsConsistency, RefusesConsistency}
 use Rattle.ct_verify.specs.declared.fault.ProofFault.{ProofFault}
-use Rattle.ct_verify.proofs.Equations.{path_accepted, path_not_refused}
+use Rattle.ct_verify.proofs.Equations.{path_accepted, path_not_refused, proof_accepted, proof_not_refused}
 
 pub never : (H : List ℕ → List ℕ) (D : List (List ℕ)) (leaf : List ℕ) (m n : ℕ) (p : List (List ℕ)) (root : List ℕ) (fault : ProofFault)
     → length D ≡ n → m < n → leaf ≡ get_or D m [] → root ≡ mth H D → p ≡ path H m D → RefusesInclusion H leaf m n p root fault → ⊥
@@ -18,3 +18,16 @@ pub never_of_tiles : (H : List ℕ → List ℕ) (given : ℕ → ℕ → List �
     → GivesTilesOf H given D → n ≤ length D → m < n → leaf ≡ get_or (take n D) m [] → root ≡ mth H (take n D) → ⊥
 never_of_tiles H given D leaf m n p root fault made refused tiles inside below l r =
     never H (take n D) leaf m n p root fault (length-take-le n D inside) below l r (made D tiles inside) refused
+
+proof_never : (H : List ℕ → List ℕ) (D : List (List ℕ)) (m n : ℕ) (p : List (List ℕ)) (x y : List ℕ) (fault : ProofFault)
+    → length D ≡ n → 0 < m → m < n → x ≡ mth H (take m D) → y ≡ mth H D → p ≡ proof H m D → RefusesConsistency H m n x y p fault → ⊥
+proof_never H D m n p x y fault size z below f s e refused =
+    let accepted : AcceptsConsistency H m n x y p = rw (f, s, sym size, e) (proof_accepted H m D z (omega (arith, size, below))) in
+    proof_not_refused H m n x y p fault accepted refused
+
+pub proof_never_of_tiles : (H : List ℕ → List ℕ) (given : ℕ → ℕ → List ℕ) (D : List (List ℕ)) (m n : ℕ) (p : List (List ℕ)) (x y : List ℕ) (fault : ProofFault)
+    → ((E : List (List ℕ)) → GivesTilesOf H given E → n ≤ length E → p ≡ proof H m (take n E)) → RefusesConsistency H m n x y p fault
+    → GivesTilesOf H given D → n ≤ length D → 0 < m → m < n → x ≡ mth H (take m D) → y ≡ mth H (take n D) → ⊥
+proof_never_of_tiles H given D m n p x y fault made refused tiles inside z below f s =
+    let first : x ≡ mth H (take m (take n D)) = f ∙ ap (mth H) (sym (take-take m n D (omega arith))) in
+    proof_never H (take n D) m n p x y fault (length-take-le n D inside) z below first s (made D tiles inside) refused

@@ -1,11 +1,13 @@
 -- Perfect subtrees as MTH of their leaves.
 use Rattle.std.proofs.Common.{◌≡◌, ℕ, zero, suc, ◌+◌, ◌-◌, ◌*◌, ◌/◌, ◌%◌, ◌^◌, ◌<◌, ◌≤◌, refl, sym, ◌∙◌, ap, arith, List, [], length, take, drop, get_or, length-drop, subst}
-use Rattle.std.proofs.lemmas.List.{get_or-take, drop-drop, length-take-le, take-take, drop-take, drop_more}
-use Rattle.std.proofs.Math.Nat.{pow-suc, mul-le-mul_left}
+use Rattle.std.proofs.Common.{inl, inr}
+use Rattle.std.proofs.lemmas.List.{drop-drop, length-take-le, take-take, drop-take, drop_more}
+use Rattle.std.proofs.lemmas.Nat.{pow-add}
+use Rattle.std.proofs.Math.Nat.{pow-suc, mul-le-mul_left, mul-le-mul_right, mul_assoc, div-mul-le_self}
 use Rattle.ct_tree.specs.Tree.{split, hash_node, mth}
-use Rattle.ct_tree.specs.Levels.{subtree, raised}
-use Rattle.ct_tree.proofs.Raised.{raised-zero}
-use Rattle.ct_tile_reader.specs.Given.{GivesTilesOf}
+use Rattle.ct_tree.specs.Levels.{subtree}
+use Rattle.ct_tree.specs.Walk.{IsEdgeNode, IsPathNode, IsProofNode}
+use Rattle.ct_tile_reader.specs.Given.{GivesTilesOf, GivesNodeOf}
 use Rattle.ct_tree.proofs.Mth.{mth-one, mth-split_at}
 use Rattle.ct_tree.proofs.Split.{split_is, split_unique}
 use Rattle.ct_tiles.proofs.Words.{powers, pow_some}
@@ -67,13 +69,10 @@ same_width level e =
     let k : 8 * (level / 8) ≡ level = omega arith in
     sym (powers (level / 8)) ∙ ap (λ n. 2 ^ n) k
 
-pub hash_inside : (level i n : ℕ) → level % 8 ≡ 0 → (i + 1) * 2 ^ level < n → (i + 1) * 256 ^ (level / 8) ≤ n
-hash_inside level i n e h = rw (same_width level e) (omega arith)
-
-pub hash_is : (H : List ℕ → List ℕ) (level i : ℕ) (D : List (List ℕ)) (r : List ℕ) → level % 8 ≡ 0 → (i + 1) * 2 ^ level < length D
+pub hash_is : (H : List ℕ → List ℕ) (level i : ℕ) (D : List (List ℕ)) (r : List ℕ) → level % 8 ≡ 0 → (i + 1) * 2 ^ level ≤ length D
     → r ≡ mth H (take (256 ^ (level / 8)) (drop (256 ^ (level / 8) * i) D)) → r ≡ subtree H level i D
 hash_is H level i D r e h s =
-    s ∙ ap (λ n. mth H (take n (drop (n * i) D))) (same_width level e) ∙ sym (subtree_is_mth H level i D (omega arith))
+    s ∙ ap (λ n. mth H (take n (drop (n * i) D))) (same_width level e) ∙ sym (subtree_is_mth H level i D h)
 
 below : (level : ℕ) → 0 < level → 2 ^ level ≡ 2 * 2 ^ (level - 1)
 below level h = let k : level ≡ suc (level - 1) = omega arith in ap (λ n. 2 ^ n) k ∙ twice (level - 1)
@@ -103,10 +102,102 @@ joined_up H level i D l r v p a b e =
     let here : v ≡ subtree H (suc (level - 1)) i D = e ∙ rw (a, b) refl in
     here ∙ ap (λ n. subtree H n i D) k
 
--- the last of n leaves, which a source of tiles gives
-pub last_leaf : (H : List ℕ → List ℕ) (given : ℕ → ℕ → List ℕ) (D : List (List ℕ)) (n : ℕ) (edge : List ℕ) → GivesTilesOf H given D → 0 < n → n ≤ length D
-    → edge ≡ given 0 (n - 1) → get_or (raised H 0 (take n D)) (n - 1) [] ≡ edge
-last_leaf H given D n edge s p f e =
-    ap (λ (q : List (List ℕ)). get_or q (n - 1) []) (raised-zero H (take n D))
-    ∙ get_or-take n D (n - 1) [] (omega arith)
-    ∙ sym (e ∙ s.hash 0 (n - 1) (omega arith) ∙ one_leaf H (n - 1) D (omega arith))
+-- ---- a node that is given
+-- one whose hash stands in a tile
+pub node_in_tile : (H : List ℕ → List ℕ) (given : ℕ → ℕ → List ℕ) (D : List (List ℕ)) (level i : ℕ) (r : List ℕ) → GivesNodeOf H given D level i
+    → level % 8 ≡ 0 → r ≡ given (level / 8) i → r ≡ subtree H level i D
+node_in_tile H given D level i r s e f =
+    let one : 2 ^ (level % 8) ≡ 1 = ap (λ (n : ℕ). 2 ^ n) e in
+    let least : i * 2 ^ (level % 8) ≤ i = rw one (omega arith) in
+    let most : i < (i + 1) * 2 ^ (level % 8) = rw one (omega arith) in
+    hash_is H level i D r e s.within (f ∙ s.hash i least most)
+
+-- the hashes of a node are those of its two halves
+rest_below : (level : ℕ) → 0 < level % 8 → 2 ^ (level % 8) ≡ 2 * 2 ^ ((level - 1) % 8)
+rest_below level h =
+    let k : level % 8 ≡ suc ((level - 1) % 8) = omega arith in
+    ap (λ n. 2 ^ n) k ∙ twice ((level - 1) % 8)
+
+at_most : (x y k l n : ℕ) → x ≡ y → l * y ≤ n → k ≤ l → k * x ≤ n
+at_most x y k l n e h o =
+    let m : k * y ≤ l * y = mul-le-mul_right y o in
+    rw e (omega arith)
+
+half_within : (level i k n : ℕ) → 0 < level → (i + 1) * 2 ^ level ≤ n → k ≤ 2 * (i + 1) → k * 2 ^ (level - 1) ≤ n
+half_within level i k n p h o =
+    let a : (i + 1) * (2 * 2 ^ (level - 1)) ≤ n = subst (λ (w : ℕ). (i + 1) * w ≤ n) (below level p) h in
+    let b : 2 * (i + 1) * 2 ^ (level - 1) ≤ n = omega arith in
+    at_most (2 ^ (level - 1)) (2 ^ (level - 1)) k (2 * (i + 1)) n refl b o
+
+lower : (i k w x : ℕ) → 2 * i ≤ k → k * w ≤ x → i * (2 * w) ≤ x
+lower i k w x o h =
+    let m : 2 * i * w ≤ k * w = mul-le-mul_right w o in
+    omega arith
+
+upper : (i k w x : ℕ) → k ≤ 2 * (i + 1) → x < k * w → x < (i + 1) * (2 * w)
+upper i k w x o h =
+    let m : k * w ≤ 2 * (i + 1) * w = mul-le-mul_right w o in
+    omega arith
+
+pub half_given : (H : List ℕ → List ℕ) (given : ℕ → ℕ → List ℕ) (D : List (List ℕ)) (level i k : ℕ) → 0 < level % 8 → 2 * i ≤ k → k + 1 ≤ 2 * (i + 1)
+    → GivesNodeOf H given D level i → GivesNodeOf H given D (level - 1) k
+half_given H given D level i k p least most s =
+    let w = 2 ^ ((level - 1) % 8) in
+    let e : 2 ^ (level % 8) ≡ 2 * w = rest_below level p in
+    let t : (level - 1) / 8 ≡ level / 8 = omega arith in
+    record {
+      within = half_within level i (k + 1) (length D) (omega arith) s.within most;
+      hash = λ x a b.
+          ap (λ (u : ℕ). given u x) t
+          ∙ s.hash x (rw e (lower i k w x least a)) (rw e (upper i (k + 1) w x most b))
+          ∙ ap (λ (u : ℕ). mth H (take (256 ^ u) (drop (256 ^ u * x) D))) (sym t);
+    }
+
+-- the tiles of a list give each node that it has
+pub node_of_tiles : (H : List ℕ → List ℕ) (given : ℕ → ℕ → List ℕ) (D : List (List ℕ)) (level i : ℕ) → GivesTilesOf H given D → (i + 1) * 2 ^ level ≤ length D
+    → GivesNodeOf H given D level i
+node_of_tiles H given D level i s h = record {
+  within = h;
+  hash = λ x a b. s.hash (level / 8) x (hash_within x b);
+}
+  where
+    parts : 2 ^ level ≡ 2 ^ (level % 8) * 256 ^ (level / 8)
+    parts =
+        let e : level ≡ level % 8 + 8 * (level / 8) = omega arith in
+        ap (λ (n : ℕ). 2 ^ n) e ∙ pow-add 2 (level % 8) (8 * (level / 8)) ∙ ap (λ (n : ℕ). 2 ^ (level % 8) * n) (powers (level / 8))
+
+    hash_within : (x : ℕ) → x < (i + 1) * 2 ^ (level % 8) → (x + 1) * 256 ^ (level / 8) ≤ length D
+    hash_within x b =
+        let m : (x + 1) * 256 ^ (level / 8) ≤ (i + 1) * 2 ^ (level % 8) * 256 ^ (level / 8) = mul-le-mul_right (256 ^ (level / 8)) (omega (arith, b)) in
+        let e : (i + 1) * 2 ^ (level % 8) * 256 ^ (level / 8) ≡ (i + 1) * 2 ^ level = mul_assoc (i + 1) (2 ^ (level % 8)) (256 ^ (level / 8)) ∙ ap (λ (n : ℕ). (i + 1) * n) (sym parts) in
+        omega (arith, m, e, h)
+
+-- ---- what the walk reads lies in the tree
+inside_last : (n level k : ℕ) → k ≤ (n - 1) / 2 ^ level → k * 2 ^ level ≤ n
+inside_last n level k h =
+    let a : k * 2 ^ level ≤ (n - 1) / 2 ^ level * 2 ^ level = mul-le-mul_right (2 ^ level) h in
+    omega (arith, a, div-mul-le_self (n - 1) (2 ^ level))
+
+edge_within : (n level i : ℕ) → IsEdgeNode n level i → (i + 1) * 2 ^ level ≤ n
+edge_within n level i = elim [
+  | inl x ↦ rw (x.0) (omega (arith, x.1))
+  | inr x ↦ inside_last n level (i + 1) (omega (arith, x.1))
+]
+
+pub edge_of_tiles : (H : List ℕ → List ℕ) (given : ℕ → ℕ → List ℕ) (D : List (List ℕ)) (n level i : ℕ) → GivesTilesOf H given D → n ≤ length D → IsEdgeNode n level i
+    → GivesNodeOf H given D level i
+edge_of_tiles H given D n level i s f r = node_of_tiles H given D level i s (omega (arith, f, edge_within n level i r))
+
+pub path_of_tiles : (H : List ℕ → List ℕ) (given : ℕ → ℕ → List ℕ) (D : List (List ℕ)) (m n level i : ℕ) → GivesTilesOf H given D → n ≤ length D → IsPathNode m n level i
+    → GivesNodeOf H given D level i
+path_of_tiles H given D m n level i s f = elim [
+  | inl x ↦ edge_of_tiles H given D n level i s f x
+  | inr x ↦ node_of_tiles H given D level i s (omega (arith, f, inside_last n level (i + 1) (omega (arith, x.0))))
+]
+
+pub proof_of_tiles : (H : List ℕ → List ℕ) (given : ℕ → ℕ → List ℕ) (D : List (List ℕ)) (m n level i : ℕ) → GivesTilesOf H given D → n ≤ length D → IsProofNode m n level i
+    → GivesNodeOf H given D level i
+proof_of_tiles H given D m n level i s f = elim [
+  | inl x ↦ edge_of_tiles H given D n level i s f x
+  | inr x ↦ node_of_tiles H given D level i s (omega (arith, f, inside_last n level (i + 1) (omega (arith, x.1))))
+]

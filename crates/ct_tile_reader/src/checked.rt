@@ -1,14 +1,14 @@
-//! Paths that are checked before they are answered.
+//! Paths and proofs that are checked before they are answered.
 ghost use Rattle.std.specs.Prelude.{◌≡◌, ◌<◌, ◌≤◌, ℕ, List, [], length, take, get_or, IfOk, IfErr, MatchResult};
 ghost use Rattle.ct_tree.specs.Tree.{mth};
-ghost use Rattle.ct_verify.specs.Verdict.{AcceptsInclusion};
+ghost use Rattle.ct_verify.specs.Verdict.{AcceptsInclusion, AcceptsConsistency};
 ghost use Rattle.ct_tile_reader.specs.Given.{GivesTilesOf};
 ghost use Rattle.ct_verify.specs.declared.evidence.EvidenceFault.TheVariants.{ProofRefused, Memory};
 
 use crate::source::TileSource;
-use crate::walk::path;
+use crate::walk::{path, proof};
 use ct_tree::NodeHash;
-use ct_verify::{EvidenceFault, ProofFault, verify_inclusion};
+use ct_verify::{EvidenceFault, ProofFault, verify_consistency, verify_inclusion};
 use std::alloc::Global;
 
 /// The audit path of the leaf at index `m` in the tree of the first `n` leaves, checked against a root before it is
@@ -34,6 +34,33 @@ pub fn checked_path<H: NodeHash, T: TileSource>(
     let path = path(alloc, h, tiles, m, n)?;
     match verify_inclusion(h, leaf_hash, m, n, &path, root) {
         Ok(()) => Ok(path),
+        Err(fault) => Err(EvidenceFault::ProofRefused(fault)),
+    }
+}
+
+/// The consistency proof from the tree of the first `m` leaves to that of the first `n`, checked against the roots of both
+/// before it is answered (RFC 6962, section 2.1.2; RFC 9162, section 2.1.4.2), so that tiles from anywhere may be used.
+/// Errors: the verifier's own refusal, SizesOutOfRange unless 0 < `m` < `n`, or want of memory. Out of the tiles of a list
+/// that has these roots no proof is refused.
+pub fn checked_proof<H: NodeHash, T: TileSource>(
+    alloc: Global,
+    h: &H,
+    tiles: &T,
+    m: u64,
+    n: u64,
+    first_root: &[u8; 32],
+    second_root: &[u8; 32],
+) -> Result<Vec<[u8; 32]>, EvidenceFault>
+    ensures accepted { IfOk result (λ proof. AcceptsConsistency H.digest m n first_root.now second_root.now proof.items) }
+    ensures never_refused { IfErr result (λ fault. (D : List (List ℕ)) → GivesTilesOf H.digest (T.given tiles.now) D → n ≤ length D → 0 < m → m < n
+        → first_root.now ≡ mth H.digest (take m D) → second_root.now ≡ mth H.digest (take n D) → fault ≡ Memory) }
+{
+    if m == 0 || m >= n {
+        return Err(EvidenceFault::ProofRefused(ProofFault::SizesOutOfRange));
+    }
+    let proof = proof(alloc, h, tiles, m, n)?;
+    match verify_consistency(h, m, n, first_root, second_root, &proof) {
+        Ok(()) => Ok(proof),
         Err(fault) => Err(EvidenceFault::ProofRefused(fault)),
     }
 }

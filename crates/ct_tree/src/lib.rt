@@ -7,6 +7,7 @@
 //!   `with_leaf` and `root_of_subtrees` are its two steps, for who keeps the subtrees elsewhere.
 //! - [`Nodes`] keeps every node of such a tree, and answers the root, the audit paths and the consistency proofs of each
 //!   beginning of the list.
+//! - [`walk`] makes these three of nodes that are kept anywhere, and [`Nodes`] is one such place.
 //! - `hash_batch` hashes many leaves by several threads.
 //! - `largest_power_below` is where a tree is split, and [`Head`] is a tree head without its signature.
 //! - [`reference`] computes roots, paths and proofs as the RFC writes them, slowly. `tree_tests` compares with it.
@@ -25,6 +26,7 @@ mod power;
 pub mod reference;
 mod stack;
 mod subtrees;
+pub mod walk;
 
 pub use batch::{hash_batch, hash_batch_parts};
 pub use hash::{NodeHash, Sha256Hash, is_same_digest, leaf_hash, leaf_hash_parts, node_hash};

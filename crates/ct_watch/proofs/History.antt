@@ -7,7 +7,7 @@ use Rattle.ct_tree.specs.declared.head.Head.{Head}
 use Rattle.ct_monitor.specs.Heads.{IsHeadOfAll}
 use Rattle.ct_watch.specs.Watched.{Watched, waiting_or, read_on, after_verdict, nothing_seen}
 use Rattle.ct_watch.specs.Verdicts.{IsSaid, WaitingSays, HeadSays, EntriesSay, after_entries}
-use Rattle.ct_watch.specs.History.{SaysAccepted, IsStep, AreSteps, IsOfBeginning, AcceptedHeadsAgree}
+use Rattle.ct_watch.specs.History.{SaysAccepted, IsStep, AreSteps, after_steps, IsOfBeginning, AcceptedHeadsAgree}
 use Rattle.ct_watch.specs.declared.verdict.Verdict.{Verdict}
 use Rattle.ct_watch.specs.declared.verdict.Verdict.TheVariants.{Accepted, Pending, Again, Stale, Shrunk, Fork, TimeNotLater, RootMismatch, Gap, Consistent, Inconsistent}
 use Rattle.ct_watch.proofs.Steps.{said_changes_nothing}
@@ -96,18 +96,24 @@ of_beginning : (H : List ℕ → List ℕ) (v : Verdict) (next : Watched) (Z : L
     → IsOfBeginning H (next.sure ++ Z) (v, next)
 of_beginning H v next Z g a = of_beginning_at H next Z (g a)
 
-agree_from : (H : List ℕ → List ℕ) (w : Watched) (steps : List (Verdict × Watched)) → AreSteps H w steps
-    → (Z : List (List ℕ)) × All (IsOfBeginning H (w.sure ++ Z)) steps
+-- the accepted leaves stay, and more may come behind them
+steps_grow : (H : List ℕ → List ℕ) (w : Watched) (steps : List (Verdict × Watched)) → AreSteps H w steps
+    → (Z : List (List ℕ)) × ((after_steps w steps).sure ≡ w.sure ++ Z)
 unfolding AreSteps
-agree_from H w [] s = ([], λ k d h. absurd (omega (arith, h)))
+steps_grow H w [] s = ([], sym (append-nil w.sure))
+steps_grow H w ((v, next) ∷ steps) s =
+    let g = step_grows H w v next s.0 in
+    let rest = steps_grow H next steps s.1 in (g.0.0 ++ rest.0, rest.1 ∙ ap (λ x. x ++ rest.0) g.0.1 ∙ append_assoc w.sure g.0.0 rest.0)
+
+agree_from : (H : List ℕ → List ℕ) (w : Watched) (steps : List (Verdict × Watched)) → AreSteps H w steps
+    → All (IsOfBeginning H (after_steps w steps).sure) steps
+unfolding AreSteps
+agree_from H w [] s = λ k d h. absurd (omega (arith, h))
 agree_from H w ((v, next) ∷ steps) s =
     let g = step_grows H w v next s.0 in
-    let rest = agree_from H next steps s.1 in
-    let e : w.sure ++ (g.0.0 ++ rest.0) ≡ next.sure ++ rest.0 = sym (append_assoc w.sure g.0.0 rest.0) ∙ ap (λ x. x ++ rest.0) (sym g.0.1) in (
-      g.0.0 ++ rest.0,
-      subst (λ D. All (IsOfBeginning H D) ((v, next) ∷ steps)) (sym e)
-          (All-cons (IsOfBeginning H (next.sure ++ rest.0)) (v, next) steps (of_beginning H v next rest.0 g.1) rest.1),
-    )
+    let rest = steps_grow H next steps s.1 in
+    let one = subst (λ (D : List (List ℕ)). IsOfBeginning H D (v, next)) (sym rest.1) (of_beginning H v next rest.0 g.1) in
+    All-cons (IsOfBeginning H (after_steps next steps).sure) (v, next) steps one (agree_from H next steps s.1)
 
 pub accepted_heads_agree : AcceptedHeadsAgree
 accepted_heads_agree H steps s = agree_from H nothing_seen steps s

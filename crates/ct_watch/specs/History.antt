@@ -22,11 +22,17 @@ unfoldable pub AreSteps : (List ℕ → List ℕ) → Watched → List (Verdict 
 AreSteps H w [] = ⊤
 AreSteps H w (s ∷ steps) = IsStep H w s.0 s.1 × AreSteps H s.1 steps
 
+-- what has been handed out after the last of these steps
+abbrev pub after_steps : Watched → List (Verdict × Watched) → Watched
+after_steps w [] = w
+after_steps w (s ∷ steps) = after_steps s.1 steps
+
 -- where a head was accepted by a step, it is that of the first leaves of D
 abbrev pub IsOfBeginning : (List ℕ → List ℕ) → List (List ℕ) → Verdict × Watched → Type 0
 IsOfBeginning H D s = SaysAccepted s.0 → (head : Head) × (n : ℕ) × (s.1.accepted ≡ Some head) × IsHeadOfAll H (take n D) head
 
--- from the first answer on there is one list of leaves, so that each head that is accepted is that of a beginning of it
+-- From the first answer on, each head that is accepted is that of a beginning of one list of leaves: those that were handed out and
+-- are accepted after the last step.
 abbrev pub AcceptedHeadsAgree : Type 0
 AcceptedHeadsAgree = (H : List ℕ → List ℕ) (steps : List (Verdict × Watched)) → AreSteps H nothing_seen steps
-    → (D : List (List ℕ)) × All (IsOfBeginning H D) steps
+    → All (IsOfBeginning H (after_steps nothing_seen steps).sure) steps

@@ -2,8 +2,8 @@
 
 ghost use Rattle.ct_watch.specs.History.{AcceptedHeadsAgree};
 
-/// However many answers are taken, in however many runs: there is one list of leaves, those that the log handed out, so
-/// that each accepted head is the head of a beginning of it. No collision freedom is assumed.
+/// However many answers are taken, in however many runs: each accepted head is the head of a beginning of one list of
+/// leaves, those that the log handed out and that are accepted after the last answer. No collision freedom is assumed.
 #[tactic(auto, using(crate::proofs::History::accepted_heads_agree))]
 pub fn accepted_heads()
     ensures { AcceptedHeadsAgree }

@@ -1,4 +1,4 @@
-use Rattle.std.proofs.Common.{◌≤◌, arith, length, map, ℕ, List}
+use Rattle.std.proofs.Common.{◌≤◌, ◌<◌, arith, length, map, ℕ, List}
 use Rattle.std.proofs.lemmas.Grind.{common_steps}
 use Rattle.std.specs.Prelude.{string_bytes}
 use Rattle.ct_follow.specs.Session.{FirstGives, KeptGives, LineGives}
@@ -21,5 +21,6 @@ returns-else-is_short c =
     let before = c.args.monitor.now in
     let after = c.take_line.new.self in
     let kept = c.args.kept.now in
+    let long : 16777216 < length kept = grind (arith, common_steps) in
     each_gives (λ (t : List ℕ). LineGives names before kept t after) (λ (t : List ℕ). KeptGives (FirstGives names) before kept t after) c.take_line.result
-    (λ t. long_first_gives names before kept t after) c.take_line.ensures
+    (λ t. long_first_gives names before kept t after long) c.take_line.ensures

@@ -14,6 +14,6 @@ returns g c =
           (g.B.Read.remaining c.take_all.new.reader)
           (g.W.Write.contents c.args.writer.now) (g.W.Write.contents c.take_all.new.writer) (g.W.Write.contents c.finish.new.writer) c.finish.result fresh
           c.new-monitor.ensures.no_alarm c.new-monitor.ensures.none_bad
-          c.in_ok-take_all.ensures c.finish.ensures.status c.finish.ensures.written;
+          c.in_ok-take_all.ensures c.finish.ensures.status c.finish.ensures.of_bytes c.finish.ensures.written;
       status = run_status c.take_all.new.monitor c.finish.result c.finish.ensures.status;
     }

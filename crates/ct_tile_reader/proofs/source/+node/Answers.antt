@@ -1,12 +1,10 @@
-use Rattle.std.proofs.Common.{rules, arith, ◌∙◌, ◌+◌, ◌*◌, ◌/◌, ◌^◌, ◌<◌, length}
-use Rattle.ct_tile_reader.proofs.Subtrees.{hash_inside, hash_is, left_inside, right_inside, small_index, joined_up}
+use Rattle.std.proofs.Common.{rules, arith, ◌+◌, ◌*◌}
+use Rattle.ct_tile_reader.proofs.Subtrees.{left_inside, right_inside, small_index, joined_up, node_in_tile, half_given}
 use Rattle.ct_tile_reader.proofs.source.+node.Goals as goal
 
 pub returns-then-level-eq0 : goal.returns-then-level-eq0
-returns-then-level-eq0 g t c = λ D s f.
-    let inside : (c.args.index + 1) * 2 ^ c.args.level < length D = omega (arith, c.requires, f) in
-    hash_is g.H.NodeHash.digest c.args.level c.args.index D c.hash.result c.if-level-eq0.true inside
-    (c.hash.ensures ∙ s.hash (c.args.level / 8) c.args.index (hash_inside c.args.level c.args.index (length D) c.if-level-eq0.true inside))
+returns-then-level-eq0 g t c = λ D s.
+    node_in_tile g.H.NodeHash.digest (g.T.TileSource.given c.args.tiles.now) D c.args.level c.args.index c.hash.result s c.if-level-eq0.true c.hash.ensures
 
 pub overflow_mul-index : goal.overflow_mul-index
 overflow_mul-index g t c =
@@ -31,6 +29,11 @@ node-right-requires g t c κs within =
     search (rules, inside)
 
 pub returns : goal.returns
-returns g t c = λ D s f.
-    joined_up g.H.NodeHash.digest c.args.level c.args.index D c.node-left.result c.node-right.result c.node_hash.result
-    (omega (arith, c.if-level-eq0.false)) (c.node-left.ensures D s f) (c.node-right.ensures D s f) c.node_hash.ensures
+returns g t c = λ D s.
+    let H = g.H.NodeHash.digest in
+    let given = g.T.TileSource.given c.args.tiles.now in
+    let half = half_given H given D c.args.level c.args.index in
+    joined_up H c.args.level c.args.index D c.node-left.result c.node-right.result c.node_hash.result (omega (arith, c.if-level-eq0.false))
+    (c.node-left.ensures D (half (2 * c.args.index) (omega (arith, c.if-level-eq0.false)) (omega arith) (omega arith) s))
+    (c.node-right.ensures D (half (2 * c.args.index + 1) (omega (arith, c.if-level-eq0.false)) (omega arith) (omega arith) s))
+    c.node_hash.ensures

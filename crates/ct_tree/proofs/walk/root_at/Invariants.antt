@@ -1,0 +1,20 @@
+use Rattle.std.proofs.Common.{◌≡◌, ◌+◌, ◌-◌, ◌*◌, ◌/◌, ◌^◌, ◌<◌, ◌≤◌, ℕ, List, [], length, take, get_or}
+use Rattle.ct_tree.specs.Tree.{mth}
+use Rattle.ct_tree.specs.Levels.{raised}
+use Rattle.ct_tree.specs.Walk.{IsEdgeNode, AreNodesGiven}
+use Rattle.ct_tree.proofs.walk.root_at.Given as goal
+
+abbrev pub invariant-loop-last : goal.invariant-loop-last
+invariant-loop-last g l = record {
+  same : (D : List (List ℕ)) → AreNodesGiven (IsEdgeNode l.fn.n) (g.S.NodeSource.gives l.source D) → l.fn.n ≤ length D
+      → mth g.H.NodeHash.digest (take l.fn.n D) ≡ mth g.H.NodeHash.digest (raised g.H.NodeHash.digest l.level (take l.fn.n D));
+  nodes : (D : List (List ℕ)) → l.fn.n ≤ length D → length (raised g.H.NodeHash.digest l.level (take l.fn.n D)) ≡ l.last + 1;
+  edge : (D : List (List ℕ)) → AreNodesGiven (IsEdgeNode l.fn.n) (g.S.NodeSource.gives l.source D) → l.fn.n ≤ length D
+      → get_or (raised g.H.NodeHash.digest l.level (take l.fn.n D)) l.last [] ≡ l.edge;
+  at : l.last ≡ (l.fn.n - 1) / 2 ^ l.level;
+  inside : (l.last + 1) * 2 ^ l.level < l.fn.n + 2 ^ l.level;
+  low : l.level + l.last < 2 ^ 64;
+}
+
+abbrev pub decreases-loop-last : goal.decreases-loop-last
+decreases-loop-last g l = l.last
