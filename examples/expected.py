@@ -305,8 +305,13 @@ def do_shift(doers, parties):
         done = sum(map(len, replies))
         for do, lines, own in zip(doers, parties, replies):
             do_lines(do, lines, own)
-    if any(len(own) < len(lines) for own, lines in zip(replies, parties)):
-        raise WaitsInVain("a line waits, and nothing ends the wait")
+    for number, (own, lines) in enumerate(zip(replies, parties)):
+        if len(own) < len(lines):
+            op, keys = lines[len(own)]
+            who = "the operator" if number == len(parties) - 1 else f"front {number}"
+            words = " ".join([op, *(f"{key} {value}" for key, value in keys.items())])
+            why = "; what meets a full ring is refused" if op == "sequence" else ""
+            raise WaitsInVain(f"nothing ends the wait of {who} at {words}{why}")
     return replies
 
 
@@ -351,7 +356,12 @@ def line_of(reply, fronts):
 
 
 def main():
-    lines, fault = outcome(*map(int, sys.argv[1:]), sys.stdin.buffer.read())
+    if len(sys.argv) != 5 or not all(map(str.isdecimal, sys.argv[1:])):
+        sys.exit("expected.py: give it four numbers: FRONTS RING OPEN_AT CLOSE_AT")
+    try:
+        lines, fault = outcome(*map(int, sys.argv[1:]), sys.stdin.buffer.read())
+    except WaitsInVain as wait:
+        sys.exit(f"expected.py: {wait}")
     for line in lines:
         print(line)
     if fault:

@@ -154,6 +154,19 @@ def installed(folder):
     return {str(path.relative_to(folder)): path.read_text() for path in folder.rglob("*") if not path.is_dir()}
 
 
+def try_waits():
+    """What expected.py can't compute it refuses in a sentence: a wait that nothing ends, as behind a ring that is too small, and words that
+    aren't its own."""
+    submissions = [json.dumps({"who": 0, "op": "add-chain", "chain": ["QQ=="]})] * 10
+    lines = "\n".join([*submissions, '{"who":"operator","op":"sequence","from":0,"count":10,"now":3}']).encode()
+    waits = "nothing ends the wait of the operator at sequence from 0 count 10 now 3; what meets a full ring is refused"
+    usage = "give it four numbers: FRONTS RING OPEN_AT CLOSE_AT"
+    for words, given, why in (((1, 4, 0, 7), lines, waits), ((1, 4), b"", usage), ((1, 4, 0, "x"), b"", usage)):
+        ran = run("expected.py", *words, given=given)
+        if (ran.returncode, ran.stdout, ran.stderr.decode()) != (1, b"", f"expected.py: {why}\n"):
+            fail(f"expected.py with {words} ends with status {ran.returncode}, and says {ran.stderr.decode()}")
+
+
 def try_install(folder):
     """What is built is installed, byte for byte, and what isn't is named. Builds are made up: files of some words."""
     ran = make_install(folder, folder / "nothing")
@@ -231,6 +244,7 @@ def main():
         files = try_install(pathlib.Path(folder))
     try_figures()
     quotations = try_quotations()
+    try_waits()
     try_guard()
     try_tiles()
     for name, words in INPUTS.items():

@@ -8,10 +8,11 @@ import pwd
 import shutil
 import socket
 import subprocess
+import sys
 import threading
 import time
 
-from harness import LOG, Client, hold, started, text
+from harness import FRONTS, LOG, Client, hold, started, text
 
 INNER = b"GET /key HTTP/1.1\r\nHost: log\r\n\r\n"
 # The beginning of a request, which the next one on the connection would be the rest of.
@@ -285,4 +286,30 @@ def many_values(folder):
     return "precertificates of 350,000 values, and of 20,000 one in another"
 
 
-CASES = (unclear_requests, behind_nginx, slow_clients, all_places_taken, slow_request, slow_reader, long_answers, many_values)
+# Stands in for a log whose replies to its fronts lack what stands in them, but for those of the first.
+LACKING = """
+import json, sys
+head = {"sha256_root_hash": "A" * 43 + "=", "signature_input": "", "timestamp": 0, "tree_size": 0}
+for number, line in enumerate(sys.stdin):
+    request = json.loads(line)
+    head["timestamp"] = request.get("now", head["timestamp"])
+    print(json.dumps({"line": number, "reply": head if request["who"] in ("operator", 0) else {}}), flush=True)
+"""
+
+
+def fault_of_its_own(folder):
+    """What the front can't answer, by a fault of its own or the log's, is a status and one line, and the front goes on."""
+    front = started(folder, [sys.executable, "-c", LACKING], "--signer", "none")
+    path, client = "/ct/v1/get-sth-consistency?first=0&second=0", Client(front.port)
+    answers = [client.send(path + "&x=" + "a" * 300) for _ in range(FRONTS)]
+    wanted = [(200, b'{"consistency": []}')] + (FRONTS - 1) * [(500, b'{"error_message": "fault"}')]
+    hold(sorted(answers) == wanted, "a reply that lacks a key is answered with", answers)
+    status, said = front.end()
+    # The first line says that nothing is signed.
+    lines = said.splitlines()[1:]
+    held = all(line.startswith(f"front: 'GET {path}&x=") and "KeyError: \"'tree_size'\" (calls.py:" in line for line in lines)
+    hold(status == 0 and len(lines) == FRONTS - 1 and held, "a reply that lacks a key: status", status, "and it said", said)
+    return "a fault of the front's own is told in a line"
+
+
+CASES = (fault_of_its_own, unclear_requests, behind_nginx, slow_clients, all_places_taken, slow_request, slow_reader, long_answers, many_values)

@@ -31,9 +31,17 @@ SLOWEST = 10_000
 LINGER, PASSED_OVER = 5, 8 * LONGEST_BODY
 # What the system holds of an answer on its way, in bytes: a larger room would hide that a client reads nothing.
 ON_ITS_WAY = 1 << 16
+# How much of a request's first line is told where it meets a fault.
+LONGEST_TOLD = 200
 LENGTH = re.compile(r"[0-9]{1,20}")
 TOO_MANY = b"HTTP/1.1 503 Service Unavailable\r\nRetry-After: 1\r\nConnection: close\r\n\r\n"
 TOO_MANY += b'{"error_message": "too-many-connections"}'
+
+
+def say(what, fault):
+    """Tells of a fault of the front's own in a line, with its place: a text that a client chose has none of its ends of a line."""
+    place = traceback.extract_tb(fault.__traceback__)[-1]
+    print(f"front: {what}: {type(fault).__name__}: {str(fault)!r} ({pathlib.Path(place.filename).name}:{place.lineno})", file=sys.stderr, flush=True)
 
 
 def status_of(refusal):
@@ -147,8 +155,8 @@ class Handler(http.server.BaseHTTPRequestHandler):
                 status, value = 200, call()
             except Refused as refused:
                 status, value = status_of(str(refused)), {"error_message": str(refused)}
-            except Exception:
-                traceback.print_exc()
+            except Exception as fault:
+                say(f"{self.requestline[:LONGEST_TOLD]!r} is answered with 500", fault)
                 status, value = 500, {"error_message": "fault"}
             self.send(status, json.dumps(value).encode())
         finally:
@@ -230,7 +238,8 @@ class Server(http.server.ThreadingHTTPServer):
         finally:
             self.leave(address)
 
-    def handle_error(self, *words):
+    def handle_error(self, request, address):
         """A client that went away is no fault of the log's."""
-        if not isinstance(sys.exc_info()[1], OSError):
-            super().handle_error(*words)
+        fault = sys.exc_info()[1]
+        if not isinstance(fault, OSError):
+            say(f"a connection of {address[0]} is closed", fault)

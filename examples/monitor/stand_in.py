@@ -17,6 +17,9 @@ sys.path.insert(0, str(pathlib.Path(__file__).resolve().parent.parent))
 
 import merkle  # noqa: E402
 
+# The longest line, in bytes, without its end; of a longer one no more than two bytes over it are held.
+LONGEST = 16_777_216
+KEPT = LONGEST + 2
 ALARMS = ("fork", "shrunk", "time-not-later", "root-mismatch", "inconsistent", "older-than-entry")
 
 
@@ -149,6 +152,8 @@ class Watcher:
 
     def judged(self, line):
         """What is said of a line that is no state in its place."""
+        if len(line) > LONGEST:
+            return [{"error": "bad-line"}]
         try:
             value = json.loads(line)
             if "state" in value:
@@ -169,12 +174,21 @@ class Watcher:
             sys.stdout.write(answers.line(value))
 
 
+def lines_of(given):
+    """The lines, each without its end, of which no more than KEPT bytes are held."""
+    while kept := given.readline(KEPT):
+        rest = kept
+        while rest and not rest.endswith(b"\n"):
+            rest = given.readline(KEPT)
+        yield kept.removesuffix(b"\n")
+
+
 def main():
     options = argparse.ArgumentParser(description="Stands in for ctmonitor, with hashlib alone.")
     options.add_argument("--name", action="append", default=[])
     watcher = Watcher([name.lower() for name in options.parse_args().name])
-    for place, line in enumerate(sys.stdin.buffer.read().split(b"\n")):
-        if line and not (place == 0 and watcher.take_up(line)):
+    for place, line in enumerate(lines_of(sys.stdin.buffer)):
+        if line and not (place == 0 and len(line) <= LONGEST and watcher.take_up(line)):
             watcher.take(line)
     sys.stdout.write(watcher.state())
     sys.exit(3 if watcher.alarm else 4 if watcher.bad else 0)

@@ -264,8 +264,28 @@ def try_stand_in(work):
     return count
 
 
+# The longest line that is read, and the memory in which the stand-in reads longer ones, in KB.
+LONGEST, ROOM = 16_777_216, 256 << 10
+
+
+def try_long_lines():
+    """A line of the longest length is read, and one of a byte more is none, nor is one of 320 MB, of which little is held."""
+    head = answers.line(next(given for name, _, given, _ in answers.runs() if name == "day1")[0])[:-1].encode()
+    lines = [head.ljust(LONGEST), head.ljust(LONGEST + 1), bytes([32]) * LONGEST * 20, head]
+    said = []
+    for given in (lines, [head, head]):
+        words = ["sh", "-c", f'ulimit -v {ROOM}; exec "$@"', "sh", sys.executable, HERE / "stand_in.py"]
+        ran = subprocess.run(words, input=b"\n".join(given), capture_output=True)
+        said.append((ran.returncode, ran.stdout.decode().splitlines(), ran.stderr.decode()))
+    bad = ['{"error":"bad-line"}'] * 2
+    (status, long, fault), (_, short, _) = said
+    if status != 4 or long != [*short[:1], *bad, *short[1:]]:
+        fail(f"stand_in.py with long lines: status {status}, {long}, where short ones have {short}: {fault}")
+
+
 def main():
     runs = try_stand_in(HERE)
+    try_long_lines()
     missing = [tool for tool in ("curl", "flock") if not shutil.which(tool)]
     if missing:
         print(f"examples/monitor/stand_in.py: as expected in {runs} runs. watch.sh wasn't tried: {' and '.join(missing)} isn't here.")
