@@ -556,6 +556,83 @@ def token(folder):
         os.environ.update({"SOFTHSM2_CONF": before} if before else {})
 
 
+# The users of the case below, each of which is its group as well: the signer's, the front's, and another.
+SIGNING, FRONTING, OTHER = 1, 65534, 2
+
+
+@contextlib.contextmanager
+def as_user(user, words, groups=(), **more):
+    """A process of a user, which is taken off behind it."""
+    with subprocess.Popen(words, user=user, group=user, extra_groups=groups, stdout=subprocess.PIPE, stderr=subprocess.PIPE, **more) as process:
+        try:
+            yield process
+        finally:
+            process.kill()
+
+
+def can(user, groups, python, code, *words):
+    """Whether a user gets through some Python."""
+    with as_user(user, [python, "-c", code, *words], groups) as process:
+        process.communicate()
+    return process.returncode == 0
+
+
+def signer_at(folder, path, python):
+    """The signer of a user of its own, which is to listen at a socket."""
+    guard = GUARD if GUARD[0] != sys.executable else [python, *GUARD[1:]]
+    with contextlib.suppress(FileNotFoundError):
+        os.unlink(path)
+    return as_user(SIGNING, [python, str(HERE / "signer.py"), "--state", folder, "--listen", path, "--", *guard])
+
+
+def listens(process, path):
+    until = time.monotonic() + 30
+    while not os.path.exists(path):
+        hold(time.monotonic() < until and process.poll() is None, "the signer doesn't listen")
+        time.sleep(0.02)
+
+
+def signed_through(front, number, fault):
+    """Has a front of another user sign a receipt and a head; the log's id."""
+    told = front.stdout.readline()
+    hold("the signer at" in told, "the front says", told, told or fault())
+    client = Client(int(told.split(":")[2].split("/")[0]))
+    sct, head = client.get("add-chain", {"chain": [text(b"certificate %d" % number)]}), client.get("get-sth")
+    hold(head["tree_head_signature"] and head["tree_size"] == number + 1, "a head isn't signed:", head)
+    return sct["id"]
+
+
+def two_users(folder):
+    """The signer under a user of its own: the front, of another user in the signer's group, gets heads signed through its socket and can't
+    read the key; a third one can't open the socket. Behind a kill of either both go on."""
+    python, there = shutil.which("python3", path="/usr/bin:/bin"), "import sys; open(sys.argv[1]).close()"
+    if os.getuid() or not python or not can(FRONTING, (), python, there, str(HERE / "front.py")):
+        return "nothing: it wants to be root, and the sources where each user reads them"
+    top = pathlib.Path(folder).parent
+    top.chmod(0o711)
+    own = {user: top / str(user) for user in (SIGNING, FRONTING)}
+    for user, mode in ((SIGNING, 0o711), (FRONTING, 0o700)):
+        own[user].mkdir(mode)
+        os.chown(own[user], user, user)
+    state, path, seen = str(own[SIGNING]), str(own[SIGNING] / "socket"), set()
+    come, log = "import socket, sys; socket.socket(socket.AF_UNIX).connect(sys.argv[1])", [python, *LOG[1:]] if LOG[0] == sys.executable else LOG
+    words = [python, str(HERE / "front.py"), "--port", "0", "--state", str(own[FRONTING]), "--signer-at", path, "--", *log]
+    # What ends first, and the status of the front and of the signer.
+    for number, (first, statuses) in enumerate((("front", (-9, 0)), ("signer", (1, -9)), (None, (0, 0)))):
+        with signer_at(state, path, python) as signing_process:
+            listens(signing_process, path)
+            hold(not can(OTHER, (), python, come, path), "another user opens the signer's socket")
+            with as_user(FRONTING, words, (SIGNING,), text=True) as front:
+                seen.add(signed_through(front, number, lambda: front.communicate()[1]))
+                hold(not can(FRONTING, (SIGNING,), python, there, f"{state}/key.pem"), "the front's user reads the key")
+                (signing_process if first == "signer" else front).send_signal(signal.SIGKILL if first else signal.SIGTERM)
+                faults = [process.communicate(timeout=60)[1] for process in (front, signing_process)]
+        found = (front.returncode, signing_process.returncode)
+        hold(found == statuses, "front and signer end with", found, faults)
+    hold(len(seen) == 1 and not (own[FRONTING] / "key.pem").exists(), "the keys are", seen)
+    return "a front and a signer of two users, and two kills"
+
+
 def limit_files(process, length):
     """Has a process's files end there, as on a full disk; answers the limits before."""
     limits = resource.prlimit(process, resource.RLIMIT_FSIZE)
@@ -705,4 +782,4 @@ def wrong_signers(folder):
     return f"{len(WRONG)} signers and guards that are wrong"
 
 
-CASES = (forged, log_that_lies, killed, guard_states, key_alone, token, full_disk_of_the_signer, one_signer, guard_that_ends, wrong_signers)
+CASES = (forged, log_that_lies, killed, guard_states, key_alone, token, two_users, full_disk_of_the_signer, one_signer, guard_that_ends, wrong_signers)

@@ -31,7 +31,7 @@ from ending import Ending
 from entries import Entries
 from faults import Broken, Held, Refused
 from journal import Journal
-from program import Program
+from program import Child, Elsewhere, Program
 from sequencer import HEADS_SHOWN, Sequencer
 from web import Server
 
@@ -67,6 +67,7 @@ def words_given():
     options.add_argument("--clock-ahead", type=float, default=300, help="seconds that the last head may be ahead [default: 300]")
     options.add_argument("--roots", help="a file of PEM: what get-roots answers")
     signing.add_options(options)
+    options.add_argument("--signer-at", metavar="PATH", help="a signer of another user at this socket (signer.py --listen)")
     options.add_argument("--guard", help="PROGRAM WORD.. [default: ctguard, where it isn't built guard/model.py]")
     options.add_argument("--receipts", choices=("in-head", "promised"), default="in-head", help="ctguard's [default: in-head]")
     options.add_argument("program", nargs="+", metavar="PROGRAM")
@@ -89,9 +90,17 @@ class Opened:
                 raise Broken(f"{self.programs[-1].name} doesn't take the journal: {ending.fault or fault}") from None
             raise
 
-    def start(self, name, line):
-        self.programs.append(Program(name, line, self.ending, self.words.patience))
+    def start(self, name, process):
+        self.programs.append(Program(name, process, self.ending, self.words.patience))
         return self.programs[-1]
+
+    def signer_process(self):
+        """The signer: a child, or one of another user at a socket, which has its words itself."""
+        words = self.words
+        if words.signer_at:
+            return Elsewhere(words.signer_at)
+        way = [word for name in ("signer", "key") if getattr(words, name) for word in (f"--{name}", getattr(words, name))]
+        return Child([*SIGNER, "--state", words.state, *way, "--receipts", words.receipts, "--", *words.guard])
 
     def ask_signer(self, **keys):
         try:
@@ -101,13 +110,12 @@ class Opened:
 
     def open(self):
         words, kept = self.words, self.journal
-        way = [word for name in ("signer", "key") if getattr(words, name) for word in (f"--{name}", getattr(words, name))]
-        self.signer = self.start("the signer", [*SIGNER, "--state", words.state, *way, "--receipts", words.receipts, "--", *words.guard])
+        self.signer = self.start("the signer", self.signer_process())
         self.own = self.ask_signer(op="open", fresh=kept.fresh())
         if kept.log_id not in (None, self.own["log_id"]):
             named, given = kept.log_id or "without a key", self.own["log_id"] or "none"
             raise Broken(f"{kept.path} names the log {named}, and the key here is that of {given}; nothing was changed")
-        self.program = self.start("the log", [*words.program, "--fronts", str(words.fronts), "--ring", str(words.ring)])
+        self.program = self.start("the log", Child([*words.program, "--fronts", str(words.fronts), "--ring", str(words.ring)]))
         kept.replay(self.program, words.fronts, words.ring, self.entries, self.heads)
         before, last = [None, None, *self.heads][-2:]
         passed = self.ask_signer(op="begin", before=before, last=last)["last"]
@@ -165,7 +173,8 @@ def tell(words, server, sequencer, own):
         why = "as --signer none has it" if words.signer else "neither python3-cryptography nor openssl is there"
         print(f"front: nothing is signed: {why}", file=sys.stderr)
     address, size = f"http://{words.address}:{server.server_address[1]}/", sequencer.heads[-1]["tree_size"]
-    signed = f"signed by {own['signed_by']} through {pathlib.Path(words.guard[-1]).name}"
+    through = f"the signer at {words.signer_at}" if words.signer_at else pathlib.Path(words.guard[-1]).name
+    signed = f"signed by {own['signed_by']} through {through}"
     print(f"{address} with {sequencer.published} heads, {size} entries, {signed}", flush=True)
 
 

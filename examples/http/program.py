@@ -2,6 +2,7 @@
 import json
 import os
 import signal
+import socket
 import subprocess
 import threading
 import time
@@ -34,14 +35,56 @@ class Answer:
         return self.reply
 
 
+class Child(subprocess.Popen):
+    """A process of the front's own. It has a group of its own: a Ctrl-C at the terminal is the front's, which ends the program by the end
+    of its input."""
+
+    def __init__(self, words):
+        super().__init__(words, stdin=subprocess.PIPE, stdout=subprocess.PIPE, start_new_session=True)
+
+    def kill_all(self):
+        try:
+            os.killpg(self.pid, signal.SIGKILL)
+        except ProcessLookupError:
+            # It has ended by itself.
+            return
+
+
+class Elsewhere:
+    """A program that another user runs, at a Unix socket, in the place of a process. Its status isn't known."""
+
+    class Input:
+        def __init__(self, connection):
+            self.connection, self.file = connection, connection.makefile("wb")
+            self.write, self.flush = self.file.write, self.file.flush
+
+        def close(self):
+            self.file.close()
+            self.connection.shutdown(socket.SHUT_WR)
+
+    def __init__(self, path):
+        self.connection = socket.socket(socket.AF_UNIX)
+        self.connection.connect(path)
+        self.stdin, self.stdout = self.Input(self.connection), self.connection.makefile("rb")
+
+    def kill_all(self):
+        try:
+            self.connection.shutdown(socket.SHUT_RDWR)
+        except OSError:
+            # It has ended by itself.
+            return
+
+    def wait(self):
+        return 0
+
+
 class Program:
-    """The program, over pipes. Numbers follow the order of writing, so one lock covers both. The thread that reads takes no
+    """The program, over pipes or a socket. Numbers follow the order of writing, so one lock covers both. The thread that reads takes no
     lock: a full pipe in one direction can't stop the other. The program's end is the front's, and so is a line that it leaves
     unanswered for `patience` seconds, by whatever thread it is waited for: then it is killed, which ends every wait."""
 
-    def __init__(self, name, words, ending, patience):
-        # A group of its own: a Ctrl-C at the terminal is the front's, which ends the program by the end of its input.
-        self.process = subprocess.Popen(words, stdin=subprocess.PIPE, stdout=subprocess.PIPE, start_new_session=True)
+    def __init__(self, name, process, ending, patience):
+        self.process = process
         self.writing, self.number, self.waiting, self.ended = threading.Lock(), 0, {}, threading.Event()
         self.name, self.ending, self.patience = name, ending, patience
         self.reader = ending.thread(name, self.read, self.wake)
@@ -69,11 +112,7 @@ class Program:
         self.reader.join()
 
     def kill(self):
-        try:
-            os.killpg(self.process.pid, signal.SIGKILL)
-        except ProcessLookupError:
-            # It has ended by itself.
-            return
+        self.process.kill_all()
 
     def send(self, line, then=None):
         """Writes a line; the answer comes later."""

@@ -1,9 +1,10 @@
 #!/usr/bin/env python3
 """Signs what the guard lets through, and nothing else: the one process that reads the log's key.
 
-    signer.py --state DIR [--signer WAY | --key pkcs11:URI] [--receipts in-head|promised] -- GUARD [WORD..]
+    signer.py --state DIR [--signer WAY | --key pkcs11:URI] [--receipts in-head|promised] [--listen PATH] -- GUARD [WORD..]
 
-GUARD is ctguard, or guard/model.py. The front starts this process and asks it by lines, an object of JSON each; its answer to
+GUARD is ctguard, or guard/model.py. The front starts this process, or finds it at the socket PATH; it serves one front, and ends with it.
+It is asked by lines, an object of JSON each; its answer to
 line N (from 0) is {"line":N,"reply":R}, or {"error":NAME} for R. First come three, once and in this order:
 
     {"op":"open","fresh":B}                whether the journal is new: the key is looked at, and the guard's state
@@ -22,6 +23,7 @@ import base64
 import fcntl
 import json
 import os
+import socket
 import subprocess
 import sys
 import time
@@ -207,15 +209,31 @@ class Signer:
             sys.exit(f"signer: the guard ended with status {status} and another state than its own: {last}")
 
 
+def front_at(path):
+    """What the first front that comes to a socket sends, and where its replies go. This user and its group may come, and no other."""
+    with socket.socket(socket.AF_UNIX) as listening:
+        if os.path.exists(path):
+            os.unlink(path)
+        os.umask(0o117)
+        listening.bind(path)
+        os.umask(0o077)
+        listening.listen(0)
+        connection, _ = listening.accept()
+    with connection:
+        return connection.makefile("rb"), connection.makefile("wb")
+
+
 def main():
     options = argparse.ArgumentParser(description="Signs what the guard lets through. Behind -- stands ctguard.")
     options.add_argument("--state", required=True, help="the folder of the guard's state, and of the key where it is a file")
     signing.add_options(options)
     options.add_argument("--receipts", choices=("in-head", "promised"), default="in-head", help="[default: in-head]")
+    options.add_argument("--listen", metavar="PATH", help="a socket, where a front of this user's group comes")
     options.add_argument("guard", nargs="+", metavar="GUARD")
+    words = options.parse_args()
     try:
-        Signer(options.parse_args()).run(sys.stdin.buffer, sys.stdout.buffer)
-    except BrokenPipeError:
+        Signer(words).run(*(front_at(words.listen) if words.listen else (sys.stdin.buffer, sys.stdout.buffer)))
+    except (BrokenPipeError, ConnectionResetError):
         # The front is gone.
         sys.exit(1)
 

@@ -4,6 +4,7 @@ The key lies in a file as PEM: python3-cryptography signs where it is there, els
 neither is, nothing is signed. It is made with a new journal and never beside one that is there. Or it is one of a PKCS#11 token, which it
 never leaves: then `openssl` asks the token for each signature, by its engine pkcs11 (Debian's libengine-pkcs11-openssl) and p11-kit.
 """
+import argparse
 import base64
 import hashlib
 import importlib.util
@@ -176,7 +177,7 @@ class KeyOfToken(Key):
 def token_uri(given):
     """The URI of a token's key. A pin-value would stand among the words of each process; without a pin-source a PIN would be asked for."""
     if not given.startswith("pkcs11:") or "pin-source=" not in given or "pin-value=" in given:
-        raise ValueError("no URI of PKCS#11 with a pin-source")
+        raise argparse.ArgumentTypeError("it is no URI pkcs11:..?pin-source=file:PATH, or has the PIN itself")
     return given
 
 

@@ -276,8 +276,12 @@ def answer_all(origin):
 
 def origin_of(given):
     """The origin: a text, not empty, and without a line end."""
-    if not given or "\n" in given or not given.encode():
-        raise ValueError("no origin")
+    try:
+        right = given and "\n" not in given and given.encode()
+    except UnicodeEncodeError:
+        right = False
+    if not right:
+        raise argparse.ArgumentTypeError("an origin is a text in UTF-8, not empty and without a line end")
     return given
 
 

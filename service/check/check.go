@@ -1,6 +1,8 @@
 // Package check judges a log from what it published in a folder, and from the timestamps that it answered, by the log's public key
 // alone. It is independent of what writes a log: it uses no other package of this repository.
 //
+// The log has to be at rest: a node that died behind a swap leaves tiles that no head covers yet, until another one goes on.
+//
 // It holds the whole log in memory: it is for trials.
 package check
 

@@ -20,6 +20,7 @@ import (
 
 // TestRegisterSetBack copies a register, goes on, and puts the copy back: a node that runs stops, and none starts.
 func TestRegisterSetBack(t *testing.T) {
+	t.Parallel()
 	p, ctx, got := newPlace(t), limited(t), &answers{}
 	register := filepath.Join(string(p), "register")
 	s := started(t, p.config(t), hooks{})
@@ -50,6 +51,7 @@ func TestRegisterSetBack(t *testing.T) {
 
 // TestRegisterEmptied takes the register away: none is created over a store that has anything of a log, and a node that runs stops.
 func TestRegisterEmptied(t *testing.T) {
+	t.Parallel()
 	for _, left := range []string{"", "heads", "heads tile"} {
 		p, ctx, got := newPlace(t), limited(t), &answers{}
 		s := started(t, p.config(t), hooks{})
@@ -77,6 +79,7 @@ func TestRegisterEmptied(t *testing.T) {
 
 // TestDamagedTiles takes away or bends what a step, a roll-out or a repeat wants. Each is refused by name, and there is no further head.
 func TestDamagedTiles(t *testing.T) {
+	t.Parallel()
 	remove := func(path string) error { return os.Remove(path) }
 	bend := func(path string) error {
 		content, err := os.ReadFile(path)
@@ -89,7 +92,9 @@ func TestDamagedTiles(t *testing.T) {
 	cut := func(path string) error { return os.Truncate(path, 7) }
 	for _, object := range []string{"tile/0/001.p/44", "tile/1/000.p/1", "tile/data/001.p/44"} {
 		for how, damage := range map[string]func(string) error{"removed": remove, "bent": bend, "cut": cut} {
+			object, damage := object, damage
 			t.Run(object+" "+how, func(t *testing.T) {
+				t.Parallel()
 				p, ctx, got := newPlace(t), limited(t), &answers{}
 				s := started(t, p.config(t), hooks{})
 				must(t, got.submitAll(ctx, s, 0, 300, 300))
@@ -114,6 +119,7 @@ func TestDamagedTiles(t *testing.T) {
 
 // TestDamagedRepeats bends tiles that only a repeat wants.
 func TestDamagedRepeats(t *testing.T) {
+	t.Parallel()
 	for _, object := range []string{"tile/0/000", "tile/data/000"} {
 		p, ctx, got := newPlace(t), limited(t), &answers{}
 		s := started(t, p.config(t), hooks{})
@@ -156,6 +162,7 @@ func TestDamagedRepeats(t *testing.T) {
 
 // TestDamagedBundle has a node that died behind its swap leave a bundle that is bent, or gone.
 func TestDamagedBundle(t *testing.T) {
+	t.Parallel()
 	for _, how := range []string{"bent", "gone"} {
 		p, ctx := newPlace(t), limited(t)
 		killed, err := child{Place: string(p), KillAt: "swapped", KillOn: 2, From: 0, To: 50}.run(&answers{})
@@ -183,6 +190,7 @@ func TestDamagedBundle(t *testing.T) {
 
 // TestWrongPlaces gives repeats places that aren't theirs. None is believed: each is a new entry, and no lie is signed.
 func TestWrongPlaces(t *testing.T) {
+	t.Parallel()
 	p, ctx, got := newPlace(t), limited(t), &answers{}
 	config := p.config(t)
 	var wrong []stores.Placed
@@ -202,6 +210,7 @@ func TestWrongPlaces(t *testing.T) {
 
 // TestFullQueue stops a node in a step, and fills its queue.
 func TestFullQueue(t *testing.T) {
+	t.Parallel()
 	p, ctx, got := newPlace(t), limited(t), &answers{}
 	config := p.config(t)
 	config.MostQueue, config.MostBatch = 3, 1
@@ -242,6 +251,7 @@ func TestFullQueue(t *testing.T) {
 
 // TestGivenUp has who waits give up: the seat is free again.
 func TestGivenUp(t *testing.T) {
+	t.Parallel()
 	p, ctx := newPlace(t), limited(t)
 	config := p.config(t)
 	config.MostQueue = 1
@@ -265,6 +275,7 @@ func TestGivenUp(t *testing.T) {
 
 // TestClock sets a node's clock two hours ahead while it runs, and back.
 func TestClock(t *testing.T) {
+	t.Parallel()
 	p, ctx, got := newPlace(t), limited(t), &answers{}
 	var mu sync.Mutex
 	var ahead time.Duration
@@ -314,6 +325,7 @@ func (u *unsure) Swap(ctx context.Context, old, new string) error {
 }
 
 func TestUnknownSwaps(t *testing.T) {
+	t.Parallel()
 	p, ctx, got := newPlace(t), limited(t), &answers{}
 	config := p.config(t)
 	config.Register = &unsure{Register: config.Register}
@@ -362,6 +374,7 @@ func (f *failing) Get(ctx context.Context, name string, most int64) ([]byte, err
 
 // TestFailingStore has one call in ten fail: who waits is answered all the same, and nothing comes in twice.
 func TestFailingStore(t *testing.T) {
+	t.Parallel()
 	p, ctx, got := newPlace(t), limited(t), &answers{}
 	config := p.config(t)
 	config.Patience = longest
@@ -381,6 +394,7 @@ func TestFailingStore(t *testing.T) {
 
 // TestHandingOver has two nodes with one secret: the second hands what it has to the first, and goes on alone when that one is gone.
 func TestHandingOver(t *testing.T) {
+	t.Parallel()
 	p, ctx, got := newPlace(t), limited(t), &answers{}
 	var nodes [2]*Sequencer
 	var servers [2]*httptest.Server
@@ -418,6 +432,7 @@ func TestHandingOver(t *testing.T) {
 
 // TestHeadsWithoutEntries has a log without submissions go on publishing heads of one size, of which the newest is answered.
 func TestHeadsWithoutEntries(t *testing.T) {
+	t.Parallel()
 	p, ctx, got := newPlace(t), limited(t), &answers{}
 	config := p.config(t)
 	config.Refresh = time.Millisecond
@@ -451,6 +466,7 @@ func TestHeadsWithoutEntries(t *testing.T) {
 
 // TestEndAnswers ends a node with a full queue: who waits is answered, and who comes later is refused.
 func TestEndAnswers(t *testing.T) {
+	t.Parallel()
 	p, ctx, got := newPlace(t), limited(t), &answers{}
 	config := p.config(t)
 	// The round behind the first one begins once all wait.
@@ -474,6 +490,7 @@ func TestEndAnswers(t *testing.T) {
 
 // TestEndInTime ends a node whose step doesn't come back.
 func TestEndInTime(t *testing.T) {
+	t.Parallel()
 	p, ctx := newPlace(t), limited(t)
 	config := p.config(t)
 	s := started(t, config, hooks{})
@@ -500,6 +517,7 @@ func TestEndInTime(t *testing.T) {
 
 // TestPlantedOrders has a node do in a wrong order what is right in the order of this package: the checker sees each.
 func TestPlantedOrders(t *testing.T) {
+	t.Parallel()
 	t.Run(tilesFirst, func(t *testing.T) {
 		p, got := newPlace(t), &answers{}
 		_, err := child{Place: string(p), Plant: tilesFirst, KillAt: "stepped", KillOn: 100, From: 0, To: 5}.run(got)

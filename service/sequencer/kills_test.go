@@ -12,6 +12,7 @@ var phases = []string{"stepped", "bundle put", "swapped", "tiles out", "places a
 // TestKillsAtEachPhase kills (-9) a node in each phase of its second and fourth step, and has the next one go on. What was answered
 // is in its place, and what wasn't and is submitted again comes in once.
 func TestKillsAtEachPhase(t *testing.T) {
+	t.Parallel()
 	for _, phase := range phases {
 		phase := phase
 		t.Run(phase, func(t *testing.T) {
@@ -35,6 +36,7 @@ func TestKillsAtEachPhase(t *testing.T) {
 
 // TestNodesAtOnce has three processes carry one log, with the same submissions among them, each killed once in another phase.
 func TestNodesAtOnce(t *testing.T) {
+	t.Parallel()
 	p, got := newPlace(t), &answers{}
 	var all sync.WaitGroup
 	failed := make(chan error, 3)
@@ -58,5 +60,49 @@ func TestNodesAtOnce(t *testing.T) {
 	}
 	if report := p.right(t, got); report.Leaves != 180 {
 		t.Fatalf("%+v", report)
+	}
+}
+
+// TestPausesAtEachPhase stops a node in a phase while another one carries the log on, and lets it go on behind that.
+func TestPausesAtEachPhase(t *testing.T) {
+	t.Parallel()
+	for _, phase := range phases {
+		phase := phase
+		t.Run(phase, func(t *testing.T) {
+			t.Parallel()
+			p, ctx, got := newPlace(t), limited(t), &answers{}
+			pause, paused, release := make(chan struct{}, 1), make(chan struct{}), make(chan struct{})
+			first := started(t, p.config(t), hooks{phase: func(name string) {
+				if name != phase {
+					return
+				}
+				select {
+				case <-pause:
+					close(paused)
+					<-release
+				default:
+				}
+			}})
+			second := started(t, p.config(t), hooks{})
+			must(t, got.submitAll(ctx, first, 0, 20, 8))
+			pause <- struct{}{}
+			done := make(chan error, 1)
+			go func() { done <- got.submitAll(ctx, first, 20, 40, 8) }()
+			<-paused
+			must(t, got.submitAll(ctx, second, 30, 60, 8))
+			before, err := second.Checkpoint(ctx)
+			must(t, err)
+			close(release)
+			must(t, <-done)
+			must(t, got.submitAll(ctx, first, 50, 70, 8))
+			for _, s := range []*Sequencer{first, second} {
+				if head, err := s.Checkpoint(ctx); err != nil || head.TreeSize != 70 || head.Timestamp <= before.Timestamp {
+					t.Errorf("%+v, %v", head, err)
+				}
+			}
+			if report := p.right(t, got); report.Leaves != 70 {
+				t.Fatalf("%+v", report)
+			}
+		})
 	}
 }

@@ -105,6 +105,12 @@ func (s *Sequencer) answerRepeats(ctx context.Context, k known, batch []*waiting
 	tree := s.treeOf(ctx, k.state)
 	for i, w := range repeats {
 		l, err := tree.leafAt(found[w.identity].Index)
+		if errors.Is(err, ErrDamaged) {
+			// The others have nothing to do with it.
+			s.noteDamage(err)
+			s.queue.answer(w, answer{err: fault{log.ErrStore, err}})
+			continue
+		}
 		if err != nil {
 			return append(repeats[i:], rest...), err
 		}
@@ -121,6 +127,13 @@ func (s *Sequencer) answerRepeats(ctx context.Context, k known, batch []*waiting
 		s.queue.answer(w, answer{place: place})
 	}
 	return rest, nil
+}
+
+// noteDamage keeps what the figures say of an object that only repeats want.
+func (s *Sequencer) noteDamage(err error) {
+	s.mu.Lock()
+	defer s.mu.Unlock()
+	s.damage = err
 }
 
 // sign signs a timestamp.

@@ -164,6 +164,9 @@ func (s *Sequencer) putHead(ctx context.Context, state step.State, head step.Hea
 	}
 	made := log.Head{TreeSize: state.Size, Timestamp: state.Moment, RootHash: state.Root, Signature: signed}
 	made.Note = s.note(head.Checkpoint, made)
+	if again, err := s.parseNote(made.Note); err != nil || matches(again, state) != nil {
+		return log.Head{}, fmt.Errorf("sequencer: the step's note isn't one of %s: %w", s.config.Origin, errNote)
+	}
 	name := headName(state)
 	err = s.config.Objects.Put(ctx, name, made.Note)
 	if errors.Is(err, stores.ErrOther) {
@@ -273,7 +276,14 @@ func (s *Sequencer) checkpoint(ctx context.Context) (log.Head, error) {
 	if seen != nil && seen.TreeSize >= published && (seen.TreeSize > published || seen.Timestamp >= k.state.Moment || k.state.Size > published) {
 		return *seen, nil
 	}
-	head, err := s.publishedHead(ctx, published)
+	head, err := log.Head{}, stores.ErrAbsent
+	if k.state.Size == published {
+		head, err = s.readHead(ctx, headName(k.state))
+	}
+	if errors.Is(err, stores.ErrAbsent) {
+		// The newest state's isn't out yet.
+		head, err = s.publishedHead(ctx, published)
+	}
 	if err != nil {
 		return log.Head{}, err
 	}

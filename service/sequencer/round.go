@@ -130,9 +130,10 @@ func (s *Sequencer) round(ctx context.Context) error {
 	if batch, err = s.answerRepeats(ctx, k, batch); err != nil {
 		return err
 	}
-	if len(batch) == 0 && !s.isStale(k) {
+	if len(batch) == 0 && !s.isStale(k) && !errors.Is(why, ErrDamaged) {
 		return nil
 	}
+	// (Behind damage a step without entries says whether the edge is right again.)
 	return s.advance(ctx, k, batch)
 }
 

@@ -135,6 +135,8 @@ type Sequencer struct {
 	fault      error
 	faultSince time.Time
 	stopped    bool
+	// damage is the last object that was seen to be another one, and that the log went on without.
+	damage error
 	// alone is until when nothing is handed over, since a node didn't answer.
 	alone time.Time
 
@@ -281,6 +283,9 @@ func (s *Sequencer) Figures() log.Figures {
 	if s.head != nil {
 		f.Entries = s.head.TreeSize
 		f.HeadAge = time.Duration(s.clock.wall().UnixMilli()-int64(s.head.Timestamp)) * time.Millisecond
+	}
+	if s.damage != nil {
+		f.Fault = s.damage.Error()
 	}
 	if s.fault != nil {
 		f.Fault = s.fault.Error()

@@ -8,6 +8,7 @@ import (
 
 // TestOneNode takes 700 entries in, over the edge of two full tiles, stops and goes on, and has the folder judged.
 func TestOneNode(t *testing.T) {
+	t.Parallel()
 	p, ctx, got := newPlace(t), limited(t), &answers{}
 	s := started(t, p.config(t), hooks{})
 	must(t, got.submitAll(ctx, s, 0, 400, 64))

@@ -13,6 +13,7 @@ import (
 	"io"
 	"os/exec"
 	"sync/atomic"
+	"syscall"
 	"time"
 )
 
@@ -54,7 +55,7 @@ const (
 type Client struct {
 	command []string
 	limit   time.Duration
-	starts  uint64
+	starts  atomic.Uint64
 	// turn holds the process, or nil where none runs; who took it asks.
 	turn chan *process
 }
@@ -70,7 +71,7 @@ func NewClient(command []string, limit time.Duration) (*Client, error) {
 }
 
 // Starts is how often the process was started.
-func (c *Client) Starts() uint64 { return atomic.LoadUint64(&c.starts) }
+func (c *Client) Starts() uint64 { return c.starts.Load() }
 
 // Close ends the process.
 func (c *Client) Close() error {
@@ -105,6 +106,8 @@ func (l *last) Write(b []byte) (int, error) {
 
 func (c *Client) start() (*process, error) {
 	command := exec.Command(c.command[0], c.command[1:]...)
+	// A group of its own: what is sent to this process by a terminal doesn't end it, and what it started ends with it.
+	command.SysProcAttr = &syscall.SysProcAttr{Setpgid: true}
 	p := &process{command: command, said: &last{}}
 	command.Stderr = p.said
 	in, err := command.StdinPipe()
@@ -119,15 +122,16 @@ func (c *Client) start() (*process, error) {
 		return nil, fmt.Errorf("%w: %v", ErrProcess, err)
 	}
 	p.in, p.out = in, bufio.NewReaderSize(out, 1<<16)
-	atomic.AddUint64(&c.starts, 1)
+	c.starts.Add(1)
 	return p, nil
 }
 
 // end kills the process, and gives what it said last.
 func (p *process) end() string {
 	p.in.Close()
-	p.command.Process.Kill()
-	p.command.Wait()
+	// What fails here has ended already.
+	_ = syscall.Kill(-p.command.Process.Pid, syscall.SIGKILL)
+	_ = p.command.Wait()
 	return string(bytes.TrimSpace(p.said.bytes))
 }
 

@@ -22,18 +22,18 @@ type metrics struct {
 
 func newMetrics(f *Front) *metrics {
 	counter := func(name, help string, labels ...string) *prometheus.CounterVec {
-		return prometheus.NewCounterVec(prometheus.CounterOpts{Namespace: "ctserve", Name: name, Help: help}, labels)
+		return prometheus.NewCounterVec(prometheus.CounterOpts{Name: name, Help: help}, labels)
 	}
 	m := &metrics{
 		registry: prometheus.NewRegistry(),
-		requests: counter("requests_total", "Requests that were answered.", "call", "status"),
+		requests: counter("ctserve_requests_total", "Requests that were answered.", "call", "status"),
 		seconds: prometheus.NewHistogramVec(prometheus.HistogramOpts{
-			Namespace: "ctserve", Name: "request_seconds", Help: "How long requests took.",
+			Name: "ctserve_request_seconds", Help: "How long requests took.",
 			Buckets: []float64{.0005, .001, .0025, .005, .01, .025, .05, .1, .25, .5, 1, 2, 4, 8, 16, 32},
 		}, []string{"call"}),
-		refusals: counter("refusals_total", "Requests that were refused, by the refusal's name.", "call", "refusal"),
-		refused:  counter("connections_refused_total", "Connections that were closed at once: there were too many, altogether or of an address.", "bound"),
-		reloads:  counter("reloads_total", "Reloads of the roots and of the certificate of TLS.", "of", "outcome"),
+		refusals: counter("ctserve_refusals_total", "Requests that were refused, by the refusal's name.", "call", "refusal"),
+		refused:  counter("ctserve_connections_refused_total", "Connections that were closed at once: there were too many, altogether or of an address.", "bound"),
+		reloads:  counter("ctserve_reloads_total", "Reloads of the roots and of the certificate of TLS.", "of", "outcome"),
 	}
 	for _, bound := range []string{"all", "address"} {
 		m.refused.WithLabelValues(bound)
@@ -64,25 +64,25 @@ func (f *Front) Reloaded(of string, err error) {
 type figures struct{ front *Front }
 
 func described(name, help string) *prometheus.Desc {
-	return prometheus.NewDesc("ctserve_"+name, help, nil, nil)
+	return prometheus.NewDesc(name, help, nil, nil)
 }
 
 var (
-	descEntries    = described("entries", "Entries of the newest published head.")
-	descHeadAge    = described("head_age_seconds", "How old the newest published head is.")
-	descQueue      = described("queue", "Submissions that wait.")
-	descMostQueue  = described("queue_most", "At how many that wait no more is taken.")
-	descFault      = described("fault", "1 where something keeps the log from going on.")
-	descSteps      = described("steps_total", "Swaps of the register that were won.")
-	descLost       = described("lost_swaps_total", "Swaps of the register that another node was faster with.")
-	descUnknown    = described("unknown_swaps_total", "Swaps whose outcome was settled by reading the register.")
-	descRepeats    = described("repeats_total", "Submissions that were answered with the place that they had.")
-	descHelped     = described("helped_total", "Heads of other nodes that were rolled out.")
-	descHandedOver = described("handed_over_total", "Submissions that another node answered.")
-	descStepStarts = described("step_starts_total", "How often the step's process was started.")
-	descOpen       = described("connections", "Connections that are open.")
-	descWaiting    = described("waiting_bytes", "Bytes of the submissions that are read, checked or wait.")
-	descRoots      = described("roots", "Roots that chains are checked against.")
+	descEntries    = described("ctserve_entries", "Entries of the newest published head.")
+	descHeadAge    = described("ctserve_head_age_seconds", "How old the newest published head is.")
+	descQueue      = described("ctserve_queue", "Submissions that wait.")
+	descMostQueue  = described("ctserve_queue_most", "At how many that wait no more is taken.")
+	descFault      = described("ctserve_fault", "1 where something keeps the log from going on.")
+	descSteps      = described("ctserve_steps_total", "Swaps of the register that were won.")
+	descLost       = described("ctserve_lost_swaps_total", "Swaps of the register that another node was faster with.")
+	descUnknown    = described("ctserve_unknown_swaps_total", "Swaps whose outcome was settled by reading the register.")
+	descRepeats    = described("ctserve_repeats_total", "Submissions that were answered with the place that they had.")
+	descHelped     = described("ctserve_helped_total", "Heads of other nodes that were rolled out.")
+	descHandedOver = described("ctserve_handed_over_total", "Submissions that another node answered.")
+	descStepStarts = described("ctserve_step_starts_total", "How often the step's process was started.")
+	descOpen       = described("ctserve_connections", "Connections that are open.")
+	descWaiting    = described("ctserve_waiting_bytes", "Bytes of the submissions that are read, checked or wait.")
+	descRoots      = described("ctserve_roots", "Roots that chains are checked against.")
 )
 
 func (c figures) Describe(to chan<- *prometheus.Desc) { prometheus.DescribeByCollect(c, to) }

@@ -1,0 +1,72 @@
+package signer
+
+import (
+	"context"
+	"errors"
+	"os"
+	"os/exec"
+	"path/filepath"
+	"testing"
+)
+
+// TestKeys has openssl make keys, and check what is signed.
+func TestKeys(t *testing.T) {
+	folder := t.TempDir()
+	at := func(name string) string { return filepath.Join(folder, name) }
+	openssl := func(words ...string) {
+		t.Helper()
+		if said, err := exec.Command("openssl", words...).CombinedOutput(); err != nil {
+			t.Fatalf("%v: %s", err, said)
+		}
+	}
+	openssl("ecparam", "-name", "prime256v1", "-genkey", "-out", at("sec1.pem"))
+	openssl("genpkey", "-algorithm", "EC", "-pkeyopt", "ec_paramgen_curve:P-256", "-out", at("pkcs8.pem"))
+	openssl("ecparam", "-name", "secp384r1", "-genkey", "-out", at("p384.pem"))
+	openssl("genpkey", "-algorithm", "ed25519", "-out", at("ed25519.pem"))
+	if err := os.WriteFile(at("none.pem"), []byte("no key"), 0o600); err != nil {
+		t.Fatal(err)
+	}
+	message := []byte("what is signed")
+	if err := os.WriteFile(at("message"), message, 0o600); err != nil {
+		t.Fatal(err)
+	}
+	for _, name := range []string{"sec1.pem", "pkcs8.pem"} {
+		s, err := Open(at(name))
+		if err != nil {
+			t.Fatal(err)
+		}
+		signed, err := s.Sign(context.Background(), message)
+		if err != nil {
+			t.Fatal(err)
+		}
+		if err := os.WriteFile(at("signature"), signed[4:], 0o600); err != nil {
+			t.Fatal(err)
+		}
+		openssl("pkey", "-in", at(name), "-pubout", "-out", at("public.pem"))
+		openssl("dgst", "-sha256", "-verify", at("public.pem"), "-signature", at("signature"), at("message"))
+		if err := Check(s.Key(), message, signed); err != nil {
+			t.Error(err)
+		}
+		for i := range signed {
+			bent := append([]byte{}, signed...)
+			bent[i] ^= 1
+			if err := Check(s.Key(), message, bent); !errors.Is(err, ErrSignature) {
+				t.Errorf("byte %d: %v", i, err)
+			}
+		}
+		if err := Check(s.Key(), message[1:], signed); !errors.Is(err, ErrSignature) {
+			t.Error(err)
+		}
+	}
+	if err := os.Chmod(at("sec1.pem"), 0o640); err != nil {
+		t.Fatal(err)
+	}
+	for _, name := range []string{"sec1.pem", "p384.pem", "ed25519.pem", "none.pem"} {
+		if _, err := Open(at(name)); !errors.Is(err, ErrKey) {
+			t.Errorf("%s: %v", name, err)
+		}
+	}
+	if _, err := Open(at("nowhere.pem")); !errors.Is(err, os.ErrNotExist) {
+		t.Error(err)
+	}
+}

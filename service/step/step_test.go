@@ -1,0 +1,189 @@
+package step
+
+import (
+	"bytes"
+	"context"
+	"crypto/sha256"
+	"errors"
+	"os"
+	"path/filepath"
+	"strings"
+	"testing"
+	"time"
+)
+
+// program is a second program beside the proved one, with the same lines.
+var program = []string{"python3", "../../examples/tiles/step.py", "--origin", "log.example/tried"}
+
+func must(t *testing.T, err error) {
+	t.Helper()
+	if err != nil {
+		t.Fatal(err)
+	}
+}
+
+func client(t *testing.T, limit time.Duration, command ...string) *Client {
+	t.Helper()
+	c, err := NewClient(command, limit)
+	must(t, err)
+	t.Cleanup(func() { c.Close() })
+	return c
+}
+
+func within(t *testing.T) context.Context {
+	ctx, cancel := context.WithTimeout(context.Background(), time.Minute)
+	t.Cleanup(cancel)
+	return ctx
+}
+
+// TestSteps makes two steps, from nothing and over an edge, and reads the second one's bundle both ways.
+func TestSteps(t *testing.T) {
+	c, ctx := client(t, 20*time.Second, program...), within(t)
+	line, err := c.Begin(ctx, 5)
+	must(t, err)
+	names, err := c.Needs(ctx, line)
+	if err != nil || len(names) != 0 {
+		t.Fatalf("%v, %v", names, err)
+	}
+	one, err := c.Step(ctx, line, nil, []Submission{{LeafCertificate: []byte("one")}}, 7)
+	must(t, err)
+	// The root of one leaf is the leaf's hash: by hand, from RFC 6962, sections 2.1 and 3.4, and static-ct-api's extension.
+	leaf := "\x00\x00\x00" + "\x00\x00\x00\x00\x00\x00\x00\x07" + "\x00\x00" + "\x00\x00\x03one" + "\x00\x08\x00\x00\x05\x00\x00\x00\x00\x00"
+	if one.State.Root != sha256.Sum256([]byte(leaf)) || one.State.Size != 1 || string(one.Receipts[0].Sign) != leaf[1:] {
+		t.Errorf("%+v", one)
+	}
+	names, err = c.Needs(ctx, one.Line)
+	if err != nil || strings.Join(names, " ") != "tile/0/000.p/1 tile/data/000.p/1" {
+		t.Fatalf("%v, %v", names, err)
+	}
+	objects, err := Objects(one.Bundle)
+	must(t, err)
+	edge := [][]byte{objects[0].Content, objects[1].Content}
+	two, err := c.Step(ctx, one.Line, edge, []Submission{{IssuerKeyHash: make([]byte, 32), PreCertificate: []byte("p"), TBSCertificate: []byte("t")}}, 8)
+	must(t, err)
+	resumed, err := c.Resume(ctx, two.Line, two.Bundle)
+	must(t, err)
+	objects, err = Objects(two.Bundle)
+	must(t, err)
+	if len(objects) != 2 || len(resumed.Objects) != 2 || resumed.Checkpoint != two.Checkpoint || !bytes.Equal(resumed.Sign, two.Sign) {
+		t.Fatalf("%+v and %+v", objects, resumed)
+	}
+	for i := range objects {
+		if objects[i].Name != resumed.Objects[i].Name || !bytes.Equal(objects[i].Content, resumed.Objects[i].Content) {
+			t.Errorf("%s and %s", objects[i].Name, resumed.Objects[i].Name)
+		}
+	}
+	bent := append([]byte{}, edge[0]...)
+	bent[3] ^= 1
+	refusals := map[Refusal]func() error{
+		Edge:      func() error { _, err := c.Step(ctx, one.Line, [][]byte{bent, edge[1]}, nil, 8); return err },
+		Entries:   func() error { _, err := c.Step(ctx, one.Line, [][]byte{edge[0], {1}}, nil, 8); return err },
+		ClockBack: func() error { _, err := c.Step(ctx, one.Line, edge, nil, 6); return err },
+		BadState:  func() error { _, err := c.Needs(ctx, "growth"); return err },
+		Bundle:    func() error { _, err := c.Resume(ctx, two.Line, one.Bundle); return err },
+		BadLine:   func() error { _, err := c.Step(ctx, one.Line, edge, []Submission{{}}, 8); return err },
+	}
+	for want, ask := range refusals {
+		if err := ask(); !errors.Is(err, want) {
+			t.Errorf("%v, and not %s", err, want)
+		}
+	}
+	if c.Starts() != 1 {
+		t.Errorf("the process was started %d times", c.Starts())
+	}
+}
+
+// TestRestart kills the process between two requests: the first one behind that fails, and the next is answered.
+func TestRestart(t *testing.T) {
+	c, ctx := client(t, 20*time.Second, program...), within(t)
+	_, err := c.Begin(ctx, 1)
+	must(t, err)
+	p := <-c.turn
+	must(t, p.command.Process.Kill())
+	c.turn <- p
+	if _, err = c.Begin(ctx, 2); !errors.Is(err, ErrProcess) {
+		t.Fatal(err)
+	}
+	_, err = c.Begin(ctx, 3)
+	must(t, err)
+	if c.Starts() != 2 {
+		t.Errorf("the process was started %d times", c.Starts())
+	}
+}
+
+// script makes a program of a shell's lines.
+func script(t *testing.T, lines string) []string {
+	path := filepath.Join(t.TempDir(), "program")
+	must(t, os.WriteFile(path, []byte(lines), 0o700))
+	return []string{"sh", path}
+}
+
+// TestWrongPrograms asks programs that don't reply, reply something else, or reply without an end. Each call ends in time.
+func TestWrongPrograms(t *testing.T) {
+	ctx, state := within(t), `{"state":"growth `+strings.Repeat("0", 288)+`"}`
+	for name, lines := range map[string]string{
+		"is silent":        "exec sleep 60",
+		"doesn't read":     "exec sleep 60 </dev/null",
+		"has a child":      "sleep 60; echo",
+		"ends":             "exit 1",
+		"replies no JSON":  "read x; echo no",
+		"replies a list":   "read x; echo '[]'",
+		"replies no state": "read x; echo '{}'",
+		"replies another":  "read x; echo '" + state + "'",
+		"replies half":     "read x; printf '{\"state\":'; exec sleep 60",
+		"isn't there":      "exec /nowhere",
+	} {
+		c := client(t, 300*time.Millisecond, script(t, lines)...)
+		began := time.Now()
+		_, err := c.Begin(ctx, 1)
+		if !errors.Is(err, ErrProcess) && !errors.Is(err, ErrReply) && !errors.Is(err, ErrState) || time.Since(began) > 10*time.Second {
+			t.Errorf("a program that %s: %v in %v", name, err, time.Since(began))
+		}
+	}
+	endless := client(t, 20*time.Second, script(t, "read x; exec tr '\\0' a </dev/zero")...)
+	if _, err := endless.Begin(ctx, 1); !errors.Is(err, ErrProcess) {
+		t.Error(err)
+	}
+	said := client(t, time.Second, script(t, "read x; echo want of memory >&2; exit 1")...)
+	if _, err := said.Begin(ctx, 1); !errors.Is(err, ErrProcess) || !strings.Contains(err.Error(), "want of memory") {
+		t.Error(err)
+	}
+	short, cancel := context.WithTimeout(ctx, 50*time.Millisecond)
+	defer cancel()
+	silent := client(t, time.Minute, "sleep", "60")
+	if _, err := silent.Begin(short, 1); !errors.Is(err, ErrProcess) {
+		t.Error(err)
+	}
+	if _, err := NewClient(nil, time.Second); !errors.Is(err, ErrProcess) {
+		t.Error(err)
+	}
+}
+
+func TestLongRequest(t *testing.T) {
+	c := client(t, 20*time.Second, program...)
+	if _, err := c.Resume(within(t), "growth "+strings.Repeat("0", 288), make([]byte, MostRequest)); !errors.Is(err, ErrTooLong) || c.Starts() != 0 {
+		t.Errorf("%v, %d", err, c.Starts())
+	}
+}
+
+// TestTexts refuses what is no state and no bundle.
+func TestTexts(t *testing.T) {
+	zeros := strings.Repeat("0", 288)
+	if s, err := ParseState("growth " + zeros); err != nil || !s.IsBegin() {
+		t.Errorf("%+v, %v", s, err)
+	}
+	for _, line := range []string{"", "growth ", zeros, "growth " + zeros + "0", "growth " + zeros[1:] + "g", "growth " + zeros[1:] + "A", "Growth " + zeros, "growth " + zeros + "\n", "growth f" + zeros[1:]} {
+		if s, err := ParseState(line); !errors.Is(err, ErrState) {
+			t.Errorf("%q: %+v, %v", line, s, err)
+		}
+	}
+	good := "\x00\x06tile/0\x00\x00\x00\x01a"
+	if objects, err := Objects([]byte(good)); err != nil || len(objects) != 1 || objects[0].Name != "tile/0" || string(objects[0].Content) != "a" {
+		t.Errorf("%+v, %v", objects, err)
+	}
+	for _, bundle := range []string{"\x00", "\x00\x06tile", good[:8], good[:11], good[:12], good + "\x00", "\x00\x06heads/\x00\x00\x00\x01a"} {
+		if objects, err := Objects([]byte(bundle)); !errors.Is(err, ErrBundle) {
+			t.Errorf("%q: %+v, %v", bundle, objects, err)
+		}
+	}
+}
