@@ -92,6 +92,21 @@ def places():
     return max(1, min(processors(), MOST, int(free[1]) * 1024 // MEMORY)) if can_share and free else 1
 
 
+def family(pid):
+    """A process and all below it."""
+    parents = {}
+    for stat in pathlib.Path("/proc").glob("[0-9]*/stat"):
+        try:
+            parents[int(stat.parent.name)] = int(stat.read_text().rpartition(")")[2].split()[1])
+        except OSError:
+            # (it has ended)
+            continue
+    found = [pid]
+    for one in found:
+        found += [child for child, parent in parents.items() if parent == one]
+    return found
+
+
 class Proof:
     """One rt at work on a crate."""
 
@@ -119,6 +134,14 @@ class Proof:
                 self.functions = int(proved[1])
         self.status = self.ran.wait()
         return self
+
+    def end(self):
+        """Ends rt and what it has begun, where it is at work."""
+        for pid in family(self.ran.pid) if self.ran and self.ran.poll() is None else []:
+            try:
+                os.kill(pid, signal.SIGTERM)
+            except ProcessLookupError:
+                continue
 
     def took(self):
         return f"{int(time.monotonic() - self.start)} s"
@@ -239,8 +262,7 @@ class Build:
                 self.loop(pool, shows, room)
             finally:
                 for proof in self.running:
-                    if proof.ran and proof.ran.poll() is None:
-                        proof.ran.terminate()
+                    proof.end()
         return self.failed
 
     def loop(self, pool, shows, room):
