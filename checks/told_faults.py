@@ -2,15 +2,19 @@
 """No fault is told at will. No contract can say that a reader, a writer or the start of a thread failed, nor why nothing was shown or nobody came
 in time. So where the sources of a crate (but those of tests) tell such a fault, that place is named here with its reason: behind a call that
 failed, behind the last turn of a bounded loop, or where another's fault is handed on. Conversions (`impl From`) may tell them, and patterns, types
-and imports may name them. The script prints each file in which a fault is told more or less often than this table says, and ends with status 1
+and imports may name them. What is told behind the last turn over lines or calls stands right behind a loop of 2^50 turns, which nothing breaks off. The script
+prints each file in which a fault is told more or less often than this table says, or in which such a loop is another, and ends with status 1
 where there is one."""
 import re
 import sys
 
-from source import blanked, crates, is_for_tests, line_of, sources, without_clauses
+from source import blanked, closing, crates, is_for_tests, line_of, sources, without_clauses
 from want_of_memory import BEHIND, asked, blocks, declared
 
 FAULT = re.compile(r"\b(?:\w*Fault|Refusal)::(Read|Write|Threads|Closed|Late|Stopped|Endless)\b")
+# A loop behind whose last turn a fault is told, and how many turns it makes.
+LOOP = re.compile(r"\bfor turn in 0\.\.([A-Z]+) \{")
+TURNS = "1 << 50"
 # How often each file tells each of these faults, and where.
 TOLD = {
     "ct_follow/src/program.rt": {"Read": (1, "behind the last turn over the lines")},
@@ -47,16 +51,31 @@ def told(text):
             yield found.start(), found.group(1)
 
 
+def loops(text):
+    """The loops over turns: the place behind each, where it makes so many turns and nothing breaks it off, and else none."""
+    text = without_clauses(blanked(text))
+    for found in LOOP.finditer(text):
+        end = closing(text, found.end() - 1)
+        is_whole = re.search(rf"\bconst {found.group(1)}: u64 = {TURNS};", text) and not re.search(r"\bbreak\b", text[found.end() : end])
+        behind = re.match(r"\s*Err\(", text[end:])
+        yield end + len(behind.group()) if is_whole and behind else None
+
+
 def main():
     differ = []
     for crate in crates():
         for path in [] if is_for_tests(crate) else sources(crate):
             text, name = path.read_text(), str(path.relative_to(path.parents[2]))
-            places = list(told(text))
+            places, ends = list(told(text)), set(loops(text))
+            if None in ends:
+                differ.append(f"{name} has a loop over turns that isn't of {TURNS}, or is broken off, or has no error behind it")
             for fault in sorted({fault for _, fault in places} | set(TOLD.get(name, {}))):
                 lines = [line_of(text, at) for at, other in places if other == fault]
-                if len(lines) != TOLD.get(name, {}).get(fault, (0, ""))[0]:
+                often, reason = TOLD.get(name, {}).get(fault, (0, ""))
+                if len(lines) != often:
                     differ.append(f"{name} tells {fault} in {len(lines)} places: lines {', '.join(map(str, lines)) or 'none'}")
+                if reason.startswith("behind the last turn over") and not {at for at, other in places if other == fault} <= ends:
+                    differ.append(f"{name} tells {fault} elsewhere than right behind such a loop")
     if differ:
         print("\n".join(differ))
         sys.exit("a fault that no clause can pin is told where checks/told_faults.py doesn't say why")
