@@ -173,12 +173,12 @@ node_of_tiles H given D level i s h = record {
         omega (arith, m, e, h)
 
 -- ---- what the walk reads lies in the tree
-inside_last : (n level k : ℕ) → k ≤ (n - 1) / 2 ^ level → k * 2 ^ level ≤ n
+pub inside_last : (n level k : ℕ) → k ≤ (n - 1) / 2 ^ level → k * 2 ^ level ≤ n
 inside_last n level k h =
     let a : k * 2 ^ level ≤ (n - 1) / 2 ^ level * 2 ^ level = mul-le-mul_right (2 ^ level) h in
     omega (arith, a, div-mul-le_self (n - 1) (2 ^ level))
 
-edge_within : (n level i : ℕ) → IsEdgeNode n level i → (i + 1) * 2 ^ level ≤ n
+pub edge_within : (n level i : ℕ) → IsEdgeNode n level i → (i + 1) * 2 ^ level ≤ n
 edge_within n level i = elim [
   | inl x ↦ rw (x.0) (omega (arith, x.1))
   | inr x ↦ inside_last n level (i + 1) (omega (arith, x.1))

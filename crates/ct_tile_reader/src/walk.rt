@@ -1,7 +1,8 @@
 //! Roots, audit paths and consistency proofs out of tiles.
-ghost use Rattle.std.specs.Prelude.{◌≡◌, ◌<◌, ◌≤◌, ℕ, List, length, take, IfOk};
+ghost use Rattle.std.specs.Prelude.{◌≡◌, ◌<◌, ◌≤◌, ℕ, List, length, take, All, IfOk};
 ghost use Rattle.ct_tree.specs.Tree.{mth, path as path_of, proof as proof_of};
 ghost use Rattle.ct_tile_reader.specs.Given.{GivesTilesOf};
+ghost use Rattle.ct_tile_reader.specs.Needed.{root_tiles, path_tiles, proof_tiles, GivesTile};
 
 use crate::source::{TileNodes, TileSource};
 use ct_tree::{NodeHash, walk};
@@ -9,7 +10,9 @@ use std::alloc::{AllocError, Global};
 
 /// The root of the first `n` leaves (MTH of RFC 6962, section 2.1).
 pub fn root_at<H: NodeHash, T: TileSource>(h: &H, tiles: &T, n: u64) -> [u8; 32]
-    ensures { (D : List (List ℕ)) → GivesTilesOf H.digest (T.given tiles.now) D → n ≤ length D → result ≡ mth H.digest (take n D) }
+    ensures all { (D : List (List ℕ)) → GivesTilesOf H.digest (T.given tiles.now) D → n ≤ length D → result ≡ mth H.digest (take n D) }
+    ensures needed { (D : List (List ℕ)) → All (GivesTile H.digest (T.given tiles.now) D) (root_tiles n) → n ≤ length D
+        → result ≡ mth H.digest (take n D) }
 {
     walk::root_at(h, &TileNodes { tiles, size: n }, n)
 }
@@ -23,7 +26,9 @@ pub fn path<H: NodeHash, T: TileSource>(
     n: u64,
 ) -> Result<Vec<[u8; 32]>, AllocError>
     requires below { m < n }
-    ensures { IfOk result (λ path. (D : List (List ℕ)) → GivesTilesOf H.digest (T.given tiles.now) D → n ≤ length D
+    ensures all { IfOk result (λ path. (D : List (List ℕ)) → GivesTilesOf H.digest (T.given tiles.now) D → n ≤ length D
+        → path.items ≡ path_of H.digest m (take n D)) }
+    ensures needed { IfOk result (λ path. (D : List (List ℕ)) → All (GivesTile H.digest (T.given tiles.now) D) (path_tiles m n) → n ≤ length D
         → path.items ≡ path_of H.digest m (take n D)) }
 {
     let path = walk::path(alloc, h, &TileNodes { tiles, size: n }, m, n)?;
@@ -41,7 +46,9 @@ pub fn proof<H: NodeHash, T: TileSource>(
 ) -> Result<Vec<[u8; 32]>, AllocError>
     requires positive { 0 < m }
     requires below { m < n }
-    ensures { IfOk result (λ proof. (D : List (List ℕ)) → GivesTilesOf H.digest (T.given tiles.now) D → n ≤ length D
+    ensures all { IfOk result (λ proof. (D : List (List ℕ)) → GivesTilesOf H.digest (T.given tiles.now) D → n ≤ length D
+        → proof.items ≡ proof_of H.digest m (take n D)) }
+    ensures needed { IfOk result (λ proof. (D : List (List ℕ)) → All (GivesTile H.digest (T.given tiles.now) D) (proof_tiles m n) → n ≤ length D
         → proof.items ≡ proof_of H.digest m (take n D)) }
 {
     let proof = walk::proof(alloc, h, &TileNodes { tiles, size: n }, m, n)?;

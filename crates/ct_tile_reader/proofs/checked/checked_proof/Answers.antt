@@ -5,4 +5,4 @@ use Rattle.ct_tile_reader.proofs.checked.checked_proof.Goals as goal
 pub returns-in-Err-clause-never_refused : goal.returns-in-Err-clause-never_refused
 returns-in-Err-clause-never_refused g c = λ D tiles inside z below f s.
     absurd (proof_never_of_tiles g.H.NodeHash.digest (g.T.TileSource.given c.args.tiles.now) D c.args.m c.args.n c.deref.result.now c.args.first_root.now
-    c.args.second_root.now c.in-Err.fault (λ E t i. c.deref.ensures.value ∙ c.in_ok-proof.ensures E t i) c.in-Err.ensures tiles inside z below f s)
+    c.args.second_root.now c.in-Err.fault (λ E t i. c.deref.ensures.value ∙ c.in_ok-proof.ensures.all E t i) c.in-Err.ensures tiles inside z below f s)
