@@ -24,6 +24,12 @@ def leaf(index, moment):
     return b"\0\0" + moment.to_bytes(8, "big") + entry + len(extension).to_bytes(2, "big") + extension
 
 
+def edge(size):
+    """The names of the partial tiles of a log of so many leaves, by level, and of its partial data tile."""
+    partial = [(level, size // 256**level) for level in range(8)] + [("data", size)]
+    return [name(level, count // 256, count % 256) for level, count in partial if count % 256]
+
+
 def main():
     hashes, texts, line, moment = [], [], "", 1_700_000_000_000
     for count in BATCHES:
@@ -34,19 +40,27 @@ def main():
         texts += leaves
         before = [len(found) for found in levels(hashes)]
         hashes += [digest(b"\0" + signed) for signed in leaves]
-        now, written = levels(hashes), b""
+        now, written = levels(hashes), []
         for level, found in enumerate(now):
             for index in range(before[level] // 256, -(-len(found) // 256)):
                 tile = found[256 * index : 256 * index + 256]
-                written += b"".join(tile)
-                print(name(level, index, len(tile)), digest(b"".join(tile)).hex())
+                written.append((name(level, index, len(tile)), b"".join(tile)))
         for index in range(first // 256, len(texts) // 256):
-            print(f"tile/data/{index}", digest(b"".join(texts[256 * index : 256 * index + 256])).hex())
+            written.append((name("data", index, 256), b"".join(texts[256 * index : 256 * index + 256])))
+        for title, content in written:
+            print(title, digest(content).hex())
+        bundle = b"".join(len(t).to_bytes(2, "big") + t.encode() + len(c).to_bytes(4, "big") + c for t, c in written)
         partial = b"".join(texts[len(texts) // 256 * 256 :])
         fields = len(hashes).to_bytes(8, "big") + moment.to_bytes(8, "big") + mth(hashes)
-        line = "growth " + (fields + digest(written) + digest(partial) + digest(line.encode())).hex()
+        line = "growth " + (fields + digest(bundle) + digest(partial) + digest(line.encode())).hex()
         print(line)
         print("read again: true")
+        for title, content in written:
+            print("rolled out", title, len(content))
+        for words in ("bent bundle", "cut off"):
+            print(f"{words}: the bundle is not that of the state")
+        for title in edge(len(hashes)):
+            print("needed", title)
         print("a moment before: the moment is before that of the last head")
         print("bent:", WORDS["root"])
         print("seven levels:", WORDS["widths"])
