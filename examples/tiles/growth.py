@@ -4,11 +4,13 @@
     growth.py
 
 What is signed in a receipt is RFC 6962, section 3.2, with an extension that names the leaf's index (C2SP static-ct-api); these bytes are the
-leaf's, too (section 3.4), and here those of the data tiles. Roots and tiles are computed by expected.py.
+leaf's, too (section 3.4), and here those of the data tiles. Roots and tiles are computed by expected.py, bundles by step.py.
 """
 from expected import digest, levels, mth, name
 from leaves import Submission, signed_bytes
-from states import State, written
+from states import State
+from states import written as line_of
+from step import bundle_of, edge_names
 
 BATCHES = (3, 0, 253, 10)
 WORDS = {"widths": "the partial tiles are not as wide as those of this size", "root": "the partial tiles give another root"}
@@ -32,18 +34,26 @@ def main():
         texts += leaves
         before = [len(found) for found in levels(hashes)]
         hashes += [digest(b"\0" + signed) for signed in leaves]
-        now, objects = levels(hashes), b""
+        now, written = levels(hashes), []
         for level, found in enumerate(now):
             for index in range(before[level] // 256, -(-len(found) // 256)):
                 tile = found[256 * index : 256 * index + 256]
-                objects += b"".join(tile)
-                print(name(level, index, len(tile)), digest(b"".join(tile)).hex())
+                written.append((name(level, index, len(tile)), b"".join(tile)))
         for index in range(first // 256, len(texts) // 256):
-            print(f"tile/data/{index}", digest(b"".join(texts[256 * index : 256 * index + 256])).hex())
+            written.append((name("data", index, 256), b"".join(texts[256 * index : 256 * index + 256])))
+        for title, content in written:
+            print(title, digest(content).hex())
+        bundle = bundle_of(written)
         partial = b"".join(texts[len(texts) // 256 * 256 :])
-        line = written(State(len(hashes), moment, mth(hashes), digest(objects), digest(partial), digest(line.encode())))
+        line = line_of(State(len(hashes), moment, mth(hashes), digest(bundle), digest(partial), digest(line.encode())))
         print(line)
         print("read again: true")
+        for title, content in written:
+            print("rolled out", title, len(content))
+        for words in ("bent bundle", "cut off"):
+            print(f"{words}: the bundle is not that of the state")
+        for title in edge_names(len(hashes)):
+            print("needed", title)
         print("a moment before: the moment is before that of the last head")
         print("bent:", WORDS["root"])
         print("seven levels:", WORDS["widths"])

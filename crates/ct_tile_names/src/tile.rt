@@ -1,5 +1,5 @@
 //! Tiles, and the texts that name them.
-ghost use Rattle.std.specs.Prelude.{◌≡◌, ℕ, List, MatchResult};
+ghost use Rattle.std.specs.Prelude.{◌≡◌, ℕ, List, IfOk, MatchResult};
 ghost use Rattle.std.specs.Bool.{MatchBool};
 ghost use Rattle.ct_tile_names.specs.Names.{IsTile, IsContent, name_text};
 ghost use Rattle.ct_tile_names.specs.Answers.{NotWritten, NotRead};
@@ -87,6 +87,14 @@ impl Tile {
             return Err(NameFault::NoSuchTile);
         }
         Ok(written(alloc, self)?)
+    }
+
+    /// The name of a tile that has one, as ASCII ([`Tile::name`]). Takes memory for the name alone.
+    pub fn known_name(&self, alloc: Global) -> Result<Vec<u8>, AllocError>
+        requires { IsTile self.now }
+        ensures { IfOk result (λ text. text.items ≡ name_text self.now) }
+    {
+        written(alloc, self)
     }
 
     /// The tile that has this name. Takes memory for the name that it compares the text with.

@@ -1,5 +1,6 @@
 //! Steps of a tiled log, one thing a line: each receipt with what is signed, each tile that is new or changes with the SHA-256 of its bytes,
-//! and a state line, whose digests are those of the step's tiles of hashes, of the partial data tile and of the line before. Behind each step the right edge is handed in anew, as a store would, and believed; once more with a
+//! and a state line, whose digests are those of the step's bundle of tiles, of the partial data tile and of the line before. The bundle is rolled out, and the names
+//! of the right edge are given; a bundle with a bit of it bent, or cut off, is refused. Behind each step the right edge is handed in anew, as a store would, and believed; once more with a
 //! bit of it bent, and with a tile left out, and refused; and a moment before the head's is refused.
 //!
 //! The certificate at index i is i in 8 bytes, big-endian. Where i divided by 3 leaves 2 it is a precertificate instead: the hash of its
@@ -8,6 +9,7 @@
 #![tactic(auto)]
 
 use anyhow::Result;
+use ct_bundles::{needed, push_object, resume};
 use ct_codec::{Refusal, Submission};
 use ct_data_tiles::{DataRow, add_entries};
 use ct_growth::{Growth, State, grow};
@@ -76,19 +78,33 @@ fn show_receipts(rt: &HostRuntime, growth: &Growth) -> Result<Vec<Vec<u8>>> {
     Ok(texts)
 }
 
-// Prints the full data tiles of a row.
-fn show_data(rt: &HostRuntime, row: &DataRow) -> Result<()> {
+// Prints a tile, and writes it into a bundle.
+fn show_tile(rt: &HostRuntime, tile: &Tile, content: &[u8], bundle: &mut Vec<u8>) -> Result<()> {
+    let name = tile.name(rt.alloc())?;
+    show(rt, str::from_utf8(&name)?, &Sha256Hash.hash(&[content]))?;
+    if name.len() < 65_536 && content.len() < 4_294_967_296 {
+        push_object(bundle, &name, content)?;
+    }
+    Ok(())
+}
+
+// Prints the full data tiles of a row, and writes them into a bundle.
+fn show_data(rt: &HostRuntime, row: &DataRow, bundle: &mut Vec<u8>) -> Result<()> {
     let mut index = row.first;
-    for tile in &row.full {
-        let words = format!(in rt.alloc(); "tile/data/{index}")?;
-        show(rt, &words, &Sha256Hash.hash(&[tile]))?;
+    for content in &row.full {
+        let tile = Tile {
+            content: Content::Entries,
+            index,
+            width: 256,
+        };
+        show_tile(rt, &tile, content, bundle)?;
         index = index.wrapping_add(1);
     }
     Ok(())
 }
 
-// Prints the tiles of a level, and writes their bytes behind the others.
-fn show_row(rt: &HostRuntime, level: u8, row: &Row, bytes: &mut Vec<u8>) -> Result<()> {
+// Prints the tiles of a level, and writes them into a bundle.
+fn show_row(rt: &HostRuntime, level: u8, row: &Row, bundle: &mut Vec<u8>) -> Result<()> {
     for place in 0..1_000_000_000_000usize {
         let Some(hashes) = row.tile(place) else {
             break;
@@ -98,23 +114,55 @@ fn show_row(rt: &HostRuntime, level: u8, row: &Row, bytes: &mut Vec<u8>) -> Resu
             index: row.first.wrapping_add(place as u64),
             width: u16::try_from(hashes.len())?,
         };
-        let name = tile.name(rt.alloc())?;
         let hashes = joined(rt.alloc(), hashes)?;
-        show(rt, str::from_utf8(&name)?, &Sha256Hash.hash(&[&hashes]))?;
-        bytes.extend_from_slice(&hashes)?;
+        show_tile(rt, &tile, &hashes, bundle)?;
     }
     Ok(())
 }
 
-// Prints the tiles of all levels, and answers their bytes.
+// Prints the tiles of all levels, and answers their bundle.
 fn show_rows(rt: &HostRuntime, growth: &Growth) -> Result<Vec<u8>> {
-    let mut bytes = Vec::new(rt.alloc());
+    let mut bundle = Vec::new(rt.alloc());
     let mut level = 0u8;
     for row in &growth.rows {
-        show_row(rt, level, row, &mut bytes)?;
+        show_row(rt, level, row, &mut bundle)?;
         level = level.wrapping_add(1);
     }
-    Ok(bytes)
+    Ok(bundle)
+}
+
+// Prints the objects that a bundle is rolled out as.
+fn show_rolled_out(rt: &HostRuntime, words: &str, line: &StateLine, bundle: &[u8]) -> Result<()> {
+    match resume(rt.alloc(), &Sha256Hash, line, bundle) {
+        Ok(objects) => {
+            for object in &objects {
+                let name = str::from_utf8(object.name)?;
+                println!(rt; "{words} {name} {}", object.content.len())?;
+            }
+        }
+        Err(fault) => println!(rt; "{words}: {fault}")?,
+    }
+    Ok(())
+}
+
+// Prints what becomes of a bundle, of a bent one and of one that is cut off, and the names of the right edge.
+fn show_bundle(rt: &HostRuntime, line: &StateLine, bundle: &[u8]) -> Result<()> {
+    show_rolled_out(rt, "rolled out", line, bundle)?;
+    let mut bent = Vec::from_slice(rt.alloc(), bundle)?;
+    if let Some(byte) = bent.last_mut() {
+        *byte ^= 1;
+    }
+    show_rolled_out(rt, "bent bundle", line, &bent)?;
+    bent.pop();
+    let cut = StateLine {
+        bundle: Sha256Hash.hash(&[&bent]),
+        ..*line
+    };
+    show_rolled_out(rt, "cut off", &cut, &bent)?;
+    for name in &needed(rt.alloc(), line)? {
+        println!(rt; "needed {}", str::from_utf8(name)?)?;
+    }
+    Ok(())
 }
 
 // Prints what becomes of partial tiles that are handed in.
@@ -188,18 +236,19 @@ fn step(rt: &HostRuntime, before: &Log, count: u64, now: u64) -> Result<Log> {
     let submissions = batch(rt.alloc(), size, count)?;
     let growth = grow(rt.alloc(), &Sha256Hash, &before.state, &submissions, now)?;
     let texts = show_receipts(rt, &growth)?;
-    let tiles = show_rows(rt, &growth)?;
+    let mut bundle = show_rows(rt, &growth)?;
     let row = add_entries(rt.alloc(), size, &before.data, &texts)?;
-    show_data(rt, &row)?;
+    show_data(rt, &row, &mut bundle)?;
     let line = StateLine {
         tree_size: growth.head.tree_size,
         timestamp: growth.head.timestamp,
         root: growth.head.root,
-        bundle: Sha256Hash.hash(&[&tiles]),
+        bundle: Sha256Hash.hash(&[&bundle]),
         data_tile: Sha256Hash.hash(&[&row.partial]),
         before: Sha256Hash.hash(&[before.line.as_bytes()]),
     };
     let text = show_line(rt, &line)?;
+    show_bundle(rt, &line, &bundle)?;
     Ok(Log {
         state: handed_in(rt, &growth, now)?,
         data: row.partial,
