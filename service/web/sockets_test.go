@@ -315,6 +315,19 @@ func TestServerEndsWithinItsBound(t *testing.T) {
 	}
 }
 
+// A submission may wait for longer than a request may take to be sent.
+func TestSubmissionsWaitLongerThanRequests(t *testing.T) {
+	f := newFixture(t, 600*time.Millisecond, func(o *Options) { o.Limits.Headers, o.Limits.Request = 150*time.Millisecond, 150*time.Millisecond })
+	address, _ := f.listening(nil)
+	body := standin.Submission(f.issue(false))
+	connection := dial(t, address)
+	began := time.Now()
+	fmt.Fprintf(connection, "POST /ct/v1/add-chain HTTP/1.1\r\nHost: log\r\nConnection: close\r\nContent-Length: %d\r\n\r\n%s", len(body), body)
+	if statuses := answersOn(t, connection); fmt.Sprint(statuses) != "[200]" || time.Since(began) < 200*time.Millisecond {
+		t.Errorf("%v after %v", statuses, time.Since(began))
+	}
+}
+
 // A client that goes while it waits is seen: its submission's context ends.
 func TestClientsThatGo(t *testing.T) {
 	f := newFixture(t, 0, nil)

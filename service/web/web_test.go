@@ -478,6 +478,12 @@ func TestClientsBehindProxies(t *testing.T) {
 			t.Errorf("%s for %q is %s", test.peer, test.named, client)
 		}
 	}
+	twice := httptest.NewRequest("GET", "/", nil)
+	twice.RemoteAddr = "127.0.0.1:7"
+	twice.Header["X-Forwarded-For"] = []string{"203.0.113.1", "198.51.100.7"}
+	if client := f.front.clientOf(twice).String(); client != "198.51.100.7" {
+		t.Errorf("of two headers %s is taken", client)
+	}
 	one, same, other := netip.MustParseAddr("2001:db8::1"), netip.MustParseAddr("2001:db8::2:3"), netip.MustParseAddr("2001:db8:0:1::1")
 	if !f.front.requests.take(one) || f.front.requests.take(same) || !f.front.requests.take(other) {
 		t.Error("addresses of IPv6 don't count by /64")
