@@ -210,9 +210,9 @@ func TestParametersAreRefused(t *testing.T) {
 func TestEntriesAreBoundedByBytes(t *testing.T) {
 	f := newFixture(t, 0, nil)
 	f.fill(3)
-	big := make([]byte, 700000)
 	var b cryptobyte.Builder
-	for i := 0; i < 3; i++ {
+	for _, size := range []int{700000, MostEntryBytes + 1, 700000} {
+		big := make([]byte, size)
 		b.AddUint64(7)
 		b.AddUint16(0)
 		b.AddUint24LengthPrefixed(func(b *cryptobyte.Builder) { b.AddBytes(big) })
@@ -283,5 +283,12 @@ func TestDamagedObjects(t *testing.T) {
 	f.log.Change(issuer, nil)
 	if entries := f.entries(0, 1); len(entries) != 2 {
 		t.Errorf("%d entries", len(entries))
+	}
+	// Where too many are, they go.
+	f.log.Change(issuer, f.authority.Root.Raw)
+	f.front.issuers.kept, f.front.issuers.bytes = map[[32]byte][]byte{{}: {7}}, mostIssuerBytes
+	f.entries(0, 1)
+	if kept := &f.front.issuers; len(kept.kept) != 1 || kept.bytes != len(f.authority.Root.Raw) {
+		t.Errorf("%d issuers of %d bytes are kept", len(kept.kept), kept.bytes)
 	}
 }
