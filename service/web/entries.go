@@ -96,12 +96,9 @@ func parameter(query url.Values, name string) (uint64, error) {
 }
 
 func (f *Front) entries(ctx context.Context, start, end uint64) ([]entryOf, error) {
-	head, leaves, err := f.dataTile(ctx, start)
+	leaves, err := f.dataTile(ctx, start)
 	if err != nil {
 		return nil, err
-	}
-	if end >= head.TreeSize {
-		end = head.TreeSize - 1
 	}
 	var entries []entryOf
 	bytes := 0
@@ -121,14 +118,14 @@ func (f *Front) entries(ctx context.Context, start, end uint64) ([]entryOf, erro
 
 // dataTile reads the tile of an entry as the newest head has it. A partial tile may go between the head and the read, where the
 // full one came to stand.
-func (f *Front) dataTile(ctx context.Context, index uint64) (log.Head, []tileLeaf, error) {
+func (f *Front) dataTile(ctx context.Context, index uint64) ([]tileLeaf, error) {
 	for again := false; ; again = true {
 		head, err := f.log.Checkpoint(ctx)
 		if err != nil {
-			return head, nil, err
+			return nil, err
 		}
 		if index >= head.TreeSize {
-			return head, nil, badParameter(fmt.Sprintf("the log has %d entries", head.TreeSize))
+			return nil, badParameter(fmt.Sprintf("the log has %d entries", head.TreeSize))
 		}
 		name := tileName{data: true, index: index / fullWidth, width: fullWidth}
 		if first := name.index * fullWidth; head.TreeSize-first < fullWidth {
@@ -139,13 +136,13 @@ func (f *Front) dataTile(ctx context.Context, index uint64) (log.Head, []tileLea
 			continue
 		}
 		if err != nil {
-			return head, nil, missing(err)
+			return nil, missing(err)
 		}
 		leaves, ok := readDataTile(content)
 		if !ok || uint64(len(leaves)) != name.width {
-			return head, nil, fmt.Errorf("%w: %s isn't a tile of %d entries", log.ErrStore, name, name.width)
+			return nil, fmt.Errorf("%w: %s isn't a tile of %d entries", log.ErrStore, name, name.width)
 		}
-		return head, leaves, nil
+		return leaves, nil
 	}
 }
 

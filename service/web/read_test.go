@@ -2,6 +2,7 @@ package web
 
 import (
 	"bytes"
+	"context"
 	"encoding/json"
 	"fmt"
 	"net/http/httptest"
@@ -12,6 +13,7 @@ import (
 	"golang.org/x/crypto/cryptobyte"
 
 	"wagtenib/service/chains"
+	"wagtenib/service/log"
 	"wagtenib/service/web/standin"
 )
 
@@ -208,9 +210,9 @@ func TestParametersAreRefused(t *testing.T) {
 func TestEntriesAreBoundedByBytes(t *testing.T) {
 	f := newFixture(t, 0, nil)
 	f.fill(3)
-	big := make([]byte, 700000)
 	var b cryptobyte.Builder
-	for i := 0; i < 3; i++ {
+	for _, size := range []int{700000, MostEntryBytes + 1, 700000} {
+		big := make([]byte, size)
 		b.AddUint64(7)
 		b.AddUint16(0)
 		b.AddUint24LengthPrefixed(func(b *cryptobyte.Builder) { b.AddBytes(big) })
@@ -223,6 +225,35 @@ func TestEntriesAreBoundedByBytes(t *testing.T) {
 			t.Errorf("%d entries from %d on", len(entries), start)
 		}
 	}
+}
+
+// late is a log that gives an older head so many times.
+type late struct {
+	log.Log
+	head  log.Head
+	times int
+}
+
+func (l *late) Checkpoint(ctx context.Context) (log.Head, error) {
+	if l.times--; l.times >= 0 {
+		return l.head, nil
+	}
+	return l.Log.Checkpoint(ctx)
+}
+
+// A partial tile that went since the head was read is no fault, where a newer head has the full one.
+func TestPartialTileThatWent(t *testing.T) {
+	f := newFixture(t, 0, nil)
+	f.fill(3)
+	head, _ := f.log.Checkpoint(context.Background())
+	f.fill(257)
+	refused(t, "the partial tile", f.get("/tile/data/000.p/3"), 404, "absent")
+	f.front.log = &late{f.log, head, 1}
+	if entries := f.entries(1, 2); len(entries) != 2 {
+		t.Errorf("%d entries", len(entries))
+	}
+	f.front.log = &late{f.log, head, 2}
+	refused(t, "an older head again", f.get("/ct/v1/get-entries?start=0&end=1"), 503, "store")
 }
 
 // What a store gives that can't be is a fault of the store, and no entry.
@@ -252,5 +283,12 @@ func TestDamagedObjects(t *testing.T) {
 	f.log.Change(issuer, nil)
 	if entries := f.entries(0, 1); len(entries) != 2 {
 		t.Errorf("%d entries", len(entries))
+	}
+	// Where too many are, they go.
+	f.log.Change(issuer, f.authority.Root.Raw)
+	f.front.issuers.kept, f.front.issuers.bytes = map[[32]byte][]byte{{}: {7}}, mostIssuerBytes
+	f.entries(0, 1)
+	if kept := &f.front.issuers; len(kept.kept) != 1 || kept.bytes != len(f.authority.Root.Raw) {
+		t.Errorf("%d issuers of %d bytes are kept", len(kept.kept), kept.bytes)
 	}
 }

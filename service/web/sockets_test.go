@@ -87,6 +87,16 @@ func answersOn(t testing.TB, connection net.Conn) (statuses []int) {
 	}
 }
 
+// closed says whether the other side closed without a word, and doesn't only say nothing.
+func closed(t testing.TB, what string, from io.Reader) {
+	t.Helper()
+	n, err := from.Read(make([]byte, 1))
+	var late net.Error
+	if n != 0 || err == nil || errors.As(err, &late) && late.Timeout() {
+		t.Errorf("%s: %d bytes, %v, and not closed", what, n, err)
+	}
+}
+
 // One request or none comes of each of these, and what stands where a second one might be hidden is never answered.
 func TestUnclearRequests(t *testing.T) {
 	f := newFixture(t, 10*time.Millisecond, nil)
@@ -236,9 +246,7 @@ func TestConnectionsAreBounded(t *testing.T) {
 			open = append(open, connection)
 		}
 		above := dial(t, address)
-		if n, err := above.Read(make([]byte, 1)); n != 0 || err == nil {
-			t.Errorf("%s: one above the bound is answered: %v", test.what, err)
-		}
+		closed(t, test.what+", one above the bound", above)
 		open[0].Close()
 		for until := time.Now().Add(3 * time.Second); ; time.Sleep(5 * time.Millisecond) {
 			again := dial(t, address)
@@ -286,9 +294,7 @@ func TestServerEnds(t *testing.T) {
 		t.Errorf("who waited: %v", statuses)
 	}
 	for what, connection := range map[string]io.Reader{"idle": idleReader, "silent": silent, "half": half} {
-		if n, err := connection.Read(make([]byte, 1)); n != 0 || err == nil {
-			t.Errorf("%s: %d bytes, %v", what, n, err)
-		}
+		closed(t, what, connection)
 	}
 	if _, err := net.Dial("tcp", address); err == nil {
 		t.Error("connections are still taken")
@@ -310,8 +316,19 @@ func TestServerEndsWithinItsBound(t *testing.T) {
 	if err := server.End(ctx); !errors.Is(err, context.DeadlineExceeded) {
 		t.Errorf("End: %v", err)
 	}
-	if n, err := waits.Read(make([]byte, 1)); n != 0 || err == nil {
-		t.Errorf("who waited: %d bytes, %v", n, err)
+	closed(t, "who waited", waits)
+}
+
+// A submission may wait for longer than a request may take to be sent.
+func TestSubmissionsWaitLongerThanRequests(t *testing.T) {
+	f := newFixture(t, 600*time.Millisecond, func(o *Options) { o.Limits.Headers, o.Limits.Request = 150*time.Millisecond, 150*time.Millisecond })
+	address, _ := f.listening(nil)
+	body := standin.Submission(f.issue(false))
+	connection := dial(t, address)
+	began := time.Now()
+	fmt.Fprintf(connection, "POST /ct/v1/add-chain HTTP/1.1\r\nHost: log\r\nConnection: close\r\nContent-Length: %d\r\n\r\n%s", len(body), body)
+	if statuses := answersOn(t, connection); fmt.Sprint(statuses) != "[200]" || time.Since(began) < 200*time.Millisecond {
+		t.Errorf("%v after %v", statuses, time.Since(began))
 	}
 }
 
@@ -382,10 +399,7 @@ func TestTLS(t *testing.T) {
 		t.Error("TLS 1.1 is taken")
 	}
 	silent := dial(t, address)
-	began := time.Now()
-	if n, err := silent.Read(make([]byte, 1)); n != 0 || err == nil || time.Since(began) > 3*time.Second {
-		t.Errorf("a handshake that doesn't come: %d bytes, %v", n, err)
-	}
+	closed(t, "a handshake that doesn't come", silent)
 	// A reload takes the new pair, and keeps the old one where that isn't one.
 	certificate = writeKeyPair(t, folder, f.authority)
 	if err := kept.Reload(); err != nil {

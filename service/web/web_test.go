@@ -317,7 +317,11 @@ func TestSubmissionsThatWait(t *testing.T) {
 
 func TestRoots(t *testing.T) {
 	f := newFixture(t, 0, nil)
-	for i := 0; i < 2; i++ {
+	other, err := standin.NewAuthority("Another root")
+	if err != nil {
+		t.Fatal(err)
+	}
+	for i := 1; i <= 2; i++ {
 		var told struct {
 			Certificates [][]byte `json:"certificates"`
 		}
@@ -325,9 +329,24 @@ func TestRoots(t *testing.T) {
 		if err := json.Unmarshal(w.Body.Bytes(), &told); err != nil || w.Code != 200 {
 			t.Fatal(w.Code, err)
 		}
-		if len(told.Certificates) != 1 || !bytes.Equal(told.Certificates[0], f.authority.Root.Raw) {
+		if len(told.Certificates) != i || !bytes.Equal(told.Certificates[0], f.authority.Root.Raw) || !bytes.Equal(told.Certificates[i-1], [][]byte{f.authority.Root.Raw, other.Root.Raw}[i-1]) {
 			t.Errorf("roots: %s", w.Body)
 		}
+		path := t.TempDir() + "/roots.pem"
+		writeFile(t, path, append(f.authority.PEM(), other.PEM()...))
+		if err := f.checker.Reload(path); err != nil {
+			t.Fatal(err)
+		}
+	}
+}
+
+// A log that answers late is refused by that name, and not as a store that fails.
+func TestReadingThatIsLate(t *testing.T) {
+	f := newFixture(t, 0, func(o *Options) { o.Limits.Reading = 20 * time.Millisecond })
+	f.fill(1)
+	f.log.Slow = 5 * time.Second
+	for _, path := range []string{"/checkpoint", "/tile/0/000.p/1", "/issuer/" + strings.Repeat("0", 64), "/ct/v1/get-sth", "/ct/v1/get-entries?start=0&end=0"} {
+		refused(t, path, f.get(path), 503, "late")
 	}
 }
 
@@ -477,6 +496,12 @@ func TestClientsBehindProxies(t *testing.T) {
 		if client := f.front.clientOf(r).String(); client != test.client {
 			t.Errorf("%s for %q is %s", test.peer, test.named, client)
 		}
+	}
+	twice := httptest.NewRequest("GET", "/", nil)
+	twice.RemoteAddr = "127.0.0.1:7"
+	twice.Header["X-Forwarded-For"] = []string{"203.0.113.1", "198.51.100.7"}
+	if client := f.front.clientOf(twice).String(); client != "198.51.100.7" {
+		t.Errorf("of two headers %s is taken", client)
 	}
 	one, same, other := netip.MustParseAddr("2001:db8::1"), netip.MustParseAddr("2001:db8::2:3"), netip.MustParseAddr("2001:db8:0:1::1")
 	if !f.front.requests.take(one) || f.front.requests.take(same) || !f.front.requests.take(other) {
