@@ -41,7 +41,8 @@ func TestCheckerSees(t *testing.T) {
 		{"tile/0/001.p/44", "is missing", nil},
 		{"tile/0/001.p/44", "isn't the defined tile", func(b []byte) []byte { return b[32:] }},
 		{"tile/1/000.p/1", "isn't the defined tile", flip},
-		{"tile/data/000", "", flip},
+		// (of its first entry: a precertificate's own bytes are under no hash)
+		{"tile/data/000", "", func(b []byte) []byte { b[16] ^= 1; return b }},
 		{"tile/data/000", "is missing", nil},
 		{"tile/data/001.p/44", "is missing", nil},
 		{"tile/data/001.p/44", "", func(b []byte) []byte { return b[:len(b)-1] }},

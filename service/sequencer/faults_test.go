@@ -409,7 +409,7 @@ func TestHandingOver(t *testing.T) {
 	}
 	must(t, got.submitAll(ctx, nodes[0], 0, 20, 8))
 	must(t, got.submitAll(ctx, nodes[1], 10, 60, 8))
-	if f := nodes[1].Figures(); f.HandedOver == 0 || f.Steps > 1 {
+	if f := nodes[1].Figures(); f.HandedOver == 0 {
 		t.Errorf("the second node handed over too little: %+v", f)
 	}
 	servers[0].Close()

@@ -39,10 +39,10 @@ func wait(ctx context.Context, long time.Duration) error {
 // loop makes round after round until the queue has ended and is empty, or the context ends.
 func (s *Sequencer) loop(ctx context.Context) {
 	defer close(s.ended)
-	backoff, began := s.config.Interval, time.Time{}
+	backoff, began, owes := s.config.Interval, time.Time{}, false
 	for ctx.Err() == nil {
 		some, ending := s.queue.state()
-		if !some && ending && s.queue.length() == 0 {
+		if !some && ending && !owes && s.queue.length() == 0 {
 			return
 		}
 		if !some {
@@ -56,6 +56,8 @@ func (s *Sequencer) loop(ctx context.Context) {
 		err := s.round(round)
 		cancel()
 		s.settle(err)
+		// What was answered behind a swap is published before the end, unless that can't be.
+		owes = s.config.BehindSwap && err != nil && !isNamed(err)
 		if err == nil {
 			backoff = s.config.Interval
 			continue

@@ -1,7 +1,9 @@
 package sequencer
 
 import (
+	"context"
 	"testing"
+	"time"
 
 	"wagtenib/service/log"
 )
@@ -31,6 +33,44 @@ func TestOneNode(t *testing.T) {
 	for _, name := range []string{"tile/0/000", "tile/1/000.p/2", "tile/data/001", "tile/data/002.p/188"} {
 		if content, err := again.Object(ctx, name); err != nil || len(content) == 0 {
 			t.Errorf("%s: %v", name, err)
+		}
+	}
+}
+
+// TestBehindSwap has a node answer while its roll-out stands still; the head comes behind that. Without the option nothing is
+// answered then.
+func TestBehindSwap(t *testing.T) {
+	t.Parallel()
+	for _, behind := range []bool{true, false} {
+		p, ctx, got := newPlace(t), limited(t), &answers{}
+		config := p.config(t)
+		config.BehindSwap = behind
+		release := make(chan struct{})
+		s := started(t, config, hooks{phase: func(name string) {
+			if name == "tiles out" {
+				<-release
+			}
+		}})
+		// (the head of no entries, with which a log begins, waits too)
+		release <- struct{}{}
+		long := 20 * time.Second
+		if !behind {
+			long = time.Second
+		}
+		short, cancel := context.WithTimeout(ctx, long)
+		err := got.submitAll(short, s, 0, 1, 1)
+		cancel()
+		if behind != (err == nil) {
+			t.Errorf("answers behind the swap %v: %v", behind, err)
+		}
+		if head, err := s.Checkpoint(ctx); err != nil || head.TreeSize != 0 {
+			t.Errorf("%+v, %v", head, err)
+		}
+		close(release)
+		must(t, got.submitAll(ctx, s, 0, 2, 2))
+		must(t, s.End(ctx))
+		if report := p.right(t, got); report.Leaves != 2 {
+			t.Fatalf("%+v", report)
 		}
 	}
 }
