@@ -61,7 +61,7 @@ module _ (H : List ℕ → List ℕ) (long : (x : List ℕ) → length (H x) ≡
       All-cons has_32 (mth H (take 256 E)) (chunk_roots H 256 count (drop 256 E)) (root_32 H long (take 256 E) (All-take has_32 256 E a))
       (chunks_32 count (drop 256 E) (All-drop has_32 256 E a))
 
-  hashes_32 : (level : ℕ) (D : List (List ℕ)) → AreHashes D → AreHashes (hashes H 256 level D)
+  pub hashes_32 : (level : ℕ) (D : List (List ℕ)) → AreHashes D → AreHashes (hashes H 256 level D)
   unfolding hashes
   hashes_32 zero D a = a
   hashes_32 (suc level) D a = chunks_32 (length (hashes H 256 level D) / 256) (hashes H 256 level D) (hashes_32 level D a)
@@ -73,7 +73,7 @@ module _ (H : List ℕ → List ℕ) (long : (x : List ℕ) → length (H x) ≡
       let E = hashes H 256 levels D in
       All-push AreHashes (edge H 256 levels D) (behind 256 E) (edge_32 levels D a) (All-drop has_32 (256 * (length E / 256)) E (hashes_32 levels D a))
 
-  leaves_32 : (D : List (List ℕ)) → AreHashes (map (hash_leaf H) D)
+  pub leaves_32 : (D : List (List ℕ)) → AreHashes (map (hash_leaf H) D)
   leaves_32 [] = All-nil has_32
   leaves_32 (x ∷ D) = All-cons has_32 (hash_leaf H x) (map (hash_leaf H) D) (long (0 ∷ x)) (leaves_32 D)
 

@@ -1,0 +1,7 @@
+mod Loops
+mod Written
+mod Batches
+mod Handed
+mod Fitting
+mod Made
+mod LinesAgree

@@ -1,0 +1,122 @@
+-- What a step makes of a batch.
+use Rattle.std.proofs.Common.{◌≡◌, ◌⊎◌, ◌∙◌, ℕ, suc, ◌-◌, ◌/◌, ◌<◌, ◌≤◌, ◌+◌, ◌^◌, Bool, true, false, List, [], ◌∷◌, ◌++◌, length, map, sym, refl, ap, subst, arith, inl, inr, ⊎_elim, Vec, Global}
+use Rattle.std.specs.Str.{bytes_eq}
+use Rattle.std.proofs.lemmas.Bool.{cases_Bool, both_ways}
+use Rattle.std.proofs.lemmas.Slice.Eq.{bytes_eq-Decides}
+use Rattle.std.proofs.lemmas.List.{length-map, map-append}
+use Rattle.std.proofs.lemmas.Simd.{map-map}
+use Rattle.ct_codec.specs.Submitted.{Submitted, entry_of}
+use Rattle.ct_tree.specs.Tree.{hash_leaf}
+use Rattle.ct_data_tiles.specs.DataTiles.{data_tile, data_tiles_from, IsPartialTile, IsDataRow}
+use Rattle.ct_data_tiles.specs.declared.row.DataRow.{DataRow}
+use Rattle.ct_data_tiles.proofs.Tiles.{text_in}
+use Rattle.ct_growth.specs.Believed.{BelievesState, IsHeadOver}
+use Rattle.ct_growth.specs.Growths.{IsState}
+use Rattle.ct_growth.specs.Leaves.{indexed_leaves}
+use Rattle.ct_growth.specs.declared.growth.State.{State}
+use Rattle.ct_growth.specs.declared.growth.GrowthFault.TheVariants.{ClockBack, Full, Refused}
+use Rattle.ct_growth.proofs.EdgesTell.{believed_edges_tell}
+use Rattle.ct_state_line.specs.declared.line.StateLine.{StateLine}
+use Rattle.ct_tiles.specs.Edge.{IsEdge}
+use Rattle.ct_tile_leaves.specs.TileLeaf.{Tiled, leaf_of, tile_leaf_text}
+use Rattle.ct_verify.specs.Laws.{SomeCollide}
+use Rattle.ct_step.specs.Entries.{tiled_at, tiled_leaves, texts_of, leaves_of}
+use Rattle.ct_step.specs.Steps.{new_entries, last_tiles, head_of, AreBytesOf, IsLog, IsNamed, MayStep, StopsStep, StopsMade}
+use Rattle.ct_step.specs.declared.step.StepFault.{StepFault}
+use Rattle.ct_step.specs.declared.step.StepFault.TheVariants.{Edge, Entries, Growth, TooLong}
+use Rattle.ct_step.proofs.Batches.{Entry}
+use Rattle.ct_step.proofs.LinesAgree.{length-tiled}
+
+-- the leaves that entries become
+pub leaves-made : (t first : ℕ) (B : List Entry) → leaves_of (tiled_leaves t first B) ≡ indexed_leaves t first (map entry_of (map (λ (e : Entry). e.0) B))
+unfolding tiled_leaves indexed_leaves
+leaves-made t first [] = refl
+leaves-made t first (e ∷ B) = ap (λ (x : List (List ℕ)). leaf_of (tiled_at t e first) ∷ x) (leaves-made t (suc first) B)
+
+pub new-leaves : (E : List Tiled) (B : List Entry) (t : ℕ)
+    → indexed_leaves t (length (leaves_of E)) (map entry_of (map (λ (e : Entry). e.0) B)) ≡ leaves_of (new_entries E B t)
+new-leaves E B t =
+    ap (λ (n : ℕ). indexed_leaves t n (map entry_of (map (λ (e : Entry). e.0) B))) (length-map E leaf_of) ∙ sym (leaves-made t (length E) B)
+
+pub all-leaves : (E : List Tiled) (B : List Entry) (t : ℕ)
+    → leaves_of E ++ indexed_leaves t (length (leaves_of E)) (map entry_of (map (λ (e : Entry). e.0) B)) ≡ leaves_of (E ++ new_entries E B t)
+all-leaves E B t =
+    ap (λ (x : List (List ℕ)). leaves_of E ++ x) (new-leaves E B t) ∙ sym (map-append leaf_of E (new_entries E B t))
+
+-- two strings with one hash are one, or they differ
+pub same_or_other : (H : List ℕ → List ℕ) (a b : List ℕ) → H a ≡ H b → (a ≡ b) ⊎ SomeCollide H
+same_or_other H a b e =
+    ⊎_elim
+    (λ (same : bytes_eq a b ≡ true). inl ((bytes_eq-Decides a b).0 same))
+    (λ (other : bytes_eq a b ≡ false). inr (a, b, (λ q. both_ways (bytes_eq a b) other ((bytes_eq-Decides a b).1 q), e)))
+    (cases_Bool (bytes_eq a b))
+
+-- how many texts there are, and how many submissions
+pub count-made : (t first : ℕ) (B : List Entry) (X : List (Vec ℕ Global)) → map text_in X ≡ texts_of (tiled_leaves t first B) → length X ≡ length B
+count-made t first B X e =
+    sym (length-map X text_in) ∙ ap length e ∙ length-map (tiled_leaves t first B) tile_leaf_text ∙ length-tiled t first B
+
+pub batch-size : (B : List Entry) (S : List Submitted) → S ≡ map (λ (e : Entry). e.0) B → length S ≡ length B
+batch-size B S e = ap length e ∙ length-map B (λ (e : Entry). e.0)
+
+-- the data tiles
+pub row-made : (E : List Tiled) (B : List Entry) (t size : ℕ) (bytes : List ℕ) (X : List (List ℕ)) (Y : List (Vec ℕ Global)) (r : DataRow)
+    → ((L : List (List ℕ)) → IsPartialTile L size bytes → IsDataRow L X r) → X ≡ map text_in Y → map text_in Y ≡ texts_of (tiled_leaves t size B)
+    → IsPartialTile (texts_of E) size bytes → IsDataRow (texts_of E) (texts_of (new_entries E B t)) r
+row-made E B t size bytes X Y r made e texts p =
+    let n : size ≡ length E = p.0 ∙ length-map E tile_leaf_text in
+    subst (λ (x : List (List ℕ)). IsDataRow (texts_of E) x r) (e ∙ texts ∙ ap (λ (k : ℕ). texts_of (tiled_leaves t k B)) n) (made (texts_of E) p)
+
+pub last-made : (L N : List (List ℕ)) (r : DataRow) → IsDataRow L N r → map text_in r.full.items ++ r.partial.items ∷ [] ≡ last_tiles L N
+last-made L N r d =
+    ap (λ (x : List (List ℕ)). x ++ r.partial.items ∷ []) d.full
+    ∙ ap (λ (x : List ℕ). data_tiles_from (length L / 256) (length (L ++ N) / 256 - length L / 256) (L ++ N) ++ x ∷ []) d.partial
+
+-- what was believed is the log's
+pub log_tells : (H : List ℕ → List ℕ) → ((x : List ℕ) → length (H x) ≡ 32) → (line : StateLine) (entries : List ℕ) (T : List (List (List ℕ))) (state : State)
+    (E : List Tiled) → BelievesState H (head_of line) T state → H entries ≡ line.data_tile → IsLog H E line
+    → (IsState H state (leaves_of E) × IsPartialTile (texts_of E) line.tree_size entries) ⊎ SomeCollide H
+log_tells H long line entries T state E b d log =
+    let D = leaves_of E in
+    let texts : length (texts_of E) ≡ length E = length-map E tile_leaf_text in
+    let over : IsHeadOver H D (head_of line) =
+    (log.size ∙ sym (length-map E leaf_of), log.root, omega (arith, log.few, length-map E leaf_of)) in
+    ⊎_elim
+    (λ (is : IsEdge H (line.tree_size, T) (map (hash_leaf H) D)).
+    ⊎_elim
+    (λ (same : entries ≡ data_tile (length E / 256) (texts_of E)).
+    inl (
+      subst (λ (e : ℕ × List (List (List ℕ))). IsEdge H e (map (hash_leaf H) D)) (sym b.edge) is,
+      (log.size ∙ sym texts, same ∙ ap (λ (n : ℕ). data_tile (n / 256) (texts_of E)) (sym texts)),
+    ))
+    (λ (found : SomeCollide H). inr found)
+    (same_or_other H entries (data_tile (length E / 256) (texts_of E)) (d ∙ log.entries)))
+    (λ (found : SomeCollide H). inr found)
+    (believed_edges_tell H long (head_of line) D T over b.believed)
+
+-- a fault of the state's step is the line's
+module _ (H : List ℕ → List ℕ) (long : (x : List ℕ) → length (H x) ≡ 32) (line : StateLine) (edge : List (List ℕ)) (entries : List ℕ) (B : List Entry) (now : ℕ) (T : List (List (List ℕ))) (state : State) (bytes : AreBytesOf T edge) (b : BelievesState H (head_of line) T state) (d : H entries ≡ line.data_tile) where
+  named : IsNamed H line edge entries
+  named = record { tiles = (T, bytes, b.believed); digest = d }
+
+  pub may_step : state.timestamp ≤ now → state.edge.0 + length B ≤ 2 ^ 40 → MayStep H line edge entries B now
+  may_step later fits = record {
+    named = named;
+    later = omega (arith, b.moment, later);
+    fits = omega (arith, ap (λ (x : ℕ × List (List (List ℕ))). x.0) b.edge, fits);
+  }
+
+  pub stops_step : (fault : StepFault) → StopsMade H line state entries B now fault → StopsStep H line edge entries B now fault
+  stops_step Edge s = absurd s
+  stops_step Entries s = absurd s
+  stops_step (Growth ClockBack) s = (named, omega (arith, b.moment, s))
+  stops_step (Growth Full) s =
+      (named, omega (arith, b.moment, s.0), omega (arith, ap (λ (x : ℕ × List (List (List ℕ))). x.0) b.edge, s.1))
+  stops_step (Growth (Refused refusal)) s = s.1
+  stops_step TooLong s = (
+    may_step s.0.0 s.0.1,
+    λ E log. ⊎_elim
+        (λ (is : IsState H state (leaves_of E) × IsPartialTile (texts_of E) line.tree_size entries). inl (s.1 E is.0 is.1))
+        (λ (found : SomeCollide H). inr found)
+        (log_tells H long line entries T state E b d log),
+  )

@@ -1,0 +1,4 @@
+pub mod Objects
+pub mod Entries
+pub mod Steps
+pub mod Lines

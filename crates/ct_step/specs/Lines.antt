@@ -1,0 +1,62 @@
+-- Many sequencers over one register that holds the log's line, each of them handed the edge and the partial data tile by whoever keeps
+-- them. H is any hash function on byte lists.
+use Rattle.std.specs.Prelude.{◌≡◌, ◌⊎◌, ⊤, Bool, true, false, ℕ, ◌≤◌, List, [], ◌∷◌, length, take, drop, filter, All, AllPairs}
+use Rattle.ct_codec.specs.Submitted.{Submitted}
+use Rattle.ct_tile_leaves.specs.TileLeaf.{Tiled}
+use Rattle.ct_state_line.specs.declared.line.StateLine.{StateLine}
+use Rattle.ct_verify.specs.Laws.{SomeCollide}
+use Rattle.ct_step.specs.Entries.{tiled_leaves}
+use Rattle.ct_step.specs.Steps.{IsLog, IsStep}
+use Rattle.ct_step.specs.declared.step.Step.{Step}
+
+-- An attempt to carry on the log: the line that was read (seen), the submissions with their chains' fingerprints (batch), the moment (now),
+-- the step that was made from these (step), and whether the register took the step's line in place of the one that was read (took).
+pub record LineAttempt : Type 0 where
+  pub seen : StateLine
+  pub batch : List (Submitted × List (List ℕ))
+  pub now : ℕ
+  pub step : Step
+  pub took : Bool
+
+-- the attempt's step is what `take_step` answers of its line, its batch and its moment, whatever edge and data tile were handed in
+abbrev pub IsMadeOfLine : (List ℕ → List ℕ) → LineAttempt → Type 0
+IsMadeOfLine H a = (a.seen.timestamp ≤ a.now) × ((E : List Tiled) → IsLog H E a.seen → IsStep H a.seen E a.batch a.now a.step ⊎ SomeCollide H)
+
+-- Attempts in the order in which the register answered, from the line that it held on: it took a line only in place of the one that it held.
+-- Who made an attempt, and what became of them afterwards, isn't said.
+unfoldable pub AreLineAttempts : (List ℕ → List ℕ) → StateLine → List LineAttempt → Type 0
+AreLineAttempts H held [] = ⊤
+AreLineAttempts H held (a ∷ rest) =
+    IsMadeOfLine H a
+    × (((a.took ≡ true) × (a.seen ≡ held) × AreLineAttempts H a.step.line rest) ⊎ ((a.took ≡ false) × AreLineAttempts H held rest))
+
+-- the attempts whose lines the register took, in order
+abbrev pub taken_lines : List LineAttempt → List LineAttempt
+taken_lines attempts = filter (λ a. a.took) attempts
+
+-- All that an attempt's step wrote and promised is of the entries E. Its line is that of a beginning of E (size, log); it is the step from
+-- the beginning that the line which was read has (step); and the entries that its batch became stand in E behind that beginning (entries).
+pub record IsStepOf (H : List ℕ → List ℕ) (E : List Tiled) (a : LineAttempt) : Type 0 where
+  pub size : a.step.line.tree_size ≤ length E
+  pub log : IsLog H (take a.step.line.tree_size E) a.step.line
+  pub step : IsStep H a.seen (take a.seen.tree_size E) a.batch a.now a.step
+  pub entries : tiled_leaves a.now a.seen.tree_size a.batch ≡ take (length a.batch) (drop a.seen.tree_size E)
+
+-- the attempt b came behind the attempt a: its moment isn't earlier, and its entries begin at or behind the end of those of a's line
+pub record ComesBehindLine (a b : LineAttempt) : Type 0 where
+  pub moment : a.step.line.timestamp ≤ b.step.line.timestamp
+  pub entries : a.step.line.tree_size ≤ b.seen.tree_size
+
+-- Steps, in the order in which they were taken, carry on one log with the entries E, from a line of the moment `since` on: all that each wrote
+-- and promised is of E (all), no moment is before `since` (later), and of each two the second came behind the first (order).
+pub record CarryOnLines (H : List ℕ → List ℕ) (since : ℕ) (E : List Tiled) (steps : List LineAttempt) : Type 0 where
+  pub all : All (IsStepOf H E) steps
+  pub later : All (λ a. since ≤ a.step.line.timestamp) steps
+  pub order : AllPairs ComesBehindLine steps
+
+-- There is one list of entries that all the steps whose lines the register took carry on, and it begins with the entries that were known; or
+-- two different strings with one hash are given.
+abbrev pub LineSequencersAgree : Type 0
+LineSequencersAgree =
+    (H : List ℕ → List ℕ) (held : StateLine) (known : List Tiled) (attempts : List LineAttempt) → IsLog H known held → AreLineAttempts H held attempts
+    → ((E : List Tiled) × (known ≡ take (length known) E) × CarryOnLines H held.timestamp E (taken_lines attempts)) ⊎ SomeCollide H

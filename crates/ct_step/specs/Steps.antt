@@ -1,0 +1,152 @@
+-- What one step has to do with the log. H is any hash function on byte lists, E the list of the log's entries, as tile leaves: their texts
+-- stand in the data tiles, and the leaves that they hold in the tree.
+use Rattle.std.specs.Prelude.{◌≡◌, ◌⊎◌, ⊤, ℕ, ◌+◌, ◌-◌, ◌/◌, ◌%◌, ◌<◌, ◌≤◌, ◌^◌, List, [], ◌∷◌, ◌++◌, length, map, All}
+use Rattle.std.specs.Simd.{first_chunks}
+use Rattle.ct_codec.specs.Parts.{joined}
+use Rattle.ct_codec.specs.Signed.{tree_head_text}
+use Rattle.ct_codec.specs.Submitted.{Submitted, entry_of}
+use Rattle.ct_codec.specs.declared.refusal.Refusal.TheVariants as refused
+use Rattle.ct_tree.specs.Tree.{mth_of_leaves}
+use Rattle.ct_tree.specs.declared.head.Head.{Head}
+use Rattle.ct_data_tiles.specs.DataTiles.{data_tile, data_tiles_from, IsPartialTile}
+use Rattle.ct_tile_leaves.specs.TileLeaf.{Tiled}
+use Rattle.ct_state_line.specs.Lines.{state_line_text}
+use Rattle.ct_state_line.specs.declared.line.StateLine.{StateLine}
+use Rattle.ct_growth.specs.Believed.{AreBelieved}
+use Rattle.ct_growth.specs.Growths.{IsState, MayGrow, StopsGrowth}
+use Rattle.ct_growth.specs.Leaves.{receipts_from, receipt_parts}
+use Rattle.ct_growth.specs.declared.believed.EdgeFault.{EdgeFault}
+use Rattle.ct_growth.specs.declared.believed.EdgeFault.TheVariants.{OtherWidths, OtherRoot, Memory}
+use Rattle.ct_growth.specs.declared.growth.State.{State}
+use Rattle.ct_growth.specs.declared.growth.GrowthFault.TheVariants.{ClockBack, Full, Refused}
+use Rattle.ct_verify.specs.Laws.{AreHashes, SomeCollide}
+use Rattle.ct_bundles.specs.Bundle.{IsBundleOf}
+use Rattle.ct_step.specs.Entries.{tiled_leaves, texts_of, leaves_of, hashes_of}
+use Rattle.ct_step.specs.Objects.{level_objects, data_objects, IsShort}
+use Rattle.ct_step.specs.declared.step.Step.{Step}
+use Rattle.ct_step.specs.declared.step.StepFault.{StepFault}
+use Rattle.ct_step.specs.declared.step.StepFault.TheVariants.{Edge, Entries, Growth, TooLong}
+
+-- the head that a line names
+abbrev pub head_of : StateLine → Head
+head_of line = record { tree_size = line.tree_size; timestamp = line.timestamp; root = line.root }
+
+-- The line is that of a log with the entries E, of which there are fewer than 2^64 (few): it has their number (size), the root of their
+-- leaves (root), and the digest of the partial data tile behind their full ones (entries).
+pub record IsLog (H : List ℕ → List ℕ) (E : List Tiled) (line : StateLine) : Type 0 where
+  pub few : length E < 2 ^ 64
+  pub size : line.tree_size ≡ length E
+  pub root : line.root ≡ mth_of_leaves H (leaves_of E)
+  pub entries : line.data_tile ≡ H (data_tile (length E / 256) (texts_of E))
+
+-- the entries that a batch becomes behind the entries E at the moment `now`
+abbrev pub new_entries : List Tiled → List (Submitted × List (List ℕ)) → ℕ → List Tiled
+new_entries E batch now = tiled_leaves now (length E) batch
+
+-- where the entries N come behind E: the tiles that are new or change, by level and index, and behind them the data tiles
+abbrev pub step_objects : (List ℕ → List ℕ) → List Tiled → List Tiled → List (List ℕ × List ℕ)
+step_objects H E N = level_objects H 8 (hashes_of H E) (hashes_of H N) ++ data_objects (texts_of E) (texts_of N)
+
+-- A step took a batch into the log with the entries E at the moment `now`, from a line. Each submission has its receipt, in order, from the
+-- index `length E` on (receipts); what is signed for the head is of all entries and of this moment (signed); the bundle is that of the
+-- objects (bundle); the next line is that of all entries (log) and of this moment (moment), and has the digests of the bundle (digest) and of
+-- the text of the line before (before).
+pub record IsStep (H : List ℕ → List ℕ) (line : StateLine) (E : List Tiled) (batch : List (Submitted × List (List ℕ))) (now : ℕ) (s : Step) : Type 0 where
+  pub receipts : map receipt_parts s.receipts.items ≡ receipts_from now (length E) (map (λ e. entry_of e.0) batch)
+  pub signed : s.signed.items ≡ tree_head_text now (length (E ++ new_entries E batch now)) (mth_of_leaves H (leaves_of (E ++ new_entries E batch now)))
+  pub bundle : IsBundleOf (step_objects H E (new_entries E batch now)) s.bundle.items
+  pub log : IsLog H (E ++ new_entries E batch now) s.line
+  pub moment : s.line.timestamp ≡ now
+  pub digest : s.line.bundle ≡ H s.bundle.items
+  pub before : s.line.before ≡ H (state_line_text line)
+
+-- the line behind another, with a head, a bundle and a partial data tile
+abbrev pub line_behind : (List ℕ → List ℕ) → StateLine → Head → List ℕ → List ℕ → StateLine
+line_behind H line head bundle partial = record {
+  tree_size = head.tree_size;
+  timestamp = head.timestamp;
+  root = head.root;
+  bundle = H bundle;
+  data_tile = H partial;
+  before = H (state_line_text line);
+}
+
+-- the hashes that the bytes of a tile are, 32 bytes each
+abbrev pub tile_hashes : List ℕ → List (List ℕ)
+tile_hashes bytes = first_chunks 32 (length bytes / 32) bytes
+
+-- these are the bytes of tiles of hashes, level 0 first
+abbrev pub AreBytesOf : List (List (List ℕ)) → List (List ℕ) → Type 0
+AreBytesOf tiles edge = map joined tiles ≡ edge
+
+-- the bytes of each tile are whole hashes (whole), and these are those hashes (hashes)
+pub record AreReadFrom (edge : List (List ℕ)) (tiles : List (List (List ℕ))) : Type 0 where
+  pub whole : All (λ bytes. length bytes % 32 ≡ 0) edge
+  pub hashes : tiles ≡ map tile_hashes edge
+
+-- no partial tiles of which these are the bytes are believed for the line's head
+abbrev pub NotBelieved : (List ℕ → List ℕ) → StateLine → List (List ℕ) → Type 0
+NotBelieved H line edge = (T : List (List (List ℕ))) → AreBytesOf T edge → AreBelieved H (head_of line) T → ⊥
+
+-- why bytes aren't read as tiles. Edge: the bytes of one are no whole hashes. Growth: memory
+abbrev pub StopsTiles : List (List ℕ) → StepFault → Type 0
+StopsTiles edge Edge = (T : List (List (List ℕ))) → AreBytesOf T edge → All AreHashes T → ⊥
+StopsTiles edge (Growth fault) = fault ≡ Refused refused.Memory
+StopsTiles edge _ = ⊥
+
+-- why a line has no state with these partial tiles. Edge: they aren't believed. Growth: memory
+abbrev pub StopsState : (List ℕ → List ℕ) → StateLine → List (List ℕ) → StepFault → Type 0
+StopsState H line edge Edge = NotBelieved H line edge
+StopsState H line edge (Growth fault) = fault ≡ Refused refused.Memory
+StopsState H line edge _ = ⊥
+
+-- what a fault of an edge becomes
+abbrev pub of_edge : EdgeFault → StepFault
+of_edge OtherWidths = Edge
+of_edge OtherRoot = Edge
+of_edge Memory = Growth (Refused refused.Memory)
+
+-- What was handed in is what the line names: the bytes are those of partial tiles that are believed for its head (tiles), and the digest of
+-- the partial data tile is the line's (digest).
+pub record IsNamed (H : List ℕ → List ℕ) (line : StateLine) (edge : List (List ℕ)) (entries : List ℕ) : Type 0 where
+  pub tiles : (T : List (List (List ℕ))) × AreBytesOf T edge × AreBelieved H (head_of line) T
+  pub digest : H entries ≡ line.data_tile
+
+-- the data tiles from the one on that was partial, full ones and the one behind them, where the texts N come behind L
+abbrev pub last_tiles : List (List ℕ) → List (List ℕ) → List (List ℕ)
+last_tiles L N =
+    data_tiles_from (length L / 256) (length (L ++ N) / 256 - length L / 256) (L ++ N) ++ data_tile (length (L ++ N) / 256) (L ++ N) ∷ []
+
+-- where a batch comes behind the entries E, one of the data tiles has 2^32 bytes or more
+abbrev pub GetsLong : List Tiled → List (Submitted × List (List ℕ)) → ℕ → Type 0
+GetsLong E batch now = All IsShort (last_tiles (texts_of E) (texts_of (new_entries E batch now))) → ⊥
+
+-- a batch may be taken in at the moment `now`: what was handed in is what the line names (named), the moment isn't before the line's (later),
+-- and a leaf's index has 40 bits (fits)
+pub record MayStep (H : List ℕ → List ℕ) (line : StateLine) (edge : List (List ℕ)) (entries : List ℕ) (batch : List (Submitted × List (List ℕ))) (now : ℕ) : Type 0 where
+  pub named : IsNamed H line edge entries
+  pub later : line.timestamp ≤ now
+  pub fits : line.tree_size + length batch ≤ 2 ^ 40
+
+-- Why there is no step. Edge: the partial tiles aren't believed. Entries: they are, and the partial data tile isn't the line's. ClockBack: both
+-- are, and the moment is before the line's. Full: it isn't, and the log would have more than 2^40 leaves. TooLong: it wouldn't, and of every
+-- log that has this line a data tile would have 2^32 bytes or more, or two different strings with one hash are given. Refused: the
+-- refusal is for want of memory.
+abbrev pub StopsStep : (List ℕ → List ℕ) → StateLine → List (List ℕ) → List ℕ → List (Submitted × List (List ℕ)) → ℕ → StepFault → Type 0
+StopsStep H line edge entries batch now Edge = NotBelieved H line edge
+StopsStep H line edge entries batch now Entries =
+    ((T : List (List (List ℕ))) × AreBytesOf T edge × AreBelieved H (head_of line) T) × (H entries ≡ line.data_tile → ⊥)
+StopsStep H line edge entries batch now (Growth ClockBack) = IsNamed H line edge entries × (now < line.timestamp)
+StopsStep H line edge entries batch now (Growth Full) =
+    IsNamed H line edge entries × (line.timestamp ≤ now) × (2 ^ 40 < line.tree_size + length batch)
+StopsStep H line edge entries batch now (Growth (Refused refusal)) = refusal ≡ refused.Memory
+StopsStep H line edge entries batch now TooLong =
+    MayStep H line edge entries batch now × ((E : List Tiled) → IsLog H E line → GetsLong E batch now ⊎ SomeCollide H)
+
+-- why there is no step of a state, where what was handed in is believed
+abbrev pub StopsMade : (List ℕ → List ℕ) → StateLine → State → List ℕ → List (Submitted × List (List ℕ)) → ℕ → StepFault → Type 0
+StopsMade H line state entries batch now (Growth fault) = StopsGrowth state (length batch) now fault
+StopsMade H line state entries batch now TooLong =
+    MayGrow state (length batch) now
+    × ((E : List Tiled) → IsState H state (leaves_of E) → IsPartialTile (texts_of E) line.tree_size entries → GetsLong E batch now)
+StopsMade H line state entries batch now _ = ⊥

@@ -1,0 +1,11 @@
+//! What follows over many steps, a clause of a function that does nothing.
+
+ghost use Rattle.ct_step.specs.Lines.{LineSequencersAgree};
+
+/// However many sequencers carry on a log over one register, each handed its edge and its partial data tile by whoever keeps them, and
+/// wherever they stop: all that was written and promised by the steps whose lines the register took is of one list of entries, whose
+/// leaves stand in the tree and whose texts stand in the data tiles, or two different strings with one digest are given.
+#[tactic(auto, using(crate::proofs::LinesAgree::line_sequencers_agree))]
+pub fn sequencers_over_lines()
+    ensures { LineSequencersAgree }
+{}
