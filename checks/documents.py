@@ -5,7 +5,7 @@ It reads README.md, docs/*.md and the README.md of bench/, examples/ and service
 (spans and blocks) a path has to be a file of this repository, `Type::name` a function or a case, `name()` a function, `make name` a target; a
 name with a capital inside or an underscore, and a span of one word, have to stand in the code outside of comments, or in elsewhere.txt. And
 `make help` has to tell each target but the parts of `make install`. A block below a comment `<!-- from FILE -->` has only text of that file, in its order (a line of `..` stands
-for what is left out, and lines may be broken otherwise). A table below '| Crate | What it knows |' has to name the crates of crates.txt, each once.
+for what is left out, and lines may be broken otherwise).
 It prints each thing that isn't so, and ends with status 1 where there is one. Before that it tries itself on a page where each of these is wrong.
 """
 import os
@@ -13,7 +13,7 @@ import pathlib
 import re
 import sys
 
-from source import ROOT, crates
+from source import ROOT
 
 LINK = re.compile(r"\[[^\]]*\]\(([^)\s]+)\)")
 BLOCK = re.compile(r"^```.*?^```$|(?:^(?: {4}|\t)[^\n]*\n)+", re.M | re.S)
@@ -24,7 +24,6 @@ CALL = re.compile(r"(?<![\w.])([a-z]\w*)\(\)")
 NAME = re.compile(r"\b(?:[A-Z][a-z0-9]+(?:[A-Z][a-z0-9]*)+|[a-z]+(?:_[a-z0-9]+)+)\b")
 MAKE = re.compile(r"\bmake ([a-z]+(?:-[a-z]+)*)")
 QUOTED = re.compile(r"^<!-- from (\S+) -->\n+(```.*?^```$|(?:^ {4}[^\n]*\n)+)", re.M | re.S)
-TABLE = re.compile(r"^\| Crate \| What it knows \|\n\|[-|]+\|\n((?:\|.*\n)*)", re.M)
 # No code: this script's own page of faults, and the words of elsewhere.
 OWN = ("documents.py", "elsewhere.txt")
 # Words of the kit, of std, of the C library, of other crates and of standards, which stand in no code here.
@@ -83,15 +82,6 @@ def targets():
     text = (ROOT / "Makefile").read_text()
     name = r"^([a-z]+(?:-[a-z]+)*):"
     return set(re.findall(name, text, re.M)), set(re.findall(name + ".*## ", text, re.M))
-
-
-def faults_of_tables(text):
-    """Where a table of crates names other crates than crates.txt."""
-    for rows in TABLE.findall(text):
-        told = re.findall(r"`(\w+)`", " ".join(row.split("|")[1] for row in rows.splitlines()))
-        yield from (f"the table of crates lacks {name}" for name in crates() if name not in told)
-        yield from (f"the table of crates has {name}, which isn't in crates.txt" for name in told if name not in crates())
-        yield from (f"the table of crates has {name} twice" for name in sorted({name for name in told if told.count(name) > 1}))
 
 
 class Repository:
@@ -163,7 +153,6 @@ class Repository:
 
     def faults(self, text, page):
         yield from self.faults_of_quotations(text)
-        yield from faults_of_tables(text)
         yield from self.faults_of_links(re.sub(BLOCK, "", text), page)
         prose = re.sub(BLOCK, "", text)
         for code in BLOCK.findall(text) + SPAN.findall(re.sub(r"\s*\n(?:> )?\s*", " ", prose)):
@@ -180,18 +169,9 @@ WRONG = """# A page
 
 <!-- from Makefile -->
     RUNS ?= 20 PREFIX ?= /usr/local
-
-| Crate | What it knows |
-|---|---|
-| `ct_tree`, `sha2` | `ct_gate` |
-| `shared_list` | |
-| `ct_tree` | |
 """
 WRONG_IN = ["no-such-page.md leads", "#no-such-heading leads", "src/absent.rt is", "Front::absent stands", "absent() is", "AbsentWord stands"]
 WRONG_IN += ["make nothing is", "make neither is", "not in Makefile", "on more than one line of Makefile: RUNS"]
-WRONG_IN += ["lacks ct_gate", "has sha2, which isn't", "has ct_tree twice"]
-# And what isn't wrong there.
-RIGHT_IN = ["lacks ct_tree", "lacks shared_list", "has shared_list"]
 
 
 def version_in(path, form):
@@ -210,12 +190,10 @@ def version_faults():
 def main():
     repository = Repository()
     told = "\n".join(repository.faults(WRONG, ROOT / "README.md"))
-    missed = [fault for fault in WRONG_IN if fault not in told] + [f"told without need: {fault}" for fault in RIGHT_IN if fault in told]
+    missed = [fault for fault in WRONG_IN if fault not in told]
     if missed:
         sys.exit(f"checks/documents.py doesn't find what is wrong on a page of its own: {', '.join(missed)}")
     found = version_faults()
-    if not TABLE.search((ROOT / "docs" / "ARCHITECTURE.md").read_text()):
-        found.append("docs/ARCHITECTURE.md has no table of crates")
     found += [f"make help doesn't tell of {name}" for name in sorted(repository.targets - repository.told) if not name.startswith("install-")]
     for page in pages():
         found += [f"{page.relative_to(ROOT)}: {fault}" for fault in dict.fromkeys(repository.faults(page.read_text(), page))]

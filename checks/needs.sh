@@ -1,20 +1,14 @@
 #!/usr/bin/env bash
 # Says what a target of the Makefile lacks here, and how long it takes on so many processors: needs.sh demo|serve|test|check|link|service|service-test.
-# `needs.sh figures` prints the times on four processors, with which examples/scripts.py compares README.md and docs/GATE.md.
+# `needs.sh figures` prints the times on four processors, with which examples/scripts.py compares README.md, and `needs.sh write` writes them there.
 set -u
 cd "$(dirname "$0")/.."
 what=$1
 missing=0
 
-# The processor minutes that a target takes where nothing was proved before, all on the faster machine of docs/GATE.md.
-work_of() {
-  case $1 in
-    demo) echo 46 ;;
-    serve) echo 48 ;;
-    test) echo 126 ;;
-    link) echo 6 ;;
-  esac
-}
+# The processor minutes that a target takes where nothing was proved before, by a run of the gate over so many crates, from which demo, serve and
+# link are reckoned. After another run: put its figures into this line, and let `needs.sh write` put the times into README.md.
+work_of() { local demo=46 serve=48 link=6 test=126 crates=28 && echo "${!1}"; }
 
 # The minutes that target $1 takes on $2 processors, rounded to five. Crates are proved side by side: a third is added where processors share
 # them, and more than eight gain little, of a program's own crates more than four.
@@ -28,10 +22,30 @@ print(max(5, round(taken / 5) * 5))
 END
 }
 
+# The sentence of README.md that says whose times these are.
+whose() {
+  local crates=$(grep -c '^[a-z]' crates.txt)
+  if [ "$(work_of crates)" = "$crates" ]; then
+    echo "The times come from a run of the gate over all $crates crates, the first two reckoned."
+  else
+    echo "The times come from a run of the gate over $(work_of crates) crates, the first two reckoned; with today's $crates it takes longer."
+  fi
+}
+
+time_of() { echo "$(minutes "$1" 4) minutes ($(work_of "$1") of one processor)"; }
+
 if [ "$what" = figures ]; then
   for target in demo serve test; do
-    echo "make $target: $(minutes $target 4) minutes ($(work_of $target) of one processor)"
+    echo "make $target: $(time_of $target)"
   done
+  whose
+  exit
+fi
+if [ "$what" = write ]; then
+  for target in demo serve test; do
+    sed -i -E "s/^(\| \`make $target\` \|.*\| )[^|]+ \|\$/\1$(time_of $target) |/" README.md
+  done
+  sed -i "s/^The times come from .*/$(whose)/" README.md
   exit
 fi
 
@@ -69,8 +83,10 @@ for tool in $tools; do
 done
 [ "$missing" = 0 ] || exit 1
 
+# Kits of one logic prove alike.
 kit=$(rt version)
-[[ $(<README.md) == *"$kit"* ]] || echo "This kit is $kit, and another than README.md names: proofs made with that one may fail here." >&2
+logic="logic ${kit##*logic }"
+[[ $(<README.md) == *"\`$logic\`"* ]] || echo "This kit is $kit, of another logic than README.md names: proofs made with that one may fail here." >&2
 
 processors=$(python3 -c 'import os; print(len(os.sched_getaffinity(0)))')
 [ "$processors" = 1 ] && on="one processor" || on="$processors processors"
@@ -81,4 +97,4 @@ case $what in
   test) first="everything, from nothing. That" ;;
   *) exit 0 ;;
 esac
-echo "make $what proves $first takes some $(minutes "$what" "$processors") minutes on $on ($(work_of "$what") of one processor)."
+echo "make $what proves $first takes some $(minutes "$what" "$processors") minutes on $on ($(work_of "$what") of one processor), by a run of the gate over $(work_of crates) crates."

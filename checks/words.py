@@ -1,11 +1,12 @@
 #!/usr/bin/env python3
 """Prints how many words docs/*.md have that are written by hand, page by page and in all.
 
-A word has a letter or a digit, so the bars of tables don't count; nor does what checks/definitions.py makes, nor the columns of PROMISES.md that
-checks/promises.py makes or compares with the sources.
+A word has a letter or a digit, so the bars of tables don't count; nor does what checks/definitions.py and checks/architecture.py make, nor the columns of
+PROMISES.md that checks/promises.py makes or compares with the sources.
 """
 import re
 
+from architecture import TABLE
 from definitions import MADE
 from source import ROOT
 
@@ -14,6 +15,8 @@ def by_hand(page, text):
     """The text of a page without what is made."""
     if page == "DEFINITIONS.md":
         return text.partition(MADE)[0]
+    if page == "ARCHITECTURE.md":
+        return TABLE.sub("", text)
     if page == "PROMISES.md":
         return re.sub(r"^(\|[^|\n]*\|)[^|\n]*\|[^|\n]*\|$", r"\1", text, flags=re.M)
     return text

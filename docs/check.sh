@@ -7,4 +7,5 @@ export PYTHONDONTWRITEBYTECODE=1
 status=0
 python3 checks/documents.py || status=1
 python3 checks/promises.py || status=1
+python3 checks/architecture.py || status=1
 exit $status

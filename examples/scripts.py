@@ -195,17 +195,20 @@ def try_install(folder):
 
 
 def try_figures():
-    """README.md and docs/GATE.md have the times of checks/needs.sh, and no others in that form."""
-    needs = subprocess.run([HERE.parent / "checks" / "needs.sh", "figures"], capture_output=True, text=True)
-    told = dict(re.findall(r"^make (\w+): (.+)$", needs.stdout, re.M))
+    """README.md has the times of checks/needs.sh and its sentence on them, and docs/GATE.md no others in that form."""
+    *figures, whose = subprocess.run([HERE.parent / "checks" / "needs.sh", "figures"], capture_output=True, text=True).stdout.splitlines()
+    told = dict(re.findall(r"^make (\w+): (.+)$", "\n".join(figures), re.M))
     row = re.compile(r"^\| `make (\w+)` \|.*?(\d+ minutes \(\d+ of one processor\))", re.M)
-    rows = {page: row.findall((HERE.parent / page).read_text()) for page in ("README.md", "docs/GATE.md")}
+    pages = {page: (HERE.parent / page).read_text() for page in ("README.md", "docs/GATE.md")}
+    rows = {page: row.findall(text) for page, text in pages.items()}
     if set(told) != {"demo", "serve", "test"} or {target for target, _ in rows["README.md"]} != set(told):
         fail(f"README.md has the times of {rows['README.md']}, checks/needs.sh those of {told}")
     for page, found in rows.items():
         for target, time in found:
             if told.get(target) != time:
-                fail(f"{page} says of make {target} {time}, checks/needs.sh {told.get(target)}")
+                fail(f"{page} says of make {target} {time}, checks/needs.sh {told.get(target)}: checks/needs.sh write")
+    if whose not in pages["README.md"].splitlines():
+        fail(f"README.md doesn't say: {whose} (checks/needs.sh write)")
 
 
 # A sentence of demo.sh, with the clause that it quotes.
