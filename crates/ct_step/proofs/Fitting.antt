@@ -1,5 +1,5 @@
 -- All objects of a step can be written.
-use Rattle.std.proofs.Common.{◌≡◌, ◌∙◌, ◌⊎◌, ℕ, zero, suc, ◌+◌, ◌-◌, ◌*◌, ◌/◌, ◌<◌, ◌≤◌, List, [], ◌∷◌, ◌++◌, length, take, drop, get_or, All, sym, ap, subst, arith, ⊎_elim, length-append}
+use Rattle.std.proofs.Common.{◌≡◌, ◌∙◌, ℕ, zero, suc, ◌+◌, ◌-◌, ◌*◌, ◌/◌, ◌<◌, ◌≤◌, List, [], ◌∷◌, ◌++◌, length, take, drop, get_or, All, sym, ap, subst, arith, ⊎_elim, length-append}
 use Rattle.std.proofs.lemmas.Bool.{cases_lt}
 use Rattle.std.proofs.lemmas.List.{get_or_append_left, get_or_at, length-take}
 use Rattle.std.proofs.lemmas.List.Elements.{All-nil, All-push, All-append, All-take, All-drop, All-get_or}
@@ -11,7 +11,7 @@ use Rattle.ct_growth.proofs.Roots.{has_32}
 use Rattle.ct_bundles.specs.Bundle.{IsObject}
 use Rattle.ct_bundles.proofs.Names.{short_name}
 use Rattle.ct_verify.specs.Laws.{AreHashes}
-use Rattle.ct_step.specs.Objects.{hash_object, entry_object, each_from, changed, level_objects, data_objects, IsShort}
+use Rattle.ct_step.specs.Objects.{hash_object, entry_object, each_from, changed, level_objects, data_objects, FitsInBundle}
 use Rattle.ct_step.specs.Steps.{last_tiles}
 use Rattle.ct_step.proofs.Handed.{length-joined}
 use Rattle.ct_step.proofs.Loops.{test-true, test-false, length-data, data-at}
@@ -51,7 +51,7 @@ module _ (H : List ℕ → List ℕ) (long : (x : List ℕ) → length (H x) ≡
       (changed-all IsObject (hash_object H (D ++ B) levels) (length (hashes H 256 levels D)) (length (hashes H 256 levels (D ++ B)))
       (λ i h. tile-fits (D ++ B) a levels (length (hashes H 256 levels D) / 256 + i)))
 
-pub data-fit : (L N : List (List ℕ)) → All IsShort (last_tiles L N) → All IsObject (data_objects L N)
+pub data-fit : (L N : List (List ℕ)) → All FitsInBundle (last_tiles L N) → All IsObject (data_objects L N)
 data-fit L N all =
     changed-all IsObject (entry_object (L ++ N)) (length L) (length (L ++ N))
     (λ i h. record {
@@ -60,7 +60,7 @@ data-fit L N all =
       content = short i h;
     })
   where
-    short : (i : ℕ) → i < (length (L ++ N) + 255) / 256 - length L / 256 → IsShort (data_tile (length L / 256 + i) (L ++ N))
+    short : (i : ℕ) → i < (length (L ++ N) + 255) / 256 - length L / 256 → FitsInBundle (data_tile (length L / 256 + i) (L ++ N))
     short i h =
         let M = L ++ N in
         let q = length L / 256 in
@@ -70,11 +70,11 @@ data-fit L N all =
         let size : length M ≡ length L + length N = length-append L N in
         let count : length full ≡ k = length-data q k M in
         let whole : length (last_tiles L N) ≡ k + 1 = length-append full (last ∷ []) ∙ ap (λ (n : ℕ). n + 1) count in
-        let here : IsShort (get_or (last_tiles L N) i []) = All-get_or IsShort (last_tiles L N) i [] (omega (arith, h, whole, size)) all in
+        let here : FitsInBundle (get_or (last_tiles L N) i []) = All-get_or FitsInBundle (last_tiles L N) i [] (omega (arith, h, whole, size)) all in
         ⊎_elim
         (λ (below : i < k).
-        subst IsShort (get_or_append_left full (last ∷ []) [] i (omega (arith, below, count)) ∙ data-at q k i M below) here)
+        subst FitsInBundle (get_or_append_left full (last ∷ []) [] i (omega (arith, below, count)) ∙ data-at q k i M below) here)
         (λ (at : k ≤ i). let e : i ≡ k = omega (arith, at, h, size) in
         let place : length M / 256 ≡ q + i = omega (arith, e, size) in
-        subst IsShort (ap (λ (n : ℕ). get_or (last_tiles L N) n []) e ∙ get_or_at full last [] [] k count ∙ ap (λ (n : ℕ). data_tile n M) place) here)
+        subst FitsInBundle (ap (λ (n : ℕ). get_or (last_tiles L N) n []) e ∙ get_or_at full last [] [] k count ∙ ap (λ (n : ℕ). data_tile n M) place) here)
         (cases_lt i k)

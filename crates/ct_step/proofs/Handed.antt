@@ -1,5 +1,5 @@
 -- The hashes that bytes are.
-use Rattle.std.proofs.Common.{◌≡◌, ◌∙◌, ℕ, zero, suc, ◌+◌, ◌-◌, ◌*◌, ◌/◌, ◌%◌, ◌<◌, List, [], ◌∷◌, ◌++◌, length, take, drop, get_or, map, All, sym, refl, ap, subst, arith, Vec, Global, length-drop}
+use Rattle.std.proofs.Common.{◌≡◌, ◌∙◌, ℕ, zero, suc, ◌+◌, ◌*◌, ◌/◌, ◌%◌, ◌<◌, List, [], ◌∷◌, ◌++◌, length, take, drop, get_or, map, All, sym, refl, ap, subst, arith, Vec, Global, length-drop}
 use Rattle.std.specs.Simd.{first_chunks}
 use Rattle.std.proofs.lemmas.List.{map_push, take_more, take-append-drop, take_at, drop_at, nil_from_length, length-append}
 use Rattle.std.proofs.lemmas.List.Elements.{All-nil, All-cons, All-head, All-tail}
@@ -7,12 +7,12 @@ use Rattle.ct_codec.specs.Parts.{joined}
 use Rattle.ct_data_tiles.proofs.Tiles.{text_in}
 use Rattle.ct_growth.proofs.Widths.{hashes_in}
 use Rattle.ct_growth.proofs.Roots.{has_32}
-use Rattle.ct_growth.specs.Believed.{AreBelieved, HaveWidths, edge_root, StopsBelief}
+use Rattle.ct_growth.specs.Believed.{HaveWidths, edge_root, StopsBelief}
 use Rattle.ct_growth.specs.declared.believed.EdgeFault.{EdgeFault}
 use Rattle.ct_growth.specs.declared.believed.EdgeFault.TheVariants.{OtherWidths, OtherRoot, Memory}
 use Rattle.ct_state_line.specs.declared.line.StateLine.{StateLine}
 use Rattle.ct_verify.specs.Laws.{AreHashes}
-use Rattle.ct_step.specs.Steps.{tile_hashes, AreBytesOf, StopsState, head_of, of_edge}
+use Rattle.ct_step.specs.Steps.{tile_hashes, AreBytesOf, StopsState, line_head, of_edge}
 
 pub joined-chunks : (k : ℕ) (b : List ℕ) → length b ≡ 32 * k → joined (first_chunks 32 k b) ≡ b
 joined-chunks zero b e = sym (nil_from_length b (omega (arith, e)))
@@ -80,7 +80,7 @@ not_whole T edge e a = subst (All IsWhole) e (each T a)
 
 -- a fault of the edge becomes the step's
 pub not_believed : (H : List ℕ → List ℕ) (line : StateLine) (tiles : List (List (List ℕ))) (edge : List (List ℕ)) (fault : EdgeFault)
-    → tiles ≡ map tile_hashes edge → StopsBelief H (head_of line) tiles fault → StopsState H line edge (of_edge fault)
+    → tiles ≡ map tile_hashes edge → StopsBelief H (line_head line) tiles fault → StopsState H line edge (of_edge fault)
 not_believed H line tiles edge OtherWidths e s = λ T b a.
     let same : T ≡ tiles = sym (all-back T a.hashes) ∙ ap (map tile_hashes) b ∙ sym e in
     s (subst (HaveWidths line.tree_size) same a.widths)

@@ -9,7 +9,7 @@ use Rattle.ct_tile_leaves.specs.TileLeaf.{Tiled}
 use Rattle.ct_state_line.specs.declared.line.StateLine.{StateLine}
 use Rattle.ct_verify.specs.Laws.{SomeCollide}
 use Rattle.ct_step.specs.Entries.{tiled_leaves}
-use Rattle.ct_step.specs.Steps.{IsLog, IsStep, new_entries}
+use Rattle.ct_step.specs.Steps.{IsLog, IsTiledStep, new_entries}
 use Rattle.ct_step.specs.Lines.{LineAttempt, AreLineAttempts, taken_lines, IsStepOf, ComesBehindLine, CarryOnLines, LineSequencersAgree}
 
 pub length-tiled : (t first : ℕ) (B : List (Submitted × List (List ℕ))) → length (tiled_leaves t first B) ≡ length B
@@ -20,7 +20,7 @@ length-tiled t first (e ∷ B) = ap suc (length-tiled t (suc first) B)
 abbrev of_attempt : List Tiled → LineAttempt → List Tiled
 of_attempt E a = new_entries E a.batch a.now
 
-is_of : (H : List ℕ → List ℕ) (E Z : List Tiled) (a : LineAttempt) → a.seen.tree_size ≡ length E → IsStep H a.seen E a.batch a.now a.step
+is_of : (H : List ℕ → List ℕ) (E Z : List Tiled) (a : LineAttempt) → a.seen.tree_size ≡ length E → IsTiledStep H a.seen E a.batch a.now a.step
     → IsStepOf H ((E ++ of_attempt E a) ++ Z) a
 is_of H E Z a size p =
     let N = of_attempt E a in
@@ -35,7 +35,7 @@ is_of H E Z a size p =
     record {
       size = omega (arith, p.log.size, length-append (E ++ N) Z);
       log = subst (λ (X : List Tiled). IsLog H X a.step.line) (sym now) p.log;
-      step = subst (λ (X : List Tiled). IsStep H a.seen X a.batch a.now a.step) (sym before) p;
+      step = subst (λ (X : List Tiled). IsTiledStep H a.seen X a.batch a.now a.step) (sym before) p;
       entries = ap (λ (n : ℕ). tiled_leaves a.now n a.batch) size
           ∙ sym (ap (take (length a.batch)) rest ∙ ap (λ n. take n (N ++ Z)) (sym count) ∙ take_at N Z (length N) refl);
     }
@@ -57,7 +57,7 @@ carried_none H since from E = record {
 
 -- one step before those that carry on from its line
 carried_more : (H : List ℕ → List ℕ) (since : ℕ) (known Z : List Tiled) (a : LineAttempt) (steps : List LineAttempt) → since ≤ a.now
-    → a.seen.tree_size ≡ length known → IsStep H a.seen known a.batch a.now a.step
+    → a.seen.tree_size ≡ length known → IsTiledStep H a.seen known a.batch a.now a.step
     → CarriedLines H a.step.line.timestamp (length (known ++ of_attempt known a)) ((known ++ of_attempt known a) ++ Z) steps
     → CarriedLines H since (length known) ((known ++ of_attempt known a) ++ Z) (a ∷ steps)
 carried_more H since known Z a steps later size p rest =
@@ -91,7 +91,7 @@ agree_from H held known (a ∷ rest) s (made, inl (took, seen, more)) =
     let since : held.timestamp ≤ a.now = omega (arith, made.0, ap (λ (x : StateLine). x.timestamp) seen) in
     let kept : taken_lines (a ∷ rest) ≡ a ∷ taken_lines rest = ap (λ b. cond b (a ∷ taken_lines rest) (taken_lines rest)) took in
     ⊎_elim
-    (λ (p : IsStep H a.seen known a.batch a.now a.step).
+    (λ (p : IsTiledStep H a.seen known a.batch a.now a.step).
     let N = of_attempt known a in
     ⊎_elim
     (λ (behind : (Z : List Tiled) × CarriedLines H a.step.line.timestamp (length (known ++ N)) ((known ++ N) ++ Z) (taken_lines rest)).

@@ -1,10 +1,9 @@
 -- Steps of the loops.
-use Rattle.std.proofs.Common.{◌≡◌, ◌⊎◌, ◌∙◌, ◌+◌, ◌-◌, ◌*◌, ◌/◌, ◌%◌, ◌<◌, ◌≤◌, ◌^◌, ℕ, zero, suc, Bool, true, false, cond, List, [], ◌∷◌, ◌++◌, length, take, drop, get_or, map, All, sym, refl, ap, subst, arith, nat_lt, add-one, length-drop, length-append, ⊎_elim, Vec, Global}
+use Rattle.std.proofs.Common.{◌≡◌, ◌⊎◌, ◌∙◌, ◌+◌, ◌-◌, ◌*◌, ◌/◌, ◌%◌, ◌<◌, ◌≤◌, ◌^◌, ℕ, zero, suc, cond, List, [], ◌∷◌, ◌++◌, length, take, drop, get_or, map, All, sym, refl, ap, subst, arith, nat_lt, add-one, length-drop, length-append, ⊎_elim, Vec, Global}
 use Rattle.std.proofs.Math.Nat.{pow-suc, div-div-eq-div-mul}
-use Rattle.std.proofs.lemmas.List.{append-nil, take_more, take_all, map_push, get_or-map, length-map, length_push, length-take-le, get_or_append_left, get_or_at, take-append-le, drop-append-le, drop-drop, nil_from_length}
+use Rattle.std.proofs.lemmas.List.{take_more, take_all, map_push, get_or-map, length-map, length_push, length-take-le, get_or_append_left, get_or_at}
 use Rattle.std.proofs.lemmas.List.Elements.{All-push, All-get_or}
-use Rattle.std.proofs.lemmas.Bool.{cases_Bool, cases_lt}
-use Rattle.ct_codec.specs.Parts.{joined}
+use Rattle.std.proofs.lemmas.Bool.{cases_lt}
 use Rattle.ct_tiles.specs.Tiles.{hashes, tile, row, rows}
 use Rattle.ct_tiles.specs.declared.row.Row.{Row}
 use Rattle.ct_tiles.proofs.Chunks.{rows-at, length-rows, hashes-append, added}
@@ -16,7 +15,7 @@ use Rattle.ct_bundles.proofs.Names.{short_name}
 use Rattle.ct_tile_names.specs.declared.tile.Content.TheVariants.{Hashes, Entries}
 use Rattle.ct_data_tiles.specs.DataTiles.{data_tile, data_tiles_from}
 use Rattle.ct_data_tiles.proofs.Tiles.{text_in}
-use Rattle.ct_step.specs.Objects.{named, hash_object, entry_object, each_from, changed, level_objects, data_objects, cut_object, cut_level, row_tiles}
+use Rattle.ct_step.specs.Objects.{named, hash_object, entry_object, each_from, changed, level_objects, data_objects, cut_object, cut_level}
 use Rattle.ct_step.proofs.Written.{each-same, each-more}
 
 pub mapped-more : {X Y : Type 0} (f : X → Y) (P : Y → Type 0) (E : List X) (i : ℕ) (t : X) → i < length E → t ≡ get_or E i t

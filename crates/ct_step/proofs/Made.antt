@@ -1,10 +1,9 @@
 -- What a step makes of a batch.
-use Rattle.std.proofs.Common.{◌≡◌, ◌⊎◌, ◌∙◌, ℕ, suc, ◌-◌, ◌/◌, ◌<◌, ◌≤◌, ◌+◌, ◌^◌, Bool, true, false, List, [], ◌∷◌, ◌++◌, length, map, sym, refl, ap, subst, arith, inl, inr, ⊎_elim, Vec, Global}
+use Rattle.std.proofs.Common.{◌≡◌, ◌⊎◌, ◌∙◌, ℕ, suc, ◌-◌, ◌/◌, ◌≤◌, ◌+◌, ◌^◌, true, false, List, [], ◌∷◌, ◌++◌, length, map, sym, refl, ap, subst, arith, inl, inr, ⊎_elim, Vec, Global}
 use Rattle.std.specs.Str.{bytes_eq}
 use Rattle.std.proofs.lemmas.Bool.{cases_Bool, both_ways}
 use Rattle.std.proofs.lemmas.Slice.Eq.{bytes_eq-Decides}
 use Rattle.std.proofs.lemmas.List.{length-map, map-append}
-use Rattle.std.proofs.lemmas.Simd.{map-map}
 use Rattle.ct_codec.specs.Submitted.{Submitted, entry_of}
 use Rattle.ct_tree.specs.Tree.{hash_leaf}
 use Rattle.ct_data_tiles.specs.DataTiles.{data_tile, data_tiles_from, IsPartialTile, IsDataRow}
@@ -20,28 +19,28 @@ use Rattle.ct_state_line.specs.declared.line.StateLine.{StateLine}
 use Rattle.ct_tiles.specs.Edge.{IsEdge}
 use Rattle.ct_tile_leaves.specs.TileLeaf.{Tiled, leaf_of, tile_leaf_text}
 use Rattle.ct_verify.specs.Laws.{SomeCollide}
-use Rattle.ct_step.specs.Entries.{tiled_at, tiled_leaves, texts_of, leaves_of}
-use Rattle.ct_step.specs.Steps.{new_entries, last_tiles, head_of, AreBytesOf, IsLog, IsNamed, MayStep, StopsStep, StopsMade}
+use Rattle.ct_step.specs.Entries.{tiled_at, tiled_leaves, texts_of, tree_leaves}
+use Rattle.ct_step.specs.Steps.{new_entries, last_tiles, line_head, AreBytesOf, IsLog, IsNamed, MayStep, StopsStep, StopsMade}
 use Rattle.ct_step.specs.declared.step.StepFault.{StepFault}
 use Rattle.ct_step.specs.declared.step.StepFault.TheVariants.{Edge, Entries, Growth, TooLong}
 use Rattle.ct_step.proofs.Batches.{Entry}
 use Rattle.ct_step.proofs.LinesAgree.{length-tiled}
 
 -- the leaves that entries become
-pub leaves-made : (t first : ℕ) (B : List Entry) → leaves_of (tiled_leaves t first B) ≡ indexed_leaves t first (map entry_of (map (λ (e : Entry). e.0) B))
+pub leaves-made : (t first : ℕ) (B : List Entry) → tree_leaves (tiled_leaves t first B) ≡ indexed_leaves t first (map entry_of (map (λ (e : Entry). e.0) B))
 unfolding tiled_leaves indexed_leaves
 leaves-made t first [] = refl
 leaves-made t first (e ∷ B) = ap (λ (x : List (List ℕ)). leaf_of (tiled_at t e first) ∷ x) (leaves-made t (suc first) B)
 
 pub new-leaves : (E : List Tiled) (B : List Entry) (t : ℕ)
-    → indexed_leaves t (length (leaves_of E)) (map entry_of (map (λ (e : Entry). e.0) B)) ≡ leaves_of (new_entries E B t)
+    → indexed_leaves t (length (tree_leaves E)) (map entry_of (map (λ (e : Entry). e.0) B)) ≡ tree_leaves (new_entries E B t)
 new-leaves E B t =
     ap (λ (n : ℕ). indexed_leaves t n (map entry_of (map (λ (e : Entry). e.0) B))) (length-map E leaf_of) ∙ sym (leaves-made t (length E) B)
 
 pub all-leaves : (E : List Tiled) (B : List Entry) (t : ℕ)
-    → leaves_of E ++ indexed_leaves t (length (leaves_of E)) (map entry_of (map (λ (e : Entry). e.0) B)) ≡ leaves_of (E ++ new_entries E B t)
+    → tree_leaves E ++ indexed_leaves t (length (tree_leaves E)) (map entry_of (map (λ (e : Entry). e.0) B)) ≡ tree_leaves (E ++ new_entries E B t)
 all-leaves E B t =
-    ap (λ (x : List (List ℕ)). leaves_of E ++ x) (new-leaves E B t) ∙ sym (map-append leaf_of E (new_entries E B t))
+    ap (λ (x : List (List ℕ)). tree_leaves E ++ x) (new-leaves E B t) ∙ sym (map-append leaf_of E (new_entries E B t))
 
 -- two strings with one hash are one, or they differ
 pub same_or_other : (H : List ℕ → List ℕ) (a b : List ℕ) → H a ≡ H b → (a ≡ b) ⊎ SomeCollide H
@@ -74,12 +73,12 @@ last-made L N r d =
 
 -- what was believed is the log's
 pub log_tells : (H : List ℕ → List ℕ) → ((x : List ℕ) → length (H x) ≡ 32) → (line : StateLine) (entries : List ℕ) (T : List (List (List ℕ))) (state : State)
-    (E : List Tiled) → BelievesState H (head_of line) T state → H entries ≡ line.data_tile → IsLog H E line
-    → (IsState H state (leaves_of E) × IsPartialTile (texts_of E) line.tree_size entries) ⊎ SomeCollide H
+    (E : List Tiled) → BelievesState H (line_head line) T state → H entries ≡ line.data_tile → IsLog H E line
+    → (IsState H state (tree_leaves E) × IsPartialTile (texts_of E) line.tree_size entries) ⊎ SomeCollide H
 log_tells H long line entries T state E b d log =
-    let D = leaves_of E in
+    let D = tree_leaves E in
     let texts : length (texts_of E) ≡ length E = length-map E tile_leaf_text in
-    let over : IsHeadOver H D (head_of line) =
+    let over : IsHeadOver H D (line_head line) =
     (log.size ∙ sym (length-map E leaf_of), log.root, omega (arith, log.few, length-map E leaf_of)) in
     ⊎_elim
     (λ (is : IsEdge H (line.tree_size, T) (map (hash_leaf H) D)).
@@ -92,10 +91,10 @@ log_tells H long line entries T state E b d log =
     (λ (found : SomeCollide H). inr found)
     (same_or_other H entries (data_tile (length E / 256) (texts_of E)) (d ∙ log.entries)))
     (λ (found : SomeCollide H). inr found)
-    (believed_edges_tell H long (head_of line) D T over b.believed)
+    (believed_edges_tell H long (line_head line) D T over b.believed)
 
 -- a fault of the state's step is the line's
-module _ (H : List ℕ → List ℕ) (long : (x : List ℕ) → length (H x) ≡ 32) (line : StateLine) (edge : List (List ℕ)) (entries : List ℕ) (B : List Entry) (now : ℕ) (T : List (List (List ℕ))) (state : State) (bytes : AreBytesOf T edge) (b : BelievesState H (head_of line) T state) (d : H entries ≡ line.data_tile) where
+module _ (H : List ℕ → List ℕ) (long : (x : List ℕ) → length (H x) ≡ 32) (line : StateLine) (edge : List (List ℕ)) (entries : List ℕ) (B : List Entry) (now : ℕ) (T : List (List (List ℕ))) (state : State) (bytes : AreBytesOf T edge) (b : BelievesState H (line_head line) T state) (d : H entries ≡ line.data_tile) where
   named : IsNamed H line edge entries
   named = record { tiles = (T, bytes, b.believed); digest = d }
 
@@ -116,7 +115,7 @@ module _ (H : List ℕ → List ℕ) (long : (x : List ℕ) → length (H x) ≡
   stops_step TooLong s = (
     may_step s.0.0 s.0.1,
     λ E log. ⊎_elim
-        (λ (is : IsState H state (leaves_of E) × IsPartialTile (texts_of E) line.tree_size entries). inl (s.1 E is.0 is.1))
+        (λ (is : IsState H state (tree_leaves E) × IsPartialTile (texts_of E) line.tree_size entries). inl (s.1 E is.0 is.1))
         (λ (found : SomeCollide H). inr found)
         (log_tells H long line entries T state E b d log),
   )

@@ -1,5 +1,5 @@
 -- Objects written one behind the other.
-use Rattle.std.proofs.Common.{◌≡◌, ◌∙◌, ◌+◌, ◌<◌, ◌≤◌, ℕ, zero, suc, List, add-one, [], ◌∷◌, ◌++◌, sym, refl, ap, arith, append_assoc}
+use Rattle.std.proofs.Common.{◌≡◌, ◌∙◌, ◌+◌, ◌<◌, ℕ, zero, suc, List, add-one, [], ◌∷◌, ◌++◌, sym, refl, ap, arith, append_assoc}
 use Rattle.std.proofs.lemmas.List.{append-nil}
 use Rattle.ct_bundles.specs.Bundle.{bundled_text, bundle_text}
 use Rattle.ct_step.specs.Objects.{each_from}

@@ -32,12 +32,12 @@ abbrev pub texts_of : List Tiled → List (List ℕ)
 texts_of E = map tile_leaf_text E
 
 -- the tree's leaves that tile leaves hold
-abbrev pub leaves_of : List Tiled → List (List ℕ)
-leaves_of E = map leaf_of E
+abbrev pub tree_leaves : List Tiled → List (List ℕ)
+tree_leaves E = map leaf_of E
 
 -- the hashes of these leaves
 abbrev pub hashes_of : (List ℕ → List ℕ) → List Tiled → List (List ℕ)
-hashes_of H E = map (hash_leaf H) (leaves_of E)
+hashes_of H E = map (hash_leaf H) (tree_leaves E)
 
 -- a chain of at most 2,047 fingerprints, whose 32 bytes each are counted in two bytes
 abbrev pub AreShort : List (List ℕ) → Type 0

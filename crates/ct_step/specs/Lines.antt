@@ -6,7 +6,7 @@ use Rattle.ct_tile_leaves.specs.TileLeaf.{Tiled}
 use Rattle.ct_state_line.specs.declared.line.StateLine.{StateLine}
 use Rattle.ct_verify.specs.Laws.{SomeCollide}
 use Rattle.ct_step.specs.Entries.{tiled_leaves}
-use Rattle.ct_step.specs.Steps.{IsLog, IsStep}
+use Rattle.ct_step.specs.Steps.{IsLog, IsTiledStep}
 use Rattle.ct_step.specs.declared.step.Step.{Step}
 
 -- An attempt to carry on the log: the line that was read (seen), the submissions with their chains' fingerprints (batch), the moment (now),
@@ -20,7 +20,7 @@ pub record LineAttempt : Type 0 where
 
 -- the attempt's step is what `take_step` answers of its line, its batch and its moment, whatever edge and data tile were handed in
 abbrev pub IsMadeOfLine : (List ℕ → List ℕ) → LineAttempt → Type 0
-IsMadeOfLine H a = (a.seen.timestamp ≤ a.now) × ((E : List Tiled) → IsLog H E a.seen → IsStep H a.seen E a.batch a.now a.step ⊎ SomeCollide H)
+IsMadeOfLine H a = (a.seen.timestamp ≤ a.now) × ((E : List Tiled) → IsLog H E a.seen → IsTiledStep H a.seen E a.batch a.now a.step ⊎ SomeCollide H)
 
 -- Attempts in the order in which the register answered, from the line that it held on: it took a line only in place of the one that it held.
 -- Who made an attempt, and what became of them afterwards, isn't said.
@@ -39,7 +39,7 @@ taken_lines attempts = filter (λ a. a.took) attempts
 pub record IsStepOf (H : List ℕ → List ℕ) (E : List Tiled) (a : LineAttempt) : Type 0 where
   pub size : a.step.line.tree_size ≤ length E
   pub log : IsLog H (take a.step.line.tree_size E) a.step.line
-  pub step : IsStep H a.seen (take a.seen.tree_size E) a.batch a.now a.step
+  pub step : IsTiledStep H a.seen (take a.seen.tree_size E) a.batch a.now a.step
   pub entries : tiled_leaves a.now a.seen.tree_size a.batch ≡ take (length a.batch) (drop a.seen.tree_size E)
 
 -- the attempt b came behind the attempt a: its moment isn't earlier, and its entries begin at or behind the end of those of a's line

@@ -52,5 +52,5 @@ abbrev pub row_tiles : List Row → List (ℕ × List (List ℕ))
 row_tiles rows = map (λ r. (r.first, r.hashes.items)) rows
 
 -- bytes that can be an object's content: fewer than 2^32
-abbrev pub IsShort : List ℕ → Type 0
-IsShort content = length content < 2 ^ 32
+abbrev pub FitsInBundle : List ℕ → Type 0
+FitsInBundle content = length content < 2 ^ 32

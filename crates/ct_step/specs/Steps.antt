@@ -1,6 +1,6 @@
 -- What one step has to do with the log. H is any hash function on byte lists, E the list of the log's entries, as tile leaves: their texts
 -- stand in the data tiles, and the leaves that they hold in the tree.
-use Rattle.std.specs.Prelude.{◌≡◌, ◌⊎◌, ⊤, ℕ, ◌+◌, ◌-◌, ◌/◌, ◌%◌, ◌<◌, ◌≤◌, ◌^◌, List, [], ◌∷◌, ◌++◌, length, map, All}
+use Rattle.std.specs.Prelude.{◌≡◌, ◌⊎◌, ℕ, ◌+◌, ◌-◌, ◌/◌, ◌%◌, ◌<◌, ◌≤◌, ◌^◌, List, [], ◌∷◌, ◌++◌, length, map, All}
 use Rattle.std.specs.Simd.{first_chunks}
 use Rattle.ct_codec.specs.Parts.{joined}
 use Rattle.ct_codec.specs.Signed.{tree_head_text}
@@ -21,22 +21,22 @@ use Rattle.ct_growth.specs.declared.growth.State.{State}
 use Rattle.ct_growth.specs.declared.growth.GrowthFault.TheVariants.{ClockBack, Full, Refused}
 use Rattle.ct_verify.specs.Laws.{AreHashes, SomeCollide}
 use Rattle.ct_bundles.specs.Bundle.{IsBundleOf}
-use Rattle.ct_step.specs.Entries.{tiled_leaves, texts_of, leaves_of, hashes_of}
-use Rattle.ct_step.specs.Objects.{level_objects, data_objects, IsShort}
+use Rattle.ct_step.specs.Entries.{tiled_leaves, texts_of, tree_leaves, hashes_of}
+use Rattle.ct_step.specs.Objects.{level_objects, data_objects, FitsInBundle}
 use Rattle.ct_step.specs.declared.step.Step.{Step}
 use Rattle.ct_step.specs.declared.step.StepFault.{StepFault}
 use Rattle.ct_step.specs.declared.step.StepFault.TheVariants.{Edge, Entries, Growth, TooLong}
 
 -- the head that a line names
-abbrev pub head_of : StateLine → Head
-head_of line = record { tree_size = line.tree_size; timestamp = line.timestamp; root = line.root }
+abbrev pub line_head : StateLine → Head
+line_head line = record { tree_size = line.tree_size; timestamp = line.timestamp; root = line.root }
 
 -- The line is that of a log with the entries E, of which there are fewer than 2^64 (few): it has their number (size), the root of their
 -- leaves (root), and the digest of the partial data tile behind their full ones (entries).
 pub record IsLog (H : List ℕ → List ℕ) (E : List Tiled) (line : StateLine) : Type 0 where
   pub few : length E < 2 ^ 64
   pub size : line.tree_size ≡ length E
-  pub root : line.root ≡ mth_of_leaves H (leaves_of E)
+  pub root : line.root ≡ mth_of_leaves H (tree_leaves E)
   pub entries : line.data_tile ≡ H (data_tile (length E / 256) (texts_of E))
 
 -- the entries that a batch becomes behind the entries E at the moment `now`
@@ -51,9 +51,9 @@ step_objects H E N = level_objects H 8 (hashes_of H E) (hashes_of H N) ++ data_o
 -- index `length E` on (receipts); what is signed for the head is of all entries and of this moment (signed); the bundle is that of the
 -- objects (bundle); the next line is that of all entries (log) and of this moment (moment), and has the digests of the bundle (digest) and of
 -- the text of the line before (before).
-pub record IsStep (H : List ℕ → List ℕ) (line : StateLine) (E : List Tiled) (batch : List (Submitted × List (List ℕ))) (now : ℕ) (s : Step) : Type 0 where
+pub record IsTiledStep (H : List ℕ → List ℕ) (line : StateLine) (E : List Tiled) (batch : List (Submitted × List (List ℕ))) (now : ℕ) (s : Step) : Type 0 where
   pub receipts : map receipt_parts s.receipts.items ≡ receipts_from now (length E) (map (λ e. entry_of e.0) batch)
-  pub signed : s.signed.items ≡ tree_head_text now (length (E ++ new_entries E batch now)) (mth_of_leaves H (leaves_of (E ++ new_entries E batch now)))
+  pub signed : s.signed.items ≡ tree_head_text now (length (E ++ new_entries E batch now)) (mth_of_leaves H (tree_leaves (E ++ new_entries E batch now)))
   pub bundle : IsBundleOf (step_objects H E (new_entries E batch now)) s.bundle.items
   pub log : IsLog H (E ++ new_entries E batch now) s.line
   pub moment : s.line.timestamp ≡ now
@@ -86,7 +86,7 @@ pub record AreReadFrom (edge : List (List ℕ)) (tiles : List (List (List ℕ)))
 
 -- no partial tiles of which these are the bytes are believed for the line's head
 abbrev pub NotBelieved : (List ℕ → List ℕ) → StateLine → List (List ℕ) → Type 0
-NotBelieved H line edge = (T : List (List (List ℕ))) → AreBytesOf T edge → AreBelieved H (head_of line) T → ⊥
+NotBelieved H line edge = (T : List (List (List ℕ))) → AreBytesOf T edge → AreBelieved H (line_head line) T → ⊥
 
 -- why bytes aren't read as tiles. Edge: the bytes of one are no whole hashes. Growth: memory
 abbrev pub StopsTiles : List (List ℕ) → StepFault → Type 0
@@ -109,7 +109,7 @@ of_edge Memory = Growth (Refused refused.Memory)
 -- What was handed in is what the line names: the bytes are those of partial tiles that are believed for its head (tiles), and the digest of
 -- the partial data tile is the line's (digest).
 pub record IsNamed (H : List ℕ → List ℕ) (line : StateLine) (edge : List (List ℕ)) (entries : List ℕ) : Type 0 where
-  pub tiles : (T : List (List (List ℕ))) × AreBytesOf T edge × AreBelieved H (head_of line) T
+  pub tiles : (T : List (List (List ℕ))) × AreBytesOf T edge × AreBelieved H (line_head line) T
   pub digest : H entries ≡ line.data_tile
 
 -- the data tiles from the one on that was partial, full ones and the one behind them, where the texts N come behind L
@@ -119,7 +119,7 @@ last_tiles L N =
 
 -- where a batch comes behind the entries E, one of the data tiles has 2^32 bytes or more
 abbrev pub GetsLong : List Tiled → List (Submitted × List (List ℕ)) → ℕ → Type 0
-GetsLong E batch now = All IsShort (last_tiles (texts_of E) (texts_of (new_entries E batch now))) → ⊥
+GetsLong E batch now = All FitsInBundle (last_tiles (texts_of E) (texts_of (new_entries E batch now))) → ⊥
 
 -- a batch may be taken in at the moment `now`: what was handed in is what the line names (named), the moment isn't before the line's (later),
 -- and a leaf's index has 40 bits (fits)
@@ -135,7 +135,7 @@ pub record MayStep (H : List ℕ → List ℕ) (line : StateLine) (edge : List (
 abbrev pub StopsStep : (List ℕ → List ℕ) → StateLine → List (List ℕ) → List ℕ → List (Submitted × List (List ℕ)) → ℕ → StepFault → Type 0
 StopsStep H line edge entries batch now Edge = NotBelieved H line edge
 StopsStep H line edge entries batch now Entries =
-    ((T : List (List (List ℕ))) × AreBytesOf T edge × AreBelieved H (head_of line) T) × (H entries ≡ line.data_tile → ⊥)
+    ((T : List (List (List ℕ))) × AreBytesOf T edge × AreBelieved H (line_head line) T) × (H entries ≡ line.data_tile → ⊥)
 StopsStep H line edge entries batch now (Growth ClockBack) = IsNamed H line edge entries × (now < line.timestamp)
 StopsStep H line edge entries batch now (Growth Full) =
     IsNamed H line edge entries × (line.timestamp ≤ now) × (2 ^ 40 < line.tree_size + length batch)
@@ -148,5 +148,5 @@ abbrev pub StopsMade : (List ℕ → List ℕ) → StateLine → State → List 
 StopsMade H line state entries batch now (Growth fault) = StopsGrowth state (length batch) now fault
 StopsMade H line state entries batch now TooLong =
     MayGrow state (length batch) now
-    × ((E : List Tiled) → IsState H state (leaves_of E) → IsPartialTile (texts_of E) line.tree_size entries → GetsLong E batch now)
+    × ((E : List Tiled) → IsState H state (tree_leaves E) → IsPartialTile (texts_of E) line.tree_size entries → GetsLong E batch now)
 StopsMade H line state entries batch now _ = ⊥

@@ -7,7 +7,7 @@ ghost use Rattle.ct_tile_names.specs.Names.{IsTile, name_text};
 ghost use Rattle.ct_tile_names.specs.declared.tile.Content.TheVariants.{Hashes, Entries};
 ghost use Rattle.ct_tiles.specs.Tiles.{rows};
 ghost use Rattle.ct_bundles.specs.Bundle.{bundled_text, bundle_text, IsBundleOf};
-ghost use Rattle.ct_step.specs.Objects.{named, entry_object, each_from, cut_object, cut_level, level_objects, data_objects, IsShort, row_tiles};
+ghost use Rattle.ct_step.specs.Objects.{named, entry_object, each_from, cut_object, cut_level, level_objects, data_objects, FitsInBundle, row_tiles};
 
 use ct_bundles::push_object;
 use ct_data_tiles::DataRow;
@@ -134,7 +134,7 @@ pub(crate) fn push_levels(
 
 // Whether each has fewer than 2^32 bytes.
 fn are_short(tiles: &[Vec<u8>]) -> bool
-    ensures { MatchBool result (All IsShort (map (λ t. t.items) tiles.now)) (All IsShort (map (λ t. t.items) tiles.now) → ⊥) }
+    ensures { MatchBool result (All FitsInBundle (map (λ t. t.items) tiles.now)) (All FitsInBundle (map (λ t. t.items) tiles.now) → ⊥) }
 {
     for tile in tiles {
         if tile.len() >= 4_294_967_296 {
@@ -146,8 +146,8 @@ fn are_short(tiles: &[Vec<u8>]) -> bool
 
 // Whether each of the data tiles has fewer than 2^32 bytes.
 pub(crate) fn fits(row: &DataRow) -> bool
-    ensures { MatchBool result (All IsShort (map (λ t. t.items) row.now.full.items ++ row.now.partial.items ∷ []))
-        (All IsShort (map (λ t. t.items) row.now.full.items ++ row.now.partial.items ∷ []) → ⊥) }
+    ensures { MatchBool result (All FitsInBundle (map (λ t. t.items) row.now.full.items ++ row.now.partial.items ∷ []))
+        (All FitsInBundle (map (λ t. t.items) row.now.full.items ++ row.now.partial.items ∷ []) → ⊥) }
 {
     if row.partial.len() >= 4_294_967_296 {
         return false;
@@ -163,7 +163,7 @@ fn push_full(
     tiles: &[Vec<u8>],
 ) -> Result<(), AllocError>
     requires first { first ≤ 2 ^ 40 }
-    requires short { All IsShort (map (λ t. t.items) tiles.now) }
+    requires short { All FitsInBundle (map (λ t. t.items) tiles.now) }
     ensures { OnOk result ((M : List (List ℕ)) → map (λ t. t.items) tiles.now ≡ data_tiles_from first (length tiles.now) M → 256 * (first + length tiles.now) ≤ length M
         → bundle.new.items ≡ bundle.old.items ++ bundle_text (each_from (entry_object M) first (length tiles.now))) }
 {
@@ -189,7 +189,7 @@ pub(crate) fn push_entries(
     row: &DataRow,
 ) -> Result<(), AllocError>
     requires size { size + count ≤ 2 ^ 40 }
-    requires short { All IsShort (map (λ t. t.items) row.now.full.items ++ row.now.partial.items ∷ []) }
+    requires short { All FitsInBundle (map (λ t. t.items) row.now.full.items ++ row.now.partial.items ∷ []) }
     ensures { OnOk result ((L N : List (List ℕ)) → size ≡ length L → count ≡ length N → IsDataRow L N row.now
         → bundle.new.items ≡ bundle.old.items ++ bundle_text (data_objects L N)) }
 {

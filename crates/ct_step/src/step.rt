@@ -12,9 +12,9 @@ ghost use Rattle.ct_verify.specs.Laws.{SomeCollide};
 ghost use Rattle.ct_tiles.specs.Tiles.{rows};
 ghost use Rattle.ct_data_tiles.specs.DataTiles.{IsDataRow};
 ghost use Rattle.ct_bundles.specs.Bundle.{bundle_text};
-ghost use Rattle.ct_step.specs.Objects.{level_objects, data_objects, row_tiles, IsShort};
-ghost use Rattle.ct_step.specs.Entries.{leaves_of, texts_of};
-ghost use Rattle.ct_step.specs.Steps.{head_of, of_edge, line_behind, IsLog, IsStep, MayStep, StopsStep, StopsMade, StopsTiles, StopsState, AreBytesOf, AreReadFrom, tile_hashes};
+ghost use Rattle.ct_step.specs.Objects.{level_objects, data_objects, row_tiles, FitsInBundle};
+ghost use Rattle.ct_step.specs.Entries.{tree_leaves, texts_of};
+ghost use Rattle.ct_step.specs.Steps.{line_head, of_edge, line_behind, IsLog, IsTiledStep, MayStep, StopsStep, StopsMade, StopsTiles, StopsState, AreBytesOf, AreReadFrom, tile_hashes};
 ghost use Rattle.ct_step.specs.declared.step.StepFault.TheVariants.{Growth};
 
 use crate::batch::Batch;
@@ -136,7 +136,7 @@ fn state_of<H: NodeHash>(
     edge: &[Vec<u8>],
 ) -> Result<State, StepFault>
     ensures { MatchResult result
-        (λ s. (T : List (List (List ℕ))) × AreBytesOf T (map (λ b. b.items) edge.now) × BelievesState H.digest (head_of line.now) T s)
+        (λ s. (T : List (List (List ℕ))) × AreBytesOf T (map (λ b. b.items) edge.now) × BelievesState H.digest (line_head line.now) T s)
         (StopsState H.digest line.now (map (λ b. b.items) edge.now)) }
 {
     let tiles = tiles_of(alloc, edge)?;
@@ -164,7 +164,7 @@ fn bundle_of(
     row: &DataRow,
 ) -> Result<Vec<u8>, AllocError>
     requires size { size + count ≤ 2 ^ 40 }
-    requires short { All IsShort (map (λ t. t.items) row.now.full.items ++ row.now.partial.items ∷ []) }
+    requires short { All FitsInBundle (map (λ t. t.items) row.now.full.items ++ row.now.partial.items ∷ []) }
     ensures { IfOk result (λ b. (H : List ℕ → List ℕ) (D B L N : List (List ℕ)) → size ≡ length D → row_tiles level_rows.now ≡ rows H 256 8 D B
         → size ≡ length L → count ≡ length N → IsDataRow L N row.now → b.items ≡ bundle_text (level_objects H 8 D B ++ data_objects L N)) }
 {
@@ -208,8 +208,8 @@ fn step_of<H: NodeHash>(
 ) -> Result<Step, StepFault>
     requires { state.now.edge.0 ≡ line.now.tree_size }
     ensures may { MatchResult result (λ _. MayGrow state.now (length batch.now) now) (StopsMade H.digest line.now state.now entries.now batch.now now) }
-    ensures step { IfOk result (λ s. (E : List Tiled) → IsState H.digest state.now (leaves_of E) → IsPartialTile (texts_of E) line.now.tree_size entries.now
-        → IsStep H.digest line.now E batch.now now s) }
+    ensures step { IfOk result (λ s. (E : List Tiled) → IsState H.digest state.now (tree_leaves E) → IsPartialTile (texts_of E) line.now.tree_size entries.now
+        → IsTiledStep H.digest line.now E batch.now now s) }
 {
     let growth = grow(alloc, h, state, batch.submissions(), now)?;
     let size = line.tree_size;
@@ -249,7 +249,7 @@ pub fn take_step<H: NodeHash>(
 ) -> Result<Step, StepFault>
     ensures may { MatchResult result (λ _. MayStep H.digest line.now (map (λ b. b.items) edge.now) entries.now batch.now now)
         (StopsStep H.digest line.now (map (λ b. b.items) edge.now) entries.now batch.now now) }
-    ensures step { IfOk result (λ s. (E : List Tiled) → IsLog H.digest E line.now → IsStep H.digest line.now E batch.now now s ⊎ SomeCollide H.digest) }
+    ensures step { IfOk result (λ s. (E : List Tiled) → IsLog H.digest E line.now → IsTiledStep H.digest line.now E batch.now now s ⊎ SomeCollide H.digest) }
 {
     let state = state_of(alloc, h, line, edge)?;
     if !has_digest(h, entries, &line.data_tile) {

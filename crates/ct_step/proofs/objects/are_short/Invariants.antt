@@ -1,7 +1,7 @@
 use Rattle.std.proofs.Common.{map, take, All}
 use Rattle.ct_data_tiles.proofs.Tiles.{text_in}
-use Rattle.ct_step.specs.Objects.{IsShort}
+use Rattle.ct_step.specs.Objects.{FitsInBundle}
 use Rattle.ct_step.proofs.objects.are_short.Given as goal
 
 abbrev pub invariant-loop-tile : goal.invariant-loop-tile
-invariant-loop-tile l = All IsShort (map text_in (take l.tile-index l.tiles))
+invariant-loop-tile l = All FitsInBundle (map text_in (take l.tile-index l.tiles))

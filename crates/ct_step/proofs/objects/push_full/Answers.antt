@@ -1,6 +1,6 @@
 use Rattle.std.proofs.Common.{◌∙◌, ◌+◌, ◌++◌, ℕ, List, length, arith, refl, ap}
 use Rattle.ct_data_tiles.proofs.Tiles.{text_in}
-use Rattle.ct_step.specs.Objects.{entry_object, IsShort}
+use Rattle.ct_step.specs.Objects.{entry_object, FitsInBundle}
 use Rattle.ct_bundles.specs.Bundle.{bundled_text}
 use Rattle.ct_step.proofs.Loops.{mapped-at, full-object, name_of}
 use Rattle.ct_step.proofs.Written.{written-none, written-more}
@@ -17,7 +17,7 @@ push_tile-requires-clause-content c =
     omega (
       arith,
       ap length c.deref.ensures.value,
-      mapped-at text_in IsShort c.args.tiles.now c.loop-content.content-index c.content-item.result c.requires.short c.loop-content-test.true c.content-item.is,
+      mapped-at text_in FitsInBundle c.args.tiles.now c.loop-content.content-index c.content-item.result c.requires.short c.loop-content-test.true c.content-item.is,
     )
 
 pub loop-content-preserved : goal.loop-content-preserved

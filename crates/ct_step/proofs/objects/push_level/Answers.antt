@@ -1,5 +1,4 @@
 use Rattle.std.proofs.Common.{◌≡◌, ◌+◌, ◌-◌, ◌*◌, ℕ, take, drop, arith, refl, ap}
-use Rattle.ct_tile_names.specs.declared.tile.Content.TheVariants.{Hashes}
 use Rattle.ct_step.specs.Objects.{cut_object}
 use Rattle.ct_step.proofs.Loops.{cut-named}
 use Rattle.ct_step.proofs.Written.{written-none, written-more}

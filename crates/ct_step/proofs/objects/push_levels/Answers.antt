@@ -1,4 +1,4 @@
-use Rattle.std.proofs.Common.{◌≡◌, ◌∙◌, ◌++◌, ℕ, List, arith, sym, ap, get_or}
+use Rattle.std.proofs.Common.{◌∙◌, ◌++◌, ℕ, List, arith, sym, ap, get_or}
 use Rattle.std.proofs.lemmas.List.{append-nil}
 use Rattle.ct_tiles.specs.declared.row.Row.{Row}
 use Rattle.ct_growth.proofs.Widths.{rest-step}

@@ -1,4 +1,4 @@
-use Rattle.std.proofs.Common.{◌≡◌, ◌∙◌, ◌+◌, ◌/◌, ◌<◌, ◌^◌, ℕ, Bool, List, [], ◌∷◌, ◌++◌, length, map, All, arith, sym, refl, ap, subst, length-append}
+use Rattle.std.proofs.Common.{◌≡◌, ◌∙◌, ◌/◌, ℕ, Bool, List, [], ◌∷◌, ◌++◌, length, map, All, arith, sym, ap, subst, length-append}
 use Rattle.std.specs.Bool.{MatchBool}
 use Rattle.std.proofs.lemmas.List.{length-map, map-append}
 use Rattle.std.proofs.lemmas.List.Elements.{All-append}
@@ -7,7 +7,6 @@ use Rattle.ct_codec.specs.Signed.{tree_head_text}
 use Rattle.ct_codec.specs.Submitted.{Submitted, entry_of}
 use Rattle.ct_tree.specs.Tree.{hash_leaf, mth_of_leaves}
 use Rattle.ct_tiles.specs.Tiles.{rows}
-use Rattle.ct_tiles.specs.declared.row.Row.{Row}
 use Rattle.ct_data_tiles.specs.DataTiles.{data_tile, IsDataRow}
 use Rattle.ct_data_tiles.proofs.Tiles.{text_in}
 use Rattle.ct_state_line.specs.declared.line.StateLine.{StateLine}
@@ -16,10 +15,10 @@ use Rattle.ct_growth.specs.Leaves.{receipts_from, indexed_leaves}
 use Rattle.ct_growth.proofs.EdgesTell.{leaves_32}
 use Rattle.ct_growth.proofs.Roots.{has_32}
 use Rattle.ct_bundles.specs.Bundle.{IsObject}
-use Rattle.ct_tile_leaves.specs.TileLeaf.{Tiled, leaf_of, tile_leaf_text}
-use Rattle.ct_step.specs.Entries.{texts_of, leaves_of, hashes_of}
-use Rattle.ct_step.specs.Objects.{level_objects, data_objects, row_tiles, IsShort}
-use Rattle.ct_step.specs.Steps.{new_entries, last_tiles}
+use Rattle.ct_tile_leaves.specs.TileLeaf.{leaf_of, tile_leaf_text}
+use Rattle.ct_step.specs.Entries.{texts_of, tree_leaves, hashes_of}
+use Rattle.ct_step.specs.Objects.{level_objects, data_objects, row_tiles, FitsInBundle}
+use Rattle.ct_step.specs.Steps.{new_entries}
 use Rattle.ct_step.proofs.Batches.{Entry}
 use Rattle.ct_step.proofs.Fitting.{levels-fit, data-fit}
 use Rattle.ct_step.proofs.LinesAgree.{length-tiled}
@@ -31,13 +30,13 @@ returns-then-not-fits-clause-may g c =
     let B : List Entry = c.args.batch.now in
     let r = c.in_ok-row.row in
     let written = map text_in r.full.items ++ r.partial.items ∷ [] in
-    let long : All IsShort written → ⊥ =
-    subst (λ (b : Bool). MatchBool b (All IsShort written) (All IsShort written → ⊥)) c.if-not-fits.true c.fits.ensures in (
+    let long : All FitsInBundle written → ⊥ =
+    subst (λ (b : Bool). MatchBool b (All FitsInBundle written) (All FitsInBundle written → ⊥)) c.if-not-fits.true c.fits.ensures in (
       (c.in_ok-growth.ensures.may.0, omega (arith, c.in_ok-growth.ensures.may.1, batch-size B c.submissions.result.now c.submissions.ensures)),
       λ E s p short.
           let row = row-made E B c.args.now c.args.line.now.tree_size c.args.entries.now (map text_in c.deref.result.now) c.in_ok-texts.texts.items r
           c.in_ok-row.ensures (ap (map text_in) c.deref.ensures.value) c.in_ok-texts.ensures.texts p in
-          long (subst (All IsShort) (sym (last-made (texts_of E) (texts_of (new_entries E B c.args.now)) r row)) short),
+          long (subst (All FitsInBundle) (sym (last-made (texts_of E) (texts_of (new_entries E B c.args.now)) r row)) short),
     )
 
 pub bundle_of-requires-clause-size : goal.bundle_of-requires-clause-size
@@ -63,7 +62,7 @@ returns-clause-step g c = λ E s p.
     let B : List Entry = c.args.batch.now in
     let firsts : List Submitted = map (λ (e : Entry). e.0) B in
     let entries = map entry_of firsts in
-    let D = leaves_of E in
+    let D = tree_leaves E in
     let N = new_entries E B now in
     let L = texts_of E in
     let all = E ++ N in
@@ -74,16 +73,16 @@ returns-clause-step g c = λ E s p.
     row-made E B now line.tree_size c.args.entries.now (map text_in c.deref.result.now) c.in_ok-texts.texts.items r
     c.in_ok-row.ensures (ap (map text_in) c.deref.ensures.value) c.in_ok-texts.ensures.texts p in
     let size : line.tree_size ≡ length E = p.0 ∙ length-map E tile_leaf_text in
-    let leaves : D ++ indexed_leaves now (length D) entries ≡ leaves_of all = all-leaves E B now in
+    let leaves : D ++ indexed_leaves now (length D) entries ≡ tree_leaves all = all-leaves E B now in
     let tree_size : next.tree_size ≡ length all =
     ap (λ (x : StateLine). x.tree_size) c.in_ok-next.ensures ∙ grown.size ∙ ap length leaves ∙ length-map all leaf_of in
-    let root : next.root ≡ mth_of_leaves H (leaves_of all) =
+    let root : next.root ≡ mth_of_leaves H (tree_leaves all) =
     ap (λ (x : StateLine). x.root) c.in_ok-next.ensures ∙ grown.root ∙ ap (mth_of_leaves H) leaves in
     let count : length N ≡ length B = length-tiled now (length E) B in
     let texts : L ++ texts_of N ≡ texts_of all = sym (map-append tile_leaf_text E N) in
     let written = map text_in r.full.items ++ r.partial.items ∷ [] in
-    let short : All IsShort written =
-    subst (λ (b : Bool). MatchBool b (All IsShort written) (All IsShort written → ⊥)) c.if-not-fits.false c.fits.ensures in
+    let short : All FitsInBundle written =
+    subst (λ (b : Bool). MatchBool b (All FitsInBundle written) (All FitsInBundle written → ⊥)) c.if-not-fits.false c.fits.ensures in
     record {
       receipts = grown.receipts ∙ ap (λ (n : ℕ). receipts_from now n entries) (length-map E leaf_of)
           ∙ ap (receipts_from now (length E)) (map-map entry_of (λ (e : Entry). e.0) B);
@@ -93,8 +92,8 @@ returns-clause-step g c = λ E s p.
       bundle = record {
         fit = All-append IsObject (level_objects H 8 (hashes_of H E) (hashes_of H N)) (data_objects L (texts_of N))
             (levels-fit H size_digest 8 (hashes_of H E) (hashes_of H N)
-            (All-append has_32 (hashes_of H E) (hashes_of H N) (leaves_32 H size_digest D) (leaves_32 H size_digest (leaves_of N))))
-            (data-fit L (texts_of N) (subst (All IsShort) (last-made L (texts_of N) r row) short));
+            (All-append has_32 (hashes_of H E) (hashes_of H N) (leaves_32 H size_digest D) (leaves_32 H size_digest (tree_leaves N))))
+            (data-fit L (texts_of N) (subst (All FitsInBundle) (last-made L (texts_of N) r row) short));
         text = c.in_ok-bundle.ensures H (hashes_of H E) (hashes_of H N) L (texts_of N)
             (size ∙ sym (length-map E leaf_of) ∙ sym (length-map D (hash_leaf H)))
             (ap row_tiles c.deref-2.ensures.value ∙ grown.rows

@@ -1,11 +1,11 @@
-use Rattle.std.proofs.Common.{◌≡◌, ◌⊎◌, Bool, subst, inl, inr, ⊎_elim, map}
+use Rattle.std.proofs.Common.{◌≡◌, Bool, subst, inl, inr, ⊎_elim, map}
 use Rattle.std.specs.Bool.{MatchBool}
 use Rattle.std.proofs.lemmas.Result.{MatchResult-weaker, IfOk-weaker}
 use Rattle.ct_data_tiles.specs.DataTiles.{IsPartialTile}
 use Rattle.ct_data_tiles.proofs.Tiles.{text_in}
 use Rattle.ct_growth.specs.Growths.{IsState}
 use Rattle.ct_verify.specs.Laws.{SomeCollide}
-use Rattle.ct_step.specs.Entries.{leaves_of, texts_of}
+use Rattle.ct_step.specs.Entries.{tree_leaves, texts_of}
 use Rattle.ct_step.proofs.Made.{log_tells, may_step, stops_step}
 use Rattle.ct_step.proofs.step.take_step.Goals as goal
 
@@ -34,7 +34,7 @@ returns-clause-step g c =
     IfOk-weaker c.step_of.result _ _
     (λ s step E log.
     ⊎_elim
-    (λ (is : IsState H state (leaves_of E) × IsPartialTile (texts_of E) line.tree_size entries). inl (step E is.0 is.1))
+    (λ (is : IsState H state (tree_leaves E) × IsPartialTile (texts_of E) line.tree_size entries). inl (step E is.0 is.1))
     (λ (found : SomeCollide H). inr found)
     (log_tells H g.met.H.NodeHash.length_digest line entries b.0 state E b.2 same log))
     c.step_of.ensures.step

@@ -1,4 +1,4 @@
-use Rattle.std.proofs.Common.{◌∙◌, ℕ, List, map, sym, ap}
+use Rattle.std.proofs.Common.{◌∙◌, List, map, sym, ap}
 use Rattle.std.proofs.lemmas.Slice.Zip.{firsts-zip}
 use Rattle.ct_codec.specs.Submitted.{Submitted}
 use Rattle.ct_growth.proofs.Widths.{hashes_in}
