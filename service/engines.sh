@@ -6,7 +6,7 @@
 #   engines.sh again FOLDER NAME    kills a process of theirs (-9), and starts it once more
 #   engines.sh pause FOLDER NAME SECONDS
 # ENGINES says which, of: etcd, a member of etcd; members, three of them (Debian's etcd-server and etcd-client); postgres (postgresql);
-# s3, Ceph with its S3 (radosgw, ceph-mon, ceph-osd, ceph-mgr). Without it "etcd postgres s3", each where it is installed: one line is
+# s3, Ceph with its S3 (radosgw, ceph-mon, ceph-osd, ceph-mgr). Without it "etcd members postgres s3", each where it is installed: one line is
 # said of each that isn't. Where they are is told by STORES_ETCD, STORES_MEMBERS, STORES_POSTGRES and STORES_S3; STORES_AGAIN and
 # STORES_PAUSE are this script's calls but for the last words. PORT is where ports that are free are looked for; elsewhere by chance.
 # (start_etcd and the like are called by their names)
@@ -191,7 +191,7 @@ END
 
 # start_all: starts what ENGINES says, or what was stopped in this folder.
 start_all() {
-  local began=$SECONDS engines=${ENGINES-etcd postgres s3} engine name names
+  local began=$SECONDS engines=${ENGINES-etcd members postgres s3} engine name names
   mapfile -t names <"$work/names"
   if [ -n "${names[*]}" ]; then
     for name in "${names[@]}"; do launch "$name"; done

@@ -518,8 +518,12 @@ func TestEndInTime(t *testing.T) {
 // TestPlantedOrders has a node do in a wrong order what is right in the order of this package: the checker sees each.
 func TestPlantedOrders(t *testing.T) {
 	t.Parallel()
+	onEach(t, plantedOrders)
+}
+
+func plantedOrders(t *testing.T, on ground) {
 	t.Run(tilesFirst, func(t *testing.T) {
-		p, got := newPlace(t), &answers{}
+		p, got := newPlaceOn(t, on), &answers{}
 		_, err := child{Place: string(p), Plant: tilesFirst, KillAt: "stepped", KillOn: 100, From: 0, To: 5}.run(got)
 		must(t, err)
 		// It dies between its tiles and its swap; another one goes on with other entries.
@@ -537,7 +541,7 @@ func TestPlantedOrders(t *testing.T) {
 		}
 	})
 	t.Run(answerFirst, func(t *testing.T) {
-		p, got := newPlace(t), &answers{}
+		p, got := newPlaceOn(t, on), &answers{}
 		killed, err := child{Place: string(p), Plant: answerFirst, KillAt: "bundle put", KillOn: 3, From: 0, To: 50}.run(got)
 		must(t, err)
 		if !killed || len(got.all) == 0 {
@@ -552,7 +556,7 @@ func TestPlantedOrders(t *testing.T) {
 		}
 	})
 	t.Run(noWait, func(t *testing.T) {
-		p, got := newPlace(t), &answers{}
+		p, got := newPlaceOn(t, on), &answers{}
 		s := started(t, p.config(t), hooks{plant: noWait})
 		short, cancel := context.WithTimeout(limited(t), 3*time.Second)
 		defer cancel()

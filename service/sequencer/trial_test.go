@@ -57,10 +57,33 @@ func limited(t testing.TB) context.Context {
 	return ctx
 }
 
-// place is a folder with all that a log stands on.
+// place is a folder with a log's key and, where no file in it says otherwise, all that the log stands on.
 type place string
 
+// addresses are where a log's stores are.
+type addresses struct{ Objects, Register, Places string }
+
 func (p place) objects() string { return filepath.Join(string(p), "objects") }
+
+func (p place) addressFile() string { return filepath.Join(string(p), "addresses") }
+
+// addresses reads where the stores are.
+func (p place) addresses() (at addresses, err error) {
+	text, err := os.ReadFile(p.addressFile())
+	if errors.Is(err, os.ErrNotExist) {
+		return addresses{"folder:" + p.objects(), "file:" + filepath.Join(string(p), "register"), "sqlite:" + filepath.Join(string(p), "places.db")}, nil
+	}
+	if err == nil {
+		err = json.Unmarshal(text, &at)
+	}
+	return at, err
+}
+
+// onEngines says whether the stores aren't in the folder.
+func (p place) onEngines() bool {
+	_, err := os.Stat(p.addressFile())
+	return err == nil
+}
 
 // newPlace makes a folder with a key.
 func newPlace(t testing.TB) place {
@@ -73,16 +96,37 @@ func newPlace(t testing.TB) place {
 	return p
 }
 
-// open opens the stores, and starts no node yet.
+// open opens the stores, and starts no node yet. An engine that was just killed is asked again.
 func (p place) open(ctx context.Context) (config Config, err error) {
+	for {
+		config, err = p.openOnce(ctx)
+		if err == nil || !p.onEngines() || wait(ctx, 200*time.Millisecond) != nil {
+			return config, err
+		}
+	}
+}
+
+func (p place) openOnce(ctx context.Context) (config Config, err error) {
 	config = Config{Origin: origin, Create: true, Interval: quick, Patience: time.Second}
-	if config.Objects, err = stores.ObjectsAt(ctx, "folder:"+p.objects()); err != nil {
+	if p.onEngines() {
+		config.Patience = longest
+	}
+	defer func() {
+		if err != nil {
+			closeAll(config)
+		}
+	}()
+	at, err := p.addresses()
+	if err != nil {
 		return config, err
 	}
-	if config.Register, err = stores.RegisterAt(ctx, "file:"+filepath.Join(string(p), "register")); err != nil {
+	if config.Objects, err = stores.ObjectsAt(ctx, at.Objects); err != nil {
 		return config, err
 	}
-	if config.Places, err = stores.PlacesAt(ctx, "sqlite:"+filepath.Join(string(p), "places.db")); err != nil {
+	if config.Register, err = stores.RegisterAt(ctx, at.Register); err != nil {
+		return config, err
+	}
+	if config.Places, err = stores.PlacesAt(ctx, at.Places); err != nil {
 		return config, err
 	}
 	if config.Signer, err = signer.Open(filepath.Join(string(p), "key.pem")); err != nil {
@@ -101,11 +145,20 @@ func (p place) config(t testing.TB) Config {
 	return config
 }
 
+// closeAll closes what was opened.
 func closeAll(config Config) {
-	config.Step.Close()
-	config.Places.Close()
-	config.Register.Close()
-	config.Objects.Close()
+	if config.Step != nil {
+		config.Step.Close()
+	}
+	if config.Places != nil {
+		config.Places.Close()
+	}
+	if config.Register != nil {
+		config.Register.Close()
+	}
+	if config.Objects != nil {
+		config.Objects.Close()
+	}
 }
 
 // started starts a node, which is ended at the test's end.
@@ -190,13 +243,33 @@ func (a *answers) submitAll(ctx context.Context, s log.Log, from, to, atOnce int
 	return nil
 }
 
-// judged has the checker judge what is in a place.
+// judged has the checker judge what is in a place: a folder, or a copy of a bucket.
 func (p place) judged(answers []check.Answer) (check.Report, error) {
 	s, err := signer.Open(filepath.Join(string(p), "key.pem"))
 	if err != nil {
 		return check.Report{}, err
 	}
-	return check.Folder(p.objects(), s.Key(), answers)
+	at, err := p.addresses()
+	if err != nil {
+		return check.Report{}, err
+	}
+	folder := strings.TrimPrefix(at.Objects, "folder:")
+	if folder == at.Objects {
+		if folder, err = os.MkdirTemp(string(p), "copy"); err != nil {
+			return check.Report{}, err
+		}
+		ctx, cancel := context.WithTimeout(context.Background(), longest)
+		defer cancel()
+		objects, err := stores.ObjectsAt(ctx, at.Objects)
+		if err != nil {
+			return check.Report{}, err
+		}
+		defer objects.Close()
+		if _, err := stores.Copy(ctx, objects, folder, stagingPrefix, "conditional-put/"); err != nil {
+			return check.Report{}, err
+		}
+	}
+	return check.Folder(folder, s.Key(), answers)
 }
 
 func (p place) right(t testing.TB, a *answers) check.Report {
