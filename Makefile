@@ -1,4 +1,4 @@
-.PHONY: help demo test check service service-test service-engines cluster cluster-status cluster-stop link install install-library install-ctlog install-ctlogd install-ctmonitor install-ctguard fuzz load sweep wrong sources serve tiles interop
+.PHONY: help demo test check service service-test service-engines service-faults cluster cluster-status cluster-stop link install install-library install-ctlog install-ctlogd install-ctmonitor install-ctguard fuzz load sweep wrong sources serve tiles interop
 
 SECONDS ?= 60
 RUNS ?= 20
@@ -39,6 +39,11 @@ service-test: ## builds and tests the Go part, without engines; where Go isn't i
 
 service-engines: ## the same with engines on loopback: those of etcd, PostgreSQL and Ceph that are installed
 	@service/test.sh engines
+
+# RUNS=3 KILLS=100 MEMBERS=20 GATEWAYS=10 PAUSES=10 in the environment say how many.
+service-faults: ## kills and stops nodes, members of etcd and radosgw below a log, a quarter of an hour a run, and judges the log from its bucket
+	@checks/needs.sh service-test
+	@service/faults.sh
 
 # LOAD=no leaves the loader and the reader out.
 cluster: ## runs three nodes of ctserve on engines of their own in CLUSTER=ct-cluster (etcd, Ceph's S3; from PORT=8618 on), with a loader and a reader
