@@ -1,10 +1,11 @@
-.PHONY: help demo test check service service-test service-engines link install install-library install-ctlog install-ctlogd install-ctmonitor install-ctguard fuzz load sweep wrong sources serve tiles interop
+.PHONY: help demo test check service service-test service-engines service-faults cluster cluster-status cluster-stop link install install-library install-ctlog install-ctlogd install-ctmonitor install-ctguard fuzz load sweep wrong sources serve tiles interop
 
 SECONDS ?= 60
 RUNS ?= 20
 PREFIX ?= /usr/local
 PORT ?= 8618
 BUILT ?= crates
+CLUSTER ?= ct-cluster
 
 PROGRAMS := ctlog ctlogd ctmonitor ctguard
 LIBRARY = $(BUILT)/wagtenib/out/link/libwagtenib
@@ -29,7 +30,7 @@ check: ## for daily work: proves what changed
 	@$(MAKE) --silent sources
 	rt all check
 
-service: ## builds service/out/ctserve, the service in Go (docs/OPERATING.md)
+service: ## builds service/out/ctserve, the service in Go (docs/OPERATING.md), and ctcheck, ctload and ctread
 	@checks/needs.sh service
 	@service/build.sh build
 
@@ -38,6 +39,22 @@ service-test: ## builds and tests the Go part, without engines; where Go isn't i
 
 service-engines: ## the same with engines on loopback: those of etcd, PostgreSQL and Ceph that are installed
 	@service/test.sh engines
+
+# RUNS=3 KILLS=100 MEMBERS=20 GATEWAYS=10 PAUSES=10 in the environment say how many.
+service-faults: ## kills and stops nodes, members of etcd and radosgw below a log, a quarter of an hour a run, and judges the log from its bucket
+	@checks/needs.sh service-test
+	@service/faults.sh
+
+# LOAD=no leaves the loader and the reader out.
+cluster: ## runs three nodes of ctserve on engines of their own in CLUSTER=ct-cluster (etcd, Ceph's S3; from PORT=8618 on), with a loader and a reader
+	@checks/needs.sh service
+	@service/cluster.sh start $(CLUSTER) $(PORT)
+
+cluster-status: ## says what runs of it
+	@service/cluster.sh status $(CLUSTER)
+
+cluster-stop: ## ends it, and judges what it published and answered
+	@service/cluster.sh stop $(CLUSTER)
 
 link: ## builds libwagtenib, the proof checkers for C, and runs programs in C, Rust and Python over it
 	@checks/needs.sh link

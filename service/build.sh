@@ -30,7 +30,7 @@ case $what in
     ;;
   build)
     mkdir -p out
-    go build -o out/ctserve wagtenib/service/ctserve
+    go build -o out wagtenib/service/ctserve wagtenib/service/ctcheck wagtenib/service/ctload wagtenib/service/ctread
     ;;
   fuzz)
     for target in FuzzPoison FuzzFinalIssuer FuzzChain FuzzRoots; do

@@ -1,23 +1,38 @@
 #!/usr/bin/env bash
-# Runs a command beside engines of its own: engines.sh run COMMAND..
-# It starts, on loopback and in a folder of its own, what is installed of: one member of etcd (Debian's etcd-server and
-# etcd-client), PostgreSQL (postgresql) and Ceph with its S3 (radosgw, ceph-mon, ceph-osd, ceph-mgr), tells the command where they
-# are (STORES_ETCD, STORES_POSTGRES, STORES_S3), and stops them behind it. ENGINES="etcd postgres" starts these alone. One line is
-# said of each that isn't there. It ends with the command's status.
-#
-# The command may kill an engine's process (-9) and have it started again, and stop it for some seconds: engines.sh again|pause
-# FOLDER NAME [SECONDS], of which STORES_AGAIN and STORES_PAUSE are all but the last words.
+# Engines of one's own, on loopback and in a folder:
+#   engines.sh run COMMAND..        starts them, tells the command where they are, and stops them behind it; it ends with its status
+#   engines.sh start FOLDER         starts them in a folder, or those that were stopped there, and writes where they are to FOLDER/addresses
+#   engines.sh stop FOLDER          stops them; what they keep stays
+#   engines.sh again FOLDER NAME    kills a process of theirs (-9), and starts it once more
+#   engines.sh pause FOLDER NAME SECONDS
+# ENGINES says which, of: etcd, a member of etcd; members, three of them (Debian's etcd-server and etcd-client); postgres (postgresql);
+# s3, Ceph with its S3 (radosgw, ceph-mon, ceph-osd, ceph-mgr). Without it "etcd members postgres s3", each where it is installed: one line is
+# said of each that isn't. Where they are is told by STORES_ETCD, STORES_MEMBERS, STORES_POSTGRES and STORES_S3; STORES_AGAIN and
+# STORES_PAUSE are this script's calls but for the last words. PORT is where ports that are free are looked for; elsewhere by chance.
+# (start_etcd and the like are called by their names)
+# shellcheck disable=SC2317
 set -eu
 what=${1:-}
 shift || true
+
+# since ID: when a process began; nothing where it is gone, or dead and not yet waited for.
+since() { sed -n 's/^.*) [^Z] //p' "/proc/$1/stat" 2>/dev/null | cut -d ' ' -f 19; }
+
+# process NAME: its number, where it runs and no other has that.
+process() {
+  local id began
+  read -r id began 2>/dev/null <"$work/$1.id" && [ -n "$began" ] && [ "$began" = "$(since "$id")" ] && echo "$id"
+}
+
+runs() { process "$1" >/dev/null; }
 
 # launch NAME: starts a process by its command line, and waits until it is ready.
 launch() {
   local name=$1
   for _ in $(seq 150); do
-    if ! kill -0 "$(cat "$work/$name.id" 2>/dev/null)" 2>/dev/null; then
+    if ! runs "$name"; then
       bash -c "exec $(cat "$work/$name.command")" >>"$work/$name.log" 2>&1 </dev/null &
-      echo $! >"$work/$name.id"
+      echo "$! $(since $!)" >"$work/$name.id"
       disown
     fi
     # (a gateway that waits for ever is tried again)
@@ -28,56 +43,42 @@ launch() {
   exit 1
 }
 
-# start NAME READY COMMAND..: READY is a line for bash that holds once it is ready.
-start() {
+# begin NAME READY COMMAND..: READY is a line for bash that holds once it is ready.
+begin() {
   local name=$1
   echo "$2" >"$work/$name.ready"
   shift 2
   printf '%q ' "$@" >"$work/$name.command"
+  echo "$name" >>"$work/names"
   launch "$name"
 }
 
-if [ "$what" = again ] && [ $# = 2 ]; then
-  work=$1
-  kill -KILL "$(cat "$work/$2.id")"
-  while kill -0 "$(cat "$work/$2.id")" 2>/dev/null; do sleep 0.02; done
-  launch "$2"
-  exit
-fi
-if [ "$what" = pause ] && [ $# = 3 ]; then
-  id=$(cat "$1/$2.id")
-  stopped="$id $(pgrep -P "$id" | tr '\n' ' ')"
-  # Its words are ids.
-  # shellcheck disable=SC2086
-  kill -STOP $stopped
-  sleep "$3"
-  # shellcheck disable=SC2086
-  kill -CONT $stopped
-  exit
-fi
-if [ "$what" != run ] || [ $# = 0 ]; then
-  echo "engines.sh run COMMAND.. | again FOLDER NAME | pause FOLDER NAME SECONDS" >&2
-  exit 1
-fi
-engines=${ENGINES-etcd postgres s3}
-work=$(mktemp -d)
-chmod 755 "$work"
+# tell NAME VALUE: where an engine is.
+tell() {
+  export "$1=$2"
+  printf 'export %s=%q\n' "$1" "$2" >>"$work/addresses"
+}
 
-end() {
-  local ids
-  ids=$(cat "$work"/*.id 2>/dev/null || true)
+# at FOLDER: works there.
+at() {
+  work=$(realpath "$1")
+  export CEPH_CONF=$work/ceph/ceph.conf
+  touch "$work/names"
+}
+
+stop() {
+  local ids name
+  ids=$(tac "$work/names" | while read -r name; do process "$name" || true; done)
   for id in $ids; do kill -TERM "$id" 2>/dev/null || true; done
   for _ in $(seq 30); do
-    for id in $ids; do kill -0 "$id" 2>/dev/null && break; done || break
+    for id in $ids; do [ -n "$(since "$id")" ] && break; done || break
     sleep 0.1
   done
   for id in $ids; do kill -KILL "$id" 2>/dev/null || true; done
-  rm -rf "$work"
 }
-trap end EXIT
 
 # Ports that nobody listens at, from a place of chance on.
-port=$((20000 + RANDOM % 8000))
+port=$((${PORT:-$((20000 + RANDOM % 8000))} - 1))
 next_port() {
   while port=$((port + 1)); (exec 3<>"/dev/tcp/127.0.0.1/$port") 2>/dev/null; do :; done
 }
@@ -96,9 +97,28 @@ start_etcd() {
   local here peer
   next_port; here=http://127.0.0.1:$port
   next_port; peer=http://127.0.0.1:$port
-  start etcd "ETCDCTL_API=3 etcdctl --endpoints $here endpoint health" etcd --name one --data-dir "$work/etcd" --listen-client-urls "$here" --advertise-client-urls "$here" \
+  begin etcd "ETCDCTL_API=3 etcdctl --endpoints $here endpoint health" etcd --name one --data-dir "$work/etcd" --listen-client-urls "$here" --advertise-client-urls "$here" \
     --listen-peer-urls "$peer" --initial-advertise-peer-urls "$peer" --initial-cluster "one=$peer" --logger zap
-  export STORES_ETCD=${here#http://}
+  tell STORES_ETCD "${here#http://}"
+}
+
+# Three members of one etcd, as processes member-1 to member-3. A member alone has no majority: the last one is asked.
+start_members() {
+  has members "etcd-server etcd-client" etcd etcdctl || return 0
+  local i all="" clients=() peers=() ready
+  for i in 1 2 3; do
+    next_port; clients+=("127.0.0.1:$port")
+    next_port; peers+=("http://127.0.0.1:$port")
+    all+="${all:+,}member-$i=http://127.0.0.1:$port"
+  done
+  for i in 1 2 3; do
+    ready="exec 3<>/dev/tcp/${clients[i - 1]/://}"
+    [ "$i" = 3 ] && ready="ETCDCTL_API=3 etcdctl --endpoints ${clients[2]} endpoint health"
+    begin "member-$i" "$ready" etcd --name "member-$i" --data-dir "$work/member-$i" --logger zap --initial-cluster "$all" \
+      --listen-client-urls "http://${clients[i - 1]}" --advertise-client-urls "http://${clients[i - 1]}" \
+      --listen-peer-urls "${peers[i - 1]}" --initial-advertise-peer-urls "${peers[i - 1]}"
+  done
+  tell STORES_MEMBERS "$(IFS=,; echo "${clients[*]}")"
 }
 
 start_postgres() {
@@ -113,8 +133,8 @@ start_postgres() {
     as_user=(setpriv --reuid postgres --regid postgres --clear-groups)
   fi
   (cd "$work" && "${as_user[@]}" "$programs/initdb" -D "$data" -A trust -U log >"$work/initdb.log" 2>&1)
-  start postgres "$programs/pg_isready -h 127.0.0.1 -p $port -U log" "${as_user[@]}" "$programs/postgres" -D "$data" -p "$port" -c listen_addresses=127.0.0.1 -c "unix_socket_directories=$data" -c max_connections=200
-  export STORES_POSTGRES="host=127.0.0.1 port=$port user=log dbname=postgres sslmode=disable"
+  begin postgres "$programs/pg_isready -h 127.0.0.1 -p $port -U log" "${as_user[@]}" "$programs/postgres" -D "$data" -p "$port" -c listen_addresses=127.0.0.1 -c "unix_socket_directories=$data" -c max_connections=200
+  tell STORES_POSTGRES "host=127.0.0.1 port=$port user=log dbname=postgres sslmode=disable"
 }
 
 # One monitor, one OSD and one gateway, without authentication among them.
@@ -146,6 +166,7 @@ mon max pg per osd = 1000
 run dir = $ceph/run
 admin socket = $ceph/run/\$name.asok
 log file = $work/\$name.log
+debug rgw = 0/0
 mon data = $ceph/mon
 osd data = $ceph/osd
 mgr data = $ceph/mgr
@@ -156,22 +177,75 @@ osd memory target = 1000000000
 rgw frontends = beast endpoint=$gateway
 ms mon client mode = crc
 END
-  export CEPH_CONF=$ceph/ceph.conf
   monmaptool --create --fsid "$name" --addv a "[$monitor]" "$ceph/monmap" >/dev/null
   ceph-mon -i a --mkfs --monmap "$ceph/monmap"
-  start ceph-mon "ceph -s" ceph-mon -i a -f
-  start ceph-mgr true ceph-mgr -i x -f
+  begin ceph-mon "ceph -s" ceph-mon -i a -f
+  begin ceph-mgr true ceph-mgr -i x -f
   ceph osd new "$osd" >/dev/null
   ceph-osd -i 0 --mkfs --osd-uuid "$osd" 2>/dev/null
-  start ceph-osd "ceph osd crush add osd.0 1 root=default host=h; ceph osd stat | grep -q '1 up'" ceph-osd -i 0 -f
-  start radosgw "exec 3<>/dev/tcp/${gateway/://}" radosgw -n client.rgw -f
+  begin ceph-osd "ceph osd crush add osd.0 1 root=default host=h; ceph osd stat | grep -q '1 up'" ceph-osd -i 0 -f
+  begin radosgw "exec 3<>/dev/tcp/${gateway/://}" radosgw -n client.rgw -f
   radosgw-admin -n client.rgw user create --uid log --display-name log --access-key log --secret-key secret >/dev/null 2>&1
-  export STORES_S3=http://log:secret@$gateway
+  tell STORES_S3 "http://log:secret@$gateway"
 }
 
-began=$SECONDS
+# start_all: starts what ENGINES says, or what was stopped in this folder.
+start_all() {
+  local began=$SECONDS engines=${ENGINES-etcd members postgres s3} engine name names
+  mapfile -t names <"$work/names"
+  if [ -n "${names[*]}" ]; then
+    for name in "${names[@]}"; do launch "$name"; done
+  else
+    : >"$work/addresses"
+    for engine in $engines; do "start_$engine"; done
+    tell STORES_AGAIN "$here/engines.sh again $work"
+    tell STORES_PAUSE "$here/engines.sh pause $work"
+  fi
+  [ -z "$engines" ] || echo "engines.sh: started in $((SECONDS - began)) s"
+}
+
 here=$(cd "$(dirname "$0")" && pwd)
-export STORES_AGAIN="$here/engines.sh again $work" STORES_PAUSE="$here/engines.sh pause $work"
-for engine in $engines; do "start_$engine"; done
-[ -z "$engines" ] || echo "engines.sh: started in $((SECONDS - began)) s"
-"$@"
+case $what:$# in
+  run:0) ;;
+  run:*)
+    work=$(mktemp -d)
+    chmod 755 "$work"
+    at "$work"
+    trap 'stop; rm -rf "$work"' EXIT
+    start_all
+    "$@"
+    exit
+    ;;
+  start:1)
+    mkdir -p "$1"
+    at "$1"
+    start_all
+    exit
+    ;;
+  stop:1)
+    at "$1"
+    stop
+    exit
+    ;;
+  again:2)
+    at "$1"
+    killed=$(process "$2") && kill -KILL "$killed"
+    while runs "$2"; do sleep 0.02; done
+    launch "$2"
+    exit
+    ;;
+  pause:3)
+    at "$1"
+    id=$(process "$2")
+    stopped="$id $(pgrep -P "$id" | tr '\n' ' ')"
+    # Its words are ids.
+    # shellcheck disable=SC2086
+    kill -STOP $stopped
+    sleep "$3"
+    # shellcheck disable=SC2086
+    kill -CONT $stopped
+    exit
+    ;;
+esac
+echo "engines.sh run COMMAND.. | start FOLDER | stop FOLDER | again FOLDER NAME | pause FOLDER NAME SECONDS" >&2
+exit 1

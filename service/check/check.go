@@ -365,6 +365,11 @@ func (f *folder) mth(size uint64) hash {
 	return root
 }
 
+// swept says whether partial tiles may be gone, since the full one is there (C2SP tlog-tiles).
+func (f *folder) swept(level string, index uint64) bool {
+	return f.objects[nameOf(level, index, 256)] != nil
+}
+
 // judgeHead sees that a head is the tree's, and that each tile that it wants is there.
 func (f *folder) judgeHead(h head) error {
 	if h.root != f.mth(h.size) {
@@ -373,7 +378,7 @@ func (f *folder) judgeHead(h head) error {
 	for level := 0; h.size>>uint(8*level) > 0; level++ {
 		hashes := h.size >> uint(8*level)
 		if width := hashes % 256; width > 0 {
-			if name := nameOf(strconv.Itoa(level), hashes/256, width); f.objects[name] == nil {
+			if name := nameOf(strconv.Itoa(level), hashes/256, width); f.objects[name] == nil && !f.swept(strconv.Itoa(level), hashes/256) {
 				return wrong("%s: %s is missing", h.name, name)
 			}
 		}
@@ -384,7 +389,7 @@ func (f *folder) judgeHead(h head) error {
 		}
 	}
 	if width := h.size % 256; width > 0 {
-		if name := nameOf("data", h.size/256, width); f.objects[name] == nil {
+		if name := nameOf("data", h.size/256, width); f.objects[name] == nil && !f.swept("data", h.size/256) {
 			return wrong("%s: %s is missing", h.name, name)
 		}
 	}

@@ -1,20 +1,24 @@
-// Command ctcheck judges a log from what it published in a folder: ctcheck FOLDER KEY.PEM [ANSWERS..]. KEY.PEM has the log's public
-// key; a file of answers has a JSON object a line, as check.Answer has it. It says what it saw, or what is wrong, with status 1.
+// Command ctcheck judges a log from what it published in a folder or a bucket: ctcheck FOLDER|s3://.. KEY.PEM [ANSWERS..]. KEY.PEM
+// has the log's public key; a file of answers has a JSON object a line, as check.Answer has it. It says what it saw, or what is
+// wrong, with status 1.
 package main
 
 import (
 	"bufio"
+	"context"
 	"encoding/json"
 	"encoding/pem"
 	"fmt"
 	"os"
+	"strings"
 
 	"wagtenib/service/check"
+	"wagtenib/service/stores"
 )
 
 func main() {
 	if len(os.Args) < 3 {
-		fmt.Fprintln(os.Stderr, "ctcheck FOLDER KEY.PEM [ANSWERS..]")
+		fmt.Fprintln(os.Stderr, "ctcheck FOLDER|s3://.. KEY.PEM [ANSWERS..]")
 		os.Exit(2)
 	}
 	report, err := judge(os.Args[1], os.Args[2], os.Args[3:])
@@ -41,7 +45,30 @@ func judge(folder, keyFile string, answerFiles []string) (check.Report, error) {
 			return check.Report{}, err
 		}
 	}
+	if strings.HasPrefix(folder, "s3://") {
+		copied, err := os.MkdirTemp("", "ctcheck")
+		if err != nil {
+			return check.Report{}, err
+		}
+		defer os.RemoveAll(copied)
+		if err := fetch(folder, copied); err != nil {
+			return check.Report{}, err
+		}
+		folder = copied
+	}
 	return check.Folder(folder, block.Bytes, answers)
+}
+
+// fetch copies a bucket into a folder, but for the bundles.
+func fetch(address, folder string) error {
+	ctx := context.Background()
+	objects, err := stores.ObjectsAt(ctx, address)
+	if err != nil {
+		return err
+	}
+	defer objects.Close()
+	_, err = stores.Copy(ctx, objects, folder, "staging/", "conditional-put/")
+	return err
 }
 
 // mostLine is how long an answer's line may be.

@@ -26,7 +26,7 @@ func openNode(ctx context.Context, n node) (of *opened, err error) {
 	}()
 	config := sequencer.Config{
 		Origin: n.origin, Create: n.create, Interval: n.interval, Refresh: n.refresh, MostQueue: n.mostQueue, MostBatch: n.mostBatch,
-		BehindSwap: n.behindSwap, Address: n.address, Secret: n.secret,
+		SweepAfter: n.sweepAfter, TendEvery: n.readEvery, BehindSwap: n.behindSwap, Address: n.address, Secret: n.secret,
 	}
 	if config.Signer, err = signer.Open(n.signingKey); err != nil {
 		return nil, err

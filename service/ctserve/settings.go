@@ -36,6 +36,7 @@ type node struct {
 	folder, store, register, places           string
 	step                                      []string
 	stepWithin, interval, refresh, openWithin time.Duration
+	sweepAfter, readEvery                     time.Duration
 	mostQueue, mostBatch                      int
 	behindSwap, create, makesFolder           bool
 	address, secret                           string
@@ -92,6 +93,8 @@ func parse(words []string, help io.Writer) (*settings, error) {
 	flags.DurationVar(&n.stepWithin, "step-within", 30*time.Second, "how long a step may take, until its program is killed")
 	flags.DurationVar(&n.interval, "interval", 500*time.Millisecond, "how far two heads are apart at least")
 	flags.DurationVar(&n.refresh, "refresh", time.Hour, "how old a head gets before one without new entries is made")
+	flags.DurationVar(&n.sweepAfter, "sweep-after", time.Hour, "how long a full tile stands before its partial ones are deleted")
+	flags.DurationVar(&n.readEvery, "read-again-every", time.Second, "how far two old tiles are apart that are read again")
 	flags.DurationVar(&n.openWithin, "open-within", 30*time.Second, "how long the stores may take to open")
 	flags.IntVar(&n.mostQueue, "most-queue", 4096, "submissions that wait")
 	flags.IntVar(&n.mostBatch, "most-batch", 1024, "entries of one step")
@@ -168,7 +171,7 @@ func (s *settings) settle() error {
 	if !s.window.From.IsZero() && !s.window.To.IsZero() && !s.window.From.Before(s.window.To) {
 		return errors.New("--not-after-from isn't before --not-after-to")
 	}
-	for _, time := range []time.Duration{s.endWithin, l.Headers, l.Request, l.Submission, l.Answer, l.Idle, n.stepWithin, n.interval, n.refresh, n.openWithin} {
+	for _, time := range []time.Duration{s.endWithin, l.Headers, l.Request, l.Submission, l.Answer, l.Idle, n.stepWithin, n.interval, n.refresh, n.openWithin, n.sweepAfter, n.readEvery} {
 		if time <= 0 {
 			return errors.New("a time is above 0")
 		}

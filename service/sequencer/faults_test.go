@@ -2,7 +2,6 @@ package sequencer
 
 import (
 	"context"
-	"errors"
 	"fmt"
 	"io"
 	"net/http/httptest"
@@ -337,58 +336,25 @@ func TestUnknownSwaps(t *testing.T) {
 	}
 }
 
-// failing is a store of objects of which one request in some fails, before or behind what it does.
-type failing struct {
-	stores.Objects
-	mu    sync.Mutex
-	calls int
-	every int
-}
-
-var errTried = errors.New("a store that fails")
-
-func (f *failing) fails(behind bool) bool {
-	f.mu.Lock()
-	defer f.mu.Unlock()
-	f.calls++
-	return f.every > 0 && f.calls%f.every == 0 && (f.calls/f.every%2 == 0) == behind
-}
-
-func (f *failing) Put(ctx context.Context, name string, content []byte) error {
-	if f.fails(false) {
-		return errTried
-	}
-	err := f.Objects.Put(ctx, name, content)
-	if f.fails(true) {
-		return errTried
-	}
-	return err
-}
-
-func (f *failing) Get(ctx context.Context, name string, most int64) ([]byte, error) {
-	if f.fails(false) {
-		return nil, errTried
-	}
-	return f.Objects.Get(ctx, name, most)
-}
-
-// TestFailingStore has one call in ten fail: who waits is answered all the same, and nothing comes in twice.
+// TestFailingStore has one call in ten of every store fail: who waits is answered all the same, and nothing comes in twice.
 func TestFailingStore(t *testing.T) {
 	t.Parallel()
 	p, ctx, got := newPlace(t), limited(t), &answers{}
 	config := p.config(t)
 	config.Patience = longest
-	store := &failing{Objects: config.Objects}
-	config.Objects = store
+	faults := &faulty{}
+	faults.wrap(&config)
 	s := started(t, config, hooks{})
 	// (the issuers first: a submission whose issuers can't be put is refused)
 	must(t, got.submitAll(ctx, s, 0, 15, 15))
-	store.mu.Lock()
-	store.every = 10
-	store.mu.Unlock()
+	faults.failEvery(10)
 	must(t, got.submitAll(ctx, s, 15, 100, 8))
+	faults.failEvery(0)
 	if report := p.right(t, got); report.Leaves != 100 {
 		t.Fatalf("%+v", report)
+	}
+	if faults.failed == 0 {
+		t.Error("nothing failed")
 	}
 }
 
@@ -518,8 +484,12 @@ func TestEndInTime(t *testing.T) {
 // TestPlantedOrders has a node do in a wrong order what is right in the order of this package: the checker sees each.
 func TestPlantedOrders(t *testing.T) {
 	t.Parallel()
+	onEach(t, plantedOrders)
+}
+
+func plantedOrders(t *testing.T, on ground) {
 	t.Run(tilesFirst, func(t *testing.T) {
-		p, got := newPlace(t), &answers{}
+		p, got := newPlaceOn(t, on), &answers{}
 		_, err := child{Place: string(p), Plant: tilesFirst, KillAt: "stepped", KillOn: 100, From: 0, To: 5}.run(got)
 		must(t, err)
 		// It dies between its tiles and its swap; another one goes on with other entries.
@@ -537,7 +507,7 @@ func TestPlantedOrders(t *testing.T) {
 		}
 	})
 	t.Run(answerFirst, func(t *testing.T) {
-		p, got := newPlace(t), &answers{}
+		p, got := newPlaceOn(t, on), &answers{}
 		killed, err := child{Place: string(p), Plant: answerFirst, KillAt: "bundle put", KillOn: 3, From: 0, To: 50}.run(got)
 		must(t, err)
 		if !killed || len(got.all) == 0 {
@@ -552,7 +522,7 @@ func TestPlantedOrders(t *testing.T) {
 		}
 	})
 	t.Run(noWait, func(t *testing.T) {
-		p, got := newPlace(t), &answers{}
+		p, got := newPlaceOn(t, on), &answers{}
 		s := started(t, p.config(t), hooks{plant: noWait})
 		short, cancel := context.WithTimeout(limited(t), 3*time.Second)
 		defer cancel()

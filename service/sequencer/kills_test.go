@@ -13,13 +13,17 @@ var phases = []string{"stepped", "bundle put", "swapped", "tiles out", "places a
 // is in its place, and what wasn't and is submitted again comes in once.
 func TestKillsAtEachPhase(t *testing.T) {
 	t.Parallel()
+	onEach(t, killsAtEachPhase)
+}
+
+func killsAtEachPhase(t *testing.T, on ground) {
 	for _, phase := range phases {
 		phase := phase
 		t.Run(phase, func(t *testing.T) {
 			t.Parallel()
-			p, got := newPlace(t), &answers{}
-			for i, on := range []int{2, 4} {
-				killed, err := child{Place: string(p), KillAt: phase, KillOn: on, From: 100 * i, To: 100*i + 200}.run(got)
+			p, got := newPlaceOn(t, on), &answers{}
+			for i, time := range []int{2, 4} {
+				killed, err := child{Place: string(p), KillAt: phase, KillOn: time, From: 100 * i, To: 100*i + 200}.run(got)
 				must(t, err)
 				if !killed {
 					t.Fatal("the node wasn't killed")
@@ -37,7 +41,11 @@ func TestKillsAtEachPhase(t *testing.T) {
 // TestNodesAtOnce has three processes carry one log, with the same submissions among them, each killed once in another phase.
 func TestNodesAtOnce(t *testing.T) {
 	t.Parallel()
-	p, got := newPlace(t), &answers{}
+	onEach(t, nodesAtOnce)
+}
+
+func nodesAtOnce(t *testing.T, on ground) {
+	p, got := newPlaceOn(t, on), &answers{}
 	var all sync.WaitGroup
 	failed := make(chan error, 3)
 	for i, phase := range []string{"bundle put", "swapped", "tiles out"} {
@@ -66,11 +74,15 @@ func TestNodesAtOnce(t *testing.T) {
 // TestPausesAtEachPhase stops a node in a phase while another one carries the log on, and lets it go on behind that.
 func TestPausesAtEachPhase(t *testing.T) {
 	t.Parallel()
+	onEach(t, pausesAtEachPhase)
+}
+
+func pausesAtEachPhase(t *testing.T, on ground) {
 	for _, phase := range phases {
 		phase := phase
 		t.Run(phase, func(t *testing.T) {
 			t.Parallel()
-			p, ctx, got := newPlace(t), limited(t), &answers{}
+			p, ctx, got := newPlaceOn(t, on), limited(t), &answers{}
 			pause, paused, release := make(chan struct{}, 1), make(chan struct{}), make(chan struct{})
 			first := started(t, p.config(t), hooks{phase: func(name string) {
 				if name != phase {

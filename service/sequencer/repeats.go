@@ -29,7 +29,7 @@ func tileName(tile tlog.Tile) string {
 // tiles reads the hash tiles of a tree, for tlog, which checks them against its root.
 type tiles struct {
 	ctx  context.Context
-	s    *Sequencer
+	read func(context.Context, string) ([]byte, error)
 	seen map[string][]byte
 	// failed is why one couldn't be read.
 	failed error
@@ -49,7 +49,7 @@ func (t *tiles) ReadTiles(wanted []tlog.Tile) ([][]byte, error) {
 		content, ok := t.seen[name]
 		if !ok {
 			var err error
-			if content, err = t.s.read(t.ctx, name); err != nil {
+			if content, err = t.read(t.ctx, name); err != nil {
 				t.failed = err
 				return nil, err
 			}
@@ -68,14 +68,7 @@ func (s *Sequencer) read(ctx context.Context, name string) ([]byte, error) {
 	if content, ok := s.edge[name]; ok {
 		return content, nil
 	}
-	content, err := s.config.Objects.Get(ctx, name, stores.MostObject)
-	if errors.Is(err, stores.ErrAbsent) {
-		return nil, fmt.Errorf("%w: %s is missing", ErrDamaged, name)
-	}
-	if err != nil {
-		return nil, fmt.Errorf("sequencer: %w", err)
-	}
-	return content, nil
+	return s.readStore(ctx, name)
 }
 
 // answerRepeats answers those whose entry stands in the log, with its first place, and gives the others. The state is rolled out,
@@ -159,7 +152,7 @@ type tree struct {
 
 func (s *Sequencer) treeOf(ctx context.Context, state step.State) *tree {
 	root := tlog.Tree{N: int64(state.Size), Hash: tlog.Hash(state.Root)}
-	reader := &tiles{ctx: ctx, s: s, seen: map[string][]byte{}}
+	reader := &tiles{ctx: ctx, read: s.read, seen: map[string][]byte{}}
 	return &tree{s: s, state: state, ctx: ctx, tiles: reader, hashes: tlog.TileHashReader(root, reader)}
 }
 

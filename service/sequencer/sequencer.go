@@ -79,6 +79,12 @@ type Config struct {
 	Patience time.Duration
 	// BehindSwap answers behind the swap, and not once the head is published: sooner, but a merge is owed until then.
 	BehindSwap bool
+	// SweepAfter is how long a full tile stands before the partial tiles below its name go, at least, and twice as long at most; an
+	// hour where it is 0.
+	SweepAfter time.Duration
+	// TendEvery is how far two turns are apart in each of which partial tiles are swept, and one old tile is read again; 1 s where
+	// it is 0.
+	TendEvery time.Duration
 	// Address is where other nodes find this one's Handler, as http://HOST:PORT/PATH; none where it is empty. Secret is what they
 	// show each other; at least 16 bytes.
 	Address, Secret string
@@ -92,12 +98,14 @@ func (c *Config) settle() error {
 		return fmt.Errorf("%w: a store, the step or the signer isn't there", ErrConfig)
 	case c.Origin == "" || strings.ContainsAny(c.Origin, " +\n\r\t"):
 		return fmt.Errorf("%w: an origin has neither spaces nor a plus sign", ErrConfig)
-	case c.Interval < 0 || c.Refresh < 0 || c.Patience < 0 || c.MostQueue < 0 || c.MostQueueBytes < 0 || c.MostBatch < 0 || c.MostBatch > MostBatch:
+	case c.Interval < 0 || c.Refresh < 0 || c.Patience < 0 || c.SweepAfter < 0 || c.TendEvery < 0 || c.MostQueue < 0 || c.MostQueueBytes < 0 || c.MostBatch < 0 || c.MostBatch > MostBatch:
 		return fmt.Errorf("%w: a bound is below 0, or a batch above %d", ErrConfig, MostBatch)
 	}
 	orElse(&c.Interval, 500*time.Millisecond)
 	orElse(&c.Refresh, time.Hour)
 	orElse(&c.Patience, 5*time.Second)
+	orElse(&c.SweepAfter, time.Hour)
+	orElse(&c.TendEvery, time.Second)
 	orElse(&c.MostQueue, 4096)
 	orElse(&c.MostQueueBytes, 64<<20)
 	orElse(&c.MostBatch, MostBatch)
@@ -118,9 +126,9 @@ type Sequencer struct {
 	queue   *queue
 	issuers *issuers
 	clock   *clock
-	// cancel ends all that the loop does, and ended is closed behind it.
-	cancel context.CancelFunc
-	ended  chan struct{}
+	// cancel ends all that the loop and the tender do; ended is closed behind the one, and tended behind the other.
+	cancel        context.CancelFunc
+	ended, tended chan struct{}
 
 	// The loop's own.
 	// edge has tiles of the newest state that need not be read, and rolled is the line of the last state that is rolled out.
@@ -140,7 +148,7 @@ type Sequencer struct {
 	// alone is until when nothing is handed over, since a node didn't answer.
 	alone time.Time
 
-	steps, lost, unknown, repeats, helped, handed atomic.Uint64
+	steps, lost, unknown, repeats, helped, handed, swept, scrubbed, damaged atomic.Uint64
 	// handing holds who hands over.
 	handing chan struct{}
 
@@ -181,6 +189,7 @@ func start(ctx context.Context, config Config, test hooks) (*Sequencer, error) {
 		issuers: newIssuers(config.Objects),
 		clock:   newClock(test.now),
 		ended:   make(chan struct{}),
+		tended:  make(chan struct{}),
 		edge:    map[string][]byte{},
 		handing: make(chan struct{}, mostHanding),
 		test:    test,
@@ -191,6 +200,7 @@ func start(ctx context.Context, config Config, test hooks) (*Sequencer, error) {
 	running, cancel := context.WithCancel(context.Background())
 	s.cancel = cancel
 	go s.loop(running)
+	go s.tend(running)
 	return s, nil
 }
 
@@ -264,6 +274,7 @@ func (s *Sequencer) End(ctx context.Context) error {
 		<-s.ended
 	}
 	s.cancel()
+	<-s.tended
 	if left := s.queue.answerAll(log.ErrEnded); left > 0 {
 		return fmt.Errorf("sequencer: %d who waited were told so at the end: %w", left, ctx.Err())
 	}

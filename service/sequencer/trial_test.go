@@ -11,11 +11,15 @@ import (
 	"encoding/pem"
 	"errors"
 	"fmt"
+	"net"
+	"net/http"
 	"os"
 	"os/exec"
 	"path/filepath"
 	"strings"
 	"sync"
+	"sync/atomic"
+	"syscall"
 	"testing"
 	"time"
 
@@ -57,10 +61,33 @@ func limited(t testing.TB) context.Context {
 	return ctx
 }
 
-// place is a folder with all that a log stands on.
+// place is a folder with a log's key and, where no file in it says otherwise, all that the log stands on.
 type place string
 
+// addresses are where a log's stores are.
+type addresses struct{ Objects, Register, Places string }
+
 func (p place) objects() string { return filepath.Join(string(p), "objects") }
+
+func (p place) addressFile() string { return filepath.Join(string(p), "addresses") }
+
+// addresses reads where the stores are.
+func (p place) addresses() (at addresses, err error) {
+	text, err := os.ReadFile(p.addressFile())
+	if errors.Is(err, os.ErrNotExist) {
+		return addresses{"folder:" + p.objects(), "file:" + filepath.Join(string(p), "register"), "sqlite:" + filepath.Join(string(p), "places.db")}, nil
+	}
+	if err == nil {
+		err = json.Unmarshal(text, &at)
+	}
+	return at, err
+}
+
+// onEngines says whether the stores aren't in the folder.
+func (p place) onEngines() bool {
+	_, err := os.Stat(p.addressFile())
+	return err == nil
+}
 
 // newPlace makes a folder with a key.
 func newPlace(t testing.TB) place {
@@ -73,16 +100,37 @@ func newPlace(t testing.TB) place {
 	return p
 }
 
-// open opens the stores, and starts no node yet.
+// open opens the stores, and starts no node yet. An engine that was just killed is asked again.
 func (p place) open(ctx context.Context) (config Config, err error) {
+	for {
+		config, err = p.openOnce(ctx)
+		if err == nil || !p.onEngines() || wait(ctx, 200*time.Millisecond) != nil {
+			return config, err
+		}
+	}
+}
+
+func (p place) openOnce(ctx context.Context) (config Config, err error) {
 	config = Config{Origin: origin, Create: true, Interval: quick, Patience: time.Second}
-	if config.Objects, err = stores.ObjectsAt(ctx, "folder:"+p.objects()); err != nil {
+	if p.onEngines() {
+		config.Patience = longest
+	}
+	defer func() {
+		if err != nil {
+			closeAll(config)
+		}
+	}()
+	at, err := p.addresses()
+	if err != nil {
 		return config, err
 	}
-	if config.Register, err = stores.RegisterAt(ctx, "file:"+filepath.Join(string(p), "register")); err != nil {
+	if config.Objects, err = stores.ObjectsAt(ctx, at.Objects); err != nil {
 		return config, err
 	}
-	if config.Places, err = stores.PlacesAt(ctx, "sqlite:"+filepath.Join(string(p), "places.db")); err != nil {
+	if config.Register, err = stores.RegisterAt(ctx, at.Register); err != nil {
+		return config, err
+	}
+	if config.Places, err = stores.PlacesAt(ctx, at.Places); err != nil {
 		return config, err
 	}
 	if config.Signer, err = signer.Open(filepath.Join(string(p), "key.pem")); err != nil {
@@ -101,11 +149,20 @@ func (p place) config(t testing.TB) Config {
 	return config
 }
 
+// closeAll closes what was opened.
 func closeAll(config Config) {
-	config.Step.Close()
-	config.Places.Close()
-	config.Register.Close()
-	config.Objects.Close()
+	if config.Step != nil {
+		config.Step.Close()
+	}
+	if config.Places != nil {
+		config.Places.Close()
+	}
+	if config.Register != nil {
+		config.Register.Close()
+	}
+	if config.Objects != nil {
+		config.Objects.Close()
+	}
 }
 
 // started starts a node, which is ended at the test's end.
@@ -143,10 +200,20 @@ func answerOf(entry log.Entry, place log.Place) check.Answer {
 	return a
 }
 
-// answers collects what was answered.
+// answers collects what was answered, and to children, which numbers.
 type answers struct {
-	mu  sync.Mutex
-	all []check.Answer
+	mu      sync.Mutex
+	all     []check.Answer
+	numbers map[int]bool
+}
+
+func (a *answers) answered(number int) {
+	a.mu.Lock()
+	defer a.mu.Unlock()
+	if a.numbers == nil {
+		a.numbers = map[int]bool{}
+	}
+	a.numbers[number] = true
 }
 
 func (a *answers) add(one check.Answer) {
@@ -190,13 +257,33 @@ func (a *answers) submitAll(ctx context.Context, s log.Log, from, to, atOnce int
 	return nil
 }
 
-// judged has the checker judge what is in a place.
+// judged has the checker judge what is in a place: a folder, or a copy of a bucket.
 func (p place) judged(answers []check.Answer) (check.Report, error) {
 	s, err := signer.Open(filepath.Join(string(p), "key.pem"))
 	if err != nil {
 		return check.Report{}, err
 	}
-	return check.Folder(p.objects(), s.Key(), answers)
+	at, err := p.addresses()
+	if err != nil {
+		return check.Report{}, err
+	}
+	folder := strings.TrimPrefix(at.Objects, "folder:")
+	if folder == at.Objects {
+		if folder, err = os.MkdirTemp(string(p), "copy"); err != nil {
+			return check.Report{}, err
+		}
+		ctx, cancel := context.WithTimeout(context.Background(), longest)
+		defer cancel()
+		objects, err := stores.ObjectsAt(ctx, at.Objects)
+		if err != nil {
+			return check.Report{}, err
+		}
+		defer objects.Close()
+		if _, err := stores.Copy(ctx, objects, folder, stagingPrefix, "conditional-put/"); err != nil {
+			return check.Report{}, err
+		}
+	}
+	return check.Folder(folder, s.Key(), answers)
 }
 
 func (p place) right(t testing.TB, a *answers) check.Report {
@@ -212,12 +299,30 @@ func (p place) right(t testing.TB, a *answers) check.Report {
 // nodeWords is where a child process is told what to do, in JSON.
 const nodeWords = "SEQUENCER_NODE"
 
-// child is a node in a process of its own: it submits numbers from one to another, and writes each answer as a line. At the phase
-// KillAt, the KillOn-th time, it is killed (-9).
+// child is a node in a process of its own: it submits numbers from one to another, or those of a list, and writes each answer as a
+// line. At the phase KillAt, the KillOn-th time, it is killed (-9), and so it is after KillAfter. What isn't said isn't done.
 type child struct {
 	Place, KillAt, Plant string
 	KillOn               int
 	From, To             int
+	Numbers              []int
+	KillAfter, Within    time.Duration
+	// AtOnce is how many it submits at once; 8 where it is 0.
+	AtOnce int
+	// At the phase PauseAt, the PauseOn-th time, the process is stopped for PauseFor.
+	PauseAt  string
+	PauseOn  int
+	PauseFor time.Duration
+	// Ahead is how far its clock is, FailEvery of how many calls of its stores one fails, and Hands says whether it hands over.
+	Ahead     time.Duration
+	FailEvery int
+	Hands     bool
+}
+
+// told is a line of a child.
+type told struct {
+	Number int `json:"number"`
+	check.Answer
 }
 
 func TestMain(m *testing.M) {
@@ -236,53 +341,108 @@ func beNode(words string) error {
 	if err := json.Unmarshal([]byte(words), &c); err != nil {
 		return err
 	}
-	ctx, cancel := context.WithTimeout(context.Background(), longest)
+	orElse(&c.Within, longest)
+	orElse(&c.AtOnce, 8)
+	if c.KillAfter > 0 {
+		time.AfterFunc(c.KillAfter, killSelf)
+	}
+	ctx, cancel := context.WithTimeout(context.Background(), c.Within)
 	defer cancel()
 	config, err := place(c.Place).open(ctx)
 	if err != nil {
 		return err
 	}
 	defer closeAll(config)
-	seen := 0
-	s, err := start(ctx, config, hooks{plant: c.Plant, phase: func(name string) {
-		if name == c.KillAt {
-			if seen++; seen == c.KillOn {
-				killSelf()
-			}
-		}
-	}})
+	if c.Within > longest {
+		config.Patience = c.Within
+	}
+	faults := &faulty{}
+	faults.wrap(&config)
+	handler, end, err := c.listen(&config)
 	if err != nil {
 		return err
 	}
-	var told sync.Mutex
+	defer end()
+	s, err := start(ctx, config, hooks{plant: c.Plant, phase: c.phases(), now: func() time.Time { return time.Now().Add(c.Ahead) }})
+	if err != nil {
+		return err
+	}
+	handler.Store(s)
+	faults.failEvery(c.FailEvery)
+	var writing sync.Mutex
 	var all sync.WaitGroup
 	numbers := make(chan int)
-	for i := 0; i < 8; i++ {
+	for i := 0; i < c.AtOnce; i++ {
 		all.Add(1)
 		go func() {
 			defer all.Done()
 			for n := range numbers {
 				place, err := s.Submit(ctx, entryOf(n))
 				if err != nil {
-					fmt.Fprintln(os.Stderr, n, err)
+					if c.FailEvery == 0 {
+						fmt.Fprintln(os.Stderr, n, err)
+					}
 					continue
 				}
-				line, err := json.Marshal(answerOf(entryOf(n), place))
+				line, err := json.Marshal(told{n, answerOf(entryOf(n), place)})
 				if err != nil {
 					panic(err)
 				}
-				told.Lock()
+				writing.Lock()
 				fmt.Printf("%s\n", line)
-				told.Unlock()
+				writing.Unlock()
 			}
 		}()
 	}
 	for n := c.From; n < c.To; n++ {
 		numbers <- n
 	}
+	for _, n := range c.Numbers {
+		numbers <- n
+	}
 	close(numbers)
 	all.Wait()
+	faults.failEvery(0)
 	return s.End(ctx)
+}
+
+// listen has a node hand over and be handed to, over loopback; end ends that.
+func (c child) listen(config *Config) (handler *atomic.Value, end func(), err error) {
+	handler = &atomic.Value{}
+	if !c.Hands {
+		return handler, func() {}, nil
+	}
+	listener, err := net.Listen("tcp", "127.0.0.1:0")
+	if err != nil {
+		return nil, nil, err
+	}
+	config.Address, config.Secret = "http://"+listener.Addr().String()+"/", "the secret of these nodes"
+	server := &http.Server{Handler: http.HandlerFunc(func(w http.ResponseWriter, r *http.Request) {
+		if s, ok := handler.Load().(*Sequencer); ok {
+			s.Handler().ServeHTTP(w, r)
+			return
+		}
+		http.Error(w, "not yet", http.StatusServiceUnavailable)
+	})}
+	go server.Serve(listener)
+	return handler, func() { server.Close() }, nil
+}
+
+// phases kills or stops the process where it is to be.
+func (c child) phases() func(string) {
+	kills, pauses := 0, 0
+	return func(name string) {
+		if name == c.KillAt {
+			if kills++; kills == c.KillOn {
+				killSelf()
+			}
+		}
+		if name == c.PauseAt {
+			if pauses++; pauses == c.PauseOn {
+				stopSelf(c.PauseFor)
+			}
+		}
+	}
 }
 
 func killSelf() {
@@ -291,6 +451,17 @@ func killSelf() {
 		self.Kill()
 	}
 	select {}
+}
+
+// stopSelf stops this process (SIGSTOP); another one has it go on.
+func stopSelf(long time.Duration) {
+	waker := exec.Command("sh", "-c", fmt.Sprintf("sleep %.1f; kill -CONT %d", long.Seconds(), os.Getpid()))
+	if waker.Start() == nil {
+		began := time.Now()
+		syscall.Kill(os.Getpid(), syscall.SIGSTOP)
+		waker.Wait()
+		fmt.Fprintf(os.Stderr, "stopped for %.1f s\n", time.Since(began).Seconds())
+	}
 }
 
 // run runs a child, keeps what it answered, and says whether it was killed.
@@ -308,10 +479,11 @@ func (c child) run(a *answers) (killed bool, err error) {
 	command.Stderr = os.Stderr
 	output, err := command.Output()
 	for _, line := range strings.Split(string(output), "\n") {
-		var one check.Answer
+		var one told
 		// A line that isn't whole was written when it was killed: nobody got it.
 		if json.Unmarshal([]byte(line), &one) == nil && len(one.Signature) > 0 {
-			a.add(one)
+			a.add(one.Answer)
+			a.answered(one.Number)
 		}
 	}
 	if err != nil && strings.Contains(err.Error(), "killed") {

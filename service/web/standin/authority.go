@@ -51,17 +51,41 @@ func (a *Authority) PEM() []byte {
 	return pem.EncodeToMemory(&pem.Block{Type: "CERTIFICATE", Bytes: a.Root.Raw})
 }
 
-// Issue issues a certificate of its own, or with the poison a precertificate; it ends at a moment.
-func (a *Authority) Issue(poison bool, notAfter time.Time) ([]byte, error) {
+// poison is the extension of precertificates (RFC 6962, section 3.1).
+var poison = []pkix.Extension{{Id: asn1.ObjectIdentifier{1, 3, 6, 1, 4, 1, 11129, 2, 4, 3}, Critical: true, Value: []byte{5, 0}}}
+
+// template has a number and a name of its own.
+func (a *Authority) template(notAfter time.Time) *x509.Certificate {
 	number := a.last.Add(1) + 1
-	template := &x509.Certificate{
+	return &x509.Certificate{
 		SerialNumber: big.NewInt(number), Subject: pkix.Name{CommonName: fmt.Sprintf("host-%d.example", number)},
 		DNSNames: []string{fmt.Sprintf("host-%d.example", number)}, NotBefore: a.Root.NotBefore, NotAfter: notAfter,
 	}
-	if poison {
-		template.ExtraExtensions = []pkix.Extension{{Id: asn1.ObjectIdentifier{1, 3, 6, 1, 4, 1, 11129, 2, 4, 3}, Critical: true, Value: []byte{5, 0}}}
+}
+
+// Issue issues a certificate of its own, or with the poison a precertificate; it ends at a moment.
+func (a *Authority) Issue(poisoned bool, notAfter time.Time) ([]byte, error) {
+	template := a.template(notAfter)
+	if poisoned {
+		template.ExtraExtensions = poison
 	}
 	return x509.CreateCertificate(rand.Reader, template, a.Root, &a.leaf.PublicKey, a.key)
+}
+
+// IssuePair issues a precertificate, and the TBSCertificate of the certificate that is the same but for the poison.
+func (a *Authority) IssuePair(notAfter time.Time) (precertificate, tbs []byte, err error) {
+	template := a.template(notAfter)
+	final, err := x509.CreateCertificate(rand.Reader, template, a.Root, &a.leaf.PublicKey, a.key)
+	if err != nil {
+		return nil, nil, err
+	}
+	parsed, err := x509.ParseCertificate(final)
+	if err != nil {
+		return nil, nil, err
+	}
+	template.ExtraExtensions = poison
+	precertificate, err = x509.CreateCertificate(rand.Reader, template, a.Root, &a.leaf.PublicKey, a.key)
+	return precertificate, parsed.RawTBSCertificate, err
 }
 
 // Submission is the body of add-chain and add-pre-chain.

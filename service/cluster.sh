@@ -1,0 +1,166 @@
+#!/usr/bin/env bash
+# A log on engines, on loopback and in a folder: three members of etcd with its register and places, Ceph's S3 with its objects, NODES=3
+# nodes of ctserve over them, a loader and a reader.
+#   cluster.sh start FOLDER [PORT]   starts it, or goes on with the one that was stopped there, and says where to look
+#   cluster.sh status FOLDER         says what runs and what it said last
+#   cluster.sh stop FOLDER           ends it; ctcheck judges what it published and answered
+# RATE=20 is how many submissions the loader sends a second, 0 as many as are answered; LOAD=no starts neither it nor the reader.
+# STEP is the program that makes the steps, by default the plain stand-in.
+set -eu
+here=$(cd "$(dirname "$0")" && pwd)
+what=${1:-} folder=${2:-}
+if [ -z "$folder" ] || [[ $what != start && $what != status && $what != stop ]]; then
+  echo "cluster.sh start FOLDER [PORT] | status FOLDER | stop FOLDER" >&2
+  exit 1
+fi
+programs=$here/out
+origin=cluster.example/log
+mkdir -p "$folder"
+folder=$(cd "$folder" && pwd)
+
+# began ID: when a process began, so that another one with its number isn't taken for it.
+began() { sed -n 's/^.*) [^Z] //p' "/proc/$1/stat" 2>/dev/null | cut -d ' ' -f 19; }
+
+process() {
+  local id since
+  read -r id since 2>/dev/null <"$folder/$1.id" && [ -n "$since" ] && [ "$since" = "$(began "$id")" ] && echo "$id"
+}
+
+# launch NAME COMMAND..
+launch() {
+  local name=$1
+  shift
+  process "$name" >/dev/null && return
+  nohup "$@" >>"$folder/$name.log" 2>&1 </dev/null &
+  echo "$! $(began $!)" >"$folder/$name.id"
+}
+
+end() {
+  local id
+  id=$(process "$1") || return 0
+  kill -TERM "$id"
+  for _ in $(seq 350); do
+    [ -n "$(began "$id")" ] || return 0
+    sleep 0.1
+  done
+  echo "cluster.sh: $1 doesn't end, and is killed"
+  kill -KILL "$id"
+}
+
+# addresses: where the engines are, and with which words a node is given them.
+addresses() {
+  # shellcheck source=/dev/null
+  . "$folder/engines/addresses"
+  bucket="${STORES_S3-}/log?tls=no"
+  bucket=${bucket/http:/s3:}
+  register=etcd://${STORES_MEMBERS-}/log
+}
+
+nodes() { find "$folder" -maxdepth 1 -name 'node-*.conf' | sed 's/^.*node-\([0-9]*\)\.conf$/\1/' | sort -n; }
+
+node_conf() {
+  local i=$1 port=$2
+  cat >"$folder/node-$i.conf" <<END_OF_CONF
+origin           $origin
+listen           127.0.0.1:$((port + i))
+operator-listen  127.0.0.1:$((port + 10 + i))
+nodes-listen     127.0.0.1:$((port + 20 + i))
+nodes-address    http://127.0.0.1:$((port + 20 + i))/
+nodes-secret     $folder/secret
+signing-key      $folder/log.key
+roots            $folder/roots.pem
+step             ${STEP:-python3 $here/../examples/tiles/step.py}
+register         $register
+places           $register
+store            $bucket
+most-connections-by-address  500
+END_OF_CONF
+  chmod 600 "$folder/node-$i.conf"
+}
+
+start() {
+  local port=${1:-8618} i all="" create="" who nothing roots loaded id
+  "$here/build.sh" build
+  mkdir -p "$folder/engines"
+  ENGINES="members s3" PORT=$((port + 30)) "$here/engines.sh" start "$folder/engines"
+  addresses
+  if [ -z "${STORES_MEMBERS:-}" ] || [ -z "${STORES_S3:-}" ]; then
+    "$here/engines.sh" stop "$folder/engines"
+    rm -r "$folder/engines"
+    exit 1
+  fi
+  if [ ! -e "$folder/log.key" ]; then
+    create=--create
+    (umask 077 && openssl ecparam -name prime256v1 -genkey -noout -out "$folder/log.key" && openssl rand -hex 32 >"$folder/secret")
+    openssl ec -in "$folder/log.key" -pubout -out "$folder/log.pem" 2>/dev/null
+    who=${STORES_S3#http://} nothing=$(sha256sum </dev/null | cut -d ' ' -f 1)
+    curl -sS --fail -X PUT --user "${who%@*}" --aws-sigv4 aws:amz:us-east-1:s3 -H "x-amz-content-sha256: $nothing" "http://${who#*@}/log"
+    for i in $(seq 0 $((${NODES:-3} - 1))); do node_conf "$i" "$port"; done
+  fi
+  for i in $(nodes); do all+=${all:+,}http://$(sed -n 's/^listen *//p' "$folder/node-$i.conf"); done
+  if [ "${LOAD:-yes}" = yes ]; then
+    roots=$(stat -c %s "$folder/roots.pem" 2>/dev/null || echo 0)
+    loaded=yes
+    process loader >/dev/null || loaded=no
+    launch loader "$programs/ctload" --nodes "$all" --roots "$folder/roots.pem" --answers "$folder/answers" --rate "${RATE:-20}" --clients "${CLIENTS:-64}"
+    while [ "$loaded" = no ] && [ "$(stat -c %s "$folder/roots.pem" 2>/dev/null || echo 0)" = "$roots" ]; do sleep 0.05; done
+    for i in $(nodes); do ! id=$(process "node-$i") || kill -HUP "$id"; done
+  fi
+  for i in $(nodes); do
+    # (the first one makes the log)
+    launch "node-$i" "$programs/ctserve" --config "$folder/node-$i.conf" ${create:+"$create"}
+    create=
+    for _ in $(seq 300); do
+      curl -sf -o /dev/null "http://$(sed -n 's/^listen *//p' "$folder/node-$i.conf")/readyz" && continue 2
+      sleep 0.1
+    done
+    echo "cluster.sh: node-$i isn't ready: $(tail -n 1 "$folder/node-$i.log")" >&2
+    exit 1
+  done
+  [ "${LOAD:-yes}" != yes ] || launch reader "$programs/ctread" --nodes "$all" --origin "$origin" --key "$folder/log.pem"
+  cat <<END_OF_TEXT
+A log of ${all//,/, } runs:
+  a page        ${all%%,*}/
+  its head      curl ${all%%,*}/checkpoint
+  figures       curl http://$(sed -n 's/^operator-listen *//p' "$folder/node-0.conf")/metrics
+  who loads it  $folder/loader.log; what was answered: $folder/answers
+  who reads it  tail -f $folder/reader.log
+  the bucket    $bucket
+  etcd          $STORES_MEMBERS
+  a death       kill -9 \$(cut -d ' ' -f 1 $folder/node-0.id); '$0 start $folder' starts what is gone
+  its end       $0 stop $folder
+END_OF_TEXT
+}
+
+# each NAME..: a line for each process.
+status() {
+  local name state names
+  for name in $(nodes | sed 's/^/node-/') loader reader; do
+    state=gone
+    ! process "$name" >/dev/null || state=runs
+    echo "$name $state: $(tail -n 1 "$folder/$name.log" 2>/dev/null)"
+  done
+  mapfile -t names <"$folder/engines/names"
+  for name in "${names[@]}"; do
+    state=gone
+    ! process "engines/$name" >/dev/null || state=runs
+    echo "$name $state"
+  done
+}
+
+stop() {
+  local name status=0
+  for name in loader reader $(nodes | sed 's/^/node-/'); do end "$name"; done
+  tail -qn 1 "$folder/loader.log" "$folder/reader.log" 2>/dev/null || true
+  addresses
+  touch "$folder/answers"
+  "$programs/ctcheck" "$bucket" "$folder/log.pem" "$folder/answers" || status=$?
+  "$here/engines.sh" stop "$folder/engines"
+  return "$status"
+}
+
+case $what in
+  start) start "${3:-}" ;;
+  status) status ;;
+  stop) stop ;;
+esac

@@ -1,0 +1,171 @@
+package sequencer
+
+import (
+	"context"
+	"errors"
+	"fmt"
+	"time"
+
+	"golang.org/x/mod/sumdb/tlog"
+
+	"wagtenib/service/stores"
+)
+
+// mostSwept is how many tiles one turn looks for partial ones of.
+const mostSwept = 16
+
+// tender takes partial tiles away that nobody needs any more, and reads old tiles again.
+type tender struct {
+	s *Sequencer
+	// settled is a size whose full tiles have stood for SweepAfter, young the size that settles next, and since when it was seen.
+	settled, young uint64
+	since          time.Time
+	// swept has for each level, the data tiles' first, how many full tiles were looked at, and read is the next one to be read again.
+	swept [6]uint64
+	read  uint64
+}
+
+// tend has a turn every TendEvery, until the context ends.
+func (s *Sequencer) tend(ctx context.Context) {
+	defer close(s.tended)
+	t := &tender{s: s}
+	for wait(ctx, s.config.TendEvery) == nil {
+		t.settle()
+		// What fails is tried again in the next turn: the log doesn't wait for it.
+		_ = t.sweep(ctx)
+		if err := t.readAgain(ctx); errors.Is(err, ErrDamaged) {
+			s.damaged.Add(1)
+			s.noteDamage(err)
+		}
+	}
+}
+
+// settle takes up which full tiles have stood for SweepAfter: those of a head that was seen so long ago.
+func (t *tender) settle() {
+	size := t.s.seenSize()
+	if t.since.IsZero() {
+		t.young, t.since = size, time.Now()
+	}
+	if time.Since(t.since) >= t.s.config.SweepAfter {
+		t.settled, t.young, t.since = t.young, size, time.Now()
+	}
+}
+
+// seenSize is the size of the newest published head that was seen.
+func (s *Sequencer) seenSize() uint64 {
+	s.mu.Lock()
+	defer s.mu.Unlock()
+	if s.head == nil {
+		return 0
+	}
+	return s.head.TreeSize
+}
+
+// fullTiles is how many full tiles of a level, -1 for data, a tree has.
+func fullTiles(level int, size uint64) uint64 {
+	if level < 0 {
+		level = 0
+	}
+	return size >> uint(tileHeight*(level+1))
+}
+
+// sweep takes the partial tiles of some full ones away.
+func (t *tender) sweep(ctx context.Context) error {
+	left := mostSwept
+	for at := range t.swept {
+		level := at - 1
+		for ; left > 0 && t.swept[at] < fullTiles(level, t.settled); left-- {
+			if err := t.sweepTile(ctx, tlog.Tile{H: tileHeight, L: level, N: int64(t.swept[at]), W: tileWidth}); err != nil {
+				return err
+			}
+			t.swept[at]++
+		}
+	}
+	return nil
+}
+
+func (t *tender) sweepTile(ctx context.Context, tile tlog.Tile) error {
+	objects, name := t.s.config.Objects, tileName(tile)
+	partials, err := objects.List(ctx, name+partial, "", tileWidth)
+	if err != nil || len(partials) == 0 {
+		return err
+	}
+	// As long as the full one isn't there, they are what is left of it.
+	if _, err := t.s.readStore(ctx, name); err != nil {
+		return err
+	}
+	for _, partial := range partials {
+		if err := objects.Delete(ctx, partial); err != nil {
+			return err
+		}
+		t.s.swept.Add(1)
+	}
+	return nil
+}
+
+// readAgain reads the next full data tile, and the hash tiles from its leaves to the root of the newest head that was seen. What
+// is missing or isn't the tree's is ErrDamaged, and the next turn goes on behind it.
+func (t *tender) readAgain(ctx context.Context) error {
+	s := t.s
+	s.mu.Lock()
+	head := s.head
+	s.mu.Unlock()
+	if head == nil || fullTiles(-1, head.TreeSize) == 0 {
+		return nil
+	}
+	if t.read >= fullTiles(-1, head.TreeSize) {
+		t.read = 0
+	}
+	err := s.scrub(ctx, tlog.Tree{N: int64(head.TreeSize), Hash: head.RootHash}, t.read)
+	if err == nil || errors.Is(err, ErrDamaged) {
+		t.read++
+	}
+	return err
+}
+
+// scrub compares the entries of a full data tile with a tree.
+func (s *Sequencer) scrub(ctx context.Context, of tlog.Tree, index uint64) error {
+	name := tileName(tlog.Tile{H: tileHeight, L: -1, N: int64(index), W: tileWidth})
+	content, err := s.readStore(ctx, name)
+	if err != nil {
+		return err
+	}
+	leaves, err := leavesOf(content)
+	if err != nil {
+		return fmt.Errorf("%s: %w", name, err)
+	}
+	if len(leaves) != tileWidth {
+		return fmt.Errorf("%w: %s has %d entries", ErrDamaged, name, len(leaves))
+	}
+	var wanted []int64
+	for i := range leaves {
+		wanted = append(wanted, tlog.StoredHashIndex(0, int64(index*tileWidth)+int64(i)))
+	}
+	reader := &tiles{ctx: ctx, read: s.readStore, seen: map[string][]byte{}}
+	hashes, err := tlog.TileHashReader(of, reader).ReadHashes(wanted)
+	if reader.failed != nil {
+		return reader.failed
+	}
+	if err != nil {
+		return fmt.Errorf("%w: the hash tiles above %s: %v", ErrDamaged, name, err)
+	}
+	for i, l := range leaves {
+		if l.index != index*tileWidth+uint64(i) || tlog.RecordHash(l.signed) != hashes[i] {
+			return fmt.Errorf("%w: entry %d of %s isn't the tree's", ErrDamaged, l.index, name)
+		}
+	}
+	s.scrubbed.Add(1)
+	return nil
+}
+
+// readStore reads an object of the log out of the store.
+func (s *Sequencer) readStore(ctx context.Context, name string) ([]byte, error) {
+	content, err := s.config.Objects.Get(ctx, name, stores.MostObject)
+	if errors.Is(err, stores.ErrAbsent) {
+		return nil, fmt.Errorf("%w: %s is missing", ErrDamaged, name)
+	}
+	if err != nil {
+		return nil, fmt.Errorf("sequencer: %w", err)
+	}
+	return content, nil
+}

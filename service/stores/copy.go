@@ -1,0 +1,48 @@
+package stores
+
+import (
+	"context"
+	"fmt"
+	"os"
+	"path/filepath"
+	"strings"
+)
+
+// Copy writes the objects whose names don't begin with one of these prefixes as files below a folder, and says how many there were.
+func Copy(ctx context.Context, from Objects, folder string, but ...string) (count int, err error) {
+	for after := ""; ; {
+		names, err := from.List(ctx, "", after, MostListed)
+		if err != nil {
+			return count, err
+		}
+		for _, name := range names {
+			if after = name; beginsWithAny(name, but) {
+				continue
+			}
+			content, err := from.Get(ctx, name, MostObject)
+			if err != nil {
+				return count, err
+			}
+			path := filepath.Join(folder, filepath.FromSlash(name))
+			if err := os.MkdirAll(filepath.Dir(path), 0o755); err != nil {
+				return count, fmt.Errorf("stores: copy: %w", err)
+			}
+			if err := os.WriteFile(path, content, 0o644); err != nil {
+				return count, fmt.Errorf("stores: copy: %w", err)
+			}
+			count++
+		}
+		if len(names) < MostListed {
+			return count, nil
+		}
+	}
+}
+
+func beginsWithAny(name string, prefixes []string) bool {
+	for _, prefix := range prefixes {
+		if strings.HasPrefix(name, prefix) {
+			return true
+		}
+	}
+	return false
+}
