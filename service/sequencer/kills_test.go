@@ -30,6 +30,7 @@ func TestKillsAtEachPhase(t *testing.T) {
 			if report := p.right(t, got); report.Leaves != 300 {
 				t.Fatalf("%+v", report)
 			}
+			leavesAreKnown(t, s, 300)
 		})
 	}
 }
