@@ -140,13 +140,14 @@ def try_guard():
 
 def try_tiles():
     """tiles/growth.py and tiles/expected.py write the stored outputs of growth_lines and of tile_lines; tiles/step.py answers two random
-    histories as the leaves have it."""
+    histories, and a reader of tiles, as the leaves have it."""
     for script, program in (("growth", "growth_lines"), ("expected", "tile_lines")):
         if run(f"tiles/{script}.py").stdout != (HERE.parent / "crates" / program / "stdout").read_bytes():
             fail(f"tiles/{script}.py writes another output than crates/{program}/stdout")
-    ran = run("tiles/histories.py", "--histories", 2)
-    if ran.returncode:
-        fail(f"tiles/histories.py: {ran.stderr.decode()}")
+    for script, words in (("histories", ("--histories", 2)), ("readings", ("--sizes", 20))):
+        ran = run(f"tiles/{script}.py", *words)
+        if ran.returncode:
+            fail(f"tiles/{script}.py: {ran.stderr.decode()}")
 
 
 def installed(folder):

@@ -5,8 +5,8 @@ slow and proved nowhere.
     step.py [--origin TEXT] < lines > replies
 
 A request is told apart by its keys: begin (a moment); needs (a state's line); batch, edge, now and state; bundle and resume (a state's
-line). Each reply is handed on before the next line is read, and nothing is kept between lines. TEXT is the log's origin in checkpoints
-(C2SP tlog-checkpoint).
+line); and those of a reader of the log's tiles, which reading.py lists. Each reply is handed on before the next line is read, and nothing is
+kept between lines. TEXT is the log's origin in checkpoints (C2SP tlog-checkpoint).
 
 It ends with status 0; 1 where memory was refused, or reading or writing failed; 2 for its command line; 4 where a line was no request.
 """
@@ -17,13 +17,13 @@ import pathlib
 import re
 import sys
 
-from expected import digest, mth, name
-from leaves import Submission, signed_bytes, tile_leaf, vector
-from states import State, state_of, written
-
 sys.path.append(str(pathlib.Path(__file__).resolve().parent.parent))
 
+from expected import digest, mth, name  # noqa: E402
 from json_lines import is_bytes, is_hash, is_list_of, is_number, json_line, json_of, lines_of, text  # noqa: E402
+from leaves import Submission, signed_bytes, tile_leaf, vector  # noqa: E402
+from reading import BadTile, Tree, path_tiles, proof_tiles, root_tiles  # noqa: E402
+from states import State, state_of, written  # noqa: E402
 
 LONGEST = 1 << 26
 # How many leaves a log has at most: an index is of 40 bits.
@@ -240,12 +240,64 @@ def resume(bundle, line, origin):
     return {"objects": objects, **head_reply(state, origin)}
 
 
+def names_of(tiles):
+    return {"names": [name(*tile) for tile in tiles]}
+
+
+def right(is_so):
+    """Refuses a line whose numbers can't be together."""
+    if not is_so:
+        raise Refused("bad-line")
+
+
+def tree_of(size, tiles, contents):
+    """The tree of so many leaves, of which these tiles are handed over."""
+    right(len(contents) <= len(tiles))
+    return Tree(size, tiles, list(map(base64.b64decode, contents)))
+
+
+def needs_path(index, size, origin):
+    right(index < size)
+    return names_of(path_tiles(index, size))
+
+
+def path(index, contents, size, origin):
+    right(index < size)
+    return {"audit_path": list(map(text, tree_of(size, path_tiles(index, size), contents).path(index, 0, size)))}
+
+
+def needs_proof(first, size, origin):
+    right(0 < first < size)
+    return names_of(proof_tiles(first, size))
+
+
+def proof(first, contents, size, origin):
+    right(0 < first < size)
+    return {"consistency": list(map(text, tree_of(size, proof_tiles(first, size), contents).proof(first, 0, size)))}
+
+
+def needs_root(size, origin):
+    right(size > 0)
+    return names_of(root_tiles(size))
+
+
+def root(size, contents, origin):
+    right(size > 0)
+    return {"sha256_root_hash": text(tree_of(size, root_tiles(size), contents).root(0, size))}
+
+
 # What each request does, and what has to stand under its keys.
 REQUESTS = (
     (begin, {"begin": is_number}),
     (needs, {"needs": is_text}),
     (step, {"batch": is_list_of(is_submission), "edge": is_list_of(is_bytes), "now": is_number, "state": is_text}),
     (resume, {"bundle": is_bytes, "resume": is_text}),
+    (needs_path, {"needs_path": is_number, "tree_size": is_number}),
+    (path, {"path": is_number, "tiles": is_list_of(is_bytes), "tree_size": is_number}),
+    (needs_proof, {"needs_proof": is_number, "tree_size": is_number}),
+    (proof, {"proof": is_number, "tiles": is_list_of(is_bytes), "tree_size": is_number}),
+    (needs_root, {"needs_root": is_number}),
+    (root, {"root": is_number, "tiles": is_list_of(is_bytes)}),
 )
 
 
@@ -258,6 +310,8 @@ def reply_to(line, origin):
                 return answer(*(value[key] for key in keys), origin)
     except Refused as refused:
         return {"refused": str(refused)}
+    except BadTile as bad:
+        return dict(zip(("refused", "tile"), bad.args))
     except ValueError:
         pass
     return {"refused": "bad-line"}

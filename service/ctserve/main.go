@@ -20,14 +20,17 @@ import (
 
 	"wagtenib/service/chains"
 	"wagtenib/service/log"
+	"wagtenib/service/reader"
 	"wagtenib/service/web"
 )
 
-// opened is a log that was opened, the handler of what other nodes ask it, and what closes what it stands on.
+// opened is a log that was opened, what makes proofs of its tiles, the handler of what other nodes ask it, and what closes what it
+// stands on.
 type opened struct {
-	log   log.Log
-	nodes http.Handler
-	close func()
+	log    log.Log
+	proofs *reader.Reader
+	nodes  http.Handler
+	close  func()
 }
 
 type opener func(context.Context, node) (*opened, error)
@@ -86,7 +89,7 @@ func serve(s *settings, lines *web.Lines, signals <-chan os.Signal, open opener)
 	}
 	defer of.close()
 	checker := chains.NewChecker(roots, s.window)
-	front := web.New(of.log, checker, web.Options{Limits: s.limits, Proxies: s.proxies, Lines: lines, LogRequests: s.logRequests})
+	front := web.New(of.log, of.proofs, checker, web.Options{Limits: s.limits, Proxies: s.proxies, Lines: lines, LogRequests: s.logRequests})
 
 	servers := []*served{{of: "clients", address: s.listen, over: over, handler: front}}
 	if s.listenNodes != "" {

@@ -5,6 +5,7 @@ import (
 	"fmt"
 	"os"
 
+	"wagtenib/service/reader"
 	"wagtenib/service/sequencer"
 	"wagtenib/service/signer"
 	"wagtenib/service/step"
@@ -52,9 +53,15 @@ func openNode(ctx context.Context, n node) (of *opened, err error) {
 		return nil, err
 	}
 	closers = append(closers, config.Step.Close)
+	// Readers have a process of their own: none of them keeps a step waiting.
+	reading, err := step.NewClient(n.step, n.stepWithin)
+	if err != nil {
+		return nil, err
+	}
+	closers = append(closers, reading.Close)
 	s, err := sequencer.New(ctx, config)
 	if err != nil {
 		return nil, err
 	}
-	return &opened{log: s, nodes: s.Handler(), close: closeAll}, nil
+	return &opened{log: s, proofs: reader.New(reading, s.Object, n.mostProofs), nodes: s.Handler(), close: closeAll}, nil
 }

@@ -37,7 +37,7 @@ type node struct {
 	step                                      []string
 	stepWithin, interval, refresh, openWithin time.Duration
 	sweepAfter, readEvery                     time.Duration
-	mostQueue, mostBatch                      int
+	mostQueue, mostBatch, mostProofs          int
 	behindSwap, create, makesFolder           bool
 	address, secret                           string
 }
@@ -98,6 +98,7 @@ func parse(words []string, help io.Writer) (*settings, error) {
 	flags.DurationVar(&n.openWithin, "open-within", 30*time.Second, "how long the stores may take to open")
 	flags.IntVar(&n.mostQueue, "most-queue", 4096, "submissions that wait")
 	flags.IntVar(&n.mostBatch, "most-batch", 1024, "entries of one step")
+	flags.IntVar(&n.mostProofs, "most-proofs", 64, "proofs for readers that are made, or wait to be")
 	flags.BoolVar(&n.behindSwap, "answer-behind-swap", false, "answer once an entry is decided, and not once its head is published: a merge is owed until then")
 	flags.BoolVar(&n.create, "create", false, "make a log where there is none; without it, an empty register ends the start")
 	flags.StringVar(&s.listenNodes, "nodes-listen", "", "`address` for the other nodes of the log; none where it is empty")
@@ -176,7 +177,7 @@ func (s *settings) settle() error {
 			return errors.New("a time is above 0")
 		}
 	}
-	if l.Connections < 1 || l.ConnectionsByAddress < 1 || l.Checks < 1 || l.WaitingBytes < web.MostBody || n.mostQueue < 1 || n.mostBatch < 1 {
+	if l.Connections < 1 || l.ConnectionsByAddress < 1 || l.Checks < 1 || l.WaitingBytes < web.MostBody || n.mostQueue < 1 || n.mostBatch < 1 || n.mostProofs < 1 {
 		return fmt.Errorf("a bound is above 0, and --most-waiting-bytes at least %d", web.MostBody)
 	}
 	if len(n.step) == 0 {

@@ -82,6 +82,8 @@ type Log interface {
 	// Object reads a published object by its name (tile/.., issuer/..); stores.ErrAbsent where there is none, stores.ErrName
 	// where none can be.
 	Object(ctx context.Context, name string) ([]byte, error)
+	// IndexOf gives where the leaf with this hash is said to stand; stores.ErrAbsent where that isn't known. It need not be true.
+	IndexOf(ctx context.Context, leafHash [32]byte) (uint64, error)
 	// End takes no more, publishes, and answers who waits, within the context.
 	End(ctx context.Context) error
 	// Figures are those of this moment.

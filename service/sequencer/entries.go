@@ -1,10 +1,13 @@
 package sequencer
 
 import (
+	"context"
 	"crypto/sha256"
 	"encoding/binary"
 	"fmt"
 	"strings"
+
+	"golang.org/x/mod/sumdb/tlog"
 
 	"wagtenib/service/chains"
 	"wagtenib/service/log"
@@ -135,20 +138,42 @@ func extensionsOf(index uint64) []byte {
 	return append([]byte{0, 0, 5}, eight(index)[3:]...)
 }
 
+// places are those of a step's entries: by their identities, and by their leaves' hashes.
+type places struct{ identities, leaves []stores.Placed }
+
+func (p *places) add(identity stores.Identity, signed []byte, place stores.Place) {
+	p.identities = append(p.identities, stores.Placed{Identity: identity, Place: place})
+	p.leaves = append(p.leaves, stores.Placed{Identity: stores.Identity(tlog.RecordHash(signed)), Place: place})
+}
+
 // placesIn gives the places of all entries in a step's objects. Of a partial tile that grew, it gives those from before as well.
-func placesIn(objects []step.Object) ([]stores.Placed, error) {
-	var placed []stores.Placed
+func placesIn(objects []step.Object) (placed places, err error) {
 	for _, object := range objects {
 		if !strings.HasPrefix(object.Name, dataPrefix) {
 			continue
 		}
 		leaves, err := leavesOf(object.Content)
 		if err != nil {
-			return nil, fmt.Errorf("%s: %w", object.Name, err)
+			return places{}, fmt.Errorf("%s: %w", object.Name, err)
 		}
 		for _, l := range leaves {
-			placed = append(placed, stores.Placed{Identity: l.identity, Place: stores.Place{Index: l.index, Timestamp: l.timestamp}})
+			placed.add(l.identity, l.signed, stores.Place{Index: l.index, Timestamp: l.timestamp})
 		}
 	}
 	return placed, nil
+}
+
+// addPlaces adds places to a store, so many at once as it takes.
+func addPlaces(ctx context.Context, to stores.Places, placed []stores.Placed) error {
+	for len(placed) > 0 {
+		some := placed
+		if len(some) > stores.MostPlaces {
+			some = some[:stores.MostPlaces]
+		}
+		if err := to.Add(ctx, some); err != nil {
+			return fmt.Errorf("sequencer: %w", err)
+		}
+		placed = placed[len(some):]
+	}
+	return nil
 }

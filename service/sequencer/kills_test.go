@@ -34,6 +34,7 @@ func killsAtEachPhase(t *testing.T, on ground) {
 			if report := p.right(t, got); report.Leaves != 300 {
 				t.Fatalf("%+v", report)
 			}
+			leavesAreKnown(t, s, 300)
 		})
 	}
 }

@@ -95,20 +95,16 @@ func (s *Sequencer) help(ctx context.Context, k known) error {
 }
 
 // rollOut publishes a state that stands, or stood, in the register: objects, places, head, published size. It may be done again.
-func (s *Sequencer) rollOut(ctx context.Context, k known, objects []step.Object, head step.Head, placed []stores.Placed) error {
+func (s *Sequencer) rollOut(ctx context.Context, k known, objects []step.Object, head step.Head, placed places) error {
 	if err := s.putAll(ctx, objects); err != nil {
 		return err
 	}
 	s.phase("tiles out")
-	for len(placed) > 0 {
-		some := placed
-		if len(some) > stores.MostPlaces {
-			some = some[:stores.MostPlaces]
-		}
-		if err := s.config.Places.Add(ctx, some); err != nil {
-			return fmt.Errorf("sequencer: %w", err)
-		}
-		placed = placed[len(some):]
+	if err := addPlaces(ctx, s.config.Places, placed.identities); err != nil {
+		return err
+	}
+	if err := addPlaces(ctx, s.config.Places.Leaves(), placed.leaves); err != nil {
+		return err
 	}
 	s.phase("places added")
 	published, err := s.putHead(ctx, k.state, head)

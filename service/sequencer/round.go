@@ -244,10 +244,10 @@ func (s *Sequencer) lose(ctx context.Context, line, name string) error {
 
 // publish rolls out a step that was just decided, and answers.
 func (s *Sequencer) publish(ctx context.Context, k known, stepped *step.Stepped, objects []step.Object, groups [][]*waiting) error {
-	placed := make([]stores.Placed, 0, len(groups))
+	var placed places
 	for i, g := range groups {
 		r := stepped.Receipts[i]
-		placed = append(placed, stores.Placed{Identity: g[0].identity, Place: stores.Place{Index: r.LeafIndex, Timestamp: r.Timestamp}})
+		placed.add(g[0].identity, r.Sign, stores.Place{Index: r.LeafIndex, Timestamp: r.Timestamp})
 	}
 	if s.config.BehindSwap {
 		if err := s.answer(ctx, groups, stepped.Receipts); err != nil {

@@ -264,6 +264,19 @@ func (s *Sequencer) Object(ctx context.Context, name string) ([]byte, error) {
 	return content, err
 }
 
+// IndexOf is log.Log's.
+func (s *Sequencer) IndexOf(ctx context.Context, leafHash [32]byte) (uint64, error) {
+	found, err := s.config.Places.Leaves().Find(ctx, []stores.Identity{leafHash})
+	if err != nil {
+		return 0, fault{log.ErrStore, err}
+	}
+	place, known := found[leafHash]
+	if !known {
+		return 0, fmt.Errorf("%w: a leaf of this hash", stores.ErrAbsent)
+	}
+	return place.Index, nil
+}
+
 // End is log.Log's. The stores, the step and the signer stay open.
 func (s *Sequencer) End(ctx context.Context) error {
 	s.queue.end()

@@ -30,6 +30,7 @@ func TestOneNode(t *testing.T) {
 	if head.TreeSize != 700 || figures.Entries != 700 || figures.Queue != 0 || figures.Repeats < 50 || figures.Fault != "" {
 		t.Fatalf("%+v %+v", head, figures)
 	}
+	leavesAreKnown(t, again, 700)
 	for _, name := range []string{"tile/0/000", "tile/1/000.p/2", "tile/data/001", "tile/data/002.p/188"} {
 		if content, err := again.Object(ctx, name); err != nil || len(content) == 0 {
 			t.Errorf("%s: %v", name, err)

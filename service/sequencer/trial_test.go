@@ -23,6 +23,8 @@ import (
 	"testing"
 	"time"
 
+	"golang.org/x/mod/sumdb/tlog"
+
 	"wagtenib/service/chains"
 	"wagtenib/service/check"
 	"wagtenib/service/log"
@@ -294,6 +296,29 @@ func (p place) right(t testing.TB, a *answers) check.Report {
 		t.Fatalf("%d entries stand in the log twice", report.Repeats)
 	}
 	return report
+}
+
+// leavesAreKnown sees that each leaf of a log is found by its hash, and no other.
+func leavesAreKnown(t testing.TB, s *Sequencer, size uint64) {
+	t.Helper()
+	for index := uint64(0); index < size; {
+		name := tileName(tlog.Tile{H: tileHeight, L: -1, N: int64(index / tileWidth), W: tileWidth})
+		if size-index < tileWidth {
+			name += fmt.Sprintf(".p/%d", size-index)
+		}
+		tile, err := s.Object(limited(t), name)
+		must(t, err)
+		leaves, err := leavesOf(tile)
+		must(t, err)
+		for _, l := range leaves {
+			if found, err := s.IndexOf(limited(t), tlog.RecordHash(l.signed)); err != nil || found != index {
+				t.Fatalf("leaf %d is known at %d, %v", index, found, err)
+			}
+			index++
+		}
+	}
+	_, err := s.IndexOf(limited(t), [32]byte{1})
+	wants(t, err, stores.ErrAbsent)
 }
 
 // nodeWords is where a child process is told what to do, in JSON.

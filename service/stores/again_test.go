@@ -133,7 +133,7 @@ func TestRegisterOutlivesItsEngine(t *testing.T) {
 }
 
 func TestPlacesOutliveTheirEngine(t *testing.T) {
-	inTurn(t, placeStores, func(t *testing.T, at trial[Places]) {
+	inTurn(t, identityStores, func(t *testing.T, at trial[Places]) {
 		store := at.opened(t)
 		last := whileEnginesDie(t, at.name, func(ctx context.Context, i int) error {
 			_, all, _ := someOf(perWrite*i, perWrite*(i+1))

@@ -91,7 +91,7 @@ var registers = []implementation[Register]{
 		}},
 }
 
-var placeStores = []implementation[Places]{
+var identityStores = []implementation[Places]{
 	{name: "sqlite", folder: true,
 		open: func(ctx context.Context, place string) (Places, error) {
 			return OpenSQLite(ctx, filepath.Join(place, "places.db"))
@@ -102,6 +102,26 @@ var placeStores = []implementation[Places]{
 		open: func(ctx context.Context, place string) (Places, error) {
 			return OpenPostgresPlaces(ctx, Postgres{postgresURL, place})
 		}},
+}
+
+// placeStores are those of identities, and behind them the leaves of each.
+var placeStores = withLeaves(identityStores)
+
+func withLeaves(identities []implementation[Places]) []implementation[Places] {
+	all := append([]implementation[Places]{}, identities...)
+	for _, of := range identities {
+		open := of.open
+		of.name += "-leaves"
+		of.open = func(ctx context.Context, place string) (Places, error) {
+			identities, err := open(ctx, place)
+			if err != nil {
+				return nil, err
+			}
+			return identities.Leaves(), nil
+		}
+		all = append(all, of)
+	}
+	return all
 }
 
 // trial is one store under test: where it lies, and how it is opened again.

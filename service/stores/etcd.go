@@ -167,7 +167,8 @@ func (e *inEtcd) Close() error { return e.client.Close() }
 // small logs.
 type placesInEtcd struct {
 	client *clientv3.Client
-	prefix string
+	// below is what the log's keys begin with, and prefix what these do.
+	below, prefix string
 }
 
 // OpenEtcdPlaces opens the places below a prefix.
@@ -176,7 +177,7 @@ func OpenEtcdPlaces(at Etcd) (Places, error) {
 	if err != nil {
 		return nil, err
 	}
-	return &placesInEtcd{client, at.Prefix + "/place/"}, nil
+	return &placesInEtcd{client, at.Prefix, at.Prefix + "/place/"}, nil
 }
 
 func (e *placesInEtcd) key(identity Identity) string { return e.prefix + string(identity[:]) }
@@ -239,6 +240,10 @@ func (e *placesInEtcd) Add(ctx context.Context, placed []Placed) error {
 		}
 		return nil
 	})
+}
+
+func (e *placesInEtcd) Leaves() Places {
+	return &placesInEtcd{e.client, e.below, e.below + "/leaf/"}
 }
 
 func (e *placesInEtcd) Close() error { return e.client.Close() }

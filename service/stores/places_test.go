@@ -148,6 +148,20 @@ func TestLogsAreApart(t *testing.T) {
 	})
 }
 
+// TestLeavesAreApart: what is known of identities isn't known of leaves, and the other way round.
+func TestLeavesAreApart(t *testing.T) {
+	eachOf(t, identityStores, func(t *testing.T, at trial[Places]) {
+		store := at.opened(t)
+		leaves := store.Leaves()
+		must(t, store.Add(limited(t), []Placed{placed(1), placed(2)}))
+		other := Placed{identity(2), Place{7, 8}}
+		must(t, leaves.Add(limited(t), []Placed{other, placed(3)}))
+		asked := []Identity{identity(1), identity(2), identity(3)}
+		finds(t, store, asked, map[Identity]Place{identity(1): placed(1).Place, identity(2): placed(2).Place})
+		finds(t, at.opened(t).Leaves(), asked, map[Identity]Place{identity(2): other.Place, identity(3): placed(3).Place})
+	})
+}
+
 // TestSQLiteEndsWithItsContext: also where another process doesn't let it write.
 func TestSQLiteEndsWithItsContext(t *testing.T) {
 	path := filepath.Join(t.TempDir(), "places.db")

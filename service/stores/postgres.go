@@ -20,7 +20,8 @@ const mostConnections = 4
 // tables are made where they aren't there. Two who make them at once would fail on one another, but for the lock.
 const tables = `select pg_advisory_xact_lock(4957128866342178);
 create table if not exists ct_register (log text primary key, text bytea not null, published bigint not null);
-create table if not exists ct_places (log text, identity bytea, index bigint not null, timestamp bigint not null, primary key (log, identity))`
+create table if not exists ct_places (log text, identity bytea, index bigint not null, timestamp bigint not null, primary key (log, identity));
+create table if not exists ct_leaves (like ct_places including all)`
 
 // open connects, sees whether the server keeps what it acknowledges, and makes the tables.
 func (at Postgres) open(ctx context.Context) (*sql.DB, error) {
@@ -184,6 +185,8 @@ func (p *inPostgres) Close() error { return p.db.Close() }
 type placesInPostgres struct {
 	db  *sql.DB
 	log string
+	// table is ct_places, or ct_leaves.
+	table string
 }
 
 // OpenPostgresPlaces opens the places of a log.
@@ -192,7 +195,7 @@ func OpenPostgresPlaces(ctx context.Context, at Postgres) (Places, error) {
 	if err != nil {
 		return nil, err
 	}
-	return &placesInPostgres{db, at.Log}, nil
+	return &placesInPostgres{db, at.Log, "ct_places"}, nil
 }
 
 func (p *placesInPostgres) Find(ctx context.Context, identities []Identity) (map[Identity]Place, error) {
@@ -205,7 +208,7 @@ func (p *placesInPostgres) Find(ctx context.Context, identities []Identity) (map
 		asked[i] = identities[i][:]
 	}
 	return within(ctx, func() (map[Identity]Place, error) {
-		const some = "select identity, index, timestamp from ct_places where log = $1 and identity = any($2)"
+		some := "select identity, index, timestamp from " + p.table + " where log = $1 and identity = any($2)"
 		rows, err := p.db.QueryContext(ctx, some, p.log, asked)
 		if err != nil {
 			return nil, fmt.Errorf("stores: PostgreSQL: find: %w", err)
@@ -247,12 +250,14 @@ func (p *placesInPostgres) Add(ctx context.Context, placed []Placed) error {
 		indexes[i], timestamps[i] = int64(placed[i].Place.Index), int64(placed[i].Place.Timestamp)
 	}
 	// In the order of identities, so that of two such calls neither waits for the other.
-	const add = `insert into ct_places select $1, i, n, t from unnest($2::bytea[], $3::bigint[], $4::bigint[]) as u(i, n, t) order by i on conflict do nothing`
+	add := "insert into " + p.table + ` select $1, i, n, t from unnest($2::bytea[], $3::bigint[], $4::bigint[]) as u(i, n, t) order by i on conflict do nothing`
 	_, err = within(ctx, func() (sql.Result, error) { return p.db.ExecContext(ctx, add, p.log, identities, indexes, timestamps) })
 	if err != nil {
 		return fmt.Errorf("stores: PostgreSQL: add: %w", err)
 	}
 	return nil
 }
+
+func (p *placesInPostgres) Leaves() Places { return &placesInPostgres{p.db, p.log, "ct_leaves"} }
 
 func (p *placesInPostgres) Close() error { return p.db.Close() }

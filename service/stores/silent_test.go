@@ -56,7 +56,7 @@ func TestSilentEngines(t *testing.T) {
 		whilePaused(t, at.name, func(ctx context.Context) error { return register.Swap(ctx, "text", "other text") })
 		whilePaused(t, at.name, func(ctx context.Context) error { _, err := register.Read(ctx); return err })
 	})
-	inTurn(t, placeStores, func(t *testing.T, at trial[Places]) {
+	inTurn(t, identityStores, func(t *testing.T, at trial[Places]) {
 		store := at.opened(t)
 		whilePaused(t, at.name, func(ctx context.Context) error { return store.Add(ctx, []Placed{placed(1)}) })
 		whilePaused(t, at.name, func(ctx context.Context) error { _, err := store.Find(ctx, []Identity{identity(1)}); return err })

@@ -22,6 +22,8 @@ const mostVariables = 500
 // commit (synchronous=FULL): in that mode NORMAL would lose the last commits when power fails.
 type inSQLite struct {
 	db *sql.DB
+	// table is places, or leaves.
+	table string
 }
 
 // OpenSQLite opens the places in a file, and makes it where it isn't there.
@@ -40,10 +42,13 @@ func OpenSQLite(ctx context.Context, path string) (Places, error) {
 		return nil, fmt.Errorf("stores: SQLite: %w", err)
 	}
 	db.SetMaxOpenConns(mostConnections)
-	const table = `create table if not exists places (identity blob primary key, "index" integer not null, timestamp integer not null) without rowid`
 	err = unlessBusy(ctx, "table", func() error {
-		_, err := db.ExecContext(ctx, table)
-		return err
+		for _, table := range []string{"places", "leaves"} {
+			if _, err := db.ExecContext(ctx, `create table if not exists `+table+` (identity blob primary key, "index" integer not null, timestamp integer not null) without rowid`); err != nil {
+				return err
+			}
+		}
+		return nil
 	})
 	if err != nil {
 		db.Close()
@@ -53,7 +58,7 @@ func OpenSQLite(ctx context.Context, path string) (Places, error) {
 		db.Close()
 		return nil, err
 	}
-	return &inSQLite{db}, nil
+	return &inSQLite{db, "places"}, nil
 }
 
 // unlessBusy does what others may keep from being done, again and again until the context ends. (SQLite's own waiting doesn't end
@@ -91,7 +96,7 @@ func (s *inSQLite) Find(ctx context.Context, identities []Identity) (map[Identit
 		}
 		places := strings.Repeat(", ?", to-from)[2:]
 		return unlessBusy(ctx, "find", func() error {
-			rows, err := s.db.QueryContext(ctx, `select identity, "index", timestamp from places where identity in (`+places+`)`, values...)
+			rows, err := s.db.QueryContext(ctx, `select identity, "index", timestamp from `+s.table+` where identity in (`+places+`)`, values...)
 			if err != nil {
 				return err
 			}
@@ -118,7 +123,7 @@ func (s *inSQLite) add(ctx context.Context, placed []Placed) error {
 		return err
 	}
 	defer tx.Rollback()
-	add, err := tx.PrepareContext(ctx, "insert into places values (?, ?, ?) on conflict do nothing")
+	add, err := tx.PrepareContext(ctx, "insert into "+s.table+" values (?, ?, ?) on conflict do nothing")
 	if err != nil {
 		return err
 	}
@@ -131,5 +136,7 @@ func (s *inSQLite) add(ctx context.Context, placed []Placed) error {
 	}
 	return tx.Commit()
 }
+
+func (s *inSQLite) Leaves() Places { return &inSQLite{s.db, "leaves"} }
 
 func (s *inSQLite) Close() error { return s.db.Close() }

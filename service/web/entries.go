@@ -35,14 +35,6 @@ func (f *Front) getSTH(w http.ResponseWriter, r *http.Request) error {
 	return nil
 }
 
-// notYet answers the calls that want proofs.
-func (f *Front) notYet(w http.ResponseWriter, r *http.Request) error {
-	return refusal{
-		status: http.StatusNotImplemented, name: "not-implemented",
-		detail: "this log doesn't make proofs for its readers yet: they follow from its tiles (https://c2sp.org/static-ct-api)",
-	}
-}
-
 // entryOf is one entry as get-entries answers it (RFC 6962, section 4.6).
 type entryOf struct {
 	LeafInput []byte `json:"leaf_input"`
@@ -52,18 +44,11 @@ type entryOf struct {
 // getEntries answers entries of the newest head from start on: as many as were asked for, but none of another data tile, and
 // within the bounds.
 func (f *Front) getEntries(w http.ResponseWriter, r *http.Request) error {
-	query, err := url.ParseQuery(r.URL.RawQuery)
-	if err != nil {
-		return badParameter("the query isn't one")
-	}
-	start, err := parameter(query, "start")
+	_, numbers, err := numbersOf(r, "start", "end")
 	if err != nil {
 		return err
 	}
-	end, err := parameter(query, "end")
-	if err != nil {
-		return err
-	}
+	start, end := numbers[0], numbers[1]
 	if start > end {
 		return badParameter("start is behind end")
 	}

@@ -17,7 +17,7 @@ import (
 	"wagtenib/service/web/standin"
 )
 
-var statuses = map[int]bool{200: true, 400: true, 404: true, 405: true, 411: true, 413: true, 501: true}
+var statuses = map[int]bool{200: true, 400: true, 404: true, 405: true, 411: true, 413: true}
 
 // Whatever is asked, a refusal has a name and none is internal; what is served under a name is what stands there.
 func FuzzHandlers(f *testing.F) {
@@ -32,6 +32,9 @@ func FuzzHandlers(f *testing.F) {
 	f.Add("GET", "/tile/data/001.p/4", "", []byte{})
 	f.Add("GET", "/issuer/"+fingerprintOf(x.authority.Root.Raw), "", []byte{})
 	f.Add("GET", "/ct/v1/get-entries", "start=254&end=258", []byte{})
+	f.Add("GET", "/ct/v1/get-sth-consistency", "first=1&second=257", []byte{})
+	f.Add("GET", "/ct/v1/get-proof-by-hash", "tree_size=257&hash=AAAAAAAAAAAAAAAAAAAAAAAAAAAAAAAAAAAAAAAAAAA=", []byte{})
+	f.Add("GET", "/ct/v1/get-entry-and-proof", "leaf_index=256&tree_size=257", []byte{})
 	f.Fuzz(func(t *testing.T, method, path, query string, body []byte) {
 		r := &http.Request{
 			Method: method, URL: &url.URL{Path: path, RawQuery: query}, Header: http.Header{}, Host: "log", RemoteAddr: "192.0.2.1:1",

@@ -16,6 +16,7 @@ import (
 
 	"wagtenib/service/chains"
 	"wagtenib/service/log"
+	"wagtenib/service/reader"
 )
 
 // The bounds that no option moves.
@@ -75,6 +76,7 @@ type Options struct {
 // Front answers the calls of one log. It is an http.Handler, for clients; Operator is the one for operators.
 type Front struct {
 	log         log.Log
+	reader      *reader.Reader
 	checker     *chains.Checker
 	options     Options
 	limits      Limits
@@ -88,14 +90,14 @@ type Front struct {
 	issuers     issuers
 }
 
-// New makes a front.
-func New(of log.Log, checker *chains.Checker, options Options) *Front {
+// New makes a front of a log, and of what makes proofs out of its tiles.
+func New(of log.Log, proofs *reader.Reader, checker *chains.Checker, options Options) *Front {
 	limits := options.Limits
 	if limits.Checks < 1 {
 		limits.Checks = 1
 	}
 	f := &Front{
-		log: of, checker: checker, options: options, limits: limits,
+		log: of, reader: proofs, checker: checker, options: options, limits: limits,
 		checks:   make(chan struct{}, limits.Checks),
 		waiting:  budget{most: limits.WaitingBytes},
 		requests: counts{most: limits.ConnectionsByAddress},
@@ -126,9 +128,9 @@ var (
 		"/ct/v1/get-roots":           {"get-roots", http.MethodGet, (*Front).getRoots},
 		"/ct/v1/get-sth":             {"get-sth", http.MethodGet, (*Front).getSTH},
 		"/ct/v1/get-entries":         {"get-entries", http.MethodGet, (*Front).getEntries},
-		"/ct/v1/get-sth-consistency": {"get-sth-consistency", http.MethodGet, (*Front).notYet},
-		"/ct/v1/get-proof-by-hash":   {"get-proof-by-hash", http.MethodGet, (*Front).notYet},
-		"/ct/v1/get-entry-and-proof": {"get-entry-and-proof", http.MethodGet, (*Front).notYet},
+		"/ct/v1/get-sth-consistency": {"get-sth-consistency", http.MethodGet, (*Front).getSTHConsistency},
+		"/ct/v1/get-proof-by-hash":   {"get-proof-by-hash", http.MethodGet, (*Front).getProofByHash},
+		"/ct/v1/get-entry-and-proof": {"get-entry-and-proof", http.MethodGet, (*Front).getEntryAndProof},
 	}
 	tileCall   = call{"tile", http.MethodGet, (*Front).tile}
 	issuerCall = call{"issuer", http.MethodGet, (*Front).issuer}
@@ -228,7 +230,7 @@ func (a *answer) Write(bytes []byte) (int, error) {
 // told counts a request, and tells it.
 func (f *Front) told(c call, a *answer, r *http.Request, took time.Duration) {
 	f.metrics.request(c.name, a.status, a.refusal, took)
-	fault := a.status >= 500 && a.status != http.StatusNotImplemented && c.name != "readyz"
+	fault := a.status >= 500 && c.name != "readyz"
 	if !fault && !f.options.LogRequests {
 		return
 	}

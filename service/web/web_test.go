@@ -20,6 +20,8 @@ import (
 
 	"wagtenib/service/chains"
 	"wagtenib/service/log"
+	"wagtenib/service/reader"
+	"wagtenib/service/step"
 	"wagtenib/service/web/standin"
 )
 
@@ -30,6 +32,7 @@ type fixture struct {
 	authority *standin.Authority
 	checker   *chains.Checker
 	front     *Front
+	program   *step.Client
 	lines     *text
 }
 
@@ -74,7 +77,13 @@ func newFixture(t testing.TB, every time.Duration, change func(*Options)) *fixtu
 	if change != nil {
 		change(&options)
 	}
-	f.front = New(of, f.checker, options)
+	program, err := step.NewClient([]string{"python3", "../../examples/tiles/step.py"}, 20*time.Second)
+	if err != nil {
+		t.Fatal(err)
+	}
+	t.Cleanup(func() { program.Close() })
+	f.program = program
+	f.front = New(of, reader.New(program, of.Object, 4), f.checker, options)
 	return f
 }
 
@@ -347,13 +356,6 @@ func TestReadingThatIsLate(t *testing.T) {
 	f.log.Slow = 5 * time.Second
 	for _, path := range []string{"/checkpoint", "/tile/0/000.p/1", "/issuer/" + strings.Repeat("0", 64), "/ct/v1/get-sth", "/ct/v1/get-entries?start=0&end=0"} {
 		refused(t, path, f.get(path), 503, "late")
-	}
-}
-
-func TestCallsThatWantProofs(t *testing.T) {
-	f := newFixture(t, 0, nil)
-	for _, path := range []string{"get-sth-consistency?first=0&second=1", "get-proof-by-hash?hash=AA&tree_size=1", "get-entry-and-proof?leaf_index=0&tree_size=1"} {
-		refused(t, path, f.get("/ct/v1/"+path), 501, "not-implemented")
 	}
 }
 

@@ -179,8 +179,16 @@ func timestampedEntry(entry log.Entry, now uint64, extensions []byte) []byte {
 	return b.BytesOrPanic()
 }
 
-// tiles puts the tiles of level 0 and the data tiles, and takes away the partial ones of a full one.
+// tiles puts the tiles of levels 0 and 1 and the data tiles, and takes away the partial ones of a full one.
 func (l *Log) tiles() {
+	var above []byte
+	for first := 0; first+256 <= len(l.hashes); first += 256 {
+		root := MerkleTreeHash(l.hashes[first : first+256])
+		above = append(above, root[:]...)
+	}
+	if len(above) > 0 {
+		l.objects[fmt.Sprintf("tile/1/000.p/%d", len(above)/32)] = above
+	}
 	for first := 0; first < len(l.leaves); first += 256 {
 		last := first + 256
 		if last > len(l.leaves) {
@@ -197,6 +205,7 @@ func (l *Log) tiles() {
 		} else {
 			for width := 1; width < 256; width++ {
 				delete(l.objects, fmt.Sprintf("tile/data/%s.p/%d", name, width))
+				delete(l.objects, fmt.Sprintf("tile/0/%s.p/%d", name, width))
 			}
 		}
 		l.objects["tile/data/"+name+part], l.objects["tile/0/"+name+part] = data, hashes
@@ -264,6 +273,21 @@ func (l *Log) Break(err error) {
 	l.mutex.Lock()
 	defer l.mutex.Unlock()
 	l.Fault = err
+}
+
+// IndexOf is log.Log's.
+func (l *Log) IndexOf(ctx context.Context, leafHash [32]byte) (uint64, error) {
+	if err := l.slowly(ctx); err != nil {
+		return 0, err
+	}
+	l.mutex.Lock()
+	defer l.mutex.Unlock()
+	for index, hash := range l.hashes {
+		if hash == leafHash {
+			return uint64(index), nil
+		}
+	}
+	return 0, stores.ErrAbsent
 }
 
 // End is log.Log's.

@@ -1,0 +1,89 @@
+"""Audit paths, consistency proofs and roots out of a log's tiles, by hashlib alone: the lines of a reader, which step.py answers beside those of
+a step (docs/TILES.md).
+
+Each thing that is read has two requests. The first asks for the names of the tiles that it is made of, each in the tree of so many leaves
+(C2SP tlog-tiles), in the order of ct_tile_reader's tiles_for_path, tiles_for_proof and tiles_for_root; the second hands over their contents in
+that order, and gets what was asked for. Bytes are in base64, and a number is below 2^64:
+
+    {"needs_path":INDEX,"tree_size":SIZE}           {"names":[NAME,..]}
+    {"path":INDEX,"tiles":[BYTES,..],"tree_size":SIZE}    {"audit_path":[HASH,..]}            PATH(INDEX, D[SIZE]), RFC 6962, section 2.1.1
+    {"needs_proof":FIRST,"tree_size":SIZE}          {"names":[NAME,..]}
+    {"proof":FIRST,"tiles":[BYTES,..],"tree_size":SIZE}   {"consistency":[HASH,..]}           PROOF(FIRST, D[SIZE]), section 2.1.2
+    {"needs_root":SIZE}                             {"names":[NAME,..]}
+    {"root":SIZE,"tiles":[BYTES,..]}                {"sha256_root_hash":HASH}                 MTH(D[SIZE]), section 2.1
+
+Refused, and by these names: bad-line where INDEX isn't below SIZE, FIRST isn't above 0 and below SIZE, SIZE is 0, or there are more contents
+than tiles; else the first tile that has none is {"refused":"missing-tile","tile":NAME}, and one whose bytes aren't 32 for each of its hashes
+{"refused":"bad-tile","tile":NAME}. Whether the tiles are a log's nobody looks at: who asks checks the answer against roots that it has.
+"""
+from expected import name
+from merkle import node_hash, split
+
+
+class BadTile(Exception):
+    """Why contents are refused: missing-tile or bad-tile, and the tile's name."""
+
+
+def level_tiles(level, first, own, last, size):
+    """Of one level with so many hashes (level_tiles in ct_tile_reader/specs/Needed.antt)."""
+    indexes = [own // 256] if own // 256 < last // 256 and first // 256 == own // 256 else []
+    if last % 256 or level == 0:
+        indexes.append(last // 256)
+    return [(level, index, min(256, size - 256 * index)) for index in indexes]
+
+
+def tiles_of(first, own, last, size):
+    """The level, the index and the width of each tile, the lowest level first."""
+    return [tile for level in range(8) for tile in level_tiles(level, *(number >> 8 * level for number in (first, own, last, size)))]
+
+
+def path_tiles(index, size):
+    return tiles_of(index, index, size - 1, size)
+
+
+def proof_tiles(first, size):
+    return tiles_of(first, first - 1, size - 1, size)
+
+
+def root_tiles(size):
+    return tiles_of(size - 1, size - 1, size - 1, size)
+
+
+class Tree:
+    """The tree of so many leaves, of which these tiles are at hand, with these contents."""
+
+    def __init__(self, size, tiles, contents):
+        self.size, self.hashes = size, {}
+        for at, (level, index, width) in enumerate(tiles):
+            if at >= len(contents):
+                raise BadTile("missing-tile", name(level, index, width))
+            if len(contents[at]) != 32 * width:
+                raise BadTile("bad-tile", name(level, index, width))
+            for place in range(width):
+                self.hashes[level, 256 * index + place] = contents[at][32 * place : 32 * place + 32]
+
+    def root(self, begin, end):
+        """MTH(D[begin : end]), of a subtree of this tree: a tile's hash, where it has as many leaves and ends before the last one."""
+        level, over = divmod((end - begin).bit_length() - 1, 8)
+        if over == 0 and end - begin == 1 << 8 * level and (end < self.size or level == 0):
+            return self.hashes[level, begin >> 8 * level]
+        half = begin + split(end - begin)
+        return node_hash(self.root(begin, half), self.root(half, end))
+
+    def path(self, index, begin, end):
+        """PATH(index - begin, D[begin : end])."""
+        if end - begin == 1:
+            return []
+        half = begin + split(end - begin)
+        if index < half:
+            return self.path(index, begin, half) + [self.root(half, end)]
+        return self.path(index, half, end) + [self.root(begin, half)]
+
+    def proof(self, first, begin, end, whole=True):
+        """SUBPROOF(first - begin, D[begin : end], whole)."""
+        if first == end:
+            return [] if whole else [self.root(begin, end)]
+        half = begin + split(end - begin)
+        if first <= half:
+            return self.proof(first, begin, half, whole) + [self.root(half, end)]
+        return self.proof(first, half, end, False) + [self.root(begin, half)]

@@ -1,0 +1,143 @@
+// Package reader makes audit paths, consistency proofs and roots out of a log's tiles: which tiles, and what of them, the program
+// says that wagtenib/service/step asks. What comes may be wrong where the tiles are: who has a root checks it, as the Check
+// functions do.
+package reader
+
+import (
+	"context"
+	"errors"
+	"fmt"
+	"strings"
+	"time"
+
+	"golang.org/x/mod/sumdb/tlog"
+
+	"wagtenib/service/step"
+)
+
+// What readings fail by, beside what the tiles' own reading gives and package step's. Each is found by errors.Is.
+var (
+	// ErrBusy: so many wait already that no more is taken.
+	ErrBusy = errors.New("reader: busy")
+	// ErrWrong: what was made isn't of the tree with the root that was named.
+	ErrWrong = errors.New("reader: the tiles aren't those of the tree")
+)
+
+// Reader asks one program for one thing after another.
+type Reader struct {
+	program *step.Client
+	object  step.Tiles
+	// waits has a place for each thing that is being made.
+	waits chan struct{}
+}
+
+// mostReading bounds how long one thing is made, the reading of its tiles and waiting for the program included.
+const mostReading = 20 * time.Second
+
+// New takes the program, what reads a published object, and how many things are made at once, or wait to be.
+func New(program *step.Client, object step.Tiles, most int) *Reader {
+	return &Reader{program, object, make(chan struct{}, most)}
+}
+
+// made is what was asked for.
+type made[T any] struct {
+	what T
+	err  error
+}
+
+// within has something made. Who goes away meanwhile doesn't end the program, which others wait for: what was begun is made.
+func within[T any](ctx context.Context, r *Reader, ask func(context.Context) (T, error)) (what T, err error) {
+	if err := ctx.Err(); err != nil {
+		return what, err
+	}
+	select {
+	case r.waits <- struct{}{}:
+	default:
+		return what, fmt.Errorf("%w: %d wait", ErrBusy, cap(r.waits))
+	}
+	done := make(chan made[T], 1)
+	go func() {
+		defer func() { <-r.waits }()
+		own, cancel := context.WithTimeout(context.Background(), mostReading)
+		defer cancel()
+		what, err := ask(own)
+		done <- made[T]{what, err}
+	}()
+	select {
+	case came := <-done:
+		return came.what, came.err
+	case <-ctx.Done():
+		return what, ctx.Err()
+	}
+}
+
+// tiles reads the tiles of a tree out of those of one of `of` leaves: a partial tile is the beginning of a wider one, and of each
+// tile only the widest may stand.
+func (r *Reader) tiles(of uint64) step.Tiles {
+	return func(ctx context.Context, name string) ([]byte, error) {
+		// tlog writes the height of tiles, and C2SP doesn't.
+		tile, err := tlog.ParseTilePath("tile/8/" + strings.TrimPrefix(name, "tile/"))
+		if err != nil || tile.L < 0 || tile.L > 7 {
+			return nil, fmt.Errorf("%w: %.80q is no tile of hashes", step.ErrReply, name)
+		}
+		width, hashes, before := tile.W, of>>(8*tile.L), 256*uint64(tile.N)
+		if hashes < before+uint64(width) {
+			return nil, fmt.Errorf("%w: %s isn't in a tree of %d", step.ErrReply, name, of)
+		}
+		tile.W = 256
+		if hashes-before < 256 {
+			tile.W = int(hashes - before)
+		}
+		content, err := r.object(ctx, "tile/"+strings.TrimPrefix(tile.Path(), "tile/8/"))
+		if err != nil {
+			return nil, err
+		}
+		if len(content) != 32*tile.W {
+			return nil, fmt.Errorf("%w: %s has %d bytes", ErrWrong, name, len(content))
+		}
+		return content[:32*width], nil
+	}
+}
+
+// Path is the audit path of a leaf in the tree of size leaves, made of the tiles of the tree of `of` leaves, at least as many.
+func (r *Reader) Path(ctx context.Context, index, size, of uint64) ([][32]byte, error) {
+	return within(ctx, r, func(ctx context.Context) ([][32]byte, error) { return r.program.Path(ctx, index, size, r.tiles(of)) })
+}
+
+// Proof is the consistency proof from the tree of the first leaves to that of size. From none, and between trees of one size, it
+// is empty.
+func (r *Reader) Proof(ctx context.Context, first, size, of uint64) ([][32]byte, error) {
+	if first == 0 || first == size {
+		return nil, nil
+	}
+	return within(ctx, r, func(ctx context.Context) ([][32]byte, error) { return r.program.Proof(ctx, first, size, r.tiles(of)) })
+}
+
+// Root is the Merkle Tree Hash of the first size leaves.
+func (r *Reader) Root(ctx context.Context, size, of uint64) ([32]byte, error) {
+	return within(ctx, r, func(ctx context.Context) ([32]byte, error) { return r.program.Root(ctx, size, r.tiles(of)) })
+}
+
+// CheckPath sees that a path leads from a leaf's hash at an index to the root of a tree of size leaves.
+func CheckPath(path [][32]byte, size uint64, root [32]byte, index uint64, leaf [32]byte) error {
+	proof := make(tlog.RecordProof, len(path))
+	for i := range path {
+		proof[i] = path[i]
+	}
+	if err := tlog.CheckRecord(proof, int64(size), root, int64(index), leaf); err != nil {
+		return fmt.Errorf("%w: leaf %d of %d: %v", ErrWrong, index, size, err)
+	}
+	return nil
+}
+
+// CheckProof sees that a consistency proof leads from the first root to the second.
+func CheckProof(path [][32]byte, size uint64, root [32]byte, first uint64, firstRoot [32]byte) error {
+	proof := make(tlog.TreeProof, len(path))
+	for i := range path {
+		proof[i] = path[i]
+	}
+	if err := tlog.CheckTree(proof, int64(size), root, int64(first), firstRoot); err != nil {
+		return fmt.Errorf("%w: %d leaves of %d: %v", ErrWrong, first, size, err)
+	}
+	return nil
+}
