@@ -1,9 +1,14 @@
 //! Checkpoints and their texts.
 
-ghost use Rattle.std.specs.Prelude.{◌≡◌, ◌<◌, length, IfOk, string_bytes};
-ghost use Rattle.ct_checkpoint.specs.Checkpoint.{checkpoint_text};
+ghost use Rattle.std.specs.Prelude.{◌≡◌, ◌≢◌, ◌<◌, ◌^◌, ◌++◌, ◌∷◌, [], ℕ, List, length, decimal, IfOk, IfErr, MatchOption, string_bytes};
+ghost use Rattle.std.specs.Bool.{MatchBool};
+ghost use Rattle.base64.specs.Engines.{standard};
+ghost use Rattle.base64.specs.GeneralPurpose.{encode_of};
+ghost use Rattle.ct_checkpoint.specs.Checkpoint.{checkpoint_text, IsCheckpoint, IsNoBase64, IsRootOfTree, IsWithinLine};
+ghost use Rattle.ct_checkpoint.specs.declared.fault.CheckpointFault.TheVariants.{Memory};
 
 use crate::fault::CheckpointFault;
+use base64::DecodeAllocError;
 use base64::engine::general_purpose::STANDARD;
 use std::alloc::{AllocError, Global};
 
@@ -32,39 +37,91 @@ pub fn write_checkpoint(
     format!(in alloc; "{origin}\n{size}\n{root}\n")
 }
 
-// The 32 bytes whose base64 the text is.
-fn root_of(alloc: Global, text: &str) -> Result<[u8; 32], CheckpointFault> {
-    let bytes = STANDARD.decode(alloc, text.as_bytes())?;
-    match bytes.as_slice().first_chunk::<32>() {
-        Some(root) if bytes.len() == 32 => Ok(*root),
-        _ => Err(CheckpointFault::BadRoot),
+// A law, which does nothing: what the type says of a root.
+fn is_root(root: [u8; 32])
+    ensures { IsRootOfTree root }
+{}
+
+// A text's first line, and what follows its end.
+fn first_line(text: &str) -> Option<(&str, &str)>
+    ensures { MatchOption result ((line rest : List ℕ) → text.now ≡ line ++ 10 ∷ rest → ⊥)
+        (λ r. (text.now ≡ r.0.now ++ 10 ∷ r.1.now) × IsWithinLine r.0.now) }
+{
+    text.split_once('\n')
+}
+
+// The number that a text is, where it is one as it is written.
+fn number_of(text: &str) -> Option<u64>
+    ensures { MatchOption result ((n : ℕ) → n < 2 ^ 64 → text.now ≡ decimal n → ⊥) (λ r. (n : ℕ) → n < 2 ^ 64 → text.now ≡ decimal n → n ≡ r) }
+{
+    text.parse::<u64>().ok()
+}
+
+// The fault that a failure to decode is.
+fn fault_of(error: DecodeAllocError) -> CheckpointFault
+    ensures { result ≢ Memory → IsNoBase64 error }
+{
+    CheckpointFault::from(error)
+}
+
+// The 32 bytes whose base64 the bytes are.
+fn root_of(alloc: Global, text: &[u8]) -> Result<[u8; 32], CheckpointFault>
+    ensures found { IfOk result (λ r. (root : List ℕ) → IsRootOfTree root → text.now ≡ encode_of standard root → root ≡ r) }
+    ensures refused { IfErr result (λ f. f ≢ Memory → (root : List ℕ) → IsRootOfTree root → text.now ≡ encode_of standard root → ⊥) }
+{
+    let bytes = match STANDARD.decode(alloc, text) {
+        Ok(bytes) => bytes,
+        Err(error) => return Err(fault_of(error)),
+    };
+    match <[u8; 32]>::try_from(bytes.as_slice()) {
+        Ok(root) => Ok(root),
+        Err(_) => Err(CheckpointFault::BadRoot),
     }
 }
 
-/// The checkpoint of which this is the text.
-pub fn read_checkpoint(alloc: Global, text: &str) -> Result<Checkpoint<'_>, CheckpointFault>
-    ensures found { IfOk result (λ c. text.now ≡ checkpoint_text c.origin.now c.size c.root) }
-    ensures origin { IfOk result (λ c. 0 < length c.origin.now) }
+// Whether a text is another.
+fn is_same(written: &str, text: &str) -> bool
+    ensures { MatchBool result (written.now ≡ text.now) (written.now ≡ text.now → ⊥) }
 {
-    let Some((origin, rest)) = text.split_once('\n') else {
+    written == text
+}
+
+// The 32 bytes whose base64 the bytes are, with a line end behind it.
+fn root_of_line(alloc: Global, line: &[u8]) -> Result<[u8; 32], CheckpointFault>
+    ensures found { IfOk result (λ r. (root : List ℕ) → IsRootOfTree root → line.now ≡ encode_of standard root ++ 10 ∷ [] → root ≡ r) }
+    ensures refused { IfErr result (λ f. f ≢ Memory → (root : List ℕ) → IsRootOfTree root → line.now ≡ encode_of standard root ++ 10 ∷ [] → ⊥) }
+{
+    match line.split_last() {
+        Some((_, text)) => root_of(alloc, text),
+        None => Err(CheckpointFault::BadRoot),
+    }
+}
+
+/// The checkpoint of which this is the text: the fault `Memory` alone may stand against a text that is one's.
+pub fn read_checkpoint(alloc: Global, text: &str) -> Result<Checkpoint<'_>, CheckpointFault>
+    ensures found { IfOk result (λ c. IsCheckpoint c.origin.now c.size c.root text.now) }
+    ensures refused { IfErr result (λ f. f ≢ Memory → (origin : List ℕ) (size : ℕ) (root : List ℕ) → IsCheckpoint origin size root text.now → ⊥) }
+{
+    let Some((origin, behind_origin)) = first_line(text) else {
         return Err(CheckpointFault::BadOrigin);
     };
     if origin.is_empty() {
         return Err(CheckpointFault::BadOrigin);
     }
-    let Some((size, rest)) = rest.split_once('\n') else {
+    let Some((size, behind_size)) = first_line(behind_origin) else {
         return Err(CheckpointFault::BadSize);
     };
-    let Ok(size) = size.parse::<u64>() else {
+    let Some(size) = number_of(size) else {
         return Err(CheckpointFault::BadSize);
     };
-    let Some((root, _)) = rest.split_once('\n') else {
-        return Err(CheckpointFault::BadRoot);
+    let root = match root_of_line(alloc, behind_size.as_bytes()) {
+        Ok(root) => root,
+        Err(fault) => return Err(fault),
     };
-    let root = root_of(alloc, root)?;
+    is_root(root);
     let written = write_checkpoint(alloc, origin, size, &root)?;
-    if written.as_str() != text {
-        return Err(CheckpointFault::NotAsWritten);
+    if is_same(written.as_str(), text) {
+        return Ok(Checkpoint { origin, size, root });
     }
-    Ok(Checkpoint { origin, size, root })
+    Err(CheckpointFault::NotAsWritten)
 }

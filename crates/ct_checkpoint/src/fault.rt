@@ -1,6 +1,7 @@
 //! Why there is no checkpoint.
 
-ghost use Rattle.std.specs.Prelude.{◌≡◌};
+ghost use Rattle.std.specs.Prelude.{◌≡◌, ◌≢◌};
+ghost use Rattle.ct_checkpoint.specs.Checkpoint.{IsNoBase64};
 ghost use Rattle.ct_checkpoint.specs.declared.fault.CheckpointFault.TheVariants.{Memory};
 
 use base64::DecodeAllocError;
@@ -16,11 +17,10 @@ pub enum CheckpointFault {
     /// There is no second line, or it is no number below 2^64.
     #[error("BadSize")]
     BadSize,
-    /// There is no third line, or it is not the base64 of 32 bytes.
+    /// What follows the second line is not the base64 of 32 bytes and one line end: an extension line is none.
     #[error("BadRoot")]
     BadRoot,
-    /// The text is not the one that is written for this origin, size and root: the size has a leading zero or a plus, or something follows
-    /// the third line.
+    /// The text is not the one that is written for this origin, size and root: the size has a leading zero or a plus.
     #[error("NotAsWritten")]
     NotAsWritten,
     /// A growth was refused. The text has no fault.
@@ -37,6 +37,8 @@ impl From<AllocError> for CheckpointFault {
 }
 
 impl From<DecodeAllocError> for CheckpointFault {
+    ghost from_gives = { λ error fault. fault ≢ Memory → IsNoBase64 error };
+
     fn from(error: DecodeAllocError) -> CheckpointFault {
         match error {
             DecodeAllocError::DecodeError(_) => CheckpointFault::BadRoot,

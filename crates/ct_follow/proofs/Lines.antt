@@ -38,14 +38,16 @@ gives_long names before (x ∷ a) (y ∷ b) text after long_a long_b g =
       g.0,
       record {
         answer = t.answer;
+        seen = t.seen;
         outcome = t.outcome;
         entries = t.entries;
         noted = t.noted;
         reads = reads_long (x ∷ a) (y ∷ b) t.answer long_a long_b t.reads;
+        sees = t.sees;
         says = t.says;
         lists = t.lists;
         written = t.written;
-        older = t.older;
+        accused = t.accused;
         alarm = t.alarm;
         bad = t.bad;
       },

@@ -11,7 +11,9 @@ use Rattle.ct_watch.specs.declared.verdict.Verdict.TheVariants.{Accepted, Pendin
 use Rattle.ct_follow.specs.StateText.{maybe_head_data, state_data, check_data}
 use Rattle.ct_follow.specs.VerdictText.{outcome_data}
 use Rattle.ct_follow.specs.declared.verdicts.Outcome.{Outcome}
-use Rattle.ct_follow.specs.declared.verdicts.Outcome.TheVariants.{Said, BadLine, BadState}
+use Rattle.ct_follow.specs.declared.verdicts.Outcome.TheVariants.{Said, Known, BadLine, BadState, BadAnswer}
+use Rattle.ct_follow.specs.declared.refusal.AnswerRefusal.TheVariants.{NoCheckpoint, DamagedTile}
+use Rattle.ct_tiled_entries.specs.declared.answer.Damage.TheVariants.{NoDataTile, AtLeaf, OtherCount}
 
 pub outcome_no_float : (s : WatcherState) (o : Outcome) → has_float (outcome_data s o) ≡ false
 outcome_no_float s (Said Accepted) = refl
@@ -25,6 +27,11 @@ outcome_no_float s (Said (RootMismatch root)) = refl
 outcome_no_float s (Said Gap) = refl
 outcome_no_float s (Said Consistent) = refl
 outcome_no_float s (Said (Inconsistent f)) = refl
+outcome_no_float s Known = refl
+outcome_no_float s (BadAnswer NoCheckpoint) = refl
+outcome_no_float s (BadAnswer (DamagedTile NoDataTile)) = refl
+outcome_no_float s (BadAnswer (DamagedTile (AtLeaf place f))) = refl
+outcome_no_float s (BadAnswer (DamagedTile (OtherCount count))) = refl
 outcome_no_float s BadLine = refl
 outcome_no_float s BadState = refl
 

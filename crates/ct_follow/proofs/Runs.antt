@@ -14,12 +14,12 @@ use Rattle.ct_watch.specs.History.{SaysAccepted, IsStep, AreSteps, after_steps, 
 use Rattle.ct_watch.specs.declared.verdict.Verdict.{Verdict}
 use Rattle.ct_watch.specs.declared.verdict.Verdict.TheVariants.{Accepted}
 use Rattle.ct_watch.proofs.History.{accepted_heads_agree}
-use Rattle.ct_follow.specs.Answers.{Answered, a_head, leaves_from, a_proof, a_state, no_answer}
+use Rattle.ct_follow.specs.Seen.{SeenAnswer, seen_head, seen_leaves, seen_proof, seen_gap, seen_known, seen_refused, seen_state, seen_nothing}
 use Rattle.ct_follow.specs.Session.{AnswerSays, LineStep, TakesLine, TakesLines}
 use Rattle.ct_follow.specs.History.{RunTaken, FollowOn, after_runs, IsOfFirst, AreOfFirst, RunsAreOfFirst, LineHands, LinesHand, RunsHand, RunsAgree}
 use Rattle.ct_follow.specs.declared.monitor.Monitor.{Monitor}
 use Rattle.ct_follow.specs.declared.verdicts.Outcome.{Outcome}
-use Rattle.ct_follow.specs.declared.verdicts.Outcome.TheVariants.{Said, BadLine, BadState}
+use Rattle.ct_follow.specs.declared.verdicts.Outcome.TheVariants.{Said, Known, BadLine, BadState, BadAnswer}
 
 -- a list of ct_watch's steps from w on, of which Q follows at each list D that they agree with, behind which t stands for what was handed
 -- out, and R holds of that
@@ -82,25 +82,52 @@ no_step t w next o s Q R same agrees rest = (
   subst (λ (x : Watched). R (after_steps x rest.0)) same rest.4,
 )
 
-one_answer : (t : WatcherState) (w next : Watched) (a : Answered) (o : Outcome) (s : WatcherState) (Q : List (List ℕ) → Type 0) (R : Watched → Type 0)
+one_answer : (t : WatcherState) (w next : Watched) (a : SeenAnswer) (o : Outcome) (s : WatcherState) (Q : List (List ℕ) → Type 0) (R : Watched → Type 0)
     → Keeps sha256 s next → AnswerSays w a o next → Shows t next Q R
     → Shows t w (λ D. Agrees s o D × Q D) R
-one_answer t w next (a_head head) (Said v) s Q R k says rest = one_step t w next v s Q R k (inl (head, says.0, says.1)) rest
-one_answer t w next (a_head head) BadLine s Q R k says rest = absurd says
-one_answer t w next (a_head head) BadState s Q R k says rest = absurd says
-one_answer t w next (leaves_from start E) (Said v) s Q R k says rest = one_step t w next v s Q R k (inr (_, E, says.0, says.1)) rest
-one_answer t w next (leaves_from start E) BadLine s Q R k says rest = absurd says
-one_answer t w next (leaves_from start E) BadState s Q R k says rest = absurd says
-one_answer t w next (a_proof p) (Said v) s Q R k says rest =
+one_answer t w next (seen_head head) (Said v) s Q R k says rest = one_step t w next v s Q R k (inl (head, says.0, says.1)) rest
+one_answer t w next (seen_head head) Known s Q R k says rest = absurd says
+one_answer t w next (seen_head head) BadLine s Q R k says rest = absurd says
+one_answer t w next (seen_head head) BadState s Q R k says rest = absurd says
+one_answer t w next (seen_head head) (BadAnswer told) s Q R k says rest = absurd says
+one_answer t w next (seen_leaves start E wrong) (Said v) s Q R k says rest = one_step t w next v s Q R k (inr (_, E, says.0, says.1)) rest
+one_answer t w next (seen_leaves start E wrong) Known s Q R k says rest = absurd says
+one_answer t w next (seen_leaves start E wrong) BadLine s Q R k says rest = absurd says
+one_answer t w next (seen_leaves start E wrong) BadState s Q R k says rest = absurd says
+one_answer t w next (seen_leaves start E wrong) (BadAnswer told) s Q R k says rest = absurd says
+one_answer t w next (seen_proof p) (Said v) s Q R k says rest =
     no_step t w next (Said v) s Q R says.1 (λ D e. absurd (proof_not_accepted w.accepted w.waiting p v (ap (said_of v) e) says.0)) rest
-one_answer t w next (a_proof p) BadLine s Q R k says rest = absurd says
-one_answer t w next (a_proof p) BadState s Q R k says rest = absurd says
-one_answer t w next a_state (Said v) s Q R k says rest = absurd says
-one_answer t w next a_state BadLine s Q R k says rest = absurd says
-one_answer t w next a_state BadState s Q R k says rest = no_step t w next BadState s Q R says (λ D. not_said s BadState D (λ x. x)) rest
-one_answer t w next no_answer (Said v) s Q R k says rest = absurd says
-one_answer t w next no_answer BadLine s Q R k says rest = no_step t w next BadLine s Q R says (λ D. not_said s BadLine D (λ x. x)) rest
-one_answer t w next no_answer BadState s Q R k says rest = absurd says
+one_answer t w next (seen_proof p) Known s Q R k says rest = absurd says
+one_answer t w next (seen_proof p) BadLine s Q R k says rest = absurd says
+one_answer t w next (seen_proof p) BadState s Q R k says rest = absurd says
+one_answer t w next (seen_proof p) (BadAnswer told) s Q R k says rest = absurd says
+one_answer t w next seen_gap (Said v) s Q R k says rest =
+    no_step t w next (Said v) s Q R says.1 (λ D e. absurd (subst SaysAccepted (sym (ap (said_of v) e) ∙ says.0) tt)) rest
+one_answer t w next seen_gap Known s Q R k says rest = absurd says
+one_answer t w next seen_gap BadLine s Q R k says rest = absurd says
+one_answer t w next seen_gap BadState s Q R k says rest = absurd says
+one_answer t w next seen_gap (BadAnswer told) s Q R k says rest = absurd says
+one_answer t w next seen_known (Said v) s Q R k says rest = absurd says
+one_answer t w next seen_known Known s Q R k says rest = no_step t w next Known s Q R says (λ D. not_said s Known D (λ x. x)) rest
+one_answer t w next seen_known BadLine s Q R k says rest = absurd says
+one_answer t w next seen_known BadState s Q R k says rest = absurd says
+one_answer t w next seen_known (BadAnswer told) s Q R k says rest = absurd says
+one_answer t w next (seen_refused why) (Said v) s Q R k says rest = absurd says
+one_answer t w next (seen_refused why) Known s Q R k says rest = absurd says
+one_answer t w next (seen_refused why) BadLine s Q R k says rest = absurd says
+one_answer t w next (seen_refused why) BadState s Q R k says rest = absurd says
+one_answer t w next (seen_refused why) (BadAnswer told) s Q R k says rest =
+    no_step t w next (BadAnswer told) s Q R says.1 (λ D. not_said s (BadAnswer told) D (λ x. x)) rest
+one_answer t w next seen_state (Said v) s Q R k says rest = absurd says
+one_answer t w next seen_state Known s Q R k says rest = absurd says
+one_answer t w next seen_state BadLine s Q R k says rest = absurd says
+one_answer t w next seen_state BadState s Q R k says rest = no_step t w next BadState s Q R says (λ D. not_said s BadState D (λ x. x)) rest
+one_answer t w next seen_state (BadAnswer told) s Q R k says rest = absurd says
+one_answer t w next seen_nothing (Said v) s Q R k says rest = absurd says
+one_answer t w next seen_nothing Known s Q R k says rest = absurd says
+one_answer t w next seen_nothing BadLine s Q R k says rest = no_step t w next BadLine s Q R says (λ D. not_said s BadLine D (λ x. x)) rest
+one_answer t w next seen_nothing BadState s Q R k says rest = absurd says
+one_answer t w next seen_nothing (BadAnswer told) s Q R k says rest = absurd says
 
 -- what a line gave, and what follows of the state behind it
 one_line : (t : WatcherState) (names : List (List ℕ)) (before : Monitor) (line : List ℕ) (step : LineStep) (w : Watched) (Q : List (List ℕ) → Type 0)
@@ -112,7 +139,7 @@ one_line t names before [] step w Q R k takes rest =
     (behind.0, behind.1, λ D all. (λ e. absurd (none-some (Said Accepted) (sym takes.0 ∙ e)), behind.2 D all), behind.3, (w, refl, behind.4))
 one_line t names before (b ∷ bs) step w Q R k takes rest =
     let says = takes.says w k in
-    let shown = one_answer t w says.0 takes.answer takes.outcome step.after.watcher Q (R says.0) says.1 says.2 (rest says.0 says.1) in (
+    let shown = one_answer t w says.0 takes.seen takes.outcome step.after.watcher Q (R says.0) says.1 says.2 (rest says.0 says.1) in (
       shown.0,
       shown.1,
       λ D all. let both = shown.2 D all in (λ e. both.0 (same_Some takes.outcome (Said Accepted) (sym takes.noted ∙ e)), both.1),

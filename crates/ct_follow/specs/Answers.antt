@@ -1,20 +1,22 @@
--- What a line of a log's front end is.
-use Rattle.std.specs.Prelude.{◌≡◌, ◌⊎◌, ◌≤◌, ℕ, List, map, length, Option, Some, None, option_map, option_and_then, codes}
+-- What a line of a log is: an answer of its front end, or a checkpoint or data tile of it.
+use Rattle.std.specs.Prelude.{◌≡◌, ◌⊎◌, ◌≤◌, ℕ, List, map, length, Option, Some, None, option_map, option_and_then, codes, string_bytes}
 use Rattle.std.specs.Str.{IsUtf8}
 use Rattle.serde_json.specs.Data.{Data, Items}
 use Rattle.serde_json.specs.Find.{get, as_number, as_u64, as_array}
 use Rattle.serde_json.specs.Read.{read}
 use Rattle.ct_tree.specs.declared.head.Head.{Head}
-use Rattle.ct_lines.specs.Fields.{number_at, bytes_at, hash_at, hashes_at, each_item}
+use Rattle.ct_lines.specs.Fields.{text_at, number_at, bytes_at, hash_at, hashes_at, each_item}
 use Rattle.ct_follow.specs.declared.answer.Answer.{Answer}
 use Rattle.ct_follow.specs.declared.answer.Answer.TheVariants as answer_case
 
--- What a line is: a tree head; leaves, and the index of the first where it is told; a consistency proof; a state, damaged or
--- in the wrong place; or none of these.
+-- What a line is: a tree head; leaves, and the index of the first where it is told; a consistency proof; a checkpoint, by its text and the
+-- moment beside it; a data tile, by its name and bytes; a state, damaged or in the wrong place; or none of these.
 pub data Answered : Type 0 where
   a_head : Head → Answered
   leaves_from : Option ℕ → List (List ℕ) → Answered
   a_proof : List (List ℕ) → Answered
+  a_checkpoint : List ℕ → ℕ → Answered
+  a_tile : List ℕ → List ℕ → Answered
   a_state : Answered
   no_answer : Answered
 
@@ -23,6 +25,8 @@ abbrev pub answer_read : Answer → Answered
 answer_read (answer_case.Head head) = a_head head
 answer_read (answer_case.Entries start leaves) = leaves_from start (map (λ l. l.items) leaves.items)
 answer_read (answer_case.Proof path) = a_proof path.items
+answer_read (answer_case.Checkpoint text timestamp) = a_checkpoint (string_bytes text) timestamp
+answer_read (answer_case.Tile name bytes) = a_tile name.items bytes.items
 answer_read answer_case.State = a_state
 answer_read answer_case.Other = no_answer
 
@@ -56,10 +60,29 @@ start_word (Some d) = as_start d
 abbrev pub start_in : Data → Option (Option ℕ)
 start_in d = start_word (get (codes "start") d)
 
--- a consistency proof with this path, or no answer where there is none
-abbrev pub proof_or_none : Option (List (List ℕ)) → Answered
-proof_or_none None = no_answer
-proof_or_none (Some path) = a_proof path
+-- a data tile that an object is: its name under `tile`, and its bytes under `data` (C2SP static-ct-api, "Log Entries")
+abbrev pub tile_in : Data → Option Answered
+tile_in d = option_and_then (λ name. option_map (λ bytes. a_tile name bytes) (bytes_at (codes "data") d)) (text_at (codes "tile") d)
+
+-- a checkpoint that an object is: its note's text under `checkpoint`, and beside it the moment that its signature names, in milliseconds
+-- (C2SP tlog-checkpoint; static-ct-api, "Checkpoints")
+abbrev pub checkpoint_in : Data → Option Answered
+checkpoint_in d = option_and_then (λ text. option_map (λ timestamp. a_checkpoint text timestamp) (number_at (codes "timestamp") d))
+    (text_at (codes "checkpoint") d)
+
+-- the one answer, or the other where there is none
+abbrev pub answer_or : Option Answered → Answered → Answered
+answer_or None other = other
+answer_or (Some answer) other = answer
+
+-- the checkpoint that an object is, or else the data tile, or no answer
+abbrev pub tiled_in : Data → Answered
+tiled_in d = answer_or (checkpoint_in d) (answer_or (tile_in d) no_answer)
+
+-- a consistency proof with this path, or the other answer where there is none
+abbrev pub proof_or : Option (List (List ℕ)) → Answered → Answered
+proof_or None other = other
+proof_or (Some path) other = a_proof path
 
 -- these leaves from this index on, or no answer where what stands there is no number
 abbrev pub with_start : List (List ℕ) → Option (Option ℕ) → Answered
@@ -71,9 +94,9 @@ abbrev pub leaves_or : Option (List (List ℕ)) → Option (Option ℕ) → Answ
 leaves_or None start other = other
 leaves_or (Some leaves) start other = with_start leaves start
 
--- the leaves that an object has, or else the consistency proof that it is (RFC 6962, section 4.4 and 4.6)
+-- the leaves that an object has, or else the consistency proof that it is (RFC 6962, section 4.4 and 4.6), or else what it is of a tiled log
 abbrev pub entries_in : Data → Answered
-entries_in d = leaves_or (leaves_in d) (start_in d) (proof_or_none (hashes_at (codes "consistency") d))
+entries_in d = leaves_or (leaves_in d) (start_in d) (proof_or (hashes_at (codes "consistency") d) (tiled_in d))
 
 -- a head, or the other answer where there is none
 abbrev pub head_or : Option Head → Answered → Answered
@@ -85,8 +108,8 @@ abbrev pub state_or : Option Data → Answered → Answered
 state_or None other = other
 state_or (Some d) other = a_state
 
--- what a JSON value is, by its keys: a state by `state`; then a tree head; then leaves; then a consistency proof; or none of these (RFC
--- 6962, section 4.3 to 4.6)
+-- what a JSON value is, by its keys: a state by `state`; then a tree head; then leaves; then a consistency proof (RFC 6962, section 4.3 to
+-- 4.6); then a checkpoint; then a data tile; or none of these
 abbrev pub answer_in : Data → Answered
 answer_in d = state_or (get (codes "state") d) (head_or (head_in d) (entries_in d))
 

@@ -56,14 +56,15 @@ help_text = codes "Usage: ctmonitor [OPTIONS] < lines > verdicts\n"
     ++ codes "\n"
     ++ codes "Watches a Certificate Transparency log (RFC 6962) by what it answers. Answers come on standard input, a line of JSON each:\n"
     ++ codes "a state of an earlier run on the first line, and then of get-sth, get-entries (with `start` beside `entries`) and\n"
-    ++ codes "get-sth-consistency. Verdicts go to standard output, and the state as the last line; docs/MONITOR.md has their form.\n"
+    ++ codes "get-sth-consistency, or checkpoints and data tiles of a tiled log. Verdicts go to standard output, and the state as the last\n"
+    ++ codes "line; docs/MONITOR.md has their form.\n"
     ++ codes "\n"
     ++ codes "Exit status:\n"
     ++ codes "  0  nothing speaks against the log\n"
     ++ codes "  1  memory was refused, or reading or writing failed: keep the old state\n"
     ++ codes "  2  the words are refused\n"
     ++ codes "  3  an alarm: a verdict speaks against the log\n"
-    ++ codes "  4  a line was none of a log's, or the state wasn't taken up\n"
+    ++ codes "  4  a line was none of a log's or was refused, or the state wasn't taken up\n"
 
 -- the program's version
 abbrev pub version_text : List ℕ

@@ -1,5 +1,6 @@
 -- What is written of an entry.
-use Rattle.std.specs.Prelude.{◌≡◌, ◌⊎◌, ◌+◌, ℕ, Bool, false, ◌||◌, List, [], ◌∷◌, ◌++◌, if◌then◌else◌, nat_lt, codes}
+use Rattle.std.specs.Prelude.{◌≡◌, ◌⊎◌, ◌+◌, ℕ, Bool, false, ◌||◌, List, [], ◌∷◌, ◌++◌, if◌then◌else◌, nat_lt, codes, is_some, Some, None}
+use Rattle.std.specs.declared.option.Option.{Option}
 use Rattle.serde_json.specs.Data.{Data, string, object, member, no_members}
 use Rattle.ct_codec.specs.Leaf.{SignedEntry, certificate, precertificate, signed_of, LeafText}
 use Rattle.ct_codec.specs.Faults.{LeafFaulty}
@@ -69,7 +70,23 @@ AreEntryTexts names moment index (leaf ∷ leaves) older text =
     (one rest : List ℕ) × (than_one than_rest : Bool) × IsEntryText names moment index leaf than_one one
     × AreEntryTexts names moment (index + 1) leaves than_rest rest × (older ≡ than_one || than_rest) × (text ≡ one ++ rest)
 
--- the lines of entries that were read with this verdict: none, where that is that they don't begin in the right place
-abbrev pub ReadTexts : List (List ℕ) → ℕ → Verdict → ℕ → List (List ℕ) → Bool → List ℕ → Type 0
-ReadTexts names moment Gap index leaves older text = (older ≡ false) × (text ≡ [])
-ReadTexts names moment v index leaves older text = AreEntryTexts names moment index leaves older text
+-- the object of an entry of a data tile whose leaf doesn't name its index (leaf_index, C2SP static-ct-api)
+abbrev pub wrong_index_data : ℕ → Data
+wrong_index_data index = object (member (codes "entry") (number_data index) (member (codes "verdict") (string (codes "wrong-index")) no_members))
+
+-- its line, where there is one
+abbrev pub wrong_index_line : Option ℕ → List ℕ
+wrong_index_line None = []
+wrong_index_line (Some index) = line_of (wrong_index_data index)
+
+-- The lines of entries of which this is the first wrong index, if any is, and whether they speak against the log: that of the wrong index, and
+-- behind it those of the entries; they do where there is a wrong index, or the head is older than an entry.
+abbrev pub AreTileTexts : List (List ℕ) → ℕ → Option ℕ → ℕ → List (List ℕ) → Bool → List ℕ → Type 0
+AreTileTexts names moment wrong index leaves accused text =
+    (older : Bool) × (more : List ℕ) × AreEntryTexts names moment index leaves older more × (accused ≡ is_some wrong || older)
+    × (text ≡ wrong_index_line wrong ++ more)
+
+-- the same of entries that were read with this verdict: none, where that is that they don't begin in the right place
+abbrev pub ReadTexts : List (List ℕ) → ℕ → Option ℕ → Verdict → ℕ → List (List ℕ) → Bool → List ℕ → Type 0
+ReadTexts names moment wrong Gap index leaves accused text = (accused ≡ false) × (text ≡ [])
+ReadTexts names moment wrong v index leaves accused text = AreTileTexts names moment wrong index leaves accused text

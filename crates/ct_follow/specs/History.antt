@@ -50,7 +50,7 @@ after_runs s (r ∷ runs) = after_runs r.last.watcher runs
 abbrev pub LineHands : (names : List (List ℕ)) (before : Monitor) (line : List ℕ) (step : LineStep) → TakesLine names before line step
     → Watched → Watched → Type 0
 LineHands names before [] step t w next = next ≡ w
-LineHands names before (b ∷ bs) step t w next = AnswerSays w t.answer t.outcome next
+LineHands names before (b ∷ bs) step t w next = AnswerSays w t.seen t.outcome next
 
 -- so line after line
 abbrev pub LinesHand : (names : List (List ℕ)) (before : Monitor) (steps : List LineStep) (input text : List ℕ) (last : Monitor)

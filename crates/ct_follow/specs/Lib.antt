@@ -1,4 +1,5 @@
 pub mod Answers
+pub mod Seen
 pub mod Names
 pub mod Texts
 pub mod VerdictText

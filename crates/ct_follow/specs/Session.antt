@@ -9,7 +9,8 @@ use Rattle.ct_lines.specs.Lines.{kept_line}
 use Rattle.ct_watch.specs.Watched.{Watched, leaves_read, waiting_or, after_verdict, nothing_seen}
 use Rattle.ct_watch.specs.Verdicts.{accuses, HeadSays, EntriesSay, ProofSays, after_entries}
 use Rattle.ct_watch.specs.WatcherState.{WatcherState, Keeps}
-use Rattle.ct_follow.specs.Answers.{Answered, a_head, leaves_from, a_proof, a_state, no_answer, Reads}
+use Rattle.ct_follow.specs.Answers.{Answered, Reads}
+use Rattle.ct_follow.specs.Seen.{SeenAnswer, seen_head, seen_leaves, seen_proof, seen_gap, seen_known, seen_refused, seen_state, seen_nothing, SeesAnswer}
 use Rattle.ct_follow.specs.EntryText.{ReadTexts}
 use Rattle.ct_follow.specs.StateText.{state_text, IsOfBytes, IsLineOfState, IsNoStateLine}
 use Rattle.ct_follow.specs.Texts.{line_of}
@@ -17,20 +18,24 @@ use Rattle.ct_follow.specs.VerdictText.{outcome_data, wanted_size}
 use Rattle.ct_tree.specs.declared.head.Head.{Head}
 use Rattle.ct_follow.specs.declared.monitor.Monitor.{Monitor}
 use Rattle.ct_follow.specs.declared.verdicts.Outcome.{Outcome}
-use Rattle.ct_follow.specs.declared.verdicts.Outcome.TheVariants.{Said, BadLine, BadState}
+use Rattle.ct_follow.specs.declared.verdicts.Outcome.TheVariants.{Said, Known, BadLine, BadState, BadAnswer}
+use Rattle.ct_watch.specs.declared.verdict.Verdict.TheVariants.{Gap}
 
--- what an answer comes to where the log has handed out w, and what it has then
-abbrev pub AnswerSays : Watched → Answered → Outcome → Watched → Type 0
-AnswerSays w (a_head head) (Said v) next = HeadSays sha256 w head v × (next ≡ after_verdict w (waiting_or w.waiting head) v)
-AnswerSays w (leaves_from start E) (Said v) next = EntriesSay sha256 w w.waiting (unwrap_or start (length (leaves_read w))) E v
+-- what an answer, as it is seen, comes to where the log has handed out w, and what it has then
+abbrev pub AnswerSays : Watched → SeenAnswer → Outcome → Watched → Type 0
+AnswerSays w (seen_head head) (Said v) next = HeadSays sha256 w head v × (next ≡ after_verdict w (waiting_or w.waiting head) v)
+AnswerSays w (seen_leaves start E wrong) (Said v) next = EntriesSay sha256 w w.waiting (unwrap_or start (length (leaves_read w))) E v
     × (next ≡ after_entries w w.waiting E v)
-AnswerSays w (a_proof path) (Said v) next = ProofSays sha256 w.accepted w.waiting path v × (next ≡ w)
-AnswerSays w a_state BadState next = next ≡ w
-AnswerSays w no_answer BadLine next = next ≡ w
+AnswerSays w (seen_proof path) (Said v) next = ProofSays sha256 w.accepted w.waiting path v × (next ≡ w)
+AnswerSays w seen_state BadState next = next ≡ w
+AnswerSays w seen_nothing BadLine next = next ≡ w
+AnswerSays w seen_gap (Said v) next = (v ≡ Gap) × (next ≡ w)
+AnswerSays w seen_known Known next = next ≡ w
+AnswerSays w (seen_refused why) (BadAnswer told) next = (told ≡ why) × (next ≡ w)
 AnswerSays w a o next = ⊥
 
 -- the same of the states that stand for what was handed out, whatever that is
-abbrev pub StateSays : WatcherState → Answered → Outcome → WatcherState → Type 0
+abbrev pub StateSays : WatcherState → SeenAnswer → Outcome → WatcherState → Type 0
 StateSays s a o t = (w : Watched) → Keeps sha256 s w → (next : Watched) × Keeps sha256 t next × AnswerSays w a o next
 
 -- the leaves that are read of E: as far as the waiting head goes
@@ -42,19 +47,22 @@ abbrev pub moment_of : Option Head → ℕ
 moment_of None = 0
 moment_of (Some head) = head.timestamp
 
--- the lines of the entries that are read, where any are, and whether the waiting head is older than one of them
-abbrev pub AreTexts : List (List ℕ) → WatcherState → Answered → Outcome → Bool → List ℕ → Type 0
-AreTexts names s (leaves_from start E) (Said v) older text = ReadTexts names (moment_of s.waiting) v s.all.0 (leaves_taken s E) older text
-AreTexts names s a o older text = (older ≡ false) × (text ≡ [])
+-- the lines of the entries that are read, where any are, and whether they speak against the log: the waiting head is older than one of
+-- them, or one of a data tile doesn't name its index
+abbrev pub AreTexts : List (List ℕ) → WatcherState → SeenAnswer → Outcome → Bool → List ℕ → Type 0
+AreTexts names s (seen_leaves start E wrong) (Said v) accused text =
+    ReadTexts names (moment_of s.waiting) wrong v s.all.0 (leaves_taken s E) accused text
+AreTexts names s a o accused text = (accused ≡ false) × (text ≡ [])
 
 -- whether what a line comes to speaks against the log
 abbrev pub is_alarm : Outcome → Bool
 is_alarm (Said v) = accuses v
 is_alarm o = false
 
--- whether a line is none
+-- whether a line is none, or a checkpoint or data tile that is refused
 abbrev pub is_bad : Outcome → Bool
 is_bad (Said v) = false
+is_bad Known = false
 is_bad o = true
 
 -- What one line gave: what it came to, unless it was empty; its text; and what is known then.
@@ -63,20 +71,22 @@ pub record LineStep : Type 0 where
   pub text : List ℕ
   pub after : Monitor
 
--- a line that isn't empty: what it is and what it comes to, what is written (the lines of entries, and behind them the verdict), what is
--- known of the log then, whether the head that waits is older than an entry that was read, whether that or a verdict spoke against the
--- log so far, and whether a line was none
+-- a line that isn't empty: what it is, what that is to who has read the log's entries up to there (seen), and what it comes to; what is written (the lines of entries, and behind them the verdict); what is
+-- known of the log then; whether entries that were read speak against the log, whether they or a verdict did so far, and whether a line was
+-- none
 pub record Tells (names : List (List ℕ)) (before : Monitor) (line : List ℕ) (step : LineStep) : Type 0 where
   pub answer : Answered
+  pub seen : SeenAnswer
   pub outcome : Outcome
   pub entries : List ℕ
-  pub older : Bool
+  pub accused : Bool
   pub noted : step.outcome ≡ Some outcome
   pub reads : Reads line answer
-  pub says : StateSays before.watcher answer outcome step.after.watcher
-  pub lists : AreTexts names before.watcher answer outcome older entries
+  pub sees : SeesAnswer before.watcher.all.0 answer seen
+  pub says : StateSays before.watcher seen outcome step.after.watcher
+  pub lists : AreTexts names before.watcher seen outcome accused entries
   pub written : step.text ≡ entries ++ line_of (outcome_data step.after.watcher outcome)
-  pub alarm : step.after.alarm ≡ (older || before.alarm) || is_alarm outcome
+  pub alarm : step.after.alarm ≡ (accused || before.alarm) || is_alarm outcome
   pub bad : step.after.bad ≡ before.bad || is_bad outcome
 
 -- what any line gives: an empty one is passed over

@@ -10,7 +10,14 @@ use Rattle.ct_watch.specs.WatcherState.{WatcherState}
 use Rattle.ct_watch.specs.declared.verdict.Verdict.{Verdict}
 use Rattle.ct_watch.specs.declared.verdict.Verdict.TheVariants.{Accepted, Pending, Again, Stale, Shrunk, Fork, TimeNotLater, RootMismatch, Gap, Consistent, Inconsistent}
 use Rattle.ct_follow.specs.declared.verdicts.Outcome.{Outcome}
-use Rattle.ct_follow.specs.declared.verdicts.Outcome.TheVariants.{Said, BadLine, BadState}
+use Rattle.ct_follow.specs.declared.verdicts.Outcome.TheVariants.{Said, Known, BadLine, BadState, BadAnswer}
+use Rattle.ct_follow.specs.declared.refusal.AnswerRefusal.{AnswerRefusal}
+use Rattle.ct_follow.specs.declared.refusal.AnswerRefusal.TheVariants.{NoCheckpoint, DamagedTile}
+use Rattle.ct_follow.specs.EntryText.{leaf_fault_name}
+use Rattle.ct_tile_leaves.specs.declared.fault.TileFault.{TileFault}
+use Rattle.ct_tile_leaves.specs.declared.fault.TileFault.TheVariants.{Field, PartialFingerprint}
+use Rattle.ct_tiled_entries.specs.declared.answer.Damage.{Damage}
+use Rattle.ct_tiled_entries.specs.declared.answer.Damage.TheVariants.{NoDataTile, AtLeaf, OtherCount}
 
 -- the name of why a proof is refused
 abbrev pub proof_fault_name : ProofFault → List ℕ
@@ -57,9 +64,43 @@ mismatch_data root = object (member (codes "computed_root_hash") (bytes_data roo
 abbrev pub inconsistent_data : ProofFault → Data
 inconsistent_data f = object (member (codes "fault") (string (proof_fault_name f)) (member (codes "verdict") (string (codes "inconsistent")) no_members))
 
+-- that of a data tile whose entries were all read before: `want` is the next one
+abbrev pub known_data : ℕ → Data
+known_data want = object (member (codes "verdict") (string (codes "known")) (member (codes "want") (number_data want) no_members))
+
 -- the object of a line that is none
 abbrev pub error_data : List ℕ → Data
 error_data e = object (member (codes "error") (string e) no_members)
+
+-- the name of why there is no leaf at a place of a tile
+abbrev pub tile_leaf_fault_name : TileFault → List ℕ
+tile_leaf_fault_name (Field f) = leaf_fault_name f
+tile_leaf_fault_name PartialFingerprint = codes "partial-fingerprint"
+
+-- the object of a checkpoint or a data tile that is refused, for this reason and nothing more
+abbrev pub bad_answer_data : List ℕ → Data
+bad_answer_data fault = object (member (codes "error") (string (codes "bad-answer")) (member (codes "fault") (string fault) no_members))
+
+-- that of a data tile whose bytes have this first fault, at the leaf of that place in it
+abbrev pub bad_leaf_data : ℕ → List ℕ → Data
+bad_leaf_data place fault = object (member (codes "error") (string (codes "bad-answer")) (member (codes "fault") (string fault)
+    (member (codes "place") (number_data place) no_members)))
+
+-- that of a data tile that has so many leaves, and not as many as its name says
+abbrev pub bad_count_data : ℕ → Data
+bad_count_data count = object (member (codes "count") (number_data count) (member (codes "error") (string (codes "bad-answer"))
+    (member (codes "fault") (string (codes "other-count")) no_members)))
+
+-- that of a damaged data tile
+abbrev pub damage_data : Damage → Data
+damage_data NoDataTile = bad_answer_data (codes "no-data-tile")
+damage_data (AtLeaf place f) = bad_leaf_data place (tile_leaf_fault_name f)
+damage_data (OtherCount count) = bad_count_data count
+
+-- that of a refused checkpoint or data tile
+abbrev pub refusal_data : AnswerRefusal → Data
+refusal_data NoCheckpoint = bad_answer_data (codes "no-checkpoint")
+refusal_data (DamagedTile damage) = damage_data damage
 
 -- the size of the waiting head, or that of what was read
 abbrev pub size_wanted : Option Head → ℕ → ℕ
@@ -84,8 +125,10 @@ said_data s Gap = gap_data s.all.0
 said_data s Consistent = word_data (codes "consistent")
 said_data s (Inconsistent f) = inconsistent_data f
 
--- the object of what a line comes to: of a verdict, or of a line that is none
+-- the object of what a line comes to: of a verdict, of a known tile, of a refused checkpoint or tile, or of a line that is none
 abbrev pub outcome_data : WatcherState → Outcome → Data
 outcome_data s (Said v) = said_data s v
+outcome_data s Known = known_data s.all.0
+outcome_data s (BadAnswer why) = refusal_data why
 outcome_data s BadLine = error_data (codes "bad-line")
 outcome_data s BadState = error_data (codes "bad-state")

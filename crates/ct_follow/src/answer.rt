@@ -1,8 +1,8 @@
-//! A line as the answer of a log's front end.
+//! A line as the answer of a log's front end, or as a checkpoint or data tile of a log.
 
 ghost use Rattle.std.specs.Prelude.{◌≡◌, IfOk, map, option_map};
 ghost use Rattle.serde_json.specs.View.{view, items_view};
-ghost use Rattle.ct_follow.specs.Answers.{answer_in, answer_read, entries_in, head_in, leaves_in, leaves_of_items, start_in, Reads};
+ghost use Rattle.ct_follow.specs.Answers.{answer_in, answer_read, checkpoint_in, entries_in, head_in, leaves_in, leaves_of_items, start_in, tile_in, tiled_in, Reads};
 
 use crate::fault::Unread;
 use ct_lines::fields;
@@ -19,6 +19,10 @@ pub(crate) enum Answer {
     Entries(Option<u64>, Vec<Vec<u8>>),
     // A consistency proof (section 4.4).
     Proof(Vec<[u8; 32]>),
+    // A checkpoint, by its text and the moment beside it (C2SP tlog-checkpoint).
+    Checkpoint(String, u64),
+    // A data tile, by its name and its bytes (C2SP static-ct-api).
+    Tile(Vec<u8>, Vec<u8>),
     // A state, damaged or in the wrong place.
     State,
     // None of these.
@@ -85,7 +89,48 @@ fn start(value: &Value) -> Option<Option<u64>>
     }
 }
 
-// The entries that an object is, or else the proof that it is.
+// The checkpoint that an object is. Its signature isn't looked at.
+fn checkpoint(alloc: Global, value: &Value) -> Result<Option<Answer>, AllocError>
+    ensures { IfOk result (λ o. option_map answer_read o ≡ checkpoint_in (view value.now)) }
+{
+    let Some(text) = fields::text(value, "checkpoint") else {
+        return Ok(None);
+    };
+    let Some(timestamp) = fields::number(value, "timestamp") else {
+        return Ok(None);
+    };
+    let text = String::from_str(alloc, text)?;
+    Ok(Some(Answer::Checkpoint(text, timestamp)))
+}
+
+// The data tile that an object is.
+fn tile(alloc: Global, value: &Value) -> Result<Option<Answer>, AllocError>
+    ensures { IfOk result (λ o. option_map answer_read o ≡ tile_in (view value.now)) }
+{
+    let Some(name) = fields::text(value, "tile") else {
+        return Ok(None);
+    };
+    let Some(bytes) = fields::bytes(alloc, value, "data")? else {
+        return Ok(None);
+    };
+    let name = Vec::from_slice(alloc, name.as_bytes())?;
+    Ok(Some(Answer::Tile(name, bytes)))
+}
+
+// The checkpoint that an object is, or else the data tile.
+fn tiled(alloc: Global, value: &Value) -> Result<Answer, AllocError>
+    ensures { IfOk result (λ a. answer_read a ≡ tiled_in (view value.now)) }
+{
+    if let Some(answer) = checkpoint(alloc, value)? {
+        return Ok(answer);
+    }
+    match tile(alloc, value)? {
+        Some(answer) => Ok(answer),
+        None => Ok(Answer::Other),
+    }
+}
+
+// The entries that an object is, or else the proof, or else what it is of a tiled log.
 fn entries_or_proof(alloc: Global, value: &Value) -> Result<Answer, AllocError>
     ensures { IfOk result (λ a. answer_read a ≡ entries_in (view value.now)) }
 {
@@ -97,7 +142,7 @@ fn entries_or_proof(alloc: Global, value: &Value) -> Result<Answer, AllocError>
     }
     match fields::hashes(alloc, value, "consistency")? {
         Some(path) => Ok(Answer::Proof(path)),
-        None => Ok(Answer::Other),
+        None => tiled(alloc, value),
     }
 }
 

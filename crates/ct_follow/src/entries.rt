@@ -1,10 +1,10 @@
 //! What is written of an entry: a line for each watched name that stands in its certificate, or one where it is no leaf.
 
-ghost use Rattle.std.specs.Prelude.{◌≡◌, ◌+◌, ◌<◌, ◌^◌, ◌++◌, ℕ, ◌||◌, List, IfOk, OnOk, length, map, nat_lt, string_bytes};
+ghost use Rattle.std.specs.Prelude.{◌≡◌, ◌+◌, ◌<◌, ◌^◌, ◌++◌, ℕ, ◌||◌, List, IfOk, OnOk, is_some, length, map, nat_lt, string_bytes};
 ghost use Rattle.serde_json.specs.View.{view};
 ghost use Rattle.ct_codec.specs.Decoded.{entry_lent};
 ghost use Rattle.ct_codec.specs.Leaf.{signed_of};
-ghost use Rattle.ct_follow.specs.EntryText.{leaf_fault_name, leaf_fault_data, found_data, found_line, found_lines, kind_word, newer_data, newer_line, IsEntryText, AreEntryTexts, ReadTexts};
+ghost use Rattle.ct_follow.specs.EntryText.{leaf_fault_name, leaf_fault_data, found_data, found_line, found_lines, kind_word, newer_data, newer_line, wrong_index_data, wrong_index_line, IsEntryText, AreEntryTexts, AreTileTexts, ReadTexts};
 
 use crate::names::{is_named, lowered};
 use crate::text::push_line;
@@ -14,7 +14,7 @@ use serde_json::{Value, json};
 use std::alloc::{AllocError, Global};
 
 // The name of why bytes are no leaf.
-fn name_of(fault: DecodeFault) -> &'static str
+pub(crate) fn name_of(fault: DecodeFault) -> &'static str
     ensures { result.now ≡ leaf_fault_name fault }
 {
     match fault {
@@ -184,24 +184,71 @@ fn push_entries(
     Ok(older)
 }
 
+fn wrong_index_value(alloc: Global, index: u64) -> Result<Value, AllocError>
+    ensures { IfOk result (λ v. view v ≡ wrong_index_data index) }
+{
+    json!(in alloc; {"entry": index, "verdict": "wrong-index"})
+}
+
+// Adds the line of a wrong index, where there is one, and answers whether there is.
+fn push_wrong_index(
+    alloc: Global,
+    text: &mut Vec<u8>,
+    wrong: Option<u64>,
+) -> Result<bool, AllocError>
+    ensures told { IfOk result (λ told. told ≡ is_some wrong) }
+    ensures written { OnOk result (text.new.items ≡ text.old.items ++ wrong_index_line wrong) }
+{
+    match wrong {
+        Some(index) => {
+            let value = wrong_index_value(alloc, index)?;
+            push_line(alloc, text, &value)?;
+            Ok(true)
+        }
+        None => Ok(false),
+    }
+}
+
+// Adds the line of a wrong index, where there is one, and behind it those of entries from an index on. Answers whether they speak against
+// the log.
+fn push_tile(
+    alloc: Global,
+    text: &mut Vec<u8>,
+    names: &[String],
+    moment: u64,
+    wrong: Option<u64>,
+    first: u64,
+    leaves: &[Vec<u8>],
+) -> Result<bool, AllocError>
+    requires { first + length leaves.now < 2 ^ 64 }
+    ensures { IfOk result (λ accused. (more : List ℕ)
+        × AreTileTexts (map string_bytes names.now) moment wrong first (map (λ l. l.items) leaves.now) accused more
+        × (text.new.items ≡ text.old.items ++ more)) }
+{
+    let other = push_wrong_index(alloc, text, wrong)?;
+    let older = push_entries(alloc, text, names, moment, first, leaves)?;
+    Ok(either(other, older))
+}
+
 // Adds the lines of entries that were read with this verdict: none, where that is that they don't begin in the right place. Answers
-// whether the head of that moment is older than one of them.
+// whether they speak against the log: the head of that moment is older than one of them, or one of a data tile doesn't name its index.
 pub(crate) fn push_read(
     alloc: Global,
     text: &mut Vec<u8>,
     names: &[String],
     moment: u64,
+    wrong: Option<u64>,
     verdict: &Verdict,
     first: u64,
     leaves: &[Vec<u8>],
 ) -> Result<bool, AllocError>
     requires { first + length leaves.now < 2 ^ 64 }
-    ensures { IfOk result (λ older. (more : List ℕ)
-        × ReadTexts (map string_bytes names.now) moment verdict.now first (map (λ l. l.items) leaves.now) older more
+    ensures { IfOk result (λ accused. (more : List ℕ)
+        × ReadTexts (map string_bytes names.now) moment wrong verdict.now first (map (λ l. l.items) leaves.now) accused more
         × (text.new.items ≡ text.old.items ++ more)) }
 {
     if matches!(verdict, Verdict::Gap) {
         return Ok(false);
     }
-    push_entries(alloc, text, names, moment, first, leaves)
+    push_tile(alloc, text, names, moment, wrong, first, leaves)
 }

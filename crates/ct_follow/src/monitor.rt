@@ -1,18 +1,19 @@
 //! Who takes the lines, one after the other.
 
-ghost use Rattle.std.specs.Prelude.{◌≡◌, ◌⊎◌, ◌+◌, ◌-◌, ◌<◌, ◌≤◌, ◌^◌, ◌++◌, ◌∷◌, ◌||◌, [], ℕ, Bool, List, IfOk, OnOk, false, length, map, min, string_bytes, unwrap_or};
+ghost use Rattle.std.specs.Prelude.{◌≡◌, ◌⊎◌, ◌+◌, ◌-◌, ◌<◌, ◌≤◌, ◌^◌, ◌++◌, ◌∷◌, ◌||◌, [], ℕ, Bool, List, Option, IfOk, OnOk, false, length, map, min, string_bytes, unwrap_or};
 ghost use Rattle.sha2.specs.Sha256.{sha256};
 ghost use Rattle.ct_watch.specs.Watched.{Watched};
 ghost use Rattle.ct_watch.specs.Verdicts.{EntriesSay, after_entries};
 ghost use Rattle.ct_watch.specs.WatcherState.{Keeps};
-ghost use Rattle.ct_follow.specs.Answers.{answer_read, leaves_from};
+ghost use Rattle.ct_follow.specs.Seen.{seen_read, seen_leaves};
 ghost use Rattle.ct_follow.specs.Session.{AreTexts, moment_of, StateSays, LineGives, FirstGives, status_of, is_alarm, is_bad};
 ghost use Rattle.ct_follow.specs.StateText.{state_text, IsOfBytes};
 ghost use Rattle.ct_follow.specs.VerdictText.{wanted_size};
 ghost use Rattle.ct_follow.specs.declared.verdicts.Outcome.TheVariants.{Said};
 
-use crate::answer::{Answer, read_answer};
+use crate::answer::read_answer;
 use crate::entries::{either, push_read};
+use crate::seen::{Seen, see};
 use crate::state::{is_of_bytes, read_state, state_line};
 use crate::verdicts::{Outcome, push_outcome, wanted};
 use ct_tree::Sha256Hash;
@@ -24,7 +25,8 @@ use std::alloc::{AllocError, Global};
 pub struct Monitor {
     /// What the log has handed out.
     pub watcher: Watcher<Sha256Hash>,
-    /// Whether something spoke against the log: a verdict, or an entry that is later than its head.
+    /// Whether something spoke against the log: a verdict, an entry that is later than its head, or one of a data tile that doesn't name its
+    /// index.
     pub alarm: bool,
     /// Whether a line was none.
     pub bad: bool,
@@ -56,13 +58,20 @@ fn waiting_moment(watcher: &Watcher<Sha256Hash>) -> u64
     }
 }
 
+// The index of the next entry that is wanted.
+fn next_index(watcher: &Watcher<Sha256Hash>) -> u64
+    ensures { result ≡ watcher.now.all.0 }
+{
+    watcher.all().size()
+}
+
 // Takes leaves from an index on, or from the last one read on where it isn't told.
 fn take_leaves(
     watcher: &mut Watcher<Sha256Hash>,
     start: Option<u64>,
     leaves: &[Vec<u8>],
 ) -> Result<Verdict, AllocError>
-    ensures { IfOk result (λ v. StateSays watcher.old (leaves_from start (map (λ l. l.items) leaves.now)) (Said v) watcher.new) }
+    ensures { IfOk result (λ v. (wrong : Option ℕ) → StateSays watcher.old (seen_leaves start (map (λ l. l.items) leaves.now) wrong) (Said v) watcher.new) }
 {
     let start = start.unwrap_or(watcher.all().size());
     watcher.take_entries(start, leaves)
@@ -82,67 +91,72 @@ impl Monitor {
         }
     }
 
-    // Takes entries, and tells of those that are read.
+    // Takes entries, and tells of those that are read, and of the first wrong index among a data tile's.
     fn take_entries(
         &mut self,
         alloc: Global,
         names: &[String],
         start: Option<u64>,
         leaves: &[Vec<u8>],
+        wrong: Option<u64>,
         text: &mut Vec<u8>,
     ) -> Result<Verdict, AllocError>
-        ensures says { IfOk result (λ v. StateSays self.old.watcher (leaves_from start (map (λ l. l.items) leaves.now)) (Said v) self.new.watcher) }
-        ensures lists { IfOk result (λ v. (older : Bool) × (more : List ℕ)
-            × AreTexts (map string_bytes names.now) self.old.watcher (leaves_from start (map (λ l. l.items) leaves.now)) (Said v) older more
-            × (text.new.items ≡ text.old.items ++ more) × (self.new.alarm ≡ older || self.old.alarm)) }
+        ensures says { IfOk result (λ v. StateSays self.old.watcher (seen_leaves start (map (λ l. l.items) leaves.now) wrong) (Said v) self.new.watcher) }
+        ensures lists { IfOk result (λ v. (accused : Bool) × (more : List ℕ)
+            × AreTexts (map string_bytes names.now) self.old.watcher (seen_leaves start (map (λ l. l.items) leaves.now) wrong) (Said v) accused more
+            × (text.new.items ≡ text.old.items ++ more) × (self.new.alarm ≡ accused || self.old.alarm)) }
         ensures bad { self.new.bad ≡ self.old.bad }
     {
         let first = self.watcher.all().size();
         let count = leaves_wanted(&self.watcher, leaves.len());
         let moment = waiting_moment(&self.watcher);
         let verdict = take_leaves(&mut self.watcher, start, leaves)?;
-        let older = push_read(
+        let accused = push_read(
             alloc,
             text,
             names,
             moment,
+            wrong,
             &verdict,
             first,
             &leaves[..count],
         )?;
-        self.alarm = either(older, self.alarm);
+        self.alarm = either(accused, self.alarm);
         Ok(verdict)
     }
 
-    // Takes what a line is. What entries have to tell is added to the text.
-    fn take_answer(
+    // Takes an answer as it is seen. What entries have to tell is added to the text.
+    fn take_seen(
         &mut self,
         alloc: Global,
         names: &[String],
-        answer: Answer,
+        seen: Seen,
         text: &mut Vec<u8>,
     ) -> Result<Outcome, AllocError>
-        ensures says { IfOk result (λ o. StateSays self.old.watcher (answer_read answer) o self.new.watcher) }
-        ensures lists { IfOk result (λ o. (older : Bool) × (more : List ℕ)
-            × AreTexts (map string_bytes names.now) self.old.watcher (answer_read answer) o older more
-            × (text.new.items ≡ text.old.items ++ more) × (self.new.alarm ≡ older || self.old.alarm)) }
+        ensures says { IfOk result (λ o. StateSays self.old.watcher (seen_read seen) o self.new.watcher) }
+        ensures lists { IfOk result (λ o. (accused : Bool) × (more : List ℕ)
+            × AreTexts (map string_bytes names.now) self.old.watcher (seen_read seen) o accused more
+            × (text.new.items ≡ text.old.items ++ more) × (self.new.alarm ≡ accused || self.old.alarm)) }
         ensures bad { self.new.bad ≡ self.old.bad }
     {
-        match answer {
-            Answer::Head(head) => {
+        match seen {
+            Seen::Head(head) => {
                 let verdict = self.watcher.take_head(head)?;
                 Ok(Outcome::Said(verdict))
             }
-            Answer::Entries(start, leaves) => {
-                let verdict = self.take_entries(alloc, names, start, &leaves, text)?;
+            Seen::Entries(start, leaves, wrong) => {
+                let verdict = self.take_entries(alloc, names, start, &leaves, wrong, text)?;
                 Ok(Outcome::Said(verdict))
             }
-            Answer::Proof(path) => {
+            Seen::Proof(path) => {
                 let verdict = self.watcher.take_proof(&path);
                 Ok(Outcome::Said(verdict))
             }
-            Answer::State => Ok(Outcome::BadState),
-            Answer::Other => Ok(Outcome::BadLine),
+            Seen::Gap => Ok(Outcome::Said(Verdict::Gap)),
+            Seen::Known => Ok(Outcome::Known),
+            Seen::Refused(why) => Ok(Outcome::BadAnswer(why)),
+            Seen::State => Ok(Outcome::BadState),
+            Seen::Other => Ok(Outcome::BadLine),
         }
     }
 
@@ -154,6 +168,8 @@ impl Monitor {
     {
         match outcome {
             Outcome::Said(verdict) => self.alarm = self.alarm || verdict.accuses(),
+            Outcome::Known => {}
+            Outcome::BadAnswer(_) => self.bad = true,
             Outcome::BadLine => self.bad = true,
             Outcome::BadState => self.bad = true,
         }
@@ -173,7 +189,8 @@ impl Monitor {
             return Ok(text);
         }
         let answer = read_answer(alloc, line)?;
-        let outcome = self.take_answer(alloc, names, answer, &mut text)?;
+        let seen = see(alloc, next_index(&self.watcher), answer)?;
+        let outcome = self.take_seen(alloc, names, seen, &mut text)?;
         self.note(&outcome);
         push_outcome(alloc, &mut text, &self.watcher, &outcome)?;
         Ok(text)

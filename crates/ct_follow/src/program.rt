@@ -30,14 +30,15 @@ Options:
 
 Watches a Certificate Transparency log (RFC 6962) by what it answers. Answers come on standard input, a line of JSON each:
 a state of an earlier run on the first line, and then of get-sth, get-entries (with `start` beside `entries`) and
-get-sth-consistency. Verdicts go to standard output, and the state as the last line; docs/MONITOR.md has their form.
+get-sth-consistency, or checkpoints and data tiles of a tiled log. Verdicts go to standard output, and the state as the last
+line; docs/MONITOR.md has their form.
 
 Exit status:
   0  nothing speaks against the log
   1  memory was refused, or reading or writing failed: keep the old state
   2  the words are refused
   3  an alarm: a verdict speaks against the log
-  4  a line was none of a log's, or the state wasn't taken up
+  4  a line was none of a log's or was refused, or the state wasn't taken up
 ";
 
 // The version of the programs and of the library for C (include/wagtenib.pc.in).
@@ -184,9 +185,9 @@ fn finish<W: Write>(alloc: Global, monitor: &Monitor, writer: &mut W) -> Result<
     Ok(monitor.status())
 }
 
-/// Reads a log's answers, a line each, and writes the verdicts, and the state as the last line. Answers the exit status: 3
-/// where a verdict speaks against the log, or a head is older than an entry of its tree (RFC 6962, section 3.5), else 4 where
-/// a line was none, else 0.
+/// Reads a log's answers, or its checkpoints and data tiles, a line each, and writes the verdicts, and the state as the last line. Answers the exit status: 3
+/// where a verdict speaks against the log, a head is older than an entry of its tree (RFC 6962, section 3.5), or an entry of a data
+/// tile doesn't name its index, else 4 where a line was none or was refused, else 0.
 pub fn run<B: BufRead, W: Write>(
     alloc: Global,
     names: &[String],

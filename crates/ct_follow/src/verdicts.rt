@@ -3,10 +3,14 @@
 ghost use Rattle.std.specs.Prelude.{◌≡◌, IfOk, OnOk, ◌++◌};
 ghost use Rattle.serde_json.specs.View.{view};
 ghost use Rattle.ct_follow.specs.Texts.{line_of};
-ghost use Rattle.ct_follow.specs.VerdictText.{proof_fault_name, wanted_size, word_data, accepted_data, pending_data, gap_data, fork_data, not_later_data, mismatch_data, inconsistent_data, error_data, said_data, outcome_data};
+ghost use Rattle.ct_follow.specs.VerdictText.{proof_fault_name, wanted_size, word_data, accepted_data, pending_data, gap_data, fork_data, not_later_data, mismatch_data, inconsistent_data, known_data, error_data, tile_leaf_fault_name, bad_answer_data, bad_leaf_data, bad_count_data, damage_data, refusal_data, said_data, outcome_data};
 
+use crate::entries::name_of as leaf_fault_of;
+use crate::refusal::AnswerRefusal;
 use crate::text::push_line;
 use ct_lines::bytes_value;
+use ct_tile_leaves::TileFault;
+use ct_tiled_entries::Damage;
 use ct_tree::{Head, Sha256Hash};
 use ct_verify::ProofFault;
 use ct_watch::{Verdict, Watcher};
@@ -18,6 +22,10 @@ use std::alloc::{AllocError, Global};
 pub enum Outcome {
     /// A verdict on what it is.
     Said(Verdict),
+    /// It is a data tile whose entries were all read before.
+    Known,
+    /// It is a checkpoint or a data tile, and refused.
+    BadAnswer(AnswerRefusal),
     /// It is none.
     BadLine,
     /// It is a state, damaged or in the wrong place.
@@ -97,6 +105,59 @@ fn error_value(alloc: Global, error: &str) -> Result<Value, AllocError>
     json!(in alloc; {"error": error})
 }
 
+fn known_value(alloc: Global, want: u64) -> Result<Value, AllocError>
+    ensures { IfOk result (λ v. view v ≡ known_data want) }
+{
+    json!(in alloc; {"verdict": "known", "want": want})
+}
+
+// The name of why there is no leaf at a place of a tile.
+fn tile_fault_of(fault: TileFault) -> &'static str
+    ensures { result.now ≡ tile_leaf_fault_name fault }
+{
+    match fault {
+        TileFault::Field(fault) => leaf_fault_of(fault),
+        TileFault::PartialFingerprint => "partial-fingerprint",
+    }
+}
+
+fn bad_answer_value(alloc: Global, fault: &str) -> Result<Value, AllocError>
+    ensures { IfOk result (λ v. view v ≡ bad_answer_data fault.now) }
+{
+    json!(in alloc; {"error": "bad-answer", "fault": fault})
+}
+
+fn bad_leaf_value(alloc: Global, place: u64, fault: &str) -> Result<Value, AllocError>
+    ensures { IfOk result (λ v. view v ≡ bad_leaf_data place fault.now) }
+{
+    json!(in alloc; {"error": "bad-answer", "fault": fault, "place": place})
+}
+
+fn bad_count_value(alloc: Global, count: u64) -> Result<Value, AllocError>
+    ensures { IfOk result (λ v. view v ≡ bad_count_data count) }
+{
+    json!(in alloc; {"count": count, "error": "bad-answer", "fault": "other-count"})
+}
+
+fn damage_value(alloc: Global, damage: Damage) -> Result<Value, AllocError>
+    ensures { IfOk result (λ v. view v ≡ damage_data damage) }
+{
+    match damage {
+        Damage::NoDataTile => bad_answer_value(alloc, "no-data-tile"),
+        Damage::AtLeaf(place, fault) => bad_leaf_value(alloc, place as u64, tile_fault_of(fault)),
+        Damage::OtherCount(count) => bad_count_value(alloc, count as u64),
+    }
+}
+
+fn refusal_value(alloc: Global, why: AnswerRefusal) -> Result<Value, AllocError>
+    ensures { IfOk result (λ v. view v ≡ refusal_data why) }
+{
+    match why {
+        AnswerRefusal::NoCheckpoint => bad_answer_value(alloc, "no-checkpoint"),
+        AnswerRefusal::DamagedTile(damage) => damage_value(alloc, damage),
+    }
+}
+
 // The size that is waited for.
 pub(crate) fn wanted(watcher: &Watcher<Sha256Hash>) -> u64
     ensures { result ≡ wanted_size watcher.now }
@@ -140,6 +201,8 @@ fn outcome_value(
 {
     match outcome {
         Outcome::Said(verdict) => verdict_value(alloc, watcher, verdict),
+        Outcome::Known => known_value(alloc, watcher.all().size()),
+        Outcome::BadAnswer(why) => refusal_value(alloc, *why),
         Outcome::BadLine => error_value(alloc, "bad-line"),
         Outcome::BadState => error_value(alloc, "bad-state"),
     }

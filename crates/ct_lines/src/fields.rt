@@ -9,8 +9,8 @@ use base64::engine::general_purpose::STANDARD;
 use serde_json::Value;
 use std::alloc::{AllocError, Global};
 
-// The text under a key.
-pub(crate) fn text<'v>(value: &'v Value, key: &str) -> Option<&'v str>
+/// The text under a key.
+pub fn text<'v>(value: &'v Value, key: &str) -> Option<&'v str>
     ensures { option_map (λ s. s.now) result ≡ text_at key.now (view value.now) }
 {
     match value.get(key) {
@@ -74,8 +74,8 @@ fn bytes_values(alloc: Global, values: &[Value]) -> Result<Option<Vec<Vec<u8>>>,
     Ok(Some(all))
 }
 
-// The array of bytes under a key.
-pub(crate) fn bytes_list(
+/// The array of bytes under a key.
+pub fn bytes_list(
     alloc: Global,
     value: &Value,
     key: &str,

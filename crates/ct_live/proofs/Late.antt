@@ -35,6 +35,11 @@ never_late f why late = elim why [
   | inr (inr e) ↦ absurd (true≢false (ap is_late (sym late ∙ e)))
 ]
 
+-- nor is it that a thread didn't start
+pub threads_not_late : {X : Type 0} → Threads ≡ ClockBack → X
+unfolding is_late
+threads_not_late late = absurd (true≢false (ap is_late (sym late)))
+
 -- the list of tasks that was looked at is that of the fronts, and that of answers is the fronts' and then the operator's
 pub ends_late : (inlets : Inlets) (tasks seen : List (Consumer (Numbered FrontTask) Global AnyItems))
     (answers all : List (Producer (Vec ℕ Global) Global AnyItems)) (operator : DeskWorker) → seen ≡ tasks → all ≡ answers ++ operator.answers ∷ []

@@ -16,3 +16,4 @@ pub mod Ended
 pub mod BrokenOff
 pub mod Runs
 pub mod Late
+pub mod Told

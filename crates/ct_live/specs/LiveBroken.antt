@@ -1,5 +1,5 @@
 -- What a live log wrote that a fault broke off.
-use Rattle.std.specs.Prelude.{◌≡◌, ◌⊎◌, ℕ, List, [], ◌∷◌, ◌++◌, Option, Some, None, Result, Vec, IsOk}
+use Rattle.std.specs.Prelude.{◌≡◌, ◌⊎◌, ℕ, List, [], ◌∷◌, ◌++◌, Option, Some, None, Result, Err, Vec, IsOk}
 use Rattle.std.specs.Global.{Global}
 use Rattle.std.specs.Io.KnownBytes.{Appends}
 use mathlib.Core.List.{IsPrefix}
@@ -125,6 +125,10 @@ fault_of_party party_case.Stopped = fault_case.Threads
 abbrev pub fault_of_start : StartFault → Fault
 fault_of_start start_case.Memory = fault_case.Memory
 fault_of_start start_case.Threads = fault_case.Threads
+
+-- what is told of a run that ended so: the same; or, in place of `Read`, that a thread didn't start
+abbrev pub IsToldAs : Result Unit Fault → Result Unit Fault → Type 0
+IsToldAs ended told = (told ≡ ended) ⊎ ((ended ≡ Err fault_case.Read) × (told ≡ Err fault_case.Threads))
 
 -- no thread ended before its time: the writer's, the operator's, or a front's
 pub record HaveDone (written : Result Unit WriteFailed) (operated : Result Unit PartyFault) (fault : Option PartyFault) : Type 0 where

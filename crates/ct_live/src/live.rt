@@ -6,7 +6,7 @@ ghost use Rattle.rtrb.specs.Ring.{sent, received, IsPair};
 ghost use Rattle.ct_parties.specs.Parties.{AreFrontsOf};
 ghost use Rattle.ct_live.specs.LiveRuns.{worker_answers, worker_fronts, worker_tasks};
 ghost use Rattle.ct_live.specs.LiveOpening.{AreOpened};
-ghost use Rattle.ct_live.specs.LiveBroken.{IsServedSome, RepliesBrokenOff};
+ghost use Rattle.ct_live.specs.LiveBroken.{IsServedSome, IsToldAs, RepliesBrokenOff};
 ghost use Rattle.ct_live.specs.LiveLate.{IsServedLate, RepliesLate};
 ghost use Rattle.ct_live.specs.LiveReplied.{IsServedLive, RepliesLive};
 
@@ -246,6 +246,17 @@ fn serve_house<H: Threads + Wait + Sync, B: BufRead + Drop + Send, W: Write + Dr
     served
 }
 
+// What is told of a run that ended so. Where all were to end, that is what ended a read that waited, so it isn't told as the fault:
+// what had them end is. A thread that ended before its time is told before any read, so it is that the writer's didn't start.
+fn told(places: &Places, ended: Result<(), Fault>) -> Result<(), Fault>
+    ensures { IsToldAs ended result }
+{
+    match ended {
+        Err(Fault::Read) if places.has_stopped() => Err(Fault::Threads),
+        other => other,
+    }
+}
+
 // Runs a live log over the lines of a reader.
 fn serve_lines<H: Threads + Wait + Sync, B: BufRead + Drop + Send, W: Write + Drop + Send>(
     rt: &H,
@@ -274,18 +285,24 @@ fn serve_lines<H: Threads + Wait + Sync, B: BufRead + Drop + Send, W: Write + Dr
     };
     let lines = NumberedLines::new(input);
     match open(rt, alloc, options.fronts, options.ring, options.open_at) {
-        Ok((sequencer, fronts)) => serve_house(
-            rt,
-            alloc,
-            options,
-            &waits.places,
-            &waits.waiting,
-            lines,
-            ends,
-            sequencer,
-            fronts,
-            output,
-        ),
+        Ok((sequencer, fronts)) => {
+            let Served { output, result } = serve_house(
+                rt,
+                alloc,
+                options,
+                &waits.places,
+                &waits.waiting,
+                lines,
+                ends,
+                sequencer,
+                fronts,
+                output,
+            );
+            Served {
+                output,
+                result: told(&waits.places, result),
+            }
+        }
         Err(refusal) => Served {
             output,
             result: Err(Fault::from(refusal)),
@@ -303,7 +320,7 @@ fn serve_lines<H: Threads + Wait + Sync, B: BufRead + Drop + Send, W: Write + Dr
 /// # Errors
 ///
 /// The fault that ended the run: `Read`, `Write`, `Threads`, `Memory`, or `ClockBack` where the clock refuses the moment of
-/// closing. What was written then is a beginning: of the parties' answers to the first of the lines, each party's in their order;
+/// closing. Where all were to end it isn't `Read`, since that may have ended the read. What was written then is a beginning: of the parties' answers to the first of the lines, each party's in their order;
 /// or, behind all of them, of what the closed log replies.
 pub fn serve_live<H: Threads + Wait + Sync, I: Read + Drop + Send, W: Write + Drop + Send>(
     rt: &H,

@@ -1,3 +1,5 @@
 pub mod Fields
 pub mod Apart
 pub mod Named
+pub mod Verdict
+pub mod Tiles

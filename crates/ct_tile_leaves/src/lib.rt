@@ -4,11 +4,14 @@
 //!   and the SHA-256 fingerprints of the chain's issuers. Its parts stand where they were read or submitted: none is copied.
 //! - `tile_leaf_of` makes it of a submission, `push_tile_leaf` writes it, `tile_leaf_at` reads it from the front of bytes and
 //!   `leaf_input` gives the bytes of the tree's leaf, of which the leaf hash is taken.
+//! - `tile_leaves` reads a whole data tile, and names the first fault with the index of its leaf. `count_tile_leaves` only counts them,
+//!   without memory.
 //!
 //! The extensions are any bytes: `leaf_index` reads the index where they name it and nothing else. So a leaf with an extension of a later
 //! version is read, and hashed, like any other.
 #![tactic(auto)]
 
+mod data_tile;
 mod fault;
 mod index;
 pub mod laws;
@@ -16,7 +19,8 @@ mod leaf;
 mod reading;
 mod writing;
 
-pub use fault::TileFault;
+pub use data_tile::{count_tile_leaves, tile_leaves};
+pub use fault::{DataTileFault, TileFault};
 pub use index::leaf_index;
 pub use leaf::{TileLeaf, tile_leaf_of};
 pub use reading::tile_leaf_at;

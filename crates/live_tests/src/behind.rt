@@ -5,9 +5,9 @@ use std::sync::Wait;
 use std::test::Fail;
 use std::thread::Threads;
 
-const CLOSE: &[u8] = b"{\"who\":\"operator\",\"op\":\"close\",\"now\":1}\n";
+pub(crate) const CLOSE: &[u8] = b"{\"who\":\"operator\",\"op\":\"close\",\"now\":1}\n";
 
-const CLOSED: &[u8] = b"{\"line\":0,\"reply\":{\"timestamp\":1,\"tree_size\":0}}\n";
+pub(crate) const CLOSED: &[u8] = b"{\"line\":0,\"reply\":{\"timestamp\":1,\"tree_size\":0}}\n";
 
 // How many lines stand behind it: one of each front number from 0 on, those that a log has and those that it hasn't.
 const FRONTS: u64 = 1_100;

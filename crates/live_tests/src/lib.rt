@@ -5,7 +5,8 @@
 //! - `replies` are lines and what has to be written for them, line by line. `long_lines` are lines around the longest one that is read.
 //! - `faults` has each call of the reader and of the writer fail in turn. `waits` are lines that wait, and a writer for which the reader has to.
 //! - `behind` are many lines behind the one that closes the log, and a long reply that the writer takes byte by byte.
-//! - `open` has an input that stays open: a log that breaks off ends all the same, and what is read ahead is the input.
+//! - `open` has an input that stays open: a log that breaks off ends all the same, a read that ends so isn't its fault, and what is read ahead is
+//!   the input.
 #![tactic(auto)]
 
 #[cfg(test)]

@@ -1,9 +1,10 @@
-// An input that stays open: a log that breaks off ends all the same, and what is read ahead is the input.
+// An input that stays open: a log that breaks off ends all the same, a read that ends so isn't its fault, and what is read ahead is the input.
+use crate::behind::{CLOSE, CLOSED};
 use crate::pace::{OPTIONS, new_breaker};
 use crate::replies::LINES;
 use ct_live::{Served, serve_live};
 use ct_parties::Fault;
-use ct_pipes::read_ahead;
+use ct_pipes::{Breaker, read_ahead};
 use std::alloc::{AllocError, Global};
 use std::io;
 use std::io::{ErrorKind, Read, Write};
@@ -71,6 +72,79 @@ fn breaks_off<H: Threads + Wait + Sync + Copy + Send + 'static>(
 fn a_log_that_breaks_off_while_its_input_is_open(rt: HostRuntime) -> Result<(), Fail> {
     assert!(rt; breaks_off(&rt, rt.alloc(), b"{}\n")?);
     assert!(rt; breaks_off(&rt, rt.alloc(), WAITING)?);
+    Ok(())
+}
+
+// An input that gives this text, and can't be read behind it, as one whose wait is ended: all are to end by then.
+#[derive(Drop)]
+struct Ended {
+    breaker: Arc<Breaker>,
+    text: &'static [u8],
+    kind: ErrorKind,
+}
+
+impl Read for Ended {
+    fn read(&mut self, buf: &mut [u8]) -> io::Result<usize> {
+        if self.text.is_empty() {
+            self.breaker.stop();
+            return Err(io::Error::from(self.kind));
+        }
+        let (given, left) = self.text.split_at(self.text.len().min(buf.len()));
+        buf[..given.len()].copy_from_slice(given);
+        self.text = left;
+        Ok(given.len())
+    }
+}
+
+// A writer that keeps what it is given.
+#[derive(Drop)]
+struct Kept {
+    taken: Vec<u8>,
+}
+
+impl Write for Kept {
+    fn write(&mut self, buf: &[u8]) -> io::Result<usize> {
+        self.taken.extend_from_slice(buf)?;
+        Ok(buf.len())
+    }
+
+    fn flush(&mut self) -> io::Result<()> {
+        Ok(())
+    }
+}
+
+// Whether a run over such an input ends with this fault, and has written this.
+fn ends_with_fault<H: Threads + Wait + Sync>(
+    rt: &H,
+    alloc: Global,
+    text: &'static [u8],
+    kind: ErrorKind,
+    (fault, written): (Fault, &[u8]),
+) -> Result<bool, AllocError> {
+    let breaker = new_breaker(alloc)?;
+    let own = Arc::try_clone(&breaker)?;
+    let input = Ended {
+        breaker: own,
+        text,
+        kind,
+    };
+    let output = Kept {
+        taken: Vec::new(alloc),
+    };
+    let Served { output, result } = serve_live(rt, alloc, OPTIONS, TURNS, breaker, input, output);
+    Ok(result == Err(fault) && output.taken.as_slice() == written)
+}
+
+// What had all end is told, and not that the read was ended by it, before the log is closed and behind that; but want of memory is.
+#[test]
+fn a_read_that_ends_as_all_are_to_end(rt: HostRuntime) -> Result<(), Fail> {
+    for (text, written) in [(b"".as_slice(), b"".as_slice()), (CLOSE, CLOSED)] {
+        let is_told = |kind, fault| {
+            ends_with_fault(&rt, rt.alloc(), text, kind, (fault, written))
+        };
+        assert!(rt; is_told(ErrorKind::BrokenPipe, Fault::Threads)?);
+        assert!(rt; is_told(ErrorKind::OutOfMemory, Fault::Memory)?);
+    }
     Ok(())
 }
 

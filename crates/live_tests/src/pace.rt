@@ -82,6 +82,8 @@ struct Source<'a> {
     // How many replies the lines so far have.
     due: u64,
     is_begun: bool,
+    // How often it yields before it gives a line.
+    pause: u32,
     calls: Calls,
 }
 
@@ -118,6 +120,11 @@ impl Read for Source<'_> {
         }
         if !self.is_begun && !comes_to(&self.pace.written, self.due.saturating_sub(self.lag)) {
             return Err(io::Error::from(ErrorKind::TimedOut));
+        }
+        if !self.is_begun {
+            for _ in 0..self.pause {
+                yield_now();
+            }
         }
         let n = self.text.len().min(self.piece_len()).min(buf.len());
         let (given, left) = self.text.split_at(n);
@@ -199,6 +206,8 @@ pub(crate) struct Run {
     pub(crate) step: usize,
     // How many replies may be left when it gives the next line.
     pub(crate) lag: u64,
+    // How often the reader yields before it gives a line.
+    pub(crate) pause: u32,
     // How many bytes the writer takes a call at most.
     pub(crate) width: usize,
     // How many lines the writer waits for in its first call.
@@ -214,6 +223,7 @@ impl Run {
         Run {
             step: 65_536,
             lag: 0,
+            pause: 0,
             width: 40,
             patience: 0,
             turns: TURNS,
@@ -262,6 +272,7 @@ pub(crate) fn outcome_of<H: Threads + Wait + Sync>(
         pace: &pace,
         due: 0,
         is_begun: false,
+        pause: run.pause,
         calls: run.reads,
     };
     let sink = Sink {

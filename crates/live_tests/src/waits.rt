@@ -29,9 +29,10 @@ fn are_both(text: &[u8], one: &[u8], other: &[u8]) -> bool {
     text.strip_prefix(one) == Some(other) || text.strip_prefix(other) == Some(one)
 }
 
-fn waits_for_others<H: Threads + Wait + Sync>(rt: &H, alloc: Global) -> bool {
+fn waits_for_others<H: Threads + Wait + Sync>(rt: &H, alloc: Global, pause: u32) -> bool {
     let run = Run {
         lag: 1,
+        pause,
         ..Run::new()
     };
     let outcome = outcome_of(rt, alloc, run, WAITING);
@@ -43,7 +44,13 @@ fn waits_for_others<H: Threads + Wait + Sync>(rt: &H, alloc: Global) -> bool {
 
 #[test]
 fn a_line_that_waits_for_other_parties(rt: HostRuntime) {
-    assert!(rt; waits_for_others(&rt, rt.alloc()));
+    assert!(rt; waits_for_others(&rt, rt.alloc(), 0));
+}
+
+// Before each line the reader yields for a tenth of a second or longer: who waits has slept by then.
+#[test]
+fn a_line_that_waits_for_late_parties(rt: HostRuntime) {
+    assert!(rt; waits_for_others(&rt, rt.alloc(), 400_000));
 }
 
 // Lines that look three times, and for which nothing comes.

@@ -53,6 +53,6 @@ fn other_texts_are_refused(rt: HostRuntime) {
             "a\n1\n47DEQpj8HBSa+/TImW+5JCeuQeRkm5NMpJWZG3hSuFU=\nmore\n"
         )
         .err()
-            == Some(CheckpointFault::NotAsWritten)
+            == Some(CheckpointFault::BadRoot)
     );
 }

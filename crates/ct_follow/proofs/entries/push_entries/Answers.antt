@@ -1,4 +1,4 @@
-use Rattle.std.proofs.Common.{◌≡◌, ◌∙◌, ◌+◌, ℕ, Bool, ◌||◌, List, [], ◌∷◌, Vec, Global, map, drop, sym, subst, refl, arith}
+use Rattle.std.proofs.Common.{◌≡◌, ◌∙◌, ◌+◌, ℕ, Bool, List, [], ◌∷◌, Vec, Global, map, drop, sym, subst, refl, arith}
 use Rattle.std.proofs.lemmas.List.{at_drop_more, at_drop_all}
 use Rattle.std.specs.Prelude.{string_bytes}
 use Rattle.ct_follow.proofs.Told.{IsTold, told_more, told_all}

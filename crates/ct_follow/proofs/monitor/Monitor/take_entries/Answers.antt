@@ -15,17 +15,18 @@ returns-clause-lists c =
     let leaves = c.args.leaves.now in
     let s = c.args.self.now.watcher in
     let v = c.in_ok-verdict.verdict in
+    let wrong = c.args.wrong in
     let n = c.leaves_wanted-count.result in
     let taken : map bytes (take n leaves) ≡ leaves_taken s (map bytes leaves) =
     as_far_as leaves n (wanted_size s - s.all.0) c.leaves_wanted-count.ensures.as_far in
     let first : c.size-first.result ≡ s.all.0 = c.size-first.ensures ∙ ap (λ p. p.0) c.all.ensures in
-    let older = c.in_ok-older.older in
-    let lists = c.in_ok-older.ensures in
-    let here = subst (λ (m : ℕ). ReadTexts names m v c.size-first.result (map bytes (take n leaves)) older lists.0) c.waiting_moment-moment.ensures lists.1 in (
-      older,
+    let accused = c.in_ok-accused.accused in
+    let lists = c.in_ok-accused.ensures in
+    let here = subst (λ (m : ℕ). ReadTexts names m wrong v c.size-first.result (map bytes (take n leaves)) accused lists.0) c.waiting_moment-moment.ensures lists.1 in (
+      accused,
       lists.0,
-      subst (λ (E : List (List ℕ)). ReadTexts names (moment_of s.waiting) v s.all.0 E older lists.0) taken
-          (subst (λ (i : ℕ). ReadTexts names (moment_of s.waiting) v i (map bytes (take n leaves)) older lists.0) first here),
+      subst (λ (E : List (List ℕ)). ReadTexts names (moment_of s.waiting) wrong v s.all.0 E accused lists.0) taken
+          (subst (λ (i : ℕ). ReadTexts names (moment_of s.waiting) wrong v i (map bytes (take n leaves)) accused lists.0) first here),
       lists.2,
       c.either-self.ensures,
     )

@@ -2,6 +2,7 @@ use Rattle.std.proofs.Common.{◌∙◌, ◌++◌, ℕ, List, map, ap, sym, subs
 use Rattle.std.specs.Prelude.{string_bytes}
 use Rattle.ct_watch.specs.WatcherState.{WatcherState}
 use Rattle.ct_follow.specs.Answers.{answer_read}
+use Rattle.ct_follow.specs.Seen.{seen_read, SeesAnswer}
 use Rattle.ct_follow.specs.Session.{StateSays, LineStep, is_alarm, is_bad}
 use Rattle.ct_follow.specs.Texts.{line_of}
 use Rattle.ct_follow.specs.VerdictText.{outcome_data}
@@ -15,12 +16,14 @@ returns c =
     let step : LineStep = record { outcome = Some o; text = c.push_outcome.new.text.items; after = c.note.new.self } in
     gives_some (map string_bytes c.args.names.now) c.args.self.now c.args.line.now step c.is_empty.result c.is_empty.ensures c.if-is_empty.false (record {
       answer = answer_read c.in_ok-answer.answer;
+      seen = seen_read c.in_ok-seen.seen;
       outcome = o;
       entries = lists.1;
-      older = lists.0;
+      accused = lists.0;
       noted = refl;
       reads = c.in_ok-answer.ensures;
-      says = subst (λ (s : WatcherState). StateSays c.args.self.now.watcher (answer_read c.in_ok-answer.answer) o s) (sym c.note.ensures.watcher)
+      sees = subst (λ (n : ℕ). SeesAnswer n (answer_read c.in_ok-answer.answer) (seen_read c.in_ok-seen.seen)) c.next_index.ensures c.in_ok-seen.ensures;
+      says = subst (λ (s : WatcherState). StateSays c.args.self.now.watcher (seen_read c.in_ok-seen.seen) o s) (sym c.note.ensures.watcher)
           c.in_ok-outcome.ensures.says;
       lists = lists.2;
       written = c.in_ok-push_outcome.ensures ∙ ap (λ (t : List ℕ). t ++ line_of (outcome_data c.note.new.self.watcher o))

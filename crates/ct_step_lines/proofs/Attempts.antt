@@ -1,0 +1,43 @@
+-- A step that is replied is an attempt of the law over sequencers.
+use Rattle.std.proofs.Common.{◌≡◌, ◌⊎◌, ℕ, Bool, List, Option, Some, None, refl, sym, subst, inl, inr, arith}
+use Rattle.sha2.specs.Sha256.{sha256}
+use Rattle.ct_codec.specs.Submitted.{Submitted}
+use Rattle.ct_state_line.specs.declared.line.StateLine.{StateLine}
+use Rattle.ct_state_line.proofs.Lines.{state_lines_differ}
+use Rattle.ct_step.specs.Lines.{IsMadeOfLine}
+use Rattle.ct_step.specs.Steps.{IsTiledStep}
+use Rattle.ct_step.specs.declared.step.Step.{Step}
+use Rattle.ct_tree.specs.Tree.{mth, mth_within}
+use Rattle.ct_verify.specs.Laws.{SomeCollide}
+use Rattle.ct_step_lines.specs.StepAnswers.{edge_of, IsStepReply}
+use Rattle.ct_step_lines.specs.StepLaws.{FirstLineBegins, RepliedStepsAreAttempts}
+use Rattle.ct_step_lines.specs.StepWords.{steps, refuses}
+use Rattle.ct_step_lines.specs.declared.replies.StepRefusal.{StepRefusal}
+
+pub first_line_begins : FirstLineBegins
+unfolding mth mth_within
+first_line_begins moment = record { few = omega arith; size = refl; root = refl; entries = refl }
+
+no_refusal : (s : Step) (r : StepRefusal) → steps s ≡ refuses r → ⊥
+no_refusal s r e = cc
+
+same_step : (s t : Step) → steps s ≡ steps t → s ≡ t
+same_step s t e = cc
+
+attempt : (line : StateLine) (batch : List (Submitted × List (List ℕ))) (now : ℕ) (step : Step) (took : Bool)
+    (edge : Option (List (List ℕ) × List ℕ)) → IsStepReply line edge batch now (steps step)
+    → IsMadeOfLine sha256 (record { seen = line; batch = batch; now = now; step = step; took = took })
+attempt line batch now step took None is = absurd (no_refusal step _ is)
+attempt line batch now step took (Some edge) (inl tells) =
+    let same : step ≡ tells.0 = same_step step tells.0 tells.1 in (
+      tells.2.later,
+      λ E log. subst (λ (s : Step). IsTiledStep sha256 line E batch now s ⊎ SomeCollide sha256) (sym same) (tells.3 E log),
+    )
+attempt line batch now step took (Some edge) (inr none) = absurd (no_refusal step none.1 none.2)
+
+pub replied_steps_are_attempts : RepliedStepsAreAttempts
+replied_steps_are_attempts line batch contents now step took is (inl of) =
+    let same : of.0 ≡ line = state_lines_differ of.0 line of.1 is of.2 in
+    attempt line batch now step took (edge_of line.tree_size contents)
+    (subst (λ (l : StateLine). IsStepReply l (edge_of l.tree_size contents) batch now (steps step)) same of.3)
+replied_steps_are_attempts line batch contents now step took is (inr none) = absurd (no_refusal step _ none.1)

@@ -1,0 +1,13 @@
+pub mod StepKept
+pub mod StepLines
+pub mod StepWordsRead
+pub mod NeededNames
+pub mod Attempts
+pub mod PlainText
+pub mod Behind
+pub mod Joined
+pub mod Texts
+pub mod TileNames
+pub mod StepBatches
+pub mod StepObjects
+pub mod EdgeParts

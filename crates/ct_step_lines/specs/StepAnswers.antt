@@ -1,0 +1,119 @@
+-- What is replied to what is asked.
+use Rattle.std.specs.Prelude.{◌≡◌, ◌⊎◌, ◌/◌, ◌%◌, ℕ, zero, suc, List, [], ◌∷◌, All, nat_lt, if◌then◌else◌, Option, Some, None, option_map, option_and_then, replicate}
+use Rattle.sha2.specs.Sha256.{sha256}
+use Rattle.ct_bundles.specs.Bundle.{IsBundleOf}
+use Rattle.ct_bundles.specs.Needed.{needed_names}
+use Rattle.ct_codec.specs.Submitted.{Submitted}
+use Rattle.ct_growth.specs.declared.growth.GrowthFault.TheVariants.{ClockBack, Full, Refused}
+use Rattle.ct_state_line.specs.Lines.{IsStateLine, NoStateLine, state_line_text}
+use Rattle.ct_state_line.specs.declared.line.StateLine.{StateLine}
+use Rattle.ct_step.specs.Steps.{IsLog, IsTiledStep, MayStep, StopsStep}
+use Rattle.ct_step.specs.declared.step.Step.{Step}
+use Rattle.ct_step.specs.declared.step.StepFault.{StepFault}
+use Rattle.ct_step.specs.declared.step.StepFault.TheVariants.{Edge, Entries, Growth, TooLong}
+use Rattle.ct_tile_leaves.specs.TileLeaf.{Tiled}
+use Rattle.ct_verify.specs.Laws.{SomeCollide}
+use Rattle.ct_step_lines.specs.StepAsks.{StepAsk, for_begin, for_needs, for_step, for_too_many, for_resume, for_no_step}
+use Rattle.ct_step_lines.specs.StepWords.{IsTileName, StepReply, begins, names_edge, steps, rolls_out, refuses}
+use Rattle.ct_step_lines.specs.declared.replies.StepRefusal.{StepRefusal}
+use Rattle.ct_step_lines.specs.declared.replies.StepRefusal.TheVariants as name
+
+-- 32 bytes, all of them 0: the digest that stands where there is nothing of which to have one
+abbrev pub no_digest : List ℕ
+no_digest = replicate 32 0
+
+-- the line of a log without leaves at a moment: no step made it, and no line stands before it
+abbrev pub first_line : ℕ → StateLine
+first_line moment = record {
+  tree_size = 0;
+  timestamp = moment;
+  root = sha256 [];
+  bundle = no_digest;
+  data_tile = sha256 [];
+  before = no_digest;
+}
+
+-- the first of some contents, and those behind it
+abbrev pub first_content : List (List ℕ) → Option (List ℕ × List (List ℕ))
+first_content [] = None
+first_content (c ∷ contents) = Some (c, contents)
+
+-- the bytes of the partial tile that n hashes or entries leave behind full ones, and the contents behind them: the first content, or no
+-- bytes where they leave none
+abbrev pub edge_part : ℕ → List (List ℕ) → Option (List ℕ × List (List ℕ))
+edge_part n contents = if nat_lt 0 (n % 256) then first_content contents else Some ([], contents)
+
+-- the bytes of the partial tiles of so many levels, the lowest of which has n hashes, and the contents behind them
+unfoldable pub level_parts : ℕ → ℕ → List (List ℕ) → Option (List (List ℕ) × List (List ℕ))
+level_parts zero n contents = Some ([], contents)
+level_parts (suc levels) n contents =
+    option_and_then (λ p. option_map (λ q. (p.0 ∷ q.0, q.1)) (level_parts levels (n / 256) p.1)) (edge_part n contents)
+
+-- what was found, where no content is left
+abbrev pub if_none_left : {A : Type 0} → A → List (List ℕ) → Option A
+if_none_left found [] = Some found
+if_none_left found (c ∷ contents) = None
+
+-- Contents in the order of `needed_names`, as what a step takes of a log of n leaves: the bytes of the partial tile of each of 8 levels, level 0
+-- first, no bytes where a level has none; and those of the partial data tile, no bytes where there is none. Nothing where there are
+-- more or fewer contents than names.
+abbrev pub edge_of : ℕ → List (List ℕ) → Option (List (List ℕ) × List ℕ)
+edge_of n contents = option_and_then (λ q. option_and_then (λ p. if_none_left (q.0, p.0) p.1) (edge_part n q.1)) (level_parts 8 n contents)
+
+-- the text is that of a line of which this holds; or it is that of none, and the reply says so
+abbrev pub OfState : List ℕ → StepReply → (StateLine → Type 0) → Type 0
+OfState text reply P =
+    ((line : StateLine) × IsStateLine line × (state_line_text line ≡ text) × P line) ⊎ (NoStateLine text × (reply ≡ refuses name.BadState))
+
+-- why there is no step, by its name; that memory was refused has none
+abbrev pub NamesStepFault : StepFault → StepRefusal → Type 0
+NamesStepFault Edge r = r ≡ name.Edge
+NamesStepFault Entries r = r ≡ name.Entries
+NamesStepFault (Growth ClockBack) r = r ≡ name.ClockBack
+NamesStepFault (Growth Full) r = r ≡ name.Full
+NamesStepFault (Growth (Refused refusal)) r = ⊥
+NamesStepFault TooLong r = r ≡ name.TooLong
+
+-- The reply tells a step from a line with these partial tiles and this partial data tile, a batch and a moment: it may be taken, and of every
+-- log that has the line it is the step, or two different strings with one SHA-256 are given.
+abbrev pub TellsStep : StateLine → List (List ℕ) × List ℕ → List (Submitted × List (List ℕ)) → ℕ → StepReply → Type 0
+TellsStep line edge batch now reply =
+    (s : Step) × (reply ≡ steps s) × MayStep sha256 line edge.0 edge.1 batch now
+    × ((E : List Tiled) → IsLog sha256 E line → IsTiledStep sha256 line E batch now s ⊎ SomeCollide sha256)
+
+-- the reply tells by its name why there is no such step
+abbrev pub TellsNoStep : StateLine → List (List ℕ) × List ℕ → List (Submitted × List (List ℕ)) → ℕ → StepReply → Type 0
+TellsNoStep line edge batch now reply =
+    (fault : StepFault) × (r : StepRefusal) × (reply ≡ refuses r) × NamesStepFault fault r × StopsStep sha256 line edge.0 edge.1 batch now fault
+
+-- what is replied to a step from a line: of an edge with more or fewer contents than are needed, that it isn't the line's
+abbrev pub IsStepReply : StateLine → Option (List (List ℕ) × List ℕ) → List (Submitted × List (List ℕ)) → ℕ → StepReply → Type 0
+IsStepReply line None batch now reply = reply ≡ refuses name.Edge
+IsStepReply line (Some edge) batch now reply = TellsStep line edge batch now reply ⊎ TellsNoStep line edge batch now reply
+
+-- the bytes are the bundle of these objects, each of them under the name of a tile
+abbrev pub IsBundleOfTiles : List (List ℕ × List ℕ) → List ℕ → Type 0
+IsBundleOfTiles objects bytes = IsBundleOf objects bytes × All (λ o. IsTileName o.0) objects
+
+-- The reply tells the objects of the step that made a line: the bundle has the line's digest, and is that of these objects.
+abbrev pub TellsObjects : StateLine → List ℕ → StepReply → Type 0
+TellsObjects line bundle reply =
+    (objects : List (List ℕ × List ℕ)) × (reply ≡ rolls_out line objects) × (sha256 bundle ≡ line.bundle) × IsBundleOfTiles objects bundle
+
+-- the bytes aren't the bundle of a line: they have another digest, or are the bundle of no objects under the names of tiles
+abbrev pub IsNotRolledOut : StateLine → List ℕ → Type 0
+IsNotRolledOut line bundle =
+    (sha256 bundle ≡ line.bundle → ⊥) ⊎ ((objects : List (List ℕ × List ℕ)) → IsBundleOfTiles objects bundle → ⊥)
+
+-- what is replied where the objects of a line's step are asked for
+abbrev pub IsResumeReply : StateLine → List ℕ → StepReply → Type 0
+IsResumeReply line bundle reply = TellsObjects line bundle reply ⊎ ((reply ≡ refuses name.Bundle) × IsNotRolledOut line bundle)
+
+-- What is replied to what is asked: to each of these nothing else.
+abbrev pub IsReplyTo : StepAsk → StepReply → Type 0
+IsReplyTo (for_begin moment) reply = reply ≡ begins (first_line moment)
+IsReplyTo (for_needs state) reply = OfState state reply (λ line. reply ≡ names_edge (needed_names line.tree_size))
+IsReplyTo (for_step batch contents now state) reply = OfState state reply (λ line. IsStepReply line (edge_of line.tree_size contents) batch now reply)
+IsReplyTo for_too_many reply = reply ≡ refuses name.TooMany
+IsReplyTo (for_resume bundle state) reply = OfState state reply (λ line. IsResumeReply line bundle reply)
+IsReplyTo for_no_step reply = reply ≡ refuses name.BadLine

@@ -1,0 +1,179 @@
+//! What ends a run, and what an error of a crate below says of it.
+
+ghost use Rattle.std.specs.Prelude.{◌≡◌, ◌≢◌, MatchResult, MatchOption, OnOk};
+ghost use Rattle.std.specs.IoError.{error_kind};
+ghost use Rattle.ct_bundles.specs.declared.rolling_out.ResumeFault.TheVariants.{Bundle};
+ghost use Rattle.ct_codec.specs.declared.refusal.Refusal.{Refusal as RefusalOf};
+ghost use Rattle.ct_codec.specs.declared.refusal.Refusal.TheVariants.{Memory as Refused};
+ghost use Rattle.ct_growth.specs.declared.growth.GrowthFault.TheVariants.{Refused as GrowthRefused};
+ghost use Rattle.ct_step.specs.declared.step.StepFault.TheVariants.{Growth};
+ghost use Rattle.ct_tile_names.specs.declared.tile.NameFault.TheVariants.{NoSuchTile};
+ghost use Rattle.serde_json.specs.Errors.{IsMemory};
+ghost use Rattle.ct_step_lines.specs.StepAsks.{step_ask_of, for_no_step};
+ghost use Rattle.ct_step_lines.specs.StepAnswers.{NamesStepFault};
+ghost use Rattle.ct_step_lines.specs.StepFaults.{IsStepInputFault, step_fault_line};
+ghost use Rattle.ct_step_lines.specs.declared.fault.Fault.TheVariants.{Memory, Write};
+
+use crate::replies::StepRefusal;
+use crate::request::Request;
+use ct_bundles::ResumeFault;
+use ct_codec::Refusal;
+use ct_growth::GrowthFault;
+use ct_lines::Unwritten;
+use ct_step::StepFault;
+use ct_tile_names::NameFault;
+use serde_json::Error;
+use std::alloc::AllocError;
+use std::io;
+
+/// What ended a run: the program's status is 1 then.
+#[derive(Clone, Copy, Debug, PartialEq, Eq, thiserror::Error)]
+pub enum Fault {
+    /// A growth was refused.
+    #[error("memory was refused")]
+    Memory,
+    /// The input couldn't be read.
+    #[error("the input couldn't be read")]
+    Read,
+    /// The output couldn't be written.
+    #[error("the output couldn't be written")]
+    Write,
+}
+
+impl Fault {
+    /// What is written of the fault, with the end of the line.
+    pub fn text(self) -> &'static str
+        ensures { result.now ≡ step_fault_line self }
+    {
+        match self {
+            Fault::Memory => "cttile: memory\n",
+            Fault::Read => "cttile: read\n",
+            Fault::Write => "cttile: write\n",
+        }
+    }
+}
+
+impl From<AllocError> for Fault {
+    ghost from_gives = { λ _ f. f ≡ Memory };
+
+    fn from(_e: AllocError) -> Fault {
+        Fault::Memory
+    }
+}
+
+impl From<Unwritten> for Fault {
+    ghost from_gives = { λ _ f. f ≡ Write };
+
+    fn from(_e: Unwritten) -> Fault {
+        Fault::Write
+    }
+}
+
+impl From<io::Error> for Fault {
+    ghost from_gives = { λ error f. IsStepInputFault (error_kind error) f };
+
+    fn from(error: io::Error) -> Fault {
+        match error.kind() {
+            io::ErrorKind::OutOfMemory => Fault::Memory,
+            _ => Fault::Read,
+        }
+    }
+}
+
+// Of a line that isn't read as JSON: it asks for nothing, unless a growth was refused.
+#[derive(Drop)]
+pub(crate) struct Unread {
+    pub(crate) request: Result<Request, AllocError>,
+}
+
+impl From<Error> for Unread {
+    ghost from_gives = { λ error unread. MatchResult unread.request (λ r. (step_ask_of r ≡ for_no_step) × (IsMemory error → ⊥)) (λ _. IsMemory error) };
+
+    fn from(error: Error) -> Unread {
+        let request = if error.is_memory() {
+            Err(AllocError)
+        } else {
+            Ok(Request::Other)
+        };
+        Unread { request }
+    }
+}
+
+// Of a step that wasn't taken: the name of the refusal, unless a growth was refused. Another refusal of the codec has none.
+#[derive(Drop)]
+pub(crate) struct NotTaken {
+    pub(crate) told: Result<Option<StepRefusal>, AllocError>,
+}
+
+impl From<StepFault> for NotTaken {
+    ghost from_gives = { λ fault taken. MatchResult taken.told
+        (λ o. MatchOption o ((e : RefusalOf) × (fault ≡ Growth (GrowthRefused e)) × (e ≢ Refused)) (λ r. NamesStepFault fault r))
+        (λ _. fault ≡ Growth (GrowthRefused Refused)) };
+
+    fn from(fault: StepFault) -> NotTaken {
+        let told = match fault {
+            StepFault::Edge => Ok(Some(StepRefusal::Edge)),
+            StepFault::Entries => Ok(Some(StepRefusal::Entries)),
+            StepFault::TooLong => Ok(Some(StepRefusal::TooLong)),
+            StepFault::Growth(GrowthFault::ClockBack) => Ok(Some(StepRefusal::ClockBack)),
+            StepFault::Growth(GrowthFault::Full) => Ok(Some(StepRefusal::Full)),
+            StepFault::Growth(GrowthFault::Refused(Refusal::Memory)) => Err(AllocError),
+            StepFault::Growth(GrowthFault::Refused(_)) => Ok(None),
+        };
+        NotTaken { told }
+    }
+}
+
+// Of a bundle that isn't rolled out: it is none of the line, unless a growth was refused.
+#[derive(Drop)]
+pub(crate) struct NotRolledOut {
+    pub(crate) told: Result<(), AllocError>,
+}
+
+impl From<ResumeFault> for NotRolledOut {
+    ghost from_gives = { λ fault rolled. OnOk rolled.told (fault ≡ Bundle) };
+
+    fn from(fault: ResumeFault) -> NotRolledOut {
+        let told = match fault {
+            ResumeFault::Bundle => Ok(()),
+            ResumeFault::Memory => Err(AllocError),
+        };
+        NotRolledOut { told }
+    }
+}
+
+// Of a text that isn't read as a tile's name: it is none, unless a growth was refused.
+#[derive(Drop)]
+pub(crate) struct NoName {
+    pub(crate) told: Result<(), AllocError>,
+}
+
+impl From<NameFault> for NoName {
+    ghost from_gives = { λ fault no_name. OnOk no_name.told (fault ≡ NoSuchTile) };
+
+    fn from(fault: NameFault) -> NoName {
+        let told = match fault {
+            NameFault::NoSuchTile => Ok(()),
+            NameFault::Memory => Err(AllocError),
+        };
+        NoName { told }
+    }
+}
+
+// Of bytes that aren't made: whether a growth was refused.
+#[derive(Drop)]
+pub(crate) struct NotMade {
+    pub(crate) told: Result<(), AllocError>,
+}
+
+impl From<Refusal> for NotMade {
+    ghost from_gives = { λ refusal made. OnOk made.told (refusal ≢ Refused) };
+
+    fn from(refusal: Refusal) -> NotMade {
+        let told = match refusal {
+            Refusal::Memory => Err(AllocError),
+            _ => Ok(()),
+        };
+        NotMade { told }
+    }
+}

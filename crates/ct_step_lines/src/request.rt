@@ -1,0 +1,256 @@
+//! What a line asks for.
+
+ghost use Rattle.std.specs.Prelude.{◌≡◌, ◌++◌, ℕ, List, Option, Some, IfOk, IfSome, option_map, map, length};
+ghost use Rattle.serde_json.specs.View.{view, items_view};
+ghost use Rattle.ct_codec.specs.Submitted.{Submitted};
+ghost use Rattle.ct_lines.specs.Fields.{text_at};
+ghost use Rattle.ct_step.specs.Entries.{AreShort};
+ghost use Rattle.ct_step_lines.specs.StepAsks.{step_ask_of, chain_hashes_at, certificate_at, precertificate_at, first_or, submission_in, batch_of_items, batch_at, step_of_batch, begin_ask, needs_ask, step_ask, resume_ask, step_asked_in, AsksStep};
+
+use crate::fault::Unread;
+use ct_codec::Submission;
+use ct_lines::fields;
+use ct_step::Batch;
+use serde_json::Value;
+use std::alloc::{AllocError, Global};
+
+// What a line asks for.
+#[derive(Drop)]
+pub enum Request {
+    // The state of a log without leaves, at a moment.
+    Begin(u64),
+    // The names of what a step from a state has to be handed.
+    Needs(Vec<u8>),
+    // A step: a batch, the contents at the edge, a moment and a state.
+    Step(Batch, Vec<Vec<u8>>, u64, Vec<u8>),
+    // A step of too many submissions.
+    TooMany,
+    // The objects of a step that was decided: its bundle and its state.
+    Resume(Vec<u8>, Vec<u8>),
+    // Nothing that there is.
+    Other,
+}
+
+// The longest line, in bytes, without its end.
+pub(crate) const LONGEST: usize = 67_108_864;
+
+// How many submissions a batch has at most.
+const MOST: usize = 4096;
+
+// A batch, and how many submissions it has.
+#[derive(Drop)]
+pub(crate) struct Counted {
+    pub(crate) batch: Batch,
+    pub(crate) count: usize,
+}
+
+// The text under a key, copied.
+fn text(alloc: Global, value: &Value, key: &str) -> Result<Option<Vec<u8>>, AllocError>
+    ensures { IfOk result (λ o. option_map (λ b. b.items) o ≡ text_at key.now (view value.now)) }
+{
+    match fields::text(value, key) {
+        Some(text) => Ok(Some(Vec::from_slice(alloc, text.as_bytes())?)),
+        None => Ok(None),
+    }
+}
+
+// The fingerprints of a submission's chain.
+fn chain(alloc: Global, value: &Value) -> Result<Option<Vec<[u8; 32]>>, AllocError>
+    ensures chain { IfOk result (λ o. option_map (λ c. c.items) o ≡ chain_hashes_at (view value.now)) }
+    ensures short { IfOk result (λ o. IfSome o (λ c. AreShort c.items)) }
+{
+    let Some(chain) = fields::hashes(alloc, value, "chain")? else {
+        return Ok(None);
+    };
+    if chain.len() < 2048 {
+        Ok(Some(chain))
+    } else {
+        Ok(None)
+    }
+}
+
+// A certificate.
+fn certificate(alloc: Global, value: &Value) -> Result<Option<Submission>, AllocError>
+    ensures { IfOk result (λ o. o ≡ certificate_at (view value.now)) }
+{
+    let Some(certificate) = fields::bytes(alloc, value, "leaf_certificate")? else {
+        return Ok(None);
+    };
+    let mut chain = Vec::new(alloc);
+    chain.push(certificate)?;
+    Ok(Submission::x509(chain).ok())
+}
+
+// A precertificate.
+fn precertificate(alloc: Global, value: &Value) -> Result<Option<Submission>, AllocError>
+    ensures { IfOk result (λ o. o ≡ precertificate_at (view value.now)) }
+{
+    let Some(issuer_key_hash) = fields::hash(alloc, value, "issuer_key_hash")? else {
+        return Ok(None);
+    };
+    let Some(tbs) = fields::bytes(alloc, value, "tbs_certificate")? else {
+        return Ok(None);
+    };
+    let Some(precertificate) = fields::bytes(alloc, value, "pre_certificate")? else {
+        return Ok(None);
+    };
+    let mut chain = Vec::new(alloc);
+    chain.push(precertificate)?;
+    Ok(Submission::precert(issuer_key_hash, tbs, chain).ok())
+}
+
+// A certificate, or else a precertificate.
+fn submitted(alloc: Global, value: &Value) -> Result<Option<Submission>, AllocError>
+    ensures { IfOk result (λ o. o ≡ first_or (certificate_at (view value.now)) (precertificate_at (view value.now))) }
+{
+    match certificate(alloc, value)? {
+        Some(submission) => Ok(Some(submission)),
+        None => precertificate(alloc, value),
+    }
+}
+
+// A submission, and the fingerprints of its chain.
+fn submission(
+    alloc: Global,
+    value: &Value,
+) -> Result<Option<(Submission, Vec<[u8; 32]>)>, AllocError>
+    ensures submission { IfOk result (λ o. option_map {U = Submitted × List (List ℕ)} (λ e. (e.0, e.1.items)) o ≡ submission_in (view value.now)) }
+    ensures short { IfOk result (λ o. IfSome o (λ e. AreShort e.1.items)) }
+{
+    let Some(chain) = chain(alloc, value)? else {
+        return Ok(None);
+    };
+    match submitted(alloc, value)? {
+        Some(submission) => Ok(Some((submission, chain))),
+        None => Ok(None),
+    }
+}
+
+// The batch of values, each of which is a submission.
+fn batch_of(alloc: Global, values: &[Value]) -> Result<Option<Counted>, AllocError>
+    ensures batch { IfOk result (λ o. option_map (λ c. c.batch) o ≡ batch_of_items (items_view values.now)) }
+    ensures count { IfOk result (λ o. IfSome o (λ c. c.count ≡ length c.batch)) }
+{
+    let mut submissions = Vec::new(alloc);
+    let mut chains = Vec::new(alloc);
+    for value in values {
+        let Some((submission, chain)) = submission(alloc, value)? else {
+            return Ok(None);
+        };
+        submissions.push(submission)?;
+        chains.push(chain)?;
+    }
+    let count = submissions.len();
+    match Batch::new(submissions, chains) {
+        Some(batch) => Ok(Some(Counted { batch, count })),
+        None => unreachable!(),
+    }
+}
+
+// The batch under its key.
+fn batch(alloc: Global, value: &Value) -> Result<Option<Counted>, AllocError>
+    ensures batch { IfOk result (λ o. option_map (λ c. c.batch) o ≡ batch_at (view value.now)) }
+    ensures count { IfOk result (λ o. IfSome o (λ c. c.count ≡ length c.batch)) }
+{
+    let Some(field) = value.get("batch") else {
+        return Ok(None);
+    };
+    match field.as_array() {
+        Some(values) => batch_of(alloc, values),
+        None => Ok(None),
+    }
+}
+
+// The first state of a log.
+fn begin_request(value: &Value) -> Option<Request>
+    ensures { option_map step_ask_of result ≡ begin_ask (view value.now) }
+{
+    let moment = fields::number(value, "begin")?;
+    Some(Request::Begin(moment))
+}
+
+// What a step from a state needs.
+fn needs_request(alloc: Global, value: &Value) -> Result<Option<Request>, AllocError>
+    ensures { IfOk result (λ o. option_map step_ask_of o ≡ needs_ask (view value.now)) }
+{
+    let Some(state) = text(alloc, value, "needs")? else {
+        return Ok(None);
+    };
+    Ok(Some(Request::Needs(state)))
+}
+
+// A step, if its batch isn't too long.
+fn step_of(counted: Counted, edge: Vec<Vec<u8>>, now: u64, state: Vec<u8>) -> Request
+    requires { counted.count ≡ length counted.batch }
+    ensures { step_ask_of result ≡ step_of_batch counted.batch (map (λ b. b.items) edge.items) now state.items }
+{
+    if counted.count > MOST {
+        return Request::TooMany;
+    }
+    let Counted { batch, count: _ } = counted;
+    Request::Step(batch, edge, now, state)
+}
+
+// A step.
+fn step_request(alloc: Global, value: &Value) -> Result<Option<Request>, AllocError>
+    ensures { IfOk result (λ o. option_map step_ask_of o ≡ step_ask (view value.now)) }
+{
+    let Some(counted) = batch(alloc, value)? else {
+        return Ok(None);
+    };
+    let Some(edge) = fields::bytes_list(alloc, value, "edge")? else {
+        return Ok(None);
+    };
+    let Some(now) = fields::number(value, "now") else {
+        return Ok(None);
+    };
+    let Some(state) = text(alloc, value, "state")? else {
+        return Ok(None);
+    };
+    Ok(Some(step_of(counted, edge, now, state)))
+}
+
+// The objects of a step that was decided.
+fn resume_request(alloc: Global, value: &Value) -> Result<Option<Request>, AllocError>
+    ensures { IfOk result (λ o. option_map step_ask_of o ≡ resume_ask (view value.now)) }
+{
+    let Some(bundle) = fields::bytes(alloc, value, "bundle")? else {
+        return Ok(None);
+    };
+    let Some(state) = text(alloc, value, "resume")? else {
+        return Ok(None);
+    };
+    Ok(Some(Request::Resume(bundle, state)))
+}
+
+// What a value asks for, by its keys.
+fn request_of(alloc: Global, value: &Value) -> Result<Request, AllocError>
+    ensures { IfOk result (λ r. step_ask_of r ≡ step_asked_in (view value.now)) }
+{
+    if let Some(request) = begin_request(value) {
+        return Ok(request);
+    }
+    if let Some(request) = needs_request(alloc, value)? {
+        return Ok(request);
+    }
+    if let Some(request) = step_request(alloc, value)? {
+        return Ok(request);
+    }
+    match resume_request(alloc, value)? {
+        Some(request) => Ok(request),
+        None => Ok(Request::Other),
+    }
+}
+
+// What a line asks for, without its end.
+pub(crate) fn read_request(alloc: Global, line: &[u8]) -> Result<Request, AllocError>
+    ensures { IfOk result (λ r. AsksStep line.now (step_ask_of r)) }
+{
+    if line.len() > LONGEST {
+        return Ok(Request::Other);
+    }
+    match Value::from_slice(alloc, line) {
+        Ok(value) => request_of(alloc, &value),
+        Err(error) => Unread::from(error).request,
+    }
+}

@@ -1,0 +1,127 @@
+//! Roots, audit paths and consistency proofs out of the bytes of tiles that were handed over.
+ghost use Rattle.std.specs.Prelude.{◌≡◌, ◌<◌, ◌≤◌, ◌⊎◌, ℕ, List, length, take, None, OnOk, IfOk, IfErr};
+ghost use Rattle.ct_tree.specs.Tree.{mth, path as path_of, proof as proof_of};
+ghost use Rattle.ct_verify.specs.Evidence.{IsAudited};
+ghost use Rattle.ct_verify.specs.InclusionEvidence.{IsAccepted};
+ghost use Rattle.ct_verify.specs.ConsistencyEvidence.{IsAcceptedFor, IsBeginning};
+ghost use Rattle.ct_verify.specs.Laws.{AreHashes, SomeCollide};
+ghost use Rattle.ct_tile_reader.specs.Needed.{root_tiles, path_tiles, proof_tiles};
+ghost use Rattle.ct_tile_reader.specs.Handed.{contents_in, handed_fault, IsHandedFault, AreTilesOf};
+ghost use Rattle.ct_tile_reader.specs.declared.handed.HandedFault.TheVariants.{Memory};
+
+use crate::handed::{HandedFault, HandedTiles};
+use crate::needed::{tiles_for_path, tiles_for_proof, tiles_for_root};
+use crate::walk::{path, proof, root_at};
+use ct_tree::NodeHash;
+use std::alloc::Global;
+
+// A law, which does nothing: a hash has 32 bytes.
+fn is_hash(hash: &[u8; 32])
+    ensures { length hash.now ≡ 32 }
+{
+    let _ = hash;
+}
+
+// A law, which does nothing: hashes have 32 bytes.
+fn are_hashes(hashes: &[[u8; 32]])
+    ensures { AreHashes hashes.now }
+{
+    for hash in hashes {
+        is_hash(hash);
+    }
+}
+
+/// The root of the first `n` leaves (MTH of RFC 6962, section 2.1), out of the bytes of the tiles that
+/// [`tiles_for_root`] lists, in this order.
+///
+/// Errors: Missing and BadLength name the first of these tiles that has no bytes, or not 32 for each of its hashes. Memory
+/// comes where a growth was refused.
+pub fn root_of_handed<H: NodeHash>(
+    alloc: Global,
+    h: &H,
+    n: u64,
+    contents: &[Vec<u8>],
+) -> Result<[u8; 32], HandedFault>
+    requires { 0 < n }
+    // Out of the tiles of a list of leaves it is the list's root.
+    ensures root { IfOk result (λ root. (D : List (List ℕ)) → AreTilesOf H.digest D (root_tiles n) (contents_in contents.now) → n ≤ length D
+        → root ≡ mth H.digest (take n D)) }
+    // An answer comes only where each tile has right bytes.
+    ensures whole { OnOk result (handed_fault (root_tiles n) (contents_in contents.now) ≡ None) }
+    // Which fault it is.
+    ensures fault { IfErr result (λ fault. IsHandedFault fault (root_tiles n) (contents_in contents.now)) }
+    // The tiles of a list of leaves aren't refused, unless memory is.
+    ensures never_refused { IfErr result (λ fault. (D : List (List ℕ)) → AreTilesOf H.digest D (root_tiles n) (contents_in contents.now) → fault ≡ Memory) }
+{
+    let needed = tiles_for_root(alloc, n)?;
+    let tiles = HandedTiles::new(&needed, contents)?;
+    Ok(root_at(h, &tiles, n))
+}
+
+/// The audit path of the leaf at index `m` in the tree of the first `n` leaves (PATH of RFC 6962, section 2.1.1), out of the
+/// bytes of the tiles that [`tiles_for_path`] lists, in this order. `ct_verify::verify_inclusion` says whether it leads to a
+/// root.
+///
+/// Errors: as those of [`root_of_handed`].
+pub fn path_of_handed<H: NodeHash>(
+    alloc: Global,
+    h: &H,
+    m: u64,
+    n: u64,
+    contents: &[Vec<u8>],
+) -> Result<Vec<[u8; 32]>, HandedFault>
+    requires { m < n }
+    // Out of the tiles of a list of leaves it is the list's path.
+    ensures path { IfOk result (λ path. (D : List (List ℕ)) → AreTilesOf H.digest D (path_tiles m n) (contents_in contents.now) → n ≤ length D
+        → path.items ≡ path_of H.digest m (take n D)) }
+    // An answer comes only where each tile has right bytes.
+    ensures whole { OnOk result (handed_fault (path_tiles m n) (contents_in contents.now) ≡ None) }
+    // Which fault it is.
+    ensures fault { IfErr result (λ fault. IsHandedFault fault (path_tiles m n) (contents_in contents.now)) }
+    // The tiles of a list of leaves aren't refused, unless memory is.
+    ensures never_refused { IfErr result (λ fault. (D : List (List ℕ)) → AreTilesOf H.digest D (path_tiles m n) (contents_in contents.now) → fault ≡ Memory) }
+    // Whatever the bytes were: where the verifier accepts the path for a leaf and the root of some leaves, that leaf stands there and the
+    // path is theirs, or two different strings with one hash are given.
+    ensures tells { IfOk result (λ path. (D : List (List ℕ)) (leaf : List ℕ) → IsAccepted H.digest D leaf m path.items
+        → IsAudited H.digest D leaf m path.items ⊎ SomeCollide H.digest) }
+{
+    let needed = tiles_for_path(alloc, m, n)?;
+    let tiles = HandedTiles::new(&needed, contents)?;
+    let path = path(alloc, h, &tiles, m, n)?;
+    Ok(path)
+}
+
+/// The consistency proof from the tree of the first `m` leaves to that of the first `n` (PROOF of RFC 6962, section 2.1.2), out
+/// of the bytes of the tiles that [`tiles_for_proof`] lists, in this order. `ct_verify::verify_consistency` says whether it
+/// leads to two roots.
+///
+/// Errors: as those of [`root_of_handed`].
+pub fn proof_of_handed<H: NodeHash>(
+    alloc: Global,
+    h: &H,
+    m: u64,
+    n: u64,
+    contents: &[Vec<u8>],
+) -> Result<Vec<[u8; 32]>, HandedFault>
+    requires positive { 0 < m }
+    requires below { m < n }
+    // Out of the tiles of a list of leaves it is the list's proof.
+    ensures proof { IfOk result (λ proof. (D : List (List ℕ)) → AreTilesOf H.digest D (proof_tiles m n) (contents_in contents.now) → n ≤ length D
+        → proof.items ≡ proof_of H.digest m (take n D)) }
+    // An answer comes only where each tile has right bytes.
+    ensures whole { OnOk result (handed_fault (proof_tiles m n) (contents_in contents.now) ≡ None) }
+    // Which fault it is.
+    ensures fault { IfErr result (λ fault. IsHandedFault fault (proof_tiles m n) (contents_in contents.now)) }
+    // The tiles of a list of leaves aren't refused, unless memory is.
+    ensures never_refused { IfErr result (λ fault. (D : List (List ℕ)) → AreTilesOf H.digest D (proof_tiles m n) (contents_in contents.now) → fault ≡ Memory) }
+    // Whatever the bytes were: where the verifier accepts the proof for the roots of two lists of leaves, the first begins the second, or
+    // two different strings with one hash are given.
+    ensures tells { IfOk result (λ proof. (E : List (List ℕ)) (D : List (List ℕ)) → IsAcceptedFor H.digest E D proof.items
+        → IsBeginning E D ⊎ SomeCollide H.digest) }
+{
+    let needed = tiles_for_proof(alloc, m, n)?;
+    let tiles = HandedTiles::new(&needed, contents)?;
+    let proof = proof(alloc, h, &tiles, m, n)?;
+    are_hashes(&proof);
+    Ok(proof)
+}
