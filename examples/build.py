@@ -8,9 +8,9 @@ With --show it runs `SCRIPT PART` as soon as the crates of a part are built, and
 first, and of one part's those with the longest chain of crates above them, which gets a second processor where there are four.
 
 Crates that don't stand on each other are proved side by side, as many as processors and memory allow. Only one rt works in a crate's folder, and in
-those of all crates below it; so each of them works in a copy of the sources, where it finds what rt has built in the others, and the programs are
-put together here. Where rt can't keep that beside the kit, crate after crate is proved here. rt decides what has to be proved: a library that is
-newer than its sources and those below it is only not asked for. What rt prints is kept, and printed where it fails.
+those of all crates below it; so each of them works in a copy of the sources, which gets what is built of the crates below. What it builds is put
+here, where the programs are put together. rt decides what has to be proved: a library that is newer than its sources and those below it is only not
+asked for. What rt prints is kept, and printed where it fails.
 """
 import concurrent.futures
 import os
@@ -85,11 +85,8 @@ def processors():
 
 def places():
     """How many proofs may run side by side."""
-    said = subprocess.run(["rt", "doc"], capture_output=True, text=True).stdout.strip()
-    kept = pathlib.Path(said).resolve().parent.parent / "rattle-kept"
     free = re.search(r"MemAvailable:\s+(\d+)", pathlib.Path("/proc/meminfo").read_text())
-    can_share = said and os.access(kept if kept.exists() else kept.parent, os.W_OK)
-    return max(1, min(processors(), MOST, int(free[1]) * 1024 // MEMORY)) if can_share and free else 1
+    return max(1, min(processors(), MOST, int(free[1]) * 1024 // MEMORY)) if free else 1
 
 
 def family(pid):
@@ -129,7 +126,8 @@ class Proof:
         for line in self.ran.stdout:
             self.log.append(line)
             if so_far := SO_FAR.search(line):
-                self.so_far = f" ({so_far[1]} of {so_far[2]} functions)"
+                # (rt counts here what a function is made of, too: as numbers they would differ from those of what is proved)
+                self.so_far = f" ({100 * int(so_far[1]) // int(so_far[2])} %)"
             elif proved := PROVED.search(line):
                 self.functions = int(proved[1])
         self.status = self.ran.wait()
@@ -180,6 +178,23 @@ class Build:
                 shutil.copy(ROOT / name, top / name)
         return top
 
+    def hand_over(self, name, top):
+        """Gives a copy what is built of the crates below one, and what an earlier run has left of the crate itself."""
+        for below in self.crates.below(name)[:-1]:
+            built, there = (it / "crates" / below / "out" / "rlib" for it in (ROOT, top))
+            if built.exists() and not there.exists():
+                shutil.copytree(built, there, symlinks=True)
+        if (ROOT / "crates" / name / "out").exists():
+            shutil.move(ROOT / "crates" / name / "out", top / "crates" / name / "out")
+
+    def take_back(self, name, top):
+        """Puts what was built in a copy here, and leaves there what crates above it read."""
+        built, here = (it / "crates" / name / "out" for it in (top, ROOT))
+        if built.exists():
+            shutil.move(built, here)
+            if (here / "rlib").exists():
+                shutil.copytree(here / "rlib", built / "rlib", symlinks=True)
+
     def place(self, name, room):
         """A folder for the crate's proof, or None while there is none."""
         if self.places == 1 or self.crates.is_put_together(name):
@@ -214,6 +229,8 @@ class Build:
             if top is None:
                 continue
             proof = Proof(name, top, self.jobs(name, idle, len(ready) - at))
+            if top != ROOT:
+                self.hand_over(name, top)
             self.left.remove(name)
             self.running[proof] = top
             begun[pool.submit(proof.run, self.crates.is_program(name))] = proof
@@ -221,7 +238,9 @@ class Build:
 
     def end(self, proof):
         """Takes in a proof that has ended."""
-        del self.running[proof]
+        top = self.running.pop(proof)
+        if top != ROOT:
+            self.take_back(proof.name, top)
         self.done.add(proof.name)
         if proof.status:
             self.failed = self.failed or proof
@@ -263,6 +282,10 @@ class Build:
             finally:
                 for proof in self.running:
                     proof.end()
+                pool.shutdown()
+                for proof, top in self.running.items():
+                    if top != ROOT:
+                        self.take_back(proof.name, top)
         return self.failed
 
     def loop(self, pool, shows, room):

@@ -82,6 +82,11 @@ lines_of() {
   grep -c "^{\"who\":$1," examples/four-fronts.jsonl
 }
 
+# Has lines of verdicts fit into a terminal: of each hash its first characters.
+short() {
+  sed -E 's/(_hash":"[^"]{8})[^"]+"/\1.."/g' | cut -c1-140 | sed 's/^/    /'
+}
+
 # Watches the made-up log: the lines of run $1 have to give its verdicts and its exit status.
 watch() {
   status=0
@@ -116,7 +121,7 @@ END
   done
   for run in day1 day2 day3 fork rewritten shrunk; do
     echo "  $run: status $(cat "$work/$run.status")"
-    grep '"verdict"' "$work/$run.told" | cut -c1-120 | sed 's/^/    /'
+    grep '"verdict"' "$work/$run.told" | short
   done
   echo "In each of $(ls "$work"/*.in | wc -l) runs the verdicts, the state and the exit status are those that examples/monitor/answers.py computes, by hashlib alone."
 }
@@ -167,7 +172,7 @@ END
     "$program" --fronts 1 --ring "$ring" --open-at "$open_at" --close-at "$close_at" | tail -n 2 |
     "$monitor" --name microsoft.com >"$work/watched" || fail "ctmonitor ended with status $?"
   grep -q '"verdict":"accepted"' "$work/watched" || fail "ctmonitor didn't accept ctlog's head"
-  cut -c1-120 "$work/watched" | sed 's/^/    /'
+  short <"$work/watched"
 }
 
 show_tiles() {
@@ -176,8 +181,13 @@ show_tiles() {
 ensures growth { IfOk result (λ g. (D : List (List ℕ)) → IsState H.digest state.now D → IsGrowth H.digest D (map entry_of batch.now) now g) }
 END
   crates/growth_lines/out/growth_lines >"$work/growth" || fail "growth_lines ended with status $?"
-  grep -E '^(tile|growth|bent|seven|believed)' "$work/growth" | cut -c1-120 | sed 's/^/    /'
   python3 examples/tiles/growth.py | cmp -s - "$work/growth" || fail "examples/tiles/growth.py computes other lines"
+  echo "Each tile that is new or changes, with the SHA-256 of its bytes, and the line of the next state (size, moment, root, digests), cut short:"
+  awk 'BEGIN { split("3 0 253 10", many); behind = 1 }
+    /^(tile|growth)/ { if (behind) print "  " many[++step] " certificates"; behind = /^growth/; print "    " $1 " " substr($2, 1, 48) ".." }' "$work/growth"
+  echo "Behind each step the true right edge is believed. Refused are:"
+  grep -E '^(bent|cut off|seven|a moment)' "$work/growth" | sort -u |
+    sed -E 's/^bent:/an edge with a bit changed:/; s/^bent bundle/a bundle with a bit changed/; s/^cut off/a bundle that is cut off/; s/^seven/an edge of seven/; s/^/    /'
   echo "An independent program (examples/tiles/growth.py, hashlib alone) computes the same $(grep -c . "$work/growth") lines, of $(grep -c ^receipt "$work/growth") receipts."
 }
 

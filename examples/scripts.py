@@ -29,7 +29,6 @@ DAMAGED = 1000
 # The stored run of ctlogd, and its fronts.
 LIVE, LIVE_FRONTS = HERE.parent / "crates" / "ctlogd", 2
 # The stored run of ctguard.
-GUARD = HERE.parent / "crates" / "ctguard"
 # The stored inputs, each with the fronts, ring and moments under which its replies are expected.
 INPUTS = {
     "first-session": "1 4096 0 7",
@@ -130,12 +129,13 @@ def make_install(folder, built):
     return subprocess.run(["make", "--silent", "install", *words], cwd=HERE.parent, env=environment, capture_output=True, text=True)
 
 
-def try_guard():
-    """guard/model.py writes the stored output of ctguard over its words and input."""
-    words, given = (GUARD / "args").read_text().split("\n")[:-1], (GUARD / "stdin").read_bytes()
-    ran = run("guard/model.py", *words, given=given)
-    if ran.stdout != (GUARD / "stdout").read_bytes() or ran.returncode:
-        fail(f"guard/model.py writes another output than crates/ctguard/stdout, with status {ran.returncode}: {ran.stderr.decode()}")
+def try_models():
+    """guard/model.py writes the stored output of ctguard over its words and input, and ends with its status; so does tiles/step.py for cttile."""
+    for script, program in (("guard/model.py", "ctguard"), ("tiles/step.py", "cttile")):
+        crate = HERE.parent / "crates" / program
+        ran = run(script, *(crate / "args").read_text().split("\n")[:-1], given=(crate / "stdin").read_bytes())
+        if ran.stdout != (crate / "stdout").read_bytes() or ran.returncode != int((crate / "status").read_text()):
+            fail(f"{script} writes another output than crates/{program}/stdout, with status {ran.returncode}: {ran.stderr.decode()}")
 
 
 def try_tiles():
@@ -166,6 +166,20 @@ def try_waits():
         ran = run("expected.py", *words, given=given)
         if (ran.returncode, ran.stdout, ran.stderr.decode()) != (1, b"", f"expected.py: {why}\n"):
             fail(f"expected.py with {words} ends with status {ran.returncode}, and says {ran.stderr.decode()}")
+
+
+def try_first_session():
+    """README.md's commands of ctlog name the moment of the closing, and by the words of its first session a hundred submissions are in the log."""
+    commands = re.findall(r"out/ctlog (--.*) <", (HERE.parent / "README.md").read_text())
+    words = [re.fullmatch(r"--fronts (\d+) --ring (\d+) --close-at (\d+)", command) for command in commands]
+    if not words or not all(words):
+        fail(f"README.md runs ctlog by {commands}")
+    fronts, ring, close_at = words[0].groups()
+    lines = [json.dumps({"who": 0, "op": "add-chain", "chain": [text]}) for text in ["QQ=="] * 100]
+    ran = run("expected.py", fronts, ring, 0, close_at, given="\n".join([*lines, '{"who":"frozen","op":"receipt","ticket":99}']).encode())
+    tickets = [f'{{"ticket":{number}}}' for number in range(100)]
+    if ran.stdout.decode().splitlines()[:-1] != tickets or '"leaf_index":0' not in ran.stdout.decode():
+        fail(f"by README.md's words a first try of a hundred lines is replied to with {ran.stdout.decode()[-200:]}{ran.stderr.decode()}")
 
 
 def try_install(folder):
@@ -249,7 +263,8 @@ def main():
     try_figures()
     quotations = try_quotations()
     try_waits()
-    try_guard()
+    try_first_session()
+    try_models()
     try_tiles()
     for name, words in INPUTS.items():
         ran = run("expected.py", *words.split(), given=(HERE / f"{name}.jsonl").read_bytes())

@@ -5,7 +5,8 @@
 #   cluster.sh status FOLDER         says what runs and what it said last
 #   cluster.sh stop FOLDER           ends it; ctcheck judges what it published and answered
 # RATE=20 is how many submissions the loader sends a second, 0 as many as are answered; LOAD=no starts neither it nor the reader.
-# STEP is the program that makes the steps, by default the plain stand-in.
+# STEP is the program that makes the steps, by default the plain stand-in; GUARD the one before the key, ctguard where it is built, and else a
+# second program with its lines. One signer has the key, for all nodes.
 set -eu
 here=$(cd "$(dirname "$0")" && pwd)
 what=${1:-} folder=${2:-}
@@ -56,6 +57,13 @@ addresses() {
   register=etcd://${STORES_MEMBERS-}/log
 }
 
+# guard: the command of the guard.
+guard() {
+  local built=$here/../crates/ctguard/out/ctguard
+  [ -x "$built" ] || built="python3 $here/../examples/guard/model.py"
+  echo "${GUARD:-$built}"
+}
+
 nodes() { find "$folder" -maxdepth 1 -name 'node-*.conf' | sed 's/^.*node-\([0-9]*\)\.conf$/\1/' | sort -n; }
 
 node_conf() {
@@ -67,7 +75,7 @@ operator-listen  127.0.0.1:$((port + 10 + i))
 nodes-listen     127.0.0.1:$((port + 20 + i))
 nodes-address    http://127.0.0.1:$((port + 20 + i))/
 nodes-secret     $folder/secret
-signing-key      $folder/log.key
+signer-at        $folder/signer
 roots            $folder/roots.pem
 step             ${STEP:-python3 $here/../examples/tiles/step.py}
 register         $register
@@ -106,6 +114,12 @@ start() {
     while [ "$loaded" = no ] && [ "$(stat -c %s "$folder/roots.pem" 2>/dev/null || echo 0)" = "$roots" ]; do sleep 0.05; done
     for i in $(nodes); do ! id=$(process "node-$i") || kill -HUP "$id"; done
   fi
+  process signer >/dev/null || rm -f "$folder/signer"
+  launch signer "$programs/ctserve" signer --signing-key "$folder/log.key" --guard "$(guard)" --guard-state "file:$folder/guard" --listen "$folder/signer" ${create:+"$create"}
+  for _ in $(seq 300); do
+    [ ! -S "$folder/signer" ] || break
+    sleep 0.1
+  done
   for i in $(nodes); do
     # (the first one makes the log)
     launch "node-$i" "$programs/ctserve" --config "$folder/node-$i.conf" ${create:+"$create"}
@@ -135,7 +149,7 @@ END_OF_TEXT
 # each NAME..: a line for each process.
 status() {
   local name state names
-  for name in $(nodes | sed 's/^/node-/') loader reader; do
+  for name in $(nodes | sed 's/^/node-/') signer loader reader; do
     state=gone
     ! process "$name" >/dev/null || state=runs
     echo "$name $state: $(tail -n 1 "$folder/$name.log" 2>/dev/null)"
@@ -150,7 +164,7 @@ status() {
 
 stop() {
   local name status=0
-  for name in loader reader $(nodes | sed 's/^/node-/'); do end "$name"; done
+  for name in loader reader $(nodes | sed 's/^/node-/') signer; do end "$name"; done
   tail -qn 1 "$folder/loader.log" "$folder/reader.log" 2>/dev/null || true
   addresses
   touch "$folder/answers"

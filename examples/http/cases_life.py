@@ -178,7 +178,7 @@ def ask_in_vain(port, op):
 def log_that_hangs(folder):
     """A log that is stopped: with a line unanswered the front ends by itself, and without one at SIGTERM; each with status 1."""
     for number, asked in enumerate((True, False)):
-        front = started(f"{folder}-{number}", LOG, "--patience", "2", "--every", "3600")
+        front = started(f"{folder}-{number}", LOG, "--patience", "10", "--every", "3600")
         os.kill(front.program_id(), signal.SIGSTOP)
         client = threading.Thread(target=ask_in_vain, args=(front.port, "get-entries"))
         if asked:

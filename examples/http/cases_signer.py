@@ -708,7 +708,7 @@ def guard_that_ends(folder):
     """A guard that is killed, or hangs, ends the signer, and so the front, with status 1; the next start goes on."""
     for number, how in enumerate((signal.SIGKILL, signal.SIGSTOP)):
         own = f"{folder}-{number}"
-        front = started(own, LOG, "--patience", "3")
+        front = started(own, LOG, "--patience", "10")
         Client(front.port).get("add-chain", {"chain": [text(b"before")]})
         parent = front.signer_id()
         guard = int(pathlib.Path(f"/proc/{parent}/task/{parent}/children").read_text().split()[0])

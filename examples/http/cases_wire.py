@@ -100,6 +100,10 @@ http {{
 """
 
 
+# Slow clients of nginx: more than the front takes of one address, by default.
+SLOW = 100
+
+
 def free_port():
     with socket.socket() as taken:
         taken.bind(("127.0.0.1", 0))
@@ -116,20 +120,30 @@ def wait_for_port(port):
             time.sleep(0.05)
 
 
-def behind_nginx(folder):
-    """Through Debian's nginx, with kept connections and a cache of get-entries: whatever one client sends, the next client's
-    get-entries is answered with entries."""
-    program = shutil.which("nginx") or ("/usr/sbin/nginx" if os.path.exists("/usr/sbin/nginx") else None)
-    if not program:
-        return "skipped: nginx isn't installed"
-    front = started(folder, LOG)
-    own, port = pathlib.Path(folder) / "nginx", free_port()
+@contextlib.contextmanager
+def behind(program, front):
+    """The port of an nginx that stands before a front."""
+    own, port = pathlib.Path(front.folder) / "nginx", free_port()
     user = f"{pwd.getpwuid(os.getuid()).pw_name} {grp.getgrgid(os.getgid()).gr_name}"
     own.mkdir()
     (own / "conf").write_text(NGINX.format(user=user, folder=own, front=front.port, port=port))
     proxy = subprocess.Popen([program, "-p", str(own), "-c", str(own / "conf")], stderr=subprocess.DEVNULL)
     try:
         wait_for_port(port)
+        yield port
+    finally:
+        proxy.terminate()
+        proxy.wait()
+
+
+def behind_nginx(folder):
+    """Through Debian's nginx, with kept connections and a cache of get-entries: whatever one client sends, the next client's
+    get-entries is answered with entries; and with slow clients, more than the front takes of the proxy's address, others are answered."""
+    program = shutil.which("nginx") or ("/usr/sbin/nginx" if os.path.exists("/usr/sbin/nginx") else None)
+    if not program:
+        return "skipped: nginx isn't installed"
+    front = started(folder, LOG)
+    with behind(program, front) as port:
         Client(port).get("add-chain", {"chain": [text(b"a certificate")]})
         requests = [(name, request) for inner in (INNER, BEGUN) for name, request in unclear(inner).items()]
         for number, (name, request) in enumerate(requests):
@@ -139,11 +153,11 @@ def behind_nginx(folder):
             status, answer = Client(port).call("get-entries", start=0, end=number)
             right = status == 200 and len(answer.get("entries", [])) == 1
             hold(right, "behind", name, "get-entries is answered with", status, answer)
-    finally:
-        proxy.terminate()
-        proxy.wait()
+        with trickling([connected(port) for _ in range(SLOW)]):
+            for number in range(5):
+                Client(port).get("add-chain", {"chain": [text(b"%d" % number)]})
     hold(front.end() == (0, ""), "the front doesn't end in order")
-    return f"{len(requests)} such requests through nginx"
+    return f"{len(requests)} such requests, and {SLOW} slow clients, through nginx"
 
 
 def trickle(connections, stopped):
@@ -173,7 +187,7 @@ def trickling(connections):
 
 def slow_clients(folder):
     """257 connections of one address that send a byte now and then: other addresses are answered, and SIGTERM ends the front."""
-    front = started(folder, LOG, "--patience", "5")
+    front = started(folder, LOG)
     with trickling([connected(front.port) for _ in range(257)]):
         for number in range(5):
             Client(front.port, "127.0.0.2").get("add-chain", {"chain": [text(b"%d" % number)]})
@@ -183,7 +197,7 @@ def slow_clients(folder):
 
 def all_places_taken(folder):
     """With all places taken by slow clients of several addresses, and more of them waiting, SIGTERM ends the front."""
-    front = started(folder, LOG, "--clients", "8", "--patience", "5")
+    front = started(folder, LOG, "--clients", "8")
     connections = [connected(front.port, f"127.0.0.{2 + number % 5}") for number in range(8)]
     for connection in connections:
         connection.sendall(b"GET /key HTTP/1.1\r\nHost: log\r\n\r\n")
@@ -196,7 +210,7 @@ def all_places_taken(folder):
 
 def slow_request(folder):
     """A request that doesn't come whole in its time is none, however steadily its bytes come."""
-    front = started(folder, LOG, "--request-time", "2")
+    front = started(folder, LOG, "--request-time", "5")
     with connected(front.port) as connection:
         connection.setblocking(False)
         until, sent = time.monotonic() + 120, 0
@@ -222,8 +236,8 @@ def is_closed(connection):
 
 
 def slow_reader(folder):
-    """A client that reads slowly and steadily, for 17 seconds, gets its answer whole, though a connection may be idle for two."""
-    front, big = started(folder, LOG, "--idle", "2"), b"x" * 700_000
+    """A client that reads slowly and steadily, for 17 seconds, gets its answer whole, though a connection may be idle for five."""
+    front, big = started(folder, LOG, "--idle", "5"), b"x" * 700_000
     client = Client(front.port)
     for number in range(8):
         client.get("add-chain", {"chain": [text(b"%d" % number + big)]})

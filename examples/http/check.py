@@ -7,8 +7,8 @@ PROGRAM is crates/ctlogd/out/ctlogd, or where that isn't built stand_in.py. Thre
 every receipt, head, entry and proof that is answered is held against what RFC 6962 says, every signature is checked over
 bytes that are written here, and every call is refused what it has to refuse. What the log names as standing under its
 signatures is held against the same bytes. Then front and program are killed in mid-stream and started again from the
-journal: what clients had seen has to be there. Last come the cases of cases.py. It ends with a line of what it saw, and with
-status 1 where something is wrong.
+journal: what clients had seen has to be there. A line says what was seen. Then come the cases of cases.py, a line each. It ends
+with status 1 where something is wrong.
 """
 import argparse
 import base64
@@ -182,6 +182,36 @@ def check_inputs(program):
     return sum(isinstance(wanted, bytes) for _, wanted in rows)
 
 
+def check_lines(program):
+    """Lines of docs/LINES.md: a bad line, and one that asks the closed log too early, is replied to among the operator's, in their order;
+    what settles nothing is replied to whatever the moment; under an ignored key what can't be read makes the line none."""
+    bad, head = {"error": "bad-line"}, {"sha256_root_hash": text(merkle.root([])), "timestamp": 0, "tree_size": 0}
+    operator = {"who": "operator"}
+    rows = [
+        # (waits for the submission below, and the operator's lines behind it wait too)
+        ("operator", {**operator, "op": "sequence", "from": 0, "count": 1, "now": 5}, {"settled": 1}),
+        ("operator", "hello", bad),
+        ("operator", {"who": "frozen", "op": "get-sth"}, {"error": "not-yet"}),
+        (0, {"who": 0, "op": "add-chain", "chain": ["QQ=="]}, {"ticket": 0}),
+        ("operator", {"who": 7, "op": "get-sth"}, bad),
+        ("operator", {**operator, "op": "take", "from": 0, "max": 0, "now": 4}, {"settled": 0}),
+        ("operator", {**operator, "op": "sequence", "from": 0, "count": 0, "now": 4}, {"settled": 0}),
+        ("operator", {**operator, "op": "take", "from": 0, "max": 1, "now": 4}, {"error": "clock-back"}),
+        ("operator", {**operator, "op": "take", "from": 7, "max": 0, "now": 5}, bad),
+        *((0, '{"who":0,"op":"get-sth","x":%s}' % value, head) for value in ("1e-400", "9" * 300, '"\\ud83d\\ude00"')),
+        *(("operator", '{"who":0,"op":"get-sth","x":%s}' % value, bad) for value in ("1e400", "-1e400", "9" * 310, "9" * 400, '"\\ud800"')),
+    ]
+    given = "".join(f"{line if isinstance(line, str) else json.dumps(line)}\n" for _, line, _ in rows).encode()
+    ran = subprocess.run([*program, "--fronts", "1", "--ring", "64", "--close-at", "9"], input=given, stdout=subprocess.PIPE, timeout=60)
+    found = [(answer["line"], answer["reply"]) for answer in map(json.loads, ran.stdout.splitlines())]
+    hold(ran.returncode == 0 and len(found) == len(rows), program, "ends with status", ran.returncode, "and", len(found), "replies")
+    for who in ("operator", 0):
+        wanted = [(number, reply) for number, (party, _, reply) in enumerate(rows) if party == who]
+        own = [(number, reply) for number, reply in found if rows[number][0] == who]
+        hold(own == wanted, "the replies to", who, "are", own, "and not", wanted)
+    return len(rows)
+
+
 def check_log(front, seen, checked):
     """Holds all that clients were told against the log as it answers now."""
     client = Client(front.port)
@@ -348,13 +378,15 @@ def check_kills(folder, program, words, seen, checked, rounds, threads):
         for turn in range(rounds):
             parts = [submissions(60, 1000 * (turn + 1) + 100 * thread) for thread in range(threads)]
             before = len(seen.receipts)
+            enough = before + CHANCE.randrange(1, 30 * threads)
 
             def kill():
-                time.sleep(0.4 + CHANCE.random() * 0.6)
+                while len(seen.receipts) < enough:
+                    hold(front.process.poll() is None, "the front ended before the kill")
+                    time.sleep(0.01)
                 os.kill(front.process.pid if turn % 2 == 0 else front.program_id(), signal.SIGKILL)
 
             load(front.port, parts, seen, kill)
-            hold(len(seen.receipts) > before, "no receipt came before the kill")
             hold(len(seen.receipts) < before + 60 * threads, "all receipts came before the kill")
             status, fault = front.wait()
             hold(status == (-9 if turn % 2 == 0 else 1), "after the kill the front ends with status", status, fault)
@@ -391,21 +423,25 @@ def check_full_and_shutdown(program):
     """A full ring, and a log that takes no submissions any more, also after a restart: 503."""
     with tempfile.TemporaryDirectory() as folder:
         front = started(folder, program, "--every", "1.5", "--signer", "none", fronts=1, ring=1)
-        answers = []
+        answers, busy, name = [], [], 0
 
         def submit(name):
             answers.append(Client(front.port).call("add-chain", {"chain": [text(b"%d" % name)]}))
 
-        threads = [threading.Thread(target=submit, args=(name,)) for name in range(4)]
-        for thread in threads:
-            thread.start()
-        for thread in threads:
-            thread.join()
-        busy = [answer for status, answer in answers if status == 503]
+        # (on a slow machine they may come one by one)
+        while not busy and name < 400:
+            threads = [threading.Thread(target=submit, args=(name + number,)) for number in range(4)]
+            for thread in threads:
+                thread.start()
+            for thread in threads:
+                thread.join()
+            busy, name = [answer for status, answer in answers if status == 503], name + 4
         hold(busy and all(answer == {"error_message": "full"} for answer in busy), "a full ring is answered with", answers)
         hold(any(status == 200 for status, _ in answers), "nothing is taken by a ring of one place")
         front.process.send_signal(signal.SIGUSR1)
-        time.sleep(0.5)
+        until = time.monotonic() + 60
+        while Client(front.port).call("add-chain", {"chain": ["QQ=="]})[0] != 503:
+            hold(time.monotonic() < until, "after SIGUSR1 certificates are taken")
         for _ in range(2):
             client = Client(front.port)
             answer = client.call("add-chain", {"chain": ["QQ=="]})
@@ -435,7 +471,8 @@ def check_names(folder):
 
 
 def check_signers(folder, program, words):
-    """Each way of signing that is there, with the key that lies there: the same id, signatures that hold."""
+    """Each way of signing that is there, with the key that lies there: the same id, signatures that hold; and which of them signs where
+    none is named: python3-cryptography where it is there."""
     ways = ["openssl"] if shutil.which("openssl") else []
     try:
         import cryptography  # noqa: F401
@@ -453,6 +490,9 @@ def check_signers(folder, program, words):
         ids.add(own["log_id"])
         hold(front.end()[0] == 0, "the front doesn't end in order")
     hold(len(ids) == bool(ways), "two ways of signing have two keys")
+    front = started(folder, program, *words)
+    hold(f"signed by {ways[-1] if ways else 'none'} " in front.told, "where no way of signing is named,", front.told)
+    hold(front.end()[0] == 0, "the front doesn't end in order")
     return ways
 
 
@@ -491,14 +531,14 @@ def run(program, words):
         ways = check_signers(state, program, options)
         refusals += check_names(str(pathlib.Path(folder) / "refusing"))
     check_full_and_shutdown(program)
-    inputs = check_inputs(program)
+    inputs, lines = check_inputs(program), check_lines(program)
     times = sorted(seen.times)
     name, many = pathlib.Path(program[-1]).name, len(seen.receipts) - first
     print(
         f"{name}: {first} receipts by {words.threads} threads and {many} more around {words.kills} kills, half in "
         f"{times[len(times) // 2] * 1000:.0f} ms, all in {times[-1] * 1000:.0f}; {len(seen.heads)} heads seen, "
         f"{len(leaves)} entries; {len(checked)} signatures, by {' and '.join(ways) or 'nothing'}, and {inputs} signatures' "
-        f"bytes from the log itself; {refusals} refusals, "
+        f"bytes from the log itself, and {lines} of its lines; {refusals} refusals, "
         f"{curled} calls by curl, {damaged} damaged journals, a full ring and a shutdown; the journal gives the same "
         f"entries by {others}. "
         f"All as it has to be, in {time.monotonic() - begun:.0f} s."
@@ -514,7 +554,7 @@ def main():
     words = options.parse_args()
     try:
         run(words.program or ([str(CTLOGD)] if CTLOGD.exists() else STAND_IN), words)
-        cases.run(cases.CASES)
+        print(f"{len(cases.run(cases.CASES))} cases as they have to be.")
     except Wrong as wrong:
         sys.exit(f"check.py: {wrong}")
 

@@ -2,9 +2,10 @@
 // answered: the signature of each signed certificate timestamp and tree head, each certificate's audit path, and that the head from
 // before its submission is of a beginning of the log.
 //
-//	client BASE CERTIFICATE..
+//	client [-key FILE] BASE CERTIFICATE..
 //
-// BASE is the log's address with a slash at its end; each CERTIFICATE is a file in DER. Debian has the library
+// BASE is the log's address with a slash at its end; each CERTIFICATE is a file in DER, and FILE has the log's public key in PEM, for a log
+// that doesn't give it out itself. Debian has the library
 // (golang-github-google-certificate-transparency-dev); GOPATH has to name the folder of such packages.
 package main
 
@@ -13,6 +14,8 @@ import (
 	"crypto/x509"
 	"encoding/base64"
 	"encoding/json"
+	"encoding/pem"
+	"flag"
 	"fmt"
 	"net/http"
 	"net/url"
@@ -57,12 +60,20 @@ type checker struct {
 	tree      merkletree.MerkleVerifier
 }
 
-// The log at base, by the key that it gives out itself.
-func open(base string) checker {
+// The log at base, by the key in a file, or by the one that it gives out itself.
+func open(base, file string) checker {
 	var answer struct {
 		Key []byte `json:"key"`
 	}
-	get(base+"key", &answer)
+	if file == "" {
+		get(base+"key", &answer)
+	} else {
+		text, err := os.ReadFile(file)
+		ok(err)
+		block, _ := pem.Decode(text)
+		hold(block != nil, file, "is no key in PEM")
+		answer.Key = block.Bytes
+	}
 	key, err := x509.ParsePKIXPublicKey(answer.Key)
 	ok(err)
 	signature, err := ct.NewSignatureVerifier(key)
@@ -85,7 +96,11 @@ func (c checker) head() *ct.SignedTreeHead {
 func (c checker) submit(certificate []byte) []byte {
 	timestamp, err := c.log.AddChain([]ct.ASN1Cert{certificate})
 	ok(err)
-	entry := ct.LogEntry{Leaf: ct.MerkleTreeLeaf{TimestampedEntry: ct.TimestampedEntry{EntryType: ct.X509LogEntryType, X509Entry: certificate}}}
+	// (Debian's version of the library leaves the extensions in base64.)
+	timestamp.Extensions, err = base64.StdEncoding.DecodeString(string(timestamp.Extensions))
+	ok(err)
+	entry := ct.LogEntry{Leaf: ct.MerkleTreeLeaf{TimestampedEntry: ct.TimestampedEntry{
+		EntryType: ct.X509LogEntryType, X509Entry: certificate, Extensions: timestamp.Extensions}}}
 	ok(c.signature.VerifySCTSignature(*timestamp, entry))
 	other := *timestamp
 	other.Timestamp++
@@ -134,11 +149,13 @@ func (c checker) read(index int64, certificate []byte) {
 }
 
 func main() {
-	hold(len(os.Args) > 2, "BASE CERTIFICATE..")
-	c := open(os.Args[1])
+	file := flag.String("key", "", "the log's public key in PEM")
+	flag.Parse()
+	hold(flag.NArg() > 1, "[-key FILE] BASE CERTIFICATE..")
+	c := open(flag.Arg(0), *file)
 	var certificates, leaves [][]byte
 	before := c.head()
-	for _, name := range os.Args[2:] {
+	for _, name := range flag.Args()[1:] {
 		certificate, err := os.ReadFile(name)
 		ok(err)
 		certificates = append(certificates, certificate)

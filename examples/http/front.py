@@ -173,9 +173,10 @@ def tell(words, server, sequencer, own):
         why = "as --signer none has it" if words.signer else "neither python3-cryptography nor openssl is there"
         print(f"front: nothing is signed: {why}", file=sys.stderr)
     address, size = f"http://{words.address}:{server.server_address[1]}/", sequencer.heads[-1]["tree_size"]
+    log = f"{sequencer.published} head{'s' * (sequencer.published != 1)}, {size} entr{'y' if size == 1 else 'ies'}"
     through = f"the signer at {words.signer_at}" if words.signer_at else pathlib.Path(words.guard[-1]).name
     signed = f"signed by {own['signed_by']} through {through}"
-    print(f"{address} with {sequencer.published} heads, {size} entries, {signed}", flush=True)
+    print(f"{address} with {log}, {signed}", flush=True)
 
 
 def stop(words, ending, server, stopping, timer):

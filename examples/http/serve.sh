@@ -6,16 +6,19 @@ set -eu
 cd "$(dirname "$0")/../.."
 export PYTHONDONTWRITEBYTECODE=1
 log=${LOG:-crates/ctlogd/out/ctlogd}
-if [ -z "${LOG:-}" ] && [ ! -x "$log" ]; then
+missing=
+for name in ctlogd ctguard; do
+  [ -n "${LOG:-}" ] || [ -x crates/$name/out/$name ] || missing="$missing $name"
+done
+if [ -n "$missing" ]; then
   if [ ! -d crates/ctlogd ]; then
     echo 'serve: there is no crates/ctlogd here; LOG="python3 examples/http/stand_in.py" make serve serves the stand-in' >&2
     exit 1
   fi
   checks/needs.sh serve
-  examples/build.py ctlogd
-fi
-if [ -z "${LOG:-}" ] && [ -d crates/ctguard ] && [ ! -x crates/ctguard/out/ctguard ]; then
-  examples/build.py ctguard
+  # (each word is a crate)
+  # shellcheck disable=SC2086
+  examples/build.py $missing
 fi
 # $log is a command line: its words are to be split.
 # shellcheck disable=SC2086

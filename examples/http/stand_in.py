@@ -26,7 +26,11 @@ from expected import Refused  # noqa: E402
 PLACES = 64
 # A wait is late after so many looks, a millisecond apart.
 LOOKS = 5000
+# The most that one `take` settles.
+BATCH = 256
 
+# What a line is that asks the closed log too early: the operator's.
+EARLY = "not-yet", {}
 HEAD_INPUT, TIMESTAMP_INPUT = "tree-head-signature-input", "certificate-timestamp-signature-input"
 
 
@@ -56,12 +60,16 @@ def input_of(log, op, keys):
 
 def do_operator(log, request):
     op, keys = request or (None, None)
+    if request == EARLY:
+        raise Refused("not-yet")
     if op in (HEAD_INPUT, TIMESTAMP_INPUT):
         return {"signature_input": expected.text(input_of(log, op, keys))}
     if op != "take":
         return expected.do_operator(log, request)
-    count = min(keys["max"], len(log.rings[keys["from"]]))
-    log.settle(keys["from"], count, keys["now"])
+    count = min(keys["max"], BATCH, len(log.rings[keys["from"]]))
+    # (with `max` 0 the clock isn't asked)
+    if keys["max"]:
+        log.settle(keys["from"], count, keys["now"])
     return {"settled": count}
 
 
@@ -138,7 +146,7 @@ class Live:
             if closed:
                 self.answers.put((number, self.frozen_reply(who, request)))
             elif who == "frozen":
-                self.answers.put((number, {"error": "not-yet"}))
+                self.ways[self.fronts].put((number, EARLY))
             elif who == "operator" and request and request[0] == "close":
                 head = self.close(request[1]["now"])
                 if head is None:

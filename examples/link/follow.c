@@ -1,6 +1,9 @@
 /* A follower of a log in 2 KB of its own: it takes in the eight leaves of the classical tree, one by one, and compares each
  * root with the tree's (hashes.h, which cases.py writes). Then leaves: a worked one, cut everywhere, and damaged. With the
- * linker's --wrap=malloc --wrap=realloc it refuses each growth in turn. */
+ * linker's --wrap=malloc --wrap=realloc it refuses each growth in turn, and adds up what is asked for. Lists of a million
+ * hashes are given in a thread whose stack is small. */
+#define _POSIX_C_SOURCE 200809L
+#include <pthread.h>
 #include <stdio.h>
 #include <stdlib.h>
 #include <string.h>
@@ -15,10 +18,12 @@ static void expect(int as_wanted, const char *what) {
 
 /* The growth with this number, from 0 on, is refused. */
 static long refused = -1, growths;
+static size_t asked;
 void *__real_malloc(size_t size);
 void *__real_realloc(void *old, size_t size);
-void *__wrap_malloc(size_t size) { return growths++ == refused ? NULL : __real_malloc(size); }
-void *__wrap_realloc(void *old, size_t size) { return growths++ == refused ? NULL : __real_realloc(old, size); }
+static int is_refused(size_t size) { return asked += size, growths++ == refused; }
+void *__wrap_malloc(size_t size) { return is_refused(size) ? NULL : __real_malloc(size); }
+void *__wrap_realloc(void *old, size_t size) { return is_refused(size) ? NULL : __real_realloc(old, size); }
 
 struct follower {
     uint64_t size;
@@ -64,6 +69,40 @@ static void roots(void) {
     expect(ample > 0, "no growth was seen");
 }
 
+/* So many hashes, of which no call may need memory or stack for each. */
+enum { MANY = 1000000, STACK = 65536 };
+static uint8_t many[MANY][32];
+
+static void *long_lists(void *unused) {
+    uint8_t root[32], followed[32];
+    struct follower log = {0};
+    for (size_t n = 1; n <= MANY; n++) {
+        many[n - 1][0] = n & 255, many[n - 1][1] = n >> 8 & 255, many[n - 1][2] = n >> 16;
+        expect(wagtenib_push(log.size++, log.count, log.subtrees[0], 64, many[n - 1], &log.count) == WAGTENIB_OK, "a push");
+        if (n != 1 && n != 1000 && n != MANY) continue;
+        asked = 0;
+        expect(wagtenib_root(many[0], n, root) == WAGTENIB_OK && asked <= 4096, "at most 4 KB for a root");
+        wagtenib_subtrees_root(log.subtrees[0], log.count, followed);
+        expect(memcmp(root, followed, 32) == 0, "a long list's root, followed");
+    }
+    asked = 0;
+    wagtenib_subtrees_root(many[0], MANY, root);
+    expect(wagtenib_verify_inclusion(root, 1, 2, many[0], MANY, root) == WAGTENIB_PATH_TOO_LONG, "a path of a million hashes");
+    expect(wagtenib_verify_consistency(1, 2, root, root, many[0], MANY) == WAGTENIB_PATH_TOO_LONG, "a proof of a million hashes");
+    wagtenib_leaf_hash(many[0], sizeof many, root);
+    expect(asked == 0, "memory for a check");
+    return unused;
+}
+
+static void in_a_small_stack(void) {
+    pthread_attr_t how;
+    pthread_t thread;
+    pthread_attr_init(&how);
+    int is_begun = pthread_attr_setstacksize(&how, STACK) == 0 && pthread_create(&thread, &how, long_lists, NULL) == 0;
+    expect(is_begun, "a thread of 64 KB");
+    if (is_begun) pthread_join(thread, NULL);
+}
+
 static void leaves(void) {
     /* The leaf of a certificate of the one byte 41 at the moment 3, and one byte more. */
     uint8_t leaf[] = {0, 0, 0, 0, 0, 0, 0, 0, 0, 3, 0, 0, 0, 0, 1, 0x41, 0, 0, 9};
@@ -96,6 +135,7 @@ int main(void) {
     follow();
     roots();
     leaves();
-    printf("C: a follower, roots and leaves, %u not as wanted\n", wrong);
+    in_a_small_stack();
+    printf("C: a follower, roots, leaves and long lists, %u not as wanted\n", wrong);
     return wrong != 0;
 }

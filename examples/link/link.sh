@@ -28,7 +28,7 @@ if ! "$compiler" $sanitize "$work/empty.c" -o "$work/empty" 2>/dev/null; then
 fi
 "$compiler" $flags $sanitize examples/link/verify.c "$out/libwagtenib.a" -o "$work/verify"
 "$work/verify" <"$work/cases"
-"$compiler" $flags examples/link/follow.c "$out/libwagtenib.a" -Wl,--wrap=malloc,--wrap=realloc -o "$work/follow"
+"$compiler" $flags examples/link/follow.c "$out/libwagtenib.a" -pthread -Wl,--wrap=malloc,--wrap=realloc -o "$work/follow"
 "$work/follow"
 if command -v "${CXX:-c++}" >/dev/null; then
   echo '#include "wagtenib.h"' >"$work/header.cc"

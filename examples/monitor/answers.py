@@ -40,6 +40,32 @@ def leaf(moment, certificate, key_hash):
     return b"\0\0" + struct.pack(">Q", moment) + kind + len(certificate).to_bytes(3, "big") + certificate + b"\0\0"
 
 
+def tile_leaf(moment, certificate, key_hash, index):
+    """A leaf as a data tile of static-ct-api holds it, and the bytes of the tree's leaf. The precertificate and the chain are made up."""
+    extensions = b"\0\0\5" + index.to_bytes(5, "big")
+    tree_leaf = leaf(moment, certificate, key_hash)[:-2] + len(extensions).to_bytes(2, "big") + extensions
+    precertificate = b"\0\0\3pre" if key_hash else b""
+    chain = merkle.sha256(b"issuer") + merkle.sha256(b"root")
+    return tree_leaf, tree_leaf[2:] + precertificate + len(chain).to_bytes(2, "big") + chain
+
+
+def checkpoint(leaves, moment):
+    return {"checkpoint": f"log.example/2026\n{len(leaves)}\n{text(merkle.root(leaves))}\n", "timestamp": moment}
+
+
+def tile_name(index, width):
+    groups = [f"{index % 1000:03}"]
+    while index := index // 1000:
+        groups.insert(0, f"x{index % 1000:03}")
+    return f"tile/data/{'/'.join(groups)}" + (f".p/{width}" if width < 256 else "")
+
+
+def tile(texts, index=0):
+    """The data tile at an index, full or partial, of a log whose entries have these texts."""
+    mine = texts[256 * index : 256 * index + 256]
+    return {"tile": tile_name(index, len(mine)), "data": text(b"".join(mine))}
+
+
 def head(leaves, moment):
     return {"tree_size": len(leaves), "timestamp": moment, "sha256_root_hash": text(merkle.root(leaves)), "tree_head_signature": "BAMAAA=="}
 
@@ -85,6 +111,13 @@ CERTIFICATES = certificates()
 LOG = [leaf(MOMENT + i, certificate, key_hash) for i, (certificate, key_hash) in enumerate(CERTIFICATES)]
 # The log that others are shown: its third entry is another one.
 OTHER = LOG[:2] + [leaf(MOMENT + 2, CERTIFICATES[9][0], None)] + LOG[3:]
+
+# The same log as data tiles, and one whose entry at index 10 names another index.
+TILED, TEXTS = zip(*(tile_leaf(MOMENT + i, certificate, key_hash, i) for i, (certificate, key_hash) in enumerate(CERTIFICATES)))
+ASTRAY, ASTRAY_TEXTS = zip(*(tile_leaf(MOMENT + i, *CERTIFICATES[i], 11 if i == 10 else i) for i in range(len(CERTIFICATES))))
+# A longer one, of made-up certificates, and one of which an old entry is another one.
+LONG, LONG_TEXTS = zip(*(tile_leaf(MOMENT, b"certificate %d" % i, None, i) for i in range(600)))
+REWRITTEN = LONG[:5] + tile_leaf(MOMENT, b"another one", None, 5)[:1] + LONG[6:]
 
 
 def found(start, end):
@@ -141,6 +174,48 @@ def runs():
     yield "no-leaf", 3, [one, {"start": 0, "entries": [{"leaf_input": "AAAA"}] + entries(LOG, 1, 8)["entries"]}], [
         pending(0, 8), {"entry": 0, "fault": "truncated"}, *found(1, 8), {"verdict": "root-mismatch", "computed_root_hash": text(merkle.root([b"\0\0\0"] + LOG[1:8]))}, nothing]
     yield "empty-log", 0, [head([], MOMENT), {"entries": []}], [accepted(0), gap(0), state(head([], MOMENT), None, [], [])]
+    yield from tiled_runs()
+
+
+def tiled_runs():
+    """The same of a log that is read as checkpoints and data tiles."""
+    one, two, long = head(TILED[:8], MOMENT + 1000), head(TILED, MOMENT + 2000), head(LONG, MOMENT + 3000)
+    first, second, third = checkpoint(TILED[:8], MOMENT + 1000), checkpoint(TILED, MOMENT + 2000), checkpoint(LONG, MOMENT + 3000)
+    pending = lambda have, size: {"verdict": "pending", "have": have, "tree_size": size}
+    accepted = lambda size: {"verdict": "accepted", "tree_size": size}
+    gap, known = lambda want: {"verdict": "gap", "want": want}, lambda want: {"verdict": "known", "want": want}
+    bad = lambda fault, **more: {"error": "bad-answer", "fault": fault, **more}
+    after_one, nothing = state(one, None, TILED[:8], TILED[:8]), state(None, None, [], [])
+    mismatch = lambda leaves: {"verdict": "root-mismatch", "computed_root_hash": text(merkle.root(leaves))}
+    cut = lambda size: dict(tile(TEXTS), data=text(b"".join(TEXTS)[:size]))
+    yield "tiled-day1", 0, [first, tile(TEXTS[:5]), tile(TEXTS[:8])], [pending(0, 8), *found(0, 5), pending(5, 8), *found(5, 8), accepted(8), after_one]
+    yield "tiled-day2", 0, [after_one, second, tile(TEXTS[:8]), tile(TEXTS)], [pending(8, 20), known(8), *found(8, 20), accepted(20), state(two, None, TILED, TILED)]
+    yield "tiled-mixed", 0, [one, entries(TILED, 0, 3), tile(TEXTS[:8]), second, entries(TILED, 8, 12), tile(TEXTS)], [
+        pending(0, 8), *found(0, 3), pending(3, 8), *found(3, 8), accepted(8), pending(8, 20), *found(8, 12), pending(12, 20), *found(12, 20), accepted(20), state(two, None, TILED, TILED)]
+    yield "tiled-full", 0, [third, tile(LONG_TEXTS, 1), tile(LONG_TEXTS), tile(LONG_TEXTS), tile(LONG_TEXTS, 1), tile(LONG_TEXTS, 2)], [
+        pending(0, 600), gap(0), pending(256, 600), known(256), pending(512, 600), accepted(600), state(long, None, LONG, LONG)]
+    yield "tiled-beyond-head", 0, [first, tile(TEXTS)], [pending(0, 8), *found(0, 8), accepted(8), after_one]
+    yield "tiled-no-head", 0, [tile(TEXTS)], [gap(0), nothing]
+    yield "tiled-fork", 3, [after_one, checkpoint(LOG[:8], MOMENT + 1500)], [
+        {"verdict": "fork", "known_root_hash": one["sha256_root_hash"], "known_timestamp": one["timestamp"], "tree_size": 8}, after_one]
+    yield "tiled-shrunk", 3, [after_one, checkpoint(TILED[:5], MOMENT + 1500)], [{"verdict": "shrunk"}, after_one]
+    yield "tiled-rewritten", 3, [state(None, None, [], []), checkpoint(REWRITTEN, MOMENT + 3000), tile(LONG_TEXTS), tile(LONG_TEXTS, 1), tile(LONG_TEXTS, 2)], [
+        pending(0, 600), pending(256, 600), pending(512, 600), mismatch(LONG), nothing]
+    yield "tiled-wrong-index", 3, [checkpoint(ASTRAY, MOMENT + 2000), tile(ASTRAY_TEXTS)], [
+        pending(0, 20), {"entry": 10, "verdict": "wrong-index"}, *found(0, 20), accepted(20), state(head(ASTRAY, MOMENT + 2000), None, ASTRAY, ASTRAY)]
+    yield "tiled-no-index", 3, [head(LOG, MOMENT + 2000), tile([x[2:] + (b"\0\0\1p" if x[10:12] == b"\0\1" else b"") + b"\0\0" for x in LOG])], [
+        pending(0, 20), {"entry": 0, "verdict": "wrong-index"}, *found(0, 20), accepted(20), state(head(LOG, MOMENT + 2000), None, LOG, LOG)]
+    yield "tiled-cut", 4, [after_one, second, cut(-1), cut(len(b"".join(TEXTS[:12])) + 9), cut(len(b"".join(TEXTS[:12]))), cut(0)], [
+        pending(8, 20), bad("truncated", place=19), bad("truncated", place=12), bad("other-count", count=12), bad("other-count", count=0), state(one, two, TILED[:8], TILED[:8])]
+    yield "tiled-damaged", 4, [second, dict(tile(TEXTS), data=text(TEXTS[0] + TEXTS[1][:8] + b"\0\2")), dict(tile(TEXTS), data=text(TEXTS[0][:-66] + b"\0\1a")), dict(tile(TEXTS), data="=")], [
+        pending(0, 20), bad("bad-entry-type", place=1), bad("partial-fingerprint", place=0), {"error": "bad-line"}, state(None, two, [], [])]
+    names = ["tile/0/000.p/20", "tile/data/000.p/0", "tile/data/000.p/256", "tile/data/x000/000.p/20", "tile/data/0.p/20", "tile/data/000.p/020", "tile/data/000.p/20/", "", "tile/data/x018/x446/x744/x073/x709/x551/616"]
+    yield "tiled-names", 4, [second, *(dict(tile(TEXTS), tile=name) for name in names), dict(tile(TEXTS), tile="tile/data/x018/x446/x744/x073/x709/x551/615")], [
+        pending(0, 20), *[bad("no-data-tile")] * len(names), gap(0), state(None, two, [], [])]
+    changed = lambda old, new: dict(first, checkpoint=first["checkpoint"].replace(old, new))
+    notes = [changed("\n8\n", "\n08\n"), changed("\n8\n", "\n+8\n"), changed("=\n", "\n"), changed("=\n", "=\nextension\n"), changed("=\n", "="), changed("log.example/2026", ""),
+        changed("\n8\n", f"\n{1 << 64}\n"), changed("8\n", "8\nAAAA"), dict(first, checkpoint="")]
+    yield "tiled-checkpoints", 4, [*notes, {"checkpoint": first["checkpoint"]}, dict(first, timestamp="1")], [*[bad("no-checkpoint")] * len(notes), *[{"error": "bad-line"}] * 2, nothing]
 
 
 def main():

@@ -9,6 +9,7 @@ import argparse
 import base64
 import json
 import pathlib
+import re
 import sys
 
 import answers
@@ -20,7 +21,9 @@ import merkle  # noqa: E402
 # The longest line, in bytes, without its end; of a longer one no more than two bytes over it are held.
 LONGEST = 16_777_216
 KEPT = LONGEST + 2
-ALARMS = ("fork", "shrunk", "time-not-later", "root-mismatch", "inconsistent", "older-than-entry")
+ALARMS = ("fork", "shrunk", "time-not-later", "root-mismatch", "inconsistent", "older-than-entry", "wrong-index")
+CHECKPOINT = re.compile(r"[^\n]+\n(0|[1-9][0-9]*)\n([A-Za-z0-9+/=]+)\n")
+TILE = re.compile(r"tile/data/((?:x[0-9]{3}/)*)([0-9]{3})(?:\.p/([1-9][0-9]{0,2}))?")
 
 
 class Subtrees:
@@ -69,6 +72,68 @@ def subtrees_of(value):
 def fault_of(leaf):
     """Why bytes are no leaf, as far as these runs go; else None."""
     return None if len(leaf) > 15 and leaf[:2] == b"\0\0" else "truncated"
+
+
+class Refused(Exception):
+    """A checkpoint or a data tile that is refused, with what is said of it."""
+
+
+def head_of_checkpoint(text, moment):
+    """The head of a checkpoint (C2SP tlog-checkpoint) with the moment beside it."""
+    found = CHECKPOINT.fullmatch(text)
+    root = base64.b64decode(found[2], validate=True) if found and len(found[2]) % 4 == 0 else b""
+    if len(root) != 32 or answers.text(root) != found[2] or int(found[1]) >= 1 << 64:
+        raise Refused({"error": "bad-answer", "fault": "no-checkpoint"})
+    return {"sha256_root_hash": found[2], "timestamp": moment, "tree_size": int(found[1])}
+
+
+def place_of_tile(name):
+    """The index of a data tile's first entry, and its width (C2SP tlog-tiles, "Merkle Tree" and "Log Entries")."""
+    found = TILE.fullmatch(name)
+    if not found or found[1].startswith("x000/") or int(found[3] or 256) > 256 or found[3] == "256":
+        raise Refused({"error": "bad-answer", "fault": "no-data-tile"})
+    index = int(re.sub("[x/]", "", found[1]) + found[2])
+    if index >= 1 << 64:
+        raise Refused({"error": "bad-answer", "fault": "no-data-tile"})
+    return 256 * index, int(found[3] or 256)
+
+
+def leaves_of_tile(data):
+    """The leaves of a data tile (TileLeaf, C2SP static-ct-api): of each the bytes of the tree's leaf, and its extensions."""
+    place, leaves = 0, []
+
+    def take(size):
+        nonlocal place
+        if len(data) - place < size:
+            raise Refused({"error": "bad-answer", "fault": "truncated", "place": len(leaves)})
+        place += size
+        return data[place - size : place]
+
+    def refuse(fault):
+        raise Refused({"error": "bad-answer", "fault": fault, "place": len(leaves)})
+
+    def certificate():
+        size = int.from_bytes(take(3), "big")
+        return take(size) if size else refuse("empty-vector")
+
+    while place < len(data):
+        first = place
+        take(8)
+        kind = take(2)
+        if kind not in (b"\0\0", b"\0\1"):
+            refuse("bad-entry-type")
+        take(32 if kind == b"\0\1" else 0)
+        certificate()
+        extensions = take(int.from_bytes(take(2), "big"))
+        leaf = b"\0\0" + data[first:place]
+        if kind == b"\0\1":
+            certificate()
+        fingerprints = int.from_bytes(take(2), "big")
+        if fingerprints % 32:
+            refuse("partial-fingerprint")
+        take(fingerprints)
+        leaves.append((leaf, extensions))
+    return leaves
 
 
 class Watcher:
@@ -126,7 +191,8 @@ class Watcher:
             yield {"entry": index, "fault": fault}
             return
         timestamp, precert = int.from_bytes(leaf[2:10], "big"), leaf[10:12] == b"\0\1"
-        certificate = leaf[12 + 32 * precert + 3 : -2].lower()
+        size = int.from_bytes(leaf[12 + 32 * precert : 15 + 32 * precert], "big")
+        certificate = leaf[15 + 32 * precert :][:size].lower()
         for name in self.names:
             if name.encode() in certificate:
                 yield {"entry": index, "name": name, "timestamp": timestamp, "type": "precert" if precert else "x509"}
@@ -141,6 +207,20 @@ class Watcher:
             said += self.found(self.all.size, leaf)
             self.all = self.all.with_leaf(leaf)
         return said + [self.settle()]
+
+    def take_tile(self, name, data):
+        first, width = place_of_tile(name)
+        if first > self.all.size:
+            return [{"verdict": "gap", "want": self.all.size}]
+        if first + width <= self.all.size:
+            return [{"verdict": "known", "want": self.all.size}]
+        leaves = leaves_of_tile(data)
+        if len(leaves) != width:
+            raise Refused({"count": len(leaves), "error": "bad-answer", "fault": "other-count"})
+        wanted = list(enumerate(leaves, first))[self.all.size - first :]
+        said = self.take_entries(self.all.size, [leaf for _, (leaf, _) in wanted])
+        wrong = [i for i, (_, extensions) in wanted if i >= 1 << 40 or extensions != b"\0\0\5" + i.to_bytes(5, "big")]
+        return [{"entry": i, "verdict": "wrong-index"} for i in wrong[:1] if said[-1]["verdict"] != "gap"] + said
 
     def take_proof(self, path):
         if self.accepted is None or self.waiting is None:
@@ -163,7 +243,13 @@ class Watcher:
                 return self.take_entries(number(value.get("start", self.all.size)), leaves)
             if "consistency" in value:
                 return [self.take_proof([bytes_of(part) for part in value["consistency"]])]
+            if "checkpoint" in value:
+                return [self.take_head(head_of_checkpoint(value["checkpoint"], number(value["timestamp"])))]
+            if "tile" in value:
+                return self.take_tile(value["tile"], bytes_of(value["data"]))
             return [self.take_head(head_of(value))]
+        except Refused as refused:
+            return [refused.args[0]]
         except (ValueError, KeyError, TypeError, AttributeError):
             return [{"error": "bad-line"}]
 

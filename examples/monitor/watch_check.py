@@ -1,5 +1,6 @@
 #!/usr/bin/env python3
-"""Tries watch.sh against a log of its own on 127.0.0.1: one that is down, forks, is rewritten, answers with nothing or with what is no answer.
+"""Tries watch.sh against logs of its own on 127.0.0.1, one that is called and one of tiles: a log that is down, forks, is rewritten, answers with
+nothing or with what is no answer.
 
 The judge is the built ctmonitor where there is one, else stand_in.py, which it holds against answers.py first. It prints what it tried with
 which of the two, and ends with status 1 at the first thing that isn't as it has to be. Nothing depends on how fast the machine is.
@@ -11,6 +12,7 @@ import pathlib
 import shutil
 import signal
 import socket
+import struct
 import subprocess
 import sys
 import tempfile
@@ -58,16 +60,60 @@ class Log:
         entries = answers.entries(self.leaves, start, min(end + 1, start + self.most, self.size))["entries"]
         return json.dumps({"entries": entries}, indent=1)
 
+    def call_of(self, path):
+        return path.split("/")[-1]
+
     def answer(self, handler):
         url = urllib.parse.urlsplit(handler.path)
-        call = url.path.split("/")[-1]
+        call = self.call_of(url.path)
         other = self.instead.get(call)
-        body = (other if isinstance(other, str) else self.text_of(call, urllib.parse.parse_qs(url.query))).encode()
-        status, missing = {"status": 200, "missing": 0, **(other if isinstance(other, dict) else {})}.values()
+        body = other if isinstance(other, (str, bytes)) else self.text_of(call, urllib.parse.parse_qs(url.query))
+        status, missing = {"status": 404 if body is None else 200, "missing": 0, **(other if isinstance(other, dict) else {})}.values()
+        body = body.encode() if isinstance(body, str) else body or b""
         handler.send_response(status)
         handler.send_header("Content-Length", str(len(body) + missing))
         handler.end_headers()
         handler.wfile.write(body)
+
+
+# The leaves and texts of a tiled log with more full tiles than are read in a piece, and its name.
+MANY, MANY_TEXTS = zip(*(answers.tile_leaf(answers.MOMENT, b"certificate %d" % i, None, i) for i in range(256 * 17 + 3)))
+ORIGIN = "log.example/2026"
+
+
+def note_line(name, data):
+    return f"\u2014 {name} {answers.text(data)}\n"
+
+
+def note(leaves, moment):
+    """A checkpoint's note (C2SP static-ct-api) with three signatures that are made up: one of Ed25519 in the log's name, a witness's, and the log's with
+    the moment."""
+    signature = struct.pack(">4sQBBH", b"key2", moment, 4, 3, 71) + bytes(71)
+    other = struct.pack(">4sQBBH", b"key3", 1, 4, 3, 71) + bytes(71)
+    lines = [(ORIGIN, b"key1" + bytes(64)), ("witness.example", other), (ORIGIN, signature)]
+    return answers.checkpoint(leaves, moment)["checkpoint"] + "\n" + "".join(note_line(*line) for line in lines)
+
+
+class Tiles(Log):
+    """A tiled log, with the full data tiles of its first `published` leaves and the partial one of its `size`. `instead` names whole paths."""
+
+    def __init__(self, leaves=MANY, texts=MANY_TEXTS):
+        super().__init__()
+        self.leaves, self.texts, self.published, self.url = leaves, texts, None, f"tiled+{self.url}"
+
+    def call_of(self, path):
+        return path[1:]
+
+    def text_of(self, path, query):
+        if path == "checkpoint":
+            return note(self.leaves[: self.size], self.now)
+        self.asked.append(path)
+        names = {answers.tile_name(i, 256): i for i in range((self.published or self.size) // 256)}
+        if path in names:
+            return b"".join(self.texts[256 * names[path] :][:256])
+        if path == answers.tile_name(self.size // 256, self.size % 256):
+            return b"".join(self.texts[self.size // 256 * 256 : self.size])
+        return None
 
 
 def closed_port():
@@ -211,6 +257,113 @@ def try_no_answers(watch):
     watch.ends("the entries after all", 0, log.url, says="accepted 20 leaves")
 
 
+def tiles_asked(what, log, *names):
+    """Sees that these data tiles were asked for, and no others."""
+    due = [f"tile/data/{name}" for name in names]
+    if log.asked != due:
+        fail(f"{what}: the tiles {log.asked} were asked for where {due} are due")
+    log.asked.clear()
+
+
+def try_tiles_days(watch):
+    """A tiled log is followed over the edges of its tiles: up to one, over one, and over sixteen in a piece."""
+    log = Tiles()
+    watch.ends("a tiled log's first day", 0, log.url, "--name", "ficate 7", says=f"{log.url}: accepted 8 leaves")
+    tiles_asked("the first day", log, "000.p/8")
+    if watch.path(log, "verdicts").read_text().count('"name":"ficate 7"') != 1:
+        fail("a tiled log's first day: the name of one entry was to be told")
+    watch.ends("the same checkpoint", 0, log.url, says="accepted 8 leaves")
+    log.size, log.now = 256, log.now + 1
+    watch.ends("up to the edge of a tile", 0, log.url, says="accepted 256 leaves")
+    tiles_asked("up to the edge", log, "000")
+    log.size, log.now = 300, log.now + 1
+    watch.ends("over the edge of a tile", 0, log.url, says="accepted 300 leaves")
+    tiles_asked("over the edge", log, "001.p/44")
+    log.size, log.published, log.now, log.instead = 530, 768, log.now + 1, {"tile/data/002.p/18": {"status": 404}}
+    watch.ends("a partial tile that isn't there any more", 0, log.url, says="accepted 530 leaves")
+    tiles_asked("a partial tile that isn't there any more", log, "001", "002.p/18", "002")
+    kept = [note(MANY[:size], answers.MOMENT + 1000 + day) for day, size in enumerate((8, 256, 300, 530))]
+    if watch.path(log, "heads").read_text() != "".join(f"{text}\n" for text in kept):
+        fail(f"the checkpoints of four days aren't kept as they came: {watch.path(log, 'heads').read_text()}")
+    busy = Tiles()
+    busy.size = len(MANY)
+    watch.ends("one piece of a busy log", 0, busy.url, "--pieces", "1", says=f"accepted no leaves, has read 4096 of {busy.size}")
+    tiles_asked("one piece", busy, *(f"{i:03}" for i in range(16)))
+    watch.ends("the rest of it", 0, busy.url, says=f"accepted {busy.size} leaves")
+    tiles_asked("the rest", busy, "016", "017.p/3")
+    far, size = Tiles(), 256 * 1_234_567
+    peaks = {"size": size, "subtrees": [answers.text(bytes(32))] * f"{size:b}".count("1")}
+    state = {**answers.state(None, None, [], []), "accepted": {**answers.shown(answers.head([], 1)), "tree_size": size}, "sure": peaks, "all": peaks, "check": None}
+    state["check"] = answers.text(answers.merkle.sha256(answers.line(state)[:-1].encode()))
+    watch.path(far, "").mkdir()
+    watch.path(far).write_text(answers.line(state))
+    far.instead = {"checkpoint": SIGNED.replace("\n8\n", f"\n{size + 300}\n")}
+    watch.ends("a tile of a log of 300 million entries", 5, far.url, says="can't be reached: tile/data/x001/x234/567: ")
+    tiles_asked("a log of 300 million entries", far, "x001/x234/567")
+
+
+def try_tiles_alarms(watch):
+    """A tiled log that forks, shrinks, is rewritten or has another index in an entry is an alarm; a damaged state is told also where it forked."""
+    log = Tiles()
+    watch.ends("a first checkpoint", 0, log.url)
+    good = watch.path(log).read_bytes()
+    log.leaves = answers.REWRITTEN
+    watch.path(log).write_bytes(good.replace(b'"size":8', b'"size":9', 1))
+    watch.leaves_unchanged("a damaged state and a forked tiled log", 4, log, says="the state")
+    watch.path(log).write_bytes(good)
+    watch.leaves_unchanged("a forked tiled log", 3, log, says='"verdict":"fork"')
+    if [path.read_text() for path in watch.path(log, "").glob("alarm.*/answer")] != [note(answers.REWRITTEN[:8], log.now)]:
+        fail("a forked tiled log: the note isn't kept as it came")
+    log.leaves, log.size, log.now = MANY, 5, log.now + 1
+    watch.leaves_unchanged("a smaller tiled log", 3, log, says='"verdict":"shrunk"')
+    log.leaves, log.size = answers.REWRITTEN, 600
+    watch.ends("a rewritten tiled log", 3, log.url, says='"verdict":"root-mismatch"')
+    if watch.state(log)["accepted"]["tree_size"] != 8 or watch.state(log)["all"]["size"] != 512:
+        fail("a rewritten tiled log: another head was accepted, or what came before the last tile wasn't kept")
+    astray = Tiles(answers.ASTRAY, answers.ASTRAY_TEXTS)
+    astray.size = 20
+    watch.ends("an entry with another index", 3, astray.url, says='{"entry":10,"verdict":"wrong-index"}')
+    if watch.state(astray)["accepted"]:
+        fail("an entry with another index: the head was accepted")
+
+
+# What a tiled log publishes in place of a checkpoint, and in place of its second tile, with the status that is due.
+BARE = answers.checkpoint(answers.LONG[:8], 1)["checkpoint"]
+SIGNED = note(answers.LONG[:8], answers.MOMENT)
+NO_CHECKPOINTS = [
+    ("a page", 4, PAGE),
+    ("nothing", 5, ""),
+    ("no signature", 4, BARE + "\n"),
+    ("a signature that is cut short", 4, BARE + "\n" + note_line(ORIGIN, struct.pack(">4sQBBH", b"key2", 1, 4, 3, 71) + bytes(70))),
+    ("a signature of another", 4, SIGNED.replace(f"\u2014 {ORIGIN} ", "\u2014 another ")),
+    ("an origin with quotes", 0, SIGNED.replace(ORIGIN, 'log"\\')),
+]
+CUT = b"".join(answers.LONG_TEXTS[256:512])[:-1]
+NO_TILES = [("is cut short", 4, CUT), ("is a page", 4, PAGE), ("is empty", 5, ""), ("has 503", 5, {"status": 503}), ("ends early", 5, {"missing": 9})]
+
+
+def try_no_tiles(watch):
+    """A checkpoint or a tile that is none, or doesn't come, is told; what comes before it is read, and what stands there stays."""
+    for what, status, answer in NO_CHECKPOINTS:
+        log = Tiles()
+        log.instead = {"checkpoint": answer}
+        watch.ends(f"a checkpoint that is {what}", status, log.url, says=log.url)
+        if watch.path(log).exists() != (status == 0):
+            fail(f"a checkpoint that is {what}: there is a state, or none")
+    log = Tiles()
+    log.size = 800
+    for what, status, answer in NO_TILES:
+        log.instead = {"tile/data/001": answer}
+        output = watch.ends(f"the second tile {what}", status, log.url, says=log.url)
+        if watch.state(log)["all"]["size"] != 256 or output.count("\n") != 1:
+            fail(f"the second tile {what}: the state has {watch.state(log)['all']['size']} entries where 256 are due: {output}")
+    log.instead = {}
+    watch.ends("the tiles after all", 0, log.url, says="accepted 800 leaves")
+    huge = Tiles()
+    huge.instead = {"checkpoint": SIGNED.replace("\n8\n", f"\n{(1 << 64) - 1}\n")}
+    watch.ends("more leaves than the shell can count", 5, huge.url, says="can't be reached: tile/data/000")
+
+
 def try_several(watch, followed, forked):
     """Each log of a list has a line, and the gravest status counts."""
     closed = closed_port()
@@ -226,6 +379,10 @@ def try_several(watch, followed, forked):
     watch.ends("a head of the year 1970", 6, f"{old.url} {young.url}", "--older-than", "1000", says=f"{old.url}: OLD")
     watch.ends("a head of now", 0, young.url, "--older-than", "1000", says="accepted 8 leaves")
     watch.ends("the same, however old", 0, f"{old.url} {young.url}", says=f"{old.url}: accepted 8 leaves")
+    tiled, gone = Tiles(), f"tiled+{closed_port()}"
+    output = watch.ends("logs of both kinds", 5, f"{followed.url} {gone} {tiled.url}/", says=f"{gone}: can't be reached: checkpoint")
+    if f"{followed.url}: accepted 40 leaves" not in output or f"{tiled.url}/: accepted 8 leaves" not in output:
+        fail(f"logs of both kinds: they have no lines: {output}")
 
 
 # Judges that don't do as ctmonitor does, with the status that is due.
@@ -299,6 +456,9 @@ def main():
         try_interrupted(watch)
         forked = try_alarms(watch)
         try_no_answers(watch)
+        try_tiles_days(watch)
+        try_tiles_alarms(watch)
+        try_no_tiles(watch)
         try_several(watch, followed, forked)
         try_judges(watch, followed, judge)
     print(f"examples/monitor: stand_in.py as expected in {runs} runs, watch.sh in {watch.count}, over {which}.")

@@ -120,6 +120,9 @@ def refused(chance, judge, request, reply, older):
     for bundle, line in bundles(chance, judge, reply, older):
         yield "bundle", {"bundle": text(bundle), "resume": line}
     yield from both(chance, judge, request)
+    if chance.random() < 0.1:
+        many = [{"chain": [], "leaf_certificate": "AA=="}] * 4097
+        yield "too-many", {**request, "batch": many, "state": chance.choice([request["state"], ""])}
     if judge.moment:
         yield "clock-back", {**request, "now": judge.moment - 1}
         yield "clock-back", {**request, "now": 0}

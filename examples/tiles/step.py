@@ -28,6 +28,8 @@ from states import State, state_of, written  # noqa: E402
 LONGEST = 1 << 26
 # How many leaves a log has at most: an index is of 40 bits.
 MOST = 1 << 40
+# How many submissions a batch has at most.
+MOST_SUBMISSIONS = 4096
 LEVELS = range(8)
 NAME = re.compile(r"tile/(data|\d+)/((?:x\d{3}/)*\d{3})(?:\.p/(\d+))?")
 
@@ -223,6 +225,8 @@ def needs(line, origin):
 
 def step(batch, edge, now, line, origin):
     """A step: its receipts, its objects as a bundle, its head, and the state behind it."""
+    if len(batch) > MOST_SUBMISSIONS:
+        raise Refused("too-many")
     signed, objects, after = stepped(line, map(base64.b64decode, edge), now, list(map(submission_of, batch)))
     first = after.tree_size - len(signed)
     receipts = [{"leaf_index": index, "sign": text(leaf), "timestamp": now} for index, leaf in enumerate(signed, first)]

@@ -20,6 +20,8 @@ import (
 	"testing"
 	"time"
 
+	"wagtenib/service/check"
+	"wagtenib/service/signer"
 	"wagtenib/service/web/standin"
 )
 
@@ -30,7 +32,8 @@ const (
 )
 
 func TestMain(m *testing.M) {
-	if os.Getenv(childKey) == "" {
+	// (a log that is opened by the tests themselves starts its signer by the program's own name)
+	if os.Getenv(childKey) == "" && (len(os.Args) < 2 || os.Args[1] != "signer") {
 		os.Exit(m.Run())
 	}
 	open := openNode
@@ -98,7 +101,7 @@ func started(t *testing.T, every string, words ...string) *program {
 // until gives the next line of one of these events.
 func (p *program) until(events ...string) map[string]any {
 	p.t.Helper()
-	for late := time.After(20 * time.Second); ; {
+	for late := time.After(time.Minute); ; {
 		select {
 		case line, more := <-p.lines:
 			if !more {
@@ -129,7 +132,7 @@ func (p *program) ends() int {
 			return status.ExitCode()
 		}
 		return 0
-	case <-time.After(20 * time.Second):
+	case <-time.After(time.Minute):
 		p.t.Fatal("it doesn't end")
 		return -1
 	}
@@ -147,6 +150,8 @@ type place struct {
 	t         *testing.T
 	folder    string
 	authority *standin.Authority
+	// guard is the command of the real log's guard.
+	guard string
 }
 
 func newPlace(t *testing.T) *place {
@@ -155,7 +160,7 @@ func newPlace(t *testing.T) *place {
 	if err != nil {
 		t.Fatal(err)
 	}
-	p := &place{t, t.TempDir(), authority}
+	p := &place{t: t, folder: t.TempDir(), authority: authority}
 	p.write("roots.pem", authority.PEM())
 	_, key, err := authority.KeyPair()
 	if err != nil {
@@ -392,7 +397,9 @@ func TestSettings(t *testing.T) {
 		why   string
 	}{
 		{nil, "--roots is needed"},
-		{[]string{"--roots", "a", "--origin", "b"}, "--signing-key is needed"},
+		{[]string{"--roots", "a", "--origin", "b"}, "--signing-key or --signer-at is needed"},
+		{file(needed + "signer-at x"), "has the place of"},
+		{[]string{"--roots", "a", "--origin", "b", "--signer-at", "c", "--guard", "d"}, "has the place of"},
 		{[]string{"--nothing"}, "not defined"},
 		{[]string{"word"}, `"word" isn't expected`},
 		{[]string{"--config", at.path("missing")}, "no such file"},
@@ -421,13 +428,13 @@ func TestSettings(t *testing.T) {
 	}
 	if s.node.origin != "z" || s.limits.Idle != 5*time.Second || fmt.Sprint(s.proxies) != "[127.0.0.1/32 10.0.0.0/8]" || !s.node.create ||
 		s.window.From.Year() != 2027 || s.node.secret != "sixteen bytes or more" || strings.Join(s.node.step, " ") != "a b --origin z" ||
-		s.node.store != "folder:ct-log/objects" || s.node.register != "file:ct-log/register" || s.node.places != "sqlite:ct-log/places" {
+		s.node.guardState != "file:ct-log/guard" || strings.Join(s.node.guard, " ") != "ctguard" || s.node.store != "folder:ct-log/objects" || s.node.register != "file:ct-log/register" || s.node.places != "sqlite:ct-log/places" {
 		t.Errorf("%+v", s)
 	}
 	for _, test := range []struct {
 		words  []string
 		status int
-	}{{[]string{"--help"}, 0}, {[]string{"--nothing"}, 2}, {at.words("--roots", at.path("none")), 1}, {at.words("--listen", "127.0.0.1:x"), 1}, {at.words("--tls-certificate", "none", "--tls-key", "none"), 1}} {
+	}{{[]string{"--help"}, 0}, {[]string{"signer", "--help"}, 0}, {[]string{"signer"}, 2}, {[]string{"signer", "--signing-key", at.path("log.pem"), "word"}, 2}, {[]string{"--nothing"}, 2}, {at.words("--roots", at.path("none")), 1}, {at.words("--listen", "127.0.0.1:x"), 1}, {at.words("--tls-certificate", "none", "--tls-key", "none"), 1}} {
 		open := func(context.Context, node) (*opened, error) {
 			of, err := standin.New(0)
 			return &opened{log: of, close: func() {}}, err
@@ -438,21 +445,34 @@ func TestSettings(t *testing.T) {
 	}
 }
 
-// Over the real log, on a folder: a start makes no log unasked; what was answered is there after a kill, and a repeat has its
-// place; and all that is read fits together. The step's program is the plain one of examples/tiles.
-func TestRealLog(t *testing.T) {
+// realWords are those of a log on a folder, over plain programs beside the proved ones: examples/tiles' step, and the guard of
+// examples/guard where the proved one isn't built.
+func (p *place) realWords(more ...string) []string {
+	p.t.Helper()
 	python, err := exec.LookPath("python3")
 	if err != nil {
-		t.Skip("for want of python3")
+		p.t.Skip("for want of python3")
 	}
 	// The tests' folder is found by a link.
 	here, err := filepath.EvalSymlinks(os.Getenv("PWD"))
 	if err != nil {
-		t.Fatal(err)
+		p.t.Fatal(err)
 	}
-	steps := filepath.Join(here, "../../examples/tiles/step.py")
+	p.guard = filepath.Join(here, "../../crates/ctguard/out/ctguard")
+	if _, err := os.Stat(p.guard); err != nil {
+		p.guard = python + " " + filepath.Join(here, "../../examples/guard/model.py")
+	}
+	return append([]string{"--listen", "127.0.0.1:0", "--operator-listen", "127.0.0.1:0", "--origin", "log.example/test", "--roots", p.path("roots.pem"),
+		"--folder", p.path("log"), "--step", python + " " + filepath.Join(here, "../../examples/tiles/step.py"), "--interval", "50ms"}, more...)
+}
+
+// Over the real log, on a folder: a start makes no log unasked; what was answered is there after a kill, and a repeat has its
+// place; and all that is read fits together.
+func TestRealLog(t *testing.T) {
+	t.Parallel()
 	at := newPlace(t)
-	words := at.words("--step", python+" "+steps, "--interval", "50ms")
+	words := at.realWords("--signing-key", at.path("log.pem"))
+	words = append(words, "--guard", at.guard)
 	if status := run(words, io.Discard, openNode); status != 1 {
 		t.Errorf("a log is made unasked: status %d", status)
 	}
@@ -527,4 +547,133 @@ func TestRealLog(t *testing.T) {
 	if status := p.ends(); status != 0 {
 		t.Errorf("it ended with status %d", status)
 	}
+}
+
+// A signer at a socket: it is killed and started again below a log, one of another key isn't taken, and two nodes share it.
+func TestSignerAtASocket(t *testing.T) {
+	t.Parallel()
+	at := newPlace(t)
+	socket := at.path("signer")
+	words := at.realWords("--signer-at", socket)
+	listening := func(key string) *exec.Cmd {
+		t.Helper()
+		command := exec.Command(os.Args[0], "signer", "--signing-key", key, "--guard", at.guard, "--guard-state", "file:"+at.path("guard"), "--create", "--listen", socket)
+		command.Env = append(os.Environ(), childKey+"=1")
+		command.Stderr = os.Stderr
+		if err := command.Start(); err != nil {
+			t.Fatal(err)
+		}
+		t.Cleanup(func() {
+			_ = command.Process.Kill()
+			_ = command.Wait()
+		})
+		for until := time.Now().Add(time.Minute); ; time.Sleep(5 * time.Millisecond) {
+			if connection, err := net.Dial("unix", socket); err == nil {
+				connection.Close()
+				return command
+			}
+			if time.Now().After(until) {
+				t.Fatal("the signer doesn't listen")
+			}
+		}
+	}
+	first := listening(at.path("log.pem"))
+	p := started(t, "", append(words, "--create")...)
+	if status, text := post(p.clients, at.submission()); status != 200 {
+		t.Fatalf("%d %s", status, text)
+	}
+	if err := first.Process.Kill(); err != nil {
+		t.Fatal(err)
+	}
+	_ = first.Wait()
+	if status, text := post(p.clients, at.submission()); status != 503 || !strings.Contains(text, `"store"`) {
+		t.Errorf("without a signer: %d %s", status, text)
+	}
+	other, err := standin.NewAuthority("Another")
+	if err != nil {
+		t.Fatal(err)
+	}
+	_, otherKey, err := other.KeyPair()
+	if err != nil {
+		t.Fatal(err)
+	}
+	at.write("other.pem", otherKey)
+	wrong := listening(at.path("other.pem"))
+	if status, text := post(p.clients, at.submission()); status != 503 || !strings.Contains(text, `"store"`) {
+		t.Errorf("with another's key: %d %s", status, text)
+	}
+	_ = wrong.Process.Kill()
+	_ = wrong.Wait()
+	listening(at.path("log.pem"))
+	for until := time.Now().Add(time.Minute); ; time.Sleep(50 * time.Millisecond) {
+		status, text := post(p.clients, at.submission())
+		if status == 200 {
+			break
+		}
+		if time.Now().After(until) {
+			t.Fatalf("with the signer again: %d %s", status, text)
+		}
+	}
+	q := started(t, "", words...)
+	answers := make(chan string, 20)
+	for i := 0; i < cap(answers); i++ {
+		body, to := at.submission(), []string{p.clients, q.clients}[i%2]
+		go func() {
+			status, text := post(to, body)
+			answers <- fmt.Sprint(status, " ", text)
+		}()
+	}
+	for i := 0; i < cap(answers); i++ {
+		if answer := <-answers; !strings.HasPrefix(answer, "200 ") {
+			t.Errorf("one of twenty: %s", answer)
+		}
+	}
+	q.signal(syscall.SIGKILL)
+	q.ends()
+	if status, text := post(p.clients, at.submission()); status != 200 {
+		t.Errorf("behind the other's end: %d %s", status, text)
+	}
+	p.signal(syscall.SIGTERM)
+	if status := p.ends(); status != 0 {
+		t.Errorf("it ended with status %d", status)
+	}
+	opened, err := signer.OpenKey(at.path("log.pem"))
+	if err != nil {
+		t.Fatal(err)
+	}
+	// (those of the two without a signer, and of the one with another's, may have come in all the same)
+	if report, err := check.Folder(at.path("log/objects"), opened.Key(), nil); err != nil || report.Leaves < 23 || report.Leaves > 25 || report.Repeats != 0 {
+		t.Errorf("%+v, %v", report, err)
+	}
+}
+
+// What a log's signing may lack is said at its start; without a guard it signs where it is told to.
+func TestGuards(t *testing.T) {
+	t.Parallel()
+	at := newPlace(t)
+	words := at.realWords("--signing-key", at.path("log.pem"), "--create")
+	lacks := func(what string, more ...string) {
+		t.Helper()
+		command := exec.Command(os.Args[0], append(append([]string{}, words...), more...)...)
+		command.Env = append(os.Environ(), childKey+"=1")
+		if said, err := command.CombinedOutput(); err == nil || !strings.Contains(string(said), what) {
+			t.Errorf("%q: %v: %s", more, err, said)
+		}
+	}
+	lacks("the guard: exec", "--guard", "no-such-guard")
+	lacks("no state of the guard: there is none", "--guard", at.guard, "--create=false")
+	lacks("no such file", "--guard", at.guard, "--signing-key", at.path("nowhere"))
+	words = at.realWords("--create")
+	lacks("no such file", "--signer-at", at.path("nowhere"))
+	words = at.realWords("--signing-key", at.path("log.pem"))
+	p := started(t, "", append(words, "--create", "--guard", "none")...)
+	if status, text := post(p.clients, at.submission()); status != 200 {
+		t.Errorf("%d %s", status, text)
+	}
+	p.signal(syscall.SIGTERM)
+	if status := p.ends(); status != 0 {
+		t.Errorf("it ended with status %d", status)
+	}
+	// A log that was made without one isn't taken up behind one that knows no head of it.
+	lacks("it is older than the log", "--guard", at.guard, "--create")
 }

@@ -2,6 +2,8 @@
 //
 // SIGHUP has it read the roots and the certificate of TLS anew. SIGTERM and SIGINT end it: it takes no more, publishes, answers
 // who waits, and ends with status 0; where that isn't done within its time, with 1. A second one ends it at once.
+//
+// The key is read by a process of its own, `ctserve signer`, which it starts, or finds at a socket.
 package main
 
 import (
@@ -39,6 +41,9 @@ func main() { os.Exit(run(os.Args[1:], os.Stderr, openNode)) }
 
 // run serves until a signal ends it, and gives the status: 0 at an end in order, 1 at another, 2 where the words aren't ones.
 func run(words []string, to io.Writer, open opener) int {
+	if len(words) > 0 && words[0] == "signer" {
+		return runSigner(words[1:], os.Stdin, os.Stdout, to)
+	}
 	s, err := parse(words, to)
 	if errors.Is(err, flag.ErrHelp) {
 		return 0

@@ -7,7 +7,6 @@ import (
 
 	"wagtenib/service/reader"
 	"wagtenib/service/sequencer"
-	"wagtenib/service/signer"
 	"wagtenib/service/step"
 	"wagtenib/service/stores"
 )
@@ -29,14 +28,17 @@ func openNode(ctx context.Context, n node) (of *opened, err error) {
 		Origin: n.origin, Create: n.create, Interval: n.interval, Refresh: n.refresh, MostQueue: n.mostQueue, MostBatch: n.mostBatch,
 		SweepAfter: n.sweepAfter, TendEvery: n.readEvery, BehindSwap: n.behindSwap, Address: n.address, Secret: n.secret,
 	}
-	if config.Signer, err = signer.Open(n.signingKey); err != nil {
-		return nil, err
-	}
 	if n.makesFolder {
 		if err := os.MkdirAll(n.folder, 0o755); err != nil {
 			return nil, fmt.Errorf("ctserve: %w", err)
 		}
 	}
+	asked, err := askSigner(ctx, n)
+	if err != nil {
+		return nil, err
+	}
+	config.Signer = asked
+	closers = append(closers, asked.Close)
 	if config.Objects, err = stores.ObjectsAt(ctx, n.store); err != nil {
 		return nil, err
 	}
@@ -54,7 +56,7 @@ func openNode(ctx context.Context, n node) (of *opened, err error) {
 	}
 	closers = append(closers, config.Step.Close)
 	// Readers have a process of their own: none of them keeps a step waiting.
-	reading, err := step.NewClient(n.step, n.stepWithin)
+	reading, err := step.NewClient(n.reader, n.stepWithin)
 	if err != nil {
 		return nil, err
 	}

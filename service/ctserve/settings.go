@@ -33,8 +33,10 @@ type settings struct {
 // node is what the log stands on.
 type node struct {
 	origin, signingKey                        string
+	guard                                     []string
+	guardState, signerAt                      string
 	folder, store, register, places           string
-	step                                      []string
+	step, reader                              []string
 	stepWithin, interval, refresh, openWithin time.Duration
 	sweepAfter, readEvery                     time.Duration
 	mostQueue, mostBatch, mostProofs          int
@@ -51,7 +53,7 @@ func parse(words []string, help io.Writer) (*settings, error) {
 	flags := flag.NewFlagSet("ctserve", flag.ContinueOnError)
 	flags.SetOutput(help)
 	flags.Usage = func() {
-		fmt.Fprint(help, "ctserve serves a Certificate Transparency log over HTTP. Each word may also stand as a line 'name value' in the file of --config.\n\n")
+		fmt.Fprint(help, "ctserve serves a Certificate Transparency log over HTTP. Each word may also stand as a line 'name value' in the file of --config.\n'ctserve signer --help' says what its signer takes.\n\n")
 		flags.PrintDefaults()
 	}
 	config := flags.String("config", "", "`file` with a line 'name value' for each of these, and comments behind #")
@@ -82,14 +84,15 @@ func parse(words []string, help io.Writer) (*settings, error) {
 	n := &s.node
 	flags.StringVar(&n.origin, "origin", "", "the log's `name` in checkpoints, as log.example/2027h1")
 	flags.StringVar(&n.signingKey, "signing-key", "", "`file` with the log's key in PEM, of P-256, that none but its owner may read")
+	flags.Func("guard", "the `command` of the guard between the key and all else, with its words (default \"ctguard\"); none signs without one", command(&n.guard))
+	flags.StringVar(&n.guardState, "guard-state", "", "`address` of the register with the guard's state: file:PATH, etcd://HOST:PORT/PREFIX, postgres://HOST/DATABASE?log=NAME; by default in the folder")
+	flags.StringVar(&n.signerAt, "signer-at", "", "`socket` of a signer that runs (ctserve signer --help), in the place of the three above")
 	flags.StringVar(&n.folder, "folder", "ct-log", "`folder` of the objects, the register and the places, where no other address is given")
 	flags.StringVar(&n.store, "store", "", "`address` of the objects: folder:PATH, s3://HOST/BUCKET")
 	flags.StringVar(&n.register, "register", "", "`address` of the register: file:PATH, etcd://HOST:PORT/PREFIX, postgres://HOST/DATABASE?log=NAME")
 	flags.StringVar(&n.places, "places", "", "`address` of the places of identities: sqlite:PATH, etcd://HOST:PORT/PREFIX, postgres://HOST/DATABASE?log=NAME")
-	flags.Func("step", "the `command` of the program that makes the steps, with its words (default \"cttile\"); it is given --origin", func(text string) error {
-		n.step = strings.Fields(text)
-		return nil
-	})
+	flags.Func("step", "the `command` of the program that makes the steps, with its words (default \"cttile\"); it is given --origin", command(&n.step))
+	flags.Func("reader", "the `command` of the program that makes proofs for readers out of the tiles, with its words; by default that of the steps", command(&n.reader))
 	flags.DurationVar(&n.stepWithin, "step-within", 30*time.Second, "how long a step may take, until its program is killed")
 	flags.DurationVar(&n.interval, "interval", 500*time.Millisecond, "how far two heads are apart at least")
 	flags.DurationVar(&n.refresh, "refresh", time.Hour, "how old a head gets before one without new entries is made")
@@ -161,10 +164,16 @@ func readSettings(flags *flag.FlagSet, path string) error {
 // settle looks at what has to go together, and fills in what follows from the rest.
 func (s *settings) settle() error {
 	n, l := &s.node, s.limits
-	for _, needed := range []struct{ name, value string }{{"roots", s.roots}, {"origin", n.origin}, {"signing-key", n.signingKey}} {
+	for _, needed := range []struct{ name, value string }{{"roots", s.roots}, {"origin", n.origin}, {"signing-key or --signer-at", n.signingKey + n.signerAt}} {
 		if needed.value == "" {
 			return fmt.Errorf("--%s is needed", needed.name)
 		}
+	}
+	if n.signerAt != "" && (n.signingKey != "" || len(n.guard) > 0 || n.guardState != "") {
+		return errors.New("--signer-at has the place of --signing-key, --guard and --guard-state")
+	}
+	if len(n.guard) == 0 {
+		n.guard = []string{"ctguard"}
 	}
 	if (s.certificate == "") != (s.key == "") {
 		return errors.New("--tls-certificate and --tls-key go together")
@@ -183,7 +192,10 @@ func (s *settings) settle() error {
 	if len(n.step) == 0 {
 		n.step = []string{"cttile"}
 	}
-	n.step = append(n.step, "--origin", n.origin)
+	if len(n.reader) == 0 {
+		n.reader = n.step
+	}
+	n.step = append(append([]string{}, n.step...), "--origin", n.origin)
 	for _, address := range []struct {
 		of   *string
 		text string
@@ -191,6 +203,9 @@ func (s *settings) settle() error {
 		if *address.of == "" {
 			*address.of, n.makesFolder = address.text, true
 		}
+	}
+	if n.guardState == "" && n.signerAt == "" {
+		n.guardState, n.makesFolder = "file:"+filepath.Join(n.folder, "guard"), true
 	}
 	if (s.listenNodes == "") != (n.address == "") || (n.address == "") != (s.nodesSecretAt == "") {
 		return errors.New("--nodes-listen, --nodes-address and --nodes-secret go together")
@@ -217,6 +232,13 @@ func prefixes(text string) (found []netip.Prefix, err error) {
 		found = append(found, prefix.Masked())
 	}
 	return found, nil
+}
+
+func command(into *[]string) func(string) error {
+	return func(text string) error {
+		*into = strings.Fields(text)
+		return nil
+	}
 }
 
 func moment(into *time.Time) func(string) error {

@@ -66,8 +66,12 @@ type Figures struct {
 	// Repeats counts submissions that were answered with a place that they had, Helped the heads of others that were rolled out,
 	// HandedOver the submissions that another node answered.
 	Repeats, Helped, HandedOver uint64
-	// StepStarts counts how often the step's process was started.
-	StepStarts uint64
+	// StepStarts counts how often the step's process was started, and SignerStarts how often the signer was, or was found.
+	StepStarts, SignerStarts uint64
+	// Swept counts partial tiles that were deleted behind their full one, and Scrubbed data tiles that were read again and were right.
+	Swept, Scrubbed uint64
+	// Damaged is how many data tiles, by what was read last, are missing or aren't the log's, or stand below hash tiles that aren't.
+	Damaged int
 	// Fault is what keeps the log from going on, in one line; empty where nothing does.
 	Fault string
 }

@@ -73,13 +73,13 @@ type leaf struct {
 	signed []byte
 }
 
-// reader cuts a data tile.
-type reader struct {
+// cutter cuts a data tile.
+type cutter struct {
 	rest  []byte
 	wrong bool
 }
 
-func (r *reader) take(length int) []byte {
+func (r *cutter) take(length int) []byte {
 	if r.wrong || length > len(r.rest) {
 		r.wrong = true
 		return nil
@@ -89,19 +89,19 @@ func (r *reader) take(length int) []byte {
 	return taken
 }
 
-func (r *reader) number(length int) (number uint64) {
+func (r *cutter) number(length int) (number uint64) {
 	for _, b := range r.take(length) {
 		number = number<<8 | uint64(b)
 	}
 	return number
 }
 
-func (r *reader) vector(lengthBytes int) []byte { return r.take(int(r.number(lengthBytes))) }
+func (r *cutter) vector(lengthBytes int) []byte { return r.take(int(r.number(lengthBytes))) }
 
 // leavesOf reads the tile leaves of a data tile (C2SP static-ct-api), at most 256.
 func leavesOf(tile []byte) ([]leaf, error) {
 	var leaves []leaf
-	for r := (&reader{rest: tile}); len(r.rest) > 0; {
+	for r := (&cutter{rest: tile}); len(r.rest) > 0; {
 		if len(leaves) == tileWidth {
 			return nil, fmt.Errorf("%w: a data tile of more than %d entries", ErrDamaged, tileWidth)
 		}

@@ -13,6 +13,7 @@ import (
 	"time"
 
 	"wagtenib/service/log"
+	"wagtenib/service/signer"
 	"wagtenib/service/step"
 	"wagtenib/service/stores"
 )
@@ -481,7 +482,16 @@ func TestEndInTime(t *testing.T) {
 	wants(t, <-done, log.ErrEnded)
 }
 
-// TestPlantedOrders has a node do in a wrong order what is right in the order of this package: the checker sees each.
+// unguarded opens the stores for a node whose signer signs whatever it is asked for.
+func (p place) unguarded(t testing.TB) Config {
+	t.Helper()
+	config := p.config(t)
+	p.signedBy(t, &config, signer.Unguarded)
+	return config
+}
+
+// TestPlantedOrders has a node do in a wrong order what is right in the order of this package, over an unguarded key: the checker sees
+// each.
 func TestPlantedOrders(t *testing.T) {
 	t.Parallel()
 	onEach(t, plantedOrders)
@@ -498,7 +508,7 @@ func plantedOrders(t *testing.T, on ground) {
 		if !killed {
 			t.Fatal("it wasn't killed")
 		}
-		s := started(t, p.config(t), hooks{})
+		s := started(t, p.unguarded(t), hooks{})
 		_ = got.submitAll(limited(t), s, 20, 40, 1)
 		if report, err := p.judged(got.all); err == nil {
 			t.Fatalf("the checker sees nothing: %+v", report)
@@ -507,24 +517,30 @@ func plantedOrders(t *testing.T, on ground) {
 		}
 	})
 	t.Run(answerFirst, func(t *testing.T) {
-		p, got := newPlaceOn(t, on), &answers{}
-		killed, err := child{Place: string(p), Plant: answerFirst, KillAt: "bundle put", KillOn: 3, From: 0, To: 50}.run(got)
-		must(t, err)
-		if !killed || len(got.all) == 0 {
-			t.Fatal("it wasn't killed, or answered nothing")
-		}
-		s := started(t, p.config(t), hooks{})
-		must(t, got.submitAll(limited(t), s, 60, 80, 8))
-		if report, err := p.judged(got.all); err == nil {
-			t.Fatalf("the checker sees nothing: %+v", report)
-		} else {
-			t.Log(err)
+		// What it answered last may be lost with it, on a busy machine: then there is nothing to see, and another one is killed.
+		for try := 1; ; try++ {
+			p, got := newPlaceOn(t, on), &answers{}
+			killed, err := child{Place: string(p), Plant: answerFirst, KillAt: "bundle put", KillOn: 3, From: 0, To: 50}.run(got)
+			must(t, err)
+			if !killed || len(got.all) == 0 {
+				t.Fatal("it wasn't killed, or answered nothing")
+			}
+			s := started(t, p.unguarded(t), hooks{})
+			must(t, got.submitAll(limited(t), s, 60, 80, 8))
+			report, err := p.judged(got.all)
+			if err != nil {
+				t.Log(err)
+				return
+			}
+			if try == 10 {
+				t.Fatalf("the checker sees nothing: %+v", report)
+			}
 		}
 	})
 	t.Run(noWait, func(t *testing.T) {
 		p, got := newPlaceOn(t, on), &answers{}
-		s := started(t, p.config(t), hooks{plant: noWait})
-		short, cancel := context.WithTimeout(limited(t), 3*time.Second)
+		s := started(t, p.unguarded(t), hooks{plant: noWait})
+		short, cancel := context.WithTimeout(limited(t), 30*time.Second)
 		defer cancel()
 		for n := 0; n < 600 && short.Err() == nil; n += 37 {
 			_ = got.submitAll(short, s, n, n+37, 37)

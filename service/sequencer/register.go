@@ -9,6 +9,7 @@ import (
 	"strings"
 	"time"
 
+	"wagtenib/service/signer"
 	"wagtenib/service/step"
 	"wagtenib/service/stores"
 )
@@ -103,6 +104,13 @@ func (s *Sequencer) takeUp(ctx context.Context) error {
 		if err != nil {
 			return fmt.Errorf("sequencer: %w", err)
 		}
+		moved, err := s.agrees(ctx, k)
+		if err != nil {
+			return err
+		}
+		if moved {
+			continue
+		}
 		if len(further) == 0 && published <= k.state.Size {
 			s.mu.Lock()
 			s.newest = k
@@ -119,6 +127,44 @@ func (s *Sequencer) takeUp(ctx context.Context) error {
 		}
 	}
 	return fmt.Errorf("%w: in %d tries it didn't stand still", ErrSetBack, mostTries)
+}
+
+// agrees sees that the signer's last head is the newest state's, or one before it that no published head is later than. It says that
+// something moved where another node changed one of them meanwhile.
+func (s *Sequencer) agrees(ctx context.Context, k known) (moved bool, err error) {
+	if s.config.Signer.Receipts() == signer.Unguarded {
+		return false, nil
+	}
+	last, err := s.config.Signer.Last(ctx)
+	if err != nil {
+		return false, fmt.Errorf("sequencer: %w", err)
+	}
+	after, newest := "", headOf(k.state)
+	if last != nil {
+		after = headName(step.State{Size: last.Size, Moment: last.Moment})
+	}
+	if last != nil && *last != newest && (last.Size > newest.Size || last.Moment >= newest.Moment) {
+		text, err := s.config.Register.Read(ctx)
+		if err != nil || text != k.text {
+			return true, wrapped(err)
+		}
+		return false, fmt.Errorf("%w: it has %d entries at %d ms, and the signer let a head of %d at %d ms through", ErrSetBack, newest.Size, newest.Moment, last.Size, last.Moment)
+	}
+	further, err := s.config.Objects.List(ctx, headsPrefix, after, 1)
+	if err != nil || len(further) == 0 {
+		return false, wrapped(err)
+	}
+	if now, err := s.config.Signer.Last(ctx); err != nil || now != nil && (last == nil || *now != *last) {
+		return true, wrapped(err)
+	}
+	return false, fmt.Errorf("%w: it is older than the log, whose store has %s", signer.ErrState, further[0])
+}
+
+func wrapped(err error) error {
+	if err != nil {
+		return fmt.Errorf("sequencer: %w", err)
+	}
+	return nil
 }
 
 // create makes the register of a new log, where the store has nothing of one.

@@ -96,46 +96,35 @@ func (s *Sequencer) answerRepeats(ctx context.Context, k known, batch []*waiting
 	// In the order of places, so that each tile is read once.
 	sort.SliceStable(repeats, func(i, j int) bool { return found[repeats[i].identity].Index < found[repeats[j].identity].Index })
 	tree := s.treeOf(ctx, k.state)
+	var known []*waiting
+	var all []timestamp
 	for i, w := range repeats {
 		l, err := tree.leafAt(found[w.identity].Index)
 		if errors.Is(err, ErrDamaged) {
 			// The others have nothing to do with it.
-			s.noteDamage(err)
+			s.noteDamage(found[w.identity].Index/tileWidth, err)
 			s.queue.answer(w, answer{err: fault{log.ErrStore, err}})
 			continue
 		}
 		if err != nil {
-			return append(repeats[i:], rest...), err
+			return append(append(repeats[i:], known...), rest...), err
 		}
 		if l == nil || l.identity != w.identity || l.timestamp != found[w.identity].Timestamp {
 			// The places are wrong: it is a new entry.
 			rest = append(rest, w)
 			continue
 		}
-		place, err := s.sign(ctx, l.index, l.timestamp, l.signed)
-		if err != nil {
-			return append(repeats[i:], rest...), err
-		}
+		known, all = append(known, w), append(all, timestamp{l.index, l.timestamp, l.signed})
+	}
+	places, err := s.signTimestamps(ctx, all, nil)
+	if err != nil {
+		return append(known, rest...), err
+	}
+	for i, w := range known {
 		s.repeats.Add(1)
-		s.queue.answer(w, answer{place: place})
+		s.queue.answer(w, answer{place: places[i]})
 	}
 	return rest, nil
-}
-
-// noteDamage keeps what the figures say of an object that only repeats want.
-func (s *Sequencer) noteDamage(err error) {
-	s.mu.Lock()
-	defer s.mu.Unlock()
-	s.damage = err
-}
-
-// sign signs a timestamp.
-func (s *Sequencer) sign(ctx context.Context, index, timestamp uint64, message []byte) (log.Place, error) {
-	signed, err := s.config.Signer.Sign(ctx, message)
-	if err != nil {
-		return log.Place{}, fmt.Errorf("sequencer: %w", err)
-	}
-	return log.Place{LeafIndex: index, Timestamp: timestamp, Extensions: extensionsOf(index), Signature: signed, LogID: s.logID}, nil
 }
 
 // tree reads the entries of a state.

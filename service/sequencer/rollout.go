@@ -107,7 +107,7 @@ func (s *Sequencer) rollOut(ctx context.Context, k known, objects []step.Object,
 		return err
 	}
 	s.phase("places added")
-	published, err := s.putHead(ctx, k.state, head)
+	published, err := s.putHead(ctx, k.state, head, freshOf(objects))
 	if err != nil {
 		return err
 	}
@@ -152,18 +152,24 @@ func (s *Sequencer) putAll(ctx context.Context, objects []step.Object) error {
 	return fmt.Errorf("sequencer: %w", err)
 }
 
-// putHead signs a state's head, and puts it. Where another node put one, that is the head: signatures of one head differ.
-func (s *Sequencer) putHead(ctx context.Context, state step.State, head step.Head) (log.Head, error) {
-	signed, err := s.config.Signer.Sign(ctx, head.Sign)
+// putHead has a state's head signed, and puts it. Where another node put one, that is the head: signatures of one head differ. The
+// signer lets an older head than its last one through no more; then the other one's stands there, too.
+func (s *Sequencer) putHead(ctx context.Context, state step.State, head step.Head, objects fresh) (log.Head, error) {
+	name := headName(state)
+	signed, err := s.signHead(ctx, state, objects)
+	if errors.Is(err, signer.ErrRefused) {
+		if made, absent := s.readHead(ctx, name); absent == nil {
+			return made, matches(made, state)
+		}
+	}
 	if err != nil {
-		return log.Head{}, fmt.Errorf("sequencer: %w", err)
+		return log.Head{}, err
 	}
 	made := log.Head{TreeSize: state.Size, Timestamp: state.Moment, RootHash: state.Root, Signature: signed}
 	made.Note = s.note(head.Checkpoint, made)
 	if again, err := s.parseNote(made.Note); err != nil || matches(again, state) != nil {
 		return log.Head{}, fmt.Errorf("sequencer: the step's note isn't one of %s: %w", s.config.Origin, errNote)
 	}
-	name := headName(state)
 	err = s.config.Objects.Put(ctx, name, made.Note)
 	if errors.Is(err, stores.ErrOther) {
 		if made, err = s.readHead(ctx, name); err == nil {
@@ -236,9 +242,7 @@ func (s *Sequencer) parseNote(note []byte) (log.Head, error) {
 	}
 	head := log.Head{Note: note, TreeSize: size, Timestamp: binary.BigEndian.Uint64(blob[4:12]), Signature: blob[12:]}
 	copy(head.RootHash[:], root)
-	// RFC 6962, section 3.5: version 1 is 0, tree_hash is 1.
-	message := append(append(append([]byte{0, 1}, eight(head.Timestamp)...), eight(size)...), root...)
-	if err := signer.Check(s.config.Signer.Key(), message, head.Signature); err != nil {
+	if err := signer.CheckHead(s.config.Signer.Key(), signer.Head{Size: size, Moment: head.Timestamp, Root: head.RootHash}, head.Signature); err != nil {
 		return log.Head{}, err
 	}
 	return head, nil

@@ -250,7 +250,7 @@ func (s *Sequencer) publish(ctx context.Context, k known, stepped *step.Stepped,
 		placed.add(g[0].identity, r.Sign, stores.Place{Index: r.LeafIndex, Timestamp: r.Timestamp})
 	}
 	if s.config.BehindSwap {
-		if err := s.answer(ctx, groups, stepped.Receipts); err != nil {
+		if err := s.answer(ctx, groups, stepped.Receipts, freshOf(objects)); err != nil {
 			return err
 		}
 	}
@@ -260,25 +260,35 @@ func (s *Sequencer) publish(ctx context.Context, k known, stepped *step.Stepped,
 	if err := s.rollOut(ctx, k, objects, stepped.Head, placed); err != nil {
 		return err
 	}
-	if err := s.answer(ctx, groups, stepped.Receipts); err != nil {
+	if err := s.answer(ctx, groups, stepped.Receipts, freshOf(objects)); err != nil {
 		return err
 	}
 	s.phase("answered")
 	return nil
 }
 
-// answer signs the timestamps of a step, and answers who still waits for them.
-func (s *Sequencer) answer(ctx context.Context, groups [][]*waiting, receipts []step.Receipt) error {
+// answer has the timestamps of a step signed, and answers who still waits for them.
+func (s *Sequencer) answer(ctx context.Context, groups [][]*waiting, receipts []step.Receipt, objects fresh) error {
+	var all []timestamp
+	var held [][]*waiting
 	for i, g := range groups {
+		var still []*waiting
 		for _, w := range g {
-			if !s.queue.holds(w) {
-				continue
+			if s.queue.holds(w) {
+				still = append(still, w)
 			}
-			place, err := s.sign(ctx, receipts[i].LeafIndex, receipts[i].Timestamp, receipts[i].Sign)
-			if err != nil {
-				return err
-			}
-			s.queue.answer(w, answer{place: place})
+		}
+		if len(still) > 0 {
+			held, all = append(held, still), append(all, timestamp{receipts[i].LeafIndex, receipts[i].Timestamp, receipts[i].Sign})
+		}
+	}
+	places, err := s.signTimestamps(ctx, all, objects)
+	if err != nil {
+		return err
+	}
+	for i, g := range held {
+		for _, w := range g {
+			s.queue.answer(w, answer{place: places[i]})
 		}
 	}
 	return nil
@@ -348,7 +358,7 @@ func (s *Sequencer) planted(ctx context.Context, objects []step.Object, groups [
 	case tilesFirst:
 		return s.putAll(ctx, objects)
 	case answerFirst:
-		return s.answer(ctx, groups, receipts)
+		return s.answer(ctx, groups, receipts, freshOf(objects))
 	}
 	return nil
 }

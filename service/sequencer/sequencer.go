@@ -101,6 +101,9 @@ func (c *Config) settle() error {
 	case c.Interval < 0 || c.Refresh < 0 || c.Patience < 0 || c.SweepAfter < 0 || c.TendEvery < 0 || c.MostQueue < 0 || c.MostQueueBytes < 0 || c.MostBatch < 0 || c.MostBatch > MostBatch:
 		return fmt.Errorf("%w: a bound is below 0, or a batch above %d", ErrConfig, MostBatch)
 	}
+	if c.BehindSwap && c.Signer.Receipts() == signer.InHead {
+		return fmt.Errorf("%w: answers behind the swap want a signer of %s receipts", ErrConfig, signer.Promised)
+	}
 	orElse(&c.Interval, 500*time.Millisecond)
 	orElse(&c.Refresh, time.Hour)
 	orElse(&c.Patience, 5*time.Second)
@@ -143,12 +146,12 @@ type Sequencer struct {
 	fault      error
 	faultSince time.Time
 	stopped    bool
-	// damage is the last object that was seen to be another one, and that the log went on without.
-	damage error
+	// damage has data tiles, by their numbers, that the log went on without: what of them, or of the hash tiles above, was seen last.
+	damage map[uint64]error
 	// alone is until when nothing is handed over, since a node didn't answer.
 	alone time.Time
 
-	steps, lost, unknown, repeats, helped, handed, swept, scrubbed, damaged atomic.Uint64
+	steps, lost, unknown, repeats, helped, handed, swept, scrubbed atomic.Uint64
 	// handing holds who hands over.
 	handing chan struct{}
 
@@ -191,6 +194,7 @@ func start(ctx context.Context, config Config, test hooks) (*Sequencer, error) {
 		ended:   make(chan struct{}),
 		tended:  make(chan struct{}),
 		edge:    map[string][]byte{},
+		damage:  map[uint64]error{},
 		handing: make(chan struct{}, mostHanding),
 		test:    test,
 	}
@@ -249,7 +253,7 @@ func (s *Sequencer) standing() error {
 
 // isNamed says whether a fault is one that waiting a little doesn't mend.
 func isNamed(err error) bool {
-	return errors.Is(err, ErrDamaged) || errors.Is(err, ErrSetBack) || errors.Is(err, log.ErrClock)
+	return errors.Is(err, ErrDamaged) || errors.Is(err, ErrSetBack) || errors.Is(err, log.ErrClock) || errors.Is(err, signer.ErrRefused) || errors.Is(err, signer.ErrState)
 }
 
 // Object is log.Log's.
@@ -302,14 +306,17 @@ func (s *Sequencer) Figures() log.Figures {
 		Queue: s.queue.length(), MostQueue: s.config.MostQueue,
 		Steps: s.steps.Load(), LostSwaps: s.lost.Load(), Unknown: s.unknown.Load(),
 		Repeats: s.repeats.Load(), Helped: s.helped.Load(), HandedOver: s.handed.Load(),
-		StepStarts: s.config.Step.Starts(),
+		StepStarts: s.config.Step.Starts(), Swept: s.swept.Load(), Scrubbed: s.scrubbed.Load(), Damaged: len(s.damage),
+	}
+	if counted, ok := s.config.Signer.(interface{ Starts() uint64 }); ok {
+		f.SignerStarts = counted.Starts()
 	}
 	if s.head != nil {
 		f.Entries = s.head.TreeSize
 		f.HeadAge = time.Duration(s.clock.wall().UnixMilli()-int64(s.head.Timestamp)) * time.Millisecond
 	}
-	if s.damage != nil {
-		f.Fault = s.damage.Error()
+	if first, ok := s.damagedBehind(0); ok {
+		f.Fault = s.damage[first].Error()
 	}
 	if s.fault != nil {
 		f.Fault = s.fault.Error()

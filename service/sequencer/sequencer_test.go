@@ -6,6 +6,7 @@ import (
 	"time"
 
 	"wagtenib/service/log"
+	"wagtenib/service/signer"
 )
 
 // TestOneNode takes 700 entries in, over the edge of two full tiles, stops and goes on, and has the folder judged.
@@ -45,7 +46,11 @@ func TestBehindSwap(t *testing.T) {
 	for _, behind := range []bool{true, false} {
 		p, ctx, got := newPlace(t), limited(t), &answers{}
 		config := p.config(t)
-		config.BehindSwap = behind
+		if config.BehindSwap = behind; behind {
+			_, err := New(ctx, config)
+			wants(t, err, ErrConfig)
+			p.signedBy(t, &config, signer.Promised)
+		}
 		release := make(chan struct{})
 		s := started(t, config, hooks{phase: func(name string) {
 			if name == "tiles out" {

@@ -11,8 +11,12 @@ import (
 	"wagtenib/service/stores"
 )
 
-// mostSwept is how many tiles one turn looks for partial ones of.
-const mostSwept = 16
+const (
+	// mostSwept is how many tiles one turn looks for partial ones of.
+	mostSwept = 16
+	// mostDamage is how many damaged tiles are remembered.
+	mostDamage = 1024
+)
 
 // tender takes partial tiles away that nobody needs any more, and reads old tiles again.
 type tender struct {
@@ -23,6 +27,8 @@ type tender struct {
 	// swept has for each level, the data tiles' first, how many full tiles were looked at, and read is the next one to be read again.
 	swept [6]uint64
 	read  uint64
+	// again is the damaged tile to be looked at next, or the one before it.
+	again uint64
 }
 
 // tend has a turn every TendEvery, until the context ends.
@@ -33,11 +39,28 @@ func (s *Sequencer) tend(ctx context.Context) {
 		t.settle()
 		// What fails is tried again in the next turn: the log doesn't wait for it.
 		_ = t.sweep(ctx)
-		if err := t.readAgain(ctx); errors.Is(err, ErrDamaged) {
-			s.damaged.Add(1)
-			s.noteDamage(err)
+		t.readDamaged(ctx)
+		t.readNext(ctx)
+	}
+}
+
+// noteDamage keeps what was seen of a data tile.
+func (s *Sequencer) noteDamage(tile uint64, err error) {
+	s.mu.Lock()
+	defer s.mu.Unlock()
+	if _, known := s.damage[tile]; known || len(s.damage) < mostDamage {
+		s.damage[tile] = err
+	}
+}
+
+// damagedBehind gives the first damaged tile from a number on. The caller has the lock.
+func (s *Sequencer) damagedBehind(from uint64) (first uint64, ok bool) {
+	for tile := range s.damage {
+		if tile >= from && (!ok || tile < first) {
+			first, ok = tile, true
 		}
 	}
+	return first, ok
 }
 
 // settle takes up which full tiles have stood for SweepAfter: those of a head that was seen so long ago.
@@ -103,29 +126,67 @@ func (t *tender) sweepTile(ctx context.Context, tile tlog.Tile) error {
 	return nil
 }
 
-// readAgain reads the next full data tile, and the hash tiles from its leaves to the root of the newest head that was seen. What
-// is missing or isn't the tree's is ErrDamaged, and the next turn goes on behind it.
-func (t *tender) readAgain(ctx context.Context) error {
+// readNext reads the next full data tile, and the hash tiles from its leaves to the root of the newest head that was seen. Where they
+// are missing or aren't the tree's, the next turn goes on behind them all the same.
+func (t *tender) readNext(ctx context.Context) {
+	full := fullTiles(-1, t.s.seenSize())
+	if full == 0 {
+		return
+	}
+	if t.read >= full {
+		t.read = 0
+	}
+	if t.readAgain(ctx, t.read) {
+		t.read++
+	}
+}
+
+// readDamaged reads one of the damaged tiles, which may have been put right.
+func (t *tender) readDamaged(ctx context.Context) {
+	t.s.mu.Lock()
+	tile, ok := t.s.damagedBehind(t.again)
+	if !ok {
+		tile, ok = t.s.damagedBehind(0)
+	}
+	t.s.mu.Unlock()
+	if ok && t.readAgain(ctx, tile) {
+		t.again = tile + 1
+	}
+}
+
+// readAgain reads a data tile of the newest head that was seen, and keeps whether it is damaged. It says no where that isn't known.
+func (t *tender) readAgain(ctx context.Context, tile uint64) bool {
 	s := t.s
 	s.mu.Lock()
 	head := s.head
 	s.mu.Unlock()
-	if head == nil || fullTiles(-1, head.TreeSize) == 0 {
-		return nil
+	if head == nil || tile > fullTiles(-1, head.TreeSize) {
+		return false
 	}
-	if t.read >= fullTiles(-1, head.TreeSize) {
-		t.read = 0
+	err := s.scrub(ctx, tlog.Tree{N: int64(head.TreeSize), Hash: head.RootHash}, tile)
+	if errors.Is(err, ErrDamaged) {
+		s.noteDamage(tile, err)
+		return true
 	}
-	err := s.scrub(ctx, tlog.Tree{N: int64(head.TreeSize), Hash: head.RootHash}, t.read)
-	if err == nil || errors.Is(err, ErrDamaged) {
-		t.read++
+	if err != nil {
+		return false
 	}
-	return err
+	s.mu.Lock()
+	defer s.mu.Unlock()
+	delete(s.damage, tile)
+	return true
 }
 
-// scrub compares the entries of a full data tile with a tree.
+// scrub compares the entries of a data tile with a tree.
 func (s *Sequencer) scrub(ctx context.Context, of tlog.Tree, index uint64) error {
-	name := tileName(tlog.Tile{H: tileHeight, L: -1, N: int64(index), W: tileWidth})
+	width := tileWidth
+	if left := of.N - int64(index*tileWidth); left < tileWidth {
+		width = int(left)
+	}
+	if width == 0 {
+		return nil
+	}
+	name := tileName(tlog.Tile{H: tileHeight, L: -1, N: int64(index), W: width})
 	content, err := s.readStore(ctx, name)
 	if err != nil {
 		return err
@@ -134,7 +195,7 @@ func (s *Sequencer) scrub(ctx context.Context, of tlog.Tree, index uint64) error
 	if err != nil {
 		return fmt.Errorf("%s: %w", name, err)
 	}
-	if len(leaves) != tileWidth {
+	if len(leaves) != width {
 		return fmt.Errorf("%w: %s has %d entries", ErrDamaged, name, len(leaves))
 	}
 	var wanted []int64

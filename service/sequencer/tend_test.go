@@ -32,20 +32,22 @@ func tended(t *testing.T) (place, *Sequencer, *answers) {
 	return p, s, got
 }
 
+// partials are the partial tiles of a name.
+func partials(t testing.TB, p place, of string) []string {
+	found, err := filepath.Glob(filepath.Join(p.objects(), of+".p", "*"))
+	must(t, err)
+	return found
+}
+
 // TestSweptTiles has partial tiles go whose full tile stands, and no others; the log is right, and goes on.
 func TestSweptTiles(t *testing.T) {
 	t.Parallel()
 	p, s, got := tended(t)
-	partials := func(of string) []string {
-		found, err := filepath.Glob(filepath.Join(p.objects(), of+".p", "*"))
-		must(t, err)
-		return found
-	}
 	eventually(t, "partial tiles are swept", func() bool {
-		return len(partials("tile/0/000"))+len(partials("tile/data/000")) == 0 && s.swept.Load() > 0
+		return len(partials(t, p, "tile/0/000"))+len(partials(t, p, "tile/data/000")) == 0 && s.Figures().Swept > 0
 	})
 	for _, of := range []string{"tile/0/001", "tile/data/001", "tile/1/000"} {
-		if len(partials(of)) == 0 {
+		if len(partials(t, p, of)) == 0 {
 			t.Errorf("the partial tiles of %s are gone", of)
 		}
 	}
@@ -73,7 +75,7 @@ func TestUnsweptTiles(t *testing.T) {
 	}
 }
 
-// TestScrubbedTiles bends old tiles, one at a time, which no submission wants: the figures name them.
+// TestScrubbedTiles bends old tiles, one at a time, which no submission wants: the figures name them, until they are put right.
 func TestScrubbedTiles(t *testing.T) {
 	t.Parallel()
 	for _, object := range []string{"tile/0/000", "tile/data/000"} {
@@ -82,8 +84,8 @@ func TestScrubbedTiles(t *testing.T) {
 			t.Parallel()
 			p, s, _ := tended(t)
 			eventually(t, "tiles are read again", func() bool { return s.scrubbed.Load() > 3 })
-			if s.damaged.Load() != 0 || s.Figures().Fault != "" {
-				t.Fatalf("%d damaged: %q", s.damaged.Load(), s.Figures().Fault)
+			if f := s.Figures(); f.Damaged != 0 || f.Fault != "" || f.Scrubbed == 0 {
+				t.Fatalf("%+v", f)
 			}
 			path := filepath.Join(p.objects(), object)
 			content, err := os.ReadFile(path)
@@ -95,9 +97,47 @@ func TestScrubbedTiles(t *testing.T) {
 			must(t, os.Rename(other, path))
 			eventually(t, "the damage is told", func() bool { return strings.Contains(s.Figures().Fault, "tile/data/000") })
 			must(t, os.Remove(path))
-			eventually(t, "the loss is told", func() bool { return strings.Contains(s.Figures().Fault, object+" is missing") })
+			eventually(t, "the loss is told", func() bool {
+				f := s.Figures()
+				return strings.Contains(f.Fault, object+" is missing") && f.Damaged == 1
+			})
+			must(t, os.WriteFile(other, content, 0o644))
+			must(t, os.Rename(other, path))
+			eventually(t, "it is forgotten", func() bool {
+				f := s.Figures()
+				return f.Fault == "" && f.Damaged == 0
+			})
 		})
 	}
+}
+
+// TestDamageOfARepeat bends the last data tile, which is partial, so that a repeat sees it; the figures tell of it until it is put right.
+func TestDamageOfARepeat(t *testing.T) {
+	t.Parallel()
+	p, got := newPlace(t), &answers{}
+	config := p.config(t)
+	config.TendEvery = 5 * time.Millisecond
+	s := started(t, config, hooks{})
+	must(t, got.submitAll(limited(t), s, 0, 5, 5))
+	must(t, s.End(limited(t)))
+	// (another node, which has no tile at hand)
+	s = started(t, config, hooks{})
+	path := filepath.Join(p.objects(), "tile/data/000.p/5")
+	content, err := os.ReadFile(path)
+	must(t, err)
+	must(t, os.Remove(path))
+	_, err = s.Submit(limited(t), entryOf(3))
+	wants(t, err, ErrDamaged)
+	if f := s.Figures(); f.Damaged != 1 || !strings.Contains(f.Fault, "tile/data/000.p/5") {
+		t.Errorf("%+v", f)
+	}
+	must(t, os.WriteFile(path, content, 0o644))
+	eventually(t, "it is forgotten", func() bool {
+		f := s.Figures()
+		return f.Fault == "" && f.Damaged == 0
+	})
+	must(t, got.submitAll(limited(t), s, 3, 6, 1))
+	p.right(t, got)
 }
 
 // TestFullTiles compares how many full tiles a tree has with C2SP tlog-tiles' rule.

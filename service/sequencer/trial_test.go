@@ -135,11 +135,46 @@ func (p place) openOnce(ctx context.Context) (config Config, err error) {
 	if config.Places, err = stores.PlacesAt(ctx, at.Places); err != nil {
 		return config, err
 	}
-	if config.Signer, err = signer.Open(filepath.Join(string(p), "key.pem")); err != nil {
+	if config.Signer, err = p.guarded(ctx, signer.InHead); err != nil {
 		return config, err
 	}
 	config.Step, err = step.NewClient([]string{"python3", stepsFile, "--origin", origin}, 20*time.Second)
 	return config, err
+}
+
+// The guard is the proved program where it is built, and else a second one with the same lines.
+const (
+	guardBuilt = "../../crates/ctguard/out/ctguard"
+	guardFile  = "../../examples/guard/model.py"
+)
+
+// guarded puts a guard before the log's key. Each node has one of its own, over one state.
+func (p place) guarded(ctx context.Context, receipts signer.Receipts) (signer.Signer, error) {
+	key, err := signer.OpenKey(filepath.Join(string(p), "key.pem"))
+	if err != nil || receipts == signer.Unguarded {
+		return key, err
+	}
+	state, err := stores.OpenFile(p.guardState())
+	if err != nil {
+		return nil, err
+	}
+	guard := []string{guardBuilt}
+	if _, err := os.Stat(guardBuilt); err != nil {
+		guard = []string{"python3", guardFile}
+	}
+	return signer.Behind(ctx, key, signer.Guard{Command: guard, State: state, Create: true, Receipts: receipts})
+}
+
+func (p place) guardState() string { return filepath.Join(string(p), "guard") }
+
+// signedBy has the log's key behind a guard with receipts of another kind, or behind none.
+func (p place) signedBy(t testing.TB, config *Config, receipts signer.Receipts) {
+	t.Helper()
+	s, err := p.guarded(limited(t), receipts)
+	must(t, err)
+	closeAll(Config{Signer: config.Signer})
+	config.Signer = s
+	t.Cleanup(func() { closeAll(Config{Signer: s}) })
 }
 
 // config opens the stores, and closes them at the test's end.
@@ -153,6 +188,9 @@ func (p place) config(t testing.TB) Config {
 
 // closeAll closes what was opened.
 func closeAll(config Config) {
+	if guarded, ok := config.Signer.(*signer.Guarded); ok {
+		guarded.Close()
+	}
 	if config.Step != nil {
 		config.Step.Close()
 	}
@@ -261,7 +299,7 @@ func (a *answers) submitAll(ctx context.Context, s log.Log, from, to, atOnce int
 
 // judged has the checker judge what is in a place: a folder, or a copy of a bucket.
 func (p place) judged(answers []check.Answer) (check.Report, error) {
-	s, err := signer.Open(filepath.Join(string(p), "key.pem"))
+	s, err := signer.OpenKey(filepath.Join(string(p), "key.pem"))
 	if err != nil {
 		return check.Report{}, err
 	}
@@ -378,6 +416,12 @@ func beNode(words string) error {
 		return err
 	}
 	defer closeAll(config)
+	if c.Plant != "" {
+		// (that the checker sees what a guard wouldn't let through)
+		if config.Signer, err = place(c.Place).guarded(ctx, signer.Unguarded); err != nil {
+			return err
+		}
+	}
 	if c.Within > longest {
 		config.Patience = c.Within
 	}

@@ -1,126 +1,102 @@
-// Package signer has what signs for a log: ECDSA over P-256 with SHA-256 (RFC 6962, section 2.1.4).
+// Package signer has what signs for a log: ECDSA over P-256 with SHA-256 (RFC 6962, section 2.1.4), behind a guard that says what may
+// be signed (docs/GUARD.md), in a process of its own.
 package signer
 
 import (
 	"context"
 	"crypto/ecdsa"
 	"crypto/elliptic"
-	"crypto/rand"
 	"crypto/sha256"
 	"crypto/x509"
-	"encoding/pem"
+	"encoding/binary"
 	"errors"
 	"fmt"
-	"io"
-	"os"
 )
 
-// Signer signs heads and timestamps. It is only asked for those of a state that stands in the register.
+// Signer signs heads and timestamps. Its methods may be called at once.
 type Signer interface {
 	// Key is the log's public key: its SubjectPublicKeyInfo in DER.
 	Key() []byte
-	// Sign gives the DigitallySigned over bytes: two bytes of the algorithms, two of length, and the signature.
-	Sign(ctx context.Context, message []byte) ([]byte, error)
+	// Receipts says what is looked at before a timestamp is signed.
+	Receipts() Receipts
+	// Last is the head that was let through last; nil where none was, or nobody looks.
+	Last(ctx context.Context) (*Head, error)
+	// SignHead gives the DigitallySigned of a head (RFC 6962, section 3.5): two bytes of the algorithms, two of length, and the
+	// signature. The proof leads from the last head to it (section 2.1.2). The last one once more is signed again, and what isn't let
+	// through is a Refusal.
+	SignHead(ctx context.Context, head Head, consistency [][32]byte) ([]byte, error)
+	// SignTimestamps gives those of timestamps (section 3.2), all or none.
+	SignTimestamps(ctx context.Context, receipts []Receipt) ([][]byte, error)
 }
 
-// What Open and Check refuse by. Each is found by errors.Is.
+// Receipts says what is looked at before a timestamp is signed.
+type Receipts string
+
+const (
+	// Unguarded: nothing, and before a head neither.
+	Unguarded Receipts = "unguarded"
+	// InHead: that its leaf is in the tree of the last head.
+	InHead Receipts = "in-head"
+	// Promised: that it is one, for a log that promises a merge within a delay.
+	Promised Receipts = "promised"
+)
+
+// Head is a tree head; its moment is in milliseconds since 1970.
+type Head struct {
+	Size, Moment uint64
+	Root         [32]byte
+}
+
+// message are the bytes under its signature: version 1 is 0, tree_hash is 1 (RFC 6962, section 3.5).
+func (h Head) message() []byte {
+	message := make([]byte, 0, 50)
+	for _, number := range []uint64{h.Moment, h.Size} {
+		var eight [8]byte
+		binary.BigEndian.PutUint64(eight[:], number)
+		message = append(message, eight[:]...)
+	}
+	return append(append([]byte{0, 1}, message...), h.Root[:]...)
+}
+
+// CheckHead says whether a DigitallySigned is the key's over a head.
+func CheckHead(key []byte, head Head, signed []byte) error { return Check(key, head.message(), signed) }
+
+// Receipt is a timestamp: its bytes are those of its leaf (RFC 6962, sections 3.2 and 3.4). Where receipts are in-head, the path leads
+// from the leaf's index to the root of the last head.
+type Receipt struct {
+	Leaf  []byte
+	Index uint64
+	Path  [][32]byte
+}
+
+// Refusal is why a head or a timestamp isn't let through, by the guard's names. Nothing was signed then.
+type Refusal struct{ Name, Fault string }
+
+func (r Refusal) Error() string {
+	if r.Fault != "" {
+		return "signer: refused: " + r.Name + " (" + r.Fault + ")"
+	}
+	return "signer: refused: " + r.Name
+}
+
+// Is says that every refusal is ErrRefused.
+func (r Refusal) Is(target error) bool { return target == ErrRefused }
+
+// What signing fails by. Each is found by errors.Is.
 var (
+	// ErrRefused: the guard lets it not through.
+	ErrRefused = errors.New("signer: refused")
+	// ErrMoved: another signer let a head through meanwhile: ask which, and again.
+	ErrMoved = errors.New("signer: another head was let through meanwhile")
+	// ErrState: the guard's state is missing, or isn't one that it takes up.
+	ErrState = errors.New("signer: no state of the guard")
+	// ErrReply: a reply isn't one to the request.
+	ErrReply = errors.New("signer: not a reply")
 	// ErrKey: a file is no key of a log.
 	ErrKey = errors.New("signer: no key of a log")
 	// ErrSignature: a signature isn't the key's over these bytes.
 	ErrSignature = errors.New("signer: not the key's signature")
 )
-
-// mostFile is how many bytes a key's file may have.
-const mostFile = 64 << 10
-
-// algorithms are the two bytes before a signature: sha256 and ecdsa (RFC 5246, section 7.4.1.4.1).
-var algorithms = [2]byte{4, 3}
-
-// file is a key that was read from a file.
-type file struct {
-	key    *ecdsa.PrivateKey
-	public []byte
-}
-
-// Open reads a private key of P-256 in PEM (EC PRIVATE KEY or PRIVATE KEY) from a file that none but its owner may read.
-func Open(path string) (Signer, error) {
-	opened, err := os.Open(path)
-	if err != nil {
-		return nil, fmt.Errorf("signer: %w", err)
-	}
-	defer opened.Close()
-	info, err := opened.Stat()
-	if err != nil {
-		return nil, fmt.Errorf("signer: %w", err)
-	}
-	if info.Mode().Perm()&0o077 != 0 {
-		return nil, fmt.Errorf("%w: others than its owner may read or write %s", ErrKey, path)
-	}
-	content, err := io.ReadAll(io.LimitReader(opened, mostFile))
-	if err != nil {
-		return nil, fmt.Errorf("signer: %w", err)
-	}
-	key, err := parse(content)
-	if err != nil {
-		return nil, fmt.Errorf("%w: %s", err, path)
-	}
-	return FromKey(key)
-}
-
-// FromKey signs with a private key of P-256.
-func FromKey(key *ecdsa.PrivateKey) (Signer, error) {
-	if key.Curve != elliptic.P256() {
-		return nil, fmt.Errorf("%w: it isn't of P-256", ErrKey)
-	}
-	public, err := x509.MarshalPKIXPublicKey(&key.PublicKey)
-	if err != nil {
-		return nil, fmt.Errorf("%w: %v", ErrKey, err)
-	}
-	return &file{key, public}, nil
-}
-
-// parse finds the first private key in PEM. (Files of openssl have the curve's parameters before it.)
-func parse(content []byte) (*ecdsa.PrivateKey, error) {
-	for {
-		block, rest := pem.Decode(content)
-		if block == nil {
-			return nil, fmt.Errorf("%w: there is no private key in PEM", ErrKey)
-		}
-		content = rest
-		switch block.Type {
-		case "EC PRIVATE KEY":
-			key, err := x509.ParseECPrivateKey(block.Bytes)
-			if err != nil {
-				return nil, fmt.Errorf("%w: %v", ErrKey, err)
-			}
-			return key, nil
-		case "PRIVATE KEY":
-			key, err := x509.ParsePKCS8PrivateKey(block.Bytes)
-			if err != nil {
-				return nil, fmt.Errorf("%w: %v", ErrKey, err)
-			}
-			if key, ok := key.(*ecdsa.PrivateKey); ok {
-				return key, nil
-			}
-			return nil, fmt.Errorf("%w: it isn't one of ECDSA", ErrKey)
-		}
-	}
-}
-
-func (f *file) Key() []byte { return append([]byte{}, f.public...) }
-
-func (f *file) Sign(ctx context.Context, message []byte) ([]byte, error) {
-	if err := ctx.Err(); err != nil {
-		return nil, fmt.Errorf("signer: %w", err)
-	}
-	hash := sha256.Sum256(message)
-	signature, err := ecdsa.SignASN1(rand.Reader, f.key, hash[:])
-	if err != nil {
-		return nil, fmt.Errorf("signer: %w", err)
-	}
-	return append([]byte{algorithms[0], algorithms[1], byte(len(signature) >> 8), byte(len(signature))}, signature...), nil
-}
 
 // Check says whether a DigitallySigned is the key's over these bytes; the key is a SubjectPublicKeyInfo in DER.
 func Check(key, message, signed []byte) error {

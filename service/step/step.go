@@ -3,18 +3,15 @@
 package step
 
 import (
-	"bufio"
 	"bytes"
 	"context"
 	"crypto/sha256"
 	"encoding/json"
 	"errors"
 	"fmt"
-	"io"
-	"os/exec"
-	"sync/atomic"
-	"syscall"
 	"time"
+
+	"wagtenib/service/pipe"
 )
 
 // The bounds of lines, in bytes without their ends.
@@ -30,7 +27,7 @@ var (
 	// ErrTooLong: a request is longer than MostRequest. It wasn't sent.
 	ErrTooLong = errors.New("step: request too long")
 	// ErrProcess: the process doesn't start, ended, or gave no reply in time. The next request starts another.
-	ErrProcess = errors.New("step: the process gives no reply")
+	ErrProcess = pipe.ErrGone
 	// ErrReply: the reply isn't one to the request.
 	ErrReply = errors.New("step: not a reply")
 )
@@ -52,122 +49,21 @@ const (
 )
 
 // Client asks one process, one request at a time. Its methods may be called at once.
-type Client struct {
-	command []string
-	limit   time.Duration
-	starts  atomic.Uint64
-	// turn holds the process, or nil where none runs; who took it asks.
-	turn chan *process
-}
+type Client struct{ asked *pipe.Client }
 
 // NewClient takes the program's command, and how long a request may take. The process is started by the first request.
 func NewClient(command []string, limit time.Duration) (*Client, error) {
 	if len(command) == 0 {
 		return nil, fmt.Errorf("%w: there is no command", ErrProcess)
 	}
-	c := &Client{command: command, limit: limit, turn: make(chan *process, 1)}
-	c.turn <- nil
-	return c, nil
+	return &Client{pipe.NewClient(func(context.Context) (*pipe.End, error) { return pipe.Start(command, MostReply) }, limit)}, nil
 }
 
 // Starts is how often the process was started.
-func (c *Client) Starts() uint64 { return c.starts.Load() }
+func (c *Client) Starts() uint64 { return c.asked.Opens() }
 
 // Close ends the process.
-func (c *Client) Close() error {
-	p := <-c.turn
-	if p != nil {
-		p.end()
-	}
-	c.turn <- nil
-	return nil
-}
-
-// process is a running program.
-type process struct {
-	command *exec.Cmd
-	in      io.WriteCloser
-	out     *bufio.Reader
-	said    *last
-}
-
-// last keeps the last bytes that were written: what a process said on standard error.
-type last struct{ bytes []byte }
-
-const mostSaid = 500
-
-func (l *last) Write(b []byte) (int, error) {
-	l.bytes = append(l.bytes, b...)
-	if behind := len(l.bytes) - mostSaid; behind > 0 {
-		l.bytes = append([]byte{}, l.bytes[behind:]...)
-	}
-	return len(b), nil
-}
-
-func (c *Client) start() (*process, error) {
-	command := exec.Command(c.command[0], c.command[1:]...)
-	// A group of its own: what is sent to this process by a terminal doesn't end it, and what it started ends with it.
-	command.SysProcAttr = &syscall.SysProcAttr{Setpgid: true}
-	p := &process{command: command, said: &last{}}
-	command.Stderr = p.said
-	in, err := command.StdinPipe()
-	if err != nil {
-		return nil, fmt.Errorf("%w: %v", ErrProcess, err)
-	}
-	out, err := command.StdoutPipe()
-	if err != nil {
-		return nil, fmt.Errorf("%w: %v", ErrProcess, err)
-	}
-	if err := command.Start(); err != nil {
-		return nil, fmt.Errorf("%w: %v", ErrProcess, err)
-	}
-	p.in, p.out = in, bufio.NewReaderSize(out, 1<<16)
-	c.starts.Add(1)
-	return p, nil
-}
-
-// end kills the process, and gives what it said last.
-func (p *process) end() string {
-	p.in.Close()
-	// What fails here has ended already.
-	_ = syscall.Kill(-p.command.Process.Pid, syscall.SIGKILL)
-	_ = p.command.Wait()
-	return string(bytes.TrimSpace(p.said.bytes))
-}
-
-// exchange writes a line and reads one.
-func (p *process) exchange(line []byte) ([]byte, error) {
-	// A process may begin to reply before it has read all; the pipe to it is written beside the reading.
-	written := make(chan error, 1)
-	go func() {
-		_, err := p.in.Write(line)
-		written <- err
-	}()
-	reply, err := readLine(p.out, MostReply)
-	if err != nil {
-		// The writer ends once the process is killed, which the caller does.
-		return nil, err
-	}
-	return reply, <-written
-}
-
-// readLine reads a line of at most so many bytes.
-func readLine(from *bufio.Reader, most int) ([]byte, error) {
-	var line []byte
-	for {
-		part, err := from.ReadSlice('\n')
-		if len(line)+len(part) > most {
-			return nil, fmt.Errorf("a line of more than %d bytes", most)
-		}
-		line = append(line, part...)
-		if err == nil {
-			return line[:len(line)-1], nil
-		}
-		if err != bufio.ErrBufferFull {
-			return nil, err
-		}
-	}
-}
+func (c *Client) Close() error { return c.asked.Close() }
 
 // ask sends a request, and reads its reply into an object.
 func (c *Client) ask(ctx context.Context, request, reply any) error {
@@ -178,10 +74,11 @@ func (c *Client) ask(ctx context.Context, request, reply any) error {
 	if len(line) > MostRequest {
 		return fmt.Errorf("%w: %d bytes", ErrTooLong, len(line))
 	}
-	answered, err := c.exchange(ctx, append(line, '\n'))
+	replies, err := c.asked.Exchange(ctx, append(line, '\n'), 1)
 	if err != nil {
 		return err
 	}
+	answered := replies[0]
 	if bytes.HasPrefix(answered, []byte(`{"refused":`)) {
 		var refused struct{ Refused Refusal }
 		if err := json.Unmarshal(answered, &refused); err != nil {
@@ -193,51 +90,6 @@ func (c *Client) ask(ctx context.Context, request, reply any) error {
 		return fmt.Errorf("%w: %v", ErrReply, err)
 	}
 	return nil
-}
-
-// exchange has the process reply to a line, and starts it where none runs. One that doesn't reply in time is killed.
-func (c *Client) exchange(ctx context.Context, line []byte) ([]byte, error) {
-	var p *process
-	select {
-	case p = <-c.turn:
-	case <-ctx.Done():
-		return nil, fmt.Errorf("%w: %v", ErrProcess, ctx.Err())
-	}
-	if p == nil {
-		started, err := c.start()
-		if err != nil {
-			c.turn <- nil
-			return nil, err
-		}
-		p = started
-	}
-	type outcome struct {
-		reply []byte
-		err   error
-	}
-	done := make(chan outcome, 1)
-	go func() {
-		reply, err := p.exchange(line)
-		done <- outcome{reply, err}
-	}()
-	timer := time.NewTimer(c.limit)
-	defer timer.Stop()
-	var why error
-	select {
-	case came := <-done:
-		if came.err == nil {
-			c.turn <- p
-			return came.reply, nil
-		}
-		why = came.err
-	case <-timer.C:
-		why = fmt.Errorf("none in %v", c.limit)
-	case <-ctx.Done():
-		why = ctx.Err()
-	}
-	said := p.end()
-	c.turn <- nil
-	return nil, fmt.Errorf("%w: %v %.500s", ErrProcess, why, said)
 }
 
 // Submission is one entry of a batch, as the program reads it.

@@ -93,24 +93,6 @@ func TestSteps(t *testing.T) {
 	}
 }
 
-// TestRestart kills the process between two requests: the first one behind that fails, and the next is answered.
-func TestRestart(t *testing.T) {
-	c, ctx := client(t, 20*time.Second, program...), within(t)
-	_, err := c.Begin(ctx, 1)
-	must(t, err)
-	p := <-c.turn
-	must(t, p.command.Process.Kill())
-	c.turn <- p
-	if _, err = c.Begin(ctx, 2); !errors.Is(err, ErrProcess) {
-		t.Fatal(err)
-	}
-	_, err = c.Begin(ctx, 3)
-	must(t, err)
-	if c.Starts() != 2 {
-		t.Errorf("the process was started %d times", c.Starts())
-	}
-}
-
 // script makes a program of a shell's lines.
 func script(t *testing.T, lines string) []string {
 	path := filepath.Join(t.TempDir(), "program")

@@ -1,7 +1,8 @@
 package signer
 
 import (
-	"context"
+	"crypto/x509"
+	"encoding/pem"
 	"errors"
 	"os"
 	"os/exec"
@@ -31,11 +32,11 @@ func TestKeys(t *testing.T) {
 		t.Fatal(err)
 	}
 	for _, name := range []string{"sec1.pem", "pkcs8.pem"} {
-		s, err := Open(at(name))
+		s, err := OpenKey(at(name))
 		if err != nil {
 			t.Fatal(err)
 		}
-		signed, err := s.Sign(context.Background(), message)
+		signed, err := s.sign(message)
 		if err != nil {
 			t.Fatal(err)
 		}
@@ -62,11 +63,18 @@ func TestKeys(t *testing.T) {
 		t.Fatal(err)
 	}
 	for _, name := range []string{"sec1.pem", "p384.pem", "ed25519.pem", "none.pem"} {
-		if _, err := Open(at(name)); !errors.Is(err, ErrKey) {
+		if _, err := OpenKey(at(name)); !errors.Is(err, ErrKey) {
 			t.Errorf("%s: %v", name, err)
 		}
 	}
-	if _, err := Open(at("nowhere.pem")); !errors.Is(err, os.ErrNotExist) {
+	if _, err := OpenKey(at("nowhere.pem")); !errors.Is(err, os.ErrNotExist) {
 		t.Error(err)
 	}
+}
+
+// pem is the key as a file has it.
+func (k *Key) pem(t testing.TB) []byte {
+	der, err := x509.MarshalECPrivateKey(k.private)
+	must(t, err)
+	return pem.EncodeToMemory(&pem.Block{Type: "EC PRIVATE KEY", Bytes: der})
 }

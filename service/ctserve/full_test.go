@@ -1,0 +1,170 @@
+package main
+
+import (
+	"encoding/base64"
+	"encoding/json"
+	"fmt"
+	"net/url"
+	"os"
+	"path/filepath"
+	"strings"
+	"syscall"
+	"testing"
+	"time"
+
+	"wagtenib/service/check"
+	"wagtenib/service/signer"
+	"wagtenib/service/web/standin"
+)
+
+// fill fills the file system below a folder up to so many bytes, and gives the way to make room again.
+func fill(t *testing.T, folder string, but int64) (room func()) {
+	t.Helper()
+	path := filepath.Join(folder, "ballast")
+	file, err := os.Create(path)
+	if err != nil {
+		t.Fatal(err)
+	}
+	written := int64(0)
+	for size := 1 << 16; size > 0; {
+		wrote, err := file.Write(make([]byte, size))
+		if written += int64(wrote); err != nil {
+			size /= 2
+		}
+	}
+	if written > but {
+		err = file.Truncate(written - but)
+	}
+	if closing := file.Close(); err != nil || closing != nil {
+		t.Fatal(err, closing)
+	}
+	return func() {
+		if err := os.Remove(path); err != nil {
+			t.Fatal(err)
+		}
+	}
+}
+
+// A disk that is full below a whole log (objects, register, places, the guard's state), up to a few bytes: submissions are refused by name,
+// reads go on, and with room again so do submissions. What was answered is in its place.
+func TestFullDisk(t *testing.T) {
+	t.Parallel()
+	at := newPlace(t)
+	disk := at.path("log")
+	if err := os.Mkdir(disk, 0o755); err != nil {
+		t.Fatal(err)
+	}
+	if err := syscall.Mount("tmpfs", disk, "tmpfs", 0, fmt.Sprintf("size=%d", 8<<20)); err != nil {
+		t.Skipf("no small file system can be mounted here, which wants root: %v", err)
+	}
+	t.Cleanup(func() {
+		if err := syscall.Unmount(disk, syscall.MNT_DETACH); err != nil {
+			t.Error(err)
+		}
+	})
+	words := at.realWords("--signing-key", at.path("log.pem"))
+	p := started(t, "", append(words, "--guard", at.guard, "--create")...)
+	var answers []check.Answer
+	submit := func() (int, string) {
+		t.Helper()
+		der, err := at.authority.Issue(false, time.Date(2027, 1, 1, 0, 0, 0, 0, time.UTC))
+		if err != nil {
+			t.Fatal(err)
+		}
+		status, text := post(p.clients, standin.Submission(der))
+		if status != 200 {
+			return status, text
+		}
+		var read struct {
+			ID         []byte `json:"id"`
+			Timestamp  uint64 `json:"timestamp"`
+			Extensions []byte `json:"extensions"`
+			Signature  []byte `json:"signature"`
+		}
+		if err := json.Unmarshal([]byte(text), &read); err != nil {
+			t.Fatal(err)
+		}
+		answers = append(answers, check.Answer{Certificate: der, LogID: read.ID, Timestamp: read.Timestamp, Extensions: read.Extensions, Signature: read.Signature})
+		return status, text
+	}
+	again := func() {
+		t.Helper()
+		for until := time.Now().Add(time.Minute); ; time.Sleep(50 * time.Millisecond) {
+			status, text := submit()
+			if status == 200 {
+				return
+			}
+			if status != 503 || time.Now().After(until) {
+				t.Fatalf("with room: %d %s", status, text)
+			}
+		}
+	}
+	for i := 0; i < 5; i++ {
+		again()
+	}
+	for _, but := range []int64{0, 64 << 10} {
+		room := fill(t, disk, but)
+		for until := time.Now().Add(time.Minute); ; {
+			status, text := submit()
+			if status == 503 && strings.Contains(text, `"store"`) {
+				break
+			}
+			if status != 200 || time.Now().After(until) {
+				t.Fatalf("with %d bytes: %d %s", but, status, text)
+			}
+		}
+		var head struct {
+			Size uint64 `json:"tree_size"`
+		}
+		if _, text := get(p.clients, "/ct/v1/get-sth"); json.Unmarshal([]byte(text), &head) != nil || head.Size < uint64(len(answers)) {
+			t.Errorf("with %d bytes: get-sth: %s", but, text)
+		}
+		partial := fmt.Sprintf("/tile/0/000.p/%d", head.Size)
+		hash := standin.LeafHash(leafOf(answers[2]))
+		proof := fmt.Sprintf("/ct/v1/get-proof-by-hash?tree_size=%d&hash=%s", head.Size, url.QueryEscape(base64.StdEncoding.EncodeToString(hash[:])))
+		for _, path := range []string{"/checkpoint", partial, "/ct/v1/get-entries?start=0&end=4", fmt.Sprint("/ct/v1/get-sth-consistency?first=3&second=", head.Size), proof, "/healthz"} {
+			if status, text := get(p.clients, path); status != 200 {
+				t.Errorf("with %d bytes: %s: %d %s", but, path, status, text)
+			}
+		}
+		if status, text := get(p.clients, "/readyz"); status != 503 {
+			t.Errorf("with %d bytes: /readyz: %d %s", but, status, text)
+		}
+		if _, text := get(p.operator, "/metrics"); !strings.Contains(text, "ctserve_fault 1\n") {
+			t.Errorf("with %d bytes: ctserve_fault isn't 1", but)
+		}
+		room()
+		again()
+	}
+	// Killed (-9) while the disk is full.
+	room := fill(t, disk, 0)
+	p.signal(syscall.SIGKILL)
+	p.ends()
+	room()
+	p = started(t, "", append(words, "--guard", at.guard)...)
+	again()
+	p.signal(syscall.SIGTERM)
+	if status := p.ends(); status != 0 {
+		t.Errorf("it ended with status %d", status)
+	}
+	key, err := signer.OpenKey(at.path("log.pem"))
+	if err != nil {
+		t.Fatal(err)
+	}
+	report, err := check.Folder(filepath.Join(disk, "objects"), key.Key(), answers)
+	if err != nil || report.Answers < 8 || report.Repeats != 0 {
+		t.Errorf("%+v, %v", report, err)
+	}
+}
+
+// leafOf is an answer's MerkleTreeLeaf, of a certificate (RFC 6962, section 3.4).
+func leafOf(a check.Answer) []byte {
+	leaf := append([]byte{0, 0}, make([]byte, 8)...)
+	for i := range leaf[2:] {
+		leaf[2+i] = byte(a.Timestamp >> (56 - 8*i))
+	}
+	size := len(a.Certificate)
+	leaf = append(leaf, 0, 0, byte(size>>16), byte(size>>8), byte(size))
+	leaf = append(append(leaf, a.Certificate...), byte(len(a.Extensions)>>8), byte(len(a.Extensions)))
+	return append(leaf, a.Extensions...)
+}

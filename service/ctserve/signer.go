@@ -1,0 +1,104 @@
+package main
+
+import (
+	"context"
+	"errors"
+	"flag"
+	"fmt"
+	"io"
+	"os"
+	"strconv"
+	"strings"
+	"time"
+
+	"wagtenib/service/pipe"
+	"wagtenib/service/signer"
+	"wagtenib/service/stores"
+)
+
+const (
+	// guardStateKey is where the environment has the address of the guard's state: it may have a password, which other users would see
+	// among a process's words.
+	guardStateKey = "CTSERVE_GUARD_STATE"
+	// noGuard says that there is to be none.
+	noGuard = "none"
+	// signsWithin is how long a signer may take for one request.
+	signsWithin = 30 * time.Second
+)
+
+// askSigner starts the log's signer, a process of its own, or finds the one at a socket.
+func askSigner(ctx context.Context, n node) (*signer.Client, error) {
+	open := func(ctx context.Context) (*pipe.End, error) { return pipe.Dial(ctx, n.signerAt, signer.MostLine) }
+	if n.signerAt == "" {
+		self, err := os.Executable()
+		if err != nil {
+			return nil, fmt.Errorf("ctserve: %w", err)
+		}
+		receipts := signer.InHead
+		if n.behindSwap {
+			receipts = signer.Promised
+		}
+		words := []string{self, "signer", "--signing-key", n.signingKey, "--guard", strings.Join(n.guard, " "), "--receipts", string(receipts), "--create=" + strconv.FormatBool(n.create)}
+		open = func(context.Context) (*pipe.End, error) {
+			return pipe.Start(words, signer.MostLine, guardStateKey+"="+n.guardState)
+		}
+	}
+	return signer.Ask(ctx, open, signsWithin)
+}
+
+// runSigner answers a node's lines, until there are no more, or those of all who come to a socket. It gives the status: 0 at the lines'
+// end, 1 at another, 2 where the words aren't ones.
+func runSigner(given []string, from io.Reader, answers, to io.Writer) int {
+	flags := flag.NewFlagSet("ctserve signer", flag.ContinueOnError)
+	flags.SetOutput(to)
+	flags.Usage = func() {
+		fmt.Fprint(to, "ctserve signer has a log's key, and signs what the guard lets through. It is asked by nodes of ctserve, over two pipes or at a socket.\n\n")
+		flags.PrintDefaults()
+	}
+	key := flags.String("signing-key", "", "`file` with the log's key in PEM, of P-256, that none but its owner may read")
+	guard := []string{"ctguard"}
+	flags.Func("guard", "the `command` of the guard, with its words (default \"ctguard\"); none signs without one", command(&guard))
+	state := flags.String("guard-state", os.Getenv(guardStateKey), "`address` of the register with the guard's state: file:PATH, etcd://.. or postgres://..")
+	receipts := flags.String("receipts", string(signer.InHead), "in-head: a timestamp's leaf has to be in the last head's tree; promised: for nodes that answer behind the swap")
+	create := flags.Bool("create", false, "make the guard's state where there is none")
+	listen := flags.String("listen", "", "`path` of a socket, for nodes of this user or group; without it, lines come by the standard input")
+	err := flags.Parse(given)
+	if errors.Is(err, flag.ErrHelp) {
+		return 0
+	}
+	if err != nil || flags.NArg() > 0 || *key == "" || len(guard) == 0 {
+		fmt.Fprintln(to, "ctserve signer: --signing-key is needed, and only words that --help names")
+		return 2
+	}
+	if err := serveSigner(*key, guard, *state, signer.Receipts(*receipts), *create, *listen, from, answers); err != nil {
+		fmt.Fprintln(to, err)
+		return 1
+	}
+	return 0
+}
+
+func serveSigner(keyAt string, guard []string, stateAt string, receipts signer.Receipts, create bool, listen string, from io.Reader, answers io.Writer) error {
+	ctx := context.Background()
+	key, err := signer.OpenKey(keyAt)
+	if err != nil {
+		return err
+	}
+	var s signer.Signer = key
+	if guard[0] != noGuard {
+		state, err := stores.RegisterAt(ctx, stateAt)
+		if err != nil {
+			return err
+		}
+		defer state.Close()
+		guarded, err := signer.Behind(ctx, key, signer.Guard{Command: guard, State: state, Create: create, Receipts: receipts})
+		if err != nil {
+			return err
+		}
+		defer guarded.Close()
+		s = guarded
+	}
+	if listen != "" {
+		return signer.Listen(ctx, s, listen)
+	}
+	return signer.Serve(ctx, s, from, answers)
+}

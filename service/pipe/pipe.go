@@ -1,0 +1,207 @@
+// Package pipe asks a program at the other end of two pipes, or of a socket: some lines there, and as many lines back as are expected.
+package pipe
+
+import (
+	"bufio"
+	"bytes"
+	"context"
+	"errors"
+	"fmt"
+	"io"
+	"net"
+	"os/exec"
+	"sync/atomic"
+	"syscall"
+	"time"
+)
+
+// ErrGone: the other end doesn't start, ended, or gave no reply in time.
+var ErrGone = errors.New("pipe: the other end gives no reply")
+
+// End is an other end that runs, or is connected. It is for one exchange at a time.
+type End struct {
+	in    io.WriteCloser
+	out   *bufio.Reader
+	most  int
+	close func() string
+}
+
+// last keeps the last bytes that were written: what a process said on standard error.
+type last struct{ bytes []byte }
+
+const mostSaid = 500
+
+func (l *last) Write(b []byte) (int, error) {
+	l.bytes = append(l.bytes, b...)
+	if behind := len(l.bytes) - mostSaid; behind > 0 {
+		l.bytes = append([]byte{}, l.bytes[behind:]...)
+	}
+	return len(b), nil
+}
+
+// Start starts a process, whose replies have at most so many bytes. What stands in the environment beside this process's own is added.
+func Start(words []string, most int, environment ...string) (*End, error) {
+	if len(words) == 0 {
+		return nil, fmt.Errorf("%w: there is no command", ErrGone)
+	}
+	command := exec.Command(words[0], words[1:]...)
+	if len(environment) > 0 {
+		command.Env = append(command.Environ(), environment...)
+	}
+	// A group of its own: what is sent to this process by a terminal doesn't end it, and what it started ends with it.
+	command.SysProcAttr = &syscall.SysProcAttr{Setpgid: true}
+	said := &last{}
+	command.Stderr = said
+	in, err := command.StdinPipe()
+	if err != nil {
+		return nil, fmt.Errorf("%w: %v", ErrGone, err)
+	}
+	out, err := command.StdoutPipe()
+	if err != nil {
+		return nil, fmt.Errorf("%w: %v", ErrGone, err)
+	}
+	if err := command.Start(); err != nil {
+		return nil, fmt.Errorf("%w: %v", ErrGone, err)
+	}
+	end := func() string {
+		in.Close()
+		// What fails here has ended already.
+		_ = syscall.Kill(-command.Process.Pid, syscall.SIGKILL)
+		_ = command.Wait()
+		return string(bytes.TrimSpace(said.bytes))
+	}
+	return &End{in: in, out: bufio.NewReaderSize(out, 1<<16), most: most, close: end}, nil
+}
+
+// Dial connects to a Unix socket.
+func Dial(ctx context.Context, path string, most int) (*End, error) {
+	connection, err := (&net.Dialer{}).DialContext(ctx, "unix", path)
+	if err != nil {
+		return nil, fmt.Errorf("%w: %v", ErrGone, err)
+	}
+	end := func() string {
+		connection.Close()
+		return ""
+	}
+	return &End{in: connection, out: bufio.NewReaderSize(connection, 1<<16), most: most, close: end}, nil
+}
+
+// Close kills the process, or closes the connection, and gives what it said last.
+func (e *End) Close() string { return e.close() }
+
+// Exchange sends lines, each with its end, and gives so many replies, without theirs. Behind an error the end is closed.
+func (e *End) Exchange(ctx context.Context, limit time.Duration, lines []byte, replies int) ([][]byte, error) {
+	type outcome struct {
+		replies [][]byte
+		err     error
+	}
+	done := make(chan outcome, 1)
+	go func() {
+		replies, err := e.exchange(lines, replies)
+		done <- outcome{replies, err}
+	}()
+	timer := time.NewTimer(limit)
+	defer timer.Stop()
+	var why error
+	select {
+	case came := <-done:
+		if came.err == nil {
+			return came.replies, nil
+		}
+		why = came.err
+	case <-timer.C:
+		why = fmt.Errorf("none in %v", limit)
+	case <-ctx.Done():
+		why = ctx.Err()
+	}
+	return nil, fmt.Errorf("%w: %v %.500s", ErrGone, why, e.Close())
+}
+
+func (e *End) exchange(lines []byte, count int) (replies [][]byte, err error) {
+	// The other end may begin to reply before it has read all: writing goes on beside the reading.
+	written := make(chan error, 1)
+	go func() {
+		_, err := e.in.Write(lines)
+		written <- err
+	}()
+	for len(replies) < count {
+		reply, err := ReadLine(e.out, e.most)
+		if err != nil {
+			// The writer ends once the end is closed, which the caller does.
+			return nil, err
+		}
+		replies = append(replies, reply)
+	}
+	return replies, <-written
+}
+
+// ReadLine reads a line of at most so many bytes, and gives it without its end.
+func ReadLine(from *bufio.Reader, most int) ([]byte, error) {
+	var line []byte
+	for {
+		part, err := from.ReadSlice('\n')
+		if len(line)+len(part) > most {
+			return nil, fmt.Errorf("a line of more than %d bytes", most)
+		}
+		line = append(line, part...)
+		if err == nil {
+			return line[:len(line)-1], nil
+		}
+		if err != bufio.ErrBufferFull {
+			return nil, err
+		}
+	}
+}
+
+// Client has one end, one exchange at a time, and opens it again where it is gone. Its methods may be called at once.
+type Client struct {
+	open  func(context.Context) (*End, error)
+	limit time.Duration
+	opens atomic.Uint64
+	// turn holds the end, or nil where none is open; who took it asks.
+	turn chan *End
+}
+
+// NewClient takes what opens an end, and how long an exchange may take. The first exchange opens it.
+func NewClient(open func(context.Context) (*End, error), limit time.Duration) *Client {
+	c := &Client{open: open, limit: limit, turn: make(chan *End, 1)}
+	c.turn <- nil
+	return c
+}
+
+// Opens is how often an end was opened.
+func (c *Client) Opens() uint64 { return c.opens.Load() }
+
+// Close closes the end.
+func (c *Client) Close() error {
+	if e := <-c.turn; e != nil {
+		e.Close()
+	}
+	c.turn <- nil
+	return nil
+}
+
+// Exchange is the end's, which is opened where none is.
+func (c *Client) Exchange(ctx context.Context, lines []byte, replies int) ([][]byte, error) {
+	var e *End
+	select {
+	case e = <-c.turn:
+	case <-ctx.Done():
+		return nil, fmt.Errorf("%w: %v", ErrGone, ctx.Err())
+	}
+	if e == nil {
+		opened, err := c.open(ctx)
+		if err != nil {
+			c.turn <- nil
+			return nil, err
+		}
+		c.opens.Add(1)
+		e = opened
+	}
+	came, err := e.Exchange(ctx, c.limit, lines, replies)
+	if err != nil {
+		e = nil
+	}
+	c.turn <- e
+	return came, err
+}

@@ -1,0 +1,672 @@
+package signer
+
+import (
+	"context"
+	"crypto/ecdsa"
+	"crypto/elliptic"
+	"crypto/rand"
+	"encoding/binary"
+	"encoding/json"
+	"errors"
+	"fmt"
+	mathrand "math/rand"
+	"os"
+	"os/exec"
+	"path/filepath"
+	"strings"
+	"testing"
+	"time"
+
+	"golang.org/x/mod/sumdb/tlog"
+
+	"wagtenib/service/pipe"
+	"wagtenib/service/stores"
+)
+
+// model is a second program beside the proved guard, with the same lines; built is where that one is, once it is built.
+var (
+	model = []string{"python3", "../../examples/guard/model.py"}
+	built = "../../crates/ctguard/out/ctguard"
+)
+
+// guards are those that are there.
+func guards() map[string][]string {
+	all := map[string][]string{"model.py": model}
+	if _, err := os.Stat(built); err == nil {
+		all["ctguard"] = []string{built}
+	}
+	return all
+}
+
+func must(t testing.TB, err error) {
+	t.Helper()
+	if err != nil {
+		t.Fatal(err)
+	}
+}
+
+func wants(t testing.TB, err, kind error) {
+	t.Helper()
+	if !errors.Is(err, kind) {
+		t.Fatalf("%v isn't: %v", err, kind)
+	}
+}
+
+// refused sees that something was refused by a name.
+func refused(t testing.TB, name string, err error) {
+	t.Helper()
+	var refusal Refusal
+	if !errors.As(err, &refusal) || refusal.Name != name {
+		t.Errorf("%v, and not a refusal by %s", err, name)
+	}
+}
+
+func limited(t testing.TB) context.Context {
+	ctx, cancel := context.WithTimeout(context.Background(), time.Minute)
+	t.Cleanup(cancel)
+	return ctx
+}
+
+func newKey(t testing.TB) *Key {
+	private, err := ecdsa.GenerateKey(elliptic.P256(), rand.Reader)
+	must(t, err)
+	key, err := FromKey(private)
+	must(t, err)
+	return key
+}
+
+func register(t testing.TB, folder string) stores.Register {
+	r, err := stores.OpenFile(filepath.Join(folder, "guard"))
+	must(t, err)
+	return r
+}
+
+// leaf is a MerkleTreeLeaf of a certificate (RFC 6962, section 3.4).
+func leaf(text string) []byte {
+	bytes := append([]byte{0, 0}, make([]byte, 10)...)
+	bytes[9] = 7
+	bytes = append(bytes, 0, 0, byte(len(text)))
+	return append(append(bytes, text...), 0, 0)
+}
+
+// list is a list of leaves, with the hashes of its tree as x/mod keeps them.
+type list struct {
+	leaves [][]byte
+	hashes []tlog.Hash
+}
+
+func (l *list) ReadHashes(indexes []int64) (found []tlog.Hash, err error) {
+	for _, i := range indexes {
+		found = append(found, l.hashes[i])
+	}
+	return found, nil
+}
+
+func (l *list) add(t testing.TB, text string) {
+	more, err := tlog.StoredHashes(int64(len(l.leaves)), leaf(text), l)
+	must(t, err)
+	l.leaves, l.hashes = append(l.leaves, leaf(text)), append(l.hashes, more...)
+}
+
+// listOf has leaves 0, 1, .. to size, and behind the first so many those of a fork.
+func listOf(t testing.TB, size, same int) *list {
+	l := &list{}
+	for i := 0; i < size; i++ {
+		text := fmt.Sprint("leaf ", i)
+		if i >= same {
+			text = fmt.Sprint("other ", i)
+		}
+		l.add(t, text)
+	}
+	return l
+}
+
+func (l *list) head(t testing.TB, size int, moment uint64) Head {
+	root, err := tlog.TreeHash(int64(size), l)
+	must(t, err)
+	if size == 0 {
+		// MTH of no leaves is SHA-256 of nothing (RFC 6962, section 2.1), which tlog leaves out.
+		root, err = tlog.ParseHash("47DEQpj8HBSa+/TImW+5JCeuQeRkm5NMpJWZG3hSuFU=")
+		must(t, err)
+	}
+	return Head{uint64(size), moment, root}
+}
+
+func (l *list) proof(t testing.TB, from, to int) (proof [][32]byte) {
+	if from == 0 || from == to {
+		return nil
+	}
+	hashes, err := tlog.ProveTree(int64(to), int64(from), l)
+	must(t, err)
+	for _, hash := range hashes {
+		proof = append(proof, hash)
+	}
+	return proof
+}
+
+func (l *list) receipt(t testing.TB, index, size int) Receipt {
+	hashes, err := tlog.ProveRecord(int64(size), int64(index), l)
+	must(t, err)
+	r := Receipt{Leaf: l.leaves[index], Index: uint64(index)}
+	for _, hash := range hashes {
+		r.Path = append(r.Path, hash)
+	}
+	return r
+}
+
+// behind puts a guard before a key, with a state in a folder.
+func behind(t testing.TB, key *Key, folder string, guard []string, receipts Receipts) *Guarded {
+	t.Helper()
+	g, err := Behind(limited(t), key, Guard{Command: guard, State: register(t, folder), Create: true, Receipts: receipts})
+	must(t, err)
+	t.Cleanup(func() { g.Close() })
+	return g
+}
+
+// through runs a test of a signer over each guard: in this process, and one that is asked by lines.
+func through(t *testing.T, receipts Receipts, test func(t *testing.T, s Signer, key *Key)) {
+	for name, guard := range guards() {
+		guard := guard
+		t.Run(name, func(t *testing.T) {
+			key := newKey(t)
+			test(t, behind(t, key, t.TempDir(), guard, receipts), key)
+		})
+		t.Run(name+" at a socket", func(t *testing.T) {
+			folder, key := t.TempDir(), newKey(t)
+			path, ctx := filepath.Join(folder, "socket"), limited(t)
+			g := behind(t, key, folder, guard, receipts)
+			go func() { _ = Listen(ctx, g, path) }()
+			for i := 0; ; i++ {
+				if info, err := os.Stat(path); err == nil {
+					if info.Mode().Perm() != 0o660 {
+						t.Errorf("the socket has the mode %v", info.Mode())
+					}
+					break
+				}
+				time.Sleep(time.Millisecond)
+			}
+			c, err := Ask(ctx, func(ctx context.Context) (*pipe.End, error) { return pipe.Dial(ctx, path, MostLine) }, 20*time.Second)
+			must(t, err)
+			t.Cleanup(func() { c.Close() })
+			test(t, c, key)
+		})
+	}
+}
+
+// TestHeads asks for heads that go on, and between them for forked ones, older ones, and ones with false proofs: none of these is
+// signed, and none changes what may be signed.
+func TestHeads(t *testing.T) {
+	t.Parallel()
+	through(t, InHead, func(t *testing.T, s Signer, key *Key) {
+		ctx, right, fork := limited(t), listOf(t, 20, 20), listOf(t, 20, 3)
+		if last, err := s.Last(ctx); err != nil || last != nil || s.Receipts() != InHead {
+			t.Fatalf("%v, %v, %s", last, err, s.Receipts())
+		}
+		before := 0
+		for at, size := range []int{0, 5, 5, 7, 20} {
+			moment := uint64(100 + 10*at)
+			head := right.head(t, size, moment)
+			for again := 0; again < 2; again++ {
+				signed, err := s.SignHead(ctx, head, right.proof(t, before, size))
+				must(t, err)
+				must(t, CheckHead(key.Key(), head, signed))
+			}
+			before = size
+			if size == 0 {
+				continue
+			}
+			_, err := s.SignHead(ctx, right.head(t, size-1, moment+1), nil)
+			refused(t, "size-falls", err)
+			_, err = s.SignHead(ctx, right.head(t, size, moment-1), nil)
+			refused(t, "moment-not-later", err)
+			_, err = s.SignHead(ctx, fork.head(t, size, moment+1), nil)
+			refused(t, "fork", err)
+			_, err = s.SignHead(ctx, fork.head(t, size, moment), nil)
+			refused(t, "moment-not-later", err)
+			if size < 20 {
+				_, err = s.SignHead(ctx, fork.head(t, 20, moment+1), fork.proof(t, size, 20))
+				refused(t, "inconsistent", err)
+				_, err = s.SignHead(ctx, right.head(t, 20, moment+1), fork.proof(t, size, 20))
+				refused(t, "inconsistent", err)
+				_, err = s.SignHead(ctx, right.head(t, 20, moment+1), nil)
+				refused(t, "inconsistent", err)
+			}
+			if last, err := s.Last(ctx); err != nil || *last != head {
+				t.Fatalf("the last head is %+v, %v", last, err)
+			}
+		}
+	})
+}
+
+// TestTimestamps asks for those of leaves that are in the last head's tree, and of others.
+func TestTimestamps(t *testing.T) {
+	t.Parallel()
+	through(t, InHead, func(t *testing.T, s Signer, key *Key) {
+		ctx, right, fork := limited(t), listOf(t, 300, 300), listOf(t, 300, 3)
+		_, err := s.SignTimestamps(ctx, []Receipt{right.receipt(t, 0, 1)})
+		refused(t, "no-head", err)
+		_, err = s.SignHead(ctx, right.head(t, 290, 10), nil)
+		must(t, err)
+		var all []Receipt
+		for i := 0; i < 290; i++ {
+			all = append(all, right.receipt(t, i, 290))
+		}
+		signatures, err := s.SignTimestamps(ctx, all)
+		must(t, err)
+		for i, signed := range signatures {
+			must(t, Check(key.Key(), right.leaves[i], signed))
+		}
+		if none, err := s.SignTimestamps(ctx, nil); err != nil || len(none) != 0 {
+			t.Errorf("%d, %v", len(none), err)
+		}
+		// Wrong ones, each among right ones: of all of them nothing is signed.
+		moved := all[7]
+		moved.Index = 8
+		head := fork.head(t, 290, 11)
+		for what, wrong := range map[string]struct {
+			receipt Receipt
+			name    string
+		}{
+			"a leaf of a fork":                {fork.receipt(t, 9, 290), "not-there"},
+			"a leaf with another's path":      {Receipt{fork.leaves[9], 9, all[9].Path}, "not-there"},
+			"a leaf that comes later":         {right.receipt(t, 295, 300), "not-there"},
+			"a leaf at another index":         {moved, "not-there"},
+			"a leaf without a path":           {Receipt{all[7].Leaf, 7, nil}, "not-there"},
+			"a head's bytes":                  {Receipt{head.message(), 7, all[7].Path}, "no-leaf"},
+			"the path in another head's tree": {right.receipt(t, 100, 300), "not-there"},
+		} {
+			signatures, err := s.SignTimestamps(ctx, append(append([]Receipt{}, all[:5]...), wrong.receipt, all[20]))
+			if refused(t, wrong.name, err); len(signatures) != 0 {
+				t.Errorf("%s: %d were signed", what, len(signatures))
+			}
+		}
+	})
+}
+
+// TestPromised wants no head, but a leaf.
+func TestPromised(t *testing.T) {
+	t.Parallel()
+	through(t, Promised, func(t *testing.T, s Signer, key *Key) {
+		ctx, right := limited(t), listOf(t, 3, 3)
+		signatures, err := s.SignTimestamps(ctx, []Receipt{{Leaf: right.leaves[2]}})
+		must(t, err)
+		must(t, Check(key.Key(), right.leaves[2], signatures[0]))
+		_, err = s.SignTimestamps(ctx, []Receipt{{Leaf: right.head(t, 3, 7).message()}})
+		refused(t, "no-leaf", err)
+	})
+}
+
+// TestStates begins with states that are missing, or none.
+func TestStates(t *testing.T) {
+	t.Parallel()
+	ctx, key, right := limited(t), newKey(t), listOf(t, 9, 9)
+	first := right.head(t, 5, 100)
+	for name, guard := range guards() {
+		of := Guard{Command: guard, State: register(t, t.TempDir()), Receipts: InHead}
+		_, err := Behind(ctx, key, of)
+		wants(t, err, ErrState)
+		for _, text := range []string{"x", `{"guard":2,"last":null}`, `{"guard":1,"last":{}}`, `{"last":null,"guard":1}`, stateOf(&first)[1:],
+			strings.Replace(stateOf(&first), `"tree_size":5`, `"tree_size":05`, 1), strings.Replace(stateOf(&first), `"timestamp"`, `"x":1,"timestamp"`, 1)} {
+			of := Guard{Command: guard, State: register(t, t.TempDir()), Receipts: InHead}
+			must(t, of.State.Create(ctx, text))
+			if _, err := Behind(ctx, key, of); !errors.Is(err, ErrState) {
+				t.Errorf("%s: %s: %v", name, text, err)
+			}
+		}
+		// With a line's end, as an operator writes it.
+		of = Guard{Command: guard, State: register(t, t.TempDir()), Receipts: InHead}
+		must(t, of.State.Create(ctx, stateOf(&first)+"\n"))
+		g, err := Behind(ctx, key, of)
+		must(t, err)
+		defer g.Close()
+		_, err = g.SignHead(ctx, right.head(t, 9, 101), right.proof(t, 5, 9))
+		must(t, err)
+	}
+	_, err := Behind(ctx, key, Guard{Command: []string{"nowhere-is-it"}, State: register(t, t.TempDir()), Create: true, Receipts: InHead})
+	wants(t, err, exec.ErrNotFound)
+}
+
+// TestTwoSigners has two with one state. Who is behind is told, and goes on from the other's head; of two forks at once one is signed.
+func TestTwoSigners(t *testing.T) {
+	t.Parallel()
+	ctx, key, folder, right, fork := limited(t), newKey(t), t.TempDir(), listOf(t, 20, 20), listOf(t, 20, 4)
+	one, two := behind(t, key, folder, model, InHead), behind(t, key, folder, model, InHead)
+	_, err := one.SignHead(ctx, right.head(t, 5, 100), nil)
+	must(t, err)
+	// The same head, of which the second didn't know: it isn't another one.
+	_, err = two.SignHead(ctx, right.head(t, 5, 100), nil)
+	must(t, err)
+	_, err = one.SignHead(ctx, right.head(t, 9, 101), right.proof(t, 5, 9))
+	must(t, err)
+	_, err = two.SignHead(ctx, fork.head(t, 9, 102), fork.proof(t, 5, 9))
+	refused(t, "inconsistent", err)
+	_, err = two.SignHead(ctx, right.head(t, 8, 102), right.proof(t, 5, 8))
+	wants(t, err, ErrMoved)
+	if last, err := two.Last(ctx); err != nil || *last != right.head(t, 9, 101) {
+		t.Errorf("%v, %v", last, err)
+	}
+	_, err = two.SignHead(ctx, right.head(t, 12, 102), right.proof(t, 9, 12))
+	must(t, err)
+	if last, err := one.Last(ctx); err != nil || *last != right.head(t, 12, 102) {
+		t.Errorf("%v, %v", last, err)
+	}
+	apart := listOf(t, 20, 13)
+	for moment := uint64(200); moment < 230; moment++ {
+		folder := t.TempDir()
+		a, b := behind(t, key, folder, model, InHead), behind(t, key, folder, model, InHead)
+		failed := make(chan error, 2)
+		go func() {
+			_, err := a.SignHead(ctx, right.head(t, 20, moment), nil)
+			failed <- err
+		}()
+		go func() {
+			_, err := b.SignHead(ctx, apart.head(t, 20, moment), nil)
+			failed <- err
+		}()
+		if x, y := <-failed, <-failed; (x == nil) == (y == nil) || !errors.Is(fmt.Errorf("%w", orElse(x, y)), ErrMoved) {
+			t.Errorf("%v and %v", x, y)
+		}
+		a.Close()
+		b.Close()
+		if moment > 202 {
+			break
+		}
+	}
+}
+
+func orElse(one, other error) error {
+	if one != nil {
+		return one
+	}
+	return other
+}
+
+// unsure is a register that doesn't know the outcome of some swaps: of those that it did, and of those that it didn't.
+type unsure struct {
+	stores.Register
+	swaps int
+	fails error
+}
+
+func (u *unsure) Swap(ctx context.Context, old, new string) error {
+	u.swaps++
+	if u.fails != nil {
+		return u.fails
+	}
+	switch u.swaps % 3 {
+	case 1:
+		return fmt.Errorf("%w: it wasn't done", stores.ErrUnknown)
+	case 2:
+		if err := u.Register.Swap(ctx, old, new); err != nil {
+			return err
+		}
+		return fmt.Errorf("%w: it was done", stores.ErrUnknown)
+	}
+	return u.Register.Swap(ctx, old, new)
+}
+
+// TestUnkept has the state not be kept: nothing is signed, and the guard's own head is forgotten.
+func TestUnkept(t *testing.T) {
+	t.Parallel()
+	ctx, key, right, fork := limited(t), newKey(t), listOf(t, 20, 20), listOf(t, 20, 3)
+	state := &unsure{Register: register(t, t.TempDir())}
+	g, err := Behind(ctx, key, Guard{Command: model, State: state, Create: true, Receipts: InHead})
+	must(t, err)
+	defer g.Close()
+	_, err = g.SignHead(ctx, right.head(t, 4, 100), nil)
+	must(t, err)
+	for _, fails := range []error{stores.ErrUnknown, errors.New("a disk is full")} {
+		state.fails = fails
+		_, err = g.SignHead(ctx, fork.head(t, 8, 101), fork.proof(t, 4, 8))
+		refused(t, "inconsistent", err)
+		_, err = g.SignHead(ctx, right.head(t, 8, 101), right.proof(t, 4, 8))
+		wants(t, err, fails)
+		// A leaf of the head that wasn't kept.
+		_, err = g.SignTimestamps(ctx, []Receipt{right.receipt(t, 7, 8)})
+		refused(t, "not-there", err)
+		if last, err := g.Last(ctx); err != nil || last.Size != 4 {
+			t.Errorf("%+v, %v", last, err)
+		}
+	}
+	state.fails = nil
+	_, err = g.SignHead(ctx, right.head(t, 9, 102), right.proof(t, 4, 9))
+	must(t, err)
+}
+
+// TestWrongGuards has programs in the guard's place that reply other bytes, or none: nothing is signed.
+func TestWrongGuards(t *testing.T) {
+	t.Parallel()
+	ctx, key, right := limited(t), newKey(t), listOf(t, 2, 2)
+	head, other := right.head(t, 2, 5), right.head(t, 1, 5)
+	text := func(value any) string {
+		line, err := json.Marshal(value)
+		must(t, err)
+		return string(line)
+	}
+	line := func(of, state Head) string {
+		return text(map[string]any{"sign": of.message(), "state": json.RawMessage(stateOf(&state))})
+	}
+	for what, script := range map[string]string{
+		"is silent":              "exec sleep 60",
+		"ends":                   "exit 1",
+		"replies no JSON":        "read x; echo no; exec sleep 60",
+		"replies another head":   "read x; echo '" + line(other, head) + "'; exec sleep 60",
+		"has another state":      "read x; echo '" + line(head, other) + "'; exec sleep 60",
+		"replies a timestamp":    "read x; echo '" + text(map[string]any{"sign": right.leaves[0]}) + "'; exec sleep 60",
+		"replies nothing to say": "read x; echo '{}'; exec sleep 60",
+	} {
+		path := filepath.Join(t.TempDir(), "guard")
+		must(t, os.WriteFile(path, []byte(script), 0o700))
+		g, err := Behind(ctx, key, Guard{Command: []string{"sh", path}, State: register(t, t.TempDir()), Create: true, Receipts: InHead, Within: 300 * time.Millisecond})
+		must(t, err)
+		if signed, err := g.SignHead(ctx, head, nil); !errors.Is(err, ErrReply) && !errors.Is(err, pipe.ErrGone) || signed != nil {
+			t.Errorf("a guard that %s: %v", what, err)
+		}
+		if signed, err := g.SignTimestamps(ctx, []Receipt{right.receipt(t, 1, 2)}); !errors.Is(err, ErrReply) && !errors.Is(err, pipe.ErrGone) || signed != nil {
+			t.Errorf("a guard that %s: %v", what, err)
+		}
+		g.Close()
+	}
+}
+
+// childWords is where a child process is told what to do, in JSON.
+const childWords = "SIGNER_CHILD"
+
+// child signs heads of a list and of a fork in turn, and writes each that was signed as a line. At a phase it is killed (-9).
+type child struct {
+	Folder, Phase string
+	On            int
+	Seed          int64
+}
+
+func TestMain(m *testing.M) {
+	if words := os.Getenv(childWords); words != "" {
+		if err := beChild(words); err != nil {
+			fmt.Fprintln(os.Stderr, err)
+			os.Exit(1)
+		}
+		os.Exit(0)
+	}
+	os.Exit(m.Run())
+}
+
+func beChild(words string) error {
+	var c child
+	if err := json.Unmarshal([]byte(words), &c); err != nil {
+		return err
+	}
+	t := &testing.T{}
+	ctx := context.Background()
+	key, err := OpenKey(filepath.Join(c.Folder, "key.pem"))
+	if err != nil {
+		return err
+	}
+	state, err := stores.OpenFile(filepath.Join(c.Folder, "guard"))
+	if err != nil {
+		return err
+	}
+	guard := model
+	if _, err := os.Stat(built); err == nil {
+		guard = []string{built}
+	}
+	g, err := Behind(ctx, key, Guard{Command: guard, State: state, Create: true, Receipts: InHead})
+	if err != nil {
+		return err
+	}
+	phases := 0
+	g.phase = func(name string) {
+		if name == c.Phase {
+			if phases++; phases == c.On {
+				self, _ := os.FindProcess(os.Getpid())
+				self.Kill()
+				select {}
+			}
+		}
+	}
+	lists := []*list{listOf(t, 64, 64), listOf(t, 64, 0), listOf(t, 64, 20)}
+	chance := mathrand.New(mathrand.NewSource(c.Seed))
+	for try := 0; try < 60; try++ {
+		last, err := g.Last(ctx)
+		if err != nil {
+			return err
+		}
+		size, from, moment := 1, 0, uint64(1)
+		if last != nil {
+			from, moment = int(last.Size), last.Moment+uint64(chance.Intn(2))
+			size = from + chance.Intn(4)
+		}
+		if size > 64 {
+			return nil
+		}
+		of := lists[chance.Intn(len(lists))]
+		head := of.head(t, size, moment)
+		signed, err := g.SignHead(ctx, head, of.proof(t, from, size))
+		if err == nil {
+			line, _ := json.Marshal(map[string]any{"head": lineOf(&head), "signed": signed})
+			fmt.Printf("%s\n", line)
+		} else if !errors.Is(err, ErrRefused) {
+			return err
+		}
+	}
+	return nil
+}
+
+// TestKilled kills (-9) a signer that is asked for three lists by turns, between the guard's answer and its state on the disk, and behind
+// that, and starts it again each time. Whatever was signed is of beginnings of one list.
+func TestKilled(t *testing.T) {
+	t.Parallel()
+	program, err := os.Executable()
+	must(t, err)
+	for _, phase := range []string{"let through", "kept"} {
+		phase := phase
+		t.Run(phase, func(t *testing.T) {
+			t.Parallel()
+			folder, key := t.TempDir(), newKey(t)
+			must(t, os.WriteFile(filepath.Join(folder, "key.pem"), key.pem(t), 0o600))
+			lists := []*list{listOf(t, 64, 64), listOf(t, 64, 0), listOf(t, 64, 20)}
+			type signedHead struct {
+				Head   *headLine
+				Signed []byte
+			}
+			var all []signedHead
+			killed := 0
+			for run := 0; run < 8; run++ {
+				words, err := json.Marshal(child{Folder: folder, Phase: phase, On: 1 + run%3, Seed: int64(run)})
+				must(t, err)
+				command := exec.Command(program)
+				command.Env = append(os.Environ(), childWords+"="+string(words))
+				command.Stderr = os.Stderr
+				output, err := command.Output()
+				if err != nil && strings.Contains(err.Error(), "killed") {
+					killed++
+				} else if err != nil {
+					t.Fatal(err)
+				}
+				for _, line := range strings.Split(strings.TrimSpace(string(output)), "\n") {
+					var one signedHead
+					if json.Unmarshal([]byte(line), &one) == nil && one.Head != nil {
+						all = append(all, one)
+					}
+				}
+			}
+			if killed < 5 || len(all) < 5 {
+				t.Fatalf("%d were killed, and %d heads signed", killed, len(all))
+			}
+			fits := make([]bool, len(lists))
+			for i, l := range lists {
+				fits[i] = true
+				for _, one := range all {
+					head, err := one.Head.head()
+					must(t, err)
+					must(t, CheckHead(key.Key(), *head, one.Signed))
+					fits[i] = fits[i] && l.head(t, int(head.Size), head.Moment) == *head
+				}
+			}
+			if !fits[0] && !fits[1] && !fits[2] {
+				t.Errorf("the %d signed heads are of no one list", len(all))
+			}
+		})
+	}
+}
+
+// TestOtherKey has a client whose signer comes back with another key.
+func TestOtherKey(t *testing.T) {
+	t.Parallel()
+	ctx, keys := limited(t), []*Key{newKey(t), newKey(t)}
+	opened := 0
+	c, err := Ask(ctx, func(ctx context.Context) (*pipe.End, error) {
+		path := filepath.Join(t.TempDir(), "socket")
+		go func() { _ = Listen(ctx, keys[opened%2], path) }()
+		for {
+			if end, err := pipe.Dial(ctx, path, MostLine); err == nil {
+				opened++
+				return end, nil
+			}
+			time.Sleep(time.Millisecond)
+		}
+	}, 10*time.Second)
+	must(t, err)
+	must(t, c.Close())
+	_, err = c.Last(ctx)
+	wants(t, err, ErrKey)
+	_, err = c.Last(ctx)
+	must(t, err)
+	var eight [8]byte
+	binary.BigEndian.PutUint64(eight[:], 5)
+	if message := (Head{Moment: 5}).message(); len(message) != 50 || string(message[2:10]) != string(eight[:]) {
+		t.Errorf("%x", message)
+	}
+}
+
+// TestLines sends a signer lines that ask for nothing, or for what can't be: each is replied to, and nothing is signed.
+func TestLines(t *testing.T) {
+	t.Parallel()
+	g, right := behind(t, newKey(t), t.TempDir(), model, InHead), listOf(t, 2, 2)
+	head := lineOf(&Head{2, 5, right.head(t, 2, 5).Root})
+	short := *head
+	short.Root = short.Root[1:]
+	text := func(asked request) string {
+		line, err := json.Marshal(asked)
+		must(t, err)
+		return string(line)
+	}
+	lines := []string{"x", "[]", `{"head":7}`, text(request{Head: &short}), text(request{Head: head, Consistency: [][]byte{{1}}}),
+		text(request{Receipts: []receiptLine{{Leaf: right.leaves[0], Path: [][]byte{make([]byte, 33)}}}}), text(request{Receipts: make([]receiptLine, MostReceipts+1)}),
+		text(request{Receipts: make([]receiptLine, 1)}), "{}", text(request{Head: head})}
+	var told strings.Builder
+	must(t, Serve(limited(t), g, strings.NewReader(strings.Join(lines, "\n")+"\n"), &told))
+	replies := strings.Split(strings.TrimSuffix(told.String(), "\n"), "\n")
+	if len(replies) != len(lines) {
+		t.Fatalf("%d replies to %d lines", len(replies), len(lines))
+	}
+	for i, line := range replies {
+		var came reply
+		must(t, json.Unmarshal([]byte(line), &came))
+		if wanted := i == len(lines)-1; (len(came.Signatures) == 1) != wanted || !wanted && i != len(lines)-2 && came.Failed+came.Refused == "" {
+			t.Errorf("%.80s: %s", lines[i], line)
+		}
+	}
+	if err := Serve(limited(t), g, strings.NewReader("half a line"), &told); err != nil {
+		t.Error(err)
+	}
+}

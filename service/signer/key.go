@@ -1,0 +1,134 @@
+package signer
+
+import (
+	"context"
+	"crypto/ecdsa"
+	"crypto/elliptic"
+	"crypto/rand"
+	"crypto/sha256"
+	"crypto/x509"
+	"encoding/pem"
+	"fmt"
+	"io"
+	"os"
+)
+
+// mostFile is how many bytes a key's file may have.
+const mostFile = 64 << 10
+
+// algorithms are the two bytes before a signature: sha256 and ecdsa (RFC 5246, section 7.4.1.4.1).
+var algorithms = [2]byte{4, 3}
+
+// Key is a log's private key. As a Signer it is unguarded: it signs whatever it is asked for.
+type Key struct {
+	private *ecdsa.PrivateKey
+	public  []byte
+}
+
+// OpenKey reads a private key of P-256 in PEM (EC PRIVATE KEY or PRIVATE KEY) from a file that none but its owner may read.
+func OpenKey(path string) (*Key, error) {
+	opened, err := os.Open(path)
+	if err != nil {
+		return nil, fmt.Errorf("signer: %w", err)
+	}
+	defer opened.Close()
+	info, err := opened.Stat()
+	if err != nil {
+		return nil, fmt.Errorf("signer: %w", err)
+	}
+	if info.Mode().Perm()&0o077 != 0 {
+		return nil, fmt.Errorf("%w: others than its owner may read or write %s", ErrKey, path)
+	}
+	content, err := io.ReadAll(io.LimitReader(opened, mostFile))
+	if err != nil {
+		return nil, fmt.Errorf("signer: %w", err)
+	}
+	private, err := parse(content)
+	if err != nil {
+		return nil, fmt.Errorf("%w: %s", err, path)
+	}
+	return FromKey(private)
+}
+
+// FromKey takes a private key of P-256.
+func FromKey(private *ecdsa.PrivateKey) (*Key, error) {
+	if private.Curve != elliptic.P256() {
+		return nil, fmt.Errorf("%w: it isn't of P-256", ErrKey)
+	}
+	public, err := x509.MarshalPKIXPublicKey(&private.PublicKey)
+	if err != nil {
+		return nil, fmt.Errorf("%w: %v", ErrKey, err)
+	}
+	return &Key{private, public}, nil
+}
+
+// parse finds the first private key in PEM. (Files of openssl have the curve's parameters before it.)
+func parse(content []byte) (*ecdsa.PrivateKey, error) {
+	for {
+		block, rest := pem.Decode(content)
+		if block == nil {
+			return nil, fmt.Errorf("%w: there is no private key in PEM", ErrKey)
+		}
+		content = rest
+		switch block.Type {
+		case "EC PRIVATE KEY":
+			key, err := x509.ParseECPrivateKey(block.Bytes)
+			if err != nil {
+				return nil, fmt.Errorf("%w: %v", ErrKey, err)
+			}
+			return key, nil
+		case "PRIVATE KEY":
+			key, err := x509.ParsePKCS8PrivateKey(block.Bytes)
+			if err != nil {
+				return nil, fmt.Errorf("%w: %v", ErrKey, err)
+			}
+			if key, ok := key.(*ecdsa.PrivateKey); ok {
+				return key, nil
+			}
+			return nil, fmt.Errorf("%w: it isn't one of ECDSA", ErrKey)
+		}
+	}
+}
+
+// sign gives the DigitallySigned over bytes.
+func (k *Key) sign(message []byte) ([]byte, error) {
+	hash := sha256.Sum256(message)
+	signature, err := ecdsa.SignASN1(rand.Reader, k.private, hash[:])
+	if err != nil {
+		return nil, fmt.Errorf("signer: %w", err)
+	}
+	return append([]byte{algorithms[0], algorithms[1], byte(len(signature) >> 8), byte(len(signature))}, signature...), nil
+}
+
+// Key is Signer's.
+func (k *Key) Key() []byte { return append([]byte{}, k.public...) }
+
+// Receipts is Signer's.
+func (k *Key) Receipts() Receipts { return Unguarded }
+
+// Last is Signer's.
+func (k *Key) Last(context.Context) (*Head, error) { return nil, nil }
+
+// SignHead is Signer's. The proof isn't looked at.
+func (k *Key) SignHead(ctx context.Context, head Head, _ [][32]byte) ([]byte, error) {
+	if err := ctx.Err(); err != nil {
+		return nil, fmt.Errorf("signer: %w", err)
+	}
+	return k.sign(head.message())
+}
+
+// SignTimestamps is Signer's. Neither leaves nor paths are looked at.
+func (k *Key) SignTimestamps(ctx context.Context, receipts []Receipt) ([][]byte, error) {
+	signatures := make([][]byte, 0, len(receipts))
+	for _, receipt := range receipts {
+		if err := ctx.Err(); err != nil {
+			return nil, fmt.Errorf("signer: %w", err)
+		}
+		signed, err := k.sign(receipt.Leaf)
+		if err != nil {
+			return nil, err
+		}
+		signatures = append(signatures, signed)
+	}
+	return signatures, nil
+}

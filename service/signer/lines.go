@@ -1,0 +1,315 @@
+package signer
+
+import (
+	"bufio"
+	"context"
+	"encoding/json"
+	"errors"
+	"fmt"
+	"io"
+	"net"
+	"os"
+	"path/filepath"
+	"time"
+
+	"wagtenib/service/pipe"
+)
+
+// A signer in a process of its own is asked by lines, an object of JSON each, and replies to each with one.
+const (
+	// MostLine is how many bytes a line has, and MostReceipts how many timestamps one asks for.
+	MostLine     = 64 << 20
+	MostReceipts = 4096
+	// mostClients is how many are served at once, and answersWithin how long one request may take.
+	mostClients   = 32
+	answersWithin = 30 * time.Second
+)
+
+// request asks for one thing: the key, the last head, a head's signature, or those of timestamps.
+type request struct {
+	Open        bool          `json:"open,omitempty"`
+	Last        bool          `json:"last,omitempty"`
+	Head        *headLine     `json:"head,omitempty"`
+	Consistency [][]byte      `json:"consistency,omitempty"`
+	Receipts    []receiptLine `json:"receipts,omitempty"`
+}
+
+type receiptLine struct {
+	Path  [][]byte `json:"audit_path,omitempty"`
+	Index uint64   `json:"leaf_index"`
+	Leaf  []byte   `json:"leaf_input"`
+}
+
+// reply has what was asked for, or why not.
+type reply struct {
+	Key        []byte    `json:"key,omitempty"`
+	Receipts   Receipts  `json:"receipts,omitempty"`
+	Last       *headLine `json:"last,omitempty"`
+	Signatures [][]byte  `json:"signatures,omitempty"`
+	Refused    string    `json:"refused,omitempty"`
+	Fault      string    `json:"fault,omitempty"`
+	// Failed is any other failure in words, of which Moved is ErrMoved and Bad ErrState.
+	Failed string `json:"failed,omitempty"`
+	Moved  bool   `json:"moved,omitempty"`
+	Bad    bool   `json:"bad_state,omitempty"`
+}
+
+func hashes(texts [][]byte) ([][32]byte, error) {
+	all := make([][32]byte, len(texts))
+	for i, text := range texts {
+		if copy(all[i][:], text) != len(text) || len(text) != 32 {
+			return nil, fmt.Errorf("%w: a hash of %d bytes", ErrReply, len(text))
+		}
+	}
+	return all, nil
+}
+
+// answer has a signer do what a line asks for.
+func answer(ctx context.Context, s Signer, line []byte) (came reply, err error) {
+	var asked request
+	if err := json.Unmarshal(line, &asked); err != nil {
+		return came, fmt.Errorf("%w: %v", ErrReply, err)
+	}
+	switch {
+	case asked.Open:
+		return reply{Key: s.Key(), Receipts: s.Receipts()}, nil
+	case asked.Last:
+		last, err := s.Last(ctx)
+		return reply{Last: lineOf(last)}, err
+	case asked.Head != nil:
+		head, err := asked.Head.head()
+		if err != nil {
+			return came, fmt.Errorf("%w: %v", ErrReply, err)
+		}
+		proof, err := hashes(asked.Consistency)
+		if err != nil {
+			return came, err
+		}
+		signed, err := s.SignHead(ctx, *head, proof)
+		return reply{Signatures: [][]byte{signed}}, err
+	case len(asked.Receipts) > MostReceipts:
+		return came, fmt.Errorf("%w: %d timestamps at once", ErrReply, len(asked.Receipts))
+	}
+	var receipts []Receipt
+	for _, one := range asked.Receipts {
+		path, err := hashes(one.Path)
+		if err != nil {
+			return came, err
+		}
+		receipts = append(receipts, Receipt{one.Leaf, one.Index, path})
+	}
+	signatures, err := s.SignTimestamps(ctx, receipts)
+	return reply{Signatures: signatures}, err
+}
+
+// Serve answers lines until there are no more.
+func Serve(ctx context.Context, s Signer, from io.Reader, to io.Writer) error {
+	lines := bufio.NewReaderSize(from, 1<<16)
+	for {
+		line, err := pipe.ReadLine(lines, MostLine)
+		if err != nil {
+			if errors.Is(err, io.EOF) {
+				return nil
+			}
+			return fmt.Errorf("signer: %w", err)
+		}
+		own, cancel := context.WithTimeout(ctx, answersWithin)
+		came, err := answer(own, s, line)
+		cancel()
+		var refusal Refusal
+		if errors.As(err, &refusal) {
+			came = reply{Refused: refusal.Name, Fault: refusal.Fault}
+		} else if err != nil {
+			came = reply{Failed: err.Error(), Moved: errors.Is(err, ErrMoved), Bad: errors.Is(err, ErrState)}
+		}
+		text, err := json.Marshal(came)
+		if err != nil {
+			return fmt.Errorf("signer: %w", err)
+		}
+		if _, err := to.Write(append(text, '\n')); err != nil {
+			return fmt.Errorf("signer: %w", err)
+		}
+	}
+}
+
+// listenAt listens at a Unix socket, for this user and its group; it takes the place of one that stands there. (It is bound in a folder of
+// its own, so that nobody comes to it before its mode is set.)
+func listenAt(path string) (net.Listener, error) {
+	if info, err := os.Stat(path); err == nil && info.Mode()&os.ModeSocket == 0 {
+		return nil, fmt.Errorf("signer: %s isn't a socket", path)
+	}
+	folder, err := os.MkdirTemp(filepath.Dir(path), ".signer-")
+	if err != nil {
+		return nil, fmt.Errorf("signer: %w", err)
+	}
+	defer os.RemoveAll(folder)
+	bound := filepath.Join(folder, "s")
+	listener, err := net.ListenUnix("unix", &net.UnixAddr{Name: bound, Net: "unix"})
+	if err != nil {
+		return nil, fmt.Errorf("signer: %w", err)
+	}
+	listener.SetUnlinkOnClose(false)
+	if err = os.Chmod(bound, 0o660); err == nil {
+		err = os.Rename(bound, path)
+	}
+	if err != nil {
+		listener.Close()
+		return nil, fmt.Errorf("signer: %w", err)
+	}
+	return listener, nil
+}
+
+// Listen serves who comes to a Unix socket: this user, and its group. It returns where it can't listen, or the context ends.
+func Listen(ctx context.Context, s Signer, path string) error {
+	listener, err := listenAt(path)
+	if err != nil {
+		return err
+	}
+	defer listener.Close()
+	room := make(chan struct{}, mostClients)
+	go func() {
+		<-ctx.Done()
+		listener.Close()
+	}()
+	for {
+		connection, err := listener.Accept()
+		if err != nil {
+			return fmt.Errorf("signer: %w", err)
+		}
+		room <- struct{}{}
+		go func() {
+			defer func() { <-room }()
+			defer connection.Close()
+			// Who breaks off comes again.
+			_ = Serve(ctx, s, connection, connection)
+		}()
+	}
+}
+
+// Client asks a signer in another process.
+type Client struct {
+	asked    *pipe.Client
+	key      []byte
+	receipts Receipts
+}
+
+// Ask has a signer found by open (pipe.Start or pipe.Dial), whose key stays the same however often it is opened again. A request takes at
+// most so long.
+func Ask(ctx context.Context, open func(context.Context) (*pipe.End, error), within time.Duration) (*Client, error) {
+	c := &Client{}
+	c.asked = pipe.NewClient(func(ctx context.Context) (*pipe.End, error) {
+		end, err := open(ctx)
+		if err != nil {
+			return nil, fmt.Errorf("signer: %w", err)
+		}
+		came, err := end.Exchange(ctx, within, []byte("{\"open\":true}\n"), 1)
+		if err != nil {
+			return nil, fmt.Errorf("signer: %w", err)
+		}
+		var opened reply
+		if err := json.Unmarshal(came[0], &opened); err != nil || len(opened.Key) == 0 {
+			end.Close()
+			return nil, fmt.Errorf("%w: the signer gives no key: %.200q", ErrReply, came[0])
+		}
+		if c.key != nil && (string(c.key) != string(opened.Key) || c.receipts != opened.Receipts) {
+			end.Close()
+			return nil, fmt.Errorf("%w: the signer has another key than before", ErrKey)
+		}
+		if c.key == nil {
+			c.key, c.receipts = opened.Key, opened.Receipts
+		}
+		return end, nil
+	}, within)
+	// (so that the key is known)
+	if _, err := c.Last(ctx); err != nil {
+		c.Close()
+		return nil, err
+	}
+	return c, nil
+}
+
+// Close ends the process, or the connection.
+func (c *Client) Close() error { return c.asked.Close() }
+
+// Starts is how often the signer was started, or found.
+func (c *Client) Starts() uint64 { return c.asked.Opens() }
+
+func (c *Client) ask(ctx context.Context, asked request) (came reply, err error) {
+	line, err := json.Marshal(asked)
+	if err != nil {
+		return came, fmt.Errorf("signer: %w", err)
+	}
+	if len(line) >= MostLine {
+		return came, fmt.Errorf("%w: a request of %d bytes", ErrReply, len(line))
+	}
+	replies, err := c.asked.Exchange(ctx, append(line, '\n'), 1)
+	if err != nil {
+		return came, err
+	}
+	if err := json.Unmarshal(replies[0], &came); err != nil {
+		return came, fmt.Errorf("%w: %v", ErrReply, err)
+	}
+	switch {
+	case came.Refused != "":
+		return came, Refusal{came.Refused, came.Fault}
+	case came.Moved:
+		return came, ErrMoved
+	case came.Bad:
+		return came, fmt.Errorf("%w: %s", ErrState, came.Failed)
+	case came.Failed != "":
+		return came, fmt.Errorf("%w: %s", pipe.ErrGone, came.Failed)
+	}
+	return came, nil
+}
+
+// Key is Signer's.
+func (c *Client) Key() []byte { return append([]byte{}, c.key...) }
+
+// Receipts is Signer's.
+func (c *Client) Receipts() Receipts { return c.receipts }
+
+// Last is Signer's.
+func (c *Client) Last(ctx context.Context) (*Head, error) {
+	came, err := c.ask(ctx, request{Last: true})
+	if err != nil {
+		return nil, err
+	}
+	last, err := came.Last.head()
+	if err != nil {
+		return nil, fmt.Errorf("%w: %v", ErrReply, err)
+	}
+	return last, nil
+}
+
+// SignHead is Signer's.
+func (c *Client) SignHead(ctx context.Context, head Head, consistency [][32]byte) ([]byte, error) {
+	came, err := c.ask(ctx, request{Head: lineOf(&head), Consistency: hashesOf(consistency)})
+	if err != nil {
+		return nil, err
+	}
+	if len(came.Signatures) != 1 {
+		return nil, fmt.Errorf("%w: %d signatures of a head", ErrReply, len(came.Signatures))
+	}
+	return came.Signatures[0], nil
+}
+
+// SignTimestamps is Signer's.
+func (c *Client) SignTimestamps(ctx context.Context, receipts []Receipt) (signatures [][]byte, err error) {
+	for from := 0; from < len(receipts); from += MostReceipts {
+		var asked request
+		for _, one := range receipts[from:] {
+			if len(asked.Receipts) < MostReceipts {
+				asked.Receipts = append(asked.Receipts, receiptLine{hashesOf(one.Path), one.Index, one.Leaf})
+			}
+		}
+		came, err := c.ask(ctx, asked)
+		if err != nil {
+			return nil, err
+		}
+		if len(came.Signatures) != len(asked.Receipts) {
+			return nil, fmt.Errorf("%w: %d signatures of %d timestamps", ErrReply, len(came.Signatures), len(asked.Receipts))
+		}
+		signatures = append(signatures, came.Signatures...)
+	}
+	return signatures, nil
+}
