@@ -1,4 +1,4 @@
-.PHONY: help demo test check service service-test service-engines service-faults cluster cluster-status cluster-stop link install install-library install-ctlog install-ctlogd install-ctmonitor install-ctguard fuzz load sweep wrong sources serve tiles interop
+.PHONY: help demo test check service service-test service-engines service-faults service-clients cluster cluster-status cluster-stop link install install-library install-ctlog install-ctlogd install-ctmonitor install-ctguard install-cttile fuzz load sweep wrong sources serve tiles interop
 
 SECONDS ?= 60
 RUNS ?= 20
@@ -7,7 +7,7 @@ PORT ?= 8618
 BUILT ?= crates
 CLUSTER ?= ct-cluster
 
-PROGRAMS := ctlog ctlogd ctmonitor ctguard
+PROGRAMS := ctlog ctlogd ctmonitor ctguard cttile
 LIBRARY = $(BUILT)/wagtenib/out/link/libwagtenib
 VERSION = $(shell sed -n 's/^Version: //p' include/wagtenib.pc.in)
 TO = $(DESTDIR)$(PREFIX)
@@ -19,6 +19,7 @@ demo: ## proves ctlog and ctmonitor, and shows something of each layer as soon a
 	@checks/needs.sh demo
 	@examples/demo.sh
 
+# TURN=0, 1 or 2 says which third of the wrong bodies in crates/*/by-turns it tries.
 test: ## the gate: proves every crate from nothing, and runs the tests and the program
 	@checks/needs.sh test
 	@$(MAKE) --silent sources
@@ -45,6 +46,10 @@ service-faults: ## kills and stops nodes, members of etcd and radosgw below a lo
 	@checks/needs.sh service-test
 	@service/faults.sh
 
+service-clients: ## has certspotter, Google's client library and x/mod's tlog use a log of ctserve over HTTP, each where it is installed
+	@checks/needs.sh service
+	@service/clients.sh
+
 # LOAD=no leaves the loader and the reader out.
 cluster: ## runs three nodes of ctserve on engines of their own in CLUSTER=ct-cluster (etcd, Ceph's S3; from PORT=8618 on), with a loader and a reader
 	@checks/needs.sh service
@@ -61,12 +66,12 @@ link: ## builds libwagtenib, the proof checkers for C, and runs programs in C, R
 	@examples/link/link.sh
 
 # BUILT is the folder in which the crates' builds lie.
-install: $(PROGRAMS:%=install-%) install-library ## installs what is built, below PREFIX=/usr/local: ctlog, ctlogd, ctmonitor, ctguard, watch.sh as ctmonitor-watch, and libwagtenib
+install: $(PROGRAMS:%=install-%) install-library ## installs what is built, below PREFIX=/usr/local: ctlog, ctlogd, ctmonitor, ctguard, cttile, watch.sh as ctmonitor-watch, and libwagtenib
 	@[ -n "$(wildcard $(PROGRAMS:%=$(BUILT)/%/out/%) $(LIBRARY).a)" ] || { echo "make install: nothing is built" >&2; exit 1; }
 
 $(PROGRAMS:%=install-%): install-%:
 	@if [ -x $(BUILT)/$*/out/$* ]; then install -d $(TO)/bin && install -m 755 $(BUILT)/$*/out/$* $(TO)/bin && echo "$(PREFIX)/bin/$*"; \
-	else echo "$* isn't built: make demo builds ctlog and ctmonitor, make serve ctlogd, and rt run in crates/ctguard that one"; fi
+	else echo "$* isn't built: make demo builds ctlog and ctmonitor, make serve ctlogd and ctguard, and rt run in its folder any other"; fi
 	@if [ $* = ctmonitor ] && [ -x $(BUILT)/$*/out/$* ]; then install -m 755 examples/monitor/watch.sh $(TO)/bin/ctmonitor-watch && echo "$(PREFIX)/bin/ctmonitor-watch"; fi
 
 install-library:
@@ -93,13 +98,15 @@ load: ## runs the tests with sixteen threads and a shutdown among them 50 times,
 	@PYTHONDONTWRITEBYTECODE=1 python3 bench/live_load.py
 
 # After `rt run -- --help` in crates/ctlog and crates/ctlogd and `rt test` in crates/memory_tests, which build what is swept.
-sweep: ## refuses each growth of ctlog, of ctlogd and of the library's calls in turn, and judges what they then do
+sweep: ## refuses each growth of ctlog, of ctlogd and of the library's calls in turn, and judges what they then do; adds up ctlog's, and shortens reads and writes
 	@PYTHONDONTWRITEBYTECODE=1 python3 bench/memory.py
 	@PYTHONDONTWRITEBYTECODE=1 python3 bench/sweep.py
 	@PYTHONDONTWRITEBYTECODE=1 python3 bench/sweep.py --live
+	@PYTHONDONTWRITEBYTECODE=1 python3 bench/growths.py
+	@PYTHONDONTWRITEBYTECODE=1 python3 bench/short_calls.py
 
 # After `make check`, over whose work it goes. The gate tries those of must-fail/ itself.
-wrong: ## has the prover refuse the wrong bodies of CRATE=ct_core that the gate doesn't try (crates/*/wrong-bodies)
+wrong: ## has the prover refuse the wrong bodies of CRATE=ct_core that not every gate tries (crates/*/wrong-bodies, by-turns)
 	@PYTHONDONTWRITEBYTECODE=1 python3 checks/wrong_bodies.py $(or $(CRATE),ct_core)
 
 # What no contract can say of the sources, what docs/DEFINITIONS.md is made from, and what the documents name.

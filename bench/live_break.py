@@ -14,7 +14,7 @@ the fault's line on standard error:
   isn't broken off, since the reply to one line is `memory` or what was refused could be done without, replies to each line; its input is ended
   then, and its status is 0 or 1.
 
-And what goes on: a line that waits for one that is given later is replied to, the end of the input is status 0, and for `--help` and for words
+And what goes on: a line that waits for one that is given a quarter of a second later is replied to, the end of the input is status 0, and for `--help` and for words
 that it doesn't know the program ends with its input open, with status 0 and 2.
 
 A program that doesn't end within a minute is stopped, and is a failure: no case depends on how fast it is. The status is 1 at the first failure.
@@ -27,6 +27,7 @@ import select
 import subprocess
 import sys
 import tempfile
+import time
 
 from sweep import CRATES, HERE, OPTIONS, line, live_script
 
@@ -115,6 +116,8 @@ def goes_on(program):
     with Live(program, OPTIONS) as live:
         live.give(line(0, "await-size", tree_size=1), line(1, "add-chain", chain=["QQ=="]))
         claim(live.take(1) and live.taken == b'{"line":1,"reply":{"ticket":0}}\n', f"a line that waits: {live.taken!r}")
+        # (a line that only looked, and never slept, would be late by then)
+        time.sleep(0.25)
         live.give(line("operator", "take", **{"from": 1}, max=1, now=3), line("operator", "publish", now=4))
         claim(live.take(4) and b'{"line":0,"reply":{"reached":1}}\n' in live.taken, f"a line that waits: {live.taken!r}")
         live.process.stdin.close()

@@ -25,9 +25,9 @@ PROGRAM = HERE.parent / "crates" / "memory_tests" / "out" / "memory_tests_tests"
 LONGEST_RUN = 60
 NOTHING = "nothing"
 OWN = "a growth of the test's own"
-# The calls that may be refused memory. `submit`, `shutdown`, `retire`, `learn` and `finish` aren't among them.
+# The calls that may be refused memory. `submit`, `shutdown`, `bulletin`, `retire`, `learn` and `finish` aren't among them.
 CALLS = [
-    *("open", "take", "succeed", "publish", "bulletin", "ask", "settle", "answer", "serve_frozen"),
+    *("open", "take", "succeed", "publish", "ask", "settle", "answer", "serve_frozen"),
     *("observe", "explain_inclusion", "explain_consistency", "decode_leaf", "decode_chain", "read_line"),
 ]
 # The test in which workers hash a batch: the start of one may be refused, and its part is hashed all the same.

@@ -4,24 +4,73 @@ more as it is, and the status is that of `rt ci`.
 
 `rt ci` tells of a crate when it is done, and not how many of its functions are proved so far; while it tells nothing, a line a minute says
 how long it has been at work.
+
+Beside the edits of crates/NAME/must-fail it has `rt ci` try those of crates/NAME/by-turns, of a third of the crates that have this folder: the
+commit's hash says which, or TURN=0, 1 or 2 in the environment. They stand in must-fail while it runs.
 """
 import os
+import pathlib
+import shutil
+import signal
 import subprocess
 import sys
 import threading
 import time
 
+ROOT = pathlib.Path(__file__).resolve().parent.parent
+THIRDS = 3
+
 # How often it says that the gate is still at work, in seconds, while nothing else happens.
 EVERY = 60
 
 
+def turn():
+    """Which third of the crates is tried."""
+    said = os.environ.get("TURN", "")
+    if said.isdigit():
+        return int(said) % THIRDS
+    commit = subprocess.run(["git", "rev-parse", "HEAD"], cwd=ROOT, capture_output=True, text=True).stdout.strip()
+    return int(commit or "0", 16) % THIRDS
+
+
+def put_out():
+    """Takes away what put_in has put into must-fail, now or in a run that was killed."""
+    for edit in ROOT.glob("crates/*/by-turns/*.edit"):
+        there = edit.parent.parent / "must-fail" / edit.name
+        there.unlink(missing_ok=True)
+        if there.parent.is_dir() and not any(there.parent.iterdir()):
+            there.parent.rmdir()
+
+
+def put_in():
+    """Puts the edits of this turn into must-fail, and answers the names of their crates."""
+    put_out()
+    crates = sorted(folder.parent for folder in ROOT.glob("crates/*/by-turns"))[turn() :: THIRDS]
+    for crate in crates:
+        for edit in (crate / "by-turns").glob("*.edit"):
+            (crate / "must-fail").mkdir(exist_ok=True)
+            shutil.copy(edit, crate / "must-fail")
+    return [crate.name for crate in crates]
+
+
 def main():
+    signal.signal(signal.SIGTERM, lambda *_: sys.exit(1))
+    try:
+        names = put_in()
+        print(f"Of the wrong bodies that are tried by turns, it tries those of {', '.join(names) or 'no crate'}.", flush=True)
+        sys.exit(run())
+    finally:
+        put_out()
+
+
+def run():
+    """Runs `rt ci` and tells of it; the answer is its status."""
     start, said = time.monotonic(), time.monotonic()
-    ended, turn = threading.Event(), threading.Lock()
+    ended, telling = threading.Event(), threading.Lock()
 
     def say(text):
         nonlocal said
-        with turn:
+        with telling:
             said = time.monotonic()
             seconds = int(said - start)
             print(f"{seconds // 60:4} min {seconds % 60:02} s  {text}", flush=True)
@@ -34,13 +83,17 @@ def main():
     gate = subprocess.Popen(["rt", "ci"], stdout=subprocess.PIPE, text=True, errors="replace", env={**os.environ, "PYTHONUNBUFFERED": "1"})
     threading.Thread(target=wait, daemon=True).start()
     last = ""
-    for line in gate.stdout:
-        last = line.strip() or last
-        say(line.rstrip("\n"))
-    status = gate.wait()
+    try:
+        for line in gate.stdout:
+            last = line.strip() or last
+            say(line.rstrip("\n"))
+        status = gate.wait()
+    finally:
+        # (where this program is ended, what it has begun is too)
+        gate.terminate()
     ended.set()
     print(last, flush=True)
-    sys.exit(status if status >= 0 else 1)
+    return status if status >= 0 else 1
 
 
 if __name__ == "__main__":

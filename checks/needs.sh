@@ -74,7 +74,7 @@ if command -v python3 >/dev/null && ! python3 -c 'import sys; sys.exit(sys.versi
   lacks "a python3 of 3.8 or later: this one is $(python3 --version 2>&1)"
 fi
 case $what in
-  demo) tools="cmp cut diff grep mktemp realpath sed seq sort tail uniq wc" ;; # (and a C compiler, where its part is to be linked)
+  demo) tools="awk cmp cut diff grep mktemp realpath sed seq sort tail uniq wc" ;; # (and a C compiler, where its part is to be linked)
   link) tools="${CC:-cc} ar mktemp nm sed" ;;
   *) tools= ;;
 esac
@@ -92,7 +92,7 @@ processors=$(python3 -c 'import os; print(len(os.sched_getaffinity(0)))')
 [ "$processors" = 1 ] && on="one processor" || on="$processors processors"
 case $what in
   demo) first="ctlog, ctmonitor, libwagtenib, growth_lines and the crates below them. Where nothing was proved before, that" ;;
-  serve) first="ctlogd and the crates below it. Where nothing was proved before, that" ;;
+  serve) first="ctlogd, ctguard and the crates below them. Where nothing was proved before, that" ;;
   link) first="the library and the crates below it. Where nothing was proved before, that" ;;
   test) first="everything, from nothing. That" ;;
   *) exit 0 ;;

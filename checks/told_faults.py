@@ -2,24 +2,52 @@
 """No fault is told at will. No contract can say that a reader, a writer or the start of a thread failed, nor why nothing was shown or nobody came
 in time. So where the sources of a crate (but those of tests) tell such a fault, that place is named here with its reason: behind a call that
 failed, behind the last turn of a bounded loop, or where another's fault is handed on. Conversions (`impl From`) may tell them, and patterns, types
-and imports may name them. What is told behind the last turn over lines or calls stands right behind a loop of 2^50 turns, which nothing breaks off. The script
-prints each file in which a fault is told more or less often than this table says, or in which such a loop is another, and ends with status 1
-where there is one."""
+and imports may name them. Such faults too are an error of std's input and output and its kind, what tells of one (a call that failed, a value that
+was handed back), and a call of std that may fail by itself. What is told behind the last turn over lines or calls stands right behind a loop of
+2^50 turns, which nothing breaks off, or a test whether there were 2^50. And since std's contracts don't say what a process's status is, the `main`
+of a program ends with the one status that it was answered, and makes none up; and how long a line waits are the numbers of this table. The script
+prints each file in which a fault is told more or less often than this table says, or in which such a loop, a test, an end or a number is another,
+and ends with status 1 where there is one."""
 import re
 import sys
 
 from source import blanked, closing, crates, is_for_tests, line_of, sources, without_clauses
 from want_of_memory import BEHIND, asked, blocks, declared
 
-FAULT = re.compile(r"\b(?:\w*Fault|Refusal)::(Read|Write|Threads|Closed|Late|Stopped|Endless)\b")
+FAULT = re.compile(
+    r"\b(?:\w*Fault|Refusal)::(Read|Write|Threads|Closed|Late|Stopped|Endless)\b|\b(?:io::)?(Error)::(?:from|new|other)\b|\b(ErrorKind)::\w+"
+    r"|\b(NotAppended|ReadFailed|Stopped|Unwritten|WriteFailed)\b|\.(read_exact|read_to_end|read_to_string|read_until|write_all|write_fmt)\s*\("
+)
 # A loop behind whose last turn a fault is told, and how many turns it makes.
 LOOP = re.compile(r"\bfor turn in 0\.\.([A-Z]+) \{")
+# A test behind which a fault is told at once.
+LIMIT = re.compile(r"\bif self\.\w+ == ([A-Z]+) \{\s*return Err\((?:io::Error::from\()?")
 TURNS = "1 << 50"
+# How a program ends. No number stands in the file, since a status that is made up is one, but the 1 behind a fault that is told.
+END = re.compile(r"\bExitCode::from\(status\)\s*\}\s*$")
+TELLS = re.compile(r"\btell\([^;]*\);\s*1\s*\}")
+# How long a line waits.
+WAITS = {
+    "ct_live/src/live.rt": {"TURNS": "50_000_000"},
+    "ctlog/src/program.rt": {"TURNS": "50_000_000"},
+    "ct_parties/src/waiting.rt": {"LOOKS": "1_024", "TURNS_IN_A_ROW": "256", "TURNS_ASLEEP": "16_384"},
+}
 # How often each file tells each of these faults, and where.
 TOLD = {
     "ct_follow/src/program.rt": {"Read": (1, "behind the last turn over the lines")},
     "ct_guard_lines/src/program.rt": {"Read": (1, "behind the last turn over the lines")},
-    "ct_lines/src/serving.rt": {"Endless": (1, "behind the last turn over the reader's calls")},
+    "ct_lines/src/lines.rt": {
+        "Error": (2, "behind the last turn over a line's pieces, and the last line's number"),
+        "ErrorKind": (3, "of these, and of a call that was interrupted"),
+    },
+    "ct_lines/src/sending.rt": {
+        **dict.fromkeys(("Error", "ErrorKind"), (1, "the writer took no bytes")),
+        "Unwritten": (2, "the output couldn't be written, or handed on"),
+    },
+    "ct_lines/src/serving.rt": {
+        "Endless": (1, "behind the last turn over the reader's calls"),
+        **dict.fromkeys(("ReadFailed", "WriteFailed"), (1, "with the reader's, or the writer's, error")),
+    },
     "ct_live/src/closed.rt": {"Read": (1, "behind the last turn over the lines")},
     "ct_live/src/ending.rt": {
         "Write": (2, "the writer's thread, or the last head's writing, failed"),
@@ -27,15 +55,26 @@ TOLD = {
         "Stopped": (1, "a pattern beside another"),
     },
     "ct_live/src/giving.rt": {"Stopped": (1, "all are to end")},
+    "ct_live/src/live.rt": {"Threads": (1, "in place of Read, where all were to end")},
     "ct_live/src/operator.rt": {"Stopped": (1, "all are to end")},
     "ct_live/src/threads.rt": {"Threads": (2, "the reader's thread didn't start; the operator isn't there"), "Stopped": (1, "the operator isn't there")},
+    "ct_options/src/command.rt": {"ErrorKind": (2, "clap's kinds of a refusal, which clauses pin")},
     "ct_parties/src/front_work.rt": {"Late": (1, "behind the last turn of a line that waits")},
     "ct_parties/src/operator_work.rt": {"Late": (1, "behind the last turn of a line that waits")},
     "ct_parties/src/reading.rt": {"Read": (1, "behind the last turn over the lines")},
     "ct_parties/src/script.rt": {"Write": (1, "the output couldn't be written")},
     "ct_parties/src/threads.rt": {"Threads": (3, "a front's or the operator's thread didn't start, or didn't begin")},
+    "ct_pipes/src/ahead.rt": {
+        "Error": (2, "there was no memory to read into; all are to end"),
+        "ErrorKind": (2, "a call that was interrupted; all are to end"),
+    },
     "ct_pipes/src/answering.rt": {"Stopped": (1, "all are to end")},
+    "ct_pipes/src/output.rt": {"WriteFailed": (3, "the writer took no bytes, failed, or couldn't hand on")},
+    "ct_pipes/src/post.rt": {"Stopped": (1, "all are to end")},
     "ct_pipes/src/workers.rt": {"Threads": (1, "a party's thread didn't start"), "Stopped": (1, "a party's own is handed on")},
+    "ct_tiled_entries/src/entries.rt": {"Unwritten": (1, "of a leaf's bytes that weren't made, a conversion of its own")},
+    "ct_step_lines/src/program.rt": {"Read": (1, "behind the last turn over the lines")},
+    "ct_versions/src/shelf.rt": {"NotAppended": (2, "`append` handed it back")},
     "ct_versions/src/viewer.rt": {"Closed": (3, "nothing is shown, or what is shown is behind what was learnt")},
 }
 
@@ -48,17 +87,36 @@ def told(text):
     for found in FAULT.finditer(text):
         behind = text[found.end() : text.find("\n", found.end())]
         if not (any(start <= found.start() < end for start, end in allowed) or BEHIND.match(behind)):
-            yield found.start(), found.group(1)
+            yield found.start(), next(filter(None, found.groups()))
+
+
+def is_whole(text, name):
+    """Whether a constant is so many turns."""
+    return re.search(rf"\bconst {name}: u64 = {TURNS};", text) is not None
 
 
 def loops(text):
-    """The loops over turns: the place behind each, where it makes so many turns and nothing breaks it off, and else none."""
+    """The loops over turns, and the tests: the place behind each, where it makes so many turns and nothing breaks it off, and else none."""
     text = without_clauses(blanked(text))
     for found in LOOP.finditer(text):
         end = closing(text, found.end() - 1)
-        is_whole = re.search(rf"\bconst {found.group(1)}: u64 = {TURNS};", text) and not re.search(r"\bbreak\b", text[found.end() : end])
-        behind = re.match(r"\s*Err\(", text[end:])
-        yield end + len(behind.group()) if is_whole and behind else None
+        behind = re.match(r"\s*Err\((?:io::Error::from\()?", text[end:])
+        goes_on = is_whole(text, found.group(1)) and not re.search(r"\bbreak\b", text[found.end() : end])
+        yield end + len(re.match(r"\s*Err\(", text[end:]).group()) if goes_on and behind else None
+    for found in LIMIT.finditer(text):
+        if is_whole(text, found.group(1)):
+            yield text.index("Err(", found.start()) + len("Err(")
+
+
+def ends_and_waits(text, name):
+    """What is wrong with how a program ends, and how long a line waits there."""
+    text = without_clauses(blanked(text))
+    if name.endswith("/main.rt") and "ExitCode" in text:
+        if not END.search(text) or text.count("ExitCode::") != 1 or re.search(r"(?<![\w.])\d", TELLS.sub("", text)):
+            yield f"{name} ends with another status than it is answered, or makes one up"
+    for word, number in WAITS.get(name, {}).items():
+        if not re.search(rf"\bconst {word}: u64 = {number};", text):
+            yield f"{name} has another {word} than {number}"
 
 
 def main():
@@ -67,6 +125,7 @@ def main():
         for path in [] if is_for_tests(crate) else sources(crate):
             text, name = path.read_text(), str(path.relative_to(path.parents[2]))
             places, ends = list(told(text)), set(loops(text))
+            differ += ends_and_waits(text, name)
             if None in ends:
                 differ.append(f"{name} has a loop over turns that isn't of {TURNS}, or is broken off, or has no error behind it")
             for fault in sorted({fault for _, fault in places} | set(TOLD.get(name, {}))):
@@ -74,7 +133,7 @@ def main():
                 often, reason = TOLD.get(name, {}).get(fault, (0, ""))
                 if len(lines) != often:
                     differ.append(f"{name} tells {fault} in {len(lines)} places: lines {', '.join(map(str, lines)) or 'none'}")
-                if reason.startswith("behind the last turn over") and not {at for at, other in places if other == fault} <= ends:
+                if "behind the last turn over" in reason and not {at for at, other in places if other == fault} <= ends:
                     differ.append(f"{name} tells {fault} elsewhere than right behind such a loop")
     if differ:
         print("\n".join(differ))

@@ -6,15 +6,15 @@ memory (the case `Memory` of an enum, or std's `AllocError`) stands only inside 
 into an error, or a conversion that passes on an error which tells of one; everywhere else it comes by `?`. Types (in the body of a struct or an
 enum, a signature, an `impl`'s head, behind `let x:` or in angle brackets), imports and patterns may name it. The library for C has a number for
 it, 8, which stands only behind a pattern that names it. No growth is asked for that may be more than a machine has room for: how many places it
-asks for is a sum of lengths, of parameters, and of literals below 2^20, by way of `let`s of its function and constants of its crate (`capacity.py`);
-only shared_list/src/count.rt asks for all places that there are, behind the last number. And none names `forget`, `leak` or `ManuallyDrop`. The
-script prints each place that breaks this, and ends with status 1 where there is one. Before that it tries itself on lines of its own, wrong ones
-and right ones.
+asks for is a sum of lengths, of parameters, and of literals below 2^20, by way of `let`s of its function and constants, and so is what each call
+gives for such a parameter (`capacity.py`); only shared_list/src/count.rt asks for all places that there are, behind the last number. And none
+names `forget`, `leak` or `ManuallyDrop`. The script prints each place that breaks this, and ends with status 1 where there is one. Before that
+it tries itself on lines of its own, wrong ones and right ones.
 """
 import re
 import sys
 
-from capacity import constants, growths
+from capacity import calls, constants, growths
 from source import blanked, closing, crates, is_for_tests, line_of, sources, without_clauses
 
 NAMES = re.compile(r"\b(?:Memory|OutOfMemory|AllocError|AllocFailed)\b")
@@ -92,14 +92,15 @@ def numbers(text):
             yield found.start()
 
 
-def made_up(text, crate, path, known):
-    """The places of a source at which want of memory is made up, or a value is kept from being let go; with the constants of its crate."""
+def made_up(text, crate, path, known, given=None):
+    """The places of a source at which want of memory is made up, or a value is kept from being let go; with the constants of its crate. The
+    parameters that say how many places a growth asks for join `given`."""
     text = without_clauses(blanked(text))
     found = set(named_in_expressions(text)) | {hit.start() for hit in KEPT.finditer(text)}
     if crate == NUMBERED:
         found |= set(numbers(text))
     if not path.endswith(COUNT):
-        found |= set(growths(text, known))
+        found |= set(growths(text, known, given))
     return sorted(found)
 
 
@@ -132,6 +133,10 @@ fn f(alloc: Global) -> Answer { let room = Joined::with_room(alloc, HUGE)?; }
 fn f(alloc: Global) -> Answer { let room: Vec<u8> = Vec::with_capacity(alloc, usize::MAX / 2)?; }
 fn f(alloc: Global, mut len: usize) -> Answer { len <<= 40; let room: Vec<u8> = Vec::with_capacity(alloc, len)?; }
 fn f(alloc: Global) -> Answer { let mut len = 1; len = usize::MAX; let room: Vec<u8> = Vec::with_capacity(alloc, len)?; }
+fn f(alloc: Global) -> Answer { let (sent, taken) = RingBuffer::new(alloc, 1 << 60)?; }
+fn f(alloc: Global) -> Answer { let (sent, taken) = RingBuffer::<u8>::new(alloc, 1 << 60)?; }
+fn f(alloc: Global, text: &str) -> Answer { let room = text.repeat(alloc, usize::MAX)?; }
+fn f(items: &mut Vec<u8>) -> Answer { items.resize_with(1 << 62, || 0)?; }
 std::mem::forget(value);
 Err(_) => 8,
 Err(_) => 8_u32,
@@ -169,11 +174,34 @@ DecodeFault::Memory => 8,
 let eight = [0u8; 8];"""
 
 
+GIVEN_TOO_MUCH = """fn g<F: Fn(u8) -> u8>(alloc: Global, f: F, count: usize) -> Answer { Vec::with_capacity(alloc, count) } fn h(alloc: Global) -> Answer { g(alloc, f, 1 << 62) }
+impl A { fn g(&self, count: usize) -> Answer { vec![in alloc; 0; count + 1] } fn h(&self, most: usize) -> Answer { self.g(most) } fn i(&self) -> Answer { self.h(usize::MAX) } }"""
+GIVEN = """fn g(alloc: Global, count: usize) -> Answer { Vec::with_capacity(alloc, count) } fn h(alloc: Global, list: &[u8]) -> Answer { g(alloc, list.len()) }
+impl A { fn g(&self, count: usize) -> Answer { vec![in alloc; 0; count] } fn h(&self, most: usize) -> Answer { self.g(most) } fn i(&self) -> Answer { self.h(CAPACITY) } }"""
+
+
+def given_too_much(texts, asked):
+    """The places of these sources, each (a name, a text, constants), at which a call may give more for one of these parameters, or for one whose value
+    is handed on to them: as (a name, a place)."""
+    left, found = asked, []
+    while left:
+        more = set()
+        for name, text, known in texts:
+            found += [(name, at) for at in calls(without_clauses(blanked(text)), left, known, more)]
+        left = more - asked
+        asked = asked | more
+    return sorted(set(found))
+
+
 def try_itself():
     """Judges the lines above, each as a source of its own."""
     known = constants(["const CAPACITY: usize = 8_192;", "const HUGE: u16 = u16::MAX;"])
     missed = [line for line in WRONG.splitlines() if not made_up(f"{line}{closers(line)}\n", NUMBERED, "lines", known)]
     missed += [line for line in RIGHT.splitlines() if made_up(f"{line}{closers(line)}\n", NUMBERED, "lines", known)]
+    for line in (GIVEN_TOO_MUCH + "\n" + GIVEN).splitlines():
+        asked = set()
+        made_up(line, NUMBERED, "lines", known, asked)
+        missed += [line] if bool(given_too_much([("lines", line, known)], asked)) != (line in GIVEN_TOO_MUCH) else []
     if missed:
         sys.exit("checks/want_of_memory.py judges lines of its own wrongly:\n" + "\n".join(missed))
 
@@ -185,17 +213,20 @@ def closers(line):
 
 def main():
     try_itself()
-    places = []
+    places, texts, asked = [], [], set()
+    everywhere = constants(blanked(path.read_text()) for crate in crates() for path in sources(crate))
     for crate in crates():
         if is_for_tests(crate):
             continue
-        texts = {path: path.read_text() for path in sources(crate)}
-        known = constants(blanked(text) for text in texts.values())
-        for path, text in texts.items():
-            name, lines = str(path.relative_to(path.parents[3])), text.splitlines()
-            places += [f"{name}:{line_of(text, at)}: {lines[line_of(text, at) - 1].strip()}" for at in made_up(text, crate, name, known)]
-    for place in places:
-        print(place)
+        own = {str(path.relative_to(path.parents[3])): path.read_text() for path in sources(crate)}
+        known = {**everywhere, **constants(blanked(text) for text in own.values())}
+        texts += [(name, text, known) for name, text in own.items()]
+        places += [(name, at) for name, text in own.items() for at in made_up(text, crate, name, known, asked)]
+    lines = {name: text for name, text, _ in texts}
+    places += given_too_much(texts, asked)
+    for name, at in places:
+        line = line_of(lines[name], at)
+        print(f"{name}:{line}: {lines[name].splitlines()[line - 1].strip()}")
     if places:
         print(f"{len(places)} places make up want of memory, where no refused growth is converted, or keep a value from being let go")
         sys.exit(1)

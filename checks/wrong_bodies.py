@@ -1,12 +1,13 @@
 #!/usr/bin/env python3
-"""The wrong bodies beside those that the gate tries: each applies to its crate, and with a crate's name, the prover refuses each.
+"""The wrong bodies beside those that each gate tries: each applies to its crate, and with a crate's name, the prover refuses each.
 
     wrong_bodies.py [CRATE..]
 
 crates/NAME/wrong-bodies/ has edits of the form that crates/NAME/must-fail/ has: a line 'file: PATH', and then pairs of lines 'old: TEXT' and
-'new: TEXT', of which each TEXT stands in that file exactly once. The gate tries those of must-fail alone, a few a crate, since one costs up
-to a minute of a processor. Without a name it looks, in a moment, whether all edits of both folders can be applied, and whether no name
-stands in both. With names it has rt try the crates' edits of this folder, over a copy of the repository with what is proved there.
+'new: TEXT', of which each TEXT stands in that file exactly once. The gate tries those of must-fail, a few a crate, since one costs up to a
+minute of a processor, and by turns those of by-turns (gate.py). Without a name it looks, in a moment, whether all edits of the three folders
+can be applied, and whether no name stands in two. With names it has rt try the crates' edits of wrong-bodies and by-turns, over a copy of the
+repository with what is proved there.
 """
 import pathlib
 import re
@@ -17,6 +18,7 @@ import tempfile
 
 ROOT = pathlib.Path(__file__).resolve().parent.parent
 CRATES = ROOT / "crates"
+FOLDERS = ("must-fail", "by-turns", "wrong-bodies")
 
 
 def why_not(edit, crate):
@@ -43,12 +45,11 @@ def why_not(edit, crate):
 def looked():
     """Whether all edits can be applied; it prints each that can't."""
     found = []
-    for folder in ("must-fail", "wrong-bodies"):
+    for at, folder in enumerate(FOLDERS):
         for edit in sorted(CRATES.glob(f"*/{folder}/*.edit")):
             crate = edit.parent.parent
-            why = why_not(edit, crate)
-            if folder == "wrong-bodies" and (crate / "must-fail" / edit.name).exists():
-                why = "must-fail has one of this name"
+            other = next((it for it in FOLDERS[:at] if (crate / it / edit.name).exists()), None)
+            why = f"{other} has one of this name" if other else why_not(edit, crate)
             if why:
                 found.append(f"{edit.relative_to(ROOT)}: {why}")
     print("\n".join(found), end="\n" * bool(found))
@@ -58,8 +59,8 @@ def looked():
 def tried(names):
     """Whether the prover refuses each edit of these crates' folders."""
     for name in names:
-        if not any((CRATES / name / "wrong-bodies").glob("*.edit")):
-            sys.exit(f"wrong_bodies.py: crates/{name}/wrong-bodies has no edit")
+        if not any(edit for folder in FOLDERS[1:] for edit in (CRATES / name / folder).glob("*.edit")):
+            sys.exit(f"wrong_bodies.py: crates/{name} has no edit in wrong-bodies or by-turns")
     with tempfile.TemporaryDirectory() as room:
         copy = pathlib.Path(room, "copy")
         shutil.copytree(ROOT, copy, symlinks=True, ignore=shutil.ignore_patterns(".git"))
@@ -67,7 +68,9 @@ def tried(names):
         for name in names:
             crate = copy / "crates" / name
             shutil.rmtree(crate / "must-fail", ignore_errors=True)
-            (crate / "wrong-bodies").rename(crate / "must-fail")
+            (crate / "must-fail").mkdir()
+            for edit in (it for folder in FOLDERS[1:] for it in (crate / folder).glob("*.edit")):
+                shutil.copy(edit, crate / "must-fail")
         return subprocess.run(["rt", "must-fail", *names], cwd=copy, check=False).returncode == 0
 
 

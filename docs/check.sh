@@ -1,5 +1,5 @@
 #!/usr/bin/env bash
-# Looks through the documents, in seconds: links, names of files and functions, commands, quotations, and the contracts of PROMISES.md.
+# Looks through the documents, in seconds: links, names of files and functions, commands, quotations, the contracts of PROMISES.md, and their length.
 # make check and make test run it before the proofs.
 set -u
 cd "$(dirname "$0")/.."
@@ -8,4 +8,5 @@ status=0
 python3 checks/documents.py || status=1
 python3 checks/promises.py || status=1
 python3 checks/architecture.py || status=1
+python3 checks/words.py --quiet || status=1
 exit $status
