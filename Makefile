@@ -1,4 +1,4 @@
-.PHONY: help demo test check service service-test service-engines service-faults service-clients cluster cluster-status cluster-stop link install install-library install-ctlog install-ctlogd install-ctmonitor install-ctguard install-cttile fuzz load sweep wrong sources serve tiles interop
+.PHONY: help demo test check service service-test service-engines service-faults service-clients cluster cluster-status cluster-stop link install install-library install-ctlog install-ctlogd install-ctmonitor install-ctguard install-cttile fuzz load sweep wrong sources serve serve-ctlogd tiles interop
 
 SECONDS ?= 60
 RUNS ?= 20
@@ -6,6 +6,7 @@ PREFIX ?= /usr/local
 PORT ?= 8618
 BUILT ?= crates
 CLUSTER ?= ct-cluster
+FOLDER ?= ct-log
 
 PROGRAMS := ctlog ctlogd ctmonitor ctguard cttile
 LIBRARY = $(BUILT)/wagtenib/out/link/libwagtenib
@@ -30,6 +31,9 @@ check: ## for daily work: proves what changed
 	@checks/needs.sh check
 	@$(MAKE) --silent sources
 	rt all check
+
+serve: ## serves a log over HTTP at PORT=8618 out of the folder FOLDER=ct-log, by ctserve over cttile and ctguard; builds what isn't built
+	@service/serve.sh $(FOLDER) $(PORT)
 
 service: ## builds service/out/ctserve, the service in Go (docs/OPERATING.md), and ctcheck, ctload and ctread
 	@checks/needs.sh service
@@ -71,7 +75,7 @@ install: $(PROGRAMS:%=install-%) install-library ## installs what is built, belo
 
 $(PROGRAMS:%=install-%): install-%:
 	@if [ -x $(BUILT)/$*/out/$* ]; then install -d $(TO)/bin && install -m 755 $(BUILT)/$*/out/$* $(TO)/bin && echo "$(PREFIX)/bin/$*"; \
-	else echo "$* isn't built: make demo builds ctlog and ctmonitor, make serve ctlogd and ctguard, and rt run in its folder any other"; fi
+	else echo "$* isn't built: make demo builds ctlog and ctmonitor, make serve cttile and ctguard, make serve-ctlogd ctlogd, and rt run in its folder any other"; fi
 	@if [ $* = ctmonitor ] && [ -x $(BUILT)/$*/out/$* ]; then install -m 755 examples/monitor/watch.sh $(TO)/bin/ctmonitor-watch && echo "$(PREFIX)/bin/ctmonitor-watch"; fi
 
 install-library:
@@ -120,7 +124,7 @@ sources: ## looks through the sources, the documents and the scripts of examples
 	@PYTHONDONTWRITEBYTECODE=1 python3 examples/scripts.py
 
 # LOG="python3 examples/http/stand_in.py" serves a plain log in its place, without the kit.
-serve: ## serves ctlogd over HTTP at PORT=8618 (RFC 6962, section 4), with its journal in ct-state; builds it where it isn't built
+serve-ctlogd: ## serves ctlogd over HTTP at PORT=8618 (RFC 6962, section 4) by an example in Python, with its journal in ct-state; builds it where it isn't built
 	@LOG="$(LOG)" examples/http/serve.sh --port $(PORT)
 
 interop: ## has certspotter follow a log over HTTP to verified heads, and a client in Go submit to it and check what it answers

@@ -1,14 +1,14 @@
 #!/usr/bin/env bash
-# Says what a target of the Makefile lacks here, and how long it takes on so many processors: needs.sh demo|serve|test|check|link|service|service-test.
+# Says what a target of the Makefile lacks here, and how long it takes on so many processors: needs.sh demo|serve|serve-ctlogd|test|check|link|service|service-test.
 # `needs.sh figures` prints the times on four processors, with which examples/scripts.py compares README.md, and `needs.sh write` writes them there.
 set -u
 cd "$(dirname "$0")/.."
 what=$1
 missing=0
 
-# The processor minutes that a target takes where nothing was proved before, by a run of the gate over so many crates, from which demo, serve and
-# link are reckoned. After another run: put its figures into this line, and let `needs.sh write` put the times into README.md.
-work_of() { local demo=46 serve=48 link=6 test=126 crates=28 && echo "${!1}"; }
+# The processor minutes that a target takes where nothing was proved before, by a run of the gate over so many crates, from which demo, serve,
+# serve-ctlogd and link are reckoned. After another run: put its figures into this line, and let `needs.sh write` put the times into README.md.
+work_of() { local demo=46 serve=48 ctlogd=48 link=6 test=126 crates=28 name=${1#serve-} && echo "${!name}"; }
 
 # The minutes that target $1 takes on $2 processors, rounded to five. Crates are proved side by side: a third is added where processors share
 # them, and more than eight gain little, of a program's own crates more than four.
@@ -92,7 +92,8 @@ processors=$(python3 -c 'import os; print(len(os.sched_getaffinity(0)))')
 [ "$processors" = 1 ] && on="one processor" || on="$processors processors"
 case $what in
   demo) first="ctlog, ctmonitor, libwagtenib, growth_lines and the crates below them. Where nothing was proved before, that" ;;
-  serve) first="ctlogd, ctguard and the crates below them. Where nothing was proved before, that" ;;
+  serve) first="cttile, ctguard and the crates below them. Where nothing was proved before, that" ;;
+  serve-ctlogd) first="ctlogd, ctguard and the crates below them. Where nothing was proved before, that" ;;
   link) first="the library and the crates below it. Where nothing was proved before, that" ;;
   test) first="everything, from nothing. That" ;;
   *) exit 0 ;;

@@ -5,8 +5,8 @@
 #   cluster.sh status FOLDER         says what runs and what it said last
 #   cluster.sh stop FOLDER           ends it; ctcheck judges what it published and answered
 # RATE=20 is how many submissions the loader sends a second, 0 as many as are answered; LOAD=no starts neither it nor the reader.
-# STEP is the program that makes the steps, by default the plain stand-in; GUARD the one before the key, ctguard where it is built, and else a
-# second program with its lines. One signer has the key, for all nodes.
+# STEP is the program that makes the steps, cttile where it is built, and else a second program with its lines; GUARD the one before the key,
+# likewise for ctguard; READER makes readers' proofs, by default that second program. One signer has the key, for all nodes.
 set -eu
 here=$(cd "$(dirname "$0")" && pwd)
 what=${1:-} folder=${2:-}
@@ -57,11 +57,11 @@ addresses() {
   register=etcd://${STORES_MEMBERS-}/log
 }
 
-# guard: the command of the guard.
-guard() {
-  local built=$here/../crates/ctguard/out/ctguard
-  [ -x "$built" ] || built="python3 $here/../examples/guard/model.py"
-  echo "${GUARD:-$built}"
+# command_of NAME MODEL: the command of a proved program where it is built, and else of its model.
+command_of() {
+  local built=$here/../crates/$1/out/$1
+  [ -x "$built" ] || built="python3 $here/../examples/$2"
+  echo "$built"
 }
 
 nodes() { find "$folder" -maxdepth 1 -name 'node-*.conf' | sed 's/^.*node-\([0-9]*\)\.conf$/\1/' | sort -n; }
@@ -77,7 +77,8 @@ nodes-address    http://127.0.0.1:$((port + 20 + i))/
 nodes-secret     $folder/secret
 signer-at        $folder/signer
 roots            $folder/roots.pem
-step             ${STEP:-python3 $here/../examples/tiles/step.py}
+step             ${STEP:-$(command_of cttile tiles/step.py)}
+reader           ${READER:-python3 $here/../examples/tiles/step.py}
 register         $register
 places           $register
 store            $bucket
@@ -115,7 +116,7 @@ start() {
     for i in $(nodes); do ! id=$(process "node-$i") || kill -HUP "$id"; done
   fi
   process signer >/dev/null || rm -f "$folder/signer"
-  launch signer "$programs/ctserve" signer --signing-key "$folder/log.key" --guard "$(guard)" --guard-state "file:$folder/guard" --listen "$folder/signer" ${create:+"$create"}
+  launch signer "$programs/ctserve" signer --signing-key "$folder/log.key" --guard "${GUARD:-$(command_of ctguard guard/model.py)}" --guard-state "file:$folder/guard" --listen "$folder/signer" ${create:+"$create"}
   for _ in $(seq 300); do
     [ ! -S "$folder/signer" ] || break
     sleep 0.1

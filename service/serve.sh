@@ -1,0 +1,71 @@
+#!/usr/bin/env bash
+# Serves one log of ctserve out of a folder, on loopback: serve.sh [FOLDER] [PORT] [SETTING..], by default ct-log and 8618; settings go to ctserve.
+# The first start makes the log in FOLDER: its key (log.key, log.pem), a root of its own to try it with (root.key, root.pem) and a chain that
+# leads there (chain.json); later ones go on with it. ROOTS is a file with the roots besides, in PEM; by default the system's.
+# STEP and GUARD are the log's programs, READER the one that makes readers' proofs; by default cttile and ctguard, which are proved and built where
+# they aren't, and examples/tiles/step.py, which isn't proved. ORIGIN=ct-log.example is the log's name in checkpoints.
+set -eu
+here=$(cd "$(dirname "$0")" && pwd)
+folder=${1:-ct-log} port=${2:-8618}
+[ $# -lt 2 ] && shift $# || shift 2
+crates=$here/../crates
+missing=
+[ -n "${STEP:-}" ] || [ -x "$crates/cttile/out/cttile" ] || missing+=" cttile"
+[ -n "${GUARD:-}" ] || [ -x "$crates/ctguard/out/ctguard" ] || missing+=" ctguard"
+"$here/../checks/needs.sh" service
+if [ -n "$missing" ]; then
+  "$here/../checks/needs.sh" serve
+  # (each word is a crate)
+  # shellcheck disable=SC2086
+  "$here/../examples/build.py" $missing
+fi
+"$here/build.sh" build
+export PYTHONDONTWRITEBYTECODE=1
+mkdir -p "$folder"
+folder=$(cd "$folder" && pwd)
+settings=(--origin "${ORIGIN:-ct-log.example}" --listen "127.0.0.1:$port" --operator-listen "127.0.0.1:$((port + 1))" --signing-key "$folder/log.key"
+  --roots "$folder/roots.pem" --folder "$folder/log" --step "${STEP:-$crates/cttile/out/cttile}" --guard "${GUARD:-$crates/ctguard/out/ctguard}"
+  --reader "${READER:-python3 $here/../examples/tiles/step.py}" "$@")
+
+# make: key, root and chain, and the log, which is ready once before it is served.
+make() {
+  local name log
+  cd "$folder"
+  for name in log root leaf; do openssl ecparam -name prime256v1 -genkey -noout -out "$name.key"; done
+  openssl ec -in log.key -pubout -out log.pem 2>/dev/null
+  openssl req -x509 -key root.key -subj "/CN=a root to try a log with" -days 3650 -out root.pem
+  openssl req -new -key leaf.key -subj /CN=www.example.org |
+    openssl x509 -req -CA root.pem -CAkey root.key -set_serial 1 -days 90 -out leaf.pem 2>/dev/null
+  printf '{"chain":["%s","%s"]}\n' "$(openssl x509 -in leaf.pem -outform DER | base64 -w 0)" "$(openssl x509 -in root.pem -outform DER | base64 -w 0)" >chain.json
+  cp root.pem roots.pem
+  "$here/out/ctserve" "${settings[@]}" --create 2>create.log &
+  log=$!
+  until grep -q '"event":"serving"' create.log; do
+    kill -0 "$log" 2>/dev/null || { cat create.log >&2; return 1; }
+    sleep 0.1
+  done
+  kill -TERM "$log"
+  wait "$log"
+  touch made
+}
+
+# (a log is made once: one whose objects are there and whose register isn't would be another one of that name)
+if [ ! -e "$folder/made" ]; then
+  if [ -e "$folder/log" ]; then
+    echo "serve.sh: $folder/log is of a first start that didn't come to its end: look at it, or take the folder away" >&2
+    exit 1
+  fi
+  (umask 077 && make)
+fi
+roots=${ROOTS:-/etc/ssl/certs/ca-certificates.crt}
+[ -n "${ROOTS:-}" ] || [ -e "$roots" ] || roots=/dev/null
+cat "$folder/root.pem" "$roots" >"$folder/roots.pem"
+cat <<END_OF_TEXT
+A log in $folder:
+  a page        http://127.0.0.1:$port/
+  its head      curl http://127.0.0.1:$port/checkpoint
+  a submission  curl -d @$folder/chain.json http://127.0.0.1:$port/ct/v1/add-chain
+  figures       curl http://127.0.0.1:$((port + 1))/metrics
+  its key       $folder/log.pem
+END_OF_TEXT
+exec "$here/out/ctserve" "${settings[@]}"
