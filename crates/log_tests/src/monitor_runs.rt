@@ -204,7 +204,8 @@ const HELP_BEGINS: &str = "Usage: ctmonitor [OPTIONS] < lines > verdicts
 Options:
       --name <NAME>  ";
 
-const HELP_ENDS: &str = "\n  4  a line was none of a log's or was refused, or the state wasn't taken up\n";
+const HELP_ENDS: &str =
+    "\n  4  a line was none of a log's or was refused, or the state wasn't taken up\n";
 
 const UNNAMED: &str = "error: a value is required for '--name <NAME>' but none was supplied
 
