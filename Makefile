@@ -120,6 +120,7 @@ sources: ## looks through the sources, the documents and the scripts of examples
 	@PYTHONDONTWRITEBYTECODE=1 python3 checks/definitions.py
 	@PYTHONDONTWRITEBYTECODE=1 python3 checks/wrong_bodies.py
 	@PYTHONDONTWRITEBYTECODE=1 python3 checks/header.py
+	@PYTHONDONTWRITEBYTECODE=1 python3 checks/layout.py
 	@docs/check.sh
 	@PYTHONDONTWRITEBYTECODE=1 python3 examples/scripts.py
 

@@ -1,0 +1,26 @@
+#!/usr/bin/env python3
+"""The sources of all crates have the layout of `rt fmt`, without which `rt ci` refuses a crate. Where the kit isn't on the PATH, this says so and ends well.
+
+It ends with status 1 where a file has another layout, and names it.
+"""
+import pathlib
+import shutil
+import subprocess
+import sys
+
+from source import ROOT
+
+
+def main():
+    rt = shutil.which("rt")
+    if rt is None:
+        print("checks/layout.py: the layout isn't looked at, for want of the kit.")
+        return 0
+    files = sorted(str(path.relative_to(ROOT)) for part in ("src", "specs", "proofs") for path in ROOT.glob(f"crates/*/{part}/**/*") if path.suffix in (".rt", ".antt"))
+    ran = subprocess.run([pathlib.Path(rt).resolve().parent / "rattle", "fmt", "--check", *files], cwd=ROOT, stdout=subprocess.DEVNULL, stderr=subprocess.PIPE, text=True)
+    print(ran.stderr, end="")
+    return 1 if ran.returncode else 0
+
+
+if __name__ == "__main__":
+    sys.exit(main())
