@@ -1,27 +1,34 @@
 #!/usr/bin/env python3
 """Gives the built programs a line of 400 MB, and looks that they hold little of it: long_lines.py [NAME..]
 
-A log or a client that is mistrusted may never end its line. ctlog, ctlogd, ctmonitor and ctguard, or those that are named, are given such a
-line and a good one behind it: the first is replied to with `bad-line`, the second as if it stood alone, and no program takes more than
-64 MB of memory, its own and this script's. Those that aren't built are named. The status is 1 where something isn't so.
+A log or a client that is mistrusted may never end its line. ctlog, ctlogd, ctmonitor, ctguard and cttile, or those that are named, are given
+such a line and a good one behind it: the first is replied to with `bad-line`, the second as if it stood alone, and no program takes more than
+64 MB of memory, its own and this script's, but for cttile, whose longest good line has 64 MB: twice that. Those that aren't built are named.
+The status is 1 where something isn't so.
 """
+import base64
 import os
 import subprocess
 import sys
 
 from sweep import CRATES
 
-PIECE, PIECES, MOST = b" " * (1 << 20), 400, 64 << 10
+PIECE, PIECES, MOST = b" " * (1 << 20), 400, {"cttile": 128 << 10}
 LOG, FROZEN = ["--fronts", "1", "--ring", "4", "--close-at", "7"], b'{"who":"frozen","op":"get-sth"}'
 ROOT = "47DEQpj8HBSa+/TImW+5JCeuQeRkm5NMpJWZG3hSuFU="
 HEAD = f'{{"sha256_root_hash":"{ROOT}","timestamp":7,"tree_size":0}}'
 BAD = '{"error":"bad-line"}'
+REFUSED = '{"refused":"bad-line"}'
+# The bytes under the head of no leaves at the moment 7 (RFC 6962, section 3.5), in base64, and a log's first state at that moment (docs/GROWTH.md).
+SIGNED = base64.b64encode(b"\0\1" + (7).to_bytes(8, "big") + bytes(8) + base64.b64decode(ROOT)).decode()
+STATE = f"growth {7:032x}{base64.b64decode(ROOT).hex()}{bytes(32).hex()}{base64.b64decode(ROOT).hex()}{bytes(32).hex()}"
 # The words, the good line, how an output begins, and the status.
 PROGRAMS = {
     "ctlog": (LOG, FROZEN, f"{BAD}\n{HEAD}\n", 0),
     "ctlogd": (LOG, b'{"who":"operator","op":"close","now":7}', f'{{"line":0,"reply":{BAD}}}\n{{"line":1,"reply":{{"timestamp":7,"tree_size":0}}}}\n', 0),
     "ctmonitor": ([], HEAD.encode(), f'{BAD}\n{{"tree_size":0,"verdict":"accepted"}}\n', 4),
-    "ctguard": ([], HEAD.encode(), f"{BAD}\n", 4),
+    "ctguard": ([], f'{{"consistency":[],{HEAD[1:]}'.encode(), f'{REFUSED}\n{{"sign":"{SIGNED}","state":{{"guard":1,"last":{HEAD}}}}}\n', 4),
+    "cttile": ([], b'{"begin":7}', f'{REFUSED}\n{{"state":"{STATE}"}}\n', 4),
 }
 
 
@@ -49,7 +56,7 @@ def main():
         output, status, taken = written(program, words, good)
         if not output.startswith(wanted) or status != due:
             sys.exit(f"long_lines.py: {name} ends with status {status} and writes {output[:400]}")
-        if taken > MOST:
+        if taken > MOST.get(name, 64 << 10):
             sys.exit(f"long_lines.py: {name} took {taken >> 10} MB for a line of {PIECES} MB")
         print(f"{name}: {taken >> 10} MB for a line of {PIECES} MB")
 
