@@ -89,10 +89,10 @@ def note_line(name, data):
     return f"\u2014 {name} {answers.text(data)}\n"
 
 
-def note(leaves, moment):
+def note(leaves, moment, signed=bytes(71)):
     """A checkpoint's note (C2SP static-ct-api) with three signatures that are made up: one of Ed25519 in the log's name, a witness's, and the log's with
     the moment."""
-    signature = struct.pack(">4sQBBH", b"key2", moment, 4, 3, 71) + bytes(71)
+    signature = struct.pack(">4sQBBH", b"key2", moment, 4, 3, len(signed)) + signed
     other = struct.pack(">4sQBBH", b"key3", 1, 4, 3, 71) + bytes(71)
     lines = [(ORIGIN, b"key1" + bytes(64)), ("witness.example", other), (ORIGIN, signature)]
     return answers.checkpoint(leaves, moment)["checkpoint"] + "\n" + "".join(note_line(*line) for line in lines)
@@ -389,6 +389,34 @@ def try_several(watch, followed, forked):
         fail(f"logs of both kinds: they have no lines: {output}")
 
 
+def try_signatures(folder):
+    """signature.sh takes the checkpoints that a log signed, and no other, by keys that openssl made."""
+    keys, notes = [], []
+    for name in ("log", "another"):
+        subprocess.run(["openssl", "ecparam", "-name", "prime256v1", "-genkey", "-noout", "-out", folder / name], check=True)
+        made = subprocess.run(["openssl", "ec", "-in", folder / name, "-pubout", "-outform", "DER"], capture_output=True, check=True)
+        keys.append(answers.text(made.stdout))
+    for size in (8, 300):
+        bare = struct.pack(">BBQQ32s", 0, 1, size, size, answers.merkle.root(MANY[:size]))
+        made = subprocess.run(["openssl", "dgst", "-sha256", "-sign", folder / "log"], input=bare, capture_output=True, check=True)
+        notes.append(note(MANY[:size], size, made.stdout))
+    both, told = "\n".join(notes), [f"{ORIGIN}, {size} leaves: signed\n" for size in (8, 300)]
+    another = f"{ORIGIN}, 8 leaves: not signed with this key\n"
+    for what, key, given, status, due in [
+        ("two checkpoints", keys[0], both, 0, "".join(told)),
+        ("as the file heads has them", keys[0], both + "\n", 0, "".join(told)),
+        ("another log's key", keys[1], both, 1, another),
+        ("another size", keys[0], both.replace("\n300\n", "\n301\n"), 1, told[0] + another.replace("8", "301")),
+        ("another head's root and signature", keys[0], notes[0].split("\n")[0] + "\n8\n" + notes[1].split("\n", 2)[2], 1, another),
+        ("no signature", keys[0], notes[0].split("\n\n")[0] + "\n", 1, another),
+        ("nothing", keys[0], "", 1, "no checkpoint\n"),
+        ("no key", "AAAA", both, 2, ""),
+    ]:
+        ran = subprocess.run([HERE / "signature.sh", key], input=given, capture_output=True, text=True)
+        if ran.returncode != status or ran.stdout != due:
+            fail(f"signature.sh on {what}: status {ran.returncode} where {status} is due: {ran.stdout}{ran.stderr}")
+
+
 # Judges that don't do as ctmonitor does, with the status that is due.
 BAD_JUDGES = [
     ("is killed", 1, "grep -q . && kill -9 $$; exit 0"),
@@ -474,6 +502,10 @@ def main():
     try_long_lines()
     with tempfile.TemporaryDirectory() as folder:
         roots = try_roots(pathlib.Path(folder))
+        if shutil.which("openssl"):
+            try_signatures(pathlib.Path(folder))
+        else:
+            print("examples/monitor: signature.sh wasn't tried: openssl isn't here.")
     judge, which = " ".join(stand_in), "its stand-in, since ctmonitor isn't built"
     if os.access(BUILT, os.X_OK):
         try_runs([str(BUILT)])
