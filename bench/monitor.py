@@ -4,7 +4,7 @@
 After `rt run -- --help` in crates/ctmonitor, which builds it. Each entry has a leaf of some 1.5 KB, with its index (static-ct-api), in lines of 256
 entries: of get-entries with a chain of 4 KB each, of a data tile with two fingerprints each. Both kinds are run by turns, over the same entries, which are
 written into a pipe as they are read. It prints for each size and kind the medians of the processor time an entry, the highest peak memory, and the times
-over those of get-entries in the same turn.
+over those of the first kind in the same turn.
 """
 import argparse
 import base64
@@ -103,18 +103,19 @@ def main():
     parser = argparse.ArgumentParser()
     parser.add_argument("--sizes", type=int, nargs="*", default=[1000, 10000, 100000])
     parser.add_argument("--turns", type=int, default=5)
+    parser.add_argument("--kinds", nargs="*", choices=KINDS, default=KINDS)
     parser.add_argument("--program", default=str(ROOT / "crates/ctmonitor/out/ctmonitor"))
     args = parser.parse_args()
     print(f"load {os.getloadavg()[0]:.1f} at the start, {args.turns} turns")
     for size in args.sizes:
         top = text(root(hashlib.sha256(b"\0" + leaf(i)).digest() for i in range(size)))
-        turns = [[run(args.program, kind, size, top) for kind in KINDS] for _ in range(args.turns)]
-        for at, kind in enumerate(KINDS):
+        turns = [[run(args.program, kind, size, top) for kind in args.kinds] for _ in range(args.turns)]
+        for at, kind in enumerate(args.kinds):
             seconds = [turn[at][0] for turn in turns]
             ratio = statistics.median(turn[at][0] / turn[0][0] for turn in turns)
             middle, peak = statistics.median(seconds), max(turn[at][1] for turn in turns)
             print(f"{size:8} entries, {kind:11}: {1e6 * middle / size:6.1f} microseconds an entry ({1e6 * min(seconds) / size:.1f} to {1e6 * max(seconds) / size:.1f}, "
-                  f"{ratio:.2f} times get-entries), {peak / 1024:5.1f} MB")
+                  f"{ratio:.2f} times {args.kinds[0]}), {peak / 1024:5.1f} MB")
     print(f"load {os.getloadavg()[0]:.1f} at the end")
 
 
