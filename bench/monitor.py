@@ -23,8 +23,8 @@ FINGERPRINTS = struct.pack(">H64s", 64, b"fingerprints of two issuers")
 KINDS = ("get-entries", "data tiles")
 
 
-def leaf(i):
-    certificate = hashlib.sha512(struct.pack(">Q", i)).digest() * 23 + b"www.example.net"
+def leaf(i, blocks):
+    certificate = hashlib.sha512(struct.pack(">Q", i)).digest() * blocks + b"www.example.net"
     extensions = b"\0\0\5" + i.to_bytes(5, "big")
     return b"".join([b"\0\0", struct.pack(">Q", 1_700_000_000_000 + i), b"\0\0", len(certificate).to_bytes(3, "big"), certificate, b"\0\x08", extensions])
 
@@ -60,7 +60,7 @@ def tile_line(start, leaves):
     return f'{{"tile":"tile/data/{"/".join(groups)}{width}","data":"{text(b"".join(x[2:] + FINGERPRINTS for x in leaves))}"}}\n'
 
 
-def write(pipe, kind, size, top):
+def write(pipe, kind, blocks, size, top):
     """Writes the log's head and all its entries."""
     moment = 1_700_000_000_000 + size
     if kind == KINDS[0]:
@@ -69,7 +69,7 @@ def write(pipe, kind, size, top):
         pipe.write(f'{{"checkpoint":"log.example\\n{size}\\n{top}\\n","timestamp":{moment}}}\n'.encode())
     line = entries_line if kind == KINDS[0] else tile_line
     for start in range(0, size, 256):
-        pipe.write(line(start, [leaf(i) for i in range(start, min(start + 256, size))]).encode())
+        pipe.write(line(start, [leaf(i, blocks) for i in range(start, min(start + 256, size))]).encode())
     pipe.close()
 
 
@@ -84,11 +84,11 @@ def watched(pid):
         time.sleep(0.005)
 
 
-def run(program, kind, size, top):
+def run(program, kind, blocks, size, top):
     """The processor seconds of a run, and its peak in KB."""
     ran = subprocess.Popen([program, "--name", "example.org"], stdin=subprocess.PIPE, stdout=subprocess.PIPE)
     said = []
-    workers = [threading.Thread(target=write, args=(ran.stdin, kind, size, top)), threading.Thread(target=lambda: said.append(ran.stdout.read()))]
+    workers = [threading.Thread(target=write, args=(ran.stdin, kind, blocks, size, top)), threading.Thread(target=lambda: said.append(ran.stdout.read()))]
     for worker in workers:
         worker.start()
     peak = watched(ran.pid)
@@ -104,12 +104,13 @@ def main():
     parser.add_argument("--sizes", type=int, nargs="*", default=[1000, 10000, 100000])
     parser.add_argument("--turns", type=int, default=5)
     parser.add_argument("--kinds", nargs="*", choices=KINDS, default=KINDS)
+    parser.add_argument("--blocks", type=int, default=23, help="how many times 64 bytes a certificate has")
     parser.add_argument("--program", default=str(ROOT / "crates/ctmonitor/out/ctmonitor"))
     args = parser.parse_args()
     print(f"load {os.getloadavg()[0]:.1f} at the start, {args.turns} turns")
     for size in args.sizes:
-        top = text(root(hashlib.sha256(b"\0" + leaf(i)).digest() for i in range(size)))
-        turns = [[run(args.program, kind, size, top) for kind in args.kinds] for _ in range(args.turns)]
+        top = text(root(hashlib.sha256(b"\0" + leaf(i, args.blocks)).digest() for i in range(size)))
+        turns = [[run(args.program, kind, args.blocks, size, top) for kind in args.kinds] for _ in range(args.turns)]
         for at, kind in enumerate(args.kinds):
             seconds = [turn[at][0] for turn in turns]
             ratio = statistics.median(turn[at][0] / turn[0][0] for turn in turns)
