@@ -50,7 +50,7 @@ service-faults: ## kills and stops nodes, members of etcd and radosgw below a lo
 	@checks/needs.sh service-test
 	@service/faults.sh
 
-service-clients: ## has certspotter, Google's client library and x/mod's tlog use a log of ctserve over HTTP, each where it is installed
+service-clients: ## has certspotter, Google's client library, x/mod's tlog and ctmonitor use a log of ctserve over HTTP, each where it is installed
 	@checks/needs.sh service
 	@service/clients.sh
 
@@ -71,7 +71,7 @@ link: ## builds libwagtenib, the proof checkers for C, and runs programs in C, R
 
 # BUILT is the folder in which the crates' builds lie.
 install: $(PROGRAMS:%=install-%) install-library ## installs what is built, below PREFIX=/usr/local: ctlog, ctlogd, ctmonitor, ctguard, cttile, watch.sh as ctmonitor-watch, and libwagtenib
-	@[ -n "$(wildcard $(PROGRAMS:%=$(BUILT)/%/out/%) $(LIBRARY).a)" ] || { echo "make install: nothing is built" >&2; exit 1; }
+	@[ -n "$(wildcard $(foreach program,$(PROGRAMS),$(BUILT)/$(program)/out/$(program)) $(LIBRARY).a)" ] || { echo "make install: nothing is built" >&2; exit 1; }
 
 $(PROGRAMS:%=install-%): install-%:
 	@if [ -x $(BUILT)/$*/out/$* ]; then install -d $(TO)/bin && install -m 755 $(BUILT)/$*/out/$* $(TO)/bin && echo "$(PREFIX)/bin/$*"; \

@@ -1,11 +1,11 @@
 #!/usr/bin/env bash
 # Proves the crates below the programs, and shows something of each layer as soon as it is proved: an audit path as long as a real log's, and
 # forged ones; a log that forks, is rewritten, and shrinks, watched by ctmonitor; ctlog on the first session of README.md and on real certificate
-# chains, through one front and through four at once; its answers watched; and the steps of a log on tiles. Each part quotes what is proved of it, and
-# compares what is written with what is expected.
+# chains, through one front and through four at once; its answers watched; the steps of a log on tiles; and that log watched by ctmonitor, and
+# what is false of it. Each part quotes what is proved of it, and compares what is written with what is expected.
 #
 #     demo.sh          all parts
-#     demo.sh PART     one of them, whose crates are built: path, monitor, log, watched or tiles
+#     demo.sh PART     one of them, whose crates are built: path, monitor, log, watched, tiles or followed
 #
 # With CTLOG=PATH or CTMONITOR=PATH another program with the same command line is run in its place, in the parts of these two alone.
 set -eu
@@ -17,7 +17,7 @@ if [ $# = 0 ]; then
   [ -n "$program" ] || ctlog=ctlog
   [ -n "$monitor" ] || ctmonitor=ctmonitor
   own="monitor=${ctmonitor-} log=${ctlog-} watched=${ctlog-},${ctmonitor-}"
-  [ -n "$program$monitor" ] || own="path=wagtenib $own tiles=growth_lines"
+  [ -n "$program$monitor" ] || own="path=wagtenib $own tiles=growth_lines followed=growth_lines,ctmonitor"
   # (each word is a part)
   # shellcheck disable=SC2086
   exec examples/build.py --show examples/demo.sh $own
@@ -87,12 +87,26 @@ short() {
   sed -E 's/(_hash":"[^"]{8})[^"]+"/\1.."/g' | cut -c1-140 | sed 's/^/    /'
 }
 
-# Watches the made-up log: the lines of run $1 have to give its verdicts and its exit status.
+# Watches a made-up log: the lines of run $1 have to give its verdicts and its exit status, as $2 computed them.
 watch() {
   status=0
   "$monitor" --name microsoft.com --name debian <"$work/$1.in" >"$work/$1.told" || status=$?
-  cmp -s "$work/$1.told" "$work/$1.out" || fail "ctmonitor's verdicts on the run $1 differ from those of examples/monitor/answers.py"
+  cmp -s "$work/$1.told" "$work/$1.out" || fail "ctmonitor's verdicts on the run $1 differ from those of examples/monitor/$2"
   [ "$status" = "$(cat "$work/$1.status")" ] || fail "ctmonitor ended the run $1 with status $status"
+}
+
+# Watches all runs that $1 wrote, and shows those that are named behind it.
+watch_all() {
+  for path in "$work"/*.in; do
+    watch "$(basename "$path" .in)" "$1"
+  done
+  by=$1
+  shift
+  for run in "$@"; do
+    echo "  $run: status $(cat "$work/$run.status")"
+    grep -E '"(verdict|error)"' "$work/$run.told" | short
+  done
+  echo "In each of $(ls "$work"/*.in | wc -l) runs the verdicts, the state and the exit status are those that examples/monitor/$by computes, by hashlib alone."
 }
 
 show_path() {
@@ -116,14 +130,7 @@ ensures compared { IfOk result (λ v. v ≡ Accepted → (D : List (List ℕ)) �
     → IsHeadOfAll H.digest D (waiting_or self.old.waiting head)) }
 END
   python3 examples/monitor/answers.py "$work" || fail "examples/monitor/answers.py failed"
-  for path in "$work"/*.in; do
-    watch "$(basename "$path" .in)"
-  done
-  for run in day1 day2 day3 fork rewritten shrunk; do
-    echo "  $run: status $(cat "$work/$run.status")"
-    grep '"verdict"' "$work/$run.told" | short
-  done
-  echo "In each of $(ls "$work"/*.in | wc -l) runs the verdicts, the state and the exit status are those that examples/monitor/answers.py computes, by hashlib alone."
+  watch_all answers.py day1 day2 day3 fork rewritten shrunk
 }
 
 show_log() {
@@ -191,7 +198,18 @@ END
   echo "An independent program (examples/tiles/growth.py, hashlib alone) computes the same $(grep -c . "$work/growth") lines, of $(grep -c ^receipt "$work/growth") receipts."
 }
 
+show_followed() {
+  echo "== growth_lines | ctmonitor: that log's heads as checkpoints and its leaves as data tiles, and what is false of them =="
+  proved crates/ct_tiled_entries/src/entries.rt "what is told of a data tile is so by its name and bytes: that entries before it are missing, that nothing in it is new, why it is none, or its entries from the next one on, and the first of them that names another index" <<'END'
+ensures { IfOk result (λ a. IsTileAnswer next name.now bytes.now a) }
+END
+  crates/growth_lines/out/growth_lines >"$work/growth" || fail "growth_lines ended with status $?"
+  python3 examples/monitor/grown.py "$work" <"$work/growth" || fail "examples/monitor/grown.py failed"
+  watch_all grown.py first grown forked rewritten shrunk wrong-index cut-short
+  examples/monitor/roots.sh "$work" || fail "golang.org/x/mod/sumdb/tlog computes other roots"
+}
+
 case $1 in
-  path | monitor | log | watched | tiles) "show_$1" ;;
+  path | monitor | log | watched | tiles | followed) "show_$1" ;;
   *) fail "no part is named $1" ;;
 esac

@@ -1,6 +1,6 @@
 #!/usr/bin/env python3
 """Tries the scripts that stand beside the programs, bad_lines.py, pem_lines.py, expected.py, check.py, guard/model.py and those of tiles/ on
-stored input, tiles/step.py on random histories, and monitor/watch.sh on a log of its own. It runs no ctlog.
+stored input, tiles/step.py on random histories, and monitor/watch.sh on logs of its own. It runs no ctlog.
 
 It prints one line where all is as expected; else it says what isn't, and ends with status 1.
 """
@@ -187,6 +187,13 @@ def try_install(folder):
     ran = make_install(folder, folder / "nothing")
     if not ran.returncode or installed(folder):
         fail(f"make install, with nothing built: status {ran.returncode}, {installed(folder)}")
+    alone = folder / "alone" / "ctmonitor" / "out"
+    alone.mkdir(parents=True)
+    (alone / "ctmonitor").write_text("made up")
+    (alone / "ctmonitor").chmod(0o755)
+    ran = make_install(folder / "alone", folder / "alone")
+    if ran.returncode or not (folder / "alone" / "to" / "opt" / "log" / "bin" / "ctmonitor-watch").exists():
+        fail(f"make install, with ctmonitor alone: status {ran.returncode}: {ran.stderr}")
     sources = {"bin/ctlog": "ctlog/out/ctlog", "bin/ctmonitor": "ctmonitor/out/ctmonitor"}
     sources.update({f"lib/libwagtenib.{name}": f"wagtenib/out/link/libwagtenib.{end}" for name, end in (("a", "a"), ("so.0.1.0", "so"))})
     for path in sources.values():

@@ -1,8 +1,9 @@
 #!/usr/bin/env bash
 # Has clients of others use a log of ctserve over HTTP: certspotter follows it by RFC 6962's calls to verified heads of 30 and, from there,
 # of 50 entries; examples/http/client.go submits five more by Google's client library, and checks what is answered; and meanwhile ctread
-# follows its tiles, which golang.org/x/mod/sumdb/tlog reads, to the last leaf and head. At the end ctcheck judges the log from its folder.
-# It wants certspotter, openssl and curl, and for Google's library golang-github-google-certificate-transparency-dev, g++ and libssl-dev; it
+# follows its tiles, which golang.org/x/mod/sumdb/tlog reads, to the last leaf and head. ctmonitor (where it isn't built, its stand-in) watches it by
+# its tiles and by its calls, at 30 entries and at the end, and openssl checks the signatures of the checkpoints that are kept. At the end ctcheck
+# judges the log from its folder. It wants certspotter, openssl and curl, and for Google's library golang-github-google-certificate-transparency-dev, g++ and libssl-dev; it
 # says what it leaves out. STEP, READER and GUARD are the log's programs, as in cluster.sh.
 set -eu
 here=$(cd "$(dirname "$0")" && pwd)
@@ -85,8 +86,22 @@ follow() {
   python3 "$here/../examples/http/verified.py" "$work/certspotter" "$base" "$1" || fail "certspotter has verified no head of $1 entries"
 }
 
+# Has ctmonitor watch the log's head of $1 entries, for the name of the precertificate and of entry 7.
+mkdir "$work/bin"
+monitor="$here/../crates/ctmonitor/out/ctmonitor" which=ctmonitor
+[ -x "$monitor" ] || { monitor="python3 $here/../examples/monitor/stand_in.py" && which="ctmonitor's stand-in"; }
+printf '#!/bin/sh\nexec %s "$@"\n' "$monitor" >"$work/bin/ctmonitor" && chmod +x "$work/bin/ctmonitor"
+watch() {
+  for kind in tiled+ ""; do
+    LOG=$kind$base PATH=$work/bin:$PATH "$here/../examples/monitor/watch.sh" --folder "$work/watched${kind#tiled}" --name cryptography.io --name host-7.example >"$work/watch.told" ||
+      fail "watch.sh ended with status $?: $(cat "$work/watch.told")"
+    grep -q ": accepted $1 leaves\$" "$work/watch.told" || fail "watch.sh accepted another head than that of $1 leaves: $(cat "$work/watch.told")"
+  done
+}
+
 submit 1 29
 curl -sSf -d @"$work/precertificate" "${base}ct/v1/add-pre-chain" >/dev/null || fail "the precertificate is refused"
+watch 30
 if command -v certspotter >/dev/null; then
   printf '.example.org\n.cryptography.io\n' >"$work/watched-names"
   python3 - "$base" "$work/log.pem" >"$work/logs.json" <<'END'
@@ -134,5 +149,13 @@ kill "$reader" && wait "$reader" || fail "ctread didn't end well"
 heads=$(grep -c 'consistent, and all leaves are there$' "$work/ctread.told")
 grep -q "^$size entries were read, and all was right$" "$work/ctread.told" || fail "ctread hasn't read $size entries"
 echo "x/mod's tlog read $heads heads, each consistent with the one before, and all $size leaves."
+watch "$size"
+for verdicts in "$work"/watched*/*/verdicts; do
+  found=$(grep -oE '"(name|type)":"[a-z0-9.-]*"' "$verdicts" | sort | tr -d '\n')
+  [ "$found" = '"name":"cryptography.io""name":"host-7.example""type":"precert""type":"x509"' ] || fail "watch.sh tells of other names: $(cat "$verdicts")"
+done
+signed=$("$here/../examples/monitor/signature.sh" "$(grep -v - "$work/log.pem" | tr -d '\n')" <"$(echo "$work"/watched+/*/heads)") || fail "a checkpoint isn't signed: $signed"
+[ "$(grep -c ': signed$' <<<"$signed")" = 2 ] || fail "other checkpoints are kept than two: $signed"
+echo "watch.sh and $which watched it by its tiles and by its calls, at 30 and $size entries; openssl finds both checkpoints signed."
 kill "${running%% *}" && wait "${running%% *}" || fail "ctserve didn't end well"
 "$here/out/ctcheck" "$work/log/objects" "$work/log.pem"

@@ -40,13 +40,18 @@ def leaf(moment, certificate, key_hash):
     return b"\0\0" + struct.pack(">Q", moment) + kind + len(certificate).to_bytes(3, "big") + certificate + b"\0\0"
 
 
+def tile_text(tree_leaf):
+    """What a data tile of static-ct-api has of a tree's leaf. The precertificate and the chain are made up."""
+    precertificate = b"\0\0\3pre" if tree_leaf[10:12] == b"\0\1" else b""
+    chain = merkle.sha256(b"issuer") + merkle.sha256(b"root")
+    return tree_leaf[2:] + precertificate + len(chain).to_bytes(2, "big") + chain
+
+
 def tile_leaf(moment, certificate, key_hash, index):
-    """A leaf as a data tile of static-ct-api holds it, and the bytes of the tree's leaf. The precertificate and the chain are made up."""
+    """The bytes of a tree's leaf whose extension names this index, and the leaf as a data tile holds it."""
     extensions = b"\0\0\5" + index.to_bytes(5, "big")
     tree_leaf = leaf(moment, certificate, key_hash)[:-2] + len(extensions).to_bytes(2, "big") + extensions
-    precertificate = b"\0\0\3pre" if key_hash else b""
-    chain = merkle.sha256(b"issuer") + merkle.sha256(b"root")
-    return tree_leaf, tree_leaf[2:] + precertificate + len(chain).to_bytes(2, "big") + chain
+    return tree_leaf, tile_text(tree_leaf)
 
 
 def checkpoint(leaves, moment):
@@ -203,7 +208,7 @@ def tiled_runs():
         pending(0, 600), pending(256, 600), pending(512, 600), mismatch(LONG), nothing]
     yield "tiled-wrong-index", 3, [checkpoint(ASTRAY, MOMENT + 2000), tile(ASTRAY_TEXTS)], [
         pending(0, 20), {"entry": 10, "verdict": "wrong-index"}, *found(0, 20), accepted(20), state(head(ASTRAY, MOMENT + 2000), None, ASTRAY, ASTRAY)]
-    yield "tiled-no-index", 3, [head(LOG, MOMENT + 2000), tile([x[2:] + (b"\0\0\1p" if x[10:12] == b"\0\1" else b"") + b"\0\0" for x in LOG])], [
+    yield "tiled-no-index", 3, [head(LOG, MOMENT + 2000), tile([tile_text(x) for x in LOG])], [
         pending(0, 20), {"entry": 0, "verdict": "wrong-index"}, *found(0, 20), accepted(20), state(head(LOG, MOMENT + 2000), None, LOG, LOG)]
     yield "tiled-cut", 4, [after_one, second, cut(-1), cut(len(b"".join(TEXTS[:12])) + 9), cut(len(b"".join(TEXTS[:12]))), cut(0)], [
         pending(8, 20), bad("truncated", place=19), bad("truncated", place=12), bad("other-count", count=12), bad("other-count", count=0), state(one, two, TILED[:8], TILED[:8])]
@@ -218,13 +223,13 @@ def tiled_runs():
     yield "tiled-checkpoints", 4, [*notes, {"checkpoint": first["checkpoint"]}, dict(first, timestamp="1")], [*[bad("no-checkpoint")] * len(notes), *[{"error": "bad-line"}] * 2, nothing]
 
 
-def main():
-    folder = Path(sys.argv[1])
-    for name, status, given, wanted in runs():
+def write_runs(folder, runs):
+    """Writes NAME.in, NAME.out and NAME.status for each run."""
+    for name, status, given, wanted in runs:
         (folder / f"{name}.in").write_text("".join(line(x) for x in given))
         (folder / f"{name}.out").write_text("".join(line(x) for x in wanted))
         (folder / f"{name}.status").write_text(f"{status}\n")
 
 
 if __name__ == "__main__":
-    main()
+    write_runs(Path(sys.argv[1]), runs())

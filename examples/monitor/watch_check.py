@@ -2,8 +2,9 @@
 """Tries watch.sh against logs of its own on 127.0.0.1, one that is called and one of tiles: a log that is down, forks, is rewritten, answers with
 nothing or with what is no answer.
 
-The judge is the built ctmonitor where there is one, else stand_in.py, which it holds against answers.py first. It prints what it tried with
-which of the two, and ends with status 1 at the first thing that isn't as it has to be. Nothing depends on how fast the machine is.
+The judge is the built ctmonitor where there is one, else stand_in.py. Both it holds against the runs of answers.py and grown.py first, whose roots
+Go's tlog computes where it is installed (roots.sh). It prints what it tried with which of the two, and ends with status 1 at the first thing that
+isn't as it has to be. Nothing depends on how fast the machine is.
 """
 import http.server
 import json
@@ -21,9 +22,12 @@ import time
 import urllib.parse
 
 import answers
+import grown
 
 HERE = pathlib.Path(__file__).resolve().parent
 BUILT = HERE.parent.parent / "crates" / "ctmonitor" / "out" / "ctmonitor"
+# The stored output of growth_lines.
+GROWN = HERE.parent.parent / "crates" / "growth_lines" / "stdout"
 LEAVES = [answers.leaf(answers.MOMENT + i, b"certificate %d of example.org" % i, None) for i in range(40)]
 FORKED = LEAVES[:2] + [answers.leaf(answers.MOMENT, b"another", None)] + LEAVES[3:]
 
@@ -85,10 +89,10 @@ def note_line(name, data):
     return f"\u2014 {name} {answers.text(data)}\n"
 
 
-def note(leaves, moment):
+def note(leaves, moment, signed=bytes(71)):
     """A checkpoint's note (C2SP static-ct-api) with three signatures that are made up: one of Ed25519 in the log's name, a witness's, and the log's with
     the moment."""
-    signature = struct.pack(">4sQBBH", b"key2", moment, 4, 3, 71) + bytes(71)
+    signature = struct.pack(">4sQBBH", b"key2", moment, 4, 3, len(signed)) + signed
     other = struct.pack(">4sQBBH", b"key3", 1, 4, 3, 71) + bytes(71)
     lines = [(ORIGIN, b"key1" + bytes(64)), ("witness.example", other), (ORIGIN, signature)]
     return answers.checkpoint(leaves, moment)["checkpoint"] + "\n" + "".join(note_line(*line) for line in lines)
@@ -385,6 +389,34 @@ def try_several(watch, followed, forked):
         fail(f"logs of both kinds: they have no lines: {output}")
 
 
+def try_signatures(folder):
+    """signature.sh takes the checkpoints that a log signed, and no other, by keys that openssl made."""
+    keys, notes = [], []
+    for name in ("log", "another"):
+        subprocess.run(["openssl", "ecparam", "-name", "prime256v1", "-genkey", "-noout", "-out", folder / name], check=True)
+        made = subprocess.run(["openssl", "ec", "-in", folder / name, "-pubout", "-outform", "DER"], capture_output=True, check=True)
+        keys.append(answers.text(made.stdout))
+    for size in (8, 300):
+        bare = struct.pack(">BBQQ32s", 0, 1, size, size, answers.merkle.root(MANY[:size]))
+        made = subprocess.run(["openssl", "dgst", "-sha256", "-sign", folder / "log"], input=bare, capture_output=True, check=True)
+        notes.append(note(MANY[:size], size, made.stdout))
+    both, told = "\n".join(notes), [f"{ORIGIN}, {size} leaves: signed\n" for size in (8, 300)]
+    another = f"{ORIGIN}, 8 leaves: not signed with this key\n"
+    for what, key, given, status, due in [
+        ("two checkpoints", keys[0], both, 0, "".join(told)),
+        ("as the file heads has them", keys[0], both + "\n", 0, "".join(told)),
+        ("another log's key", keys[1], both, 1, another),
+        ("another size", keys[0], both.replace("\n300\n", "\n301\n"), 1, told[0] + another.replace("8", "301")),
+        ("another head's root and signature", keys[0], notes[0].split("\n")[0] + "\n8\n" + notes[1].split("\n", 2)[2], 1, another),
+        ("no signature", keys[0], notes[0].split("\n\n")[0] + "\n", 1, another),
+        ("nothing", keys[0], "", 1, "no checkpoint\n"),
+        ("no key", "AAAA", both, 2, ""),
+    ]:
+        ran = subprocess.run([HERE / "signature.sh", key], input=given, capture_output=True, text=True)
+        if ran.returncode != status or ran.stdout != due:
+            fail(f"signature.sh on {what}: status {ran.returncode} where {status} is due: {ran.stdout}{ran.stderr}")
+
+
 # Judges that don't do as ctmonitor does, with the status that is due.
 BAD_JUDGES = [
     ("is killed", 1, "grep -q . && kill -9 $$; exit 0"),
@@ -409,16 +441,40 @@ def try_judges(watch, log, judge):
     held.communicate()
 
 
-def try_stand_in(work):
-    """The stand-in writes what answers.py has for each run."""
+def try_runs(program):
+    """A program writes what answers.py has for each run, and grown.py for a log on tiles as growth_lines grew it."""
     count = 0
-    for name, status, given, wanted in answers.runs():
-        words = [word for name in answers.NAMES for word in ("--name", name)]
-        ran = subprocess.run([sys.executable, HERE / "stand_in.py", *words], input="".join(map(answers.line, given)), capture_output=True, text=True)
+    words = [word for name in answers.NAMES for word in ("--name", name)]
+    for name, status, given, wanted in [*answers.runs(), *grown.runs(*grown.read(GROWN.open()))]:
+        ran = subprocess.run([*program, *words], input="".join(map(answers.line, given)), capture_output=True, text=True)
         if ran.returncode != status or ran.stdout != "".join(map(answers.line, wanted)):
-            fail(f"stand_in.py doesn't write what answers.py has for {name}: {ran.stdout}{ran.stderr}")
+            fail(f"{program[-1]} doesn't write what is due for {name}: {ran.stdout}{ran.stderr}")
         count += 1
     return count
+
+
+def computed_roots(*folders):
+    return subprocess.run([HERE / "roots.sh", *folders], capture_output=True, text=True)
+
+
+def try_roots(work):
+    """Go's tlog computes the roots of these runs, where it is installed, and finds that of a tile with a changed leaf another."""
+    folders = made, own = work / "made", work / "own"
+    for folder, runs in zip(folders, (answers.runs(), grown.runs(*grown.read(GROWN.open())))):
+        folder.mkdir()
+        answers.write_runs(folder, runs)
+    ran = computed_roots(*folders)
+    if ran.returncode:
+        fail(f"roots.sh: {ran.stderr}")
+    for name in ("rewritten", "grown"):
+        given = [json.loads(line) for line in (own / f"{name}.in").read_text().splitlines()]
+        tile = next(line for line in given if line.get("tile") == "tile/data/000")
+        tile["data"] = ("B" if tile["data"][0] == "A" else "A") + tile["data"][1:]
+        (own / f"{name}.in").write_text("".join(map(answers.line, given)))
+        changed = computed_roots(own)
+        if "installed" not in ran.stdout and not (changed.returncode and f"{name}.in: the root of" in changed.stderr):
+            fail(f"roots.sh doesn't find another root in {name}: {changed.stdout}{changed.stderr}")
+    return ran.stdout
 
 
 # The longest line that is read, and the memory in which the stand-in reads longer ones, in KB.
@@ -441,15 +497,24 @@ def try_long_lines():
 
 
 def main():
-    runs = try_stand_in(HERE)
+    stand_in = [sys.executable, str(HERE / "stand_in.py")]
+    runs = try_runs(stand_in)
     try_long_lines()
+    with tempfile.TemporaryDirectory() as folder:
+        roots = try_roots(pathlib.Path(folder))
+        if shutil.which("openssl"):
+            try_signatures(pathlib.Path(folder))
+        else:
+            print("examples/monitor: signature.sh wasn't tried: openssl isn't here.")
+    judge, which = " ".join(stand_in), "its stand-in, since ctmonitor isn't built"
+    if os.access(BUILT, os.X_OK):
+        try_runs([str(BUILT)])
+        judge, which = BUILT, "the built ctmonitor, which writes the same in these runs"
+    print(f"examples/monitor: stand_in.py as expected in {runs} runs, over which {roots}", end="")
     missing = [tool for tool in ("curl", "flock") if not shutil.which(tool)]
     if missing:
-        print(f"examples/monitor/stand_in.py: as expected in {runs} runs. watch.sh wasn't tried: {' and '.join(missing)} isn't here.")
+        print(f"examples/monitor: watch.sh wasn't tried: {' and '.join(missing)} isn't here.")
         return
-    judge, which = f"{sys.executable} {HERE / 'stand_in.py'}", "its stand-in, since ctmonitor isn't built"
-    if os.access(BUILT, os.X_OK):
-        judge, which = BUILT, "the built ctmonitor"
     with tempfile.TemporaryDirectory() as folder:
         watch = Watch(pathlib.Path(folder), judge)
         followed = try_days(watch)
@@ -461,7 +526,7 @@ def main():
         try_no_tiles(watch)
         try_several(watch, followed, forked)
         try_judges(watch, followed, judge)
-    print(f"examples/monitor: stand_in.py as expected in {runs} runs, watch.sh in {watch.count}, over {which}.")
+    print(f"examples/monitor: watch.sh as expected in {watch.count} runs, over {which}.")
 
 
 if __name__ == "__main__":
