@@ -1,0 +1,3 @@
+pub mod Identities
+pub mod Claims
+pub mod Misses
