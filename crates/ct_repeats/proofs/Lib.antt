@@ -1,3 +1,4 @@
 pub mod Lists
 pub mod Once
 pub mod Believing
+pub mod Splitting

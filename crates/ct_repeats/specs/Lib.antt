@@ -1,3 +1,4 @@
 pub mod Identities
 pub mod Claims
+pub mod Batches
 pub mod Misses
