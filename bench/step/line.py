@@ -7,7 +7,7 @@ import pathlib
 import sys
 
 EXAMPLES = pathlib.Path(__file__).resolve().parent.parent.parent / "examples"
-sys.path += [str(EXAMPLES), str(EXAMPLES / "tiles")]
+sys.path += [str(EXAMPLES / "tiles"), str(EXAMPLES)]
 
 from expected import digest  # noqa: E402
 from leaves import Submission  # noqa: E402
