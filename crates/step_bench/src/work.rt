@@ -12,6 +12,7 @@ const MOMENT: u64 = 1_000;
 
 // How many bytes a certificate has, and an entry of the made-up partial data tile.
 const CERTIFICATE: usize = 1_500;
+
 const ENTRY: usize = 1_590;
 
 // A state, and what a step of it is handed.
