@@ -1,5 +1,6 @@
 //! Steps from a state.
 
+use anyhow::Context;
 use ct_codec::{Refusal, Submission};
 use ct_state_line::StateLine;
 use ct_step::{Batch, take_step};
@@ -109,7 +110,7 @@ fn batch_of(heap: Global, first: u64, count: u64) -> anyhow::Result<Batch> {
         submissions.push(submission(heap, first.wrapping_add(place))?)?;
         chains.push(Vec::from_slice(heap, &[[1; 32], [2; 32]])?)?;
     }
-    Ok(Batch::new(submissions, chains).ok_or("a chain is too long")?)
+    Batch::new(submissions, chains).context("a chain is too long")
 }
 
 // The line of a step of a log.
