@@ -139,11 +139,12 @@ def try_models():
 
 
 def try_tiles():
-    """tiles/growth.py and tiles/expected.py write the stored outputs of growth_lines and of tile_lines; tiles/step.py answers two random
-    histories, and a reader of tiles, as the leaves have it."""
-    for script, program in (("growth", "growth_lines"), ("expected", "tile_lines")):
-        if run(f"tiles/{script}.py").stdout != (HERE.parent / "crates" / program / "stdout").read_bytes():
-            fail(f"tiles/{script}.py writes another output than crates/{program}/stdout")
+    """tiles/growth.py and tiles/expected.py write the stored outputs of growth_lines and of tile_lines, and tiles/hostile.py the values of
+    tile_leaf_tests; tiles/step.py answers two random histories, and a reader of tiles, as the leaves have it."""
+    stored = (("growth", "growth_lines/stdout"), ("expected", "tile_lines/stdout"), ("hostile", "tile_leaf_tests/src/expected.rt"))
+    for script, file in stored:
+        if run(f"tiles/{script}.py").stdout != (HERE.parent / "crates" / file).read_bytes():
+            fail(f"tiles/{script}.py writes another text than crates/{file}")
     for script, words in (("histories", ("--histories", 2)), ("readings", ("--sizes", 20))):
         ran = run(f"tiles/{script}.py", *words)
         if ran.returncode:

@@ -1,0 +1,284 @@
+// The last tiles of a log, handed over as they are and damaged in every way: each answer is the list's, or a refusal by a tile's name, or refused
+// by the verifiers. The values are those of examples/tiles/hostile.py.
+ghost use Rattle.std.specs.Prelude.{◌<◌};
+
+use crate::expected::{FIRST_ROOT, PATH, PROOF, ROOT, SMALL_ROOT, TILES};
+use ct_tile_reader::{
+    HandedFault, HandedTiles, NeededTile, checked_path, checked_proof, path, path_of_handed, proof,
+    proof_of_handed, root_at, root_of_handed, tiles_for_path, tiles_for_proof, tiles_for_root,
+};
+use ct_tree::reference::root;
+use ct_tree::{Sha256Hash, leaf_hash};
+use ct_verify::{EvidenceFault, ProofFault, verify_consistency, verify_inclusion};
+use std::alloc::{AllocError, Global};
+
+// The leaves of the log, and the index of its last leaf but one.
+const SIZE: u64 = 197_379;
+
+const INDEX: u64 = 197_377;
+
+const NEEDED: [NeededTile; 3] = [
+    NeededTile {
+        level: 0,
+        index: 771,
+        width: 3,
+    },
+    NeededTile {
+        level: 1,
+        index: 3,
+        width: 3,
+    },
+    NeededTile {
+        level: 2,
+        index: 0,
+        width: 3,
+    },
+];
+
+fn contents(alloc: Global, tiles: &[u8; 288]) -> Result<Vec<Vec<u8>>, AllocError> {
+    let mut contents = Vec::new(alloc);
+    contents.push(Vec::from_slice(alloc, &tiles[..96])?)?;
+    contents.push(Vec::from_slice(alloc, &tiles[96..192])?)?;
+    contents.push(Vec::from_slice(alloc, &tiles[192..])?)?;
+    Ok(contents)
+}
+
+// What is answered of the root: whether it is the log's.
+fn root_answer(alloc: Global, contents: &[Vec<u8>]) -> Result<bool, HandedFault> {
+    Ok(root_of_handed(alloc, &Sha256Hash, SIZE, contents)? == ROOT)
+}
+
+// Of the path: whether it is the log's, and what the verifier says of it.
+fn path_answer(
+    alloc: Global,
+    contents: &[Vec<u8>],
+) -> Result<(bool, Result<(), ProofFault>), HandedFault> {
+    let path = path_of_handed(alloc, &Sha256Hash, INDEX, SIZE, contents)?;
+    let leaf = leaf_hash(&Sha256Hash, &INDEX.to_be_bytes());
+    let verdict = verify_inclusion(&Sha256Hash, &leaf, INDEX, SIZE, &path, &ROOT);
+    Ok((path.as_flattened() == PATH.as_slice(), verdict))
+}
+
+// Of the proof from all leaves but the last, the same.
+fn proof_answer(
+    alloc: Global,
+    contents: &[Vec<u8>],
+) -> Result<(bool, Result<(), ProofFault>), HandedFault> {
+    let proof = proof_of_handed(alloc, &Sha256Hash, SIZE - 1, SIZE, contents)?;
+    let verdict = verify_consistency(&Sha256Hash, SIZE - 1, SIZE, &FIRST_ROOT, &ROOT, &proof);
+    Ok((proof.as_flattened() == PROOF.as_slice(), verdict))
+}
+
+// Whether all three answers are the log's, and are accepted.
+fn are_right(alloc: Global, contents: &[Vec<u8>]) -> bool {
+    root_answer(alloc, contents) == Ok(true)
+        && path_answer(alloc, contents) == Ok((true, Ok(())))
+        && proof_answer(alloc, contents) == Ok((true, Ok(())))
+}
+
+// Whether all three are refused by this fault.
+fn are_refused(alloc: Global, contents: &[Vec<u8>], fault: HandedFault) -> bool {
+    root_answer(alloc, contents) == Err(fault)
+        && path_answer(alloc, contents) == Err(fault)
+        && proof_answer(alloc, contents) == Err(fault)
+}
+
+#[test]
+fn tiles_are_listed(rt: HostRuntime) -> Result<(), AllocError> {
+    let alloc = rt.alloc();
+    assert!(rt; tiles_for_root(alloc, SIZE)?.as_slice() == NEEDED.as_slice());
+    assert!(rt; tiles_for_path(alloc, INDEX, SIZE)?.as_slice() == NEEDED.as_slice());
+    assert!(rt; tiles_for_proof(alloc, SIZE - 1, SIZE)?.as_slice() == NEEDED.as_slice());
+    Ok(())
+}
+
+#[test]
+fn right_tiles_are_answered(rt: HostRuntime) -> Result<(), AllocError> {
+    let mut contents = contents(rt.alloc(), &TILES)?;
+    assert!(rt; are_right(rt.alloc(), &contents));
+    // What comes behind the last one isn't read.
+    contents.push(Vec::new(rt.alloc()))?;
+    assert!(rt; are_right(rt.alloc(), &contents));
+    Ok(())
+}
+
+#[test]
+fn missing_tiles_are_named(rt: HostRuntime) -> Result<(), AllocError> {
+    for count in 0..3usize {
+        let mut few = contents(rt.alloc(), &TILES)?;
+        few.truncate(count);
+        let fault = HandedFault::Missing(NEEDED[count]);
+        assert!(rt; are_refused(rt.alloc(), &few, fault), "{count} tiles");
+    }
+    Ok(())
+}
+
+// The tiles with so many bytes, of its own first, for the one at a place, and nothing behind it.
+fn with_length(alloc: Global, place: usize, size: usize) -> Result<Vec<Vec<u8>>, AllocError> {
+    let mut all = contents(alloc, &TILES)?;
+    all.truncate(place);
+    let mut content = Vec::new(alloc);
+    for byte in 0..size {
+        content.push(TILES.get(byte).copied().unwrap_or(0))?;
+    }
+    all.push(content)?;
+    Ok(all)
+}
+
+#[test]
+fn wrong_lengths_are_named(rt: HostRuntime) -> Result<(), AllocError> {
+    for place in 0..3usize {
+        for size in [0, 1, 32, 64, 95, 97, 128, 8192] {
+            let contents = with_length(rt.alloc(), place, size)?;
+            let fault = HandedFault::BadLength(NEEDED[place]);
+            assert!(rt; are_refused(rt.alloc(), &contents, fault), "{size} bytes");
+        }
+    }
+    Ok(())
+}
+
+// The tiles at these places of the list, each in the place of one.
+fn of_places(alloc: Global, places: [usize; 3]) -> Result<Vec<Vec<u8>>, AllocError> {
+    let right = contents(alloc, &TILES)?;
+    let mut all = Vec::new(alloc);
+    for place in places {
+        if let Some(content) = right.get(place) {
+            all.push(Vec::from_slice(alloc, content)?)?;
+        }
+    }
+    Ok(all)
+}
+
+#[test]
+fn tiles_of_other_levels_are_refused(rt: HostRuntime) -> Result<(), AllocError> {
+    for order in 0..27usize {
+        let places = [order / 9, order / 3 % 3, order % 3];
+        let contents = of_places(rt.alloc(), places)?;
+        if places == [0, 1, 2] {
+            assert!(rt; are_right(rt.alloc(), &contents));
+            continue;
+        }
+        assert_eq!(rt;
+            root_answer(rt.alloc(), &contents),
+            Ok(false),
+            "order {order}"
+        );
+        let path = path_answer(rt.alloc(), &contents);
+        assert_eq!(rt;
+            path,
+            Ok((false, Err(ProofFault::RootMismatch))),
+            "order {order}"
+        );
+        let proof = proof_answer(rt.alloc(), &contents);
+        assert_eq!(rt;
+            proof,
+            Ok((false, Err(ProofFault::FirstMismatch))),
+            "order {order}"
+        );
+    }
+    Ok(())
+}
+
+// The tiles with one bit changed.
+fn with_bit(alloc: Global, bit: usize) -> Result<Vec<Vec<u8>>, AllocError>
+    requires { bit < 2304 }
+{
+    let mut tiles = TILES;
+    tiles[bit / 8] ^= 1 << (bit % 8);
+    contents(alloc, &tiles)
+}
+
+// The leaf's own hash, the second, isn't in its path; the last leaf's, the third, isn't in the first root.
+#[test]
+fn a_changed_bit_is_refused(rt: HostRuntime) -> Result<(), AllocError> {
+    for bit in 0..2304usize {
+        let contents = with_bit(rt.alloc(), bit)?;
+        assert_eq!(rt; root_answer(rt.alloc(), &contents), Ok(false), "bit {bit}");
+        let path = if bit / 256 == 1 {
+            (true, Ok(()))
+        } else {
+            (false, Err(ProofFault::RootMismatch))
+        };
+        assert_eq!(rt; path_answer(rt.alloc(), &contents), Ok(path), "bit {bit}");
+        let fault = if bit / 256 == 2 {
+            ProofFault::RootMismatch
+        } else {
+            ProofFault::FirstMismatch
+        };
+        assert_eq!(rt;
+            proof_answer(rt.alloc(), &contents),
+            Ok((false, Err(fault))),
+            "bit {bit}"
+        );
+    }
+    let contents = contents(rt.alloc(), &TILES)?;
+    assert!(rt; are_right(rt.alloc(), &contents));
+    Ok(())
+}
+
+// Why the checked path of these tiles is refused, and why the checked proof.
+fn checked_faults(
+    alloc: Global,
+    tiles: &HandedTiles<'_>,
+) -> (Option<EvidenceFault>, Option<EvidenceFault>) {
+    let leaf = leaf_hash(&Sha256Hash, &INDEX.to_be_bytes());
+    let path = checked_path(alloc, &Sha256Hash, tiles, &leaf, INDEX, SIZE, &ROOT);
+    let proof = checked_proof(
+        alloc,
+        &Sha256Hash,
+        tiles,
+        SIZE - 1,
+        SIZE,
+        &FIRST_ROOT,
+        &ROOT,
+    );
+    (path.err(), proof.err())
+}
+
+#[test]
+fn answers_of_a_source_are_checked(rt: HostRuntime) -> Result<(), HandedFault> {
+    let alloc = rt.alloc();
+    let right = contents(alloc, &TILES)?;
+    let tiles = HandedTiles::new(&NEEDED, &right)?;
+    assert!(rt; root_at(&Sha256Hash, &tiles, SIZE) == ROOT);
+    let of_leaf = path(alloc, &Sha256Hash, &tiles, INDEX, SIZE)?;
+    assert!(rt; of_leaf.as_flattened() == PATH.as_slice());
+    let of_sizes = proof(alloc, &Sha256Hash, &tiles, SIZE - 1, SIZE)?;
+    assert!(rt; of_sizes.as_flattened() == PROOF.as_slice());
+    assert!(rt; checked_faults(alloc, &tiles) == (None, None));
+    Ok(())
+}
+
+#[test]
+fn wrong_answers_of_a_source_are_refused(rt: HostRuntime) -> Result<(), HandedFault> {
+    let wrong = with_bit(rt.alloc(), 0)?;
+    let tiles = HandedTiles::new(&NEEDED, &wrong)?;
+    let of_leaf = Some(EvidenceFault::ProofRefused(ProofFault::RootMismatch));
+    let of_sizes = Some(EvidenceFault::ProofRefused(ProofFault::FirstMismatch));
+    assert!(rt; checked_faults(rt.alloc(), &tiles) == (of_leaf, of_sizes));
+    Ok(())
+}
+
+// The bytes of the three tiles of 300 leaves, the first of which is full.
+fn small_contents(alloc: Global) -> Result<Vec<Vec<u8>>, AllocError> {
+    let mut leaves = Vec::new(alloc);
+    for index in 0..300u64 {
+        leaves.push(leaf_hash(&Sha256Hash, &index.to_be_bytes()))?;
+    }
+    let full = leaves.get(..256).unwrap_or_default();
+    let rest = leaves.get(256..).unwrap_or_default();
+    let mut contents = Vec::new(alloc);
+    contents.push(Vec::from_slice(alloc, full.as_flattened())?)?;
+    contents.push(Vec::from_slice(alloc, rest.as_flattened())?)?;
+    contents.push(Vec::from_slice(alloc, &root(&Sha256Hash, full))?)?;
+    Ok(contents)
+}
+
+#[test]
+fn a_path_within_a_full_tile_is_made(rt: HostRuntime) -> Result<(), HandedFault> {
+    let contents = small_contents(rt.alloc())?;
+    let path = path_of_handed(rt.alloc(), &Sha256Hash, 10, 300, &contents)?;
+    let leaf = leaf_hash(&Sha256Hash, &10u64.to_be_bytes());
+    assert!(rt; verify_inclusion(&Sha256Hash, &leaf, 10, 300, &path, &SMALL_ROOT) == Ok(()));
+    Ok(())
+}

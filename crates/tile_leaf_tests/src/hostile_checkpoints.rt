@@ -1,0 +1,137 @@
+// A checkpoint cut off at each place, and with each byte below 128 at each place (examples/tiles/hostile.py says what is read of each), and sizes,
+// roots and ends that none has.
+ghost use Rattle.std.specs.Prelude.{◌<◌};
+
+use crate::expected::{CHANGED_CHECKPOINT, CHECKPOINT, CUT_CHECKPOINT};
+use crate::hostile_leaves::{number_of, push_counted};
+use ct_checkpoint::{CheckpointFault, read_checkpoint};
+use std::alloc::{AllocError, Global};
+use std::str;
+
+const ROOT: &str = "47DEQpj8HBSa+/TImW+5JCeuQeRkm5NMpJWZG3hSuFU=";
+
+// What is read of a text: its parts, or the fault. The bytes are below 128.
+fn push_reading(alloc: Global, seen: &mut Vec<u8>, bytes: &[u8]) -> Result<(), AllocError> {
+    let Ok(text) = str::from_utf8(bytes) else {
+        return Ok(());
+    };
+    match read_checkpoint(alloc, text) {
+        Ok(checkpoint) => {
+            push_counted(seen, checkpoint.origin.as_bytes())?;
+            push_counted(seen, &checkpoint.size.to_be_bytes())?;
+            push_counted(seen, &checkpoint.root)?;
+        }
+        Err(fault) => {
+            let text = format!(in alloc; "{fault}\n")?;
+            seen.extend_from_slice(text.as_bytes())?;
+        }
+    }
+    Ok(())
+}
+
+// The readings of the checkpoint with each byte below 128 at a place.
+fn changed(alloc: Global, place: usize) -> Result<u32, AllocError> {
+    let mut bytes = Vec::from_slice(alloc, CHECKPOINT.as_bytes())?;
+    let mut seen = Vec::new(alloc);
+    for value in 0..128u8 {
+        if let Some(old) = bytes.get_mut(place) {
+            *old = value;
+        }
+        push_reading(alloc, &mut seen, &bytes)?;
+    }
+    Ok(number_of(&seen))
+}
+
+#[test]
+fn each_byte_is_read_or_refused(rt: HostRuntime) -> Result<(), AllocError> {
+    for place in 0..68 {
+        assert_eq!(rt;
+            changed(rt.alloc(), place)?,
+            CHANGED_CHECKPOINT[place],
+            "at {place}"
+        );
+    }
+    Ok(())
+}
+
+#[test]
+fn each_beginning_is_read_or_refused(rt: HostRuntime) -> Result<(), AllocError> {
+    let mut seen = Vec::new(rt.alloc());
+    for end in 0..=CHECKPOINT.len() {
+        push_reading(rt.alloc(), &mut seen, &CHECKPOINT.as_bytes()[..end])?;
+    }
+    assert_eq!(rt; number_of(&seen), CUT_CHECKPOINT);
+    Ok(())
+}
+
+#[test]
+fn only_numbers_as_they_are_written_are_sizes(rt: HostRuntime) -> Result<(), AllocError> {
+    for (size, fault) in [
+        ("0", None),
+        ("18446744073709551615", None),
+        ("18446744073709551616", Some(CheckpointFault::BadSize)),
+        ("99999999999999999999", Some(CheckpointFault::BadSize)),
+        (
+            "340282366920938463463374607431768211457",
+            Some(CheckpointFault::BadSize),
+        ),
+        ("", Some(CheckpointFault::BadSize)),
+        ("+", Some(CheckpointFault::BadSize)),
+        ("-", Some(CheckpointFault::BadSize)),
+        ("-0", Some(CheckpointFault::BadSize)),
+        ("-1", Some(CheckpointFault::BadSize)),
+        ("++1", Some(CheckpointFault::BadSize)),
+        ("+0", Some(CheckpointFault::NotAsWritten)),
+        ("+1", Some(CheckpointFault::NotAsWritten)),
+        ("00", Some(CheckpointFault::NotAsWritten)),
+        ("01", Some(CheckpointFault::NotAsWritten)),
+        ("018446744073709551615", Some(CheckpointFault::NotAsWritten)),
+        (" 1", Some(CheckpointFault::BadSize)),
+        ("1 ", Some(CheckpointFault::BadSize)),
+        ("1\r", Some(CheckpointFault::BadSize)),
+        ("1\0", Some(CheckpointFault::BadSize)),
+        ("1_000", Some(CheckpointFault::BadSize)),
+        ("1e3", Some(CheckpointFault::BadSize)),
+        ("1.0", Some(CheckpointFault::BadSize)),
+        ("0x1", Some(CheckpointFault::BadSize)),
+        ("a", Some(CheckpointFault::BadSize)),
+        ("\u{661}", Some(CheckpointFault::BadSize)),
+    ] {
+        let text = format!(in rt.alloc(); "a\n{size}\n{ROOT}\n")?;
+        assert_eq!(rt; read_checkpoint(rt.alloc(), &text).err(), fault, "{size}");
+    }
+    Ok(())
+}
+
+#[test]
+fn only_base64_with_its_padding_and_a_line_end_is_a_root(
+    rt: HostRuntime,
+) -> Result<(), AllocError> {
+    for root in [
+        "",
+        "\n",
+        "47DEQpj8HBSa+/TImW+5JCeuQeRkm5NMpJWZG3hSuFU=",
+        "47DEQpj8HBSa+/TImW+5JCeuQeRkm5NMpJWZG3hSuFU\n",
+        "47DEQpj8HBSa+/TImW+5JCeuQeRkm5NMpJWZG3hSuFU==\n",
+        "47DEQpj8HBSa+/TImW+5JCeuQeRkm5NMpJWZG3hSuF==\n",
+        "47DEQpj8HBSa+/TImW+5JCeuQeRkm5NMpJWZG3hSuFV=\n",
+        "47DEQpj8HBSa+/TImW+5JCeuQeRkm5NMpJWZG3hSuFUA\n",
+        "47DEQpj8HBSa+/TImW+5JCeuQeRkm5NMpJWZG3hSuA==\n",
+        "47DEQpj8HBSa+/TImW+5JCeuQeRkm5NMpJWZG3hSuFU=AAAA\n",
+        "47DEQpj8HBSa+/TImW+5JCeuQeRkm5NMpJWZG3hSuFUAAAA=\n",
+        "=47DEQpj8HBSa+/TImW+5JCeuQeRkm5NMpJWZG3hSuFU\n",
+        "47DEQpj8HBSa-_TImW-5JCeuQeRkm5NMpJWZG3hSuFU=\n",
+        " 47DEQpj8HBSa+/TImW+5JCeuQeRkm5NMpJWZG3hSuFU=\n",
+        "47DEQpj8HBSa+/TImW+5JCeuQeRkm5NMpJWZG3hSuFU= \n",
+        "47DEQpj8HBSa+/TImW+5JC\neuQeRkm5NMpJWZG3hSuFU=\n",
+        "47DEQpj8HBSa+/TImW+5JCeuQeRkm5NMpJWZG3hSuFU=\r\n",
+        "47DEQpj8HBSa+/TImW+5JCeuQeRkm5NMpJWZG3hSuFU=\n\n",
+        "47DEQpj8HBSa+/TImW+5JCeuQeRkm5NMpJWZG3hSuFU=\nan extension line\n",
+        "47DEQpj8HBSa+/TImW+5JCeuQeRkm5NMpJWZG3hSuFU=\n\n\u{2014} a AAAAAA==\n",
+    ] {
+        let text = format!(in rt.alloc(); "a\n1\n{root}")?;
+        let fault = read_checkpoint(rt.alloc(), &text).err();
+        assert_eq!(rt; fault, Some(CheckpointFault::BadRoot), "{root}");
+    }
+    Ok(())
+}
