@@ -20,6 +20,10 @@ pub(crate) fn number_of(readings: &[u8]) -> u32 {
     u32::from_be_bytes([digest[0], digest[1], digest[2], digest[3]])
 }
 
+fn push_key_hash(seen: &mut Vec<u8>, key_hash: [u8; 32]) -> Result<(), AllocError> {
+    push_counted(seen, &key_hash)
+}
+
 fn push_leaf(seen: &mut Vec<u8>, leaf: &TileLeaf<'_>) -> Result<(), AllocError> {
     seen.extend_from_slice(&leaf.timestamp.to_be_bytes())?;
     match leaf.entry {
@@ -29,7 +33,7 @@ fn push_leaf(seen: &mut Vec<u8>, leaf: &TileLeaf<'_>) -> Result<(), AllocError> 
         }
         LentEntry::Precert(key_hash, tbs) => {
             seen.push(1)?;
-            push_counted(seen, &key_hash)?;
+            push_key_hash(seen, key_hash)?;
             push_counted(seen, tbs)?;
         }
     }
