@@ -1,7 +1,13 @@
-//! Work over the tree of `ct_tree`. Without arguments it does a fixed amount and prints what came out. With numbers of
-//! leaves as arguments it prints, for each, how many nanoseconds a call takes.
+//! Work over the tree of `ct_tree` and its tiles. Without arguments it does a fixed amount and prints what came out. With numbers of
+//! leaves as arguments it prints, for each, how many nanoseconds a call takes. With one of these words and two numbers it does that and
+//! prints what came out, for who times the program (`bench/tiles.py`):
+//!
+//! - `append LEAVES 1` and `take-in LEAVES BATCH` grow a log, as `Nodes` and as tiles, by so many leaves at a time, and print the root;
+//! - `path LEAVES CALLS` and `tile-path LEAVES CALLS` make the audit path of a leaf in a third of the log so many times, out of `Nodes` and
+//!   out of tiles, and print how many hashes these have.
 #![tactic(auto)]
 
+mod tiles;
 mod timing;
 mod work;
 
@@ -12,11 +18,8 @@ use std::{env, io};
 
 // Prints how many leaves a tree has, and its root.
 fn show_root(rt: &HostRuntime, nodes: &Nodes<Sha256Hash>) -> io::Result<()> {
-    print!(rt; "leaves {}\nroot ", nodes.size())?;
-    for byte in nodes.root_at(nodes.size()) {
-        print!(rt; "{byte:02x}")?;
-    }
-    println!(rt)
+    println!(rt; "leaves {}", nodes.size())?;
+    show(rt, &nodes.root_at(nodes.size()))
 }
 
 // Prints what calls over a tree gave.
@@ -50,6 +53,75 @@ fn show_tree(rt: &HostRuntime) -> io::Result<()> {
     show_calls(rt, &nodes)
 }
 
+// What tiles give.
+fn show_tiles(rt: &HostRuntime) -> io::Result<()> {
+    take_in(rt, 1_000, 7)?;
+    tile_paths(rt, 1_000, 10)
+}
+
+// Prints a root.
+fn show(rt: &HostRuntime, root: &[u8; 32]) -> io::Result<()> {
+    print!(rt; "root ")?;
+    for byte in root {
+        print!(rt; "{byte:02x}")?;
+    }
+    println!(rt)
+}
+
+// Prints the root of nodes that were appended.
+fn append(rt: &HostRuntime, count: u64) -> io::Result<()> {
+    let mut nodes = Nodes::new(rt.alloc(), Sha256Hash);
+    work::fill(&mut nodes, count)?;
+    show(rt, &nodes.root_at(nodes.size()))
+}
+
+// Prints the root of a log that took in so many leaves at a time.
+fn take_in(rt: &HostRuntime, count: u64, batch: u64) -> io::Result<()> {
+    let edge = tiles::grown(rt.alloc(), count, batch)?;
+    show(rt, &edge.root(rt.alloc(), &Sha256Hash)?)
+}
+
+// Prints how many hashes there are in paths out of nodes.
+fn paths(rt: &HostRuntime, size: u64, count: u64) -> io::Result<()> {
+    let mut nodes = Nodes::new(rt.alloc(), Sha256Hash);
+    work::fill(&mut nodes, size)?;
+    if size / 3 < nodes.size() {
+        let hashes = tiles::paths(rt.alloc(), &nodes, size / 3, count)?;
+        println!(rt; "hashes in paths {hashes}")?;
+    }
+    Ok(())
+}
+
+// Prints how many hashes there are in paths out of tiles.
+fn tile_paths(rt: &HostRuntime, size: u64, count: u64) -> io::Result<()> {
+    let rows = tiles::tiles(rt.alloc(), size)?;
+    if size == 0 {
+        return Ok(());
+    }
+    match tiles::tile_paths(rt.alloc(), &rows, size / 3, size, count) {
+        Ok(hashes) => println!(rt; "hashes in paths {hashes}"),
+        Err(fault) => println!(rt; "{fault}"),
+    }
+}
+
+// Does what a word and two numbers ask for, and answers whether they are that.
+fn is_done(rt: &HostRuntime, words: &[String]) -> io::Result<bool> {
+    let [what, first, second] = words else {
+        return Ok(false);
+    };
+    let (Ok(first), Ok(second)) = (first.parse::<u64>(), second.parse::<u64>()) else {
+        return Ok(false);
+    };
+    match what.as_str() {
+        "append" => append(rt, first)?,
+        "take-in" => take_in(rt, first, second)?,
+        "path" => paths(rt, first, second)?,
+        "tile-path" => tile_paths(rt, first, second)?,
+        _ => return Ok(false),
+    }
+    Ok(true)
+}
+
 // What one argument asks for.
 fn take(rt: &HostRuntime, argument: &str) -> io::Result<()> {
     match argument.parse::<u64>() {
@@ -59,14 +131,18 @@ fn take(rt: &HostRuntime, argument: &str) -> io::Result<()> {
 }
 
 fn main(rt: HostRuntime) -> io::Result<()> {
-    let mut is_timed = false;
-    for argument in env::args(&rt)?.skip(1) {
-        is_timed = true;
-        take(&rt, &argument)?;
+    let words: Vec<String> = env::args(&rt)?.collect(rt.alloc())?;
+    let words = words.get(1..).unwrap_or_default();
+    if is_done(&rt, words)? {
+        return Ok(());
     }
-    if is_timed {
+    for argument in words {
+        take(&rt, argument)?;
+    }
+    if !words.is_empty() {
         return timing::batches(&rt, &rt);
     }
     show_tree(&rt)?;
+    show_tiles(&rt)?;
     show_batch(&rt, &rt)
 }
