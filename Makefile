@@ -1,4 +1,4 @@
-.PHONY: help demo test check service service-test service-engines service-faults service-clients cluster cluster-status cluster-stop link install install-library install-ctlog install-ctlogd install-ctmonitor install-ctguard install-cttile fuzz load sweep wrong sources serve tiles interop
+.PHONY: help demo test check service service-test service-engines service-faults service-clients cluster cluster-status cluster-stop link install install-library install-ctlog install-ctlogd install-ctmonitor install-ctguard install-cttile install-ctproof fuzz load sweep wrong sources serve tiles interop
 
 SECONDS ?= 60
 RUNS ?= 20
@@ -7,7 +7,7 @@ PORT ?= 8618
 BUILT ?= crates
 CLUSTER ?= ct-cluster
 
-PROGRAMS := ctlog ctlogd ctmonitor ctguard cttile
+PROGRAMS := ctlog ctlogd ctmonitor ctguard cttile ctproof
 LIBRARY = $(BUILT)/wagtenib/out/link/libwagtenib
 VERSION = $(shell sed -n 's/^Version: //p' include/wagtenib.pc.in)
 TO = $(DESTDIR)$(PREFIX)
@@ -66,7 +66,7 @@ link: ## builds libwagtenib, the proof checkers for C, and runs programs in C, R
 	@examples/link/link.sh
 
 # BUILT is the folder in which the crates' builds lie.
-install: $(PROGRAMS:%=install-%) install-library ## installs what is built, below PREFIX=/usr/local: ctlog, ctlogd, ctmonitor, ctguard, cttile, watch.sh as ctmonitor-watch, and libwagtenib
+install: $(PROGRAMS:%=install-%) install-library ## installs what is built, below PREFIX=/usr/local: ctlog, ctlogd, ctmonitor, ctguard, cttile, ctproof, watch.sh as ctmonitor-watch, and libwagtenib
 	@[ -n "$(wildcard $(PROGRAMS:%=$(BUILT)/%/out/%) $(LIBRARY).a)" ] || { echo "make install: nothing is built" >&2; exit 1; }
 
 $(PROGRAMS:%=install-%): install-%:

@@ -3,7 +3,7 @@
 # of 50 entries; examples/http/client.go submits five more by Google's client library, and checks what is answered; and meanwhile ctread
 # follows its tiles, which golang.org/x/mod/sumdb/tlog reads, to the last leaf and head. At the end ctcheck judges the log from its folder.
 # It wants certspotter, openssl and curl, and for Google's library golang-github-google-certificate-transparency-dev, g++ and libssl-dev; it
-# says what it leaves out. STEP and GUARD are the log's programs, as in cluster.sh.
+# says what it leaves out. STEP, READER and GUARD are the log's programs, as in cluster.sh.
 set -eu
 here=$(cd "$(dirname "$0")" && pwd)
 for tool in openssl curl python3; do
@@ -14,6 +14,8 @@ work=$(mktemp -d)
 origin=clients.example/log
 guard=$here/../crates/ctguard/out/ctguard
 [ -x "$guard" ] || guard="python3 $here/../examples/guard/model.py"
+proofs=$here/../crates/ctproof/out/ctproof
+[ -x "$proofs" ] || proofs="python3 $here/../examples/tiles/step.py"
 export PYTHONDONTWRITEBYTECODE=1
 running=
 trap 'kill $running 2>/dev/null || true; wait; rm -rf "$work"' EXIT
@@ -40,7 +42,7 @@ text = "\n".join(textwrap.wrap(chain[-1], 64))
 END
 
 "$here/out/ctserve" --origin "$origin" --listen 127.0.0.1:0 --operator-listen "" --signing-key "$work/log.key" --guard "${GUARD:-$guard}" \
-  --step "${STEP:-python3 $here/../examples/tiles/step.py}" --roots "$work/roots.pem" --folder "$work/log" --interval 50ms --create 2>"$work/ctserve.told" &
+  --step "${STEP:-python3 $here/../examples/tiles/step.py}" --reader "${READER:-$proofs}" --roots "$work/roots.pem" --folder "$work/log" --interval 50ms --create 2>"$work/ctserve.told" &
 running=$!
 for _ in $(seq 600); do
   grep -q '"event":"serving"' "$work/ctserve.told" && break

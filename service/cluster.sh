@@ -5,8 +5,9 @@
 #   cluster.sh status FOLDER         says what runs and what it said last
 #   cluster.sh stop FOLDER           ends it; ctcheck judges what it published and answered
 # RATE=20 is how many submissions the loader sends a second, 0 as many as are answered; LOAD=no starts neither it nor the reader.
-# STEP is the program that makes the steps, by default the plain stand-in; GUARD the one before the key, ctguard where it is built, and else a
-# second program with its lines. One signer has the key, for all nodes.
+# STEP is the program that makes the steps, by default the plain stand-in; READER the one that makes readers' proofs, ctproof where it is built,
+# and else the stand-in; GUARD the one before the key, ctguard where it is built, and else a second program with its lines. One signer has the
+# key, for all nodes.
 set -eu
 here=$(cd "$(dirname "$0")" && pwd)
 what=${1:-} folder=${2:-}
@@ -64,6 +65,13 @@ guard() {
   echo "${GUARD:-$built}"
 }
 
+# reader: the command of the program that makes readers' proofs.
+reader() {
+  local built=$here/../crates/ctproof/out/ctproof
+  [ -x "$built" ] || built="python3 $here/../examples/tiles/step.py"
+  echo "${READER:-$built}"
+}
+
 nodes() { find "$folder" -maxdepth 1 -name 'node-*.conf' | sed 's/^.*node-\([0-9]*\)\.conf$/\1/' | sort -n; }
 
 node_conf() {
@@ -78,6 +86,7 @@ nodes-secret     $folder/secret
 signer-at        $folder/signer
 roots            $folder/roots.pem
 step             ${STEP:-python3 $here/../examples/tiles/step.py}
+reader           $(reader)
 register         $register
 places           $register
 store            $bucket
