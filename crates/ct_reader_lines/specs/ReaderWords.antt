@@ -1,5 +1,5 @@
 -- What is replied to a line: the name of each tile, the object of each reply, keys in byte order, and the line that it is written as.
-use Rattle.std.specs.Prelude.{◌≡◌, ◌++◌, ◌∷◌, [], ℕ, List, Bool, true, false, ⊤, All, map, codes}
+use Rattle.std.specs.Prelude.{◌++◌, ◌∷◌, [], ℕ, List, Bool, true, false, ⊤, All, map, codes}
 use Rattle.serde_json.specs.Data.{Data, string, array, object, member, no_members}
 use Rattle.serde_json.specs.View.{items_of}
 use Rattle.serde_json.specs.Written.{compact_text}

@@ -144,11 +144,7 @@ fn proof_reply(
 }
 
 // Answers what is read, out of the bytes of its tiles.
-fn handed_reply(
-    alloc: Global,
-    reading: Reading,
-    contents: &[Vec<u8>],
-) -> Result<Reply, AllocError>
+fn handed_reply(alloc: Global, reading: Reading, contents: &[Vec<u8>]) -> Result<Reply, AllocError>
     requires { IsReading reading }
     ensures reply { IfOk result (λ r. IsHandedReply reading (contents_in contents.now) (reader_reply_of r)) }
     ensures named { IfOk result (λ r. NamesHashTiles (reader_reply_of r)) }
@@ -184,11 +180,7 @@ fn may_read(alloc: Global, reading: Reading, count: usize) -> Result<bool, Alloc
 }
 
 // Answers the request for hashes.
-fn hashes_reply(
-    alloc: Global,
-    reading: Reading,
-    contents: &[Vec<u8>],
-) -> Result<Reply, AllocError>
+fn hashes_reply(alloc: Global, reading: Reading, contents: &[Vec<u8>]) -> Result<Reply, AllocError>
     ensures reply { IfOk result (λ r. IsReaderReply (for_hashes reading (contents_in contents.now)) (reader_reply_of r)) }
     ensures named { IfOk result (λ r. NamesHashTiles (reader_reply_of r)) }
 {
