@@ -1,4 +1,4 @@
-.PHONY: help demo test check service service-test service-engines service-faults service-clients cluster cluster-status cluster-stop link install install-library install-ctlog install-ctlogd install-ctmonitor install-ctguard install-cttile fuzz load sweep wrong sources serve serve-ctlogd tiles interop
+.PHONY: help demo test check service service-test service-engines service-faults service-clients cluster cluster-status cluster-stop link install install-library install-ctlog install-ctlogd install-ctmonitor install-ctguard install-cttile install-ctproof fuzz load sweep wrong sources serve serve-ctlogd tiles interop
 
 SECONDS ?= 60
 RUNS ?= 20
@@ -8,7 +8,7 @@ BUILT ?= crates
 CLUSTER ?= ct-cluster
 FOLDER ?= ct-log
 
-PROGRAMS := ctlog ctlogd ctmonitor ctguard cttile
+PROGRAMS := ctlog ctlogd ctmonitor ctguard cttile ctproof
 LIBRARY = $(BUILT)/wagtenib/out/link/libwagtenib
 VERSION = $(shell sed -n 's/^Version: //p' include/wagtenib.pc.in)
 TO = $(DESTDIR)$(PREFIX)
@@ -32,7 +32,7 @@ check: ## for daily work: proves what changed
 	@$(MAKE) --silent sources
 	rt all check
 
-serve: ## serves a log over HTTP at PORT=8618 out of the folder FOLDER=ct-log, by ctserve over cttile and ctguard; builds what isn't built
+serve: ## serves a log over HTTP at PORT=8618 out of the folder FOLDER=ct-log, by ctserve over cttile, ctguard and ctproof; builds what isn't built
 	@service/serve.sh $(FOLDER) $(PORT)
 
 service: ## builds service/out/ctserve, the service in Go (docs/OPERATING.md), and ctcheck, ctload and ctread
@@ -70,12 +70,12 @@ link: ## builds libwagtenib, the proof checkers for C, and runs programs in C, R
 	@examples/link/link.sh
 
 # BUILT is the folder in which the crates' builds lie.
-install: $(PROGRAMS:%=install-%) install-library ## installs what is built, below PREFIX=/usr/local: ctlog, ctlogd, ctmonitor, ctguard, cttile, watch.sh as ctmonitor-watch, and libwagtenib
+install: $(PROGRAMS:%=install-%) install-library ## installs what is built, below PREFIX=/usr/local: ctlog, ctlogd, ctmonitor, ctguard, cttile, ctproof, watch.sh as ctmonitor-watch, and libwagtenib
 	@[ -n "$(wildcard $(foreach program,$(PROGRAMS),$(BUILT)/$(program)/out/$(program)) $(LIBRARY).a)" ] || { echo "make install: nothing is built" >&2; exit 1; }
 
 $(PROGRAMS:%=install-%): install-%:
 	@if [ -x $(BUILT)/$*/out/$* ]; then install -d $(TO)/bin && install -m 755 $(BUILT)/$*/out/$* $(TO)/bin && echo "$(PREFIX)/bin/$*"; \
-	else echo "$* isn't built: make demo builds ctlog and ctmonitor, make serve cttile and ctguard, make serve-ctlogd ctlogd, and rt run in its folder any other"; fi
+	else echo "$* isn't built: make demo builds ctlog and ctmonitor, make serve cttile, ctguard and ctproof, make serve-ctlogd ctlogd, and rt run in its folder any other"; fi
 	@if [ $* = ctmonitor ] && [ -x $(BUILT)/$*/out/$* ]; then install -m 755 examples/monitor/watch.sh $(TO)/bin/ctmonitor-watch && echo "$(PREFIX)/bin/ctmonitor-watch"; fi
 
 install-library:

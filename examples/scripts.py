@@ -130,10 +130,12 @@ def make_install(folder, built):
 
 
 def try_models():
-    """guard/model.py writes the stored output of ctguard over its words and input, and ends with its status; so does tiles/step.py for cttile."""
-    for script, program in (("guard/model.py", "ctguard"), ("tiles/step.py", "cttile")):
+    """guard/model.py writes the stored output of ctguard over its words and input, and ends with its status; so does tiles/step.py for cttile
+    and ctproof."""
+    for script, program in (("guard/model.py", "ctguard"), ("tiles/step.py", "cttile"), ("tiles/step.py", "ctproof")):
         crate = HERE.parent / "crates" / program
-        ran = run(script, *(crate / "args").read_text().split("\n")[:-1], given=(crate / "stdin").read_bytes())
+        words = (crate / "args").read_text().split("\n")[:-1] if (crate / "args").exists() else []
+        ran = run(script, *words, given=(crate / "stdin").read_bytes())
         if ran.stdout != (crate / "stdout").read_bytes() or ran.returncode != int((crate / "status").read_text()):
             fail(f"{script} writes another output than crates/{program}/stdout, with status {ran.returncode}: {ran.stderr.decode()}")
 
@@ -145,7 +147,7 @@ def try_tiles():
     for script, file in stored:
         if run(f"tiles/{script}.py").stdout != (HERE.parent / "crates" / file).read_bytes():
             fail(f"tiles/{script}.py writes another text than crates/{file}")
-    for script, words in (("histories", ("--histories", 2)), ("readings", ("--sizes", 20))):
+    for script, words in (("histories", ("--histories", 2)), ("readings", ("--sizes", 20, "--requests", 10))):
         ran = run(f"tiles/{script}.py", *words)
         if ran.returncode:
             fail(f"tiles/{script}.py: {ran.stderr.decode()}")

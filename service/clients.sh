@@ -16,6 +16,8 @@ origin=clients.example/log
 guard=$here/../crates/ctguard/out/ctguard step=$here/../crates/cttile/out/cttile
 [ -x "$guard" ] || guard="python3 $here/../examples/guard/model.py"
 [ -x "$step" ] || step="python3 $here/../examples/tiles/step.py"
+proofs=$here/../crates/ctproof/out/ctproof
+[ -x "$proofs" ] || proofs="python3 $here/../examples/tiles/step.py"
 export PYTHONDONTWRITEBYTECODE=1
 running=
 trap 'kill $running 2>/dev/null || true; wait; rm -rf "$work"' EXIT
@@ -42,7 +44,7 @@ text = "\n".join(textwrap.wrap(chain[-1], 64))
 END
 
 "$here/out/ctserve" --origin "$origin" --listen 127.0.0.1:0 --operator-listen "" --signing-key "$work/log.key" --guard "${GUARD:-$guard}" \
-  --step "${STEP:-$step}" --reader "${READER:-python3 $here/../examples/tiles/step.py}" --roots "$work/roots.pem" --folder "$work/log" --interval 50ms --create 2>"$work/ctserve.told" &
+  --step "${STEP:-$step}" --reader "${READER:-$proofs}" --roots "$work/roots.pem" --folder "$work/log" --interval 50ms --create 2>"$work/ctserve.told" &
 running=$!
 for _ in $(seq 600); do
   grep -q '"event":"serving"' "$work/ctserve.told" && break

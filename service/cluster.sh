@@ -5,8 +5,8 @@
 #   cluster.sh status FOLDER         says what runs and what it said last
 #   cluster.sh stop FOLDER           ends it; ctcheck judges what it published and answered
 # RATE=20 is how many submissions the loader sends a second, 0 as many as are answered; LOAD=no starts neither it nor the reader.
-# STEP is the program that makes the steps, cttile where it is built, and else a second program with its lines; GUARD the one before the key,
-# likewise for ctguard; READER makes readers' proofs, by default that second program. One signer has the key, for all nodes.
+# STEP is the program that makes the steps, cttile where it is built, and else a second program with its lines; READER the one that makes
+# readers' proofs, likewise for ctproof, and GUARD the one before the key, likewise for ctguard. One signer has the key, for all nodes.
 set -eu
 here=$(cd "$(dirname "$0")" && pwd)
 what=${1:-} folder=${2:-}
@@ -78,7 +78,7 @@ nodes-secret     $folder/secret
 signer-at        $folder/signer
 roots            $folder/roots.pem
 step             ${STEP:-$(command_of cttile tiles/step.py)}
-reader           ${READER:-python3 $here/../examples/tiles/step.py}
+reader           ${READER:-$(command_of ctproof tiles/step.py)}
 register         $register
 places           $register
 store            $bucket

@@ -2,8 +2,8 @@
 # Serves one log of ctserve out of a folder, on loopback: serve.sh [FOLDER] [PORT] [SETTING..], by default ct-log and 8618; settings go to ctserve.
 # The first start makes the log in FOLDER: its key (log.key, log.pem), a root of its own to try it with (root.key, root.pem) and a chain that
 # leads there (chain.json); later ones go on with it. ROOTS is a file with the roots besides, in PEM; by default the system's.
-# STEP and GUARD are the log's programs, READER the one that makes readers' proofs; by default cttile and ctguard, which are proved and built where
-# they aren't, and examples/tiles/step.py, which isn't proved. ORIGIN=ct-log.example is the log's name in checkpoints.
+# STEP and GUARD are the log's programs, READER the one that makes readers' proofs; by default cttile, ctguard and ctproof, which are proved and
+# built where they aren't. ORIGIN=ct-log.example is the log's name in checkpoints.
 set -eu
 here=$(cd "$(dirname "$0")" && pwd)
 folder=${1:-ct-log} port=${2:-8618}
@@ -12,6 +12,7 @@ crates=$here/../crates
 missing=
 [ -n "${STEP:-}" ] || [ -x "$crates/cttile/out/cttile" ] || missing+=" cttile"
 [ -n "${GUARD:-}" ] || [ -x "$crates/ctguard/out/ctguard" ] || missing+=" ctguard"
+[ -n "${READER:-}" ] || [ -x "$crates/ctproof/out/ctproof" ] || missing+=" ctproof"
 "$here/../checks/needs.sh" service
 if [ -n "$missing" ]; then
   "$here/../checks/needs.sh" serve
@@ -25,7 +26,7 @@ mkdir -p "$folder"
 folder=$(cd "$folder" && pwd)
 settings=(--origin "${ORIGIN:-ct-log.example}" --listen "127.0.0.1:$port" --operator-listen "127.0.0.1:$((port + 1))" --signing-key "$folder/log.key"
   --roots "$folder/roots.pem" --folder "$folder/log" --step "${STEP:-$crates/cttile/out/cttile}" --guard "${GUARD:-$crates/ctguard/out/ctguard}"
-  --reader "${READER:-python3 $here/../examples/tiles/step.py}" "$@")
+  --reader "${READER:-$crates/ctproof/out/ctproof}" "$@")
 
 # make: key, root and chain, and the log, which is ready once before it is served.
 make() {

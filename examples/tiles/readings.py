@@ -2,9 +2,10 @@
 """Audit paths, consistency proofs and roots through a program that answers the lines of reading.py, over all logs of a few leaves and some
 larger ones: each answer is compared with the recursion over all leaves, and the list of tiles that it asks for with reading.py's.
 
-    readings.py [--sizes 300] [PROGRAM WORD ..]
+    readings.py [--sizes 300] [--requests 100] [--seed 1] [PROGRAM WORD ..]
 
-Contents that are missing, too short, too long or too many, and numbers that can't be together, have to be refused by their names. Without
+Contents that are missing, too short, too long or too many, and numbers that can't be together, have to be refused by their names. To random
+requests, of trees of any size, over made-up tiles, and to damaged ones the replies have to be step.py's, byte for byte. Without
 PROGRAM step.py is judged. It prints one line, and ends with status 1 at the first thing that isn't so.
 """
 import argparse
@@ -16,11 +17,13 @@ import subprocess
 import sys
 
 HERE = pathlib.Path(__file__).resolve().parent
-sys.path.append(str(HERE.parent))
+sys.path += [str(HERE.parent), str(HERE.parent.parent / "bench")]
 
 from expected import levels  # noqa: E402
+from histories import Pair, line_of  # noqa: E402
 from judge import Wrong, hold, tile_named  # noqa: E402
 from merkle import leaf_hash, node_hash, split  # noqa: E402
+from mutations import mutated  # noqa: E402
 from reading import path_tiles, proof_tiles, root_tiles  # noqa: E402
 
 LARGER = (511, 512, 513, 1025, 65_535, 65_536, 65_537, 65_793, 66_049)
@@ -134,6 +137,51 @@ def bad_lines(program):
         hold(reply["names"][-1] == "tile/7/000.p/255", "the last tile of the largest tree is", reply)
 
 
+def numbers_of(chance):
+    """A kind of request and its numbers, most of which can be together."""
+    near = [1, 255, 256, 257, 65_536, 1 << 24, 1 << 32, 1 << 63, MOST, chance.getrandbits(chance.randint(1, 64))]
+    size = min(max(chance.choice(near) + chance.choice([-1, 0, 0, 1, 300]), 0), MOST)
+    number = chance.choice([0, 1, size // 2, size - 1, size, 1 << chance.randrange(64), chance.randint(0, size)])
+    kind = chance.choice(["path", "proof", "root"])
+    return (kind, size, {}) if kind == "root" else (kind, max(number, 0), {"tree_size": size})
+
+
+def bent(chance, contents):
+    """The contents, or some of them bent: one less or more, one of another length, two exchanged."""
+    at, other, way = chance.randrange(len(contents)), chance.randrange(len(contents)), chance.randrange(8)
+    if way == 0:
+        return contents[:at]
+    if way == 1:
+        return [*contents, b""]
+    if way == 2:
+        return [*contents[:at], contents[at] + bytes(chance.choice([1, 32])), *contents[at + 1 :]]
+    if way == 3:
+        return [*contents[:at], contents[at][: -chance.choice([1, 32])], *contents[at + 1 :]]
+    if way == 4:
+        contents[at], contents[other] = contents[other], contents[at]
+    return contents
+
+
+def agreement(words, requests, chance):
+    """Random requests, and damaged ones, to the program and to step.py."""
+    pair = Pair(words, None)
+    try:
+        for _ in range(requests):
+            kind, number, of = numbers_of(chance)
+            line = line_of(chance, {f"needs_{kind}": number, **of})
+            names = pair.ask(line).get("names", [])
+            contents = bent(chance, [chance.randbytes(32 * tile_named(called)[2]) for called in names]) if names else []
+            asked = line_of(chance, {kind: number, **of, "tiles": list(map(text, contents))})
+            pair.ask(asked)
+            for whole in [line] + [asked] * (len(asked) < 20_000):
+                for part in filter(None, mutated(chance, whole, line)[1].split(b"\n")):
+                    pair.ask(part)
+        pair.end()
+    finally:
+        pair.kill()
+    return pair.lines
+
+
 def run(words, sizes):
     chance, program = random.Random(1), Asked(words)
     try:
@@ -154,13 +202,16 @@ def run(words, sizes):
 def main():
     options = argparse.ArgumentParser(description="Paths, proofs and roots out of tiles, compared with the recursion over all leaves.")
     options.add_argument("--sizes", type=int, default=300)
+    options.add_argument("--requests", type=int, default=100)
+    options.add_argument("--seed", type=int, default=1)
     options.add_argument("program", nargs="*", metavar="PROGRAM")
     words = options.parse_args()
+    program = words.program or [sys.executable, str(HERE / "step.py")]
     try:
-        lines = run(words.program or [sys.executable, str(HERE / "step.py")], words.sizes)
+        lines = run(program, words.sizes) + agreement(program, words.requests, random.Random(words.seed))
     except Wrong as wrong:
         sys.exit(f"readings.py: {wrong}")
-    print(f"readings.py: {lines} lines: as the recursion over all leaves has it")
+    print(f"readings.py: {lines} lines: as the recursion over all leaves has it, and as step.py replies")
 
 
 if __name__ == "__main__":

@@ -1,0 +1,4 @@
+pub mod NoFloat
+pub mod HashTiles
+pub mod ReaderKept
+pub mod ReaderRuns

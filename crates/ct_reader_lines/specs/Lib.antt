@@ -1,0 +1,5 @@
+pub mod ReaderAsks
+pub mod ReaderWords
+pub mod ReaderAnswers
+pub mod ReaderSession
+pub mod ReaderOptions

@@ -1,0 +1,57 @@
+-- What the words of ctproof's command line ask for, the program's name left out: nothing, or help, or the version; and the lines of faults.
+use Rattle.std.specs.Prelude.{◌≡◌, ◌≢◌, ◌++◌, ℕ, List, [], ◌∷◌, Option, if◌then◌else◌, codes, bytes_eq}
+use Rattle.std.specs.Io.KnownBytes.{Appends}
+use Rattle.std.specs.declared.io.ErrorKind.{ErrorKind}
+use Rattle.std.specs.declared.io.ErrorKind.TheVariants.{OutOfMemory}
+use Rattle.ct_lines.specs.Sends.{SendsSome}
+use Rattle.ct_reader_lines.specs.ReaderSession.{IsReaderRun, IsReaderStatus}
+use Rattle.ct_reader_lines.specs.declared.command.Command.{Command}
+use Rattle.ct_reader_lines.specs.declared.command.Command.TheVariants.{Answer, Help, Version, Refused}
+use Rattle.ct_reader_lines.specs.declared.fault.Fault.{Fault}
+use Rattle.ct_reader_lines.specs.declared.fault.Fault.TheVariants.{Memory, Read, Write}
+
+-- what a first word asks for: help or the version, whatever stands behind it; or nothing that there is
+abbrev pub reader_word : List ℕ → Command
+reader_word word =
+    if bytes_eq word (codes "--help") then Help
+    else (if bytes_eq word (codes "-h") then Help else (if bytes_eq word (codes "--version") then Version else Refused))
+
+-- what the words ask for: to answer lines, where there are none
+abbrev pub reader_asked_of_words : List (List ℕ) → Command
+reader_asked_of_words [] = Answer
+reader_asked_of_words (word ∷ words) = reader_word word
+
+-- how the program is called
+abbrev pub reader_usage : List ℕ
+reader_usage = codes "usage: ctproof < lines > replies\n"
+
+-- its version
+abbrev pub reader_version_text : List ℕ
+reader_version_text = codes "ctproof 0.1.0\n"
+
+-- What was done where the words ask for this, and the exit status: a run over the input was written; or how the program is called, or its
+-- version, was written on the output; or how it is called among the faults, as far as it could be, where the words ask for nothing.
+abbrev pub IsReaderAnswered : Command → Option (List ℕ) → Option (List ℕ) → Option (List ℕ) → Option (List ℕ) → Option (List ℕ) → ℕ → Type 0
+IsReaderAnswered Answer source sink sink_next faults faults_next status =
+    IsReaderRun source sink sink_next status × IsReaderStatus status × (faults_next ≡ faults)
+IsReaderAnswered Help source sink sink_next faults faults_next status =
+    (status ≡ 0) × Appends sink sink_next reader_usage × (faults_next ≡ faults)
+IsReaderAnswered Version source sink sink_next faults faults_next status =
+    (status ≡ 0) × Appends sink sink_next reader_version_text × (faults_next ≡ faults)
+IsReaderAnswered Refused source sink sink_next faults faults_next status =
+    (status ≡ 2) × (sink_next ≡ sink) × SendsSome faults faults_next reader_usage
+
+-- what stands behind the program's name
+abbrev pub reader_fault_name : Fault → List ℕ
+reader_fault_name Memory = codes "memory"
+reader_fault_name Read = codes "read"
+reader_fault_name Write = codes "write"
+
+-- the line that is written of a fault
+abbrev pub reader_fault_line : Fault → List ℕ
+reader_fault_line f = codes "ctproof: " ++ reader_fault_name f ++ 10 ∷ []
+
+-- the fault that an error of this kind is, where the input is read: want of memory, or that it couldn't be read
+pub record IsReaderInputFault (k : ErrorKind) (f : Fault) : Type 0 where
+  pub memory : k ≡ OutOfMemory → f ≡ Memory
+  pub other : k ≢ OutOfMemory → f ≡ Read

@@ -1,0 +1,89 @@
+-- What a run writes, line by line.
+use Rattle.std.specs.Prelude.{◌≡◌, ◌<◌, ◌⊎◌, ◌||◌, ℕ, Bool, true, false, List, [], ◌∷◌, ◌++◌, length, Option, Some, None, IfSome, if◌then◌else◌}
+use Rattle.std.specs.Io.BufRead.{first_piece, drop_through}
+use Rattle.std.specs.Io.KnownBytes.{Appends}
+use Rattle.ct_reader_lines.specs.ReaderAsks.{ReaderAsk, AsksReader}
+use Rattle.ct_reader_lines.specs.ReaderAnswers.{IsReaderReply}
+use Rattle.ct_reader_lines.specs.ReaderWords.{ReaderReply, reader_reply_data, reader_line, is_bad_reply}
+
+-- What one line gave: what it asked for and what was replied, unless it was empty; and the reply's text.
+pub record ReadingGiven : Type 0 where
+  pub gave : Option (ReaderAsk × ReaderReply)
+  pub text : List ℕ
+
+-- A line that isn't empty: what it asks for, what is replied to that, and its text.
+pub record IsReadingAnswered (line : List ℕ) (given : ReadingGiven) : Type 0 where
+  pub ask : ReaderAsk
+  pub reply : ReaderReply
+  pub noted : given.gave ≡ Some (ask, reply)
+  pub asks : AsksReader line ask
+  pub replies : IsReaderReply ask reply
+  pub text : given.text ≡ reader_line (reader_reply_data reply)
+
+-- what any line gives: an empty one is passed over
+abbrev pub GivesReading : List ℕ → ReadingGiven → Type 0
+GivesReading [] given = (given.gave ≡ None) × (given.text ≡ [])
+GivesReading (b ∷ bs) given = IsReadingAnswered (b ∷ bs) given
+
+-- what each line of the input gives, in order, and the text of all replies
+abbrev pub GiveReadings : List ReadingGiven → List ℕ → List ℕ → Type 0
+GiveReadings [] input text = (input ≡ []) × (text ≡ [])
+GiveReadings (g ∷ given) input text = (0 < length input) × GivesReading (first_piece 10 input) g
+    × ((rest : List ℕ) × GiveReadings given (drop_through 10 input) rest × (text ≡ g.text ++ rest))
+
+-- whether a line was refused as none
+abbrev pub was_bad_reply : Option (ReaderAsk × ReaderReply) → Bool
+was_bad_reply None = false
+was_bad_reply (Some gave) = is_bad_reply gave.1
+
+-- whether one of the lines was refused as none
+abbrev pub some_bad_reply : List ReadingGiven → Bool
+some_bad_reply [] = false
+some_bad_reply (g ∷ given) = was_bad_reply g.gave || some_bad_reply given
+
+-- the exit status: 4 where a line was refused as none, else 0
+abbrev pub reader_status : Bool → ℕ
+reader_status bad = if bad then 4 else 0
+
+-- the status is one of 0 and 4
+abbrev pub IsReaderStatus : ℕ → Type 0
+IsReaderStatus status = (status ≡ 0) ⊎ (status ≡ 4)
+
+-- A run over the input: its text is the replies to its lines, and its exit status is this.
+pub record ReaderRun (input text : List ℕ) (status : ℕ) : Type 0 where
+  pub given : List ReadingGiven
+  pub lines : GiveReadings given input text
+  pub ends : status ≡ reader_status (some_bad_reply given)
+
+-- a run was written, where the bytes are known: all were read
+abbrev pub IsReaderRun : Option (List ℕ) → Option (List ℕ) → Option (List ℕ) → ℕ → Type 0
+IsReaderRun source sink sink_next status =
+    IfSome source (λ input. (text : List ℕ) × ReaderRun input text status × Appends sink sink_next text)
+
+-- what is kept of a line is the line, or both are longer than a line may be
+abbrev pub KeepsReaderLine : List ℕ → List ℕ → Type 0
+KeepsReaderLine kept line = (kept ≡ line) ⊎ ((67108864 < length kept) × (67108864 < length line))
+
+-- a line was read, of which this is kept (true), where the bytes are known; or none is left (false)
+abbrev pub GetsReaderLine : Bool → Option (List ℕ) → Option (List ℕ) → List ℕ → Type 0
+GetsReaderLine true source source_next kept =
+    IfSome source (λ xs. (0 < length xs) × KeepsReaderLine kept (first_piece 10 xs) × (source_next ≡ Some (drop_through 10 xs)))
+GetsReaderLine false source source_next kept = IfSome source (λ xs. xs ≡ [])
+
+-- what a line gives, with its text, and whether a line was refused as none so far, before it and behind it
+abbrev pub GivesReadingText : Bool → List ℕ → List ℕ → Bool → Type 0
+GivesReadingText before line text after =
+    (given : ReadingGiven) × GivesReading line given × (given.text ≡ text) × (after ≡ before || was_bad_reply given.gave)
+
+-- a line was taken, and its reply written; or none is left (true), and nothing has changed
+abbrev pub OneRead : Bool → Bool → Option (List ℕ) → Option (List ℕ) → Option (List ℕ) → Option (List ℕ) → Bool → Type 0
+OneRead before after source source_next sink sink_next true = IfSome source (λ xs. xs ≡ []) × (after ≡ before) × Appends sink sink_next []
+OneRead before after source source_next sink sink_next false =
+    IfSome source (λ xs. (0 < length xs) × (source_next ≡ Some (drop_through 10 xs))
+    × ((text : List ℕ) × GivesReadingText before (first_piece 10 xs) text after × Appends sink sink_next text))
+
+-- all lines that are left were taken
+abbrev pub AllRead : Bool → Bool → Option (List ℕ) → Option (List ℕ) → Option (List ℕ) → Type 0
+AllRead before after source sink_first sink =
+    IfSome source (λ input. (given : List ReadingGiven) × (text : List ℕ) × GiveReadings given input text
+    × (after ≡ before || some_bad_reply given) × Appends sink_first sink text)

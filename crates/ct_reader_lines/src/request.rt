@@ -1,0 +1,116 @@
+//! What a line asks for.
+
+ghost use Rattle.std.specs.Prelude.{◌≡◌, IfOk, option_map};
+ghost use Rattle.serde_json.specs.View.{view};
+ghost use Rattle.ct_reader_lines.specs.ReaderAsks.{reader_ask_of, root_under, path_under, proof_under, hashes_ask, reader_asked_in, AsksReader};
+
+use crate::fault::Unread;
+use ct_lines::fields;
+use serde_json::Value;
+use std::alloc::{AllocError, Global};
+
+// What is read of a tree.
+#[derive(Clone, Copy, Debug)]
+pub enum Reading {
+    // The root of the first leaves: so many.
+    Root(u64),
+    // The audit path of the leaf at an index, in the tree of so many.
+    Path(u64, u64),
+    // The consistency proof from the tree of the first leaves to that of so many.
+    Proof(u64, u64),
+}
+
+// What a line asks for.
+#[derive(Drop)]
+pub enum Request {
+    // The names of the tiles that it is made of.
+    Tiles(Reading),
+    // It itself, out of the bytes of these tiles.
+    Hashes(Reading, Vec<Vec<u8>>),
+    // Nothing that there is.
+    Other,
+}
+
+// The longest line, in bytes, without its end.
+pub(crate) const LONGEST: usize = 67_108_864;
+
+// The root of as many leaves as a key has.
+fn root_under(value: &Value, key: &str) -> Option<Reading>
+    ensures { result ≡ root_under key.now (view value.now) }
+{
+    let size = fields::number(value, key)?;
+    Some(Reading::Root(size))
+}
+
+// The audit path of the leaf at the index that a key has.
+fn path_under(value: &Value, key: &str) -> Option<Reading>
+    ensures { result ≡ path_under key.now (view value.now) }
+{
+    let index = fields::number(value, key)?;
+    let size = fields::number(value, "tree_size")?;
+    Some(Reading::Path(index, size))
+}
+
+// The consistency proof from the tree of as many leaves as a key has.
+fn proof_under(value: &Value, key: &str) -> Option<Reading>
+    ensures { result ≡ proof_under key.now (view value.now) }
+{
+    let first = fields::number(value, key)?;
+    let size = fields::number(value, "tree_size")?;
+    Some(Reading::Proof(first, size))
+}
+
+// The request for what is read, where the tiles' bytes are there.
+fn hashes_request(
+    alloc: Global,
+    value: &Value,
+    reading: Option<Reading>,
+) -> Result<Option<Request>, AllocError>
+    ensures { IfOk result (λ o. option_map reader_ask_of o ≡ hashes_ask reading (view value.now)) }
+{
+    let Some(reading) = reading else {
+        return Ok(None);
+    };
+    let Some(contents) = fields::bytes_list(alloc, value, "tiles")? else {
+        return Ok(None);
+    };
+    Ok(Some(Request::Hashes(reading, contents)))
+}
+
+// What a value asks for, by its keys.
+fn request_of(alloc: Global, value: &Value) -> Result<Request, AllocError>
+    ensures { IfOk result (λ r. reader_ask_of r ≡ reader_asked_in (view value.now)) }
+{
+    if let Some(reading) = path_under(value, "needs_path") {
+        return Ok(Request::Tiles(reading));
+    }
+    if let Some(request) = hashes_request(alloc, value, path_under(value, "path"))? {
+        return Ok(request);
+    }
+    if let Some(reading) = proof_under(value, "needs_proof") {
+        return Ok(Request::Tiles(reading));
+    }
+    if let Some(request) = hashes_request(alloc, value, proof_under(value, "proof"))? {
+        return Ok(request);
+    }
+    if let Some(reading) = root_under(value, "needs_root") {
+        return Ok(Request::Tiles(reading));
+    }
+    match hashes_request(alloc, value, root_under(value, "root"))? {
+        Some(request) => Ok(request),
+        None => Ok(Request::Other),
+    }
+}
+
+// What a line asks for, without its end.
+pub(crate) fn read_request(alloc: Global, line: &[u8]) -> Result<Request, AllocError>
+    ensures { IfOk result (λ r. AsksReader line.now (reader_ask_of r)) }
+{
+    if line.len() > LONGEST {
+        return Ok(Request::Other);
+    }
+    match Value::from_slice(alloc, line) {
+        Ok(value) => request_of(alloc, &value),
+        Err(error) => Unread::from(error).request,
+    }
+}
