@@ -22,6 +22,7 @@ without one left out, and those of the ample run up to the party's first line th
 
 --stored takes a program that answers line by line (ctguard, ctmonitor, cttile, ctproof) over the run that is stored in crates/NAME. With ample memory its
 output and status have to be the stored ones; with a growth refused, too, or the status 1, with `NAME: memory` or a beginning of that line, and whole replies.
+Before that an output that is full has to end it with status 1 and `NAME: write`, and an input that is a folder with `NAME: read`.
 
 Never a signal, an abort, a hang, or another wrong reply. The counts are printed, and the status is 1 at the first run that isn't as asked.
 """
@@ -228,6 +229,13 @@ class StoredSweep(Sweep):
         self.status = int((self.own / "status").read_text())
         if (status, self.ample, said) != (self.status, (self.own / "stdout").read_text(), ""):
             sys.exit(f"sweep.py: with ample memory the output isn't the stored one, or the status {status} isn't: {said}")
+        for fault, source, sink in (("write", self.input, "/dev/full"), ("read", self.folder, os.devnull)):
+            given, taken = os.open(source, os.O_RDONLY), os.open(sink, os.O_WRONLY)
+            ended = subprocess.run([self.program, *self.words], stdin=given, stdout=taken, stderr=subprocess.PIPE, timeout=LONGEST_RUN)
+            os.close(given)
+            os.close(taken)
+            if (ended.returncode, ended.stderr.decode()) != (1, f"{self.NAME}: {fault}\n"):
+                sys.exit(f"sweep.py: where it can't {fault} the status is {ended.returncode}: {ended.stderr.decode()}")
 
     def judge(self, refused):
         try:
