@@ -17,7 +17,7 @@ import tempfile
 
 from sweep import CRATES, HERE, line
 
-PROGRAMS = ("ctlog", "ctlogd", "ctmonitor", "ctguard")
+PROGRAMS = ("ctlog", "ctlogd", "ctmonitor", "ctguard", "cttile", "ctproof")
 
 
 def long_reply():
@@ -32,7 +32,8 @@ def long_reply():
 def runs(name):
     """The words and the lines of each run of a program."""
     own = CRATES / name
-    yield (own / "args").read_text().splitlines(), (own / "stdin").read_bytes()
+    words = own / "args"
+    yield words.read_text().splitlines() if words.exists() else [], (own / "stdin").read_bytes()
     if name == "ctlog":
         yield ["--fronts", "1", "--ring", "4"], "".join(f"{text}\n" for text in long_reply()).encode()
 

@@ -1,7 +1,7 @@
 #!/usr/bin/env python3
 """Refuses each growth of ctlog, or with --live of ctlogd, in turn, and judges what it then does.
 
-    sweep.py [--live] [PROGRAM] [--from N] [--most N]
+    sweep.py [--live | --stored NAME] [PROGRAM] [--from N] [--most N]
 
 The script of lines has two fronts and three shifts: A, B, A on front 0 and A on front 1, each kind of question and two publications; B and C on
 front 0, which settle as the second shift ends; then a question of each front, a shutdown, and the closed log's answers with an audit. It is run once with ample memory, and then with the first growth refused, the second, and so on, until a run makes
@@ -19,6 +19,10 @@ Each run has to end by itself within a minute, and in one of these ways:
 ctlogd has the same lines but for the shifts, and a `take` and a `close`. Its replies are compared by their lines' numbers, since parties don't
 wait for one another to write, and the whole is judged by check.py --live. With status 1, what was written before is whole replies, of each party
 without one left out, and those of the ample run up to the party's first line that waited in vain.
+
+--stored takes a program that answers line by line (ctguard, ctmonitor, cttile, ctproof) over the run that is stored in crates/NAME. With ample memory its
+output and status have to be the stored ones; with a growth refused, too, or the status 1, with `NAME: memory` or a beginning of that line, and whole replies.
+Before that an output that is full has to end it with status 1 and `NAME: write`, and an input that is a folder with `NAME: read`.
 
 Never a signal, an abort, a hang, or another wrong reply. The counts are printed, and the status is 1 at the first run that isn't as asked.
 """
@@ -115,22 +119,32 @@ class Sweep:
 
     def __init__(self, program, folder):
         self.program, self.folder = program or CRATES / self.NAME / "out" / self.NAME, folder
-        self.lines = list(self.SCRIPT())
-        self.given = "\n".join(self.lines) + "\n"
+        self.words, self.given = self.asked()
+        self.input = folder / "input"
+        self.input.write_bytes(self.given)
         self.shim = folder / "refuse.so"
         subprocess.run(["cc", "-shared", "-fPIC", "-O2", "-o", self.shim, HERE / "sweep" / "refuse.c", "-ldl"], check=True)
         status, self.ample, said, self.growths = self.run(0)
+        self.judge_ample(status, said)
+        self.found = collections.Counter()
+
+    def asked(self):
+        """The words and the input."""
+        self.lines = list(self.SCRIPT())
+        return OPTIONS, ("\n".join(self.lines) + "\n").encode()
+
+    def judge_ample(self, status, said):
         if status or said:
             sys.exit(f"sweep.py: with ample memory the status is {status}: {said}")
-        self.JUDGE(2, self.given, self.ample)
+        self.JUDGE(2, self.given.decode(), self.ample)
         self.parties = requests_of(self.lines, 2)
-        self.found = collections.Counter()
 
     def run(self, refused):
         count = self.folder / "count"
         count.unlink(missing_ok=True)
         place = dict(os.environ, LD_PRELOAD=str(self.shim), REFUSE=str(refused), COUNT=str(count))
-        ended = subprocess.run([self.program, *OPTIONS], input=self.given.encode(), capture_output=True, env=place, timeout=LONGEST_RUN)
+        with self.input.open("rb") as given:
+            ended = subprocess.run([self.program, *self.words], stdin=given, capture_output=True, env=place, timeout=LONGEST_RUN)
         growths = int.from_bytes(count.read_bytes(), sys.byteorder)
         return ended.returncode, ended.stdout.decode(), ended.stderr.decode(), growths
 
@@ -164,7 +178,7 @@ class Sweep:
         at = replies.index(MEMORY)
         who = self.parties[at]["who"]
         claim(all(r == a for r, a, p in zip(replies[:at], ample[:at], self.parties) if p["who"] == who), "a reply before the refused one differs")
-        checked(2, self.given, output.replace('"late"', '"memory"'))
+        checked(2, self.given.decode(), output.replace('"late"', '"memory"'))
         return f"status 0, {self.parties[at]['op']} of {who} is told memory"
 
 
@@ -175,12 +189,12 @@ class LiveSweep(Sweep):
         """Whether it has the ample run's replies, in any order that the parties' allow."""
         if sorted(output.splitlines()) != sorted(self.ample.splitlines()):
             return False
-        claim_order(LiveLines(self.given, 2), tagged(output))
+        claim_order(LiveLines(self.given.decode(), 2), tagged(output))
         return True
 
     def claim_beginning(self, output):
         """The replies of a party stand in order, without one left out, and are the ample run's up to the first that is `late`."""
-        lines, replies, ample, late = LiveLines(self.given, 2), tagged(output), dict(tagged(self.ample)), set()
+        lines, replies, ample, late = LiveLines(self.given.decode(), 2), tagged(output), dict(tagged(self.ample)), set()
         claim_order(lines, replies)
         for number, reply in replies:
             if reply == TOLD_LATE:
@@ -190,25 +204,65 @@ class LiveSweep(Sweep):
             claim(not left_out, f"line {number} is replied to, and {left_out} of its party are not")
 
     def judge_replies(self, output):
-        lines, replies, ample = LiveLines(self.given, 2), tagged(output), dict(tagged(self.ample))
+        lines, replies, ample = LiveLines(self.given.decode(), 2), tagged(output), dict(tagged(self.ample))
         told = [number for number, reply in replies if reply == TOLD_MEMORY]
         claim(len(told) == 1, "not one reply is memory")
         party = lines.party(told[0])
         before = [pair for pair in replies if pair[0] < told[0] and lines.party(pair[0]) == party]
         claim(all(reply == ample[number] for number, reply in before), "a reply before the refused one differs")
-        checked_live(2, self.given, output.replace('"late"', '"memory"'))
+        checked_live(2, self.given.decode(), output.replace('"late"', '"memory"'))
         return f"status 0, {lines.request(told[0])['op']} of {party} is told memory"
+
+
+class StoredSweep(Sweep):
+    """A program that answers line by line, over its stored run."""
+
+    def __init__(self, name, program, folder):
+        self.NAME, self.own = name, CRATES / name
+        super().__init__(program, folder)
+
+    def asked(self):
+        words = self.own / "args"
+        return words.read_text().splitlines() if words.exists() else [], (self.own / "stdin").read_bytes()
+
+    def judge_ample(self, status, said):
+        self.status = int((self.own / "status").read_text())
+        if (status, self.ample, said) != (self.status, (self.own / "stdout").read_text(), ""):
+            sys.exit(f"sweep.py: with ample memory the output isn't the stored one, or the status {status} isn't: {said}")
+        for fault, source, sink in (("write", self.input, "/dev/full"), ("read", self.folder, os.devnull)):
+            given, taken = os.open(source, os.O_RDONLY), os.open(sink, os.O_WRONLY)
+            ended = subprocess.run([self.program, *self.words], stdin=given, stdout=taken, stderr=subprocess.PIPE, timeout=LONGEST_RUN)
+            os.close(given)
+            os.close(taken)
+            if (ended.returncode, ended.stderr.decode()) != (1, f"{self.NAME}: {fault}\n"):
+                sys.exit(f"sweep.py: where it can't {fault} the status is {ended.returncode}: {ended.stderr.decode()}")
+
+    def judge(self, refused):
+        try:
+            status, output, said, growths = self.run(refused)
+        except subprocess.TimeoutExpired:
+            raise Wrong("it didn't end") from None
+        if status == 1:
+            claim(f"{self.NAME}: memory\n".startswith(said), f"standard error is {said!r}")
+            self.claim_beginning(output)
+            claim(not output or output.endswith("\n"), "a reply is cut off")
+            return f"status 1, {said.strip() or 'without its line'}, {'no' if not output else 'some'} output", growths
+        claim((status, output, said) == (self.status, self.ample, ""), f"the status is {status}: {said}")
+        return f"status {status}, all as with ample memory", growths
 
 
 def main():
     parser = argparse.ArgumentParser()
     parser.add_argument("program", nargs="?")
     parser.add_argument("--live", action="store_true")
+    parser.add_argument("--stored", metavar="NAME")
     parser.add_argument("--from", type=int, default=1, dest="first")
     parser.add_argument("--most", type=int, default=1_000_000)
     options = parser.parse_args()
     with tempfile.TemporaryDirectory() as folder:
-        sweep = (LiveSweep if options.live else Sweep)(options.program, pathlib.Path(folder))
+        place = pathlib.Path(folder)
+        kind = LiveSweep if options.live else Sweep
+        sweep = StoredSweep(options.stored, options.program, place) if options.stored else kind(options.program, place)
         print(f"with ample memory {sweep.growths} growths and {len(sweep.ample.splitlines())} replies", flush=True)
         refused = options.first
         while refused < options.first + options.most:
@@ -216,7 +270,7 @@ def main():
                 what, growths = sweep.judge(refused)
             except (Wrong, KeyError, IndexError, ValueError) as fault:
                 sys.exit(f"sweep.py: growth {refused}: {fault!r}")
-            if growths < refused and what.startswith("status 0, all"):
+            if growths < refused and what.endswith("all as with ample memory"):
                 break
             sweep.found[what] += 1
             refused += 1
