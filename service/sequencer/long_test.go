@@ -224,6 +224,8 @@ func (r *faultRun) slot(ctx context.Context, slot int) {
 			continue
 		}
 		if one.tries++; one.tries < mostAgain {
+			// (a node that was done before its moment is killed sooner)
+			one.child.KillAfter /= 2
 			r.plans <- one
 		} else {
 			r.t.Errorf("%s: it didn't come about", one.name)
