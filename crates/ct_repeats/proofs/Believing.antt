@@ -1,7 +1,5 @@
 -- What a believed claim says of the list of leaves.
-use Rattle.std.proofs.Common.{◌≡◌, ◌⊎◌, ◌∙◌, ℕ, ◌<◌, ◌^◌, List, [], length, get_or, sym, refl, ap, subst, inl, inr, ⊎_elim}
-use Rattle.ct_codec.specs.Leaf.{SignedEntry, index_extension}
-use Rattle.ct_codec.specs.Signed.{timestamp_text}
+use Rattle.std.proofs.Common.{◌≡◌, ◌⊎◌, ◌∙◌, ℕ, ◌<◌, List, [], length, get_or, subst, inl, inr, ⊎_elim}
 use Rattle.ct_tree.specs.Tree.{hash_leaf, mth_of_leaves}
 use Rattle.ct_tree.specs.declared.head.Head.{Head}
 use Rattle.ct_verify.specs.Verdict.{AcceptsInclusion, RefusesInclusion}

@@ -2,3 +2,4 @@ pub mod Lists
 pub mod Once
 pub mod Believing
 pub mod Splitting
+pub mod Missing

@@ -1,18 +1,18 @@
 -- The list of leaves that all steps carry on has at most one leaf to an identity behind those that were known.
-use Rattle.std.proofs.Common.{◌≡◌, ◌⊎◌, ◌∙◌, ℕ, suc, ◌+◌, ◌-◌, ◌≤◌, Bool, true, false, cond, List, [], ◌∷◌, ◌++◌, length, take, drop, get_or, map, flat_map, filter, All, AllPairs, Contains, sym, refl, ap, subst, arith, inl, inr, append_assoc, length-append}
+use Rattle.std.proofs.Common.{◌≡◌, ◌∙◌, ℕ, suc, ◌-◌, ◌≤◌, Bool, true, false, cond, List, [], ◌∷◌, ◌++◌, length, take, get_or, map, flat_map, All, AllPairs, Contains, sym, refl, ap, subst, arith, inl, inr, append_assoc, length-append}
 use Rattle.std.proofs.lemmas.List.{take_at, drop_at, map-append, length-map}
-use Rattle.std.proofs.lemmas.List.Elements.{All-nil, All-cons, All-head, All-tail, All-append, All-map, All-weaker}
+use Rattle.std.proofs.lemmas.List.Elements.{All-nil, All-head, All-tail, All-append, All-map, All-weaker}
 use Rattle.ct_codec.specs.Bytes.{num, vec}
 use Rattle.ct_codec.specs.Leaf.{index_extension}
 use Rattle.ct_codec.specs.Submitted.{Submitted, entry_of, identity_of}
 use Rattle.ct_codec.proofs.Refusals.{length-num}
-use Rattle.ct_growth.specs.Leaves.{indexed_leaf, indexed_leaves}
+use Rattle.ct_growth.specs.Leaves.{indexed_leaves}
 use Rattle.ct_growth.specs.Growths.{IsState}
 use Rattle.ct_growth.specs.History.{Attempt, AreAttempts, taken}
 use Rattle.ct_growth.specs.declared.growth.State.{State}
 use Rattle.ct_growth.proofs.Agree.{new_leaves, Carried, carried_none, carried_more}
 use Rattle.ct_repeats.specs.Identities.{identity_of_leaf, LeavesKeepIdentities, AreApart, AreNewFrom}
-use Rattle.ct_repeats.specs.Misses.{LookedUp, looked_up_attempts, taken_looked_up, StoresAll, MissesWereTrue, OneEntryAnIdentity}
+use Rattle.ct_repeats.specs.Misses.{LookedUp, looked_up_attempts, taken_looked_up, StoresAll, OneEntryAnIdentity}
 use Rattle.ct_repeats.proofs.Lists.{AllPairs-first, AllPairs-rest, AllPairs-append, pairs_behind}
 
 -- ---- the identity of a leaf

@@ -1,6 +1,6 @@
 -- Many sequencers over one register, who look each submission up in a store of places before they take it in. H is any hash function on byte
 -- lists.
-use Rattle.std.specs.Prelude.{◌≡◌, ℕ, ◌≤◌, List, length, map, take, filter, All, AllPairs, Contains}
+use Rattle.std.specs.Prelude.{◌≡◌, ℕ, ◌≤◌, List, length, ◌++◌, map, flat_map, take, filter, All, AllPairs, Contains}
 use Rattle.ct_codec.specs.Submitted.{Submitted, identity_of}
 use Rattle.ct_growth.specs.Growths.{IsState}
 use Rattle.ct_growth.specs.History.{Attempt, AreAttempts, taken, CarryOn}
@@ -51,3 +51,11 @@ OneEntryAnIdentity =
     → AreAttempts H held (looked_up_attempts attempts) → MissesWereTrue known (taken_looked_up attempts)
     → (D : List (List ℕ)) × (known ≡ take (length known) D) × CarryOn H held.timestamp D (taken (looked_up_attempts attempts))
     × AddsOnce known D (taken (looked_up_attempts attempts))
+
+-- That is asked for no more than what follows: where the identities of the steps' batches, in order, are new behind those of the leaves
+-- `known`, there are stores of which each miss was true. So the premise is met by every history that adds each identity once.
+abbrev pub MissesCanBeTrue : Type 0
+MissesCanBeTrue =
+    (known : List (List ℕ)) (steps : List Attempt)
+    → AreNewFrom (length known) (map identity_of_leaf known ++ flat_map (λ a. map identity_of a.batch) steps)
+    → (attempts : List LookedUp) × (looked_up_attempts attempts ≡ steps) × MissesWereTrue known attempts

@@ -1,7 +1,7 @@
 //! What follows over many steps, each a clause of a function that does nothing.
 
 ghost use Rattle.ct_repeats.specs.Identities.{LeavesKeepIdentities};
-ghost use Rattle.ct_repeats.specs.Misses.{OneEntryAnIdentity};
+ghost use Rattle.ct_repeats.specs.Misses.{MissesCanBeTrue, OneEntryAnIdentity};
 
 /// A leaf that names its index has the identity of what was submitted, whatever its moment and its index are.
 #[tactic(auto, using(crate::proofs::Once::leaves_keep_identities))]
@@ -15,4 +15,11 @@ pub fn leaves()
 #[tactic(auto, using(crate::proofs::Once::one_entry_an_identity))]
 pub fn one_entry_an_identity()
     ensures { OneEntryAnIdentity }
+{}
+
+/// Steps that add each identity once can each have missed truly: what [`one_entry_an_identity`] asks of the stores is met by every such
+/// history.
+#[tactic(auto, using(crate::proofs::Missing::misses_can_be_true))]
+pub fn misses()
+    ensures { MissesCanBeTrue }
 {}
