@@ -7,7 +7,7 @@ into an error, or a conversion that passes on an error which tells of one; every
 enum, a signature, an `impl`'s head, behind `let x:` or in angle brackets), imports and patterns may name it. The library for C has a number for
 it, 8, which stands only behind a pattern that names it. No growth is asked for that may be more than a machine has room for: how many places it
 asks for is a sum of lengths, of parameters, and of literals below 2^20, by way of `let`s of its function and constants, and so is what each call
-gives for such a parameter (`capacity.py`); only shared_list/src/count.rt asks for all places that there are, behind the last number. And none
+gives for such a parameter (`capacity.py`); only shared/src/count.rt asks for all places that there are, behind the last number. And none
 names `forget`, `leak` or `ManuallyDrop`. The script prints each place that breaks this, and ends with status 1 where there is one. Before that
 it tries itself on lines of its own, wrong ones and right ones.
 """
@@ -26,7 +26,7 @@ BEHIND = re.compile(r"^(?:\([^()]*\)|\{[^{}]*\})?\s*[)}]*\s*(?:if\b[^=]*)?(?:\|(
 # The library for C, and its number.
 NUMBERED, NUMBER = "wagtenib", re.compile(r"(?<!; )\b8(?:_?[iu](?:\d+|size))?\b")
 # The one file that may ask for all places that there are.
-COUNT = "shared_list/src/count.rt"
+COUNT = "shared/src/count.rt"
 
 
 def blocks(text, pattern):

@@ -1,6 +1,6 @@
 use Rattle.std.proofs.Common.{◌≡◌, List, ℕ, [], ◌∷◌, ◌+◌, ◌++◌, length, map, take, ap, sym, ◌∙◌, append_assoc}
 use Rattle.std.proofs.lemmas.List.{length-append}
-use Rattle.place_table.specs.Looked.{places_from}
+use Rattle.shared.specs.Looked.{places_from}
 use Rattle.ct_core.specs.Leaf.{leaves_of}
 use Rattle.ct_core.specs.LeafHashes.{address_of}
 use Rattle.ct_core.specs.Tree.{sha256_leaf}

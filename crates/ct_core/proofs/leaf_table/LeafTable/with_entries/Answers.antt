@@ -1,7 +1,7 @@
 use Rattle.std.proofs.Common.{◌≡◌, ℕ, List, ◌++◌, length, map, ap, ◌∙◌, subst}
-use Rattle.place_table.specs.declared.slots.Slot.{Slot}
-use Rattle.place_table.specs.Looked.{looked, places_in}
-use Rattle.place_table.proofs.Positions.{placed-append}
+use Rattle.shared.specs.declared.slots.Slot.{Slot}
+use Rattle.shared.specs.Looked.{looked, places_in}
+use Rattle.shared.proofs.Positions.{placed-append}
 use Rattle.ct_core.specs.Leaf.{leaves_of}
 use Rattle.ct_core.specs.LeafHashes.{address_of, AreNoted}
 use Rattle.ct_core.specs.Tree.{sha256_leaf}

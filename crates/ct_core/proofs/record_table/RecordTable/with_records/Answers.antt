@@ -1,7 +1,7 @@
 use Rattle.std.proofs.Common.{◌≡◌, ℕ, List, ◌++◌, length, ap, ◌∙◌, subst}
-use Rattle.place_table.specs.declared.slots.Slot.{Slot}
-use Rattle.place_table.specs.Looked.{looked, places_in}
-use Rattle.place_table.proofs.Positions.{placed-append}
+use Rattle.shared.specs.declared.slots.Slot.{Slot}
+use Rattle.shared.specs.Looked.{looked, places_in}
+use Rattle.shared.proofs.Positions.{placed-append}
 use Rattle.ct_core.specs.declared.settled.Settled.{Settled}
 use Rattle.ct_core.specs.Tickets.{ticket_of, AreEntered}
 use Rattle.ct_core.proofs.record_table.RecordTable.with_records.Goals as goal

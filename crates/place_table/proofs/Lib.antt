@@ -1,3 +1,0 @@
-pub mod Sides
-pub mod Firsts
-pub mod Positions

@@ -1,3 +1,0 @@
-pub mod Concatenated
-pub mod Chunks
-pub mod Blocks
