@@ -125,7 +125,7 @@ END
 
 show_monitor() {
   echo "== A made-up log over three days, and what it does on the fourth, watched by ctmonitor =="
-  proved crates/ct_watch/src/watcher.rt "where a head is accepted, whatever the leaves D that were read, its size and root are those of D" <<'END'
+  proved crates/ct_monitor/src/watcher.rt "where a head is accepted, whatever the leaves D that were read, its size and root are those of D" <<'END'
 ensures compared { IfOk result (λ v. v ≡ Accepted → (D : List (List ℕ)) → Stands H.digest self.old.all (map (hash_leaf H.digest) D)
     → IsHeadOfAll H.digest D (waiting_or self.old.waiting head)) }
 END

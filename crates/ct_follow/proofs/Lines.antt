@@ -9,8 +9,8 @@ use Rattle.std.specs.Prelude.{IfSome, IfOk, OnOk, MatchResult, Result, Ok, Err}
 use Rattle.std.specs.Str.{IsUtf8}
 use Rattle.serde_json.specs.Read.{read}
 use Rattle.sha2.specs.Sha256.{sha256}
-use Rattle.ct_watch.specs.Watched.{nothing_seen}
-use Rattle.ct_watch.specs.WatcherState.{Keeps, WatcherState}
+use Rattle.ct_monitor.specs.Watched.{nothing_seen}
+use Rattle.ct_monitor.specs.WatcherState.{Keeps, WatcherState}
 use Rattle.std.specs.Io.BufRead.{drop_through, first_piece}
 use Rattle.std.specs.Io.KnownBytes.{Appends}
 use Rattle.std.proofs.KnownBytes.{Appends-nil, Appends-trans}

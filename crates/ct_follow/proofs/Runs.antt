@@ -7,13 +7,13 @@ use Rattle.std.specs.Io.BufRead.{first_piece, drop_through}
 use Rattle.sha2.specs.Sha256.{sha256}
 use Rattle.ct_tree.specs.declared.head.Head.{Head}
 use Rattle.ct_monitor.specs.Heads.{IsHeadOfAll}
-use Rattle.ct_watch.specs.Watched.{Watched, nothing_seen}
-use Rattle.ct_watch.specs.Verdicts.{ProofSays}
-use Rattle.ct_watch.specs.WatcherState.{WatcherState, Keeps}
-use Rattle.ct_watch.specs.History.{SaysAccepted, IsStep, AreSteps, after_steps, IsOfBeginning}
-use Rattle.ct_watch.specs.declared.verdict.Verdict.{Verdict}
-use Rattle.ct_watch.specs.declared.verdict.Verdict.TheVariants.{Accepted}
-use Rattle.ct_watch.proofs.History.{accepted_heads_agree}
+use Rattle.ct_monitor.specs.Watched.{Watched, nothing_seen}
+use Rattle.ct_monitor.specs.Verdicts.{ProofSays}
+use Rattle.ct_monitor.specs.WatcherState.{WatcherState, Keeps}
+use Rattle.ct_monitor.specs.History.{SaysAccepted, IsStep, AreSteps, after_steps, IsOfBeginning}
+use Rattle.ct_monitor.specs.declared.verdict.Verdict.{Verdict}
+use Rattle.ct_monitor.specs.declared.verdict.Verdict.TheVariants.{Accepted}
+use Rattle.ct_monitor.proofs.History.{accepted_heads_agree}
 use Rattle.ct_follow.specs.Seen.{SeenAnswer, seen_head, seen_leaves, seen_proof, seen_gap, seen_known, seen_refused, seen_state, seen_nothing}
 use Rattle.ct_follow.specs.Session.{AnswerSays, LineStep, TakesLine, TakesLines}
 use Rattle.ct_follow.specs.History.{RunTaken, FollowOn, after_runs, IsOfFirst, AreOfFirst, RunsAreOfFirst, LineHands, LinesHand, RunsHand, RunsAgree}
@@ -21,7 +21,7 @@ use Rattle.ct_follow.specs.declared.monitor.Monitor.{Monitor}
 use Rattle.ct_follow.specs.declared.verdicts.Outcome.{Outcome}
 use Rattle.ct_follow.specs.declared.verdicts.Outcome.TheVariants.{Said, Known, BadLine, BadState, BadAnswer}
 
--- a list of ct_watch's steps from w on, of which Q follows at each list D that they agree with, behind which t stands for what was handed
+-- a list of ct_monitor's steps from w on, of which Q follows at each list D that they agree with, behind which t stands for what was handed
 -- out, and R holds of that
 abbrev Shows : WatcherState → Watched → (List (List ℕ) → Type 0) → (Watched → Type 0) → Type 0
 Shows t w Q R = (L : List (Verdict × Watched)) × AreSteps sha256 w L × ((D : List (List ℕ)) → All (IsOfBeginning sha256 D) L → Q D)
@@ -51,7 +51,7 @@ never None second p says = subst SaysAccepted says tt
 proof_not_accepted : (first second : Option Head) (p : List (List ℕ)) (v : Verdict) → v ≡ Accepted → ProofSays sha256 first second p v → ⊥
 proof_not_accepted first second p v e says = never first second p (subst (ProofSays sha256 first second p) e says)
 
--- a verdict that is one of ct_watch's steps
+-- a verdict that is one of ct_monitor's steps
 one_step : (t : WatcherState) (w next : Watched) (v : Verdict) (s : WatcherState) (Q : List (List ℕ) → Type 0) (R : Watched → Type 0) → Keeps sha256 s next
     → IsStep sha256 w v next → Shows t next Q R
     → Shows t w (λ D. Agrees s (Said v) D × Q D) R
@@ -70,7 +70,7 @@ one_step t w next v s Q R k step rest = (
   rest.4,
 )
 
--- nothing that ct_watch counts
+-- nothing that ct_monitor counts
 no_step : (t : WatcherState) (w next : Watched) (o : Outcome) (s : WatcherState) (Q : List (List ℕ) → Type 0) (R : Watched → Type 0) → next ≡ w
     → ((D : List (List ℕ)) → Agrees s o D) → Shows t next Q R
     → Shows t w (λ D. Agrees s o D × Q D) R

@@ -22,7 +22,7 @@ use Rattle.serde_json.proofs.Texts.{print-outline}
 use Rattle.ct_lines.specs.Fields.{bytes_of, hash_of, hash_in, hashes_of_items}
 use Rattle.ct_lines.specs.ReplyText.{base64_text, number_data, bytes_data, hashes_data}
 use Rattle.ct_tree.specs.declared.head.Head.{Head}
-use Rattle.ct_watch.specs.WatcherState.{WatcherState}
+use Rattle.ct_monitor.specs.WatcherState.{WatcherState}
 use Rattle.ct_follow.specs.Answers.{head_in, head_with}
 use Rattle.ct_follow.specs.StateText.{maybe_head_data, peaks_data, state_data, check_data, state_text, IsRootHash, IsNoneOrOfBytes, ArePeaksOfBytes, IsOfBytes}
 use Rattle.ct_follow.specs.StateText.{peaks_in, state_in, state_with, IsLineOfState, IsNoStateLine, LinesOfStatesDiffer, StatesReadBack}

@@ -6,7 +6,7 @@ use Rattle.std.proofs.lemmas.Bool.{and_from}
 use Rattle.std.proofs.lemmas.List.{get_or_push, take_at}
 use Rattle.std.proofs.lemmas.List.Elements.{All-head, All-tail}
 use Rattle.std.specs.Io.BufRead.{ends_with_byte, strip_last, drop_through, first_piece}
-use Rattle.ct_watch.specs.WatcherState.{WatcherState}
+use Rattle.ct_monitor.specs.WatcherState.{WatcherState}
 use Rattle.ct_follow.specs.Session.{LineStep, TakesLine, TakesLines, BeginsAt}
 use Rattle.ct_follow.specs.StateText.{state_text, IsLineOfState, IsNoStateLine}
 use Rattle.serde_json.specs.Written.{compact_text}

@@ -7,8 +7,8 @@ use Rattle.ct_codec.specs.Faults.{LeafFaulty}
 use Rattle.ct_codec.specs.declared.fault.DecodeFault.{DecodeFault}
 use Rattle.ct_codec.specs.declared.fault.DecodeFault.TheVariants.{Truncated, BadVersion, BadLeafType, BadEntryType, EmptyVector, Trailing, Memory}
 use Rattle.ct_lines.specs.ReplyText.{number_data}
-use Rattle.ct_watch.specs.declared.verdict.Verdict.{Verdict}
-use Rattle.ct_watch.specs.declared.verdict.Verdict.TheVariants.{Gap}
+use Rattle.ct_monitor.specs.declared.verdict.Verdict.{Verdict}
+use Rattle.ct_monitor.specs.declared.verdict.Verdict.TheVariants.{Gap}
 use Rattle.ct_follow.specs.Names.{is_in, lower}
 use Rattle.ct_follow.specs.Texts.{line_of}
 

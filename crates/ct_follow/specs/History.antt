@@ -4,9 +4,9 @@ use Rattle.std.specs.Io.BufRead.{first_piece, drop_through}
 use Rattle.sha2.specs.Sha256.{sha256}
 use Rattle.ct_monitor.specs.Heads.{IsHeadOfAll}
 use Rattle.ct_tree.specs.declared.head.Head.{Head}
-use Rattle.ct_watch.specs.Watched.{Watched, nothing_seen}
-use Rattle.ct_watch.specs.WatcherState.{WatcherState, Keeps}
-use Rattle.ct_watch.specs.declared.verdict.Verdict.TheVariants.{Accepted}
+use Rattle.ct_monitor.specs.Watched.{Watched, nothing_seen}
+use Rattle.ct_monitor.specs.WatcherState.{WatcherState, Keeps}
+use Rattle.ct_monitor.specs.declared.verdict.Verdict.TheVariants.{Accepted}
 use Rattle.ct_follow.specs.Session.{LineStep, AnswerSays, TakesLine, TakesLines, Runs}
 use Rattle.ct_follow.specs.StateText.{IsNoStateLine}
 use Rattle.ct_follow.specs.declared.monitor.Monitor.{Monitor}

@@ -6,9 +6,9 @@ use Rattle.std.specs.Io.BufRead.{first_piece, drop_through}
 use Rattle.std.specs.Io.KnownBytes.{Appends}
 use Rattle.sha2.specs.Sha256.{sha256}
 use Rattle.ct_lines.specs.Lines.{kept_line}
-use Rattle.ct_watch.specs.Watched.{Watched, leaves_read, waiting_or, after_verdict, nothing_seen}
-use Rattle.ct_watch.specs.Verdicts.{accuses, HeadSays, EntriesSay, ProofSays, after_entries}
-use Rattle.ct_watch.specs.WatcherState.{WatcherState, Keeps}
+use Rattle.ct_monitor.specs.Watched.{Watched, leaves_read, waiting_or, after_verdict, nothing_seen}
+use Rattle.ct_monitor.specs.Verdicts.{accuses, HeadSays, EntriesSay, ProofSays, after_entries}
+use Rattle.ct_monitor.specs.WatcherState.{WatcherState, Keeps}
 use Rattle.ct_follow.specs.Answers.{Answered, Reads}
 use Rattle.ct_follow.specs.Seen.{SeenAnswer, seen_head, seen_leaves, seen_proof, seen_gap, seen_known, seen_refused, seen_state, seen_nothing, SeesAnswer}
 use Rattle.ct_follow.specs.EntryText.{ReadTexts}
@@ -19,7 +19,7 @@ use Rattle.ct_tree.specs.declared.head.Head.{Head}
 use Rattle.ct_follow.specs.declared.monitor.Monitor.{Monitor}
 use Rattle.ct_follow.specs.declared.verdicts.Outcome.{Outcome}
 use Rattle.ct_follow.specs.declared.verdicts.Outcome.TheVariants.{Said, Known, BadLine, BadState, BadAnswer}
-use Rattle.ct_watch.specs.declared.verdict.Verdict.TheVariants.{Gap}
+use Rattle.ct_monitor.specs.declared.verdict.Verdict.TheVariants.{Gap}
 
 -- what an answer, as it is seen, comes to where the log has handed out w, and what it has then
 abbrev pub AnswerSays : Watched → SeenAnswer → Outcome → Watched → Type 0

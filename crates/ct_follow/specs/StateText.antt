@@ -9,7 +9,7 @@ use Rattle.sha2.specs.Sha256.{sha256}
 use Rattle.ct_lines.specs.Fields.{number_at, hashes_at}
 use Rattle.ct_lines.specs.ReplyText.{number_data, bytes_data, hashes_data}
 use Rattle.ct_tree.specs.declared.head.Head.{Head}
-use Rattle.ct_watch.specs.WatcherState.{WatcherState}
+use Rattle.ct_monitor.specs.WatcherState.{WatcherState}
 use Rattle.ct_follow.specs.Answers.{head_in}
 
 -- a head, or null

@@ -6,9 +6,9 @@ use Rattle.ct_lines.specs.ReplyText.{number_data, bytes_data}
 use Rattle.ct_tree.specs.declared.head.Head.{Head}
 use Rattle.ct_verify.specs.declared.fault.ProofFault.{ProofFault}
 use Rattle.ct_verify.specs.declared.fault.ProofFault.TheVariants as fault
-use Rattle.ct_watch.specs.WatcherState.{WatcherState}
-use Rattle.ct_watch.specs.declared.verdict.Verdict.{Verdict}
-use Rattle.ct_watch.specs.declared.verdict.Verdict.TheVariants.{Accepted, Pending, Again, Stale, Shrunk, Fork, TimeNotLater, RootMismatch, Gap, Consistent, Inconsistent}
+use Rattle.ct_monitor.specs.WatcherState.{WatcherState}
+use Rattle.ct_monitor.specs.declared.verdict.Verdict.{Verdict}
+use Rattle.ct_monitor.specs.declared.verdict.Verdict.TheVariants.{Accepted, Pending, Again, Stale, Shrunk, Fork, TimeNotLater, RootMismatch, Gap, Consistent, Inconsistent}
 use Rattle.ct_follow.specs.declared.verdicts.Outcome.{Outcome}
 use Rattle.ct_follow.specs.declared.verdicts.Outcome.TheVariants.{Said, Known, BadLine, BadState, BadAnswer}
 use Rattle.ct_follow.specs.declared.refusal.AnswerRefusal.{AnswerRefusal}

@@ -9,7 +9,7 @@ ghost use Rattle.ct_follow.specs.EntryText.{leaf_fault_name, leaf_fault_data, fo
 use crate::names::{is_named, lowered};
 use crate::text::push_line;
 use ct_codec::{DecodeFault, LentEntry, lend_leaf};
-use ct_watch::Verdict;
+use ct_monitor::Verdict;
 use serde_json::{Value, json};
 use std::alloc::{AllocError, Global};
 

@@ -9,8 +9,8 @@ ghost use Rattle.ct_follow.specs.declared.fault.Fault.TheVariants.{Memory, Write
 
 use crate::answer::Answer;
 use ct_lines::Unwritten;
+use ct_monitor::Watcher;
 use ct_tree::Sha256Hash;
-use ct_watch::Watcher;
 use serde_json::Error;
 use std::alloc::AllocError;
 use std::io;

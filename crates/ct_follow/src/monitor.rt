@@ -2,9 +2,9 @@
 
 ghost use Rattle.std.specs.Prelude.{◌≡◌, ◌⊎◌, ◌+◌, ◌-◌, ◌<◌, ◌≤◌, ◌^◌, ◌++◌, ◌∷◌, ◌||◌, [], ℕ, Bool, List, Option, IfOk, OnOk, false, length, map, min, string_bytes, unwrap_or};
 ghost use Rattle.sha2.specs.Sha256.{sha256};
-ghost use Rattle.ct_watch.specs.Watched.{Watched};
-ghost use Rattle.ct_watch.specs.Verdicts.{EntriesSay, after_entries};
-ghost use Rattle.ct_watch.specs.WatcherState.{Keeps};
+ghost use Rattle.ct_monitor.specs.Watched.{Watched};
+ghost use Rattle.ct_monitor.specs.Verdicts.{EntriesSay, after_entries};
+ghost use Rattle.ct_monitor.specs.WatcherState.{Keeps};
 ghost use Rattle.ct_follow.specs.Seen.{seen_read, seen_leaves};
 ghost use Rattle.ct_follow.specs.Session.{AreTexts, moment_of, StateSays, LineGives, FirstGives, status_of, is_alarm, is_bad};
 ghost use Rattle.ct_follow.specs.StateText.{state_text, IsOfBytes};
@@ -16,8 +16,8 @@ use crate::entries::{either, push_read};
 use crate::seen::{Seen, see};
 use crate::state::{is_of_bytes, read_state, state_line};
 use crate::verdicts::{Outcome, push_outcome, wanted};
+use ct_monitor::{Verdict, Watcher};
 use ct_tree::Sha256Hash;
-use ct_watch::{Verdict, Watcher};
 use std::alloc::{AllocError, Global};
 
 /// What is known behind a line.

@@ -15,8 +15,8 @@ use crate::command::{Command, command_of, refusal};
 use crate::fault::Fault;
 use crate::monitor::Monitor;
 use ct_lines::{next_line, send, tell};
+use ct_monitor::Watcher;
 use ct_tree::Sha256Hash;
-use ct_watch::Watcher;
 use std::alloc::{AllocError, Global};
 use std::io::{BufRead, BufReader, Read, Write};
 

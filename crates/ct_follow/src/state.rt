@@ -12,9 +12,8 @@ ghost use Rattle.ct_follow.specs.StateText.{maybe_head_data, peaks_data, state_d
 use crate::answer::LONGEST;
 use crate::fault::UnreadState;
 use ct_lines::{bytes_value, fields, hashes_value};
-use ct_monitor::Peaks;
+use ct_monitor::{Peaks, Watcher};
 use ct_tree::{Head, Sha256Hash};
-use ct_watch::Watcher;
 use serde_json::{Value, json};
 use sha2::{Digest, Sha256};
 use std::alloc::{AllocError, Global};

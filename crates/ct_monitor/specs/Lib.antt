@@ -4,3 +4,7 @@ pub mod FollowerState
 pub mod Observed
 pub mod Audited
 pub mod Extended
+pub mod Watched
+pub mod Verdicts
+pub mod WatcherState
+pub mod History

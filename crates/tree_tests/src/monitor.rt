@@ -2,9 +2,8 @@
 use crate::evidence::one_byte_leaves;
 use crate::rows::{Row, Shown, right_rows};
 use crate::weak_hashes::ZeroHash;
-use ct_monitor::{Auditor, Follower, Monitor, MonitorFault, Peaks};
+use ct_monitor::{Auditor, Follower, Monitor, MonitorFault, Peaks, Verdict, Watcher};
 use ct_tree::{Head, NodeHash, Sha256Hash};
-use ct_watch::{Verdict, Watcher};
 use std::alloc::{AllocError, Global};
 use std::test::Fail;
 

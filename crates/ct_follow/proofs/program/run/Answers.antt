@@ -1,8 +1,8 @@
 use Rattle.std.proofs.Common.{map, sym, subst}
 use Rattle.std.specs.Prelude.{string_bytes}
 use Rattle.sha2.specs.Sha256.{sha256}
-use Rattle.ct_watch.specs.Watched.{nothing_seen}
-use Rattle.ct_watch.specs.WatcherState.{Keeps, WatcherState}
+use Rattle.ct_monitor.specs.Watched.{nothing_seen}
+use Rattle.ct_monitor.specs.WatcherState.{Keeps, WatcherState}
 use Rattle.ct_follow.proofs.Lines.{run_done, run_status}
 use Rattle.ct_follow.proofs.program.run.Goals as goal
 

@@ -1,6 +1,6 @@
 use Rattle.std.proofs.Common.{◌≡◌, ◌∙◌, ◌-◌, ℕ, List, Vec, Global, map, take, ap, subst}
 use Rattle.std.specs.Prelude.{string_bytes}
-use Rattle.ct_watch.proofs.Steps.{as_far_as}
+use Rattle.ct_monitor.proofs.Steps.{as_far_as}
 use Rattle.ct_follow.specs.EntryText.{ReadTexts}
 use Rattle.ct_follow.specs.Session.{leaves_taken, moment_of}
 use Rattle.ct_follow.specs.VerdictText.{wanted_size}

@@ -1,6 +1,6 @@
 use Rattle.std.proofs.Common.{◌∙◌, ◌++◌, ℕ, List, map, ap, sym, subst, refl, Bool, ◌||◌, Some}
 use Rattle.std.specs.Prelude.{string_bytes}
-use Rattle.ct_watch.specs.WatcherState.{WatcherState}
+use Rattle.ct_monitor.specs.WatcherState.{WatcherState}
 use Rattle.ct_follow.specs.Answers.{answer_read}
 use Rattle.ct_follow.specs.Seen.{seen_read, SeesAnswer}
 use Rattle.ct_follow.specs.Session.{StateSays, LineStep, is_alarm, is_bad}

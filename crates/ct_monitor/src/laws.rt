@@ -1,6 +1,6 @@
 //! What follows of the definitions, each a clause of a function that does nothing.
 
-ghost use Rattle.ct_watch.specs.History.{AcceptedHeadsAgree};
+ghost use Rattle.ct_monitor.specs.History.{AcceptedHeadsAgree};
 
 /// However many answers are taken, in however many runs: each accepted head is the head of a beginning of one list of
 /// leaves, those that the log handed out and that are accepted after the last answer. No collision freedom is assumed.

@@ -2,10 +2,10 @@
 use Rattle.std.specs.Prelude.{◌≡◌, ◌⊎◌, ⊤, ℕ, List, [], ◌∷◌, take, Some, All}
 use Rattle.ct_tree.specs.declared.head.Head.{Head}
 use Rattle.ct_monitor.specs.Heads.{IsHeadOfAll}
-use Rattle.ct_watch.specs.Watched.{Watched, waiting_or, after_verdict, nothing_seen}
-use Rattle.ct_watch.specs.Verdicts.{HeadSays, EntriesSay, after_entries}
-use Rattle.ct_watch.specs.declared.verdict.Verdict.{Verdict}
-use Rattle.ct_watch.specs.declared.verdict.Verdict.TheVariants.{Accepted}
+use Rattle.ct_monitor.specs.Watched.{Watched, waiting_or, after_verdict, nothing_seen}
+use Rattle.ct_monitor.specs.Verdicts.{HeadSays, EntriesSay, after_entries}
+use Rattle.ct_monitor.specs.declared.verdict.Verdict.{Verdict}
+use Rattle.ct_monitor.specs.declared.verdict.Verdict.TheVariants.{Accepted}
 
 -- the verdict is that the waiting head is accepted
 abbrev pub SaysAccepted : Verdict → Type 0

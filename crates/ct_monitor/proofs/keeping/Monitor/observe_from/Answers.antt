@@ -1,6 +1,6 @@
 use Rattle.std.proofs.Common.{Vec, ℕ, List, map}
 use Rattle.std.proofs.lemmas.Result.{err_from_is_err_and}
-use Rattle.ct_monitor.proofs.monitor.Monitor.observe_from.Goals as goal
+use Rattle.ct_monitor.proofs.keeping.Monitor.observe_from.Goals as goal
 
 abbrev bytes : {A : Type 0} → Vec ℕ A → List ℕ
 bytes l = l.items

@@ -1,6 +1,6 @@
 use Rattle.std.proofs.Common.{sym, ◌∙◌, ap, refl}
 use Rattle.ct_tree.proofs.Peaks.{peaks-nil}
-use Rattle.ct_watch.proofs.watcher.Watcher.new.Goals as goal
+use Rattle.ct_monitor.proofs.watcher.Watcher.new.Goals as goal
 
 pub returns : goal.returns
 returns g c =

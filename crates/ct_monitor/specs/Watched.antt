@@ -2,8 +2,8 @@
 use Rattle.std.specs.Prelude.{ℕ, ◌-◌, List, [], ◌++◌, length, take, Some, None}
 use Rattle.std.specs.declared.option.Option.{Option}
 use Rattle.ct_tree.specs.declared.head.Head.{Head}
-use Rattle.ct_watch.specs.declared.verdict.Verdict.{Verdict}
-use Rattle.ct_watch.specs.declared.verdict.Verdict.TheVariants.{Accepted, Pending, RootMismatch}
+use Rattle.ct_monitor.specs.declared.verdict.Verdict.{Verdict}
+use Rattle.ct_monitor.specs.declared.verdict.Verdict.TheVariants.{Accepted, Pending, RootMismatch}
 
 -- What a log has handed out: the last accepted head with its leaves, the newer head that waits, and the leaves that were read behind the
 -- accepted ones.

@@ -1,6 +1,6 @@
 use Rattle.std.proofs.Common.{◌≡◌, ℕ, List, Vec, Global, map, Some, rules}
-use Rattle.ct_watch.proofs.Steps.{entries_compared, entries_say, entries_keep}
-use Rattle.ct_watch.proofs.watcher.Watcher.take_entries.Goals as goal
+use Rattle.ct_monitor.proofs.Steps.{entries_compared, entries_say, entries_keep}
+use Rattle.ct_monitor.proofs.watcher.Watcher.take_entries.Goals as goal
 
 abbrev bytes : Vec ℕ Global → List ℕ
 bytes l = l.items

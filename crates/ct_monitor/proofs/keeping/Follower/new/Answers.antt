@@ -1,6 +1,6 @@
 use Rattle.std.proofs.Common.{sym, ◌∙◌, ap, refl}
 use Rattle.ct_tree.proofs.Peaks.{peaks-nil}
-use Rattle.ct_monitor.proofs.follower.Follower.new.Goals as goal
+use Rattle.ct_monitor.proofs.keeping.Follower.new.Goals as goal
 
 pub returns-clause-follows : goal.returns-clause-follows
 returns-clause-follows g c =

@@ -1,6 +1,6 @@
 //! What is said of an answer of a log.
 ghost use Rattle.std.specs.Prelude.{◌≡◌};
-ghost use Rattle.ct_watch.specs.Verdicts.{accuses};
+ghost use Rattle.ct_monitor.specs.Verdicts.{accuses};
 
 use ct_tree::Head;
 use ct_verify::ProofFault;

@@ -4,9 +4,9 @@ use Rattle.std.specs.declared.option.Option.{Option}
 use Rattle.ct_tree.specs.Tree.{mth_of_leaves}
 use Rattle.ct_tree.specs.declared.head.Head.{Head}
 use Rattle.ct_verify.specs.Verdict.{AcceptsConsistency, RefusesConsistency}
-use Rattle.ct_watch.specs.Watched.{Watched, leaves_read, waiting_or, read_on, after_verdict}
-use Rattle.ct_watch.specs.declared.verdict.Verdict.{Verdict}
-use Rattle.ct_watch.specs.declared.verdict.Verdict.TheVariants.{Accepted, Pending, Again, Stale, Shrunk, Fork, TimeNotLater, RootMismatch, Gap, Consistent, Inconsistent}
+use Rattle.ct_monitor.specs.Watched.{Watched, leaves_read, waiting_or, read_on, after_verdict}
+use Rattle.ct_monitor.specs.declared.verdict.Verdict.{Verdict}
+use Rattle.ct_monitor.specs.declared.verdict.Verdict.TheVariants.{Accepted, Pending, Again, Stale, Shrunk, Fork, TimeNotLater, RootMismatch, Gap, Consistent, Inconsistent}
 
 -- a verdict speaks against the log: a shrunk log, a fork, a larger head that isn't later, a root that isn't that of the leaves, an
 -- inconsistent proof

@@ -5,12 +5,12 @@ use Rattle.std.proofs.lemmas.List.Elements.{All-cons}
 use Rattle.std.proofs.Math.Seq.{take-append_seam}
 use Rattle.ct_tree.specs.declared.head.Head.{Head}
 use Rattle.ct_monitor.specs.Heads.{IsHeadOfAll}
-use Rattle.ct_watch.specs.Watched.{Watched, waiting_or, read_on, after_verdict, nothing_seen}
-use Rattle.ct_watch.specs.Verdicts.{IsSaid, WaitingSays, HeadSays, EntriesSay, after_entries}
-use Rattle.ct_watch.specs.History.{SaysAccepted, IsStep, AreSteps, after_steps, IsOfBeginning, AcceptedHeadsAgree}
-use Rattle.ct_watch.specs.declared.verdict.Verdict.{Verdict}
-use Rattle.ct_watch.specs.declared.verdict.Verdict.TheVariants.{Accepted, Pending, Again, Stale, Shrunk, Fork, TimeNotLater, RootMismatch, Gap, Consistent, Inconsistent}
-use Rattle.ct_watch.proofs.Steps.{said_changes_nothing}
+use Rattle.ct_monitor.specs.Watched.{Watched, waiting_or, read_on, after_verdict, nothing_seen}
+use Rattle.ct_monitor.specs.Verdicts.{IsSaid, WaitingSays, HeadSays, EntriesSay, after_entries}
+use Rattle.ct_monitor.specs.History.{SaysAccepted, IsStep, AreSteps, after_steps, IsOfBeginning, AcceptedHeadsAgree}
+use Rattle.ct_monitor.specs.declared.verdict.Verdict.{Verdict}
+use Rattle.ct_monitor.specs.declared.verdict.Verdict.TheVariants.{Accepted, Pending, Again, Stale, Shrunk, Fork, TimeNotLater, RootMismatch, Gap, Consistent, Inconsistent}
+use Rattle.ct_monitor.proofs.Steps.{said_changes_nothing}
 
 -- a step keeps the sure leaves, and accepts a head of the new ones
 abbrev Grows : (List ℕ → List ℕ) → Watched → Verdict → Watched → Type 0

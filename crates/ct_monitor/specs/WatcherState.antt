@@ -4,7 +4,7 @@ use Rattle.std.specs.declared.option.Option.{Option}
 use Rattle.ct_tree.specs.Stack.{Stands}
 use Rattle.ct_tree.specs.Tree.{hash_leaf}
 use Rattle.ct_tree.specs.declared.head.Head.{Head}
-use Rattle.ct_watch.specs.Watched.{Watched, leaves_read}
+use Rattle.ct_monitor.specs.Watched.{Watched, leaves_read}
 
 -- What contracts see of a watcher: the accepted head and the waiting one; and of the accepted leaves, and of all that were read, the number
 -- and the roots of the perfect subtrees.

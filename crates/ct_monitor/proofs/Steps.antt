@@ -7,11 +7,11 @@ use Rattle.std.proofs.lemmas.List.{append_assoc, map-append, take-map, take_all,
 use Rattle.ct_tree.specs.Stack.{Stands}
 use Rattle.ct_tree.specs.Tree.{hash_leaf}
 use Rattle.ct_tree.specs.declared.head.Head.{Head}
-use Rattle.ct_watch.specs.Watched.{Watched, leaves_read, read_on, with_more, after_verdict}
-use Rattle.ct_watch.specs.Verdicts.{IsSaid, LeavesSay, WaitingSays, EntriesSay, after_entries}
-use Rattle.ct_watch.specs.WatcherState.{WatcherState, Keeps}
-use Rattle.ct_watch.specs.declared.verdict.Verdict.{Verdict}
-use Rattle.ct_watch.specs.declared.verdict.Verdict.TheVariants.{Accepted, Pending, Again, Stale, Shrunk, Fork, TimeNotLater, RootMismatch, Gap, Consistent, Inconsistent}
+use Rattle.ct_monitor.specs.Watched.{Watched, leaves_read, read_on, with_more, after_verdict}
+use Rattle.ct_monitor.specs.Verdicts.{IsSaid, LeavesSay, WaitingSays, EntriesSay, after_entries}
+use Rattle.ct_monitor.specs.WatcherState.{WatcherState, Keeps}
+use Rattle.ct_monitor.specs.declared.verdict.Verdict.{Verdict}
+use Rattle.ct_monitor.specs.declared.verdict.Verdict.TheVariants.{Accepted, Pending, Again, Stale, Shrunk, Fork, TimeNotLater, RootMismatch, Gap, Consistent, Inconsistent}
 
 -- a verdict that stands against a head at once changes nothing
 pub said_changes_nothing : (w : Watched) (waiting : Head) (known : Option Head) (head : Head) (v : Verdict) → IsSaid known head v

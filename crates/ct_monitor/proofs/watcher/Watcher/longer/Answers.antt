@@ -1,10 +1,10 @@
 use Rattle.std.proofs.Common.{◌≡◌, ◌+◌, ◌-◌, ◌^◌, ◌<◌, ◌∙◌, ℕ, List, Vec, Global, length, map, take, arith, sym, ap, subst}
-use Rattle.std.proofs.lemmas.List.{length-map, length-take-le}
+use Rattle.std.proofs.lemmas.List.{length-take-le}
 use Rattle.ct_tree.specs.Stack.{Stands}
 use Rattle.ct_tree.specs.Tree.{hash_leaf}
-use Rattle.ct_watch.specs.Watched.{leaves_read, with_more}
-use Rattle.ct_watch.proofs.Steps.{as_far_as, keeps_read_on, stands_read_on}
-use Rattle.ct_watch.proofs.watcher.Watcher.longer.Goals as goal
+use Rattle.ct_monitor.specs.Watched.{leaves_read}
+use Rattle.ct_monitor.proofs.Steps.{as_far_as, keeps_read_on, stands_read_on}
+use Rattle.ct_monitor.proofs.watcher.Watcher.longer.Goals as goal
 
 abbrev bytes : Vec ℕ Global → List ℕ
 bytes l = l.items

@@ -4,13 +4,13 @@ ghost use Rattle.ct_tree.specs.Stack.{Stands};
 ghost use Rattle.ct_tree.specs.Tree.{hash_leaf};
 ghost use Rattle.ct_tree.specs.declared.head.Head.{Head};
 ghost use Rattle.ct_monitor.specs.Heads.{IsHeadOfAll};
-ghost use Rattle.ct_watch.specs.declared.verdict.Verdict.TheVariants.{Accepted};
-ghost use Rattle.ct_watch.specs.Watched.{Watched, after_verdict, nothing_seen, read_on, waiting_or, with_more};
-ghost use Rattle.ct_watch.specs.Verdicts.{EntriesSay, HeadSays, IsGrownLater, IsSaid, LeavesSay, ProofSays, WaitingSays, after_entries};
-ghost use Rattle.ct_watch.specs.WatcherState.{Keeps, WatcherState};
+ghost use Rattle.ct_monitor.specs.declared.verdict.Verdict.TheVariants.{Accepted};
+ghost use Rattle.ct_monitor.specs.Watched.{Watched, after_verdict, nothing_seen, read_on, waiting_or, with_more};
+ghost use Rattle.ct_monitor.specs.Verdicts.{EntriesSay, HeadSays, IsGrownLater, IsSaid, LeavesSay, ProofSays, WaitingSays, after_entries};
+ghost use Rattle.ct_monitor.specs.WatcherState.{Keeps, WatcherState};
 
+use crate::peaks::Peaks;
 use crate::verdict::Verdict;
-use ct_monitor::Peaks;
 use ct_tree::{Head, NodeHash, is_same_digest};
 use ct_verify::verify_consistency;
 use std::alloc::{AllocError, Global};

@@ -1,6 +1,6 @@
 use Rattle.std.proofs.Common.{Vec, ℕ, List, length, map}
 use Rattle.ct_monitor.proofs.Refused.{stands_for_all, head_of_all, refused_for_all}
-use Rattle.ct_monitor.proofs.follower.Follower.longer.Goals as goal
+use Rattle.ct_monitor.proofs.keeping.Follower.longer.Goals as goal
 
 abbrev bytes : {A : Type 0} → Vec ℕ A → List ℕ
 bytes l = l.items

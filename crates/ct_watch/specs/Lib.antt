@@ -1,4 +1,0 @@
-pub mod Watched
-pub mod Verdicts
-pub mod WatcherState
-pub mod History
