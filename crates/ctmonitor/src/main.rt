@@ -1,8 +1,8 @@
 //! The program `ctmonitor`: watches a log by the answers of its front end, which stand on standard input, a line each. What it
-//! does is `answer_words` of `ct_follow`, over the process's words, standard input, output and error.
+//! does is `answer_words` of `ct_monitor_lines`, over the process's words, standard input, output and error.
 #![tactic(auto)]
 
-use ct_follow::{Fault, answer_words, refuse_words};
+use ct_monitor_lines::{Fault, answer_words, refuse_words};
 use std::io;
 use std::process::ExitCode;
 

@@ -1,4 +1,4 @@
-//! Tests of `ct_codec`, `ct_core`, `ct_lines` and `ct_follow`, in a crate of their own so that each of those crates is proved
+//! Tests of `ct_codec`, `ct_core`, `ct_lines` and `ct_monitor_lines`, in a crate of their own so that each of those crates is proved
 //! once.
 #![tactic(auto)]
 

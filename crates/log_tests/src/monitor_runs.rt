@@ -1,5 +1,5 @@
 // What is expected was computed by another program: examples/monitor/answers.py, with hashlib alone, over short leaves.
-use ct_follow::{Fault, answer_words, refuse_words, run};
+use ct_monitor_lines::{Fault, answer_words, refuse_words, run};
 use std::alloc::Global;
 use std::io;
 use std::io::{BufReader, ErrorKind, Read, Write};

@@ -1,9 +1,0 @@
-use Rattle.std.proofs.Common.{map}
-use Rattle.std.specs.Prelude.{string_bytes}
-use Rattle.ct_follow.proofs.Lines.{GoesOn}
-use Rattle.ct_follow.proofs.program.take_lines.Given as goal
-
-abbrev pub invariant-loop-turn : goal.invariant-loop-turn
-invariant-loop-turn g l =
-    GoesOn (map string_bytes l.names) l.fn.monitor l.monitor (g.B.Read.remaining l.fn.reader) (g.B.Read.remaining l.reader)
-    (g.W.Write.contents l.fn.writer) (g.W.Write.contents l.writer)

@@ -1,0 +1,254 @@
+//! What is written of an entry: a line for each watched name that stands in its certificate, or one where it is no leaf.
+
+ghost use Rattle.std.specs.Prelude.{◌≡◌, ◌+◌, ◌<◌, ◌^◌, ◌++◌, ℕ, ◌||◌, List, IfOk, OnOk, is_some, length, map, nat_lt, string_bytes};
+ghost use Rattle.serde_json.specs.View.{view};
+ghost use Rattle.ct_codec.specs.Decoded.{entry_lent};
+ghost use Rattle.ct_codec.specs.Leaf.{signed_of};
+ghost use Rattle.ct_monitor_lines.specs.EntryText.{leaf_fault_name, leaf_fault_data, found_data, found_line, found_lines, kind_word, newer_data, newer_line, wrong_index_data, wrong_index_line, IsEntryText, AreEntryTexts, AreTileTexts, ReadTexts};
+
+use crate::names::{is_named, lowered};
+use crate::text::push_line;
+use ct_codec::{DecodeFault, LentEntry, lend_leaf};
+use ct_monitor::Verdict;
+use serde_json::{Value, json};
+use std::alloc::{AllocError, Global};
+
+// The name of why bytes are no leaf.
+pub(crate) fn name_of(fault: DecodeFault) -> &'static str
+    ensures { result.now ≡ leaf_fault_name fault }
+{
+    match fault {
+        DecodeFault::Truncated => "truncated",
+        DecodeFault::BadVersion => "bad-version",
+        DecodeFault::BadLeafType => "bad-leaf-type",
+        DecodeFault::BadEntryType => "bad-entry-type",
+        DecodeFault::EmptyVector => "empty-vector",
+        DecodeFault::Trailing => "trailing",
+        DecodeFault::Memory => "memory",
+    }
+}
+
+fn fault_value(alloc: Global, index: u64, fault: DecodeFault) -> Result<Value, AllocError>
+    ensures { IfOk result (λ v. view v ≡ leaf_fault_data index fault) }
+{
+    json!(in alloc; {"entry": index, "fault": name_of(fault)})
+}
+
+fn found_value(
+    alloc: Global,
+    index: u64,
+    name: &str,
+    timestamp: u64,
+    kind: &str,
+) -> Result<Value, AllocError>
+    ensures { IfOk result (λ v. view v ≡ found_data index name.now timestamp kind.now) }
+{
+    json!(in alloc; {"entry": index, "name": name, "timestamp": timestamp, "type": kind})
+}
+
+// The word of an entry's type, and its certificate or TBSCertificate.
+fn kind_and_certificate<'a>(entry: &LentEntry<'a>) -> (&'static str, &'a [u8])
+    ensures kind { result.0.now ≡ kind_word (entry_lent entry.now) }
+    ensures certificate { result.1.now ≡ signed_of (entry_lent entry.now) }
+{
+    match entry {
+        LentEntry::X509(certificate) => ("x509", *certificate),
+        LentEntry::Precert(_, certificate) => ("precert", *certificate),
+    }
+}
+
+// Adds a line of a name, where it stands in the lowered certificate.
+fn push_if_found(
+    alloc: Global,
+    text: &mut Vec<u8>,
+    name: &str,
+    index: u64,
+    timestamp: u64,
+    kind: &str,
+    low: &[u8],
+) -> Result<(), AllocError>
+    ensures { OnOk result (text.new.items ≡ text.old.items ++ found_line index timestamp kind.now low.now name.now) }
+{
+    if is_named(low, name.as_bytes()) {
+        let value = found_value(alloc, index, name, timestamp, kind)?;
+        push_line(alloc, text, &value)?;
+    }
+    Ok(())
+}
+
+// Adds a line for each watched name that stands in the lowered certificate.
+fn push_found(
+    alloc: Global,
+    text: &mut Vec<u8>,
+    names: &[String],
+    index: u64,
+    timestamp: u64,
+    kind: &str,
+    low: &[u8],
+) -> Result<(), AllocError>
+    ensures { OnOk result (text.new.items ≡ text.old.items ++ found_lines index timestamp kind.now low.now (map string_bytes names.now)) }
+{
+    for name in names {
+        push_if_found(alloc, text, name.as_str(), index, timestamp, kind, low)?;
+    }
+    Ok(())
+}
+
+fn newer_value(alloc: Global, index: u64, moment: u64, timestamp: u64) -> Result<Value, AllocError>
+    ensures { IfOk result (λ v. view v ≡ newer_data index moment timestamp) }
+{
+    json!(in alloc; {"entry": index, "head_timestamp": moment, "timestamp": timestamp, "verdict": "older-than-entry"})
+}
+
+// Whether a head of that moment is older than an entry of this timestamp.
+fn is_older(moment: u64, timestamp: u64) -> bool
+    ensures { result ≡ nat_lt moment timestamp }
+{
+    moment < timestamp
+}
+
+// Adds a line where the head of that moment is older than the entry, and answers whether it is.
+fn push_if_newer(
+    alloc: Global,
+    text: &mut Vec<u8>,
+    moment: u64,
+    index: u64,
+    timestamp: u64,
+) -> Result<bool, AllocError>
+    ensures older { IfOk result (λ older. older ≡ nat_lt moment timestamp) }
+    ensures written { OnOk result (text.new.items ≡ text.old.items ++ newer_line index moment timestamp) }
+{
+    let older = is_older(moment, timestamp);
+    if older {
+        let value = newer_value(alloc, index, moment, timestamp)?;
+        push_line(alloc, text, &value)?;
+    }
+    Ok(older)
+}
+
+// Adds the lines of an entry of the tree whose head has that moment, and answers whether the head is older.
+#[tactic(auto, using(crate::proofs::EntryTold::told_behind))]
+fn push_entry(
+    alloc: Global,
+    text: &mut Vec<u8>,
+    names: &[String],
+    moment: u64,
+    index: u64,
+    leaf_input: &[u8],
+) -> Result<bool, AllocError>
+    ensures { IfOk result (λ older. (one : List ℕ) × IsEntryText (map string_bytes names.now) moment index leaf_input.now older one
+        × (text.new.items ≡ text.old.items ++ one)) }
+{
+    match lend_leaf(leaf_input) {
+        Ok(leaf) => {
+            let (kind, certificate) = kind_and_certificate(&leaf.entry);
+            let low = lowered(alloc, certificate)?;
+            push_found(alloc, text, names, index, leaf.timestamp, kind, &low)?;
+            push_if_newer(alloc, text, moment, index, leaf.timestamp)
+        }
+        Err(fault) => {
+            let value = fault_value(alloc, index, fault)?;
+            push_line(alloc, text, &value)?;
+            Ok(false)
+        }
+    }
+}
+
+// Whether one of the two holds.
+pub(crate) fn either(first: bool, second: bool) -> bool
+    ensures { result ≡ first || second }
+{
+    first || second
+}
+
+// Adds the lines of entries from an index on, and answers whether the head of that moment is older than one of them.
+fn push_entries(
+    alloc: Global,
+    text: &mut Vec<u8>,
+    names: &[String],
+    moment: u64,
+    first: u64,
+    leaves: &[Vec<u8>],
+) -> Result<bool, AllocError>
+    requires { first + length leaves.now < 2 ^ 64 }
+    ensures { IfOk result (λ older. (more : List ℕ) × AreEntryTexts (map string_bytes names.now) moment first (map (λ l. l.items) leaves.now) older more
+        × (text.new.items ≡ text.old.items ++ more)) }
+{
+    let mut index = first;
+    let mut older = false;
+    for leaf in leaves {
+        let than_one = push_entry(alloc, text, names, moment, index, leaf)?;
+        older = either(older, than_one);
+        index += 1;
+    }
+    Ok(older)
+}
+
+fn wrong_index_value(alloc: Global, index: u64) -> Result<Value, AllocError>
+    ensures { IfOk result (λ v. view v ≡ wrong_index_data index) }
+{
+    json!(in alloc; {"entry": index, "verdict": "wrong-index"})
+}
+
+// Adds the line of a wrong index, where there is one, and answers whether there is.
+fn push_wrong_index(
+    alloc: Global,
+    text: &mut Vec<u8>,
+    wrong: Option<u64>,
+) -> Result<bool, AllocError>
+    ensures told { IfOk result (λ told. told ≡ is_some wrong) }
+    ensures written { OnOk result (text.new.items ≡ text.old.items ++ wrong_index_line wrong) }
+{
+    match wrong {
+        Some(index) => {
+            let value = wrong_index_value(alloc, index)?;
+            push_line(alloc, text, &value)?;
+            Ok(true)
+        }
+        None => Ok(false),
+    }
+}
+
+// Adds the line of a wrong index, where there is one, and behind it those of entries from an index on. Answers whether they speak against
+// the log.
+fn push_tile(
+    alloc: Global,
+    text: &mut Vec<u8>,
+    names: &[String],
+    moment: u64,
+    wrong: Option<u64>,
+    first: u64,
+    leaves: &[Vec<u8>],
+) -> Result<bool, AllocError>
+    requires { first + length leaves.now < 2 ^ 64 }
+    ensures { IfOk result (λ accused. (more : List ℕ)
+        × AreTileTexts (map string_bytes names.now) moment wrong first (map (λ l. l.items) leaves.now) accused more
+        × (text.new.items ≡ text.old.items ++ more)) }
+{
+    let other = push_wrong_index(alloc, text, wrong)?;
+    let older = push_entries(alloc, text, names, moment, first, leaves)?;
+    Ok(either(other, older))
+}
+
+// Adds the lines of entries that were read with this verdict: none, where that is that they don't begin in the right place. Answers
+// whether they speak against the log: the head of that moment is older than one of them, or one of a data tile doesn't name its index.
+pub(crate) fn push_read(
+    alloc: Global,
+    text: &mut Vec<u8>,
+    names: &[String],
+    moment: u64,
+    wrong: Option<u64>,
+    verdict: &Verdict,
+    first: u64,
+    leaves: &[Vec<u8>],
+) -> Result<bool, AllocError>
+    requires { first + length leaves.now < 2 ^ 64 }
+    ensures { IfOk result (λ accused. (more : List ℕ)
+        × ReadTexts (map string_bytes names.now) moment wrong verdict.now first (map (λ l. l.items) leaves.now) accused more
+        × (text.new.items ≡ text.old.items ++ more)) }
+{
+    if matches!(verdict, Verdict::Gap) {
+        return Ok(false);
+    }
+    push_tile(alloc, text, names, moment, wrong, first, leaves)
+}

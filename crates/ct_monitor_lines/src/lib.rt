@@ -1,0 +1,32 @@
+//! Watching a log by the answers of its front end, or by its checkpoints and data tiles, a line each: what each is worth, the entries that name a watched name, and
+//! the state that the next run takes up.
+//!
+//! `run` reads lines from any reader, and writes to any writer; `answer_words` is the program `ctmonitor` over its words.
+//!
+//! - `command` reads the words of a command line.
+//! - `answer` reads what a line is, and `state` reads and writes the state between two runs.
+//! - `seen` reads what a checkpoint or a data tile is to who has read entries up to an index, and `refusal` names why one is refused.
+//! - `names` looks for watched names, `entries` writes of them, `verdicts` writes of verdicts, and `text` writes lines.
+//! - `session` takes one line after the other.
+//! - `fault` names what ends a run before the state is written.
+//! - `laws` says what holds of many runs.
+//! - `program` has `run`, and `answer_words`, which does what the words of a command line ask for; `refuse_words` answers words that
+//!   couldn't be read.
+#![tactic(auto)]
+
+mod answer;
+mod command;
+mod entries;
+mod fault;
+pub mod laws;
+mod names;
+mod program;
+mod refusal;
+mod seen;
+mod session;
+mod state;
+mod text;
+mod verdicts;
+
+pub use fault::Fault;
+pub use program::{answer_words, refuse_words, run};
