@@ -182,7 +182,7 @@ def version_in(path, form):
 
 def version_faults():
     """Where the program and the library for C say another version."""
-    program = version_in("crates/ct_options/src/command.rt", r'^const VERSION: &str = "([^"]+)";$')
+    program = version_in("crates/ct_command/src/command.rt", r'^const VERSION: &str = "([^"]+)";$')
     library = version_in("include/wagtenib.pc.in", r"^Version: (\S+)$")
     return [] if program == library else [f"the version of ctlog is {program}, that of the library for C {library}"]
 

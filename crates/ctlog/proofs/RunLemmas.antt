@@ -5,7 +5,7 @@ use Rattle.std.specs.Io.KnownBytes.{Appends}
 use Rattle.ct_parties.specs.Output.{not_begun}
 use Rattle.ct_parties.specs.declared.fault.Fault.{Fault}
 use Rattle.ct_parties.specs.declared.fault.Fault.TheVariants.{Memory}
-use Rattle.ct_options.specs.CommandLine.{CommandLine, log_with, help, version, nothing}
+use Rattle.ct_command.specs.CommandLine.{CommandLine, log_with, help, version, nothing}
 use Rattle.ctlog.specs.Runs.{IsBrokenOff}
 
 -- nothing was written for want of memory, whatever was asked for

@@ -4,7 +4,7 @@ use Rattle.std.specs.Io.KnownBytes.{Appends}
 use Rattle.ct_parties.specs.Output.{IsBegun, IsServed}
 use Rattle.ct_parties.specs.declared.fault.Fault.{Fault}
 use Rattle.ct_parties.specs.declared.fault.Fault.TheVariants.{Memory, Write}
-use Rattle.ct_options.specs.CommandLine.{CommandLine, log_with, help, version, nothing}
+use Rattle.ct_command.specs.CommandLine.{CommandLine, log_with, help, version, nothing}
 
 -- what a run with status 0 wrote, by what its command line asks for: all replies; or the text of help or of the version
 abbrev pub IsDone : CommandLine → Option (List ℕ) → Option (List ℕ) → Option (List ℕ) → Type 0

@@ -6,14 +6,14 @@
 //! those of the frozen log. A line that ends a shift has all lines before it done, and all fronts go on, before the lines
 //! behind it are begun.
 //!
-//! - `program` has `run`, which does all this over any reader and any two writers, by `serve` of `ct_parties`; `ct_options`
+//! - `program` has `run`, which does all this over any reader and any two writers, by `serve` of `ct_parties`; `ct_command`
 //!   reads the command line, and has the lines of faults: what ends the program before all is written.
 #![tactic(auto)]
 
 ghost use Rattle.std.specs.Prelude.{◌≡◌, ◌⊎◌, ◌≤◌};
 ghost use Rattle.ct_parties.specs.declared.fault.Fault.{Fault as FaultOf};
-ghost use Rattle.ct_options.specs.CommandLine.{asked_of, help, version, nothing};
-ghost use Rattle.ct_options.specs.FaultLines.{fault_line, name_of};
+ghost use Rattle.ct_command.specs.CommandLine.{asked_of, help, version, nothing};
+ghost use Rattle.ct_command.specs.FaultLines.{fault_line, name_of};
 ghost use Rattle.ctlog.specs.Runs.{IsDone, IsBrokenOff};
 ghost use Rattle.ct_lines.specs.Sends.{SendsSome};
 
@@ -21,7 +21,7 @@ mod program;
 #[cfg(test)]
 mod tests;
 
-use ct_options::{Program, report, texts};
+use ct_command::{Program, report, texts};
 use ct_parties::Fault;
 use program::{TURNS, refuse_words, run};
 use std::alloc::Global;

@@ -6,11 +6,11 @@ ghost use Rattle.std.specs.IoError.{error_kind};
 ghost use Rattle.std.specs.declared.io.ErrorKind.TheVariants.{OutOfMemory as NoMemory};
 ghost use Rattle.ct_lines.specs.Sends.{SendsSome};
 ghost use Rattle.ct_parties.specs.declared.fault.Fault.{Fault as FaultOf};
-ghost use Rattle.ct_options.specs.CommandLine.{asked_for, help, version, nothing};
-ghost use Rattle.ct_options.specs.FaultLines.{fault_line, name_of};
+ghost use Rattle.ct_command.specs.CommandLine.{asked_for, help, version, nothing};
+ghost use Rattle.ct_command.specs.FaultLines.{fault_line, name_of};
 ghost use Rattle.ctlog.specs.Runs.{IsDone, IsBrokenOff};
 
-use ct_options::{Program, answer_command_line, read_options, report};
+use ct_command::{Program, answer_command_line, read_options, report};
 use ct_parties::{Fault, serve};
 use std::alloc::Global;
 use std::io;
@@ -35,7 +35,7 @@ pub fn refuse_words<W: Write, E: Write>(
         × SendsSome (E.contents faults.old) (E.contents faults.new) (fault_line (name_of Program.Ctlog) Fault.Memory) }
     ensures refused { result ≡ 2 → output.new ≡ output.old }
 {
-    ct_options::refuse_words(alloc, Program::Ctlog, error, output, faults)
+    ct_command::refuse_words(alloc, Program::Ctlog, error, output, faults)
 }
 
 /// How many turns a line may wait in the process.

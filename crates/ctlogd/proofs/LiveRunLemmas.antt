@@ -4,7 +4,7 @@ use Rattle.std.specs.Prelude.{Option}
 use Rattle.std.specs.Io.KnownBytes.{Appends}
 use Rattle.ct_parties.specs.declared.fault.Fault.{Fault}
 use Rattle.ct_parties.specs.declared.fault.Fault.TheVariants.{ClockBack, Memory, Read, Threads, Write}
-use Rattle.ct_options.specs.CommandLine.{CommandLine, log_with, help, version, nothing}
+use Rattle.ct_command.specs.CommandLine.{CommandLine, log_with, help, version, nothing}
 use Rattle.ctlogd.specs.LiveRuns.{IsLiveBrokenOff}
 
 is_late : Fault → Bool

@@ -6,7 +6,7 @@ use Rattle.ct_live.specs.LiveLate.{IsServedLate}
 use Rattle.ct_live.specs.LiveReplied.{IsServedLive}
 use Rattle.ct_parties.specs.declared.fault.Fault.{Fault}
 use Rattle.ct_parties.specs.declared.fault.Fault.TheVariants.{ClockBack, Memory, Write}
-use Rattle.ct_options.specs.CommandLine.{CommandLine, log_with, help, version, nothing}
+use Rattle.ct_command.specs.CommandLine.{CommandLine, log_with, help, version, nothing}
 
 -- what a live run with status 0 wrote, by what its command line asks for: what the log replied; or the text of help or of the version
 abbrev pub IsLiveDone : CommandLine → Option (List ℕ) → Option (List ℕ) → Option (List ℕ) → Type 0

@@ -7,21 +7,21 @@
 //! Standard input is read by a thread of its own, so that a run which a fault breaks off ends without another line: where it is
 //! still open then, that thread ends with the process.
 //!
-//! - `program` has `run`, which does all this over any reader and any two writers, by `serve_live` of `ct_live`; `ct_options`
+//! - `program` has `run`, which does all this over any reader and any two writers, by `serve_live` of `ct_live`; `ct_command`
 //!   reads the command line, and has the lines of faults.
 #![tactic(auto)]
 
 ghost use Rattle.std.specs.Prelude.{◌≡◌, ◌≤◌};
 ghost use Rattle.ct_lines.specs.Sends.{SendsSome};
 ghost use Rattle.ct_parties.specs.declared.fault.Fault.{Fault as FaultOf};
-ghost use Rattle.ct_options.specs.CommandLine.{asked_of, nothing};
-ghost use Rattle.ct_options.specs.FaultLines.{fault_line, name_of};
+ghost use Rattle.ct_command.specs.CommandLine.{asked_of, nothing};
+ghost use Rattle.ct_command.specs.FaultLines.{fault_line, name_of};
 ghost use Rattle.ctlogd.specs.LiveRuns.{IsLiveDone, IsLiveBrokenOff};
 
 mod program;
 
+use ct_command::{Program, refuse_words, report, texts};
 use ct_live::TURNS;
-use ct_options::{Program, refuse_words, report, texts};
 use ct_parties::Fault;
 use ct_pipes::{Breaker, ReadAhead, read_ahead};
 use program::{Ended, run};

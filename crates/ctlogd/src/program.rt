@@ -7,12 +7,12 @@ ghost use Rattle.ct_parties.specs.declared.fault.Fault.TheVariants.{ClockBack};
 ghost use Rattle.ct_live.specs.LiveBroken.{IsServedSome};
 ghost use Rattle.ct_live.specs.LiveLate.{IsServedLate};
 ghost use Rattle.ct_live.specs.LiveReplied.{IsServedLive};
-ghost use Rattle.ct_options.specs.CommandLine.{asked_for, nothing};
-ghost use Rattle.ct_options.specs.FaultLines.{fault_line, name_of};
+ghost use Rattle.ct_command.specs.CommandLine.{asked_for, nothing};
+ghost use Rattle.ct_command.specs.FaultLines.{fault_line, name_of};
 ghost use Rattle.ctlogd.specs.LiveRuns.{IsLiveDone, IsLiveBrokenOff};
 
+use ct_command::{Program, answer_command_line, read_options, report};
 use ct_live::{Served, serve_live};
-use ct_options::{Program, answer_command_line, read_options, report};
 use ct_parties::Options;
 use ct_pipes::Breaker;
 use std::alloc::Global;

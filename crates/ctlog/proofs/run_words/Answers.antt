@@ -2,9 +2,9 @@ use Rattle.std.proofs.Common.{◌≡◌, ◌⊎◌, ◌∙◌, ℕ, List, String
 use Rattle.std.specs.Borrow.{Bor}
 use Rattle.std.specs.Global.{Global}
 use Rattle.std.proofs.KnownBytes.{Appends-nil}
-use Rattle.ct_options.specs.CommandLine.{CommandLine, asked_for, asked_of, command_line, help, version, nothing}
-use Rattle.ct_options.specs.FaultLines.{fault_line, name_of}
-use Rattle.ct_options.specs.declared.program.Program.TheVariants.{Ctlog}
+use Rattle.ct_command.specs.CommandLine.{CommandLine, asked_for, asked_of, command_line, help, version, nothing}
+use Rattle.ct_command.specs.FaultLines.{fault_line, name_of}
+use Rattle.ct_command.specs.declared.program.Program.TheVariants.{Ctlog}
 use Rattle.ctlog.specs.Runs.{IsDone, IsBrokenOff}
 use Rattle.ct_lines.specs.Sends.{SendsSome}
 use Rattle.ct_parties.specs.declared.fault.Fault.{Fault}

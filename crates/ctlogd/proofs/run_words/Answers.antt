@@ -2,9 +2,9 @@ use Rattle.std.proofs.Common.{◌≡◌, ◌∙◌, ℕ, List, String, map, stri
 use Rattle.std.specs.Borrow.{Bor}
 use Rattle.std.specs.Global.{Global}
 use Rattle.std.proofs.KnownBytes.{Appends-nil}
-use Rattle.ct_options.specs.CommandLine.{CommandLine, asked_for, asked_of, command_line, nothing}
-use Rattle.ct_options.specs.FaultLines.{fault_line, name_of}
-use Rattle.ct_options.specs.declared.program.Program.TheVariants.{Ctlogd}
+use Rattle.ct_command.specs.CommandLine.{CommandLine, asked_for, asked_of, command_line, nothing}
+use Rattle.ct_command.specs.FaultLines.{fault_line, name_of}
+use Rattle.ct_command.specs.declared.program.Program.TheVariants.{Ctlogd}
 use Rattle.ctlogd.specs.LiveRuns.{IsLiveDone, IsLiveBrokenOff}
 use Rattle.ct_lines.specs.Sends.{SendsSome}
 use Rattle.ct_parties.specs.declared.fault.Fault.{Fault}

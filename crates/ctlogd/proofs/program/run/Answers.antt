@@ -1,8 +1,8 @@
 use Rattle.clap.specs.Words.{kind_of}
-use Rattle.ct_options.specs.CommandLine.{CommandLine, asked_for}
-use Rattle.ct_options.specs.FaultLines.{name_of}
-use Rattle.ct_options.specs.declared.program.Program.TheVariants.{Ctlogd}
-use Rattle.ct_options.proofs.RunLemmas.{noticed, refused_words, unanswered}
+use Rattle.ct_command.specs.CommandLine.{CommandLine, asked_for}
+use Rattle.ct_command.specs.FaultLines.{name_of}
+use Rattle.ct_command.specs.declared.program.Program.TheVariants.{Ctlogd}
+use Rattle.ct_command.proofs.RunLemmas.{noticed, refused_words, unanswered}
 use Rattle.ctlogd.specs.LiveRuns.{IsLiveBrokenOff, IsLiveDone}
 use Rattle.ctlogd.proofs.LiveRunLemmas.{none_written}
 use Rattle.ctlogd.proofs.program.run.Goals as goal

@@ -2,10 +2,10 @@
 
 ghost use Rattle.std.specs.Prelude.{◌≡◌, ◌<◌, ◌≤◌, ◌⊎◌, IfOk, IfErr, IfSome, Some, None, MatchResult, false, ℕ};
 ghost use Rattle.clap.specs.Words.{app_of, rule_of, kind_of};
-ghost use Rattle.ct_options.specs.CommandLine.{asked_for, numbers_asked, app_named, options_named, versioned, log_with, IsRefusalOf};
-ghost use Rattle.ct_options.specs.CommandLine.{fronts_rule, ring_rule, open_at_rule, close_at_rule};
-ghost use Rattle.ct_options.specs.FaultLines.{name_of};
-ghost use Rattle.ct_options.specs.NoOptions.{IsNoOptions};
+ghost use Rattle.ct_command.specs.CommandLine.{asked_for, numbers_asked, app_named, options_named, versioned, log_with, IsRefusalOf};
+ghost use Rattle.ct_command.specs.CommandLine.{fronts_rule, ring_rule, open_at_rule, close_at_rule};
+ghost use Rattle.ct_command.specs.FaultLines.{name_of};
+ghost use Rattle.ct_command.specs.NoOptions.{IsNoOptions};
 
 use crate::program::Program;
 use clap::error::ErrorKind;

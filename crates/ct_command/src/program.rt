@@ -1,7 +1,7 @@
 //! The programs, and what each says of itself.
 
 ghost use Rattle.std.specs.Prelude.{◌≡◌};
-ghost use Rattle.ct_options.specs.FaultLines.{fault_line, name_of};
+ghost use Rattle.ct_command.specs.FaultLines.{fault_line, name_of};
 
 use ct_parties::Fault;
 

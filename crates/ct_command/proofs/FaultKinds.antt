@@ -21,7 +21,7 @@ use Rattle.clap.specs.declared.builder.action.ArgAction.TheVariants as action
 use Rattle.clap.specs.declared.builder.value_parser.ValueParser.{ValueParser}
 use Rattle.clap.specs.declared.error.kind.ErrorKind.{ErrorKind}
 use Rattle.clap.specs.declared.error.kind.ErrorKind.TheVariants as kind
-use Rattle.ct_options.specs.CommandLine.{CommandLine, app_named, by_fault, by_kind}
+use Rattle.ct_command.specs.CommandLine.{CommandLine, app_named, by_fault, by_kind}
 
 -- one kind, or none
 abbrev AtMostOne : Kinds → Type 0

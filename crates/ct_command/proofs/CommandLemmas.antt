@@ -13,7 +13,7 @@ use Rattle.clap.specs.Words.{App, Rule, Text, app_of, rule_of}
 use Rattle.clap.specs.declared.builder.arg.Arg.{Arg}
 use Rattle.clap.specs.declared.builder.command.Command.{Command}
 use Rattle.clap.specs.declared.builder.command.Command.TheViews.{out-Command}
-use Rattle.ct_options.specs.CommandLine.{app_named, fronts_rule, ring_rule, open_at_rule, close_at_rule}
+use Rattle.ct_command.specs.CommandLine.{app_named, fronts_rule, ring_rule, open_at_rule, close_at_rule}
 
 -- ---- what the command's rules say of its arguments
 

@@ -28,8 +28,8 @@ use Rattle.clap.specs.declared.builder.command.Command.{Command}
 use Rattle.clap.proofs.CallerLemmas.{entry_by_id, same_rules_by_id}
 use Rattle.clap.proofs.CallerReads.{required_reads, signed_reads}
 use Rattle.clap.proofs.WalkLemmas.{one_text-rows}
-use Rattle.ct_options.specs.CommandLine.{app_named, number_given, latest_moment}
-use Rattle.ct_options.proofs.CommandLemmas.{option_rules, many, rule_at, all_plain, plain_fields, unique_ids, own_id, has_name, no_delimiter}
+use Rattle.ct_command.specs.CommandLine.{app_named, number_given, latest_moment}
+use Rattle.ct_command.proofs.CommandLemmas.{option_rules, many, rule_at, all_plain, plain_fields, unique_ids, own_id, has_name, no_delimiter}
 
 -- ---- what an entry of the matches says of its text
 

@@ -2,9 +2,9 @@
 use Rattle.std.specs.Prelude.{◌≡◌, ◌≢◌}
 use Rattle.clap.specs.declared.error.kind.ErrorKind.{ErrorKind}
 use Rattle.clap.specs.declared.error.kind.ErrorKind.TheVariants as kind
-use Rattle.ct_options.specs.CommandLine.{IsNotice}
-use Rattle.ct_options.specs.declared.command.NoOptions.{NoOptions}
-use Rattle.ct_options.specs.declared.command.NoOptions.TheVariants.{Fault, Notice, Refusal}
+use Rattle.ct_command.specs.CommandLine.{IsNotice}
+use Rattle.ct_command.specs.declared.command.NoOptions.{NoOptions}
+use Rattle.ct_command.specs.declared.command.NoOptions.TheVariants.{Fault, Notice, Refusal}
 use Rattle.ct_parties.specs.declared.fault.Fault.TheVariants.{Memory}
 
 -- it is answered so where clap's error is of this kind

@@ -6,11 +6,11 @@ use Rattle.clap.specs.Lexer.{without_minus}
 use Rattle.clap.specs.Kinds.{IsAmong, Kinds}
 use Rattle.clap.specs.declared.error.Error.{Error}
 use Rattle.clap.specs.Words.{App, Text, fault_of, found_of, is_simple, is_simple_and_free, kind_of, matches_of, rows_of}
-use Rattle.ct_options.specs.CommandLine.{CommandLine, IsRefusalOf, numbers_line, app_named, by_fault, latest_moment, log_with, number_given}
-use Rattle.ct_options.specs.FaultLines.{name_of}
-use Rattle.ct_options.proofs.OptionLemmas.{close_at_text, fronts_text, given_is, number, open_at_text, ring_text, signed_read, unsigned_read}
-use Rattle.ct_options.proofs.FaultKinds.{error_says}
-use Rattle.ct_options.proofs.command.read_numbers.Goals as goal
+use Rattle.ct_command.specs.CommandLine.{CommandLine, IsRefusalOf, numbers_line, app_named, by_fault, latest_moment, log_with, number_given}
+use Rattle.ct_command.specs.FaultLines.{name_of}
+use Rattle.ct_command.proofs.OptionLemmas.{close_at_text, fronts_text, given_is, number, open_at_text, ring_text, signed_read, unsigned_read}
+use Rattle.ct_command.proofs.FaultKinds.{error_says}
+use Rattle.ct_command.proofs.command.read_numbers.Goals as goal
 
 is_simple_command : (program : Text) → is_simple (app_named program) ≡ true
 is_simple_command program = refl

@@ -8,8 +8,8 @@ ghost use Rattle.clap.specs.Words.{kind_of};
 ghost use Rattle.clap.specs.declared.error.kind.ErrorKind.TheVariants.{OutOfMemory};
 ghost use Rattle.ct_lines.specs.Sends.{SendsSome};
 ghost use Rattle.ct_parties.specs.declared.fault.Fault.{Fault as FaultOf};
-ghost use Rattle.ct_options.specs.CommandLine.{IsNotice, IsUnanswered};
-ghost use Rattle.ct_options.specs.FaultLines.{fault_line, name_of};
+ghost use Rattle.ct_command.specs.CommandLine.{IsNotice, IsUnanswered};
+ghost use Rattle.ct_command.specs.FaultLines.{fault_line, name_of};
 
 use crate::command::{NoOptions, unreadable_word};
 use crate::program::Program;

@@ -2,8 +2,8 @@
 use Rattle.std.specs.Prelude.{ℕ, List, [], ◌∷◌, ◌++◌, codes}
 use Rattle.ct_parties.specs.Faults.{fault_name}
 use Rattle.ct_parties.specs.declared.fault.Fault.{Fault}
-use Rattle.ct_options.specs.declared.program.Program.{Program}
-use Rattle.ct_options.specs.declared.program.Program.TheVariants.{Ctlog, Ctlogd}
+use Rattle.ct_command.specs.declared.program.Program.{Program}
+use Rattle.ct_command.specs.declared.program.Program.TheVariants.{Ctlog, Ctlogd}
 
 -- the name of a program, `ctlog` or `ctlogd`
 abbrev pub name_of : Program → List ℕ

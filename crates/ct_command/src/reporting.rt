@@ -2,7 +2,7 @@
 
 ghost use Rattle.std.specs.Prelude.{◌≡◌};
 ghost use Rattle.ct_lines.specs.Sends.{SendsSome};
-ghost use Rattle.ct_options.specs.FaultLines.{fault_line, name_of};
+ghost use Rattle.ct_command.specs.FaultLines.{fault_line, name_of};
 
 use crate::program::Program;
 use ct_lines::tell;
