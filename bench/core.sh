@@ -4,6 +4,6 @@
 # The program is proved first, so the first run takes some minutes.
 set -eu
 command -v rt >/dev/null 2>&1 || { echo "bench/core.sh: the kit's rt is not on the PATH" >&2; exit 1; }
-cd "$(dirname "$0")/../crates/core_bench"
+cd "$(dirname "$0")/../crates/bench_work"
 [ $# -gt 0 ] || set -- 1000 10000 100000 1000000
-rt run -- "$@"
+rt run -- core "$@"

@@ -1,9 +1,9 @@
 #!/usr/bin/env python3
 """Times a step of a tiled log beside the same in plain Rust and in Go, by turns.
 
-    step.py STEP_BENCH [--batches 1,16,256,4096] [--sizes 1000,1000000232] [--entries 4096] [--turns 5]
+    step.py BENCH_WORK [--batches 1,16,256,4096] [--sizes 1000,1000000232] [--entries 4096] [--turns 5]
 
-STEP_BENCH is the built program (`rt run` in crates/step_bench builds it). rustc builds bench/step/plain.rs, and go bench/step/tiles.go over Debian's
+BENCH_WORK is the built program (`rt run` in crates/bench_work builds it). rustc builds bench/step/plain.rs, and go bench/step/tiles.go over Debian's
 golang-golang-x-mod-dev; where Go or that package isn't there it is left out. Each makes steps from one made-up state, of submissions of
 1,500 bytes with two fingerprints, and prints the line of the last step: the three have to print the same, and the digests in it
 cover all objects. A run makes so many steps that it takes in at least --entries entries, and at least 32. What is printed is processor time (user and
@@ -24,29 +24,29 @@ FEWEST = 32
 
 
 def built(folder):
-    """The programs beside which it is timed, by name."""
+    """The words that call the programs beside which it is timed, by name."""
     plain, tiles = folder / "plain", folder / "tiles"
     flags = ["--edition", "2024", "-O", "-C", "codegen-units=1", "-C", "target-cpu=x86-64-v2", "-C", "no-vectorize-slp"]
     subprocess.run(["rustc", *flags, "-o", plain, HERE / "step" / "plain.rs"], check=True)
     if not shutil.which("go") or not (PACKAGES / "src/golang.org/x/mod/sumdb/tlog").is_dir():
         print("step.py: Go or golang.org/x/mod isn't installed", file=sys.stderr)
-        return {"plain Rust": plain}
+        return {"plain Rust": [plain]}
     place = dict(os.environ, GO111MODULE="off", GOPATH=str(PACKAGES), GOCACHE=str(folder / "go"))
     subprocess.run(["go", "build", "-o", tiles, HERE / "step" / "tiles.go"], check=True, env=place)
-    return {"plain Rust": plain, "Go": tiles}
+    return {"plain Rust": [plain], "Go": [tiles]}
 
 
-def run(program, size, batch, steps):
+def run(words, size, batch, steps):
     """Its processor time in seconds, and the line that it printed."""
     reading, writing = os.pipe()
-    child = subprocess.Popen([program, str(size), str(batch), str(steps)], stdout=writing)
+    child = subprocess.Popen([*words, str(size), str(batch), str(steps)], stdout=writing)
     os.close(writing)
     with os.fdopen(reading, "rb") as output:
         line = output.read()
     _, status, used = os.wait4(child.pid, 0)
     child.returncode = os.waitstatus_to_exitcode(status)
     if child.returncode:
-        sys.exit(f"step.py: {program} ends with status {child.returncode}")
+        sys.exit(f"step.py: {words[0]} ends with status {child.returncode}")
     return used.ru_utime + used.ru_stime, line
 
 
@@ -78,7 +78,7 @@ def main():
     parser.add_argument("--turns", type=int, default=5)
     options = parser.parse_args()
     with tempfile.TemporaryDirectory() as folder:
-        programs = {"take_step": options.program.resolve(), **built(pathlib.Path(folder))}
+        programs = {"take_step": [options.program.resolve(), "step"], **built(pathlib.Path(folder))}
         others = [name for name in programs if name != "take_step"]
         load = " ".join(f"{average:.1f}" for average in os.getloadavg())
         print(f"{os.cpu_count()} processors, load {load}; {options.turns} turns, the least of each")

@@ -1,7 +1,7 @@
 #!/usr/bin/env python3
 """Times tiles: leaves taken in, beside `Nodes` and beside golang.org/x/mod/sumdb/tlog, and an audit path out of tiles, beside one out of `Nodes`.
 
-    tiles.py TREE_BENCH [--leaves 100000] [--sizes 1000,100000,1000000] [--runs 5]
+    tiles.py BENCH_WORK [--leaves 100000] [--sizes 1000,100000,1000000] [--runs 5]
 
 Each job is a process of its own, and all take turns. A time is the job's processor time, without that of the same job over next to nothing,
 and the median of the runs; a ratio is the median of the turns' ratios, so that what else the machine does falls on both. What the jobs print
@@ -75,9 +75,9 @@ def tlog(folder):
 def leaves(program, count, runs):
     with tempfile.TemporaryDirectory() as folder:
         other = tlog(folder)
-        nodes = Job([program, "append", count, 1], [program, "append", 1, 1], count)
+        nodes = Job([program, "tree", "append", count, 1], [program, "tree", "append", 1, 1], count)
         theirs = Job([other, count], [other, 1], count) if other else None
-        jobs = {batch: Job([program, "take-in", count, batch], [program, "take-in", 1, 1], count) for batch in BATCHES}
+        jobs = {batch: Job([program, "tree", "take-in", count, batch], [program, "tree", "take-in", 1, 1], count) for batch in BATCHES}
         take_turns([*jobs.values(), nodes, *([theirs] if theirs else [])], runs)
     print("| Leaves at a time | `take_in`: µs a leaf | over `Nodes` | over `StoredHashes` |")
     print("|---|---|---|---|")
@@ -90,7 +90,7 @@ def paths(program, sizes, runs):
     print("| Leaves | a path out of tiles: µs | out of `Nodes`: µs | ratio |")
     print("|---|---|---|---|")
     for size in sizes:
-        nodes, tiles = (Job([program, what, size, calls], [program, what, size, 0], calls) for what, calls in (("path", 200_000), ("tile-path", 10_000)))
+        nodes, tiles = (Job([program, "tree", what, size, calls], [program, "tree", what, size, 0], calls) for what, calls in (("path", 200_000), ("tile-path", 10_000)))
         take_turns([nodes, tiles], runs)
         print(f"| {size:,} | {1e6 * tiles.each():.1f} | {1e6 * nodes.each():.2f} | {tiles.over(nodes):.1f} |", flush=True)
 

@@ -3,5 +3,5 @@
 # The program is proved first, so the first run takes some minutes.
 set -eu
 command -v rt >/dev/null 2>&1 || { echo "bench/tree.sh: the kit's rt is not on the PATH" >&2; exit 1; }
-cd "$(dirname "$0")/../crates/tree_bench"
-rt run -- 1000 10000 100000 1000000
+cd "$(dirname "$0")/../crates/bench_work"
+rt run -- tree 1000 10000 100000 1000000

@@ -14,7 +14,7 @@ def crates():
 
 def is_for_tests(crate):
     """Whether a crate has tests or measurements alone."""
-    return crate.endswith(("_tests", "_bench"))
+    return crate.endswith("_tests") or crate == "bench_work"
 
 
 def sources(crate):

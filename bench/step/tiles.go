@@ -1,4 +1,4 @@
-// Steps of a tiled log by golang.org/x/mod/sumdb/tlog, from a made-up state: what step_bench does by take_step.
+// Steps of a tiled log by golang.org/x/mod/sumdb/tlog, from a made-up state: what bench_work does by take_step.
 //
 //	tiles SIZE COUNT STEPS
 //

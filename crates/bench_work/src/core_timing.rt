@@ -1,7 +1,7 @@
 //! How long the calls take.
 
+use crate::core_work as work;
 use crate::prepared::prepare;
-use crate::work;
 use ct_codec::Refusal;
 use ct_core::{Core, Query, Reply, Settled};
 use std::alloc::AllocError;

@@ -2,7 +2,7 @@
 
 ghost use Rattle.std.specs.Prelude.{◌<◌, ◌≤◌};
 
-use crate::work;
+use crate::tree_work as work;
 use ct_tree::{Nodes, Sha256Hash};
 use std::io;
 use std::thread::Threads;

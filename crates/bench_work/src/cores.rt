@@ -1,13 +1,8 @@
-//! Work over the sequencing core of `ct_core`. Without arguments it does a fixed amount and prints what came out. With
-//! numbers of entries as arguments it prints, for each, how many nanoseconds a call takes.
-#![tactic(auto)]
+//! Work over the sequencing core of `ct_core`.
 
-mod prepared;
-mod timing;
-mod work;
-
+use crate::{core_timing as timing, core_work as work};
 use ct_core::Core;
-use std::{env, io};
+use std::io;
 
 // Settles a hundred items of the certificates from one number on, and prints how many were firsts.
 fn settle_hundred(rt: &HostRuntime, core: &mut Core, first: u64) -> anyhow::Result<()> {
@@ -46,7 +41,7 @@ fn show_on(rt: &HostRuntime, core: &mut Core) -> anyhow::Result<()> {
 }
 
 // A fixed amount of work.
-fn show(rt: &HostRuntime) -> anyhow::Result<()> {
+pub(crate) fn show(rt: &HostRuntime) -> anyhow::Result<()> {
     let mut core = Core::open(rt.alloc(), 0)?;
     show_on(rt, &mut core)
 }
@@ -60,14 +55,10 @@ fn take(rt: &HostRuntime, argument: &str) -> anyhow::Result<()> {
     Ok(())
 }
 
-fn main(rt: HostRuntime) -> anyhow::Result<()> {
-    let mut is_timed = false;
-    for argument in env::args(&rt)?.skip(1) {
-        is_timed = true;
-        take(&rt, &argument)?;
+// What the arguments ask for.
+pub(crate) fn take_all(rt: &HostRuntime, words: &[String]) -> anyhow::Result<()> {
+    for word in words {
+        take(rt, word)?;
     }
-    if is_timed {
-        return Ok(());
-    }
-    show(&rt)
+    Ok(())
 }

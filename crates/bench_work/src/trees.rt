@@ -1,25 +1,15 @@
-//! Work over the tree of `ct_tree` and its tiles. Without arguments it does a fixed amount and prints what came out. With numbers of
-//! leaves as arguments it prints, for each, how many nanoseconds a call takes. With one of these words and two numbers it does that and
-//! prints what came out, for who times the program (`bench/tiles.py`):
-//!
-//! - `append LEAVES 1` and `take-in LEAVES BATCH` grow a log, as `Nodes` and as tiles, by so many leaves at a time, and print the root;
-//! - `path LEAVES CALLS` and `tile-path LEAVES CALLS` make the audit path of a leaf in a third of the log so many times, out of `Nodes` and
-//!   out of tiles, and print how many hashes these have.
-#![tactic(auto)]
+//! Work over the tree of `ct_tree` and its tiles.
 
-mod tiles;
-mod timing;
-mod work;
-
+use crate::{tiles, tree_timing as timing, tree_work as work};
 use ct_tree::{Nodes, Sha256Hash};
 use std::alloc::AllocError;
+use std::io;
 use std::thread::Threads;
-use std::{env, io};
 
 // Prints how many leaves a tree has, and its root.
 fn show_root(rt: &HostRuntime, nodes: &Nodes<Sha256Hash>) -> io::Result<()> {
     println!(rt; "leaves {}", nodes.size())?;
-    show(rt, &nodes.root_at(nodes.size()))
+    show_digest(rt, &nodes.root_at(nodes.size()))
 }
 
 // Prints what calls over a tree gave.
@@ -60,7 +50,7 @@ fn show_tiles(rt: &HostRuntime) -> io::Result<()> {
 }
 
 // Prints a root.
-fn show(rt: &HostRuntime, root: &[u8; 32]) -> io::Result<()> {
+fn show_digest(rt: &HostRuntime, root: &[u8; 32]) -> io::Result<()> {
     print!(rt; "root ")?;
     for byte in root {
         print!(rt; "{byte:02x}")?;
@@ -72,13 +62,13 @@ fn show(rt: &HostRuntime, root: &[u8; 32]) -> io::Result<()> {
 fn append(rt: &HostRuntime, count: u64) -> io::Result<()> {
     let mut nodes = Nodes::new(rt.alloc(), Sha256Hash);
     work::fill(&mut nodes, count)?;
-    show(rt, &nodes.root_at(nodes.size()))
+    show_digest(rt, &nodes.root_at(nodes.size()))
 }
 
 // Prints the root of a log that took in so many leaves at a time.
 fn take_in(rt: &HostRuntime, count: u64, batch: u64) -> io::Result<()> {
     let edge = tiles::grown(rt.alloc(), count, batch)?;
-    show(rt, &edge.root(rt.alloc(), &Sha256Hash)?)
+    show_digest(rt, &edge.root(rt.alloc(), &Sha256Hash)?)
 }
 
 // Prints how many hashes there are in paths out of nodes.
@@ -130,19 +120,24 @@ fn take(rt: &HostRuntime, argument: &str) -> io::Result<()> {
     }
 }
 
-fn main(rt: HostRuntime) -> io::Result<()> {
-    let words: Vec<String> = env::args(&rt)?.collect(rt.alloc())?;
-    let words = words.get(1..).unwrap_or_default();
-    if is_done(&rt, words)? {
+// What the arguments ask for.
+pub(crate) fn take_all<R: Threads + Sync>(
+    rt: &HostRuntime,
+    threads: &R,
+    words: &[String],
+) -> io::Result<()> {
+    if is_done(rt, words)? {
         return Ok(());
     }
-    for argument in words {
-        take(&rt, argument)?;
+    for word in words {
+        take(rt, word)?;
     }
-    if !words.is_empty() {
-        return timing::batches(&rt, &rt);
-    }
-    show_tree(&rt)?;
-    show_tiles(&rt)?;
-    show_batch(&rt, &rt)
+    timing::batches(rt, threads)
+}
+
+// A fixed amount of work.
+pub(crate) fn show<R: Threads + Sync>(rt: &HostRuntime, threads: &R) -> io::Result<()> {
+    show_tree(rt)?;
+    show_tiles(rt)?;
+    show_batch(rt, threads)
 }
