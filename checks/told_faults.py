@@ -30,7 +30,7 @@ TELLS = re.compile(r"\btell\([^;]*\);\s*1\s*\}")
 WAITS = {
     "ct_live/src/live.rt": {"TURNS": "50_000_000"},
     "ctlog/src/program.rt": {"TURNS": "50_000_000"},
-    "ct_parties/src/waiting.rt": {"LOOKS": "1_024", "TURNS_IN_A_ROW": "256", "TURNS_ASLEEP": "16_384"},
+    "ct_parties/src/waiting.rt": {"GLANCES": "256", "TURNS_ASLEEP": "16_384"},
 }
 # How often each file tells each of these faults, and where.
 TOLD = {

@@ -1,20 +1,17 @@
-//! How a line waits for another party: it looks again at once for some turns, and then sleeps between looks until that
-//! party rings.
+//! How a line waits for another party: it glances at that party's bell some times in a row, and then sleeps until the
+//! bell rings. It looks again after each ring, and after each sleep that nobody ended.
 
 ghost use Rattle.std.specs.Prelude.{◌≡◌, ◌<◌, ◌≤◌, ◌+◌, ◌-◌, ◌^◌};
 
+use std::hint::spin_loop;
 use std::sync::atomic::{AtomicBool, AtomicU64, Ordering};
 use std::sync::{Arc, Wait};
-use std::thread::yield_now;
 use std::time::Duration;
 
-// So many turns are looks, each right after the other.
-const LOOKS: u64 = 1_024;
+// So often a line glances at the bell before it sleeps: a glance is one load of a word.
+const GLANCES: u64 = 256;
 
-// A line that looks gives way to the other threads after so many turns.
-const TURNS_IN_A_ROW: u64 = 256;
-
-// A turn asleep that nobody ended counts as so many, since so many looks take about as long.
+// A turn asleep that nobody ended counts as so many.
 const TURNS_ASLEEP: u64 = 16_384;
 
 /// A bell that some threads ring, and on which others sleep until it is rung.
@@ -55,19 +52,26 @@ impl Bell {
         self.asleep.fetch_sub(1, Ordering::SeqCst);
     }
 
+    // Whether it is rung more than `seen` times at one of some glances in a row.
+    fn is_rung(&self, seen: u64) -> bool {
+        for _ in 0..GLANCES {
+            if self.rung() != seen {
+                return true;
+            }
+            spin_loop();
+        }
+        false
+    }
+
     /// Ends a turn of a line that waits, and answers the next turn's number. `seen` is how often the bell was rung before
     /// the line looked.
     pub fn wait_turn<R: Wait>(&self, rt: &R, turn: u64, seen: u64) -> u64
         ensures later { turn < 2 ^ 64 - 1 → turn < result }
         ensures some { result ≤ turn + 16384 }
     {
-        if turn < LOOKS {
-            if turn % TURNS_IN_A_ROW == TURNS_IN_A_ROW - 1 {
-                yield_now();
-            }
-            return turn + 1;
+        if !self.is_rung(seen) {
+            self.sleep(rt, seen);
         }
-        self.sleep(rt, seen);
         let turns = if self.rung() == seen { TURNS_ASLEEP } else { 1 };
         turn.saturating_add(turns)
     }
