@@ -29,8 +29,8 @@ test: ## the gate: proves every crate from nothing, and runs the tests and the p
 
 check: ## for daily work: proves what changed
 	@checks/needs.sh check
+	@PYTHONDONTWRITEBYTECODE=1 python3 checks/prove.py
 	@$(MAKE) --silent sources
-	rt all check
 
 serve: ## serves a log over HTTP at PORT=8618 out of the folder FOLDER=ct-log, by ctserve over cttile, ctguard and ctproof; builds what isn't built
 	@service/serve.sh $(FOLDER) $(PORT)
