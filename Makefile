@@ -92,29 +92,29 @@ install-library:
 
 # After `rt run -- --help` in crates/ctlog, which builds it.
 fuzz: ## runs ctlog on random and damaged lines for SECONDS=60, and compares it with an independent program
-	@PYTHONDONTWRITEBYTECODE=1 python3 bench/fuzz.py --seconds $(SECONDS)
+	@PYTHONDONTWRITEBYTECODE=1 python3 tests/fuzz.py --seconds $(SECONDS)
 
 # After the same, and in crates/ctlogd too, and after `rt test` in crates/house_tests.
 load: ## runs the tests with sixteen threads and a shutdown among them 50 times, ctlog so RUNS=20 times, and ctlogd, and judges each output
-	@PYTHONDONTWRITEBYTECODE=1 python3 bench/repeat.py
-	@PYTHONDONTWRITEBYTECODE=1 python3 bench/load.py --runs $(RUNS)
-	@PYTHONDONTWRITEBYTECODE=1 python3 bench/load.py --runs $(RUNS) --shifts 3
-	@PYTHONDONTWRITEBYTECODE=1 python3 bench/live_load.py
+	@PYTHONDONTWRITEBYTECODE=1 python3 tests/repeat.py
+	@PYTHONDONTWRITEBYTECODE=1 python3 tests/load.py --runs $(RUNS)
+	@PYTHONDONTWRITEBYTECODE=1 python3 tests/load.py --runs $(RUNS) --shifts 3
+	@PYTHONDONTWRITEBYTECODE=1 python3 tests/live_load.py
 
 # After `rt run -- --help` in crates/ctlog and crates/ctlogd and `rt test` in crates/memory_tests, which build what is swept.
 sweep: ## refuses each growth of ctlog, of ctlogd and of the library's calls in turn, and judges what they then do; adds up ctlog's, and shortens reads and writes
-	@PYTHONDONTWRITEBYTECODE=1 python3 bench/memory.py
-	@PYTHONDONTWRITEBYTECODE=1 python3 bench/sweep.py
-	@PYTHONDONTWRITEBYTECODE=1 python3 bench/sweep.py --live
-	@PYTHONDONTWRITEBYTECODE=1 python3 bench/growths.py
-	@PYTHONDONTWRITEBYTECODE=1 python3 bench/short_calls.py
+	@PYTHONDONTWRITEBYTECODE=1 python3 tests/memory.py
+	@PYTHONDONTWRITEBYTECODE=1 python3 tests/sweep.py
+	@PYTHONDONTWRITEBYTECODE=1 python3 tests/sweep.py --live
+	@PYTHONDONTWRITEBYTECODE=1 python3 tests/growths.py
+	@PYTHONDONTWRITEBYTECODE=1 python3 tests/short_calls.py
 
 # After `make check`, over whose work it goes. The gate tries those of must-fail/ itself.
 wrong: ## has the prover refuse the wrong bodies of CRATE=ct_core that not every gate tries (crates/*/wrong-bodies, by-turns)
 	@PYTHONDONTWRITEBYTECODE=1 python3 checks/wrong_bodies.py $(or $(CRATE),ct_core)
 
 # What no contract can say of the sources, what docs/DEFINITIONS.md is made from, and what the documents name.
-sources: ## looks through the sources, the documents and the scripts of examples/, in seconds and without a proof
+sources: ## looks through the sources, the documents and the scripts of examples/ and tests/, in seconds and without a proof
 	@PYTHONDONTWRITEBYTECODE=1 python3 checks/want_of_memory.py
 	@PYTHONDONTWRITEBYTECODE=1 python3 checks/told_faults.py
 	@PYTHONDONTWRITEBYTECODE=1 python3 checks/definitions.py
@@ -122,15 +122,15 @@ sources: ## looks through the sources, the documents and the scripts of examples
 	@PYTHONDONTWRITEBYTECODE=1 python3 checks/header.py
 	@PYTHONDONTWRITEBYTECODE=1 python3 checks/layout.py
 	@docs/check.sh
-	@PYTHONDONTWRITEBYTECODE=1 python3 examples/scripts.py
+	@PYTHONDONTWRITEBYTECODE=1 python3 tests/scripts.py
 
 # LOG="python3 examples/http/stand_in.py" serves a plain log in its place, without the kit.
 serve-ctlogd: ## serves ctlogd over HTTP at PORT=8618 (RFC 6962, section 4) by an example in Python, with its journal in ct-state; builds it where it isn't built
 	@LOG="$(LOG)" examples/http/serve.sh --port $(PORT)
 
 interop: ## has certspotter follow a log over HTTP to verified heads, and a client in Go submit to it and check what it answers
-	@LOG="$(LOG)" examples/http/interop.sh
+	@LOG="$(LOG)" tests/http/interop.sh
 
 # After `rt run` in crates/tile_lines, which builds it.
 tiles: ## has golang.org/x/mod/sumdb/tlog read the tiles of logs of eight sizes and check their proofs; without Go, hashlib compares the lines
-	@examples/tiles/check.sh
+	@tests/tiles/check.sh

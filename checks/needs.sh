@@ -1,6 +1,6 @@
 #!/usr/bin/env bash
 # Says what a target of the Makefile lacks here, and how long it takes on so many processors: needs.sh demo|serve|serve-ctlogd|test|check|link|service|service-test.
-# `needs.sh figures` prints the times on four processors, with which examples/scripts.py compares README.md, and `needs.sh write` writes them there.
+# `needs.sh figures` prints the times on four processors, with which tests/scripts.py compares README.md, and `needs.sh write` writes them there.
 set -u
 cd "$(dirname "$0")/.."
 what=$1

@@ -9,10 +9,13 @@ ends with status 1 where there is such a line. It takes the forms of requests fr
 """
 import argparse
 import json
+import pathlib
 import sys
 
-from expected import FRONT_OPS, OTHER_OPS
-from json_lines import DEEPEST, LONGEST_LINE, is_bytes, is_hash, is_number, json_of, nesting
+sys.path.append(str(pathlib.Path(__file__).resolve().parent.parent / "tests"))
+
+from expected import FRONT_OPS, OTHER_OPS  # noqa: E402
+from json_lines import DEEPEST, LONGEST_LINE, is_bytes, is_hash, is_number, json_of, nesting  # noqa: E402
 
 NUMBER, BYTES = "a number from 0 to 18446744073709551615", "base64 with padding"
 WANTED = {is_number: NUMBER, is_bytes: BYTES, is_hash: f"{BYTES}, of 32 bytes"}

@@ -66,9 +66,9 @@ compare() {
 
 # Has an independent program compute the same replies.
 recompute() {
-  python3 examples/expected.py "$1" "$ring" "$open_at" "$close_at" <"examples/$2.jsonl" |
-    cmp -s - "$work/$2.shown" || fail "examples/expected.py computes other replies"
-  echo "An independent program (examples/expected.py, hashlib alone) computes the same replies."
+  python3 tests/expected.py "$1" "$ring" "$open_at" "$close_at" <"examples/$2.jsonl" |
+    cmp -s - "$work/$2.shown" || fail "tests/expected.py computes other replies"
+  echo "An independent program (tests/expected.py, hashlib alone) computes the same replies."
 }
 
 # Shows the next replies, cut short, equal ones once with their number. $1 names who asked, $2 is how many they are.
@@ -91,7 +91,7 @@ short() {
 watch() {
   status=0
   "$monitor" --name microsoft.com --name debian <"$work/$1.in" >"$work/$1.told" || status=$?
-  cmp -s "$work/$1.told" "$work/$1.out" || fail "ctmonitor's verdicts on the run $1 differ from those of examples/monitor/$2"
+  cmp -s "$work/$1.told" "$work/$1.out" || fail "ctmonitor's verdicts on the run $1 differ from those of tests/monitor/$2"
   [ "$status" = "$(cat "$work/$1.status")" ] || fail "ctmonitor ended the run $1 with status $status"
 }
 
@@ -106,7 +106,7 @@ watch_all() {
     echo "  $run: status $(cat "$work/$run.status")"
     grep -E '"(verdict|error)"' "$work/$run.told" | short
   done
-  echo "In each of $(ls "$work"/*.in | wc -l) runs the verdicts, the state and the exit status are those that examples/monitor/$by computes, by hashlib alone."
+  echo "In each of $(ls "$work"/*.in | wc -l) runs the verdicts, the state and the exit status are those that tests/monitor/$by computes, by hashlib alone."
 }
 
 show_path() {
@@ -129,7 +129,7 @@ show_monitor() {
 ensures compared { IfOk result (λ v. v ≡ Accepted → (D : List (List ℕ)) → Stands H.digest self.old.all (map (hash_leaf H.digest) D)
     → IsHeadOfAll H.digest D (waiting_or self.old.waiting head)) }
 END
-  python3 examples/monitor/answers.py "$work" || fail "examples/monitor/answers.py failed"
+  python3 tests/monitor/answers.py "$work" || fail "tests/monitor/answers.py failed"
   watch_all answers.py day1 day2 day3 fork rewritten shrunk
 }
 
@@ -165,8 +165,8 @@ END
   show "the frozen log" "$(lines_of '"frozen"')"
   echo "In three runs each of the $(grep -c . "$work/four-fronts") replies is the expected one, and the tickets are those that were to be given, each once."
   recompute 4 four-fronts
-  echo "Another (examples/check.py) finds in what ctlog wrote:"
-  python3 examples/check.py 4 examples/four-fronts.jsonl "$work/four-fronts" || fail "examples/check.py finds a fault"
+  echo "Another (tests/check.py) finds in what ctlog wrote:"
+  python3 tests/check.py 4 examples/four-fronts.jsonl "$work/four-fronts" || fail "tests/check.py finds a fault"
 }
 
 show_watched() {
@@ -188,14 +188,14 @@ show_tiles() {
 ensures growth { IfOk result (λ g. (D : List (List ℕ)) → IsState H.digest state.now D → IsGrowth H.digest D (map entry_of batch.now) now g) }
 END
   crates/growth_lines/out/growth_lines >"$work/growth" || fail "growth_lines ended with status $?"
-  python3 examples/tiles/growth.py | cmp -s - "$work/growth" || fail "examples/tiles/growth.py computes other lines"
+  python3 tests/tiles/growth.py | cmp -s - "$work/growth" || fail "tests/tiles/growth.py computes other lines"
   echo "Each tile that is new or changes, with the SHA-256 of its bytes, and the line of the next state (size, moment, root, digests), cut short:"
   awk 'BEGIN { split("3 0 253 10", many); behind = 1 }
     /^(tile|growth)/ { if (behind) print "  " many[++step] " certificates"; behind = /^growth/; print "    " $1 " " substr($2, 1, 48) ".." }' "$work/growth"
   echo "Behind each step the true right edge is believed. Refused are:"
   grep -E '^(bent|cut off|seven|a moment)' "$work/growth" | sort -u |
     sed -E 's/^bent:/an edge with a bit changed:/; s/^bent bundle/a bundle with a bit changed/; s/^cut off/a bundle that is cut off/; s/^seven/an edge of seven/; s/^/    /'
-  echo "An independent program (examples/tiles/growth.py, hashlib alone) computes the same $(grep -c . "$work/growth") lines, of $(grep -c ^receipt "$work/growth") receipts."
+  echo "An independent program (tests/tiles/growth.py, hashlib alone) computes the same $(grep -c . "$work/growth") lines, of $(grep -c ^receipt "$work/growth") receipts."
 }
 
 show_followed() {
@@ -204,9 +204,9 @@ show_followed() {
 ensures { IfOk result (λ a. IsTileAnswer next name.now bytes.now a) }
 END
   crates/growth_lines/out/growth_lines >"$work/growth" || fail "growth_lines ended with status $?"
-  python3 examples/monitor/grown.py "$work" <"$work/growth" || fail "examples/monitor/grown.py failed"
+  python3 tests/monitor/grown.py "$work" <"$work/growth" || fail "tests/monitor/grown.py failed"
   watch_all grown.py first grown forked rewritten shrunk wrong-index cut-short
-  examples/monitor/roots.sh "$work" || fail "golang.org/x/mod/sumdb/tlog computes other roots"
+  tests/monitor/roots.sh "$work" || fail "golang.org/x/mod/sumdb/tlog computes other roots"
 }
 
 case $1 in

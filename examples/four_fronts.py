@@ -8,9 +8,12 @@ each front waits for a head before it asks about it. Leaf hashes and the audited
 """
 import base64
 import json
+import pathlib
 import sys
 
-import merkle
+sys.path.append(str(pathlib.Path(__file__).resolve().parent.parent / "tests"))
+
+import merkle  # noqa: E402
 
 OPEN_AT = 1767225600000
 

@@ -18,7 +18,9 @@ import pathlib
 import re
 import sys
 
-from json_lines import LONGEST_LINE
+sys.path.append(str(pathlib.Path(__file__).resolve().parent.parent / "tests"))
+
+from json_lines import LONGEST_LINE  # noqa: E402
 
 CERTIFICATE = re.compile(r"-----BEGIN CERTIFICATE-----(.*?)-----END CERTIFICATE-----", re.S)
 # The places of a front's ring that ctlog gives at most.

@@ -1,6 +1,6 @@
 #!/usr/bin/env bash
 # Has clients of others use a log of ctserve over HTTP: certspotter follows it by RFC 6962's calls to verified heads of 30 and, from there,
-# of 50 entries; examples/http/client.go submits five more by Google's client library, and checks what is answered; and meanwhile ctread
+# of 50 entries; tests/http/client.go submits five more by Google's client library, and checks what is answered; and meanwhile ctread
 # follows its tiles, which golang.org/x/mod/sumdb/tlog reads, to the last leaf and head. ctmonitor (where it isn't built, its stand-in) watches it by
 # its tiles and by its calls, at 30 entries and at the end, and openssl checks the signatures of the checkpoints that are kept. At the end ctcheck
 # judges the log from its folder. It wants certspotter, openssl and curl, and for Google's library golang-github-google-certificate-transparency-dev, g++ and libssl-dev; it
@@ -14,10 +14,10 @@ done
 work=$(mktemp -d)
 origin=clients.example/log
 guard=$here/../crates/ctguard/out/ctguard step=$here/../crates/cttile/out/cttile
-[ -x "$guard" ] || guard="python3 $here/../examples/guard/model.py"
-[ -x "$step" ] || step="python3 $here/../examples/tiles/step.py"
+[ -x "$guard" ] || guard="python3 $here/../tests/guard/model.py"
+[ -x "$step" ] || step="python3 $here/../tests/tiles/step.py"
 proofs=$here/../crates/ctproof/out/ctproof
-[ -x "$proofs" ] || proofs="python3 $here/../examples/tiles/step.py"
+[ -x "$proofs" ] || proofs="python3 $here/../tests/tiles/step.py"
 export PYTHONDONTWRITEBYTECODE=1
 running=
 trap 'kill $running 2>/dev/null || true; wait; rm -rf "$work"' EXIT
@@ -80,12 +80,12 @@ follow() {
   local watcher=$!
   running+=" $watcher"
   for _ in $(seq 300); do
-    python3 "$here/../examples/http/verified.py" "$work/certspotter" "$base" "$1" 2>/dev/null && break
+    python3 "$here/../tests/http/verified.py" "$work/certspotter" "$base" "$1" 2>/dev/null && break
     kill -0 "$watcher" 2>/dev/null || fail "certspotter ended"
     sleep 0.2
   done
   kill "$watcher" && wait "$watcher" || true
-  python3 "$here/../examples/http/verified.py" "$work/certspotter" "$base" "$1" || fail "certspotter has verified no head of $1 entries"
+  python3 "$here/../tests/http/verified.py" "$work/certspotter" "$base" "$1" || fail "certspotter has verified no head of $1 entries"
 }
 
 # Has ctmonitor watch the log's head of $1 entries, for the name of the precertificate and of entry 7.
@@ -135,7 +135,7 @@ if [ -n "$packages" ]; then
     make_certificate "$number"
   done
   # The library's C++ code calls functions that OpenSSL 3 calls old: -w has the compiler say nothing of it.
-  CGO_CXXFLAGS=-w GO111MODULE=off GOPATH=$packages GOCACHE=$work/go go run "$here/../examples/http/client.go" -key "$work/log.pem" "$base" "$work"/certificate.5[1-5] ||
+  CGO_CXXFLAGS=-w GO111MODULE=off GOPATH=$packages GOCACHE=$work/go go run "$here/../tests/http/client.go" -key "$work/log.pem" "$base" "$work"/certificate.5[1-5] ||
     fail "Google's client library doesn't take what is answered"
   size=55
 else

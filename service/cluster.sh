@@ -60,7 +60,7 @@ addresses() {
 # command_of NAME MODEL: the command of a proved program where it is built, and else of its model.
 command_of() {
   local built=$here/../crates/$1/out/$1
-  [ -x "$built" ] || built="python3 $here/../examples/$2"
+  [ -x "$built" ] || built="python3 $here/../tests/$2"
   echo "$built"
 }
 

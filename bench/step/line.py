@@ -1,13 +1,13 @@
 #!/usr/bin/env python3
-"""The line that bench_work prints of steps, by hashlib alone (examples/tiles/step.py): the last of crates/bench_work/stdout is that of 1000 30 2.
+"""The line that bench_work prints of steps, by hashlib alone (tests/tiles/step.py): the last of crates/bench_work/stdout is that of 1000 30 2.
 
     line.py SIZE COUNT STEPS
 """
 import pathlib
 import sys
 
-EXAMPLES = pathlib.Path(__file__).resolve().parent.parent.parent / "examples"
-sys.path += [str(EXAMPLES / "tiles"), str(EXAMPLES)]
+TESTS = pathlib.Path(__file__).resolve().parent.parent.parent / "tests"
+sys.path += [str(TESTS / "tiles"), str(TESTS)]
 
 from expected import digest  # noqa: E402
 from leaves import Submission  # noqa: E402

@@ -37,7 +37,7 @@ from web import Server
 
 HERE = pathlib.Path(__file__).resolve().parent
 SIGNER = [sys.executable, str(HERE / "signer.py")]
-CTGUARD, GUARD_MODEL = HERE.parent.parent / "crates/ctguard/out/ctguard", HERE.parent / "guard/model.py"
+CTGUARD, GUARD_MODEL = HERE.parent.parent / "crates/ctguard/out/ctguard", HERE.parent.parent / "tests/guard/model.py"
 # The guard where none is named: ctguard, and where it isn't built the model of it.
 GUARD = [str(CTGUARD)] if CTGUARD.exists() else [sys.executable, str(GUARD_MODEL)]
 PEM = re.compile(r"-----BEGIN CERTIFICATE-----(.*?)-----END CERTIFICATE-----", re.S)

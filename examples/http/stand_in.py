@@ -6,7 +6,7 @@
 Lines are those of docs/LINES.md, numbered from 0, empty ones among them; a reply is written as
 {"line":NUMBER,"reply":REPLY}. Beside those lines it knows the operator's `take` (settles what is there, "max" at most),
 `close`, behind which the closed log answers, and the two that ask for what stands under a signature. Each front and the operator has a thread and a queue of its own, and one
-thread writes. The log is that of examples/expected.py: plain, slow, proved nowhere.
+thread writes. The log is that of tests/expected.py: plain, slow, proved nowhere.
 """
 import argparse
 import base64
@@ -17,7 +17,7 @@ import sys
 import threading
 import time
 
-sys.path.insert(0, str(pathlib.Path(__file__).resolve().parent.parent))
+sys.path.insert(0, str(pathlib.Path(__file__).resolve().parent.parent.parent / "tests"))
 
 import expected  # noqa: E402
 from expected import Refused  # noqa: E402
@@ -161,7 +161,7 @@ class Live:
 
 
 def main():
-    options = argparse.ArgumentParser(description="Stands in for ctlogd, over the log of examples/expected.py.")
+    options = argparse.ArgumentParser(description="Stands in for ctlogd, over the log of tests/expected.py.")
     options.add_argument("--fronts", type=int, required=True)
     options.add_argument("--ring", type=int, required=True)
     options.add_argument("--open-at", type=int, default=0)

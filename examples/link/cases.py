@@ -1,11 +1,11 @@
 """Writes the cases for verify.c, verify.rs and verify.py: every true path and proof of the Certificate Transparency reference
-tree of eight leaves, and damaged ones, with the answer that the damage calls for. The tree is computed by ../merkle.py, and none of libwagtenib.
+tree of eight leaves, and damaged ones, with the answer that the damage calls for. The tree is computed by tests/merkle.py, and none of libwagtenib.
 With --header it writes C tables of the leaves and roots instead.
 """
 import os
 import sys
 
-sys.path.insert(0, os.path.join(os.path.dirname(__file__), ".."))
+sys.path.insert(0, os.path.join(os.path.dirname(__file__), "..", "..", "tests"))
 from merkle import leaf_hash, path, proof, root  # noqa: E402
 
 # The published vectors of the Certificate Transparency reference tree: its eight leaves, and the root of all eight.

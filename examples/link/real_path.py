@@ -14,7 +14,7 @@ import re
 import sys
 
 HERE = pathlib.Path(__file__).resolve().parent
-sys.path.insert(0, str(HERE.parent))
+sys.path.insert(0, str(HERE.parent.parent / "tests"))
 from merkle import leaf_hash, path_length, root_by_path, sha256  # noqa: E402
 
 # The size is one that logs of this field reach within a year.

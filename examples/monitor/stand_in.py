@@ -3,7 +3,7 @@
 
     stand_in.py [--name NAME].. < lines > verdicts
 
-It is plain, slow and proved nowhere: hashlib alone, and no code of ctmonitor. `examples/scripts.py` holds it against the runs of answers.py.
+It is plain, slow and proved nowhere: hashlib alone, and no code of ctmonitor. `tests/scripts.py` holds it against the runs of answers.py.
 """
 import argparse
 import base64
@@ -12,10 +12,10 @@ import pathlib
 import re
 import sys
 
-import answers
+TESTS = pathlib.Path(__file__).resolve().parent.parent.parent / "tests"
+sys.path += [str(TESTS / "monitor"), str(TESTS)]
 
-sys.path.insert(0, str(pathlib.Path(__file__).resolve().parent.parent))
-
+import answers  # noqa: E402
 import merkle  # noqa: E402
 
 # The longest line, in bytes, without its end; of a longer one no more than two bytes over it are held.

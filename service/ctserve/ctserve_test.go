@@ -445,8 +445,8 @@ func TestSettings(t *testing.T) {
 	}
 }
 
-// realWords are those of a log on a folder, over plain programs beside the proved ones: examples/tiles' step, and the guard of
-// examples/guard where the proved one isn't built.
+// realWords are those of a log on a folder, over plain programs beside the proved ones: tests/tiles' step, and the guard of
+// tests/guard where the proved one isn't built.
 func (p *place) realWords(more ...string) []string {
 	p.t.Helper()
 	python, err := exec.LookPath("python3")
@@ -460,10 +460,10 @@ func (p *place) realWords(more ...string) []string {
 	}
 	p.guard = filepath.Join(here, "../../crates/ctguard/out/ctguard")
 	if _, err := os.Stat(p.guard); err != nil {
-		p.guard = python + " " + filepath.Join(here, "../../examples/guard/model.py")
+		p.guard = python + " " + filepath.Join(here, "../../tests/guard/model.py")
 	}
 	return append([]string{"--listen", "127.0.0.1:0", "--operator-listen", "127.0.0.1:0", "--origin", "log.example/test", "--roots", p.path("roots.pem"),
-		"--folder", p.path("log"), "--step", python + " " + filepath.Join(here, "../../examples/tiles/step.py"), "--interval", "50ms"}, more...)
+		"--folder", p.path("log"), "--step", python + " " + filepath.Join(here, "../../tests/tiles/step.py"), "--interval", "50ms"}, more...)
 }
 
 // Over the real log, on a folder: a start makes no log unasked; what was answered is there after a kill, and a repeat has its

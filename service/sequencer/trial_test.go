@@ -37,7 +37,7 @@ const (
 	origin    = "log.example/tried"
 	quick     = 20 * time.Millisecond
 	longest   = 60 * time.Second
-	stepsFile = "../../examples/tiles/step.py"
+	stepsFile = "../../tests/tiles/step.py"
 )
 
 func must(t testing.TB, err error) {
@@ -145,7 +145,7 @@ func (p place) openOnce(ctx context.Context) (config Config, err error) {
 // The guard is the proved program where it is built, and else a second one with the same lines.
 const (
 	guardBuilt = "../../crates/ctguard/out/ctguard"
-	guardFile  = "../../examples/guard/model.py"
+	guardFile  = "../../tests/guard/model.py"
 )
 
 // guarded puts a guard before the log's key. Each node has one of its own, over one state.

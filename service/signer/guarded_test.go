@@ -25,7 +25,7 @@ import (
 
 // model is a second program beside the proved guard, with the same lines; built is where that one is, once it is built.
 var (
-	model = []string{"python3", "../../examples/guard/model.py"}
+	model = []string{"python3", "../../tests/guard/model.py"}
 	built = "../../crates/ctguard/out/ctguard"
 )
 

@@ -13,7 +13,7 @@ import (
 )
 
 // program is a second program beside the proved one, with the same lines.
-var program = []string{"python3", "../../examples/tiles/step.py", "--origin", "log.example/tried"}
+var program = []string{"python3", "../../tests/tiles/step.py", "--origin", "log.example/tried"}
 
 func must(t *testing.T, err error) {
 	t.Helper()

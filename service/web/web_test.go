@@ -77,7 +77,7 @@ func newFixture(t testing.TB, every time.Duration, change func(*Options)) *fixtu
 	if change != nil {
 		change(&options)
 	}
-	program, err := step.NewClient([]string{"python3", "../../examples/tiles/step.py"}, 20*time.Second)
+	program, err := step.NewClient([]string{"python3", "../../tests/tiles/step.py"}, 20*time.Second)
 	if err != nil {
 		t.Fatal(err)
 	}

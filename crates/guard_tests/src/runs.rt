@@ -1,4 +1,4 @@
-// What is expected was computed by another program: examples/guard/runs.py, with hashlib alone.
+// What is expected was computed by another program: tests/guard/runs.py, with hashlib alone.
 use ct_guard_lines::{Fault, Receipts, Settings, answer_words, run};
 use std::alloc::Global;
 use std::io;

@@ -1,4 +1,4 @@
-// Lines, each given once those before it are replied to, and what has to be written. The hashes come from `examples/merkle.py`.
+// Lines, each given once those before it are replied to, and what has to be written. The hashes come from `tests/merkle.py`.
 use crate::pace::{Run, ends_with};
 use ct_parties::Fault;
 use std::test::Fail;

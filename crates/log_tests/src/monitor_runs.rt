@@ -1,4 +1,4 @@
-// What is expected was computed by another program: examples/monitor/answers.py, with hashlib alone, over short leaves.
+// What is expected was computed by another program: tests/monitor/answers.py, with hashlib alone, over short leaves.
 use ct_monitor_lines::{Fault, answer_words, refuse_words, run};
 use std::alloc::Global;
 use std::io;

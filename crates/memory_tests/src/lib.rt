@@ -1,7 +1,7 @@
 //! One growth of memory refused in each run: what the log's calls then answer, and that nothing is lost.
 //!
 //! Each test makes its calls, and one that answers `Memory` is made again. So a test passes with ample memory, and also where any one growth is refused
-//! (`rt try --test --fail-alloc N`, and `bench/memory.py` for each N): at most one call answers `Memory`, each other answer is the one
+//! (`rt try --test --fail-alloc N`, and `tests/memory.py` for each N): at most one call answers `Memory`, each other answer is the one
 //! with ample memory, and so is the final log. On standard output it says which call was refused.
 //!
 //! - `whole_log` is a house from `open` to `finish`, and the lines of its closed log. `large_batch` is a batch whose leaves four workers hash.

@@ -1,4 +1,4 @@
-// A log from `open` to `finish`, and what it answers. What is expected comes from Python's hashlib and `examples/expected.py`.
+// A log from `open` to `finish`, and what it answers. What is expected comes from Python's hashlib and `tests/expected.py`.
 use crate::closed_log::{ClosedHouse, ask_log, is_served_again};
 use crate::house::House;
 use crate::refused::Refused;

@@ -1,4 +1,4 @@
-//! What the readers have to answer, as `examples/tiles/hostile.py` writes it, where it says what each number is of.
+//! What the readers have to answer, as `tests/tiles/hostile.py` writes it, where it says what each number is of.
 
 // A data tile of two leaves, of 60 and 66 bytes.
 pub(crate) const DATA_TILE: [u8; 126] = [

@@ -1,5 +1,5 @@
 // The last tiles of a log, handed over as they are and damaged in every way: each answer is the list's, or a refusal by a tile's name, or refused
-// by the verifiers. The values are those of examples/tiles/hostile.py.
+// by the verifiers. The values are those of tests/tiles/hostile.py.
 ghost use Rattle.std.specs.Prelude.{◌<◌};
 
 use crate::expected::{FIRST_ROOT, PATH, PROOF, ROOT, SMALL_ROOT, TILES};

@@ -1,4 +1,4 @@
-// A checkpoint cut off at each place, and with each byte below 128 at each place (examples/tiles/hostile.py says what is read of each), and sizes,
+// A checkpoint cut off at each place, and with each byte below 128 at each place (tests/tiles/hostile.py says what is read of each), and sizes,
 // roots and ends that none has.
 ghost use Rattle.std.specs.Prelude.{◌<◌};
 

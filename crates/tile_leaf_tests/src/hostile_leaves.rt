@@ -1,4 +1,4 @@
-// A data tile cut off at each place, and with each byte at each place. examples/tiles/hostile.py says what is read of each, by the grammar.
+// A data tile cut off at each place, and with each byte at each place. tests/tiles/hostile.py says what is read of each, by the grammar.
 ghost use Rattle.std.specs.Prelude.{◌<◌};
 
 use crate::expected::{CHANGED, CUT, DATA_TILE};

@@ -100,7 +100,7 @@ def state(accepted, waiting, sure, read):
 def certificates():
     """The certificates of examples/real-chains.jsonl, each once, with the issuer's key hash of a precertificate's."""
     found = {}
-    for row in (Path(__file__).parent.parent / "real-chains.jsonl").read_text().splitlines():
+    for row in (Path(__file__).resolve().parent.parent.parent / "examples" / "real-chains.jsonl").read_text().splitlines():
         if '"add-chain"' in row:
             chain = json.loads(row)["chain"]
             if chain and chain[0]:

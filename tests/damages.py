@@ -1,5 +1,5 @@
 """Ways to damage what a live log wrote, each of which check.py has to refuse: as many as the output has replies for. For scripts.py and
-bench/live_load.py."""
+tests/live_load.py."""
 import json
 import re
 

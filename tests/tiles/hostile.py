@@ -187,7 +187,7 @@ def main():
     tile, text, size = data_tile(), checkpoint(), 3 * (65536 + 256 + 1)
     tree, small = Tree(size), Tree(300)
     shown = text.decode().replace("\n", "\\n")
-    print("//! What the readers have to answer, as `examples/tiles/hostile.py` writes it, where it says what each number is of.")
+    print("//! What the readers have to answer, as `tests/tiles/hostile.py` writes it, where it says what each number is of.")
     constant("DATA_TILE", "A data tile of two leaves, of 60 and 66 bytes.", tile)
     number("CUT", BEGINNINGS, number_of(data_tile_reading(tile[:end]) for end in range(len(tile) + 1)))
     readings = [number_of(map(data_tile_reading, changed(tile, place, range(256)))) for place in range(len(tile))]

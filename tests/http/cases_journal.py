@@ -13,13 +13,11 @@ import time
 
 from harness import HERE, LOG, Client, Front, hold, leaves_of, started, text
 
-sys.path.insert(0, str(HERE.parent))
-
-import expected  # noqa: E402
-import stand_in  # noqa: E402
-from entries import Entries  # noqa: E402
-from faults import Broken, Refused  # noqa: E402
-from journal import Journal  # noqa: E402
+import expected
+import stand_in
+from entries import Entries
+from faults import Broken, Refused
+from journal import Journal
 
 FOLDER = ("journal.jsonl", "heads.jsonl", "key.pem", "guard.json")
 

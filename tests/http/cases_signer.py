@@ -16,17 +16,17 @@ import threading
 import time
 
 from cases_journal import files, made, put, refused
-from harness import GUARD, HERE, LOG, Client, Front, Wrong, bytes_of, hold, leaf_of, leaves_of, started, text, vector
+from harness import GUARD, HERE, LOG, ROOT, Client, Front, Wrong, bytes_of, hold, leaf_of, leaves_of, started, text, vector
 
-import merkle  # noqa: E402
-import p256  # noqa: E402
-import signer as signer_module  # noqa: E402
-import signing  # noqa: E402
-from faults import Broken  # noqa: E402
+import merkle
+import p256
+import signer as signer_module
+import signing
+from faults import Broken
 
 KILLS, CLIENTS, CHANCE = 20, 8, random.Random(2)
 # The signer's file and the guard's, from the folder of this one.
-SIGNER, GUARDED = "signer.py", "../guard/model.py"
+SIGNER, GUARDED = "signer.py", "../../tests/guard/model.py"
 HEAD_KEYS = ("sha256_root_hash", "timestamp", "tree_size")
 
 
@@ -764,11 +764,12 @@ WRONG = {
 def wrong_signers(folder):
     """Signers and guards that are wrong, each in one way: a case sees each."""
     for number, (name, (file, old, new, case)) in enumerate(WRONG.items()):
-        here, source = pathlib.Path(f"{folder}-{number}/http"), (HERE / file).read_text()
-        for below in (HERE, HERE / GUARDED.rsplit("/", 1)[0]):
-            shutil.copytree(below, here.parent / below.resolve().name, ignore=shutil.ignore_patterns("__pycache__"))
-        for path in HERE.parent.glob("*.py"):
-            shutil.copy(path, here.parent)
+        top, source = pathlib.Path(f"{folder}-{number}"), (HERE / file).read_text()
+        here = top / HERE.relative_to(ROOT)
+        for below in ("examples/http", "tests/guard"):
+            shutil.copytree(ROOT / below, top / below, ignore=shutil.ignore_patterns("__pycache__"))
+        for path in (ROOT / "tests").glob("*.py"):
+            shutil.copy(path, top / "tests")
         hold(source.count(old) == 1, file, "has so often what is to be wrong:", source.count(old), name)
         (here / file).write_text(source.replace(old, new))
         try:

@@ -23,7 +23,7 @@ import threading
 import time
 import urllib.request
 
-HERE = pathlib.Path(__file__).resolve().parent
+HERE = pathlib.Path(__file__).resolve().parent.parent.parent / "examples" / "http"
 CTLOGD = HERE.parent.parent / "crates/ctlogd/out/ctlogd"
 # What the page's tables say.
 TOLD = """({

@@ -1,6 +1,6 @@
 """Histories of a made-up log as ctguard's lines (docs/GUARD.md): heads, forks, older heads, false proofs, receipts, damaged lines.
 
-The trees are hashlib's alone (examples/merkle.py). `Log` keeps each subtree's hash, so that a history of some hundred lines takes milliseconds.
+The trees are hashlib's alone (tests/merkle.py). `Log` keeps each subtree's hash, so that a history of some hundred lines takes milliseconds.
 """
 import base64
 import json

@@ -1,5 +1,5 @@
 #!/usr/bin/env python3
-"""Tries the scripts that stand beside the programs, bad_lines.py, pem_lines.py, expected.py, check.py, guard/model.py and those of tiles/ on
+"""Tries the scripts of examples/ and of this folder: bad_lines.py, pem_lines.py, expected.py, check.py, guard/model.py and those of tiles/ on
 stored input, tiles/step.py on random histories, and monitor/watch.sh on logs of its own. It runs no ctlog.
 
 It prints one line where all is as expected; else it says what isn't, and ends with status 1.
@@ -15,7 +15,8 @@ import tempfile
 import textwrap
 
 HERE = pathlib.Path(__file__).resolve().parent
-sys.path.insert(0, str(HERE.parent / "bench"))
+EXAMPLES = HERE.parent / "examples"
+sys.path.append(str(EXAMPLES))
 
 from bad_lines import reason  # noqa: E402
 from check import LiveLines, Wrong, checked_live  # noqa: E402
@@ -42,19 +43,20 @@ def fail(why):
 
 
 def run(script, *words, given=b""):
-    return subprocess.run([sys.executable, HERE / script, *map(str, words)], input=given, capture_output=True)
+    folder = EXAMPLES if (EXAMPLES / script).exists() else HERE
+    return subprocess.run([sys.executable, folder / script, *map(str, words)], input=given, capture_output=True)
 
 
 def lines_of(name):
-    return (HERE / f"{name}.jsonl").read_bytes().splitlines()
+    return (EXAMPLES / f"{name}.jsonl").read_bytes().splitlines()
 
 
 def try_reasons():
     """The reasons, line by line, and the status."""
-    ran = run("bad_lines.py", "--fronts", 2, HERE / "bad-lines.jsonl")
+    ran = run("bad_lines.py", "--fronts", 2, EXAMPLES / "bad-lines.jsonl")
     if ran.returncode != 1:
         fail(f"bad_lines.py ends with status {ran.returncode} where lines are no request: {ran.stderr.decode()}")
-    wanted = (HERE / "bad-lines.expected.txt").read_bytes().splitlines()
+    wanted = (EXAMPLES / "bad-lines.expected.txt").read_bytes().splitlines()
     if ran.stdout.splitlines() != wanted:
         fail(f"bad_lines.py gives other reasons than bad-lines.expected.txt: {set(ran.stdout.splitlines()) ^ set(wanted)}")
     requests = [line for line in lines_of("real-chains") if line != NO_REQUEST]
@@ -102,7 +104,7 @@ def try_pem(folder):
     try_refusal(folder / "precert.pem", "a precertificate", "is a precertificate")
     (folder / "cut.pem").write_text(pem_of([next(iter(chains.values()))[0][:256]]))
     try_refusal(folder / "cut.pem", "a certificate that is cut off", "one value of DER")
-    try_refusal(HERE / "real-chains.jsonl", "a file of no certificate", "no certificate")
+    try_refusal(EXAMPLES / "real-chains.jsonl", "a file of no certificate", "no certificate")
     return len(chains)
 
 
@@ -206,7 +208,7 @@ def try_install(folder):
     ran = make_install(folder, folder / "built")
     due = {path: f"made up: {source}" for path, source in sources.items()}
     due.update({f"lib/libwagtenib.{end}": due["lib/libwagtenib.so.0.1.0"] for end in ("so.0", "so")})
-    due["bin/ctmonitor-watch"] = (HERE / "monitor" / "watch.sh").read_text()
+    due["bin/ctmonitor-watch"] = (EXAMPLES / "monitor" / "watch.sh").read_text()
     due["include/wagtenib.h"] = (HERE.parent / "include" / "wagtenib.h").read_text()
     due["lib/pkgconfig/wagtenib.pc"] = (HERE.parent / "include" / "wagtenib.pc.in").read_text().replace("@PREFIX@", "/opt/log")
     to = folder / "to" / "opt" / "log"
@@ -251,7 +253,7 @@ def misquoted(text):
 
 def try_quotations():
     """Each part of demo.sh quotes a clause of the sources; of a wrong quotation it is told."""
-    text = (HERE / "demo.sh").read_text()
+    text = (EXAMPLES / "demo.sh").read_text()
     count, parts = len(QUOTED.findall(text)), re.findall(r"^show_\w+\(\)", text, re.M)
     if not count or not count == text.count("  proved ") == len(parts):
         fail(f"demo.sh has {count} quotations for {len(parts)} parts")
@@ -277,8 +279,8 @@ def main():
     try_models()
     try_tiles()
     for name, words in INPUTS.items():
-        ran = run("expected.py", *words.split(), given=(HERE / f"{name}.jsonl").read_bytes())
-        if ran.stdout != (HERE / f"{name}.expected.jsonl").read_bytes():
+        ran = run("expected.py", *words.split(), given=(EXAMPLES / f"{name}.jsonl").read_bytes())
+        if ran.stdout != (EXAMPLES / f"{name}.expected.jsonl").read_bytes():
             fail(f"expected.py computes other replies than {name}.expected.jsonl")
     watched = run("monitor/watch_check.py")
     if watched.returncode:
@@ -286,7 +288,7 @@ def main():
     sys.stdout.write(watched.stdout.decode())
     stored = len(lines_of("bad-lines"))
     rest = f"{chains} chains, {len(INPUTS)} inputs, {outputs} damaged outputs, {quotations} quotations and {files} installed files"
-    print(f"examples/scripts.py: as expected, over {stored} stored lines, {DAMAGED} damaged ones, {rest}.")
+    print(f"tests/scripts.py: as expected, over {stored} stored lines, {DAMAGED} damaged ones, {rest}.")
 
 
 if __name__ == "__main__":

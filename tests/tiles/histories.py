@@ -21,7 +21,7 @@ import subprocess
 import sys
 
 HERE = pathlib.Path(__file__).resolve().parent
-sys.path += [str(HERE.parent), str(HERE.parent.parent / "bench")]
+sys.path.append(str(HERE.parent))
 
 import attacks  # noqa: E402
 from judge import Judge, Wrong, hold, tile_named  # noqa: E402

@@ -17,7 +17,6 @@ import sys
 
 HERE = pathlib.Path(__file__).resolve().parent
 sys.path.insert(0, str(HERE.parent))
-sys.path.insert(0, str(HERE.parent.parent / "bench"))
 
 import history  # noqa: E402
 import model  # noqa: E402

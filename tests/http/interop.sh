@@ -6,17 +6,18 @@
 # isn't built, stand_in.py.
 set -eu
 here=$(cd "$(dirname "$0")" && pwd)
+examples=$here/../../examples
 for tool in certspotter openssl curl python3; do
   command -v "$tool" >/dev/null || { echo "make interop lacks $tool" >&2; exit 1; }
 done
 work=$(mktemp -d)
 log=${LOG:-$here/../../crates/ctlogd/out/ctlogd}
-[ -n "${LOG:-}" ] || [ -x "$log" ] || log="python3 $here/stand_in.py"
+[ -n "${LOG:-}" ] || [ -x "$log" ] || log="python3 $examples/http/stand_in.py"
 export PYTHONDONTWRITEBYTECODE=1
 
 # $log is a command line: its words are to be split.
 # shellcheck disable=SC2086
-python3 "$here/front.py" --port 0 --state "$work/state" --every 0.05 -- $log >"$work/told" &
+python3 "$examples/http/front.py" --port 0 --state "$work/state" --every 0.05 -- $log >"$work/told" &
 front=$!
 watcher=
 trap 'kill $front $watcher 2>/dev/null || true; wait; rm -rf "$work"' EXIT
@@ -76,7 +77,7 @@ print(json.dumps({"version": "1.0.0", "log_list_timestamp": "2026-01-01T00:00:00
 
 submit 1 29
 # A real precertificate, with its issuer.
-grep '"add-pre-chain"' "$here/../real-chains.jsonl" | grep -v '"chain":\[\]' | head -n 1 |
+grep '"add-pre-chain"' "$examples/real-chains.jsonl" | grep -v '"chain":\[\]' | head -n 1 |
   curl -sSf -d @- "${base}ct/v1/add-pre-chain" >/dev/null ||
   fail "the precertificate is refused"
 follow 30

@@ -25,6 +25,7 @@ import answers
 import grown
 
 HERE = pathlib.Path(__file__).resolve().parent
+MONITOR = HERE.parent.parent / "examples" / "monitor"
 BUILT = HERE.parent.parent / "crates" / "ctmonitor" / "out" / "ctmonitor"
 # The stored output of growth_lines.
 GROWN = HERE.parent.parent / "crates" / "growth_lines" / "stdout"
@@ -146,7 +147,7 @@ class Watch:
     def start(self, logs, *words):
         environment = {**os.environ, "PATH": f"{self.bin}:{os.environ['PATH']}", "LOG": logs, "no_proxy": "127.0.0.1", "PYTHONDONTWRITEBYTECODE": "1"}
         how = {"stdout": subprocess.PIPE, "stderr": subprocess.STDOUT, "text": True, "start_new_session": True, "env": environment}
-        return subprocess.Popen([HERE / "watch.sh", "--folder", self.folder, *words], **how)
+        return subprocess.Popen([MONITOR / "watch.sh", "--folder", self.folder, *words], **how)
 
     def ends(self, what, status, logs, *words, says=""):
         """Runs it, and sees that it ends with that status and has those words on its output, which is answered."""
@@ -412,7 +413,7 @@ def try_signatures(folder):
         ("nothing", keys[0], "", 1, "no checkpoint\n"),
         ("no key", "AAAA", both, 2, ""),
     ]:
-        ran = subprocess.run([HERE / "signature.sh", key], input=given, capture_output=True, text=True)
+        ran = subprocess.run([MONITOR / "signature.sh", key], input=given, capture_output=True, text=True)
         if ran.returncode != status or ran.stdout != due:
             fail(f"signature.sh on {what}: status {ran.returncode} where {status} is due: {ran.stdout}{ran.stderr}")
 
@@ -487,7 +488,7 @@ def try_long_lines():
     lines = [head.ljust(LONGEST), head.ljust(LONGEST + 1), bytes([32]) * LONGEST * 20, head]
     said = []
     for given in (lines, [head, head]):
-        words = ["sh", "-c", f'ulimit -v {ROOM}; exec "$@"', "sh", sys.executable, HERE / "stand_in.py"]
+        words = ["sh", "-c", f'ulimit -v {ROOM}; exec "$@"', "sh", sys.executable, MONITOR / "stand_in.py"]
         ran = subprocess.run(words, input=b"\n".join(given), capture_output=True)
         said.append((ran.returncode, ran.stdout.decode().splitlines(), ran.stderr.decode()))
     bad = ['{"error":"bad-line"}'] * 2
@@ -497,7 +498,7 @@ def try_long_lines():
 
 
 def main():
-    stand_in = [sys.executable, str(HERE / "stand_in.py")]
+    stand_in = [sys.executable, str(MONITOR / "stand_in.py")]
     runs = try_runs(stand_in)
     try_long_lines()
     with tempfile.TemporaryDirectory() as folder:

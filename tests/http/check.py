@@ -28,15 +28,12 @@ import textwrap
 import threading
 import time
 
-from harness import FRONTS, HERE, STAND_IN, Client, Front, Wrong, bytes_of, hold, made_chain, real_chains, started, text, vector
+from harness import FRONTS, ROOT, STAND_IN, Client, Front, Wrong, bytes_of, hold, made_chain, real_chains, started, text, vector
 
-ROOT = HERE.parent.parent
-sys.path.insert(0, str(HERE.parent))
-
-import cases  # noqa: E402
-import expected  # noqa: E402
-import merkle  # noqa: E402
-import p256  # noqa: E402
+import cases
+import expected
+import merkle
+import p256
 
 CTLOGD, CTLOG = ROOT / "crates/ctlogd/out/ctlogd", ROOT / "crates/ctlog/out/ctlog"
 HEAD_INPUT, TIMESTAMP_INPUT = "tree-head-signature-input", "certificate-timestamp-signature-input"
@@ -362,12 +359,12 @@ def check_journal(folder, leaves, fronts):
         found = [bytes_of(entry["leaf_input"]) for reply in replies[-len(asked) :] for entry in json.loads(reply)["entries"]]
         hold(found == leaves, who, "gives other entries for the journal")
 
-    compare(expected.outcome(fronts, 4096, 0, 9007199254740991, given)[0], "examples/expected.py")
+    compare(expected.outcome(fronts, 4096, 0, 9007199254740991, given)[0], "tests/expected.py")
     if CTLOG.exists():
         ran = subprocess.run([str(CTLOG), "--fronts", str(fronts), "--ring", "4096"], input=given, stdout=subprocess.PIPE)
         hold(ran.returncode == 0, "ctlog ends with status", ran.returncode)
         compare(ran.stdout.splitlines(), "ctlog")
-    return "examples/expected.py" + (" and ctlog" if CTLOG.exists() else "")
+    return "tests/expected.py" + (" and ctlog" if CTLOG.exists() else "")
 
 
 def check_kills(folder, program, words, seen, checked, rounds, threads):
@@ -505,7 +502,7 @@ def run(program, words):
         state, options = str(pathlib.Path(folder) / "state"), ["--roots", str(roots)]
         # (each publication is looked for in the journal before the program has it)
         journal = str(pathlib.Path(state) / "journal.jsonl")
-        front = started(state, [sys.executable, str(HERE / "watched.py"), journal, *program], *options)
+        front = started(state, [sys.executable, str(ROOT / "tests/http/watched.py"), journal, *program], *options)
         try:
             given = submissions(words.submissions, 0)
             load(front.port, [given[part :: words.threads] for part in range(words.threads)], seen)

@@ -12,9 +12,12 @@ import sys
 import time
 import urllib.parse
 
-import front
+ROOT = pathlib.Path(__file__).resolve().parent.parent.parent
+HERE = ROOT / "examples" / "http"
+sys.path += [str(HERE), str(ROOT / "tests")]
 
-HERE = pathlib.Path(__file__).resolve().parent
+import front  # noqa: E402
+
 STAND_IN = [sys.executable, str(HERE / "stand_in.py")]
 # The log of the cases: LOG="PROGRAM WORD.." is another one.
 LOG = shlex.split(os.environ.get("LOG", "")) or STAND_IN
@@ -115,7 +118,7 @@ def vector(value):
 def real_chains():
     """The submissions of examples/real-chains.jsonl: the call, its chain, and the entry's type and text."""
     found = []
-    for line in (HERE.parent / "real-chains.jsonl").read_text().splitlines():
+    for line in (ROOT / "examples" / "real-chains.jsonl").read_text().splitlines():
         request = json.loads(line) if line.startswith("{") else {}
         if request.get("chain"):
             chain = [bytes_of(certificate) for certificate in request["chain"]]

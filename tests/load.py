@@ -1,5 +1,5 @@
 #!/usr/bin/env python3
-"""Runs ctlog with many fronts at once and a shutdown by the operator at a random place, and judges each output by examples/check.py.
+"""Runs ctlog with many fronts at once and a shutdown by the operator at a random place, and judges each output by tests/check.py.
 
     load.py [PROGRAM] [--runs N] [--fronts N] [--lines N] [--shifts N] [--seed S]
 
@@ -22,10 +22,9 @@ import subprocess
 import sys
 import tempfile
 
-HERE = pathlib.Path(__file__).resolve().parent
-sys.path.insert(0, str(HERE.parent / "examples"))
+from check import Wrong, checked
 
-from check import Wrong, checked  # noqa: E402
+HERE = pathlib.Path(__file__).resolve().parent
 
 RING = 4096
 OPEN_AT, CLOSE_AT = 1000, 1_000_000_000

@@ -10,7 +10,7 @@ import time
 from cases_journal import files, refused
 from harness import HERE, LOG, Client, Front, Wrong, hold, leaf_of, leaves_of, started, text
 
-import merkle  # noqa: E402
+import merkle
 
 CLIENTS, ROUNDS = 32, 20
 # A log of one entry at most that does as it is told by the name of the call: it cuts its reply off, answers what is no reply, answers

@@ -1,5 +1,5 @@
 #!/usr/bin/env python3
-"""Runs ctlog on random and damaged lines for a time, and compares what it writes with what examples/expected.py computes.
+"""Runs ctlog on random and damaged lines for a time, and compares what it writes with what tests/expected.py computes.
 
     fuzz.py [PROGRAM] [--seconds S] [--seed SEED] [--from N] [--inputs N]
 
@@ -17,12 +17,11 @@ import sys
 import tempfile
 import time
 
-HERE = pathlib.Path(__file__).resolve().parent
-sys.path.insert(0, str(HERE.parent / "examples"))
+from expected import Refused, outcome, read_line
+from mutations import mutated
+from random_lines import BAD_LINES, CLOSE_AT, RING, Script, is_written
 
-from expected import Refused, outcome, read_line  # noqa: E402
-from mutations import mutated  # noqa: E402
-from random_lines import BAD_LINES, CLOSE_AT, RING, Script, is_written  # noqa: E402
+HERE = pathlib.Path(__file__).resolve().parent
 
 BAD_LINE = ("operator", None)
 # The longest run, in seconds. A wait that nothing ends takes some of them.
@@ -172,7 +171,7 @@ def try_input(program, seed, number, counts):
 
 
 def main():
-    words = argparse.ArgumentParser(description="Compares ctlog with examples/expected.py on damaged lines.")
+    words = argparse.ArgumentParser(description="Compares ctlog with tests/expected.py on damaged lines.")
     words.add_argument("program", nargs="?", default=str(HERE.parent / "crates/ctlog/out/ctlog"))
     words.add_argument("--seconds", type=float, default=60)
     words.add_argument("--seed", type=int, default=int.from_bytes(os.urandom(4), "big"))

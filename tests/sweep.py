@@ -13,7 +13,7 @@ Each run has to end by itself within a minute, and in one of these ways:
 - status 1, with `ctlog: memory` or `ctlog: threads` on standard error, or a beginning of that line, and a beginning of the ample output on standard output;
 - status 0, with the ample output, where what was refused could be done without;
 - status 0, where one line has the reply `memory`: what its party was told before is the ample run's, and the whole output is judged by
-  examples/check.py, which recomputes tickets, settlement, entries, heads, proofs and receipts from what the replies say was done. (A line that then waits in
+  tests/check.py, which recomputes tickets, settlement, entries, heads, proofs and receipts from what the replies say was done. (A line that then waits in
   vain is told `late`.)
 
 ctlogd has the same lines but for the shifts, and a `take` and a `close`. Its replies are compared by their lines' numbers, since parties don't
@@ -36,10 +36,9 @@ import subprocess
 import sys
 import tempfile
 
-HERE = pathlib.Path(__file__).resolve().parent
-sys.path.insert(0, str(HERE.parent / "examples"))
+from check import LiveLines, Wrong, checked, checked_live, claim, claim_order, requests_of, tagged
 
-from check import LiveLines, Wrong, checked, checked_live, claim, claim_order, requests_of, tagged  # noqa: E402
+HERE = pathlib.Path(__file__).resolve().parent
 
 CRATES = HERE.parent / "crates"
 OPTIONS = ["--fronts", "2", "--ring", "8", "--open-at", "0", "--close-at", "7"]

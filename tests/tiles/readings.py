@@ -17,7 +17,7 @@ import subprocess
 import sys
 
 HERE = pathlib.Path(__file__).resolve().parent
-sys.path += [str(HERE.parent), str(HERE.parent.parent / "bench")]
+sys.path.append(str(HERE.parent))
 
 from expected import levels  # noqa: E402
 from histories import Pair, line_of  # noqa: E402

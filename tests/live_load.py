@@ -1,5 +1,5 @@
 #!/usr/bin/env python3
-"""Runs ctlogd with many fronts and a hundred thousand lines, and judges each output by examples/check.py --live.
+"""Runs ctlogd with many fronts and a hundred thousand lines, and judges each output by tests/check.py --live.
 
     live_load.py [PROGRAM] [--runs N] [--fronts N] [--lines N] [--seed S]
 
@@ -11,7 +11,7 @@ the log, which then answers questions and refuses lines of the fronts and of the
 its replies are read as fast as it writes them.
 
 check.py judges that each line has one reply, in its party's order, and which refusals are told; the tickets, the order of the settlement and of the
-entries, the receipts, and each root. Before that the output of a shorter run is damaged in each of the ways of examples/damages.py, and check.py
+entries, the receipts, and each root. Before that the output of a shorter run is damaged in each of the ways of tests/damages.py, and check.py
 has to refuse each. At the first output that isn't judged as it should be the lines and the output are kept, and the status is 1.
 """
 import argparse
@@ -23,12 +23,11 @@ import sys
 import tempfile
 import time
 
-HERE = pathlib.Path(__file__).resolve().parent
-sys.path.insert(0, str(HERE.parent / "examples"))
+from check import LiveLines, Wrong, checked_live
+from damages import damages
+from load import CERTIFICATES, CLOSE_AT, OPEN_AT, RING, SUBMISSION, front_line, line_of
 
-from check import LiveLines, Wrong, checked_live  # noqa: E402
-from damages import damages  # noqa: E402
-from load import CERTIFICATES, CLOSE_AT, OPEN_AT, RING, SUBMISSION, front_line, line_of  # noqa: E402
+HERE = pathlib.Path(__file__).resolve().parent
 
 BLOCK = 40
 # How many lines each front has in the run whose output is damaged.
