@@ -21,7 +21,7 @@ const BATCHES: u8 = 2;
 const STEPS: u64 = 32;
 
 // Why a sequencer stopped.
-#[derive(Debug, Drop)]
+#[derive(Drop)]
 enum Stop {
     Step(StepFault),
     Refused(Refusal),
@@ -135,25 +135,35 @@ fn entries_of(
     }
 }
 
+// The partial tiles and the partial data tile of a line, of whose step this is the bundle, behind those of an offer.
+fn kept_of(
+    alloc: Global,
+    before: &Offer,
+    line: &StateLine,
+    bundle: &[u8],
+) -> Result<(Vec<Vec<u8>>, Vec<u8>), Stop> {
+    let names = needed(alloc, line)?;
+    let objects = resume(alloc, &Sha256Hash, line, bundle)?;
+    let edge = edge_of(alloc, line.tree_size, &names, &objects, &before.edge)?;
+    let entries = entries_of(alloc, line.tree_size, &names, &objects, &before.entries)?;
+    Ok((edge, entries))
+}
+
 // The offer of a step from the line of another.
 fn offer_of(
     alloc: Global,
     before: &Offer,
     step: Step,
     seen: u64,
-    who: u8,
-    batch: u8,
+    (who, batch): (u8, u8),
 ) -> Result<Offer, Stop> {
+    let (edge, entries) = kept_of(alloc, before, &step.line, &step.bundle)?;
     let Step {
         receipts,
         signed: _,
-        bundle,
+        bundle: _,
         line,
     } = step;
-    let names = needed(alloc, &line)?;
-    let objects = resume(alloc, &Sha256Hash, &line, &bundle)?;
-    let edge = edge_of(alloc, line.tree_size, &names, &objects, &before.edge)?;
-    let entries = entries_of(alloc, line.tree_size, &names, &objects, &before.entries)?;
     Ok(Offer {
         line,
         edge,
@@ -165,18 +175,8 @@ fn offer_of(
     })
 }
 
-// Makes an attempt from the line of an offer: whether the register took it. The clocks of sequencers differ.
-fn attempt(
-    alloc: Global,
-    register: &Register,
-    seen: u64,
-    number: u64,
-    who: u8,
-    batch: u8,
-) -> Result<bool, Stop> {
-    let Some(before) = register.offer(seen) else {
-        return Err(Stop::NoOffer);
-    };
+// The step of a batch from the line of an offer. The clocks of sequencers differ.
+fn step_of(alloc: Global, before: &Offer, (who, batch): (u8, u8)) -> Result<Step, Stop> {
     let now = before.line.timestamp.saturating_add(u64::from(who % 3));
     let submissions = batch_of(alloc, who, batch)?;
     let step = take_step(
@@ -188,7 +188,22 @@ fn attempt(
         &submissions,
         now,
     )?;
-    let offer = offer_of(alloc, before, step, seen, who, batch)?;
+    Ok(step)
+}
+
+// Makes an attempt from the line of an offer: whether the register took it.
+fn attempt(
+    alloc: Global,
+    register: &Register,
+    seen: u64,
+    number: u64,
+    by: (u8, u8),
+) -> Result<bool, Stop> {
+    let Some(before) = register.offer(seen) else {
+        return Err(Stop::NoOffer);
+    };
+    let step = step_of(alloc, before, by)?;
+    let offer = offer_of(alloc, before, step, seen, by)?;
     if !register.keep(number, offer) {
         return Err(Stop::NoOffer);
     }
@@ -204,7 +219,7 @@ fn carry_on(alloc: Global, register: &Register, who: u8) -> Result<u64, Stop> {
             return Ok(made);
         }
         let number = u64::from(who) * STEPS + made + 1;
-        if attempt(alloc, register, seen, number, who, batch)? {
+        if attempt(alloc, register, seen, number, (who, batch))? {
             batch = batch.saturating_add(1);
         }
         seen = register.held();
@@ -340,24 +355,40 @@ impl Log {
         before: &StateLine,
         offer: &Offer,
     ) -> Result<bool, AllocError> {
-        let text = before.write(alloc)?;
+        let hash = hash_of(alloc, before)?;
         Ok(
             self.is_first(offer.who, offer.batch)
                 && self.follow(alloc, offer)?
                 && self.has_line(&offer.line)
                 && offer.line.timestamp >= before.timestamp
-                && offer.line.before == sha256(text.as_bytes(), b"", b""),
+                && offer.line.before == hash,
         )
     }
+}
+
+// The hash of a line's text.
+fn hash_of(alloc: Global, line: &StateLine) -> Result<[u8; 32], AllocError> {
+    let text = line.write(alloc)?;
+    Ok(sha256(text.as_bytes(), b"", b""))
+}
+
+// Whether the step with this number carries on the log.
+fn is_carried_on(
+    alloc: Global,
+    register: &Register,
+    log: &mut Log,
+    number: u64,
+) -> Result<bool, Fail> {
+    let offer = register.offer(number).ok_or("an offer")?;
+    let before = register.offer(offer.seen).ok_or("an offer")?;
+    Ok(log.carries_on(alloc, &before.line, offer)?)
 }
 
 // Whether the steps with these numbers, the last one first, make one log with all batches.
 fn is_one_log(alloc: Global, register: &Register, taken: &[u64]) -> Result<bool, Fail> {
     let mut log = Log::new(alloc);
     for number in taken.iter().rev() {
-        let offer = register.offer(*number).ok_or("an offer")?;
-        let before = register.offer(offer.seen).ok_or("an offer")?;
-        if !log.carries_on(alloc, &before.line, offer)? {
+        if !is_carried_on(alloc, register, &mut log, *number)? {
             return Ok(false);
         }
     }
@@ -376,6 +407,12 @@ fn sum_of(made: &[Result<u64, Stop>]) -> Option<u64> {
     Some(sum)
 }
 
+// Whether what was taken is one log with all batches.
+fn is_one_taken(alloc: Global, register: &Register) -> Result<bool, Fail> {
+    let taken = taken_of(alloc, register)?;
+    is_one_log(alloc, register, &taken)
+}
+
 // How many attempts the sequencers made, and whether what was taken is one log with all batches.
 fn carried_on<R: Threads + Sync>(
     rt: &R,
@@ -390,8 +427,8 @@ fn carried_on<R: Threads + Sync>(
         usize::from(SEQUENCERS),
         &|who| { carry_on(alloc, &register, who as u8) },
     )?;
-    let taken = taken_of(alloc, &register)?;
-    Ok((sum_of(&made), is_one_log(alloc, &register, &taken)?))
+    let is_one = is_one_taken(alloc, &register)?;
+    Ok((sum_of(&made), is_one))
 }
 
 // All read the first line, so at least fifteen of the attempts aren't taken.

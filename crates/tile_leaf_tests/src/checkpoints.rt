@@ -1,5 +1,5 @@
 use ct_checkpoint::{CheckpointFault, read_checkpoint, write_checkpoint};
-use std::alloc::AllocError;
+use std::alloc::{AllocError, Global};
 
 // The root is the SHA-256 of the empty string, as RFC 6962 section 2.1 gives it for no leaves.
 const ROOT: [u8; 32] = [
@@ -9,50 +9,51 @@ const ROOT: [u8; 32] = [
 
 const TEXT: &str = "example.com/log\n20852163\n47DEQpj8HBSa+/TImW+5JCeuQeRkm5NMpJWZG3hSuFU=\n";
 
-#[test]
-fn a_checkpoint_is_written_and_read(rt: HostRuntime) -> Result<(), AllocError> {
-    let text = write_checkpoint(rt.alloc(), "example.com/log", 20_852_163, &ROOT)?;
-    assert!(rt; text.as_str() == TEXT);
-    let Ok(read) = read_checkpoint(rt.alloc(), TEXT) else {
-        assert!(rt; false);
-        return Ok(());
-    };
-    assert!(rt; read.origin == "example.com/log" && read.size == 20_852_163 && read.root == ROOT);
-    Ok(())
+// Whether the checkpoint is read of its text.
+fn is_read(alloc: Global) -> bool {
+    match read_checkpoint(alloc, TEXT) {
+        Ok(read) => {
+            read.origin == "example.com/log" && read.size == 20_852_163 && read.root == ROOT
+        }
+        Err(_) => false,
+    }
 }
 
 #[test]
+fn a_checkpoint_is_written_and_read(rt: HostRuntime) -> Result<(), AllocError> {
+    let text = write_checkpoint(rt.alloc(), "example.com/log", 20_852_163, &ROOT)?;
+    assert!(rt; text.as_str() == TEXT && is_read(rt.alloc()));
+    Ok(())
+}
+
+// Why a text is refused.
+pub(crate) fn fault_of(alloc: Global, text: &str) -> Option<CheckpointFault> {
+    read_checkpoint(alloc, text).err()
+}
+
+const REFUSED: [(&str, CheckpointFault); 8] = [
+    ("", CheckpointFault::BadOrigin),
+    ("\n1\n", CheckpointFault::BadOrigin),
+    ("a\n1", CheckpointFault::BadSize),
+    ("a\n18446744073709551616\n", CheckpointFault::BadSize),
+    ("a\n1\n47DEQpj8\n", CheckpointFault::BadRoot),
+    (
+        "a\n1\n47DEQpj8HBSa-_TImW-5JCeuQeRkm5NMpJWZG3hSuFU=\n",
+        CheckpointFault::BadRoot,
+    ),
+    (
+        "a\n01\n47DEQpj8HBSa+/TImW+5JCeuQeRkm5NMpJWZG3hSuFU=\n",
+        CheckpointFault::NotAsWritten,
+    ),
+    (
+        "a\n1\n47DEQpj8HBSa+/TImW+5JCeuQeRkm5NMpJWZG3hSuFU=\nmore\n",
+        CheckpointFault::BadRoot,
+    ),
+];
+
+#[test]
 fn other_texts_are_refused(rt: HostRuntime) {
-    let alloc = rt.alloc();
-    assert!(rt; read_checkpoint(alloc, "").err() == Some(CheckpointFault::BadOrigin));
-    assert!(rt; read_checkpoint(alloc, "\n1\n").err() == Some(CheckpointFault::BadOrigin));
-    assert!(rt; read_checkpoint(alloc, "a\n1").err() == Some(CheckpointFault::BadSize));
-    assert!(rt;
-        read_checkpoint(alloc, "a\n18446744073709551616\n").err() == Some(CheckpointFault::BadSize)
-    );
-    assert!(rt; read_checkpoint(alloc, "a\n1\n47DEQpj8\n").err() == Some(CheckpointFault::BadRoot));
-    assert!(rt;
-        read_checkpoint(
-            alloc,
-            "a\n1\n47DEQpj8HBSa-_TImW-5JCeuQeRkm5NMpJWZG3hSuFU=\n"
-        )
-        .err()
-            == Some(CheckpointFault::BadRoot)
-    );
-    assert!(rt;
-        read_checkpoint(
-            alloc,
-            "a\n01\n47DEQpj8HBSa+/TImW+5JCeuQeRkm5NMpJWZG3hSuFU=\n"
-        )
-        .err()
-            == Some(CheckpointFault::NotAsWritten)
-    );
-    assert!(rt;
-        read_checkpoint(
-            alloc,
-            "a\n1\n47DEQpj8HBSa+/TImW+5JCeuQeRkm5NMpJWZG3hSuFU=\nmore\n"
-        )
-        .err()
-            == Some(CheckpointFault::BadRoot)
-    );
+    for (text, fault) in REFUSED {
+        assert!(rt; fault_of(rt.alloc(), text) == Some(fault));
+    }
 }

@@ -83,34 +83,48 @@ fn are_refused(alloc: Global, contents: &[Vec<u8>], fault: HandedFault) -> bool 
         && proof_answer(alloc, contents) == Err(fault)
 }
 
-#[test]
-fn tiles_are_listed(rt: HostRuntime) -> Result<(), AllocError> {
-    let alloc = rt.alloc();
-    assert!(rt; tiles_for_root(alloc, SIZE)?.as_slice() == NEEDED.as_slice());
-    assert!(rt; tiles_for_path(alloc, INDEX, SIZE)?.as_slice() == NEEDED.as_slice());
-    assert!(rt; tiles_for_proof(alloc, SIZE - 1, SIZE)?.as_slice() == NEEDED.as_slice());
-    Ok(())
-}
-
-#[test]
-fn right_tiles_are_answered(rt: HostRuntime) -> Result<(), AllocError> {
-    let mut contents = contents(rt.alloc(), &TILES)?;
-    assert!(rt; are_right(rt.alloc(), &contents));
-    // What comes behind the last one isn't read.
-    contents.push(Vec::new(rt.alloc()))?;
-    assert!(rt; are_right(rt.alloc(), &contents));
-    Ok(())
-}
-
-#[test]
-fn missing_tiles_are_named(rt: HostRuntime) -> Result<(), AllocError> {
-    for count in 0..3usize {
-        let mut few = contents(rt.alloc(), &TILES)?;
-        few.truncate(count);
-        let fault = HandedFault::Missing(NEEDED[count]);
-        assert!(rt; are_refused(rt.alloc(), &few, fault), "{count} tiles");
+// Whether these are the needed tiles.
+fn are_needed(tiles: Result<Vec<NeededTile>, AllocError>) -> bool {
+    match tiles {
+        Ok(tiles) => tiles.as_slice() == NEEDED.as_slice(),
+        Err(_) => false,
     }
-    Ok(())
+}
+
+#[test]
+fn tiles_are_listed(rt: HostRuntime) {
+    assert!(rt; are_needed(tiles_for_root(rt.alloc(), SIZE)));
+    assert!(rt; are_needed(tiles_for_path(rt.alloc(), INDEX, SIZE)));
+    assert!(rt; are_needed(tiles_for_proof(rt.alloc(), SIZE - 1, SIZE)));
+}
+
+// Whether the tiles are answered, as they are and with one behind the last that isn't read.
+fn are_answered(alloc: Global) -> Result<bool, AllocError> {
+    let mut all = contents(alloc, &TILES)?;
+    let is_right = are_right(alloc, &all);
+    all.push(Vec::new(alloc))?;
+    Ok(is_right && are_right(alloc, &all))
+}
+
+#[test]
+fn right_tiles_are_answered(rt: HostRuntime) {
+    assert!(rt; are_answered(rt.alloc()) == Ok(true));
+}
+
+// Whether the first that isn't there is named, where only so many are.
+fn is_missing_named(alloc: Global, count: usize) -> Result<bool, AllocError>
+    requires { count < 3 }
+{
+    let mut few = contents(alloc, &TILES)?;
+    few.truncate(count);
+    Ok(are_refused(alloc, &few, HandedFault::Missing(NEEDED[count])))
+}
+
+#[test]
+fn missing_tiles_are_named(rt: HostRuntime) {
+    for count in 0..3usize {
+        assert!(rt; is_missing_named(rt.alloc(), count) == Ok(true));
+    }
 }
 
 // The tiles with so many bytes, of its own first, for the one at a place, and nothing behind it.
@@ -125,16 +139,21 @@ fn with_length(alloc: Global, place: usize, size: usize) -> Result<Vec<Vec<u8>>,
     Ok(all)
 }
 
+// Whether the one at a place is named, where it has so many bytes.
+fn is_length_named(alloc: Global, place: usize, size: usize) -> Result<bool, AllocError>
+    requires { place < 3 }
+{
+    let contents = with_length(alloc, place, size)?;
+    Ok(are_refused(alloc, &contents, HandedFault::BadLength(NEEDED[place])))
+}
+
 #[test]
-fn wrong_lengths_are_named(rt: HostRuntime) -> Result<(), AllocError> {
+fn wrong_lengths_are_named(rt: HostRuntime) {
     for place in 0..3usize {
         for size in [0, 1, 32, 64, 95, 97, 128, 8192] {
-            let contents = with_length(rt.alloc(), place, size)?;
-            let fault = HandedFault::BadLength(NEEDED[place]);
-            assert!(rt; are_refused(rt.alloc(), &contents, fault), "{size} bytes");
+            assert!(rt; is_length_named(rt.alloc(), place, size) == Ok(true));
         }
     }
-    Ok(())
 }
 
 // The tiles at these places of the list, each in the place of one.
@@ -149,34 +168,35 @@ fn of_places(alloc: Global, places: [usize; 3]) -> Result<Vec<Vec<u8>>, AllocErr
     Ok(all)
 }
 
-#[test]
-fn tiles_of_other_levels_are_refused(rt: HostRuntime) -> Result<(), AllocError> {
-    for order in 0..27usize {
-        let places = [order / 9, order / 3 % 3, order % 3];
-        let contents = of_places(rt.alloc(), places)?;
-        if places == [0, 1, 2] {
-            assert!(rt; are_right(rt.alloc(), &contents));
-            continue;
-        }
-        assert_eq!(rt;
-            root_answer(rt.alloc(), &contents),
-            Ok(false),
-            "order {order}"
-        );
-        let path = path_answer(rt.alloc(), &contents);
-        assert_eq!(rt;
-            path,
-            Ok((false, Err(ProofFault::RootMismatch))),
-            "order {order}"
-        );
-        let proof = proof_answer(rt.alloc(), &contents);
-        assert_eq!(rt;
-            proof,
-            Ok((false, Err(ProofFault::FirstMismatch))),
-            "order {order}"
-        );
+// Whether the answers are a root that isn't the log's, this one of the path, and a proof that is refused by this fault.
+fn are_wrong(
+    alloc: Global,
+    contents: &[Vec<u8>],
+    path: (bool, Result<(), ProofFault>),
+    fault: ProofFault,
+) -> bool {
+    root_answer(alloc, contents) == Ok(false)
+        && path_answer(alloc, contents) == Ok(path)
+        && proof_answer(alloc, contents) == Ok((false, Err(fault)))
+}
+
+const REFUSED_PATH: (bool, Result<(), ProofFault>) = (false, Err(ProofFault::RootMismatch));
+
+// Whether the tiles in this order are answered where it is theirs, and refused else.
+fn is_order_right(alloc: Global, order: usize) -> Result<bool, AllocError> {
+    let places = [order / 9, order / 3 % 3, order % 3];
+    let contents = of_places(alloc, places)?;
+    if places == [0, 1, 2] {
+        return Ok(are_right(alloc, &contents));
     }
-    Ok(())
+    Ok(are_wrong(alloc, &contents, REFUSED_PATH, ProofFault::FirstMismatch))
+}
+
+#[test]
+fn tiles_of_other_levels_are_refused(rt: HostRuntime) {
+    for order in 0..27usize {
+        assert!(rt; is_order_right(rt.alloc(), order) == Ok(true));
+    }
 }
 
 // The tiles with one bit changed.
@@ -188,32 +208,31 @@ fn with_bit(alloc: Global, bit: usize) -> Result<Vec<Vec<u8>>, AllocError>
     contents(alloc, &tiles)
 }
 
-// The leaf's own hash, the second, isn't in its path; the last leaf's, the third, isn't in the first root.
+// Whether the tiles with one bit changed are refused. The leaf's own hash, the second, isn't in its path; the last leaf's, the third, isn't in
+// the first root.
+fn is_bit_refused(alloc: Global, bit: usize) -> Result<bool, AllocError>
+    requires { bit < 2304 }
+{
+    let contents = with_bit(alloc, bit)?;
+    let path = if bit / 256 == 1 {
+        (true, Ok(()))
+    } else {
+        REFUSED_PATH
+    };
+    let fault = if bit / 256 == 2 {
+        ProofFault::RootMismatch
+    } else {
+        ProofFault::FirstMismatch
+    };
+    Ok(are_wrong(alloc, &contents, path, fault))
+}
+
 #[test]
-fn a_changed_bit_is_refused(rt: HostRuntime) -> Result<(), AllocError> {
+fn a_changed_bit_is_refused(rt: HostRuntime) {
     for bit in 0..2304usize {
-        let contents = with_bit(rt.alloc(), bit)?;
-        assert_eq!(rt; root_answer(rt.alloc(), &contents), Ok(false), "bit {bit}");
-        let path = if bit / 256 == 1 {
-            (true, Ok(()))
-        } else {
-            (false, Err(ProofFault::RootMismatch))
-        };
-        assert_eq!(rt; path_answer(rt.alloc(), &contents), Ok(path), "bit {bit}");
-        let fault = if bit / 256 == 2 {
-            ProofFault::RootMismatch
-        } else {
-            ProofFault::FirstMismatch
-        };
-        assert_eq!(rt;
-            proof_answer(rt.alloc(), &contents),
-            Ok((false, Err(fault))),
-            "bit {bit}"
-        );
+        assert!(rt; is_bit_refused(rt.alloc(), bit) == Ok(true));
     }
-    let contents = contents(rt.alloc(), &TILES)?;
-    assert!(rt; are_right(rt.alloc(), &contents));
-    Ok(())
+    assert!(rt; are_answered(rt.alloc()) == Ok(true));
 }
 
 // Why the checked path of these tiles is refused, and why the checked proof.
@@ -235,17 +254,29 @@ fn checked_faults(
     (path.err(), proof.err())
 }
 
+// Whether the path of a source of tiles is the log's.
+fn is_path_of(alloc: Global, tiles: &HandedTiles<'_>) -> bool {
+    match path(alloc, &Sha256Hash, tiles, INDEX, SIZE) {
+        Ok(path) => path.as_flattened() == PATH.as_slice(),
+        Err(_) => false,
+    }
+}
+
+// Whether its proof is.
+fn is_proof_of(alloc: Global, tiles: &HandedTiles<'_>) -> bool {
+    match proof(alloc, &Sha256Hash, tiles, SIZE - 1, SIZE) {
+        Ok(proof) => proof.as_flattened() == PROOF.as_slice(),
+        Err(_) => false,
+    }
+}
+
 #[test]
 fn answers_of_a_source_are_checked(rt: HostRuntime) -> Result<(), HandedFault> {
-    let alloc = rt.alloc();
-    let right = contents(alloc, &TILES)?;
+    let right = contents(rt.alloc(), &TILES)?;
     let tiles = HandedTiles::new(&NEEDED, &right)?;
     assert!(rt; root_at(&Sha256Hash, &tiles, SIZE) == ROOT);
-    let of_leaf = path(alloc, &Sha256Hash, &tiles, INDEX, SIZE)?;
-    assert!(rt; of_leaf.as_flattened() == PATH.as_slice());
-    let of_sizes = proof(alloc, &Sha256Hash, &tiles, SIZE - 1, SIZE)?;
-    assert!(rt; of_sizes.as_flattened() == PROOF.as_slice());
-    assert!(rt; checked_faults(alloc, &tiles) == (None, None));
+    assert!(rt; is_path_of(rt.alloc(), &tiles) && is_proof_of(rt.alloc(), &tiles));
+    assert!(rt; checked_faults(rt.alloc(), &tiles) == (None, None));
     Ok(())
 }
 
@@ -259,18 +290,23 @@ fn wrong_answers_of_a_source_are_refused(rt: HostRuntime) -> Result<(), HandedFa
     Ok(())
 }
 
-// The bytes of the three tiles of 300 leaves, the first of which is full.
-fn small_contents(alloc: Global) -> Result<Vec<Vec<u8>>, AllocError> {
+// The hashes of the leaves from one number to another.
+fn numbered_hashes(alloc: Global, first: u64, behind: u64) -> Result<Vec<[u8; 32]>, AllocError> {
     let mut leaves = Vec::new(alloc);
-    for index in 0..300u64 {
+    for index in first..behind {
         leaves.push(leaf_hash(&Sha256Hash, &index.to_be_bytes()))?;
     }
-    let full = leaves.get(..256).unwrap_or_default();
-    let rest = leaves.get(256..).unwrap_or_default();
+    Ok(leaves)
+}
+
+// The bytes of the three tiles of 300 leaves, the first of which is full.
+fn small_contents(alloc: Global) -> Result<Vec<Vec<u8>>, AllocError> {
+    let full = numbered_hashes(alloc, 0, 256)?;
+    let rest = numbered_hashes(alloc, 256, 300)?;
     let mut contents = Vec::new(alloc);
     contents.push(Vec::from_slice(alloc, full.as_flattened())?)?;
     contents.push(Vec::from_slice(alloc, rest.as_flattened())?)?;
-    contents.push(Vec::from_slice(alloc, &root(&Sha256Hash, full))?)?;
+    contents.push(Vec::from_slice(alloc, &root(&Sha256Hash, &full))?)?;
     Ok(contents)
 }
 

@@ -2,6 +2,7 @@
 // roots and ends that none has.
 ghost use Rattle.std.specs.Prelude.{◌<◌};
 
+use crate::checkpoints::fault_of;
 use crate::expected::{CHANGED_CHECKPOINT, CHECKPOINT, CUT_CHECKPOINT};
 use crate::hostile_leaves::{number_of, push_counted};
 use ct_checkpoint::{CheckpointFault, read_checkpoint};
@@ -43,95 +44,105 @@ fn changed(alloc: Global, place: usize) -> Result<u32, AllocError> {
 }
 
 #[test]
-fn each_byte_is_read_or_refused(rt: HostRuntime) -> Result<(), AllocError> {
-    for place in 0..68 {
-        assert_eq!(rt;
-            changed(rt.alloc(), place)?,
-            CHANGED_CHECKPOINT[place],
-            "at {place}"
-        );
+fn each_byte_is_read_or_refused(rt: HostRuntime) {
+    for place in 0..68usize {
+        assert!(rt; changed(rt.alloc(), place) == Ok(CHANGED_CHECKPOINT[place]));
     }
-    Ok(())
 }
 
-#[test]
-fn each_beginning_is_read_or_refused(rt: HostRuntime) -> Result<(), AllocError> {
-    let mut seen = Vec::new(rt.alloc());
+// The readings of each beginning of the checkpoint.
+fn cut(alloc: Global) -> Result<u32, AllocError> {
+    let mut seen = Vec::new(alloc);
     for end in 0..=CHECKPOINT.len() {
-        push_reading(rt.alloc(), &mut seen, &CHECKPOINT.as_bytes()[..end])?;
+        push_reading(alloc, &mut seen, &CHECKPOINT.as_bytes()[..end])?;
     }
-    assert_eq!(rt; number_of(&seen), CUT_CHECKPOINT);
-    Ok(())
+    Ok(number_of(&seen))
 }
 
 #[test]
-fn only_numbers_as_they_are_written_are_sizes(rt: HostRuntime) -> Result<(), AllocError> {
-    for (size, fault) in [
-        ("0", None),
-        ("18446744073709551615", None),
-        ("18446744073709551616", Some(CheckpointFault::BadSize)),
-        ("99999999999999999999", Some(CheckpointFault::BadSize)),
-        (
-            "340282366920938463463374607431768211457",
-            Some(CheckpointFault::BadSize),
-        ),
-        ("", Some(CheckpointFault::BadSize)),
-        ("+", Some(CheckpointFault::BadSize)),
-        ("-", Some(CheckpointFault::BadSize)),
-        ("-0", Some(CheckpointFault::BadSize)),
-        ("-1", Some(CheckpointFault::BadSize)),
-        ("++1", Some(CheckpointFault::BadSize)),
-        ("+0", Some(CheckpointFault::NotAsWritten)),
-        ("+1", Some(CheckpointFault::NotAsWritten)),
-        ("00", Some(CheckpointFault::NotAsWritten)),
-        ("01", Some(CheckpointFault::NotAsWritten)),
-        ("018446744073709551615", Some(CheckpointFault::NotAsWritten)),
-        (" 1", Some(CheckpointFault::BadSize)),
-        ("1 ", Some(CheckpointFault::BadSize)),
-        ("1\r", Some(CheckpointFault::BadSize)),
-        ("1\0", Some(CheckpointFault::BadSize)),
-        ("1_000", Some(CheckpointFault::BadSize)),
-        ("1e3", Some(CheckpointFault::BadSize)),
-        ("1.0", Some(CheckpointFault::BadSize)),
-        ("0x1", Some(CheckpointFault::BadSize)),
-        ("a", Some(CheckpointFault::BadSize)),
-        ("\u{661}", Some(CheckpointFault::BadSize)),
-    ] {
-        let text = format!(in rt.alloc(); "a\n{size}\n{ROOT}\n")?;
-        assert_eq!(rt; read_checkpoint(rt.alloc(), &text).err(), fault, "{size}");
-    }
-    Ok(())
+fn each_beginning_is_read_or_refused(rt: HostRuntime) {
+    assert!(rt; cut(rt.alloc()) == Ok(CUT_CHECKPOINT));
+}
+
+// Texts in the place of the size, and why they are refused.
+const SIZES: [(&str, Option<CheckpointFault>); 26] = [
+    ("0", None),
+    ("18446744073709551615", None),
+    ("18446744073709551616", Some(CheckpointFault::BadSize)),
+    ("99999999999999999999", Some(CheckpointFault::BadSize)),
+    (
+        "340282366920938463463374607431768211457",
+        Some(CheckpointFault::BadSize),
+    ),
+    ("", Some(CheckpointFault::BadSize)),
+    ("+", Some(CheckpointFault::BadSize)),
+    ("-", Some(CheckpointFault::BadSize)),
+    ("-0", Some(CheckpointFault::BadSize)),
+    ("-1", Some(CheckpointFault::BadSize)),
+    ("++1", Some(CheckpointFault::BadSize)),
+    ("+0", Some(CheckpointFault::NotAsWritten)),
+    ("+1", Some(CheckpointFault::NotAsWritten)),
+    ("00", Some(CheckpointFault::NotAsWritten)),
+    ("01", Some(CheckpointFault::NotAsWritten)),
+    ("018446744073709551615", Some(CheckpointFault::NotAsWritten)),
+    (" 1", Some(CheckpointFault::BadSize)),
+    ("1 ", Some(CheckpointFault::BadSize)),
+    ("1\r", Some(CheckpointFault::BadSize)),
+    ("1\0", Some(CheckpointFault::BadSize)),
+    ("1_000", Some(CheckpointFault::BadSize)),
+    ("1e3", Some(CheckpointFault::BadSize)),
+    ("1.0", Some(CheckpointFault::BadSize)),
+    ("0x1", Some(CheckpointFault::BadSize)),
+    ("a", Some(CheckpointFault::BadSize)),
+    ("\u{661}", Some(CheckpointFault::BadSize)),
+];
+
+// Why a checkpoint with such a size is refused.
+fn fault_of_size(alloc: Global, size: &str) -> Result<Option<CheckpointFault>, AllocError> {
+    let text = format!(in alloc; "a\n{size}\n{ROOT}\n")?;
+    Ok(fault_of(alloc, &text))
 }
 
 #[test]
-fn only_base64_with_its_padding_and_a_line_end_is_a_root(
-    rt: HostRuntime,
-) -> Result<(), AllocError> {
-    for root in [
-        "",
-        "\n",
-        "47DEQpj8HBSa+/TImW+5JCeuQeRkm5NMpJWZG3hSuFU=",
-        "47DEQpj8HBSa+/TImW+5JCeuQeRkm5NMpJWZG3hSuFU\n",
-        "47DEQpj8HBSa+/TImW+5JCeuQeRkm5NMpJWZG3hSuFU==\n",
-        "47DEQpj8HBSa+/TImW+5JCeuQeRkm5NMpJWZG3hSuF==\n",
-        "47DEQpj8HBSa+/TImW+5JCeuQeRkm5NMpJWZG3hSuFV=\n",
-        "47DEQpj8HBSa+/TImW+5JCeuQeRkm5NMpJWZG3hSuFUA\n",
-        "47DEQpj8HBSa+/TImW+5JCeuQeRkm5NMpJWZG3hSuA==\n",
-        "47DEQpj8HBSa+/TImW+5JCeuQeRkm5NMpJWZG3hSuFU=AAAA\n",
-        "47DEQpj8HBSa+/TImW+5JCeuQeRkm5NMpJWZG3hSuFUAAAA=\n",
-        "=47DEQpj8HBSa+/TImW+5JCeuQeRkm5NMpJWZG3hSuFU\n",
-        "47DEQpj8HBSa-_TImW-5JCeuQeRkm5NMpJWZG3hSuFU=\n",
-        " 47DEQpj8HBSa+/TImW+5JCeuQeRkm5NMpJWZG3hSuFU=\n",
-        "47DEQpj8HBSa+/TImW+5JCeuQeRkm5NMpJWZG3hSuFU= \n",
-        "47DEQpj8HBSa+/TImW+5JC\neuQeRkm5NMpJWZG3hSuFU=\n",
-        "47DEQpj8HBSa+/TImW+5JCeuQeRkm5NMpJWZG3hSuFU=\r\n",
-        "47DEQpj8HBSa+/TImW+5JCeuQeRkm5NMpJWZG3hSuFU=\n\n",
-        "47DEQpj8HBSa+/TImW+5JCeuQeRkm5NMpJWZG3hSuFU=\nan extension line\n",
-        "47DEQpj8HBSa+/TImW+5JCeuQeRkm5NMpJWZG3hSuFU=\n\n\u{2014} a AAAAAA==\n",
-    ] {
-        let text = format!(in rt.alloc(); "a\n1\n{root}")?;
-        let fault = read_checkpoint(rt.alloc(), &text).err();
-        assert_eq!(rt; fault, Some(CheckpointFault::BadRoot), "{root}");
+fn only_numbers_as_they_are_written_are_sizes(rt: HostRuntime) {
+    for (size, fault) in SIZES {
+        assert!(rt; fault_of_size(rt.alloc(), size) == Ok(fault));
     }
-    Ok(())
+}
+
+// Texts in the place of the root and all behind it.
+const ROOTS: [&str; 20] = [
+    "",
+    "\n",
+    "47DEQpj8HBSa+/TImW+5JCeuQeRkm5NMpJWZG3hSuFU=",
+    "47DEQpj8HBSa+/TImW+5JCeuQeRkm5NMpJWZG3hSuFU\n",
+    "47DEQpj8HBSa+/TImW+5JCeuQeRkm5NMpJWZG3hSuFU==\n",
+    "47DEQpj8HBSa+/TImW+5JCeuQeRkm5NMpJWZG3hSuF==\n",
+    "47DEQpj8HBSa+/TImW+5JCeuQeRkm5NMpJWZG3hSuFV=\n",
+    "47DEQpj8HBSa+/TImW+5JCeuQeRkm5NMpJWZG3hSuFUA\n",
+    "47DEQpj8HBSa+/TImW+5JCeuQeRkm5NMpJWZG3hSuA==\n",
+    "47DEQpj8HBSa+/TImW+5JCeuQeRkm5NMpJWZG3hSuFU=AAAA\n",
+    "47DEQpj8HBSa+/TImW+5JCeuQeRkm5NMpJWZG3hSuFUAAAA=\n",
+    "=47DEQpj8HBSa+/TImW+5JCeuQeRkm5NMpJWZG3hSuFU\n",
+    "47DEQpj8HBSa-_TImW-5JCeuQeRkm5NMpJWZG3hSuFU=\n",
+    " 47DEQpj8HBSa+/TImW+5JCeuQeRkm5NMpJWZG3hSuFU=\n",
+    "47DEQpj8HBSa+/TImW+5JCeuQeRkm5NMpJWZG3hSuFU= \n",
+    "47DEQpj8HBSa+/TImW+5JC\neuQeRkm5NMpJWZG3hSuFU=\n",
+    "47DEQpj8HBSa+/TImW+5JCeuQeRkm5NMpJWZG3hSuFU=\r\n",
+    "47DEQpj8HBSa+/TImW+5JCeuQeRkm5NMpJWZG3hSuFU=\n\n",
+    "47DEQpj8HBSa+/TImW+5JCeuQeRkm5NMpJWZG3hSuFU=\nan extension line\n",
+    "47DEQpj8HBSa+/TImW+5JCeuQeRkm5NMpJWZG3hSuFU=\n\n\u{2014} a AAAAAA==\n",
+];
+
+// Why a checkpoint with such a root is refused.
+fn fault_of_root(alloc: Global, root: &str) -> Result<Option<CheckpointFault>, AllocError> {
+    let text = format!(in alloc; "a\n1\n{root}")?;
+    Ok(fault_of(alloc, &text))
+}
+
+#[test]
+fn only_base64_with_its_padding_and_a_line_end_is_a_root(rt: HostRuntime) {
+    for root in ROOTS {
+        assert!(rt; fault_of_root(rt.alloc(), root) == Ok(Some(CheckpointFault::BadRoot)));
+    }
 }
