@@ -57,7 +57,7 @@ TOLD = {
     "ct_live/src/giving.rt": {"Stopped": (1, "all are to end")},
     "ct_live/src/live.rt": {"Threads": (1, "in place of Read, where all were to end")},
     "ct_live/src/operator.rt": {"Stopped": (1, "all are to end")},
-    "ct_live/src/threads.rt": {"Threads": (2, "the reader's thread didn't start; the operator isn't there"), "Stopped": (1, "the operator isn't there")},
+    "ct_live/src/threads.rt": {"Threads": (1, "the reader's thread didn't start")},
     "ct_command/src/command.rt": {"ErrorKind": (2, "clap's kinds of a refusal, which clauses pin")},
     "ct_parties/src/front_work.rt": {"Late": (1, "behind the last turn of a line that waits")},
     "ct_parties/src/operator_work.rt": {"Late": (1, "behind the last turn of a line that waits")},

@@ -1,6 +1,6 @@
 -- What a live log wrote that a fault broke off, from what its threads and the end after them did.
 use Rattle.std.proofs.Common.{◌≡◌, ◌∙◌, ◌⊎◌, inl, inr, ℕ, List, [], ◌∷◌, ◌++◌, refl, sym, ap, subst, append_assoc, append-nil, arith, Vec, Global}
-use Rattle.std.specs.Prelude.{All, Option, Some, Result, Ok, Err}
+use Rattle.std.specs.Prelude.{All, Option, Result, Ok, Err}
 use Rattle.std.specs.Io.KnownBytes.{Appends}
 use Rattle.std.proofs.KnownBytes.{Appends-trans}
 use Rattle.std.proofs.lemmas.List.{map-append}
@@ -18,7 +18,7 @@ use Rattle.ct_live.specs.LiveBroken.{AllAnswerFirst, BeginsWhole, IsServedSome, 
 use Rattle.ct_live.specs.LiveOpening.{AreOpened}
 use Rattle.ct_live.specs.LiveParties.{DeskReplies, FrontReplies}
 use Rattle.ct_live.specs.LiveReplied.{Rings}
-use Rattle.ct_live.specs.LiveRuns.{FrontWorker, worker_fronts, worker_tasks, worker_answers, AllReplySome, WritesOut}
+use Rattle.ct_live.specs.LiveRuns.{FrontWorker, worker_fronts, worker_tasks, worker_answers, AllReplySome, WritesOut, FrontStep}
 use Rattle.ct_live.specs.LiveRuns.{DeskStep}
 use Rattle.ct_live.specs.LiveServed.{AllAskLive}
 use Rattle.ct_live.specs.declared.asking.DeskTask.{DeskTask}
@@ -26,7 +26,6 @@ use Rattle.ct_live.specs.declared.desk.Desk.{Desk}
 use Rattle.ct_live.specs.declared.front.LiveFront.{LiveFront}
 use Rattle.ct_live.specs.declared.live.Ends.{Ends}
 use Rattle.ct_live.specs.declared.workers.DeskWorker.{DeskWorker}
-use Rattle.ct_live.proofs.Joined.{FrontStep}
 use Rattle.ct_live.proofs.Replied.{Empty, desk_answered, front_answered, last_unsent, no_order, no_task, no_text, nothing_written, replies_live, rest_of}
 use Rattle.ct_live.proofs.Tied.{none_given}
 
@@ -229,7 +228,7 @@ begins_behind a b c whole front first h = record {
 pub replies_closing : (n close_at next : ℕ) (input : Option (List ℕ)) (e : Ends) (workers : List FrontWorker) (o : DeskWorker) (old new : Option (List ℕ))
     → AreOpened n e → worker_tasks workers ≡ e.tasks.items
     → worker_answers workers ≡ e.answers.items → o.answers ≡ e.desk_answers → o.tasks ≡ e.desk_tasks
-    → RunsClosing close_at next input e.inlets workers e.rings.items (Some o) old new
+    → RunsClosing close_at next input e.inlets workers e.rings.items o old new
     → RepliesClosing n close_at next input o.desk.sequencer (worker_fronts workers) old new
 replies_closing n close_at next input e workers o old new i tasks answers own_answers own_tasks (whole, run, begun) =
     let w = run.ended.written old (run.wrote old (nothing_written e.rings.items old i.answers.unreceived)) in (

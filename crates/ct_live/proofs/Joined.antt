@@ -1,7 +1,7 @@
 -- The parties and their rings stay what they are while the threads run.
 use Rattle.std.proofs.Common.{◌≡◌, ◌∙◌, ℕ, List, [], ◌∷◌, ◌++◌, map, refl, reverse, sym, subst, length, Vec, Global, true≢false}
 use Rattle.std.specs.List.{AllZip}
-use Rattle.std.specs.Prelude.{Option, Some, Result, Ok, Err, IsOk, OnOk}
+use Rattle.std.specs.Prelude.{Result, Ok, Err, IsOk, OnOk}
 use Rattle.rtrb.specs.Ring.{IsPair, SameProducer, SameConsumer}
 use Rattle.rtrb.specs.declared.AnyItems.{AnyItems}
 use Rattle.rtrb.specs.declared.consumer.Consumer.{Consumer}
@@ -20,17 +20,12 @@ use Rattle.ct_pipes.specs.declared.answering.Numbered.{Numbered}
 use Rattle.ct_pipes.proofs.Merging.{zip_self}
 use Rattle.ct_pipes.proofs.Turns.{producer_trans}
 use Rattle.std.proofs.lemmas.List.Elements.{length_all_zip}
-use Rattle.ct_live.specs.LiveParties.{FrontReplies}
-use Rattle.ct_live.specs.LiveRuns.{FrontWorker, worker_fronts, worker_tasks, worker_answers, AreBeside, AreJoined, GivesOn, AllReply, AllReplySome, DeskStep, DeskWorks, DeskWorksSome}
+use Rattle.ct_live.specs.LiveRuns.{FrontWorker, worker_fronts, worker_tasks, worker_answers, AreBeside, GivesOn, AllReply, AllReplySome, DeskStep, DeskWorks, DeskWorksSome, FrontStep}
 use Rattle.ct_live.specs.declared.asking.DeskTask.{DeskTask}
 use Rattle.ct_live.specs.declared.front.LiveFront.{LiveFront}
 use Rattle.ct_live.specs.declared.giving.Inlets.{Inlets}
 use Rattle.ct_live.specs.declared.desk.Desk.{Desk}
 use Rattle.ct_live.specs.declared.workers.DeskWorker.{DeskWorker}
-
--- what a front's answers say of it
-abbrev pub FrontStep : LiveFront → FrontTask → List ℕ → LiveFront → Type 0
-FrontStep a t r b = FrontReplies a.front t r b.front
 
 -- a front that answered its tasks went on
 front_went_on : (a b : LiveFront) (ts : List (Numbered FrontTask)) (xs : List (List ℕ)) → AreAnswered FrontStep a ts xs b → FrontGoesOn a.front b.front
@@ -146,25 +141,3 @@ pub record Matching (fronts left : List FrontView) (tasks own : List (Consumer (
 pub when_ok : {T E : Type 0} (P : Type 0) (r : Result T E) → IsOk r → OnOk r P → P
 when_ok P (Ok x) is p = p
 when_ok P (Err e) is p = absurd (true≢false (sym is))
-
--- the operator is where it was
-pub beside_left : (was now : Option DeskWorker) (g h : Inlets) (before after : List FrontWorker) (rs ss : List (Consumer (Vec ℕ Global) Global AnyItems))
-    → ((o : DeskWorker) → was ≡ Some o → AreJoined g before o rs) → ((p : DeskWorker) → now ≡ Some p → (o : DeskWorker) × (was ≡ Some o) × DeskWorksSome o p)
-    → GivesOn g h → AllReplySome before after → SameConsumers rs ss → (p : DeskWorker) → now ≡ Some p
-    → AreBeside h (worker_tasks after) (worker_answers after) p ss
-beside_left was now g h before after rs ss own did given replied same p is =
-    let (o, at, works) = did p is in beside_kept g h before after o p rs ss (own o at).beside given replied works same
-
-pub house_left : (was now : Option DeskWorker) (g : Inlets) (before after : List FrontWorker) (rs : List (Consumer (Vec ℕ Global) Global AnyItems))
-    → ((o : DeskWorker) → was ≡ Some o → AreJoined g before o rs) → ((p : DeskWorker) → now ≡ Some p → (o : DeskWorker) × (was ≡ Some o) × DeskWorks o p)
-    → AllReply before after → (p : DeskWorker) → now ≡ Some p → AreFrontsOf p.desk.sequencer (worker_fronts after)
-house_left was now g before after rs own did replied p is =
-    let (o, at, works) = did p is in house_kept before after o p (own o at).fronts replied works
-
-pub gives_as : (a b c d : Inlets) → b ≡ a → d ≡ c → GivesOn b c → GivesOn a d
-gives_as a b c d e k on = subst (λ (i : Inlets). GivesOn a i) (sym k) (subst (λ (i : Inlets). GivesOn i c) e on)
-
-pub same_as : (a b c d : List (Consumer (Vec ℕ Global) Global AnyItems)) → b ≡ a → d ≡ c → SameConsumers b c → SameConsumers a d
-same_as a b c d e k same =
-    subst (λ (l : List (Consumer (Vec ℕ Global) Global AnyItems)). SameConsumers a l) (sym k)
-    (subst (λ (l : List (Consumer (Vec ℕ Global) Global AnyItems)). SameConsumers l c) e same)

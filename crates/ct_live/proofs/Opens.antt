@@ -1,8 +1,6 @@
 -- A live log, opened.
 use Rattle.std.proofs.Common.{◌≡◌, ◌<◌, ◌∙◌, ◌+◌, ℕ, List, [], ◌∷◌, ◌++◌, refl, sym, ap, subst, length, Vec, Global}
-use Rattle.std.specs.Prelude.{Some}
 use Rattle.std.proofs.lemmas.List.{length-map}
-use Rattle.std.proofs.lemmas.Option.{same_Some}
 use Rattle.rtrb.specs.Ring.{sent, received, IsPair}
 use Rattle.rtrb.specs.declared.AnyItems.{AnyItems}
 use Rattle.rtrb.specs.declared.consumer.Consumer.{Consumer}
@@ -42,14 +40,6 @@ joined_new n e workers o i tasks answers own_tasks own_answers fronts = record {
   };
   fronts = fronts;
 }
-
-pub joined_there : (n : ℕ) (e : Ends) (workers : List FrontWorker) (o : DeskWorker) → AreOpened n e → worker_tasks workers ≡ e.tasks.items
-    → worker_answers workers ≡ e.answers.items
-    → o.tasks ≡ e.desk_tasks → o.answers ≡ e.desk_answers → AreFrontsOf o.desk.sequencer (worker_fronts workers) → (p : DeskWorker) → Some o ≡ Some p
-    → AreJoined e.inlets workers p e.rings.items
-joined_there n e workers o i tasks answers own_tasks own_answers fronts p is =
-    subst (λ (q : DeskWorker). AreJoined e.inlets workers q e.rings.items) (same_Some o p is)
-    (joined_new n e workers o i tasks answers own_tasks own_answers fronts)
 
 -- as many rings as fronts
 pub as_many : {T : Type 0} (n k : ℕ) (ps : List (Producer T Global AnyItems)) (cs : List (Consumer T Global AnyItems))

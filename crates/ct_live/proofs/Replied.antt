@@ -1,10 +1,10 @@
 -- What the parties answered was written.
-use Rattle.std.proofs.Common.{◌≡◌, ◌∙◌, ℕ, suc, List, [], ◌∷◌, ◌++◌, append-nil, refl, sym, ap, subst, arith, length, Vec, Global, Option, Some, Result, Ok}
+use Rattle.std.proofs.Common.{◌≡◌, ◌∙◌, ℕ, suc, List, [], ◌∷◌, ◌++◌, append-nil, refl, sym, ap, subst, arith, length, Vec, Global, Option, Result, Ok}
 use Rattle.std.specs.Prelude.{All, IfOk}
 use Rattle.std.specs.Io.KnownBytes.{Appends}
 use Rattle.std.proofs.KnownBytes.{Appends-nil, Appends-trans}
 use Rattle.std.proofs.lemmas.List.Elements.{All-map}
-use Rattle.std.proofs.lemmas.Option.{get_or_from_slice_get, same_Some, slice_get_within}
+use Rattle.std.proofs.lemmas.Option.{get_or_from_slice_get, slice_get_within}
 use Rattle.rtrb.specs.Ring.{sent, received}
 use Rattle.rtrb.specs.declared.AnyItems.{AnyItems}
 use Rattle.rtrb.specs.declared.consumer.Consumer.{Consumer}
@@ -21,7 +21,7 @@ use Rattle.ct_live.specs.LiveLate.{IsServedLate, RepliesLate, RunsLate}
 use Rattle.ct_live.specs.LiveOpening.{AreOpened}
 use Rattle.ct_live.specs.LiveParties.{DeskReplies, FrontReplies}
 use Rattle.ct_live.specs.LiveReplied.{AllAnswer, IsMomentOf, IsServedLive, RepliesLive, Rings, RunsLive}
-use Rattle.ct_live.specs.LiveRuns.{FrontWorker, worker_fronts, worker_tasks, worker_answers, AllReply, DeskStep, DeskWorks}
+use Rattle.ct_live.specs.LiveRuns.{FrontWorker, worker_fronts, worker_tasks, worker_answers, AllReply, DeskStep, DeskWorks, FrontStep}
 use Rattle.ct_live.specs.LiveServed.{AreLinesOf, AreTasksOf, IsClosingText}
 use Rattle.ct_live.specs.declared.asking.DeskTask.{DeskTask}
 use Rattle.ct_live.specs.declared.desk.Desk.{Desk}
@@ -31,7 +31,6 @@ use Rattle.ct_live.specs.declared.giving.GiveFault.{GiveFault}
 use Rattle.ct_live.specs.declared.giving.Inlets.{Inlets}
 use Rattle.ct_live.specs.declared.live.Ends.{Ends}
 use Rattle.ct_live.specs.declared.workers.DeskWorker.{DeskWorker}
-use Rattle.ct_live.proofs.Joined.{FrontStep}
 use Rattle.ct_live.proofs.Tied.{EndsIn, none_given, nothing_in, tasks_of, text_in}
 
 abbrev pub Empty : {A : Type 0} → List A → Type 0
@@ -190,41 +189,37 @@ module _ (n close_at next : ℕ) (input : Option (List ℕ)) (e : Ends) (workers
         last = tie.last;
       }
 
-  pub replies_live : (new : Option (List ℕ)) → RunsLive close_at next input e.inlets workers e.rings.items (Some o) old new
+  pub replies_live : (new : Option (List ℕ)) → RunsLive close_at next input e.inlets workers e.rings.items o old new
       → RepliesLive n close_at next input o.desk.sequencer (worker_fronts workers) old new
   unfolding replies_all
-  replies_live new r = go r.operator (same_Some o r.operator r.was) r.operated
-    where
-      go : (p : DeskWorker) → o ≡ p → DeskWorks p r.operator_then → RepliesLive n close_at next input o.desk.sequencer (worker_fronts workers) old new
-      go p is worked =
-          let did : DeskWorks o r.operator_then = subst (λ (q : DeskWorker). DeskWorks q r.operator_then) (sym is) worked in
-          let closing = r.ended.closing in
-          let h = replies_all r.inlets_then r.read r.ended.end r.next_then r.input_then r.workers_then r.operator_then r.rings_then r.ended.rings r.mid
-          r.ended.mid closing.now (λ b. IsClosingText closing.left.log b closing.text) r.given r.ended.ended_so r.did did r.wrote r.ended.taken
-          r.ended.ordered r.ended.all r.ended.written closing.moment
-          (text_in closing.left.log r.ended.end r.next_then r.input_then closing.text closing.last) in
-          record {
-            front_tasks = h.front_tasks;
-            front_texts = h.front_texts;
-            fronts_then = worker_fronts r.workers_then;
-            answered = h.answered;
-            desk_tasks = h.desk_tasks;
-            desk_texts = h.desk_texts;
-            house_then = r.operator_then.desk.sequencer;
-            operated = h.operated;
-            now = closing.now;
-            lines = h.lines;
-            of_input = h.of_input;
-            behind = h.behind;
-            tied = h.tied;
-            left = closing.left;
-            closed = closing.closed;
-            order = h.order;
-            merge = h.merge;
-            text = closing.text;
-            last = h.last;
-            written = Appends-trans old r.ended.mid new _ closing.text h.written closing.written;
-          }
+  replies_live new r =
+      let closing = r.ended.closing in
+      let h = replies_all r.inlets_then r.read r.ended.end r.next_then r.input_then r.workers_then r.operator_then r.rings_then r.ended.rings r.mid
+      r.ended.mid closing.now (λ b. IsClosingText closing.left.log b closing.text) r.given r.ended.ended_so r.did r.operated r.wrote r.ended.taken
+      r.ended.ordered r.ended.all r.ended.written closing.moment
+      (text_in closing.left.log r.ended.end r.next_then r.input_then closing.text closing.last) in
+      record {
+        front_tasks = h.front_tasks;
+        front_texts = h.front_texts;
+        fronts_then = worker_fronts r.workers_then;
+        answered = h.answered;
+        desk_tasks = h.desk_tasks;
+        desk_texts = h.desk_texts;
+        house_then = r.operator_then.desk.sequencer;
+        operated = h.operated;
+        now = closing.now;
+        lines = h.lines;
+        of_input = h.of_input;
+        behind = h.behind;
+        tied = h.tied;
+        left = closing.left;
+        closed = closing.closed;
+        order = h.order;
+        merge = h.merge;
+        text = closing.text;
+        last = h.last;
+        written = Appends-trans old r.ended.mid new _ closing.text h.written closing.written;
+      }
 
   -- and where the clock refused the moment of the closing
   pub replies_late : (new : Option (List ℕ)) → RunsLate close_at next input e.inlets workers e.rings.items o old new
@@ -258,7 +253,7 @@ module _ (n close_at next : ℕ) (input : Option (List ℕ)) (e : Ends) (workers
 -- the same, of this house and these fronts
 pub replies_as : (n close_at next : ℕ) (input : Option (List ℕ)) (e : Ends) (workers : List FrontWorker) (o : DeskWorker) (house : HouseState)
     (fronts : List FrontView) (old new : Option (List ℕ))
-    → RunsLive close_at next input e.inlets workers e.rings.items (Some o) old new → AreOpened n e → worker_tasks workers ≡ e.tasks.items
+    → RunsLive close_at next input e.inlets workers e.rings.items o old new → AreOpened n e → worker_tasks workers ≡ e.tasks.items
     → worker_answers workers ≡ e.answers.items → o.answers ≡ e.desk_answers
     → o.tasks ≡ e.desk_tasks → o.desk.sequencer ≡ house → worker_fronts workers ≡ fronts → RepliesLive n close_at next input house fronts old new
 replies_as n close_at next input e workers o house fronts old new r i tasks answers own_answers own_tasks same all =

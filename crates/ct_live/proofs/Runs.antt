@@ -1,6 +1,6 @@
 -- What the threads and the end after them did, put together.
-use Rattle.std.proofs.Common.{◌≡◌, inl, inr, ℕ, List, [], refl, sym, subst, Option, Some, Result, Vec, Global}
-use Rattle.std.specs.Prelude.{Ok, Err, IfOk, IfErr, OnErr, OnOk}
+use Rattle.std.proofs.Common.{◌≡◌, inl, inr, ℕ, List, [], sym, subst, Option, Result, Vec, Global}
+use Rattle.std.specs.Prelude.{Ok, Err, IfOk, IfErr, OnOk}
 use Rattle.std.specs.Io.KnownBytes.{Appends}
 use Rattle.std.proofs.KnownBytes.{Appends-nil}
 use Rattle.rtrb.specs.declared.AnyItems.{AnyItems}
@@ -19,7 +19,7 @@ use Rattle.ct_live.specs.LiveBroken.{EndsBrokenOff, EndsClosing, EndsSome, HaveD
 use Rattle.ct_live.specs.LiveGiven.{ReadsOn}
 use Rattle.ct_live.specs.LiveLate.{EndsLate, RunsLate}
 use Rattle.ct_live.specs.LiveReplied.{EndsLive, Rings, RunsLive}
-use Rattle.ct_live.specs.LiveRuns.{FrontWorker, party_fronts, worker_fronts, worker_tasks, worker_answers, AllReply, AllReplySome}
+use Rattle.ct_live.specs.LiveRuns.{FrontWorker, party_fronts, worker_fronts, worker_tasks, worker_answers, AllReply, AllReplySome, FrontStep}
 use Rattle.ct_live.specs.LiveRuns.{AreBeside, DeskWorks, DeskWorksSome, WritesOut}
 use Rattle.ct_live.specs.declared.front.LiveFront.{LiveFront}
 use Rattle.ct_live.specs.declared.giving.End.{End}
@@ -27,7 +27,7 @@ use Rattle.ct_live.specs.declared.giving.GiveFault.{GiveFault}
 use Rattle.ct_live.specs.declared.giving.Inlets.{Inlets}
 use Rattle.ct_live.specs.declared.workers.DeskWorker.{DeskWorker}
 use Rattle.ct_live.proofs.Ended.{fronts_beside}
-use Rattle.ct_live.proofs.Joined.{FrontStep, when_ok}
+use Rattle.ct_live.proofs.Joined.{when_ok}
 
 runs_some : (n m : ℕ) (input left : Option (List ℕ)) (read : Result End GiveFault) (old new : Inlets) (before after : List FrontWorker) (o p : DeskWorker)
     (first rings : Rings) (r : Result Unit WriteFailed) (a b c : Option (List ℕ)) → ReadsOn n m input left read old new → AllReplySome before after
@@ -51,7 +51,7 @@ runs_live : (close_at n m : ℕ) (input left : Option (List ℕ)) (read : Result
     (first rings : Rings) (a b c : Option (List ℕ)) → ReadsOn n m input left read old new → AllReply before after
     → DeskWorks o p → WritesOn first rings a b
     → EndsLive new (worker_fronts after) (worker_tasks after) (worker_answers after) p close_at read m left rings b c
-    → RunsLive close_at n input old before first (Some o) a c
+    → RunsLive close_at n input old before first o a c
 runs_live close_at n m input left read old new before after o p first rings a b c given did worked wrote ended = record {
   inlets_then = new;
   read = read;
@@ -60,8 +60,6 @@ runs_live close_at n m input left read old new before after o p first rings a b 
   given = given;
   workers_then = after;
   did = did;
-  operator = o;
-  was = refl;
   operator_then = p;
   operated = worked;
   rings_then = rings;
@@ -74,7 +72,7 @@ runs_closing : (close_at n m : ℕ) (input left : Option (List ℕ)) (read : Res
     (o p : DeskWorker) (first rings : Rings) (a b c : Option (List ℕ)) → ReadsOn n m input left read old new → AllReply before after
     → DeskWorks o p → WritesOn first rings a b
     → EndsClosing new (worker_fronts after) (worker_tasks after) (worker_answers after) p close_at read m left rings b c
-    → RunsClosing close_at n input old before first (Some o) a c
+    → RunsClosing close_at n input old before first o a c
 unfolding runs_live
 runs_closing close_at n m input left read old new before after o p first rings a b c given did worked wrote (whole, ended, begun) =
     (whole, runs_live close_at n m input left read old new before after o p first rings a b whole given did worked wrote ended, begun)
@@ -95,7 +93,7 @@ pub ran : (close_at n m : ℕ) (input left : Option (List ℕ)) (read : Result E
     (a b c : Option (List ℕ)) → ReadsOn n m input left read old new → AreJoinedOf FrontStep before joined → DeskWorks o p
     → WritesOut first rings a b written → HaveDone written operated joined.fault
     → EndsLive new (party_fronts joined.parties.items) joined.tasks.items joined.answers.items p close_at read m left rings b c
-    → RunsLive close_at n input old before first (Some o) a c
+    → RunsLive close_at n input old before first o a c
 ran close_at n m input left read old new before joined o p first rings written operated a b c given j worked wrote done ended =
     runs_live close_at n m input left read old new before j.workers_then o p first rings a b c given (j.all done.fronts)
     worked (when_ok (WritesOn first rings a b) written done.writer wrote.written)
@@ -170,8 +168,6 @@ fronts_joined before joined house j is =
 unwritten : (a b : Option (List ℕ)) → b ≡ a → Appends a b []
 unwritten a b same = subst (λ (o : Option (List ℕ)). Appends a o []) (sym same) (Appends-nil a)
 
-pub nothing_ran : {U E : Type 0} (r : Result U E) (close_at next : ℕ) (input : Option (List ℕ)) (inlets : Inlets) (before : List FrontWorker) (rings : Rings)
-    (slot : Option DeskWorker) (a b : Option (List ℕ)) → b ≡ a
-    → OnErr r ((o : DeskWorker) → slot ≡ Some o → RunsBrokenOff close_at next input inlets before o rings a b)
-nothing_ran (Ok x) close_at next input inlets before rings slot a b same = tt
-nothing_ran (Err e) close_at next input inlets before rings slot a b same = λ o is. inl (unwritten a b same)
+pub nothing_ran : (close_at next : ℕ) (input : Option (List ℕ)) (inlets : Inlets) (before : List FrontWorker) (rings : Rings) (o : DeskWorker)
+    (a b : Option (List ℕ)) → b ≡ a → RunsBrokenOff close_at next input inlets before o rings a b
+nothing_ran close_at next input inlets before rings o a b same = inl (unwritten a b same)

@@ -1,5 +1,5 @@
 -- What a live log wrote that a fault broke off.
-use Rattle.std.specs.Prelude.{◌≡◌, ◌⊎◌, ℕ, List, [], ◌∷◌, ◌++◌, Option, Some, None, Result, Err, Vec, IsOk}
+use Rattle.std.specs.Prelude.{◌≡◌, ◌⊎◌, ℕ, List, [], ◌∷◌, ◌++◌, Option, None, Result, Err, Vec, IsOk}
 use Rattle.std.specs.Global.{Global}
 use Rattle.std.specs.Io.KnownBytes.{Appends}
 use mathlib.Core.List.{IsPrefix}
@@ -104,15 +104,15 @@ pub record RunsSome (next : ℕ) (input : Option (List ℕ)) (inlets : Inlets) (
   pub wrote : BeginsOn rings rings_then old new
 
 -- All did what they had to, and the log was closed; of what is written behind their answers then, a beginning was.
-abbrev pub RunsClosing : ℕ → ℕ → Option (List ℕ) → Inlets → List FrontWorker → Rings → Option DeskWorker → Option (List ℕ) → Option (List ℕ) → Type 0
-RunsClosing close_at next input inlets workers rings slot old new =
-    (whole : Option (List ℕ)) × (run : RunsLive close_at next input inlets workers rings slot old whole) × BeginsWhole run.ended.mid new whole
+abbrev pub RunsClosing : ℕ → ℕ → Option (List ℕ) → Inlets → List FrontWorker → Rings → DeskWorker → Option (List ℕ) → Option (List ℕ) → Type 0
+RunsClosing close_at next input inlets workers rings operator old new =
+    (whole : Option (List ℕ)) × (run : RunsLive close_at next input inlets workers rings operator old whole) × BeginsWhole run.ended.mid new whole
 
 -- What the threads and the end after them did where a fault broke it off: nothing was written, or a beginning.
 abbrev pub RunsBrokenOff : ℕ → ℕ → Option (List ℕ) → Inlets → List FrontWorker → DeskWorker → Rings → Option (List ℕ) → Option (List ℕ) → Type 0
 RunsBrokenOff close_at next input inlets workers operator rings old new =
     Appends old new [] ⊎ (RunsSome next input inlets workers operator rings old new
-    ⊎ RunsClosing close_at next input inlets workers rings (Some operator) old new)
+    ⊎ RunsClosing close_at next input inlets workers rings operator old new)
 
 -- ---- the end alone
 

@@ -91,7 +91,7 @@ pub record EndsLive (inlets : Inlets) (fronts : List FrontView) (tasks : List (C
 -- What the threads and the end after them do: tasks were given for the lines of the input, the fronts and the operator did theirs,
 -- answers were written as they came, and then the log ended.
 pub record RunsLive (close_at next : ℕ) (input : Option (List ℕ)) (inlets : Inlets) (workers : List FrontWorker) (rings : Rings)
-    (slot : Option DeskWorker) (old new : Option (List ℕ)) : Type 0 where
+    (operator : DeskWorker) (old new : Option (List ℕ)) : Type 0 where
   pub inlets_then : Inlets
   pub read : Result End GiveFault
   pub next_then : ℕ
@@ -99,8 +99,6 @@ pub record RunsLive (close_at next : ℕ) (input : Option (List ℕ)) (inlets : 
   pub given : ReadsOn next next_then input input_then read inlets inlets_then
   pub workers_then : List FrontWorker
   pub did : AllReply workers workers_then
-  pub operator : DeskWorker
-  pub was : slot ≡ Some operator
   pub operator_then : DeskWorker
   pub operated : DeskWorks operator operator_then
   pub rings_then : Rings

@@ -65,6 +65,10 @@ pub record GivesOn (a b : Inlets) : Type 0 where
 abbrev pub AllReply : List FrontWorker → List FrontWorker → Type 0
 AllReply before after = AllWork (λ (a : LiveFront) (t : FrontTask) (r : List ℕ) (b : LiveFront). FrontReplies a.front t r b.front) before after
 
+-- a front does one task, and replies to it
+abbrev pub FrontStep : LiveFront → FrontTask → List ℕ → LiveFront → Type 0
+FrontStep a t r b = FrontReplies a.front t r b.front
+
 -- the operator does one task, and replies to it
 abbrev pub DeskStep : Desk → DeskTask → List ℕ → Desk → Type 0
 DeskStep a t reply b = DeskReplies a.sequencer t reply b.sequencer

@@ -201,6 +201,20 @@ fn close_and_serve<H: Threads + Wait + Sync, B: BufRead + Drop, W: Write>(
     }
 }
 
+/// Gives the house up of an operator that did nothing.
+pub fn abandon<H: Wait>(rt: &H, alloc: Global, operator: DeskWorker) {
+    let DeskWorker {
+        desk,
+        tasks: _,
+        answers: _,
+    } = operator;
+    let Desk {
+        sequencer,
+        fronts: _,
+    } = desk;
+    sequencer.abandon(rt, Vec::new(alloc));
+}
+
 /// What comes once all threads have ended: what is left of the answers is written, the log is closed, and it replies to the
 /// lines that are left.
 ///

@@ -11,7 +11,7 @@
 //! - `front` is a front as a party of `ct_pipes`; `desk` is what the operator works with, and `operator` does its tasks in
 //!   turn, as a party does.
 //! - `giving` reads lines, and gives them out to the parties.
-//! - `threads` has the reader and the writer, each in a thread of its own, and the parties.
+//! - `threads` has the reader and the writer, each in a thread of its own, and the parties, and then ends the log.
 //! - `ending` is what comes once all threads have ended, and `workers` has the parties with the ends of their rings.
 //! - `closed` closes the log, and has it reply to the lines that are left.
 //! - `live` has `serve_live`.

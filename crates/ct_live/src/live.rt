@@ -14,7 +14,7 @@ use crate::asking::DeskTask;
 use crate::desk::Desk;
 use crate::front::LiveFront;
 use crate::giving::{Giver, Inlets};
-use crate::threads::{Out, Served, Start, run_threads};
+use crate::threads::{Out, Served, Start, run_live};
 use crate::workers::{DeskWorker, FrontWorker};
 use ct_house::{Front, Sequencer, open};
 use ct_lines::NumberedLines;
@@ -32,20 +32,6 @@ pub const TURNS: u64 = 50_000_000;
 
 // How many bytes are asked of the reader at a time.
 const CAPACITY: usize = 65_536;
-
-// Gives a house up.
-fn abandon<H: Wait>(rt: &H, alloc: Global, operator: DeskWorker) {
-    let DeskWorker {
-        desk,
-        tasks: _,
-        answers: _,
-    } = operator;
-    let Desk {
-        sequencer,
-        fronts: _,
-    } = desk;
-    sequencer.abandon(rt, Vec::new(alloc));
-}
 
 // Each front with the ends of its rings, in order.
 fn front_workers(
@@ -238,12 +224,7 @@ fn serve_house<H: Threads + Wait + Sync, B: BufRead + Drop + Send, W: Write + Dr
         workers,
         out: Out { rings, output },
     };
-    let mut slot = Some(operator);
-    let served = run_threads(rt, alloc, places, waiting, options, start, &mut slot);
-    if let Some(operator) = slot {
-        abandon(rt, alloc, operator);
-    }
-    served
+    run_live(rt, alloc, places, waiting, options, start, operator)
 }
 
 // What is told of a run that ended so. Where all were to end, that is what ended a read that waited, so it isn't told as the fault:

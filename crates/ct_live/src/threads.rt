@@ -1,15 +1,15 @@
 //! The threads: the reader, the writer, each front, and the operator in the thread that calls.
 
-ghost use Rattle.std.specs.Prelude.{◌≡◌, ◌<◌, length, Ok, Err, Some, IfOk, IfErr, OnOk, OnErr, vec_len, vec_capacity};
-ghost use Rattle.ct_parties.specs.Parties.{AreFrontsOf};
-ghost use Rattle.ct_live.specs.LiveBroken.{EndsBrokenOff, HaveDone, RunsBrokenOff};
-ghost use Rattle.ct_live.specs.LiveLate.{EndsLate, RunsLate};
+ghost use Rattle.std.specs.Prelude.{◌≡◌, ◌≢◌, ◌<◌, length, Ok, Err, Some, None, IfOk, IfErr, OnOk, OnErr, vec_len, vec_capacity};
+ghost use Rattle.ct_pipes.specs.Working.{AreJoinedOf};
+ghost use Rattle.ct_live.specs.LiveBroken.{RunsBrokenOff};
+ghost use Rattle.ct_live.specs.LiveLate.{RunsLate};
 ghost use Rattle.ct_live.specs.LiveGiven.{ReadsOn};
-ghost use Rattle.ct_live.specs.LiveReplied.{EndsLive, RunsLive};
-ghost use Rattle.ct_live.specs.LiveRuns.{AreBeside, AreJoined, DeskWorks, DeskWorksSome, WritesOut, party_fronts};
+ghost use Rattle.ct_live.specs.LiveReplied.{RunsLive};
+ghost use Rattle.ct_live.specs.LiveRuns.{AreJoined, DeskWorks, DeskWorksSome, FrontStep, WritesOut};
 ghost use Rattle.ct_live.specs.declared.workers.DeskWorker.{DeskWorker as DeskWorkerOf};
 
-use crate::ending::{Ended, Left, end_live};
+use crate::ending::{Ended, Left, abandon, end_live};
 use crate::giving::{End, GiveFault, Giver, give_out};
 use crate::operator::answer_desk;
 use crate::workers::{DeskWorker, FrontWorker};
@@ -186,27 +186,6 @@ fn operate<R: Threads + Wait + Sync>(
     result
 }
 
-// The same where the operator is.
-fn operate_in<R: Threads + Wait + Sync>(
-    rt: &R,
-    alloc: Global,
-    places: &Places,
-    waiting: &Waiting,
-    slot: &mut Option<DeskWorker>,
-) -> Result<(), PartyFault>
-    ensures all { OnOk result ((p : DeskWorkerOf) → slot.new ≡ Some p → (o : DeskWorkerOf) × (slot.old ≡ Some o) × DeskWorks o p) }
-    ensures some { (p : DeskWorkerOf) → slot.new ≡ Some p → (o : DeskWorkerOf) × (slot.old ≡ Some o) × DeskWorksSome o p }
-    ensures kept { (o : DeskWorkerOf) → slot.old ≡ Some o → (p : DeskWorkerOf) × (slot.new ≡ Some p) × DeskWorksSome o p }
-{
-    match slot {
-        Some(worker) => operate(rt, alloc, places, waiting, worker),
-        None => {
-            places.stop();
-            Err(PartyFault::Stopped)
-        }
-    }
-}
-
 /// What is there before the threads are started, beside the operator.
 #[derive(Drop)]
 pub struct Start<B: BufRead + Drop, W: Write + Drop> {
@@ -222,14 +201,30 @@ pub struct Served<W: Write + Drop> {
     pub result: Result<(), Fault>,
 }
 
-// What is left where the threads weren't all started: nothing was written.
-fn not_started<W: Write + Drop>(out: Out<W>, fault: Fault) -> Served<W>
-    ensures { (result.result ≡ Err fault) × (W.contents result.output ≡ W.contents out.output) }
+/// What is there once all threads have ended.
+pub struct Ran<B: BufRead + Drop, W: Write + Drop> {
+    /// The operator with the ends of its rings.
+    pub operator: DeskWorker,
+    /// Where the answers come out, and where they are written.
+    pub out: Out<W>,
+    /// What the threads leave; or why they weren't all started.
+    pub left: Result<Left<B>, Fault>,
+}
+
+// What is there where the threads weren't all started: the operator did nothing, and nothing was written.
+fn not_started<B: BufRead + Drop, W: Write + Drop>(
+    operator: DeskWorker,
+    out: Out<W>,
+    fault: Fault,
+) -> Ran<B, W>
+    ensures operator { result.operator ≡ operator }
+    ensures none { W.contents result.out.output ≡ W.contents out.output }
+    ensures fault { result.left ≡ Err fault }
 {
-    let Out { rings: _, output } = out;
-    Served {
-        output,
-        result: Err(fault),
+    Ran {
+        operator,
+        out,
+        left: Err(fault),
     }
 }
 
@@ -248,39 +243,7 @@ fn join_writer<R: Threads, W: Write + Drop + Send>(
     }
 }
 
-// What comes once all threads have ended, with the operator that is there.
-fn end_in<R: Threads + Wait + Sync, B: BufRead + Drop, W: Write>(
-    rt: &R,
-    alloc: Global,
-    slot: &mut Option<DeskWorker>,
-    left: Left<B>,
-    rings: &mut [Consumer<Vec<u8>>],
-    close_at: u64,
-    output: &mut W,
-) -> Result<(), Fault>
-    requires room { vec_len left.fronts.answers < vec_capacity left.fronts.answers }
-    requires beside { (o : DeskWorkerOf) → slot.old ≡ Some o
-        → AreBeside left.giver.inlets left.fronts.tasks.items left.fronts.answers.items o rings.old }
-    requires fronts { HaveDone left.written left.operated left.fronts.fault → (o : DeskWorkerOf) → slot.old ≡ Some o
-        → AreFrontsOf o.desk.sequencer (party_fronts left.fronts.parties.items) }
-    ensures ended { OnOk result ((o : DeskWorkerOf) × (slot.old ≡ Some o) × HaveDone left.written left.operated left.fronts.fault
-        × EndsLive left.giver.inlets (party_fronts left.fronts.parties.items) left.fronts.tasks.items left.fronts.answers.items o close_at left.end
-        left.giver.lines.next (B.remaining left.giver.lines.input) rings.old (W.contents output.old) (W.contents output.new)) }
-    ensures broken { OnErr result ((o : DeskWorkerOf) → slot.old ≡ Some o
-        → EndsBrokenOff left.giver.inlets (party_fronts left.fronts.parties.items) left.fronts.tasks.items left.fronts.answers.items o left.written
-        left.operated left.fronts.fault close_at left.end left.giver.lines.next (B.remaining left.giver.lines.input) rings.old
-        (W.contents output.old) (W.contents output.new)) }
-    ensures late { IfErr result (λ f. f ≡ Fault.ClockBack → (o : DeskWorkerOf) → slot.old ≡ Some o
-        → HaveDone left.written left.operated left.fronts.fault × EndsLate left.giver.inlets left.fronts.tasks.items left.fronts.answers.items o close_at
-        left.end rings.old (W.contents output.old) (W.contents output.new)) }
-{
-    match slot.take() {
-        Some(operator) => end_live(rt, alloc, operator, left, rings, close_at, output),
-        None => Err(Fault::Threads),
-    }
-}
-
-// Starts the threads, has the operator do its tasks here, joins them all, and ends the log.
+// Starts the threads, has the operator do its tasks here, and joins them all.
 fn run_in<
     'e: 's,
     's,
@@ -293,51 +256,48 @@ fn run_in<
     scope: &'s Scope<'s, &'e ()>,
     places: &'e Places,
     waiting: &'e Waiting,
-    options: Options,
+    count: u16,
     start: Start<B, W>,
-    slot: &mut Option<DeskWorker>,
-) -> Served<W>
-    requires count { length start.giver.inlets.fronts.items ≡ options.fronts }
-    requires workers { length start.workers.items ≡ options.fronts }
-    requires joined { (o : DeskWorkerOf) → slot.old ≡ Some o → AreJoined start.giver.inlets start.workers.items o start.out.rings.items }
-    ensures ran { OnOk result.result (RunsLive options.close_at start.giver.lines.next (B.remaining start.giver.lines.input) start.giver.inlets
-        start.workers.items start.out.rings.items slot.old (W.contents start.out.output) (W.contents result.output)) }
-    ensures broken { OnErr result.result ((o : DeskWorkerOf) → slot.old ≡ Some o → RunsBrokenOff options.close_at start.giver.lines.next
-        (B.remaining start.giver.lines.input) start.giver.inlets start.workers.items o start.out.rings.items (W.contents start.out.output)
-        (W.contents result.output)) }
-    ensures late { IfErr result.result (λ f. f ≡ Fault.ClockBack → (o : DeskWorkerOf) → slot.old ≡ Some o → RunsLate options.close_at
-        start.giver.lines.next (B.remaining start.giver.lines.input) start.giver.inlets start.workers.items start.out.rings.items o
-        (W.contents start.out.output) (W.contents result.output)) }
+    mut operator: DeskWorker,
+) -> Ran<B, W>
+    requires count { length start.giver.inlets.fronts.items ≡ count }
+    requires workers { length start.workers.items ≡ count }
+    ensures none { OnErr result.left (W.contents result.out.output ≡ W.contents start.out.output) }
+    ensures faults { IfErr result.left (λ f. f ≢ Fault.ClockBack) }
+    ensures given { IfOk result.left (λ l. ReadsOn start.giver.lines.next l.giver.lines.next (B.remaining start.giver.lines.input)
+        (B.remaining l.giver.lines.input) l.end start.giver.inlets l.giver.inlets) }
+    ensures fronts { IfOk result.left (λ l. AreJoinedOf FrontStep start.workers.items l.fronts) }
+    ensures room { IfOk result.left (λ l. vec_len l.fronts.answers < vec_capacity l.fronts.answers) }
+    ensures operated { IfOk result.left (λ l. OnOk l.operated (DeskWorks operator result.operator)) }
+    ensures operated_some { OnOk result.left (DeskWorksSome operator result.operator) }
+    ensures written { IfOk result.left (λ l. WritesOut start.out.rings.items result.out.rings.items (W.contents start.out.output)
+        (W.contents result.out.output) l.written) }
 {
     let Start {
         giver,
         workers,
         out,
     } = start;
-    let room = match Joined::with_room(alloc, options.fronts) {
+    let room = match Joined::with_room(alloc, count) {
         Ok(room) => room,
-        Err(error) => return not_started(out, Fault::from(error)),
+        Err(error) => return not_started(operator, out, Fault::from(error)),
     };
     let threads = match start_workers(rt, alloc, scope, places, waiting, workers) {
         Ok(threads) => threads,
-        Err(fault) => return not_started(out, Ended::from(fault).fault),
+        Err(fault) => return not_started(operator, out, Ended::from(fault).fault),
     };
-    let reader = match start_reader(rt, alloc, scope, places, options.fronts, giver) {
+    let reader = match start_reader(rt, alloc, scope, places, count, giver) {
         Ok(reader) => reader,
-        Err(fault) => return not_started(out, fault),
+        Err(fault) => return not_started(operator, out, fault),
     };
     let writer = start_writer(rt, scope, places, out);
-    let operated = operate_in(rt, alloc, places, waiting, slot);
+    let operated = operate(rt, alloc, places, waiting, &mut operator);
     let fronts = join_workers(rt, threads, room);
     let Reading { giver, end } = reader.join(rt);
     let Writing {
         out,
         result: written,
     } = join_writer(rt, writer);
-    let Out {
-        mut rings,
-        mut output,
-    } = out;
     let left = Left {
         giver,
         end,
@@ -345,49 +305,108 @@ fn run_in<
         written,
         operated,
     };
-    let close_at = options.close_at;
-    let result = end_in(rt, alloc, slot, left, &mut rings, close_at, &mut output);
-    Served { output, result }
+    Ran {
+        operator,
+        out,
+        left: Ok(left),
+    }
 }
 
-/// Has the parties serve the lines, each in a thread of its own, and ends the log. The operator is taken where all threads were
-/// started.
-pub fn run_threads<R: Threads + Wait + Sync, B: BufRead + Drop + Send, W: Write + Drop + Send>(
+// The same, with a scope for the threads, behind which all of them have ended. What the scope's part holds has to be `Drop`, which
+// the operator isn't: so that part takes it out of a place beside the scope.
+fn run_threads<R: Threads + Wait + Sync, B: BufRead + Drop + Send, W: Write + Drop + Send>(
+    rt: &R,
+    alloc: Global,
+    places: &Places,
+    waiting: &Waiting,
+    count: u16,
+    start: Start<B, W>,
+    operator: DeskWorker,
+) -> Ran<B, W>
+    requires count { length start.giver.inlets.fronts.items ≡ count }
+    requires workers { length start.workers.items ≡ count }
+    ensures none { OnErr result.left (W.contents result.out.output ≡ W.contents start.out.output) }
+    ensures faults { IfErr result.left (λ f. f ≢ Fault.ClockBack) }
+    ensures given { IfOk result.left (λ l. ReadsOn start.giver.lines.next l.giver.lines.next (B.remaining start.giver.lines.input)
+        (B.remaining l.giver.lines.input) l.end start.giver.inlets l.giver.inlets) }
+    ensures fronts { IfOk result.left (λ l. AreJoinedOf FrontStep start.workers.items l.fronts) }
+    ensures room { IfOk result.left (λ l. vec_len l.fronts.answers < vec_capacity l.fronts.answers) }
+    ensures operated { IfOk result.left (λ l. OnOk l.operated (DeskWorks operator result.operator)) }
+    ensures operated_some { OnOk result.left (DeskWorksSome operator result.operator) }
+    ensures written { IfOk result.left (λ l. WritesOut start.out.rings.items result.out.rings.items (W.contents start.out.output)
+        (W.contents result.out.output) l.written) }
+{
+    let mut slot = Some(operator);
+    let taken = &mut slot;
+    let ran = thread::scope(
+        thread::scope_env(),
+        rt,
+        move |scope| -> Ran<B, W>
+            requires count { length start.giver.inlets.fronts.items ≡ count }
+            requires workers { length start.workers.items ≡ count }
+            requires slot { taken.now ≢ None }
+            ensures none { OnErr result.left (W.contents result.out.output ≡ W.contents start.out.output) }
+            ensures faults { IfErr result.left (λ f. f ≢ Fault.ClockBack) }
+            ensures given { IfOk result.left (λ l. ReadsOn start.giver.lines.next l.giver.lines.next (B.remaining start.giver.lines.input)
+                (B.remaining l.giver.lines.input) l.end start.giver.inlets l.giver.inlets) }
+            ensures fronts { IfOk result.left (λ l. AreJoinedOf FrontStep start.workers.items l.fronts) }
+            ensures room { IfOk result.left (λ l. vec_len l.fronts.answers < vec_capacity l.fronts.answers) }
+            ensures operated { IfOk result.left (λ l. OnOk l.operated ((o : DeskWorkerOf) → taken.entry.now ≡ Some o → DeskWorks o result.operator)) }
+            ensures operated_some { OnOk result.left ((o : DeskWorkerOf) → taken.entry.now ≡ Some o → DeskWorksSome o result.operator) }
+            ensures written { IfOk result.left (λ l. WritesOut start.out.rings.items result.out.rings.items (W.contents start.out.output)
+                (W.contents result.out.output) l.written) }
+        {
+            let Some(operator) = taken.take() else {
+                unreachable!()
+            };
+            run_in(rt, alloc, scope, places, waiting, count, start, operator)
+        },
+    );
+    if let Some(operator) = slot {
+        abandon(rt, alloc, operator);
+    }
+    ran
+}
+
+/// Has the parties serve the lines, each in a thread of its own, and ends the log once all threads have ended. Where they weren't all
+/// started, the house is given up.
+pub fn run_live<R: Threads + Wait + Sync, B: BufRead + Drop + Send, W: Write + Drop + Send>(
     rt: &R,
     alloc: Global,
     places: &Places,
     waiting: &Waiting,
     options: Options,
     start: Start<B, W>,
-    slot: &mut Option<DeskWorker>,
+    operator: DeskWorker,
 ) -> Served<W>
     requires count { length start.giver.inlets.fronts.items ≡ options.fronts }
     requires workers { length start.workers.items ≡ options.fronts }
-    requires joined { (o : DeskWorkerOf) → slot.old ≡ Some o → AreJoined start.giver.inlets start.workers.items o start.out.rings.items }
+    requires joined { AreJoined start.giver.inlets start.workers.items operator start.out.rings.items }
     ensures ran { OnOk result.result (RunsLive options.close_at start.giver.lines.next (B.remaining start.giver.lines.input) start.giver.inlets
-        start.workers.items start.out.rings.items slot.old (W.contents start.out.output) (W.contents result.output)) }
-    ensures broken { OnErr result.result ((o : DeskWorkerOf) → slot.old ≡ Some o → RunsBrokenOff options.close_at start.giver.lines.next
-        (B.remaining start.giver.lines.input) start.giver.inlets start.workers.items o start.out.rings.items (W.contents start.out.output)
-        (W.contents result.output)) }
-    ensures late { IfErr result.result (λ f. f ≡ Fault.ClockBack → (o : DeskWorkerOf) → slot.old ≡ Some o → RunsLate options.close_at
-        start.giver.lines.next (B.remaining start.giver.lines.input) start.giver.inlets start.workers.items start.out.rings.items o
+        start.workers.items start.out.rings.items operator (W.contents start.out.output) (W.contents result.output)) }
+    ensures broken { OnErr result.result (RunsBrokenOff options.close_at start.giver.lines.next (B.remaining start.giver.lines.input)
+        start.giver.inlets start.workers.items operator start.out.rings.items (W.contents start.out.output) (W.contents result.output)) }
+    ensures late { IfErr result.result (λ f. f ≡ Fault.ClockBack → RunsLate options.close_at start.giver.lines.next
+        (B.remaining start.giver.lines.input) start.giver.inlets start.workers.items start.out.rings.items operator
         (W.contents start.out.output) (W.contents result.output)) }
 {
-    thread::scope(
-        thread::scope_env(),
-        rt,
-        move |scope| -> Served<W>
-            requires count { length start.giver.inlets.fronts.items ≡ options.fronts }
-            requires workers { length start.workers.items ≡ options.fronts }
-            requires joined { (o : DeskWorkerOf) → slot.now ≡ Some o → AreJoined start.giver.inlets start.workers.items o start.out.rings.items }
-            ensures ran { OnOk result.result (RunsLive options.close_at start.giver.lines.next (B.remaining start.giver.lines.input) start.giver.inlets
-                start.workers.items start.out.rings.items slot.entry.now (W.contents start.out.output) (W.contents result.output)) }
-            ensures broken { OnErr result.result ((o : DeskWorkerOf) → slot.entry.now ≡ Some o → RunsBrokenOff options.close_at start.giver.lines.next
-                (B.remaining start.giver.lines.input) start.giver.inlets start.workers.items o start.out.rings.items (W.contents start.out.output)
-                (W.contents result.output)) }
-            ensures late { IfErr result.result (λ f. f ≡ Fault.ClockBack → (o : DeskWorkerOf) → slot.entry.now ≡ Some o → RunsLate options.close_at
-                start.giver.lines.next (B.remaining start.giver.lines.input) start.giver.inlets start.workers.items start.out.rings.items o
-                (W.contents start.out.output) (W.contents result.output)) }
-        { run_in(rt, alloc, scope, places, waiting, options, start, slot) },
-    )
+    let ran = run_threads(rt, alloc, places, waiting, options.fronts, start, operator);
+    let Ran {
+        operator,
+        out,
+        left,
+    } = ran;
+    let Out {
+        mut rings,
+        mut output,
+    } = out;
+    let close_at = options.close_at;
+    let result = match left {
+        Ok(left) => end_live(rt, alloc, operator, left, &mut rings, close_at, &mut output),
+        Err(fault) => {
+            abandon(rt, alloc, operator);
+            Err(fault)
+        }
+    };
+    Served { output, result }
 }

@@ -10,50 +10,29 @@ pub front_workers-requires-clause-tasks : goal.front_workers-requires-clause-tas
 front_workers-requires-clause-tasks g c =
     as_many c.args.options.fronts _ c.args.ends.inlets.fronts.items c.args.ends.tasks.items c.requires.ends.tasks c.requires.count
 
-pub returns-in-Some-clause-replied : goal.returns-in-Some-clause-replied
-returns-in-Some-clause-replied g c =
-    on_ok_weaker c.run_threads-served.result.result
-    (λ r. replies_as c.args.options.fronts c.args.options.close_at c.args.lines.next (g.B.Read.remaining c.args.lines.input) c.args.ends c.in-Ok.workers.items _ c.args.sequencer c.args.fronts.items (g.W.Write.contents c.args.output)
-    (g.W.Write.contents c.run_threads-served.result.output) r c.requires.ends c.in-Ok.ensures.tasks c.in-Ok.ensures.answers refl refl refl
-    c.in-Ok.ensures.fronts) c.run_threads-served.ensures.ran
-
-pub returns-in_default-clause-replied : goal.returns-in_default-clause-replied
-returns-in_default-clause-replied g c =
-    on_ok_weaker c.run_threads-served.result.result
-    (λ r. replies_as c.args.options.fronts c.args.options.close_at c.args.lines.next (g.B.Read.remaining c.args.lines.input) c.args.ends c.in-Ok.workers.items _ c.args.sequencer c.args.fronts.items (g.W.Write.contents c.args.output)
-    (g.W.Write.contents c.run_threads-served.result.output) r c.requires.ends c.in-Ok.ensures.tasks c.in-Ok.ensures.answers refl refl refl
-    c.in-Ok.ensures.fronts) c.run_threads-served.ensures.ran
-
-pub returns-in-Some-clause-broken : goal.returns-in-Some-clause-broken
-returns-in-Some-clause-broken g c =
-    on_err_weaker c.run_threads-served.result.result
-    (λ r. broken_off_as c.args.options.fronts c.args.options.close_at c.args.lines.next (g.B.Read.remaining c.args.lines.input) c.args.ends c.in-Ok.workers.items _
-    c.args.sequencer c.args.fronts.items (g.W.Write.contents c.args.output) (g.W.Write.contents c.run_threads-served.result.output) (r _ refl) c.requires.ends
-    c.in-Ok.ensures.tasks c.in-Ok.ensures.answers refl refl refl c.in-Ok.ensures.fronts) c.run_threads-served.ensures.broken
-
-pub returns-in_default-clause-broken : goal.returns-in_default-clause-broken
-returns-in_default-clause-broken g c =
-    on_err_weaker c.run_threads-served.result.result
-    (λ r. broken_off_as c.args.options.fronts c.args.options.close_at c.args.lines.next (g.B.Read.remaining c.args.lines.input) c.args.ends c.in-Ok.workers.items _
-    c.args.sequencer c.args.fronts.items (g.W.Write.contents c.args.output) (g.W.Write.contents c.run_threads-served.result.output) (r _ refl) c.requires.ends
-    c.in-Ok.ensures.tasks c.in-Ok.ensures.answers refl refl refl c.in-Ok.ensures.fronts) c.run_threads-served.ensures.broken
-
-pub run_threads-served-requires-clause-workers : goal.run_threads-served-requires-clause-workers
-run_threads-served-requires-clause-workers g c κs within = as_many_workers c.in-Ok.workers.items c.args.fronts.items c.args.options.fronts c.in-Ok.ensures.fronts c.requires.count
+pub run_live-requires-clause-workers : goal.run_live-requires-clause-workers
+run_live-requires-clause-workers g c κs within = as_many_workers c.in-Ok.workers.items c.args.fronts.items c.args.options.fronts c.in-Ok.ensures.fronts c.requires.count
 
 pub returns-in-Err-clause-broken : goal.returns-in-Err-clause-broken
 returns-in-Err-clause-broken g c = inl (Appends-nil (g.W.Write.contents c.args.output))
 
-pub returns-in-Some-clause-late : goal.returns-in-Some-clause-late
-returns-in-Some-clause-late g c =
-    IfErr-weaker c.run_threads-served.result.result _ _
-    (λ f late is. replies_late_as c.args.options.fronts c.args.options.close_at c.args.lines.next (g.B.Read.remaining c.args.lines.input) c.args.ends c.in-Ok.workers.items _
-    c.args.sequencer c.args.fronts.items (g.W.Write.contents c.args.output) (g.W.Write.contents c.run_threads-served.result.output) (late is _ refl)
-    c.requires.ends c.in-Ok.ensures.tasks c.in-Ok.ensures.answers refl refl refl c.in-Ok.ensures.fronts) c.run_threads-served.ensures.late
+pub returns-clause-replied : goal.returns-clause-replied
+returns-clause-replied g c =
+    on_ok_weaker c.run_live.result.result
+    (λ r. replies_as c.args.options.fronts c.args.options.close_at c.args.lines.next (g.B.Read.remaining c.args.lines.input) c.args.ends c.in-Ok.workers.items _
+    c.args.sequencer c.args.fronts.items (g.W.Write.contents c.args.output) (g.W.Write.contents c.run_live.result.output) r c.requires.ends
+    c.in-Ok.ensures.tasks c.in-Ok.ensures.answers refl refl refl c.in-Ok.ensures.fronts) c.run_live.ensures.ran
 
-pub returns-in_default-clause-late : goal.returns-in_default-clause-late
-returns-in_default-clause-late g c =
-    IfErr-weaker c.run_threads-served.result.result _ _
-    (λ f late is. replies_late_as c.args.options.fronts c.args.options.close_at c.args.lines.next (g.B.Read.remaining c.args.lines.input) c.args.ends c.in-Ok.workers.items _
-    c.args.sequencer c.args.fronts.items (g.W.Write.contents c.args.output) (g.W.Write.contents c.run_threads-served.result.output) (late is _ refl)
-    c.requires.ends c.in-Ok.ensures.tasks c.in-Ok.ensures.answers refl refl refl c.in-Ok.ensures.fronts) c.run_threads-served.ensures.late
+pub returns-clause-broken : goal.returns-clause-broken
+returns-clause-broken g c =
+    on_err_weaker c.run_live.result.result
+    (λ r. broken_off_as c.args.options.fronts c.args.options.close_at c.args.lines.next (g.B.Read.remaining c.args.lines.input) c.args.ends c.in-Ok.workers.items _
+    c.args.sequencer c.args.fronts.items (g.W.Write.contents c.args.output) (g.W.Write.contents c.run_live.result.output) r c.requires.ends
+    c.in-Ok.ensures.tasks c.in-Ok.ensures.answers refl refl refl c.in-Ok.ensures.fronts) c.run_live.ensures.broken
+
+pub returns-clause-late : goal.returns-clause-late
+returns-clause-late g c =
+    IfErr-weaker c.run_live.result.result _ _
+    (λ f late is. replies_late_as c.args.options.fronts c.args.options.close_at c.args.lines.next (g.B.Read.remaining c.args.lines.input) c.args.ends
+    c.in-Ok.workers.items _ c.args.sequencer c.args.fronts.items (g.W.Write.contents c.args.output) (g.W.Write.contents c.run_live.result.output) (late is)
+    c.requires.ends c.in-Ok.ensures.tasks c.in-Ok.ensures.answers refl refl refl c.in-Ok.ensures.fronts) c.run_live.ensures.late
