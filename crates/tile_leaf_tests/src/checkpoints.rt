@@ -53,7 +53,7 @@ const REFUSED: [(&str, CheckpointFault); 8] = [
 
 #[test]
 fn other_texts_are_refused(rt: HostRuntime) {
-    for (text, fault) in REFUSED {
-        assert!(rt; fault_of(rt.alloc(), text) == Some(fault));
+    for (text, fault) in &REFUSED {
+        assert!(rt; fault_of(rt.alloc(), text) == Some(*fault));
     }
 }

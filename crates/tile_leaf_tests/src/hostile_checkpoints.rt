@@ -105,8 +105,8 @@ fn fault_of_size(alloc: Global, size: &str) -> Result<Option<CheckpointFault>, A
 
 #[test]
 fn only_numbers_as_they_are_written_are_sizes(rt: HostRuntime) {
-    for (size, fault) in SIZES {
-        assert!(rt; fault_of_size(rt.alloc(), size) == Ok(fault));
+    for (size, fault) in &SIZES {
+        assert!(rt; fault_of_size(rt.alloc(), size) == Ok(*fault));
     }
 }
 
@@ -142,7 +142,7 @@ fn fault_of_root(alloc: Global, root: &str) -> Result<Option<CheckpointFault>, A
 
 #[test]
 fn only_base64_with_its_padding_and_a_line_end_is_a_root(rt: HostRuntime) {
-    for root in ROOTS {
+    for root in &ROOTS {
         assert!(rt; fault_of_root(rt.alloc(), root) == Ok(Some(CheckpointFault::BadRoot)));
     }
 }

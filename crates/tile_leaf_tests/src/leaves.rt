@@ -38,8 +38,8 @@ const PRECERTIFICATE: [u8; 130] = [
 
 fn chain(alloc: Global, first: u8) -> Result<Vec<Vec<u8>>, Refusal> {
     let mut chain = Vec::new(alloc);
-    for last in [first, 0x49, 0x52] {
-        chain.push(Vec::from_slice(alloc, &[0x30, 1, last])?)?;
+    for last in &[first, 0x49, 0x52] {
+        chain.push(Vec::from_slice(alloc, &[0x30, 1, *last])?)?;
     }
     Ok(chain)
 }
