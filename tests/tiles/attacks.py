@@ -106,6 +106,29 @@ def both(chance, judge, request):
     yield "entries", {**request, "state": data, **early}
 
 
+def claims(chance, asked, others, older):
+    """Claims that aren't true, made of one that is. The others are entries with another identity."""
+    place, path, line = asked["claim"], [base64.b64decode(sibling) for sibling in asked["path"]], asked["state"]
+    index, moment = place["leaf_index"], place["timestamp"]
+    for other in {index + 1, index - 1, index % 256, index + MOST, (1 << 64) - 1, 1 << chance.randrange(64)} - {index}:
+        if 0 <= other < 1 << 64:
+            yield {**asked, "claim": {**place, "leaf_index": other}}
+    for other in {moment + 1, moment - 1, moment ^ 1 << chance.randrange(64)}:
+        if 0 <= other < 1 << 64:
+            yield {**asked, "claim": {**place, "timestamp": other}}
+    longer = [*path, chance.randbytes(32)]
+    at = chance.randrange(len(path)) if path else 0
+    shorter = [path[:-1], path[1:], [*path[:at], bent(chance, path[at]), *path[at + 1 :]], [], [*path, path[-1]]] if path else []
+    for other in [longer, *shorter]:
+        yield {**asked, "path": list(map(text, other))}
+    for other in others:
+        yield {**asked, "submission": other}
+    yield {**asked, "state": with_bent(chance, line, "root")}
+    for old in older:
+        if bytes.fromhex(old[7:])[16:48] != bytes.fromhex(line[7:])[16:48]:
+            yield {**asked, "state": old}
+
+
 def refused(chance, judge, request, reply, older):
     """Requests, and the name with which each has to be refused. The request is one that isn't, the reply that of the step before it."""
     for edge in edges(chance, judge, request):
@@ -117,6 +140,8 @@ def refused(chance, judge, request, reply, older):
         if name == "bad-state":
             yield name, {"needs": line}
             yield name, {"bundle": reply["bundle"], "resume": line}
+            leaf = {"leaf_certificate": "AA=="}
+            yield name, {"claim": {"leaf_index": 0, "timestamp": judge.moment}, "path": [], "state": line, "submission": leaf}
     for bundle, line in bundles(chance, judge, reply, older):
         yield "bundle", {"bundle": text(bundle), "resume": line}
     yield from both(chance, judge, request)
@@ -160,6 +185,20 @@ def no_requests():
     yield {**asked, "batch": [{**before, "issuer_key_hash": text(bytes(31))}]}
     yield from ([], 5, None, "growth", {}, {"needs": 5}, {"needs": [line]}, {"bundle": "", "resume": 5}, {"bundle": "A", "resume": line}, {"bundle": ""})
     yield from ({"resume": line}, {"state": line}, {"batch": []})
+    claimed = {"claim": {"leaf_index": 0, "timestamp": 5}, "path": [chain], "state": line, "submission": before}
+    for key in claimed:
+        yield {other: claimed[other] for other in claimed if other != key}
+        yield {**claimed, key: None}
+    for key in ("leaf_index", "timestamp"):
+        for number in (-1, 1 << 64, 5.0, "5"):
+            yield {**claimed, "claim": {**claimed["claim"], key: number}}
+        yield {**claimed, "claim": {key: 0}}
+    for path in ("", {}, [""], [text(bytes(31))], [text(bytes(33))], [[]], [chain, 5]):
+        yield {**claimed, "path": path}
+    for key in set(before) - {"chain"}:
+        yield {**claimed, "submission": {other: before[other] for other in before if other != key}}
+        yield {**claimed, "submission": {**before, key: ""}}
+    yield {**claimed, "submission": [before]}
 
 
 NO_REQUESTS = [json.dumps(value).encode() for value in no_requests()] + [

@@ -4,8 +4,8 @@ judged from the leaves by judge.py.
 
     histories.py [--histories 20] [--seed 1] [--lengths] [PROGRAM WORD ..]
 
-Some histories begin without leaves, others behind a made-up edge of any size, up to the largest. Between the steps stand attacks: bent, cut
-and exchanged tiles and bundles, older lines, lines with other digests or sizes, moments before the last, a log that is full, two of these at
+Some histories begin without leaves, others behind a made-up edge of any size, up to the largest. Between the steps stand claims about entries
+that are there, each with its audit path, and attacks: claims that aren't true, bent, cut and exchanged tiles and bundles, older lines, lines with other digests or sizes, moments before the last, a log that is full, two of these at
 once, and lines that are no request; with --lengths lines and certificates of the largest length, too. The program is started with and
 without --origin, and has to hand on each reply before it is given the next line. Without PROGRAM step.py itself is judged. It prints one
 line, and ends with status 1 at the first thing that isn't so.
@@ -103,6 +103,11 @@ def submission(chance):
     return {**made, "issuer_key_hash": text(chance.randbytes(32)), "pre_certificate": certificate(), "tbs_certificate": certificate()}
 
 
+def identity(entry):
+    """What tells a submission from others: all but the chain and the precertificate, which belongs to it."""
+    return {key: value for key, value in entry.items() if key not in ("chain", "pre_certificate")}
+
+
 def line_of(chance, value):
     """An object as a line: its keys in any order, with blanks or without, sometimes with a key that isn't named."""
     pairs = list(value.items()) + ([("more", [1.5, {"state": None}, "\u00e9"])] if chance.random() < 0.1 else [])
@@ -130,6 +135,8 @@ class History:
 
     def __init__(self, chance, pair, origin):
         self.chance, self.pair, self.store, self.before = chance, pair, {}, []
+        # The entries that the steps took in: index, moment and submission.
+        self.entries = []
         moment = chance.choice([0, 1, 1_700_000_000_000, chance.getrandbits(60)])
         if chance.random() < 0.6:
             self.judge = Judge(self.ask({"begin": moment})["state"], 0, moment, origin=origin)
@@ -168,12 +175,30 @@ class History:
         self.before.append((self.judge.copy(), request))
         reply = self.ask(request)
         hold("refused" not in reply, "a step is refused:", reply)
+        self.entries += [(index, request["now"], entry) for index, entry in enumerate(request["batch"], self.judge.size)]
         objects = self.judge.hold_step(reply, request["batch"], request["now"])
         again = self.ask({"bundle": reply["bundle"], "resume": reply["state"]})
         self.judge.hold_head(again)
         hold([(called, base64.b64decode(content)) for called, content in again["objects"]] == list(objects.items()), "other objects are resumed")
         self.store.update(objects)
         return reply
+
+    def claim(self, clean):
+        """Claims the places of some entries, and where that isn't left out, places that are wrong."""
+        for index, moment, entry in self.chance.sample(self.entries, min(2, len(self.entries))):
+            path = list(map(text, self.judge.path(index)))
+            known = {key: value for key, value in entry.items() if key != "chain" or self.chance.random() < 0.5}
+            asked = {"claim": {"leaf_index": index, "timestamp": moment}, "path": path, "state": self.judge.line, "submission": known}
+            reply = self.ask(asked)
+            hold(list(reply) == ["receipt"], "to a claim that is true comes", reply)
+            self.judge.hold_receipt(reply["receipt"], entry, moment, index)
+            if clean:
+                continue
+            others = [*(other for _, _, other in self.entries[:3]), submission(self.chance)]
+            others = [other for other in others if identity(other) != identity(entry)]
+            for value in attacks.claims(self.chance, asked, others, [line.line for line, _ in self.before]):
+                answer = self.ask(value)
+                hold(answer == {"refused": "claim"}, "to a claim that isn't true comes", str(answer)[:300], "to", str(value)[:2000])
 
     def attack(self, request, reply):
         """Asks what has to be refused, and what must not be."""
@@ -200,6 +225,7 @@ class History:
                 self.attack(request, reply)
                 self.damaged(request)
             reply = self.step(request)
+            self.claim(clean)
 
 
 def run(program, chance, histories):

@@ -134,15 +134,29 @@ class Judge:
         note = None if self.origin is None else f"{self.origin}\n{self.size}\n{root}\n"
         hold(reply.get("checkpoint") == note, "the checkpoint is", reply.get("checkpoint"))
 
+    def hold_receipt(self, receipt, submission, moment, index):
+        """Holds the receipt of a submission's entry, and answers the leaf that it names."""
+        leaf = base64.b64decode(receipt["sign"])
+        signed = Fields(leaf)
+        hold(signed.take(2) == b"\0\0" and entry_at(signed) == entry_of(submission, moment, index), "other bytes are signed at", index)
+        hold(not signed.rest and receipt["leaf_index"] == index and receipt["timestamp"] == moment, "the receipt at", index, "is another")
+        return leaf
+
     def hold_receipts(self, receipts, batch, now):
         """Holds receipts, and takes up the leaves that they name."""
         hold(len(receipts) == len(batch), len(receipts), "receipts for a batch of", len(batch))
         for index, (receipt, submission) in enumerate(zip(receipts, batch), self.size):
-            leaf = base64.b64decode(receipt["sign"])
-            signed = Fields(leaf)
-            hold(signed.take(2) == b"\0\0" and entry_at(signed) == entry_of(submission, now, index), "other bytes are signed at", index)
-            hold(not signed.rest and receipt["leaf_index"] == index and receipt["timestamp"] == now, "the receipt at", index, "is another")
-            self.known[0, index] = leaf_hash(leaf)
+            self.known[0, index] = leaf_hash(self.hold_receipt(receipt, submission, now, index))
+
+    def path(self, index, first=0, last=None):
+        """PATH of RFC 6962, section 2.1.1, of the leaf at that index among those from the first one to before the last."""
+        last = self.size if last is None else last
+        if last - first == 1:
+            return []
+        half = first + split(last - first)
+        if index < half:
+            return [*self.path(index, first, half), self.root(half, last)]
+        return [*self.path(index, half, last), self.root(first, half)]
 
     def hold_data(self, tiles, batch, first):
         """Holds the data tiles of a batch, whose first leaf has that index. Answers the partial one's bytes."""

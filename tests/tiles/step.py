@@ -5,7 +5,7 @@ slow and proved nowhere.
     step.py [--origin TEXT] < lines > replies
 
 A request is told apart by its keys: begin (a moment); needs (a state's line); batch, edge, now and state; bundle and resume (a state's
-line); and those of a reader of the log's tiles, which reading.py lists. Each reply is handed on before the next line is read, and nothing is
+line); claim, path, state and submission; and those of a reader of the log's tiles, which reading.py lists. Each reply is handed on before the next line is read, and nothing is
 kept between lines. TEXT is the log's origin in checkpoints (C2SP tlog-checkpoint).
 
 It ends with status 0; 1 where memory was refused, or reading or writing failed; 2 for its command line; 4 where a line was no request.
@@ -22,6 +22,7 @@ sys.path.append(str(pathlib.Path(__file__).resolve().parent.parent))
 from expected import digest, mth, name  # noqa: E402
 from json_lines import is_bytes, is_hash, is_list_of, is_number, json_line, json_of, lines_of, text  # noqa: E402
 from leaves import Submission, signed_bytes, tile_leaf, vector  # noqa: E402
+from merkle import includes  # noqa: E402
 from reading import BadTile, Tree, path_tiles, proof_tiles, root_tiles  # noqa: E402
 from states import State, state_of, written  # noqa: E402
 
@@ -176,25 +177,32 @@ def is_chain(value):
     return is_list_of(is_hash)(value) and len(value) <= 2047
 
 
-CERTIFICATE = {"chain": is_chain, "leaf_certificate": is_certificate}
-PRECERTIFICATE = {
-    "chain": is_chain,
-    "issuer_key_hash": is_hash,
-    "pre_certificate": is_certificate,
-    "tbs_certificate": is_certificate,
-}
+CERTIFICATE = {"leaf_certificate": is_certificate}
+PRECERTIFICATE = {"issuer_key_hash": is_hash, "pre_certificate": is_certificate, "tbs_certificate": is_certificate}
 
 
-def is_submission(value):
+def is_entry(value):
+    """Whether a value has a certificate or a precertificate, whatever its chain."""
     return has(value, CERTIFICATE) or has(value, PRECERTIFICATE)
 
 
-def submission_of(value):
-    fingerprints = tuple(map(base64.b64decode, value["chain"]))
+def is_submission(value):
+    return has(value, {"chain": is_chain}) and is_entry(value)
+
+
+def entry_of(value):
     if has(value, CERTIFICATE):
-        return Submission(base64.b64decode(value["leaf_certificate"]), fingerprints=fingerprints)
-    keys = ("tbs_certificate", "issuer_key_hash", "pre_certificate")
-    return Submission(*(base64.b64decode(value[key]) for key in keys), fingerprints)
+        return Submission(base64.b64decode(value["leaf_certificate"]))
+    return Submission(*(base64.b64decode(value[key]) for key in ("tbs_certificate", "issuer_key_hash", "pre_certificate")))
+
+
+def submission_of(value):
+    return entry_of(value)._replace(fingerprints=tuple(map(base64.b64decode, value["chain"])))
+
+
+def is_claim(value):
+    """Whether a value is the place that is claimed for a submission."""
+    return has(value, {"leaf_index": is_number, "timestamp": is_number})
 
 
 def is_text(value):
@@ -242,6 +250,20 @@ def resume(bundle, line, origin):
         raise Refused("bundle")
     objects = [[called, text(content)] for called, content in objects_of(bundle)]
     return {"objects": objects, **head_reply(state, origin)}
+
+
+def claim(place, path, line, submission, origin):
+    """The receipt of a submission's entry at a claimed place, where the path leads from its leaf to the state's root."""
+    state = state_of(line)
+    if state is None:
+        raise Refused("bad-state")
+    index, moment = place["leaf_index"], place["timestamp"]
+    if index >= MOST:
+        raise Refused("claim")
+    signed = signed_bytes(entry_of(submission), moment, index)
+    if not includes(signed, index, state.tree_size, list(map(base64.b64decode, path)), state.root):
+        raise Refused("claim")
+    return {"receipt": {"leaf_index": index, "sign": text(signed), "timestamp": moment}}
 
 
 def names_of(tiles):
@@ -296,6 +318,7 @@ REQUESTS = (
     (needs, {"needs": is_text}),
     (step, {"batch": is_list_of(is_submission), "edge": is_list_of(is_bytes), "now": is_number, "state": is_text}),
     (resume, {"bundle": is_bytes, "resume": is_text}),
+    (claim, {"claim": is_claim, "path": is_list_of(is_hash), "state": is_text, "submission": is_entry}),
     (needs_path, {"needs_path": is_number, "tree_size": is_number}),
     (path, {"path": is_number, "tiles": is_list_of(is_bytes), "tree_size": is_number}),
     (needs_proof, {"needs_proof": is_number, "tree_size": is_number}),

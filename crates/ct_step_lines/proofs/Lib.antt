@@ -11,3 +11,4 @@ pub mod TileNames
 pub mod StepBatches
 pub mod StepObjects
 pub mod EdgeParts
+pub mod Claims

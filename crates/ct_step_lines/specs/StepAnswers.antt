@@ -3,18 +3,22 @@ use Rattle.std.specs.Prelude.{◌≡◌, ◌⊎◌, ◌/◌, ◌%◌, ℕ, zero,
 use Rattle.sha2.specs.Sha256.{sha256}
 use Rattle.ct_bundles.specs.Bundle.{IsBundleOf}
 use Rattle.ct_bundles.specs.Needed.{needed_names}
-use Rattle.ct_codec.specs.Submitted.{Submitted}
+use Rattle.ct_codec.specs.Submitted.{Submitted, entry_of}
+use Rattle.ct_growth.specs.Leaves.{receipt_parts}
 use Rattle.ct_growth.specs.declared.growth.GrowthFault.TheVariants.{ClockBack, Full, Refused}
+use Rattle.ct_growth.specs.declared.receipts.Receipt.{Receipt}
+use Rattle.ct_repeats.specs.Claims.{IsBelievedAt, IsAnsweredAt}
+use Rattle.ct_repeats.specs.declared.claim.Claim.{Claim}
 use Rattle.ct_state_line.specs.Lines.{IsStateLine, NoStateLine, state_line_text}
 use Rattle.ct_state_line.specs.declared.line.StateLine.{StateLine}
-use Rattle.ct_step.specs.Steps.{IsLog, IsTiledStep, MayStep, StopsStep}
+use Rattle.ct_step.specs.Steps.{line_head, IsLog, IsTiledStep, MayStep, StopsStep}
 use Rattle.ct_step.specs.declared.step.Step.{Step}
 use Rattle.ct_step.specs.declared.step.StepFault.{StepFault}
 use Rattle.ct_step.specs.declared.step.StepFault.TheVariants.{Edge, Entries, Growth, TooLong}
 use Rattle.ct_tile_leaves.specs.TileLeaf.{Tiled}
 use Rattle.ct_verify.specs.Laws.{SomeCollide}
-use Rattle.ct_step_lines.specs.StepAsks.{StepAsk, for_begin, for_needs, for_step, for_too_many, for_resume, for_no_step}
-use Rattle.ct_step_lines.specs.StepWords.{IsTileName, StepReply, begins, names_edge, steps, rolls_out, refuses}
+use Rattle.ct_step_lines.specs.StepAsks.{StepAsk, for_begin, for_needs, for_step, for_too_many, for_resume, for_claim, for_no_step}
+use Rattle.ct_step_lines.specs.StepWords.{IsTileName, StepReply, begins, names_edge, steps, rolls_out, stands, refuses}
 use Rattle.ct_step_lines.specs.declared.replies.StepRefusal.{StepRefusal}
 use Rattle.ct_step_lines.specs.declared.replies.StepRefusal.TheVariants as name
 
@@ -109,6 +113,16 @@ IsNotRolledOut line bundle =
 abbrev pub IsResumeReply : StateLine → List ℕ → StepReply → Type 0
 IsResumeReply line bundle reply = TellsObjects line bundle reply ⊎ ((reply ≡ refuses name.Bundle) × IsNotRolledOut line bundle)
 
+-- The reply tells the receipt of a submission's entry at a claimed place: a path leads from that entry's leaf to the root that the line names.
+abbrev pub TellsClaim : StateLine → Claim → List (List ℕ) → Submitted → StepReply → Type 0
+TellsClaim line claim path s reply =
+    (r : Receipt) × (reply ≡ stands (receipt_parts r)) × IsAnsweredAt sha256 (line_head line) (entry_of s) claim path r
+
+-- what is replied to a place that is claimed for a submission: a refusal exactly where the path doesn't lead there
+abbrev pub IsClaimReply : StateLine → Claim → List (List ℕ) → Submitted → StepReply → Type 0
+IsClaimReply line claim path s reply =
+    TellsClaim line claim path s reply ⊎ ((reply ≡ refuses name.Claim) × (IsBelievedAt sha256 (line_head line) (entry_of s) claim path → ⊥))
+
 -- What is replied to what is asked: to each of these nothing else.
 abbrev pub IsReplyTo : StepAsk → StepReply → Type 0
 IsReplyTo (for_begin moment) reply = reply ≡ begins (first_line moment)
@@ -116,4 +130,5 @@ IsReplyTo (for_needs state) reply = OfState state reply (λ line. reply ≡ name
 IsReplyTo (for_step batch contents now state) reply = OfState state reply (λ line. IsStepReply line (edge_of line.tree_size contents) batch now reply)
 IsReplyTo for_too_many reply = reply ≡ refuses name.TooMany
 IsReplyTo (for_resume bundle state) reply = OfState state reply (λ line. IsResumeReply line bundle reply)
+IsReplyTo (for_claim claim path state s) reply = OfState state reply (λ line. IsClaimReply line claim path s reply)
 IsReplyTo for_no_step reply = reply ≡ refuses name.BadLine

@@ -7,18 +7,21 @@ use Rattle.serde_json.specs.Find.{get, as_array}
 use Rattle.serde_json.specs.Read.{read}
 use Rattle.ct_codec.specs.Submitted.{Submitted, x509, precert, refusal_of, admitted}
 use Rattle.ct_lines.specs.Fields.{text_at, number_at, bytes_at, bytes_list_at, hash_at, hashes_at}
+use Rattle.ct_repeats.specs.declared.claim.Claim.{Claim}
 use Rattle.ct_step_lines.specs.declared.request.Request.{Request}
 use Rattle.ct_step_lines.specs.declared.request.Request.TheVariants as request
 
 -- What a line asks for: the state of a log without leaves at a moment; the names of what a step from a state has to be handed; a step, of
 -- submissions with their chains' fingerprints, the contents at the edge, a moment and a state; a step of more submissions than a line may
--- have; the objects of a step that was decided, by its bundle and its state; or nothing that there is. A state stands for its text.
+-- have; the objects of a step that was decided, by its bundle and its state; the receipt of a submission's entry, by the place that is claimed for
+-- it, an audit path and a state; or nothing that there is. A state stands for its text.
 pub data StepAsk : Type 0 where
   for_begin : ℕ → StepAsk
   for_needs : List ℕ → StepAsk
   for_step : List (Submitted × List (List ℕ)) → List (List ℕ) → ℕ → List ℕ → StepAsk
   for_too_many : StepAsk
   for_resume : List ℕ → List ℕ → StepAsk
+  for_claim : Claim → List (List ℕ) → List ℕ → Submitted → StepAsk
   for_no_step : StepAsk
 
 -- what the code's request asks for
@@ -28,6 +31,7 @@ step_ask_of (request.Needs state) = for_needs state.items
 step_ask_of (request.Step batch edge now state) = for_step batch (map (λ b. b.items) edge.items) now state.items
 step_ask_of request.TooMany = for_too_many
 step_ask_of (request.Resume bundle state) = for_resume bundle.items state.items
+step_ask_of (request.Claim claim path state submission) = for_claim claim path.items state.items submission
 step_ask_of request.Other = for_no_step
 
 -- the submission, where its lengths are in range (RFC 6962, section 3.1)
@@ -57,9 +61,13 @@ abbrev pub first_or : {A : Type 0} → Option A → Option A → Option A
 first_or None other = other
 first_or (Some a) other = Some a
 
--- the submission that an object has, that of a certificate before that of a precertificate, with its chain's fingerprints
+-- the submission that an object has, that of a certificate before that of a precertificate
+abbrev pub submitted_in : Data → Option Submitted
+submitted_in d = first_or (certificate_at d) (precertificate_at d)
+
+-- the same with its chain's fingerprints
 abbrev pub submission_in : Data → Option (Submitted × List (List ℕ))
-submission_in d = option_and_then (λ chain. option_map (λ s. (s, chain)) (first_or (certificate_at d) (precertificate_at d))) (chain_hashes_at d)
+submission_in d = option_and_then (λ chain. option_map (λ s. (s, chain)) (submitted_in d)) (chain_hashes_at d)
 
 -- those of the items of an array, where each has one
 abbrev pub batch_of_items : Items → Option (List (Submitted × List (List ℕ)))
@@ -92,6 +100,25 @@ step_ask d = option_and_then
 abbrev pub resume_ask : Data → Option StepAsk
 resume_ask d = option_and_then (λ bundle. option_map (λ state. for_resume bundle state) (text_at (codes "resume") d)) (bytes_at (codes "bundle") d)
 
+-- the place that an object claims: an index and a moment
+abbrev pub claim_in : Data → Option Claim
+claim_in d = option_and_then
+    (λ i. option_map (λ t. record { leaf_index = i; timestamp = t }) (number_at (codes "timestamp") d)) (number_at (codes "leaf_index") d)
+
+-- the place that an object has under its key
+abbrev pub claim_at : Data → Option Claim
+claim_at d = option_and_then claim_in (get (codes "claim") d)
+
+-- the submission that an object has under its key
+abbrev pub submitted_at : Data → Option Submitted
+submitted_at d = option_and_then submitted_in (get (codes "submission") d)
+
+-- the receipt of a submission's entry
+abbrev pub claim_ask : Data → Option StepAsk
+claim_ask d = option_and_then
+    (λ claim. option_and_then (λ path. option_and_then (λ state. option_map (λ s. for_claim claim path state s)
+    (submitted_at d)) (text_at (codes "state") d)) (hashes_at (codes "path") d)) (claim_at d)
+
 -- the ask, or nothing that there is
 abbrev pub ask_or_no_step : Option StepAsk → StepAsk
 ask_or_no_step None = for_no_step
@@ -99,7 +126,8 @@ ask_or_no_step (Some ask) = ask
 
 -- what a JSON value asks for: the first of these of which all keys are there, with what has to stand under each
 abbrev pub step_asked_in : Data → StepAsk
-step_asked_in d = ask_or_no_step (first_or (begin_ask d) (first_or (needs_ask d) (first_or (step_ask d) (resume_ask d))))
+step_asked_in d =
+    ask_or_no_step (first_or (begin_ask d) (first_or (needs_ask d) (first_or (step_ask d) (first_or (resume_ask d) (claim_ask d)))))
 
 -- the line asks for this: it has at most 2^26 bytes, is UTF-8, and is JSON that asks for it; or it asks for nothing that there is
 abbrev pub AsksStep : List ℕ → StepAsk → Type 0

@@ -2,7 +2,7 @@
 use Rattle.std.specs.Prelude.{◌≡◌, ◌<◌, ◌⊎◌, ◌||◌, ℕ, Bool, true, false, List, [], ◌∷◌, ◌++◌, length, Option, Some, None, IfSome, if◌then◌else◌}
 use Rattle.std.specs.Io.BufRead.{first_piece, drop_through}
 use Rattle.std.specs.Io.KnownBytes.{Appends}
-use Rattle.ct_step_lines.specs.StepAsks.{StepAsk, for_begin, for_needs, for_step, for_too_many, for_resume, for_no_step, AsksStep}
+use Rattle.ct_step_lines.specs.StepAsks.{StepAsk, for_begin, for_needs, for_step, for_too_many, for_resume, for_claim, for_no_step, AsksStep}
 use Rattle.ct_step_lines.specs.StepAnswers.{IsReplyTo}
 use Rattle.ct_step_lines.specs.StepWords.{StepReply, step_reply_data, step_line}
 
@@ -42,6 +42,7 @@ is_no_step (for_needs state) = false
 is_no_step (for_step batch edge now state) = false
 is_no_step for_too_many = false
 is_no_step (for_resume bundle state) = false
+is_no_step (for_claim claim path state submission) = false
 is_no_step for_no_step = true
 
 -- whether a line was no request

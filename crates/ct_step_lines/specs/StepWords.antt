@@ -13,7 +13,7 @@ use Rattle.ct_step.specs.declared.step.Step.{Step}
 use Rattle.ct_tile_names.specs.Names.{IsTile, name_text}
 use Rattle.ct_tile_names.specs.declared.tile.Tile.{Tile}
 use Rattle.ct_step_lines.specs.declared.replies.StepRefusal.{StepRefusal}
-use Rattle.ct_step_lines.specs.declared.replies.StepRefusal.TheVariants.{BadLine, BadState, TooMany, Edge, Entries, ClockBack, Full, TooLong, Bundle}
+use Rattle.ct_step_lines.specs.declared.replies.StepRefusal.TheVariants.{BadLine, BadState, TooMany, Edge, Entries, ClockBack, Full, TooLong, Bundle, Claim}
 
 -- the bytes are the name of a tile (C2SP tlog-tiles, "Merkle Tree" and "Log Entries")
 abbrev pub IsTileName : List ℕ → Type 0
@@ -30,6 +30,7 @@ step_refusal_name ClockBack = codes "clock-back"
 step_refusal_name Full = codes "full"
 step_refusal_name TooLong = codes "too-long"
 step_refusal_name Bundle = codes "bundle"
+step_refusal_name Claim = codes "claim"
 
 -- the object of a refusal: its name
 abbrev pub step_refused_data : StepRefusal → Data
@@ -53,6 +54,10 @@ line_head_data line = object (member (codes "sha256_root_hash") (bytes_data line
 abbrev pub receipt_data : ℕ × ℕ × List ℕ → Data
 receipt_data r = object (member (codes "leaf_index") (number_data r.0)
     (member (codes "sign") (bytes_data r.2) (member (codes "timestamp") (number_data r.1) no_members)))
+
+-- the object of what a submission with a claimed place is answered
+abbrev pub claimed_data : ℕ × ℕ × List ℕ → Data
+claimed_data r = object (member (codes "receipt") (receipt_data r) no_members)
 
 -- an object of a bundle, from its name and its content: an array of the two, the content as base64
 abbrev pub bundled_data : List ℕ × List ℕ → Data
@@ -88,12 +93,13 @@ resumed_data origin line objects = object (with_head origin line
     (member (codes "sign") (bytes_data (tree_head_text line.timestamp line.tree_size line.root)) no_members)))
 
 -- What is replied to a request: the state of a log that begins, the names of what a step has to be given, a step, the objects of a step that
--- was decided, with its line, or a refusal.
+-- was decided, with its line, the receipt of an entry (leaf index, moment, bytes to be signed), or a refusal.
 pub data StepReply : Type 0 where
   begins : StateLine → StepReply
   names_edge : List (List ℕ) → StepReply
   steps : Step → StepReply
   rolls_out : StateLine → List (List ℕ × List ℕ) → StepReply
+  stands : ℕ × ℕ × List ℕ → StepReply
   refuses : StepRefusal → StepReply
 
 -- the object of a reply of a log with this origin, where it is known
@@ -102,6 +108,7 @@ step_reply_data origin (begins line) = begun_data line
 step_reply_data origin (names_edge names) = names_data names
 step_reply_data origin (steps step) = stepped_data origin step
 step_reply_data origin (rolls_out line objects) = resumed_data origin line objects
+step_reply_data origin (stands receipt) = claimed_data receipt
 step_reply_data origin (refuses refusal) = step_refused_data refusal
 
 -- the line of an object: compact JSON, keys in byte order, bytes as base64 with padding, and the byte 0A (RFC 8259; RFC 4648, section 4)

@@ -6,6 +6,7 @@ ghost use Rattle.ct_bundles.specs.declared.rolling_out.ResumeFault.TheVariants.{
 ghost use Rattle.ct_codec.specs.declared.refusal.Refusal.{Refusal as RefusalOf};
 ghost use Rattle.ct_codec.specs.declared.refusal.Refusal.TheVariants.{Memory as Refused};
 ghost use Rattle.ct_growth.specs.declared.growth.GrowthFault.TheVariants.{Refused as GrowthRefused};
+ghost use Rattle.ct_repeats.specs.declared.claim.ClaimFault.TheVariants.{Refused as ClaimRefused};
 ghost use Rattle.ct_step.specs.declared.step.StepFault.TheVariants.{Growth};
 ghost use Rattle.ct_tile_names.specs.declared.tile.NameFault.TheVariants.{NoSuchTile};
 ghost use Rattle.serde_json.specs.Errors.{IsMemory};
@@ -20,6 +21,7 @@ use ct_bundles::ResumeFault;
 use ct_codec::Refusal;
 use ct_growth::GrowthFault;
 use ct_lines::Unwritten;
+use ct_repeats::ClaimFault;
 use ct_step::StepFault;
 use ct_tile_names::NameFault;
 use serde_json::Error;
@@ -139,6 +141,26 @@ impl From<ResumeFault> for NotRolledOut {
             ResumeFault::Memory => Err(AllocError),
         };
         NotRolledOut { told }
+    }
+}
+
+// Of a claim that isn't believed: it isn't true of the state, unless a growth was refused.
+#[derive(Drop)]
+pub(crate) struct NotBelieved {
+    pub(crate) told: Result<(), AllocError>,
+}
+
+impl From<ClaimFault> for NotBelieved {
+    ghost from_gives = { λ fault believed. OnOk believed.told (fault ≢ ClaimRefused Refused) };
+
+    fn from(fault: ClaimFault) -> NotBelieved {
+        let told = match fault {
+            ClaimFault::IndexTooLarge => Ok(()),
+            ClaimFault::ProofRefused(_) => Ok(()),
+            ClaimFault::Refused(Refusal::Memory) => Err(AllocError),
+            ClaimFault::Refused(_) => Ok(()),
+        };
+        NotBelieved { told }
     }
 }
 

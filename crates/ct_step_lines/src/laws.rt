@@ -1,6 +1,6 @@
 //! What follows of the definitions, each the contract of a function that does nothing.
 
-ghost use Rattle.ct_step_lines.specs.StepLaws.{FirstLineBegins, RepliedStepsAreAttempts};
+ghost use Rattle.ct_step_lines.specs.StepLaws.{ClaimsStandThere, FirstLineBegins, RepliedStepsAreAttempts};
 
 /// The line that a log begins with is that of a log without entries.
 
@@ -12,4 +12,10 @@ pub fn first_line_begins()
 
 pub fn replied_steps_are_attempts()
     ensures { RepliedStepsAreAttempts }
+{}
+
+/// What is signed of a claimed place is the leaf that stands there in the log whose state was given, or two different strings with one
+/// digest are given.
+pub fn claims()
+    ensures { ClaimsStandThere }
 {}

@@ -1,5 +1,5 @@
 //! Steps of a tiled log, a line of JSON for each request: the state that a log begins with, what a step from a state has to be handed, the
-//! step itself, and the objects of a step that was decided.
+//! step itself, the objects of a step that was decided, and the receipt at a claimed place.
 //!
 //! `run` reads lines from any reader, and writes to any writer; `answer_words` is the program `cttile` over its words. Nothing is kept
 //! between lines. What a step is, is `ct_step`'s to say, and what a bundle is `ct_bundles`'s.

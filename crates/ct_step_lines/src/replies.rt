@@ -10,7 +10,7 @@ ghost use Rattle.ct_bundles.specs.Resumed.{object_parts};
 ghost use Rattle.ct_codec.specs.Signed.{tree_head_text};
 ghost use Rattle.ct_growth.specs.Leaves.{receipt_parts};
 ghost use Rattle.ct_lines.specs.ReplyText.{bytes_data, number_data};
-ghost use Rattle.ct_step_lines.specs.StepWords.{IsTileName, step_refusal_name, step_refused_data, begun_data, names_data, line_head_data, receipt_data, bundled_data, stepped_data, resumed_data, step_line, head_text};
+ghost use Rattle.ct_step_lines.specs.StepWords.{IsTileName, step_refusal_name, step_refused_data, begun_data, names_data, line_head_data, receipt_data, claimed_data, bundled_data, stepped_data, resumed_data, step_line, head_text};
 
 use crate::fault::NotMade;
 use base64::engine::general_purpose::STANDARD;
@@ -44,6 +44,8 @@ pub enum StepRefusal {
     TooLong,
     /// The bundle is not that of the state.
     Bundle,
+    /// The audit path doesn't lead from the claimed entry to the root of the state.
+    Claim,
 }
 
 // The name of a refusal.
@@ -60,6 +62,7 @@ fn refusal_name(refusal: StepRefusal) -> &'static str
         StepRefusal::Full => "full",
         StepRefusal::TooLong => "too-long",
         StepRefusal::Bundle => "bundle",
+        StepRefusal::Claim => "claim",
     }
 }
 
@@ -310,6 +313,17 @@ pub(crate) fn resumed_line(
     push_objects(alloc, &mut text, objects)?;
     text.push_str(",\"sign\":")?;
     push_bytes(&mut text, &head_input(alloc, line)?)?;
+    text.push_str("}")?;
+    text.push_str("\n")?;
+    Ok(text.into_bytes())
+}
+
+/// The line of an entry's receipt.
+pub(crate) fn claimed_line(alloc: Global, receipt: &Receipt) -> Result<Vec<u8>, AllocError>
+    ensures { IfOk result (λ t. t.items ≡ step_line (claimed_data (receipt_parts receipt.now))) }
+{
+    let mut text = String::from_str(alloc, "{\"receipt\":")?;
+    push_receipt(&mut text, receipt)?;
     text.push_str("}")?;
     text.push_str("\n")?;
     Ok(text.into_bytes())

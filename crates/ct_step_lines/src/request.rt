@@ -5,11 +5,12 @@ ghost use Rattle.serde_json.specs.View.{view, items_view};
 ghost use Rattle.ct_codec.specs.Submitted.{Submitted};
 ghost use Rattle.ct_lines.specs.Fields.{text_at};
 ghost use Rattle.ct_step.specs.Entries.{AreShort};
-ghost use Rattle.ct_step_lines.specs.StepAsks.{step_ask_of, chain_hashes_at, certificate_at, precertificate_at, first_or, submission_in, batch_of_items, batch_at, step_of_batch, begin_ask, needs_ask, step_ask, resume_ask, step_asked_in, AsksStep};
+ghost use Rattle.ct_step_lines.specs.StepAsks.{step_ask_of, chain_hashes_at, certificate_at, precertificate_at, first_or, submitted_in, submission_in, batch_of_items, batch_at, step_of_batch, begin_ask, needs_ask, step_ask, resume_ask, claim_in, claim_at, submitted_at, claim_ask, step_asked_in, AsksStep};
 
 use crate::fault::Unread;
 use ct_codec::Submission;
 use ct_lines::fields;
+use ct_repeats::Claim;
 use ct_step::Batch;
 use serde_json::Value;
 use std::alloc::{AllocError, Global};
@@ -27,6 +28,8 @@ pub enum Request {
     TooMany,
     // The objects of a step that was decided: its bundle and its state.
     Resume(Vec<u8>, Vec<u8>),
+    // The receipt of a submission's entry: the place that is claimed for it, an audit path, a state and the submission.
+    Claim(Claim, Vec<[u8; 32]>, Vec<u8>, Submission),
     // Nothing that there is.
     Other,
 }
@@ -101,7 +104,7 @@ fn precertificate(alloc: Global, value: &Value) -> Result<Option<Submission>, Al
 
 // A certificate, or else a precertificate.
 fn submitted(alloc: Global, value: &Value) -> Result<Option<Submission>, AllocError>
-    ensures { IfOk result (λ o. o ≡ first_or (certificate_at (view value.now)) (precertificate_at (view value.now))) }
+    ensures { IfOk result (λ o. o ≡ submitted_in (view value.now)) }
 {
     match certificate(alloc, value)? {
         Some(submission) => Ok(Some(submission)),
@@ -223,6 +226,57 @@ fn resume_request(alloc: Global, value: &Value) -> Result<Option<Request>, Alloc
     Ok(Some(Request::Resume(bundle, state)))
 }
 
+// The place that a value claims.
+fn claim_of(value: &Value) -> Option<Claim>
+    ensures { result ≡ claim_in (view value.now) }
+{
+    let leaf_index = fields::number(value, "leaf_index")?;
+    let timestamp = fields::number(value, "timestamp")?;
+    Some(Claim {
+        leaf_index,
+        timestamp,
+    })
+}
+
+// The place under its key.
+fn claim(value: &Value) -> Option<Claim>
+    ensures { result ≡ claim_at (view value.now) }
+{
+    match value.get("claim") {
+        Some(field) => claim_of(field),
+        None => None,
+    }
+}
+
+// The submission under its key.
+fn claimed_submission(alloc: Global, value: &Value) -> Result<Option<Submission>, AllocError>
+    ensures { IfOk result (λ o. o ≡ submitted_at (view value.now)) }
+{
+    match value.get("submission") {
+        Some(field) => submitted(alloc, field),
+        None => Ok(None),
+    }
+}
+
+// The receipt of a submission's entry.
+fn claim_request(alloc: Global, value: &Value) -> Result<Option<Request>, AllocError>
+    ensures { IfOk result (λ o. option_map step_ask_of o ≡ claim_ask (view value.now)) }
+{
+    let Some(claim) = claim(value) else {
+        return Ok(None);
+    };
+    let Some(path) = fields::hashes(alloc, value, "path")? else {
+        return Ok(None);
+    };
+    let Some(state) = text(alloc, value, "state")? else {
+        return Ok(None);
+    };
+    let Some(submission) = claimed_submission(alloc, value)? else {
+        return Ok(None);
+    };
+    Ok(Some(Request::Claim(claim, path, state, submission)))
+}
+
 // What a value asks for, by its keys.
 fn request_of(alloc: Global, value: &Value) -> Result<Request, AllocError>
     ensures { IfOk result (λ r. step_ask_of r ≡ step_asked_in (view value.now)) }
@@ -236,7 +290,10 @@ fn request_of(alloc: Global, value: &Value) -> Result<Request, AllocError>
     if let Some(request) = step_request(alloc, value)? {
         return Ok(request);
     }
-    match resume_request(alloc, value)? {
+    if let Some(request) = resume_request(alloc, value)? {
+        return Ok(request);
+    }
+    match claim_request(alloc, value)? {
         Some(request) => Ok(request),
         None => Ok(Request::Other),
     }

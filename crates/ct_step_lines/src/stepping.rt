@@ -4,24 +4,26 @@ ghost use Rattle.std.specs.Prelude.{◌≡◌, ℕ, List, All, IfOk, map, option
 ghost use Rattle.std.specs.Bool.{MatchBool};
 ghost use Rattle.ct_bundles.specs.Resumed.{object_parts};
 ghost use Rattle.ct_state_line.specs.Lines.{IsStateLine};
-ghost use Rattle.ct_step_lines.specs.StepAsks.{step_ask_of, for_needs, for_step, for_resume};
-ghost use Rattle.ct_step_lines.specs.StepAnswers.{first_line, edge_of, IsStepReply, IsResumeReply, IsReplyTo};
+ghost use Rattle.ct_step_lines.specs.StepAsks.{step_ask_of, for_needs, for_step, for_resume, for_claim};
+ghost use Rattle.ct_step_lines.specs.StepAnswers.{first_line, edge_of, IsStepReply, IsResumeReply, IsClaimReply, IsReplyTo};
 ghost use Rattle.ct_step_lines.specs.StepSession.{IsReplyText};
 ghost use Rattle.ct_step_lines.specs.StepWords.{IsTileName, names_edge, StepReply};
 ghost use Rattle.ct_bundles.specs.Needed.{needed_names};
 ghost use Rattle.std.specs.Prelude.{Some};
 
 use crate::edge::edge_of;
-use crate::fault::{NoName, NotRolledOut, NotTaken};
+use crate::fault::{NoName, NotBelieved, NotRolledOut, NotTaken};
 use crate::replies::{
-    StepRefusal, begun_line, names_line, refused_line, resumed_line, stepped_line,
+    StepRefusal, begun_line, claimed_line, names_line, refused_line, resumed_line, stepped_line,
 };
 use crate::request::Request;
 use ct_bundles::{Object, needed, resume};
+use ct_codec::Submission;
+use ct_repeats::{Claim, answer_repeat};
 use ct_state_line::StateLine;
 use ct_step::{Batch, take_step};
 use ct_tile_names::Tile;
-use ct_tree::{NodeHash, Sha256Hash};
+use ct_tree::{Head, NodeHash, Sha256Hash};
 use std::alloc::{AllocError, Global};
 
 // The line of a log without leaves at a moment.
@@ -184,6 +186,49 @@ fn resume_reply(
     }
 }
 
+// Replies to a place that is claimed for a submission, of the log of a line.
+fn claimed(
+    alloc: Global,
+    origin: &Option<String>,
+    line: &StateLine,
+    claim: Claim,
+    path: &[[u8; 32]],
+    submission: &Submission,
+) -> Result<Vec<u8>, AllocError>
+    ensures { IfOk result (λ t. IsReplyText (option_map string_bytes origin.now) t.items (IsClaimReply line.now claim path.now submission.now)) }
+{
+    let head = Head {
+        tree_size: line.tree_size,
+        timestamp: line.timestamp,
+        root: line.root,
+    };
+    match answer_repeat(alloc, &Sha256Hash, &head, submission, claim, path) {
+        Ok(receipt) => claimed_line(alloc, &receipt),
+        Err(fault) => {
+            NotBelieved::from(fault).told?;
+            refused_line(alloc, StepRefusal::Claim)
+        }
+    }
+}
+
+// Replies to the request for the receipt of a submission's entry.
+fn claim_reply(
+    alloc: Global,
+    origin: &Option<String>,
+    claim: Claim,
+    path: &[[u8; 32]],
+    state: &[u8],
+    submission: &Submission,
+) -> Result<Vec<u8>, AllocError>
+    ensures { IfOk result (λ t. IsReplyText (option_map string_bytes origin.now) t.items
+        (IsReplyTo (for_claim claim path.now state.now submission.now))) }
+{
+    match StateLine::read(state) {
+        Some(line) => claimed(alloc, origin, &line, claim, path, submission),
+        None => refused_line(alloc, StepRefusal::BadState),
+    }
+}
+
 /// The line of the reply to a request, of a log with this origin where it is known.
 pub(crate) fn reply_line(
     alloc: Global,
@@ -200,6 +245,9 @@ pub(crate) fn reply_line(
         }
         Request::TooMany => refused_line(alloc, StepRefusal::TooMany),
         Request::Resume(bundle, state) => resume_reply(alloc, origin, bundle, state),
+        Request::Claim(claim, path, state, submission) => {
+            claim_reply(alloc, origin, *claim, path, state, submission)
+        }
         Request::Other => refused_line(alloc, StepRefusal::BadLine),
     }
 }

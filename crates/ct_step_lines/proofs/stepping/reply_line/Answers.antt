@@ -30,3 +30,9 @@ pub returns-in-Other : goal.returns-in-Other
 returns-in-Other c =
     by_reply c.refused_line-in-Other.result (option_map string_bytes c.args.origin.now) (refuses BadLine) (IsReplyTo (step_ask_of c.args.request.now))
     (subst (λ (r : Request). IsReplyTo (step_ask_of r) (refuses BadLine)) (sym c.in-Other.is) refl) c.refused_line-in-Other.ensures
+
+pub returns-in-Claim : goal.returns-in-Claim
+returns-in-Claim c =
+    let told = rw (c.deref-in-Claim.ensures.value, c.deref-in-Claim-2.ensures.value) at c.claim_reply.ensures in
+    subst (λ (r : Request). IfOk c.claim_reply.result (λ t. IsReplyText (option_map string_bytes c.args.origin.now) t.items (IsReplyTo (step_ask_of r))))
+    (sym c.in-Claim.is) told
