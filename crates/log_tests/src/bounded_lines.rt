@@ -19,33 +19,44 @@ fn lines(alloc: Global, input: &str, capacity: usize) -> Result<Vec<u8>, Fail> {
     Ok(all)
 }
 
+// Inputs, and the lines that are read.
+const LINES: [(&str, &str); 16] = [
+    ("", ""),
+    ("\n", "|"),
+    ("\n\n", "||"),
+    ("ab\ncd\n", "ab|cd|"),
+    ("ab\ncd", "ab|cd|"),
+    // As many bytes as are kept with the end, one less, one more.
+    ("abcde\nfg\n", "abcde|fg|"),
+    ("abcd\nfg\n", "abcd|fg|"),
+    ("abcdef\ngh\n", "abcdef|gh|"),
+    ("abcdef", "abcdef|"),
+    // Longer lines, the last one with no end.
+    ("abcdefghijklmnopq\nok\n", "abcdef|ok|"),
+    ("abcdefghijklmnopq\n\nok", "abcdef||ok|"),
+    ("ok\nabcdefghijklmnopq", "ok|abcdef|"),
+    // A byte 0D is part of its line.
+    ("\r\nab\r\n", "\r|ab\r|"),
+    ("abcd\r\nef\n", "abcd\r|ef|"),
+    ("abcdefg\r\nhi\n", "abcdef|hi|"),
+    ("ab\rcd\n", "ab\rcd|"),
+];
+
+// Whether these lines are read of an input, however many bytes the reader asks for.
+fn are_lines(alloc: Global, input: &str, wanted: &str) -> Result<bool, Fail> {
+    for capacity in &[1, 2, 5, 6, 7, 64] {
+        let read = lines(alloc, input, *capacity)?;
+        if read.as_slice() != wanted.as_bytes() {
+            return Ok(false);
+        }
+    }
+    Ok(true)
+}
+
 #[test]
 fn bounded_lines(rt: HostRuntime) -> Result<(), Fail> {
-    for (input, wanted) in [
-        ("", ""),
-        ("\n", "|"),
-        ("\n\n", "||"),
-        ("ab\ncd\n", "ab|cd|"),
-        ("ab\ncd", "ab|cd|"),
-        // As many bytes as are kept with the end, one less, one more.
-        ("abcde\nfg\n", "abcde|fg|"),
-        ("abcd\nfg\n", "abcd|fg|"),
-        ("abcdef\ngh\n", "abcdef|gh|"),
-        ("abcdef", "abcdef|"),
-        // Longer lines, the last one with no end.
-        ("abcdefghijklmnopq\nok\n", "abcdef|ok|"),
-        ("abcdefghijklmnopq\n\nok", "abcdef||ok|"),
-        ("ok\nabcdefghijklmnopq", "ok|abcdef|"),
-        // A byte 0D is part of its line.
-        ("\r\nab\r\n", "\r|ab\r|"),
-        ("abcd\r\nef\n", "abcd\r|ef|"),
-        ("abcdefg\r\nhi\n", "abcdef|hi|"),
-        ("ab\rcd\n", "ab\rcd|"),
-    ] {
-        for capacity in [1, 2, 5, 6, 7, 64] {
-            let read = lines(rt.alloc(), input, capacity)?;
-            assert!(rt; read.as_slice() == wanted.as_bytes());
-        }
+    for (input, wanted) in &LINES {
+        assert!(rt; are_lines(rt.alloc(), input, wanted)?);
     }
     Ok(())
 }

@@ -1,5 +1,5 @@
-//! Tests of `ct_codec`, `ct_core`, `ct_lines` and `ct_monitor_lines`, in a crate of their own so that each of those crates is proved
-//! once.
+//! Tests of `ct_codec`, `ct_core`, `ct_lines`, `ct_monitor_lines` and `ct_guard_lines`, in a crate of their own so that each of those
+//! crates is proved once.
 #![tactic(auto)]
 
 #[cfg(test)]
@@ -11,11 +11,15 @@ mod core_log;
 #[cfg(test)]
 mod failing_calls;
 #[cfg(test)]
+mod guard_runs;
+#[cfg(test)]
 mod hostile_bytes;
 #[cfg(test)]
 mod monitor_runs;
 #[cfg(test)]
 mod precertificates;
+#[cfg(test)]
+mod programs;
 #[cfg(test)]
 mod request_lines;
 #[cfg(test)]

@@ -1,8 +1,8 @@
 // What is expected was computed by another program: tests/monitor/answers.py, with hashlib alone, over short leaves.
+use crate::programs::{NoInput, Room, words_of};
 use ct_monitor_lines::{Fault, answer_words, refuse_words, run};
-use std::alloc::Global;
-use std::io;
-use std::io::{BufReader, ErrorKind, Read, Write};
+use std::alloc::{AllocError, Global};
+use std::io::{BufRead, BufReader, ErrorKind, Read};
 use std::test::Fail;
 
 const TO_THE_FIRST_HEAD: &str =
@@ -189,14 +189,30 @@ const LONG_TEXT: &str = "{\"have\":1048575,\"tree_size\":1048576,\"verdict\":\"p
 const EMPTY_HEAD: &str =
     "{\"sha256_root_hash\":\"47DEQpj8HBSa+/TImW+5JCeuQeRkm5NMpJWZG3hSuFU=\",\"timestamp\":7,\"tree_size\":0}";
 
-// Whether a run over the input, watching example.org, writes this and ends with this status.
-fn writes(alloc: Global, input: &str, text: &str, status: u8) -> Result<bool, Fail> {
+// Whether a run over a reader, watching these names, ends so and writes this.
+fn ends<B: BufRead>(
+    alloc: Global,
+    names: &[String],
+    reader: &mut B,
+    text: &str,
+    end: Result<u8, Fault>,
+) -> bool {
+    let mut output = Vec::new(alloc);
+    run(alloc, names, reader, &mut output) == end && output.as_slice() == text.as_bytes()
+}
+
+// The name example.org.
+fn watched(alloc: Global) -> Result<Vec<String>, AllocError> {
     let mut names = Vec::new(alloc);
     names.push("example.org".to_ascii_lowercase(alloc)?)?;
-    let mut output = Vec::new(alloc);
+    Ok(names)
+}
+
+// Whether a run over the input, watching example.org, writes this and ends with this status.
+fn writes(alloc: Global, input: &str, text: &str, status: u8) -> Result<bool, Fail> {
+    let names = watched(alloc)?;
     let mut reader = BufReader::new(alloc, input.as_bytes())?;
-    let found = run(alloc, &names, &mut reader, &mut output);
-    Ok(found == Ok(status) && output.as_slice() == text.as_bytes())
+    Ok(ends(alloc, &names, &mut reader, text, Ok(status)))
 }
 
 const HELP_BEGINS: &str = "Usage: ctmonitor [OPTIONS] < lines > verdicts
@@ -233,121 +249,147 @@ Usage: ctmonitor [OPTIONS] < lines > verdicts
 For more information, try '--help'.
 ";
 
-// Whether the program over these words writes this on its output, and this among its faults, and ends with this status, where its
-// input is that of the first head.
-fn answers(alloc: Global, line: &str, text: &str, told: &str, status: u8) -> Result<bool, Fail> {
-    let mut words = Vec::new(alloc);
-    for word in line.split_ascii_whitespace() {
-        words.push(String::from_str(alloc, word)?)?;
-    }
+// Whether the program over these words and this input writes this on its output, and this among its faults, and ends with this status.
+fn answers<R: Read + Drop>(
+    alloc: Global,
+    words: &[String],
+    input: R,
+    (text, told): (&str, &str),
+    status: u8,
+) -> bool {
     let mut output = Vec::new(alloc);
     let mut faults = Vec::new(alloc);
-    let input = TO_THE_FIRST_HEAD.as_bytes();
-    let found = answer_words(alloc, &words, input, &mut output, &mut faults);
-    let are_written = output.as_slice() == text.as_bytes() && faults.as_slice() == told.as_bytes();
-    Ok(found == status && are_written)
+    let found = answer_words(alloc, words, input, &mut output, &mut faults);
+    found == status && output.as_slice() == text.as_bytes() && faults.as_slice() == told.as_bytes()
+}
+
+// Inputs, what is written for each, and the status.
+const RUNS: [(&str, &str, u8); 14] = [
+    (TO_THE_FIRST_HEAD, TO_THE_FIRST_HEAD_TEXT, 0),
+    (TO_THE_MIDDLE_OF_A_HEAD, TO_THE_MIDDLE_OF_A_HEAD_TEXT, 0),
+    (TO_ITS_END, TO_ITS_END_TEXT, 0),
+    (FORK, FORK_TEXT, 3),
+    (SHRUNK, SHRUNK_TEXT, 3),
+    (REWRITTEN, REWRITTEN_TEXT, 3),
+    (GAPS, GAPS_TEXT, 0),
+    (DAMAGED, DAMAGED_TEXT, 4),
+    (MISPLACED, MISPLACED_TEXT, 4),
+    (BAD_START, BAD_START_TEXT, 4),
+    (LONG, LONG_TEXT, 0),
+    (EARLIER, EARLIER_TEXT, 3),
+    (OLDER, OLDER_TEXT, 3),
+    (AS_OLD, AS_OLD_TEXT, 0),
+];
+
+// How many runs are right, before the first that isn't.
+fn right_runs(alloc: Global) -> Result<usize, Fail> {
+    let mut right = 0usize;
+    for (input, text, status) in &RUNS {
+        if !writes(alloc, input, text, *status)? {
+            return Ok(right);
+        }
+        right = right.saturating_add(1);
+    }
+    Ok(right)
 }
 
 // Each verdict, each status, and the state carried from run to run.
 #[test]
 fn runs(rt: HostRuntime) -> Result<(), Fail> {
-    for (input, text, status) in [
-        (TO_THE_FIRST_HEAD, TO_THE_FIRST_HEAD_TEXT, 0),
-        (TO_THE_MIDDLE_OF_A_HEAD, TO_THE_MIDDLE_OF_A_HEAD_TEXT, 0),
-        (TO_ITS_END, TO_ITS_END_TEXT, 0),
-        (FORK, FORK_TEXT, 3),
-        (SHRUNK, SHRUNK_TEXT, 3),
-        (REWRITTEN, REWRITTEN_TEXT, 3),
-        (GAPS, GAPS_TEXT, 0),
-        (DAMAGED, DAMAGED_TEXT, 4),
-        (MISPLACED, MISPLACED_TEXT, 4),
-        (BAD_START, BAD_START_TEXT, 4),
-        (LONG, LONG_TEXT, 0),
-        (EARLIER, EARLIER_TEXT, 3),
-        (OLDER, OLDER_TEXT, 3),
-        (AS_OLD, AS_OLD_TEXT, 0),
-    ] {
-        assert!(rt; writes(rt.alloc(), input, text, status)?);
-    }
+    assert!(rt; right_runs(rt.alloc())? == 14);
     Ok(())
+}
+
+// Whether so many bytes of a state's line and no more aren't taken up.
+fn is_refused(alloc: Global, length: usize) -> Result<bool, Fail> {
+    let mut output = Vec::new(alloc);
+    let Some(begin) = TO_ITS_END.as_bytes().get(..length) else {
+        return Ok(false);
+    };
+    let mut reader = BufReader::new(alloc, begin)?;
+    Ok(run(alloc, &[], &mut reader, &mut output) == Ok(4))
 }
 
 // A beginning of a state's line isn't taken up.
 #[test]
 fn truncated_states(rt: HostRuntime) -> Result<(), Fail> {
-    let alloc = rt.alloc();
     for length in [1, 2, 50, 150, 400] {
-        let mut output = Vec::new(alloc);
-        let mut reader = BufReader::new(alloc, &TO_ITS_END.as_bytes()[..length])?;
-        assert!(rt; run(alloc, &[], &mut reader, &mut output) == Ok(4));
+        assert!(rt; is_refused(rt.alloc(), length)?);
     }
     Ok(())
+}
+
+// Command lines, what is written for each, and among the faults, and the status.
+const COMMAND_LINES: [(&str, (&str, &str), u8); 6] = [
+    ("--name EXAMPLE.org", (TO_THE_FIRST_HEAD_TEXT, ""), 0),
+    ("--version", ("ctmonitor 0.1.0\n", ""), 0),
+    ("--name a -V b", ("ctmonitor 0.1.0\n", ""), 0),
+    ("--name a --name", ("", UNNAMED), 2),
+    ("--name a --Name b", ("", REFUSED_NAME), 2),
+    ("example.org --help", ("", REFUSED_WORD), 2),
+];
+
+// How many command lines are answered rightly, before the first that isn't, where the input is that of the first head.
+fn right_command_lines(alloc: Global) -> Result<usize, AllocError> {
+    let mut right = 0usize;
+    for (line, texts, status) in &COMMAND_LINES {
+        let words = words_of(alloc, line)?;
+        if !answers(alloc, &words, TO_THE_FIRST_HEAD.as_bytes(), *texts, *status) {
+            return Ok(right);
+        }
+        right = right.saturating_add(1);
+    }
+    Ok(right)
 }
 
 // What the command line asks for is done.
 #[test]
-fn command_lines(rt: HostRuntime) -> Result<(), Fail> {
-    for (words, text, told, status) in [
-        ("--name EXAMPLE.org", TO_THE_FIRST_HEAD_TEXT, "", 0),
-        ("--version", "ctmonitor 0.1.0\n", "", 0),
-        ("--name a -V b", "ctmonitor 0.1.0\n", "", 0),
-        ("--name a --name", "", UNNAMED, 2),
-        ("--name a --Name b", "", REFUSED_NAME, 2),
-        ("example.org --help", "", REFUSED_WORD, 2),
-    ] {
-        assert!(rt; answers(rt.alloc(), words, text, told, status)?);
-    }
-    Ok(())
+fn command_lines(rt: HostRuntime) {
+    assert!(rt; right_command_lines(rt.alloc()) == Ok(6));
+}
+
+// Whether the program over a command line writes help.
+fn is_help(alloc: Global, line: &str) -> Result<bool, AllocError> {
+    let words = words_of(alloc, line)?;
+    let mut output = Vec::new(alloc);
+    let mut faults = Vec::new(alloc);
+    let status = answer_words(alloc, &words, b"".as_slice(), &mut output, &mut faults);
+    Ok(
+        status == 0
+            && faults.is_empty()
+            && output.starts_with(HELP_BEGINS.as_bytes())
+            && output.ends_with(HELP_ENDS.as_bytes()),
+    )
 }
 
 // Help is written on the output, whatever stands behind it.
 #[test]
-fn help(rt: HostRuntime) -> Result<(), Fail> {
-    let alloc = rt.alloc();
+fn help(rt: HostRuntime) {
     for line in ["--help", "-h", "--name a --help b"] {
-        let mut words = Vec::new(alloc);
-        for word in line.split_ascii_whitespace() {
-            words.push(String::from_str(alloc, word)?)?;
-        }
-        let mut output = Vec::new(alloc);
-        let mut faults = Vec::new(alloc);
-        let status = answer_words(alloc, &words, b"".as_slice(), &mut output, &mut faults);
-        assert!(rt; status == 0 && faults.is_empty());
-        assert!(rt; output.starts_with(HELP_BEGINS.as_bytes()));
-        assert!(rt; output.ends_with(HELP_ENDS.as_bytes()));
+        assert!(rt; is_help(rt.alloc(), line) == Ok(true));
     }
-    Ok(())
+}
+
+// Whether words that couldn't be read are refused so.
+fn are_words_refused(alloc: Global, fault: Fault, told: &str, due: u8) -> bool {
+    let mut faults = Vec::new(alloc);
+    refuse_words(fault, &mut faults) == due && faults.as_slice() == told.as_bytes()
 }
 
 // Words that can't be read are refused, and want of memory is a fault.
 #[test]
-fn words_that_cannot_be_read(rt: HostRuntime) -> Result<(), Fail> {
-    for (fault, told, due) in [
-        (Fault::Read, UNREADABLE, 2),
-        (Fault::Memory, "ctmonitor: memory\n", 1),
-    ] {
-        let mut faults = Vec::new(rt.alloc());
-        let status = refuse_words(fault, &mut faults);
-        assert!(rt; status == due && faults.as_slice() == told.as_bytes());
-    }
-    Ok(())
+fn words_that_cannot_be_read(rt: HostRuntime) {
+    assert!(rt; are_words_refused(rt.alloc(), Fault::Read, UNREADABLE, 2));
+    assert!(rt; are_words_refused(rt.alloc(), Fault::Memory, "ctmonitor: memory\n", 1));
 }
 
 // A fault that ends the program is told by its line.
 #[test]
-fn told_faults(rt: HostRuntime) -> Result<(), Fail> {
-    let alloc = rt.alloc();
-    for (kind, told) in [
-        (ErrorKind::BrokenPipe, "ctmonitor: read\n"),
-        (ErrorKind::OutOfMemory, "ctmonitor: memory\n"),
-    ] {
-        let mut output = Vec::new(alloc);
-        let mut faults = Vec::new(alloc);
-        let status = answer_words(alloc, &[], NoInput(kind), &mut output, &mut faults);
-        assert!(rt; status == 1);
-        assert!(rt; faults.as_slice() == told.as_bytes());
-    }
-    Ok(())
+fn told_faults(rt: HostRuntime) {
+    let broken = NoInput(ErrorKind::BrokenPipe);
+    assert!(rt; answers(rt.alloc(), &[], broken, ("", "ctmonitor: read\n"), 1));
+    let full = NoInput(ErrorKind::OutOfMemory);
+    assert!(rt; answers(rt.alloc(), &[], full, ("", "ctmonitor: memory\n"), 1));
 }
 
 // What is written for the longest line, one that has a byte more, and a short one, each the same head.
@@ -371,73 +413,48 @@ fn push_head(input: &mut Vec<u8>, times: usize, more: usize) -> Result<(), Fail>
     Ok(())
 }
 
-// A head has 95 bytes, and the longest line 4,096 times 4,096.
-#[test]
-fn a_line_that_is_too_long(rt: HostRuntime) -> Result<(), Fail> {
-    let alloc = rt.alloc();
+// A head of the longest line, one of a byte more, and a short one. A head has 95 bytes, and the longest line 4,096 times 4,096.
+fn long_lines(alloc: Global) -> Result<Vec<u8>, Fail> {
     let mut input = Vec::new(alloc);
     push_head(&mut input, 4095, 4096 - 95)?;
     push_head(&mut input, 4095, 4096 - 94)?;
     push_head(&mut input, 0, 0)?;
-    let mut output = Vec::new(alloc);
-    let mut reader = BufReader::new(alloc, input.as_slice())?;
+    Ok(input)
+}
+
+#[test]
+fn a_line_that_is_too_long(rt: HostRuntime) -> Result<(), Fail> {
+    let input = long_lines(rt.alloc())?;
+    let mut reader = BufReader::new(rt.alloc(), input.as_slice())?;
     assert!(rt; EMPTY_HEAD.len() == 95);
-    assert!(rt; run(alloc, &[], &mut reader, &mut output) == Ok(4));
-    assert!(rt; output.as_slice() == LONG_LINES_TEXT.as_bytes());
+    assert!(rt; ends(rt.alloc(), &[], &mut reader, LONG_LINES_TEXT, Ok(4)));
     Ok(())
 }
 
-// A reader that fails with this.
-#[derive(Drop)]
-struct NoInput(ErrorKind);
-
-impl Read for NoInput {
-    fn read(&mut self, _buf: &mut [u8]) -> io::Result<usize> {
-        Err(io::Error::from(self.0))
-    }
-}
-
-// A writer that takes this many bytes, and then fails.
-#[derive(Drop)]
-struct Room(usize);
-
-impl Write for Room {
-    fn write(&mut self, buf: &[u8]) -> io::Result<usize> {
-        if self.0 == 0 {
-            return Err(io::Error::from(ErrorKind::BrokenPipe));
-        }
-        let n = buf.len().min(self.0).min(5);
-        self.0 -= n;
-        Ok(n)
-    }
-
-    fn flush(&mut self) -> io::Result<()> {
-        Ok(())
-    }
+// Whether a run over a reader that fails so writes nothing and ends with this fault.
+fn ends_by(alloc: Global, kind: ErrorKind, fault: Fault) -> Result<bool, Fail> {
+    let mut reader = BufReader::new(alloc, NoInput(kind))?;
+    Ok(ends(alloc, &[], &mut reader, "", Err(fault)))
 }
 
 #[test]
 fn an_input_that_fails(rt: HostRuntime) -> Result<(), Fail> {
-    let alloc = rt.alloc();
-    for (kind, fault) in [
-        (ErrorKind::BrokenPipe, Fault::Read),
-        (ErrorKind::OutOfMemory, Fault::Memory),
-    ] {
-        let mut output = Vec::new(alloc);
-        let mut reader = BufReader::new(alloc, NoInput(kind))?;
-        assert!(rt; run(alloc, &[], &mut reader, &mut output) == Err(fault));
-        assert!(rt; output.is_empty());
-    }
+    assert!(rt; ends_by(rt.alloc(), ErrorKind::BrokenPipe, Fault::Read)?);
+    assert!(rt; ends_by(rt.alloc(), ErrorKind::OutOfMemory, Fault::Memory)?);
     Ok(())
+}
+
+// Whether a run whose output has so much room fails.
+fn is_output_failing(alloc: Global, room: usize) -> Result<bool, Fail> {
+    let mut output = Room(room);
+    let mut reader = BufReader::new(alloc, FORK.as_bytes())?;
+    Ok(run(alloc, &[], &mut reader, &mut output) == Err(Fault::Write))
 }
 
 #[test]
 fn an_output_that_fails(rt: HostRuntime) -> Result<(), Fail> {
-    let alloc = rt.alloc();
     for room in [0, 1, 40, 200] {
-        let mut output = Room(room);
-        let mut reader = BufReader::new(alloc, FORK.as_bytes())?;
-        assert!(rt; run(alloc, &[], &mut reader, &mut output) == Err(Fault::Write));
+        assert!(rt; is_output_failing(rt.alloc(), room)?);
     }
     Ok(())
 }

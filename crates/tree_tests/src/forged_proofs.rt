@@ -115,7 +115,7 @@ fn proof_answer(
 }
 
 // How many proofs were tried and accepted, and whether each was answered rightly.
-#[derive(Clone, Copy, Debug, PartialEq)]
+#[derive(Clone, Copy, PartialEq)]
 struct Tally {
     tried: u32,
     accepted: u32,
@@ -261,19 +261,32 @@ impl Place {
     }
 }
 
+// The path of a leaf, as it is at near places, changed and forged.
+fn try_leaf(
+    alloc: Global,
+    leaves: &[[u8; 32]],
+    m: usize,
+    tally: &mut Tally,
+) -> Result<(), AllocError>
+    requires { m < length leaves.now }
+{
+    let whole = path(alloc, &Sha256Hash, m, leaves)?;
+    let forged = forged(alloc, &whole)?;
+    let place = Place {
+        leaf: leaves[m],
+        m,
+        n: leaves.len(),
+        root: root(&Sha256Hash, leaves),
+    };
+    place.try_near(&whole, tally);
+    place.try_changed(&whole, tally);
+    place.try_all(&forged, tally);
+    Ok(())
+}
+
 fn try_paths(alloc: Global, leaves: &[[u8; 32]], tally: &mut Tally) -> Result<(), AllocError> {
-    let root = root(&Sha256Hash, leaves);
     for m in 0..leaves.len() {
-        let whole = path(alloc, &Sha256Hash, m, leaves)?;
-        let place = Place {
-            leaf: leaves[m],
-            m,
-            n: leaves.len(),
-            root,
-        };
-        place.try_near(&whole, tally);
-        place.try_changed(&whole, tally);
-        place.try_all(&forged(alloc, &whole)?, tally);
+        try_leaf(alloc, leaves, m, tally)?;
     }
     Ok(())
 }
@@ -312,19 +325,32 @@ impl Sizes {
     }
 }
 
+// The proof from a size, as it is at near sizes, changed and forged.
+fn try_size(
+    alloc: Global,
+    leaves: &[[u8; 32]],
+    m: usize,
+    tally: &mut Tally,
+) -> Result<(), AllocError>
+    requires { (0 < m) × (m < length leaves.now) }
+{
+    let whole = proof(alloc, &Sha256Hash, m, leaves)?;
+    let forged = forged(alloc, &whole)?;
+    let sizes = Sizes {
+        m,
+        n: leaves.len(),
+        first: root(&Sha256Hash, &leaves[..m]),
+        second: root(&Sha256Hash, leaves),
+    };
+    sizes.try_near(&whole, tally);
+    sizes.try_changed(&whole, tally);
+    sizes.try_all(&forged, tally);
+    Ok(())
+}
+
 fn try_proofs(alloc: Global, leaves: &[[u8; 32]], tally: &mut Tally) -> Result<(), AllocError> {
-    let second = root(&Sha256Hash, leaves);
     for m in 1..leaves.len() {
-        let whole = proof(alloc, &Sha256Hash, m, leaves)?;
-        let sizes = Sizes {
-            m,
-            n: leaves.len(),
-            first: root(&Sha256Hash, &leaves[..m]),
-            second,
-        };
-        sizes.try_near(&whole, tally);
-        sizes.try_changed(&whole, tally);
-        sizes.try_all(&forged(alloc, &whole)?, tally);
+        try_size(alloc, leaves, m, tally)?;
     }
     Ok(())
 }
@@ -338,34 +364,40 @@ fn nine_leaves() -> [[u8; 32]; 9] {
     leaves
 }
 
-#[test]
-fn forged_paths_of_sizes_1_to_9(rt: HostRuntime) -> std::io::Result<()> {
+fn tally_of_paths(alloc: Global) -> Result<Tally, AllocError> {
     let leaves = nine_leaves();
     let mut tally = Tally::new();
     for size in 1..=9 {
-        try_paths(rt.alloc(), &leaves[..size], &mut tally)?;
+        try_paths(alloc, &leaves[..size], &mut tally)?;
     }
+    Ok(tally)
+}
+
+#[test]
+fn forged_paths_of_sizes_1_to_9(rt: HostRuntime) {
     let wanted = Tally {
         tried: 954,
         accepted: 89,
         right: true,
     };
-    assert_eq!(rt; tally, wanted);
-    Ok(())
+    assert!(rt; tally_of_paths(rt.alloc()) == Ok(wanted));
 }
 
-#[test]
-fn forged_proofs_of_sizes_2_to_9(rt: HostRuntime) -> std::io::Result<()> {
+fn tally_of_proofs(alloc: Global) -> Result<Tally, AllocError> {
     let leaves = nine_leaves();
     let mut tally = Tally::new();
     for size in 2..=9 {
-        try_proofs(rt.alloc(), &leaves[..size], &mut tally)?;
+        try_proofs(alloc, &leaves[..size], &mut tally)?;
     }
+    Ok(tally)
+}
+
+#[test]
+fn forged_proofs_of_sizes_2_to_9(rt: HostRuntime) {
     let wanted = Tally {
         tried: 814,
         accepted: 84,
         right: true,
     };
-    assert_eq!(rt; tally, wanted);
-    Ok(())
+    assert!(rt; tally_of_proofs(rt.alloc()) == Ok(wanted));
 }

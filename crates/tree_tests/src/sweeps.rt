@@ -195,14 +195,21 @@ impl Paths {
     }
 }
 
-// Whether each path of a size is answered rightly: with each index, and each of its variants.
+// Whether a leaf's path is answered rightly: with each index, and each of its variants.
+fn is_path_answered(alloc: Global, all: &Paths, m: usize) -> Result<bool, AllocError> {
+    let Some(leaf) = all.leaves.get(m) else {
+        return Ok(false);
+    };
+    let path = plain_path(alloc, &all.leaves, m)?;
+    let variants = variants(alloc, &path)?;
+    Ok(all.is_answered(leaf, &path) && all.are_refused(leaf, m, &variants))
+}
+
+// Whether each path of a size is answered rightly.
 fn are_paths_answered(alloc: Global, size: u8) -> Result<bool, AllocError> {
     let all = paths_of(alloc, size)?;
     for m in 0..all.leaves.len() {
-        let leaf = all.leaves[m];
-        let path = plain_path(alloc, &all.leaves, m)?;
-        let variants = variants(alloc, &path)?;
-        if !all.is_answered(&leaf, &path) || !all.are_refused(&leaf, m, &variants) {
+        if !is_path_answered(alloc, &all, m)? {
             return Ok(false);
         }
     }
@@ -332,14 +339,22 @@ impl Proofs {
     }
 }
 
-// Whether each proof up to a size is answered rightly: with each first size, and each of its variants.
+// Whether the proof from a size is answered rightly: with each first size, and each of its variants.
+fn is_proof_answered(alloc: Global, all: &Proofs, m: usize) -> Result<bool, AllocError> {
+    let Some(first) = all.leaves.get(..m) else {
+        return Ok(false);
+    };
+    let first_root = root(&Sha256Hash, first);
+    let proof = plain_subproof(alloc, &all.leaves, m, true)?;
+    let variants = variants(alloc, &proof)?;
+    Ok(all.is_answered(&first_root, &proof) && all.are_refused(m, &first_root, &variants))
+}
+
+// Whether each proof up to a size is answered rightly.
 fn are_proofs_answered(alloc: Global, size: u8) -> Result<bool, AllocError> {
     let all = proofs_of(alloc, size)?;
     for m in 1..all.leaves.len() {
-        let first_root = root(&Sha256Hash, &all.leaves[..m]);
-        let proof = plain_subproof(alloc, &all.leaves, m, true)?;
-        let variants = variants(alloc, &proof)?;
-        if !all.is_answered(&first_root, &proof) || !all.are_refused(m, &first_root, &variants) {
+        if !is_proof_answered(alloc, &all, m)? {
             return Ok(false);
         }
     }

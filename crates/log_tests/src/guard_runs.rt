@@ -1,8 +1,8 @@
 // What is expected was computed by another program: tests/guard/runs.py, with hashlib alone.
+use crate::programs::{NoInput, Room, words_of};
 use ct_guard_lines::{Fault, Receipts, Settings, answer_words, run};
-use std::alloc::Global;
-use std::io;
-use std::io::{BufReader, ErrorKind, Read, Write};
+use std::alloc::{AllocError, Global};
+use std::io::{BufReader, ErrorKind, Read};
 use std::test::Fail;
 
 const GROWS: &str =
@@ -221,169 +221,164 @@ const TOO_LONG_TEXT: &str = "{\"refused\":\"bad-line\"}
 const USAGE: &str =
     "usage: ctguard [--origin TEXT] [--receipts in-head|promised] < lines > replies\n";
 
-// Whether the program over these words and this input writes this on its output, and this among its faults, and ends with this
-// status.
-fn answers(
+// Whether the program over these words and this input writes this on its output, and this among its faults, and ends with this status.
+fn answers<R: Read + Drop>(
     alloc: Global,
-    line: &str,
-    input: &str,
-    text: &str,
-    told: &str,
+    words: &[String],
+    input: R,
+    (text, told): (&str, &str),
     status: u8,
-) -> Result<bool, Fail> {
-    let mut words = Vec::new(alloc);
-    for word in line.split_ascii_whitespace() {
-        words.push(String::from_str(alloc, word)?)?;
-    }
+) -> bool {
     let mut output = Vec::new(alloc);
     let mut faults = Vec::new(alloc);
-    let found = answer_words(alloc, &words, input.as_bytes(), &mut output, &mut faults);
-    let are_written = output.as_slice() == text.as_bytes() && faults.as_slice() == told.as_bytes();
-    Ok(found == status && are_written)
+    let found = answer_words(alloc, words, input, &mut output, &mut faults);
+    found == status && output.as_slice() == text.as_bytes() && faults.as_slice() == told.as_bytes()
+}
+
+// Command lines, the input and what is written for each, and the status.
+const RUNS: [(&str, &str, &str, u8); 12] = [
+    ("", GROWS, GROWS_TEXT, 0),
+    ("", FIRST_MOMENT, FIRST_MOMENT_TEXT, 0),
+    ("", REFUSALS, REFUSALS_TEXT, 0),
+    ("--receipts in-head", BAD_LINES, BAD_LINES_TEXT, 4),
+    ("--origin log.example/2026", TAKEN_UP, TAKEN_UP_TEXT, 0),
+    ("", DAMAGED, DAMAGED_TEXT, 4),
+    ("", BLANK_IN_IT, BLANK_IN_IT_TEXT, 4),
+    ("", MISPLACED, MISPLACED_TEXT, 4),
+    ("", NONE_BEFORE, NONE_BEFORE_TEXT, 0),
+    ("--receipts promised", PROMISED, PROMISED_TEXT, 0),
+    (
+        "--receipts promised --origin other --receipts in-head --origin log.example/2026",
+        LAST_COUNTS,
+        LAST_COUNTS_TEXT,
+        0,
+    ),
+    ("", "", NOTHING_TEXT, 0),
+];
+
+// How many runs are right, before the first that isn't.
+fn right_runs(alloc: Global) -> Result<usize, AllocError> {
+    let mut right = 0usize;
+    for (line, input, text, status) in &RUNS {
+        let words = words_of(alloc, line)?;
+        if !answers(alloc, &words, input.as_bytes(), (text, ""), *status) {
+            return Ok(right);
+        }
+        right = right.saturating_add(1);
+    }
+    Ok(right)
 }
 
 // Each refusal by its name, the same head again, receipts that are promised, the state carried from run to run, damaged, and in the
 // wrong place.
 #[test]
-fn runs(rt: HostRuntime) -> Result<(), Fail> {
-    for (words, input, text, status) in [
-        ("", GROWS, GROWS_TEXT, 0),
-        ("", FIRST_MOMENT, FIRST_MOMENT_TEXT, 0),
-        ("", REFUSALS, REFUSALS_TEXT, 0),
-        ("--receipts in-head", BAD_LINES, BAD_LINES_TEXT, 4),
-        ("--origin log.example/2026", TAKEN_UP, TAKEN_UP_TEXT, 0),
-        ("", DAMAGED, DAMAGED_TEXT, 4),
-        ("", BLANK_IN_IT, BLANK_IN_IT_TEXT, 4),
-        ("", MISPLACED, MISPLACED_TEXT, 4),
-        ("", NONE_BEFORE, NONE_BEFORE_TEXT, 0),
-        ("--receipts promised", PROMISED, PROMISED_TEXT, 0),
-        (
-            "--receipts promised --origin other --receipts in-head --origin log.example/2026",
-            LAST_COUNTS,
-            LAST_COUNTS_TEXT,
-            0,
-        ),
-        ("", "", NOTHING_TEXT, 0),
-    ] {
-        assert!(rt; answers(rt.alloc(), words, input, text, "", status)?);
+fn runs(rt: HostRuntime) {
+    assert!(rt; right_runs(rt.alloc()) == Ok(12));
+}
+
+// Command lines, what is written for each, and among the faults, and the status.
+const COMMAND_LINES: [(&str, (&str, &str), u8); 9] = [
+    ("--help", (USAGE, ""), 0),
+    ("--origin a -h b", (USAGE, ""), 0),
+    ("--receipts promised --version", ("ctguard 0.1.0\n", ""), 0),
+    ("--origin", ("", USAGE), 2),
+    ("--receipts", ("", USAGE), 2),
+    ("--receipts sometimes", ("", USAGE), 2),
+    ("--Origin a", ("", USAGE), 2),
+    ("--origin=a", ("", USAGE), 2),
+    ("lines", ("", USAGE), 2),
+];
+
+// How many command lines are answered rightly, before the first that isn't.
+fn right_command_lines(alloc: Global) -> Result<usize, AllocError> {
+    let mut right = 0usize;
+    for (line, texts, status) in &COMMAND_LINES {
+        let words = words_of(alloc, line)?;
+        if !answers(alloc, &words, GROWS.as_bytes(), *texts, *status) {
+            return Ok(right);
+        }
+        right = right.saturating_add(1);
     }
-    Ok(())
+    Ok(right)
 }
 
 // What the command line asks for is done.
 #[test]
-fn command_lines(rt: HostRuntime) -> Result<(), Fail> {
-    for (words, text, told, status) in [
-        ("--help", USAGE, "", 0),
-        ("--origin a -h b", USAGE, "", 0),
-        ("--receipts promised --version", "ctguard 0.1.0\n", "", 0),
-        ("--origin", "", USAGE, 2),
-        ("--receipts", "", USAGE, 2),
-        ("--receipts sometimes", "", USAGE, 2),
-        ("--Origin a", "", USAGE, 2),
-        ("--origin=a", "", USAGE, 2),
-        ("lines", "", USAGE, 2),
-    ] {
-        assert!(rt; answers(rt.alloc(), words, GROWS, text, told, status)?);
-    }
-    Ok(())
+fn command_lines(rt: HostRuntime) {
+    assert!(rt; right_command_lines(rt.alloc()) == Ok(9));
+}
+
+// The words of a command line that gives this origin.
+fn words_with_origin(alloc: Global, origin: &str) -> Result<Vec<String>, AllocError> {
+    let mut words = Vec::new(alloc);
+    words.push(String::from_str(alloc, "--origin")?)?;
+    words.push(String::from_str(alloc, origin)?)?;
+    Ok(words)
+}
+
+// Whether the program with this origin ends with this status, and writes nothing where that is 2.
+fn is_origin_answered(alloc: Global, origin: &str, status: u8) -> Result<bool, AllocError> {
+    let words = words_with_origin(alloc, origin)?;
+    let mut output = Vec::new(alloc);
+    let mut faults = Vec::new(alloc);
+    let found = answer_words(alloc, &words, GROWS.as_bytes(), &mut output, &mut faults);
+    Ok(found == status && output.is_empty() == (status == 2))
 }
 
 // An origin that is empty, or has a line end, is refused.
 #[test]
-fn origins(rt: HostRuntime) -> Result<(), Fail> {
-    let alloc = rt.alloc();
-    for (origin, wanted) in [("", 2), ("a\nb", 2), ("\n", 2), ("a b", 0)] {
-        let mut words = Vec::new(alloc);
-        words.push(String::from_str(alloc, "--origin")?)?;
-        words.push(String::from_str(alloc, origin)?)?;
-        let mut output = Vec::new(alloc);
-        let mut faults = Vec::new(alloc);
-        let found = answer_words(alloc, &words, GROWS.as_bytes(), &mut output, &mut faults);
-        assert!(rt; found == wanted);
-        assert!(rt; output.is_empty() == (wanted == 2));
+fn origins(rt: HostRuntime) {
+    for (origin, status) in &[("", 2), ("a\nb", 2), ("\n", 2), ("a b", 0)] {
+        assert!(rt; is_origin_answered(rt.alloc(), origin, *status) == Ok(true));
     }
-    Ok(())
+}
+
+// 1,048,576 blanks and the lines of a state that is taken up.
+fn long_line(alloc: Global) -> Result<Vec<u8>, AllocError> {
+    let mut lines = vec![in alloc; b' '; 1_048_576]?;
+    lines.extend_from_slice(TAKEN_UP.as_bytes())?;
+    Ok(lines)
 }
 
 // A head is none where it stands behind 1,048,576 blanks, nor is a state, and what stands behind such a line is read.
 #[test]
 fn a_line_that_is_too_long(rt: HostRuntime) -> Result<(), Fail> {
-    let alloc = rt.alloc();
-    let mut lines = Vec::new(alloc);
-    for _ in 0..256 {
-        lines.extend_from_slice(&[b' '; 4096])?;
-    }
-    lines.extend_from_slice(TAKEN_UP.as_bytes())?;
-    let mut output = Vec::new(alloc);
+    let lines = long_line(rt.alloc())?;
+    let mut output = Vec::new(rt.alloc());
     let settings = Settings {
         origin: None,
         receipts: Receipts::InHead,
     };
-    let reader = BufReader::new(alloc, lines.as_slice())?;
-    assert!(rt; run(alloc, &settings, reader, &mut output) == Ok(4));
+    let reader = BufReader::new(rt.alloc(), lines.as_slice())?;
+    assert!(rt; run(rt.alloc(), &settings, reader, &mut output) == Ok(4));
     assert!(rt; output.as_slice() == TOO_LONG_TEXT.as_bytes());
     Ok(())
 }
 
-// A reader that fails with this.
-#[derive(Drop)]
-struct NoInput(ErrorKind);
-
-impl Read for NoInput {
-    fn read(&mut self, _buf: &mut [u8]) -> io::Result<usize> {
-        Err(io::Error::from(self.0))
-    }
-}
-
-// A writer that takes this many bytes, and then fails.
-#[derive(Drop)]
-struct Room(usize);
-
-impl Write for Room {
-    fn write(&mut self, buf: &[u8]) -> io::Result<usize> {
-        if self.0 == 0 {
-            return Err(io::Error::from(ErrorKind::BrokenPipe));
-        }
-        let n = buf.len().min(self.0).min(5);
-        self.0 -= n;
-        Ok(n)
-    }
-
-    fn flush(&mut self) -> io::Result<()> {
-        Ok(())
-    }
-}
-
 // A fault that ends the program is told by its line.
 #[test]
-fn told_faults(rt: HostRuntime) -> Result<(), Fail> {
-    let alloc = rt.alloc();
-    for (kind, told) in [
-        (ErrorKind::BrokenPipe, "ctguard: read\n"),
-        (ErrorKind::OutOfMemory, "ctguard: memory\n"),
-    ] {
-        let mut output = Vec::new(alloc);
-        let mut faults = Vec::new(alloc);
-        let status = answer_words(alloc, &[], NoInput(kind), &mut output, &mut faults);
-        assert!(rt; status == 1);
-        assert!(rt; output.is_empty());
-        assert!(rt; faults.as_slice() == told.as_bytes());
-    }
-    Ok(())
+fn told_faults(rt: HostRuntime) {
+    let broken = NoInput(ErrorKind::BrokenPipe);
+    assert!(rt; answers(rt.alloc(), &[], broken, ("", "ctguard: read\n"), 1));
+    let full = NoInput(ErrorKind::OutOfMemory);
+    assert!(rt; answers(rt.alloc(), &[], full, ("", "ctguard: memory\n"), 1));
+}
+
+// Whether a run whose output has so much room fails.
+fn is_output_failing(alloc: Global, room: usize) -> Result<bool, Fail> {
+    let settings = Settings {
+        origin: None,
+        receipts: Receipts::Promised,
+    };
+    let mut output = Room(room);
+    let reader = BufReader::new(alloc, GROWS.as_bytes())?;
+    Ok(run(alloc, &settings, reader, &mut output) == Err(Fault::Write))
 }
 
 #[test]
 fn an_output_that_fails(rt: HostRuntime) -> Result<(), Fail> {
-    let alloc = rt.alloc();
     for room in [0, 1, 40, 200] {
-        let settings = Settings {
-            origin: None,
-            receipts: Receipts::Promised,
-        };
-        let mut output = Room(room);
-        let reader = BufReader::new(alloc, GROWS.as_bytes())?;
-        assert!(rt; run(alloc, &settings, reader, &mut output) == Err(Fault::Write));
+        assert!(rt; is_output_failing(rt.alloc(), room)?);
     }
     Ok(())
 }
