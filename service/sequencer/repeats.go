@@ -72,7 +72,8 @@ func (s *Sequencer) read(ctx context.Context, name string) ([]byte, error) {
 }
 
 // answerRepeats answers those whose entry stands in the log, with its first place, and gives the others. The state is rolled out,
-// so all its places are there. A place is believed only where the entry stands in its data tile, and that one's leaf in the tree.
+// so all its places are there. A place is believed only where the entry stands in its data tile, and that one's leaf in the tree; and what is
+// signed is what the program answers, which has checked the entry's audit path against the state's root.
 func (s *Sequencer) answerRepeats(ctx context.Context, k known, batch []*waiting) (rest []*waiting, err error) {
 	identities := make([]stores.Identity, 0, len(batch))
 	for _, w := range batch {
@@ -99,22 +100,23 @@ func (s *Sequencer) answerRepeats(ctx context.Context, k known, batch []*waiting
 	var known []*waiting
 	var all []timestamp
 	for i, w := range repeats {
-		l, err := tree.leafAt(found[w.identity].Index)
+		place := found[w.identity]
+		receipt, err := tree.receiptAt(place, k.line, w)
 		if errors.Is(err, ErrDamaged) {
 			// The others have nothing to do with it.
-			s.noteDamage(found[w.identity].Index/tileWidth, err)
+			s.noteDamage(place.Index/tileWidth, err)
 			s.queue.answer(w, answer{err: fault{log.ErrStore, err}})
 			continue
 		}
 		if err != nil {
 			return append(append(repeats[i:], known...), rest...), err
 		}
-		if l == nil || l.identity != w.identity || l.timestamp != found[w.identity].Timestamp {
+		if receipt == nil {
 			// The places are wrong: it is a new entry.
 			rest = append(rest, w)
 			continue
 		}
-		known, all = append(known, w), append(all, timestamp{l.index, l.timestamp, l.signed})
+		known, all = append(known, w), append(all, timestamp{receipt.LeafIndex, receipt.Timestamp, receipt.Sign})
 	}
 	places, err := s.signTimestamps(ctx, all, nil)
 	if err != nil {
@@ -182,4 +184,32 @@ func (t *tree) leafAt(index uint64) (*leaf, error) {
 		return nil, fmt.Errorf("%w: entry %d of %s isn't the tree's", ErrDamaged, index, name)
 	}
 	return l, nil
+}
+
+// receiptAt gives the receipt of a submission's entry at a place, as the program answers it over the entry's audit path; none where the entry
+// doesn't stand there.
+func (t *tree) receiptAt(place stores.Place, line string, w *waiting) (*step.Receipt, error) {
+	l, err := t.leafAt(place.Index)
+	if err != nil || l == nil || l.identity != w.identity || l.timestamp != place.Timestamp {
+		return nil, err
+	}
+	proof, err := tlog.ProveRecord(int64(t.state.Size), int64(place.Index), t.hashes)
+	if err != nil {
+		if t.tiles.failed != nil {
+			return nil, t.tiles.failed
+		}
+		return nil, fmt.Errorf("%w: the hash tiles above entry %d: %v", ErrDamaged, place.Index, err)
+	}
+	path := make([][]byte, 0, len(proof))
+	for i := range proof {
+		path = append(path, proof[i][:])
+	}
+	receipt, err := t.s.config.Step.Claim(t.ctx, line, place.Index, place.Timestamp, path, w.submission)
+	if errors.Is(err, step.NoClaim) {
+		return nil, nil
+	}
+	if err != nil {
+		return nil, fmt.Errorf("sequencer: %w", err)
+	}
+	return receipt, nil
 }

@@ -46,6 +46,7 @@ const (
 	ClockBack Refusal = "clock-back"
 	Full      Refusal = "full"
 	Bundle    Refusal = "bundle"
+	NoClaim   Refusal = "claim"
 )
 
 // Client asks one process, one request at a time. Its methods may be called at once.
@@ -208,6 +209,27 @@ func (c *Client) Step(ctx context.Context, line string, edge [][]byte, batch []S
 		}
 	}
 	return reply, reply.Head.check(s)
+}
+
+// Claim gives the receipt of a submission's entry that stands at a place of the log of this line: the program answers it where the audit
+// path, hashes from the leaf up (RFC 9162, section 2.1.3.2), leads from the entry's leaf to the line's root, and refuses it by NoClaim.
+func (c *Client) Claim(ctx context.Context, line string, index, timestamp uint64, path [][]byte, submission Submission) (*Receipt, error) {
+	if path == nil {
+		path = [][]byte{}
+	}
+	if submission.Chain == nil {
+		submission.Chain = [][]byte{}
+	}
+	place := map[string]uint64{"leaf_index": index, "timestamp": timestamp}
+	var reply struct{ Receipt *Receipt }
+	if err := c.ask(ctx, map[string]any{"claim": place, "path": path, "state": line, "submission": submission}, &reply); err != nil {
+		return nil, err
+	}
+	r := reply.Receipt
+	if r == nil || r.LeafIndex != index || r.Timestamp != timestamp || len(r.Sign) == 0 {
+		return nil, fmt.Errorf("%w: the receipt isn't that of the place", ErrReply)
+	}
+	return r, nil
 }
 
 // Resumed is what is published of a step that was decided.

@@ -73,6 +73,14 @@ func TestSteps(t *testing.T) {
 			t.Errorf("%s and %s", objects[i].Name, resumed.Objects[i].Name)
 		}
 	}
+	// Of two leaves the path is the other's hash.
+	first := sha256.Sum256([]byte(leaf))
+	path, entry := [][]byte{objects[0].Content[32:64]}, Submission{LeafCertificate: []byte("one")}
+	claimed, err := c.Claim(ctx, two.Line, 0, 7, path, entry)
+	must(t, err)
+	if string(claimed.Sign) != leaf[1:] || !bytes.Equal(objects[0].Content[:32], first[:]) {
+		t.Errorf("%+v", claimed)
+	}
 	bent := append([]byte{}, edge[0]...)
 	bent[3] ^= 1
 	refusals := map[Refusal]func() error{
@@ -81,6 +89,7 @@ func TestSteps(t *testing.T) {
 		ClockBack: func() error { _, err := c.Step(ctx, one.Line, edge, nil, 6); return err },
 		BadState:  func() error { _, err := c.Needs(ctx, "growth"); return err },
 		Bundle:    func() error { _, err := c.Resume(ctx, two.Line, one.Bundle); return err },
+		NoClaim:   func() error { _, err := c.Claim(ctx, two.Line, 1, 7, path, entry); return err },
 		BadLine:   func() error { _, err := c.Step(ctx, one.Line, edge, []Submission{{}}, 8); return err },
 	}
 	for want, ask := range refusals {

@@ -152,7 +152,7 @@ def refused(chance, judge, request, reply, older):
         yield "clock-back", {**request, "now": judge.moment - 1}
         yield "clock-back", {**request, "now": 0}
     if judge.size + 300 > MOST:
-        small = [{"chain": [], "leaf_certificate": "AA=="}] * (MOST - judge.size + 1)
+        small = [{"chain": [], "leaf_certificate": text(number.to_bytes(2, "big"))} for number in range(MOST - judge.size + 1)]
         yield "full", {**request, "batch": small}
         if judge.moment:
             yield "clock-back", {**request, "batch": small, "now": judge.moment - 1}

@@ -24,7 +24,7 @@ HERE = pathlib.Path(__file__).resolve().parent
 sys.path.append(str(HERE.parent))
 
 import attacks  # noqa: E402
-from judge import Judge, Wrong, hold, tile_named  # noqa: E402
+from judge import Judge, Wrong, firsts_of, hold, tile_named  # noqa: E402
 from merkle import sha256  # noqa: E402
 from mutations import mutated  # noqa: E402
 
@@ -158,11 +158,15 @@ class History:
         return names
 
     def batch(self):
-        """Submissions: none, some, as many as fill a tile, one less and one more, some twice."""
+        """Submissions: none, some, as many as fill a tile, one less and one more; sometimes with repeats, which have other chains, too."""
         chance, left = self.chance, 256 - self.judge.size % 256
         count = chance.choice([0, 1, 2, chance.randint(1, 60), left - 1, left, left, left + 1, left + 256, chance.randint(1, 700)])
         batch = [submission(chance) for _ in range(min(count, MOST - self.judge.size))]
-        return batch + batch[:1] if chance.random() < 0.1 and self.judge.size + len(batch) < MOST else batch
+        for _ in range(chance.choice([0, 0, 0, 1, 2, chance.randint(1, 300)]) if batch else 0):
+            again, other = chance.choice(batch), submission(chance)
+            beside = {key: other[key] for key in ("chain", "pre_certificate") if key in other and key in again and chance.random() < 0.5}
+            batch.insert(chance.randrange(len(batch) + 1), {**again, **beside})
+        return batch
 
     def request(self):
         """The next step, as it should be asked for."""
@@ -175,7 +179,7 @@ class History:
         self.before.append((self.judge.copy(), request))
         reply = self.ask(request)
         hold("refused" not in reply, "a step is refused:", reply)
-        self.entries += [(index, request["now"], entry) for index, entry in enumerate(request["batch"], self.judge.size)]
+        self.entries += [(index, request["now"], entry) for index, entry in enumerate(firsts_of(request["batch"])[0], self.judge.size)]
         objects = self.judge.hold_step(reply, request["batch"], request["now"])
         again = self.ask({"bundle": reply["bundle"], "resume": reply["state"]})
         self.judge.hold_head(again)

@@ -71,6 +71,19 @@ def entry_of(submission, moment, index):
     return moment, under["issuer_key_hash"], under["tbs_certificate"], index
 
 
+def firsts_of(batch):
+    """The submissions of a batch that become entries, each the first of its identity (entry type and signed entry), and for each submission of
+    the batch which of them it is."""
+    firsts, places, at = [], [], {}
+    for submission in batch:
+        identity = entry_of(submission, 0, 0)
+        if identity not in at:
+            at[identity] = len(firsts)
+            firsts.append(submission)
+        places.append(at[identity])
+    return firsts, places
+
+
 def hold_tile_leaf(fields, submission, moment, index):
     """Reads a TileLeaf (C2SP static-ct-api, "Log Entries"), which has to be that of a submission."""
     hold(entry_at(fields) == entry_of(submission, moment, index), "a data tile has another entry at", index)
@@ -145,7 +158,8 @@ class Judge:
     def hold_receipts(self, receipts, batch, now):
         """Holds receipts, and takes up the leaves that they name."""
         hold(len(receipts) == len(batch), len(receipts), "receipts for a batch of", len(batch))
-        for index, (receipt, submission) in enumerate(zip(receipts, batch), self.size):
+        for receipt, submission, place in zip(receipts, batch, firsts_of(batch)[1]):
+            index = self.size + place
             self.known[0, index] = leaf_hash(self.hold_receipt(receipt, submission, now, index))
 
     def path(self, index, first=0, last=None):
@@ -176,6 +190,7 @@ class Judge:
         """Holds the reply to a step, and goes on to the state behind it. Answers the objects, by their names."""
         before, hashes = self.size, sha256(self.line.encode())
         self.hold_receipts(reply["receipts"], batch, now)
+        batch = firsts_of(batch)[0]
         self.size, self.moment = before + len(batch), now
         objects = bundled(base64.b64decode(reply["bundle"]))
         tiles = [(tile_named(called), content) for called, content in objects]

@@ -15,6 +15,10 @@ class Submission(NamedTuple):
     # SHA-256 of the certificate of each issuer of the chain, in order.
     fingerprints: tuple = ()
 
+    def identity(self):
+        """What the log tells entries apart by: the entry type and the signed entry."""
+        return self.issuer_key_hash, self.signed
+
 
 def vector(width, content):
     """Bytes behind their number in that many bytes, the highest first."""

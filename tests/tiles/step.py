@@ -231,13 +231,23 @@ def needs(line, origin):
     return {"names": edge_names(state.tree_size)}
 
 
+def split(batch):
+    """The first submission of each identity in a batch, and for each submission of the batch its identity's place among them."""
+    places = {}
+    for submission in batch:
+        places.setdefault(submission.identity(), len(places))
+    found = [places[submission.identity()] for submission in batch]
+    return [batch[found.index(place)] for place in range(len(places))], found
+
+
 def step(batch, edge, now, line, origin):
-    """A step: its receipts, its objects as a bundle, its head, and the state behind it."""
+    """A step: a receipt for each submission, its objects as a bundle, its head, and the state behind it."""
     if len(batch) > MOST_SUBMISSIONS:
         raise Refused("too-many")
-    signed, objects, after = stepped(line, map(base64.b64decode, edge), now, list(map(submission_of, batch)))
+    entries, places = split(list(map(submission_of, batch)))
+    signed, objects, after = stepped(line, map(base64.b64decode, edge), now, entries)
     first = after.tree_size - len(signed)
-    receipts = [{"leaf_index": index, "sign": text(leaf), "timestamp": now} for index, leaf in enumerate(signed, first)]
+    receipts = [{"leaf_index": first + place, "sign": text(signed[place]), "timestamp": now} for place in places]
     return {"bundle": text(bundle_of(objects)), "receipts": receipts, "state": written(after), **head_reply(after, origin)}
 
 

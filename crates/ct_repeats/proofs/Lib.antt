@@ -1,5 +1,4 @@
 pub mod Lists
 pub mod Once
 pub mod Believing
-pub mod Splitting
 pub mod Missing

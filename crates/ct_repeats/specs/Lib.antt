@@ -1,4 +1,3 @@
 pub mod Identities
 pub mod Claims
-pub mod Batches
 pub mod Misses

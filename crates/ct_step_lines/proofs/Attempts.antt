@@ -1,5 +1,5 @@
 -- A step that is replied is an attempt of the law over sequencers.
-use Rattle.std.proofs.Common.{◌≡◌, ◌⊎◌, ℕ, Bool, List, Option, Some, None, refl, sym, subst, inl, inr, arith}
+use Rattle.std.proofs.Common.{◌≡◌, ◌⊎◌, ℕ, Bool, List, [], Option, Some, None, refl, sym, subst, inl, inr, arith}
 use Rattle.sha2.specs.Sha256.{sha256}
 use Rattle.ct_codec.specs.Submitted.{Submitted}
 use Rattle.ct_state_line.specs.declared.line.StateLine.{StateLine}
@@ -11,6 +11,7 @@ use Rattle.ct_tree.specs.Tree.{mth, mth_within}
 use Rattle.ct_verify.specs.Laws.{SomeCollide}
 use Rattle.ct_step_lines.specs.StepAnswers.{edge_of, IsStepReply}
 use Rattle.ct_step_lines.specs.StepLaws.{FirstLineBegins, RepliedStepsAreAttempts}
+use Rattle.ct_step_lines.specs.StepRepeats.{first_of_each}
 use Rattle.ct_step_lines.specs.StepWords.{steps, refuses}
 use Rattle.ct_step_lines.specs.declared.replies.StepRefusal.{StepRefusal}
 
@@ -18,26 +19,26 @@ pub first_line_begins : FirstLineBegins
 unfolding mth mth_within
 first_line_begins moment = record { few = omega arith; size = refl; root = refl; entries = refl }
 
-no_refusal : (s : Step) (r : StepRefusal) → steps s ≡ refuses r → ⊥
-no_refusal s r e = cc
+no_refusal : (s : Step) (p : List ℕ) (r : StepRefusal) → steps s p ≡ refuses r → ⊥
+no_refusal s p r e = cc
 
-same_step : (s t : Step) → steps s ≡ steps t → s ≡ t
-same_step s t e = cc
+same_step : (s t : Step) (p q : List ℕ) → steps s p ≡ steps t q → s ≡ t
+same_step s t p q e = cc
 
-attempt : (line : StateLine) (batch : List (Submitted × List (List ℕ))) (now : ℕ) (step : Step) (took : Bool)
-    (edge : Option (List (List ℕ) × List ℕ)) → IsStepReply line edge batch now (steps step)
-    → IsMadeOfLine sha256 (record { seen = line; batch = batch; now = now; step = step; took = took })
-attempt line batch now step took None is = absurd (no_refusal step _ is)
-attempt line batch now step took (Some edge) (inl tells) =
-    let same : step ≡ tells.0 = same_step step tells.0 tells.1 in (
+attempt : (line : StateLine) (batch : List (Submitted × List (List ℕ))) (now : ℕ) (step : Step) (places : List ℕ) (took : Bool)
+    (edge : Option (List (List ℕ) × List ℕ)) → IsStepReply line edge batch now (steps step places)
+    → IsMadeOfLine sha256 (record { seen = line; batch = first_of_each [] batch; now = now; step = step; took = took })
+attempt line batch now step places took None is = absurd (no_refusal step places _ is)
+attempt line batch now step places took (Some edge) (inl tells) =
+    let same : step ≡ tells.0 = same_step step tells.0 places _ tells.1 in (
       tells.2.later,
-      λ E log. subst (λ (s : Step). IsTiledStep sha256 line E batch now s ⊎ SomeCollide sha256) (sym same) (tells.3 E log),
+      λ E log. subst (λ (s : Step). IsTiledStep sha256 line E (first_of_each [] batch) now s ⊎ SomeCollide sha256) (sym same) (tells.3 E log),
     )
-attempt line batch now step took (Some edge) (inr none) = absurd (no_refusal step none.1 none.2)
+attempt line batch now step places took (Some edge) (inr none) = absurd (no_refusal step places none.1 none.2)
 
 pub replied_steps_are_attempts : RepliedStepsAreAttempts
-replied_steps_are_attempts line batch contents now step took is (inl of) =
+replied_steps_are_attempts line batch contents now step places took is (inl of) =
     let same : of.0 ≡ line = state_lines_differ of.0 line of.1 is of.2 in
-    attempt line batch now step took (edge_of line.tree_size contents)
-    (subst (λ (l : StateLine). IsStepReply l (edge_of l.tree_size contents) batch now (steps step)) same of.3)
-replied_steps_are_attempts line batch contents now step took is (inr none) = absurd (no_refusal step _ none.1)
+    attempt line batch now step places took (edge_of line.tree_size contents)
+    (subst (λ (l : StateLine). IsStepReply l (edge_of l.tree_size contents) batch now (steps step places)) same of.3)
+replied_steps_are_attempts line batch contents now step places took is (inr none) = absurd (no_refusal step places _ none.1)

@@ -52,7 +52,7 @@ pub joined-none : (before text : List ℕ) → text ≡ before ++ 91 ∷ [] → 
 joined-none before text e = record { written = e; some = refl }
 
 -- one more item behind a comma
-joined-more : (before text after end : List ℕ) (later : Bool) (ds : List Data) (d : Data) → IsJoined before text later ds
+pub joined-more : (before text after end : List ℕ) (later : Bool) (ds : List Data) (d : Data) → IsJoined before text later ds
     → after ≡ text ++ comma_if later → end ≡ after ++ compact_text d → IsJoined before end true (ds ++ d ∷ [])
 joined-more before text after end later ds d joined comma item = record {
   written =
@@ -75,15 +75,20 @@ joined-at {X} f xs i d x before text after end later h is joined comma item =
     subst (λ (ds : List Data). IsJoined before end true ds) rest
     (joined-more before text after end later (map f (take i xs)) (f x) joined comma item)
 
--- the closing bracket, behind all elements of a list
-pub joined-all : {X : Type 0} (f : X → Data) (xs : List X) (n : ℕ) (before text end : List ℕ) (later : Bool) → length xs ≤ n
-    → IsJoined before text later (map f (take n xs)) → end ≡ text ++ 93 ∷ [] → end ≡ before ++ compact_text (array (items_of (map f xs)))
-joined-all {X} f xs n before text end later h joined last =
-    let ds = map f (take n xs) in
+-- the closing bracket, behind all items
+pub joined-closed : (before text end : List ℕ) (later : Bool) (ds : List Data) → IsJoined before text later ds → end ≡ text ++ 93 ∷ []
+    → end ≡ before ++ compact_text (array (items_of ds))
+joined-closed before text end later ds joined last =
     last
     ∙ ap (λ (s : List ℕ). s ++ 93 ∷ []) joined.written
     ∙ append_assoc before (91 ∷ items_front false ds) (93 ∷ [])
     ∙ ap (λ (s : List ℕ). before ++ 91 ∷ s) (sym (closed false ds))
+
+-- the same behind all elements of a list
+pub joined-all : {X : Type 0} (f : X → Data) (xs : List X) (n : ℕ) (before text end : List ℕ) (later : Bool) → length xs ≤ n
+    → IsJoined before text later (map f (take n xs)) → end ≡ text ++ 93 ∷ [] → end ≡ before ++ compact_text (array (items_of (map f xs)))
+joined-all {X} f xs n before text end later h joined last =
+    joined-closed before text end later (map f (take n xs)) joined last
     ∙ ap (λ (v : List X). before ++ compact_text (array (items_of (map f v)))) (take_all n xs h)
 
 -- what holds of each name holds of that of an element

@@ -8,7 +8,10 @@ pub mod Behind
 pub mod Joined
 pub mod Texts
 pub mod TileNames
-pub mod StepBatches
+pub mod Splitting
 pub mod StepObjects
 pub mod EdgeParts
 pub mod Claims
+pub mod Receipts
+pub mod Splits
+pub mod AddedOnce

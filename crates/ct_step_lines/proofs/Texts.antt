@@ -6,12 +6,11 @@ use Rattle.serde_json.specs.View.{items_of}
 use Rattle.serde_json.specs.Written.{comma_if, compact_text, members_text}
 use Rattle.ct_checkpoint.specs.Checkpoint.{checkpoint_text}
 use Rattle.ct_codec.specs.Signed.{tree_head_text}
-use Rattle.ct_growth.specs.Leaves.{receipt_parts}
 use Rattle.ct_lines.specs.ReplyText.{bytes_data}
 use Rattle.ct_state_line.specs.Lines.{state_line_text}
 use Rattle.ct_state_line.specs.declared.line.StateLine.{StateLine}
 use Rattle.ct_step.specs.declared.step.Step.{Step}
-use Rattle.ct_step_lines.specs.StepWords.{head_text, with_head, receipt_data, bundled_data, stepped_data, resumed_data}
+use Rattle.ct_step_lines.specs.StepWords.{head_text, with_head, receipt_data, receipts_at, bundled_data, stepped_data, resumed_data}
 
 -- the members of a head, and what stands behind them
 head-written : (later : Bool) (origin : Option (List ℕ)) (line : StateLine) (others : Members)
@@ -22,16 +21,16 @@ head-written later (Some origin) line others =
     ap (λ (s : List ℕ). comma_if later ++ (codes "\"checkpoint\":" ++ s))
     (sym (append_assoc (compact_text (string (checkpoint_text origin line.tree_size line.root))) _ (members_text true others)))
 
-pub stepped-text : (origin : Option (List ℕ)) (step : Step)
+pub stepped-text : (origin : Option (List ℕ)) (step : Step) (places : List ℕ)
     → codes "{\"bundle\":" ++ (compact_text (bytes_data step.bundle.items) ++ (codes "," ++ (head_text origin step.line
-    ++ (codes ",\"receipts\":" ++ (compact_text (array (items_of (map receipt_data (map receipt_parts step.receipts.items))))
+    ++ (codes ",\"receipts\":" ++ (compact_text (array (items_of (map receipt_data (receipts_at step places))))
     ++ (codes ",\"sign\":" ++ (compact_text (bytes_data step.signed.items)
-    ++ (codes ",\"state\":" ++ (compact_text (string (state_line_text step.line)) ++ codes "}"))))))))) ≡ compact_text (stepped_data origin step)
+    ++ (codes ",\"state\":" ++ (compact_text (string (state_line_text step.line)) ++ codes "}"))))))))) ≡ compact_text (stepped_data origin step places)
 unfolding escape_byte
-stepped-text origin step =
+stepped-text origin step places =
     ap (λ (s : List ℕ). codes "{\"bundle\":" ++ (compact_text (bytes_data step.bundle.items) ++ s))
     (sym (head-written true origin step.line
-    (member (codes "receipts") (array (items_of (map receipt_data (map receipt_parts step.receipts.items))))
+    (member (codes "receipts") (array (items_of (map receipt_data (receipts_at step places))))
     (member (codes "sign") (bytes_data step.signed.items) (member (codes "state") (string (state_line_text step.line)) no_members)))))
 
 pub resumed-text : (origin : Option (List ℕ)) (line : StateLine) (objects : List (List ℕ × List ℕ))

@@ -1,4 +1,5 @@
 pub mod StepWords
+pub mod StepRepeats
 pub mod StepAsks
 pub mod StepAnswers
 pub mod StepSession

@@ -18,6 +18,7 @@ use Rattle.ct_step.specs.declared.step.StepFault.TheVariants.{Edge, Entries, Gro
 use Rattle.ct_tile_leaves.specs.TileLeaf.{Tiled}
 use Rattle.ct_verify.specs.Laws.{SomeCollide}
 use Rattle.ct_step_lines.specs.StepAsks.{StepAsk, for_begin, for_needs, for_step, for_too_many, for_resume, for_claim, for_no_step}
+use Rattle.ct_step_lines.specs.StepRepeats.{first_of_each, places_of_all}
 use Rattle.ct_step_lines.specs.StepWords.{IsTileName, StepReply, begins, names_edge, steps, rolls_out, stands, refuses}
 use Rattle.ct_step_lines.specs.declared.replies.StepRefusal.{StepRefusal}
 use Rattle.ct_step_lines.specs.declared.replies.StepRefusal.TheVariants as name
@@ -78,17 +79,19 @@ NamesStepFault (Growth Full) r = r ≡ name.Full
 NamesStepFault (Growth (Refused refusal)) r = ⊥
 NamesStepFault TooLong r = r ≡ name.TooLong
 
--- The reply tells a step from a line with these partial tiles and this partial data tile, a batch and a moment: it may be taken, and of every
--- log that has the line it is the step, or two different strings with one SHA-256 are given.
+-- The reply tells a step from a line with these partial tiles and this partial data tile, a batch and a moment: the first entry of each
+-- identity in it may be taken in, and of every log that has the line it is the step of these, or two different strings with one SHA-256 are
+-- given. Each submission of the batch has the receipt at the place of its identity.
 abbrev pub TellsStep : StateLine → List (List ℕ) × List ℕ → List (Submitted × List (List ℕ)) → ℕ → StepReply → Type 0
 TellsStep line edge batch now reply =
-    (s : Step) × (reply ≡ steps s) × MayStep sha256 line edge.0 edge.1 batch now
-    × ((E : List Tiled) → IsLog sha256 E line → IsTiledStep sha256 line E batch now s ⊎ SomeCollide sha256)
+    (s : Step) × (reply ≡ steps s (places_of_all [] batch)) × MayStep sha256 line edge.0 edge.1 (first_of_each [] batch) now
+    × ((E : List Tiled) → IsLog sha256 E line → IsTiledStep sha256 line E (first_of_each [] batch) now s ⊎ SomeCollide sha256)
 
 -- the reply tells by its name why there is no such step
 abbrev pub TellsNoStep : StateLine → List (List ℕ) × List ℕ → List (Submitted × List (List ℕ)) → ℕ → StepReply → Type 0
 TellsNoStep line edge batch now reply =
-    (fault : StepFault) × (r : StepRefusal) × (reply ≡ refuses r) × NamesStepFault fault r × StopsStep sha256 line edge.0 edge.1 batch now fault
+    (fault : StepFault) × (r : StepRefusal) × (reply ≡ refuses r) × NamesStepFault fault r
+    × StopsStep sha256 line edge.0 edge.1 (first_of_each [] batch) now fault
 
 -- what is replied to a step from a line: of an edge with more or fewer contents than are needed, that it isn't the line's
 abbrev pub IsStepReply : StateLine → Option (List (List ℕ) × List ℕ) → List (Submitted × List (List ℕ)) → ℕ → StepReply → Type 0

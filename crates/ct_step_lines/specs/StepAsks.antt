@@ -8,6 +8,7 @@ use Rattle.serde_json.specs.Read.{read}
 use Rattle.ct_codec.specs.Submitted.{Submitted, x509, precert, refusal_of, admitted}
 use Rattle.ct_lines.specs.Fields.{text_at, number_at, bytes_at, bytes_list_at, hash_at, hashes_at}
 use Rattle.ct_repeats.specs.declared.claim.Claim.{Claim}
+use Rattle.ct_step_lines.specs.declared.entry.Entry.{Entry}
 use Rattle.ct_step_lines.specs.declared.request.Request.{Request}
 use Rattle.ct_step_lines.specs.declared.request.Request.TheVariants as request
 
@@ -24,11 +25,15 @@ pub data StepAsk : Type 0 where
   for_claim : Claim → List (List ℕ) → List ℕ → Submitted → StepAsk
   for_no_step : StepAsk
 
+-- the submission and the chain's fingerprints of the code's entry
+abbrev pub entry_parts : Entry → Submitted × List (List ℕ)
+entry_parts e = (e.submission, e.chain.items)
+
 -- what the code's request asks for
 abbrev pub step_ask_of : Request → StepAsk
 step_ask_of (request.Begin moment) = for_begin moment
 step_ask_of (request.Needs state) = for_needs state.items
-step_ask_of (request.Step batch edge now state) = for_step batch (map (λ b. b.items) edge.items) now state.items
+step_ask_of (request.Step batch edge now state) = for_step (map entry_parts batch.items) (map (λ b. b.items) edge.items) now state.items
 step_ask_of request.TooMany = for_too_many
 step_ask_of (request.Resume bundle state) = for_resume bundle.items state.items
 step_ask_of (request.Claim claim path state submission) = for_claim claim path.items state.items submission

@@ -1,31 +1,33 @@
 -- What the replies are good for.
-use Rattle.std.specs.Prelude.{◌≡◌, ◌⊎◌, ◌<◌, ℕ, Bool, List, [], length, slice_index_or}
+use Rattle.std.specs.Prelude.{◌≡◌, ◌⊎◌, ◌+◌, ◌<◌, ℕ, Bool, if◌then◌else◌, List, [], ◌∷◌, length, map, filter, take, slice_index_or, All, AllPairs, Contains}
 use Rattle.sha2.specs.Sha256.{sha256}
-use Rattle.ct_codec.specs.Submitted.{Submitted}
+use Rattle.ct_codec.specs.Submitted.{Submitted, identity_of}
 use Rattle.ct_state_line.specs.Lines.{IsStateLine, state_line_text}
 use Rattle.ct_state_line.specs.declared.line.StateLine.{StateLine}
+use Rattle.ct_repeats.specs.Identities.{identity_of_leaf, AreApart, AreNewFrom}
 use Rattle.ct_repeats.specs.declared.claim.Claim.{Claim}
 use Rattle.ct_step.specs.Entries.{tree_leaves}
-use Rattle.ct_step.specs.Lines.{IsMadeOfLine}
-use Rattle.ct_step.specs.Steps.{IsLog}
+use Rattle.ct_step.specs.Lines.{LineAttempt, AreLineAttempts, IsMadeOfLine}
+use Rattle.ct_step.specs.Steps.{new_entries, IsLog}
 use Rattle.ct_step.specs.declared.step.Step.{Step}
 use Rattle.ct_tile_leaves.specs.TileLeaf.{Tiled}
 use Rattle.ct_verify.specs.Laws.{SomeCollide}
 use Rattle.ct_step_lines.specs.StepAsks.{for_step, for_claim}
 use Rattle.ct_step_lines.specs.StepAnswers.{first_line, IsReplyTo}
-use Rattle.ct_step_lines.specs.StepWords.{steps, stands}
+use Rattle.ct_step_lines.specs.StepRepeats.{BatchEntry, first_of_each, places_of_all, identities_of}
+use Rattle.ct_step_lines.specs.StepWords.{receipts_at, steps, stands}
 
 -- the line that a log begins with is that of a log without entries
 abbrev pub FirstLineBegins : Type 0
 FirstLineBegins = (moment : ℕ) → IsLog sha256 [] (first_line moment)
 
--- A step that is replied to a line's text is one that an attempt of the law over sequencers (`LineSequencersAgree`) has, whatever edge was handed
--- over, and whether the register took it or not.
+-- A step that is replied to a line's text is one that an attempt of the law over sequencers (`LineSequencersAgree`) has, of the first entry of each
+-- identity in the batch, whatever edge was handed over, and whether the register took it or not.
 abbrev pub RepliedStepsAreAttempts : Type 0
 RepliedStepsAreAttempts =
-    (line : StateLine) (batch : List (Submitted × List (List ℕ))) (contents : List (List ℕ)) (now : ℕ) (step : Step) (took : Bool) → IsStateLine line
-    → IsReplyTo (for_step batch contents now (state_line_text line)) (steps step)
-    → IsMadeOfLine sha256 (record { seen = line; batch = batch; now = now; step = step; took = took })
+    (line : StateLine) (batch : List (Submitted × List (List ℕ))) (contents : List (List ℕ)) (now : ℕ) (step : Step) (places : List ℕ) (took : Bool)
+    → IsStateLine line → IsReplyTo (for_step batch contents now (state_line_text line)) (steps step places)
+    → IsMadeOfLine sha256 (record { seen = line; batch = first_of_each [] batch; now = now; step = step; took = took })
 
 -- A receipt that is replied to a claim is of the log whose state was given: the bytes to be signed are the leaf at its index there, or two
 -- different strings with one SHA-256 are given.
@@ -34,3 +36,74 @@ ClaimsStandThere =
     (line : StateLine) (claim : Claim) (path : List (List ℕ)) (s : Submitted) (r : ℕ × ℕ × List ℕ) (E : List Tiled) → IsStateLine line
     → IsReplyTo (for_claim claim path (state_line_text line) s) (stands r) → IsLog sha256 E line
     → ((r.0 < length E) × (r.2 ≡ slice_index_or (tree_leaves E) r.0 [])) ⊎ SomeCollide sha256
+
+-- The first entries of a batch and the places of all. No identity stands twice among the first ones (once); and each entry of the batch has its
+-- place among these (within), where one of its identity stands (found).
+pub record IsSplit (batch firsts : List BatchEntry) (places : List ℕ) : Type 0 where
+  pub once : AreApart (identities_of firsts)
+  pub within : All (λ i. i < length firsts) places
+  pub found : identities_of batch ≡ map (λ i. slice_index_or (identities_of firsts) i []) places
+
+-- the first entries of a batch and the places of all are such a split
+abbrev pub BatchesAreSplit : Type 0
+BatchesAreSplit = (batch : List BatchEntry) → IsSplit batch (first_of_each [] batch) (places_of_all [] batch)
+
+-- the receipt of the entry at a place among those that a batch becomes behind the entries E at the moment `now`: its leaf index, the moment and
+-- its leaf
+abbrev pub receipt_of_place : List Tiled → List BatchEntry → ℕ → ℕ → ℕ × ℕ × List ℕ
+receipt_of_place E firsts now i = (length E + i, now, slice_index_or (tree_leaves (new_entries E firsts now)) i [])
+
+-- In a reply to a step each submission of the batch has the receipt of the entry at its identity's place, in every log that has the state's line;
+-- or two different strings with one SHA-256 are given.
+abbrev pub ReceiptsNameEntries : Type 0
+ReceiptsNameEntries =
+    (line : StateLine) (batch : List BatchEntry) (contents : List (List ℕ)) (now : ℕ) (step : Step) (places : List ℕ) (E : List Tiled) → IsStateLine line
+    → IsReplyTo (for_step batch contents now (state_line_text line)) (steps step places) → IsLog sha256 E line
+    → (receipts_at step places ≡ map (receipt_of_place E (first_of_each [] batch) now) (places_of_all [] batch)) ⊎ SomeCollide sha256
+
+-- An attempt to carry on the log by lines, whose submissions were looked up first: the identities that the store had a place for then (stored);
+-- the batch that the line was given, of the submissions for which it was said to have none (batch); and the attempt itself (attempt), which
+-- takes in the first of each identity (firsts).
+pub record LookedUpLine : Type 0 where
+  pub stored : List (List ℕ)
+  pub batch : List BatchEntry
+  pub attempt : LineAttempt
+  pub firsts : attempt.batch ≡ first_of_each [] batch
+
+-- the attempts themselves
+abbrev pub line_attempts_of : List LookedUpLine → List LineAttempt
+line_attempts_of asked = map (λ b. b.attempt) asked
+
+-- those whose lines the register took, in order
+abbrev pub taken_of_lines : List LookedUpLine → List LookedUpLine
+taken_of_lines asked = filter (λ b. b.attempt.took) asked
+
+-- the store has a place for the identity of each of these entries
+abbrev pub StoresEach : List (List ℕ) → List BatchEntry → Type 0
+StoresEach stored batch = All (λ e. Contains stored (identity_of e.0)) batch
+
+-- What is asked of the store, where the log began with the entries `known`. Each miss was true: the store had no place for an identity of the
+-- batch when it was looked up (misses). And what was in the log by then was in the store: the identities of the known entries (had), and those
+-- of each step that was taken before (written).
+pub record LineMissesWereTrue (known : List Tiled) (steps : List LookedUpLine) : Type 0 where
+  pub misses : All (λ b. All (λ e. ¬ (Contains b.stored (identity_of e.0))) b.batch) steps
+  pub had : All (λ b. All (λ leaf. Contains b.stored (identity_of_leaf leaf)) (tree_leaves known)) steps
+  pub written : AllPairs (λ a b. StoresEach b.stored a.batch) steps
+
+-- the line that the register holds behind some attempts
+abbrev pub held_behind : StateLine → List LineAttempt → StateLine
+held_behind held [] = held
+held_behind held (a ∷ rest) = held_behind (if a.took then a.step.line else held) rest
+
+-- the identities of a log's entries
+abbrev pub logged_identities : List Tiled → List (List ℕ)
+logged_identities E = map identity_of_leaf (tree_leaves E)
+
+-- Where the misses of the steps that were taken were true, the line that the register holds in the end is that of a log that has at most one
+-- entry to an identity behind those that were known, and no known one's; or two different strings with one SHA-256 are given.
+abbrev pub OneEntryAnIdentityByLines : Type 0
+OneEntryAnIdentityByLines =
+    (held : StateLine) (known : List Tiled) (asked : List LookedUpLine) → IsLog sha256 known held
+    → AreLineAttempts sha256 held (line_attempts_of asked) → LineMissesWereTrue known (taken_of_lines asked)
+    → ((E : List Tiled) × IsLog sha256 E (held_behind held (line_attempts_of asked)) × (known ≡ take (length known) E)
+    × AreNewFrom (length known) (logged_identities E)) ⊎ SomeCollide sha256

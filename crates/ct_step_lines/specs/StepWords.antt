@@ -1,5 +1,5 @@
 -- What is replied to a line: the name of each refusal, the object of each reply, keys in byte order, and the line that it is written as.
-use Rattle.std.specs.Prelude.{◌≡◌, ◌++◌, ◌∷◌, [], ℕ, List, Option, Some, None, map, codes}
+use Rattle.std.specs.Prelude.{◌≡◌, ◌++◌, ◌∷◌, [], ℕ, List, Option, Some, None, map, filter_map, slice_get, codes}
 use Rattle.serde_json.specs.Data.{Data, string, array, object, no_items, item, Members, member, no_members}
 use Rattle.serde_json.specs.View.{items_of}
 use Rattle.serde_json.specs.Written.{compact_text}
@@ -76,12 +76,16 @@ head_text None line = codes "\"head\":" ++ compact_text (line_head_data line)
 head_text (Some origin) line = codes "\"checkpoint\":" ++ (compact_text (string (checkpoint_text origin line.tree_size line.root))
     ++ (codes ",\"head\":" ++ compact_text (line_head_data line)))
 
+-- the receipts at these places of a step's
+abbrev pub receipts_at : Step → List ℕ → List (ℕ × ℕ × List ℕ)
+receipts_at step places = filter_map (slice_get (map receipt_parts step.receipts.items)) places
+
 -- the object of a step: its bundle, the checkpoint where the log's origin is known, the new head, a receipt for each submission, in order,
--- what stands under the new head's signature (RFC 6962, section 3.5), and the next line
-abbrev pub stepped_data : Option (List ℕ) → Step → Data
-stepped_data origin step = object (member (codes "bundle") (bytes_data step.bundle.items)
+-- which stands at this place of the step's, what stands under the new head's signature (RFC 6962, section 3.5), and the next line
+abbrev pub stepped_data : Option (List ℕ) → Step → List ℕ → Data
+stepped_data origin step places = object (member (codes "bundle") (bytes_data step.bundle.items)
     (with_head origin step.line
-    (member (codes "receipts") (array (items_of (map receipt_data (map receipt_parts step.receipts.items))))
+    (member (codes "receipts") (array (items_of (map receipt_data (receipts_at step places))))
     (member (codes "sign") (bytes_data step.signed.items)
     (member (codes "state") (string (state_line_text step.line)) no_members)))))
 
@@ -92,12 +96,12 @@ resumed_data origin line objects = object (with_head origin line
     (member (codes "objects") (array (items_of (map bundled_data objects)))
     (member (codes "sign") (bytes_data (tree_head_text line.timestamp line.tree_size line.root)) no_members)))
 
--- What is replied to a request: the state of a log that begins, the names of what a step has to be given, a step, the objects of a step that
--- was decided, with its line, the receipt of an entry (leaf index, moment, bytes to be signed), or a refusal.
+-- What is replied to a request: the state of a log that begins, the names of what a step has to be given, a step and the places of the
+-- submissions among its entries, the objects of a step that was decided, with its line, the receipt of an entry (leaf index, moment, bytes to be signed), or a refusal.
 pub data StepReply : Type 0 where
   begins : StateLine → StepReply
   names_edge : List (List ℕ) → StepReply
-  steps : Step → StepReply
+  steps : Step → List ℕ → StepReply
   rolls_out : StateLine → List (List ℕ × List ℕ) → StepReply
   stands : ℕ × ℕ × List ℕ → StepReply
   refuses : StepRefusal → StepReply
@@ -106,7 +110,7 @@ pub data StepReply : Type 0 where
 abbrev pub step_reply_data : Option (List ℕ) → StepReply → Data
 step_reply_data origin (begins line) = begun_data line
 step_reply_data origin (names_edge names) = names_data names
-step_reply_data origin (steps step) = stepped_data origin step
+step_reply_data origin (steps step places) = stepped_data origin step places
 step_reply_data origin (rolls_out line objects) = resumed_data origin line objects
 step_reply_data origin (stands receipt) = claimed_data receipt
 step_reply_data origin (refuses refusal) = step_refused_data refusal

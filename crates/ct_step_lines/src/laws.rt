@@ -1,6 +1,6 @@
 //! What follows of the definitions, each the contract of a function that does nothing.
 
-ghost use Rattle.ct_step_lines.specs.StepLaws.{ClaimsStandThere, FirstLineBegins, RepliedStepsAreAttempts};
+ghost use Rattle.ct_step_lines.specs.StepLaws.{BatchesAreSplit, ClaimsStandThere, FirstLineBegins, OneEntryAnIdentityByLines, ReceiptsNameEntries, RepliedStepsAreAttempts};
 
 /// The line that a log begins with is that of a log without entries.
 
@@ -18,4 +18,22 @@ pub fn replied_steps_are_attempts()
 /// digest are given.
 pub fn claims()
     ensures { ClaimsStandThere }
+{}
+
+/// Among the entries that a batch becomes no identity stands twice, and each submission's place has its identity.
+pub fn batches()
+    ensures { BatchesAreSplit }
+{}
+
+/// Each submission of a batch gets the receipt of the first of its identity: its leaf index in the log, the moment, and the bytes of
+/// that leaf.
+pub fn receipts()
+    ensures { ReceiptsNameEntries }
+{}
+
+/// However many sequencers carry on a log by lines: where each miss was true when the step's state was read, and the identities of a step
+/// that was taken were in the store before the next one looked its own up, the log that the register's line names has at most one entry
+/// to an identity behind those that were known, and none of theirs; or two different strings with one digest are given.
+pub fn one_entry_an_identity_by_lines()
+    ensures { OneEntryAnIdentityByLines }
 {}

@@ -4,7 +4,8 @@
 //! `run` reads lines from any reader, and writes to any writer; `answer_words` is the program `cttile` over its words. Nothing is kept
 //! between lines. What a step is, is `ct_step`'s to say, and what a bundle is `ct_bundles`'s.
 //!
-//! - `request` reads what a line asks for.
+//! - `request` reads what a line asks for, and `entry` is one of a batch.
+//! - `repeats` takes the repeats out of a batch.
 //! - `edge` sets the contents at a log's edge out as a step takes them.
 //! - `stepping` replies to a request, and `replies` writes what is replied.
 //! - `command` reads the words of a command line, and `fault` names what ends a run.
@@ -14,9 +15,11 @@
 
 mod command;
 mod edge;
+mod entry;
 mod fault;
 pub mod laws;
 mod program;
+mod repeats;
 mod replies;
 mod request;
 mod stepping;

@@ -63,7 +63,7 @@ fn take_line(
     }
     let request = read_request(alloc, line)?;
     *bad = is_bad(*bad, &request);
-    reply_line(alloc, origin, &request)
+    reply_line(alloc, origin, request)
 }
 
 // Takes the next line, and answers whether none was left.

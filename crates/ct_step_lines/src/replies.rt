@@ -2,7 +2,7 @@
 //!
 //! A reply is written piece by piece, each behind what stands there, so that a step's bundle and its objects are copied once: as base64.
 
-ghost use Rattle.std.specs.Prelude.{◌≡◌, ◌++◌, Some, None, OnOk, IfOk, All, map, option_map, string_bytes};
+ghost use Rattle.std.specs.Prelude.{◌≡◌, ◌++◌, Some, None, OnOk, IfOk, All, map, filter_map, slice_get, option_map, string_bytes};
 ghost use Rattle.serde_json.specs.Data.{string, array};
 ghost use Rattle.serde_json.specs.View.{items_of};
 ghost use Rattle.serde_json.specs.Written.{compact_text, comma_if};
@@ -140,12 +140,20 @@ fn push_receipt(text: &mut String, receipt: &Receipt) -> Result<(), AllocError>
     Ok(())
 }
 
-fn push_receipts(text: &mut String, receipts: &[Receipt]) -> Result<(), AllocError>
-    ensures { OnOk result (string_bytes text.new ≡ string_bytes text.old ++ compact_text (array (items_of (map receipt_data (map receipt_parts receipts.now))))) }
+fn push_receipts(
+    text: &mut String,
+    receipts: &[Receipt],
+    places: &[usize],
+) -> Result<(), AllocError>
+    ensures { OnOk result (string_bytes text.new ≡ string_bytes text.old
+        ++ compact_text (array (items_of (map receipt_data (filter_map (slice_get (map receipt_parts receipts.now)) places.now))))) }
 {
     text.push_str("[")?;
     let mut later = false;
-    for receipt in receipts {
+    for place in places {
+        let Some(receipt) = receipts.get(*place) else {
+            continue;
+        };
         push_comma(text, later)?;
         push_receipt(text, receipt)?;
         later = true;
@@ -272,13 +280,14 @@ pub(crate) fn names_line(alloc: Global, names: &[Vec<u8>]) -> Result<Vec<u8>, Al
     Ok(text.into_bytes())
 }
 
-/// The line of a step, of a log with this origin where it is known.
+/// The line of a step, of a log with this origin where it is known, with the receipt at each of these places of its own.
 pub(crate) fn stepped_line(
     alloc: Global,
     origin: &Option<String>,
     step: &Step,
+    places: &[usize],
 ) -> Result<Vec<u8>, AllocError>
-    ensures { IfOk result (λ t. t.items ≡ step_line (stepped_data (option_map string_bytes origin.now) step.now)) }
+    ensures { IfOk result (λ t. t.items ≡ step_line (stepped_data (option_map string_bytes origin.now) step.now places.now)) }
 {
     let mut text = String::with_capacity(alloc, step.bundle.len())?;
     text.push_str("{\"bundle\":")?;
@@ -286,7 +295,7 @@ pub(crate) fn stepped_line(
     text.push_str(",")?;
     push_head(alloc, &mut text, origin, &step.line)?;
     text.push_str(",\"receipts\":")?;
-    push_receipts(&mut text, &step.receipts)?;
+    push_receipts(&mut text, &step.receipts, places)?;
     text.push_str(",\"sign\":")?;
     push_bytes(&mut text, &step.signed)?;
     text.push_str(",\"state\":")?;

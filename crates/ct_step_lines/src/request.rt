@@ -5,13 +5,13 @@ ghost use Rattle.serde_json.specs.View.{view, items_view};
 ghost use Rattle.ct_codec.specs.Submitted.{Submitted};
 ghost use Rattle.ct_lines.specs.Fields.{text_at};
 ghost use Rattle.ct_step.specs.Entries.{AreShort};
-ghost use Rattle.ct_step_lines.specs.StepAsks.{step_ask_of, chain_hashes_at, certificate_at, precertificate_at, first_or, submitted_in, submission_in, batch_of_items, batch_at, step_of_batch, begin_ask, needs_ask, step_ask, resume_ask, claim_in, claim_at, submitted_at, claim_ask, step_asked_in, AsksStep};
+ghost use Rattle.ct_step_lines.specs.StepAsks.{entry_parts, step_ask_of, chain_hashes_at, certificate_at, precertificate_at, first_or, submitted_in, submission_in, batch_of_items, batch_at, step_of_batch, begin_ask, needs_ask, step_ask, resume_ask, claim_in, claim_at, submitted_at, claim_ask, step_asked_in, AsksStep};
 
+use crate::entry::Entry;
 use crate::fault::Unread;
 use ct_codec::Submission;
 use ct_lines::fields;
 use ct_repeats::Claim;
-use ct_step::Batch;
 use serde_json::Value;
 use std::alloc::{AllocError, Global};
 
@@ -23,7 +23,7 @@ pub enum Request {
     // The names of what a step from a state has to be handed.
     Needs(Vec<u8>),
     // A step: a batch, the contents at the edge, a moment and a state.
-    Step(Batch, Vec<Vec<u8>>, u64, Vec<u8>),
+    Step(Vec<Entry>, Vec<Vec<u8>>, u64, Vec<u8>),
     // A step of too many submissions.
     TooMany,
     // The objects of a step that was decided: its bundle and its state.
@@ -39,13 +39,6 @@ pub(crate) const LONGEST: usize = 67_108_864;
 
 // How many submissions a batch has at most.
 const MOST: usize = 4096;
-
-// A batch, and how many submissions it has.
-#[derive(Drop)]
-pub(crate) struct Counted {
-    pub(crate) batch: Batch,
-    pub(crate) count: usize,
-}
 
 // The text under a key, copied.
 fn text(alloc: Global, value: &Value, key: &str) -> Result<Option<Vec<u8>>, AllocError>
@@ -113,47 +106,35 @@ fn submitted(alloc: Global, value: &Value) -> Result<Option<Submission>, AllocEr
 }
 
 // A submission, and the fingerprints of its chain.
-fn submission(
-    alloc: Global,
-    value: &Value,
-) -> Result<Option<(Submission, Vec<[u8; 32]>)>, AllocError>
-    ensures submission { IfOk result (λ o. option_map {U = Submitted × List (List ℕ)} (λ e. (e.0, e.1.items)) o ≡ submission_in (view value.now)) }
-    ensures short { IfOk result (λ o. IfSome o (λ e. AreShort e.1.items)) }
+fn entry(alloc: Global, value: &Value) -> Result<Option<Entry>, AllocError>
+    ensures { IfOk result (λ o. option_map entry_parts o ≡ submission_in (view value.now)) }
 {
     let Some(chain) = chain(alloc, value)? else {
         return Ok(None);
     };
     match submitted(alloc, value)? {
-        Some(submission) => Ok(Some((submission, chain))),
+        Some(submission) => Ok(Some(Entry { submission, chain })),
         None => Ok(None),
     }
 }
 
 // The batch of values, each of which is a submission.
-fn batch_of(alloc: Global, values: &[Value]) -> Result<Option<Counted>, AllocError>
-    ensures batch { IfOk result (λ o. option_map (λ c. c.batch) o ≡ batch_of_items (items_view values.now)) }
-    ensures count { IfOk result (λ o. IfSome o (λ c. c.count ≡ length c.batch)) }
+fn batch_of(alloc: Global, values: &[Value]) -> Result<Option<Vec<Entry>>, AllocError>
+    ensures { IfOk result (λ o. option_map (λ b. map entry_parts b.items) o ≡ batch_of_items (items_view values.now)) }
 {
-    let mut submissions = Vec::new(alloc);
-    let mut chains = Vec::new(alloc);
+    let mut batch = Vec::new(alloc);
     for value in values {
-        let Some((submission, chain)) = submission(alloc, value)? else {
+        let Some(entry) = entry(alloc, value)? else {
             return Ok(None);
         };
-        submissions.push(submission)?;
-        chains.push(chain)?;
+        batch.push(entry)?;
     }
-    let count = submissions.len();
-    match Batch::new(submissions, chains) {
-        Some(batch) => Ok(Some(Counted { batch, count })),
-        None => unreachable!(),
-    }
+    Ok(Some(batch))
 }
 
 // The batch under its key.
-fn batch(alloc: Global, value: &Value) -> Result<Option<Counted>, AllocError>
-    ensures batch { IfOk result (λ o. option_map (λ c. c.batch) o ≡ batch_at (view value.now)) }
-    ensures count { IfOk result (λ o. IfSome o (λ c. c.count ≡ length c.batch)) }
+fn batch(alloc: Global, value: &Value) -> Result<Option<Vec<Entry>>, AllocError>
+    ensures { IfOk result (λ o. option_map (λ b. map entry_parts b.items) o ≡ batch_at (view value.now)) }
 {
     let Some(field) = value.get("batch") else {
         return Ok(None);
@@ -183,14 +164,12 @@ fn needs_request(alloc: Global, value: &Value) -> Result<Option<Request>, AllocE
 }
 
 // A step, if its batch isn't too long.
-fn step_of(counted: Counted, edge: Vec<Vec<u8>>, now: u64, state: Vec<u8>) -> Request
-    requires { counted.count ≡ length counted.batch }
-    ensures { step_ask_of result ≡ step_of_batch counted.batch (map (λ b. b.items) edge.items) now state.items }
+fn step_of(batch: Vec<Entry>, edge: Vec<Vec<u8>>, now: u64, state: Vec<u8>) -> Request
+    ensures { step_ask_of result ≡ step_of_batch (map entry_parts batch.items) (map (λ b. b.items) edge.items) now state.items }
 {
-    if counted.count > MOST {
+    if batch.len() > MOST {
         return Request::TooMany;
     }
-    let Counted { batch, count: _ } = counted;
     Request::Step(batch, edge, now, state)
 }
 
@@ -198,7 +177,7 @@ fn step_of(counted: Counted, edge: Vec<Vec<u8>>, now: u64, state: Vec<u8>) -> Re
 fn step_request(alloc: Global, value: &Value) -> Result<Option<Request>, AllocError>
     ensures { IfOk result (λ o. option_map step_ask_of o ≡ step_ask (view value.now)) }
 {
-    let Some(counted) = batch(alloc, value)? else {
+    let Some(batch) = batch(alloc, value)? else {
         return Ok(None);
     };
     let Some(edge) = fields::bytes_list(alloc, value, "edge")? else {
@@ -210,7 +189,7 @@ fn step_request(alloc: Global, value: &Value) -> Result<Option<Request>, AllocEr
     let Some(state) = text(alloc, value, "state")? else {
         return Ok(None);
     };
-    Ok(Some(step_of(counted, edge, now, state)))
+    Ok(Some(step_of(batch, edge, now, state)))
 }
 
 // The objects of a step that was decided.

@@ -4,7 +4,7 @@ ghost use Rattle.std.specs.Prelude.{◌≡◌, ℕ, List, All, IfOk, map, option
 ghost use Rattle.std.specs.Bool.{MatchBool};
 ghost use Rattle.ct_bundles.specs.Resumed.{object_parts};
 ghost use Rattle.ct_state_line.specs.Lines.{IsStateLine};
-ghost use Rattle.ct_step_lines.specs.StepAsks.{step_ask_of, for_needs, for_step, for_resume, for_claim};
+ghost use Rattle.ct_step_lines.specs.StepAsks.{entry_parts, step_ask_of, for_needs, for_step, for_resume, for_claim};
 ghost use Rattle.ct_step_lines.specs.StepAnswers.{first_line, edge_of, IsStepReply, IsResumeReply, IsClaimReply, IsReplyTo};
 ghost use Rattle.ct_step_lines.specs.StepSession.{IsReplyText};
 ghost use Rattle.ct_step_lines.specs.StepWords.{IsTileName, names_edge, StepReply};
@@ -12,7 +12,9 @@ ghost use Rattle.ct_bundles.specs.Needed.{needed_names};
 ghost use Rattle.std.specs.Prelude.{Some};
 
 use crate::edge::edge_of;
+use crate::entry::Entry;
 use crate::fault::{NoName, NotBelieved, NotRolledOut, NotTaken};
+use crate::repeats::split_batch;
 use crate::replies::{
     StepRefusal, begun_line, claimed_line, names_line, refused_line, resumed_line, stepped_line,
 };
@@ -21,7 +23,7 @@ use ct_bundles::{Object, needed, resume};
 use ct_codec::Submission;
 use ct_repeats::{Claim, answer_repeat};
 use ct_state_line::StateLine;
-use ct_step::{Batch, take_step};
+use ct_step::take_step;
 use ct_tile_names::Tile;
 use ct_tree::{Head, NodeHash, Sha256Hash};
 use std::alloc::{AllocError, Global};
@@ -71,14 +73,15 @@ fn taken(
     line: &StateLine,
     edge: &[Vec<u8>],
     entries: &[u8],
-    batch: &Batch,
+    batch: Vec<Entry>,
     now: u64,
 ) -> Result<Vec<u8>, AllocError>
     ensures { IfOk result (λ t. IsReplyText (option_map string_bytes origin.now) t.items
-        (IsStepReply line.now (Some (map (λ b. b.items) edge.now, entries.now)) batch.now now)) }
+        (IsStepReply line.now (Some (map (λ b. b.items) edge.now, entries.now)) (map entry_parts batch.items) now)) }
 {
-    match take_step(alloc, &Sha256Hash, line, edge, entries, batch, now) {
-        Ok(step) => stepped_line(alloc, origin, &step),
+    let split = split_batch(alloc, batch)?;
+    match take_step(alloc, &Sha256Hash, line, edge, entries, &split.firsts, now) {
+        Ok(step) => stepped_line(alloc, origin, &step, &split.places),
         Err(fault) => match NotTaken::from(fault).told? {
             Some(refusal) => refused_line(alloc, refusal),
             None => unreachable!(),
@@ -91,12 +94,12 @@ fn stepped(
     alloc: Global,
     origin: &Option<String>,
     line: &StateLine,
-    batch: &Batch,
+    batch: Vec<Entry>,
     contents: &[Vec<u8>],
     now: u64,
 ) -> Result<Vec<u8>, AllocError>
     ensures { IfOk result (λ t. IsReplyText (option_map string_bytes origin.now) t.items
-        (IsStepReply line.now (edge_of line.now.tree_size (map (λ b. b.items) contents.now)) batch.now now)) }
+        (IsStepReply line.now (edge_of line.now.tree_size (map (λ b. b.items) contents.now)) (map entry_parts batch.items) now)) }
 {
     match edge_of(alloc, line.tree_size, contents)? {
         Some((tiles, entries)) => taken(alloc, origin, line, &tiles, entries, batch, now),
@@ -108,13 +111,13 @@ fn stepped(
 fn step_reply(
     alloc: Global,
     origin: &Option<String>,
-    batch: &Batch,
+    batch: Vec<Entry>,
     contents: &[Vec<u8>],
     now: u64,
     state: &[u8],
 ) -> Result<Vec<u8>, AllocError>
     ensures { IfOk result (λ t. IsReplyText (option_map string_bytes origin.now) t.items
-        (IsReplyTo (for_step batch.now (map (λ b. b.items) contents.now) now state.now))) }
+        (IsReplyTo (for_step (map entry_parts batch.items) (map (λ b. b.items) contents.now) now state.now))) }
 {
     match StateLine::read(state) {
         Some(line) => stepped(alloc, origin, &line, batch, contents, now),
@@ -233,20 +236,20 @@ fn claim_reply(
 pub(crate) fn reply_line(
     alloc: Global,
     origin: &Option<String>,
-    request: &Request,
+    request: Request,
 ) -> Result<Vec<u8>, AllocError>
-    ensures { IfOk result (λ t. IsReplyText (option_map string_bytes origin.now) t.items (IsReplyTo (step_ask_of request.now))) }
+    ensures { IfOk result (λ t. IsReplyText (option_map string_bytes origin.now) t.items (IsReplyTo (step_ask_of request))) }
 {
     match request {
-        Request::Begin(moment) => begun_line(alloc, &first_line(*moment)),
-        Request::Needs(state) => needs_reply(alloc, origin, state),
+        Request::Begin(moment) => begun_line(alloc, &first_line(moment)),
+        Request::Needs(state) => needs_reply(alloc, origin, &state),
         Request::Step(batch, edge, now, state) => {
-            step_reply(alloc, origin, batch, edge, *now, state)
+            step_reply(alloc, origin, batch, &edge, now, &state)
         }
         Request::TooMany => refused_line(alloc, StepRefusal::TooMany),
-        Request::Resume(bundle, state) => resume_reply(alloc, origin, bundle, state),
+        Request::Resume(bundle, state) => resume_reply(alloc, origin, &bundle, &state),
         Request::Claim(claim, path, state, submission) => {
-            claim_reply(alloc, origin, *claim, path, state, submission)
+            claim_reply(alloc, origin, claim, &path, &state, &submission)
         }
         Request::Other => refused_line(alloc, StepRefusal::BadLine),
     }

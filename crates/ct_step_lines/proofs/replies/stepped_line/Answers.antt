@@ -1,5 +1,5 @@
 use Rattle.std.proofs.Common.{◌≡◌, ◌∙◌, ℕ, List, [], ◌∷◌, ◌++◌, codes, map, ap, Vec, Global}
-use Rattle.std.specs.Prelude.{String, option_map, string_bytes}
+use Rattle.std.specs.Prelude.{String, option_map, string_bytes, filter_map, slice_get}
 use Rattle.serde_json.specs.Data.{string, array}
 use Rattle.serde_json.specs.View.{items_of}
 use Rattle.serde_json.specs.Written.{compact_text}
@@ -7,7 +7,7 @@ use Rattle.ct_state_line.specs.Lines.{state_line_text}
 use Rattle.ct_lines.specs.ReplyText.{bytes_data}
 use Rattle.ct_growth.specs.Leaves.{receipt_parts}
 use Rattle.ct_growth.specs.declared.receipts.Receipt.{Receipt}
-use Rattle.ct_step_lines.specs.StepWords.{receipt_data, stepped_data, head_text}
+use Rattle.ct_step_lines.specs.StepWords.{receipt_data, receipts_at, stepped_data, head_text}
 use Rattle.ct_step_lines.proofs.Texts.{stepped-text}
 use Rattle.ct_step_lines.proofs.Behind.{behind, begun}
 use Rattle.ct_step_lines.proofs.replies.stepped_line.Goals as goal
@@ -26,7 +26,7 @@ returns c =
     let t5 = string_bytes c.push_str-3.new.self in
     let x5 : List ℕ = codes ",\"receipts\":" in
     let t6 = string_bytes c.push_receipts.new.text in
-    let x6 : List ℕ = compact_text (array (items_of (map receipt_data (map receipt_parts c.args.step.now.receipts.items)))) in
+    let x6 : List ℕ = compact_text (array (items_of (map receipt_data (receipts_at c.args.step.now c.args.places.now)))) in
     let t7 = string_bytes c.push_str-4.new.self in
     let x7 : List ℕ = codes ",\"sign\":" in
     let t8 = string_bytes c.push_bytes-2.new.text in
@@ -42,7 +42,7 @@ returns c =
     let e3 : t3 ≡ t2 ++ x3 = c.in_ok-push_str-2.ensures.bytes in
     let e4 : t4 ≡ t3 ++ x4 = c.in_ok-push_head.ensures in
     let e5 : t5 ≡ t4 ++ x5 = c.in_ok-push_str-3.ensures.bytes in
-    let e6 : t6 ≡ t5 ++ x6 = c.in_ok-push_receipts.ensures ∙ ap (λ (v : List Receipt). t5 ++ compact_text (array (items_of (map receipt_data (map receipt_parts v))))) c.deref-2.ensures.value in
+    let e6 : t6 ≡ t5 ++ x6 = c.in_ok-push_receipts.ensures ∙ ap (λ (v : List Receipt). t5 ++ compact_text (array (items_of (map receipt_data (filter_map (slice_get (map receipt_parts v)) c.args.places.now))))) c.deref-2.ensures.value in
     let e7 : t7 ≡ t6 ++ x7 = c.in_ok-push_str-4.ensures.bytes in
     let e8 : t8 ≡ t7 ++ x8 = c.in_ok-push_bytes-2.ensures ∙ ap (λ (s : List ℕ). t7 ++ compact_text (bytes_data s)) c.deref-3.ensures.value in
     let e9 : t9 ≡ t8 ++ x9 = c.in_ok-push_str-5.ensures.bytes in
@@ -59,7 +59,7 @@ returns c =
     let y3 = x3 ++ y4 in
     let y2 = x2 ++ y3 in
     let y1 = x1 ++ y2 in
-    let whole : t11 ≡ compact_text (stepped_data (option_map (λ (o : String Global). string_bytes o) c.args.origin.now) c.args.step.now) = begun t0 t11 ([]) y1 c.in_ok-text.ensures.bytes (behind t0 t1 t11 x1 y2 e1 (behind t1 t2 t11 x2 y3 e2 (behind t2 t3 t11 x3 y4 e3 (behind t3 t4 t11 x4 y5 e4 (behind t4 t5 t11 x5 y6 e5 (behind t5 t6 t11 x6 y7 e6 (behind t6 t7 t11 x7 y8 e7 (behind t7 t8 t11 x8 y9 e8 (behind t8 t9 t11 x9 y10 e9 (behind t9 t10 t11 x10 y11 e10 e11)))))))))) ∙ stepped-text (option_map (λ (o : String Global). string_bytes o) c.args.origin.now) c.args.step.now in
+    let whole : t11 ≡ compact_text (stepped_data (option_map (λ (o : String Global). string_bytes o) c.args.origin.now) c.args.step.now c.args.places.now) = begun t0 t11 ([]) y1 c.in_ok-text.ensures.bytes (behind t0 t1 t11 x1 y2 e1 (behind t1 t2 t11 x2 y3 e2 (behind t2 t3 t11 x3 y4 e3 (behind t3 t4 t11 x4 y5 e4 (behind t4 t5 t11 x5 y6 e5 (behind t5 t6 t11 x6 y7 e6 (behind t6 t7 t11 x7 y8 e7 (behind t7 t8 t11 x8 y9 e8 (behind t8 t9 t11 x9 y10 e9 (behind t9 t10 t11 x10 y11 e10 e11)))))))))) ∙ stepped-text (option_map (λ (o : String Global). string_bytes o) c.args.origin.now) c.args.step.now c.args.places.now in
     ap (λ (v : Vec ℕ Global). v.items) c.into_bytes.ensures.value
     ∙ c.in_ok-push_str-7.ensures.bytes
     ∙ ap (λ (s : List ℕ). s ++ 10 ∷ []) whole

@@ -12,7 +12,7 @@ use Rattle.ct_step_lines.proofs.stepping.reply_line.Goals as goal
 pub returns-in-Begin : goal.returns-in-Begin
 returns-in-Begin c =
     let reply = begins (first_line c.in-Begin.moment) in
-    by_reply c.begun_line.result (option_map string_bytes c.args.origin.now) reply (IsReplyTo (step_ask_of c.args.request.now))
+    by_reply c.begun_line.result (option_map string_bytes c.args.origin.now) reply (IsReplyTo (step_ask_of c.args.request))
     (subst (λ (r : Request). IsReplyTo (step_ask_of r) reply) (sym c.in-Begin.is) refl) (rw c.first_line.ensures at c.begun_line.ensures)
 
 pub returns-in-Step : goal.returns-in-Step
@@ -23,12 +23,12 @@ returns-in-Step c =
 
 pub returns-in-TooMany : goal.returns-in-TooMany
 returns-in-TooMany c =
-    by_reply c.refused_line.result (option_map string_bytes c.args.origin.now) (refuses TooMany) (IsReplyTo (step_ask_of c.args.request.now))
+    by_reply c.refused_line.result (option_map string_bytes c.args.origin.now) (refuses TooMany) (IsReplyTo (step_ask_of c.args.request))
     (subst (λ (r : Request). IsReplyTo (step_ask_of r) (refuses TooMany)) (sym c.in-TooMany.is) refl) c.refused_line.ensures
 
 pub returns-in-Other : goal.returns-in-Other
 returns-in-Other c =
-    by_reply c.refused_line-in-Other.result (option_map string_bytes c.args.origin.now) (refuses BadLine) (IsReplyTo (step_ask_of c.args.request.now))
+    by_reply c.refused_line-in-Other.result (option_map string_bytes c.args.origin.now) (refuses BadLine) (IsReplyTo (step_ask_of c.args.request))
     (subst (λ (r : Request). IsReplyTo (step_ask_of r) (refuses BadLine)) (sym c.in-Other.is) refl) c.refused_line-in-Other.ensures
 
 pub returns-in-Claim : goal.returns-in-Claim
