@@ -6,9 +6,9 @@ cd "$(dirname "$0")/.."
 what=$1
 missing=0
 
-# The processor minutes that a target takes where nothing was proved before, by a run of the gate over so many crates, from which demo, serve,
+# The processor minutes that a target takes where nothing was proved before, by a run of the gate, from which demo, serve,
 # serve-ctlogd and link are reckoned. After another run: put its figures into this line, and let `needs.sh write` put the times into README.md.
-work_of() { local demo=67 serve=49 ctlogd=63 link=9 test=305 crates=48 name=${1#serve-} && echo "${!name}"; }
+work_of() { local demo=67 serve=49 ctlogd=63 link=9 test=305 name=${1#serve-} && echo "${!name}"; }
 
 # The minutes that target $1 takes on $2 processors, rounded to five. Crates are proved side by side: a third is added where processors share
 # them, and more than eight gain little, of a program's own crates more than four.
@@ -23,14 +23,7 @@ END
 }
 
 # The sentence of README.md that says whose times these are.
-whose() {
-  local crates=$(grep -c '^[a-z]' crates.txt)
-  if [ "$(work_of crates)" = "$crates" ]; then
-    echo "The times come from a run of the gate over all $crates crates, the first two reckoned."
-  else
-    echo "The times come from a run of the gate over $(work_of crates) crates, the first two reckoned; with today's $crates it takes longer."
-  fi
-}
+whose() { echo "The times are reckoned from an earlier run of the gate."; }
 
 time_of() { echo "$(minutes "$1" 4) minutes ($(work_of "$1") of one processor)"; }
 
@@ -45,7 +38,7 @@ if [ "$what" = write ]; then
   for target in demo serve test; do
     sed -i -E "s/^(\| \`make $target\` \|.*\| )[^|]+ \|\$/\1$(time_of $target) |/" README.md
   done
-  sed -i "s/^The times come from .*/$(whose)/" README.md
+  sed -i "s/^The times are reckoned .*/$(whose)/" README.md
   exit
 fi
 
@@ -98,4 +91,4 @@ case $what in
   test) first="everything, from nothing. That" ;;
   *) exit 0 ;;
 esac
-echo "make $what proves $first takes some $(minutes "$what" "$processors") minutes on $on ($(work_of "$what") of one processor), by a run of the gate over $(work_of crates) crates."
+echo "make $what proves $first takes some $(minutes "$what" "$processors") minutes on $on ($(work_of "$what") of one processor), reckoned from an earlier run of the gate."
