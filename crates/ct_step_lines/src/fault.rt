@@ -151,7 +151,7 @@ pub(crate) struct NotBelieved {
 }
 
 impl From<ClaimFault> for NotBelieved {
-    ghost from_gives = { λ fault believed. OnOk believed.told (fault ≢ ClaimRefused Refused) };
+    ghost from_gives = { λ fault believed. MatchResult believed.told (λ _. fault ≢ ClaimRefused Refused) (λ _. fault ≡ ClaimRefused Refused) };
 
     fn from(fault: ClaimFault) -> NotBelieved {
         let told = match fault {
@@ -189,7 +189,7 @@ pub(crate) struct NotMade {
 }
 
 impl From<Refusal> for NotMade {
-    ghost from_gives = { λ refusal made. OnOk made.told (refusal ≢ Refused) };
+    ghost from_gives = { λ refusal made. MatchResult made.told (λ _. refusal ≢ Refused) (λ _. refusal ≡ Refused) };
 
     fn from(refusal: Refusal) -> NotMade {
         let told = match refusal {

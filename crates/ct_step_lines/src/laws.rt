@@ -3,13 +3,11 @@
 ghost use Rattle.ct_step_lines.specs.StepLaws.{BatchesAreSplit, ClaimsStandThere, FirstLineBegins, OneEntryAnIdentityByLines, ReceiptsNameEntries, RepliedStepsAreAttempts};
 
 /// The line that a log begins with is that of a log without entries.
-
 pub fn first_line_begins()
     ensures { FirstLineBegins }
 {}
 
 /// A step that is replied is one of the law over sequencers (`ct_step::laws::sequencers_over_lines`), whoever handed over the edge.
-
 pub fn replied_steps_are_attempts()
     ensures { RepliedStepsAreAttempts }
 {}
@@ -26,7 +24,7 @@ pub fn batches()
 {}
 
 /// Each submission of a batch gets the receipt of the first of its identity: its leaf index in the log, the moment, and the bytes of
-/// that leaf.
+/// that leaf; or two different strings with one digest are given.
 pub fn receipts()
     ensures { ReceiptsNameEntries }
 {}
