@@ -66,7 +66,7 @@ module _ (H : List ℕ → List ℕ) (long : (x : List ℕ) → length (H x) ≡
   hashes_32 zero D a = a
   hashes_32 (suc level) D a = chunks_32 (length (hashes H 256 level D) / 256) (hashes H 256 level D) (hashes_32 level D a)
 
-  edge_32 : (levels : ℕ) (D : List (List ℕ)) → AreHashes D → All AreHashes (edge H 256 levels D)
+  pub edge_32 : (levels : ℕ) (D : List (List ℕ)) → AreHashes D → All AreHashes (edge H 256 levels D)
   unfolding edge
   edge_32 zero D a = All-nil AreHashes
   edge_32 (suc levels) D a =

@@ -26,6 +26,16 @@ StopsGrowth state count now ClockBack = now < state.timestamp
 StopsGrowth state count now Full = (state.timestamp ≤ now) × (2 ^ 40 < state.edge.0 + count)
 StopsGrowth state count now (Refused refusal) = MayGrow state count now × (refusal ≡ refused.Memory)
 
+-- What a step of a state is, whatever leaves the log has. The first new leaf's index is the state's size (first); each entry has its
+-- receipt, in order, from that index on (receipts); the head has so many leaves more (size) and this moment (timestamp), which is that of the
+-- next state (moment).
+pub record IsGrownFrom (state : State) (entries : List SignedEntry) (now : ℕ) (g : Growth) : Type 0 where
+  pub first : g.first ≡ state.edge.0
+  pub receipts : map receipt_parts g.receipts.items ≡ receipts_from now state.edge.0 entries
+  pub size : g.head.tree_size ≡ state.edge.0 + length entries
+  pub timestamp : g.head.timestamp ≡ now
+  pub moment : g.state.timestamp ≡ now
+
 -- A step took these entries into the log with the leaves D at the moment `now`. The first new leaf's index is the number of leaves (first);
 -- each entry has its receipt, in order, from that index on (receipts); the tiles that are new or change are written (rows); the head is of
 -- all leaves (size, root) and of this moment (timestamp); and so is the next state (state, moment).

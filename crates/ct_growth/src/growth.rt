@@ -2,7 +2,7 @@
 
 ghost use Rattle.std.specs.Prelude.{◌≡◌, ℕ, List, length, map, IfOk, MatchResult};
 ghost use Rattle.ct_codec.specs.Submitted.{entry_of};
-ghost use Rattle.ct_growth.specs.Growths.{IsState, IsGrowth, MayGrow, StopsGrowth};
+ghost use Rattle.ct_growth.specs.Growths.{IsState, IsGrowth, IsGrownFrom, MayGrow, StopsGrowth};
 ghost use Rattle.ct_codec.specs.declared.refusal.Refusal.TheVariants as Refusal;
 ghost use Rattle.ct_growth.specs.declared.growth.GrowthFault.TheVariants.{Refused};
 
@@ -84,6 +84,7 @@ pub fn grow<H: NodeHash>(
     now: u64,
 ) -> Result<Growth, GrowthFault>
     ensures may { MatchResult result (λ _. MayGrow state.now (length batch.now) now) (StopsGrowth state.now (length batch.now) now) }
+    ensures grown { IfOk result (λ g. IsGrownFrom state.now (map entry_of batch.now) now g) }
     ensures growth { IfOk result (λ g. (D : List (List ℕ)) → IsState H.digest state.now D → IsGrowth H.digest D (map entry_of batch.now) now g) }
 {
     if now < state.timestamp {

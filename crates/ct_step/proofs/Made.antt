@@ -1,5 +1,5 @@
 -- What a step makes of a batch.
-use Rattle.std.proofs.Common.{◌≡◌, ◌⊎◌, ◌∙◌, ℕ, suc, ◌-◌, ◌/◌, ◌≤◌, ◌+◌, ◌^◌, true, false, List, [], ◌∷◌, ◌++◌, length, map, sym, refl, ap, subst, arith, inl, inr, ⊎_elim, Vec, Global}
+use Rattle.std.proofs.Common.{◌≡◌, ◌⊎◌, ◌∙◌, ℕ, suc, ◌-◌, ◌/◌, ◌≤◌, ◌+◌, ◌^◌, true, false, List, [], ◌∷◌, ◌++◌, length, map, sym, refl, ap, subst, arith, inl, inr, ⊎_elim, Vec, Global, All}
 use Rattle.std.specs.Str.{bytes_eq}
 use Rattle.std.proofs.lemmas.Bool.{cases_Bool, both_ways}
 use Rattle.std.proofs.lemmas.Slice.Eq.{bytes_eq-Decides}
@@ -14,16 +14,17 @@ use Rattle.ct_growth.specs.Growths.{IsState}
 use Rattle.ct_growth.specs.Leaves.{indexed_leaves}
 use Rattle.ct_growth.specs.declared.growth.State.{State}
 use Rattle.ct_growth.specs.declared.growth.GrowthFault.TheVariants.{ClockBack, Full, Refused}
-use Rattle.ct_growth.proofs.EdgesTell.{believed_edges_tell}
+use Rattle.ct_growth.proofs.EdgesTell.{believed_edges_tell, edges_are_believed, edge_32, leaves_32}
 use Rattle.ct_state_line.specs.declared.line.StateLine.{StateLine}
 use Rattle.ct_tiles.specs.Edge.{IsEdge}
 use Rattle.ct_tile_leaves.specs.TileLeaf.{Tiled, leaf_of, tile_leaf_text}
-use Rattle.ct_verify.specs.Laws.{SomeCollide}
-use Rattle.ct_step.specs.Entries.{tiled_at, tiled_leaves, texts_of, tree_leaves}
-use Rattle.ct_step.specs.Steps.{new_entries, last_tiles, line_head, AreBytesOf, IsLog, IsNamed, MayStep, StopsStep, StopsMade}
+use Rattle.ct_verify.specs.Laws.{AreHashes, SomeCollide}
+use Rattle.ct_step.specs.Entries.{tiled_at, tiled_leaves, texts_of, tree_leaves, hashes_of}
+use Rattle.ct_step.specs.Steps.{new_entries, last_tiles, line_head, tile_hashes, AreBytesOf, IsLog, IsNamed, IsEdgeOf, NamedEdgesTell, EdgesAreNamed, MayStep, StopsStep, StopsMade}
 use Rattle.ct_step.specs.declared.step.StepFault.{StepFault}
 use Rattle.ct_step.specs.declared.step.StepFault.TheVariants.{Edge, Entries, Growth, TooLong}
 use Rattle.ct_step.proofs.Batches.{Entry}
+use Rattle.ct_step.proofs.Handed.{all-back}
 use Rattle.ct_step.proofs.LinesAgree.{length-tiled}
 
 -- the leaves that entries become
@@ -71,27 +72,52 @@ last-made L N r d =
     ap (λ (x : List (List ℕ)). x ++ r.partial.items ∷ []) d.full
     ∙ ap (λ (x : List ℕ). data_tiles_from (length L / 256) (length (L ++ N) / 256 - length L / 256) (L ++ N) ++ x ∷ []) d.partial
 
--- what was believed is the log's
-pub log_tells : (H : List ℕ → List ℕ) → ((x : List ℕ) → length (H x) ≡ 32) → (line : StateLine) (entries : List ℕ) (T : List (List (List ℕ))) (state : State)
-    (E : List Tiled) → BelievesState H (line_head line) T state → H entries ≡ line.data_tile → IsLog H E line
-    → (IsState H state (tree_leaves E) × IsPartialTile (texts_of E) line.tree_size entries) ⊎ SomeCollide H
-log_tells H long line entries T state E b d log =
-    let D = tree_leaves E in
+-- the head that a line of a log names is that of its leaves
+over : (H : List ℕ → List ℕ) (line : StateLine) (E : List Tiled) → IsLog H E line → IsHeadOver H (tree_leaves E) (line_head line)
+over H line E log = (log.size ∙ sym (length-map E leaf_of), log.root, omega (arith, log.few, length-map E leaf_of))
+
+-- the partial data tile of a log has the digest that the log's line has
+tile_of_log : (L : List (List ℕ)) (n : ℕ) → length L ≡ n → data_tile (n / 256) L ≡ data_tile (length L / 256) L
+tile_of_log L n e = ap (λ (k : ℕ). data_tile (k / 256) L) (sym e)
+
+-- what a line names is the edge of a log that has the line
+pub named_edges_tell : NamedEdgesTell
+named_edges_tell H long line E edge entries named log =
     let texts : length (texts_of E) ≡ length E = length-map E tile_leaf_text in
-    let over : IsHeadOver H D (line_head line) =
-    (log.size ∙ sym (length-map E leaf_of), log.root, omega (arith, log.few, length-map E leaf_of)) in
     ⊎_elim
-    (λ (is : IsEdge H (line.tree_size, T) (map (hash_leaf H) D)).
+    (λ (is : IsEdge H (line.tree_size, named.tiles.0) (hashes_of H E)).
     ⊎_elim
     (λ (same : entries ≡ data_tile (length E / 256) (texts_of E)).
-    inl (
-      subst (λ (e : ℕ × List (List (List ℕ))). IsEdge H e (map (hash_leaf H) D)) (sym b.edge) is,
-      (log.size ∙ sym texts, same ∙ ap (λ (n : ℕ). data_tile (n / 256) (texts_of E)) (sym texts)),
-    ))
+    inl (record {
+      tiles = (named.tiles.0, named.tiles.1, is);
+      partial = (log.size ∙ sym texts, same ∙ tile_of_log (texts_of E) (length E) texts);
+    }))
     (λ (found : SomeCollide H). inr found)
-    (same_or_other H entries (data_tile (length E / 256) (texts_of E)) (d ∙ log.entries)))
+    (same_or_other H entries (data_tile (length E / 256) (texts_of E)) (named.digest ∙ log.entries)))
     (λ (found : SomeCollide H). inr found)
-    (believed_edges_tell H long (line_head line) D T over b.believed)
+    (believed_edges_tell H long (line_head line) (tree_leaves E) named.tiles.0 (over H line E log) named.tiles.2)
+
+-- the edge of a log is what its line names
+pub edges_are_named : EdgesAreNamed
+edges_are_named H long line E edge entries is log =
+    let texts : length (texts_of E) ≡ length E = length-map E tile_leaf_text in
+    record {
+      tiles = (is.tiles.0, is.tiles.1, edges_are_believed H long (line_head line) (tree_leaves E) is.tiles.0 (over H line E log) is.tiles.2);
+      digest = ap H (is.partial.1 ∙ sym (tile_of_log (texts_of E) (length E) texts)) ∙ sym log.entries;
+    }
+
+-- where the edge of a log was handed in, the state that was believed of it is the log's
+pub edge_state : (H : List ℕ → List ℕ) → ((x : List ℕ) → length (H x) ≡ 32) → (line : StateLine) (edge : List (List ℕ)) (entries : List ℕ)
+    (T : List (List (List ℕ))) (state : State) (E : List Tiled) → AreBytesOf T edge → BelievesState H (line_head line) T state
+    → IsEdgeOf H E line.tree_size edge entries → IsState H state (tree_leaves E)
+edge_state H long line edge entries T state E bytes b is =
+    let D = tree_leaves E in
+    let S : List (List (List ℕ)) = is.tiles.0 in
+    let shown : IsEdge H (line.tree_size, S) (map (hash_leaf H) D) = is.tiles.2 in
+    let hashes : All AreHashes S = subst (All AreHashes) (sym shown.tiles) (edge_32 H long 8 (map (hash_leaf H) D) (leaves_32 H long D)) in
+    let same : S ≡ T = sym (all-back S hashes) ∙ ap (map tile_hashes) (is.tiles.1 ∙ sym bytes) ∙ all-back T b.believed.hashes in
+    subst (λ (e : ℕ × List (List (List ℕ))). IsEdge H e (map (hash_leaf H) D)) (sym b.edge)
+    (subst (λ (t : List (List (List ℕ))). IsEdge H (line.tree_size, t) (map (hash_leaf H) D)) same shown)
 
 -- a fault of the state's step is the line's
 module _ (H : List ℕ → List ℕ) (long : (x : List ℕ) → length (H x) ≡ 32) (line : StateLine) (edge : List (List ℕ)) (entries : List ℕ) (B : List Entry) (now : ℕ) (T : List (List (List ℕ))) (state : State) (bytes : AreBytesOf T edge) (b : BelievesState H (line_head line) T state) (d : H entries ≡ line.data_tile) where
@@ -112,10 +138,5 @@ module _ (H : List ℕ → List ℕ) (long : (x : List ℕ) → length (H x) ≡
   stops_step (Growth Full) s =
       (named, omega (arith, b.moment, s.0), omega (arith, ap (λ (x : ℕ × List (List (List ℕ))). x.0) b.edge, s.1))
   stops_step (Growth (Refused refusal)) s = s.1
-  stops_step TooLong s = (
-    may_step s.0.0 s.0.1,
-    λ E log. ⊎_elim
-        (λ (is : IsState H state (tree_leaves E) × IsPartialTile (texts_of E) line.tree_size entries). inl (s.1 E is.0 is.1))
-        (λ (found : SomeCollide H). inr found)
-        (log_tells H long line entries T state E b d log),
-  )
+  stops_step TooLong s =
+      (may_step s.0.0 s.0.1, λ E is. s.1 E (edge_state H long line edge entries T state E bytes b is) is.partial)

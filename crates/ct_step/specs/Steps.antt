@@ -8,6 +8,7 @@ use Rattle.ct_codec.specs.Submitted.{Submitted, entry_of}
 use Rattle.ct_codec.specs.declared.refusal.Refusal.TheVariants as refused
 use Rattle.ct_tree.specs.Tree.{mth_of_leaves}
 use Rattle.ct_tree.specs.declared.head.Head.{Head}
+use Rattle.ct_tiles.specs.Edge.{IsEdge}
 use Rattle.ct_data_tiles.specs.DataTiles.{data_tile, data_tiles_from, IsPartialTile}
 use Rattle.ct_tile_leaves.specs.TileLeaf.{Tiled}
 use Rattle.ct_state_line.specs.Lines.{state_line_text}
@@ -59,6 +60,17 @@ pub record IsTiledStep (H : List ℕ → List ℕ) (line : StateLine) (E : List 
   pub moment : s.line.timestamp ≡ now
   pub digest : s.line.bundle ≡ H s.bundle.items
   pub before : s.line.before ≡ H (state_line_text line)
+
+-- What a step from a line is, whatever edge was handed in. Each submission has its receipt, in order, from the line's size on (receipts);
+-- the next line has so many entries more (size), the moment `now` (moment), and the digests of the bundle (digest) and of the text of the
+-- line before (before); and what is signed for the head is what this line names (signed).
+pub record IsStepFrom (H : List ℕ → List ℕ) (line : StateLine) (batch : List (Submitted × List (List ℕ))) (now : ℕ) (s : Step) : Type 0 where
+  pub receipts : map receipt_parts s.receipts.items ≡ receipts_from now line.tree_size (map (λ e. entry_of e.0) batch)
+  pub size : s.line.tree_size ≡ line.tree_size + length batch
+  pub moment : s.line.timestamp ≡ now
+  pub digest : s.line.bundle ≡ H s.bundle.items
+  pub before : s.line.before ≡ H (state_line_text line)
+  pub signed : s.signed.items ≡ tree_head_text now s.line.tree_size s.line.root
 
 -- the line behind another, with a head, a bundle and a partial data tile
 abbrev pub line_behind : (List ℕ → List ℕ) → StateLine → Head → List ℕ → List ℕ → StateLine
@@ -112,6 +124,24 @@ pub record IsNamed (H : List ℕ → List ℕ) (line : StateLine) (edge : List (
   pub tiles : (T : List (List (List ℕ))) × AreBytesOf T edge × AreBelieved H (line_head line) T
   pub digest : H entries ≡ line.data_tile
 
+-- What was handed in is the edge of the log with the entries E, of which there are so many: the bytes are those of its partial tiles
+-- (tiles) and of its partial data tile (partial).
+pub record IsEdgeOf (H : List ℕ → List ℕ) (E : List Tiled) (size : ℕ) (edge : List (List ℕ)) (entries : List ℕ) : Type 0 where
+  pub tiles : (T : List (List (List ℕ))) × AreBytesOf T edge × IsEdge H (size, T) (hashes_of H E)
+  pub partial : IsPartialTile (texts_of E) size entries
+
+-- What a line names is the edge of each log that has the line, or two different strings with one hash are given.
+abbrev pub NamedEdgesTell : Type 0
+NamedEdgesTell =
+    (H : List ℕ → List ℕ) → ((x : List ℕ) → length (H x) ≡ 32) → (line : StateLine) (E : List Tiled) (edge : List (List ℕ)) (entries : List ℕ)
+    → IsNamed H line edge entries → IsLog H E line → IsEdgeOf H E line.tree_size edge entries ⊎ SomeCollide H
+
+-- The edge of a log is what its line names.
+abbrev pub EdgesAreNamed : Type 0
+EdgesAreNamed =
+    (H : List ℕ → List ℕ) → ((x : List ℕ) → length (H x) ≡ 32) → (line : StateLine) (E : List Tiled) (edge : List (List ℕ)) (entries : List ℕ)
+    → IsEdgeOf H E line.tree_size edge entries → IsLog H E line → IsNamed H line edge entries
+
 -- the data tiles from the one on that was partial, full ones and the one behind them, where the texts N come behind L
 abbrev pub last_tiles : List (List ℕ) → List (List ℕ) → List (List ℕ)
 last_tiles L N =
@@ -130,7 +160,7 @@ pub record MayStep (H : List ℕ → List ℕ) (line : StateLine) (edge : List (
 
 -- Why there is no step. Edge: the partial tiles aren't believed. Entries: they are, and the partial data tile isn't the line's. ClockBack: both
 -- are, and the moment is before the line's. Full: it isn't, and the log would have more than 2^40 leaves. TooLong: it wouldn't, and of every
--- log that has this line a data tile would have 2^32 bytes or more, or two different strings with one hash are given. Refused: the
+-- log that has this edge a data tile would have 2^32 bytes or more. Refused: the
 -- refusal is for want of memory.
 abbrev pub StopsStep : (List ℕ → List ℕ) → StateLine → List (List ℕ) → List ℕ → List (Submitted × List (List ℕ)) → ℕ → StepFault → Type 0
 StopsStep H line edge entries batch now Edge = NotBelieved H line edge
@@ -141,7 +171,7 @@ StopsStep H line edge entries batch now (Growth Full) =
     IsNamed H line edge entries × (line.timestamp ≤ now) × (2 ^ 40 < line.tree_size + length batch)
 StopsStep H line edge entries batch now (Growth (Refused refusal)) = refusal ≡ refused.Memory
 StopsStep H line edge entries batch now TooLong =
-    MayStep H line edge entries batch now × ((E : List Tiled) → IsLog H E line → GetsLong E batch now ⊎ SomeCollide H)
+    MayStep H line edge entries batch now × ((E : List Tiled) → IsEdgeOf H E line.tree_size edge entries → GetsLong E batch now)
 
 -- why there is no step of a state, where what was handed in is believed
 abbrev pub StopsMade : (List ℕ → List ℕ) → StateLine → State → List ℕ → List (Submitted × List (List ℕ)) → ℕ → StepFault → Type 0

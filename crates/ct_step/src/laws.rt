@@ -1,6 +1,7 @@
-//! What follows over many steps, a clause of a function that does nothing.
+//! What follows of the definitions, each a clause of a function that does nothing.
 
 ghost use Rattle.ct_step.specs.Lines.{LineSequencersAgree};
+ghost use Rattle.ct_step.specs.Steps.{EdgesAreNamed, NamedEdgesTell};
 
 /// However many sequencers carry on a log over one register, each handed its edge and its partial data tile by whoever keeps them, and
 /// wherever they stop: all that was written and promised by the steps whose lines the register took is of one list of entries, whose
@@ -8,4 +9,11 @@ ghost use Rattle.ct_step.specs.Lines.{LineSequencersAgree};
 #[tactic(auto, using(crate::proofs::LinesAgree::line_sequencers_agree))]
 pub fn sequencers_over_lines()
     ensures { LineSequencersAgree }
+{}
+
+/// What a line names is the edge of each log that has the line, or two different strings with one digest are given. The edge of a log is
+/// what its line names.
+pub fn edges()
+    ensures tell { NamedEdgesTell }
+    ensures named { EdgesAreNamed }
 {}

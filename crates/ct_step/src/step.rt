@@ -8,13 +8,12 @@ ghost use Rattle.ct_growth.specs.Growths.{IsState, MayGrow};
 ghost use Rattle.ct_growth.specs.Believed.{BelievesState};
 ghost use Rattle.ct_growth.specs.declared.growth.GrowthFault.TheVariants.{Refused};
 ghost use Rattle.ct_tile_leaves.specs.TileLeaf.{Tiled};
-ghost use Rattle.ct_verify.specs.Laws.{SomeCollide};
 ghost use Rattle.ct_tiles.specs.Tiles.{rows};
 ghost use Rattle.ct_data_tiles.specs.DataTiles.{IsDataRow};
 ghost use Rattle.ct_bundles.specs.Bundle.{bundle_text};
 ghost use Rattle.ct_step.specs.Objects.{level_objects, data_objects, row_tiles, FitsInBundle};
 ghost use Rattle.ct_step.specs.Entries.{tree_leaves, texts_of};
-ghost use Rattle.ct_step.specs.Steps.{line_head, of_edge, line_behind, IsLog, IsTiledStep, MayStep, StopsStep, StopsMade, StopsTiles, StopsState, AreBytesOf, AreReadFrom, tile_hashes};
+ghost use Rattle.ct_step.specs.Steps.{line_head, of_edge, line_behind, IsEdgeOf, IsStepFrom, IsTiledStep, MayStep, StopsStep, StopsMade, StopsTiles, StopsState, AreBytesOf, AreReadFrom, tile_hashes};
 ghost use Rattle.ct_step.specs.declared.step.StepFault.TheVariants.{Growth};
 
 use crate::batch::Batch;
@@ -208,6 +207,7 @@ fn step_of<H: NodeHash>(
 ) -> Result<Step, StepFault>
     requires { state.now.edge.0 ≡ line.now.tree_size }
     ensures may { MatchResult result (λ _. MayGrow state.now (length batch.now) now) (StopsMade H.digest line.now state.now entries.now batch.now now) }
+    ensures from { IfOk result (λ s. IsStepFrom H.digest line.now batch.now now s) }
     ensures step { IfOk result (λ s. (E : List Tiled) → IsState H.digest state.now (tree_leaves E) → IsPartialTile (texts_of E) line.now.tree_size entries.now
         → IsTiledStep H.digest line.now E batch.now now s) }
 {
@@ -249,7 +249,9 @@ pub fn take_step<H: NodeHash>(
 ) -> Result<Step, StepFault>
     ensures may { MatchResult result (λ _. MayStep H.digest line.now (map (λ b. b.items) edge.now) entries.now batch.now now)
         (StopsStep H.digest line.now (map (λ b. b.items) edge.now) entries.now batch.now now) }
-    ensures step { IfOk result (λ s. (E : List Tiled) → IsLog H.digest E line.now → IsTiledStep H.digest line.now E batch.now now s ⊎ SomeCollide H.digest) }
+    ensures from { IfOk result (λ s. IsStepFrom H.digest line.now batch.now now s) }
+    ensures step { IfOk result (λ s. (E : List Tiled) → IsEdgeOf H.digest E line.now.tree_size (map (λ b. b.items) edge.now) entries.now
+        → IsTiledStep H.digest line.now E batch.now now s) }
 {
     let state = state_of(alloc, h, line, edge)?;
     if !has_digest(h, entries, &line.data_tile) {

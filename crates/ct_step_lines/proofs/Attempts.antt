@@ -1,11 +1,13 @@
 -- A step that is replied is an attempt of the law over sequencers.
-use Rattle.std.proofs.Common.{◌≡◌, ◌⊎◌, ℕ, Bool, List, [], Option, Some, None, refl, sym, subst, inl, inr, arith}
+use Rattle.std.proofs.Common.{◌≡◌, ◌⊎◌, ℕ, Bool, List, [], Option, Some, None, refl, sym, subst, inl, inr, ⊎_elim, arith}
 use Rattle.sha2.specs.Sha256.{sha256}
+use Rattle.sha2.proofs.Facts256.{length-sha256}
 use Rattle.ct_codec.specs.Submitted.{Submitted}
 use Rattle.ct_state_line.specs.declared.line.StateLine.{StateLine}
 use Rattle.ct_state_line.proofs.Lines.{state_lines_differ}
 use Rattle.ct_step.specs.Lines.{IsMadeOfLine}
-use Rattle.ct_step.specs.Steps.{IsTiledStep}
+use Rattle.ct_step.specs.Steps.{IsEdgeOf, IsTiledStep}
+use Rattle.ct_step.proofs.Made.{named_edges_tell}
 use Rattle.ct_step.specs.declared.step.Step.{Step}
 use Rattle.ct_tree.specs.Tree.{mth, mth_within}
 use Rattle.ct_verify.specs.Laws.{SomeCollide}
@@ -32,7 +34,12 @@ attempt line batch now step places took None is = absurd (no_refusal step places
 attempt line batch now step places took (Some edge) (inl tells) =
     let same : step ≡ tells.0 = same_step step tells.0 places _ tells.1 in (
       tells.2.later,
-      λ E log. subst (λ (s : Step). IsTiledStep sha256 line E (first_of_each [] batch) now s ⊎ SomeCollide sha256) (sym same) (tells.3 E log),
+      λ E log.
+          subst (λ (s : Step). IsTiledStep sha256 line E (first_of_each [] batch) now s ⊎ SomeCollide sha256) (sym same)
+          (⊎_elim
+          (λ (is : IsEdgeOf sha256 E line.tree_size edge.0 edge.1). inl (tells.4 E is))
+          (λ (found : SomeCollide sha256). inr found)
+          (named_edges_tell sha256 length-sha256 line E edge.0 edge.1 tells.2.named log)),
     )
 attempt line batch now step places took (Some edge) (inr none) = absurd (no_refusal step places none.1 none.2)
 

@@ -1,5 +1,5 @@
 -- What a batch without its repeats is, and where the receipts of the whole batch stand.
-use Rattle.std.proofs.Common.{◌≡◌, ◌⊎◌, ◌∙◌, ℕ, zero, suc, ◌+◌, ◌<◌, Bool, true, false, ◌||◌, not, cond, List, [], ◌∷◌, ◌++◌, length, map, get_or, All, Some, None, Option, sym, refl, ap, subst, arith, inl, inr, append_assoc, append-nil, length-append}
+use Rattle.std.proofs.Common.{◌≡◌, ◌∙◌, ℕ, zero, suc, ◌+◌, ◌<◌, Bool, true, false, ◌||◌, not, cond, List, [], ◌∷◌, ◌++◌, length, map, get_or, All, Some, None, Option, sym, refl, ap, subst, arith, inl, inr, append_assoc, append-nil, length-append}
 use Rattle.std.specs.Prelude.{filter_map, slice_get}
 use Rattle.std.specs.List.{list_any, position_or_len, cons_option}
 use Rattle.std.specs.Str.{bytes_eq}
@@ -14,10 +14,9 @@ use Rattle.ct_repeats.specs.Identities.{AreApart}
 use Rattle.ct_state_line.specs.declared.line.StateLine.{StateLine}
 use Rattle.ct_state_line.proofs.Lines.{state_lines_differ}
 use Rattle.ct_step.specs.Entries.{tiled_leaves, tree_leaves}
-use Rattle.ct_step.specs.Steps.{IsLog, IsTiledStep}
+use Rattle.ct_step.specs.Steps.{IsLog, IsStepFrom}
 use Rattle.ct_step.specs.declared.step.Step.{Step}
 use Rattle.ct_tile_leaves.specs.TileLeaf.{Tiled}
-use Rattle.ct_verify.specs.Laws.{SomeCollide}
 use Rattle.ct_step_lines.specs.StepAnswers.{edge_of, IsStepReply}
 use Rattle.ct_step_lines.specs.StepLaws.{BatchesAreSplit, ReceiptsNameEntries, receipt_of_place}
 use Rattle.ct_step_lines.specs.StepRepeats.{BatchEntry, is_known, with_identity, first_of_each, places_of_all, identities_of}
@@ -148,18 +147,16 @@ same_step : (s t : Step) (p q : List ℕ) → steps s p ≡ steps t q → (s ≡
 same_step s t p q e = (cc, cc)
 
 abbrev Named : StateLine → List BatchEntry → ℕ → List Tiled → Step → List ℕ → Type 0
-Named line batch now E step places =
-    (receipts_at step places ≡ map (receipt_of_place E (first_of_each [] batch) now) (places_of_all [] batch)) ⊎ SomeCollide sha256
+Named line batch now E step places = receipts_at step places ≡ map (receipt_of_place E (first_of_each [] batch) now) (places_of_all [] batch)
 
 named : (line : StateLine) (batch : List BatchEntry) (now : ℕ) (E : List Tiled) (step : Step)
-    → IsTiledStep sha256 line E (first_of_each [] batch) now step ⊎ SomeCollide sha256 → Named line batch now E step (places_of_all [] batch)
-named line batch now E step (inl is) =
+    → IsStepFrom sha256 line (first_of_each [] batch) now step → line.tree_size ≡ length E → Named line batch now E step (places_of_all [] batch)
+named line batch now E step is size =
     let F = first_of_each [] batch in
     let P = places_of_all [] batch in
-    inl (ap (λ x. filter_map (slice_get x) P) is.receipts
+    ap (λ x. filter_map (slice_get x) P) (is.receipts ∙ ap (λ (n : ℕ). receipts_from now n (map (λ e. entry_of e.0) F)) size)
     ∙ all_there (slice_get (receipts_from now (length E) (map (λ e. entry_of e.0) F))) (receipt_of_place E F now) (length F) P
-    (receipt_there now (length E) F) (places_within batch))
-named line batch now E step (inr found) = inr found
+    (receipt_there now (length E) F) (places_within batch)
 
 told : (line : StateLine) (batch : List BatchEntry) (now : ℕ) (step : Step) (places : List ℕ) (E : List Tiled) (edge : Option (List (List ℕ) × List ℕ))
     → IsStepReply line edge batch now (steps step places) → IsLog sha256 E line → Named line batch now E step places
@@ -168,7 +165,7 @@ told line batch now step places E (Some edge) (inl tells) log =
     let same = same_step step tells.0 places (places_of_all [] batch) tells.1 in
     subst (λ (p : List ℕ). Named line batch now E step p) (sym same.1)
     (subst (λ (s : Step). Named line batch now E s (places_of_all [] batch)) (sym same.0)
-    (named line batch now E tells.0 (tells.3 E log)))
+    (named line batch now E tells.0 tells.3 log.size))
 told line batch now step places E (Some edge) (inr none) log = absurd (no_refusal step places none.1 none.2)
 
 pub receipts_name_entries : ReceiptsNameEntries

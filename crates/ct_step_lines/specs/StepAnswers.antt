@@ -11,12 +11,11 @@ use Rattle.ct_repeats.specs.Claims.{IsBelievedAt, IsAnsweredAt}
 use Rattle.ct_repeats.specs.declared.claim.Claim.{Claim}
 use Rattle.ct_state_line.specs.Lines.{IsStateLine, NoStateLine, state_line_text}
 use Rattle.ct_state_line.specs.declared.line.StateLine.{StateLine}
-use Rattle.ct_step.specs.Steps.{line_head, IsLog, IsTiledStep, MayStep, StopsStep}
+use Rattle.ct_step.specs.Steps.{line_head, IsEdgeOf, IsStepFrom, IsTiledStep, MayStep, StopsStep}
 use Rattle.ct_step.specs.declared.step.Step.{Step}
 use Rattle.ct_step.specs.declared.step.StepFault.{StepFault}
 use Rattle.ct_step.specs.declared.step.StepFault.TheVariants.{Edge, Entries, Growth, TooLong}
 use Rattle.ct_tile_leaves.specs.TileLeaf.{Tiled}
-use Rattle.ct_verify.specs.Laws.{SomeCollide}
 use Rattle.ct_step_lines.specs.StepAsks.{StepAsk, for_begin, for_needs, for_step, for_too_many, for_resume, for_claim, for_no_step}
 use Rattle.ct_step_lines.specs.StepRepeats.{first_of_each, places_of_all}
 use Rattle.ct_step_lines.specs.StepWords.{IsTileName, StepReply, begins, names_edge, steps, rolls_out, stands, refuses}
@@ -80,12 +79,13 @@ NamesStepFault (Growth (Refused refusal)) r = ⊥
 NamesStepFault TooLong r = r ≡ name.TooLong
 
 -- The reply tells a step from a line with these partial tiles and this partial data tile, a batch and a moment: the first entry of each
--- identity in it may be taken in, and of every log that has the line it is the step of these, or two different strings with one SHA-256 are
--- given. Each submission of the batch has the receipt at the place of its identity.
+-- identity in it may be taken in, it is a step of these from the line, and of every log whose edge was handed in the step of that log. Each
+-- submission of the batch has the receipt at the place of its identity.
 abbrev pub TellsStep : StateLine → List (List ℕ) × List ℕ → List (Submitted × List (List ℕ)) → ℕ → StepReply → Type 0
 TellsStep line edge batch now reply =
     (s : Step) × (reply ≡ steps s (places_of_all [] batch)) × MayStep sha256 line edge.0 edge.1 (first_of_each [] batch) now
-    × ((E : List Tiled) → IsLog sha256 E line → IsTiledStep sha256 line E (first_of_each [] batch) now s ⊎ SomeCollide sha256)
+    × IsStepFrom sha256 line (first_of_each [] batch) now s
+    × ((E : List Tiled) → IsEdgeOf sha256 E line.tree_size edge.0 edge.1 → IsTiledStep sha256 line E (first_of_each [] batch) now s)
 
 -- the reply tells by its name why there is no such step
 abbrev pub TellsNoStep : StateLine → List (List ℕ) × List ℕ → List (Submitted × List (List ℕ)) → ℕ → StepReply → Type 0

@@ -53,13 +53,12 @@ BatchesAreSplit = (batch : List BatchEntry) → IsSplit batch (first_of_each [] 
 abbrev pub receipt_of_place : List Tiled → List BatchEntry → ℕ → ℕ → ℕ × ℕ × List ℕ
 receipt_of_place E firsts now i = (length E + i, now, slice_index_or (tree_leaves (new_entries E firsts now)) i [])
 
--- In a reply to a step each submission of the batch has the receipt of the entry at its identity's place, in every log that has the state's line;
--- or two different strings with one SHA-256 are given.
+-- In a reply to a step each submission of the batch has the receipt of the entry at its identity's place, in every log that has the state's line.
 abbrev pub ReceiptsNameEntries : Type 0
 ReceiptsNameEntries =
     (line : StateLine) (batch : List BatchEntry) (contents : List (List ℕ)) (now : ℕ) (step : Step) (places : List ℕ) (E : List Tiled) → IsStateLine line
     → IsReplyTo (for_step batch contents now (state_line_text line)) (steps step places) → IsLog sha256 E line
-    → (receipts_at step places ≡ map (receipt_of_place E (first_of_each [] batch) now) (places_of_all [] batch)) ⊎ SomeCollide sha256
+    → receipts_at step places ≡ map (receipt_of_place E (first_of_each [] batch) now) (places_of_all [] batch)
 
 -- An attempt to carry on the log by lines, whose submissions were looked up first: the identities that the store had a place for then (stored);
 -- the batch that the line was given, of the submissions for which it was said to have none (batch); and the attempt itself (attempt), which

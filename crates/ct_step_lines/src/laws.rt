@@ -24,7 +24,7 @@ pub fn batches()
 {}
 
 /// Each submission of a batch gets the receipt of the first of its identity: its leaf index in the log, the moment, and the bytes of
-/// that leaf; or two different strings with one digest are given.
+/// that leaf, whatever edge was handed in.
 pub fn receipts()
     ensures { ReceiptsNameEntries }
 {}

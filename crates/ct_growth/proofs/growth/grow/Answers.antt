@@ -9,6 +9,17 @@ use Rattle.ct_growth.specs.declared.receipts.Receipt.{Receipt}
 use Rattle.ct_growth.proofs.Steps.{length-indexed, signed_hashes}
 use Rattle.ct_growth.proofs.growth.grow.Goals as goal
 
+pub returns-clause-grown : goal.returns-clause-grown
+returns-clause-grown g c =
+    let entries = map entry_of c.args.batch.now in
+    record {
+      first = c.size-first.ensures;
+      receipts = c.in_ok-receipts.ensures.receipts ∙ ap (λ (n : ℕ). receipts_from c.args.now n entries) c.size-first.ensures;
+      size = omega (arith, c.size-first.ensures, length-map c.args.batch.now entry_of);
+      timestamp = refl;
+      moment = refl;
+    }
+
 pub returns-clause-growth : goal.returns-clause-growth
 returns-clause-growth g c = λ D s.
     let H = g.H.NodeHash.digest in

@@ -10,7 +10,7 @@ use Rattle.ct_tiles.specs.Tiles.{rows}
 use Rattle.ct_data_tiles.specs.DataTiles.{data_tile, IsDataRow}
 use Rattle.ct_data_tiles.proofs.Tiles.{text_in}
 use Rattle.ct_state_line.specs.declared.line.StateLine.{StateLine}
-use Rattle.ct_growth.specs.Growths.{IsGrowth}
+use Rattle.ct_growth.specs.Growths.{IsGrowth, IsGrownFrom}
 use Rattle.ct_growth.specs.Leaves.{receipts_from, indexed_leaves}
 use Rattle.ct_growth.proofs.EdgesTell.{leaves_32}
 use Rattle.ct_growth.proofs.Roots.{has_32}
@@ -51,6 +51,32 @@ bundle_of-requires-clause-size g c =
       c.in_ok-texts.texts.ok.0,
       count-made c.args.now c.args.line.now.tree_size B c.in_ok-texts.texts.items c.in_ok-texts.ensures.texts,
     )
+
+pub returns-clause-from : goal.returns-clause-from
+returns-clause-from g c =
+    let now = c.args.now in
+    let line : StateLine = c.args.line.now in
+    let next : StateLine = c.in_ok-next.next in
+    let B : List Entry = c.args.batch.now in
+    let grown : IsGrownFrom c.args.state.now (map entry_of c.submissions.result.now) now c.in_ok-growth.growth = c.in_ok-growth.ensures.grown in
+    record {
+      receipts = grown.receipts
+          ∙ ap (λ (n : ℕ). receipts_from now n (map entry_of c.submissions.result.now)) c.requires
+          ∙ ap (λ (x : List Submitted). receipts_from now line.tree_size (map entry_of x)) c.submissions.ensures
+          ∙ ap (receipts_from now line.tree_size) (map-map entry_of (λ (e : Entry). e.0) B);
+      size = omega (
+        arith,
+        ap (λ (x : StateLine). x.tree_size) c.in_ok-next.ensures,
+        grown.size,
+        c.requires,
+        length-map c.submissions.result.now entry_of,
+        batch-size B c.submissions.result.now c.submissions.ensures,
+      );
+      moment = ap (λ (x : StateLine). x.timestamp) c.in_ok-next.ensures ∙ grown.timestamp;
+      digest = ap (λ (x : StateLine). x.bundle) c.in_ok-next.ensures ∙ ap g.H.NodeHash.digest c.deref-3.ensures.value;
+      before = ap (λ (x : StateLine). x.before) c.in_ok-next.ensures;
+      signed = c.in_ok-tree_head_signature_input.ensures.text;
+    }
 
 pub returns-clause-step : goal.returns-clause-step
 returns-clause-step g c = λ E s p.

@@ -13,7 +13,7 @@ returns-in-Ok c =
     let places = rw (c.deref.ensures.value, c.in_ok-split.ensures.places) at c.stepped_line.ensures in
     by_reply c.stepped_line.result (option_map string_bytes c.args.origin.now) (steps c.in-Ok.step (places_of_all [] batch))
     (IsStepReply c.args.line.now (Some (map (λ b. b.items) c.args.edge.now, c.args.entries.now)) batch c.args.now)
-    (inl (c.in-Ok.step, refl, rw c.in_ok-split.ensures.firsts at c.in-Ok.ensures.may, rw c.in_ok-split.ensures.firsts at c.in-Ok.ensures.step)) places
+    (inl (c.in-Ok.step, refl, rw c.in_ok-split.ensures.firsts at c.in-Ok.ensures.may, rw c.in_ok-split.ensures.firsts at c.in-Ok.ensures.from, rw c.in_ok-split.ensures.firsts at c.in-Ok.ensures.step)) places
 
 pub returns-in-Some : goal.returns-in-Some
 returns-in-Some c =
