@@ -10,15 +10,15 @@ use Rattle.std.proofs.lemmas.Bool.Decides.{nat_tests}
 use Rattle.std.proofs.lemmas.Str.{IsUtf8-from_is_utf8, is_utf8-from_IsUtf8}
 use Rattle.std.proofs.lemmas.Option.{none-some}
 use Rattle.serde_json.specs.Read.{read}
-use Rattle.ct_lines.specs.Asked.{Asked, IsRequest, asked_in}
+use Rattle.ct_lines.specs.Asked.{Asked, by_frozen, FrozenAsked, IsRequest, asked_in}
 use Rattle.ct_codec.specs.declared.refusal.Refusal.{Refusal}
 use Rattle.ct_codec.specs.declared.refusal.Refusal.TheVariants.{Memory, BadLine}
 use Rattle.ct_core.specs.declared.query.Reply.{Reply}
 use Rattle.ct_core.specs.Settlement.{Log}
-use Rattle.ct_core.specs.Replies.{refused}
+use Rattle.ct_core.specs.Replies.{Answer, refused}
 use Rattle.ct_lines.specs.ReplyText.{answered, reply_line}
 use Rattle.ct_lines.specs.Serving.{reply_if}
-use Rattle.ct_lines.specs.Frozen.{request_of, asked_answer, answer_if, line_answer, Answers, frozen_reply}
+use Rattle.ct_lines.specs.Frozen.{request_of, asked_answer, answer_if, frozen_answer, line_answer, Answers, frozen_reply}
 
 -- what a text asks
 abbrev asks : List ℕ → Option Asked
@@ -58,30 +58,41 @@ asked_line log line a r = sym (ap (answer_if log) (request_of-is line a r))
 pub bad_line : (log : Log) (line : List ℕ) → ((a : Asked) → IsRequest line a → ⊥) → refused BadLine ≡ line_answer log line
 bad_line log line h = sym (ap (answer_if log) (no_request line h))
 
+-- the text of what was answered, where no growth was refused
+text_as : (a : Answer) (text : List ℕ) (r : Result Reply Refusal) → Answers r a → (r ≡ Err Memory → ⊥) → text ≡ reply_line (answered r) → text ≡ reply_line a
+text_as a text (Ok x) is h e = e ∙ ap reply_line is
+text_as a text (Err f) (inl same) h e = absurd (h (ap Err same))
+text_as a text (Err f) (inr is) h e = e ∙ ap reply_line is
+
+text_ok : (a : Answer) (t : Result (Vec ℕ Global) AllocError) (r : Result Reply Refusal) → IfOk t (λ b. b.items ≡ reply_line (answered r)) → Answers r a
+    → (r ≡ Err Memory → ⊥) → IfOk t (λ b. b.items ≡ reply_line a)
+text_ok a (Ok b) r e is h = text_as a b.items r is h e
+text_ok a (Err f) r e is h = tt
+
+-- of what is told
+pub text_told : (a : Answer) (t : Result (Vec ℕ Global) AllocError) (r told : Result Reply Refusal) (o : Result (Result Reply Refusal) AllocError)
+    → o ≡ Ok told → MatchResult o (λ x. (x ≡ r) × (r ≢ Err Memory)) (λ _. r ≡ Err Memory) → IfOk t (λ b. b.items ≡ reply_line (answered told))
+    → Answers r a → IfOk t (λ b. b.items ≡ reply_line a)
+text_told a t r told o e said text is =
+    let same : (told ≡ r) × (r ≢ Err Memory) =
+    subst (λ (x : Result (Result Reply Refusal) AllocError). MatchResult x (λ y. (y ≡ r) × (r ≢ Err Memory)) (λ _. r ≡ Err Memory)) e said in
+    text_ok a t r (subst (λ (x : Result Reply Refusal). IfOk t (λ b. b.items ≡ reply_line (answered x))) same.0 text) is same.1
+
 -- the reply to a line
-reply_as : (log : Log) (line text : List ℕ) (r : Result Reply Refusal) → Answers r (line_answer log line) → (r ≡ Err Memory → ⊥)
-    → text ≡ reply_line (answered r) → text ≡ frozen_reply log line
-unfolding frozen_reply
-reply_as log line text (Ok x) a h e = e ∙ ap reply_line a
-reply_as log line text (Err f) (inl same) h e = absurd (h (ap Err same))
-reply_as log line text (Err f) (inr a) h e = e ∙ ap reply_line a
-
-pub reply_ok : (log : Log) (line : List ℕ) (t : Result (Vec ℕ Global) AllocError) (r : Result Reply Refusal)
-    → IfOk t (λ b. b.items ≡ reply_line (answered r)) → Answers r (line_answer log line)
-    → (r ≡ Err Memory → ⊥) → IfOk t (λ b. b.items ≡ frozen_reply log line)
-reply_ok log line (Ok b) r e a h = reply_as log line b.items r a h e
-reply_ok log line (Err f) r e a h = tt
-
--- of what is told where no growth was refused
 pub reply_told : (log : Log) (line : List ℕ) (t : Result (Vec ℕ Global) AllocError) (r told : Result Reply Refusal)
     (o : Result (Result Reply Refusal) AllocError) → o ≡ Ok told
     → MatchResult o (λ x. (x ≡ r) × (r ≢ Err Memory)) (λ _. r ≡ Err Memory) → IfOk t (λ b. b.items ≡ reply_line (answered told))
     → Answers r (line_answer log line)
     → IfOk t (λ b. b.items ≡ frozen_reply log line)
-reply_told log line t r told o e said text a =
-    let same : (told ≡ r) × (r ≢ Err Memory) =
-    subst (λ (x : Result (Result Reply Refusal) AllocError). MatchResult x (λ y. (y ≡ r) × (r ≢ Err Memory)) (λ _. r ≡ Err Memory)) e said in
-    reply_ok log line t r (subst (λ (x : Result Reply Refusal). IfOk t (λ b. b.items ≡ reply_line (answered x))) same.0 text) a same.1
+unfolding frozen_reply
+reply_told log line t r told o e said text a = text_told (line_answer log line) t r told o e said text a
+
+-- the reply to a request is that to each line that is this request
+pub reply_of_line : (log : Log) (r : FrozenAsked) (t : Result (Vec ℕ Global) AllocError) → IfOk t (λ b. b.items ≡ reply_line (frozen_answer log r))
+    → IfOk t (λ b. (line : List ℕ) → IsRequest line (by_frozen r) → b.items ≡ frozen_reply log line)
+unfolding frozen_reply
+reply_of_line log r (Ok b) e = λ line is. e ∙ ap reply_line (asked_line log line (by_frozen r) is)
+reply_of_line log r (Err f) e = tt
 
 pub reply_too_long : (log : Log) (line : List ℕ) → 1048576 < length line → reply_line (refused BadLine) ≡ frozen_reply log line
 unfolding frozen_reply

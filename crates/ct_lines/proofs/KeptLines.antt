@@ -1,14 +1,15 @@
 -- What is kept of a line, piece by piece.
 use Rattle.std.proofs.Common.{◌≡◌, ◌⊎◌, inl, inr, ◌≢◌, ◌<◌, ◌≤◌, ◌+◌, ◌-◌, ℕ, zero, suc, Bool, true, false, cond, List, [], ◌∷◌, ◌++◌, All, length, take, get_or, min, eqb, ◌&&◌}
-use Rattle.std.proofs.Common.{Option, Some, None, Result, Ok, Err, IfSome, refl, sym, ap, ◌∙◌, arith, append_assoc, append-nil, le_refl, length-append}
+use Rattle.std.proofs.Common.{Option, Some, None, Result, Ok, Err, IfSome, refl, sym, ap, subst, ◌∙◌, arith, append_assoc, append-nil, le_refl, length-append}
 use Rattle.std.proofs.Common.{length-take-le, ne_eqb, take_all}
 use Rattle.std.proofs.lemmas.Bool.{cases_lt, lt-ltb}
-use Rattle.std.proofs.lemmas.List.{length-take, take-append-le}
+use Rattle.std.proofs.lemmas.List.{length-take, take-append-le, take_more}
 use Rattle.std.proofs.lemmas.List.Elements.{All-append, All-get_or, All-take}
 use Rattle.std.proofs.Math.Seq.{get_or-append_seam, take-append-add, take-append_seam}
 use Rattle.std.specs.Prelude.{OnErr}
 use Rattle.std.proofs.KnownBytes.{Consumes-nil, Consumes-kept, Consumes-trans}
 use Rattle.std.proofs.BufReadLemmas.{Consumes_through, take_through-nil, take_through_nonempty}
+use Rattle.std.specs.Io.{StopsAt, IsEmptyOrEndsWith}
 use Rattle.std.specs.Io.KnownBytes.{Consumes, Keeps}
 use Rattle.std.specs.Io.BufRead.{drop_through, ends_with_byte, first_piece, strip_last, take_through, DropsThrough}
 use Rattle.ct_lines.specs.Lines.{kept_line, IsKeptOf, IsFirstLine, TakesNext, TakesPiece, TakesFirstLine}
@@ -212,3 +213,29 @@ pub ends_on : (most : ℕ) (kept held line bs : List ℕ) → kept ≡ take most
 ends_on most kept held line bs is end other =
     ap (strip_last 10) (kept_on most kept held line (bs ++ 10 ∷ []) is end ∙ ap (take most) (sym (append_assoc line bs (10 ∷ []))))
     ∙ strip_kept most (line ++ bs) other
+
+-- of bytes that have the byte 0A at their end or nowhere, and begin with these, which have none
+pub strip_stopped : (most : ℕ) (xs ys : List ℕ) → All (λ x. x ≢ 10) xs → StopsAt ys 10 → IsEmptyOrEndsWith ys 10
+    → All (λ x. x ≢ 10) (strip_last 10 (take most (xs ++ ys)))
+strip_stopped most xs [] other stops ends =
+    let whole = All-take (λ x. x ≢ 10) most (xs ++ []) (subst (All (λ x. x ≢ 10)) (sym (append-nil xs)) other) in
+    subst (All (λ x. x ≢ 10)) (sym (strip_other (take most (xs ++ [])) whole)) whole
+strip_stopped most xs (y ∷ ys) other stops ends =
+    let part = y ∷ ys in
+    let front = take (length part - 1) part in
+    let split : part ≡ front ++ 10 ∷ [] =
+    sym (take_all (length part - 1 + 1) part (omega arith)) ∙ take_more part (length part - 1) 0 (omega arith) ∙ ap (λ b. front ++ b ∷ []) (ends (omega arith)) in
+    let joined : xs ++ part ≡ (xs ++ front) ++ 10 ∷ [] = ap (λ l. xs ++ l) split ∙ sym (append_assoc xs front (10 ∷ [])) in
+    let all = All-append (λ x. x ≢ 10) xs front other stops in
+    subst (All (λ x. x ≢ 10)) (sym (ap (λ l. strip_last 10 (take most l)) joined ∙ strip_kept most (xs ++ front) all)) (All-take (λ x. x ≢ 10) most (xs ++ front) all)
+
+-- the line that was taken has the byte 0A at its end or nowhere
+pub taken_is_one : {E : Type 0} (most : ℕ) (a b c : Option (List ℕ)) (line line_then : List ℕ) (r : Result Bool E) → TakenSoFar most a b line
+    → TakesPiece most b c line line_then r → r ≡ Ok true → All (λ x. x ≢ 10) (strip_last 10 line_then)
+taken_is_one most a b c line line_then r t p done =
+    subst (λ l. All (λ x. x ≢ 10) (strip_last 10 l)) (sym (kept_then most a b c line line_then r t p))
+    (strip_stopped most t.bytes p.bytes t.goes_on p.stops (p.ends done))
+
+pub none_is_one : (l : List ℕ) → length l ≡ 0 → All (λ x. x ≢ 10) l
+none_is_one [] none = all_of_none
+none_is_one (x ∷ xs) none = absurd (omega (arith, none))

@@ -1,7 +1,9 @@
 //! Replies of the frozen log.
 
-ghost use Rattle.std.specs.Prelude.{◌≡◌, IfOk};
+ghost use Rattle.std.specs.Prelude.{◌≡◌, ℕ, List, IfOk};
+ghost use Rattle.ct_lines.specs.Asked.{IsRequest, by_frozen};
 ghost use Rattle.ct_lines.specs.Requests.{frozen_asked};
+ghost use Rattle.ct_lines.specs.ReplyText.{reply_line};
 ghost use Rattle.ct_lines.specs.Frozen.{Answers, AnswersBuilt, frozen_answer, line_answer, frozen_reply};
 
 use crate::auditing::audit_reply;
@@ -46,5 +48,24 @@ pub fn frozen_reply(alloc: Global, log: &Published, line: &[u8]) -> Result<Vec<u
     ensures { IfOk result (λ b. b.items ≡ frozen_reply log.now line.now) }
 {
     let answer = Told::from(line_reply(alloc, log, line)).answer?;
+    reply_text(alloc, &answer)
+}
+
+/// The closed log's reply to a request that was read already, with the end of the line: what `frozen_reply` answers to each
+/// line that is this request.
+///
+/// # Errors
+///
+/// `Memory`, where a growth is refused.
+pub fn frozen_request_reply(
+    alloc: Global,
+    log: &Published,
+    request: &FrozenRequest,
+) -> Result<Vec<u8>, Memory>
+    ensures reply { IfOk result (λ b. b.items ≡ reply_line (frozen_answer log.now (frozen_asked request.now))) }
+    ensures of_line { IfOk result (λ b. (line : List ℕ) → IsRequest line (by_frozen (frozen_asked request.now))
+        → b.items ≡ frozen_reply log.now line) }
+{
+    let answer = Told::from(request_reply(alloc, log, request)).answer?;
     reply_text(alloc, &answer)
 }

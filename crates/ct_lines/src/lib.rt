@@ -29,7 +29,7 @@ mod wanting;
 mod writing;
 
 pub use fault::{ServeFault, Unwritten};
-pub use frozen::frozen_reply;
+pub use frozen::{frozen_reply, frozen_request_reply};
 pub use lines::{NumberedLines, REQUEST_KEPT, next_line};
 pub use reading::read_line;
 pub use request::{Audit, FrontRequest, FrozenRequest, OperatorRequest, Request};

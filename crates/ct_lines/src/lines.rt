@@ -84,6 +84,7 @@ fn take_piece<R: BufRead>(input: &mut R, most: usize, line: &mut Vec<u8>) -> io:
 fn take_line<R: BufRead>(input: &mut R, most: usize, line: &mut Vec<u8>) -> io::Result<()>
     requires { line.old.items ≡ [] }
     ensures line { OnOk result (TakesFirstLine most (R.remaining input.old) (R.remaining input.new) line.new.items) }
+    ensures one { OnOk result (All (λ x. x ≢ 10) (strip_last 10 line.new.items)) }
     ensures none_lost { OnErr result (IsKeptOf most (R.remaining input.old) (R.remaining input.new) line.new.items) }
 {
     for turn in 0..LINES {
@@ -95,7 +96,8 @@ fn take_line<R: BufRead>(input: &mut R, most: usize, line: &mut Vec<u8>) -> io::
 }
 
 /// Reads the next line into `line`, without its end, the byte 0A, and in place of what stood there. It answers whether there was
-/// one, or the input had ended. An empty line is one, and so is a last line that the input ends. A byte 0D is part of its line.
+/// one, or the input had ended. An empty line is one, and so is a last line that the input ends. A byte 0D is part of its line,
+/// and a byte 0A of none.
 /// Of a line that has more than `most` bytes with its end the first `most` are kept, so that no line takes more memory.
 ///
 /// # Errors
@@ -105,6 +107,7 @@ fn take_line<R: BufRead>(input: &mut R, most: usize, line: &mut Vec<u8>) -> io::
 pub fn next_line<R: BufRead>(input: &mut R, most: usize, line: &mut Vec<u8>) -> io::Result<bool>
     requires { 0 < most }
     ensures line { IfOk result (λ is_line. TakesNext most (R.remaining input.old) (R.remaining input.new) line.new.items is_line) }
+    ensures one { OnOk result (All (λ x. x ≢ 10) line.new.items) }
     ensures none_lost { OnErr result (IsKeptOf most (R.remaining input.old) (R.remaining input.new) line.new.items) }
 {
     line.clear();

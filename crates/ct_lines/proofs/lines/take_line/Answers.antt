@@ -1,5 +1,5 @@
 use Rattle.std.proofs.Common.{rules}
-use Rattle.ct_lines.proofs.KeptLines.{has_room, kept_so_far, line_taken, more_so_far, none_so_far, of_error}
+use Rattle.ct_lines.proofs.KeptLines.{has_room, kept_so_far, line_taken, more_so_far, none_so_far, of_error, taken_is_one}
 use Rattle.ct_lines.proofs.lines.take_line.Goals as goal
 
 pub loop-turn-init : goal.loop-turn-init
@@ -16,6 +16,11 @@ returns-in_err-take_piece-clause-none_lost g c =
 pub returns-then-branch-clause-line : goal.returns-then-branch-clause-line
 returns-then-branch-clause-line g c =
     line_taken c.args.most _ _ _ c.loop-turn.line.items c.take_piece.new.line.items c.take_piece.result c.loop-turn.invariant c.take_piece.ensures
+    (search rules)
+
+pub returns-then-branch-clause-one : goal.returns-then-branch-clause-one
+returns-then-branch-clause-one g c =
+    taken_is_one c.args.most _ _ _ c.loop-turn.line.items c.take_piece.new.line.items c.take_piece.result c.loop-turn.invariant c.take_piece.ensures
     (search rules)
 
 pub loop-turn-preserved : goal.loop-turn-preserved
