@@ -9,8 +9,8 @@ use Rattle.ct_tile_leaves.specs.TileLeaf.{Tiled}
 use Rattle.ct_state_line.specs.declared.line.StateLine.{StateLine}
 use Rattle.ct_verify.specs.Laws.{SomeCollide}
 use Rattle.ct_step.specs.Entries.{tiled_leaves}
-use Rattle.ct_step.specs.Steps.{IsLog, IsTiledStep, new_entries}
-use Rattle.ct_step.specs.Lines.{LineAttempt, AreLineAttempts, taken_lines, IsStepOf, ComesBehindLine, CarryOnLines, LineSequencersAgree}
+use Rattle.ct_step.specs.Steps.{IsEdgeOf, IsLog, IsTiledStep, new_entries}
+use Rattle.ct_step.specs.Lines.{LineAttempt, AreLineAttempts, HandedLineAttempt, AreTrueAttempts, handed_line_attempts, taken_lines, IsStepOf, ComesBehindLine, CarryOnLines, LineSequencersAgree, TrueEdgesAgree}
 
 pub length-tiled : (t first : ℕ) (B : List (Submitted × List (List ℕ))) → length (tiled_leaves t first B) ≡ length B
 unfolding tiled_leaves
@@ -121,3 +121,38 @@ line_sequencers_agree H held known attempts s made =
     inl (known ++ all.0, sym (take_at known all.0 (length known) refl), all.1.carry))
     (λ (found : SomeCollide H). inr found)
     (agree_from H held known attempts s made)
+
+-- ---- where each step that was taken was handed the edge of the log
+agree_truly : (H : List ℕ → List ℕ) (held : StateLine) (known : List Tiled) (attempts : List HandedLineAttempt) → IsLog H known held
+    → AreTrueAttempts H held known attempts
+    → (Z : List Tiled) × CarriedLines H held.timestamp (length known) (known ++ Z) (taken_lines (handed_line_attempts attempts))
+unfolding AreTrueAttempts
+agree_truly H held known [] s made = ([], carried_none H held.timestamp (length known) (known ++ []))
+agree_truly H held known (b ∷ rest) s (made, inl (took, seen, is, more)) =
+    let a = b.attempt in
+    let steps = taken_lines (handed_line_attempts rest) in
+    let N = of_attempt known a in
+    let log : IsLog H known a.seen = subst (IsLog H known) (sym seen) s in
+    let size : a.seen.tree_size ≡ held.tree_size = ap (λ (x : StateLine). x.tree_size) seen in
+    let since : held.timestamp ≤ a.now = omega (arith, made.may.later, ap (λ (x : StateLine). x.timestamp) seen) in
+    let p : IsTiledStep H a.seen known a.batch a.now a.step =
+    made.step known (subst (λ (n : ℕ). IsEdgeOf H known n b.edge b.entries) (sym size) is) in
+    let kept : taken_lines (a ∷ handed_line_attempts rest) ≡ a ∷ steps = ap (λ c. cond c (a ∷ steps) steps) took in
+    let behind = agree_truly H a.step.line (known ++ N) rest p.log more in
+    let e : (known ++ N) ++ behind.0 ≡ known ++ (N ++ behind.0) = append_assoc known N behind.0 in (
+      N ++ behind.0,
+      subst (λ (E : List Tiled). CarriedLines H held.timestamp (length known) E (taken_lines (a ∷ handed_line_attempts rest))) e
+          (subst (λ (l : List LineAttempt). CarriedLines H held.timestamp (length known) ((known ++ N) ++ behind.0) l) (sym kept)
+          (carried_more H held.timestamp known behind.0 a steps since log.size p behind.1)),
+    )
+agree_truly H held known (b ∷ rest) s (made, inr (left, more)) =
+    let a = b.attempt in
+    let steps = taken_lines (handed_line_attempts rest) in
+    let kept : taken_lines (a ∷ handed_line_attempts rest) ≡ steps = ap (λ c. cond c (a ∷ steps) steps) left in
+    let behind = agree_truly H held known rest s more in
+    (behind.0, subst (λ (l : List LineAttempt). CarriedLines H held.timestamp (length known) (known ++ behind.0) l) (sym kept) behind.1)
+
+pub true_edges_agree : TrueEdgesAgree
+true_edges_agree H held known attempts s made =
+    let all = agree_truly H held known attempts s made in
+    (known ++ all.0, sym (take_at known all.0 (length known) refl), all.1.carry)

@@ -21,6 +21,7 @@ use Rattle.ct_tile_leaves.specs.TileLeaf.{Tiled, leaf_of, tile_leaf_text}
 use Rattle.ct_verify.specs.Laws.{AreHashes, SomeCollide}
 use Rattle.ct_step.specs.Entries.{tiled_at, tiled_leaves, texts_of, tree_leaves, hashes_of}
 use Rattle.ct_step.specs.Steps.{new_entries, last_tiles, line_head, tile_hashes, AreBytesOf, IsLog, IsNamed, IsEdgeOf, NamedEdgesTell, EdgesAreNamed, MayStep, StopsStep, StopsMade}
+use Rattle.ct_step.specs.Lines.{HandedAttemptsAreAttempts}
 use Rattle.ct_step.specs.declared.step.StepFault.{StepFault}
 use Rattle.ct_step.specs.declared.step.StepFault.TheVariants.{Edge, Entries, Growth, TooLong}
 use Rattle.ct_step.proofs.Batches.{Entry}
@@ -105,6 +106,16 @@ edges_are_named H long line E edge entries is log =
       tiles = (is.tiles.0, is.tiles.1, edges_are_believed H long (line_head line) (tree_leaves E) is.tiles.0 (over H line E log) is.tiles.2);
       digest = ap H (is.partial.1 ∙ sym (tile_of_log (texts_of E) (length E) texts)) ∙ sym log.entries;
     }
+
+-- what was made of an edge is an attempt, whatever the edge was
+pub handed_attempts_are_attempts : HandedAttemptsAreAttempts
+handed_attempts_are_attempts H long b made = (
+    made.may.later,
+    λ E log. ⊎_elim
+        (λ (is : IsEdgeOf H E b.attempt.seen.tree_size b.edge b.entries). inl (made.step E is))
+        (λ (found : SomeCollide H). inr found)
+        (named_edges_tell H long b.attempt.seen E b.edge b.entries made.may.named log),
+  )
 
 -- where the edge of a log was handed in, the state that was believed of it is the log's
 pub edge_state : (H : List ℕ → List ℕ) → ((x : List ℕ) → length (H x) ≡ 32) → (line : StateLine) (edge : List (List ℕ)) (entries : List ℕ)

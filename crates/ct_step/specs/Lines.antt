@@ -1,12 +1,12 @@
 -- Many sequencers over one register that holds the log's line, each of them handed the edge and the partial data tile by whoever keeps
 -- them. H is any hash function on byte lists.
-use Rattle.std.specs.Prelude.{◌≡◌, ◌⊎◌, ⊤, Bool, true, false, ℕ, ◌≤◌, List, [], ◌∷◌, length, take, drop, filter, All, AllPairs}
+use Rattle.std.specs.Prelude.{◌≡◌, ◌⊎◌, ⊤, Bool, true, false, ℕ, ◌≤◌, List, [], ◌∷◌, ◌++◌, length, map, take, drop, filter, All, AllPairs}
 use Rattle.ct_codec.specs.Submitted.{Submitted}
 use Rattle.ct_tile_leaves.specs.TileLeaf.{Tiled}
 use Rattle.ct_state_line.specs.declared.line.StateLine.{StateLine}
 use Rattle.ct_verify.specs.Laws.{SomeCollide}
 use Rattle.ct_step.specs.Entries.{tiled_leaves}
-use Rattle.ct_step.specs.Steps.{IsLog, IsTiledStep}
+use Rattle.ct_step.specs.Steps.{new_entries, IsEdgeOf, IsLog, IsStepFrom, IsTiledStep, MayStep}
 use Rattle.ct_step.specs.declared.step.Step.{Step}
 
 -- An attempt to carry on the log: the line that was read (seen), the submissions with their chains' fingerprints (batch), the moment (now),
@@ -60,3 +60,45 @@ abbrev pub LineSequencersAgree : Type 0
 LineSequencersAgree =
     (H : List ℕ → List ℕ) (held : StateLine) (known : List Tiled) (attempts : List LineAttempt) → IsLog H known held → AreLineAttempts H held attempts
     → ((E : List Tiled) × (known ≡ take (length known) E) × CarryOnLines H held.timestamp E (taken_lines attempts)) ⊎ SomeCollide H
+
+-- An attempt with what was handed in: the bytes of the partial tiles (edge), those of the partial data tile (entries), and the attempt itself
+-- (attempt).
+pub record HandedLineAttempt : Type 0 where
+  pub edge : List (List ℕ)
+  pub entries : List ℕ
+  pub attempt : LineAttempt
+
+-- The attempt's step is what `take_step` answers of its line, what was handed in, its batch and its moment: it may be made (may), it is a step
+-- from the line (from), and of each log whose edge was handed in the step of that log (step).
+pub record IsMadeOfEdge (H : List ℕ → List ℕ) (b : HandedLineAttempt) : Type 0 where
+  pub may : MayStep H b.attempt.seen b.edge b.entries b.attempt.batch b.attempt.now
+  pub from : IsStepFrom H b.attempt.seen b.attempt.batch b.attempt.now b.attempt.step
+  pub step : (E : List Tiled) → IsEdgeOf H E b.attempt.seen.tree_size b.edge b.entries
+      → IsTiledStep H b.attempt.seen E b.attempt.batch b.attempt.now b.attempt.step
+
+-- Attempts in the order in which the register answered, from the line that it held on, which is that of a log with the entries E: it took a line
+-- only in place of the one that it held, and each step that it took was handed the edge of the log.
+unfoldable pub AreTrueAttempts : (List ℕ → List ℕ) → StateLine → List Tiled → List HandedLineAttempt → Type 0
+AreTrueAttempts H held E [] = ⊤
+AreTrueAttempts H held E (b ∷ rest) =
+    IsMadeOfEdge H b
+    × (((b.attempt.took ≡ true) × (b.attempt.seen ≡ held) × IsEdgeOf H E held.tree_size b.edge b.entries
+    × AreTrueAttempts H b.attempt.step.line (E ++ new_entries E b.attempt.batch b.attempt.now) rest)
+    ⊎ ((b.attempt.took ≡ false) × AreTrueAttempts H held E rest))
+
+-- the attempts themselves
+abbrev pub handed_line_attempts : List HandedLineAttempt → List LineAttempt
+handed_line_attempts attempts = map (λ b. b.attempt) attempts
+
+-- Where each step that was taken was handed the edge of the log, there is one list of entries, which begins with those that were known, that
+-- all the steps whose lines the register took carry on.
+abbrev pub TrueEdgesAgree : Type 0
+TrueEdgesAgree =
+    (H : List ℕ → List ℕ) (held : StateLine) (known : List Tiled) (attempts : List HandedLineAttempt) → IsLog H known held
+    → AreTrueAttempts H held known attempts
+    → (E : List Tiled) × (known ≡ take (length known) E) × CarryOnLines H held.timestamp E (taken_lines (handed_line_attempts attempts))
+
+-- A step that was made of what was handed in is an attempt from its line, whatever that was.
+abbrev pub HandedAttemptsAreAttempts : Type 0
+HandedAttemptsAreAttempts =
+    (H : List ℕ → List ℕ) → ((x : List ℕ) → length (H x) ≡ 32) → (b : HandedLineAttempt) → IsMadeOfEdge H b → IsMadeOfLine H b.attempt

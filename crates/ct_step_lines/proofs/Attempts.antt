@@ -1,16 +1,12 @@
 -- A step that is replied is an attempt of the law over sequencers.
-use Rattle.std.proofs.Common.{◌≡◌, ◌⊎◌, ℕ, Bool, List, [], Option, Some, None, refl, sym, subst, inl, inr, ⊎_elim, arith}
+use Rattle.std.proofs.Common.{◌≡◌, ℕ, Bool, List, [], Option, Some, None, refl, sym, subst, inl, inr, arith}
 use Rattle.sha2.specs.Sha256.{sha256}
-use Rattle.sha2.proofs.Facts256.{length-sha256}
 use Rattle.ct_codec.specs.Submitted.{Submitted}
 use Rattle.ct_state_line.specs.declared.line.StateLine.{StateLine}
 use Rattle.ct_state_line.proofs.Lines.{state_lines_differ}
-use Rattle.ct_step.specs.Lines.{IsMadeOfLine}
-use Rattle.ct_step.specs.Steps.{IsEdgeOf, IsTiledStep}
-use Rattle.ct_step.proofs.Made.{named_edges_tell}
+use Rattle.ct_step.specs.Lines.{IsMadeOfEdge}
 use Rattle.ct_step.specs.declared.step.Step.{Step}
 use Rattle.ct_tree.specs.Tree.{mth, mth_within}
-use Rattle.ct_verify.specs.Laws.{SomeCollide}
 use Rattle.ct_step_lines.specs.StepAnswers.{edge_of, IsStepReply}
 use Rattle.ct_step_lines.specs.StepLaws.{FirstLineBegins, RepliedStepsAreAttempts}
 use Rattle.ct_step_lines.specs.StepRepeats.{first_of_each}
@@ -27,20 +23,21 @@ no_refusal s p r e = cc
 same_step : (s t : Step) (p q : List ℕ) → steps s p ≡ steps t q → s ≡ t
 same_step s t p q e = cc
 
+abbrev Attempted : StateLine → List (Submitted × List (List ℕ)) → ℕ → Step → Bool → Option (List (List ℕ) × List ℕ) → Type 0
+Attempted line batch now step took handed =
+    (edge : List (List ℕ) × List ℕ) × (handed ≡ Some edge)
+    × IsMadeOfEdge sha256 (record {
+      edge = edge.0;
+      entries = edge.1;
+      attempt = record { seen = line; batch = first_of_each [] batch; now = now; step = step; took = took };
+    })
+
 attempt : (line : StateLine) (batch : List (Submitted × List (List ℕ))) (now : ℕ) (step : Step) (places : List ℕ) (took : Bool)
-    (edge : Option (List (List ℕ) × List ℕ)) → IsStepReply line edge batch now (steps step places)
-    → IsMadeOfLine sha256 (record { seen = line; batch = first_of_each [] batch; now = now; step = step; took = took })
+    (handed : Option (List (List ℕ) × List ℕ)) → IsStepReply line handed batch now (steps step places) → Attempted line batch now step took handed
 attempt line batch now step places took None is = absurd (no_refusal step places _ is)
 attempt line batch now step places took (Some edge) (inl tells) =
-    let same : step ≡ tells.0 = same_step step tells.0 places _ tells.1 in (
-      tells.2.later,
-      λ E log.
-          subst (λ (s : Step). IsTiledStep sha256 line E (first_of_each [] batch) now s ⊎ SomeCollide sha256) (sym same)
-          (⊎_elim
-          (λ (is : IsEdgeOf sha256 E line.tree_size edge.0 edge.1). inl (tells.4 E is))
-          (λ (found : SomeCollide sha256). inr found)
-          (named_edges_tell sha256 length-sha256 line E edge.0 edge.1 tells.2.named log)),
-    )
+    subst (λ (s : Step). Attempted line batch now s took (Some edge)) (sym (same_step step tells.0 places _ tells.1))
+    (edge, refl, record { may = tells.2; from = tells.3; step = tells.4 })
 attempt line batch now step places took (Some edge) (inr none) = absurd (no_refusal step places none.1 none.2)
 
 pub replied_steps_are_attempts : RepliedStepsAreAttempts

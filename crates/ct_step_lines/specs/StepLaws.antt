@@ -1,5 +1,5 @@
 -- What the replies are good for.
-use Rattle.std.specs.Prelude.{◌≡◌, ◌⊎◌, ◌+◌, ◌<◌, ℕ, Bool, if◌then◌else◌, List, [], ◌∷◌, length, map, filter, take, slice_index_or, All, AllPairs, Contains}
+use Rattle.std.specs.Prelude.{◌≡◌, ◌⊎◌, ◌+◌, ◌<◌, ℕ, Bool, if◌then◌else◌, List, [], ◌∷◌, length, map, filter, take, slice_index_or, Some, All, AllPairs, Contains}
 use Rattle.sha2.specs.Sha256.{sha256}
 use Rattle.ct_codec.specs.Submitted.{Submitted, identity_of}
 use Rattle.ct_state_line.specs.Lines.{IsStateLine, state_line_text}
@@ -7,13 +7,13 @@ use Rattle.ct_state_line.specs.declared.line.StateLine.{StateLine}
 use Rattle.ct_repeats.specs.Identities.{identity_of_leaf, AreApart, AreNewFrom}
 use Rattle.ct_repeats.specs.declared.claim.Claim.{Claim}
 use Rattle.ct_step.specs.Entries.{tree_leaves}
-use Rattle.ct_step.specs.Lines.{LineAttempt, AreLineAttempts, IsMadeOfLine}
+use Rattle.ct_step.specs.Lines.{LineAttempt, AreLineAttempts, IsMadeOfEdge}
 use Rattle.ct_step.specs.Steps.{new_entries, IsLog}
 use Rattle.ct_step.specs.declared.step.Step.{Step}
 use Rattle.ct_tile_leaves.specs.TileLeaf.{Tiled}
 use Rattle.ct_verify.specs.Laws.{SomeCollide}
 use Rattle.ct_step_lines.specs.StepAsks.{for_step, for_claim}
-use Rattle.ct_step_lines.specs.StepAnswers.{first_line, IsReplyTo}
+use Rattle.ct_step_lines.specs.StepAnswers.{edge_of, first_line, IsReplyTo}
 use Rattle.ct_step_lines.specs.StepRepeats.{BatchEntry, first_of_each, places_of_all, identities_of}
 use Rattle.ct_step_lines.specs.StepWords.{receipts_at, steps, stands}
 
@@ -21,13 +21,19 @@ use Rattle.ct_step_lines.specs.StepWords.{receipts_at, steps, stands}
 abbrev pub FirstLineBegins : Type 0
 FirstLineBegins = (moment : ℕ) → IsLog sha256 [] (first_line moment)
 
--- A step that is replied to a line's text is one that an attempt of the law over sequencers (`LineSequencersAgree`) has, of the first entry of each
--- identity in the batch, whatever edge was handed over, and whether the register took it or not.
+-- A step that is replied to a line's text is one that an attempt of the laws over sequencers has (`TrueEdgesAgree`, and by
+-- `HandedAttemptsAreAttempts` `LineSequencersAgree`), of the edge that the contents give and of the first entry of each identity in the batch,
+-- whether the register took it or not.
 abbrev pub RepliedStepsAreAttempts : Type 0
 RepliedStepsAreAttempts =
     (line : StateLine) (batch : List (Submitted × List (List ℕ))) (contents : List (List ℕ)) (now : ℕ) (step : Step) (places : List ℕ) (took : Bool)
     → IsStateLine line → IsReplyTo (for_step batch contents now (state_line_text line)) (steps step places)
-    → IsMadeOfLine sha256 (record { seen = line; batch = first_of_each [] batch; now = now; step = step; took = took })
+    → (edge : List (List ℕ) × List ℕ) × (edge_of line.tree_size contents ≡ Some edge)
+    × IsMadeOfEdge sha256 (record {
+      edge = edge.0;
+      entries = edge.1;
+      attempt = record { seen = line; batch = first_of_each [] batch; now = now; step = step; took = took };
+    })
 
 -- A receipt that is replied to a claim is of the log whose state was given: the bytes to be signed are the leaf at its index there, or two
 -- different strings with one SHA-256 are given.
