@@ -1,5 +1,5 @@
 -- What the replies are good for.
-use Rattle.std.specs.Prelude.{◌≡◌, ◌⊎◌, ◌+◌, ◌<◌, ℕ, Bool, if◌then◌else◌, List, [], ◌∷◌, length, map, filter, take, slice_index_or, All, AllPairs, Contains}
+use Rattle.std.specs.Prelude.{◌≡◌, ◌⊎◌, ◌+◌, ◌<◌, ◌≤◌, ℕ, Bool, if◌then◌else◌, List, [], ◌∷◌, length, map, filter, take, slice_get, slice_index_or, Some, All, AllPairs, Contains}
 use Rattle.sha2.specs.Sha256.{sha256}
 use Rattle.ct_codec.specs.Submitted.{Submitted, identity_of}
 use Rattle.ct_state_line.specs.Lines.{IsStateLine, state_line_text}
@@ -37,12 +37,17 @@ ClaimsStandThere =
     → IsReplyTo (for_claim claim path (state_line_text line) s) (stands r) → IsLog sha256 E line
     → ((r.0 < length E) × (r.2 ≡ slice_index_or (tree_leaves E) r.0 [])) ⊎ SomeCollide sha256
 
--- The first entries of a batch and the places of all. No identity stands twice among the first ones (once); and each entry of the batch has its
--- place among these (within), where one of its identity stands (found).
+-- The first entries of a batch and the places of all. The first ones stand in the batch (entries) at these indexes, in its order (rising). No
+-- identity stands twice among them (once). Each entry of the batch has its place among these (within), where one of its identity stands
+-- (found), which stands in the batch no later than the entry (first).
 pub record IsSplit (batch firsts : List BatchEntry) (places : List ℕ) : Type 0 where
+  pub indexes : List ℕ
+  pub entries : map (slice_get batch) indexes ≡ map Some firsts
+  pub rising : AllPairs (λ i j. i < j) indexes
   pub once : AreApart (identities_of firsts)
   pub within : All (λ i. i < length firsts) places
   pub found : identities_of batch ≡ map (λ i. slice_index_or (identities_of firsts) i []) places
+  pub first : (j : ℕ) → j < length batch → slice_index_or indexes (slice_index_or places j 0) 0 ≤ j
 
 -- the first entries of a batch and the places of all are such a split
 abbrev pub BatchesAreSplit : Type 0

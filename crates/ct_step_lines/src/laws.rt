@@ -18,7 +18,7 @@ pub fn claims()
     ensures { ClaimsStandThere }
 {}
 
-/// Among the entries that a batch becomes no identity stands twice, and each submission's place has its identity.
+/// Among the entries that a batch becomes no identity stands twice, and each submission's place has the first of its identity.
 pub fn batches()
     ensures { BatchesAreSplit }
 {}
