@@ -1,9 +1,10 @@
 -- What the replies are good for.
 use Rattle.std.specs.Prelude.{◌≡◌, ◌⊎◌, ◌+◌, ◌<◌, ◌≤◌, ℕ, Bool, if◌then◌else◌, List, [], ◌∷◌, length, map, filter, take, slice_get, slice_index_or, Some, All, AllPairs, Contains}
 use Rattle.sha2.specs.Sha256.{sha256}
-use Rattle.ct_codec.specs.Submitted.{Submitted, identity_of}
+use Rattle.ct_codec.specs.Submitted.{Submitted, entry_of, identity_of}
 use Rattle.ct_state_line.specs.Lines.{IsStateLine, state_line_text}
 use Rattle.ct_state_line.specs.declared.line.StateLine.{StateLine}
+use Rattle.ct_repeats.specs.Claims.{claimed_leaf}
 use Rattle.ct_repeats.specs.Identities.{identity_of_leaf, AreApart, AreNewFrom}
 use Rattle.ct_repeats.specs.declared.claim.Claim.{Claim}
 use Rattle.ct_step.specs.Entries.{tree_leaves}
@@ -29,13 +30,21 @@ RepliedStepsAreAttempts =
     → IsStateLine line → IsReplyTo (for_step batch contents now (state_line_text line)) (steps step places)
     → IsMadeOfLine sha256 (record { seen = line; batch = first_of_each [] batch; now = now; step = step; took = took })
 
--- A receipt that is replied to a claim is of the log whose state was given: the bytes to be signed are the leaf at its index there, or two
--- different strings with one SHA-256 are given.
+-- A receipt (leaf index, moment in milliseconds, bytes to be signed) is a submission's at a claimed place of the log with the entries E. Its
+-- index and its moment are the claimed ones (index, moment); the bytes are the submission's leaf of these (signed), which has the submission's
+-- identity (identity); and that leaf stands at that index of the log, or two different strings with one SHA-256 are given (there).
+pub record StandsAsClaimed (E : List Tiled) (claim : Claim) (s : Submitted) (r : ℕ × ℕ × List ℕ) : Type 0 where
+  pub index : r.0 ≡ claim.leaf_index
+  pub moment : r.1 ≡ claim.timestamp
+  pub signed : r.2 ≡ claimed_leaf (entry_of s) claim
+  pub identity : identity_of_leaf r.2 ≡ identity_of s
+  pub there : ((claim.leaf_index < length E) × (claimed_leaf (entry_of s) claim ≡ slice_index_or (tree_leaves E) claim.leaf_index [])) ⊎ SomeCollide sha256
+
+-- a receipt that is replied to a claim is the submission's at the claimed place, in every log that has the state's line
 abbrev pub ClaimsStandThere : Type 0
 ClaimsStandThere =
     (line : StateLine) (claim : Claim) (path : List (List ℕ)) (s : Submitted) (r : ℕ × ℕ × List ℕ) (E : List Tiled) → IsStateLine line
-    → IsReplyTo (for_claim claim path (state_line_text line) s) (stands r) → IsLog sha256 E line
-    → ((r.0 < length E) × (r.2 ≡ slice_index_or (tree_leaves E) r.0 [])) ⊎ SomeCollide sha256
+    → IsReplyTo (for_claim claim path (state_line_text line) s) (stands r) → IsLog sha256 E line → StandsAsClaimed E claim s r
 
 -- The first entries of a batch and the places of all. The first ones stand in the batch (entries) at these indexes, in its order (rising). No
 -- identity stands twice among them (once). Each entry of the batch has its place among these (within), where one of its identity stands
