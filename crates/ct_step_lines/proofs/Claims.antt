@@ -3,8 +3,7 @@ use Rattle.std.proofs.Common.{◌≡◌, ◌≢◌, ◌⊎◌, ◌∙◌, ◌<�
 use Rattle.std.proofs.lemmas.List.{length-map}
 use Rattle.sha2.specs.Sha256.{sha256}
 use Rattle.sha2.proofs.Facts256.{length-sha256}
-use Rattle.ct_codec.specs.Leaf.{SignedEntry, index_extension}
-use Rattle.ct_codec.specs.Signed.{timestamp_text}
+use Rattle.ct_codec.specs.Leaf.{SignedEntry}
 use Rattle.ct_codec.specs.Submitted.{Submitted, entry_of}
 use Rattle.ct_codec.specs.declared.refusal.Refusal.TheVariants as refused
 use Rattle.ct_growth.specs.Believed.{IsHeadOver}
@@ -14,6 +13,7 @@ use Rattle.ct_repeats.specs.declared.claim.Claim.{Claim}
 use Rattle.ct_repeats.specs.declared.claim.ClaimFault.{ClaimFault}
 use Rattle.ct_repeats.specs.declared.claim.ClaimFault.TheVariants.{IndexTooLarge, ProofRefused, Refused}
 use Rattle.ct_repeats.proofs.Believing.{stands_there}
+use Rattle.ct_repeats.proofs.Once.{leaves_keep_identities}
 use Rattle.ct_state_line.specs.declared.line.StateLine.{StateLine}
 use Rattle.ct_state_line.proofs.Lines.{state_lines_differ}
 use Rattle.ct_step.specs.Entries.{tree_leaves}
@@ -24,7 +24,7 @@ use Rattle.ct_tree.specs.declared.head.Head.{Head}
 use Rattle.ct_verify.specs.Laws.{SomeCollide}
 use Rattle.ct_verify.proofs.Defined.{accepted_not_refused}
 use Rattle.ct_step_lines.specs.StepAnswers.{IsClaimReply}
-use Rattle.ct_step_lines.specs.StepLaws.{ClaimsStandThere}
+use Rattle.ct_step_lines.specs.StepLaws.{StandsAsClaimed, ClaimsStandThere}
 use Rattle.ct_step_lines.specs.StepWords.{stands, refuses}
 use Rattle.ct_step_lines.specs.declared.replies.StepRefusal.{StepRefusal}
 
@@ -42,30 +42,33 @@ no_refusal p r e = cc
 same_receipt : (p q : ℕ × ℕ × List ℕ) → stands p ≡ stands q → p ≡ q
 same_receipt p q e = cc
 
--- the leaf of these bytes stands at this index of the log with the entries E, or two strings collide
-abbrev StandsIn : List Tiled → ℕ × ℕ × List ℕ → Type 0
-StandsIn E r = ((r.0 < length E) × (r.2 ≡ get_or (tree_leaves E) r.0 [])) ⊎ SomeCollide sha256
-
-within : (E : List Tiled) (r : ℕ × ℕ × List ℕ)
-    → ((r.0 < length (tree_leaves E)) × (r.2 ≡ get_or (tree_leaves E) r.0 [])) ⊎ SomeCollide sha256 → StandsIn E r
-within E r (inl there) = inl (omega (arith, there.0, length-map E leaf_of), there.1)
-within E r (inr found) = inr found
+within : (E : List Tiled) (i : ℕ) (leaf : List ℕ)
+    → ((i < length (tree_leaves E)) × (leaf ≡ get_or (tree_leaves E) i [])) ⊎ SomeCollide sha256
+    → ((i < length E) × (leaf ≡ get_or (tree_leaves E) i [])) ⊎ SomeCollide sha256
+within E i leaf (inl there) = inl (omega (arith, there.0, length-map E leaf_of), there.1)
+within E i leaf (inr found) = inr found
 
 told : (line : StateLine) (claim : Claim) (path : List (List ℕ)) (s : Submitted) (r : ℕ × ℕ × List ℕ) (E : List Tiled)
-    → IsClaimReply line claim path s (stands r) → IsLog sha256 E line → StandsIn E r
+    → IsClaimReply line claim path s (stands r) → IsLog sha256 E line → StandsAsClaimed E claim s r
 told line claim path s r E (inl tells) log =
     let e = entry_of s in
-    let q : ℕ × ℕ × List ℕ = (claim.leaf_index, claim.timestamp, timestamp_text claim.timestamp e (index_extension claim.leaf_index)) in
+    let q : ℕ × ℕ × List ℕ = (claim.leaf_index, claim.timestamp, claimed_leaf e claim) in
     let same : r ≡ q = same_receipt r (receipt_parts tells.0) tells.1 ∙ tells.2.receipt in
     let over : IsHeadOver sha256 (tree_leaves E) (line_head line) = (
       log.size ∙ sym (length-map E leaf_of),
       log.root,
       omega (arith, log.few, length-map E leaf_of),
     ) in
-    subst (StandsIn E) (sym same)
-    (within E q
-    (stands_there sha256 length-sha256 (line_head line) (tree_leaves E) (claimed_leaf e claim) q.2 claim.leaf_index path over
-    tells.2.believed.included refl))
+    subst (λ (x : ℕ × ℕ × List ℕ). StandsAsClaimed E claim s x) (sym same)
+    (record {
+      index = refl;
+      moment = refl;
+      signed = refl;
+      identity = leaves_keep_identities claim.timestamp claim.leaf_index s;
+      there = within E claim.leaf_index (claimed_leaf e claim)
+          (stands_there sha256 length-sha256 (line_head line) (tree_leaves E) (claimed_leaf e claim) (claimed_leaf e claim) claim.leaf_index path over
+          tells.2.believed.included refl);
+    })
 told line claim path s r E (inr none) log = absurd (no_refusal r _ none.0)
 
 pub claims_stand_there : ClaimsStandThere

@@ -13,5 +13,6 @@ pub mod StepObjects
 pub mod EdgeParts
 pub mod Claims
 pub mod Receipts
+pub mod FirstIndexes
 pub mod Splits
 pub mod AddedOnce

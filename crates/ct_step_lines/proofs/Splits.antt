@@ -22,6 +22,7 @@ use Rattle.ct_step_lines.specs.StepLaws.{BatchesAreSplit, ReceiptsNameEntries, r
 use Rattle.ct_step_lines.specs.StepRepeats.{BatchEntry, is_known, with_identity, first_of_each, places_of_all, identities_of}
 use Rattle.ct_step_lines.specs.StepWords.{steps, refuses, receipts_at}
 use Rattle.ct_step_lines.specs.declared.replies.StepRefusal.{StepRefusal}
+use Rattle.ct_step_lines.proofs.FirstIndexes.{indexes_from, entries_there, indexes_rise, none_before}
 use Rattle.ct_step_lines.proofs.Splitting.{known_behind}
 
 -- ---- no identity stands twice
@@ -114,9 +115,13 @@ places_within B =
 
 pub batches_are_split : BatchesAreSplit
 batches_are_split B = record {
+  indexes = indexes_from [] 0 B;
+  entries = entries_there B;
+  rising = indexes_rise [] 0 B;
   once = subst AreApart (known_is [] B) (apart_behind [] B (λ i j d l h. absurd (omega (arith, l, h))));
   within = places_within B;
   found = found [] B ∙ ap (λ (L : List (List ℕ)). map (λ i. get_or L i []) (places_of_all [] B)) (known_is [] B);
+  first = none_before B;
 }
 
 -- ---- receipts

@@ -1,9 +1,10 @@
 -- What the replies are good for.
-use Rattle.std.specs.Prelude.{◌≡◌, ◌⊎◌, ◌+◌, ◌<◌, ℕ, Bool, if◌then◌else◌, List, [], ◌∷◌, length, map, filter, take, slice_index_or, Some, All, AllPairs, Contains}
+use Rattle.std.specs.Prelude.{◌≡◌, ◌⊎◌, ◌+◌, ◌<◌, ◌≤◌, ℕ, Bool, if◌then◌else◌, List, [], ◌∷◌, length, map, filter, take, slice_get, slice_index_or, Some, All, AllPairs, Contains}
 use Rattle.sha2.specs.Sha256.{sha256}
-use Rattle.ct_codec.specs.Submitted.{Submitted, identity_of}
+use Rattle.ct_codec.specs.Submitted.{Submitted, entry_of, identity_of}
 use Rattle.ct_state_line.specs.Lines.{IsStateLine, state_line_text}
 use Rattle.ct_state_line.specs.declared.line.StateLine.{StateLine}
+use Rattle.ct_repeats.specs.Claims.{claimed_leaf}
 use Rattle.ct_repeats.specs.Identities.{identity_of_leaf, AreApart, AreNewFrom}
 use Rattle.ct_repeats.specs.declared.claim.Claim.{Claim}
 use Rattle.ct_step.specs.Entries.{tree_leaves}
@@ -35,20 +36,33 @@ RepliedStepsAreAttempts =
       attempt = record { seen = line; batch = first_of_each [] batch; now = now; step = step; took = took };
     })
 
--- A receipt that is replied to a claim is of the log whose state was given: the bytes to be signed are the leaf at its index there, or two
--- different strings with one SHA-256 are given.
+-- A receipt (leaf index, moment in milliseconds, bytes to be signed) is a submission's at a claimed place of the log with the entries E. Its
+-- index and its moment are the claimed ones (index, moment); the bytes are the submission's leaf of these (signed), which has the submission's
+-- identity (identity); and that leaf stands at that index of the log, or two different strings with one SHA-256 are given (there).
+pub record StandsAsClaimed (E : List Tiled) (claim : Claim) (s : Submitted) (r : ℕ × ℕ × List ℕ) : Type 0 where
+  pub index : r.0 ≡ claim.leaf_index
+  pub moment : r.1 ≡ claim.timestamp
+  pub signed : r.2 ≡ claimed_leaf (entry_of s) claim
+  pub identity : identity_of_leaf r.2 ≡ identity_of s
+  pub there : ((claim.leaf_index < length E) × (claimed_leaf (entry_of s) claim ≡ slice_index_or (tree_leaves E) claim.leaf_index [])) ⊎ SomeCollide sha256
+
+-- a receipt that is replied to a claim is the submission's at the claimed place, in every log that has the state's line
 abbrev pub ClaimsStandThere : Type 0
 ClaimsStandThere =
     (line : StateLine) (claim : Claim) (path : List (List ℕ)) (s : Submitted) (r : ℕ × ℕ × List ℕ) (E : List Tiled) → IsStateLine line
-    → IsReplyTo (for_claim claim path (state_line_text line) s) (stands r) → IsLog sha256 E line
-    → ((r.0 < length E) × (r.2 ≡ slice_index_or (tree_leaves E) r.0 [])) ⊎ SomeCollide sha256
+    → IsReplyTo (for_claim claim path (state_line_text line) s) (stands r) → IsLog sha256 E line → StandsAsClaimed E claim s r
 
--- The first entries of a batch and the places of all. No identity stands twice among the first ones (once); and each entry of the batch has its
--- place among these (within), where one of its identity stands (found).
+-- The first entries of a batch and the places of all. The first ones stand in the batch (entries) at these indexes, in its order (rising). No
+-- identity stands twice among them (once). Each entry of the batch has its place among these (within), where one of its identity stands
+-- (found), which stands in the batch no later than the entry (first).
 pub record IsSplit (batch firsts : List BatchEntry) (places : List ℕ) : Type 0 where
+  pub indexes : List ℕ
+  pub entries : map (slice_get batch) indexes ≡ map Some firsts
+  pub rising : AllPairs (λ i j. i < j) indexes
   pub once : AreApart (identities_of firsts)
   pub within : All (λ i. i < length firsts) places
   pub found : identities_of batch ≡ map (λ i. slice_index_or (identities_of firsts) i []) places
+  pub first : (j : ℕ) → j < length batch → slice_index_or indexes (slice_index_or places j 0) 0 ≤ j
 
 -- the first entries of a batch and the places of all are such a split
 abbrev pub BatchesAreSplit : Type 0

@@ -1,14 +1,14 @@
 //! What ends a run, and what an error of a crate below says of it.
 
-ghost use Rattle.std.specs.Prelude.{◌≡◌, ◌≢◌, MatchResult, MatchOption, OnOk};
+ghost use Rattle.std.specs.Prelude.{◌≡◌, ◌≢◌, MatchResult, MatchOption};
 ghost use Rattle.std.specs.IoError.{error_kind};
-ghost use Rattle.ct_bundles.specs.declared.rolling_out.ResumeFault.TheVariants.{Bundle};
+ghost use Rattle.ct_bundles.specs.declared.rolling_out.ResumeFault.TheVariants.{Bundle, Memory as ResumeMemory};
 ghost use Rattle.ct_codec.specs.declared.refusal.Refusal.{Refusal as RefusalOf};
 ghost use Rattle.ct_codec.specs.declared.refusal.Refusal.TheVariants.{Memory as Refused};
 ghost use Rattle.ct_growth.specs.declared.growth.GrowthFault.TheVariants.{Refused as GrowthRefused};
 ghost use Rattle.ct_repeats.specs.declared.claim.ClaimFault.TheVariants.{Refused as ClaimRefused};
 ghost use Rattle.ct_step.specs.declared.step.StepFault.TheVariants.{Growth};
-ghost use Rattle.ct_tile_names.specs.declared.tile.NameFault.TheVariants.{NoSuchTile};
+ghost use Rattle.ct_tile_names.specs.declared.tile.NameFault.TheVariants.{NoSuchTile, Memory as NameMemory};
 ghost use Rattle.serde_json.specs.Errors.{IsMemory};
 ghost use Rattle.ct_step_lines.specs.StepAsks.{step_ask_of, for_no_step};
 ghost use Rattle.ct_step_lines.specs.StepAnswers.{NamesStepFault};
@@ -133,7 +133,7 @@ pub(crate) struct NotRolledOut {
 }
 
 impl From<ResumeFault> for NotRolledOut {
-    ghost from_gives = { λ fault rolled. OnOk rolled.told (fault ≡ Bundle) };
+    ghost from_gives = { λ fault rolled. MatchResult rolled.told (λ _. fault ≡ Bundle) (λ _. fault ≡ ResumeMemory) };
 
     fn from(fault: ResumeFault) -> NotRolledOut {
         let told = match fault {
@@ -171,7 +171,7 @@ pub(crate) struct NoName {
 }
 
 impl From<NameFault> for NoName {
-    ghost from_gives = { λ fault no_name. OnOk no_name.told (fault ≡ NoSuchTile) };
+    ghost from_gives = { λ fault no_name. MatchResult no_name.told (λ _. fault ≡ NoSuchTile) (λ _. fault ≡ NameMemory) };
 
     fn from(fault: NameFault) -> NoName {
         let told = match fault {

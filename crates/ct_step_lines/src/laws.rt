@@ -12,13 +12,13 @@ pub fn replied_steps_are_attempts()
     ensures { RepliedStepsAreAttempts }
 {}
 
-/// What is signed of a claimed place is the leaf that stands there in the log whose state was given, or two different strings with one
-/// digest are given.
+/// A claim's receipt has the claimed index and moment, and what is signed is the submission's leaf of these, which stands there in the log
+/// whose state was given; or two different strings with one digest are given.
 pub fn claims()
     ensures { ClaimsStandThere }
 {}
 
-/// Among the entries that a batch becomes no identity stands twice, and each submission's place has its identity.
+/// Among the entries that a batch becomes no identity stands twice, and each submission's place has the first of its identity.
 pub fn batches()
     ensures { BatchesAreSplit }
 {}
