@@ -110,12 +110,12 @@ edges_are_named H long line E edge entries is log =
 -- what was made of an edge is an attempt, whatever the edge was
 pub handed_attempts_are_attempts : HandedAttemptsAreAttempts
 handed_attempts_are_attempts H long b made = (
-    made.may.later,
-    λ E log. ⊎_elim
-        (λ (is : IsEdgeOf H E b.attempt.seen.tree_size b.edge b.entries). inl (made.step E is))
-        (λ (found : SomeCollide H). inr found)
-        (named_edges_tell H long b.attempt.seen E b.edge b.entries made.may.named log),
-  )
+  made.may.later,
+  λ E log. ⊎_elim
+      (λ (is : IsEdgeOf H E b.attempt.seen.tree_size b.edge b.entries). inl (made.step E is))
+      (λ (found : SomeCollide H). inr found)
+      (named_edges_tell H long b.attempt.seen E b.edge b.entries made.may.named log),
+)
 
 -- where the edge of a log was handed in, the state that was believed of it is the log's
 pub edge_state : (H : List ℕ → List ℕ) → ((x : List ℕ) → length (H x) ≡ 32) → (line : StateLine) (edge : List (List ℕ)) (entries : List ℕ)
