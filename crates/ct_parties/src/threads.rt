@@ -163,16 +163,14 @@ fn serve_lent<R: Threads + Wait + Sync>(
     alloc: Global,
     sequencer: &mut Sequencer,
     told: &mut Vec<u8>,
-    fronts: usize,
     tasks: Vec<OperatorTask>,
     waiting: &Waiting,
 ) -> Result<(), Fault>
-    requires { fronts ≡ length sequencer.old.lanes }
     ensures serves { OnOk result (OperatorServes sequencer.old tasks.items told.old.items sequencer.new told.new.items) }
     ensures goes_on { OnOk result (GoesOn sequencer.old sequencer.new) }
     ensures faults { IfErr result IsPartyFault }
 {
-    serve_operator(rt, alloc, sequencer, fronts, tasks, waiting, told)?;
+    serve_operator(rt, alloc, sequencer, tasks, waiting, told)?;
     Ok(())
 }
 
@@ -199,12 +197,10 @@ fn serve_beside<R: Threads + Wait + Sync>(
     alloc: Global,
     sequencer: &mut Sequencer,
     told: &mut Vec<u8>,
-    count: usize,
     tasks: Vec<OperatorTask>,
     shifts: Vec<FrontShift>,
     turns: u64,
 ) -> Result<Vec<FrontParty>, Fault>
-    requires { count ≡ length sequencer.old.lanes }
     ensures fronts { IfOk result (λ d. FrontsDo shifts.items d.items) }
     ensures serves { OnOk result (OperatorServes sequencer.old tasks.items told.old.items sequencer.new told.new.items) }
     ensures goes_on { OnOk result (GoesOn sequencer.old sequencer.new) }
@@ -218,7 +214,7 @@ fn serve_beside<R: Threads + Wait + Sync>(
     let (ended, served) = join_mut(
         rt,
         &mut || -> Result<(), Fault>
-            requires { (count ≡ length sequencer.now.lanes) × (tasks ≢ None) }
+            requires { tasks ≢ None }
             ensures serves { OnOk result ((v : VecOf OperatorTaskOf GlobalOf) → tasks.entry ≡ Some v
                 → OperatorServes sequencer.entry.now v.items told.entry.now.items sequencer.exit.now told.exit.now.items) }
             ensures goes_on { OnOk result (GoesOn sequencer.entry.now sequencer.exit.now) }
@@ -231,7 +227,7 @@ fn serve_beside<R: Threads + Wait + Sync>(
             let Some(tasks) = tasks.take() else {
                 unreachable!()
             };
-            serve_lent(rt, alloc, sequencer, told, count, tasks, &waiting)
+            serve_lent(rt, alloc, sequencer, told, tasks, &waiting)
         },
         &mut || -> Result<Vec<FrontParty>, Fault>
             requires { shifts ≢ None }
@@ -270,13 +266,11 @@ pub fn serve_shift<R: Threads + Wait + Sync>(
     turns: u64,
 ) -> Result<Vec<FrontParty>, Fault>
     requires count { length work.fronts.items ≡ length parties.items }
-    requires lanes { length parties.items ≡ length sequencer.old.lanes }
     ensures does { IfOk result (λ v. DoesShift (record { house = sequencer.old; told = told.old.items; fronts = parties.items }) work
         (record { house = sequencer.new; told = told.new.items; fronts = v.items })) }
     ensures faults { IfErr result IsPartyFault }
 {
     let Work { fronts, operator } = work;
-    let count = parties.len();
     let shifts = front_shifts(alloc, parties, fronts)?;
-    serve_beside(rt, alloc, sequencer, told, count, operator, shifts, turns)
+    serve_beside(rt, alloc, sequencer, told, operator, shifts, turns)
 }

@@ -12,12 +12,6 @@ serve_shift-requires-clause-count g c κs within =
     c.requires.work.1 ∙ lanes_count start.house start.fronts c.requires.fronts ∙ sym stay.1
     ∙ sym (lanes_count begun.house begun.fronts (stay.0 c.requires.fronts))
 
-pub serve_shift-requires-clause-lanes : goal.serve_shift-requires-clause-lanes
-serve_shift-requires-clause-lanes g c κs within =
-    let start : Parties = record { house = c.args.sequencer.now; told = c.new-told.result.items; fronts = c.args.parties.items } in
-    let begun : Parties = record { house = c.serve_shifts.new.sequencer; told = c.serve_shifts.new.told.items; fronts = c.in_ok-begun.begun.items } in
-    lanes_count begun.house begun.fronts ((shifts_stay 1 start begun c.args.shifts.items c.in_ok-begun.ensures.do_shifts).0 c.requires.fronts)
-
 pub returns-clause-fronts : goal.returns-clause-fronts
 returns-clause-fronts g c =
     let start : Parties = record { house = c.args.sequencer.now; told = c.new-told.result.items; fronts = c.args.parties.items } in

@@ -2,7 +2,7 @@ use Rattle.std.proofs.Common.{◌+◌, [], ◌∷◌, refl, arith, length-append
 use Rattle.std.specs.Vec.Iter.{into_iter_items}
 use Rattle.ct_parties.specs.Parties.{Parties}
 use Rattle.ct_parties.proofs.OutputLemmas.{if_err_is}
-use Rattle.ct_parties.proofs.ShiftLemmas.{cut_here, cut_on, do_shifts_more, does_stay, lanes_count, next_count, shift_refused, shifts_stay}
+use Rattle.ct_parties.proofs.ShiftLemmas.{cut_here, cut_on, do_shifts_more, does_stay, next_count, shift_refused, shifts_stay}
 use Rattle.ct_parties.proofs.shifting.serve_shifts.Goals as goal
 
 pub serve_shift-requires-clause-count : goal.serve_shift-requires-clause-count
@@ -14,13 +14,6 @@ serve_shift-requires-clause-count g c κs within =
     so_far c.requires.work refl
     (cut_here c.args.shifts.items c.loop-shift.yielded (into_iter_items c.loop-shift.shift-iterator) c.in-Some.shift (into_iter_items c.next.new.self)
     split c.in-Some.ensures.steps.0)
-
-pub serve_shift-requires-clause-lanes : goal.serve_shift-requires-clause-lanes
-serve_shift-requires-clause-lanes g c κs within =
-    let (t, u, split, so_far, number, ends) = c.loop-shift.invariant in
-    let start : Parties = record { house = c.args.sequencer.now; told = c.args.told.now.items; fronts = c.args.parties.items } in
-    let now : Parties = record { house = c.loop-shift.sequencer; told = c.loop-shift.told.items; fronts = c.loop-shift.parties.items } in
-    lanes_count now.house now.fronts ((shifts_stay 1 start now c.loop-shift.yielded so_far).0 c.requires.fronts)
 
 pub end_shift-requires-clause-fronts : goal.end_shift-requires-clause-fronts
 end_shift-requires-clause-fronts g c κs within =
