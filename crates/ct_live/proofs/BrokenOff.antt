@@ -19,14 +19,12 @@ use Rattle.ct_live.specs.LiveOpening.{AreOpened}
 use Rattle.ct_live.specs.LiveParties.{DeskReplies, FrontReplies}
 use Rattle.ct_live.specs.LiveReplied.{Rings}
 use Rattle.ct_live.specs.LiveRuns.{FrontWorker, worker_fronts, worker_tasks, worker_answers, AllReplySome, WritesOut, FrontStep}
-use Rattle.ct_live.specs.LiveRuns.{DeskStep}
 use Rattle.ct_live.specs.LiveServed.{AllAskLive}
 use Rattle.ct_live.specs.declared.asking.DeskTask.{DeskTask}
-use Rattle.ct_live.specs.declared.desk.Desk.{Desk}
 use Rattle.ct_live.specs.declared.front.LiveFront.{LiveFront}
 use Rattle.ct_live.specs.declared.live.Ends.{Ends}
 use Rattle.ct_live.specs.declared.workers.DeskWorker.{DeskWorker}
-use Rattle.ct_live.proofs.Replied.{Empty, desk_answered, front_answered, last_unsent, no_order, no_task, no_text, nothing_written, replies_live, rest_of}
+use Rattle.ct_live.proofs.Replied.{Empty, front_answered, last_unsent, no_order, no_task, no_text, nothing_written, replies_live, rest_of}
 use Rattle.ct_live.proofs.Tied.{none_given}
 
 -- ---- beginnings of lists
@@ -153,14 +151,6 @@ front_first a ts xs h = record {
   answered = front_answered a h.party_then h.first xs h.answered;
 }
 
-desk_first : (a : Desk) (ts : List (Numbered DeskTask)) (xs : List (List ℕ)) → AnswersFirst DeskStep a ts xs → AnswersFirst DeskReplies a.sequencer ts xs
-desk_first a ts xs h = record {
-  first = h.first;
-  cut = h.cut;
-  party_then = h.party_then.sequencer;
-  answered = desk_answered a h.party_then h.first xs h.answered;
-}
-
 -- each front answered the first of its tasks, as far as they came out of the rings
 all_answer_first : (before after : List FrontWorker) (p : Producer (Vec ℕ Global) Global AnyItems) (tasks : List (List (Numbered FrontTask)))
     (came : List (List (Vec ℕ Global))) → AllReplySome before after → All Empty (all_received (worker_tasks before))
@@ -188,7 +178,7 @@ all_answer_first (a ∷ before) (b ∷ after) p (ts ∷ tasks) (x ∷ came) (did
 pub replies_some : (n next : ℕ) (input : Option (List ℕ)) (e : Ends) (workers : List FrontWorker) (o : DeskWorker) (old new : Option (List ℕ))
     → AreOpened n e → worker_tasks workers ≡ e.tasks.items
     → worker_answers workers ≡ e.answers.items → o.answers ≡ e.desk_answers → o.tasks ≡ e.desk_tasks
-    → RunsSome next input e.inlets workers o e.rings.items old new → RepliesSome n next input o.desk.sequencer (worker_fronts workers) old new
+    → RunsSome next input e.inlets workers o e.rings.items old new → RepliesSome n next input o.sequencer (worker_fronts workers) old new
 replies_some n next input e workers o old new i tasks answers own_answers own_tasks r =
     let none = no_task n e workers i tasks in
     let unsent = no_text n e workers o i answers own_answers in
@@ -207,10 +197,9 @@ replies_some n next input e workers o old new i tasks answers own_answers own_ta
       front_texts = texts_each s.front;
       answered = all_answer_first workers r.workers_then o.answers (all_sent r.inlets_then.fronts.items) s.front r.did none unsent r.taken s.begin_first;
       desk_texts = texts s.back;
-      operated = answers_cut DeskReplies o.desk.sequencer (received p.tasks) (sent r.inlets_then.operator) (texts (sent p.answers)) (texts s.back)
-          (desk_first o.desk (received p.tasks) (texts (sent p.answers))
-          (first_since DeskStep o.desk (received o.tasks) (received p.tasks) (sent o.answers) (sent p.answers) (no_order n e o i own_tasks)
-          (last_unsent workers o.answers unsent) r.operated.answered)) r.ordered (texts_prefix s.back (sent p.answers) s.begins_last);
+      operated = answers_cut DeskReplies o.sequencer (received p.tasks) (sent r.inlets_then.operator) (texts (sent p.answers)) (texts s.back)
+          (first_since DeskReplies o.sequencer (received o.tasks) (received p.tasks) (sent o.answers) (sent p.answers) (no_order n e o i own_tasks)
+          (last_unsent workers o.answers unsent) r.operated.answered) r.ordered (texts_prefix s.back (sent p.answers) s.begins_last);
       some = subst (λ (l : List (List (List ℕ))). IsBegunOf l old new) (ap texts_each s.split ∙ texts_behind s.front s.back)
           (r.wrote old (nothing_written e.rings.items old i.answers.unreceived));
     }
@@ -229,7 +218,7 @@ pub replies_closing : (n close_at next : ℕ) (input : Option (List ℕ)) (e : E
     → AreOpened n e → worker_tasks workers ≡ e.tasks.items
     → worker_answers workers ≡ e.answers.items → o.answers ≡ e.desk_answers → o.tasks ≡ e.desk_tasks
     → RunsClosing close_at next input e.inlets workers e.rings.items o old new
-    → RepliesClosing n close_at next input o.desk.sequencer (worker_fronts workers) old new
+    → RepliesClosing n close_at next input o.sequencer (worker_fronts workers) old new
 replies_closing n close_at next input e workers o old new i tasks answers own_answers own_tasks (whole, run, begun) =
     let w = run.ended.written old (run.wrote old (nothing_written e.rings.items old i.answers.unreceived)) in (
       whole,
@@ -242,11 +231,11 @@ pub broken_off_as : (n close_at next : ℕ) (input : Option (List ℕ)) (e : End
     (fronts : List FrontView) (old new : Option (List ℕ))
     → RunsBrokenOff close_at next input e.inlets workers o e.rings.items old new → AreOpened n e → worker_tasks workers ≡ e.tasks.items
     → worker_answers workers ≡ e.answers.items → o.answers ≡ e.desk_answers
-    → o.tasks ≡ e.desk_tasks → o.desk.sequencer ≡ house → worker_fronts workers ≡ fronts
+    → o.tasks ≡ e.desk_tasks → o.sequencer ≡ house → worker_fronts workers ≡ fronts
     → Appends old new [] ⊎ RepliesBrokenOff n close_at next input house fronts old new
 broken_off_as n close_at next input e workers o house fronts old new r i tasks answers own_answers own_tasks same all =
     subst (λ (h : HouseState). Appends old new [] ⊎ RepliesBrokenOff n close_at next input h fronts old new) same
-    (subst (λ (l : List FrontView). Appends old new [] ⊎ RepliesBrokenOff n close_at next input o.desk.sequencer l old new) all (elim r [
+    (subst (λ (l : List FrontView). Appends old new [] ⊎ RepliesBrokenOff n close_at next input o.sequencer l old new) all (elim r [
       | inl nothing ↦ inl nothing
       | inr (inl some) ↦ inr (inl (replies_some n next input e workers o old new i tasks answers own_answers own_tasks some))
       | inr (inr closing) ↦ inr (inr (replies_closing n close_at next input e workers o old new i tasks answers own_answers own_tasks closing))

@@ -94,7 +94,7 @@ module _ (inlets : Inlets) (tasks seen : List (Consumer (Numbered FrontTask) Glo
   pub ends_live : (fronts given : List FrontView) (close_at : ℕ) (read : Result End GiveFault) (end : End) (next : ℕ) (input : Option (List ℕ))
       (before rings : Rings) (old mid new : Option (List ℕ)) → given ≡ fronts → read ≡ Ok end
       → (all_received seen ≡ all_sent inlets.fronts.items) × (received operator.tasks ≡ sent inlets.operator)
-      → all_received rings ≡ all_sent all → WritesOn before rings old mid → EndsLog operator.desk.sequencer given close_at end next input mid new
+      → all_received rings ≡ all_sent all → WritesOn before rings old mid → EndsLog operator.sequencer given close_at end next input mid new
       → EndsLive inlets fronts tasks answers operator close_at read next input before old new
   ends_live fronts given close_at read end next input before rings old mid new same_fronts so taken came writes closing = record {
     taken = sym (ap all_received same) ∙ taken.0;
@@ -105,13 +105,13 @@ module _ (inlets : Inlets) (tasks seen : List (Consumer (Numbered FrontTask) Glo
     written = writes;
     end = end;
     ended_so = so;
-    closing = subst (λ (l : List FrontView). EndsLog operator.desk.sequencer l close_at end next input mid new) same_fronts closing;
+    closing = subst (λ (l : List FrontView). EndsLog operator.sequencer l close_at end next input mid new) same_fronts closing;
   }
 
   pub ends_closing : (fronts given : List FrontView) (close_at : ℕ) (read : Result End GiveFault) (end : End) (next : ℕ) (input : Option (List ℕ))
       (before rings : Rings) (old mid new : Option (List ℕ)) → given ≡ fronts → read ≡ Ok end
       → (all_received seen ≡ all_sent inlets.fronts.items) × (received operator.tasks ≡ sent inlets.operator)
-      → all_received rings ≡ all_sent all → WritesOn before rings old mid → EndsLogSome operator.desk.sequencer given close_at end next input mid new
+      → all_received rings ≡ all_sent all → WritesOn before rings old mid → EndsLogSome operator.sequencer given close_at end next input mid new
       → EndsClosing inlets fronts tasks answers operator close_at read next input before old new
   unfolding ends_live
   ends_closing fronts given close_at read end next input before rings old mid new same_fronts so taken came writes (whole, log, begun) =

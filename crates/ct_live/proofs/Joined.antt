@@ -6,7 +6,7 @@ use Rattle.rtrb.specs.Ring.{IsPair, SameProducer, SameConsumer}
 use Rattle.rtrb.specs.declared.AnyItems.{AnyItems}
 use Rattle.rtrb.specs.declared.consumer.Consumer.{Consumer}
 use Rattle.rtrb.specs.declared.producer.Producer.{Producer}
-use Rattle.ct_house.specs.House.{FrontView}
+use Rattle.ct_house.specs.House.{FrontView, HouseState}
 use Rattle.ct_parties.specs.FrontWork.{FrontGoesOn}
 use Rattle.ct_parties.specs.OperatorWork.{GoesOn}
 use Rattle.ct_parties.specs.Parties.{AreFrontsOf, AreSame}
@@ -20,11 +20,11 @@ use Rattle.ct_pipes.specs.declared.answering.Numbered.{Numbered}
 use Rattle.ct_pipes.proofs.Merging.{zip_self}
 use Rattle.ct_pipes.proofs.Turns.{producer_trans}
 use Rattle.std.proofs.lemmas.List.Elements.{length_all_zip}
-use Rattle.ct_live.specs.LiveRuns.{FrontWorker, worker_fronts, worker_tasks, worker_answers, AreBeside, GivesOn, AllReply, AllReplySome, DeskStep, DeskWorks, DeskWorksSome, FrontStep}
+use Rattle.ct_live.specs.LiveParties.{DeskReplies}
+use Rattle.ct_live.specs.LiveRuns.{FrontWorker, worker_fronts, worker_tasks, worker_answers, AreBeside, GivesOn, AllReply, AllReplySome, DeskWorks, DeskWorksSome, FrontStep}
 use Rattle.ct_live.specs.declared.asking.DeskTask.{DeskTask}
 use Rattle.ct_live.specs.declared.front.LiveFront.{LiveFront}
 use Rattle.ct_live.specs.declared.giving.Inlets.{Inlets}
-use Rattle.ct_live.specs.declared.desk.Desk.{Desk}
 use Rattle.ct_live.specs.declared.workers.DeskWorker.{DeskWorker}
 
 -- a front that answered its tasks went on
@@ -35,11 +35,11 @@ front_went_on a b (t ∷ ts) [] is = absurd is
 front_went_on a b (t ∷ ts) (x ∷ xs) (m, reply, did, e, rest) = front_goes_on_both a.front m.front b.front did.goes_on (front_went_on m b ts xs rest)
 
 -- and so did the operator
-desk_went_on : (a b : Desk) (ts : List (Numbered DeskTask)) (xs : List (List ℕ)) → AreAnswered DeskStep a ts xs b → GoesOn a.sequencer b.sequencer
-desk_went_on a b [] [] is = subst (λ (d : Desk). GoesOn a.sequencer d.sequencer) (sym is) (goes_on_nothing a.sequencer)
+desk_went_on : (a b : HouseState) (ts : List (Numbered DeskTask)) (xs : List (List ℕ)) → AreAnswered DeskReplies a ts xs b → GoesOn a b
+desk_went_on a b [] [] is = subst (GoesOn a) (sym is) (goes_on_nothing a)
 desk_went_on a b [] (x ∷ xs) is = absurd is
 desk_went_on a b (t ∷ ts) [] is = absurd is
-desk_went_on a b (t ∷ ts) (x ∷ xs) (m, reply, did, e, rest) = goes_on_both a.sequencer m.sequencer b.sequencer did.goes_on (desk_went_on m b ts xs rest)
+desk_went_on a b (t ∷ ts) (x ∷ xs) (m, reply, did, e, rest) = goes_on_both a m b did.goes_on (desk_went_on m b ts xs rest)
 
 fronts_same : (before after : List FrontWorker) → AllReply before after → AreSame (worker_fronts before) (worker_fronts after)
 fronts_same [] [] all = tt
@@ -93,11 +93,11 @@ beside_kept g h before after o p rs ss i given did worked same = record {
 }
 
 -- the fronts, where all answered all their tasks
-pub house_kept : (before after : List FrontWorker) (o p : DeskWorker) → AreFrontsOf o.desk.sequencer (worker_fronts before) → AllReply before after
-    → DeskWorks o p → AreFrontsOf p.desk.sequencer (worker_fronts after)
+pub house_kept : (before after : List FrontWorker) (o p : DeskWorker) → AreFrontsOf o.sequencer (worker_fronts before) → AllReply before after
+    → DeskWorks o p → AreFrontsOf p.sequencer (worker_fronts after)
 house_kept before after o p i did worked =
-    let on = desk_went_on o.desk p.desk worked.answered.tasks (map (λ (v : Vec ℕ Global). v.items) worked.answered.answers) worked.answered.answered in
-    fronts_kept o.desk.sequencer p.desk.sequencer (worker_fronts before) (worker_fronts after) on.house on.count (fronts_same before after did) i
+    let on = desk_went_on o.sequencer p.sequencer worked.answered.tasks (map (λ (v : Vec ℕ Global). v.items) worked.answered.answers) worked.answered.answered in
+    fronts_kept o.sequencer p.sequencer (worker_fronts before) (worker_fronts after) on.house on.count (fronts_same before after did) i
 
 -- ---- the rings into which tasks are given
 

@@ -45,7 +45,7 @@ pub ends_late : (inlets : Inlets) (tasks seen : List (Consumer (Numbered FrontTa
     (answers all : List (Producer (Vec ℕ Global) Global AnyItems)) (operator : DeskWorker) → seen ≡ tasks → all ≡ answers ++ operator.answers ∷ []
     → (close_at : ℕ) (read : Result End GiveFault) (end : End) (before rings : Rings) (old mid new : Option (List ℕ)) → read ≡ Ok end
     → (all_received seen ≡ all_sent inlets.fronts.items) × (received operator.tasks ≡ sent inlets.operator)
-    → all_received rings ≡ all_sent all → WritesOn before rings old mid → EndsLogLate operator.desk.sequencer close_at end mid new
+    → all_received rings ≡ all_sent all → WritesOn before rings old mid → EndsLogLate operator.sequencer close_at end mid new
     → EndsLate inlets tasks answers operator close_at read before old new
 ends_late inlets tasks seen answers all operator same together close_at read end before rings old mid new so taken came writes closing = record {
   taken = sym (ap all_received same) ∙ taken.0;

@@ -30,7 +30,7 @@ new_fronts_of s fronts n places now i some = record {
 -- the parties have the other ends of the rings that were opened for them
 pub joined_new : (n : ℕ) (e : Ends) (workers : List FrontWorker) (o : DeskWorker) → AreOpened n e → worker_tasks workers ≡ e.tasks.items
     → worker_answers workers ≡ e.answers.items
-    → o.tasks ≡ e.desk_tasks → o.answers ≡ e.desk_answers → AreFrontsOf o.desk.sequencer (worker_fronts workers) → AreJoined e.inlets workers o e.rings.items
+    → o.tasks ≡ e.desk_tasks → o.answers ≡ e.desk_answers → AreFrontsOf o.sequencer (worker_fronts workers) → AreJoined e.inlets workers o e.rings.items
 joined_new n e workers o i tasks answers own_tasks own_answers fronts = record {
   beside = record {
     tasks_of = subst (λ (l : List (Consumer (Numbered FrontTask) Global AnyItems)). ArePairs e.inlets.fronts.items l) (sym tasks) i.tasks.pairs;

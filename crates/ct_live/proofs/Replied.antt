@@ -21,10 +21,9 @@ use Rattle.ct_live.specs.LiveLate.{IsServedLate, RepliesLate, RunsLate}
 use Rattle.ct_live.specs.LiveOpening.{AreOpened}
 use Rattle.ct_live.specs.LiveParties.{DeskReplies, FrontReplies}
 use Rattle.ct_live.specs.LiveReplied.{AllAnswer, IsMomentOf, IsServedLive, RepliesLive, Rings, RunsLive}
-use Rattle.ct_live.specs.LiveRuns.{FrontWorker, worker_fronts, worker_tasks, worker_answers, AllReply, DeskStep, DeskWorks, FrontStep}
+use Rattle.ct_live.specs.LiveRuns.{FrontWorker, worker_fronts, worker_tasks, worker_answers, AllReply, DeskWorks, FrontStep}
 use Rattle.ct_live.specs.LiveServed.{AreLinesOf, AreTasksOf, IsClosingText}
 use Rattle.ct_live.specs.declared.asking.DeskTask.{DeskTask}
-use Rattle.ct_live.specs.declared.desk.Desk.{Desk}
 use Rattle.ct_live.specs.declared.front.LiveFront.{LiveFront}
 use Rattle.ct_live.specs.declared.giving.End.{End}
 use Rattle.ct_live.specs.declared.giving.GiveFault.{GiveFault}
@@ -44,13 +43,6 @@ front_answered a b [] [] is = ap (λ (f : LiveFront). f.front) is
 front_answered a b [] (x ∷ xs) is = absurd is
 front_answered a b (t ∷ ts) [] is = absurd is
 front_answered a b (t ∷ ts) (x ∷ xs) (m, reply, did, e, rest) = (m.front, reply, did, e, front_answered m b ts xs rest)
-
-pub desk_answered : (a b : Desk) (ts : List (Numbered DeskTask)) (xs : List (List ℕ)) → AreAnswered DeskStep a ts xs b
-    → AreAnswered DeskReplies a.sequencer ts xs b.sequencer
-desk_answered a b [] [] is = ap (λ (d : Desk). d.sequencer) is
-desk_answered a b [] (x ∷ xs) is = absurd is
-desk_answered a b (t ∷ ts) [] is = absurd is
-desk_answered a b (t ∷ ts) (x ∷ xs) (m, reply, did, e, rest) = (m.sequencer, reply, did, e, desk_answered m b ts xs rest)
 
 -- all that was received and sent is what was received and sent since, where nothing was before
 since : {P T : Type 0} (does : P → T → List ℕ → P → Type 0) (a b : P) (got got_then : List (Numbered T)) (gave gave_then : List (Vec ℕ Global)) → got ≡ []
@@ -158,7 +150,7 @@ module _ (n close_at next : ℕ) (input : Option (List ℕ)) (e : Ends) (workers
       → all_received (worker_tasks workers_then) ≡ all_sent inlets_then.fronts.items → received operator_then.tasks ≡ sent inlets_then.operator
       → all_received rings ≡ all_sent (worker_answers workers_then ++ operator_then.answers ∷ []) → WritesOn rings_then rings start mid
       → IsMomentOf close_at end now → EndsIn Last end next_then input_then
-      → RepliesAll n close_at next input o.desk.sequencer operator_then.desk.sequencer (worker_fronts workers) (worker_fronts workers_then) now old mid Last
+      → RepliesAll n close_at next input o.sequencer operator_then.sequencer (worker_fronts workers) (worker_fronts workers_then) now old mid Last
   replies_all inlets_then read end next_then input_then workers_then operator_then rings_then rings start mid now Last given ended_so all did wrote taken
       ordered came writes moment ends =
       let w = writes old (wrote old (nothing_written e.rings.items old i.answers.unreceived)) in
@@ -175,10 +167,9 @@ module _ (n close_at next : ℕ) (input : Option (List ℕ)) (e : Ends) (workers
         answered = all_answer workers workers_then o.answers all (no_task n e workers i tasks) (no_text n e workers o i answers own_answers);
         desk_tasks = received operator_then.tasks;
         desk_texts = texts (sent operator_then.answers);
-        operated = desk_answered o.desk operator_then.desk (received operator_then.tasks) (texts (sent operator_then.answers))
-            (since DeskStep o.desk operator_then.desk (received o.tasks) (received operator_then.tasks) (sent o.answers)
+        operated = since DeskReplies o.sequencer operator_then.sequencer (received o.tasks) (received operator_then.tasks) (sent o.answers)
             (sent operator_then.answers) (no_order n e o i own_tasks)
-            (last_unsent workers o.answers (no_text n e workers o i answers own_answers)) did.answered);
+            (last_unsent workers o.answers (no_text n e workers o i answers own_answers)) did.answered;
         lines = tie.lines;
         of_input = tie.of_input;
         behind = tie.behind;
@@ -190,7 +181,7 @@ module _ (n close_at next : ℕ) (input : Option (List ℕ)) (e : Ends) (workers
       }
 
   pub replies_live : (new : Option (List ℕ)) → RunsLive close_at next input e.inlets workers e.rings.items o old new
-      → RepliesLive n close_at next input o.desk.sequencer (worker_fronts workers) old new
+      → RepliesLive n close_at next input o.sequencer (worker_fronts workers) old new
   unfolding replies_all
   replies_live new r =
       let closing = r.ended.closing in
@@ -205,7 +196,7 @@ module _ (n close_at next : ℕ) (input : Option (List ℕ)) (e : Ends) (workers
         answered = h.answered;
         desk_tasks = h.desk_tasks;
         desk_texts = h.desk_texts;
-        house_then = r.operator_then.desk.sequencer;
+        house_then = r.operator_then.sequencer;
         operated = h.operated;
         now = closing.now;
         lines = h.lines;
@@ -223,7 +214,7 @@ module _ (n close_at next : ℕ) (input : Option (List ℕ)) (e : Ends) (workers
 
   -- and where the clock refused the moment of the closing
   pub replies_late : (new : Option (List ℕ)) → RunsLate close_at next input e.inlets workers e.rings.items o old new
-      → RepliesLate n close_at next input o.desk.sequencer (worker_fronts workers) old new
+      → RepliesLate n close_at next input o.sequencer (worker_fronts workers) old new
   replies_late new r =
       let closing = r.ended.closing in
       let h = replies_all r.inlets_then r.read r.ended.end r.next_then r.input_then r.workers_then r.operator_then r.rings_then r.ended.rings r.mid
@@ -236,7 +227,7 @@ module _ (n close_at next : ℕ) (input : Option (List ℕ)) (e : Ends) (workers
         answered = h.answered;
         desk_tasks = h.desk_tasks;
         desk_texts = h.desk_texts;
-        house_then = r.operator_then.desk.sequencer;
+        house_then = r.operator_then.sequencer;
         operated = h.operated;
         now = closing.now;
         lines = h.lines;
@@ -255,10 +246,10 @@ pub replies_as : (n close_at next : ℕ) (input : Option (List ℕ)) (e : Ends) 
     (fronts : List FrontView) (old new : Option (List ℕ))
     → RunsLive close_at next input e.inlets workers e.rings.items o old new → AreOpened n e → worker_tasks workers ≡ e.tasks.items
     → worker_answers workers ≡ e.answers.items → o.answers ≡ e.desk_answers
-    → o.tasks ≡ e.desk_tasks → o.desk.sequencer ≡ house → worker_fronts workers ≡ fronts → RepliesLive n close_at next input house fronts old new
+    → o.tasks ≡ e.desk_tasks → o.sequencer ≡ house → worker_fronts workers ≡ fronts → RepliesLive n close_at next input house fronts old new
 replies_as n close_at next input e workers o house fronts old new r i tasks answers own_answers own_tasks same all =
     subst (λ (h : HouseState). RepliesLive n close_at next input h fronts old new) same
-    (subst (λ (l : List FrontView). RepliesLive n close_at next input o.desk.sequencer l old new) all
+    (subst (λ (l : List FrontView). RepliesLive n close_at next input o.sequencer l old new) all
     (replies_live n close_at next input e workers o old i tasks answers own_answers own_tasks new r))
 
 pub live_as : (count places open_at close_at next : ℕ) (input left : Option (List ℕ)) (house : HouseState) (fronts : List FrontView) (old new : Option (List ℕ))
@@ -287,8 +278,8 @@ pub replies_late_as : (n close_at next : ℕ) (input : Option (List ℕ)) (e : E
     (fronts : List FrontView) (old new : Option (List ℕ))
     → RunsLate close_at next input e.inlets workers e.rings.items o old new → AreOpened n e → worker_tasks workers ≡ e.tasks.items
     → worker_answers workers ≡ e.answers.items → o.answers ≡ e.desk_answers
-    → o.tasks ≡ e.desk_tasks → o.desk.sequencer ≡ house → worker_fronts workers ≡ fronts → RepliesLate n close_at next input house fronts old new
+    → o.tasks ≡ e.desk_tasks → o.sequencer ≡ house → worker_fronts workers ≡ fronts → RepliesLate n close_at next input house fronts old new
 replies_late_as n close_at next input e workers o house fronts old new r i tasks answers own_answers own_tasks same all =
     subst (λ (h : HouseState). RepliesLate n close_at next input h fronts old new) same
-    (subst (λ (l : List FrontView). RepliesLate n close_at next input o.desk.sequencer l old new) all
+    (subst (λ (l : List FrontView). RepliesLate n close_at next input o.sequencer l old new) all
     (replies_late n close_at next input e workers o old i tasks answers own_answers own_tasks new r))

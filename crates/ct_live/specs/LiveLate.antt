@@ -45,7 +45,7 @@ pub record EndsLate (inlets : Inlets) (tasks : List (Consumer (Numbered FrontTas
   pub written : WritesOn before rings old mid
   pub end : End
   pub ended_so : read ≡ Ok end
-  pub closing : EndsLogLate operator.desk.sequencer close_at end mid new
+  pub closing : EndsLogLate operator.sequencer close_at end mid new
 
 -- What the threads and the end after them do then: all that they do, but for the closing.
 pub record RunsLate (close_at next : ℕ) (input : Option (List ℕ)) (inlets : Inlets) (workers : List FrontWorker) (rings : Rings)

@@ -86,7 +86,7 @@ pub record EndsLive (inlets : Inlets) (fronts : List FrontView) (tasks : List (C
   pub written : WritesOn before rings old mid
   pub end : End
   pub ended_so : read ≡ Ok end
-  pub closing : EndsLog operator.desk.sequencer fronts close_at end next input mid new
+  pub closing : EndsLog operator.sequencer fronts close_at end next input mid new
 
 -- What the threads and the end after them do: tasks were given for the lines of the input, the fronts and the operator did theirs,
 -- answers were written as they came, and then the log ended.

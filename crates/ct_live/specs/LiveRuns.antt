@@ -18,7 +18,6 @@ use Rattle.ct_live.specs.LiveParties.{DeskReplies, FrontReplies}
 use Rattle.ct_live.specs.declared.asking.DeskTask.{DeskTask}
 use Rattle.ct_live.specs.declared.front.LiveFront.{LiveFront}
 use Rattle.ct_live.specs.declared.giving.Inlets.{Inlets}
-use Rattle.ct_live.specs.declared.desk.Desk.{Desk}
 use Rattle.ct_live.specs.declared.workers.DeskWorker.{DeskWorker}
 
 -- the fronts that these parties are
@@ -54,7 +53,7 @@ pub record AreBeside (inlets : Inlets) (tasks : List (Consumer (Numbered FrontTa
 pub record AreJoined (inlets : Inlets) (workers : List FrontWorker) (operator : DeskWorker)
     (rings : List (Consumer (Vec ℕ Global) Global AnyItems)) : Type 0 where
   pub beside : AreBeside inlets (worker_tasks workers) (worker_answers workers) operator rings
-  pub fronts : AreFrontsOf operator.desk.sequencer (worker_fronts workers)
+  pub fronts : AreFrontsOf operator.sequencer (worker_fronts workers)
 
 -- the rings into which tasks are given are the same
 pub record GivesOn (a b : Inlets) : Type 0 where
@@ -69,13 +68,9 @@ AllReply before after = AllWork (λ (a : LiveFront) (t : FrontTask) (r : List �
 abbrev pub FrontStep : LiveFront → FrontTask → List ℕ → LiveFront → Type 0
 FrontStep a t r b = FrontReplies a.front t r b.front
 
--- the operator does one task, and replies to it
-abbrev pub DeskStep : Desk → DeskTask → List ℕ → Desk → Type 0
-DeskStep a t reply b = DeskReplies a.sequencer t reply b.sequencer
-
 -- what the operator did: it answered all tasks that it received in turn, over the same rings
 pub record DeskWorks (a b : DeskWorker) : Type 0 where
-  pub answered : AnswersMore DeskStep a.desk b.desk (received a.tasks) (received b.tasks) (sent a.answers) (sent b.answers)
+  pub answered : AnswersMore DeskReplies a.sequencer b.sequencer (received a.tasks) (received b.tasks) (sent a.answers) (sent b.answers)
   pub tasks : SameConsumer a.tasks b.tasks
   pub answers : SameProducer a.answers b.answers
 
@@ -85,7 +80,7 @@ AllReplySome before after = AllWorkSome (λ (a : LiveFront) (t : FrontTask) (r :
 
 -- the operator answered the first of the tasks that it received, in turn, over the same rings
 pub record DeskWorksSome (a b : DeskWorker) : Type 0 where
-  pub answered : AnswersSome DeskStep a.desk (received a.tasks) (received b.tasks) (sent a.answers) (sent b.answers)
+  pub answered : AnswersSome DeskReplies a.sequencer (received a.tasks) (received b.tasks) (sent a.answers) (sent b.answers)
   pub tasks : SameConsumer a.tasks b.tasks
   pub answers : SameProducer a.answers b.answers
 

@@ -14,7 +14,6 @@ ghost use Rattle.ct_live.specs.LiveRuns.{AreBeside, party_fronts};
 
 use crate::asking::DeskTask;
 use crate::closed::{send_last_head, serve_closed};
-use crate::desk::Desk;
 use crate::front::LiveFront;
 use crate::giving::{End, GiveFault, Giver, Inlets};
 use crate::workers::DeskWorker;
@@ -204,14 +203,10 @@ fn close_and_serve<H: Threads + Wait + Sync, B: BufRead + Drop, W: Write>(
 /// Gives the house up of an operator that did nothing.
 pub fn abandon<H: Wait>(rt: &H, alloc: Global, operator: DeskWorker) {
     let DeskWorker {
-        desk,
+        sequencer,
         tasks: _,
         answers: _,
     } = operator;
-    let Desk {
-        sequencer,
-        fronts: _,
-    } = desk;
     sequencer.abandon(rt, Vec::new(alloc));
 }
 
@@ -233,7 +228,7 @@ pub fn end_live<H: Threads + Wait + Sync, B: BufRead + Drop, W: Write>(
 ) -> Result<(), Fault>
     requires room { vec_len left.fronts.answers < vec_capacity left.fronts.answers }
     requires beside { AreBeside left.giver.inlets left.fronts.tasks.items left.fronts.answers.items operator rings.old }
-    requires fronts { HaveDone left.written left.operated left.fronts.fault → AreFrontsOf operator.desk.sequencer (party_fronts left.fronts.parties.items) }
+    requires fronts { HaveDone left.written left.operated left.fronts.fault → AreFrontsOf operator.sequencer (party_fronts left.fronts.parties.items) }
     ensures ended { OnOk result (HaveDone left.written left.operated left.fronts.fault × EndsLive left.giver.inlets
         (party_fronts left.fronts.parties.items) left.fronts.tasks.items left.fronts.answers.items operator close_at left.end
         left.giver.lines.next (B.remaining left.giver.lines.input) rings.old (W.contents output.old) (W.contents output.new)) }
@@ -245,14 +240,10 @@ pub fn end_live<H: Threads + Wait + Sync, B: BufRead + Drop, W: Write>(
         (W.contents output.old) (W.contents output.new)) }
 {
     let DeskWorker {
-        desk,
+        sequencer,
         tasks: mut orders,
         answers: desk_answers,
     } = operator;
-    let Desk {
-        sequencer,
-        fronts: _,
-    } = desk;
     let Left {
         mut giver,
         end,

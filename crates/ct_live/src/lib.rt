@@ -8,8 +8,7 @@
 //!   `close`, and two for the bytes that are signed.
 //! - `signing` has the bytes that stand under the log's signatures.
 //! - `replying` has the reply to a line without the end of the line.
-//! - `front` is a front as a party of `ct_pipes`; `desk` is what the operator works with, and `operator` does its tasks in
-//!   turn, as a party does.
+//! - `front` is a front as a party of `ct_pipes`; `operator` does the operator's tasks in turn, as a party does.
 //! - `giving` reads lines, and gives them out to the parties.
 //! - `threads` has the reader and the writer, each in a thread of its own, and the parties, and then ends the log.
 //! - `ending` is what comes once all threads have ended, and `workers` has the parties with the ends of their rings.
@@ -19,7 +18,6 @@
 
 mod asking;
 mod closed;
-mod desk;
 mod ending;
 mod front;
 mod giving;
@@ -31,7 +29,6 @@ mod threads;
 mod workers;
 
 pub use asking::{DeskTask, LiveTask, live_task};
-pub use desk::Desk;
 pub use front::LiveFront;
 pub use live::{TURNS, serve_live};
 pub use replying::{DeskReply, desk_object, reply_object};

@@ -11,7 +11,6 @@ ghost use Rattle.ct_live.specs.LiveLate.{IsServedLate, RepliesLate};
 ghost use Rattle.ct_live.specs.LiveReplied.{IsServedLive, RepliesLive};
 
 use crate::asking::DeskTask;
-use crate::desk::Desk;
 use crate::front::LiveFront;
 use crate::giving::{Giver, Inlets};
 use crate::threads::{Out, Served, Start, run_live};
@@ -212,10 +211,7 @@ fn serve_house<H: Threads + Wait + Sync, B: BufRead + Drop + Send, W: Write + Dr
         }
     };
     let operator = DeskWorker {
-        desk: Desk {
-            sequencer,
-            fronts: usize::from(options.fronts),
-        },
+        sequencer,
         tasks: desk_tasks,
         answers: desk_answers,
     };

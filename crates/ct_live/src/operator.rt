@@ -7,10 +7,8 @@ ghost use Rattle.ct_lines.specs.ReplyText.{answered};
 ghost use Rattle.ct_parties.specs.OperatorWork.{GoesOn};
 ghost use Rattle.ct_live.specs.LiveParties.{TakesWhatIsThere, DeskDoes, DeskReplies};
 ghost use Rattle.ct_live.specs.LiveReplies.{says, desk_said};
-ghost use Rattle.ct_live.specs.LiveRuns.{DeskStep};
 
 use crate::asking::DeskTask;
-use crate::desk::Desk;
 use crate::replying::{DeskReply, desk_object};
 use crate::signing::{head_input, timestamp_input};
 use ct_codec::Refusal;
@@ -63,20 +61,16 @@ fn do_task<R: Threads + Wait + Sync>(
     rt: &R,
     alloc: Global,
     sequencer: &mut Sequencer,
-    fronts: usize,
     task: DeskTask,
     waiting: &Waiting,
 ) -> Result<DeskReply, Refusal>
-    requires { fronts ≡ length sequencer.old.lanes }
     ensures does { DeskDoes sequencer.old task (desk_said result) sequencer.new }
     ensures goes_on { GoesOn sequencer.old sequencer.new }
 {
     match task {
-        DeskTask::Do(task) => {
-            said(operator_work::do_task(rt, alloc, sequencer, fronts, task, waiting))
-        }
+        DeskTask::Do(task) => { said(operator_work::do_task(rt, alloc, sequencer, task, waiting)) }
         DeskTask::Take { from, max, now } => {
-            if usize::from(from) >= fronts {
+            if usize::from(from) >= sequencer.fronts() {
                 return Err(Refusal::BadLine);
             }
             said(take(rt, alloc, sequencer, from, max, now))
@@ -93,20 +87,18 @@ fn do_task<R: Threads + Wait + Sync>(
     }
 }
 
-impl Desk {
-    // Does a task, and replies to it.
-    fn reply<R: Threads + Wait + Sync>(
-        &mut self,
-        rt: &R,
-        alloc: Global,
-        waiting: &Waiting,
-        task: DeskTask,
-    ) -> Result<Vec<u8>, AllocError>
-        ensures { IfOk result (λ r. DeskReplies self.old.sequencer task r.items self.new.sequencer) }
-    {
-        let reply = do_task(rt, alloc, &mut self.sequencer, self.fronts, task, waiting);
-        desk_object(alloc, reply)
-    }
+// Does a task, and replies to it.
+fn reply_to<R: Threads + Wait + Sync>(
+    rt: &R,
+    alloc: Global,
+    sequencer: &mut Sequencer,
+    task: DeskTask,
+    waiting: &Waiting,
+) -> Result<Vec<u8>, AllocError>
+    ensures { IfOk result (λ r. DeskReplies sequencer.old task r.items sequencer.new) }
+{
+    let reply = do_task(rt, alloc, sequencer, task, waiting);
+    desk_object(alloc, reply)
 }
 
 /// Answers the operator's tasks in turn, until no more are given, as `answer_all` does those of a party. `number` is the
@@ -117,13 +109,13 @@ pub fn answer_desk<R: Threads + Wait + Sync>(
     places: &Places,
     number: usize,
     waiting: &Waiting,
-    desk: &mut Desk,
+    sequencer: &mut Sequencer,
     tasks: &mut Consumer<Numbered<DeskTask>>,
     answers: &mut Producer<Vec<u8>>,
 ) -> Result<(), PartyFault>
-    ensures answered { OnOk result (AnswersMore DeskStep desk.old desk.new
+    ensures answered { OnOk result (AnswersMore DeskReplies sequencer.old sequencer.new
         (received tasks.old) (received tasks.new) (sent answers.old) (sent answers.new)) }
-    ensures begun { OnErr result (AnswersAllButLast DeskStep desk.old
+    ensures begun { OnErr result (AnswersAllButLast DeskReplies sequencer.old
         (received tasks.old) (received tasks.new) (sent answers.old) (sent answers.new)) }
     ensures none_left { OnOk result (known_items tasks.new ≡ []) }
     ensures full { IfErr result (λ fault. fault ≡ PartyFault.Stopped → known_free answers.new ≡ 0) }
@@ -134,7 +126,7 @@ pub fn answer_desk<R: Threads + Wait + Sync>(
             return Ok(());
         };
         let Numbered { number: line, task } = numbered;
-        let reply = desk.reply(rt, alloc, waiting, task)?;
+        let reply = reply_to(rt, alloc, sequencer, task, waiting)?;
         let text = tag(alloc, line, &reply)?;
         match send(rt, places, Seat::Party(number), Seat::Writer, answers, text) {
             Ok(()) => {}

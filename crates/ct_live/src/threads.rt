@@ -168,14 +168,14 @@ fn operate<R: Threads + Wait + Sync>(
     ensures all { OnOk result (DeskWorks worker.old worker.new) }
     ensures some { DeskWorksSome worker.old worker.new }
 {
-    let number = worker.desk.fronts;
+    let number = worker.sequencer.fronts();
     let result = answer_desk(
         rt,
         alloc,
         places,
         number,
         waiting,
-        &mut worker.desk,
+        &mut worker.sequencer,
         &mut worker.tasks,
         &mut worker.answers,
     );

@@ -1,8 +1,8 @@
 //! The parties with the ends of their rings.
 
 use crate::asking::DeskTask;
-use crate::desk::Desk;
 use crate::front::LiveFront;
+use ct_house::Sequencer;
 use ct_parties::FrontTask;
 use ct_pipes::{Numbered, Worker};
 use rtrb::{Consumer, Producer};
@@ -12,7 +12,7 @@ pub type FrontWorker = Worker<LiveFront, FrontTask>;
 
 /// The operator with the ends of its rings.
 pub struct DeskWorker {
-    pub desk: Desk,
+    pub sequencer: Sequencer,
     pub tasks: Consumer<Numbered<DeskTask>>,
     pub answers: Producer<Vec<u8>>,
 }

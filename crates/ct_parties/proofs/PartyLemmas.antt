@@ -2,13 +2,12 @@
 use Rattle.std.proofs.Common.{◌≡◌, ℕ, suc, List, [], ◌∷◌, ◌++◌, length, map, refl, sym, ap, subst, ◌∙◌, arith, reverse}
 use Rattle.std.proofs.lemmas.List.Elements.{All-cons, length_all_zip}
 use Rattle.std.specs.Global.{Global}
-use Rattle.std.specs.Prelude.{◌<◌, All, Some, Vec, slice_get, Result, Ok, Err, IfOk, OnOk}
+use Rattle.std.specs.Prelude.{◌<◌, All, Some, Vec, slice_get}
 use Rattle.std.specs.List.{range_with_len}
 use Rattle.ct_parties.specs.FrontWork.{FrontGoesOn}
 use Rattle.ct_house.specs.House.{HouseName, HouseState, FrontView, IsOfHouse, numbers_of}
 use Rattle.ct_parties.specs.OperatorWork.{GoesOn, OperatorServes}
 use Rattle.ct_parties.specs.Parties.{AreFrontsOf, AreSame, DoesShift, FrontDoesShift, FrontsDo, FrontsDoShift, fronts_of}
-use Rattle.ct_parties.specs.declared.fault.Fault.{Fault}
 use Rattle.ct_parties.specs.declared.party.FrontParty.{FrontParty}
 use Rattle.ct_parties.specs.declared.party.FrontShift.{FrontShift}
 use Rattle.ct_parties.specs.declared.party.Work.{Work}
@@ -62,13 +61,12 @@ shift_same (a ∷ before) [] after all = absurd all
 shift_same (a ∷ before) (w ∷ work) [] all = absurd all
 shift_same (a ∷ before) (w ∷ work) (b ∷ after) (first, rest) = (first.goes_on, shift_same before work after rest)
 
+-- where the threads of a shift left these fronts, all parties did their work
 pub does_shift : (house after : HouseState) (told more : List ℕ) (parties : List FrontParty) (work : Work) (shifts : List FrontShift)
-    (r : Result (Vec FrontParty Global) Fault)
-    → map (λ (s : FrontShift). s.party) shifts ≡ parties → map (λ (s : FrontShift). s.tasks) shifts ≡ work.fronts.items → IfOk r (λ v. FrontsDo shifts v.items)
-    → OnOk r (OperatorServes house work.operator.items told after more) → OnOk r (GoesOn house after)
-    → IfOk r (λ v. DoesShift (record { house = house; told = told; fronts = parties }) work (record { house = after; told = more; fronts = v.items }))
-does_shift house after told more parties work shifts (Err f) own tasks all serves on = tt
-does_shift house after told more parties work shifts (Ok v) own tasks all serves on = record {
+    (v : Vec FrontParty Global) → map (λ (s : FrontShift). s.party) shifts ≡ parties → map (λ (s : FrontShift). s.tasks) shifts ≡ work.fronts.items
+    → FrontsDo shifts v.items → OperatorServes house work.operator.items told after more → GoesOn house after
+    → DoesShift (record { house = house; told = told; fronts = parties }) work (record { house = after; told = more; fronts = v.items })
+does_shift house after told more parties work shifts v own tasks all serves on = record {
   fronts = subst (λ (l : List (Vec FrontTask Global)). FrontsDoShift parties l v.items) tasks
       (subst (λ (l : List FrontParty). FrontsDoShift l (map (λ (s : FrontShift). s.tasks) shifts) v.items) own (did_shift shifts v.items all));
   operated = serves;

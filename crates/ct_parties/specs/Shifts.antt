@@ -53,9 +53,9 @@ pub record PartiesServe (start : Parties) (shifts : List Shift) (last : Work) (s
   pub fronts : after ≡ fronts_of end.fronts
   pub replies : text ≡ all_replies end
 
--- a house that was opened, before the operator replied to anything
+-- the parties of a house between two shifts, or before the first
 abbrev pub start_of : House → Parties
-start_of h = record { house = h.sequencer; told = []; fronts = h.parties.items }
+start_of h = record { house = h.sequencer; told = h.told.items; fronts = h.parties.items }
 
 -- each shift, and the last work, has a list of tasks for each of so many fronts
 abbrev pub AreForFronts : ℕ → List Shift → Work → Type 0

@@ -110,17 +110,15 @@ pub fn do_task<R: Threads + Wait + Sync>(
     rt: &R,
     alloc: Global,
     sequencer: &mut Sequencer,
-    fronts: usize,
     task: OperatorTask,
     waiting: &Waiting,
 ) -> Result<Reply, Refusal>
-    requires { fronts ≡ length sequencer.old.lanes }
     ensures does { OperatorDoes sequencer.old task (answered result) sequencer.new }
     ensures goes_on { GoesOn sequencer.old sequencer.new }
 {
     match task {
         OperatorTask::Sequence { from, count, now } => {
-            if usize::from(from) >= fronts {
+            if usize::from(from) >= sequencer.fronts() {
                 return Err(Refusal::BadLine);
             }
             sequence(rt, alloc, sequencer, from, count, now, waiting)
@@ -136,16 +134,14 @@ fn reply_to<R: Threads + Wait + Sync>(
     rt: &R,
     alloc: Global,
     sequencer: &mut Sequencer,
-    fronts: usize,
     task: OperatorTask,
     waiting: &Waiting,
     replies: &mut Vec<u8>,
 ) -> Result<(), Memory>
-    requires { fronts ≡ length sequencer.old.lanes }
     ensures does { OnOk result ((r : Answer) × OperatorDoes sequencer.old task r sequencer.new × (replies.new.items ≡ replies.old.items ++ reply_line r)) }
     ensures goes_on { GoesOn sequencer.old sequencer.new }
 {
-    let reply = do_task(rt, alloc, sequencer, fronts, task, waiting);
+    let reply = do_task(rt, alloc, sequencer, task, waiting);
     push_reply(alloc, replies, &reply)
 }
 
@@ -155,17 +151,15 @@ pub fn serve_operator<R: Threads + Wait + Sync>(
     rt: &R,
     alloc: Global,
     sequencer: &mut Sequencer,
-    fronts: usize,
     tasks: Vec<OperatorTask>,
     waiting: &Waiting,
     replies: &mut Vec<u8>,
 ) -> Result<(), Memory>
-    requires { fronts ≡ length sequencer.old.lanes }
     ensures serves { OnOk result (OperatorServes sequencer.old tasks.items replies.old.items sequencer.new replies.new.items) }
     ensures goes_on { OnOk result (GoesOn sequencer.old sequencer.new) }
 {
     for task in tasks {
-        reply_to(rt, alloc, sequencer, fronts, task, waiting, replies)?;
+        reply_to(rt, alloc, sequencer, task, waiting, replies)?;
     }
     Ok(())
 }

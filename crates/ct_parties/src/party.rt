@@ -41,11 +41,13 @@ pub struct Shift {
     pub now: u64,
 }
 
-/// A house that was opened. Its sequencer ends it, or gives it up.
+/// A house that was opened, between two shifts. Its sequencer ends it, or gives it up.
 pub struct House {
     /// The sequencer.
     pub sequencer: Sequencer,
-    /// The fronts, in order.
+    /// The lines of the operator's replies so far, in order.
+    pub told: Vec<u8>,
+    /// The fronts, in order, with their replies so far.
     pub parties: Vec<FrontParty>,
     /// Room for the retired front that can't go on.
     pub ends: Vec<Retired>,

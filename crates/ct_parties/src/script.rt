@@ -49,6 +49,7 @@ fn open_house<H: Wait>(rt: &H, alloc: Global, options: Options) -> Result<House,
         Ok((sequencer, fronts)) => match new_parties(alloc, fronts) {
             Ok(parties) => Ok(House {
                 sequencer,
+                told: Vec::new(alloc),
                 parties,
                 ends,
             }),

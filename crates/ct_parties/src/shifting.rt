@@ -1,6 +1,6 @@
 //! The end of a shift, and the shifts one after the other.
 
-ghost use Rattle.std.specs.Prelude.{◌≡◌, ◌≢◌, ◌<◌, ◌≤◌, ◌⊎◌, ℕ, List, [], ◌++◌, length, All, IfOk, IfErr, OnOk, Some, slice_get, vec_len, vec_capacity};
+ghost use Rattle.std.specs.Prelude.{◌≡◌, ◌≢◌, ◌<◌, ◌≤◌, ◌⊎◌, ℕ, List, ◌++◌, length, All, IfOk, IfErr, OnOk, Some, slice_get, vec_len, vec_capacity};
 ghost use Rattle.std.specs.List.{AllZip, flat_map};
 ghost use Rattle.ct_codec.specs.declared.item.Item.{Item};
 ghost use Rattle.ct_core.specs.Core.{clock_of};
@@ -83,8 +83,8 @@ fn all_go_on<R: Threads + Sync>(
     Ok(successors)
 }
 
-// Ends a shift at the moment `now`, so that the one with this number begins.
-fn end_shift<R: Threads + Sync>(
+// Ends a shift over the sequencer that it is lent, at the moment `now`, so that the one with this number begins.
+fn end_lent_shift<R: Threads + Sync>(
     rt: &R,
     alloc: Global,
     sequencer: &mut Sequencer,
@@ -106,34 +106,69 @@ fn end_shift<R: Threads + Sync>(
     Ok(parties)
 }
 
-// Does the shifts, each of which ends. A front that couldn't go on is put among the ends.
+// The same over the house itself, which is given up where the shift can't end.
+fn end_shift<R: Threads + Wait + Sync>(
+    rt: &R,
+    alloc: Global,
+    house: House,
+    number: u64,
+    now: u64,
+) -> Result<House, Fault>
+    requires fronts { AreFrontsOf house.sequencer (fronts_of house.parties.items) }
+    ensures ends_shift { IfOk result (λ h. EndsShift number now (start_of house) (start_of h)) }
+    ensures refused { IfErr result (IsEndRefused house.sequencer now) }
+{
+    let House {
+        mut sequencer,
+        mut told,
+        parties,
+        mut ends,
+    } = house;
+    match end_lent_shift(
+        rt,
+        alloc,
+        &mut sequencer,
+        &mut told,
+        parties,
+        &mut ends,
+        number,
+        now,
+    ) {
+        Ok(parties) => Ok(House {
+            sequencer,
+            told,
+            parties,
+            ends,
+        }),
+        Err(fault) => {
+            sequencer.abandon(rt, ends);
+            Err(fault)
+        }
+    }
+}
+
+// Does the shifts, each of which ends.
 fn serve_shifts<R: Threads + Wait + Sync>(
     rt: &R,
     alloc: Global,
-    sequencer: &mut Sequencer,
-    told: &mut Vec<u8>,
-    mut parties: Vec<FrontParty>,
+    mut house: House,
     shifts: Vec<Shift>,
-    ends: &mut Vec<Retired>,
     turns: u64,
-) -> Result<Vec<FrontParty>, Fault>
-    requires fronts { AreFrontsOf sequencer.old (fronts_of parties.items) }
-    requires work { All (λ (s : ShiftOf). length s.work.fronts.items ≡ length parties.items) shifts.items }
-    requires room { vec_len ends.old < vec_capacity ends.old }
-    ensures do_shifts { IfOk result (λ v. DoShifts 1 (record { house = sequencer.old; told = told.old.items; fronts = parties.items }) shifts.items
-        (record { house = sequencer.new; told = told.new.items; fronts = v.items })) }
-    ensures ends { OnOk result (ends.new ≡ ends.old) }
-    ensures faults { IfErr result (IsShiftFault (record { house = sequencer.old; told = told.old.items; fronts = parties.items }) shifts.items) }
+) -> Result<House, Fault>
+    requires fronts { AreFrontsOf house.sequencer (fronts_of house.parties.items) }
+    requires work { All (λ (s : ShiftOf). length s.work.fronts.items ≡ length house.parties.items) shifts.items }
+    ensures do_shifts { IfOk result (λ h. DoShifts 1 (start_of house) shifts.items (start_of h)) }
+    ensures faults { IfErr result (IsShiftFault (start_of house) shifts.items) }
 {
     let mut number = 0;
     for shift in shifts {
         let Shift { work, now } = shift;
-        let done = serve_shift(rt, alloc, sequencer, told, parties, work, turns)?;
+        let done = serve_shift(rt, alloc, house, work, turns)?;
         number += 1;
-        let successors = end_shift(rt, alloc, sequencer, told, done, ends, number, now)?;
-        parties = successors;
+        let successor = end_shift(rt, alloc, done, number, now)?;
+        house = successor;
     }
-    Ok(parties)
+    Ok(house)
 }
 
 // The fronts without their replies, and all replies: front by front, and then those that were told.
@@ -156,35 +191,6 @@ fn join_replies(
     Ok((fronts, all))
 }
 
-// Does the shifts over the sequencer that it is lent, and then the last work. It answers the fronts, and all replies.
-fn serve_lent_house<R: Threads + Wait + Sync>(
-    rt: &R,
-    alloc: Global,
-    sequencer: &mut Sequencer,
-    parties: Vec<FrontParty>,
-    shifts: Vec<Shift>,
-    last: Work,
-    ends: &mut Vec<Retired>,
-    turns: u64,
-) -> Result<(Vec<Front>, Vec<u8>), Fault>
-    requires fronts { AreFrontsOf sequencer.old (fronts_of parties.items) }
-    requires work { AreForFronts (length parties.items) shifts.items last }
-    requires room { vec_len ends.old < vec_capacity ends.old }
-    ensures serve { IfOk result (λ d. PartiesServe (record { house = sequencer.old; told = []; fronts = parties.items }) shifts.items last
-        sequencer.new d.0.items d.1.items) }
-    ensures fronts { IfOk result (λ d. AreFrontsOf sequencer.new d.0.items) }
-    ensures ends { OnOk result (ends.new ≡ ends.old) }
-    ensures faults { IfErr result (IsShiftFault (record { house = sequencer.old; told = []; fronts = parties.items }) shifts.items) }
-{
-    let mut told = Vec::new(alloc);
-    let begun = serve_shifts(
-        rt, alloc, sequencer, &mut told, parties, shifts, ends, turns,
-    )?;
-    let done = serve_shift(rt, alloc, sequencer, &mut told, begun, last, turns)?;
-    let served = join_replies(alloc, done, &told)?;
-    Ok(served)
-}
-
 /// What the parties leave: the sequencer, the fronts in order, and all replies.
 pub struct Served {
     pub sequencer: Sequencer,
@@ -192,10 +198,10 @@ pub struct Served {
     pub replies: Vec<u8>,
 }
 
-/// Does the shifts, one after the other, and then the last work. Each shift's lines are done by all parties, each in a
-/// thread of its own, which are joined; then each front goes on at the moment at which the shift ends. It answers what the
-/// parties leave and all replies: the fronts' in order, each front's over all shifts, and then the operator's. A line that
-/// waits for another party looks `turns` times.
+/// Does the shifts, one after the other, and then the last work. Each shift's lines are done by all parties, each front in a
+/// thread of its own, which are joined, and the operator in the thread that calls; then each front goes on at the moment at
+/// which the shift ends. It answers what the parties leave and all replies: the fronts' in order, each front's over all shifts,
+/// and then the operator's. A line that waits for another party looks `turns` times.
 ///
 /// # Errors
 ///
@@ -215,21 +221,15 @@ pub fn serve_parties<R: Threads + Wait + Sync>(
     ensures fronts { IfOk result (λ s. AreFrontsOf s.sequencer s.fronts.items) }
     ensures faults { IfErr result (IsShiftFault (start_of house) shifts.items) }
 {
+    let begun = serve_shifts(rt, alloc, house, shifts, turns)?;
+    let done = serve_shift(rt, alloc, begun, last, turns)?;
     let House {
-        mut sequencer,
+        sequencer,
+        told,
         parties,
-        mut ends,
-    } = house;
-    match serve_lent_house(
-        rt,
-        alloc,
-        &mut sequencer,
-        parties,
-        shifts,
-        last,
-        &mut ends,
-        turns,
-    ) {
+        ends,
+    } = done;
+    match join_replies(alloc, parties, &told) {
         Ok((fronts, replies)) => {
             ends.destroy_empty();
             Ok(Served {
@@ -238,9 +238,9 @@ pub fn serve_parties<R: Threads + Wait + Sync>(
                 replies,
             })
         }
-        Err(fault) => {
+        Err(error) => {
             sequencer.abandon(rt, ends);
-            Err(fault)
+            Err(Fault::from(error))
         }
     }
 }

@@ -1,26 +1,24 @@
-//! A shift: the fronts and the operator, each in a thread of its own.
+//! A shift: each front in a thread of its own, and the operator in the thread that calls.
 
-ghost use Rattle.std.specs.Prelude.{◌≡◌, ◌≢◌, [], ◌∷◌, ◌++◌, length, map, IfOk, IfErr, OnOk, Some, None, Vec as VecOf};
-ghost use Rattle.std.specs.Global.{Global as GlobalOf};
+ghost use Rattle.std.specs.Prelude.{◌≡◌, ◌≢◌, [], ◌∷◌, ◌++◌, length, map, IfOk, IfErr, OnOk, Some, None};
+ghost use Rattle.ct_house.specs.House.{HouseState};
 ghost use Rattle.ct_parties.specs.OperatorWork.{GoesOn, OperatorServes};
 ghost use Rattle.ct_parties.specs.Parties.{FrontDoesShift, FrontsDo, DoesShift, IsPartyFault};
-ghost use Rattle.ct_parties.specs.declared.party.FrontShift.{FrontShift as FrontShiftOf};
-ghost use Rattle.ct_parties.specs.declared.task.OperatorTask.{OperatorTask as OperatorTaskOf};
+ghost use Rattle.ct_parties.specs.Shifts.{start_of};
 
 use crate::fault::Fault;
 use crate::front_work::serve_front;
 use crate::operator_work::serve_operator;
-use crate::party::{FrontParty, FrontShift, Work};
+use crate::party::{FrontParty, FrontShift, House, Work};
 use crate::task::{FrontTask, OperatorTask};
-use crate::waiting::{Bell, Waiting};
+use crate::waiting::Waiting;
 use ct_house::Sequencer;
 use ct_tree::Memory;
 use std::alloc::Global;
 use std::snapshot::Snapshot;
 use std::sync::Wait;
-use std::sync::atomic::{AtomicBool, Ordering};
 use std::thread;
-use std::thread::{Promise, PromisedHandle, Scope, Threads, join_mut};
+use std::thread::{Promise, PromisedHandle, Scope, Threads};
 
 // Does a front's tasks. It answers the front, with its replies.
 fn serve_front_shift<R: Wait>(
@@ -122,161 +120,168 @@ fn join_fronts<R: Threads>(
     Ok(parties)
 }
 
-// Starts a thread for each front, and joins them all.
+// Starts a thread for each front, does the operator's tasks here over the sequencer that it is lent, and joins the threads. It
+// adds the operator's replies to those told before, and answers the fronts in order, with their replies. Where a thread doesn't
+// start, no line waits any more, and the operator does nothing.
 fn serve_in_threads<'e: 's, 's, R: Threads + Wait + Sync>(
     rt: &'e R,
     alloc: Global,
     scope: &'s Scope<'s, &'e ()>,
-    shifts: Vec<FrontShift>,
     waiting: &'e Waiting,
-) -> Result<Vec<FrontParty>, Fault>
-    ensures served { IfOk result (λ d. FrontsDo shifts.items d.items) }
-    ensures faults { IfErr result IsPartyFault }
-{
-    let threads = start_fronts(rt, alloc, scope, shifts, waiting)?;
-    join_fronts(rt, alloc, threads)
-}
-
-// Does the fronts' tasks, each front's in a thread of its own. It answers the fronts in order, with their replies.
-fn serve_fronts<R: Threads + Wait + Sync>(
-    rt: &R,
-    alloc: Global,
     shifts: Vec<FrontShift>,
-    waiting: &Waiting,
-) -> Result<Vec<FrontParty>, Fault>
-    ensures served { IfOk result (λ d. FrontsDo shifts.items d.items) }
-    ensures faults { IfErr result IsPartyFault }
-{
-    thread::scope(
-        thread::scope_env(),
-        rt,
-        move |scope| -> Result<Vec<FrontParty>, Fault>
-            ensures served { IfOk result (λ d. FrontsDo shifts.items d.items) }
-            ensures faults { IfErr result IsPartyFault }
-        { serve_in_threads(rt, alloc, scope, shifts, waiting) },
-    )
-}
-
-// Does the operator's tasks over the sequencer that it is lent, and adds the replies to those told before.
-fn serve_lent<R: Threads + Wait + Sync>(
-    rt: &R,
-    alloc: Global,
+    tasks: Vec<OperatorTask>,
     sequencer: &mut Sequencer,
     told: &mut Vec<u8>,
-    fronts: usize,
-    tasks: Vec<OperatorTask>,
-    waiting: &Waiting,
-) -> Result<(), Fault>
-    requires { fronts ≡ length sequencer.old.lanes }
-    ensures serves { OnOk result (OperatorServes sequencer.old tasks.items told.old.items sequencer.new told.new.items) }
-    ensures goes_on { OnOk result (GoesOn sequencer.old sequencer.new) }
-    ensures faults { IfErr result IsPartyFault }
-{
-    serve_operator(rt, alloc, sequencer, fronts, tasks, waiting, told)?;
-    Ok(())
-}
-
-// How often the fronts' part sleeps for a millisecond at most, until the operator's part has begun.
-const START_NAPS: u64 = 10_000;
-
-// Whether the operator's part begins, which it tells by the bell, as far as it is waited for.
-fn begins<R: Wait>(rt: &R, begun: &Bell) -> bool {
-    for _ in 0..START_NAPS {
-        if begun.rung() > 0 {
-            return true;
-        }
-        begun.sleep(rt, 0);
-    }
-    false
-}
-
-// Does the operator's tasks over the sequencer that it is lent, in a thread of its own, beside the fronts' tasks, and
-// adds the operator's replies to those told before. It answers the fronts in order, with their replies. Where no thread
-// can be made for the operator, `join_mut` calls its part last, so no front starts before that part has begun, and
-// neither does anything where it doesn't begin.
-fn serve_beside<R: Threads + Wait + Sync>(
-    rt: &R,
-    alloc: Global,
-    sequencer: &mut Sequencer,
-    told: &mut Vec<u8>,
-    count: usize,
-    tasks: Vec<OperatorTask>,
-    shifts: Vec<FrontShift>,
-    turns: u64,
 ) -> Result<Vec<FrontParty>, Fault>
-    requires { count ≡ length sequencer.old.lanes }
     ensures fronts { IfOk result (λ d. FrontsDo shifts.items d.items) }
     ensures serves { OnOk result (OperatorServes sequencer.old tasks.items told.old.items sequencer.new told.new.items) }
     ensures goes_on { OnOk result (GoesOn sequencer.old sequencer.new) }
     ensures faults { IfErr result IsPartyFault }
 {
-    let begun = Bell::new();
-    let given_up = AtomicBool::new(false);
-    let waiting = Waiting::new(turns);
-    let mut tasks = Some(tasks);
-    let mut shifts = Some(shifts);
-    let (ended, served) = join_mut(
-        rt,
-        &mut || -> Result<(), Fault>
-            requires { (count ≡ length sequencer.now.lanes) × (tasks ≢ None) }
-            ensures serves { OnOk result ((v : VecOf OperatorTaskOf GlobalOf) → tasks.entry ≡ Some v
-                → OperatorServes sequencer.entry.now v.items told.entry.now.items sequencer.exit.now told.exit.now.items) }
-            ensures goes_on { OnOk result (GoesOn sequencer.entry.now sequencer.exit.now) }
-            ensures faults { IfErr result IsPartyFault }
-        {
-            begun.ring();
-            if given_up.load(Ordering::SeqCst) {
-                return Err(Fault::Threads);
-            }
-            let Some(tasks) = tasks.take() else {
-                unreachable!()
-            };
-            serve_lent(rt, alloc, sequencer, told, count, tasks, &waiting)
-        },
-        &mut || -> Result<Vec<FrontParty>, Fault>
-            requires { shifts ≢ None }
-            ensures served { IfOk result (λ d. (v : VecOf FrontShiftOf GlobalOf) → shifts.entry ≡ Some v → FrontsDo v.items d.items) }
-            ensures faults { IfErr result IsPartyFault }
-        {
-            if !begins(rt, &begun) {
-                given_up.store(true, Ordering::SeqCst);
-                return Err(Fault::Threads);
-            }
-            let Some(shifts) = shifts.take() else {
-                unreachable!()
-            };
-            serve_fronts(rt, alloc, shifts, &waiting)
-        },
-    );
-    ended?;
-    served
+    let threads = match start_fronts(rt, alloc, scope, shifts, waiting) {
+        Ok(threads) => threads,
+        Err(fault) => {
+            waiting.end();
+            return Err(fault);
+        }
+    };
+    let operated = serve_operator(rt, alloc, sequencer, tasks, waiting, told);
+    let parties = join_fronts(rt, alloc, threads)?;
+    operated?;
+    Ok(parties)
 }
 
-/// Does the work of a shift, each front's and the operator's in a thread of its own, all of which are joined. The
-/// operator's replies are added to those told before, and each front's to its own. A line that waits for another party
+// What is there once all threads of a shift have ended: the sequencer, the operator's replies, and the fronts in order with
+// theirs, or what ended them.
+struct Done {
+    sequencer: Sequencer,
+    told: Vec<u8>,
+    parties: Result<Vec<FrontParty>, Fault>,
+}
+
+// The same over the sequencer itself.
+fn serve_in<'e: 's, 's, R: Threads + Wait + Sync>(
+    rt: &'e R,
+    alloc: Global,
+    scope: &'s Scope<'s, &'e ()>,
+    waiting: &'e Waiting,
+    shifts: Vec<FrontShift>,
+    tasks: Vec<OperatorTask>,
+    mut sequencer: Sequencer,
+    mut told: Vec<u8>,
+) -> Done
+    ensures fronts { IfOk result.parties (λ d. FrontsDo shifts.items d.items) }
+    ensures serves { OnOk result.parties (OperatorServes sequencer tasks.items told.items result.sequencer result.told.items) }
+    ensures goes_on { OnOk result.parties (GoesOn sequencer result.sequencer) }
+    ensures faults { IfErr result.parties IsPartyFault }
+{
+    let parties = serve_in_threads(
+        rt,
+        alloc,
+        scope,
+        waiting,
+        shifts,
+        tasks,
+        &mut sequencer,
+        &mut told,
+    );
+    Done {
+        sequencer,
+        told,
+        parties,
+    }
+}
+
+// The same, with a scope for the threads, behind which all of them have ended. What the scope's part holds has to be `Drop`, which
+// the sequencer isn't: so that part takes it out of a place beside the scope.
+fn serve_beside<R: Threads + Wait + Sync>(
+    rt: &R,
+    alloc: Global,
+    waiting: &Waiting,
+    shifts: Vec<FrontShift>,
+    tasks: Vec<OperatorTask>,
+    sequencer: Sequencer,
+    told: Vec<u8>,
+) -> Done
+    ensures fronts { IfOk result.parties (λ d. FrontsDo shifts.items d.items) }
+    ensures serves { OnOk result.parties (OperatorServes sequencer tasks.items told.items result.sequencer result.told.items) }
+    ensures goes_on { OnOk result.parties (GoesOn sequencer result.sequencer) }
+    ensures faults { IfErr result.parties IsPartyFault }
+{
+    let mut slot = Some(sequencer);
+    let taken = &mut slot;
+    let done = thread::scope(
+        thread::scope_env(),
+        rt,
+        move |scope| -> Done
+            requires { taken.now ≢ None }
+            ensures fronts { IfOk result.parties (λ d. FrontsDo shifts.items d.items) }
+            ensures serves { OnOk result.parties ((s : HouseState) → taken.entry.now ≡ Some s
+                → OperatorServes s tasks.items told.items result.sequencer result.told.items) }
+            ensures goes_on { OnOk result.parties ((s : HouseState) → taken.entry.now ≡ Some s → GoesOn s result.sequencer) }
+            ensures faults { IfErr result.parties IsPartyFault }
+        {
+            let Some(sequencer) = taken.take() else {
+                unreachable!()
+            };
+            serve_in(rt, alloc, scope, waiting, shifts, tasks, sequencer, told)
+        },
+    );
+    if let Some(sequencer) = slot {
+        sequencer.abandon(rt, Vec::new(alloc));
+    }
+    done
+}
+
+/// Does the work of a shift, each front's in a thread of its own, all of which are joined, and the operator's in the thread that
+/// calls. The operator's replies are added to those told before, and each front's to its own. A line that waits for another party
 /// looks `turns` times: what another shift's operator does comes too late for it, or was done before.
 ///
 /// # Errors
 ///
-/// `Threads` where the operator's thread doesn't start, before any front's does, or a front's, after those that did have
-/// ended; and `Memory`.
+/// `Threads` where a front's thread doesn't start, after those that did have ended; and `Memory`. The house is given up.
 pub fn serve_shift<R: Threads + Wait + Sync>(
     rt: &R,
     alloc: Global,
-    sequencer: &mut Sequencer,
-    told: &mut Vec<u8>,
-    parties: Vec<FrontParty>,
+    house: House,
     work: Work,
     turns: u64,
-) -> Result<Vec<FrontParty>, Fault>
-    requires count { length work.fronts.items ≡ length parties.items }
-    requires lanes { length parties.items ≡ length sequencer.old.lanes }
-    ensures does { IfOk result (λ v. DoesShift (record { house = sequencer.old; told = told.old.items; fronts = parties.items }) work
-        (record { house = sequencer.new; told = told.new.items; fronts = v.items })) }
+) -> Result<House, Fault>
+    requires count { length work.fronts.items ≡ length house.parties.items }
+    ensures does { IfOk result (λ h. DoesShift (start_of house) work (start_of h)) }
     ensures faults { IfErr result IsPartyFault }
 {
+    let House {
+        sequencer,
+        told,
+        parties,
+        ends,
+    } = house;
     let Work { fronts, operator } = work;
-    let count = parties.len();
-    let shifts = front_shifts(alloc, parties, fronts)?;
-    serve_beside(rt, alloc, sequencer, told, count, operator, shifts, turns)
+    let shifts = match front_shifts(alloc, parties, fronts) {
+        Ok(shifts) => shifts,
+        Err(error) => {
+            sequencer.abandon(rt, ends);
+            return Err(Fault::from(error));
+        }
+    };
+    let waiting = Waiting::new(turns);
+    let done = serve_beside(rt, alloc, &waiting, shifts, operator, sequencer, told);
+    let Done {
+        sequencer,
+        told,
+        parties,
+    } = done;
+    match parties {
+        Ok(parties) => Ok(House {
+            sequencer,
+            told,
+            parties,
+            ends,
+        }),
+        Err(fault) => {
+            sequencer.abandon(rt, ends);
+            Err(fault)
+        }
+    }
 }

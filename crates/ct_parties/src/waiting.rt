@@ -86,6 +86,8 @@ pub struct Waiting {
     pub heads: Bell,
     /// Rung when a front accepted a submission.
     pub accepted: Bell,
+    // Whether a thread of the run didn't start: then no line waits any more.
+    ended: AtomicBool,
     // Whether the run is to end, if anything ends it: then no line waits any more.
     stopped: Option<Arc<AtomicBool>>,
 }
@@ -99,6 +101,7 @@ impl Waiting {
             turns,
             heads: Bell::new(),
             accepted: Bell::new(),
+            ended: AtomicBool::new(false),
             stopped: None,
         }
     }
@@ -111,12 +114,21 @@ impl Waiting {
             turns,
             heads: Bell::new(),
             accepted: Bell::new(),
+            ended: AtomicBool::new(false),
             stopped: Some(stopped),
         }
     }
 
+    /// Has no line wait any more.
+    pub fn end(&self) {
+        self.ended.store(true, Ordering::SeqCst);
+    }
+
     /// Whether no line waits any more.
     pub fn is_over(&self) -> bool {
+        if self.ended.load(Ordering::SeqCst) {
+            return true;
+        }
         match &self.stopped {
             Some(stopped) => stopped.load(Ordering::SeqCst),
             None => false,

@@ -3,12 +3,12 @@ use Rattle.rtrb.specs.Ring.{sent, received}
 use Rattle.ct_pipes.proofs.Merging.{consumer_trans}
 use Rattle.ct_pipes.proofs.Beside.{of_error}
 use Rattle.ct_pipes.proofs.Turns.{all_but_last, answers_more, none_more, producer_trans}
-use Rattle.ct_live.specs.LiveRuns.{DeskStep}
+use Rattle.ct_live.specs.LiveParties.{DeskReplies}
 use Rattle.ct_live.proofs.operator.answer_desk.Goals as goal
 
 pub loop-init : goal.loop-init
 loop-init g c = record {
-  answered = none_more DeskStep c.args.desk.now (received c.args.tasks.now) (sent c.args.answers.now);
+  answered = none_more DeskReplies c.args.sequencer.now (received c.args.tasks.now) (sent c.args.answers.now);
   same_tasks = ((refl, refl, refl, refl), refl);
   same_answers = ((refl, refl, refl, refl), refl);
 }
@@ -18,7 +18,7 @@ loop-preserved g c =
     let inv = c.loop.invariant in
     let item = c.in-Some-receive.numbered in
     record {
-      answered = answers_more DeskStep c.args.desk.now c.loop.desk c.reply.new.self (received c.args.tasks.now)
+      answered = answers_more DeskReplies c.args.sequencer.now c.loop.sequencer c.reply_to.new.sequencer (received c.args.tasks.now)
           (received c.receive.new.consumer) (received c.loop.tasks)
           (sent c.args.answers.now) (sent c.send.new.producer) (sent c.loop.answers) item c.in_ok-text.text c.in_ok-reply.reply.items
           c.in-Some-receive.ensures.some c.in-Ok.ensures.sent
@@ -30,19 +30,19 @@ loop-preserved g c =
 pub returns-in_err-reply-clause-begun : goal.returns-in_err-reply-clause-begun
 returns-in_err-reply-clause-begun g c =
     of_error c.from_residual.result
-    (all_but_last DeskStep c.args.desk.now c.loop.desk (received c.args.tasks.now) (received c.receive.new.consumer) (received c.loop.tasks)
+    (all_but_last DeskReplies c.args.sequencer.now c.loop.sequencer (received c.args.tasks.now) (received c.receive.new.consumer) (received c.loop.tasks)
     (sent c.args.answers.now) (sent c.loop.answers) (sent c.loop.answers) c.in-Some-receive.numbered c.in-Some-receive.ensures.some refl
     c.loop.invariant.answered)
 
 pub returns-in_err-text-clause-begun : goal.returns-in_err-text-clause-begun
 returns-in_err-text-clause-begun g c =
     of_error c.from_residual-in_err-text.result
-    (all_but_last DeskStep c.args.desk.now c.loop.desk (received c.args.tasks.now) (received c.receive.new.consumer) (received c.loop.tasks)
+    (all_but_last DeskReplies c.args.sequencer.now c.loop.sequencer (received c.args.tasks.now) (received c.receive.new.consumer) (received c.loop.tasks)
     (sent c.args.answers.now) (sent c.loop.answers) (sent c.loop.answers) c.in-Some-receive.numbered c.in-Some-receive.ensures.some refl
     c.loop.invariant.answered)
 
 pub returns-in-Err-clause-begun : goal.returns-in-Err-clause-begun
 returns-in-Err-clause-begun g c =
-    all_but_last DeskStep c.args.desk.now c.loop.desk (received c.args.tasks.now) (received c.receive.new.consumer) (received c.loop.tasks)
+    all_but_last DeskReplies c.args.sequencer.now c.loop.sequencer (received c.args.tasks.now) (received c.receive.new.consumer) (received c.loop.tasks)
     (sent c.args.answers.now) (sent c.send.new.producer) (sent c.loop.answers) c.in-Some-receive.numbered c.in-Some-receive.ensures.some
     c.in-Err.ensures.stopped c.loop.invariant.answered

@@ -24,7 +24,7 @@ end_live-result-requires-clause-beside g c κs within =
 pub end_live-result-requires-clause-fronts : goal.end_live-result-requires-clause-fronts
 end_live-result-requires-clause-fronts g c κs within = λ done.
     let j = IfOk-at_ok _ c.in-Ok.is c.run_threads-ran.ensures.fronts in
-    fronts_joined c.args.start.workers.items c.in-Ok.left.fronts c.run_threads-ran.result.operator.desk.sequencer j
+    fronts_joined c.args.start.workers.items c.in-Ok.left.fronts c.run_threads-ran.result.operator.sequencer j
     (house_kept c.args.start.workers.items j.workers_then c.args.operator c.run_threads-ran.result.operator c.requires.joined.fronts
     (j.all done.fronts) (when_ok _ c.in-Ok.left.operated done.operator (IfOk-at_ok _ c.in-Ok.is c.run_threads-ran.ensures.operated)))
 
