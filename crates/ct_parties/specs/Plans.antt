@@ -3,26 +3,18 @@ use Rattle.std.specs.Prelude.{◌≡◌, ◌<◌, ℕ, List, [], ◌∷◌, ◌+
 use Rattle.std.specs.Global.{Global}
 use Rattle.std.specs.List.{AllZip, flat_map}
 use Rattle.std.specs.Io.BufRead.{first_piece, drop_through}
-use Rattle.ct_lines.specs.Asked.{FrontAsked, add_chain, add_pre_chain, await_size, front_query}
+use Rattle.ct_lines.specs.Requests.{front_asked}
+use Rattle.ct_lines.specs.declared.request.FrontRequest.{FrontRequest}
 use Rattle.ct_parties.specs.Tasks.{Task, for_front, for_operator, for_frozen, Step, AllAskFor, does, ends_shift, front_parts, operator_parts, frozen_lines}
 use Rattle.ct_parties.specs.declared.party.Shift.{Shift}
 use Rattle.ct_parties.specs.declared.party.Work.{Work}
-use Rattle.ct_parties.specs.declared.task.FrontTask.{FrontTask}
-use Rattle.ct_parties.specs.declared.task.FrontTask.TheVariants as front_case
 use Rattle.ct_parties.specs.declared.plan.Task.{Task as CodeTask}
 use Rattle.ct_parties.specs.declared.plan.Task.TheVariants as task_case
 use Rattle.ct_parties.specs.declared.plan.Plan.{Plan}
 
--- what a front's task asks of it
-abbrev pub task_asked : FrontTask → FrontAsked
-task_asked (front_case.Submit chain) = add_chain (map (λ c. c.items) chain.items)
-task_asked (front_case.SubmitPrecert hash tbs chain) = add_pre_chain hash tbs.items (map (λ c. c.items) chain.items)
-task_asked (front_case.AwaitSize n) = await_size n
-task_asked (front_case.Ask q) = front_query q
-
 -- the step that a task is
 abbrev pub step : CodeTask → Step
-step (task_case.Front n t) = does (for_front n (task_asked t))
+step (task_case.Front n t) = does (for_front n (front_asked t))
 step (task_case.Operator t) = does (for_operator t)
 step (task_case.Frozen line) = does (for_frozen line.now)
 step (task_case.EndsShift now) = ends_shift now
@@ -30,7 +22,7 @@ step (task_case.EndsShift now) = ends_shift now
 -- the work gives these tasks of one shift out to so many fronts and to the operator, each in order
 pub record IsWorkOf (n : ℕ) (w : Work) (ts : List Task) : Type 0 where
   pub count : length w.fronts.items ≡ n
-  pub fronts : (k : ℕ) (v : Vec FrontTask Global) → slice_get w.fronts.items k ≡ Some v → map task_asked v.items ≡ front_parts k ts
+  pub fronts : (k : ℕ) (v : Vec FrontRequest Global) → slice_get w.fronts.items k ≡ Some v → map front_asked v.items ≡ front_parts k ts
   pub operator : w.operator.items ≡ operator_parts ts
 
 -- the tasks of a shift, and the moment at which it ends

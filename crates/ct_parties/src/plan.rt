@@ -2,14 +2,14 @@
 
 ghost use Rattle.std.specs.Prelude.{◌≡◌, ◌<◌, ◌++◌, ◌∷◌, ℕ, [], List, Vec, length, IfOk, IsOkUnless, OnOk, Some, slice_get};
 ghost use Rattle.std.specs.Global.{Global as GlobalOf};
-ghost use Rattle.ct_lines.specs.Requests.{asked, front_asked as request_of, operator_asked};
-ghost use Rattle.ct_parties.specs.declared.task.FrontTask.{FrontTask as FrontTaskOf};
+ghost use Rattle.ct_lines.specs.Requests.{asked, front_asked, operator_asked};
+ghost use Rattle.ct_lines.specs.declared.request.FrontRequest.{FrontRequest as FrontRequestOf};
 ghost use Rattle.ct_parties.specs.Tasks.{Task as TaskOf, Step, does, ends_shift, for_front, for_operator, for_frozen, front_step, operator_step, step_of, AsksFor, IsForThere};
-ghost use Rattle.ct_parties.specs.Plans.{step, step as step_in, task_asked, IsWorkOf, IsPlanOf, GivesOut};
+ghost use Rattle.ct_parties.specs.Plans.{step, step as step_in, IsWorkOf, IsPlanOf, GivesOut};
 
 use crate::fault::Fault;
 use crate::party::{Shift, Work};
-use crate::task::{FrontTask, OperatorTask};
+use crate::task::OperatorTask;
 use ct_codec::Refusal;
 use ct_lines::{FrontRequest, OperatorRequest, Request, read_line};
 use ct_tree::Memory;
@@ -20,7 +20,7 @@ use std::mem;
 #[derive(Debug, Drop)]
 pub enum Task<'a> {
     /// The front with this number does this.
-    Front(u16, FrontTask),
+    Front(u16, FrontRequest),
     /// The operator does this.
     Operator(OperatorTask),
     /// The frozen log answers this line.
@@ -42,32 +42,13 @@ pub struct Plan {
 
 // What the front with this number does. One that isn't there leaves the operator a bad line.
 fn front_request_task<'a>(fronts: u16, number: u64, request: FrontRequest) -> Task<'a>
-    ensures asked { step result ≡ front_step fronts number (request_of request) }
+    ensures asked { step result ≡ front_step fronts number (front_asked request) }
     ensures there { IsForThere fronts (step result) }
 {
     if number >= u64::from(fronts) {
         return Task::Operator(OperatorTask::BadLine);
     }
-    let number = number as u16;
-    match request {
-        FrontRequest::AddChain { chain } => Task::Front(number, FrontTask::Submit(chain)),
-        FrontRequest::AddPreChain {
-            issuer_key_hash,
-            tbs,
-            chain,
-        } => Task::Front(
-            number,
-            FrontTask::SubmitPrecert {
-                issuer_key_hash,
-                tbs,
-                chain,
-            },
-        ),
-        FrontRequest::AwaitSize { tree_size } => {
-            Task::Front(number, FrontTask::AwaitSize(tree_size))
-        }
-        FrontRequest::Ask(query) => Task::Front(number, FrontTask::Ask(query)),
-    }
+    Task::Front(number as u16, request)
 }
 
 // What the operator does, or the end of a shift. To sequence a front that isn't there is a bad line.
@@ -120,9 +101,9 @@ pub fn line_task<'a>(alloc: Global, fronts: u16, line: &'a [u8]) -> Result<Task<
 }
 
 // A list for each front, with nothing to do in it.
-fn no_tasks(alloc: Global, fronts: usize) -> Result<Vec<Vec<FrontTask>>, Memory>
+fn no_tasks(alloc: Global, fronts: usize) -> Result<Vec<Vec<FrontRequest>>, Memory>
     ensures count { IfOk result (λ lists. length lists.items ≡ fronts) }
-    ensures empty { IfOk result (λ lists. (k : ℕ) (v : Vec FrontTaskOf GlobalOf) → slice_get lists.items k ≡ Some v → v.items ≡ []) }
+    ensures empty { IfOk result (λ lists. (k : ℕ) (v : Vec FrontRequestOf GlobalOf) → slice_get lists.items k ≡ Some v → v.items ≡ []) }
 {
     let mut lists = Vec::new(alloc);
     for _front in 0..fronts {
@@ -144,10 +125,10 @@ impl Work {
     }
 
     // Adds what a front does.
-    fn add_front_task(&mut self, number: u16, task: FrontTask) -> Result<(), Memory>
+    fn add_front_task(&mut self, number: u16, task: FrontRequest) -> Result<(), Memory>
         requires { number < length self.old.fronts.items }
         ensures { OnOk result ((fronts : ℕ) (tasks : List TaskOf) → IsWorkOf fronts self.old tasks
-            → IsWorkOf fronts self.new (tasks ++ for_front number (task_asked task) ∷ [])) }
+            → IsWorkOf fronts self.new (tasks ++ for_front number (front_asked task) ∷ [])) }
     {
         let tasks = &mut self.fronts[number as usize];
         tasks.push(task)?;
