@@ -11,15 +11,16 @@ use Rattle.std.proofs.lemmas.Bool.Decides.{eqb_tells}
 use Rattle.std.proofs.lemmas.Option.{same_Some, slice_get_within, slice_get_read, slice_get-get_or}
 use Rattle.ct_lines.specs.Asked.{FrontAsked}
 use Rattle.ct_lines.specs.declared.request.FrontRequest.{FrontRequest}
+use Rattle.ct_lines.specs.declared.request.FrozenRequest.{FrozenRequest}
 use Rattle.ct_parties.specs.declared.task.OperatorTask.{OperatorTask}
 use Rattle.ct_parties.specs.declared.plan.Plan.{Plan}
 use Rattle.ct_parties.specs.declared.party.Shift.{Shift}
 use Rattle.ct_parties.specs.declared.party.Work.{Work}
 use Rattle.ct_parties.specs.Shifts.{AreForFronts}
-use Rattle.ct_parties.specs.Tasks.{Task, Step, does, ends_shift, for_front, for_operator, for_frozen, front_part, front_parts, operator_part, frozen_part}
+use Rattle.ct_parties.specs.Tasks.{Task, Step, does, ends_shift, for_front, for_operator, for_frozen, front_part, front_parts, operator_part, frozen_line}
 use Rattle.ct_lines.specs.Requests.{front_asked}
-use Rattle.ct_parties.specs.Plans.{AreShiftsOf, IsPlanOf, IsShiftOf, IsWorkOf, ShiftTasks, shift_steps}
-use Rattle.ct_parties.proofs.TaskLemmas.{part_kept, part_grows, text_kept, text_grows}
+use Rattle.ct_parties.specs.Plans.{AreShiftsOf, IsFrozenLine, IsPlanOf, IsShiftOf, IsWorkOf, ShiftTasks, shift_steps}
+use Rattle.ct_parties.proofs.TaskLemmas.{part_kept, part_grows}
 
 -- what holds of each element, and of one more
 pub each_more : {A : Type 0} (P : A → Type 0) (xs : List A) (x : A) → ((k : ℕ) (y : A) → slice_get xs k ≡ Some y → P y) → P x
@@ -128,20 +129,22 @@ task_added n shifts old new ss t grows a = record {
   rest = grows a.left a.rest;
 }
 
-pub plan_does : (n : ℕ) (p : Plan) (new : Work) (ss : List Step) (t : Task) → frozen_part (does t) ≡ []
+pub plan_does : (n : ℕ) (p : Plan) (new : Work) (ss : List Step) (t : Task) → filter_map frozen_line (does t ∷ []) ≡ []
     → ((ts : List Task) → IsWorkOf n p.last ts → IsWorkOf n new (ts ++ t ∷ [])) → IsPlanOf n p ss
     → IsPlanOf n record { shifts = p.shifts; last = new; frozen = p.frozen } (ss ++ does t ∷ [])
 plan_does n p new ss t none grows i = record {
   given = task_added n p.shifts.items p.last new ss t grows i.given;
-  frozen = text_kept frozen_part ss (does t) p.frozen.items i.frozen (ap (λ (l : List ℕ). l ++ []) none);
+  frozen = subst (AllZip IsFrozenLine p.frozen.items) (part_kept frozen_line ss (does t) (filter_map frozen_line ss) refl none) i.frozen;
 }
 
--- the frozen log has one line more to answer
-pub frozen_added : (n : ℕ) (p : Plan) (ss : List Step) (line : List ℕ) (new : Vec ℕ Global) → new.items ≡ p.frozen.items ++ (line ++ 10 ∷ []) → IsPlanOf n p ss
-    → IsPlanOf n record { shifts = p.shifts; last = p.last; frozen = new } (ss ++ does (for_frozen line) ∷ [])
-frozen_added n p ss line new grown i = record {
+-- the frozen log has one request more to answer
+pub frozen_added : (n : ℕ) (p : Plan) (ss : List Step) (line : List ℕ) (r : FrozenRequest) (new : Vec FrozenRequest Global) → new.items ≡ p.frozen.items ++ r ∷ []
+    → IsFrozenLine r line → IsPlanOf n p ss → IsPlanOf n record { shifts = p.shifts; last = p.last; frozen = new } (ss ++ does (for_frozen line) ∷ [])
+frozen_added n p ss line r new grown is i = record {
   given = task_added n p.shifts.items p.last p.last ss (for_frozen line) (λ ts w. frozen_beside n p.last ts line w) i.given;
-  frozen = grown ∙ text_grows frozen_part ss (does (for_frozen line)) p.frozen.items (line ++ 10 ∷ []) i.frozen (append-nil (line ++ 10 ∷ []));
+  frozen = subst (λ (l : List FrozenRequest). AllZip IsFrozenLine l (filter_map frozen_line (ss ++ does (for_frozen line) ∷ []))) (sym grown)
+      (subst (AllZip IsFrozenLine (p.frozen.items ++ r ∷ [])) (part_grows frozen_line ss (does (for_frozen line)) (filter_map frozen_line ss) line refl refl)
+      (all_zip_more IsFrozenLine p.frozen.items (filter_map frozen_line ss) r line i.frozen is));
 }
 
 -- the shift ends, and another begins
@@ -167,7 +170,7 @@ pub plan_ends_shift : (n m : ℕ) (p : Plan) (next : Work) (shifts : Vec Shift G
 plan_ends_shift n m p next shifts ss s is many fresh grown i = record {
   given = subst (λ (l : List Shift). AreShiftsOf n l next (ss ++ ends_shift s.now ∷ [])) (sym grown)
       (shift_ended n p.shifts.items p.last next ss s is (subst (λ (k : ℕ). IsWorkOf k next []) (many ∙ i.given.rest.count) fresh) i.given);
-  frozen = text_kept frozen_part ss (ends_shift s.now) p.frozen.items i.frozen refl;
+  frozen = subst (AllZip IsFrozenLine p.frozen.items) (part_kept frozen_line ss (ends_shift s.now) (filter_map frozen_line ss) refl refl) i.frozen;
 }
 
 -- each shift, and the last work, is for so many fronts
@@ -184,5 +187,5 @@ for_fronts n shifts last ss a = (each shifts a.ended a.each, a.rest.count)
 pub plan_new : (n : ℕ) (p : Plan) → p.shifts.items ≡ [] → p.frozen.items ≡ [] → IsWorkOf n p.last [] → IsPlanOf n p []
 plan_new n p none quiet work = record {
   given = record { ended = []; left = []; cut = refl; each = subst (λ (l : List Shift). AllZip (IsShiftOf n) l []) (sym none) tt; rest = work };
-  frozen = quiet;
+  frozen = subst (λ (l : List FrozenRequest). AllZip IsFrozenLine l []) (sym quiet) tt;
 }
