@@ -62,7 +62,7 @@ TOLD = {
     "ct_parties/src/front_work.rt": {"Late": (1, "behind the last turn of a line that waits")},
     "ct_parties/src/operator_work.rt": {"Late": (1, "behind the last turn of a line that waits")},
     "ct_parties/src/reading.rt": {"Read": (1, "behind the last turn over the lines")},
-    "ct_parties/src/script.rt": {"Write": (1, "the output couldn't be written")},
+    "ct_parties/src/script.rt": {"Write": (2, "a reply of the closed log couldn't be written whole, or the output handed on")},
     "ct_parties/src/threads.rt": {"Threads": (1, "a front's thread didn't start")},
     "ct_pipes/src/ahead.rt": {
         "Error": (2, "there was no memory to read into; all are to end"),

@@ -53,6 +53,6 @@ asks_unread line (Ok o) P (e, other) none = ap (option_map live_asked) e ∙ ask
 asks_unread line (Err x) P is none = tt
 
 -- a line that every other log replies to with bad-line
-pub asked_bad : (fronts : ℕ) (line : List ℕ) (t : CodeTask) (o : OperatorTask) → t ≡ task_case.Operator o → o ≡ BadLine → AsksFor fronts line (step t)
+pub asked_bad : (fronts : ℕ) (line : List ℕ) (t : CodeTask) (o : OperatorTask) → t ≡ task_case.Operator o → o ≡ BadLine → AsksFor fronts line (step line t)
     → AsksFor fronts line (does (for_operator BadLine))
-asked_bad fronts line t o e k asked = subst (λ (x : CodeTask). AsksFor fronts line (step x)) (e ∙ ap (λ (x : OperatorTask). task_case.Operator x) k) asked
+asked_bad fronts line t o e k asked = subst (λ (x : CodeTask). AsksFor fronts line (step line x)) (e ∙ ap (λ (x : OperatorTask). task_case.Operator x) k) asked

@@ -9,7 +9,7 @@ use Rattle.rtrb.specs.Ring.{sent, received}
 use Rattle.rtrb.specs.declared.AnyItems.{AnyItems}
 use Rattle.rtrb.specs.declared.producer.Producer.{Producer}
 use Rattle.ct_house.specs.House.{FrontView, HouseState, IsNewHouse}
-use Rattle.ct_parties.specs.declared.task.FrontTask.{FrontTask}
+use Rattle.ct_lines.specs.declared.request.FrontRequest.{FrontRequest}
 use Rattle.ct_pipes.specs.Answered.{AreAnswered, AnswersAllButLast, AnswersFirst, AnswersMore, AnswersSome}
 use Rattle.ct_pipes.specs.Rings.{all_received, all_sent, texts, texts_each, ArePrefixes}
 use Rattle.ct_pipes.specs.Written.{BeginsOn, in_order, IsBegunOf, WritesOn}
@@ -143,7 +143,7 @@ begins_out before after old new (Err e) out = out.failed
 
 -- ---- the answers of all parties
 
-front_first : (a : LiveFront) (ts : List (Numbered FrontTask)) (xs : List (List ℕ)) → AnswersFirst FrontStep a ts xs → AnswersFirst FrontReplies a.front ts xs
+front_first : (a : LiveFront) (ts : List (Numbered FrontRequest)) (xs : List (List ℕ)) → AnswersFirst FrontStep a ts xs → AnswersFirst FrontReplies a.front ts xs
 front_first a ts xs h = record {
   first = h.first;
   cut = h.cut;
@@ -152,7 +152,7 @@ front_first a ts xs h = record {
 }
 
 -- each front answered the first of its tasks, as far as they came out of the rings
-all_answer_first : (before after : List FrontWorker) (p : Producer (Vec ℕ Global) Global AnyItems) (tasks : List (List (Numbered FrontTask)))
+all_answer_first : (before after : List FrontWorker) (p : Producer (Vec ℕ Global) Global AnyItems) (tasks : List (List (Numbered FrontRequest)))
     (came : List (List (Vec ℕ Global))) → AllReplySome before after → All Empty (all_received (worker_tasks before))
     → All Empty (all_sent (worker_answers before ++ p ∷ [])) → ArePrefixes (all_received (worker_tasks after)) tasks
     → ArePrefixes came (all_sent (worker_answers after)) → AllAnswerFirst (worker_fronts before) tasks (texts_each came)

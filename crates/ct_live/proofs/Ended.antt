@@ -10,7 +10,7 @@ use Rattle.rtrb.specs.declared.AnyItems.{AnyItems}
 use Rattle.rtrb.specs.declared.consumer.Consumer.{Consumer}
 use Rattle.rtrb.specs.declared.producer.Producer.{Producer}
 use Rattle.ct_house.specs.House.{FrontView}
-use Rattle.ct_parties.specs.declared.task.FrontTask.{FrontTask}
+use Rattle.ct_lines.specs.declared.request.FrontRequest.{FrontRequest}
 use Rattle.ct_pipes.specs.Rings.{all_received, all_sent, texts_each, ArePrefixes}
 use Rattle.ct_pipes.specs.Written.{in_order, BeginsOn, IsBegunOf, WritesOn}
 use Rattle.ct_pipes.specs.declared.answering.Numbered.{Numbered}
@@ -76,7 +76,7 @@ begins_as_done written operated fault done before after old new had some = elim 
 -- ---- the end, from what the rings and the output are then
 
 -- the list of tasks that was looked at is that of the fronts, and that of answers is the fronts' and then the operator's
-module _ (inlets : Inlets) (tasks seen : List (Consumer (Numbered FrontTask) Global AnyItems)) (answers all : List (Producer (Vec ℕ Global) Global AnyItems))
+module _ (inlets : Inlets) (tasks seen : List (Consumer (Numbered FrontRequest) Global AnyItems)) (answers all : List (Producer (Vec ℕ Global) Global AnyItems))
     (operator : DeskWorker) (same : seen ≡ tasks) (together : all ≡ answers ++ operator.answers ∷ []) where
   pub ends_some : (written : Result Unit WriteFailed) (before rings : Rings) (old new : Option (List ℕ))
       → ArePrefixes (all_received seen) (all_sent inlets.fronts.items) × IsPrefix (received operator.tasks) (sent inlets.operator)
@@ -84,7 +84,7 @@ module _ (inlets : Inlets) (tasks seen : List (Consumer (Numbered FrontTask) Glo
       → ((first : Rings) (start : Option (List ℕ)) → WritesOut first before start old written → BeginsOn first rings start new)
       → EndsSome inlets tasks answers operator written before old new
   ends_some written before rings old new taken came wrote = record {
-    taken = subst (λ (l : List (Consumer (Numbered FrontTask) Global AnyItems)). ArePrefixes (all_received l) (all_sent inlets.fronts.items)) same taken.0;
+    taken = subst (λ (l : List (Consumer (Numbered FrontRequest) Global AnyItems)). ArePrefixes (all_received l) (all_sent inlets.fronts.items)) same taken.0;
     ordered = taken.1;
     rings = rings;
     came = subst (λ (l : List (Producer (Vec ℕ Global) Global AnyItems)). ArePrefixes (all_received rings) (all_sent l)) together came;

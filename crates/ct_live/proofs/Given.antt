@@ -7,8 +7,8 @@ use Rattle.rtrb.specs.Ring.{sent}
 use Rattle.rtrb.specs.declared.AnyItems.{AnyItems}
 use Rattle.rtrb.specs.declared.producer.Producer.{Producer}
 use Rattle.ct_lines.specs.Asked.{FrontAsked}
-use Rattle.ct_parties.specs.Plans.{task_asked}
-use Rattle.ct_parties.specs.declared.task.FrontTask.{FrontTask}
+use Rattle.ct_lines.specs.Requests.{front_asked}
+use Rattle.ct_lines.specs.declared.request.FrontRequest.{FrontRequest}
 use Rattle.ct_pipes.specs.Parts.{IsMergeOf}
 use Rattle.ct_pipes.specs.Rings.{all_sent}
 use Rattle.ct_pipes.specs.declared.answering.Numbered.{Numbered}
@@ -21,19 +21,19 @@ use Rattle.ct_live.specs.declared.asking.LiveTask.TheVariants as task_case
 use Rattle.ct_live.specs.declared.asking.DeskTask.{DeskTask}
 use Rattle.ct_live.specs.declared.giving.Inlets.{Inlets}
 
-pub given_front : (old new : Inlets) (k f p : ℕ) (t : FrontTask) → p ≡ f → sent new.operator ≡ sent old.operator
-    → ((given : List (ℕ × Numbered FrontTask)) → IsMergeOf (all_sent old.fronts.items) given
+pub given_front : (old new : Inlets) (k f p : ℕ) (t : FrontRequest) → p ≡ f → sent new.operator ≡ sent old.operator
+    → ((given : List (ℕ × Numbered FrontRequest)) → IsMergeOf (all_sent old.fronts.items) given
     → IsMergeOf (all_sent new.fronts.items) (given ++ (p, record { number = k; task = t }) ∷ []))
-    → GivesStep k (front_does f (task_asked t)) None old new
+    → GivesStep k (front_does f (front_asked t)) None old new
 given_front old new k f p t e same give = (
   tt,
   λ steps h.
-      let x : Numbered FrontTask = record { number = k; task = t } in
-      let s : ℕ × LiveStep = (k, front_does f (task_asked t)) in
+      let x : Numbered FrontRequest = record { number = k; task = t } in
+      let s : ℕ × LiveStep = (k, front_does f (front_asked t)) in
       record {
         front_tasks = h.front_tasks ++ (p, x) ∷ [];
-        asked = map-append front_task_asked h.front_tasks ((p, x) ∷ []) ∙ ap (λ (l : List (ℕ × (ℕ × FrontAsked))). l ++ (p, (k, task_asked t)) ∷ []) h.asked
-            ∙ ap (λ (n : ℕ). filter_map front_given steps ++ (n, (k, task_asked t)) ∷ []) e ∙ sym (filter_map-append front_given steps (s ∷ []));
+        asked = map-append front_task_asked h.front_tasks ((p, x) ∷ []) ∙ ap (λ (l : List (ℕ × (ℕ × FrontAsked))). l ++ (p, (k, front_asked t)) ∷ []) h.asked
+            ∙ ap (λ (n : ℕ). filter_map front_given steps ++ (n, (k, front_asked t)) ∷ []) e ∙ sym (filter_map-append front_given steps (s ∷ []));
         merge = give h.front_tasks h.merge;
         ordered = ap (map desk_task_asked) same ∙ h.ordered ∙ sym (append-nil (filter_map desk_given steps)) ∙ sym (filter_map-append desk_given steps (s ∷ []));
       },
@@ -50,7 +50,7 @@ given_desk old new k t same more = (
       record {
         front_tasks = h.front_tasks;
         asked = h.asked ∙ sym (append-nil (filter_map front_given steps)) ∙ sym (filter_map-append front_given steps (s ∷ []));
-        merge = subst (λ (l : List (List (Numbered FrontTask))). IsMergeOf l h.front_tasks) (sym same) h.merge;
+        merge = subst (λ (l : List (List (Numbered FrontRequest))). IsMergeOf l h.front_tasks) (sym same) h.merge;
         ordered = ap (map desk_task_asked) more ∙ map-append desk_task_asked (sent old.operator) (x ∷ [])
             ∙ ap (λ (l : List (ℕ × DeskTask)). l ++ (k, t) ∷ []) h.ordered
             ∙ sym (filter_map-append desk_given steps (s ∷ []));
@@ -76,16 +76,16 @@ gives_nothing fronts k (b ∷ bs) a none = absurd (cons_nil none)
     cons_nil e = cc
 
 -- the same of the tasks as the code has them
-pub given_to_front : (old new : Inlets) (ps qs : List (Producer (Numbered FrontTask) Global AnyItems)) (k f p : ℕ) (t : FrontTask) (s : LiveTask)
+pub given_to_front : (old new : Inlets) (ps qs : List (Producer (Numbered FrontRequest) Global AnyItems)) (k f p : ℕ) (t : FrontRequest) (s : LiveTask)
     → s ≡ task_case.Front f t → p ≡ f
     → ps ≡ old.fronts.items → new.fronts.items ≡ qs → sent new.operator ≡ sent old.operator
-    → ((given : List (ℕ × Numbered FrontTask)) → IsMergeOf (all_sent ps) given → IsMergeOf (all_sent qs) (given ++ (p, record { number = k; task = t }) ∷ []))
+    → ((given : List (ℕ × Numbered FrontRequest)) → IsMergeOf (all_sent ps) given → IsMergeOf (all_sent qs) (given ++ (p, record { number = k; task = t }) ∷ []))
     → GivesStep k (live_step s) None old new
 given_to_front old new ps qs k f p t s is e before after same give =
     subst (λ (x : LiveTask). GivesStep k (live_step x) None old new) (sym is) (given_front old new k f p t e same (λ given m.
-    subst (λ (l : List (Producer (Numbered FrontTask) Global AnyItems)). IsMergeOf (all_sent l) (given ++ (p, record { number = k; task = t }) ∷ []))
+    subst (λ (l : List (Producer (Numbered FrontRequest) Global AnyItems)). IsMergeOf (all_sent l) (given ++ (p, record { number = k; task = t }) ∷ []))
     (sym after)
-    (give given (subst (λ (l : List (Producer (Numbered FrontTask) Global AnyItems)). IsMergeOf (all_sent l) given) (sym before) m))))
+    (give given (subst (λ (l : List (Producer (Numbered FrontRequest) Global AnyItems)). IsMergeOf (all_sent l) given) (sym before) m))))
 
 pub given_to_desk : (old new : Inlets) (k : ℕ) (t : DeskTask) (s : LiveTask) → s ≡ task_case.Operator t → all_sent new.fronts.items ≡ all_sent old.fronts.items
     → sent new.operator ≡ sent old.operator ++ record { number = k; task = t } ∷ [] → GivesStep k (live_step s) None old new

@@ -10,7 +10,7 @@ use Rattle.ct_house.specs.House.{FrontView, HouseState}
 use Rattle.ct_parties.specs.FrontWork.{FrontGoesOn}
 use Rattle.ct_parties.specs.OperatorWork.{GoesOn}
 use Rattle.ct_parties.specs.Parties.{AreFrontsOf, AreSame}
-use Rattle.ct_parties.specs.declared.task.FrontTask.{FrontTask}
+use Rattle.ct_lines.specs.declared.request.FrontRequest.{FrontRequest}
 use Rattle.ct_parties.proofs.FrontLemmas.{front_goes_on_nothing, front_goes_on_both}
 use Rattle.ct_parties.proofs.OperatorLemmas.{goes_on_nothing, goes_on_both}
 use Rattle.ct_parties.proofs.PartyLemmas.{fronts_kept}
@@ -28,7 +28,7 @@ use Rattle.ct_live.specs.declared.giving.Inlets.{Inlets}
 use Rattle.ct_live.specs.declared.workers.DeskWorker.{DeskWorker}
 
 -- a front that answered its tasks went on
-front_went_on : (a b : LiveFront) (ts : List (Numbered FrontTask)) (xs : List (List ℕ)) → AreAnswered FrontStep a ts xs b → FrontGoesOn a.front b.front
+front_went_on : (a b : LiveFront) (ts : List (Numbered FrontRequest)) (xs : List (List ℕ)) → AreAnswered FrontStep a ts xs b → FrontGoesOn a.front b.front
 front_went_on a b [] [] is = subst (λ (f : LiveFront). FrontGoesOn a.front f.front) (sym is) (front_goes_on_nothing a.front)
 front_went_on a b [] (x ∷ xs) is = absurd is
 front_went_on a b (t ∷ ts) [] is = absurd is
@@ -54,7 +54,7 @@ module _ {T : Type 0} where
   pair_kept : (p q : Producer T Global AnyItems) (c d : Consumer T Global AnyItems) → SameProducer p q → SameConsumer c d → IsPair p c → IsPair q d
   pair_kept p q c d a b i = (b.0.0 ∙ i.0 ∙ sym a.0.0, b.0.1 ∙ i.1 ∙ sym a.0.1, b.0.2 ∙ i.2 ∙ sym a.0.2, b.0.3 ∙ i.3 ∙ sym a.0.3)
 
-tasks_kept : (ps qs : List (Producer (Numbered FrontTask) Global AnyItems)) (before after : List FrontWorker) → SameProducers ps qs
+tasks_kept : (ps qs : List (Producer (Numbered FrontRequest) Global AnyItems)) (before after : List FrontWorker) → SameProducers ps qs
     → AllReplySome before after → ArePairs ps (worker_tasks before)
     → ArePairs qs (worker_tasks after)
 tasks_kept [] [] [] [] same all pairs = tt
@@ -127,7 +127,7 @@ gives_count a b x = sym (length_all_zip SameProducer a.fronts.items b.fronts.ite
 -- ---- the fronts and the ends of their rings, put together
 
 -- the fronts and the ends that are left, and the workers that were put together of the others, the last one first
-pub record Matching (fronts left : List FrontView) (tasks own : List (Consumer (Numbered FrontTask) Global AnyItems))
+pub record Matching (fronts left : List FrontView) (tasks own : List (Consumer (Numbered FrontRequest) Global AnyItems))
     (answers rest : List (Producer (Vec ℕ Global) Global AnyItems))
     (workers : List FrontWorker) : Type 0 where
   pub all_fronts : fronts ≡ left ++ worker_fronts (reverse workers)

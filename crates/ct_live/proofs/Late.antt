@@ -8,7 +8,7 @@ use Rattle.std.specs.Prelude.{Vec}
 use Rattle.std.specs.Global.{Global}
 use Rattle.ct_parties.specs.declared.fault.Fault.{Fault}
 use Rattle.ct_parties.specs.declared.fault.Fault.TheVariants.{ClockBack, Memory, Read, Threads, Write}
-use Rattle.ct_parties.specs.declared.task.FrontTask.{FrontTask}
+use Rattle.ct_lines.specs.declared.request.FrontRequest.{FrontRequest}
 use Rattle.ct_pipes.specs.Rings.{all_received, all_sent}
 use Rattle.ct_pipes.specs.Written.{WritesOn}
 use Rattle.ct_pipes.specs.declared.answering.Numbered.{Numbered}
@@ -41,7 +41,7 @@ unfolding is_late
 threads_not_late late = absurd (true≢false (ap is_late (sym late)))
 
 -- the list of tasks that was looked at is that of the fronts, and that of answers is the fronts' and then the operator's
-pub ends_late : (inlets : Inlets) (tasks seen : List (Consumer (Numbered FrontTask) Global AnyItems))
+pub ends_late : (inlets : Inlets) (tasks seen : List (Consumer (Numbered FrontRequest) Global AnyItems))
     (answers all : List (Producer (Vec ℕ Global) Global AnyItems)) (operator : DeskWorker) → seen ≡ tasks → all ≡ answers ++ operator.answers ∷ []
     → (close_at : ℕ) (read : Result End GiveFault) (end : End) (before rings : Rings) (old mid new : Option (List ℕ)) → read ≡ Ok end
     → (all_received seen ≡ all_sent inlets.fronts.items) × (received operator.tasks ≡ sent inlets.operator)

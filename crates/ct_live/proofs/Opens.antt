@@ -7,7 +7,7 @@ use Rattle.rtrb.specs.declared.consumer.Consumer.{Consumer}
 use Rattle.rtrb.specs.declared.producer.Producer.{Producer}
 use Rattle.ct_house.specs.House.{FrontView, HouseState, IsNewHouse}
 use Rattle.ct_parties.specs.Parties.{AreFrontsOf}
-use Rattle.ct_parties.specs.declared.task.FrontTask.{FrontTask}
+use Rattle.ct_lines.specs.declared.request.FrontRequest.{FrontRequest}
 use Rattle.ct_parties.proofs.HouseLemmas.{new_of_house, new_in_order}
 use Rattle.ct_pipes.specs.Opening.{AreEmpty}
 use Rattle.ct_pipes.specs.Rings.{ArePairs}
@@ -33,7 +33,7 @@ pub joined_new : (n : ℕ) (e : Ends) (workers : List FrontWorker) (o : DeskWork
     → o.tasks ≡ e.desk_tasks → o.answers ≡ e.desk_answers → AreFrontsOf o.sequencer (worker_fronts workers) → AreJoined e.inlets workers o e.rings.items
 joined_new n e workers o i tasks answers own_tasks own_answers fronts = record {
   beside = record {
-    tasks_of = subst (λ (l : List (Consumer (Numbered FrontTask) Global AnyItems)). ArePairs e.inlets.fronts.items l) (sym tasks) i.tasks.pairs;
+    tasks_of = subst (λ (l : List (Consumer (Numbered FrontRequest) Global AnyItems)). ArePairs e.inlets.fronts.items l) (sym tasks) i.tasks.pairs;
     orders = rw own_tasks i.orders.pairs.0;
     answers_of = rw own_answers (subst (λ (l : List (Producer (Vec ℕ Global) Global AnyItems)). ArePairs (l ++ e.desk_answers ∷ []) e.rings.items)
         (sym answers) i.answers.pairs);

@@ -5,7 +5,7 @@ use Rattle.std.proofs.lemmas.Option.{same_Some, none-some}
 use Rattle.rtrb.specs.Ring.{sent}
 use Rattle.ct_parties.specs.Lines.{lines_of}
 use Rattle.ct_parties.proofs.LineLemmas.{first_line_cut}
-use Rattle.ct_parties.specs.declared.task.FrontTask.{FrontTask}
+use Rattle.ct_lines.specs.declared.request.FrontRequest.{FrontRequest}
 use Rattle.ct_lines.specs.Lines.{IsNextLine}
 use Rattle.ct_pipes.specs.Rings.{all_sent}
 use Rattle.ct_pipes.specs.declared.answering.Numbered.{Numbered}
@@ -182,7 +182,7 @@ nothing_more fronts lines a b c gives none steps h =
       more,
       asks,
       subst (λ (l : List (Numbered DeskTask)). AreGiven (steps ++ more) (all_sent c.fronts.items) l) (sym none.operator)
-          (subst (λ (l : List (List (Numbered FrontTask))). AreGiven (steps ++ more) l (sent b.operator)) (sym none.fronts) given),
+          (subst (λ (l : List (List (Numbered FrontRequest))). AreGiven (steps ++ more) l (sent b.operator)) (sym none.fronts) given),
     )
 
 -- What was given is what the first lines ask: where the next line was kept from the parties,

@@ -10,7 +10,7 @@ use Rattle.rtrb.specs.declared.AnyItems.{AnyItems}
 use Rattle.rtrb.specs.declared.consumer.Consumer.{Consumer}
 use Rattle.rtrb.specs.declared.producer.Producer.{Producer}
 use Rattle.ct_house.specs.House.{FrontView, HouseState, IsNewHouse}
-use Rattle.ct_parties.specs.declared.task.FrontTask.{FrontTask}
+use Rattle.ct_lines.specs.declared.request.FrontRequest.{FrontRequest}
 use Rattle.ct_pipes.specs.Answered.{AreAnswered, AnswersMore}
 use Rattle.ct_pipes.specs.Parts.{IsMergeOf}
 use Rattle.ct_pipes.specs.Rings.{all_received, all_sent, texts, texts_each}
@@ -37,7 +37,7 @@ Empty xs = xs ≡ []
 
 -- ---- the answers of a party, seen as its front or its house
 
-pub front_answered : (a b : LiveFront) (ts : List (Numbered FrontTask)) (xs : List (List ℕ)) → AreAnswered FrontStep a ts xs b
+pub front_answered : (a b : LiveFront) (ts : List (Numbered FrontRequest)) (xs : List (List ℕ)) → AreAnswered FrontStep a ts xs b
     → AreAnswered FrontReplies a.front ts xs b.front
 front_answered a b [] [] is = ap (λ (f : LiveFront). f.front) is
 front_answered a b [] (x ∷ xs) is = absurd is
@@ -84,7 +84,7 @@ last_unsent (a ∷ before) p no_text = last_unsent before p (rest_of Empty (sent
 pub no_task : (n : ℕ) (e : Ends) (workers : List FrontWorker) → AreOpened n e → worker_tasks workers ≡ e.tasks.items
     → All Empty (all_received (worker_tasks workers))
 no_task n e workers i tasks =
-    subst (λ (l : List (Consumer (Numbered FrontTask) Global AnyItems)). All Empty (all_received l)) (sym tasks) i.tasks.unreceived
+    subst (λ (l : List (Consumer (Numbered FrontRequest) Global AnyItems)). All Empty (all_received l)) (sym tasks) i.tasks.unreceived
 
 pub no_text : (n : ℕ) (e : Ends) (workers : List FrontWorker) (o : DeskWorker) → AreOpened n e → worker_answers workers ≡ e.answers.items
     → o.answers ≡ e.desk_answers → All Empty (all_sent (worker_answers workers ++ o.answers ∷ []))
@@ -125,7 +125,7 @@ module _ {T E : Type 0} where
 -- what the parties reply and what is written of it, before the log is closed, and what is said of the lines that are left then
 pub record RepliesAll (count close_at n : ℕ) (input : Option (List ℕ)) (house house_then : HouseState) (fronts fronts_then : List FrontView) (now : ℕ)
     (old new : Option (List ℕ)) (Last : Option (ℕ × List (ℕ × List ℕ)) → Type 0) : Type 0 where
-  pub front_tasks : List (List (Numbered FrontTask))
+  pub front_tasks : List (List (Numbered FrontRequest))
   pub front_texts : List (List (List ℕ))
   pub answered : AllAnswer fronts front_tasks front_texts fronts_then
   pub desk_tasks : List (Numbered DeskTask)

@@ -8,7 +8,7 @@ use Rattle.rtrb.specs.declared.consumer.Consumer.{Consumer}
 use Rattle.rtrb.specs.declared.producer.Producer.{Producer}
 use Rattle.ct_house.specs.House.{FrontView, HouseState}
 use Rattle.ct_parties.specs.Parties.{AreFrontsOf}
-use Rattle.ct_parties.specs.declared.task.FrontTask.{FrontTask}
+use Rattle.ct_lines.specs.declared.request.FrontRequest.{FrontRequest}
 use Rattle.ct_pipes.specs.Working.{AreJoinedOf}
 use Rattle.ct_pipes.specs.Written.{WritesOn}
 use Rattle.ct_pipes.specs.declared.answering.Numbered.{Numbered}
@@ -78,18 +78,18 @@ runs_closing close_at n m input left read old new before after o p first rings a
     (whole, runs_live close_at n m input left read old new before after o p first rings a b whole given did worked wrote ended, begun)
 
 -- what is said of the fronts and the ends of their rings that were handed back, said of those that did so
-module _ (P : List FrontView → List (Consumer (Numbered FrontTask) Global AnyItems) → List (Producer (Vec ℕ Global) Global AnyItems) → Type 0)
-    (before : List FrontWorker) (joined : Joined LiveFront FrontTask) where
+module _ (P : List FrontView → List (Consumer (Numbered FrontRequest) Global AnyItems) → List (Producer (Vec ℕ Global) Global AnyItems) → Type 0)
+    (before : List FrontWorker) (joined : Joined LiveFront FrontRequest) where
   of_workers : (j : AreJoinedOf FrontStep before joined) → P (party_fronts joined.parties.items) joined.tasks.items joined.answers.items
       → P (worker_fronts j.workers_then) (worker_tasks j.workers_then) (worker_answers j.workers_then)
   of_workers j said =
       subst (λ (l : List FrontView). P l (worker_tasks j.workers_then) (worker_answers j.workers_then)) (fronts_beside joined.parties.items j.workers_then j.parties)
-      (subst (λ (l : List (Consumer (Numbered FrontTask) Global AnyItems)). P (party_fronts joined.parties.items) l (worker_answers j.workers_then)) j.tasks
+      (subst (λ (l : List (Consumer (Numbered FrontRequest) Global AnyItems)). P (party_fronts joined.parties.items) l (worker_answers j.workers_then)) j.tasks
       (subst (λ (l : List (Producer (Vec ℕ Global) Global AnyItems)). P (party_fronts joined.parties.items) joined.tasks.items l) j.answers said))
 
 -- all did what they had to
 pub ran : (close_at n m : ℕ) (input left : Option (List ℕ)) (read : Result End GiveFault) (old new : Inlets) (before : List FrontWorker)
-    (joined : Joined LiveFront FrontTask) (o p : DeskWorker) (first rings : Rings) (written : Result Unit WriteFailed) (operated : Result Unit PartyFault)
+    (joined : Joined LiveFront FrontRequest) (o p : DeskWorker) (first rings : Rings) (written : Result Unit WriteFailed) (operated : Result Unit PartyFault)
     (a b c : Option (List ℕ)) → ReadsOn n m input left read old new → AreJoinedOf FrontStep before joined → DeskWorks o p
     → WritesOut first rings a b written → HaveDone written operated joined.fault
     → EndsLive new (party_fronts joined.parties.items) joined.tasks.items joined.answers.items p close_at read m left rings b c
@@ -101,7 +101,7 @@ ran close_at n m input left read old new before joined o p first rings written o
 
 -- and the clock refused the moment of the closing
 pub ran_late : (close_at n m : ℕ) (input left : Option (List ℕ)) (read : Result End GiveFault) (old new : Inlets) (before : List FrontWorker)
-    (joined : Joined LiveFront FrontTask) (o p : DeskWorker) (first rings : Rings) (written : Result Unit WriteFailed) (operated : Result Unit PartyFault)
+    (joined : Joined LiveFront FrontRequest) (o p : DeskWorker) (first rings : Rings) (written : Result Unit WriteFailed) (operated : Result Unit PartyFault)
     (a b c : Option (List ℕ)) → ReadsOn n m input left read old new → AreJoinedOf FrontStep before joined → OnOk operated (DeskWorks o p)
     → WritesOut first rings a b written
     → HaveDone written operated joined.fault × EndsLate new joined.tasks.items joined.answers.items p close_at read rings b c
@@ -124,7 +124,7 @@ ran_late close_at n m input left read old new before joined o p first rings writ
 
 -- a fault broke it off
 pub ran_broken : (close_at n m : ℕ) (input left : Option (List ℕ)) (read : Result End GiveFault) (old new : Inlets) (before : List FrontWorker)
-    (joined : Joined LiveFront FrontTask) (o p : DeskWorker) (first rings : Rings) (written : Result Unit WriteFailed) (operated : Result Unit PartyFault)
+    (joined : Joined LiveFront FrontRequest) (o p : DeskWorker) (first rings : Rings) (written : Result Unit WriteFailed) (operated : Result Unit PartyFault)
     (a b c : Option (List ℕ)) → ReadsOn n m input left read old new → AreJoinedOf FrontStep before joined → DeskWorksSome o p
     → OnOk operated (DeskWorks o p) → WritesOut first rings a b written
     → EndsBrokenOff new (party_fronts joined.parties.items) joined.tasks.items joined.answers.items p written operated joined.fault close_at read m left rings b c
@@ -151,14 +151,14 @@ writer_out (Err w) own text rings written done first a out e k wrote none same =
 
 -- ---- the ends of the rings that were handed back
 
-pub beside_joined : (g : Inlets) (before : List FrontWorker) (joined : Joined LiveFront FrontTask) (p : DeskWorker) (rings : Rings)
+pub beside_joined : (g : Inlets) (before : List FrontWorker) (joined : Joined LiveFront FrontRequest) (p : DeskWorker) (rings : Rings)
     (j : AreJoinedOf FrontStep before joined) → AreBeside g (worker_tasks j.workers_then) (worker_answers j.workers_then) p rings
     → AreBeside g joined.tasks.items joined.answers.items p rings
 beside_joined g before joined p rings j is =
-    subst (λ (l : List (Consumer (Numbered FrontTask) Global AnyItems)). AreBeside g l joined.answers.items p rings) (sym j.tasks)
+    subst (λ (l : List (Consumer (Numbered FrontRequest) Global AnyItems)). AreBeside g l joined.answers.items p rings) (sym j.tasks)
     (subst (λ (l : List (Producer (Vec ℕ Global) Global AnyItems)). AreBeside g (worker_tasks j.workers_then) l p rings) (sym j.answers) is)
 
-pub fronts_joined : (before : List FrontWorker) (joined : Joined LiveFront FrontTask) (house : HouseState) (j : AreJoinedOf FrontStep before joined)
+pub fronts_joined : (before : List FrontWorker) (joined : Joined LiveFront FrontRequest) (house : HouseState) (j : AreJoinedOf FrontStep before joined)
     → AreFrontsOf house (worker_fronts j.workers_then) → AreFrontsOf house (party_fronts joined.parties.items)
 fronts_joined before joined house j is =
     subst (λ (l : List FrontView). AreFrontsOf house l) (sym (fronts_beside joined.parties.items j.workers_then j.parties)) is

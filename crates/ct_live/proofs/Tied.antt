@@ -4,7 +4,7 @@ use Rattle.std.proofs.lemmas.Option.{get_or_from_slice_get, slice_get_within}
 use Rattle.rtrb.specs.Ring.{sent}
 use Rattle.ct_core.specs.Settlement.{Log}
 use Rattle.ct_parties.specs.Lines.{lines_of}
-use Rattle.ct_parties.specs.declared.task.FrontTask.{FrontTask}
+use Rattle.ct_lines.specs.declared.request.FrontRequest.{FrontRequest}
 use Rattle.ct_pipes.specs.Rings.{all_sent}
 use Rattle.ct_pipes.specs.declared.answering.Numbered.{Numbered}
 use Rattle.ct_live.specs.LiveGiven.{GivesUpTo, HaveGiven}
@@ -52,7 +52,7 @@ nothing_in (end_case.Close k at) m None = ([], tt, tt)
 nothing_in (end_case.Close k at) m (Some bytes) = (numbered_from m (lines_of bytes), refl, tt)
 
 -- these tasks are those of the input's lines, and this is said of the lines that are left
-pub record AreTied (fronts close_at n : ℕ) (input : Option (List ℕ)) (front_tasks : List (List (Numbered FrontTask))) (desk_tasks : List (Numbered DeskTask))
+pub record AreTied (fronts close_at n : ℕ) (input : Option (List ℕ)) (front_tasks : List (List (Numbered FrontRequest))) (desk_tasks : List (Numbered DeskTask))
     (now : ℕ) (Last : Option (ℕ × List (ℕ × List ℕ)) → Type 0) : Type 0 where
   pub lines : List (ℕ × List ℕ)
   pub of_input : AreLinesOf n input lines
@@ -60,7 +60,7 @@ pub record AreTied (fronts close_at n : ℕ) (input : Option (List ℕ)) (front_
   pub tied : AreTasksOf fronts close_at lines front_tasks desk_tasks now behind
   pub last : Last behind
 
-pub tasks_of : (fronts close_at n m : ℕ) (input left : Option (List ℕ)) (end : End) (old new : Inlets) (front_tasks : List (List (Numbered FrontTask)))
+pub tasks_of : (fronts close_at n m : ℕ) (input left : Option (List ℕ)) (end : End) (old new : Inlets) (front_tasks : List (List (Numbered FrontRequest)))
     (desk_tasks : List (Numbered DeskTask)) (now : ℕ) (Last : Option (ℕ × List (ℕ × List ℕ)) → Type 0) → HaveGiven [] old
     → GivesUpTo fronts n m input left end old new → IsMomentOf close_at end now → front_tasks ≡ all_sent new.fronts.items
     → desk_tasks ≡ sent new.operator → EndsIn Last end m left → AreTied fronts close_at n input front_tasks desk_tasks now Last
@@ -75,7 +75,7 @@ tasks_of fronts close_at n m input left end_case.Input old new front_tasks desk_
         cut = (refl, moment);
         steps = more;
         asked = asks;
-        given = subst (λ (l : List (List (Numbered FrontTask))). AreGiven more l desk_tasks) (sym fs)
+        given = subst (λ (l : List (List (Numbered FrontRequest))). AreGiven more l desk_tasks) (sym fs)
             (subst (λ (l : List (Numbered DeskTask)). AreGiven more (all_sent new.fronts.items) l) (sym ds) h);
       };
       last = ends;
@@ -98,7 +98,7 @@ tasks_of fronts close_at n m input left (end_case.Close k at) old new front_task
         );
         steps = more;
         asked = asks;
-        given = subst (λ (l : List (List (Numbered FrontTask))). AreGiven more l desk_tasks) (sym fs)
+        given = subst (λ (l : List (List (Numbered FrontRequest))). AreGiven more l desk_tasks) (sym fs)
             (subst (λ (l : List (Numbered DeskTask)). AreGiven more (all_sent new.fronts.items) l) (sym ds) h);
       };
       last = closing_text;

@@ -8,7 +8,7 @@ use Rattle.rtrb.specs.declared.AnyItems.{AnyItems}
 use Rattle.rtrb.specs.declared.consumer.Consumer.{Consumer}
 use Rattle.rtrb.specs.declared.producer.Producer.{Producer}
 use Rattle.ct_house.specs.House.{FrontView, HouseState, IsNewHouse}
-use Rattle.ct_parties.specs.declared.task.FrontTask.{FrontTask}
+use Rattle.ct_lines.specs.declared.request.FrontRequest.{FrontRequest}
 use Rattle.ct_pipes.specs.Answered.{AnswersFirst}
 use Rattle.ct_pipes.specs.Rings.{all_received, all_sent, ArePrefixes}
 use Rattle.ct_pipes.specs.Written.{BeginsOn, IsBegunOf}
@@ -40,7 +40,7 @@ pub record BeginsWhole (old new whole : Option (List ℕ)) : Type 0 where
   pub whole_is : Appends new whole rest
 
 -- each front answered the first of its tasks in turn
-abbrev pub AllAnswerFirst : List FrontView → List (List (Numbered FrontTask)) → List (List (List ℕ)) → Type 0
+abbrev pub AllAnswerFirst : List FrontView → List (List (Numbered FrontRequest)) → List (List (List ℕ)) → Type 0
 AllAnswerFirst [] [] [] = Unit {0}
 AllAnswerFirst (a ∷ fronts) (ts ∷ tasks) (xs ∷ texts) = AnswersFirst FrontReplies a ts xs × AllAnswerFirst fronts tasks texts
 AllAnswerFirst _ _ _ = ⊥
@@ -53,7 +53,7 @@ pub record RepliesSome (count n : ℕ) (input : Option (List ℕ)) (house : Hous
   pub of_input : AreFirstLinesOf n input lines
   pub steps : List (ℕ × LiveStep)
   pub asked : AllAskLive count lines steps
-  pub front_tasks : List (List (Numbered FrontTask))
+  pub front_tasks : List (List (Numbered FrontRequest))
   pub desk_tasks : List (Numbered DeskTask)
   pub given : AreGiven steps front_tasks desk_tasks
   pub front_texts : List (List (List ℕ))
@@ -149,7 +149,7 @@ EndsLogSome house fronts close_at end n input old new =
 -- Once all threads have ended, where that end was broken off before the log was closed: the parties had received the first tasks of
 -- those that they were given, what came out of the rings are the first answers, and, as far as the writer's thread had done so with
 -- this result, a beginning of them is written.
-pub record EndsSome (inlets : Inlets) (tasks : List (Consumer (Numbered FrontTask) Global AnyItems))
+pub record EndsSome (inlets : Inlets) (tasks : List (Consumer (Numbered FrontRequest) Global AnyItems))
     (answers : List (Producer (Vec ℕ Global) Global AnyItems)) (operator : DeskWorker) (result : Result Unit WriteFailed) (before : Rings)
     (old new : Option (List ℕ)) : Type 0 where
   pub taken : ArePrefixes (all_received tasks) (all_sent inlets.fronts.items)
@@ -159,7 +159,7 @@ pub record EndsSome (inlets : Inlets) (tasks : List (Consumer (Numbered FrontTas
   pub wrote : (first : Rings) (start : Option (List ℕ)) → WritesOut first before start old result → BeginsOn first rings start new
 
 -- All had done what they had to, and the log was closed; of what is written behind their answers then, a beginning was.
-abbrev pub EndsClosing : Inlets → List FrontView → List (Consumer (Numbered FrontTask) Global AnyItems)
+abbrev pub EndsClosing : Inlets → List FrontView → List (Consumer (Numbered FrontRequest) Global AnyItems)
     → List (Producer (Vec ℕ Global) Global AnyItems) → DeskWorker → ℕ → Result End GiveFault → ℕ → Option (List ℕ) → Rings → Option (List ℕ)
     → Option (List ℕ) → Type 0
 EndsClosing inlets fronts tasks answers operator close_at read next input before old new =
@@ -167,7 +167,7 @@ EndsClosing inlets fronts tasks answers operator close_at read next input before
     × BeginsWhole ended.mid new whole
 
 -- What came once all threads had ended, where a fault broke it off.
-abbrev pub EndsBrokenOff : Inlets → List FrontView → List (Consumer (Numbered FrontTask) Global AnyItems)
+abbrev pub EndsBrokenOff : Inlets → List FrontView → List (Consumer (Numbered FrontRequest) Global AnyItems)
     → List (Producer (Vec ℕ Global) Global AnyItems) → DeskWorker → Result Unit WriteFailed → Result Unit PartyFault → Option PartyFault → ℕ
     → Result End GiveFault → ℕ → Option (List ℕ) → Rings → Option (List ℕ) → Option (List ℕ) → Type 0
 EndsBrokenOff inlets fronts tasks answers operator written operated fault close_at read next input before old new =

@@ -8,7 +8,7 @@ use Rattle.rtrb.specs.declared.consumer.Consumer.{Consumer}
 use Rattle.rtrb.specs.declared.producer.Producer.{Producer}
 use Rattle.ct_house.specs.House.{FrontView, HouseState, IsNewHouse}
 use Rattle.ct_parties.specs.ClosedLog.{IsLate}
-use Rattle.ct_parties.specs.declared.task.FrontTask.{FrontTask}
+use Rattle.ct_lines.specs.declared.request.FrontRequest.{FrontRequest}
 use Rattle.ct_pipes.specs.Answered.{AreAnswered}
 use Rattle.ct_pipes.specs.Rings.{all_received, all_sent}
 use Rattle.ct_pipes.specs.Parts.{IsMergeOf}
@@ -34,7 +34,7 @@ pub record EndsLogLate (house : HouseState) (close_at : ℕ) (end : End) (old ne
 
 -- Once all threads have ended: the reader wasn't kept from the lines, the parties had received all tasks that they were given, all
 -- their answers that are left are written, and the log wasn't closed.
-pub record EndsLate (inlets : Inlets) (tasks : List (Consumer (Numbered FrontTask) Global AnyItems))
+pub record EndsLate (inlets : Inlets) (tasks : List (Consumer (Numbered FrontRequest) Global AnyItems))
     (answers : List (Producer (Vec ℕ Global) Global AnyItems)) (operator : DeskWorker) (close_at : ℕ) (read : Result End GiveFault)
     (before : Rings) (old new : Option (List ℕ)) : Type 0 where
   pub taken : all_received tasks ≡ all_sent inlets.fronts.items
@@ -69,7 +69,7 @@ pub record RunsLate (close_at next : ℕ) (input : Option (List ℕ)) (inlets : 
 -- order, each whole and with its line's number, and nothing behind it. The first line has the number n.
 pub record RepliesLate (count close_at n : ℕ) (input : Option (List ℕ)) (house : HouseState) (fronts : List FrontView)
     (old new : Option (List ℕ)) : Type 0 where
-  pub front_tasks : List (List (Numbered FrontTask))
+  pub front_tasks : List (List (Numbered FrontRequest))
   pub front_texts : List (List (List ℕ))
   pub fronts_then : List FrontView
   pub answered : AllAnswer fronts front_tasks front_texts fronts_then

@@ -11,7 +11,7 @@ use Rattle.ct_live.specs.declared.asking.DeskTask.{DeskTask}
 use Rattle.ct_live.specs.declared.asking.DeskTask.TheVariants.{Do, Take, TreeHeadInput, TimestampInput, NotYet}
 use Rattle.ct_parties.specs.FrontWork.{FrontDoes, FrontGoesOn}
 use Rattle.ct_parties.specs.OperatorWork.{GoesOn, IsBadLine, OperatorDoes, Settling}
-use Rattle.ct_parties.specs.declared.task.FrontTask.{FrontTask}
+use Rattle.ct_lines.specs.declared.request.FrontRequest.{FrontRequest}
 
 -- The answer where what is there of a front's items is to be settled, so many of them at most: how many were, and these are at least
 -- those that were in hand, up to that many and to 256; or the refusal, of the clock or of memory, where fewer were settled than that many
@@ -67,7 +67,7 @@ pub record DeskReplies (old : HouseState) (t : DeskTask) (reply : List ℕ) (new
   pub text : reply ≡ desk_text answer
 
 -- a front does a task, goes on, and replies with its answer
-pub record FrontReplies (a : FrontView) (t : FrontTask) (reply : List ℕ) (b : FrontView) : Type 0 where
+pub record FrontReplies (a : FrontView) (t : FrontRequest) (reply : List ℕ) (b : FrontView) : Type 0 where
   pub answer : Answer
   pub does : FrontDoes a t answer b
   pub goes_on : FrontGoesOn a b

@@ -11,7 +11,7 @@ use Rattle.ct_core.specs.Replies.{a_published_head}
 use Rattle.ct_core.specs.Settlement.{Log}
 use Rattle.ct_house.specs.House.{FinalState, FrontView, HouseState, IsNewHouse}
 use Rattle.ct_parties.specs.ClosedLog.{Closes}
-use Rattle.ct_parties.specs.declared.task.FrontTask.{FrontTask}
+use Rattle.ct_lines.specs.declared.request.FrontRequest.{FrontRequest}
 use Rattle.ct_pipes.specs.Answered.{AreAnswered}
 use Rattle.ct_pipes.specs.Parts.{IsMergeOf}
 use Rattle.ct_pipes.specs.Rings.{all_received, all_sent}
@@ -75,7 +75,7 @@ pub record EndsLog (house : HouseState) (fronts : List FrontView) (close_at : �
 -- Once all threads have ended: the reader wasn't kept from the lines, the parties had received all tasks that they were given, all
 -- their answers that are left are written, the log is closed, final for what the fronts had accepted, and what it replies is written
 -- behind them.
-pub record EndsLive (inlets : Inlets) (fronts : List FrontView) (tasks : List (Consumer (Numbered FrontTask) Global AnyItems))
+pub record EndsLive (inlets : Inlets) (fronts : List FrontView) (tasks : List (Consumer (Numbered FrontRequest) Global AnyItems))
     (answers : List (Producer (Vec ℕ Global) Global AnyItems)) (operator : DeskWorker) (close_at : ℕ) (read : Result End GiveFault) (next : ℕ)
     (input : Option (List ℕ)) (before : Rings) (old new : Option (List ℕ)) : Type 0 where
   pub taken : all_received tasks ≡ all_sent inlets.fronts.items
@@ -107,7 +107,7 @@ pub record RunsLive (close_at next : ℕ) (input : Option (List ℕ)) (inlets : 
   pub ended : EndsLive inlets_then (worker_fronts workers_then) (worker_tasks workers_then) (worker_answers workers_then) operator_then close_at read next_then input_then rings_then mid new
 
 -- each front answered its tasks in turn, from what it was to what it is then
-abbrev pub AllAnswer : List FrontView → List (List (Numbered FrontTask)) → List (List (List ℕ)) → List FrontView → Type 0
+abbrev pub AllAnswer : List FrontView → List (List (Numbered FrontRequest)) → List (List (List ℕ)) → List FrontView → Type 0
 AllAnswer [] [] [] [] = Unit {0}
 AllAnswer (a ∷ before) (ts ∷ tasks) (xs ∷ texts) (b ∷ after) = AreAnswered FrontReplies a ts xs b × AllAnswer before tasks texts after
 AllAnswer _ _ _ _ = ⊥
@@ -119,7 +119,7 @@ AllAnswer _ _ _ _ = ⊥
 -- has the number n.
 pub record RepliesLive (count close_at n : ℕ) (input : Option (List ℕ)) (house : HouseState) (fronts : List FrontView)
     (old new : Option (List ℕ)) : Type 0 where
-  pub front_tasks : List (List (Numbered FrontTask))
+  pub front_tasks : List (List (Numbered FrontRequest))
   pub front_texts : List (List (List ℕ))
   pub fronts_then : List FrontView
   pub answered : AllAnswer fronts front_tasks front_texts fronts_then

@@ -7,7 +7,7 @@ use Rattle.rtrb.specs.declared.consumer.Consumer.{Consumer}
 use Rattle.rtrb.specs.declared.producer.Producer.{Producer}
 use Rattle.ct_house.specs.House.{FrontView}
 use Rattle.ct_parties.specs.Parties.{AreFrontsOf}
-use Rattle.ct_parties.specs.declared.task.FrontTask.{FrontTask}
+use Rattle.ct_lines.specs.declared.request.FrontRequest.{FrontRequest}
 use Rattle.ct_pipes.specs.Answered.{AnswersMore, AnswersSome}
 use Rattle.ct_pipes.specs.Rings.{ArePairs, SameConsumers, SameProducers}
 use Rattle.ct_pipes.specs.Working.{AllWork, AllWorkSome}
@@ -26,14 +26,14 @@ party_fronts ps = map (λ (p : LiveFront). p.front) ps
 
 -- a front with the ends of its rings
 abbrev pub FrontWorker : Type 0
-FrontWorker = Worker LiveFront FrontTask
+FrontWorker = Worker LiveFront FrontRequest
 
 -- of fronts with the ends of their rings: the fronts
 abbrev pub worker_fronts : List FrontWorker → List FrontView
 worker_fronts ws = map (λ (w : FrontWorker). w.party.front) ws
 
 -- where these fronts receive their tasks
-abbrev pub worker_tasks : List FrontWorker → List (Consumer (Numbered FrontTask) Global AnyItems)
+abbrev pub worker_tasks : List FrontWorker → List (Consumer (Numbered FrontRequest) Global AnyItems)
 worker_tasks ws = map (λ (w : FrontWorker). w.tasks) ws
 
 -- where these fronts send their answers
@@ -42,7 +42,7 @@ worker_answers ws = map (λ (w : FrontWorker). w.answers) ws
 
 -- At hand are the ends of all rings, each with its other end: of those into which tasks are given, and of those whose other ends are
 -- these, the fronts' in order and then the operator's.
-pub record AreBeside (inlets : Inlets) (tasks : List (Consumer (Numbered FrontTask) Global AnyItems))
+pub record AreBeside (inlets : Inlets) (tasks : List (Consumer (Numbered FrontRequest) Global AnyItems))
     (answers : List (Producer (Vec ℕ Global) Global AnyItems)) (operator : DeskWorker) (rings : List (Consumer (Vec ℕ Global) Global AnyItems)) : Type 0 where
   pub tasks_of : ArePairs inlets.fronts.items tasks
   pub orders : IsPair inlets.operator operator.tasks
@@ -62,10 +62,10 @@ pub record GivesOn (a b : Inlets) : Type 0 where
 
 -- what each front did in its thread
 abbrev pub AllReply : List FrontWorker → List FrontWorker → Type 0
-AllReply before after = AllWork (λ (a : LiveFront) (t : FrontTask) (r : List ℕ) (b : LiveFront). FrontReplies a.front t r b.front) before after
+AllReply before after = AllWork (λ (a : LiveFront) (t : FrontRequest) (r : List ℕ) (b : LiveFront). FrontReplies a.front t r b.front) before after
 
 -- a front does one task, and replies to it
-abbrev pub FrontStep : LiveFront → FrontTask → List ℕ → LiveFront → Type 0
+abbrev pub FrontStep : LiveFront → FrontRequest → List ℕ → LiveFront → Type 0
 FrontStep a t r b = FrontReplies a.front t r b.front
 
 -- what the operator did: it answered all tasks that it received in turn, over the same rings
@@ -76,7 +76,7 @@ pub record DeskWorks (a b : DeskWorker) : Type 0 where
 
 -- the same of each front of which not all tasks are known to be answered: it answered the first of those that it received
 abbrev pub AllReplySome : List FrontWorker → List FrontWorker → Type 0
-AllReplySome before after = AllWorkSome (λ (a : LiveFront) (t : FrontTask) (r : List ℕ) (b : LiveFront). FrontReplies a.front t r b.front) before after
+AllReplySome before after = AllWorkSome (λ (a : LiveFront) (t : FrontRequest) (r : List ℕ) (b : LiveFront). FrontReplies a.front t r b.front) before after
 
 -- the operator answered the first of the tasks that it received, in turn, over the same rings
 pub record DeskWorksSome (a b : DeskWorker) : Type 0 where

@@ -5,9 +5,9 @@ use Rattle.ct_core.specs.Replies.{a_published_head}
 use Rattle.ct_core.specs.Settlement.{Log}
 use Rattle.ct_lines.specs.Asked.{FrontAsked}
 use Rattle.ct_lines.specs.Frozen.{line_answer}
+use Rattle.ct_lines.specs.Requests.{front_asked}
+use Rattle.ct_lines.specs.declared.request.FrontRequest.{FrontRequest}
 use Rattle.ct_parties.specs.Lines.{lines_of}
-use Rattle.ct_parties.specs.Plans.{task_asked}
-use Rattle.ct_parties.specs.declared.task.FrontTask.{FrontTask}
 use Rattle.ct_pipes.specs.Parts.{IsMergeOf}
 use Rattle.ct_pipes.specs.Tagged.{tagged}
 use Rattle.ct_pipes.specs.declared.answering.Numbered.{Numbered}
@@ -48,8 +48,8 @@ desk_given (k, operator_does t) = Some (k, t)
 desk_given (k, closes now) = None
 
 -- a task that a front was given, as it was asked: its line's number, and what the line asks
-abbrev pub front_task_asked : ℕ × Numbered FrontTask → ℕ × (ℕ × FrontAsked)
-front_task_asked x = (x.0, (x.1.number, task_asked x.1.task))
+abbrev pub front_task_asked : ℕ × Numbered FrontRequest → ℕ × (ℕ × FrontAsked)
+front_task_asked x = (x.0, (x.1.number, front_asked x.1.task))
 
 -- a task that the operator was given, as it was asked
 abbrev pub desk_task_asked : Numbered DeskTask → ℕ × DeskTask
@@ -57,8 +57,8 @@ desk_task_asked t = (t.number, t.task)
 
 -- The tasks are what these steps ask, each with its line's number: the fronts' are a merge of what each front was given, each front's
 -- in its order, and the operator's stand in their order.
-pub record AreGiven (steps : List (ℕ × LiveStep)) (fronts : List (List (Numbered FrontTask))) (desk : List (Numbered DeskTask)) : Type 0 where
-  pub front_tasks : List (ℕ × Numbered FrontTask)
+pub record AreGiven (steps : List (ℕ × LiveStep)) (fronts : List (List (Numbered FrontRequest))) (desk : List (Numbered DeskTask)) : Type 0 where
+  pub front_tasks : List (ℕ × Numbered FrontRequest)
   pub asked : map front_task_asked front_tasks ≡ filter_map front_given steps
   pub merge : IsMergeOf fronts front_tasks
   pub ordered : map desk_task_asked desk ≡ filter_map desk_given steps
@@ -90,7 +90,7 @@ IsClosingText log (Some (k, behind)) text =
 -- The parties, of so many fronts, were given what the first of these lines ask, and nothing else: all lines, of which none closes the
 -- log, and it is closed at close_at; or those before the first one that closes it, which does so at now. `first` are these lines, `cut`
 -- says where they end, `steps` are what they ask, by `asked`, and `given` says that the parties' tasks are these.
-pub record AreTasksOf (fronts close_at : ℕ) (lines : List (ℕ × List ℕ)) (front_tasks : List (List (Numbered FrontTask)))
+pub record AreTasksOf (fronts close_at : ℕ) (lines : List (ℕ × List ℕ)) (front_tasks : List (List (Numbered FrontRequest)))
     (desk_tasks : List (Numbered DeskTask)) (now : ℕ) (behind : Option (ℕ × List (ℕ × List ℕ))) : Type 0 where
   pub first : List (ℕ × List ℕ)
   pub cut : EndsAtLine fronts close_at lines first now behind

@@ -1,7 +1,7 @@
 -- What is done for a line of a live log, and its tasks as the code has them.
 use Rattle.std.specs.Prelude.{ℕ}
 use Rattle.ct_lines.specs.Asked.{FrontAsked}
-use Rattle.ct_parties.specs.Plans.{task_asked}
+use Rattle.ct_lines.specs.Requests.{front_asked}
 use Rattle.ct_live.specs.declared.asking.DeskTask.{DeskTask}
 use Rattle.ct_live.specs.declared.asking.LiveTask.{LiveTask}
 use Rattle.ct_live.specs.declared.asking.LiveTask.TheVariants.{Front, Operator, Close}
@@ -20,6 +20,6 @@ LeavesOpen (closes now) = ⊥
 
 -- the step that a task is
 abbrev pub live_step : LiveTask → LiveStep
-live_step (Front n t) = front_does n (task_asked t)
+live_step (Front n t) = front_does n (front_asked t)
 live_step (Operator t) = operator_does t
 live_step (Close now) = closes now

@@ -7,8 +7,8 @@ ghost use Rattle.ct_lines.specs.Fields.{text_at};
 ghost use Rattle.ct_live.specs.LiveLines.{take_asked, live_asks, live_asked_in, live_asked, live_request_of, live_request_step, AsksLive, IsForFront};
 ghost use Rattle.ct_live.specs.LiveTasks.{live_step};
 
-use ct_lines::fields;
-use ct_parties::{Fault, FrontTask, OperatorTask, Task, line_task};
+use ct_lines::{FrontRequest, fields};
+use ct_parties::{Fault, OperatorTask, Task, line_task};
 use serde_json::{Error, Value};
 use std::alloc::{AllocError, Global};
 
@@ -32,7 +32,7 @@ pub enum DeskTask {
 #[derive(Debug, Drop)]
 pub enum LiveTask {
     /// The front with this number does this.
-    Front(u16, FrontTask),
+    Front(u16, FrontRequest),
     /// The operator does this.
     Operator(DeskTask),
     /// The log is closed at this moment, in milliseconds.

@@ -18,8 +18,8 @@ use crate::front::LiveFront;
 use crate::giving::{End, GiveFault, Giver, Inlets};
 use crate::workers::DeskWorker;
 use ct_house::{Front, Sequencer};
-use ct_lines::NumberedLines;
-use ct_parties::{Fault, FrontTask, close};
+use ct_lines::{FrontRequest, NumberedLines};
+use ct_parties::{Fault, close};
 use ct_pipes::{Joined, Numbered, PartyFault, StartFault, WriteFailed, are_taken, write_left};
 use ct_tree::Memory;
 use rtrb::{Consumer, Producer};
@@ -33,7 +33,7 @@ use std::thread::Threads;
 pub struct Left<B: BufRead + Drop> {
     pub giver: Giver<B>,
     pub end: Result<End, GiveFault>,
-    pub fronts: Joined<LiveFront, FrontTask>,
+    pub fronts: Joined<LiveFront, FrontRequest>,
     pub written: Result<(), WriteFailed>,
     pub operated: Result<(), PartyFault>,
 }
@@ -53,7 +53,7 @@ fn fronts_of(alloc: Global, parties: Vec<LiveFront>) -> Result<Vec<Front>, Memor
 // Whether all tasks that were given were received.
 fn are_received(
     inlets: &mut Inlets,
-    tasks: &mut [Consumer<Numbered<FrontTask>>],
+    tasks: &mut [Consumer<Numbered<FrontRequest>>],
     orders: &mut Consumer<Numbered<DeskTask>>,
 ) -> bool
     requires tasks { ArePairs inlets.old.fronts.items tasks.old }

@@ -5,7 +5,8 @@ ghost use Rattle.ct_live.specs.LiveParties.{FrontReplies};
 
 use crate::replying::reply_object;
 use ct_house::Front;
-use ct_parties::{FrontTask, Waiting, front_work};
+use ct_lines::FrontRequest;
+use ct_parties::{Waiting, front_work};
 use ct_pipes::Party;
 use std::alloc::{AllocError, Global};
 use std::sync::Wait;
@@ -17,7 +18,7 @@ pub struct LiveFront {
     pub front: Front,
 }
 
-impl Party<FrontTask> for LiveFront {
+impl Party<FrontRequest> for LiveFront {
     type Shared = Waiting;
 
     ghost does = { λ a t r b. FrontReplies a.front t r b.front };
@@ -27,7 +28,7 @@ impl Party<FrontTask> for LiveFront {
         rt: &R,
         alloc: Global,
         shared: &Waiting,
-        task: FrontTask,
+        task: FrontRequest,
     ) -> Result<Vec<u8>, AllocError> {
         let reply = front_work::do_task(rt, alloc, &mut self.front, task, shared);
         reply_object(alloc, &reply)

@@ -8,8 +8,8 @@ ghost use Rattle.ct_live.specs.LiveTasks.{live_step};
 ghost use Rattle.ct_live.specs.declared.giving.GiveFault.TheVariants.{Stopped};
 
 use crate::asking::{DeskTask, LiveTask, live_task};
-use ct_lines::NumberedLines;
-use ct_parties::{Fault, FrontTask};
+use ct_lines::{FrontRequest, NumberedLines};
+use ct_parties::Fault;
 use ct_pipes::{Numbered, Places, Seat, Stopped, give, send};
 use rtrb::Producer;
 use std::alloc::Global;
@@ -71,7 +71,7 @@ impl From<Stopped> for GiveFault {
 /// Where each party is given its tasks.
 #[derive(Drop)]
 pub struct Inlets {
-    pub fronts: Vec<Producer<Numbered<FrontTask>>>,
+    pub fronts: Vec<Producer<Numbered<FrontRequest>>>,
     pub operator: Producer<Numbered<DeskTask>>,
 }
 

@@ -16,8 +16,8 @@ use crate::giving::{Giver, Inlets};
 use crate::threads::{Out, Served, Start, run_live};
 use crate::workers::{DeskWorker, FrontWorker};
 use ct_house::{Front, Sequencer, open};
-use ct_lines::NumberedLines;
-use ct_parties::{Fault, FrontTask, Options, Waiting};
+use ct_lines::{FrontRequest, NumberedLines};
+use ct_parties::{Fault, Options, Waiting};
 use ct_pipes::{Breaker, Numbered, PLACES, Pipes, Places, Worker, open as open_pipes};
 use ct_tree::Memory;
 use rtrb::{Consumer, Producer, RingBuffer};
@@ -36,7 +36,7 @@ const CAPACITY: usize = 65_536;
 fn front_workers(
     alloc: Global,
     mut fronts: Vec<Front>,
-    mut tasks: Vec<Consumer<Numbered<FrontTask>>>,
+    mut tasks: Vec<Consumer<Numbered<FrontRequest>>>,
     mut answers: Vec<Producer<Vec<u8>>>,
 ) -> Result<Vec<FrontWorker>, Memory>
     requires tasks { length tasks.items ≡ length fronts.items }
@@ -94,7 +94,7 @@ fn open_desk(alloc: Global) -> Result<DeskPipes, Memory>
 #[derive(Drop)]
 struct Ends {
     inlets: Inlets,
-    tasks: Vec<Consumer<Numbered<FrontTask>>>,
+    tasks: Vec<Consumer<Numbered<FrontRequest>>>,
     answers: Vec<Producer<Vec<u8>>>,
     desk_tasks: Consumer<Numbered<DeskTask>>,
     desk_answers: Producer<Vec<u8>>,

@@ -3,12 +3,12 @@
 use crate::asking::DeskTask;
 use crate::front::LiveFront;
 use ct_house::Sequencer;
-use ct_parties::FrontTask;
+use ct_lines::FrontRequest;
 use ct_pipes::{Numbered, Worker};
 use rtrb::{Consumer, Producer};
 
 /// A front with the ends of its rings.
-pub type FrontWorker = Worker<LiveFront, FrontTask>;
+pub type FrontWorker = Worker<LiveFront, FrontRequest>;
 
 /// The operator with the ends of its rings.
 pub struct DeskWorker {

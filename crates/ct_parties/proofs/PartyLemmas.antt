@@ -12,7 +12,7 @@ use Rattle.ct_parties.specs.declared.party.FrontParty.{FrontParty}
 use Rattle.ct_parties.specs.declared.party.FrontShift.{FrontShift}
 use Rattle.ct_parties.specs.declared.party.Work.{Work}
 use Rattle.ct_parties.proofs.PlanLemmas.{all_zip_more}
-use Rattle.ct_parties.specs.declared.task.FrontTask.{FrontTask}
+use Rattle.ct_lines.specs.declared.request.FrontRequest.{FrontRequest}
 
 of_house : (house : HouseName) (a b : FrontView) → FrontGoesOn a b → IsOfHouse house a → IsOfHouse house b
 of_house house a b on own = record {
@@ -52,7 +52,7 @@ did_shift (s ∷ shifts) [] all = absurd all
 did_shift (s ∷ shifts) (b ∷ after) (first, rest) = (first, did_shift shifts after rest)
 
 -- and went on
-pub shift_same : (before : List FrontParty) (work : List (Vec FrontTask Global)) (after : List FrontParty) → FrontsDoShift before work after
+pub shift_same : (before : List FrontParty) (work : List (Vec FrontRequest Global)) (after : List FrontParty) → FrontsDoShift before work after
     → AreSame (fronts_of before) (fronts_of after)
 shift_same [] [] [] all = tt
 shift_same [] [] (b ∷ after) all = absurd all
@@ -67,7 +67,7 @@ pub does_shift : (house after : HouseState) (told more : List ℕ) (parties : Li
     → FrontsDo shifts v.items → OperatorServes house work.operator.items told after more → GoesOn house after
     → DoesShift (record { house = house; told = told; fronts = parties }) work (record { house = after; told = more; fronts = v.items })
 does_shift house after told more parties work shifts v own tasks all serves on = record {
-  fronts = subst (λ (l : List (Vec FrontTask Global)). FrontsDoShift parties l v.items) tasks
+  fronts = subst (λ (l : List (Vec FrontRequest Global)). FrontsDoShift parties l v.items) tasks
       (subst (λ (l : List FrontParty). FrontsDoShift l (map (λ (s : FrontShift). s.tasks) shifts) v.items) own (did_shift shifts v.items all));
   operated = serves;
   goes_on = on;
@@ -82,7 +82,7 @@ fronts_do_more shifts after all s b done one is =
     (all_zip_more (λ (x : FrontShift) (y : FrontParty). FrontDoesShift x.party x.tasks.items y) shifts after s b done one)
 
 -- the fronts and the tasks that are left, and those that were put together of the others, the last one first
-pub record Pairing (parties left : List FrontParty) (tasks own : List (Vec FrontTask Global)) (shifts : List FrontShift) : Type 0 where
+pub record Pairing (parties left : List FrontParty) (tasks own : List (Vec FrontRequest Global)) (shifts : List FrontShift) : Type 0 where
   pub all_parties : parties ≡ left ++ map (λ (s : FrontShift). s.party) (reverse shifts)
   pub all_tasks : tasks ≡ own ++ map (λ (s : FrontShift). s.tasks) (reverse shifts)
   pub count : length own ≡ length left

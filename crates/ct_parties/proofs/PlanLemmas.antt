@@ -10,15 +10,17 @@ use Rattle.std.proofs.lemmas.List.{map-append, length-set, get_or-set_same}
 use Rattle.std.proofs.lemmas.Bool.Decides.{eqb_tells}
 use Rattle.std.proofs.lemmas.Option.{same_Some, slice_get_within, slice_get_read, slice_get-get_or}
 use Rattle.ct_lines.specs.Asked.{FrontAsked}
-use Rattle.ct_parties.specs.declared.task.FrontTask.{FrontTask}
+use Rattle.ct_lines.specs.declared.request.FrontRequest.{FrontRequest}
+use Rattle.ct_lines.specs.declared.request.FrozenRequest.{FrozenRequest}
 use Rattle.ct_parties.specs.declared.task.OperatorTask.{OperatorTask}
 use Rattle.ct_parties.specs.declared.plan.Plan.{Plan}
 use Rattle.ct_parties.specs.declared.party.Shift.{Shift}
 use Rattle.ct_parties.specs.declared.party.Work.{Work}
 use Rattle.ct_parties.specs.Shifts.{AreForFronts}
-use Rattle.ct_parties.specs.Tasks.{Task, Step, does, ends_shift, for_front, for_operator, for_frozen, front_part, front_parts, operator_part, frozen_part}
-use Rattle.ct_parties.specs.Plans.{task_asked, AreShiftsOf, IsPlanOf, IsShiftOf, IsWorkOf, ShiftTasks, shift_steps}
-use Rattle.ct_parties.proofs.TaskLemmas.{part_kept, part_grows, text_kept, text_grows}
+use Rattle.ct_parties.specs.Tasks.{Task, Step, does, ends_shift, for_front, for_operator, for_frozen, front_part, front_parts, operator_part, frozen_line}
+use Rattle.ct_lines.specs.Requests.{front_asked}
+use Rattle.ct_parties.specs.Plans.{AreShiftsOf, IsFrozenLine, IsPlanOf, IsShiftOf, IsWorkOf, ShiftTasks, shift_steps}
+use Rattle.ct_parties.proofs.TaskLemmas.{part_kept, part_grows}
 
 -- what holds of each element, and of one more
 pub each_more : {A : Type 0} (P : A → Type 0) (xs : List A) (x : A) → ((k : ℕ) (y : A) → slice_get xs k ≡ Some y → P y) → P x
@@ -57,33 +59,33 @@ put_elsewhere (z ∷ zs) (suc i) zero y apart = refl
 put_elsewhere (z ∷ zs) (suc i) (suc j) y apart = put_elsewhere zs i j y (λ e. apart (ap (λ (n : ℕ). suc n) e))
 
 -- the tasks of one front grow by one, and those of the others stay
-fronts_grow : (lists : List (Vec FrontTask Global)) (ts : List Task) (f : ℕ) (old new : Vec FrontTask Global) (t : FrontTask)
+fronts_grow : (lists : List (Vec FrontRequest Global)) (ts : List Task) (f : ℕ) (old new : Vec FrontRequest Global) (t : FrontRequest)
     → slice_get lists f ≡ Some old → new.items ≡ old.items ++ t ∷ []
-    → ((k : ℕ) (v : Vec FrontTask Global) → slice_get lists k ≡ Some v → map task_asked v.items ≡ front_parts k ts)
-    → (k : ℕ) (v : Vec FrontTask Global) → slice_get (set lists f new) k ≡ Some v
-    → map task_asked v.items ≡ front_parts k (ts ++ for_front f (task_asked t) ∷ [])
+    → ((k : ℕ) (v : Vec FrontRequest Global) → slice_get lists k ≡ Some v → map front_asked v.items ≡ front_parts k ts)
+    → (k : ℕ) (v : Vec FrontRequest Global) → slice_get (set lists f new) k ≡ Some v
+    → map front_asked v.items ≡ front_parts k (ts ++ for_front f (front_asked t) ∷ [])
 fronts_grow lists ts f old new t there grown each k v at = elim (eqb_tells k f) [
   | inl same ↦ (
       let here : slice_get (set lists f new) k ≡ Some new = ap (slice_get (set lists f new)) same.1 ∙ put_there lists f old new there in
       let is : v ≡ new = same_Some v new (sym at ∙ here) in
-      let before : map task_asked old.items ≡ front_parts f ts = each f old there in
-      ap (λ (w : Vec FrontTask Global). map task_asked w.items) is ∙ ap (map task_asked) grown ∙ map-append task_asked old.items (t ∷ [])
-      ∙ part_grows (front_part f) ts (for_front f (task_asked t)) (map task_asked old.items) (task_asked t) before (own_part f (task_asked t))
-      ∙ ap (λ (n : ℕ). front_parts n (ts ++ for_front f (task_asked t) ∷ [])) (sym same.1)
+      let before : map front_asked old.items ≡ front_parts f ts = each f old there in
+      ap (λ (w : Vec FrontRequest Global). map front_asked w.items) is ∙ ap (map front_asked) grown ∙ map-append front_asked old.items (t ∷ [])
+      ∙ part_grows (front_part f) ts (for_front f (front_asked t)) (map front_asked old.items) (front_asked t) before (own_part f (front_asked t))
+      ∙ ap (λ (n : ℕ). front_parts n (ts ++ for_front f (front_asked t) ∷ [])) (sym same.1)
       )
-  | inr apart ↦ part_kept (front_part k) ts (for_front f (task_asked t)) (map task_asked v.items) (each k v (sym (put_elsewhere lists f k new apart.1) ∙ at))
-      (no_part f k (task_asked t) (λ e. apart.1 (sym e)))
+  | inr apart ↦ part_kept (front_part k) ts (for_front f (front_asked t)) (map front_asked v.items) (each k v (sym (put_elsewhere lists f k new apart.1) ∙ at))
+      (no_part f k (front_asked t) (λ e. apart.1 (sym e)))
 ]
 
 -- a front has one task more to do
-pub front_added : (n : ℕ) (w : Work) (ts : List Task) (f : ℕ) (old new : Vec FrontTask Global) (t : FrontTask) → f < length w.fronts.items
+pub front_added : (n : ℕ) (w : Work) (ts : List Task) (f : ℕ) (old new : Vec FrontRequest Global) (t : FrontRequest) → f < length w.fronts.items
     → old ≡ get_or w.fronts.items f old
     → new.items ≡ old.items ++ t ∷ [] → IsWorkOf n w ts
-    → IsWorkOf n record { fronts = with_item w.fronts f new; operator = w.operator } (ts ++ for_front f (task_asked t) ∷ [])
+    → IsWorkOf n record { fronts = with_item w.fronts f new; operator = w.operator } (ts ++ for_front f (front_asked t) ∷ [])
 front_added n w ts f old new t below at grown i = record {
   count = length-set w.fronts.items f new ∙ i.count;
   fronts = fronts_grow w.fronts.items ts f old new t (slice_get_read w.fronts.items (length w.fronts.items) f old refl below at) grown i.fronts;
-  operator = part_kept operator_part ts (for_front f (task_asked t)) w.operator.items i.operator refl;
+  operator = part_kept operator_part ts (for_front f (front_asked t)) w.operator.items i.operator refl;
 }
 
 -- the operator has one task more to do
@@ -92,7 +94,7 @@ pub operator_added : (n : ℕ) (w : Work) (ts : List Task) (t : OperatorTask) (n
     → IsWorkOf n record { fronts = w.fronts; operator = new } (ts ++ for_operator t ∷ [])
 operator_added n w ts t new grown i = record {
   count = i.count;
-  fronts = λ k v at. part_kept (front_part k) ts (for_operator t) (map task_asked v.items) (i.fronts k v at) refl;
+  fronts = λ k v at. part_kept (front_part k) ts (for_operator t) (map front_asked v.items) (i.fronts k v at) refl;
   operator = grown ∙ part_grows operator_part ts (for_operator t) w.operator.items t i.operator refl;
 }
 
@@ -100,7 +102,7 @@ operator_added n w ts t new grown i = record {
 pub frozen_beside : (n : ℕ) (w : Work) (ts : List Task) (line : List ℕ) → IsWorkOf n w ts → IsWorkOf n w (ts ++ for_frozen line ∷ [])
 frozen_beside n w ts line i = record {
   count = i.count;
-  fronts = λ k v at. part_kept (front_part k) ts (for_frozen line) (map task_asked v.items) (i.fronts k v at) refl;
+  fronts = λ k v at. part_kept (front_part k) ts (for_frozen line) (map front_asked v.items) (i.fronts k v at) refl;
   operator = part_kept operator_part ts (for_frozen line) w.operator.items i.operator refl;
 }
 
@@ -127,20 +129,22 @@ task_added n shifts old new ss t grows a = record {
   rest = grows a.left a.rest;
 }
 
-pub plan_does : (n : ℕ) (p : Plan) (new : Work) (ss : List Step) (t : Task) → frozen_part (does t) ≡ []
+pub plan_does : (n : ℕ) (p : Plan) (new : Work) (ss : List Step) (t : Task) → filter_map frozen_line (does t ∷ []) ≡ []
     → ((ts : List Task) → IsWorkOf n p.last ts → IsWorkOf n new (ts ++ t ∷ [])) → IsPlanOf n p ss
     → IsPlanOf n record { shifts = p.shifts; last = new; frozen = p.frozen } (ss ++ does t ∷ [])
 plan_does n p new ss t none grows i = record {
   given = task_added n p.shifts.items p.last new ss t grows i.given;
-  frozen = text_kept frozen_part ss (does t) p.frozen.items i.frozen (ap (λ (l : List ℕ). l ++ []) none);
+  frozen = subst (AllZip IsFrozenLine p.frozen.items) (part_kept frozen_line ss (does t) (filter_map frozen_line ss) refl none) i.frozen;
 }
 
--- the frozen log has one line more to answer
-pub frozen_added : (n : ℕ) (p : Plan) (ss : List Step) (line : List ℕ) (new : Vec ℕ Global) → new.items ≡ p.frozen.items ++ (line ++ 10 ∷ []) → IsPlanOf n p ss
-    → IsPlanOf n record { shifts = p.shifts; last = p.last; frozen = new } (ss ++ does (for_frozen line) ∷ [])
-frozen_added n p ss line new grown i = record {
+-- the frozen log has one request more to answer
+pub frozen_added : (n : ℕ) (p : Plan) (ss : List Step) (line : List ℕ) (r : FrozenRequest) (new : Vec FrozenRequest Global) → new.items ≡ p.frozen.items ++ r ∷ []
+    → IsFrozenLine r line → IsPlanOf n p ss → IsPlanOf n record { shifts = p.shifts; last = p.last; frozen = new } (ss ++ does (for_frozen line) ∷ [])
+frozen_added n p ss line r new grown is i = record {
   given = task_added n p.shifts.items p.last p.last ss (for_frozen line) (λ ts w. frozen_beside n p.last ts line w) i.given;
-  frozen = grown ∙ text_grows frozen_part ss (does (for_frozen line)) p.frozen.items (line ++ 10 ∷ []) i.frozen (append-nil (line ++ 10 ∷ []));
+  frozen = subst (λ (l : List FrozenRequest). AllZip IsFrozenLine l (filter_map frozen_line (ss ++ does (for_frozen line) ∷ []))) (sym grown)
+      (subst (AllZip IsFrozenLine (p.frozen.items ++ r ∷ [])) (part_grows frozen_line ss (does (for_frozen line)) (filter_map frozen_line ss) line refl refl)
+      (all_zip_more IsFrozenLine p.frozen.items (filter_map frozen_line ss) r line i.frozen is));
 }
 
 -- the shift ends, and another begins
@@ -166,7 +170,7 @@ pub plan_ends_shift : (n m : ℕ) (p : Plan) (next : Work) (shifts : Vec Shift G
 plan_ends_shift n m p next shifts ss s is many fresh grown i = record {
   given = subst (λ (l : List Shift). AreShiftsOf n l next (ss ++ ends_shift s.now ∷ [])) (sym grown)
       (shift_ended n p.shifts.items p.last next ss s is (subst (λ (k : ℕ). IsWorkOf k next []) (many ∙ i.given.rest.count) fresh) i.given);
-  frozen = text_kept frozen_part ss (ends_shift s.now) p.frozen.items i.frozen refl;
+  frozen = subst (AllZip IsFrozenLine p.frozen.items) (part_kept frozen_line ss (ends_shift s.now) (filter_map frozen_line ss) refl refl) i.frozen;
 }
 
 -- each shift, and the last work, is for so many fronts
@@ -183,5 +187,5 @@ for_fronts n shifts last ss a = (each shifts a.ended a.each, a.rest.count)
 pub plan_new : (n : ℕ) (p : Plan) → p.shifts.items ≡ [] → p.frozen.items ≡ [] → IsWorkOf n p.last [] → IsPlanOf n p []
 plan_new n p none quiet work = record {
   given = record { ended = []; left = []; cut = refl; each = subst (λ (l : List Shift). AllZip (IsShiftOf n) l []) (sym none) tt; rest = work };
-  frozen = quiet;
+  frozen = subst (λ (l : List FrozenRequest). AllZip IsFrozenLine l []) (sym quiet) tt;
 }

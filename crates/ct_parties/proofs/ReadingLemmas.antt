@@ -1,14 +1,18 @@
 -- What was given out of the lines that were read.
-use Rattle.std.proofs.Common.{◌≡◌, ◌<◌, ℕ, List, [], ◌∷◌, ◌++◌, length, Option, Some, None, true, false, inl, inr, refl, sym, ap, subst, ◌∙◌, arith, append_assoc, append-nil}
+use Rattle.std.proofs.Common.{◌≡◌, ◌≢◌, ◌<◌, ℕ, List, [], ◌∷◌, ◌++◌, All, length, Option, Some, None, Bool, true, false, cond, inl, inr, refl, sym, ap, subst, ◌∙◌, arith, append_assoc, append-nil}
+use Rattle.std.proofs.lemmas.List.Elements.{filter_map-append, recursion_from_All}
 use Rattle.std.proofs.lemmas.Option.{same_Some, none-some}
-use Rattle.std.specs.Prelude.{IfSome}
+use Rattle.std.specs.Prelude.{nat_lt, IfSome}
+use Rattle.std.specs.List.{AllByRecursion, filter_map}
 use Rattle.std.specs.Io.BufRead.{drop_through, first_piece}
+use Rattle.ct_lines.specs.Asked.{Asked, by_front, by_frozen, by_operator, publish, sequence, shift, shutdown}
 use Rattle.ct_lines.specs.Lines.{kept_line, IsFirstLine, TakesNext}
 use Rattle.ct_lines.proofs.KeptLines.{whole_or_long}
 use Rattle.ct_parties.specs.Lines.{lines_of}
 use Rattle.ct_parties.specs.Output.{AreStepsOf}
 use Rattle.ct_parties.specs.Plans.{GivesOut, IsPlanOf, LineTaken}
-use Rattle.ct_parties.specs.Tasks.{Step, AsksFor, AllAskFor}
+use Rattle.ct_parties.specs.Tasks.{Step, does, for_front, for_operator, frozen_line, step_of, AllAskFor, AreWhole, AsksFor, IsWholeLine}
+use Rattle.ct_parties.specs.declared.task.OperatorTask.TheVariants.{Sequence, BadLine}
 use Rattle.ct_parties.specs.declared.plan.Plan.{Plan}
 use Rattle.ct_parties.proofs.LineLemmas.{first_line_cut}
 
@@ -52,15 +56,60 @@ asks_kept fronts xs ss p = elim (whole_or_long 1048576 xs) [
   | inr long ↦ asks_alike fronts (kept_line 1048578 xs) (first_piece 10 xs) ss long.0 long.1 p
 ]
 
+-- what is done for a line that has no end in it
+step_whole : (fronts : ℕ) (line : List ℕ) (a : Asked) → IsWholeLine line → AreWhole (step_of fronts line a ∷ [])
+step_whole fronts line (by_front k r) whole = at (nat_lt k fronts)
+  where
+    at : (b : Bool) → AreWhole (cond b (does (for_front k r)) (does (for_operator BadLine)) ∷ [])
+    at true = tt
+    at false = tt
+step_whole fronts line (by_operator (sequence from count now)) whole = at (nat_lt from fronts)
+  where
+    at : (b : Bool) → AreWhole (cond b (does (for_operator (Sequence from count now))) (does (for_operator BadLine)) ∷ [])
+    at true = tt
+    at false = tt
+step_whole fronts line (by_operator (publish now)) whole = tt
+step_whole fronts line (by_operator shutdown) whole = tt
+step_whole fronts line (by_operator (shift now)) whole = tt
+step_whole fronts line (by_frozen r) whole = (whole, tt)
+
+asks_whole : (fronts : ℕ) (line : List ℕ) (s : Step) → IsWholeLine line → AsksFor fronts line s → AreWhole (s ∷ [])
+asks_whole fronts line s whole (inl (a, is, e)) = subst (λ (t : Step). AreWhole (t ∷ [])) (sym e) (step_whole fronts line a whole)
+asks_whole fronts line s whole (inr (bad, none)) = subst (λ (t : Step). AreWhole (t ∷ [])) (sym bad) tt
+
+asked_whole : (fronts : ℕ) (line : List ℕ) (ss : List Step) → All (λ x. x ≢ 10) line → AllAskFor fronts (line ∷ []) ss → AreWhole ss
+asked_whole fronts [] [] one asks = tt
+asked_whole fronts [] (s ∷ ss) one asks = absurd asks
+asked_whole fronts (b ∷ bs) [] one asks = absurd asks
+asked_whole fronts (b ∷ bs) (s ∷ []) one asks =
+    asks_whole fronts (b ∷ bs) s (omega arith, recursion_from_All (λ (x : ℕ). x ≢ 10) (b ∷ bs) one) asks.0
+asked_whole fronts (b ∷ bs) (s ∷ t ∷ ss) one asks = absurd asks.1
+
+both_whole : (ss ts : List Step) → AreWhole ss → AreWhole ts → AreWhole (ss ++ ts)
+both_whole ss ts p q =
+    subst (AllByRecursion IsWholeLine) (sym (filter_map-append frozen_line ss ts)) (go (filter_map frozen_line ss) (filter_map frozen_line ts) p q)
+  where
+    go : (xs ys : List (List ℕ)) → AllByRecursion IsWholeLine xs → AllByRecursion IsWholeLine ys → AllByRecursion IsWholeLine (xs ++ ys)
+    go [] ys p q = q
+    go (x ∷ xs) ys p q = (p.0, go xs ys p.1 q)
+
 -- the line of which this was kept was read, and what it asks for was added
-pub line_taken : (fronts : ℕ) (p q : Plan) (kept : List ℕ) (source source_next : Option (List ℕ)) → GivesOut fronts p q kept
+pub line_taken : (fronts : ℕ) (p q : Plan) (kept : List ℕ) (source source_next : Option (List ℕ)) → GivesOut fronts p q kept → All (λ x. x ≢ 10) kept
     → IsFirstLine 1048578 source source_next kept → LineTaken fronts p q source source_next false
-line_taken fronts p q kept None source_next gives is = (kept, gives, tt)
-line_taken fronts p q kept (Some xs) source_next gives is = (
+line_taken fronts p q kept None source_next gives one is = (
+  kept,
+  λ ss given. let (more, asks, given_then) = gives ss given in (more, asks, given_then, asked_whole fronts kept more one asks),
+  tt,
+)
+line_taken fronts p q kept (Some xs) source_next gives one is = (
   first_piece 10 xs,
   λ ss given.
-      let (more, asks, given_then) = gives ss given in
-      (more, asks_kept fronts xs more (subst (λ (l : List ℕ). AllAskFor fronts (l ∷ []) more) is.1 asks), given_then),
+      let (more, asks, given_then) = gives ss given in (
+        more,
+        asks_kept fronts xs more (subst (λ (l : List ℕ). AllAskFor fronts (l ∷ []) more) is.1 asks),
+        given_then,
+        asked_whole fronts kept more one asks,
+      ),
   (is.0, refl, is.2),
 )
 
@@ -86,11 +135,12 @@ next_line fronts input rest line done more some is asks before left behind =
 pub record HasRead (n : ℕ) (p : Plan) (input left : Option (List ℕ)) : Type 0 where
   pub done : List Step
   pub given : IsPlanOf n p done
+  pub whole : AreWhole done
   pub leads : IfSome input (λ xs. (rest : List ℕ) × (left ≡ Some rest) × LeadsTo n xs done rest)
 
 pub nothing_read : (n : ℕ) (p : Plan) (input : Option (List ℕ)) → IsPlanOf n p [] → HasRead n p input input
-nothing_read n p None i = record { done = []; given = i; leads = tt }
-nothing_read n p (Some xs) i = record { done = []; given = i; leads = (xs, refl, λ left all. all) }
+nothing_read n p None i = record { done = []; given = i; whole = tt; leads = tt }
+nothing_read n p (Some xs) i = record { done = []; given = i; whole = tt; leads = (xs, refl, λ left all. all) }
 
 -- one line more
 pub line_read : (n : ℕ) (p q : Plan) (input source source_next : Option (List ℕ)) → LineTaken n p q source source_next false → HasRead n p input source
@@ -100,6 +150,7 @@ line_read n p q input source source_next taken before =
     record {
       done = before.done ++ more.0;
       given = more.2;
+      whole = both_whole before.done more.0 before.whole more.3;
       leads = go input source before.leads taken.2;
     }
   where
@@ -118,8 +169,8 @@ line_read n p q input source source_next taken before =
 
 -- and the last
 pub input_read : (n : ℕ) (p : Plan) (input source : Option (List ℕ)) → IfSome source (λ xs. xs ≡ []) → HasRead n p input source
-    → (ss : List Step) × AreStepsOf n input ss × IsPlanOf n p ss
-input_read n p input source end h = (h.done, go input source end h.leads, h.given)
+    → (ss : List Step) × AreStepsOf n input ss × IsPlanOf n p ss × AreWhole ss
+input_read n p input source end h = (h.done, go input source end h.leads, h.given, h.whole)
   where
     go : (known from : Option (List ℕ)) → IfSome from (λ xs. xs ≡ []) → IfSome known (λ xs. (rest : List ℕ) × (from ≡ Some rest) × LeadsTo n xs h.done rest)
         → AreStepsOf n known h.done

@@ -4,8 +4,6 @@ use Rattle.ct_codec.specs.declared.refusal.Refusal.{Refusal}
 use Rattle.ct_codec.specs.declared.refusal.Refusal.TheVariants as refusal
 use Rattle.std.specs.declared.io.ErrorKind.{ErrorKind}
 use Rattle.std.specs.declared.io.ErrorKind.TheVariants.{OutOfMemory}
-use Rattle.ct_lines.specs.declared.fault.ServeFault.{ServeFault}
-use Rattle.ct_lines.specs.declared.fault.ServeFault.TheVariants as serving
 use Rattle.ct_parties.specs.declared.fault.Fault.{Fault}
 use Rattle.ct_parties.specs.declared.fault.Fault.TheVariants.{Memory, ClockBack, Threads, Read, Write}
 
@@ -22,16 +20,9 @@ pub record IsRefusalFault (r : Refusal) (f : Fault) : Type 0 where
   pub clock_back : r ≡ refusal.ClockBack → f ≡ ClockBack
   pub memory : r ≡ refusal.Memory → f ≡ Memory
 
--- a fault that may come while the closed log answers lines
+-- a fault that may come while the closed log answers requests
 abbrev pub IsFrozenFault : Fault → Type 0
-IsFrozenFault f = (f ≡ Read) ⊎ ((f ≡ Write) ⊎ (f ≡ Memory))
-
--- the fault that the closed log's is
-abbrev pub serve_fault : ServeFault → Fault
-serve_fault (serving.Read n) = Read
-serve_fault (serving.Write n) = Write
-serve_fault (serving.Memory n) = Memory
-serve_fault (serving.Endless n) = Read
+IsFrozenFault f = (f ≡ Write) ⊎ (f ≡ Memory)
 
 -- the fault that an error of this kind is, where words or the input are read
 pub record IsReadingFault (k : ErrorKind) (f : Fault) : Type 0 where

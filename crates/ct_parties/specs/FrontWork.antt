@@ -14,8 +14,8 @@ use Rattle.ct_house.specs.House.{FrontView}
 use Rattle.ct_versions.specs.Sights.{Moves}
 use Rattle.ct_tree.specs.declared.head.Head.{Head}
 use Rattle.ct_parties.specs.InTurn.{Serves}
-use Rattle.ct_parties.specs.declared.task.FrontTask.{FrontTask}
-use Rattle.ct_parties.specs.declared.task.FrontTask.TheVariants.{Submit, SubmitPrecert, AwaitSize, Ask}
+use Rattle.ct_lines.specs.declared.request.FrontRequest.{FrontRequest}
+use Rattle.ct_lines.specs.declared.request.FrontRequest.TheVariants.{AddChain, AddPreChain, AwaitSize, Ask}
 
 -- a submission is accepted, and its ticket is the answer; or its refusal is, and nothing was accepted
 abbrev pub Sends : IntakeView → Submitted → Answer → IntakeView → Type 0
@@ -50,9 +50,9 @@ Awaits p n (refused e) = (e ≡ Late) ⊎ (e ≡ Closed)
 Awaits p n _ = ⊥
 
 -- a front does a task, with this answer: to submit leaves what it has seen, and the state that it has seen is what it answers from
-abbrev pub FrontDoes : FrontView → FrontTask → Answer → FrontView → Type 0
-FrontDoes a (Submit chain) r b = Submits a (x509 (map (λ c. c.items) chain.items)) r b × (b.sight ≡ a.sight)
-FrontDoes a (SubmitPrecert hash tbs chain) r b = Submits a (precert hash tbs.items (map (λ c. c.items) chain.items)) r b × (b.sight ≡ a.sight)
+abbrev pub FrontDoes : FrontView → FrontRequest → Answer → FrontView → Type 0
+FrontDoes a (AddChain chain) r b = Submits a (x509 (map (λ c. c.items) chain.items)) r b × (b.sight ≡ a.sight)
+FrontDoes a (AddPreChain hash tbs chain) r b = Submits a (precert hash tbs.items (map (λ c. c.items) chain.items)) r b × (b.sight ≡ a.sight)
 FrontDoes a (AwaitSize n) r b = Awaits b.sight.seen n r × Looks a b
 FrontDoes a (Ask q) r b = Shows b.sight.seen q r × Looks a b
 
@@ -64,5 +64,5 @@ pub record FrontGoesOn (a b : FrontView) : Type 0 where
   pub shutdown : a.intake.knows_shutdown ≡ true → b.intake.knows_shutdown ≡ true
 
 -- a front does its tasks in turn, and the lines of its answers stand behind what was written before
-abbrev pub FrontServes : FrontView → List FrontTask → List ℕ → FrontView → List ℕ → Type 0
+abbrev pub FrontServes : FrontView → List FrontRequest → List ℕ → FrontView → List ℕ → Type 0
 FrontServes a ts before b text = Serves FrontDoes a ts before b text

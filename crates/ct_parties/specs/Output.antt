@@ -1,10 +1,14 @@
 -- What is written for an input.
-use Rattle.std.specs.Prelude.{◌≡◌, ◌⊎◌, ℕ, List, [], ◌++◌, Option, IfSome}
+use Rattle.std.specs.Prelude.{◌≡◌, ◌⊎◌, ℕ, List, [], ◌∷◌, ◌++◌, Option, IfSome}
+use Rattle.std.specs.List.{AllByRecursion, AllZip, flat_map}
 use Rattle.std.specs.Io.KnownBytes.{Appends}
 use Rattle.ct_core.specs.Core.{Begins}
 use Rattle.ct_core.specs.Settlement.{Log}
 use Rattle.ct_house.specs.House.{FrontView, HouseState, IsNewHouse}
-use Rattle.ct_lines.specs.Frozen.{frozen_replies, frozen_text}
+use Rattle.ct_lines.specs.Frozen.{frozen_answer, frozen_replies, frozen_text}
+use Rattle.ct_lines.specs.ReplyText.{reply_line}
+use Rattle.ct_lines.specs.Requests.{frozen_asked}
+use Rattle.ct_lines.specs.declared.request.FrozenRequest.{FrozenRequest}
 use Rattle.ct_lines.specs.Serving.{IsCutOff}
 use Rattle.ct_parties.specs.declared.fault.Fault.{Fault}
 use Rattle.ct_parties.specs.declared.fault.Fault.TheVariants.{Read, Write}
@@ -13,8 +17,8 @@ use Rattle.ct_parties.specs.declared.party.Work.{Work}
 use Rattle.ct_parties.specs.ClosedLog.{Closes, IsClosingFault}
 use Rattle.ct_parties.specs.Faults.{IsFrozenFault}
 use Rattle.ct_parties.specs.Lines.{lines_of}
-use Rattle.ct_parties.specs.Tasks.{Step, AllAskFor, frozen_lines}
-use Rattle.ct_parties.specs.Plans.{AreShiftsOf}
+use Rattle.ct_parties.specs.Tasks.{Step, AllAskFor, IsWholeLine, frozen_lines}
+use Rattle.ct_parties.specs.Plans.{AreShiftsOf, IsFrozenLine}
 use Rattle.ct_parties.specs.Parties.{Parties, IsPartyFault, all_replies, fronts_of}
 use Rattle.ct_parties.specs.Shifts.{IsShiftFault, PartiesServe}
 use Rattle.ct_lines.specs.Sends.{SendsSome}
@@ -38,6 +42,15 @@ pub record IsClosed (sequencer : HouseState) (after : List FrontView) (close_at 
 abbrev pub SomeReplies : Log → List ℕ → List ℕ → Type 0
 SomeReplies log lines written =
     (written ≡ frozen_text log lines) ⊎ ((read : List ℕ) × (k : ℕ) × Begins read lines × IsCutOff (frozen_replies log read) written k)
+
+-- the bytes are lines that are these requests to the frozen log, in order: each line has its end, and none is empty
+abbrev pub AreFrozenLines : List FrozenRequest → List ℕ → Type 0
+AreFrozenLines requests bytes =
+    (lines : List (List ℕ)) × AllZip IsFrozenLine requests lines × AllByRecursion IsWholeLine lines × (bytes ≡ flat_map (λ line. line ++ 10 ∷ []) lines)
+
+-- the closed log's reply to a request
+abbrev pub request_reply : Log → FrozenRequest → List ℕ
+request_reply log r = reply_line (frozen_answer log (frozen_asked r))
 
 -- All replies were written. The parties did their tasks, shift after shift, whatever the order between them in a shift, and left
 -- this sequencer and these fronts, and the text is of their replies; then the log was closed, and its replies were written.

@@ -10,7 +10,7 @@ use Rattle.ct_parties.specs.OperatorWork.{OperatorServes, GoesOn}
 use Rattle.ct_parties.specs.declared.party.FrontParty.{FrontParty}
 use Rattle.ct_parties.specs.declared.party.FrontShift.{FrontShift}
 use Rattle.ct_parties.specs.declared.party.Work.{Work}
-use Rattle.ct_parties.specs.declared.task.FrontTask.{FrontTask}
+use Rattle.ct_lines.specs.declared.request.FrontRequest.{FrontRequest}
 
 -- the parties between two tasks: the house, the operator's replies so far, and each front with its replies so far
 pub record Parties : Type 0 where
@@ -33,12 +33,12 @@ pub record AreFrontsOf (s : HouseState) (fronts : List FrontView) : Type 0 where
   pub some : 0 < length fronts
 
 -- a front does its tasks in turn, with its replies behind those so far, and went on
-pub record FrontDoesShift (a : FrontParty) (tasks : List FrontTask) (b : FrontParty) : Type 0 where
+pub record FrontDoesShift (a : FrontParty) (tasks : List FrontRequest) (b : FrontParty) : Type 0 where
   pub serves : FrontServes a.front tasks a.replies.items b.front b.replies.items
   pub goes_on : FrontGoesOn a.front b.front
 
 -- each front does its tasks
-abbrev pub FrontsDoShift : List FrontParty → List (Vec FrontTask Global) → List FrontParty → Type 0
+abbrev pub FrontsDoShift : List FrontParty → List (Vec FrontRequest Global) → List FrontParty → Type 0
 FrontsDoShift [] [] [] = Unit {0}
 FrontsDoShift (a ∷ before) (ts ∷ work) (b ∷ after) = FrontDoesShift a ts.items b × FrontsDoShift before work after
 FrontsDoShift _ _ _ = ⊥

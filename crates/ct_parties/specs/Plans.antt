@@ -1,36 +1,47 @@
 -- The tasks and the plan as the code has them.
 use Rattle.std.specs.Prelude.{◌≡◌, ◌<◌, ℕ, List, [], ◌∷◌, ◌++◌, length, map, slice_get, Bool, true, false, Option, Some, IfSome, Vec}
 use Rattle.std.specs.Global.{Global}
-use Rattle.std.specs.List.{AllZip, flat_map}
+use Rattle.std.specs.List.{AllZip, filter_map, flat_map}
 use Rattle.std.specs.Io.BufRead.{first_piece, drop_through}
-use Rattle.ct_lines.specs.Asked.{FrontAsked, add_chain, add_pre_chain, await_size, front_query}
-use Rattle.ct_parties.specs.Tasks.{Task, for_front, for_operator, for_frozen, Step, AllAskFor, does, ends_shift, front_parts, operator_parts, frozen_lines}
+use Rattle.ct_lines.specs.Asked.{IsRequest, by_frozen}
+use Rattle.ct_lines.specs.Requests.{front_asked, frozen_asked}
+use Rattle.ct_lines.specs.declared.request.FrontRequest.{FrontRequest}
+use Rattle.ct_lines.specs.declared.request.FrozenRequest.{FrozenRequest}
+use Rattle.ct_parties.specs.Tasks.{Task, for_front, for_operator, for_frozen, Step, AllAskFor, AreWhole, IsForThere, does, ends_shift, front_parts, operator_parts, frozen_line}
 use Rattle.ct_parties.specs.declared.party.Shift.{Shift}
 use Rattle.ct_parties.specs.declared.party.Work.{Work}
-use Rattle.ct_parties.specs.declared.task.FrontTask.{FrontTask}
-use Rattle.ct_parties.specs.declared.task.FrontTask.TheVariants as front_case
 use Rattle.ct_parties.specs.declared.plan.Task.{Task as CodeTask}
 use Rattle.ct_parties.specs.declared.plan.Task.TheVariants as task_case
 use Rattle.ct_parties.specs.declared.plan.Plan.{Plan}
 
--- what a front's task asks of it
-abbrev pub task_asked : FrontTask → FrontAsked
-task_asked (front_case.Submit chain) = add_chain (map (λ c. c.items) chain.items)
-task_asked (front_case.SubmitPrecert hash tbs chain) = add_pre_chain hash tbs.items (map (λ c. c.items) chain.items)
-task_asked (front_case.AwaitSize n) = await_size n
-task_asked (front_case.Ask q) = front_query q
+-- the step that a task is which was read from this line
+abbrev pub step : List ℕ → CodeTask → Step
+step line (task_case.Front n t) = does (for_front n (front_asked t))
+step line (task_case.Operator t) = does (for_operator t)
+step line (task_case.Frozen r) = does (for_frozen line)
+step line (task_case.EndsShift now) = ends_shift now
 
--- the step that a task is
-abbrev pub step : CodeTask → Step
-step (task_case.Front n t) = does (for_front n (task_asked t))
-step (task_case.Operator t) = does (for_operator t)
-step (task_case.Frozen line) = does (for_frozen line.now)
-step (task_case.EndsShift now) = ends_shift now
+-- the line is this request, which a reader of the frozen log makes
+abbrev pub IsFrozenLine : FrozenRequest → List ℕ → Type 0
+IsFrozenLine r line = IsRequest line (by_frozen (frozen_asked r))
+
+-- a task for the frozen log is the request that the line is
+abbrev pub IsFrozenTask : List ℕ → CodeTask → Type 0
+IsFrozenTask line (task_case.Front n t) = Unit {0}
+IsFrozenTask line (task_case.Operator t) = Unit {0}
+IsFrozenTask line (task_case.Frozen r) = IsFrozenLine r line
+IsFrozenTask line (task_case.EndsShift now) = Unit {0}
+
+-- The task is the one of this line with this step, and a front that does it is one of so many fronts.
+pub record IsTaskFor (fronts : ℕ) (line : List ℕ) (s : Step) (t : CodeTask) : Type 0 where
+  pub asked : step line t ≡ s
+  pub there : IsForThere fronts (step line t)
+  pub frozen : IsFrozenTask line t
 
 -- the work gives these tasks of one shift out to so many fronts and to the operator, each in order
 pub record IsWorkOf (n : ℕ) (w : Work) (ts : List Task) : Type 0 where
   pub count : length w.fronts.items ≡ n
-  pub fronts : (k : ℕ) (v : Vec FrontTask Global) → slice_get w.fronts.items k ≡ Some v → map task_asked v.items ≡ front_parts k ts
+  pub fronts : (k : ℕ) (v : Vec FrontRequest Global) → slice_get w.fronts.items k ≡ Some v → map front_asked v.items ≡ front_parts k ts
   pub operator : w.operator.items ≡ operator_parts ts
 
 -- the tasks of a shift, and the moment at which it ends
@@ -58,14 +69,19 @@ pub record AreShiftsOf (n : ℕ) (shifts : List Shift) (last : Work) (ss : List 
 -- the plan gives these steps out to so many fronts, to the operator and to the frozen log
 pub record IsPlanOf (n : ℕ) (p : Plan) (ss : List Step) : Type 0 where
   pub given : AreShiftsOf n p.shifts.items p.last ss
-  pub frozen : p.frozen.items ≡ frozen_lines ss
+  pub frozen : AllZip IsFrozenLine p.frozen.items (filter_map frozen_line ss)
 
 -- what the line asks for was added to the plan: a step, or none where the line is empty
 abbrev pub GivesOut : ℕ → Plan → Plan → List ℕ → Type 0
 GivesOut n p q line = (ss : List Step) → IsPlanOf n p ss → (more : List Step) × AllAskFor n (line ∷ []) more × IsPlanOf n q (ss ++ more)
 
+-- the same, and a line that is added for the frozen log isn't empty and has no end in it
+abbrev pub GivesOutWhole : ℕ → Plan → Plan → List ℕ → Type 0
+GivesOutWhole n p q line =
+    (ss : List Step) → IsPlanOf n p ss → (more : List Step) × AllAskFor n (line ∷ []) more × IsPlanOf n q (ss ++ more) × AreWhole more
+
 -- the next line was read, and what it asks for was added to the plan; or none was left (true), and the plan is the same
 abbrev pub LineTaken : ℕ → Plan → Plan → Option (List ℕ) → Option (List ℕ) → Bool → Type 0
 LineTaken n p q source source_next true = IfSome source (λ xs. xs ≡ []) × (q ≡ p)
 LineTaken n p q source source_next false =
-    (line : List ℕ) × GivesOut n p q line × IfSome source (λ xs. (0 < length xs) × (line ≡ first_piece 10 xs) × (source_next ≡ Some (drop_through 10 xs)))
+    (line : List ℕ) × GivesOutWhole n p q line × IfSome source (λ xs. (0 < length xs) × (line ≡ first_piece 10 xs) × (source_next ≡ Some (drop_through 10 xs)))

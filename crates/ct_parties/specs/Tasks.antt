@@ -1,6 +1,6 @@
 -- What the lines have the program do.
-use Rattle.std.specs.Prelude.{◌≡◌, ◌<◌, ℕ, List, [], ◌∷◌, ◌++◌, Option, Some, None, nat_lt, nat_eq, ◌⊎◌, if◌then◌else◌}
-use Rattle.std.specs.List.{filter_map, flat_map}
+use Rattle.std.specs.Prelude.{◌≡◌, ◌≢◌, ◌<◌, ℕ, List, [], ◌∷◌, ◌++◌, length, Option, Some, None, nat_lt, nat_eq, ◌⊎◌, if◌then◌else◌}
+use Rattle.std.specs.List.{AllByRecursion, filter_map, flat_map}
 use Rattle.ct_lines.specs.Asked.{Asked, by_front, by_operator, by_frozen, FrontAsked, OperatorAsked, sequence, publish, shutdown, shift, IsRequest}
 use Rattle.ct_parties.specs.declared.task.OperatorTask.{OperatorTask}
 use Rattle.ct_parties.specs.declared.task.OperatorTask.TheVariants.{Sequence, Publish, Shutdown, BadLine}
@@ -71,6 +71,21 @@ frozen_part (does (for_front n r)) = []
 frozen_part (does (for_operator t)) = []
 frozen_part (does (for_frozen line)) = line ++ 10 ∷ []
 frozen_part (ends_shift now) = []
+
+-- the line that the closed log answers, of a step that has one
+abbrev pub frozen_line : Step → Option (List ℕ)
+frozen_line (does (for_front n r)) = None
+frozen_line (does (for_operator t)) = None
+frozen_line (does (for_frozen line)) = Some line
+frozen_line (ends_shift now) = None
+
+-- a line that isn't empty, and has no end in it
+abbrev pub IsWholeLine : List ℕ → Type 0
+IsWholeLine line = (0 < length line) × AllByRecursion (λ b. b ≢ 10) line
+
+-- each line that the closed log answers is one
+abbrev pub AreWhole : List Step → Type 0
+AreWhole ss = AllByRecursion IsWholeLine (filter_map frozen_line ss)
 
 -- what the front k does in a shift, in order
 abbrev pub front_parts : ℕ → List Task → List FrontAsked

@@ -2,10 +2,10 @@
 
 ghost use Rattle.std.specs.Prelude.{◌≡◌};
 ghost use Rattle.ct_parties.specs.declared.fault.Fault.TheVariants.{Memory, Write};
-ghost use Rattle.ct_parties.specs.Faults.{fault_name, serve_fault, IsFrozenFault, IsReadingFault, IsRefusalFault};
+ghost use Rattle.ct_parties.specs.Faults.{fault_name, IsReadingFault, IsRefusalFault};
 
 use ct_codec::Refusal;
-use ct_lines::{ServeFault, Unwritten};
+use ct_lines::Unwritten;
 use std::alloc::{AllocError, AllocFailed};
 use std::io;
 use thiserror::Error;
@@ -69,19 +69,6 @@ impl From<Refusal> for Fault {
         match refusal {
             Refusal::Memory => Fault::Memory,
             _ => Fault::ClockBack,
-        }
-    }
-}
-
-// What ends the run where the closed log stops answering.
-impl From<ServeFault> for Fault {
-    ghost from_gives = { λ fault f. (f ≡ serve_fault fault) × IsFrozenFault f };
-
-    fn from(fault: ServeFault) -> Fault {
-        match fault {
-            ServeFault::Read(_) | ServeFault::Endless(_) => Fault::Read,
-            ServeFault::Write(_) => Fault::Write,
-            ServeFault::Memory(_) => Fault::Memory,
         }
     }
 }

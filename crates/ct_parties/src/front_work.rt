@@ -10,11 +10,11 @@ ghost use Rattle.ct_tree.specs.declared.head.Head.{Head};
 ghost use Rattle.ct_parties.specs.FrontWork.{Sends, Submits, Looks, Shows, Awaits, FrontDoes, FrontGoesOn, FrontServes};
 
 use crate::replying::push_reply;
-use crate::task::FrontTask;
 use crate::waiting::{Bell, Waiting};
 use ct_codec::{Refusal, Submission};
 use ct_core::{Query, Reply};
 use ct_house::Front;
+use ct_lines::FrontRequest;
 use ct_tree::Memory;
 use std::alloc::Global;
 use std::sync::Wait;
@@ -113,21 +113,21 @@ pub fn do_task<R: Wait>(
     rt: &R,
     alloc: Global,
     front: &mut Front,
-    task: FrontTask,
+    task: FrontRequest,
     waiting: &Waiting,
 ) -> Result<Reply, Refusal>
     ensures does { FrontDoes front.old task (answered result) front.new }
     ensures goes_on { FrontGoesOn front.old front.new }
 {
     match task {
-        FrontTask::Submit(chain) => submit_chain(front, chain, &waiting.accepted),
-        FrontTask::SubmitPrecert {
+        FrontRequest::AddChain { chain } => submit_chain(front, chain, &waiting.accepted),
+        FrontRequest::AddPreChain {
             issuer_key_hash,
             tbs,
             chain,
         } => submit_precert(front, issuer_key_hash, tbs, chain, &waiting.accepted),
-        FrontTask::AwaitSize(size) => await_size(rt, alloc, front, size, waiting),
-        FrontTask::Ask(query) => ask(alloc, front, &query),
+        FrontRequest::AwaitSize { tree_size } => await_size(rt, alloc, front, tree_size, waiting),
+        FrontRequest::Ask(query) => ask(alloc, front, &query),
     }
 }
 
@@ -136,7 +136,7 @@ fn reply_to<R: Wait>(
     rt: &R,
     alloc: Global,
     front: &mut Front,
-    task: FrontTask,
+    task: FrontRequest,
     waiting: &Waiting,
     replies: &mut Vec<u8>,
 ) -> Result<(), Memory>
@@ -152,7 +152,7 @@ pub fn serve_front<R: Wait>(
     rt: &R,
     alloc: Global,
     front: &mut Front,
-    tasks: Vec<FrontTask>,
+    tasks: Vec<FrontRequest>,
     waiting: &Waiting,
     replies: &mut Vec<u8>,
 ) -> Result<(), Memory>

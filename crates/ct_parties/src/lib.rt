@@ -6,8 +6,7 @@
 //! then, once the log is closed, its own. A line that ends a shift has all lines before it done, and all fronts go on, before
 //! the lines behind it are begun.
 //!
-//! - `reading` reads the input line by line, `plan` gives the lines out, and `task` says what a front and the operator do for
-//!   a line.
+//! - `reading` reads the input line by line, `plan` gives the lines out, and `task` says what the operator does for a line.
 //! - `front_work` and `operator_work` do the lines of a front and of the operator, `replying` adds their replies, and
 //!   `waiting` is how a line waits for another party.
 //! - `party` has the fronts with their replies, and what they and the operator do in a shift; `threads` does the work of a
@@ -37,5 +36,5 @@ pub use fault::Fault;
 pub use options::Options;
 pub use plan::{Task, line_task};
 pub use script::serve;
-pub use task::{FrontTask, OperatorTask};
+pub use task::OperatorTask;
 pub use waiting::{Bell, Waiting};

@@ -2,8 +2,9 @@
 
 ghost use Rattle.std.specs.Prelude.{◌≡◌, ◌<◌, vec_len, vec_capacity};
 
-use crate::task::{FrontTask, OperatorTask};
+use crate::task::OperatorTask;
 use ct_house::{Front, Retired, Sequencer};
+use ct_lines::FrontRequest;
 
 /// A front, and its replies so far.
 #[derive(Drop)]
@@ -20,14 +21,14 @@ pub struct FrontShift {
     /// The front, and its replies so far.
     pub party: FrontParty,
     /// Its tasks, in order.
-    pub tasks: Vec<FrontTask>,
+    pub tasks: Vec<FrontRequest>,
 }
 
 /// What the fronts and the operator do in a shift.
 #[derive(Drop)]
 pub struct Work {
     /// What each front does, in order.
-    pub fronts: Vec<Vec<FrontTask>>,
+    pub fronts: Vec<Vec<FrontRequest>>,
     /// What the operator does, in order.
     pub operator: Vec<OperatorTask>,
 }

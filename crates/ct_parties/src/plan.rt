@@ -2,29 +2,30 @@
 
 ghost use Rattle.std.specs.Prelude.{◌≡◌, ◌<◌, ◌++◌, ◌∷◌, ℕ, [], List, Vec, length, IfOk, IsOkUnless, OnOk, Some, slice_get};
 ghost use Rattle.std.specs.Global.{Global as GlobalOf};
-ghost use Rattle.ct_lines.specs.Requests.{asked, front_asked as request_of, operator_asked};
-ghost use Rattle.ct_parties.specs.declared.task.FrontTask.{FrontTask as FrontTaskOf};
+ghost use Rattle.ct_lines.specs.Asked.{IsRequest};
+ghost use Rattle.ct_lines.specs.Requests.{asked, front_asked, operator_asked};
+ghost use Rattle.ct_lines.specs.declared.request.FrontRequest.{FrontRequest as FrontRequestOf};
 ghost use Rattle.ct_parties.specs.Tasks.{Task as TaskOf, Step, does, ends_shift, for_front, for_operator, for_frozen, front_step, operator_step, step_of, AsksFor, IsForThere};
-ghost use Rattle.ct_parties.specs.Plans.{step, step as step_in, task_asked, IsWorkOf, IsPlanOf, GivesOut};
+ghost use Rattle.ct_parties.specs.Plans.{step, IsFrozenLine, IsFrozenTask, IsTaskFor, IsWorkOf, IsPlanOf, GivesOut};
 
 use crate::fault::Fault;
 use crate::party::{Shift, Work};
-use crate::task::{FrontTask, OperatorTask};
+use crate::task::OperatorTask;
 use ct_codec::Refusal;
-use ct_lines::{FrontRequest, OperatorRequest, Request, read_line};
+use ct_lines::{FrontRequest, FrozenRequest, OperatorRequest, Request, read_line};
 use ct_tree::Memory;
 use std::alloc::Global;
 use std::mem;
 
 /// What a line has the program do.
 #[derive(Debug, Drop)]
-pub enum Task<'a> {
+pub enum Task {
     /// The front with this number does this.
-    Front(u16, FrontTask),
+    Front(u16, FrontRequest),
     /// The operator does this.
     Operator(OperatorTask),
-    /// The frozen log answers this line.
-    Frozen(&'a [u8]),
+    /// The frozen log answers this request.
+    Frozen(FrozenRequest),
     /// The shift ends at this moment, in milliseconds.
     EndsShift(u64),
 }
@@ -36,44 +37,23 @@ pub struct Plan {
     pub shifts: Vec<Shift>,
     /// What is done behind the last shift that ends.
     pub last: Work,
-    /// The lines that the frozen log answers, in order, each with its end.
-    pub frozen: Vec<u8>,
+    /// The requests that the frozen log answers, in order.
+    pub frozen: Vec<FrozenRequest>,
 }
 
 // What the front with this number does. One that isn't there leaves the operator a bad line.
-fn front_request_task<'a>(fronts: u16, number: u64, request: FrontRequest) -> Task<'a>
-    ensures asked { step result ≡ front_step fronts number (request_of request) }
-    ensures there { IsForThere fronts (step result) }
+fn front_request_task(fronts: u16, number: u64, request: FrontRequest) -> Task
+    ensures { (line : List ℕ) → IsTaskFor fronts line (front_step fronts number (front_asked request)) result }
 {
     if number >= u64::from(fronts) {
         return Task::Operator(OperatorTask::BadLine);
     }
-    let number = number as u16;
-    match request {
-        FrontRequest::AddChain { chain } => Task::Front(number, FrontTask::Submit(chain)),
-        FrontRequest::AddPreChain {
-            issuer_key_hash,
-            tbs,
-            chain,
-        } => Task::Front(
-            number,
-            FrontTask::SubmitPrecert {
-                issuer_key_hash,
-                tbs,
-                chain,
-            },
-        ),
-        FrontRequest::AwaitSize { tree_size } => {
-            Task::Front(number, FrontTask::AwaitSize(tree_size))
-        }
-        FrontRequest::Ask(query) => Task::Front(number, FrontTask::Ask(query)),
-    }
+    Task::Front(number as u16, request)
 }
 
 // What the operator does, or the end of a shift. To sequence a front that isn't there is a bad line.
-fn operator_request_task<'a>(fronts: u16, request: OperatorRequest) -> Task<'a>
-    ensures asked { step result ≡ operator_step fronts (operator_asked request) }
-    ensures there { IsForThere fronts (step result) }
+fn operator_request_task(fronts: u16, request: OperatorRequest) -> Task
+    ensures { (line : List ℕ) → IsTaskFor fronts line (operator_step fronts (operator_asked request)) result }
 {
     match request {
         OperatorRequest::Sequence { from, count, now } => {
@@ -90,14 +70,13 @@ fn operator_request_task<'a>(fronts: u16, request: OperatorRequest) -> Task<'a>
 }
 
 // What the request that a line is asks for.
-fn request_task<'a>(fronts: u16, line: &'a [u8], request: Request) -> Task<'a>
-    ensures asked { step result ≡ step_of fronts line.entry.now (asked request) }
-    ensures there { IsForThere fronts (step result) }
+fn request_task(fronts: u16, request: Request) -> Task
+    ensures { (line : List ℕ) → IsRequest line (asked request) → IsTaskFor fronts line (step_of fronts line (asked request)) result }
 {
     match request {
         Request::Front(number, request) => front_request_task(fronts, number, request),
         Request::Operator(request) => operator_request_task(fronts, request),
-        Request::Frozen(_) => Task::Frozen(line),
+        Request::Frozen(request) => Task::Frozen(request),
     }
 }
 
@@ -107,22 +86,23 @@ fn request_task<'a>(fronts: u16, line: &'a [u8], request: Request) -> Task<'a>
 /// # Errors
 ///
 /// `Memory`, where a growth is refused.
-pub fn line_task<'a>(alloc: Global, fronts: u16, line: &'a [u8]) -> Result<Task<'a>, Fault>
-    ensures asked { IfOk result (λ t. AsksFor fronts line.entry.now (step t)) }
-    ensures there { IfOk result (λ t. IsForThere fronts (step t)) }
+pub fn line_task(alloc: Global, fronts: u16, line: &[u8]) -> Result<Task, Fault>
+    ensures asked { IfOk result (λ t. AsksFor fronts line.now (step line.now t)) }
+    ensures there { IfOk result (λ t. IsForThere fronts (step line.now t)) }
+    ensures frozen { IfOk result (λ t. IsFrozenTask line.now t) }
     ensures memory { IsOkUnless result Fault.Memory }
 {
     match read_line(alloc, line) {
-        Ok(request) => Ok(request_task(fronts, line, request)),
+        Ok(request) => Ok(request_task(fronts, request)),
         Err(Refusal::BadLine) => Ok(Task::Operator(OperatorTask::BadLine)),
         Err(refusal) => Err(Fault::from(refusal)),
     }
 }
 
 // A list for each front, with nothing to do in it.
-fn no_tasks(alloc: Global, fronts: usize) -> Result<Vec<Vec<FrontTask>>, Memory>
+fn no_tasks(alloc: Global, fronts: usize) -> Result<Vec<Vec<FrontRequest>>, Memory>
     ensures count { IfOk result (λ lists. length lists.items ≡ fronts) }
-    ensures empty { IfOk result (λ lists. (k : ℕ) (v : Vec FrontTaskOf GlobalOf) → slice_get lists.items k ≡ Some v → v.items ≡ []) }
+    ensures empty { IfOk result (λ lists. (k : ℕ) (v : Vec FrontRequestOf GlobalOf) → slice_get lists.items k ≡ Some v → v.items ≡ []) }
 {
     let mut lists = Vec::new(alloc);
     for _front in 0..fronts {
@@ -144,10 +124,10 @@ impl Work {
     }
 
     // Adds what a front does.
-    fn add_front_task(&mut self, number: u16, task: FrontTask) -> Result<(), Memory>
+    fn add_front_task(&mut self, number: u16, task: FrontRequest) -> Result<(), Memory>
         requires { number < length self.old.fronts.items }
         ensures { OnOk result ((fronts : ℕ) (tasks : List TaskOf) → IsWorkOf fronts self.old tasks
-            → IsWorkOf fronts self.new (tasks ++ for_front number (task_asked task) ∷ [])) }
+            → IsWorkOf fronts self.new (tasks ++ for_front number (front_asked task) ∷ [])) }
     {
         let tasks = &mut self.fronts[number as usize];
         tasks.push(task)?;
@@ -177,13 +157,12 @@ impl Plan {
         })
     }
 
-    // Adds a line that the frozen log answers.
-    fn add_frozen_line(&mut self, line: &[u8]) -> Result<(), Memory>
-        ensures { OnOk result ((fronts : ℕ) (steps : List Step) → IsPlanOf fronts self.old steps
-            → IsPlanOf fronts self.new (steps ++ does (for_frozen line.now) ∷ [])) }
+    // Adds a request that the frozen log answers.
+    fn add_frozen_request(&mut self, request: FrozenRequest) -> Result<(), Memory>
+        ensures { OnOk result ((fronts : ℕ) (steps : List Step) (line : List ℕ) → IsFrozenLine request line → IsPlanOf fronts self.old steps
+            → IsPlanOf fronts self.new (steps ++ does (for_frozen line) ∷ [])) }
     {
-        self.frozen.extend_from_slice(line)?;
-        self.frozen.push(b'\n')?;
+        self.frozen.push(request)?;
         Ok(())
     }
 
@@ -199,15 +178,15 @@ impl Plan {
     }
 
     // Adds what a line asks for.
-    fn add(&mut self, alloc: Global, task: Task<'_>) -> Result<(), Memory>
-        requires { IsForThere (length self.old.last.fronts.items) (step_in task) }
-        ensures { OnOk result ((fronts : ℕ) (steps : List Step) → IsPlanOf fronts self.old steps
-            → IsPlanOf fronts self.new (steps ++ step_in task.entry ∷ [])) }
+    fn add(&mut self, alloc: Global, task: Task) -> Result<(), Memory>
+        requires { (line : List ℕ) → IsForThere (length self.old.last.fronts.items) (step line task) }
+        ensures { OnOk result ((fronts : ℕ) (steps : List Step) (line : List ℕ) → IsFrozenTask line task → IsPlanOf fronts self.old steps
+            → IsPlanOf fronts self.new (steps ++ step line task ∷ [])) }
     {
         match task {
             Task::Front(number, task) => self.last.add_front_task(number, task)?,
             Task::Operator(task) => self.last.add_operator_task(task)?,
-            Task::Frozen(line) => self.add_frozen_line(line)?,
+            Task::Frozen(request) => self.add_frozen_request(request)?,
             Task::EndsShift(now) => self.end_shift(alloc, now)?,
         }
         Ok(())

@@ -3,7 +3,7 @@
 ghost use Rattle.std.specs.Prelude.{◌≡◌, ◌⊎◌, List, length, IfOk, IfErr};
 ghost use Rattle.ct_parties.specs.Output.{AreStepsOf};
 ghost use Rattle.ct_parties.specs.Plans.{IsPlanOf, LineTaken};
-ghost use Rattle.ct_parties.specs.Tasks.{Step};
+ghost use Rattle.ct_parties.specs.Tasks.{Step, AreWhole};
 
 use crate::fault::Fault;
 use crate::plan::Plan;
@@ -42,7 +42,7 @@ fn take_line<R: BufRead>(
 
 // Gives the lines that are left out.
 fn give_out<R: BufRead>(alloc: Global, fronts: u16, input: &mut R) -> Result<Plan, Fault>
-    ensures plan { IfOk result (λ p. (ss : List Step) × AreStepsOf fronts (R.remaining input.old) ss × IsPlanOf fronts p ss) }
+    ensures plan { IfOk result (λ p. (ss : List Step) × AreStepsOf fronts (R.remaining input.old) ss × IsPlanOf fronts p ss × AreWhole ss) }
     ensures faults { IfErr result (λ f. (f ≡ Fault.Read) ⊎ (f ≡ Fault.Memory)) }
 {
     let mut plan = Plan::new(alloc, fronts)?;
@@ -64,7 +64,7 @@ fn give_out<R: BufRead>(alloc: Global, fronts: u16, input: &mut R) -> Result<Pla
 ///
 /// `Read` where the reader fails, or where there are more than 2^50 lines; `Memory` where a growth is refused.
 pub fn read_plan<R: Read>(alloc: Global, fronts: u16, input: &mut R) -> Result<Plan, Fault>
-    ensures plan { IfOk result (λ p. (ss : List Step) × AreStepsOf fronts (R.remaining input.old) ss × IsPlanOf fronts p ss) }
+    ensures plan { IfOk result (λ p. (ss : List Step) × AreStepsOf fronts (R.remaining input.old) ss × IsPlanOf fronts p ss × AreWhole ss) }
     ensures faults { IfErr result (λ f. (f ≡ Fault.Read) ⊎ (f ≡ Fault.Memory)) }
 {
     match BufReader::with_capacity(alloc, CAPACITY, input) {

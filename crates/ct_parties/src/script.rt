@@ -1,11 +1,12 @@
 //! A log over the lines of an input: opened, served by its parties, closed and asked.
 
-ghost use Rattle.std.specs.Prelude.{◌≡◌, ℕ, List, [], length, IfOk, OnOk, OnErr, IfErr};
+ghost use Rattle.std.specs.Prelude.{◌≡◌, ◌∷◌, ℕ, List, [], length, IfOk, OnOk, OnErr, IfErr, IsErrOf};
 ghost use Rattle.std.specs.Io.KnownBytes.{Appends};
 ghost use Rattle.std.specs.List.{flat_map};
 ghost use Rattle.ct_lines.specs.Frozen.{frozen_text};
+ghost use Rattle.ct_lines.specs.Serving.{IsShort};
 ghost use Rattle.ct_parties.specs.Faults.{IsFrozenFault};
-ghost use Rattle.ct_parties.specs.Output.{AreNewParties, SomeReplies, WritesAll, WritesSome, IsServed, IsBegun};
+ghost use Rattle.ct_parties.specs.Output.{AreFrozenLines, AreNewParties, request_reply, SomeReplies, WritesAll, WritesSome, IsServed, IsBegun};
 ghost use Rattle.ct_parties.specs.Parties.{AreFrontsOf, fronts_of};
 ghost use Rattle.ct_parties.specs.Shifts.{AreForFronts, start_of};
 ghost use Rattle.ct_parties.specs.declared.party.FrontParty.{FrontParty as FrontPartyOf};
@@ -19,7 +20,7 @@ use crate::reading::read_plan;
 use crate::shifting::{Served, serve_parties};
 use ct_core::Published;
 use ct_house::{Front, open};
-use ct_lines::{send, serve_frozen};
+use ct_lines::{FrozenRequest, frozen_request_reply, send, write_whole};
 use ct_tree::Memory;
 use std::alloc::Global;
 use std::io::{Read, Write};
@@ -65,20 +66,43 @@ fn open_house<H: Wait>(rt: &H, alloc: Global, options: Options) -> Result<House,
     }
 }
 
-// Writes the replies of the closed log to the lines.
+// Writes the closed log's reply to a request. Of a reply that isn't whole a proper beginning is written, and none of it where
+// memory is refused.
+fn send_reply<W: Write>(
+    alloc: Global,
+    log: &Published,
+    request: &FrozenRequest,
+    output: &mut W,
+) -> Result<(), Fault>
+    ensures all { OnOk result (Appends (W.contents output.old) (W.contents output.new) (request_reply log.now request.now)) }
+    ensures some { OnErr result ((next : List ℕ) × IsShort next (request_reply log.now request.now ∷ [])
+        × Appends (W.contents output.old) (W.contents output.new) next) }
+    ensures memory { IsErrOf result Fault.Memory → Appends (W.contents output.old) (W.contents output.new) [] }
+    ensures faults { IfErr result IsFrozenFault }
+{
+    let reply = frozen_request_reply(alloc, log, request)?;
+    if !write_whole(output, &reply) {
+        return Err(Fault::Write);
+    }
+    Ok(())
+}
+
+// Writes the replies of the closed log to the requests, in order.
 fn send_frozen<W: Write>(
     alloc: Global,
     log: &Published,
-    lines: &[u8],
+    requests: &[FrozenRequest],
     output: &mut W,
 ) -> Result<(), Fault>
-    ensures all { OnOk result (Appends (W.contents output.old) (W.contents output.new) (frozen_text log.now lines.now)) }
-    ensures some { OnErr result ((written : List ℕ) × SomeReplies log.now lines.now written
+    ensures all { OnOk result ((lines : List ℕ) → AreFrozenLines requests.now lines
+        → Appends (W.contents output.old) (W.contents output.new) (frozen_text log.now lines)) }
+    ensures some { OnErr result ((lines : List ℕ) → AreFrozenLines requests.now lines → (written : List ℕ) × SomeReplies log.now lines written
         × Appends (W.contents output.old) (W.contents output.new) written) }
     ensures faults { IfErr result IsFrozenFault }
 {
-    let mut reader = lines;
-    serve_frozen(alloc, log, &mut reader, output)?;
+    for request in requests {
+        send_reply(alloc, log, request, output)?;
+    }
     match output.flush() {
         Ok(()) => Ok(()),
         Err(_) => Err(Fault::Write),
@@ -86,7 +110,7 @@ fn send_frozen<W: Write>(
 }
 
 // Has the parties do the shifts and then the last work, and writes their replies; then closes the log at the moment
-// `close_at`, and writes its replies to the lines.
+// `close_at`, and writes its replies to the requests.
 fn serve_parties_and_log<H: Threads + Wait + Sync, W: Write>(
     rt: &H,
     alloc: Global,
@@ -95,13 +119,15 @@ fn serve_parties_and_log<H: Threads + Wait + Sync, W: Write>(
     last: Work,
     turns: u64,
     close_at: u64,
-    lines: &[u8],
+    requests: &[FrozenRequest],
     output: &mut W,
 ) -> Result<(), Fault>
     requires fronts { AreFrontsOf house.sequencer (fronts_of house.parties.items) }
     requires work { AreForFronts (length house.parties.items) shifts.items last }
-    ensures all { OnOk result (WritesAll (start_of house) shifts.items last lines.now close_at (W.contents output.old) (W.contents output.new)) }
-    ensures some { IfErr result (λ f. WritesSome (start_of house) shifts.items last lines.now close_at f (W.contents output.old) (W.contents output.new)) }
+    ensures all { OnOk result ((lines : List ℕ) → AreFrozenLines requests.now lines
+        → WritesAll (start_of house) shifts.items last lines close_at (W.contents output.old) (W.contents output.new)) }
+    ensures some { IfErr result (λ f. (lines : List ℕ) → AreFrozenLines requests.now lines
+        → WritesSome (start_of house) shifts.items last lines close_at f (W.contents output.old) (W.contents output.new)) }
 {
     let Served {
         sequencer,
@@ -116,7 +142,7 @@ fn serve_parties_and_log<H: Threads + Wait + Sync, W: Write>(
         }
     }
     let log = close(rt, alloc, sequencer, fronts, close_at)?;
-    send_frozen(alloc, log.published(), lines, output)
+    send_frozen(alloc, log.published(), requests, output)
 }
 
 /// Runs a log over the lines of the input, and writes the replies. A line that waits for another party looks `turns`

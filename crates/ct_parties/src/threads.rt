@@ -10,9 +10,10 @@ use crate::fault::Fault;
 use crate::front_work::serve_front;
 use crate::operator_work::serve_operator;
 use crate::party::{FrontParty, FrontShift, House, Work};
-use crate::task::{FrontTask, OperatorTask};
+use crate::task::OperatorTask;
 use crate::waiting::Waiting;
 use ct_house::Sequencer;
+use ct_lines::FrontRequest;
 use ct_tree::Memory;
 use std::alloc::Global;
 use std::snapshot::Snapshot;
@@ -42,7 +43,7 @@ fn serve_front_shift<R: Wait>(
 fn front_shifts(
     alloc: Global,
     mut parties: Vec<FrontParty>,
-    mut tasks: Vec<Vec<FrontTask>>,
+    mut tasks: Vec<Vec<FrontRequest>>,
 ) -> Result<Vec<FrontShift>, Memory>
     requires { length tasks.items ≡ length parties.items }
     ensures parties { IfOk result (λ v. map (λ s. s.party) v.items ≡ parties.items) }

@@ -1,6 +1,6 @@
 use Rattle.std.proofs.Common.{◌≡◌, ◌+◌, [], ◌∷◌, length, Vec, Global, List, ap, sym, ◌∙◌, arith, length-append}
 use Rattle.std.specs.Prelude.{slice_get}
-use Rattle.ct_parties.specs.declared.task.FrontTask.{FrontTask}
+use Rattle.ct_lines.specs.declared.request.FrontRequest.{FrontRequest}
 use Rattle.ct_parties.proofs.PlanLemmas.{each_more}
 use Rattle.ct_parties.proofs.plan.no_tasks.Goals as goal
 
@@ -11,7 +11,7 @@ loop-front-preserved c =
     let same : length c.push.new.self.items ≡ length c.loop-front.lists.items + 1 = ap length e ∙ size in
     record {
       count = omega (arith, same, c.loop-front.invariant.count);
-      empty = λ k v at. each_more (λ (w : Vec FrontTask Global). w.items ≡ []) c.loop-front.lists.items c.new.result
+      empty = λ k v at. each_more (λ (w : Vec FrontRequest Global). w.items ≡ []) c.loop-front.lists.items c.new.result
           c.loop-front.invariant.empty c.new.ensures.items k v
-          (ap (λ (l : List (Vec FrontTask Global)). slice_get l k) (sym e) ∙ at);
+          (ap (λ (l : List (Vec FrontRequest Global)). slice_get l k) (sym e) ∙ at);
     }

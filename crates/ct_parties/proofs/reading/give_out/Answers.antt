@@ -1,7 +1,7 @@
 use Rattle.std.proofs.Common.{Bool, List, sym, subst}
 use Rattle.ct_parties.specs.Output.{AreStepsOf}
 use Rattle.ct_parties.specs.Plans.{IsPlanOf, LineTaken}
-use Rattle.ct_parties.specs.Tasks.{Step}
+use Rattle.ct_parties.specs.Tasks.{Step, AreWhole}
 use Rattle.ct_parties.specs.declared.plan.Plan.{Plan}
 use Rattle.ct_parties.proofs.ReadingLemmas.{input_read, line_read, nothing_read}
 use Rattle.ct_parties.proofs.reading.give_out.Goals as goal
@@ -20,5 +20,5 @@ pub returns-then-done-clause-plan : goal.returns-then-done-clause-plan
 returns-then-done-clause-plan g c =
     let taken = subst (λ (b : Bool). LineTaken c.args.fronts c.loop-turn.plan c.take_line.new.plan (g.R.Read.remaining c.loop-turn.input)
     (g.R.Read.remaining c.take_line.new.input) b) c.if-done.true c.in_ok-done.ensures.taken in
-    subst (λ (p : Plan). (ss : List Step) × AreStepsOf c.args.fronts (g.R.Read.remaining c.args.input.now) ss × IsPlanOf c.args.fronts p ss) (sym taken.1)
+    subst (λ (p : Plan). (ss : List Step) × AreStepsOf c.args.fronts (g.R.Read.remaining c.args.input.now) ss × IsPlanOf c.args.fronts p ss × AreWhole ss) (sym taken.1)
     (input_read c.args.fronts c.loop-turn.plan (g.R.Read.remaining c.args.input.now) (g.R.Read.remaining c.loop-turn.input) taken.0 c.loop-turn.invariant)

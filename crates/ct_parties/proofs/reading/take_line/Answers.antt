@@ -19,4 +19,4 @@ returns-clause-taken g c =
     let line = c.next_line.new.line.items in
     let yes : c.in-Ok.is_line ≡ true = search rules in
     let reads = subst (λ (b : Bool). TakesNext 1048578 source source_next line b) yes c.in-Ok.ensures.line in
-    line_taken c.args.fronts c.args.plan.now c.add_line.new.self line source source_next (rw c.deref.ensures.value at c.in_ok-add_line.ensures.taken) reads
+    line_taken c.args.fronts c.args.plan.now c.add_line.new.self line source source_next (rw c.deref.ensures.value at c.in_ok-add_line.ensures.taken) c.in-Ok.ensures.one reads

@@ -11,7 +11,7 @@ use Rattle.ct_parties.proofs.OutputLemmas.{if_err_is, if_err_both, writes_all, w
 use Rattle.ct_parties.proofs.script.serve_parties_and_log.Goals as goal
 
 pub returns-in-Err-clause-some : goal.returns-in-Err-clause-some
-returns-in-Err-clause-some g c =
+returns-in-Err-clause-some g c = λ lines are.
     parties_begun c.in_ok-sequencer.field-0.sequencer c.in_ok-sequencer.field-0.fronts.items c.in_ok-sequencer.field-0.replies.items c.from.ensures
     c.in_ok-sequencer.ensures.serve
     (subst (λ (l : List ℕ). SendsSome (g.W.Write.contents c.args.output.now) (g.W.Write.contents c.send.new.output) l)
@@ -20,7 +20,7 @@ returns-in-Err-clause-some g c =
 pub returns-in_err-log-clause-some : goal.returns-in_err-log-clause-some
 returns-in_err-log-clause-some g c =
     if_err_is _ _ c.in_err-log.field-0.0 c.from_residual-in_err-log.ensures.1
-    (parties_done c.in_ok-sequencer.field-0.sequencer c.in_ok-sequencer.field-0.fronts.items c.in_ok-sequencer.field-0.replies.items
+    (λ lines are. parties_done c.in_ok-sequencer.field-0.sequencer c.in_ok-sequencer.field-0.fronts.items c.in_ok-sequencer.field-0.replies.items
     c.in_err-log.ensures.faults c.in_ok-sequencer.ensures.serve
     (subst (λ (l : List ℕ). Appends (g.W.Write.contents c.args.output.now) (g.W.Write.contents c.send.new.output) l) c.deref.ensures.value c.in-Ok.ensures.all))
 
@@ -35,10 +35,10 @@ returns-clause-all g c =
       accepted = c.in_ok-log.log.accepted;
       closes = c.in_ok-log.ensures.closes;
     } in
-    on_ok_weaker c.send_frozen.result (λ whole.
-    writes_all (start_of c.args.house) c.args.shifts.items c.args.last c.args.lines.now c.args.close_at old mid new c.in_ok-sequencer.field-0.sequencer
+    on_ok_weaker c.send_frozen.result (λ whole lines are.
+    writes_all (start_of c.args.house) c.args.shifts.items c.args.last lines c.args.close_at old mid new c.in_ok-sequencer.field-0.sequencer
     c.in_ok-sequencer.field-0.fronts.items text c.in_ok-log.log.log c.in_ok-sequencer.ensures.serve closed first
-    (subst (λ (l : Log). Appends mid new (frozen_text l c.args.lines.now)) c.published.ensures whole)) c.send_frozen.ensures.all
+    (subst (λ (l : Log). Appends mid new (frozen_text l lines)) c.published.ensures (whole lines are))) c.send_frozen.ensures.all
 
 pub returns-clause-some : goal.returns-clause-some
 returns-clause-some g c =
@@ -52,8 +52,8 @@ returns-clause-some g c =
       closes = c.in_ok-log.ensures.closes;
     } in
     if_err_both IsFrozenFault _ _ c.send_frozen.result
-    (λ f fault some. writes_last (start_of c.args.house) c.args.shifts.items c.args.last c.args.lines.now c.args.close_at old mid new
+    (λ f fault some lines are. writes_last (start_of c.args.house) c.args.shifts.items c.args.last lines c.args.close_at old mid new
     c.in_ok-sequencer.field-0.sequencer
     c.in_ok-sequencer.field-0.fronts.items text c.in_ok-log.log.log f c.in_ok-sequencer.ensures.serve closed first fault
-    (subst (λ (l : Log). (written : List ℕ) × SomeReplies l c.args.lines.now written × Appends mid new written) c.published.ensures some))
+    (subst (λ (l : Log). (written : List ℕ) × SomeReplies l lines written × Appends mid new written) c.published.ensures (some lines are)))
     c.send_frozen.ensures.faults c.send_frozen.ensures.some
