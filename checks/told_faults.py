@@ -11,7 +11,7 @@ and ends with status 1 where there is one."""
 import re
 import sys
 
-from source import blanked, closing, crates, is_for_tests, line_of, sources, without_clauses
+from source import CRATES, blanked, closing, crates, is_for_tests, line_of, sources, without_clauses
 from want_of_memory import BEHIND, asked, blocks, declared
 
 FAULT = re.compile(
@@ -58,20 +58,20 @@ TOLD = {
     "ct_live/src/live.rt": {"Threads": (1, "in place of Read, where all were to end")},
     "ct_live/src/operator.rt": {"Stopped": (1, "all are to end")},
     "ct_live/src/threads.rt": {"Threads": (1, "the reader's thread didn't start")},
+    "ct_live/src/pipes/ahead.rt": {
+        "Error": (2, "there was no memory to read into; all are to end"),
+        "ErrorKind": (2, "a call that was interrupted; all are to end"),
+    },
+    "ct_live/src/pipes/answering.rt": {"Stopped": (1, "all are to end")},
+    "ct_live/src/pipes/output.rt": {"WriteFailed": (3, "the writer took no bytes, failed, or couldn't hand on")},
+    "ct_live/src/pipes/post.rt": {"Stopped": (1, "all are to end")},
+    "ct_live/src/pipes/workers.rt": {"Threads": (1, "a party's thread didn't start"), "Stopped": (1, "a party's own is handed on")},
     "ct_command/src/command.rt": {"ErrorKind": (2, "clap's kinds of a refusal, which clauses pin")},
     "ct_parties/src/front_work.rt": {"Late": (1, "behind the last turn of a line that waits")},
     "ct_parties/src/operator_work.rt": {"Late": (1, "behind the last turn of a line that waits")},
     "ct_parties/src/reading.rt": {"Read": (1, "behind the last turn over the lines")},
     "ct_parties/src/script.rt": {"Write": (2, "a reply of the closed log couldn't be written whole, or the output handed on")},
     "ct_parties/src/threads.rt": {"Threads": (1, "a front's thread didn't start")},
-    "ct_pipes/src/ahead.rt": {
-        "Error": (2, "there was no memory to read into; all are to end"),
-        "ErrorKind": (2, "a call that was interrupted; all are to end"),
-    },
-    "ct_pipes/src/answering.rt": {"Stopped": (1, "all are to end")},
-    "ct_pipes/src/output.rt": {"WriteFailed": (3, "the writer took no bytes, failed, or couldn't hand on")},
-    "ct_pipes/src/post.rt": {"Stopped": (1, "all are to end")},
-    "ct_pipes/src/workers.rt": {"Threads": (1, "a party's thread didn't start"), "Stopped": (1, "a party's own is handed on")},
     "ct_tiled_entries/src/entries.rt": {"Unwritten": (1, "of a leaf's bytes that weren't made, a conversion of its own")},
     "ct_reader_lines/src/program.rt": {"Read": (1, "behind the last turn over the lines")},
     "ct_step_lines/src/program.rt": {"Read": (1, "behind the last turn over the lines")},
@@ -124,7 +124,7 @@ def main():
     differ = []
     for crate in crates():
         for path in [] if is_for_tests(crate) else sources(crate):
-            text, name = path.read_text(), str(path.relative_to(path.parents[2]))
+            text, name = path.read_text(), str(path.relative_to(CRATES))
             places, ends = list(told(text)), set(loops(text))
             differ += ends_and_waits(text, name)
             if None in ends:

@@ -15,7 +15,7 @@ import re
 import sys
 
 from capacity import calls, constants, growths
-from source import blanked, closing, crates, is_for_tests, line_of, sources, without_clauses
+from source import ROOT, blanked, closing, crates, is_for_tests, line_of, sources, without_clauses
 
 NAMES = re.compile(r"\b(?:Memory|OutOfMemory|AllocError|AllocFailed)\b")
 KEPT = re.compile(r"\b(?:forget|leak|ManuallyDrop)\b")
@@ -218,7 +218,7 @@ def main():
     for crate in crates():
         if is_for_tests(crate):
             continue
-        own = {str(path.relative_to(path.parents[3])): path.read_text() for path in sources(crate)}
+        own = {str(path.relative_to(ROOT)): path.read_text() for path in sources(crate)}
         known = {**everywhere, **constants(blanked(text) for text in own.values())}
         texts += [(name, text, known) for name, text in own.items()]
         places += [(name, at) for name, text in own.items() for at in made_up(text, crate, name, known, asked)]

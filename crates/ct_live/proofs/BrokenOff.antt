@@ -10,10 +10,10 @@ use Rattle.rtrb.specs.declared.AnyItems.{AnyItems}
 use Rattle.rtrb.specs.declared.producer.Producer.{Producer}
 use Rattle.ct_house.specs.House.{FrontView, HouseState, IsNewHouse}
 use Rattle.ct_lines.specs.declared.request.FrontRequest.{FrontRequest}
-use Rattle.ct_pipes.specs.Answered.{AreAnswered, AnswersAllButLast, AnswersFirst, AnswersMore, AnswersSome}
-use Rattle.ct_pipes.specs.Rings.{all_received, all_sent, texts, texts_each, ArePrefixes}
-use Rattle.ct_pipes.specs.Written.{BeginsOn, in_order, IsBegunOf, WritesOn}
-use Rattle.ct_pipes.specs.declared.answering.Numbered.{Numbered}
+use Rattle.ct_live.specs.Answered.{AreAnswered, AnswersAllButLast, AnswersFirst, AnswersMore, AnswersSome}
+use Rattle.ct_live.specs.Rings.{all_received, all_sent, texts, texts_each, ArePrefixes}
+use Rattle.ct_live.specs.Written.{BeginsOn, in_order, IsBegunOf, WritesOn}
+use Rattle.ct_live.specs.declared.pipes.answering.Numbered.{Numbered}
 use Rattle.ct_live.specs.LiveBroken.{AllAnswerFirst, BeginsWhole, IsServedSome, RepliesBrokenOff, RepliesClosing, RepliesSome, RunsBrokenOff, RunsClosing, RunsSome}
 use Rattle.ct_live.specs.LiveOpening.{AreOpened}
 use Rattle.ct_live.specs.LiveParties.{DeskReplies, FrontReplies}

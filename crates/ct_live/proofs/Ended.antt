@@ -11,11 +11,11 @@ use Rattle.rtrb.specs.declared.consumer.Consumer.{Consumer}
 use Rattle.rtrb.specs.declared.producer.Producer.{Producer}
 use Rattle.ct_house.specs.House.{FrontView}
 use Rattle.ct_lines.specs.declared.request.FrontRequest.{FrontRequest}
-use Rattle.ct_pipes.specs.Rings.{all_received, all_sent, texts_each, ArePrefixes}
-use Rattle.ct_pipes.specs.Written.{in_order, BeginsOn, IsBegunOf, WritesOn}
-use Rattle.ct_pipes.specs.declared.answering.Numbered.{Numbered}
-use Rattle.ct_pipes.specs.declared.answering.PartyFault.{PartyFault}
-use Rattle.ct_pipes.specs.declared.output.WriteFailed.{WriteFailed}
+use Rattle.ct_live.specs.Rings.{all_received, all_sent, texts_each, ArePrefixes}
+use Rattle.ct_live.specs.Written.{in_order, BeginsOn, IsBegunOf, WritesOn}
+use Rattle.ct_live.specs.declared.pipes.answering.Numbered.{Numbered}
+use Rattle.ct_live.specs.declared.pipes.answering.PartyFault.{PartyFault}
+use Rattle.ct_live.specs.declared.pipes.output.WriteFailed.{WriteFailed}
 use Rattle.ct_live.specs.LiveBroken.{EndsClosing, EndsLogSome, EndsSome, HaveDone, WritesNoMore}
 use Rattle.ct_live.specs.LiveReplied.{EndsLive, EndsLog, Rings}
 use Rattle.ct_live.specs.LiveRuns.{FrontWorker, party_fronts, worker_fronts, WritesOut}

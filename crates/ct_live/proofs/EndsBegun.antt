@@ -8,9 +8,9 @@ use Rattle.ct_core.specs.Replies.{a_published_head}
 use Rattle.ct_core.specs.Settlement.{Log}
 use Rattle.ct_house.specs.House.{FinalState, FrontView, HouseState}
 use Rattle.ct_parties.specs.ClosedLog.{Closes}
-use Rattle.ct_pipes.specs.Tagged.{tagged}
-use Rattle.ct_pipes.specs.Written.{WritesBeginning}
-use Rattle.ct_pipes.proofs.Writing.{some_behind}
+use Rattle.ct_live.specs.Tagged.{tagged}
+use Rattle.ct_live.specs.Written.{WritesBeginning}
+use Rattle.ct_live.proofs.Writing.{some_behind}
 use Rattle.ct_tree.specs.declared.head.Head.{Head}
 use Rattle.ct_live.specs.LiveBroken.{BeginsWhole, EndsLogSome}
 use Rattle.ct_live.specs.LiveReplied.{EndsLog, WritesLastHead, WritesSomeBehind, WritesSomeLastHead}

@@ -9,9 +9,9 @@ use Rattle.rtrb.specs.declared.producer.Producer.{Producer}
 use Rattle.ct_lines.specs.Asked.{FrontAsked}
 use Rattle.ct_lines.specs.Requests.{front_asked}
 use Rattle.ct_lines.specs.declared.request.FrontRequest.{FrontRequest}
-use Rattle.ct_pipes.specs.Parts.{IsMergeOf}
-use Rattle.ct_pipes.specs.Rings.{all_sent}
-use Rattle.ct_pipes.specs.declared.answering.Numbered.{Numbered}
+use Rattle.ct_live.specs.Parts.{IsMergeOf}
+use Rattle.ct_live.specs.Rings.{all_sent}
+use Rattle.ct_live.specs.declared.pipes.answering.Numbered.{Numbered}
 use Rattle.ct_live.specs.LiveGiven.{GivesLine, GivesStep, HaveGiven}
 use Rattle.ct_live.specs.LiveLines.{AsksLive}
 use Rattle.ct_live.specs.LiveServed.{desk_given, desk_task_asked, front_given, front_task_asked}

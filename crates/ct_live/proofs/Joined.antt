@@ -14,11 +14,11 @@ use Rattle.ct_lines.specs.declared.request.FrontRequest.{FrontRequest}
 use Rattle.ct_parties.proofs.FrontLemmas.{front_goes_on_nothing, front_goes_on_both}
 use Rattle.ct_parties.proofs.OperatorLemmas.{goes_on_nothing, goes_on_both}
 use Rattle.ct_parties.proofs.PartyLemmas.{fronts_kept}
-use Rattle.ct_pipes.specs.Answered.{AreAnswered}
-use Rattle.ct_pipes.specs.Rings.{ArePairs, SameProducers, SameConsumers}
-use Rattle.ct_pipes.specs.declared.answering.Numbered.{Numbered}
-use Rattle.ct_pipes.proofs.Merging.{zip_self}
-use Rattle.ct_pipes.proofs.Turns.{producer_trans}
+use Rattle.ct_live.specs.Answered.{AreAnswered}
+use Rattle.ct_live.specs.Rings.{ArePairs, SameProducers, SameConsumers}
+use Rattle.ct_live.specs.declared.pipes.answering.Numbered.{Numbered}
+use Rattle.ct_live.proofs.Merging.{zip_self}
+use Rattle.ct_live.proofs.Turns.{producer_trans}
 use Rattle.std.proofs.lemmas.List.Elements.{length_all_zip}
 use Rattle.ct_live.specs.LiveParties.{DeskReplies}
 use Rattle.ct_live.specs.LiveRuns.{FrontWorker, worker_fronts, worker_tasks, worker_answers, AreBeside, GivesOn, AllReply, AllReplySome, DeskWorks, DeskWorksSome, FrontStep}

@@ -10,7 +10,7 @@ use Rattle.ct_core.specs.Settlement.{Log}
 use Rattle.ct_lines.specs.Frozen.{answer_if, line_answer}
 use Rattle.ct_lines.proofs.Asking.{too_long}
 use Rattle.ct_lines.specs.Lines.{kept_line, IsNextLine}
-use Rattle.ct_pipes.specs.Tagged.{tagged}
+use Rattle.ct_live.specs.Tagged.{tagged}
 use Rattle.ct_lines.proofs.KeptLines.{whole_or_long}
 use Rattle.ct_live.specs.LiveLines.{AsksLive, live_asked_in, live_request_of, live_request_step, live_step_for}
 use Rattle.ct_live.specs.LiveGiven.{GivesLines}

@@ -9,9 +9,9 @@ use Rattle.std.specs.Global.{Global}
 use Rattle.ct_parties.specs.declared.fault.Fault.{Fault}
 use Rattle.ct_parties.specs.declared.fault.Fault.TheVariants.{ClockBack, Memory, Read, Threads, Write}
 use Rattle.ct_lines.specs.declared.request.FrontRequest.{FrontRequest}
-use Rattle.ct_pipes.specs.Rings.{all_received, all_sent}
-use Rattle.ct_pipes.specs.Written.{WritesOn}
-use Rattle.ct_pipes.specs.declared.answering.Numbered.{Numbered}
+use Rattle.ct_live.specs.Rings.{all_received, all_sent}
+use Rattle.ct_live.specs.Written.{WritesOn}
+use Rattle.ct_live.specs.declared.pipes.answering.Numbered.{Numbered}
 use Rattle.ct_live.specs.LiveLate.{EndsLate, EndsLogLate}
 use Rattle.ct_live.specs.LiveReplied.{Rings}
 use Rattle.ct_live.specs.declared.giving.End.{End}

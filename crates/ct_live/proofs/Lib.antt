@@ -1,3 +1,10 @@
+pub mod Merging
+pub mod Sending
+pub mod Writing
+pub mod Beside
+pub mod Opened
+pub mod Turns
+pub mod Joining
 pub mod Joined
 pub mod Replies
 pub mod Taking

@@ -9,11 +9,11 @@ use Rattle.ct_house.specs.House.{FrontView, HouseState, IsNewHouse}
 use Rattle.ct_parties.specs.Parties.{AreFrontsOf}
 use Rattle.ct_lines.specs.declared.request.FrontRequest.{FrontRequest}
 use Rattle.ct_parties.proofs.HouseLemmas.{new_of_house, new_in_order}
-use Rattle.ct_pipes.specs.Opening.{AreEmpty}
-use Rattle.ct_pipes.specs.Rings.{ArePairs}
-use Rattle.ct_pipes.proofs.Beside.{as_long}
-use Rattle.ct_pipes.proofs.Opened.{empty_none, empty_more}
-use Rattle.ct_pipes.specs.declared.answering.Numbered.{Numbered}
+use Rattle.ct_live.specs.Opening.{AreEmpty}
+use Rattle.ct_live.specs.Rings.{ArePairs}
+use Rattle.ct_live.proofs.Beside.{as_long}
+use Rattle.ct_live.proofs.Opened.{empty_none, empty_more}
+use Rattle.ct_live.specs.declared.pipes.answering.Numbered.{Numbered}
 use Rattle.ct_live.specs.LiveOpening.{AreOpened}
 use Rattle.ct_live.specs.LiveRuns.{FrontWorker, worker_fronts, worker_tasks, worker_answers, AreJoined}
 use Rattle.ct_live.specs.declared.live.Ends.{Ends}

@@ -7,8 +7,8 @@ use Rattle.ct_parties.specs.Lines.{lines_of}
 use Rattle.ct_parties.proofs.LineLemmas.{first_line_cut}
 use Rattle.ct_lines.specs.declared.request.FrontRequest.{FrontRequest}
 use Rattle.ct_lines.specs.Lines.{IsNextLine}
-use Rattle.ct_pipes.specs.Rings.{all_sent}
-use Rattle.ct_pipes.specs.declared.answering.Numbered.{Numbered}
+use Rattle.ct_live.specs.Rings.{all_sent}
+use Rattle.ct_live.specs.declared.pipes.answering.Numbered.{Numbered}
 use Rattle.ct_live.specs.LiveGiven.{AreFirstLinesOf, AreRead, EndsReading, HaveGiven, ReadsOn}
 use Rattle.ct_live.specs.LiveGiven.{GivesLine, GivesLines, GivesNext, GivesNothing, GivesSome, GivesUpTo}
 use Rattle.ct_live.specs.LiveServed.{AllAskLive, AreGiven, AreLinesOf, numbered_from}

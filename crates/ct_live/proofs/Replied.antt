@@ -11,11 +11,11 @@ use Rattle.rtrb.specs.declared.consumer.Consumer.{Consumer}
 use Rattle.rtrb.specs.declared.producer.Producer.{Producer}
 use Rattle.ct_house.specs.House.{FrontView, HouseState, IsNewHouse}
 use Rattle.ct_lines.specs.declared.request.FrontRequest.{FrontRequest}
-use Rattle.ct_pipes.specs.Answered.{AreAnswered, AnswersMore}
-use Rattle.ct_pipes.specs.Parts.{IsMergeOf}
-use Rattle.ct_pipes.specs.Rings.{all_received, all_sent, texts, texts_each}
-use Rattle.ct_pipes.specs.Written.{in_order, IsWritten, WritesOn}
-use Rattle.ct_pipes.specs.declared.answering.Numbered.{Numbered}
+use Rattle.ct_live.specs.Answered.{AreAnswered, AnswersMore}
+use Rattle.ct_live.specs.Parts.{IsMergeOf}
+use Rattle.ct_live.specs.Rings.{all_received, all_sent, texts, texts_each}
+use Rattle.ct_live.specs.Written.{in_order, IsWritten, WritesOn}
+use Rattle.ct_live.specs.declared.pipes.answering.Numbered.{Numbered}
 use Rattle.ct_live.specs.LiveGiven.{GivesUpTo, ReadsOn}
 use Rattle.ct_live.specs.LiveLate.{IsServedLate, RepliesLate, RunsLate}
 use Rattle.ct_live.specs.LiveOpening.{AreOpened}

@@ -9,12 +9,12 @@ use Rattle.rtrb.specs.declared.producer.Producer.{Producer}
 use Rattle.ct_house.specs.House.{FrontView, HouseState}
 use Rattle.ct_parties.specs.Parties.{AreFrontsOf}
 use Rattle.ct_lines.specs.declared.request.FrontRequest.{FrontRequest}
-use Rattle.ct_pipes.specs.Working.{AreJoinedOf}
-use Rattle.ct_pipes.specs.Written.{WritesOn}
-use Rattle.ct_pipes.specs.declared.answering.Numbered.{Numbered}
-use Rattle.ct_pipes.specs.declared.answering.PartyFault.{PartyFault}
-use Rattle.ct_pipes.specs.declared.output.WriteFailed.{WriteFailed}
-use Rattle.ct_pipes.specs.declared.workers.Joined.{Joined}
+use Rattle.ct_live.specs.Working.{AreJoinedOf}
+use Rattle.ct_live.specs.Written.{WritesOn}
+use Rattle.ct_live.specs.declared.pipes.answering.Numbered.{Numbered}
+use Rattle.ct_live.specs.declared.pipes.answering.PartyFault.{PartyFault}
+use Rattle.ct_live.specs.declared.pipes.output.WriteFailed.{WriteFailed}
+use Rattle.ct_live.specs.declared.pipes.workers.Joined.{Joined}
 use Rattle.ct_live.specs.LiveBroken.{EndsBrokenOff, EndsClosing, EndsSome, HaveDone, RunsBrokenOff, RunsClosing, RunsSome}
 use Rattle.ct_live.specs.LiveGiven.{ReadsOn}
 use Rattle.ct_live.specs.LiveLate.{EndsLate, RunsLate}

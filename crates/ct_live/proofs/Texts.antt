@@ -9,7 +9,7 @@ use Rattle.ct_core.specs.Settlement.{Log}
 use Rattle.ct_house.specs.House.{FinalState, FrontView, HouseState}
 use Rattle.ct_lines.specs.Frozen.{frozen_reply, line_answer}
 use Rattle.ct_parties.specs.ClosedLog.{Closes}
-use Rattle.ct_pipes.specs.Tagged.{tagged}
+use Rattle.ct_live.specs.Tagged.{tagged}
 use Rattle.ct_tree.specs.declared.head.Head.{Head}
 use Rattle.ct_live.specs.LiveReplied.{EndsLog, WritesBehind, WritesLastHead}
 use Rattle.ct_live.specs.LiveReplies.{object_text}

@@ -9,10 +9,10 @@ use Rattle.ct_lines.specs.Frozen.{line_answer}
 use Rattle.ct_lines.specs.Sends.{SendsSome}
 use Rattle.ct_parties.specs.Lines.{lines_of}
 use Rattle.ct_lines.specs.Lines.{IsNextLine}
-use Rattle.ct_pipes.specs.Tagged.{tagged}
-use Rattle.ct_pipes.specs.Written.{WritesBeginning}
-use Rattle.ct_pipes.proofs.Sending.{some_of_all}
-use Rattle.ct_pipes.proofs.Writing.{some_behind}
+use Rattle.ct_live.specs.Tagged.{tagged}
+use Rattle.ct_live.specs.Written.{WritesBeginning}
+use Rattle.ct_live.proofs.Sending.{some_of_all}
+use Rattle.ct_live.proofs.Writing.{some_behind}
 use Rattle.ct_tree.specs.declared.head.Head.{Head}
 use Rattle.ct_live.specs.LiveGiven.{AreRead}
 use Rattle.ct_live.specs.LiveReplied.{WritesSomeBehind, WritesSomeLastHead}

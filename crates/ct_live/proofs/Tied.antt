@@ -5,8 +5,8 @@ use Rattle.rtrb.specs.Ring.{sent}
 use Rattle.ct_core.specs.Settlement.{Log}
 use Rattle.ct_parties.specs.Lines.{lines_of}
 use Rattle.ct_lines.specs.declared.request.FrontRequest.{FrontRequest}
-use Rattle.ct_pipes.specs.Rings.{all_sent}
-use Rattle.ct_pipes.specs.declared.answering.Numbered.{Numbered}
+use Rattle.ct_live.specs.Rings.{all_sent}
+use Rattle.ct_live.specs.declared.pipes.answering.Numbered.{Numbered}
 use Rattle.ct_live.specs.LiveGiven.{GivesUpTo, HaveGiven}
 use Rattle.ct_live.specs.LiveLines.{AsksLive}
 use Rattle.ct_live.specs.LiveOpening.{AreOpened}

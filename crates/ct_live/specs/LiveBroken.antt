@@ -9,17 +9,17 @@ use Rattle.rtrb.specs.declared.consumer.Consumer.{Consumer}
 use Rattle.rtrb.specs.declared.producer.Producer.{Producer}
 use Rattle.ct_house.specs.House.{FrontView, HouseState, IsNewHouse}
 use Rattle.ct_lines.specs.declared.request.FrontRequest.{FrontRequest}
-use Rattle.ct_pipes.specs.Answered.{AnswersFirst}
-use Rattle.ct_pipes.specs.Rings.{all_received, all_sent, ArePrefixes}
-use Rattle.ct_pipes.specs.Written.{BeginsOn, IsBegunOf}
-use Rattle.ct_pipes.specs.declared.answering.Numbered.{Numbered}
+use Rattle.ct_live.specs.Answered.{AnswersFirst}
+use Rattle.ct_live.specs.Rings.{all_received, all_sent, ArePrefixes}
+use Rattle.ct_live.specs.Written.{BeginsOn, IsBegunOf}
+use Rattle.ct_live.specs.declared.pipes.answering.Numbered.{Numbered}
 use Rattle.ct_parties.specs.declared.fault.Fault.{Fault}
 use Rattle.ct_parties.specs.declared.fault.Fault.TheVariants as fault_case
-use Rattle.ct_pipes.specs.declared.answering.PartyFault.{PartyFault}
-use Rattle.ct_pipes.specs.declared.answering.PartyFault.TheVariants as party_case
-use Rattle.ct_pipes.specs.declared.workers.StartFault.{StartFault}
-use Rattle.ct_pipes.specs.declared.workers.StartFault.TheVariants as start_case
-use Rattle.ct_pipes.specs.declared.output.WriteFailed.{WriteFailed}
+use Rattle.ct_live.specs.declared.pipes.answering.PartyFault.{PartyFault}
+use Rattle.ct_live.specs.declared.pipes.answering.PartyFault.TheVariants as party_case
+use Rattle.ct_live.specs.declared.pipes.workers.StartFault.{StartFault}
+use Rattle.ct_live.specs.declared.pipes.workers.StartFault.TheVariants as start_case
+use Rattle.ct_live.specs.declared.pipes.output.WriteFailed.{WriteFailed}
 use Rattle.ct_live.specs.LiveGiven.{AreFirstLinesOf, GivesSome}
 use Rattle.ct_live.specs.LiveParties.{DeskReplies, FrontReplies}
 use Rattle.ct_live.specs.LiveReplied.{EndsLive, EndsLog, RepliesLive, Rings, RunsLive}

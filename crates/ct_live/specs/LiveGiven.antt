@@ -6,7 +6,7 @@ use Rattle.ct_parties.specs.Lines.{lines_of}
 use Rattle.ct_parties.specs.declared.fault.Fault.{Fault}
 use Rattle.ct_parties.specs.declared.fault.Fault.TheVariants as fault_case
 use Rattle.ct_lines.specs.Lines.{IsNextLine}
-use Rattle.ct_pipes.specs.Rings.{all_sent}
+use Rattle.ct_live.specs.Rings.{all_sent}
 use Rattle.ct_live.specs.LiveLines.{AsksLive}
 use Rattle.ct_live.specs.LiveRuns.{GivesOn}
 use Rattle.ct_live.specs.LiveServed.{AllAskLive, AreGiven, AreLinesOf, numbered_from}

@@ -9,11 +9,11 @@ use Rattle.rtrb.specs.declared.producer.Producer.{Producer}
 use Rattle.ct_house.specs.House.{FrontView, HouseState, IsNewHouse}
 use Rattle.ct_parties.specs.ClosedLog.{IsLate}
 use Rattle.ct_lines.specs.declared.request.FrontRequest.{FrontRequest}
-use Rattle.ct_pipes.specs.Answered.{AreAnswered}
-use Rattle.ct_pipes.specs.Rings.{all_received, all_sent}
-use Rattle.ct_pipes.specs.Parts.{IsMergeOf}
-use Rattle.ct_pipes.specs.Written.{in_order, WritesOn}
-use Rattle.ct_pipes.specs.declared.answering.Numbered.{Numbered}
+use Rattle.ct_live.specs.Answered.{AreAnswered}
+use Rattle.ct_live.specs.Rings.{all_received, all_sent}
+use Rattle.ct_live.specs.Parts.{IsMergeOf}
+use Rattle.ct_live.specs.Written.{in_order, WritesOn}
+use Rattle.ct_live.specs.declared.pipes.answering.Numbered.{Numbered}
 use Rattle.ct_live.specs.LiveGiven.{ReadsOn}
 use Rattle.ct_live.specs.LiveParties.{DeskReplies}
 use Rattle.ct_live.specs.LiveReplied.{AllAnswer, IsMomentOf, Rings}

@@ -1,6 +1,6 @@
 -- The rings of a live log, before its house is opened.
 use Rattle.std.specs.Prelude.{◌+◌, ℕ, [], ◌∷◌, ◌++◌}
-use Rattle.ct_pipes.specs.Opening.{AreEmpty}
+use Rattle.ct_live.specs.Opening.{AreEmpty}
 use Rattle.ct_live.specs.declared.live.Ends.{Ends}
 
 -- rings for so many fronts and the operator, into which nothing was sent: for their tasks, and for their answers

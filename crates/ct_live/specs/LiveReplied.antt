@@ -12,12 +12,12 @@ use Rattle.ct_core.specs.Settlement.{Log}
 use Rattle.ct_house.specs.House.{FinalState, FrontView, HouseState, IsNewHouse}
 use Rattle.ct_parties.specs.ClosedLog.{Closes}
 use Rattle.ct_lines.specs.declared.request.FrontRequest.{FrontRequest}
-use Rattle.ct_pipes.specs.Answered.{AreAnswered}
-use Rattle.ct_pipes.specs.Parts.{IsMergeOf}
-use Rattle.ct_pipes.specs.Rings.{all_received, all_sent}
-use Rattle.ct_pipes.specs.Tagged.{tagged}
-use Rattle.ct_pipes.specs.Written.{WritesBeginning, WritesOn, in_order}
-use Rattle.ct_pipes.specs.declared.answering.Numbered.{Numbered}
+use Rattle.ct_live.specs.Answered.{AreAnswered}
+use Rattle.ct_live.specs.Parts.{IsMergeOf}
+use Rattle.ct_live.specs.Rings.{all_received, all_sent}
+use Rattle.ct_live.specs.Tagged.{tagged}
+use Rattle.ct_live.specs.Written.{WritesBeginning, WritesOn, in_order}
+use Rattle.ct_live.specs.declared.pipes.answering.Numbered.{Numbered}
 use Rattle.ct_tree.specs.declared.head.Head.{Head}
 use Rattle.ct_live.specs.LiveGiven.{ReadsOn}
 use Rattle.ct_live.specs.LiveParties.{DeskReplies, FrontReplies}

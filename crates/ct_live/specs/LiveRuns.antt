@@ -8,12 +8,12 @@ use Rattle.rtrb.specs.declared.producer.Producer.{Producer}
 use Rattle.ct_house.specs.House.{FrontView}
 use Rattle.ct_parties.specs.Parties.{AreFrontsOf}
 use Rattle.ct_lines.specs.declared.request.FrontRequest.{FrontRequest}
-use Rattle.ct_pipes.specs.Answered.{AnswersMore, AnswersSome}
-use Rattle.ct_pipes.specs.Rings.{ArePairs, SameConsumers, SameProducers}
-use Rattle.ct_pipes.specs.Working.{AllWork, AllWorkSome}
-use Rattle.ct_pipes.specs.Written.{WritesOn, BeginsOn}
-use Rattle.ct_pipes.specs.declared.answering.Numbered.{Numbered}
-use Rattle.ct_pipes.specs.declared.workers.Worker.{Worker}
+use Rattle.ct_live.specs.Answered.{AnswersMore, AnswersSome}
+use Rattle.ct_live.specs.Rings.{ArePairs, SameConsumers, SameProducers}
+use Rattle.ct_live.specs.Working.{AllWork, AllWorkSome}
+use Rattle.ct_live.specs.Written.{WritesOn, BeginsOn}
+use Rattle.ct_live.specs.declared.pipes.answering.Numbered.{Numbered}
+use Rattle.ct_live.specs.declared.pipes.workers.Worker.{Worker}
 use Rattle.ct_live.specs.LiveParties.{DeskReplies, FrontReplies}
 use Rattle.ct_live.specs.declared.asking.DeskTask.{DeskTask}
 use Rattle.ct_live.specs.declared.front.LiveFront.{LiveFront}

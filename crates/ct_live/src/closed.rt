@@ -4,16 +4,16 @@ ghost use Rattle.std.specs.Prelude.{◌≡◌, ◌⊎◌, ◌∷◌, [], IfErr, 
 ghost use Rattle.std.specs.Io.KnownBytes.{Appends};
 ghost use Rattle.std.specs.List.{concat};
 ghost use Rattle.ct_lines.specs.Frozen.{line_answer};
-ghost use Rattle.ct_pipes.specs.Written.{WritesBeginning};
+ghost use Rattle.ct_live.specs.Written.{WritesBeginning};
 ghost use Rattle.ct_live.specs.LiveReplied.{WritesBehind, WritesLastHead, WritesSomeBehind, WritesSomeLastHead};
 ghost use Rattle.ct_live.specs.LiveReplies.{object_text};
 ghost use Rattle.ct_live.specs.LiveServed.{closed_replies};
 
+use crate::pipes::tag;
 use crate::replying::reply_object;
 use ct_core::{Published, Reply};
 use ct_lines::{NumberedLines, frozen_reply, send};
 use ct_parties::Fault;
-use ct_pipes::tag;
 use ct_tree::Memory;
 use std::alloc::Global;
 use std::io::{BufRead, Write};

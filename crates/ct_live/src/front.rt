@@ -3,11 +3,11 @@
 ghost use Rattle.std.specs.Prelude.{◌≡◌, ℕ, List, IfOk};
 ghost use Rattle.ct_live.specs.LiveParties.{FrontReplies};
 
+use crate::pipes::Party;
 use crate::replying::reply_object;
 use ct_house::Front;
 use ct_lines::FrontRequest;
 use ct_parties::{Waiting, front_work};
-use ct_pipes::Party;
 use std::alloc::{AllocError, Global};
 use std::sync::Wait;
 use std::thread::Threads;

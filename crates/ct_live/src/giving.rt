@@ -8,9 +8,9 @@ ghost use Rattle.ct_live.specs.LiveTasks.{live_step};
 ghost use Rattle.ct_live.specs.declared.giving.GiveFault.TheVariants.{Stopped};
 
 use crate::asking::{DeskTask, LiveTask, live_task};
+use crate::pipes::{Numbered, Places, Seat, Stopped, give, send};
 use ct_lines::{FrontRequest, NumberedLines};
 use ct_parties::Fault;
-use ct_pipes::{Numbered, Places, Seat, Stopped, give, send};
 use rtrb::Producer;
 use std::alloc::Global;
 use std::io::BufRead;

@@ -8,11 +8,13 @@
 //!   `close`, and two for the bytes that are signed.
 //! - `signing` has the bytes that stand under the log's signatures.
 //! - `replying` has the reply to a line without the end of the line.
-//! - `front` is a front as a party of `ct_pipes`; `operator` does the operator's tasks in turn, as a party does.
+//! - `front` is a front as a party of `pipes`; `operator` does the operator's tasks in turn, as a party does.
 //! - `giving` reads lines, and gives them out to the parties.
 //! - `threads` has the reader and the writer, each in a thread of its own, and the parties, and then ends the log.
 //! - `ending` is what comes once all threads have ended, and `workers` has the parties with the ends of their rings.
 //! - `closed` closes the log, and has it reply to the lines that are left.
+//! - `pipes` has tasks given out to some parties, each in a thread of its own, and their answers written as they come; and the
+//!   `Breaker`, which has all end.
 //! - `live` has `serve_live`.
 #![tactic(auto)]
 
@@ -23,6 +25,7 @@ mod front;
 mod giving;
 mod live;
 mod operator;
+mod pipes;
 mod replying;
 mod signing;
 mod threads;
@@ -31,5 +34,6 @@ mod workers;
 pub use asking::{DeskTask, LiveTask, live_task};
 pub use front::LiveFront;
 pub use live::{TURNS, serve_live};
+pub use pipes::{Breaker, ReadAhead, read_ahead};
 pub use replying::{DeskReply, desk_object, reply_object};
 pub use threads::Served;

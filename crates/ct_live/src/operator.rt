@@ -2,20 +2,20 @@
 
 ghost use Rattle.std.specs.Prelude.{◌≡◌, ◌<◌, [], length, IfErr, IfOk, OnErr, OnOk};
 ghost use Rattle.rtrb.specs.Ring.{sent, received, known_free, known_items, SameProducer, SameConsumer};
-ghost use Rattle.ct_pipes.specs.Answered.{AnswersAllButLast, AnswersMore};
+ghost use Rattle.ct_live.specs.Answered.{AnswersAllButLast, AnswersMore};
 ghost use Rattle.ct_lines.specs.ReplyText.{answered};
 ghost use Rattle.ct_parties.specs.OperatorWork.{GoesOn};
 ghost use Rattle.ct_live.specs.LiveParties.{TakesWhatIsThere, DeskDoes, DeskReplies};
 ghost use Rattle.ct_live.specs.LiveReplies.{says, desk_said};
 
 use crate::asking::DeskTask;
+use crate::pipes::{Numbered, PartyFault, Places, Seat, Stopped, receive, send, tag};
 use crate::replying::{DeskReply, desk_object};
 use crate::signing::{head_input, timestamp_input};
 use ct_codec::Refusal;
 use ct_core::Reply;
 use ct_house::Sequencer;
 use ct_parties::{Waiting, operator_work};
-use ct_pipes::{Numbered, PartyFault, Places, Seat, Stopped, receive, send, tag};
 use rtrb::{Consumer, Producer};
 use std::alloc::{AllocError, Global};
 use std::sync::Wait;

@@ -1,7 +1,7 @@
 //! The threads: the reader, the writer, each front, and the operator in the thread that calls.
 
 ghost use Rattle.std.specs.Prelude.{◌≡◌, ◌≢◌, ◌<◌, length, Ok, Err, Some, None, IfOk, IfErr, OnOk, OnErr, vec_len, vec_capacity};
-ghost use Rattle.ct_pipes.specs.Working.{AreJoinedOf};
+ghost use Rattle.ct_live.specs.Working.{AreJoinedOf};
 ghost use Rattle.ct_live.specs.LiveBroken.{RunsBrokenOff};
 ghost use Rattle.ct_live.specs.LiveLate.{RunsLate};
 ghost use Rattle.ct_live.specs.LiveGiven.{ReadsOn};
@@ -12,11 +12,11 @@ ghost use Rattle.ct_live.specs.declared.workers.DeskWorker.{DeskWorker as DeskWo
 use crate::ending::{Ended, Left, abandon, end_live};
 use crate::giving::{End, GiveFault, Giver, give_out};
 use crate::operator::answer_desk;
-use crate::workers::{DeskWorker, FrontWorker};
-use ct_parties::{Fault, Options, Waiting};
-use ct_pipes::{
+use crate::pipes::{
     Joined, PartyFault, Places, WriteFailed, join_workers, start_workers, write_answers,
 };
+use crate::workers::{DeskWorker, FrontWorker};
+use ct_parties::{Fault, Options, Waiting};
 use rtrb::Consumer;
 use std::alloc::Global;
 use std::io::{BufRead, Write};

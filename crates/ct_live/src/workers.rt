@@ -2,9 +2,9 @@
 
 use crate::asking::DeskTask;
 use crate::front::LiveFront;
+use crate::pipes::{Numbered, Worker};
 use ct_house::Sequencer;
 use ct_lines::FrontRequest;
-use ct_pipes::{Numbered, Worker};
 use rtrb::{Consumer, Producer};
 
 /// A front with the ends of its rings.

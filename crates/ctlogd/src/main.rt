@@ -21,9 +21,8 @@ ghost use Rattle.ctlogd.specs.LiveRuns.{IsLiveDone, IsLiveBrokenOff};
 mod program;
 
 use ct_command::{Program, refuse_words, report, texts};
-use ct_live::TURNS;
+use ct_live::{Breaker, ReadAhead, TURNS, read_ahead};
 use ct_parties::Fault;
-use ct_pipes::{Breaker, ReadAhead, read_ahead};
 use program::{Ended, run};
 use std::alloc::{AllocError, Global};
 use std::io;

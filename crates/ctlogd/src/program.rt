@@ -12,9 +12,8 @@ ghost use Rattle.ct_command.specs.FaultLines.{fault_line, name_of};
 ghost use Rattle.ctlogd.specs.LiveRuns.{IsLiveDone, IsLiveBrokenOff};
 
 use ct_command::{Program, answer_command_line, read_options, report};
-use ct_live::{Served, serve_live};
+use ct_live::{Breaker, Served, serve_live};
 use ct_parties::Options;
-use ct_pipes::Breaker;
 use std::alloc::Global;
 use std::io::{Read, Write};
 use std::sync::{Arc, Wait};

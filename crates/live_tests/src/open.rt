@@ -2,9 +2,8 @@
 use crate::behind::{CLOSE, CLOSED};
 use crate::pace::{OPTIONS, new_breaker};
 use crate::replies::LINES;
-use ct_live::{Served, serve_live};
+use ct_live::{Breaker, Served, read_ahead, serve_live};
 use ct_parties::Fault;
-use ct_pipes::{Breaker, read_ahead};
 use std::alloc::{AllocError, Global};
 use std::io;
 use std::io::{ErrorKind, Read, Write};

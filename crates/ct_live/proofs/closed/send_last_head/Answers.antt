@@ -1,5 +1,5 @@
 use Rattle.std.proofs.Common.{◌∙◌}
-use Rattle.ct_pipes.proofs.Beside.{of_error}
+use Rattle.ct_live.proofs.Beside.{of_error}
 use Rattle.ct_live.proofs.TextsBegun.{last_head_begun, no_head_begun}
 use Rattle.ct_live.proofs.closed.send_last_head.Goals as goal
 

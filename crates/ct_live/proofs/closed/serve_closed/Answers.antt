@@ -1,6 +1,6 @@
 use Rattle.ct_live.proofs.Texts.{all_replied, no_replies, one_more}
 use Rattle.ct_live.proofs.TextsBegun.{stops_behind, stops_in_reply}
-use Rattle.ct_pipes.proofs.Beside.{of_error}
+use Rattle.ct_live.proofs.Beside.{of_error}
 use Rattle.ct_live.proofs.closed.serve_closed.Goals as goal
 
 pub loop-turn-init : goal.loop-turn-init

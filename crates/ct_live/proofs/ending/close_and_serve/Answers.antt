@@ -1,7 +1,7 @@
 use Rattle.std.proofs.Common.{inl, inr}
 use Rattle.std.proofs.KnownBytes.{Appends-nil}
 use Rattle.std.proofs.lemmas.Result.{IfErr-weaker, on_err_weaker, on_ok_weaker}
-use Rattle.ct_pipes.proofs.Beside.{of_error}
+use Rattle.ct_live.proofs.Beside.{of_error}
 use Rattle.ct_live.proofs.Texts.{ends_at_end, ends_at_line}
 use Rattle.ct_live.proofs.EndsBegun.{ends_in_head, ends_in_replies}
 use Rattle.ct_live.proofs.Late.{never_late}

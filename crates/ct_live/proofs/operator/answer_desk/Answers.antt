@@ -1,8 +1,8 @@
 use Rattle.std.proofs.Common.{refl}
 use Rattle.rtrb.specs.Ring.{sent, received}
-use Rattle.ct_pipes.proofs.Merging.{consumer_trans}
-use Rattle.ct_pipes.proofs.Beside.{of_error}
-use Rattle.ct_pipes.proofs.Turns.{all_but_last, answers_more, none_more, producer_trans}
+use Rattle.ct_live.proofs.Merging.{consumer_trans}
+use Rattle.ct_live.proofs.Beside.{of_error}
+use Rattle.ct_live.proofs.Turns.{all_but_last, answers_more, none_more, producer_trans}
 use Rattle.ct_live.specs.LiveParties.{DeskReplies}
 use Rattle.ct_live.proofs.operator.answer_desk.Goals as goal
 

@@ -1,5 +1,5 @@
 use Rattle.rtrb.specs.Ring.{sent, received, SameProducer, SameConsumer}
-use Rattle.ct_pipes.specs.Answered.{AnswersMore}
+use Rattle.ct_live.specs.Answered.{AnswersMore}
 use Rattle.ct_live.specs.LiveParties.{DeskReplies}
 use Rattle.ct_live.proofs.operator.answer_desk.Given as goal
 

@@ -1,5 +1,5 @@
 use Rattle.std.proofs.Common.{List, refl, subst}
-use Rattle.ct_pipes.specs.Working.{AreJoinedOf}
+use Rattle.ct_live.specs.Working.{AreJoinedOf}
 use Rattle.ct_live.specs.LiveRuns.{FrontStep, FrontWorker}
 use Rattle.ct_live.proofs.Reading.{reads_as}
 use Rattle.ct_live.proofs.Runs.{writer_out}

@@ -1,7 +1,7 @@
 use Rattle.std.proofs.Common.{◌≡◌, subst, sym}
 use Rattle.std.proofs.lemmas.Result.{IfErr-at_err, IfErr-weaker, IfOk-at_ok, on_err_weaker, on_ok_weaker}
 use Rattle.std.specs.Prelude.{OnErr, OnOk}
-use Rattle.ct_pipes.specs.Rings.{SameConsumers}
+use Rattle.ct_live.specs.Rings.{SameConsumers}
 use Rattle.ct_live.specs.LiveReplied.{Rings}
 use Rattle.ct_live.specs.LiveRuns.{DeskWorksSome, WritesOut}
 use Rattle.ct_live.proofs.Joined.{beside_kept, house_kept, when_ok}

@@ -1,0 +1,49 @@
+//! Tasks given out to some parties, each in a thread of its own, and their answers written as they come.
+//!
+//! One reader gives tasks, each party answers its own in their order, and one writer writes what they answer: each answer
+//! whole, those of a party in its order, and no others. In what order the answers of different parties stand is left open.
+//!
+//! The parts, in the order in which a program puts them together:
+//!
+//! - `opening` makes the rings: `open`, of whose ends each thread has its own.
+//! - `post` has `give`, by which the reader's thread gives each party its tasks, and waits where a ring is full.
+//! - `workers` has the parties' threads: `start_workers` and `join_workers`. A thread hands back the party with the ends of its
+//!   rings (`Worked`), also where it ended before its time, and `Joined` has those of all threads: a program makes room for them
+//!   before it starts any, so that they can be joined without memory. What a party does is its own (`Party`, in `answering`):
+//!   `answer_all` has it reply to each of its tasks in turn, and `tagging` sets the line's number before the reply.
+//! - `writer` writes the answers of all parties as they come, in the thread that calls it; `output` writes one.
+//! - `ending` is for when all threads have ended, with both ends of each ring at hand: `are_taken` finds whether all tasks
+//!   were received, and `write_left` writes what is left of the answers. Both show that what came out of each ring is a beginning
+//!   of what went in, whatever happened before.
+//! - `places` is where these threads wait for one another, and what they tell each other beside the rings. No proof rests
+//!   on it: it only ends waits. `breaker` has all of them end.
+//! - `ahead` reads an input ahead in a thread of its own, so that the breaker ends the reader's wait for it too.
+//!
+//! `specs/Parts.antt`, `Rings`, `Written`, `Answered`, `Working`, `Waiting`, `Tagged` and `Opening` are the words of
+//! the contracts.
+
+mod ahead;
+mod answering;
+mod breaker;
+mod ending;
+mod opening;
+mod output;
+mod places;
+mod post;
+mod tagging;
+mod workers;
+mod writer;
+
+pub use ahead::{ReadAhead, read_ahead};
+pub use answering::{Numbered, Party, PartyFault, answer_all};
+pub use breaker::Breaker;
+pub use ending::{are_taken, write_left};
+pub use opening::{PLACES, Pipes, open};
+pub use output::WriteFailed;
+pub use places::{Places, Seat};
+pub use post::{Stopped, give, receive, send};
+pub use tagging::tag;
+pub use workers::{
+    Joined, StartFault, Worked, Worker, WorkerPromise, WorkerThread, join_workers, start_workers,
+};
+pub use writer::write_answers;

@@ -1,0 +1,251 @@
+//! An input that a thread of its own reads ahead.
+
+use crate::pipes::breaker::Breaker;
+use rtrb::{Consumer, Producer, PushError, RingBuffer};
+use std::alloc::{AllocError, Global};
+use std::io::{ErrorKind, Read};
+use std::sync::atomic::{AtomicBool, Ordering};
+use std::sync::{Arc, Wait};
+use std::thread::{Parker, Threads};
+use std::{io, thread};
+
+// How many bytes are read at a time, at most.
+const PIECE: usize = 65_536;
+
+// How many pieces wait, at most.
+const PIECES: usize = 4;
+
+// A piece of the input, of no bytes at its end; or why it couldn't be read.
+type Piece = io::Result<Vec<u8>>;
+
+// Where the thread that reads ahead waits: until the first bytes are asked for, and for room.
+#[derive(Drop)]
+struct Room {
+    asked: AtomicBool,
+    place: Parker,
+}
+
+impl Room {
+    // Asks for bytes.
+    fn ask(&self) {
+        if !self.asked.load(Ordering::SeqCst) {
+            self.asked.store(true, Ordering::SeqCst);
+            self.place.unpark();
+        }
+    }
+
+    // Waits until bytes are asked for.
+    fn wait_for_ask<R: Wait>(&self, rt: &R) {
+        for _ in rt.forever() {
+            if self.asked.load(Ordering::SeqCst) {
+                return;
+            }
+            self.place.park(rt);
+        }
+        unreachable!()
+    }
+}
+
+// Reads a piece of the input.
+fn read_piece<I: Read>(alloc: Global, input: &mut I, buffer: &mut [u8]) -> Piece {
+    let count = input.read(buffer)?;
+    let bytes = Vec::from_slice(alloc, &buffer[..count])?;
+    Ok(bytes)
+}
+
+// Hands a piece on, and waits while the ring has no room. It answers whether it was handed on: not where all are to end.
+fn hand_on<R: Wait>(
+    rt: &R,
+    breaker: &Breaker,
+    room: &Room,
+    pieces: &mut Producer<Piece>,
+    piece: Piece,
+) -> bool {
+    let mut piece = piece;
+    for _ in rt.forever() {
+        match pieces.push(piece) {
+            Ok(()) => {
+                breaker.wake();
+                return true;
+            }
+            Err(PushError::Full(back)) => piece = back,
+        }
+        if breaker.has_stopped() {
+            return false;
+        }
+        room.place.park(rt);
+    }
+    unreachable!()
+}
+
+// Whether more may follow a piece.
+fn goes_on(piece: &Piece) -> bool {
+    match piece {
+        Ok(bytes) => !bytes.is_empty(),
+        Err(error) => error.kind() == ErrorKind::Interrupted,
+    }
+}
+
+// Reads the input once it is asked for, and hands it on, up to its end, or until it can't be read.
+fn pump_all<R: Wait, I: Read + Copy>(
+    rt: &R,
+    alloc: Global,
+    breaker: &Breaker,
+    room: &Room,
+    mut input: I,
+    pieces: &mut Producer<Piece>,
+) -> Result<(), AllocError> {
+    room.wait_for_ask(rt);
+    let mut buffer = vec![in alloc; 0u8; PIECE]?;
+    for _ in rt.forever() {
+        let piece = read_piece(alloc, &mut input, &mut buffer);
+        let more = goes_on(&piece);
+        let is_handed = hand_on(rt, breaker, room, pieces, piece);
+        if !(more && is_handed) {
+            return Ok(());
+        }
+    }
+    unreachable!()
+}
+
+// The same in its thread, also where there is no memory to read into.
+fn pump<R: Wait, I: Read + Copy>(
+    rt: &R,
+    alloc: Global,
+    breaker: &Breaker,
+    room: &Room,
+    input: I,
+    mut pieces: Producer<Piece>,
+) {
+    match pump_all(rt, alloc, breaker, room, input, &mut pieces) {
+        Ok(()) => {}
+        Err(error) => {
+            hand_on(rt, breaker, room, &mut pieces, Err(io::Error::from(error)));
+        }
+    }
+}
+
+// Where the pieces come out, and where the thread that reads them waits.
+#[derive(Drop)]
+struct Pieces {
+    ring: Consumer<Piece>,
+    room: Arc<Room>,
+}
+
+// The next piece, for which it waits. Where all are to end it is an error.
+fn next_piece<R: Wait>(rt: &R, breaker: &Breaker, pieces: &mut Pieces) -> Piece {
+    for _ in rt.forever() {
+        if let Ok(piece) = pieces.ring.pop() {
+            pieces.room.place.unpark();
+            return piece;
+        }
+        if breaker.has_stopped() {
+            return Err(io::Error::from(ErrorKind::BrokenPipe));
+        }
+        pieces.room.ask();
+        breaker.wait(rt);
+    }
+    unreachable!()
+}
+
+// Reads a piece of the input where no thread reads ahead.
+fn read_here<I: Read>(alloc: Global, input: &mut I) -> Piece {
+    let mut buffer = vec![in alloc; 0u8; PIECE]?;
+    read_piece(alloc, input, &mut buffer)
+}
+
+// How an input is read.
+#[derive(Drop)]
+enum Source<I: Read + Copy> {
+    // Another thread reads.
+    Ahead(Pieces),
+    // No thread started.
+    Here(I),
+    // It has ended, or couldn't be read.
+    Ended,
+}
+
+/// An input that a thread of its own reads ahead, four pieces of 64 KB at most, once the first bytes are asked for. So a read
+/// that waits for input ends where all are to end, by the `Breaker`: with an error then. The thread isn't joined, since nothing
+/// can end its own wait: it goes on until the input or the process ends. Where no thread starts, the input is read here, and a
+/// read that waits for it isn't ended. That the bytes are the input's, in their order, is tested: no contract names them.
+#[derive(Drop)]
+pub struct ReadAhead<R: Wait + Copy, I: Read + Copy> {
+    rt: R,
+    alloc: Global,
+    breaker: Arc<Breaker>,
+    source: Source<I>,
+    piece: Vec<u8>,
+    taken: usize,
+}
+
+/// Starts the thread that reads an input ahead. The breaker is that of the run that reads it.
+///
+/// # Errors
+///
+/// `AllocError`, where a growth is refused.
+pub fn read_ahead<R: Threads + Wait + Copy + Send + 'static, I: Read + Copy + Send + 'static>(
+    rt: R,
+    alloc: Global,
+    breaker: Arc<Breaker>,
+    input: I,
+) -> Result<ReadAhead<R, I>, AllocError> {
+    let (producer, ring) = RingBuffer::new(alloc, PIECES)?;
+    let room = Arc::new(
+        alloc,
+        Room {
+            asked: AtomicBool::new(false),
+            place: Parker::new(),
+        },
+    )?;
+    let own = Arc::try_clone(&room)?;
+    let stop = Arc::try_clone(&breaker)?;
+    let pumping = move || pump(&rt, alloc, &stop, &own, input, producer);
+    let source = match thread::spawn(&rt, pumping) {
+        Ok(_thread) => Source::Ahead(Pieces { ring, room }),
+        Err(_refused) => Source::Here(input),
+    };
+    Ok(ReadAhead {
+        rt,
+        alloc,
+        breaker,
+        source,
+        piece: Vec::new(alloc),
+        taken: 0,
+    })
+}
+
+impl<R: Wait + Copy, I: Read + Copy> ReadAhead<R, I> {
+    // The next piece, in whatever way the input is read.
+    fn next(&mut self) -> Piece {
+        match &mut self.source {
+            Source::Ahead(pieces) => next_piece(&self.rt, &self.breaker, pieces),
+            Source::Here(input) => read_here(self.alloc, input),
+            Source::Ended => Ok(Vec::new(self.alloc)),
+        }
+    }
+
+    // Takes the next piece. Behind the end of the input, or where it couldn't be read, there is none.
+    fn refill(&mut self) -> io::Result<()> {
+        let piece = self.next();
+        if !goes_on(&piece) {
+            self.source = Source::Ended;
+        }
+        self.piece = piece?;
+        self.taken = 0;
+        Ok(())
+    }
+}
+
+impl<R: Wait + Copy, I: Read + Copy> Read for ReadAhead<R, I> {
+    fn read(&mut self, buf: &mut [u8]) -> io::Result<usize> {
+        if self.taken >= self.piece.len() {
+            self.refill()?;
+        }
+        let (_, rest) = self.piece.split_at(self.taken.min(self.piece.len()));
+        let count = rest.len().min(buf.len());
+        buf[..count].copy_from_slice(&rest[..count]);
+        self.taken = self.taken.saturating_add(count);
+        Ok(count)
+    }
+}

@@ -1,0 +1,247 @@
+//! The threads of the parties.
+
+ghost use Rattle.std.specs.Prelude.{◌≡◌, ◌<◌, ◌+◌, ◌++◌, ◌∷◌, [], length, map, IfOk, Ok, Err, OnOk, Some, None, ◌⊎◌, vec_len, vec_capacity};
+ghost use Rattle.ct_live.specs.Working.{Works, WorksSome, AreJoinedOf, HasRoom};
+ghost use Rattle.ct_live.specs.declared.pipes.workers.StartFault.TheVariants.{Memory};
+
+use crate::pipes::answering::{Numbered, Party, PartyFault, answer_all};
+use crate::pipes::places::Places;
+use rtrb::{Consumer, Producer};
+use std::alloc::{AllocError, Global};
+use std::snapshot::Snapshot;
+use std::sync::Wait;
+use std::thread::{Promise, PromisedHandle, Scope, Threads};
+use thiserror::Error;
+
+/// A party, with the ends of its rings, as it begins and as it ends. A program makes it of any ends, under the number of the
+/// party's place.
+#[derive(Drop)]
+pub struct Worker<P: Drop, T: Drop> {
+    pub number: usize,
+    pub party: P,
+    pub tasks: Consumer<Numbered<T>>,
+    pub answers: Producer<Vec<u8>>,
+}
+
+/// What a party's thread hands back: the party with the ends of its rings as it ended, and whether that was before its time.
+#[derive(Drop)]
+pub struct Worked<P: Drop, T: Drop> {
+    pub worker: Worker<P, T>,
+    pub result: Result<(), PartyFault>,
+}
+
+// Answers the tasks of a party, and tells the writer that it ends. One that ends before its time has all end. It hands its rings
+// back all the same: what it sent is the answers to the first of the tasks that it received.
+fn work<T: Drop, P: Party<T> + Drop, R: Threads + Wait + Sync>(
+    rt: &R,
+    alloc: Global,
+    places: &Places,
+    shared: &P::Shared,
+    worker: Worker<P, T>,
+) -> Worked<P, T>
+    ensures done { OnOk result.result (Works P.does worker result.worker) }
+    ensures some { WorksSome P.does worker result.worker }
+{
+    let Worker {
+        number,
+        mut party,
+        mut tasks,
+        mut answers,
+    } = worker;
+    let result = answer_all(
+        rt,
+        alloc,
+        places,
+        number,
+        shared,
+        &mut party,
+        &mut tasks,
+        &mut answers,
+    );
+    match result {
+        Ok(()) => places.end_party(),
+        Err(_) => places.stop(),
+    }
+    Worked {
+        worker: Worker {
+            number,
+            party,
+            tasks,
+            answers,
+        },
+        result,
+    }
+}
+
+/// What a party's thread promises.
+#[derive(Drop)]
+pub struct WorkerPromise<P: Drop, T: Drop>(Snapshot<Worker<P, T>>);
+
+impl<P: Party<T> + Drop, T: Drop> Promise<Worked<P, T>> for WorkerPromise<P, T> {
+    ghost kept_by = { λ p r. OnOk r.result (Works P.does p.0.value r.worker) × WorksSome P.does p.0.value r.worker };
+}
+
+/// The thread of a party.
+pub type WorkerThread<P, T> = PromisedHandle<Worked<P, T>, WorkerPromise<P, T>>;
+
+/// No thread started for a party, or a growth was refused.
+#[derive(Clone, Copy, Debug, PartialEq, Eq, Drop, Error)]
+pub enum StartFault {
+    /// A growth was refused.
+    #[error("memory was refused")]
+    Memory,
+    /// A thread didn't start.
+    #[error("a thread didn't start")]
+    Threads,
+}
+
+impl From<AllocError> for StartFault {
+    ghost from_gives = { λ _ fault. fault ≡ Memory };
+
+    fn from(_error: AllocError) -> StartFault {
+        StartFault::Memory
+    }
+}
+
+// Keeps an item.
+fn keep<T: Drop>(items: &mut Vec<T>, item: T) -> Result<(), AllocError>
+    ensures { OnOk result (items.new.items ≡ items.old.items ++ item ∷ []) }
+{
+    items.push(item)?;
+    Ok(())
+}
+
+// Starts a thread for each party.
+fn start_each<
+    'e: 's,
+    's,
+    T: Drop + Send + 's,
+    P: Party<T> + Drop + Send + 's,
+    R: Threads + Wait + Sync,
+>(
+    rt: &'e R,
+    alloc: Global,
+    scope: &'s Scope<'s, &'e ()>,
+    places: &'e Places,
+    shared: &'e P::Shared,
+    workers: Vec<Worker<P, T>>,
+) -> Result<Vec<WorkerThread<P, T>>, StartFault>
+    ensures { IfOk result (λ v. map (λ t. t.promise.0.value) v.items ≡ workers.items) }
+{
+    let mut threads = Vec::new(alloc);
+    for worker in workers {
+        let promise = WorkerPromise(Snapshot::of(&worker));
+        let working = move || -> Worked<P, T>
+            ensures { OnOk result.result (Works P.does worker result.worker) × WorksSome P.does worker result.worker }
+        { work(rt, alloc, places, shared, worker) };
+        let Ok(thread) = scope.spawn_with(promise, working) else {
+            return Err(StartFault::Threads);
+        };
+        keep(&mut threads, thread)?;
+    }
+    Ok(threads)
+}
+
+/// Starts a thread for each party.
+///
+/// # Errors
+///
+/// `Threads`, where one doesn't start, or `Memory`; and all are to end, those that were started too.
+pub fn start_workers<
+    'e: 's,
+    's,
+    T: Drop + Send + 's,
+    P: Party<T> + Drop + Send + 's,
+    R: Threads + Wait + Sync,
+>(
+    rt: &'e R,
+    alloc: Global,
+    scope: &'s Scope<'s, &'e ()>,
+    places: &'e Places,
+    shared: &'e P::Shared,
+    workers: Vec<Worker<P, T>>,
+) -> Result<Vec<WorkerThread<P, T>>, StartFault>
+    ensures { IfOk result (λ v. map (λ t. t.promise.0.value) v.items ≡ workers.items) }
+{
+    match start_each(rt, alloc, scope, places, shared, workers) {
+        Ok(threads) => Ok(threads),
+        Err(fault) => {
+            places.stop();
+            Err(fault)
+        }
+    }
+}
+
+/// The parties and the ends of their rings, as their threads handed them back, and why one ended before its time.
+#[derive(Drop)]
+pub struct Joined<P: Drop, T: Drop> {
+    pub parties: Vec<P>,
+    pub tasks: Vec<Consumer<Numbered<T>>>,
+    pub answers: Vec<Producer<Vec<u8>>>,
+    pub fault: Option<PartyFault>,
+}
+
+impl<P: Drop, T: Drop> Joined<P, T> {
+    /// Nothing yet, with room for what so many parties hand back, and for the end of one more ring of answers.
+    ///
+    /// # Errors
+    ///
+    /// `AllocError`, where the room is refused.
+    pub fn with_room(alloc: Global, count: u16) -> Result<Joined<P, T>, AllocError>
+        ensures room { IfOk result (λ j. HasRoom count j) }
+        ensures empty { IfOk result (λ j. (j.parties.items ≡ []) × (j.tasks.items ≡ []) × (j.answers.items ≡ []) × (j.fault ≡ None)) }
+    {
+        let count = count as usize;
+        Ok(Joined {
+            parties: Vec::with_capacity(alloc, count)?,
+            tasks: Vec::with_capacity(alloc, count)?,
+            answers: Vec::with_capacity(alloc, count + 1)?,
+            fault: None,
+        })
+    }
+}
+
+// Why a party ended before its time, once one more has ended: as the first that did; but that memory was refused goes before that
+// all were to end, so that a party that was only told to end doesn't hide it.
+fn fault_with(before: Option<PartyFault>, ended: Result<(), PartyFault>) -> Option<PartyFault>
+    ensures none { result ≡ None → (before ≡ None) × (ended ≡ Ok tt) }
+    ensures refused { (before ≡ Some PartyFault.Memory) ⊎ (ended ≡ Err PartyFault.Memory) → result ≡ Some PartyFault.Memory }
+    ensures memory { result ≡ Some PartyFault.Memory → (before ≡ Some PartyFault.Memory) ⊎ (ended ≡ Err PartyFault.Memory) }
+{
+    match ended {
+        Ok(()) => before,
+        Err(PartyFault::Stopped) => before.or(Some(PartyFault::Stopped)),
+        Err(memory) => Some(memory),
+    }
+}
+
+/// Joins the threads of the parties, and answers the parties and the ends of their rings, in the order in which the threads were
+/// started, also of those that ended before their time. It needs no memory, so that a refusal can't lose them. `fault` is that of
+/// the first party which ended before its time; but `Memory`, where any of them was refused a growth, since the others are told to
+/// end then.
+pub fn join_workers<T: Drop + Send, P: Party<T> + Drop + Send, R: Threads>(
+    rt: &R,
+    threads: Vec<WorkerThread<P, T>>,
+    room: Joined<P, T>,
+) -> Joined<P, T>
+    requires room { HasRoom (length threads.items) room }
+    requires empty { (room.parties.items ≡ []) × (room.tasks.items ≡ []) × (room.answers.items ≡ []) × (room.fault ≡ None) }
+    ensures joined { AreJoinedOf P.does (map (λ t. t.promise.0.value) threads.items) result }
+    ensures room { vec_len result.answers < vec_capacity result.answers }
+{
+    let mut joined = room;
+    for thread in threads {
+        let Worked { worker, result } = thread.join(rt);
+        let Worker {
+            number: _,
+            party,
+            tasks,
+            answers,
+        } = worker;
+        joined.parties.push_reserved(party);
+        joined.tasks.push_reserved(tasks);
+        joined.answers.push_reserved(answers);
+        joined.fault = fault_with(joined.fault, result);
+    }
+    joined
+}

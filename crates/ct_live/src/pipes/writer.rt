@@ -1,0 +1,121 @@
+//! The writer: it writes the answers of all parties, each whole, as they come.
+
+ghost use Rattle.std.specs.Prelude.{◌≡◌, ◌<◌, [], false, length, IfOk, OnOk, OnErr};
+ghost use Rattle.rtrb.specs.Ring.{received, known_items, SameConsumer};
+ghost use Rattle.ct_live.specs.Rings.{AreSeenEmpty, EmptiedAt, SameConsumers};
+ghost use Rattle.ct_live.specs.Written.{Passes, PassesSome, WritesOn, BeginsOn};
+
+use crate::pipes::output::{WriteFailed, write_text};
+use crate::pipes::places::{Places, Seat};
+use rtrb::Consumer;
+use std::io::Write;
+use std::sync::Wait;
+
+// Writes the next answer of a party, if one is seen. It answers whether there was one.
+fn write_next<W: Write>(
+    places: &Places,
+    party: usize,
+    ring: &mut Consumer<Vec<u8>>,
+    output: &mut W,
+) -> Result<bool, WriteFailed>
+    ensures same { SameConsumer ring.old ring.new }
+    ensures empty { IfOk result (λ any. any ≡ false → known_items ring.new ≡ []) }
+    ensures written { OnOk result (Passes (W.contents output.old) (W.contents output.new)
+        (received ring.old) (received ring.new)) }
+    ensures failed { OnErr result (PassesSome (W.contents output.old) (W.contents output.new)
+        (received ring.old) (received ring.new)) }
+{
+    let Ok(text) = ring.pop() else {
+        return Ok(false);
+    };
+    places.wake(Seat::Party(party));
+    write_text(output, &text)?;
+    Ok(true)
+}
+
+// The same, among the answers of all parties.
+fn write_of<W: Write>(
+    places: &Places,
+    party: usize,
+    rings: &mut [Consumer<Vec<u8>>],
+    output: &mut W,
+) -> Result<bool, WriteFailed>
+    requires { party < length rings.old }
+    ensures same { SameConsumers rings.old rings.new }
+    ensures empty { IfOk result (λ any. any ≡ false → EmptiedAt party rings.old rings.new) }
+    ensures written { OnOk result (WritesOn rings.old rings.new (W.contents output.old) (W.contents output.new)) }
+    ensures failed { OnErr result (BeginsOn rings.old rings.new (W.contents output.old) (W.contents output.new)) }
+{
+    let ring = &mut rings[party];
+    write_next(places, party, ring, output)
+}
+
+// Writes an answer of each party of which one is seen. It answers whether there was any.
+fn write_round<W: Write>(
+    places: &Places,
+    rings: &mut [Consumer<Vec<u8>>],
+    output: &mut W,
+) -> Result<bool, WriteFailed>
+    ensures same { SameConsumers rings.old rings.new }
+    ensures empty { IfOk result (λ any. any ≡ false → AreSeenEmpty rings.new) }
+    ensures written { OnOk result (WritesOn rings.old rings.new (W.contents output.old) (W.contents output.new)) }
+    ensures failed { OnErr result (BeginsOn rings.old rings.new (W.contents output.old) (W.contents output.new)) }
+{
+    let mut any = false;
+    for party in 0..rings.len() {
+        if write_of(places, party, rings, output)? {
+            any = true;
+        }
+    }
+    Ok(any)
+}
+
+// Writes the answers of all parties as they come, until all parties have ended, or all were to end.
+fn write_until_ended<R: Wait, W: Write>(
+    rt: &R,
+    places: &Places,
+    rings: &mut [Consumer<Vec<u8>>],
+    output: &mut W,
+) -> Result<(), WriteFailed>
+    ensures same { SameConsumers rings.old rings.new }
+    ensures empty { OnOk result (AreSeenEmpty rings.new) }
+    ensures written { OnOk result (WritesOn rings.old rings.new (W.contents output.old) (W.contents output.new)) }
+    ensures failed { OnErr result (BeginsOn rings.old rings.new (W.contents output.old) (W.contents output.new)) }
+{
+    for _ in rt.forever() {
+        let ended = places.have_ended();
+        if !write_round(places, rings, output)? {
+            if ended {
+                return Ok(());
+            }
+            places.wait(rt, Seat::Writer);
+        }
+    }
+    unreachable!()
+}
+
+/// Writes the answers of all parties as they come, until all parties have ended, or all were to end, and each ring was seen
+/// empty. What is left then, the threads having ended, `write_left` writes.
+///
+/// # Errors
+///
+/// `WriteFailed`, and all are to end: of what came out of the rings a beginning is written, in the same sense.
+pub fn write_answers<R: Wait, W: Write>(
+    rt: &R,
+    places: &Places,
+    rings: &mut [Consumer<Vec<u8>>],
+    output: &mut W,
+) -> Result<(), WriteFailed>
+    ensures same { SameConsumers rings.old rings.new }
+    ensures empty { OnOk result (AreSeenEmpty rings.new) }
+    ensures written { OnOk result (WritesOn rings.old rings.new (W.contents output.old) (W.contents output.new)) }
+    ensures failed { OnErr result (BeginsOn rings.old rings.new (W.contents output.old) (W.contents output.new)) }
+{
+    match write_until_ended(rt, places, rings, output) {
+        Ok(()) => Ok(()),
+        Err(failed) => {
+            places.stop();
+            Err(failed)
+        }
+    }
+}
