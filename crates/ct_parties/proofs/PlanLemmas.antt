@@ -14,12 +14,14 @@ use Rattle.ct_lines.specs.declared.request.FrontRequest.{FrontRequest}
 use Rattle.ct_lines.specs.declared.request.FrozenRequest.{FrozenRequest}
 use Rattle.ct_parties.specs.declared.task.OperatorTask.{OperatorTask}
 use Rattle.ct_parties.specs.declared.plan.Plan.{Plan}
+use Rattle.ct_parties.specs.declared.plan.Task.{Task as CodeTask}
+use Rattle.ct_parties.specs.declared.plan.Task.TheVariants as task_case
 use Rattle.ct_parties.specs.declared.party.Shift.{Shift}
 use Rattle.ct_parties.specs.declared.party.Work.{Work}
 use Rattle.ct_parties.specs.Shifts.{AreForFronts}
-use Rattle.ct_parties.specs.Tasks.{Task, Step, does, ends_shift, for_front, for_operator, for_frozen, front_part, front_parts, operator_part, frozen_line}
+use Rattle.ct_parties.specs.Tasks.{Task, Step, does, ends_shift, for_front, for_operator, for_frozen, front_part, front_parts, operator_part, frozen_line, IsForThere}
 use Rattle.ct_lines.specs.Requests.{front_asked}
-use Rattle.ct_parties.specs.Plans.{AreShiftsOf, IsFrozenLine, IsPlanOf, IsShiftOf, IsWorkOf, ShiftTasks, shift_steps}
+use Rattle.ct_parties.specs.Plans.{AreShiftsOf, IsFrozenLine, IsPlanOf, IsShiftOf, IsWorkOf, ShiftTasks, shift_steps, step}
 use Rattle.ct_parties.proofs.TaskLemmas.{part_kept, part_grows}
 
 -- what holds of each element, and of one more
@@ -189,3 +191,10 @@ plan_new n p none quiet work = record {
   given = record { ended = []; left = []; cut = refl; each = subst (λ (l : List Shift). AllZip (IsShiftOf n) l []) (sym none) tt; rest = work };
   frozen = subst (λ (l : List FrozenRequest). AllZip IsFrozenLine l []) (sym quiet) tt;
 }
+
+-- who is there doesn't depend on the line
+pub there_anyway : (n : ℕ) (line other : List ℕ) (t : CodeTask) → IsForThere n (step line t) → IsForThere n (step other t)
+there_anyway n line other (task_case.Front k r) there = there
+there_anyway n line other (task_case.Operator t) there = there
+there_anyway n line other (task_case.Frozen r) there = there
+there_anyway n line other (task_case.EndsShift now) there = there

@@ -1,6 +1,9 @@
-use Rattle.std.proofs.Common.{refl}
+use Rattle.std.proofs.Common.{[], refl}
 use Rattle.ct_parties.proofs.PlanLemmas.{plan_does}
 use Rattle.ct_parties.proofs.plan.Plan.add.Goals as goal
+
+pub add_front_task-requires : goal.add_front_task-requires
+add_front_task-requires c = rw c.in-Front.is at (c.requires [])
 
 pub returns-in_ok-add_front_task-in-Front : goal.returns-in_ok-add_front_task-in-Front
 returns-in_ok-add_front_task-in-Front c =

@@ -1,8 +1,15 @@
-use Rattle.std.proofs.Common.{◌<◌, length, arith, [], ◌∷◌}
+use Rattle.std.proofs.Common.{◌<◌, ℕ, length, arith, [], ◌∷◌, subst, sym}
 use Rattle.std.proofs.lemmas.Grind.{common_steps}
 use Rattle.ct_parties.specs.Plans.{step}
+use Rattle.ct_parties.specs.Tasks.{IsForThere}
+use Rattle.ct_parties.proofs.PlanLemmas.{there_anyway}
 use Rattle.ct_parties.proofs.ReadingLemmas.{asked_once}
 use Rattle.ct_parties.proofs.plan.Plan.add_line.Goals as goal
+
+pub add-requires : goal.add-requires
+add-requires c = λ other.
+    subst (λ (n : ℕ). IsForThere n (step other c.in_ok-task.task)) (sym c.requires)
+    (there_anyway c.args.fronts c.args.line.now other c.in_ok-task.task c.in_ok-task.ensures.there)
 
 pub returns-in_ok-add-clause-taken : goal.returns-in_ok-add-clause-taken
 returns-in_ok-add-clause-taken c =
