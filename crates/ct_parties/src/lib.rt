@@ -1,4 +1,4 @@
-//! What the parties of a log do for lines of requests: the fronts and the operator, each in a thread of its own, and then
+//! What the parties of a log do for lines of requests: the fronts, each in a thread of its own, the operator, and then
 //! the closed log.
 //!
 //! `serve` reads an input to its end, gives its lines out to the fronts, the operator and the closed log, and writes a reply
@@ -10,7 +10,7 @@
 //! - `front_work` and `operator_work` do the lines of a front and of the operator, `replying` adds their replies, and
 //!   `waiting` is how a line waits for another party.
 //! - `party` has the fronts with their replies, and what they and the operator do in a shift; `threads` does the work of a
-//!   shift, each party in a thread of its own; and `shifting` ends shifts, and does them one after the other.
+//!   shift, each front in a thread of its own; and `shifting` ends shifts, and does them one after the other.
 //! - `closing` closes the log.
 //! - `options` has the numbers of a log, and `fault` names what ends a run before all is written.
 //! - `script` has `serve`.
