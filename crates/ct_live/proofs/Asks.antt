@@ -8,10 +8,10 @@ use Rattle.std.proofs.lemmas.Bool.Decides.{nat_tests}
 use Rattle.std.proofs.lemmas.Str.{IsUtf8-from_is_utf8, is_utf8-from_IsUtf8}
 use Rattle.serde_json.specs.Data.{Data}
 use Rattle.serde_json.specs.Read.{read}
-use Rattle.ct_parties.specs.Plans.{step}
+use Rattle.ct_parties.specs.Tasks.{step}
 use Rattle.ct_parties.specs.Tasks.{AsksFor, does, for_operator}
-use Rattle.ct_parties.specs.declared.plan.Task.{Task as CodeTask}
-use Rattle.ct_parties.specs.declared.plan.Task.TheVariants as task_case
+use Rattle.ct_parties.specs.declared.task.Task.{Task as CodeTask}
+use Rattle.ct_parties.specs.declared.task.Task.TheVariants as task_case
 use Rattle.ct_parties.specs.declared.task.OperatorTask.{OperatorTask}
 use Rattle.ct_parties.specs.declared.task.OperatorTask.TheVariants.{BadLine}
 use Rattle.ct_live.specs.LiveLines.{LiveAsked, live_asked, live_asked_in, live_request_of}

@@ -1,6 +1,6 @@
 -- What a front shows, and how it goes on.
 use Rattle.std.proofs.Common.{◌≡◌, ◌⊎◌, ◌∙◌, true, false, inl, inr, ap, subst, refl, sym}
-use Rattle.std.specs.Prelude.{Result, Ok, Err, MatchResult, IfErr}
+use Rattle.std.specs.Prelude.{Result, Ok, Err, MatchResult, IfErr, IsErrAnd}
 use Rattle.ct_codec.specs.declared.refusal.Refusal.{Refusal}
 use Rattle.ct_codec.specs.declared.refusal.Refusal.TheVariants.{Memory, Closed}
 use Rattle.ct_core.specs.Settlement.{Log, Lawful}
@@ -105,3 +105,8 @@ front_goes_on_both a b c p q = record {
   moves = moves_both a.sight b.sight c.sight p.moves q.moves;
   shutdown = λ known. q.shutdown (p.shutdown known);
 }
+
+-- what holds of the fault holds of the error that it became
+pub if_err_is : {T E : Type 0} (P : E → Type 0) (r : Result T E) (x : E) → IsErrAnd r (λ e. e ≡ x) → P x → IfErr r P
+if_err_is P (Ok o) x none p = absurd none
+if_err_is P (Err e) x is p = subst P (sym is) p

@@ -1,5 +1,5 @@
 -- The fronts of a new house.
-use Rattle.std.proofs.Common.{◌≡◌, ◌<◌, ◌+◌, ℕ, List, length, sym, ap, subst, ◌∙◌, arith, get_or}
+use Rattle.std.proofs.Common.{◌≡◌, ◌<◌, ◌+◌, ℕ, List, length, sym, ap, ◌∙◌, arith, get_or}
 use Rattle.std.specs.Prelude.{All}
 use Rattle.std.specs.List.{range_with_len}
 use Rattle.std.proofs.lemmas.List.{same_lists, length-map, get_or-map, length-replicate}
@@ -7,9 +7,6 @@ use Rattle.std.proofs.lemmas.List.FromFn.{length-range_with_len, get_or-range_wi
 use Rattle.std.proofs.lemmas.Option.{get_or_from_slice_get, slice_get-get_or}
 use Rattle.ct_core.proofs.SettlementLemmas.{slice_get_is}
 use Rattle.ct_house.specs.House.{HouseState, FrontView, IsNewHouse, IsOfHouse, AreInOrder, numbers_of, empty_lane}
-use Rattle.ct_parties.specs.declared.party.FrontParty.{FrontParty}
-use Rattle.ct_parties.specs.Parties.{AreFrontsOf, Parties, fronts_of}
-use Rattle.ct_parties.specs.Output.{AreNewParties}
 
 -- a new house has as many lanes as fronts
 pub lanes_of_new : (s : HouseState) (fronts : List FrontView) (n places now : ℕ) → IsNewHouse s fronts n places now → length s.lanes ≡ n
@@ -33,15 +30,3 @@ new_in_order s fronts n places now i =
     get_or-map (λ (f : FrontView). f.intake.number) fronts k x d inside ∙ ap (λ (f : FrontView). f.intake.number) (get_or_from_slice_get fronts k x x at)
     ∙ (let f = i.each k x at in f.number) ∙ sym (get_or-range_with_len 0 n k d small ∙ z)) in
     all ∙ ap (range_with_len 0) (sym (lanes_of_new s fronts n places now i))
-
--- a new house's fronts are all its fronts
-pub new_fronts : (n places open_at : ℕ) (start : Parties) → AreNewParties n places open_at start → 0 < n → AreFrontsOf start.house (fronts_of start.fronts)
-new_fronts n places open_at start i some = record {
-  of_house = new_of_house start.house (fronts_of start.fronts) n places open_at i.fresh;
-  in_order = new_in_order start.house (fronts_of start.fronts) n places open_at i.fresh;
-  some = subst (λ (k : ℕ). 0 < k) (sym i.fresh.count) some;
-}
-
--- and as many
-pub new_count : (n places open_at : ℕ) (start : Parties) → AreNewParties n places open_at start → n ≡ length start.fronts
-new_count n places open_at start i = sym i.fresh.count ∙ length-map start.fronts (λ (p : FrontParty). p.front)

@@ -1,13 +1,7 @@
 pub mod LineLemmas
-pub mod TaskLemmas
-pub mod PlanLemmas
-pub mod ReadingLemmas
 pub mod ClosingLemmas
 pub mod TurnLemmas
 pub mod OperatorLemmas
 pub mod FrontLemmas
 pub mod PartyLemmas
-pub mod OrderLemmas
-pub mod ShiftLemmas
 pub mod HouseLemmas
-pub mod OutputLemmas

@@ -20,10 +20,6 @@ pub record IsRefusalFault (r : Refusal) (f : Fault) : Type 0 where
   pub clock_back : r ≡ refusal.ClockBack → f ≡ ClockBack
   pub memory : r ≡ refusal.Memory → f ≡ Memory
 
--- a fault that may come while the closed log answers requests
-abbrev pub IsFrozenFault : Fault → Type 0
-IsFrozenFault f = (f ≡ Write) ⊎ (f ≡ Memory)
-
 -- the fault that an error of this kind is, where words or the input are read
 pub record IsReadingFault (k : ErrorKind) (f : Fault) : Type 0 where
   pub memory : k ≡ OutOfMemory → f ≡ Memory

@@ -1,11 +1,8 @@
 pub mod Lines
 pub mod Tasks
-pub mod Plans
 pub mod InTurn
 pub mod FrontWork
 pub mod OperatorWork
 pub mod Parties
-pub mod Shifts
 pub mod ClosedLog
 pub mod Faults
-pub mod Output

@@ -1,30 +1,8 @@
--- What the fronts and the operator do in a shift, and what they leave.
-use Rattle.std.specs.Prelude.{◌≡◌, ◌<◌, ◌⊎◌, ℕ, List, [], ◌∷◌, ◌++◌, length, map, All, Vec}
-use Rattle.std.specs.Global.{Global}
-use Rattle.std.specs.List.{AllZip, flat_map}
+-- The fronts of a house, in order.
+use Rattle.std.specs.Prelude.{◌<◌, List, length, All}
+use Rattle.std.specs.List.{AllZip}
 use Rattle.ct_house.specs.House.{AreInOrder, FrontView, HouseState, IsOfHouse}
-use Rattle.ct_parties.specs.declared.fault.Fault.{Fault}
-use Rattle.ct_parties.specs.declared.fault.Fault.TheVariants.{Memory, Threads}
-use Rattle.ct_parties.specs.FrontWork.{FrontGoesOn, FrontServes}
-use Rattle.ct_parties.specs.OperatorWork.{OperatorServes, GoesOn}
-use Rattle.ct_parties.specs.declared.party.FrontParty.{FrontParty}
-use Rattle.ct_parties.specs.declared.party.FrontShift.{FrontShift}
-use Rattle.ct_parties.specs.declared.party.Work.{Work}
-use Rattle.ct_lines.specs.declared.request.FrontRequest.{FrontRequest}
-
--- the parties between two tasks: the house, the operator's replies so far, and each front with its replies so far
-pub record Parties : Type 0 where
-  pub house : HouseState
-  pub told : List ℕ
-  pub fronts : List FrontParty
-
--- the fronts of the parties
-abbrev pub fronts_of : List FrontParty → List FrontView
-fronts_of parties = map (λ (p : FrontParty). p.front) parties
-
--- all replies so far: front by front, and then the operator's
-abbrev pub all_replies : Parties → List ℕ
-all_replies p = flat_map (λ (f : FrontParty). f.replies.items) p.fronts ++ p.told
+use Rattle.ct_parties.specs.FrontWork.{FrontGoesOn}
 
 -- all fronts of the house, in order, of which there is one at least
 pub record AreFrontsOf (s : HouseState) (fronts : List FrontView) : Type 0 where
@@ -32,32 +10,6 @@ pub record AreFrontsOf (s : HouseState) (fronts : List FrontView) : Type 0 where
   pub in_order : AreInOrder (length s.lanes) fronts
   pub some : 0 < length fronts
 
--- a front does its tasks in turn, with its replies behind those so far, and went on
-pub record FrontDoesShift (a : FrontParty) (tasks : List FrontRequest) (b : FrontParty) : Type 0 where
-  pub serves : FrontServes a.front tasks a.replies.items b.front b.replies.items
-  pub goes_on : FrontGoesOn a.front b.front
-
--- each front does its tasks
-abbrev pub FrontsDoShift : List FrontParty → List (Vec FrontRequest Global) → List FrontParty → Type 0
-FrontsDoShift [] [] [] = Unit {0}
-FrontsDoShift (a ∷ before) (ts ∷ work) (b ∷ after) = FrontDoesShift a ts.items b × FrontsDoShift before work after
-FrontsDoShift _ _ _ = ⊥
-
--- the same of fronts that have their tasks with them
-abbrev pub FrontsDo : List FrontShift → List FrontParty → Type 0
-FrontsDo shifts after = AllZip (λ (s : FrontShift) (b : FrontParty). FrontDoesShift s.party s.tasks.items b) shifts after
-
--- All parties do the work of a shift, whatever the order between them: each front its tasks, and the operator its own, over the
--- house, which went on.
-pub record DoesShift (a : Parties) (work : Work) (b : Parties) : Type 0 where
-  pub fronts : FrontsDoShift a.fronts work.fronts.items b.fronts
-  pub operated : OperatorServes a.house work.operator.items a.told b.house b.told
-  pub goes_on : GoesOn a.house b.house
-
 -- the fronts went on, place by place
 abbrev pub AreSame : List FrontView → List FrontView → Type 0
 AreSame before after = AllZip FrontGoesOn before after
-
--- a thread didn't start, or there was no memory
-abbrev pub IsPartyFault : Fault → Type 0
-IsPartyFault f = (f ≡ Threads) ⊎ (f ≡ Memory)

@@ -1,7 +1,10 @@
 -- What the lines have the program do.
-use Rattle.std.specs.Prelude.{◌≡◌, ◌≢◌, ◌<◌, ℕ, List, [], ◌∷◌, ◌++◌, length, Option, Some, None, nat_lt, nat_eq, ◌⊎◌, if◌then◌else◌}
-use Rattle.std.specs.List.{AllByRecursion, filter_map, flat_map}
+use Rattle.std.specs.Prelude.{◌≡◌, ◌<◌, ◌⊎◌, ℕ, List, nat_lt, if◌then◌else◌}
 use Rattle.ct_lines.specs.Asked.{Asked, by_front, by_operator, by_frozen, FrontAsked, OperatorAsked, sequence, publish, shutdown, shift, IsRequest}
+use Rattle.ct_lines.specs.Requests.{front_asked, frozen_asked}
+use Rattle.ct_lines.specs.declared.request.FrozenRequest.{FrozenRequest}
+use Rattle.ct_parties.specs.declared.task.Task.{Task as CodeTask}
+use Rattle.ct_parties.specs.declared.task.Task.TheVariants as task_case
 use Rattle.ct_parties.specs.declared.task.OperatorTask.{OperatorTask}
 use Rattle.ct_parties.specs.declared.task.OperatorTask.TheVariants.{Sequence, Publish, Shutdown, BadLine}
 
@@ -45,56 +48,26 @@ abbrev pub AsksFor : ℕ → List ℕ → Step → Type 0
 AsksFor fronts line s = ((a : Asked) × IsRequest line a × (s ≡ step_of fronts line a))
     ⊎ ((s ≡ does (for_operator BadLine)) × ((a : Asked) → IsRequest line a → ⊥))
 
--- the steps are what is done for the lines, in order: for an empty line there is none
-abbrev pub AllAskFor : ℕ → List (List ℕ) → List Step → Type 0
-AllAskFor fronts [] [] = Unit {0}
-AllAskFor fronts [] (s ∷ ss) = ⊥
-AllAskFor fronts ([] ∷ lines) ss = AllAskFor fronts lines ss
-AllAskFor fronts ((b ∷ bs) ∷ lines) [] = ⊥
-AllAskFor fronts ((b ∷ bs) ∷ lines) (s ∷ ss) = AsksFor fronts (b ∷ bs) s × AllAskFor fronts lines ss
+-- the step that a task is which was read from this line
+abbrev pub step : List ℕ → CodeTask → Step
+step line (task_case.Front n t) = does (for_front n (front_asked t))
+step line (task_case.Operator t) = does (for_operator t)
+step line (task_case.Frozen r) = does (for_frozen line)
+step line (task_case.EndsShift now) = ends_shift now
 
--- the front k's part of a task
-abbrev pub front_part : ℕ → Task → Option FrontAsked
-front_part k (for_front n r) = if nat_eq n k then Some r else None
-front_part k (for_operator t) = None
-front_part k (for_frozen line) = None
+-- the line is this request, which a reader of the frozen log makes
+abbrev pub IsFrozenLine : FrozenRequest → List ℕ → Type 0
+IsFrozenLine r line = IsRequest line (by_frozen (frozen_asked r))
 
--- the operator's part of a task
-abbrev pub operator_part : Task → Option OperatorTask
-operator_part (for_front n r) = None
-operator_part (for_operator t) = Some t
-operator_part (for_frozen line) = None
+-- a task for the frozen log is the request that the line is
+abbrev pub IsFrozenTask : List ℕ → CodeTask → Type 0
+IsFrozenTask line (task_case.Front n t) = Unit {0}
+IsFrozenTask line (task_case.Operator t) = Unit {0}
+IsFrozenTask line (task_case.Frozen r) = IsFrozenLine r line
+IsFrozenTask line (task_case.EndsShift now) = Unit {0}
 
--- the closed log's line, with its end, of a step that has one
-abbrev pub frozen_part : Step → List ℕ
-frozen_part (does (for_front n r)) = []
-frozen_part (does (for_operator t)) = []
-frozen_part (does (for_frozen line)) = line ++ 10 ∷ []
-frozen_part (ends_shift now) = []
-
--- the line that the closed log answers, of a step that has one
-abbrev pub frozen_line : Step → Option (List ℕ)
-frozen_line (does (for_front n r)) = None
-frozen_line (does (for_operator t)) = None
-frozen_line (does (for_frozen line)) = Some line
-frozen_line (ends_shift now) = None
-
--- a line that isn't empty, and has no end in it
-abbrev pub IsWholeLine : List ℕ → Type 0
-IsWholeLine line = (0 < length line) × AllByRecursion (λ b. b ≢ 10) line
-
--- each line that the closed log answers is one
-abbrev pub AreWhole : List Step → Type 0
-AreWhole ss = AllByRecursion IsWholeLine (filter_map frozen_line ss)
-
--- what the front k does in a shift, in order
-abbrev pub front_parts : ℕ → List Task → List FrontAsked
-front_parts k ts = filter_map (front_part k) ts
-
--- what the operator does in a shift, in order
-abbrev pub operator_parts : List Task → List OperatorTask
-operator_parts ts = filter_map operator_part ts
-
--- the lines of all shifts that the closed log answers, in order
-abbrev pub frozen_lines : List Step → List ℕ
-frozen_lines ss = flat_map frozen_part ss
+-- The task is the one of this line with this step, and a front that does it is one of so many fronts.
+pub record IsTaskFor (fronts : ℕ) (line : List ℕ) (s : Step) (t : CodeTask) : Type 0 where
+  pub asked : step line t ≡ s
+  pub there : IsForThere fronts (step line t)
+  pub frozen : IsFrozenTask line t

@@ -1,7 +1,7 @@
 -- What a run of the program writes.
 use Rattle.std.specs.Prelude.{◌≡◌, ◌⊎◌, ℕ, List, [], Option}
 use Rattle.std.specs.Io.KnownBytes.{Appends}
-use Rattle.ct_parties.specs.Output.{IsBegun, IsServed}
+use Rattle.ct_script.specs.Output.{IsBegun, IsServed}
 use Rattle.ct_parties.specs.declared.fault.Fault.{Fault}
 use Rattle.ct_parties.specs.declared.fault.Fault.TheVariants.{Memory, Write}
 use Rattle.ct_command.specs.CommandLine.{CommandLine, log_with, help, version, nothing}

@@ -6,7 +6,7 @@
 //! those of the frozen log. A line that ends a shift has all lines before it done, and all fronts go on, before the lines
 //! behind it are begun.
 //!
-//! - `program` has `run`, which does all this over any reader and any two writers, by `serve` of `ct_parties`; `ct_command`
+//! - `program` has `run`, which does all this over any reader and any two writers, by `serve` of `ct_script`; `ct_command`
 //!   reads the command line, and has the lines of faults: what ends the program before all is written.
 #![tactic(auto)]
 

@@ -11,7 +11,8 @@ ghost use Rattle.ct_command.specs.FaultLines.{fault_line, name_of};
 ghost use Rattle.ctlog.specs.Runs.{IsDone, IsBrokenOff};
 
 use ct_command::{Program, answer_command_line, read_options, report};
-use ct_parties::{Fault, serve};
+use ct_parties::Fault;
+use ct_script::serve;
 use std::alloc::Global;
 use std::io;
 use std::io::{Read, Write};

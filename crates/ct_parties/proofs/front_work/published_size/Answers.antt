@@ -1,5 +1,4 @@
-use Rattle.ct_parties.proofs.FrontLemmas.{head_refused}
-use Rattle.ct_parties.proofs.OutputLemmas.{if_err_is}
+use Rattle.ct_parties.proofs.FrontLemmas.{head_refused, if_err_is}
 use Rattle.ct_parties.proofs.front_work.published_size.Goals as goal
 
 pub returns-in_err-head-clause-refused : goal.returns-in_err-head-clause-refused

@@ -1,0 +1,5 @@
+pub mod Steps
+pub mod Plans
+pub mod Parties
+pub mod Shifts
+pub mod Output
