@@ -7,9 +7,8 @@ ghost use Rattle.ct_parties.specs.Parties.{FrontDoesShift, FrontsDo, DoesShift, 
 ghost use Rattle.ct_parties.specs.Shifts.{start_of};
 
 use crate::fault::Fault;
-use crate::front_work::serve_front;
-use crate::operator_work::serve_operator;
 use crate::party::{FrontParty, FrontShift, House, Work};
+use crate::serving::serve_all;
 use crate::task::OperatorTask;
 use crate::waiting::Waiting;
 use ct_house::Sequencer;
@@ -22,7 +21,7 @@ use std::thread;
 use std::thread::{Promise, PromisedHandle, Scope, Threads};
 
 // Does a front's tasks. It answers the front, with its replies.
-fn serve_front_shift<R: Wait>(
+fn serve_front_shift<R: Threads + Wait + Sync>(
     rt: &R,
     alloc: Global,
     shift: FrontShift,
@@ -35,7 +34,8 @@ fn serve_front_shift<R: Wait>(
         mut front,
         mut replies,
     } = party;
-    serve_front(rt, alloc, &mut front, tasks, waiting, &mut replies)?;
+    let mut tasks = tasks.into_iter();
+    serve_all(rt, alloc, waiting, &mut tasks, &mut front, &mut replies)?;
     Ok(FrontParty { front, replies })
 }
 
@@ -146,7 +146,8 @@ fn serve_in_threads<'e: 's, 's, R: Threads + Wait + Sync>(
             return Err(fault);
         }
     };
-    let operated = serve_operator(rt, alloc, sequencer, tasks, waiting, told);
+    let mut tasks = tasks.into_iter();
+    let operated = serve_all(rt, alloc, waiting, &mut tasks, sequencer, told);
     let parties = join_fronts(rt, alloc, threads)?;
     operated?;
     Ok(parties)

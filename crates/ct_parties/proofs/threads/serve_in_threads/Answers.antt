@@ -1,0 +1,15 @@
+use Rattle.std.proofs.Common.{List, subst}
+use Rattle.ct_parties.specs.OperatorWork.{GoesOn, OperatorDoes, OperatorServes}
+use Rattle.ct_parties.specs.declared.task.OperatorTask.{OperatorTask}
+use Rattle.ct_parties.proofs.OperatorLemmas.{goes_on_nothing, goes_on_both}
+use Rattle.ct_parties.proofs.TurnLemmas.{list_served, list_went_on}
+use Rattle.ct_parties.proofs.threads.serve_in_threads.Goals as goal
+
+pub returns-clause-serves : goal.returns-clause-serves
+returns-clause-serves g c =
+    subst (λ (l : List OperatorTask). OperatorServes c.args.sequencer.now l c.args.told.now.items c.serve_all-operated.new.party
+    c.serve_all-operated.new.sink.items) c.into_iter-tasks.ensures.rest
+    (list_served OperatorDoes GoesOn goes_on_nothing goes_on_both _ _ c.in_ok-operated.ensures.all)
+
+pub returns-clause-goes_on : goal.returns-clause-goes_on
+returns-clause-goes_on g c = list_went_on OperatorDoes GoesOn goes_on_nothing goes_on_both _ _ c.in_ok-operated.ensures.all
