@@ -1,6 +1,7 @@
 pub mod Lines
 pub mod Tasks
 pub mod InTurn
+pub mod Serving
 pub mod FrontWork
 pub mod OperatorWork
 pub mod Parties

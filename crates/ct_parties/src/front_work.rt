@@ -1,23 +1,24 @@
 //! The lines of a front, done in order.
 
-ghost use Rattle.std.specs.Prelude.{◌≡◌, ◌++◌, map, true, IfOk, IfErr, OnOk};
+ghost use Rattle.std.specs.Prelude.{◌≡◌, map, true, IfOk, IfErr};
 ghost use Rattle.ct_codec.specs.Submitted.{x509, precert};
 ghost use Rattle.ct_core.specs.Replies.{Answer, a_head};
 ghost use Rattle.ct_core.specs.declared.query.Query.TheVariants.{GetSth};
 ghost use Rattle.ct_gate.specs.Ends.{SameIntake};
-ghost use Rattle.ct_lines.specs.ReplyText.{answered, reply_line};
+ghost use Rattle.ct_lines.specs.ReplyText.{answered};
 ghost use Rattle.ct_tree.specs.declared.head.Head.{Head};
-ghost use Rattle.ct_parties.specs.FrontWork.{Sends, Submits, Looks, Shows, Awaits, FrontDoes, FrontGoesOn, FrontServes};
+ghost use Rattle.ct_parties.specs.FrontWork.{Sends, Submits, Looks, Shows, Awaits, FrontDoes, FrontGoesOn};
+ghost use Rattle.ct_parties.specs.Serving.{DoesWithLine};
 
-use crate::replying::push_reply;
+use crate::serving::Party;
 use crate::waiting::{Bell, Waiting};
 use ct_codec::{Refusal, Submission};
 use ct_core::{Query, Reply};
 use ct_house::Front;
-use ct_lines::FrontRequest;
-use ct_tree::Memory;
-use std::alloc::Global;
+use ct_lines::{FrontRequest, reply_text};
+use std::alloc::{AllocError, Global};
 use std::sync::Wait;
+use std::thread::Threads;
 
 // Sends a submission against which nothing stands, and rings where it is accepted.
 fn send(front: &mut Front, submission: Submission, accepted: &Bell) -> Result<Reply, Refusal>
@@ -131,36 +132,18 @@ pub fn do_task<R: Wait>(
     }
 }
 
-// Does what a line asks for, and adds the reply.
-fn reply_to<R: Wait>(
-    rt: &R,
-    alloc: Global,
-    front: &mut Front,
-    task: FrontRequest,
-    waiting: &Waiting,
-    replies: &mut Vec<u8>,
-) -> Result<(), Memory>
-    ensures does { OnOk result ((r : Answer) × FrontDoes front.old task r front.new × (replies.new.items ≡ replies.old.items ++ reply_line r)) }
-    ensures goes_on { FrontGoesOn front.old front.new }
-{
-    let reply = do_task(rt, alloc, front, task, waiting);
-    push_reply(alloc, replies, &reply)
-}
+// A front's replies are whole lines.
+impl Party<FrontRequest> for Front {
+    ghost does = { DoesWithLine FrontDoes FrontGoesOn };
 
-/// Does a front's tasks in order, and adds the replies. A line that waits ends after `waiting.turns` turns.
-pub fn serve_front<R: Wait>(
-    rt: &R,
-    alloc: Global,
-    front: &mut Front,
-    tasks: Vec<FrontRequest>,
-    waiting: &Waiting,
-    replies: &mut Vec<u8>,
-) -> Result<(), Memory>
-    ensures serves { OnOk result (FrontServes front.old tasks.items replies.old.items front.new replies.new.items) }
-    ensures goes_on { OnOk result (FrontGoesOn front.old front.new) }
-{
-    for task in tasks {
-        reply_to(rt, alloc, front, task, waiting, replies)?;
+    fn reply<R: Threads + Wait + Sync>(
+        &mut self,
+        rt: &R,
+        alloc: Global,
+        waiting: &Waiting,
+        task: FrontRequest,
+    ) -> Result<Vec<u8>, AllocError> {
+        let reply = do_task(rt, alloc, self, task, waiting);
+        reply_text(alloc, &reply)
     }
-    Ok(())
 }

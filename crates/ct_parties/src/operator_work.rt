@@ -1,18 +1,18 @@
 //! The lines of the operator, done in order.
 
-ghost use Rattle.std.specs.Prelude.{◌≡◌, ◌++◌, ◌≤◌, ◌<◌, length, OnOk};
-ghost use Rattle.ct_core.specs.Replies.{Answer};
-ghost use Rattle.ct_lines.specs.ReplyText.{answered, reply_line};
-ghost use Rattle.ct_parties.specs.OperatorWork.{GoesOn, SettlesSome, SequencesFront, Publishes, ShutsTheLog, OperatorDoes, OperatorServes};
+ghost use Rattle.std.specs.Prelude.{◌≤◌, ◌<◌, length};
+ghost use Rattle.ct_lines.specs.ReplyText.{answered};
+ghost use Rattle.ct_parties.specs.OperatorWork.{GoesOn, SettlesSome, SequencesFront, Publishes, ShutsTheLog, OperatorDoes};
+ghost use Rattle.ct_parties.specs.Serving.{DoesWithLine};
 
-use crate::replying::push_reply;
+use crate::serving::Party;
 use crate::task::OperatorTask;
 use crate::waiting::{Bell, Waiting};
 use ct_codec::Refusal;
 use ct_core::Reply;
 use ct_house::Sequencer;
-use ct_tree::Memory;
-use std::alloc::Global;
+use ct_lines::reply_text;
+use std::alloc::{AllocError, Global};
 use std::sync::Wait;
 use std::thread::Threads;
 
@@ -129,37 +129,18 @@ pub fn do_task<R: Threads + Wait + Sync>(
     }
 }
 
-// Does what a line asks for, and adds the reply.
-fn reply_to<R: Threads + Wait + Sync>(
-    rt: &R,
-    alloc: Global,
-    sequencer: &mut Sequencer,
-    task: OperatorTask,
-    waiting: &Waiting,
-    replies: &mut Vec<u8>,
-) -> Result<(), Memory>
-    ensures does { OnOk result ((r : Answer) × OperatorDoes sequencer.old task r sequencer.new × (replies.new.items ≡ replies.old.items ++ reply_line r)) }
-    ensures goes_on { GoesOn sequencer.old sequencer.new }
-{
-    let reply = do_task(rt, alloc, sequencer, task, waiting);
-    push_reply(alloc, replies, &reply)
-}
+// The operator's replies are whole lines.
+impl Party<OperatorTask> for Sequencer {
+    ghost does = { DoesWithLine OperatorDoes GoesOn };
 
-/// Does the operator's tasks in order, and adds the replies. A line that waits ends after `waiting.turns` turns in a
-/// row in which nothing came.
-pub fn serve_operator<R: Threads + Wait + Sync>(
-    rt: &R,
-    alloc: Global,
-    sequencer: &mut Sequencer,
-    tasks: Vec<OperatorTask>,
-    waiting: &Waiting,
-    replies: &mut Vec<u8>,
-) -> Result<(), Memory>
-    ensures serves { OnOk result (OperatorServes sequencer.old tasks.items replies.old.items sequencer.new replies.new.items) }
-    ensures goes_on { OnOk result (GoesOn sequencer.old sequencer.new) }
-{
-    for task in tasks {
-        reply_to(rt, alloc, sequencer, task, waiting, replies)?;
+    fn reply<R: Threads + Wait + Sync>(
+        &mut self,
+        rt: &R,
+        alloc: Global,
+        waiting: &Waiting,
+        task: OperatorTask,
+    ) -> Result<Vec<u8>, AllocError> {
+        let reply = do_task(rt, alloc, self, task, waiting);
+        reply_text(alloc, &reply)
     }
-    Ok(())
 }

@@ -86,7 +86,7 @@ pub struct Waiting {
     pub heads: Bell,
     /// Rung when a front accepted a submission.
     pub accepted: Bell,
-    // Whether a thread of the run didn't start: then no line waits any more.
+    // Whether a thread of the run didn't start, or had no memory: then no line waits any more.
     ended: AtomicBool,
     // Whether the run is to end, if anything ends it: then no line waits any more.
     stopped: Option<Arc<AtomicBool>>,

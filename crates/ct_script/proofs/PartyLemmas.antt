@@ -1,7 +1,7 @@
 -- What the fronts and the operator leave of a shift, one front after the other.
 use Rattle.std.proofs.Common.{◌≡◌, ℕ, suc, List, [], ◌∷◌, ◌++◌, length, map, refl, sym, ap, subst, ◌∙◌, arith, reverse}
 use Rattle.std.specs.Global.{Global}
-use Rattle.std.specs.Prelude.{Vec}
+use Rattle.std.specs.Prelude.{Vec, Result, Ok, OnOk}
 use Rattle.ct_house.specs.House.{HouseState}
 use Rattle.ct_parties.specs.OperatorWork.{GoesOn, OperatorServes}
 use Rattle.ct_parties.specs.Parties.{AreSame}
@@ -11,6 +11,10 @@ use Rattle.ct_script.specs.declared.party.FrontShift.{FrontShift}
 use Rattle.ct_script.specs.declared.party.Work.{Work}
 use Rattle.ct_script.proofs.PlanLemmas.{all_zip_more}
 use Rattle.ct_lines.specs.declared.request.FrontRequest.{FrontRequest}
+
+-- what holds where a result is Ok holds of one that is
+pub on_ok_is : {T E : Type 0} {P : Type 0} {r : Result T E} {x : T} → r ≡ Ok x → OnOk r P → P
+on_ok_is {P} is p = subst (λ (r : _). OnOk r P) is p
 
 -- fronts that have their tasks with them did them
 pub did_shift : (shifts : List FrontShift) (after : List FrontParty) → FrontsDo shifts after

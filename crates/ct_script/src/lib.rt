@@ -8,12 +8,13 @@
 //! - `reading` reads the input line by line, and `plan` gives the lines out.
 //! - `party` has the fronts with their replies, and what they and the operator do in a shift; `threads` does the work of a
 //!   shift, each front in a thread of its own; and `shifting` ends shifts, and does them one after the other.
-//! - `script` has `serve`.
+//! - `replying` adds a reply that is no task's, and `script` has `serve`.
 #![tactic(auto)]
 
 mod party;
 mod plan;
 mod reading;
+mod replying;
 mod script;
 mod shifting;
 mod threads;

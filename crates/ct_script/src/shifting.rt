@@ -12,10 +12,11 @@ ghost use Rattle.ct_script.specs.Parties.{fronts_of};
 ghost use Rattle.ct_script.specs.Shifts.{IsSuccessor, Succeeds, EndsShift, DoShifts, PartiesServe, IsEndRefused, IsShiftFault, AreForFronts, start_of};
 
 use crate::party::{FrontParty, House, Shift, Work};
+use crate::replying::push_reply;
 use crate::threads::{keep_party, serve_shift};
 use ct_core::Reply;
 use ct_house::{Front, Retired, Sequencer};
-use ct_parties::{Fault, push_reply};
+use ct_parties::Fault;
 use ct_tree::Memory;
 use std::alloc::Global;
 use std::sync::Wait;

@@ -9,9 +9,7 @@ ghost use Rattle.ct_script.specs.Shifts.{start_of};
 use crate::party::{FrontParty, FrontShift, House, Work};
 use ct_house::Sequencer;
 use ct_lines::FrontRequest;
-use ct_parties::front_work::serve_front;
-use ct_parties::operator_work::serve_operator;
-use ct_parties::{Fault, OperatorTask, Waiting};
+use ct_parties::{Fault, OperatorTask, Waiting, serve_all};
 use ct_tree::Memory;
 use std::alloc::Global;
 use std::snapshot::Snapshot;
@@ -19,8 +17,8 @@ use std::sync::Wait;
 use std::thread;
 use std::thread::{Promise, PromisedHandle, Scope, Threads};
 
-// Does a front's tasks. It answers the front, with its replies.
-fn serve_front_shift<R: Wait>(
+// Does a front's tasks. It answers the front, with its replies. Where a growth is refused no line waits any more.
+fn serve_front_shift<R: Threads + Wait + Sync>(
     rt: &R,
     alloc: Global,
     shift: FrontShift,
@@ -33,8 +31,14 @@ fn serve_front_shift<R: Wait>(
         mut front,
         mut replies,
     } = party;
-    serve_front(rt, alloc, &mut front, tasks, waiting, &mut replies)?;
-    Ok(FrontParty { front, replies })
+    let mut tasks = tasks.into_iter();
+    match serve_all(rt, alloc, waiting, &mut tasks, &mut front, &mut replies) {
+        Ok(()) => Ok(FrontParty { front, replies }),
+        Err(error) => {
+            waiting.end();
+            Err(error)
+        }
+    }
 }
 
 // Gives each front its tasks, in order.
@@ -121,7 +125,7 @@ fn join_fronts<R: Threads>(
 
 // Starts a thread for each front, does the operator's tasks here over the sequencer that it is lent, and joins the threads. It
 // adds the operator's replies to those told before, and answers the fronts in order, with their replies. Where a thread doesn't
-// start, no line waits any more, and the operator does nothing.
+// start, no line waits any more, and the operator does nothing. Where the operator is refused a growth no line waits any more.
 fn serve_in_threads<'e: 's, 's, R: Threads + Wait + Sync>(
     rt: &'e R,
     alloc: Global,
@@ -144,10 +148,16 @@ fn serve_in_threads<'e: 's, 's, R: Threads + Wait + Sync>(
             return Err(fault);
         }
     };
-    let operated = serve_operator(rt, alloc, sequencer, tasks, waiting, told);
+    let mut tasks = tasks.into_iter();
+    let operated = serve_all(rt, alloc, waiting, &mut tasks, sequencer, told);
+    if operated.is_err() {
+        waiting.end();
+    }
     let parties = join_fronts(rt, alloc, threads)?;
-    operated?;
-    Ok(parties)
+    match operated {
+        Ok(()) => Ok(parties),
+        Err(error) => Err(Fault::from(error)),
+    }
 }
 
 // What is there once all threads of a shift have ended: the sequencer, the operator's replies, and the fronts in order with
