@@ -1,9 +1,9 @@
 //! The program `ctlog`: a log with up to 16 fronts, run over a script of request lines.
 //!
 //! It reads standard input to its end, gives its lines out to the fronts, the operator and the frozen log, and writes a
-//! reply for each line that isn't empty: each front and the operator does its lines in a thread of its own, the
-//! replies of the fronts come first, in the order of their numbers, then the operator's, then, once the log is closed,
-//! those of the frozen log. A line that ends a shift has all lines before it done, and all fronts go on, before the lines
+//! reply for each line that isn't empty: each front does its lines in a thread of its own, and the operator its own beside
+//! them; the replies of the fronts come first, in the order of their numbers, then the operator's, then, once the log is
+//! closed, those of the frozen log. A line that ends a shift has all lines before it done, and all fronts go on, before the lines
 //! behind it are begun.
 //!
 //! - `program` has `run`, which does all this over any reader and any two writers, by `serve` of `ct_script`; `ct_command`
@@ -21,9 +21,9 @@ mod program;
 #[cfg(test)]
 mod tests;
 
-use ct_command::{Program, report, texts};
+use ct_command::{Program, refuse_words, report, texts};
 use ct_parties::Fault;
-use program::{TURNS, refuse_words, run};
+use program::{TURNS, run};
 use std::alloc::Global;
 use std::io;
 use std::io::{Read, Write};
@@ -69,7 +69,7 @@ fn main(rt: HostRuntime) -> ExitCode {
     let mut faults = rt.stderr();
     let status = match collected(&rt) {
         Ok(words) => run_words(&rt, alloc, &words, &mut input, &mut output, &mut faults),
-        Err(error) => refuse_words(alloc, &error, &mut output, &mut faults),
+        Err(error) => refuse_words(alloc, Program::Ctlog, &error, &mut output, &mut faults),
     };
     ExitCode::from(status)
 }

@@ -1,9 +1,6 @@
 //! The program over any reader and any two writers.
 
-ghost use Rattle.std.specs.Prelude.{◌≡◌, ◌⊎◌, ◌≤◌, []};
-ghost use Rattle.std.specs.Io.KnownBytes.{Appends};
-ghost use Rattle.std.specs.IoError.{error_kind};
-ghost use Rattle.std.specs.declared.io.ErrorKind.TheVariants.{OutOfMemory as NoMemory};
+ghost use Rattle.std.specs.Prelude.{◌≡◌, ◌⊎◌, ◌≤◌};
 ghost use Rattle.ct_lines.specs.Sends.{SendsSome};
 ghost use Rattle.ct_parties.specs.declared.fault.Fault.{Fault as FaultOf};
 ghost use Rattle.ct_command.specs.CommandLine.{asked_for, help, version, nothing};
@@ -14,30 +11,9 @@ use ct_command::{Program, answer_command_line, read_options, report};
 use ct_parties::Fault;
 use ct_script::serve;
 use std::alloc::Global;
-use std::io;
 use std::io::{Read, Write};
 use std::sync::Wait;
 use std::thread::Threads;
-
-/// Answers a command line whose words couldn't be read, which is never the status 0.
-///
-/// - 1: there was no memory, for the words or for the refusal: the fault's line was written among the faults, as far as it
-///   could be, and nothing on the output.
-/// - 2: a word isn't UTF-8, and the refusal was written among the faults, as far as it could be. Its text is tested alone.
-pub fn refuse_words<W: Write, E: Write>(
-    alloc: Global,
-    error: &io::Error,
-    output: &mut W,
-    faults: &mut E,
-) -> u8
-    ensures status { (result ≡ 1) ⊎ (result ≡ 2) }
-    ensures memory { error_kind error.now ≡ NoMemory → result ≡ 1 }
-    ensures fault { result ≡ 1 → Appends (W.contents output.old) (W.contents output.new) []
-        × SendsSome (E.contents faults.old) (E.contents faults.new) (fault_line (name_of Program.Ctlog) Fault.Memory) }
-    ensures refused { result ≡ 2 → output.new ≡ output.old }
-{
-    ct_command::refuse_words(alloc, Program::Ctlog, error, output, faults)
-}
 
 /// How many turns a line may wait in the process.
 pub const TURNS: u64 = 50_000_000;

@@ -1,4 +1,5 @@
-use crate::program::{TURNS, refuse_words, run};
+use crate::program::{TURNS, run};
+use ct_command::{Program, refuse_words};
 use std::alloc::{AllocError, Global};
 use std::io;
 use std::io::{ErrorKind, Read, Write};
@@ -618,7 +619,7 @@ fn refuses_words(alloc: Global, kind: ErrorKind, status: u8, line: &str) -> bool
     let error = io::Error::from(kind);
     let mut output: Vec<u8> = Vec::new(alloc);
     let mut faults: Vec<u8> = Vec::new(alloc);
-    refuse_words(alloc, &error, &mut output, &mut faults) == status
+    refuse_words(alloc, Program::Ctlog, &error, &mut output, &mut faults) == status
         && output.is_empty()
         && fits(&faults, line)
 }
