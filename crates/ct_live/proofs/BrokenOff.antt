@@ -72,13 +72,13 @@ module _ {P T : Type 0} (does : P → T → List ℕ → P → Type 0) where
       → AnswersFirst does a tasks fewer
   answers_first_of a b tasks [] rest is = record { first = []; cut = (tasks, refl); party_then = a; answered = refl }
   answers_first_of a b [] (x ∷ fewer) rest is = absurd is
-  answers_first_of a b (t ∷ tasks) (x ∷ fewer) rest (m, reply, did, e, more) =
+  answers_first_of a b (t ∷ tasks) (x ∷ fewer) rest (m, (reply, did, e), more) =
       let h = answers_first_of m b tasks fewer rest more in
       record {
         first = t ∷ h.first;
         cut = (h.cut.0, ap (λ (l : List (Numbered T)). t ∷ l) h.cut.1);
         party_then = h.party_then;
-        answered = (m, reply, did, e, h.answered);
+        answered = (m, (reply, did, e), h.answered);
       }
 
   -- they are the first of more tasks too, and of the answers fewer are those to fewer tasks

@@ -14,7 +14,8 @@ use Rattle.ct_lines.specs.declared.request.FrontRequest.{FrontRequest}
 use Rattle.ct_parties.proofs.FrontLemmas.{front_goes_on_nothing, front_goes_on_both}
 use Rattle.ct_parties.proofs.OperatorLemmas.{goes_on_nothing, goes_on_both}
 use Rattle.ct_parties.proofs.PartyLemmas.{fronts_kept}
-use Rattle.ct_live.specs.Answered.{AreAnswered}
+use Rattle.ct_parties.proofs.TurnLemmas.{in_turn_keeps}
+use Rattle.ct_live.specs.Answered.{AnswersWith, AreAnswered}
 use Rattle.ct_live.specs.Rings.{ArePairs, SameProducers, SameConsumers}
 use Rattle.ct_live.specs.declared.pipes.answering.Numbered.{Numbered}
 use Rattle.ct_live.proofs.Merging.{zip_self}
@@ -29,17 +30,13 @@ use Rattle.ct_live.specs.declared.workers.DeskWorker.{DeskWorker}
 
 -- a front that answered its tasks went on
 front_went_on : (a b : LiveFront) (ts : List (Numbered FrontRequest)) (xs : List (List ℕ)) → AreAnswered FrontStep a ts xs b → FrontGoesOn a.front b.front
-front_went_on a b [] [] is = subst (λ (f : LiveFront). FrontGoesOn a.front f.front) (sym is) (front_goes_on_nothing a.front)
-front_went_on a b [] (x ∷ xs) is = absurd is
-front_went_on a b (t ∷ ts) [] is = absurd is
-front_went_on a b (t ∷ ts) (x ∷ xs) (m, reply, did, e, rest) = front_goes_on_both a.front m.front b.front did.goes_on (front_went_on m b ts xs rest)
+front_went_on =
+    in_turn_keeps (AnswersWith FrontStep) (λ (a b : LiveFront). FrontGoesOn a.front b.front) (λ a. front_goes_on_nothing a.front)
+    (λ a m b. front_goes_on_both a.front m.front b.front) (λ a b t x one. one.1.goes_on)
 
 -- and so did the operator
 desk_went_on : (a b : HouseState) (ts : List (Numbered DeskTask)) (xs : List (List ℕ)) → AreAnswered DeskReplies a ts xs b → GoesOn a b
-desk_went_on a b [] [] is = subst (GoesOn a) (sym is) (goes_on_nothing a)
-desk_went_on a b [] (x ∷ xs) is = absurd is
-desk_went_on a b (t ∷ ts) [] is = absurd is
-desk_went_on a b (t ∷ ts) (x ∷ xs) (m, reply, did, e, rest) = goes_on_both a m b did.goes_on (desk_went_on m b ts xs rest)
+desk_went_on = in_turn_keeps (AnswersWith DeskReplies) GoesOn goes_on_nothing goes_on_both (λ a b t x one. one.1.goes_on)
 
 fronts_same : (before after : List FrontWorker) → AllReply before after → AreSame (worker_fronts before) (worker_fronts after)
 fronts_same [] [] all = tt

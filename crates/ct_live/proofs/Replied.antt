@@ -42,7 +42,7 @@ pub front_answered : (a b : LiveFront) (ts : List (Numbered FrontRequest)) (xs :
 front_answered a b [] [] is = ap (λ (f : LiveFront). f.front) is
 front_answered a b [] (x ∷ xs) is = absurd is
 front_answered a b (t ∷ ts) [] is = absurd is
-front_answered a b (t ∷ ts) (x ∷ xs) (m, reply, did, e, rest) = (m.front, reply, did, e, front_answered m b ts xs rest)
+front_answered a b (t ∷ ts) (x ∷ xs) (m, (reply, did, e), rest) = (m.front, (reply, did, e), front_answered m b ts xs rest)
 
 -- all that was received and sent is what was received and sent since, where nothing was before
 since : {P T : Type 0} (does : P → T → List ℕ → P → Type 0) (a b : P) (got got_then : List (Numbered T)) (gave gave_then : List (Vec ℕ Global)) → got ≡ []

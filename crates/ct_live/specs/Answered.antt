@@ -2,17 +2,52 @@
 use Rattle.std.specs.Prelude.{◌≡◌, ℕ, List, [], ◌∷◌, ◌++◌, Vec}
 use Rattle.std.specs.Global.{Global}
 use mathlib.Core.List.{IsPrefix}
+use Rattle.rtrb.specs.Ring.{sent, received, known_free, known_items, SameProducer, SameConsumer}
+use Rattle.rtrb.specs.declared.AnyItems.{AnyItems}
+use Rattle.rtrb.specs.declared.consumer.Consumer.{Consumer}
+use Rattle.rtrb.specs.declared.producer.Producer.{Producer}
+use Rattle.ct_parties.specs.InTurn.{InTurn}
 use Rattle.ct_live.specs.Rings.{texts}
 use Rattle.ct_live.specs.Tagged.{tagged}
 use Rattle.ct_live.specs.declared.pipes.answering.Numbered.{Numbered}
+use Rattle.ct_live.specs.declared.pipes.answering.PartyFault.{PartyFault}
+use Rattle.ct_live.specs.declared.pipes.answering.PartyFault.TheVariants.{Stopped}
 
--- The tasks are done one after the other, each where the one before it left off, and each has the reply that `does` gives, as a
--- text with the number of its line. The party was a before, and is b then.
+-- this task of the line with this number was received next, from the same ring
+pub record TakesNext {T : Type 0} (before : Consumer (Numbered T) Global AnyItems) (line : ℕ) (task : T)
+    (after : Consumer (Numbered T) Global AnyItems) : Type 0 where
+  pub next : received after ≡ received before ++ record { number = line; task = task } ∷ []
+  pub same : SameConsumer before after
+
+-- no more was received, and the ring was seen empty
+pub record TakesNoMore {T : Type 0} (before after : Consumer (Numbered T) Global AnyItems) : Type 0 where
+  pub none : received after ≡ received before
+  pub empty : known_items after ≡ []
+  pub same : SameConsumer before after
+
+-- one text was sent into the same ring: this reply, with this number of a line
+pub record SendsTagged (before : Producer (Vec ℕ Global) Global AnyItems) (line : ℕ) (reply : List ℕ)
+    (after : Producer (Vec ℕ Global) Global AnyItems) : Type 0 where
+  pub text : Vec ℕ Global
+  pub sends : sent after ≡ sent before ++ text ∷ []
+  pub bytes : text.items ≡ tagged line reply
+  pub same : SameProducer before after
+
+-- nothing was sent, and where that was since all were to end, the ring was seen full
+pub record SendsNothing (before : Producer (Vec ℕ Global) Global AnyItems) (fault : PartyFault)
+    (after : Producer (Vec ℕ Global) Global AnyItems) : Type 0 where
+  pub none : sent after ≡ sent before
+  pub full : fault ≡ Stopped → known_free after ≡ 0
+  pub same : SameProducer before after
+
+-- a party does a task, and this text is the reply that `does` gives, with the number of the task's line
+abbrev pub AnswersWith : {P T : Type 0} → (P → T → List ℕ → P → Type 0) → P → Numbered T → List ℕ → P → Type 0
+AnswersWith does a t text b = (reply : List ℕ) × does a t.task reply b × (text ≡ tagged t.number reply)
+
+-- The tasks are done in turn, each where the one before it left off, and each has the reply that `does` gives, as a text with the number
+-- of its line. The party was a before, and is b then.
 abbrev pub AreAnswered : {P T : Type 0} → (P → T → List ℕ → P → Type 0) → P → List (Numbered T) → List (List ℕ) → P → Type 0
-AreAnswered {P} does a [] [] b = b ≡ a
-AreAnswered {P} does a [] (x ∷ xs) b = ⊥
-AreAnswered {P} does a (t ∷ ts) [] b = ⊥
-AreAnswered {P} does a (t ∷ ts) (x ∷ xs) b = (m : P) × (reply : List ℕ) × does a t.task reply m × (x ≡ tagged t.number reply) × AreAnswered does m ts xs b
+AreAnswered does a ts xs b = InTurn (AnswersWith does) a ts xs b
 
 -- More tasks were received and answered: from the party a to the party b, each in turn.
 pub record AnswersMore {P T : Type 0} (does : P → T → List ℕ → P → Type 0) (a b : P) (received received_then : List (Numbered T))

@@ -3,11 +3,10 @@
 ghost use Rattle.std.specs.Prelude.{◌≡◌, ℕ, List, IfOk};
 ghost use Rattle.ct_live.specs.LiveParties.{FrontReplies};
 
-use crate::pipes::Party;
 use crate::replying::reply_object;
 use ct_house::Front;
 use ct_lines::FrontRequest;
-use ct_parties::{Waiting, front_work};
+use ct_parties::{Party, Waiting, front_work};
 use std::alloc::{AllocError, Global};
 use std::sync::Wait;
 use std::thread::Threads;
@@ -19,18 +18,16 @@ pub struct LiveFront {
 }
 
 impl Party<FrontRequest> for LiveFront {
-    type Shared = Waiting;
-
     ghost does = { λ a t r b. FrontReplies a.front t r b.front };
 
     fn reply<R: Threads + Wait + Sync>(
         &mut self,
         rt: &R,
         alloc: Global,
-        shared: &Waiting,
+        waiting: &Waiting,
         task: FrontRequest,
     ) -> Result<Vec<u8>, AllocError> {
-        let reply = front_work::do_task(rt, alloc, &mut self.front, task, shared);
+        let reply = front_work::do_task(rt, alloc, &mut self.front, task, waiting);
         reply_object(alloc, &reply)
     }
 }

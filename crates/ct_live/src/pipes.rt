@@ -35,13 +35,13 @@ mod workers;
 mod writer;
 
 pub use ahead::{ReadAhead, read_ahead};
-pub use answering::{Numbered, Party, PartyFault, answer_all};
+pub use answering::{Answered, Numbered, PartyFault, answer_all};
 pub use breaker::Breaker;
 pub use ending::{are_taken, write_left};
 pub use opening::{PLACES, Pipes, open};
 pub use output::WriteFailed;
 pub use places::{Places, Seat};
-pub use post::{Stopped, give, receive, send};
+pub use post::{Stopped, give, send};
 pub use tagging::tag;
 pub use workers::{
     Joined, StartFault, Worked, Worker, WorkerPromise, WorkerThread, join_workers, start_workers,

@@ -11,9 +11,9 @@ ghost use Rattle.ct_live.specs.declared.workers.DeskWorker.{DeskWorker as DeskWo
 
 use crate::ending::{Ended, Left, abandon, end_live};
 use crate::giving::{End, GiveFault, Giver, give_out};
-use crate::operator::answer_desk;
 use crate::pipes::{
-    Joined, PartyFault, Places, WriteFailed, join_workers, start_workers, write_answers,
+    Answered, Joined, PartyFault, Places, WriteFailed, answer_all, join_workers, start_workers,
+    write_answers,
 };
 use crate::workers::{DeskWorker, FrontWorker};
 use ct_parties::{Fault, Options, Waiting};
@@ -156,34 +156,51 @@ fn start_writer<'e: 's, 's, R: Threads + Wait + Sync, W: Write + Drop + Send + '
     }
 }
 
-// The operator: it does its tasks until no more are given, and tells the writer that it ends. One that ends before its time has
-// all end.
+// The operator with the ends of its rings, as it ended, and whether that was before its time.
+struct Operated {
+    operator: DeskWorker,
+    result: Result<(), PartyFault>,
+}
+
+// The operator: it answers its tasks as a front does.
 fn operate<R: Threads + Wait + Sync>(
     rt: &R,
     alloc: Global,
     places: &Places,
     waiting: &Waiting,
-    worker: &mut DeskWorker,
-) -> Result<(), PartyFault>
-    ensures all { OnOk result (DeskWorks worker.old worker.new) }
-    ensures some { DeskWorksSome worker.old worker.new }
+    operator: DeskWorker,
+) -> Operated
+    ensures all { OnOk result.result (DeskWorks operator result.operator) }
+    ensures some { DeskWorksSome operator result.operator }
 {
-    let number = worker.sequencer.fronts();
-    let result = answer_desk(
+    let DeskWorker {
+        mut sequencer,
+        tasks,
+        answers,
+    } = operator;
+    let number = sequencer.fronts();
+    let Answered {
+        tasks,
+        answers,
+        result,
+    } = answer_all(
         rt,
         alloc,
         places,
         number,
         waiting,
-        &mut worker.sequencer,
-        &mut worker.tasks,
-        &mut worker.answers,
+        &mut sequencer,
+        tasks,
+        answers,
     );
-    match result {
-        Ok(()) => places.end_party(),
-        Err(_) => places.stop(),
+    Operated {
+        operator: DeskWorker {
+            sequencer,
+            tasks,
+            answers,
+        },
+        result,
     }
-    result
 }
 
 /// What is there before the threads are started, beside the operator.
@@ -258,7 +275,7 @@ fn run_in<
     waiting: &'e Waiting,
     count: u16,
     start: Start<B, W>,
-    mut operator: DeskWorker,
+    operator: DeskWorker,
 ) -> Ran<B, W>
     requires count { length start.giver.inlets.fronts.items ≡ count }
     requires workers { length start.workers.items ≡ count }
@@ -291,7 +308,10 @@ fn run_in<
         Err(fault) => return not_started(operator, out, fault),
     };
     let writer = start_writer(rt, scope, places, out);
-    let operated = operate(rt, alloc, places, waiting, &mut operator);
+    let Operated {
+        operator,
+        result: operated,
+    } = operate(rt, alloc, places, waiting, operator);
     let fronts = join_workers(rt, threads, room);
     let Reading { giver, end } = reader.join(rt);
     let Writing {

@@ -1,13 +1,14 @@
-//! A party that answers its tasks in turn.
+//! A party that answers the tasks of its ring in turn.
 
-ghost use Rattle.std.specs.Prelude.{◌≡◌, [], ℕ, List, IfOk, IfErr, OnOk, OnErr};
+ghost use Rattle.std.specs.Prelude.{◌≡◌, [], IfErr, OnOk, OnErr};
 ghost use Rattle.rtrb.specs.Ring.{sent, received, known_free, known_items, SameProducer, SameConsumer};
-ghost use Rattle.ct_live.specs.Answered.{AnswersMore, AnswersAllButLast};
+ghost use Rattle.ct_live.specs.Answered.{AnswersMore, AnswersAllButLast, TakesNext, TakesNoMore, SendsTagged, SendsNothing};
 ghost use Rattle.ct_live.specs.declared.pipes.answering.PartyFault.TheVariants.{Memory};
 
 use crate::pipes::places::{Places, Seat};
 use crate::pipes::post::{Stopped, receive, send};
 use crate::pipes::tagging::tag;
+use ct_parties::{Party, Sink, Source, Waiting, serve_all};
 use rtrb::{Consumer, Producer};
 use std::alloc::{AllocError, Global};
 use std::sync::Wait;
@@ -19,25 +20,6 @@ use thiserror::Error;
 pub struct Numbered<T: Drop> {
     pub number: u64,
     pub task: T,
-}
-
-/// Who does tasks, and replies to each.
-pub trait Party<T> {
-    /// What the parties share.
-    type Shared: Sync;
-
-    /// From the party before, a task and a reply to the party then: whether it may do so.
-    ghost does: { Self → T → List ℕ → Self → Type 0 };
-
-    /// Does a task. It answers the reply, or that a growth was refused.
-    fn reply<R: Threads + Wait + Sync>(
-        &mut self,
-        rt: &R,
-        alloc: Global,
-        shared: &Self::Shared,
-        task: T,
-    ) -> Result<Vec<u8>, AllocError>
-        ensures { IfOk result (λ r. does self.old task r.items self.new) };
 }
 
 /// What ended a party before all its tasks were answered.
@@ -59,41 +41,104 @@ impl From<AllocError> for PartyFault {
     }
 }
 
-/// Answers the tasks of the party with this number, until no more are given.
-///
-/// # Errors
-///
-/// `Memory`, where a growth is refused, or `Stopped`, where all were to end and the ring of the answers was full. What was sent
-/// is then whole answers, to all tasks that were received but the last.
+// Where the party with this number receives its tasks.
+#[derive(Drop)]
+struct Inbox<'a, T: Drop> {
+    places: &'a Places,
+    number: usize,
+    tasks: Consumer<Numbered<T>>,
+}
+
+impl<'a, T: Drop> Source<u64, T> for Inbox<'a, T> {
+    ghost takes = { λ before line task after. TakesNext before.tasks line task after.tasks };
+
+    ghost ends = { λ before after. TakesNoMore before.tasks after.tasks };
+
+    fn next_task<R: Wait>(&mut self, rt: &R) -> Option<(u64, T)> {
+        let numbered = receive(rt, self.places, self.number, &mut self.tasks)?;
+        let Numbered { number, task } = numbered;
+        Some((number, task))
+    }
+}
+
+// Where it sends its answers.
+#[derive(Drop)]
+struct Outbox<'a> {
+    places: &'a Places,
+    number: usize,
+    answers: Producer<Vec<u8>>,
+}
+
+impl<'a> Sink<u64> for Outbox<'a> {
+    type Fault = PartyFault;
+
+    ghost puts = { λ before line reply after. SendsTagged before.answers line reply after.answers };
+
+    ghost refuses = { λ before fault after. SendsNothing before.answers fault after.answers };
+
+    fn put_reply<R: Wait>(
+        &mut self,
+        rt: &R,
+        alloc: Global,
+        mark: u64,
+        reply: Vec<u8>,
+    ) -> Result<(), PartyFault> {
+        let text = tag(alloc, mark, &reply)?;
+        let own = Seat::Party(self.number);
+        match send(rt, self.places, own, Seat::Writer, &mut self.answers, text) {
+            Ok(()) => Ok(()),
+            Err(Stopped) => Err(PartyFault::Stopped),
+        }
+    }
+}
+
+/// The ends of a party's rings as it left them, and whether that was before its time.
+#[derive(Drop)]
+pub struct Answered<T: Drop> {
+    pub tasks: Consumer<Numbered<T>>,
+    pub answers: Producer<Vec<u8>>,
+    pub result: Result<(), PartyFault>,
+}
+
+/// Answers the tasks of the party with this number, until no more are given, and tells the writer that the party ends. One that
+/// ends before its time has all end, and its `result` is `Memory`, where a growth is refused, or `Stopped`, where all were to end
+/// and the ring of the answers was full. What was sent is then whole answers, to all tasks that were received but the last.
 pub fn answer_all<T: Drop, P: Party<T>, R: Threads + Wait + Sync>(
     rt: &R,
     alloc: Global,
     places: &Places,
     number: usize,
-    shared: &P::Shared,
+    waiting: &Waiting,
     party: &mut P,
-    tasks: &mut Consumer<Numbered<T>>,
-    answers: &mut Producer<Vec<u8>>,
-) -> Result<(), PartyFault>
-    ensures answered { OnOk result (AnswersMore P.does party.old party.new
-        (received tasks.old) (received tasks.new) (sent answers.old) (sent answers.new)) }
-    ensures none_left { OnOk result (known_items tasks.new ≡ []) }
-    ensures begun { OnErr result (AnswersAllButLast P.does party.old
-        (received tasks.old) (received tasks.new) (sent answers.old) (sent answers.new)) }
-    ensures full { IfErr result (λ fault. fault ≡ PartyFault.Stopped → known_free answers.new ≡ 0) }
-    ensures same { SameConsumer tasks.old tasks.new × SameProducer answers.old answers.new }
+    tasks: Consumer<Numbered<T>>,
+    answers: Producer<Vec<u8>>,
+) -> Answered<T>
+    ensures answered { OnOk result.result (AnswersMore P.does party.old party.new
+        (received tasks) (received result.tasks) (sent answers) (sent result.answers)) }
+    ensures none_left { OnOk result.result (known_items result.tasks ≡ []) }
+    ensures begun { OnErr result.result (AnswersAllButLast P.does party.old
+        (received tasks) (received result.tasks) (sent answers) (sent result.answers)) }
+    ensures full { IfErr result.result (λ fault. fault ≡ PartyFault.Stopped → known_free result.answers ≡ 0) }
+    ensures same { SameConsumer tasks result.tasks × SameProducer answers result.answers }
 {
-    for _ in rt.forever() {
-        let Some(numbered) = receive(rt, places, number, tasks) else {
-            return Ok(());
-        };
-        let Numbered { number: line, task } = numbered;
-        let reply = party.reply(rt, alloc, shared, task)?;
-        let text = tag(alloc, line, &reply)?;
-        match send(rt, places, Seat::Party(number), Seat::Writer, answers, text) {
-            Ok(()) => {}
-            Err(Stopped) => return Err(PartyFault::Stopped),
-        }
+    let mut inbox = Inbox {
+        places,
+        number,
+        tasks,
+    };
+    let mut outbox = Outbox {
+        places,
+        number,
+        answers,
+    };
+    let result = serve_all(rt, alloc, waiting, &mut inbox, party, &mut outbox);
+    match result {
+        Ok(()) => places.end_party(),
+        Err(_) => places.stop(),
     }
-    unreachable!()
+    Answered {
+        tasks: inbox.tasks,
+        answers: outbox.answers,
+        result,
+    }
 }

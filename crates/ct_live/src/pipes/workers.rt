@@ -4,8 +4,9 @@ ghost use Rattle.std.specs.Prelude.{◌≡◌, ◌<◌, ◌+◌, ◌++◌, ◌�
 ghost use Rattle.ct_live.specs.Working.{Works, WorksSome, AreJoinedOf, HasRoom};
 ghost use Rattle.ct_live.specs.declared.pipes.workers.StartFault.TheVariants.{Memory};
 
-use crate::pipes::answering::{Numbered, Party, PartyFault, answer_all};
+use crate::pipes::answering::{Answered, Numbered, PartyFault, answer_all};
 use crate::pipes::places::Places;
+use ct_parties::{Party, Waiting};
 use rtrb::{Consumer, Producer};
 use std::alloc::{AllocError, Global};
 use std::snapshot::Snapshot;
@@ -30,13 +31,13 @@ pub struct Worked<P: Drop, T: Drop> {
     pub result: Result<(), PartyFault>,
 }
 
-// Answers the tasks of a party, and tells the writer that it ends. One that ends before its time has all end. It hands its rings
-// back all the same: what it sent is the answers to the first of the tasks that it received.
+// Answers the tasks of a party. It hands its rings back all the same where it ended before its time: what it sent is then the
+// answers to the first of the tasks that it received.
 fn work<T: Drop, P: Party<T> + Drop, R: Threads + Wait + Sync>(
     rt: &R,
     alloc: Global,
     places: &Places,
-    shared: &P::Shared,
+    waiting: &Waiting,
     worker: Worker<P, T>,
 ) -> Worked<P, T>
     ensures done { OnOk result.result (Works P.does worker result.worker) }
@@ -45,23 +46,14 @@ fn work<T: Drop, P: Party<T> + Drop, R: Threads + Wait + Sync>(
     let Worker {
         number,
         mut party,
-        mut tasks,
-        mut answers,
+        tasks,
+        answers,
     } = worker;
-    let result = answer_all(
-        rt,
-        alloc,
-        places,
-        number,
-        shared,
-        &mut party,
-        &mut tasks,
-        &mut answers,
-    );
-    match result {
-        Ok(()) => places.end_party(),
-        Err(_) => places.stop(),
-    }
+    let Answered {
+        tasks,
+        answers,
+        result,
+    } = answer_all(rt, alloc, places, number, waiting, &mut party, tasks, answers);
     Worked {
         worker: Worker {
             number,
@@ -123,7 +115,7 @@ fn start_each<
     alloc: Global,
     scope: &'s Scope<'s, &'e ()>,
     places: &'e Places,
-    shared: &'e P::Shared,
+    waiting: &'e Waiting,
     workers: Vec<Worker<P, T>>,
 ) -> Result<Vec<WorkerThread<P, T>>, StartFault>
     ensures { IfOk result (λ v. map (λ t. t.promise.0.value) v.items ≡ workers.items) }
@@ -133,7 +125,7 @@ fn start_each<
         let promise = WorkerPromise(Snapshot::of(&worker));
         let working = move || -> Worked<P, T>
             ensures { OnOk result.result (Works P.does worker result.worker) × WorksSome P.does worker result.worker }
-        { work(rt, alloc, places, shared, worker) };
+        { work(rt, alloc, places, waiting, worker) };
         let Ok(thread) = scope.spawn_with(promise, working) else {
             return Err(StartFault::Threads);
         };
@@ -158,12 +150,12 @@ pub fn start_workers<
     alloc: Global,
     scope: &'s Scope<'s, &'e ()>,
     places: &'e Places,
-    shared: &'e P::Shared,
+    waiting: &'e Waiting,
     workers: Vec<Worker<P, T>>,
 ) -> Result<Vec<WorkerThread<P, T>>, StartFault>
     ensures { IfOk result (λ v. map (λ t. t.promise.0.value) v.items ≡ workers.items) }
 {
-    match start_each(rt, alloc, scope, places, shared, workers) {
+    match start_each(rt, alloc, scope, places, waiting, workers) {
         Ok(threads) => Ok(threads),
         Err(fault) => {
             places.stop();
