@@ -14,18 +14,17 @@ use Rattle.ct_live.specs.Answered.{AreAnswered, AnswersAllButLast, AnswersFirst,
 use Rattle.ct_live.specs.Rings.{all_received, all_sent, texts, texts_each, ArePrefixes}
 use Rattle.ct_live.specs.Written.{BeginsOn, in_order, IsBegunOf, WritesOn}
 use Rattle.ct_live.specs.declared.pipes.answering.Numbered.{Numbered}
-use Rattle.ct_live.specs.LiveBroken.{AllAnswerFirst, BeginsWhole, IsServedSome, RepliesBrokenOff, RepliesClosing, RepliesSome, RunsBrokenOff, RunsClosing, RunsSome}
 use Rattle.ct_live.specs.LiveOpening.{AreOpened}
 use Rattle.ct_live.specs.LiveParties.{DeskReplies, FrontReplies}
-use Rattle.ct_live.specs.LiveReplied.{Rings}
+use Rattle.ct_live.specs.LiveEnding.{EndsLogSome, Rings}
+use Rattle.ct_live.specs.LiveGiven.{GivesLines}
+use Rattle.ct_live.specs.LiveReplied.{AllAnswer, BeginsWhole, ClosesLog, IsServedSome, RepliesBrokenOff, RepliesClosing, RepliesSome}
+use Rattle.ct_live.specs.LiveRunning.{RunsBrokenOff, RunsLive, RunsSome}
 use Rattle.ct_live.specs.LiveRuns.{FrontWorker, worker_fronts, worker_tasks, worker_answers, AllReplySome, WritesOut, FrontStep}
-use Rattle.ct_live.specs.LiveServed.{AllAskLive}
-use Rattle.ct_live.specs.declared.asking.DeskTask.{DeskTask}
 use Rattle.ct_live.specs.declared.front.LiveFront.{LiveFront}
 use Rattle.ct_live.specs.declared.live.Ends.{Ends}
-use Rattle.ct_live.specs.declared.workers.DeskWorker.{DeskWorker}
-use Rattle.ct_live.proofs.Replied.{Empty, front_answered, last_unsent, no_order, no_task, no_text, nothing_written, replies_live, rest_of}
-use Rattle.ct_live.proofs.Tied.{none_given}
+use Rattle.ct_live.proofs.Replied.{desk_of, Empty, front_answered, last_unsent, no_order, no_task, no_text, nothing_written, of_new_house, replies, rest_of}
+use Rattle.ct_live.proofs.Tied.{all_asked, none_given}
 
 -- ---- beginnings of lists
 
@@ -151,58 +150,39 @@ front_first a ts xs h = record {
   answered = front_answered a h.party_then h.first xs h.answered;
 }
 
--- each front answered the first of its tasks, as far as they came out of the rings
+-- what each front answered of its tasks, as far as its texts came out of the rings
+record FrontsFirst (fronts : List FrontView) (tasks : List (List (Numbered FrontRequest))) (texts : List (List (List ℕ))) : Type 0 where
+  pub first : List (List (Numbered FrontRequest))
+  pub cut : ArePrefixes first tasks
+  pub fronts_then : List FrontView
+  pub answered : AllAnswer fronts first texts fronts_then
+
 all_answer_first : (before after : List FrontWorker) (p : Producer (Vec ℕ Global) Global AnyItems) (tasks : List (List (Numbered FrontRequest)))
     (came : List (List (Vec ℕ Global))) → AllReplySome before after → All Empty (all_received (worker_tasks before))
     → All Empty (all_sent (worker_answers before ++ p ∷ [])) → ArePrefixes (all_received (worker_tasks after)) tasks
-    → ArePrefixes came (all_sent (worker_answers after)) → AllAnswerFirst (worker_fronts before) tasks (texts_each came)
-all_answer_first [] [] p [] [] all none unsent taken out = tt
+    → ArePrefixes came (all_sent (worker_answers after)) → FrontsFirst (worker_fronts before) tasks (texts_each came)
+all_answer_first [] [] p [] [] all none unsent taken out = record { first = []; cut = tt; fronts_then = []; answered = tt }
 all_answer_first [] [] p [] (x ∷ came) all none unsent taken out = absurd out
 all_answer_first [] [] p (ts ∷ tasks) came all none unsent taken out = absurd taken
 all_answer_first [] (b ∷ after) p tasks came all none unsent taken out = absurd all
 all_answer_first (a ∷ before) [] p tasks came all none unsent taken out = absurd all
 all_answer_first (a ∷ before) (b ∷ after) p [] came all none unsent taken out = absurd taken
 all_answer_first (a ∷ before) (b ∷ after) p (ts ∷ tasks) [] all none unsent taken out = absurd out
-all_answer_first (a ∷ before) (b ∷ after) p (ts ∷ tasks) (x ∷ came) (did, all) none unsent (taken, all_taken) (out, all_out) = (
-  answers_cut FrontReplies a.party.front (received b.tasks) ts (texts (sent b.answers)) (texts x)
-      (front_first a.party (received b.tasks) (texts (sent b.answers))
-      (first_since FrontStep a.party (received a.tasks) (received b.tasks) (sent a.answers) (sent b.answers) (none 0 [] (omega arith))
-      (unsent 0 [] (omega arith)) did.answered)) taken (texts_prefix x (sent b.answers) out),
-  all_answer_first before after p tasks came all (rest_of Empty (received a.tasks) (all_received (worker_tasks before)) none)
-      (rest_of Empty (sent a.answers) (all_sent (worker_answers before ++ p ∷ [])) unsent) all_taken all_out,
-)
+all_answer_first (a ∷ before) (b ∷ after) p (ts ∷ tasks) (x ∷ came) (did, all) none unsent (taken, all_taken) (out, all_out) =
+    let one = answers_cut FrontReplies a.party.front (received b.tasks) ts (texts (sent b.answers)) (texts x)
+    (front_first a.party (received b.tasks) (texts (sent b.answers))
+    (first_since FrontStep a.party (received a.tasks) (received b.tasks) (sent a.answers) (sent b.answers) (none 0 [] (omega arith))
+    (unsent 0 [] (omega arith)) did.answered)) taken (texts_prefix x (sent b.answers) out) in
+    let more = all_answer_first before after p tasks came all (rest_of Empty (received a.tasks) (all_received (worker_tasks before)) none)
+    (rest_of Empty (sent a.answers) (all_sent (worker_answers before ++ p ∷ [])) unsent) all_taken all_out in
+    record {
+      first = one.first ∷ more.first;
+      cut = (one.cut, more.cut);
+      fronts_then = one.party_then ∷ more.fronts_then;
+      answered = (one.answered, more.answered);
+    }
 
 -- ---- what was written
-
--- where something was broken off before the log was closed
-pub replies_some : (n next : ℕ) (input : Option (List ℕ)) (e : Ends) (workers : List FrontWorker) (o : DeskWorker) (old new : Option (List ℕ))
-    → AreOpened n e → worker_tasks workers ≡ e.tasks.items
-    → worker_answers workers ≡ e.answers.items → o.answers ≡ e.desk_answers → o.tasks ≡ e.desk_tasks
-    → RunsSome next input e.inlets workers o e.rings.items old new → RepliesSome n next input o.sequencer (worker_fronts workers) old new
-replies_some n next input e workers o old new i tasks answers own_answers own_tasks r =
-    let none = no_task n e workers i tasks in
-    let unsent = no_text n e workers o i answers own_answers in
-    let p = r.operator_then in
-    let (more, asks, given) = r.given.gives [] (none_given n e i) in
-    let s = split_last (all_received r.rings_then) (all_sent (worker_answers r.workers_then)) (sent p.answers)
-    (subst (λ (l : List (List (Vec ℕ Global))). ArePrefixes (all_received r.rings_then) l) (sent_last (worker_answers r.workers_then) p.answers) r.came) in
-    record {
-      lines = r.given.lines;
-      of_input = r.given.of_input;
-      steps = more;
-      asked = subst (λ (k : ℕ). AllAskLive k r.given.lines more) i.tasks.count asks;
-      front_tasks = all_sent r.inlets_then.fronts.items;
-      desk_tasks = sent r.inlets_then.operator;
-      given = given;
-      front_texts = texts_each s.front;
-      answered = all_answer_first workers r.workers_then o.answers (all_sent r.inlets_then.fronts.items) s.front r.did none unsent r.taken s.begin_first;
-      desk_texts = texts s.back;
-      operated = answers_cut DeskReplies o.sequencer (received p.tasks) (sent r.inlets_then.operator) (texts (sent p.answers)) (texts s.back)
-          (first_since DeskReplies o.sequencer (received o.tasks) (received p.tasks) (sent o.answers) (sent p.answers) (no_order n e o i own_tasks)
-          (last_unsent workers o.answers unsent) r.operated.answered) r.ordered (texts_prefix s.back (sent p.answers) s.begins_last);
-      some = subst (λ (l : List (List (List ℕ))). IsBegunOf l old new) (ap texts_each s.split ∙ texts_behind s.front s.back)
-          (r.wrote old (nothing_written e.rings.items old i.answers.unreceived));
-    }
 
 -- a beginning of what stands behind what was written
 begins_behind : (a b c whole : Option (List ℕ)) (front : List ℕ) → Appends a b front → BeginsWhole b c whole → BeginsWhole a c whole
@@ -213,45 +193,72 @@ begins_behind a b c whole front first h = record {
   whole_is = h.whole_is;
 }
 
--- where something was broken off behind that
-pub replies_closing : (n close_at next : ℕ) (input : Option (List ℕ)) (e : Ends) (workers : List FrontWorker) (o : DeskWorker) (old new : Option (List ℕ))
-    → AreOpened n e → worker_tasks workers ≡ e.tasks.items
-    → worker_answers workers ≡ e.answers.items → o.answers ≡ e.desk_answers → o.tasks ≡ e.desk_tasks
-    → RunsClosing close_at next input e.inlets workers e.rings.items o old new
-    → RepliesClosing n close_at next input o.sequencer (worker_fronts workers) old new
-replies_closing n close_at next input e workers o old new i tasks answers own_answers own_tasks (whole, run, begun) =
-    let w = run.ended.written old (run.wrote old (nothing_written e.rings.items old i.answers.unreceived)) in (
-      whole,
-      replies_live n close_at next input e workers o old i tasks answers own_answers own_tasks whole run,
-      begins_behind old run.ended.mid new whole (in_order w.order) w.appends begun,
-    )
+module _ (n close_at next : ℕ) (input : Option (List ℕ)) (e : Ends) (workers : List FrontWorker) (house : HouseState) (old new : Option (List ℕ))
+    (i : AreOpened n e) (tasks : worker_tasks workers ≡ e.tasks.items) (answers : worker_answers workers ≡ e.answers.items) where
+  -- where something was broken off before the log was closed
+  replies_some : RunsSome next input e.inlets workers e.rings.items (desk_of house e) old new
+      → RepliesSome n next input house (worker_fronts workers) old new
+  replies_some r =
+      let unsent = no_text n e workers i answers in
+      let p = r.operator_then in
+      let s = split_last (all_received r.rings_then) (all_sent (worker_answers r.workers_then)) (sent p.answers)
+      (subst (λ (l : List (List (Vec ℕ Global))). ArePrefixes (all_received r.rings_then) l) (sent_last (worker_answers r.workers_then) p.answers) r.came) in
+      let fronts = all_answer_first workers r.workers_then e.desk_answers (all_sent r.inlets_then.fronts.items) s.front r.did (no_task n e workers i tasks)
+      unsent r.taken s.begin_first in
+      let desk = answers_cut DeskReplies house (received p.tasks) (sent r.inlets_then.operator) (texts (sent p.answers)) (texts s.back)
+      (first_since DeskReplies house (received e.desk_tasks) (received p.tasks) (sent e.desk_answers) (sent p.answers) (no_order n e workers i)
+      (last_unsent workers e.desk_answers unsent) r.operated.answered) r.ordered (texts_prefix s.back (sent p.answers) s.begins_last) in
+      record {
+        lines = r.given.lines;
+        of_input = r.given.of_input;
+        front_tasks = all_sent r.inlets_then.fronts.items;
+        desk_tasks = sent r.inlets_then.operator;
+        asked = all_asked n r.given.lines e.inlets r.inlets_then (all_sent r.inlets_then.fronts.items) (sent r.inlets_then.operator) (none_given n e i)
+            (subst (λ (k : ℕ). GivesLines k r.given.lines e.inlets r.inlets_then) i.tasks.count r.given.gives) refl refl;
+        first = record {
+          front_first = fronts.first;
+          front_cut = fronts.cut;
+          desk_first = desk.first;
+          desk_cut = desk.cut;
+          answers = record {
+            front_texts = texts_each s.front;
+            fronts_then = fronts.fronts_then;
+            answered = fronts.answered;
+            desk_texts = texts s.back;
+            house_then = desk.party_then;
+            operated = desk.answered;
+          };
+        };
+        begun = subst (λ (l : List (List (List ℕ))). IsBegunOf l old new) (ap texts_each s.split ∙ texts_behind s.front s.back)
+            (r.wrote old (nothing_written e.rings.items old i.answers.unreceived));
+      }
 
--- all of it, of this house and these fronts
-pub broken_off_as : (n close_at next : ℕ) (input : Option (List ℕ)) (e : Ends) (workers : List FrontWorker) (o : DeskWorker) (house : HouseState)
-    (fronts : List FrontView) (old new : Option (List ℕ))
-    → RunsBrokenOff close_at next input e.inlets workers o e.rings.items old new → AreOpened n e → worker_tasks workers ≡ e.tasks.items
-    → worker_answers workers ≡ e.answers.items → o.answers ≡ e.desk_answers
-    → o.tasks ≡ e.desk_tasks → o.sequencer ≡ house → worker_fronts workers ≡ fronts
-    → Appends old new [] ⊎ RepliesBrokenOff n close_at next input house fronts old new
-broken_off_as n close_at next input e workers o house fronts old new r i tasks answers own_answers own_tasks same all =
-    subst (λ (h : HouseState). Appends old new [] ⊎ RepliesBrokenOff n close_at next input h fronts old new) same
-    (subst (λ (l : List FrontView). Appends old new [] ⊎ RepliesBrokenOff n close_at next input o.sequencer l old new) all (elim r [
-      | inl nothing ↦ inl nothing
-      | inr (inl some) ↦ inr (inl (replies_some n next input e workers o old new i tasks answers own_answers own_tasks some))
-      | inr (inr closing) ↦ inr (inr (replies_closing n close_at next input e workers o old new i tasks answers own_answers own_tasks closing))
-    ]))
+  -- where something was broken off behind that
+  replies_closing : RunsLive (EndsLogSome close_at new) next input e.inlets workers e.rings.items (desk_of house e) old
+      → RepliesClosing n close_at next input house (worker_fronts workers) old new
+  replies_closing r =
+      let (whole, log, begun) = r.ended.closing in
+      let w = r.ended.written old (r.wrote old (nothing_written e.rings.items old i.answers.unreceived)) in (
+        whole,
+        replies n close_at next input e workers house old i tasks answers (EndsLogSome close_at new) r ClosesLog whole log,
+        begins_behind old r.ended.mid new whole (in_order w.order) w.appends begun,
+      )
+
+  -- all of it
+  pub replies_broken : RunsBrokenOff close_at next input e.inlets workers e.rings.items (desk_of house e) old new
+      → Appends old new [] ⊎ RepliesBrokenOff n close_at next input house (worker_fronts workers) old new
+  replies_broken r = elim r [
+    | inl nothing ↦ inl nothing
+    | inr (inl some) ↦ inr (inl (replies_some some))
+    | inr (inr closing) ↦ inr (inr (replies_closing closing))
+  ]
 
 -- and of a new house, whose lines are numbered from 0
-pub served_some : (count places open_at close_at n : ℕ) (input left : Option (List ℕ)) (house : HouseState) (fronts : List FrontView) (old new : Option (List ℕ))
-    → IsNewHouse house fronts count places open_at → n ≡ 0 → left ≡ input
-    → Appends old new [] ⊎ RepliesBrokenOff count close_at n left house fronts old new → IsServedSome count places open_at close_at input old new
-served_some count places open_at close_at n input left house fronts old new opened none same broken = elim broken [
+pub served_some : (count places open_at close_at next : ℕ) (input left : Option (List ℕ)) (house : HouseState) (fronts : List FrontView)
+    (old new : Option (List ℕ)) → IsNewHouse house fronts count places open_at → next ≡ 0 → left ≡ input
+    → Appends old new [] ⊎ RepliesBrokenOff count close_at next left house fronts old new → IsServedSome count places open_at close_at input old new
+served_some count places open_at close_at next input left house fronts old new opened none same broken = elim broken [
   | inl nothing ↦ inl nothing
-  | inr replied ↦ inr (record {
-    house = house;
-    fronts = fronts;
-    opened = opened;
-    replied = subst (λ (k : ℕ). RepliesBrokenOff count close_at k input house fronts old new) none
-        (subst (λ (o : Option (List ℕ)). RepliesBrokenOff count close_at n o house fronts old new) same replied);
-  })
+  | inr replied ↦ inr (of_new_house (λ k o h l. RepliesBrokenOff count close_at k o h l old new) count places open_at next input left house fronts opened none
+      same replied)
 ]

@@ -9,15 +9,14 @@ use Rattle.rtrb.specs.Ring.{sent, received}
 use Rattle.rtrb.specs.declared.AnyItems.{AnyItems}
 use Rattle.rtrb.specs.declared.consumer.Consumer.{Consumer}
 use Rattle.rtrb.specs.declared.producer.Producer.{Producer}
-use Rattle.ct_house.specs.House.{FrontView}
+use Rattle.ct_house.specs.House.{FrontView, HouseState}
 use Rattle.ct_lines.specs.declared.request.FrontRequest.{FrontRequest}
 use Rattle.ct_live.specs.Rings.{all_received, all_sent, texts_each, ArePrefixes}
 use Rattle.ct_live.specs.Written.{in_order, BeginsOn, IsBegunOf, WritesOn}
 use Rattle.ct_live.specs.declared.pipes.answering.Numbered.{Numbered}
 use Rattle.ct_live.specs.declared.pipes.answering.PartyFault.{PartyFault}
 use Rattle.ct_live.specs.declared.pipes.output.WriteFailed.{WriteFailed}
-use Rattle.ct_live.specs.LiveBroken.{EndsClosing, EndsLogSome, EndsSome, HaveDone, WritesNoMore}
-use Rattle.ct_live.specs.LiveReplied.{EndsLive, EndsLog, Rings}
+use Rattle.ct_live.specs.LiveEnding.{EndsLive, EndsSome, HaveDone, Rings, WritesNoMore}
 use Rattle.ct_live.specs.LiveRuns.{FrontWorker, party_fronts, worker_fronts, WritesOut}
 use Rattle.ct_live.specs.declared.front.LiveFront.{LiveFront}
 use Rattle.ct_live.specs.declared.giving.End.{End}
@@ -91,12 +90,12 @@ module _ (inlets : Inlets) (tasks seen : List (Consumer (Numbered FrontRequest) 
     wrote = wrote;
   }
 
-  pub ends_live : (fronts given : List FrontView) (close_at : ℕ) (read : Result End GiveFault) (end : End) (next : ℕ) (input : Option (List ℕ))
-      (before rings : Rings) (old mid new : Option (List ℕ)) → given ≡ fronts → read ≡ Ok end
-      → (all_received seen ≡ all_sent inlets.fronts.items) × (received operator.tasks ≡ sent inlets.operator)
-      → all_received rings ≡ all_sent all → WritesOn before rings old mid → EndsLog operator.sequencer given close_at end next input mid new
-      → EndsLive inlets fronts tasks answers operator close_at read next input before old new
-  ends_live fronts given close_at read end next input before rings old mid new same_fronts so taken came writes closing = record {
+  pub ends_live : (Closing : HouseState → List FrontView → End → ℕ → Option (List ℕ) → Option (List ℕ) → Type 0) (fronts given : List FrontView)
+      (read : Result End GiveFault) (end : End) (next : ℕ) (input : Option (List ℕ)) (before rings : Rings) (old mid : Option (List ℕ)) → given ≡ fronts
+      → read ≡ Ok end → (all_received seen ≡ all_sent inlets.fronts.items) × (received operator.tasks ≡ sent inlets.operator)
+      → all_received rings ≡ all_sent all → WritesOn before rings old mid → Closing operator.sequencer given end next input mid
+      → EndsLive Closing inlets fronts tasks answers operator read next input before old
+  ends_live Closing fronts given read end next input before rings old mid same_fronts so taken came writes closing = record {
     taken = sym (ap all_received same) ∙ taken.0;
     ordered = taken.1;
     rings = rings;
@@ -105,14 +104,5 @@ module _ (inlets : Inlets) (tasks seen : List (Consumer (Numbered FrontRequest) 
     written = writes;
     end = end;
     ended_so = so;
-    closing = subst (λ (l : List FrontView). EndsLog operator.sequencer l close_at end next input mid new) same_fronts closing;
+    closing = subst (λ (l : List FrontView). Closing operator.sequencer l end next input mid) same_fronts closing;
   }
-
-  pub ends_closing : (fronts given : List FrontView) (close_at : ℕ) (read : Result End GiveFault) (end : End) (next : ℕ) (input : Option (List ℕ))
-      (before rings : Rings) (old mid new : Option (List ℕ)) → given ≡ fronts → read ≡ Ok end
-      → (all_received seen ≡ all_sent inlets.fronts.items) × (received operator.tasks ≡ sent inlets.operator)
-      → all_received rings ≡ all_sent all → WritesOn before rings old mid → EndsLogSome operator.sequencer given close_at end next input mid new
-      → EndsClosing inlets fronts tasks answers operator close_at read next input before old new
-  unfolding ends_live
-  ends_closing fronts given close_at read end next input before rings old mid new same_fronts so taken came writes (whole, log, begun) =
-      (whole, ends_live fronts given close_at read end next input before rings old mid whole same_fronts so taken came writes log, begun)

@@ -12,8 +12,8 @@ use Rattle.ct_live.specs.Tagged.{tagged}
 use Rattle.ct_live.specs.Written.{WritesBeginning}
 use Rattle.ct_live.proofs.Writing.{some_behind}
 use Rattle.ct_tree.specs.declared.head.Head.{Head}
-use Rattle.ct_live.specs.LiveBroken.{BeginsWhole, EndsLogSome}
-use Rattle.ct_live.specs.LiveReplied.{EndsLog, WritesLastHead, WritesSomeBehind, WritesSomeLastHead}
+use Rattle.ct_live.specs.LiveEnding.{EndsLog, EndsLogSome, WritesLastHead, WritesSomeBehind, WritesSomeLastHead}
+use Rattle.ct_live.specs.LiveReplied.{BeginsWhole, ClosesLog}
 use Rattle.ct_live.specs.LiveReplies.{object_text}
 use Rattle.ct_live.specs.LiveServed.{AreLinesOf, closed_replies, IsLastHead}
 use Rattle.ct_live.specs.declared.giving.End.{End}
@@ -41,18 +41,16 @@ whole_begun a b bytes (written, (rest, is), wrote) =
 ends_some_at_line : (s : HouseState) (fs : List FrontView) (close_at k now n : ℕ) (end : End) (left : FinalState) (h : Head) (behind : List (ℕ × List ℕ))
     (input a b : Option (List ℕ)) → end ≡ end_case.Close k now → Closes s fs now left → IsLastHead left.log h → AreLinesOf n input behind
     → WritesBeginning a b (tagged k (object_text (a_published_head h)) ++ concat (closed_replies left.log behind))
-    → EndsLogSome s fs close_at end n input a b
+    → EndsLogSome close_at b s fs end n input a
 ends_some_at_line s fs close_at k now n end left h behind input a b is closed last lines some =
     let text = tagged k (object_text (a_published_head h)) ++ concat (closed_replies left.log behind) in
     let (whole, all, begun) = whole_begun a b text some in (
       whole,
-      subst (λ (e : End). EndsLog s fs close_at e n input a whole) (sym is) (record {
+      subst (λ (e : End). EndsLog ClosesLog close_at whole s fs e n input a) (sym is) (record {
         now = now;
         moment = refl;
-        left = left;
-        closed = closed;
         text = text;
-        last = (behind, lines, (h, last, refl));
+        last = (behind, lines, record { left = left; closed = closed; last = (h, last, refl) });
         written = all;
       }),
       begun,
@@ -61,7 +59,7 @@ ends_some_at_line s fs close_at k now n end left h behind input a b is closed la
 -- the last head was broken off
 pub ends_in_head : (s : HouseState) (fs : List FrontView) (close_at k now n : ℕ) (end : End) (left : FinalState) (log : Log)
     (input a b : Option (List ℕ)) → end ≡ end_case.Close k now → Closes s fs now left → log ≡ left.log → WritesSomeLastHead log k a b
-    → EndsLogSome s fs close_at end n input a b
+    → EndsLogSome close_at b s fs end n input a
 ends_in_head s fs close_at k now n end left log input a b is closed same head =
     let (h, last, some) = subst (λ (l : Log). WritesSomeLastHead l k a b) same head in
     let (behind, lines) = lines_left n input in
@@ -71,7 +69,7 @@ ends_in_head s fs close_at k now n end left log input a b is closed same head =
 -- the replies behind it were broken off
 pub ends_in_replies : (s : HouseState) (fs : List FrontView) (close_at k now n : ℕ) (end : End) (left : FinalState) (one two : Log)
     (input a b c : Option (List ℕ)) → end ≡ end_case.Close k now → Closes s fs now left → one ≡ left.log → two ≡ left.log → WritesLastHead one k a b
-    → WritesSomeBehind two n input b c → EndsLogSome s fs close_at end n input a c
+    → WritesSomeBehind two n input b c → EndsLogSome close_at c s fs end n input a
 ends_in_replies s fs close_at k now n end left one two input a b c is closed first second head replies =
     let (h, last, wrote) = subst (λ (l : Log). WritesLastHead l k a b) first head in
     let (behind, lines, some) = subst (λ (l : Log). WritesSomeBehind l n input b c) second replies in

@@ -1,23 +1,15 @@
 -- Where the clock refused the moment at which a live log was to be closed.
-use Rattle.std.proofs.Common.{◌≡◌, ◌∙◌, ◌⊎◌, inl, inr, ℕ, Bool, true, false, true≢false, List, [], ◌∷◌, ◌++◌, sym, ap, Option, Result, Ok}
-use Rattle.rtrb.specs.Ring.{sent, received}
-use Rattle.rtrb.specs.declared.AnyItems.{AnyItems}
-use Rattle.rtrb.specs.declared.consumer.Consumer.{Consumer}
-use Rattle.rtrb.specs.declared.producer.Producer.{Producer}
-use Rattle.std.specs.Prelude.{Vec}
-use Rattle.std.specs.Global.{Global}
+use Rattle.std.proofs.Common.{◌≡◌, ◌∙◌, ◌⊎◌, inl, inr, ℕ, Bool, true, false, true≢false, List, [], refl, sym, ap, subst, Result, Ok, Err, IfErr, IsErrAnd}
+use Rattle.std.specs.Prelude.{Option, None}
+use Rattle.std.proofs.KnownBytes.{Appends-nil}
+use Rattle.ct_house.specs.House.{FrontView, HouseState}
+use Rattle.ct_parties.specs.ClosedLog.{IsClosingFault}
 use Rattle.ct_parties.specs.declared.fault.Fault.{Fault}
 use Rattle.ct_parties.specs.declared.fault.Fault.TheVariants.{ClockBack, Memory, Read, Threads, Write}
-use Rattle.ct_lines.specs.declared.request.FrontRequest.{FrontRequest}
-use Rattle.ct_live.specs.Rings.{all_received, all_sent}
-use Rattle.ct_live.specs.Written.{WritesOn}
-use Rattle.ct_live.specs.declared.pipes.answering.Numbered.{Numbered}
-use Rattle.ct_live.specs.LiveLate.{EndsLate, EndsLogLate}
-use Rattle.ct_live.specs.LiveReplied.{Rings}
+use Rattle.ct_live.specs.LiveEnding.{EndsLog, IsMomentOf}
+use Rattle.ct_live.specs.LiveReplied.{RefusesClosing}
 use Rattle.ct_live.specs.declared.giving.End.{End}
-use Rattle.ct_live.specs.declared.giving.GiveFault.{GiveFault}
-use Rattle.ct_live.specs.declared.giving.Inlets.{Inlets}
-use Rattle.ct_live.specs.declared.workers.DeskWorker.{DeskWorker}
+use Rattle.ct_live.proofs.Tied.{whatever_left}
 
 is_late : Fault → Bool
 is_late ClockBack = true
@@ -40,21 +32,18 @@ pub threads_not_late : {X : Type 0} → Threads ≡ ClockBack → X
 unfolding is_late
 threads_not_late late = absurd (true≢false (ap is_late (sym late)))
 
--- the list of tasks that was looked at is that of the fronts, and that of answers is the fronts' and then the operator's
-pub ends_late : (inlets : Inlets) (tasks seen : List (Consumer (Numbered FrontRequest) Global AnyItems))
-    (answers all : List (Producer (Vec ℕ Global) Global AnyItems)) (operator : DeskWorker) → seen ≡ tasks → all ≡ answers ++ operator.answers ∷ []
-    → (close_at : ℕ) (read : Result End GiveFault) (end : End) (before rings : Rings) (old mid new : Option (List ℕ)) → read ≡ Ok end
-    → (all_received seen ≡ all_sent inlets.fronts.items) × (received operator.tasks ≡ sent inlets.operator)
-    → all_received rings ≡ all_sent all → WritesOn before rings old mid → EndsLogLate operator.sequencer close_at end mid new
-    → EndsLate inlets tasks answers operator close_at read before old new
-ends_late inlets tasks seen answers all operator same together close_at read end before rings old mid new so taken came writes closing = record {
-  taken = sym (ap all_received same) ∙ taken.0;
-  ordered = taken.1;
-  rings = rings;
-  all = came ∙ ap all_sent together;
-  mid = mid;
-  written = writes;
-  end = end;
-  ended_so = so;
-  closing = closing;
-}
+-- the log wasn't closed, where the clock refuses the moment that what ended the lines gives
+pub ends_late : (s : HouseState) (fs : List FrontView) (close_at now n : ℕ) (end at : End) (input a : Option (List ℕ)) (r : Result Unit Fault) (f : Fault)
+    → end ≡ at → IsMomentOf close_at at now → IsClosingFault s.core now f → IsErrAnd r (λ e. e ≡ f)
+    → IfErr r (λ e. e ≡ ClockBack → EndsLog RefusesClosing close_at a s fs end n input a)
+ends_late s fs close_at now n end at input a (Ok x) f is moment why told = tt
+ends_late s fs close_at now n end at input a (Err e) f is moment why told = λ late. elim why [
+  | inl refused ↦ subst (λ (x : End). EndsLog RefusesClosing close_at a s fs x n input a) (sym is) (record {
+    now = now;
+    moment = moment;
+    text = [];
+    last = whatever_left (RefusesClosing s fs now None []) at n input (refused.1, refl);
+    written = Appends-nil a;
+  })
+  | inr memory ↦ never_late f (inr (inl memory)) (sym told ∙ late)
+]

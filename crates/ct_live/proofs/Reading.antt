@@ -9,9 +9,9 @@ use Rattle.ct_lines.specs.declared.request.FrontRequest.{FrontRequest}
 use Rattle.ct_lines.specs.Lines.{IsNextLine}
 use Rattle.ct_live.specs.Rings.{all_sent}
 use Rattle.ct_live.specs.declared.pipes.answering.Numbered.{Numbered}
-use Rattle.ct_live.specs.LiveGiven.{AreFirstLinesOf, AreRead, EndsReading, HaveGiven, ReadsOn}
+use Rattle.ct_live.specs.LiveGiven.{AreRead, EndsReading, HaveGiven, ReadsOn}
 use Rattle.ct_live.specs.LiveGiven.{GivesLine, GivesLines, GivesNext, GivesNothing, GivesSome, GivesUpTo}
-use Rattle.ct_live.specs.LiveServed.{AllAskLive, AreGiven, AreLinesOf, numbered_from}
+use Rattle.ct_live.specs.LiveServed.{AllAskLive, AreFirstLinesOf, AreGiven, AreLinesOf, numbered_from}
 use Rattle.ct_live.specs.LiveTasks.{LiveStep, closes}
 use Rattle.ct_live.specs.declared.asking.DeskTask.{DeskTask}
 use Rattle.ct_live.specs.declared.giving.End.{End}

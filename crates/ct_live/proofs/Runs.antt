@@ -15,11 +15,10 @@ use Rattle.ct_live.specs.declared.pipes.answering.Numbered.{Numbered}
 use Rattle.ct_live.specs.declared.pipes.answering.PartyFault.{PartyFault}
 use Rattle.ct_live.specs.declared.pipes.output.WriteFailed.{WriteFailed}
 use Rattle.ct_live.specs.declared.pipes.workers.Joined.{Joined}
-use Rattle.ct_live.specs.LiveBroken.{EndsBrokenOff, EndsClosing, EndsSome, HaveDone, RunsBrokenOff, RunsClosing, RunsSome}
+use Rattle.ct_live.specs.LiveEnding.{EndsBrokenOff, EndsLive, EndsLogSome, EndsSome, HaveDone, Rings}
 use Rattle.ct_live.specs.LiveGiven.{ReadsOn}
-use Rattle.ct_live.specs.LiveLate.{EndsLate, RunsLate}
-use Rattle.ct_live.specs.LiveReplied.{EndsLive, Rings, RunsLive}
-use Rattle.ct_live.specs.LiveRuns.{FrontWorker, party_fronts, worker_fronts, worker_tasks, worker_answers, AllReply, AllReplySome, FrontStep}
+use Rattle.ct_live.specs.LiveRunning.{RunsBrokenOff, RunsLive, RunsSome}
+use Rattle.ct_live.specs.LiveRuns.{FrontWorker, party_fronts, worker_fronts, worker_tasks, worker_answers, AllReplySome, FrontStep}
 use Rattle.ct_live.specs.LiveRuns.{AreBeside, DeskWorks, DeskWorksSome, WritesOut}
 use Rattle.ct_live.specs.declared.front.LiveFront.{LiveFront}
 use Rattle.ct_live.specs.declared.giving.End.{End}
@@ -32,7 +31,7 @@ use Rattle.ct_live.proofs.Joined.{when_ok}
 runs_some : (n m : ℕ) (input left : Option (List ℕ)) (read : Result End GiveFault) (old new : Inlets) (before after : List FrontWorker) (o p : DeskWorker)
     (first rings : Rings) (r : Result Unit WriteFailed) (a b c : Option (List ℕ)) → ReadsOn n m input left read old new → AllReplySome before after
     → DeskWorksSome o p → WritesOut first rings a b r → EndsSome new (worker_tasks after) (worker_answers after) p r rings b c
-    → RunsSome n input old before o first a c
+    → RunsSome n input old before first o a c
 runs_some n m input left read old new before after o p first rings r a b c given did worked wrote ended = record {
   inlets_then = new;
   given = given.begun;
@@ -47,36 +46,6 @@ runs_some n m input left read old new before after o p first rings r a b c given
   wrote = ended.wrote first a wrote;
 }
 
-runs_live : (close_at n m : ℕ) (input left : Option (List ℕ)) (read : Result End GiveFault) (old new : Inlets) (before after : List FrontWorker) (o p : DeskWorker)
-    (first rings : Rings) (a b c : Option (List ℕ)) → ReadsOn n m input left read old new → AllReply before after
-    → DeskWorks o p → WritesOn first rings a b
-    → EndsLive new (worker_fronts after) (worker_tasks after) (worker_answers after) p close_at read m left rings b c
-    → RunsLive close_at n input old before first o a c
-runs_live close_at n m input left read old new before after o p first rings a b c given did worked wrote ended = record {
-  inlets_then = new;
-  read = read;
-  next_then = m;
-  input_then = left;
-  given = given;
-  workers_then = after;
-  did = did;
-  operator_then = p;
-  operated = worked;
-  rings_then = rings;
-  mid = b;
-  wrote = wrote;
-  ended = ended;
-}
-
-runs_closing : (close_at n m : ℕ) (input left : Option (List ℕ)) (read : Result End GiveFault) (old new : Inlets) (before after : List FrontWorker)
-    (o p : DeskWorker) (first rings : Rings) (a b c : Option (List ℕ)) → ReadsOn n m input left read old new → AllReply before after
-    → DeskWorks o p → WritesOn first rings a b
-    → EndsClosing new (worker_fronts after) (worker_tasks after) (worker_answers after) p close_at read m left rings b c
-    → RunsClosing close_at n input old before first o a c
-unfolding runs_live
-runs_closing close_at n m input left read old new before after o p first rings a b c given did worked wrote (whole, ended, begun) =
-    (whole, runs_live close_at n m input left read old new before after o p first rings a b whole given did worked wrote ended, begun)
-
 -- what is said of the fronts and the ends of their rings that were handed back, said of those that did so
 module _ (P : List FrontView → List (Consumer (Numbered FrontRequest) Global AnyItems) → List (Producer (Vec ℕ Global) Global AnyItems) → Type 0)
     (before : List FrontWorker) (joined : Joined LiveFront FrontRequest) where
@@ -88,25 +57,14 @@ module _ (P : List FrontView → List (Consumer (Numbered FrontRequest) Global A
       (subst (λ (l : List (Producer (Vec ℕ Global) Global AnyItems)). P (party_fronts joined.parties.items) joined.tasks.items l) j.answers said))
 
 -- all did what they had to
-pub ran : (close_at n m : ℕ) (input left : Option (List ℕ)) (read : Result End GiveFault) (old new : Inlets) (before : List FrontWorker)
-    (joined : Joined LiveFront FrontRequest) (o p : DeskWorker) (first rings : Rings) (written : Result Unit WriteFailed) (operated : Result Unit PartyFault)
-    (a b c : Option (List ℕ)) → ReadsOn n m input left read old new → AreJoinedOf FrontStep before joined → DeskWorks o p
-    → WritesOut first rings a b written → HaveDone written operated joined.fault
-    → EndsLive new (party_fronts joined.parties.items) joined.tasks.items joined.answers.items p close_at read m left rings b c
-    → RunsLive close_at n input old before first o a c
-ran close_at n m input left read old new before joined o p first rings written operated a b c given j worked wrote done ended =
-    runs_live close_at n m input left read old new before j.workers_then o p first rings a b c given (j.all done.fronts)
-    worked (when_ok (WritesOn first rings a b) written done.writer wrote.written)
-    (of_workers (λ fs ts xs. EndsLive new fs ts xs p close_at read m left rings b c) before joined j ended)
-
--- and the clock refused the moment of the closing
-pub ran_late : (close_at n m : ℕ) (input left : Option (List ℕ)) (read : Result End GiveFault) (old new : Inlets) (before : List FrontWorker)
-    (joined : Joined LiveFront FrontRequest) (o p : DeskWorker) (first rings : Rings) (written : Result Unit WriteFailed) (operated : Result Unit PartyFault)
-    (a b c : Option (List ℕ)) → ReadsOn n m input left read old new → AreJoinedOf FrontStep before joined → OnOk operated (DeskWorks o p)
-    → WritesOut first rings a b written
-    → HaveDone written operated joined.fault × EndsLate new joined.tasks.items joined.answers.items p close_at read rings b c
-    → RunsLate close_at n input old before first o a c
-ran_late close_at n m input left read old new before joined o p first rings written operated a b c given j worked wrote (done, ended) = record {
+pub ran : (Closing : HouseState → List FrontView → End → ℕ → Option (List ℕ) → Option (List ℕ) → Type 0) (n m : ℕ) (input left : Option (List ℕ))
+    (read : Result End GiveFault) (old new : Inlets) (before : List FrontWorker) (joined : Joined LiveFront FrontRequest) (o p : DeskWorker) (first rings : Rings)
+    (written : Result Unit WriteFailed) (operated : Result Unit PartyFault) (a b : Option (List ℕ)) → ReadsOn n m input left read old new
+    → AreJoinedOf FrontStep before joined → OnOk operated (DeskWorks o p) → WritesOut first rings a b written
+    → HaveDone written operated joined.fault
+    × EndsLive Closing new (party_fronts joined.parties.items) joined.tasks.items joined.answers.items p read m left rings b
+    → RunsLive Closing n input old before first o a
+ran Closing n m input left read old new before joined o p first rings written operated a b given j worked wrote (done, ended) = record {
   inlets_then = new;
   read = read;
   next_then = m;
@@ -119,7 +77,7 @@ ran_late close_at n m input left read old new before joined o p first rings writ
   rings_then = rings;
   mid = b;
   wrote = when_ok (WritesOn first rings a b) written done.writer wrote.written;
-  ended = of_workers (λ fs ts xs. EndsLate new ts xs p close_at read rings b c) before joined j ended;
+  ended = of_workers (λ fs ts xs. EndsLive Closing new fs ts xs p read m left rings b) before joined j ended;
 }
 
 -- a fault broke it off
@@ -128,13 +86,12 @@ pub ran_broken : (close_at n m : ℕ) (input left : Option (List ℕ)) (read : R
     (a b c : Option (List ℕ)) → ReadsOn n m input left read old new → AreJoinedOf FrontStep before joined → DeskWorksSome o p
     → OnOk operated (DeskWorks o p) → WritesOut first rings a b written
     → EndsBrokenOff new (party_fronts joined.parties.items) joined.tasks.items joined.answers.items p written operated joined.fault close_at read m left rings b c
-    → RunsBrokenOff close_at n input old before o first a c
+    → RunsBrokenOff close_at n input old before first o a c
 ran_broken close_at n m input left read old new before joined o p first rings written operated a b c given j some worked wrote broken = elim broken [
   | inl ended ↦ inr (inl (runs_some n m input left read old new before j.workers_then o p first rings written a b c given j.did some wrote
       (of_workers (λ fs ts xs. EndsSome new ts xs p written rings b c) before joined j ended)))
-  | inr (done, closing) ↦ inr (inr (runs_closing close_at n m input left read old new before j.workers_then o p first rings a b c given (j.all done.fronts)
-      (when_ok (DeskWorks o p) operated done.operator worked) (when_ok (WritesOn first rings a b) written done.writer wrote.written)
-      (of_workers (λ fs ts xs. EndsClosing new fs ts xs p close_at read m left rings b c) before joined j closing)))
+  | inr closing ↦ inr (inr (ran (EndsLogSome close_at c) n m input left read old new before joined o p first rings written operated a b given j worked
+      wrote closing))
 ]
 
 -- ---- what the writer did, in its thread or in the one that started it
@@ -169,5 +126,5 @@ unwritten : (a b : Option (List ℕ)) → b ≡ a → Appends a b []
 unwritten a b same = subst (λ (o : Option (List ℕ)). Appends a o []) (sym same) (Appends-nil a)
 
 pub nothing_ran : (close_at next : ℕ) (input : Option (List ℕ)) (inlets : Inlets) (before : List FrontWorker) (rings : Rings) (o : DeskWorker)
-    (a b : Option (List ℕ)) → b ≡ a → RunsBrokenOff close_at next input inlets before o rings a b
+    (a b : Option (List ℕ)) → b ≡ a → RunsBrokenOff close_at next input inlets before rings o a b
 nothing_ran close_at next input inlets before rings o a b same = inl (unwritten a b same)

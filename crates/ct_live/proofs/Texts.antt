@@ -11,7 +11,8 @@ use Rattle.ct_lines.specs.Frozen.{frozen_reply, line_answer}
 use Rattle.ct_parties.specs.ClosedLog.{Closes}
 use Rattle.ct_live.specs.Tagged.{tagged}
 use Rattle.ct_tree.specs.declared.head.Head.{Head}
-use Rattle.ct_live.specs.LiveReplied.{EndsLog, WritesBehind, WritesLastHead}
+use Rattle.ct_live.specs.LiveEnding.{EndsLog, WritesBehind, WritesLastHead}
+use Rattle.ct_live.specs.LiveReplied.{ClosesLog}
 use Rattle.ct_live.specs.LiveReplies.{object_text}
 use Rattle.ct_live.specs.LiveServed.{closed_replies}
 use Rattle.ct_live.specs.LiveGiven.{AreRead}
@@ -89,23 +90,21 @@ all_replied log n m o line e input left later a b h is end =
 -- by a line, to which it replies, and to those behind
 pub ends_at_line : (s : HouseState) (fs : List FrontView) (close_at k now n : ℕ) (end : End) (left : FinalState) (one two : Log)
     (input a b c : Option (List ℕ)) → end ≡ end_case.Close k now → Closes s fs now left → one ≡ left.log → two ≡ left.log → WritesLastHead one k a b
-    → WritesBehind two n input b c → EndsLog s fs close_at end n input a c
+    → WritesBehind two n input b c → EndsLog ClosesLog close_at c s fs end n input a
 ends_at_line s fs close_at k now n end left one two input a b c is closed first second head replies =
     let (h, last, wrote) = subst (λ (l : Log). WritesLastHead l k a b) first head in
     let (behind, lines, more) = subst (λ (l : Log). WritesBehind l n input b c) second replies in
-    subst (λ (e : End). EndsLog s fs close_at e n input a c) (sym is) (record {
+    subst (λ (e : End). EndsLog ClosesLog close_at c s fs e n input a) (sym is) (record {
       now = now;
       moment = refl;
-      left = left;
-      closed = closed;
       text = tagged k (object_text (a_published_head h)) ++ concat (closed_replies left.log behind);
-      last = (behind, lines, (h, last, refl));
+      last = (behind, lines, record { left = left; closed = closed; last = (h, last, refl) });
       written = Appends-trans a b c (tagged k (object_text (a_published_head h))) (concat (closed_replies left.log behind)) wrote more;
     })
 
 -- where the input ended
 pub ends_at_end : (s : HouseState) (fs : List FrontView) (close_at n : ℕ) (end : End) (left : FinalState) (input a : Option (List ℕ))
-    → end ≡ end_case.Input → Closes s fs close_at left → EndsLog s fs close_at end n input a a
+    → end ≡ end_case.Input → Closes s fs close_at left → EndsLog ClosesLog close_at a s fs end n input a
 ends_at_end s fs close_at n end left input a is closed =
-    subst (λ (e : End). EndsLog s fs close_at e n input a a) (sym is)
-    (record { now = close_at; moment = refl; left = left; closed = closed; text = []; last = refl; written = Appends-nil a })
+    subst (λ (e : End). EndsLog ClosesLog close_at a s fs e n input a) (sym is)
+    (record { now = close_at; moment = refl; text = []; last = record { left = left; closed = closed; last = refl }; written = Appends-nil a })

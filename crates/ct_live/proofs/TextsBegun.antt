@@ -15,7 +15,7 @@ use Rattle.ct_live.proofs.Sending.{some_of_all}
 use Rattle.ct_live.proofs.Writing.{some_behind}
 use Rattle.ct_tree.specs.declared.head.Head.{Head}
 use Rattle.ct_live.specs.LiveGiven.{AreRead}
-use Rattle.ct_live.specs.LiveReplied.{WritesSomeBehind, WritesSomeLastHead}
+use Rattle.ct_live.specs.LiveEnding.{WritesSomeBehind, WritesSomeLastHead}
 use Rattle.ct_live.specs.LiveReplies.{object_text}
 use Rattle.ct_live.specs.LiveServed.{AreLinesOf, closed_replies, numbered_from}
 use Rattle.ct_live.proofs.Kept.{whole_line, whole_replies}

@@ -2,16 +2,15 @@
 use Rattle.std.proofs.Common.{◌≡◌, ◌∙◌, ℕ, List, [], ◌∷◌, ◌++◌, map, refl, sym, ap, subst, arith, append_assoc, Option, Some, None}
 use Rattle.std.proofs.lemmas.Option.{get_or_from_slice_get, slice_get_within}
 use Rattle.rtrb.specs.Ring.{sent}
-use Rattle.ct_core.specs.Settlement.{Log}
 use Rattle.ct_parties.specs.Lines.{lines_of}
 use Rattle.ct_lines.specs.declared.request.FrontRequest.{FrontRequest}
 use Rattle.ct_live.specs.Rings.{all_sent}
 use Rattle.ct_live.specs.declared.pipes.answering.Numbered.{Numbered}
-use Rattle.ct_live.specs.LiveGiven.{GivesUpTo, HaveGiven}
+use Rattle.ct_live.specs.LiveGiven.{GivesLines, GivesUpTo, HaveGiven}
 use Rattle.ct_live.specs.LiveLines.{AsksLive}
 use Rattle.ct_live.specs.LiveOpening.{AreOpened}
-use Rattle.ct_live.specs.LiveReplied.{IsEndText, IsMomentOf}
-use Rattle.ct_live.specs.LiveServed.{AreGiven, AreLinesOf, AreTasksOf, desk_task_asked, IsClosingText, numbered_from}
+use Rattle.ct_live.specs.LiveEnding.{EndsIn, IsMomentOf}
+use Rattle.ct_live.specs.LiveServed.{AreAsked, AreGiven, AreLinesOf, AreTasksOf, desk_task_asked, numbered_from}
 use Rattle.ct_live.specs.LiveTasks.{closes}
 use Rattle.ct_live.specs.declared.asking.DeskTask.{DeskTask}
 use Rattle.ct_live.specs.declared.giving.End.{End}
@@ -34,22 +33,24 @@ none_given n e i = record {
   ordered = ap (map desk_task_asked) (i.orders.unsent 0 [] (omega arith));
 }
 
--- what ended the lines that were given out, and what is said of it and of the lines that are left
-abbrev pub EndsIn : (Option (ℕ × List (ℕ × List ℕ)) → Type 0) → End → ℕ → Option (List ℕ) → Type 0
-EndsIn Last end_case.Input m left = Last None
-EndsIn Last (end_case.Close k at) m left = (behind : List (ℕ × List ℕ)) × AreLinesOf m left behind × Last (Some (k, behind))
+-- what is said of whatever is left
+pub whatever_left : (P : Type 0) (end : End) (m : ℕ) (left : Option (List ℕ)) → P → EndsIn (λ b. P) end m left
+whatever_left P end_case.Input m left is = is
+whatever_left P (end_case.Close k at) m None is = ([], tt, is)
+whatever_left P (end_case.Close k at) m (Some bytes) is = (numbered_from m (lines_of bytes), refl, is)
 
--- what the closed log replies
-pub text_in : (log : Log) (end : End) (m : ℕ) (left : Option (List ℕ)) (text : List ℕ) → IsEndText log end m left text
-    → EndsIn (λ b. IsClosingText log b text) end m left
-text_in log end_case.Input m left text is = is
-text_in log (end_case.Close k at) m left text is = is
-
--- and nothing
-pub nothing_in : (end : End) (m : ℕ) (left : Option (List ℕ)) → EndsIn (λ b. Unit {0}) end m left
-nothing_in end_case.Input m left = tt
-nothing_in (end_case.Close k at) m None = ([], tt, tt)
-nothing_in (end_case.Close k at) m (Some bytes) = (numbered_from m (lines_of bytes), refl, tt)
+-- what these lines ask was given, and nothing else
+pub all_asked : (fronts : ℕ) (lines : List (ℕ × List ℕ)) (old new : Inlets) (front_tasks : List (List (Numbered FrontRequest)))
+    (desk_tasks : List (Numbered DeskTask)) → HaveGiven [] old → GivesLines fronts lines old new → front_tasks ≡ all_sent new.fronts.items
+    → desk_tasks ≡ sent new.operator → AreAsked fronts lines front_tasks desk_tasks
+all_asked fronts lines old new front_tasks desk_tasks none gives fs ds =
+    let (more, asks, h) = gives [] none in
+    record {
+      steps = more;
+      asked = asks;
+      given = subst (λ (l : List (List (Numbered FrontRequest))). AreGiven more l desk_tasks) (sym fs)
+          (subst (λ (l : List (Numbered DeskTask)). AreGiven more (all_sent new.fronts.items) l) (sym ds) h);
+    }
 
 -- these tasks are those of the input's lines, and this is said of the lines that are left
 pub record AreTied (fronts close_at n : ℕ) (input : Option (List ℕ)) (front_tasks : List (List (Numbered FrontRequest))) (desk_tasks : List (Numbered DeskTask))
@@ -64,24 +65,18 @@ pub tasks_of : (fronts close_at n m : ℕ) (input left : Option (List ℕ)) (end
     (desk_tasks : List (Numbered DeskTask)) (now : ℕ) (Last : Option (ℕ × List (ℕ × List ℕ)) → Type 0) → HaveGiven [] old
     → GivesUpTo fronts n m input left end old new → IsMomentOf close_at end now → front_tasks ≡ all_sent new.fronts.items
     → desk_tasks ≡ sent new.operator → EndsIn Last end m left → AreTied fronts close_at n input front_tasks desk_tasks now Last
-tasks_of fronts close_at n m input left end_case.Input old new front_tasks desk_tasks now Last none out moment fs ds ends =
-    let (more, asks, h) = out.gives [] none in
-    record {
-      lines = out.lines;
-      of_input = out.ended;
-      behind = None;
-      tied = record {
-        first = out.lines;
-        cut = (refl, moment);
-        steps = more;
-        asked = asks;
-        given = subst (λ (l : List (List (Numbered FrontRequest))). AreGiven more l desk_tasks) (sym fs)
-            (subst (λ (l : List (Numbered DeskTask)). AreGiven more (all_sent new.fronts.items) l) (sym ds) h);
-      };
-      last = ends;
-    }
+tasks_of fronts close_at n m input left end_case.Input old new front_tasks desk_tasks now Last none out moment fs ds ends = record {
+  lines = out.lines;
+  of_input = out.ended;
+  behind = None;
+  tied = record {
+    first = out.lines;
+    cut = (refl, moment);
+    asked = all_asked fronts out.lines old new front_tasks desk_tasks none out.gives fs ds;
+  };
+  last = ends;
+}
 tasks_of fronts close_at n m input left (end_case.Close k at) old new front_tasks desk_tasks now Last none out moment fs ds ends =
-    let (more, asks, h) = out.gives [] none in
     let (line, some, closing, read) = out.ended in
     let (rest, behind, closing_text) = ends in
     record {
@@ -96,10 +91,7 @@ tasks_of fronts close_at n m input left (end_case.Close k at) old new front_task
           subst (λ (t : ℕ). AsksLive fronts line (closes t)) (sym moment) closing,
           append_assoc out.lines ((k, line) ∷ []) rest,
         );
-        steps = more;
-        asked = asks;
-        given = subst (λ (l : List (List (Numbered FrontRequest))). AreGiven more l desk_tasks) (sym fs)
-            (subst (λ (l : List (Numbered DeskTask)). AreGiven more (all_sent new.fronts.items) l) (sym ds) h);
+        asked = all_asked fronts out.lines old new front_tasks desk_tasks none out.gives fs ds;
       };
       last = closing_text;
     }

@@ -3,7 +3,7 @@ use Rattle.std.proofs.Common.{◌≡◌, inl, inr, sym, subst, Result}
 use Rattle.std.specs.Prelude.{IfErr, OnErr, OnOk}
 use Rattle.ct_parties.specs.declared.fault.Fault.{Fault}
 use Rattle.ct_parties.specs.declared.fault.Fault.TheVariants.{ClockBack}
-use Rattle.ct_live.specs.LiveBroken.{IsToldAs}
+use Rattle.ct_live.specs.LiveEnding.{IsToldAs}
 use Rattle.ct_live.proofs.Late.{threads_not_late}
 
 -- what holds where all went well

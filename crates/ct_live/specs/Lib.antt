@@ -16,5 +16,5 @@ pub mod LiveOpening
 pub mod LiveReplied
 pub mod LiveServed
 pub mod LiveGiven
-pub mod LiveBroken
-pub mod LiveLate
+pub mod LiveEnding
+pub mod LiveRunning

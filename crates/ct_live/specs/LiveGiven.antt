@@ -1,6 +1,5 @@
--- The tasks that the parties of a live log were given, by the lines that ask for them.
+-- What only inner functions' contracts use: the tasks that the parties of a live log were given so far, by the lines that were read.
 use Rattle.std.specs.Prelude.{◌≡◌, ◌≢◌, ℕ, List, [], ◌∷◌, ◌++◌, length, Option, Some, None, IfSome, IfOk, Result}
-use mathlib.Core.List.{IsPrefix}
 use Rattle.rtrb.specs.Ring.{sent}
 use Rattle.ct_parties.specs.Lines.{lines_of}
 use Rattle.ct_parties.specs.declared.fault.Fault.{Fault}
@@ -9,7 +8,7 @@ use Rattle.ct_lines.specs.Lines.{IsNextLine}
 use Rattle.ct_live.specs.Rings.{all_sent}
 use Rattle.ct_live.specs.LiveLines.{AsksLive}
 use Rattle.ct_live.specs.LiveRuns.{GivesOn}
-use Rattle.ct_live.specs.LiveServed.{AllAskLive, AreGiven, AreLinesOf, numbered_from}
+use Rattle.ct_live.specs.LiveServed.{AllAskLive, AreFirstLinesOf, AreGiven, AreLinesOf, numbered_from}
 use Rattle.ct_live.specs.LiveTasks.{LiveStep, closes, LeavesOpen}
 use Rattle.ct_live.specs.declared.giving.End.{End}
 use Rattle.ct_live.specs.declared.giving.End.TheVariants.{Close, Input}
@@ -79,10 +78,6 @@ pub record GivesUpTo (fronts n m : ℕ) (input left : Option (List ℕ)) (end : 
 pub record GivesNothing (old new : Inlets) : Type 0 where
   pub fronts : all_sent new.fronts.items ≡ all_sent old.fronts.items
   pub operator : sent new.operator ≡ sent old.operator
-
--- the lines are the first of an input's, where its bytes are known, with their numbers, of which the first is n
-abbrev pub AreFirstLinesOf : ℕ → Option (List ℕ) → List (ℕ × List ℕ) → Type 0
-AreFirstLinesOf n input lines = IfSome input (λ bytes. IsPrefix lines (numbered_from n (lines_of bytes)))
 
 -- what the first lines of an input ask was given out, and nothing else
 pub record GivesSome (n : ℕ) (input : Option (List ℕ)) (old new : Inlets) : Type 0 where

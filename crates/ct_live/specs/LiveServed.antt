@@ -1,6 +1,7 @@
 -- What the lines of a live log's input ask of its parties, and what the closed log replies to those behind.
 use Rattle.std.specs.Prelude.{◌≡◌, ◌≢◌, ◌+◌, ◌-◌, ℕ, List, [], ◌∷◌, ◌++◌, length, map, slice_get, Option, Some, None, IfSome}
 use Rattle.std.specs.List.{concat, filter_map}
+use mathlib.Core.List.{IsPrefix}
 use Rattle.ct_core.specs.Replies.{a_published_head}
 use Rattle.ct_core.specs.Settlement.{Log}
 use Rattle.ct_lines.specs.Asked.{FrontAsked}
@@ -25,6 +26,10 @@ numbered_from n (line ∷ lines) = (n, line) ∷ numbered_from (n + 1) lines
 -- the lines are those of an input, where its bytes are known, with their numbers, of which the first is n
 abbrev pub AreLinesOf : ℕ → Option (List ℕ) → List (ℕ × List ℕ) → Type 0
 AreLinesOf n input lines = IfSome input (λ bytes. lines ≡ numbered_from n (lines_of bytes))
+
+-- the lines are the first of an input's, where its bytes are known, with their numbers, of which the first is n
+abbrev pub AreFirstLinesOf : ℕ → Option (List ℕ) → List (ℕ × List ℕ) → Type 0
+AreFirstLinesOf n input lines = IfSome input (λ bytes. IsPrefix lines (numbered_from n (lines_of bytes)))
 
 -- The steps are what a live log with so many fronts does for the lines, each with its line's number: for an empty line there is none.
 -- None of these lines closes the log: each step leaves it open.
@@ -63,6 +68,13 @@ pub record AreGiven (steps : List (ℕ × LiveStep)) (fronts : List (List (Numbe
   pub merge : IsMergeOf fronts front_tasks
   pub ordered : map desk_task_asked desk ≡ filter_map desk_given steps
 
+-- The parties, of so many fronts, were given what these lines ask, and nothing else; none of them closes the log. `steps` are what they
+-- ask, by `asked`, and `given` says that the parties' tasks are these.
+pub record AreAsked (fronts : ℕ) (lines : List (ℕ × List ℕ)) (front_tasks : List (List (Numbered FrontRequest))) (desk_tasks : List (Numbered DeskTask)) : Type 0 where
+  pub steps : List (ℕ × LiveStep)
+  pub asked : AllAskLive fronts lines steps
+  pub given : AreGiven steps front_tasks desk_tasks
+
 -- Where the lines end that the parties do: with all of them, and the log is closed at close_at; or before a line that closes it at
 -- now, which has the number k, and those that are behind it.
 abbrev pub EndsAtLine : ℕ → ℕ → List (ℕ × List ℕ) → List (ℕ × List ℕ) → ℕ → Option (ℕ × List (ℕ × List ℕ)) → Type 0
@@ -89,11 +101,9 @@ IsClosingText log (Some (k, behind)) text =
 
 -- The parties, of so many fronts, were given what the first of these lines ask, and nothing else: all lines, of which none closes the
 -- log, and it is closed at close_at; or those before the first one that closes it, which does so at now. `first` are these lines, `cut`
--- says where they end, `steps` are what they ask, by `asked`, and `given` says that the parties' tasks are these.
+-- says where they end, and `asked` that the parties' tasks are what they ask.
 pub record AreTasksOf (fronts close_at : ℕ) (lines : List (ℕ × List ℕ)) (front_tasks : List (List (Numbered FrontRequest)))
     (desk_tasks : List (Numbered DeskTask)) (now : ℕ) (behind : Option (ℕ × List (ℕ × List ℕ))) : Type 0 where
   pub first : List (ℕ × List ℕ)
   pub cut : EndsAtLine fronts close_at lines first now behind
-  pub steps : List (ℕ × LiveStep)
-  pub asked : AllAskLive fronts first steps
-  pub given : AreGiven steps front_tasks desk_tasks
+  pub asked : AreAsked fronts first front_tasks desk_tasks

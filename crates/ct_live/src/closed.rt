@@ -5,7 +5,7 @@ ghost use Rattle.std.specs.Io.KnownBytes.{Appends};
 ghost use Rattle.std.specs.List.{concat};
 ghost use Rattle.ct_lines.specs.Frozen.{line_answer};
 ghost use Rattle.ct_live.specs.Written.{WritesBeginning};
-ghost use Rattle.ct_live.specs.LiveReplied.{WritesBehind, WritesLastHead, WritesSomeBehind, WritesSomeLastHead};
+ghost use Rattle.ct_live.specs.LiveEnding.{WritesBehind, WritesLastHead, WritesSomeBehind, WritesSomeLastHead};
 ghost use Rattle.ct_live.specs.LiveReplies.{object_text};
 ghost use Rattle.ct_live.specs.LiveServed.{closed_replies};
 

@@ -7,9 +7,8 @@ ghost use Rattle.rtrb.specs.Ring.{sent, received, IsPair};
 ghost use Rattle.ct_parties.specs.Parties.{AreFrontsOf};
 ghost use Rattle.ct_live.specs.Rings.{all_received, all_sent, ArePairs, ArePrefixes};
 ghost use Rattle.ct_live.specs.Written.{WritesOn, BeginsOn};
-ghost use Rattle.ct_live.specs.LiveBroken.{EndsBrokenOff, EndsLogSome, HaveDone, WritesNoMore, fault_of_party, fault_of_start};
-ghost use Rattle.ct_live.specs.LiveLate.{EndsLate, EndsLogLate};
-ghost use Rattle.ct_live.specs.LiveReplied.{EndsLive, EndsLog};
+ghost use Rattle.ct_live.specs.LiveEnding.{EndsBrokenOff, EndsLive, EndsLog, EndsLogSome, HaveDone, WritesNoMore, fault_of_party, fault_of_start};
+ghost use Rattle.ct_live.specs.LiveReplied.{ClosesLog, RefusesClosing};
 ghost use Rattle.ct_live.specs.LiveRuns.{AreBeside, party_fronts};
 
 use crate::asking::DeskTask;
@@ -181,11 +180,12 @@ fn close_and_serve<H: Threads + Wait + Sync, B: BufRead + Drop, W: Write>(
     output: &mut W,
 ) -> Result<(), Fault>
     requires { AreFrontsOf sequencer fronts.items }
-    ensures all { OnOk result (EndsLog sequencer fronts.items close_at end lines.old.next (B.remaining lines.old.input)
-        (W.contents output.old) (W.contents output.new)) }
-    ensures begun { OnErr result (Appends (W.contents output.old) (W.contents output.new) [] ⊎ EndsLogSome sequencer fronts.items close_at end
-        lines.old.next (B.remaining lines.old.input) (W.contents output.old) (W.contents output.new)) }
-    ensures late { IfErr result (λ f. f ≡ Fault.ClockBack → EndsLogLate sequencer close_at end (W.contents output.old) (W.contents output.new)) }
+    ensures all { OnOk result (EndsLog ClosesLog close_at (W.contents output.new) sequencer fronts.items end lines.old.next
+        (B.remaining lines.old.input) (W.contents output.old)) }
+    ensures begun { OnErr result (Appends (W.contents output.old) (W.contents output.new) [] ⊎ EndsLogSome close_at (W.contents output.new)
+        sequencer fronts.items end lines.old.next (B.remaining lines.old.input) (W.contents output.old)) }
+    ensures late { IfErr result (λ f. f ≡ Fault.ClockBack → EndsLog RefusesClosing close_at (W.contents output.new) sequencer fronts.items end
+        lines.old.next (B.remaining lines.old.input) (W.contents output.old)) }
 {
     match end {
         End::Close { line, now } => {
@@ -229,15 +229,16 @@ pub fn end_live<H: Threads + Wait + Sync, B: BufRead + Drop, W: Write>(
     requires room { vec_len left.fronts.answers < vec_capacity left.fronts.answers }
     requires beside { AreBeside left.giver.inlets left.fronts.tasks.items left.fronts.answers.items operator rings.old }
     requires fronts { HaveDone left.written left.operated left.fronts.fault → AreFrontsOf operator.sequencer (party_fronts left.fronts.parties.items) }
-    ensures ended { OnOk result (HaveDone left.written left.operated left.fronts.fault × EndsLive left.giver.inlets
-        (party_fronts left.fronts.parties.items) left.fronts.tasks.items left.fronts.answers.items operator close_at left.end
-        left.giver.lines.next (B.remaining left.giver.lines.input) rings.old (W.contents output.old) (W.contents output.new)) }
+    ensures ended { OnOk result (HaveDone left.written left.operated left.fronts.fault × EndsLive (EndsLog ClosesLog close_at (W.contents output.new))
+        left.giver.inlets (party_fronts left.fronts.parties.items) left.fronts.tasks.items left.fronts.answers.items operator left.end
+        left.giver.lines.next (B.remaining left.giver.lines.input) rings.old (W.contents output.old)) }
     ensures broken { OnErr result (EndsBrokenOff left.giver.inlets (party_fronts left.fronts.parties.items) left.fronts.tasks.items
         left.fronts.answers.items operator left.written left.operated left.fronts.fault close_at left.end left.giver.lines.next
         (B.remaining left.giver.lines.input) rings.old (W.contents output.old) (W.contents output.new)) }
     ensures late { IfErr result (λ f. f ≡ Fault.ClockBack → HaveDone left.written left.operated left.fronts.fault
-        × EndsLate left.giver.inlets left.fronts.tasks.items left.fronts.answers.items operator close_at left.end rings.old
-        (W.contents output.old) (W.contents output.new)) }
+        × EndsLive (EndsLog RefusesClosing close_at (W.contents output.new)) left.giver.inlets (party_fronts left.fronts.parties.items)
+        left.fronts.tasks.items left.fronts.answers.items operator left.end left.giver.lines.next (B.remaining left.giver.lines.input) rings.old
+        (W.contents output.old)) }
 {
     let DeskWorker {
         sequencer,

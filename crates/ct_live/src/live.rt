@@ -6,9 +6,8 @@ ghost use Rattle.rtrb.specs.Ring.{sent, received, IsPair};
 ghost use Rattle.ct_parties.specs.Parties.{AreFrontsOf};
 ghost use Rattle.ct_live.specs.LiveRuns.{worker_answers, worker_fronts, worker_tasks};
 ghost use Rattle.ct_live.specs.LiveOpening.{AreOpened};
-ghost use Rattle.ct_live.specs.LiveBroken.{IsServedSome, IsToldAs, RepliesBrokenOff};
-ghost use Rattle.ct_live.specs.LiveLate.{IsServedLate, RepliesLate};
-ghost use Rattle.ct_live.specs.LiveReplied.{IsServedLive, RepliesLive};
+ghost use Rattle.ct_live.specs.LiveEnding.{IsToldAs};
+ghost use Rattle.ct_live.specs.LiveReplied.{ClosesLog, IsServedLate, IsServedLive, IsServedSome, RefusesClosing, RepliesBrokenOff, RepliesLive};
 
 use crate::asking::DeskTask;
 use crate::front::LiveFront;
@@ -185,11 +184,11 @@ fn serve_house<H: Threads + Wait + Sync, B: BufRead + Drop + Send, W: Write + Dr
     requires count { length fronts.items ≡ options.fronts }
     requires lanes { length sequencer.lanes ≡ options.fronts }
     requires fronts { AreFrontsOf sequencer fronts.items }
-    ensures replied { OnOk result.result (RepliesLive options.fronts options.close_at lines.next (B.remaining lines.input) sequencer fronts.items
-        (W.contents output) (W.contents result.output)) }
+    ensures replied { OnOk result.result (RepliesLive ClosesLog options.fronts options.close_at lines.next (B.remaining lines.input) sequencer
+        fronts.items (W.contents output) (W.contents result.output)) }
     ensures broken { OnErr result.result (Appends (W.contents output) (W.contents result.output) [] ⊎ RepliesBrokenOff options.fronts
         options.close_at lines.next (B.remaining lines.input) sequencer fronts.items (W.contents output) (W.contents result.output)) }
-    ensures late { IfErr result.result (λ f. f ≡ Fault.ClockBack → RepliesLate options.fronts options.close_at lines.next
+    ensures late { IfErr result.result (λ f. f ≡ Fault.ClockBack → RepliesLive RefusesClosing options.fronts options.close_at lines.next
         (B.remaining lines.input) sequencer fronts.items (W.contents output) (W.contents result.output)) }
 {
     let Ends {

@@ -2,10 +2,10 @@
 
 ghost use Rattle.std.specs.Prelude.{◌≡◌, ◌≢◌, ◌<◌, length, Ok, Err, Some, None, IfOk, IfErr, OnOk, OnErr, vec_len, vec_capacity};
 ghost use Rattle.ct_live.specs.Working.{AreJoinedOf};
-ghost use Rattle.ct_live.specs.LiveBroken.{RunsBrokenOff};
-ghost use Rattle.ct_live.specs.LiveLate.{RunsLate};
+ghost use Rattle.ct_live.specs.LiveEnding.{EndsLog};
 ghost use Rattle.ct_live.specs.LiveGiven.{ReadsOn};
-ghost use Rattle.ct_live.specs.LiveReplied.{RunsLive};
+ghost use Rattle.ct_live.specs.LiveReplied.{ClosesLog, RefusesClosing};
+ghost use Rattle.ct_live.specs.LiveRunning.{RunsBrokenOff, RunsLive};
 ghost use Rattle.ct_live.specs.LiveRuns.{AreJoined, DeskWorks, DeskWorksSome, FrontStep, WritesOut};
 ghost use Rattle.ct_live.specs.declared.workers.DeskWorker.{DeskWorker as DeskWorkerOf};
 
@@ -402,13 +402,13 @@ pub fn run_live<R: Threads + Wait + Sync, B: BufRead + Drop + Send, W: Write + D
     requires count { length start.giver.inlets.fronts.items ≡ options.fronts }
     requires workers { length start.workers.items ≡ options.fronts }
     requires joined { AreJoined start.giver.inlets start.workers.items operator start.out.rings.items }
-    ensures ran { OnOk result.result (RunsLive options.close_at start.giver.lines.next (B.remaining start.giver.lines.input) start.giver.inlets
-        start.workers.items start.out.rings.items operator (W.contents start.out.output) (W.contents result.output)) }
+    ensures ran { OnOk result.result (RunsLive (EndsLog ClosesLog options.close_at (W.contents result.output)) start.giver.lines.next
+        (B.remaining start.giver.lines.input) start.giver.inlets start.workers.items start.out.rings.items operator (W.contents start.out.output)) }
     ensures broken { OnErr result.result (RunsBrokenOff options.close_at start.giver.lines.next (B.remaining start.giver.lines.input)
-        start.giver.inlets start.workers.items operator start.out.rings.items (W.contents start.out.output) (W.contents result.output)) }
-    ensures late { IfErr result.result (λ f. f ≡ Fault.ClockBack → RunsLate options.close_at start.giver.lines.next
-        (B.remaining start.giver.lines.input) start.giver.inlets start.workers.items start.out.rings.items operator
-        (W.contents start.out.output) (W.contents result.output)) }
+        start.giver.inlets start.workers.items start.out.rings.items operator (W.contents start.out.output) (W.contents result.output)) }
+    ensures late { IfErr result.result (λ f. f ≡ Fault.ClockBack → RunsLive (EndsLog RefusesClosing options.close_at (W.contents result.output))
+        start.giver.lines.next (B.remaining start.giver.lines.input) start.giver.inlets start.workers.items start.out.rings.items operator
+        (W.contents start.out.output)) }
 {
     let ran = run_threads(rt, alloc, places, waiting, options.fronts, start, operator);
     let Ran {

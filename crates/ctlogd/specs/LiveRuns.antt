@@ -1,9 +1,7 @@
 -- What a run of the live program writes.
 use Rattle.std.specs.Prelude.{◌≡◌, ◌⊎◌, ℕ, List, [], Option}
 use Rattle.std.specs.Io.KnownBytes.{Appends}
-use Rattle.ct_live.specs.LiveBroken.{IsServedSome}
-use Rattle.ct_live.specs.LiveLate.{IsServedLate}
-use Rattle.ct_live.specs.LiveReplied.{IsServedLive}
+use Rattle.ct_live.specs.LiveReplied.{IsServedLate, IsServedLive, IsServedSome}
 use Rattle.ct_parties.specs.declared.fault.Fault.{Fault}
 use Rattle.ct_parties.specs.declared.fault.Fault.TheVariants.{ClockBack, Memory, Write}
 use Rattle.ct_command.specs.CommandLine.{CommandLine, log_with, help, version, nothing}

@@ -1,10 +1,11 @@
-use Rattle.std.proofs.Common.{inl, inr}
+use Rattle.std.proofs.Common.{inl, inr, refl}
 use Rattle.std.proofs.KnownBytes.{Appends-nil}
 use Rattle.std.proofs.lemmas.Result.{IfErr-weaker, on_err_weaker, on_ok_weaker}
+use Rattle.ct_live.specs.declared.giving.End.TheVariants.{Close, Input}
 use Rattle.ct_live.proofs.Beside.{of_error}
 use Rattle.ct_live.proofs.Texts.{ends_at_end, ends_at_line}
 use Rattle.ct_live.proofs.EndsBegun.{ends_in_head, ends_in_replies}
-use Rattle.ct_live.proofs.Late.{never_late}
+use Rattle.ct_live.proofs.Late.{ends_late, never_late}
 use Rattle.ct_live.proofs.ending.close_and_serve.Goals as goal
 
 pub returns-in_ok-send_last_head-in-Close-clause-all : goal.returns-in_ok-send_last_head-in-Close-clause-all
@@ -48,3 +49,15 @@ returns-in_ok-_log-in-Input-clause-all g c =
 
 pub returns-in_ok-send_last_head-in-Close-clause-late : goal.returns-in_ok-send_last_head-in-Close-clause-late
 returns-in_ok-send_last_head-in-Close-clause-late g c = IfErr-weaker c.serve_closed.result _ _ (λ f why. never_late f why) c.serve_closed.ensures.faults
+
+pub returns-in_err-log-in-Close-clause-late : goal.returns-in_err-log-in-Close-clause-late
+returns-in_err-log-in-Close-clause-late g c =
+    ends_late c.args.sequencer c.args.fronts.items c.args.close_at c.in-Close.now c.args.lines.now.next c.args.end (Close c.in-Close.line c.in-Close.now)
+    (g.B.Read.remaining c.args.lines.now.input) (g.W.Write.contents c.args.output.now) c.from_residual.result c.in_err-log-in-Close.field-0.0 c.in-Close.is
+    refl c.in_err-log-in-Close.ensures.faults c.from_residual.ensures.1
+
+pub returns-in_err-_log-in-Input-clause-late : goal.returns-in_err-_log-in-Input-clause-late
+returns-in_err-_log-in-Input-clause-late g c =
+    ends_late c.args.sequencer c.args.fronts.items c.args.close_at c.args.close_at c.args.lines.now.next c.args.end Input
+    (g.B.Read.remaining c.args.lines.now.input) (g.W.Write.contents c.args.output.now) c.from_residual-in_err-_log-in-Input.result
+    c.in_err-_log-in-Input.field-0.0 c.in-Input.is refl c.in_err-_log-in-Input.ensures.faults c.from_residual-in_err-_log-in-Input.ensures.1

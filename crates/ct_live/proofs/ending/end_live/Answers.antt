@@ -1,11 +1,11 @@
 use Rattle.std.proofs.Common.{◌∙◌, inl, inr}
 use Rattle.std.proofs.lemmas.Result.{IfErr-weaker, on_err_weaker, on_ok_weaker}
-use Rattle.ct_live.specs.LiveBroken.{HaveDone}
+use Rattle.ct_live.specs.LiveEnding.{EndsLog, EndsLogSome, HaveDone}
+use Rattle.ct_live.specs.LiveReplied.{ClosesLog, RefusesClosing}
 use Rattle.ct_live.specs.LiveRuns.{party_fronts}
 use Rattle.ct_live.proofs.BrokenOff.{begins_on}
-use Rattle.ct_live.proofs.Ended.{begins_as_done, begins_rest, begins_then, ends_closing, ends_live, ends_some}
+use Rattle.ct_live.proofs.Ended.{begins_as_done, begins_rest, begins_then, ends_live, ends_some}
 use Rattle.ct_live.proofs.Joined.{when_ok}
-use Rattle.ct_live.proofs.Late.{ends_late}
 use Rattle.ct_live.proofs.ending.end_live.Goals as goal
 
 pub returns-in-Err-clause-broken : goal.returns-in-Err-clause-broken
@@ -25,9 +25,10 @@ returns-in-Ok-end-clause-ended g c =
       done,
       ends_live c.args.left.giver.inlets c.args.left.fronts.tasks.items c.deref_mut.result.now c.args.left.fronts.answers.items c.deref_mut-2.result.now
           c.args.operator c.deref_mut.ensures.value (c.deref_mut-2.ensures.value ∙ c.push_reserved.ensures.items)
-          (party_fronts c.args.left.fronts.parties.items) c.in-Ok.fronts.items c.args.close_at c.args.left.end c.in-Ok-end.end c.args.left.giver.lines.next
-          (g.B.Read.remaining c.args.left.giver.lines.input) c.args.rings.now c.write_rest.new.rings (g.W.Write.contents c.args.output.now)
-          (g.W.Write.contents c.write_rest.new.output) (g.W.Write.contents c.close_and_serve.new.output) c.in-Ok.ensures.fronts c.in-Ok-end.is
+          (EndsLog ClosesLog c.args.close_at (g.W.Write.contents c.close_and_serve.new.output)) (party_fronts c.args.left.fronts.parties.items)
+          c.in-Ok.fronts.items c.args.left.end c.in-Ok-end.end c.args.left.giver.lines.next (g.B.Read.remaining c.args.left.giver.lines.input)
+          c.args.rings.now c.write_rest.new.rings (g.W.Write.contents c.args.output.now) (g.W.Write.contents c.write_rest.new.output)
+          c.in-Ok.ensures.fronts c.in-Ok-end.is
           (c.are_received-received.ensures.taken c.in-Ok.ensures.done.1) c.in-Ok.ensures.all c.in-Ok.ensures.written closing,
     )) c.close_and_serve.ensures.all
 
@@ -46,10 +47,10 @@ returns-in-Ok-end-clause-broken g c =
           (begins_then c.args.rings.now c.write_rest.new.rings old mid new c.in-Ok.ensures.written none)))
       | inr closing ↦ inr (
         done,
-        ends_closing c.args.left.giver.inlets c.args.left.fronts.tasks.items c.deref_mut.result.now c.args.left.fronts.answers.items
+        ends_live c.args.left.giver.inlets c.args.left.fronts.tasks.items c.deref_mut.result.now c.args.left.fronts.answers.items
             c.deref_mut-2.result.now c.args.operator c.deref_mut.ensures.value (c.deref_mut-2.ensures.value ∙ c.push_reserved.ensures.items)
-            (party_fronts c.args.left.fronts.parties.items) c.in-Ok.fronts.items c.args.close_at c.args.left.end c.in-Ok-end.end
-            c.args.left.giver.lines.next (g.B.Read.remaining c.args.left.giver.lines.input) c.args.rings.now c.write_rest.new.rings old mid new
+            (EndsLogSome c.args.close_at new) (party_fronts c.args.left.fronts.parties.items) c.in-Ok.fronts.items c.args.left.end c.in-Ok-end.end
+            c.args.left.giver.lines.next (g.B.Read.remaining c.args.left.giver.lines.input) c.args.rings.now c.write_rest.new.rings old mid
             c.in-Ok.ensures.fronts c.in-Ok-end.is (c.are_received-received.ensures.taken c.in-Ok.ensures.done.1) c.in-Ok.ensures.all
             c.in-Ok.ensures.written closing,
       )
@@ -73,9 +74,11 @@ returns-in-Ok-end-clause-late g c =
     c.fault_of-done.ensures.done in
     IfErr-weaker c.close_and_serve.result _ _ (λ f late is. (
       done,
-      ends_late c.args.left.giver.inlets c.args.left.fronts.tasks.items c.deref_mut.result.now c.args.left.fronts.answers.items c.deref_mut-2.result.now
-          c.args.operator c.deref_mut.ensures.value (c.deref_mut-2.ensures.value ∙ c.push_reserved.ensures.items) c.args.close_at c.args.left.end
-          c.in-Ok-end.end c.args.rings.now c.write_rest.new.rings (g.W.Write.contents c.args.output.now) (g.W.Write.contents c.write_rest.new.output)
-          (g.W.Write.contents c.close_and_serve.new.output) c.in-Ok-end.is (c.are_received-received.ensures.taken c.in-Ok.ensures.done.1)
-          c.in-Ok.ensures.all c.in-Ok.ensures.written (late is),
+      ends_live c.args.left.giver.inlets c.args.left.fronts.tasks.items c.deref_mut.result.now c.args.left.fronts.answers.items c.deref_mut-2.result.now
+          c.args.operator c.deref_mut.ensures.value (c.deref_mut-2.ensures.value ∙ c.push_reserved.ensures.items)
+          (EndsLog RefusesClosing c.args.close_at (g.W.Write.contents c.close_and_serve.new.output)) (party_fronts c.args.left.fronts.parties.items)
+          c.in-Ok.fronts.items c.args.left.end c.in-Ok-end.end c.args.left.giver.lines.next (g.B.Read.remaining c.args.left.giver.lines.input)
+          c.args.rings.now c.write_rest.new.rings (g.W.Write.contents c.args.output.now) (g.W.Write.contents c.write_rest.new.output)
+          c.in-Ok.ensures.fronts c.in-Ok-end.is (c.are_received-received.ensures.taken c.in-Ok.ensures.done.1) c.in-Ok.ensures.all
+          c.in-Ok.ensures.written (late is),
     )) c.close_and_serve.ensures.late

@@ -1,9 +1,13 @@
-use Rattle.std.proofs.Common.{inl, refl}
+use Rattle.std.proofs.Common.{◌⊎◌, inl, List, [], subst}
+use Rattle.std.specs.Io.KnownBytes.{Appends}
 use Rattle.std.proofs.KnownBytes.{Appends-nil}
 use Rattle.std.proofs.lemmas.Result.{IfErr-weaker, on_err_weaker, on_ok_weaker}
-use Rattle.ct_live.proofs.BrokenOff.{broken_off_as}
+use Rattle.ct_house.specs.House.{FrontView}
+use Rattle.ct_live.specs.LiveEnding.{EndsLog}
+use Rattle.ct_live.specs.LiveReplied.{ClosesLog, RefusesClosing, RepliesBrokenOff, RepliesLive}
+use Rattle.ct_live.proofs.BrokenOff.{replies_broken}
 use Rattle.ct_live.proofs.Opens.{as_many, as_many_workers}
-use Rattle.ct_live.proofs.Replied.{replies_as, replies_late_as}
+use Rattle.ct_live.proofs.Replied.{replies}
 use Rattle.ct_live.proofs.live.serve_house.Goals as goal
 
 pub front_workers-requires-clause-tasks : goal.front_workers-requires-clause-tasks
@@ -18,21 +22,31 @@ returns-in-Err-clause-broken g c = inl (Appends-nil (g.W.Write.contents c.args.o
 
 pub returns-clause-replied : goal.returns-clause-replied
 returns-clause-replied g c =
-    on_ok_weaker c.run_live.result.result
-    (λ r. replies_as c.args.options.fronts c.args.options.close_at c.args.lines.next (g.B.Read.remaining c.args.lines.input) c.args.ends c.in-Ok.workers.items _
-    c.args.sequencer c.args.fronts.items (g.W.Write.contents c.args.output) (g.W.Write.contents c.run_live.result.output) r c.requires.ends
-    c.in-Ok.ensures.tasks c.in-Ok.ensures.answers refl refl refl c.in-Ok.ensures.fronts) c.run_live.ensures.ran
+    on_ok_weaker c.run_live.result.result (λ r.
+    let new = g.W.Write.contents c.run_live.result.output in
+    subst (λ (l : List FrontView). RepliesLive ClosesLog c.args.options.fronts c.args.options.close_at c.args.lines.next
+    (g.B.Read.remaining c.args.lines.input) c.args.sequencer l (g.W.Write.contents c.args.output) new) c.in-Ok.ensures.fronts
+    (replies c.args.options.fronts c.args.options.close_at c.args.lines.next (g.B.Read.remaining c.args.lines.input) c.args.ends c.in-Ok.workers.items
+    c.args.sequencer (g.W.Write.contents c.args.output) c.requires.ends c.in-Ok.ensures.tasks c.in-Ok.ensures.answers
+    (EndsLog ClosesLog c.args.options.close_at new) r ClosesLog new r.ended.closing)) c.run_live.ensures.ran
 
 pub returns-clause-broken : goal.returns-clause-broken
 returns-clause-broken g c =
-    on_err_weaker c.run_live.result.result
-    (λ r. broken_off_as c.args.options.fronts c.args.options.close_at c.args.lines.next (g.B.Read.remaining c.args.lines.input) c.args.ends c.in-Ok.workers.items _
-    c.args.sequencer c.args.fronts.items (g.W.Write.contents c.args.output) (g.W.Write.contents c.run_live.result.output) r c.requires.ends
-    c.in-Ok.ensures.tasks c.in-Ok.ensures.answers refl refl refl c.in-Ok.ensures.fronts) c.run_live.ensures.broken
+    on_err_weaker c.run_live.result.result (λ r.
+    let new = g.W.Write.contents c.run_live.result.output in
+    subst (λ (l : List FrontView). Appends (g.W.Write.contents c.args.output) new [] ⊎ RepliesBrokenOff c.args.options.fronts c.args.options.close_at
+    c.args.lines.next (g.B.Read.remaining c.args.lines.input) c.args.sequencer l (g.W.Write.contents c.args.output) new) c.in-Ok.ensures.fronts
+    (replies_broken c.args.options.fronts c.args.options.close_at c.args.lines.next (g.B.Read.remaining c.args.lines.input) c.args.ends
+    c.in-Ok.workers.items c.args.sequencer (g.W.Write.contents c.args.output) new c.requires.ends c.in-Ok.ensures.tasks c.in-Ok.ensures.answers r))
+    c.run_live.ensures.broken
 
 pub returns-clause-late : goal.returns-clause-late
 returns-clause-late g c =
-    IfErr-weaker c.run_live.result.result _ _
-    (λ f late is. replies_late_as c.args.options.fronts c.args.options.close_at c.args.lines.next (g.B.Read.remaining c.args.lines.input) c.args.ends
-    c.in-Ok.workers.items _ c.args.sequencer c.args.fronts.items (g.W.Write.contents c.args.output) (g.W.Write.contents c.run_live.result.output) (late is)
-    c.requires.ends c.in-Ok.ensures.tasks c.in-Ok.ensures.answers refl refl refl c.in-Ok.ensures.fronts) c.run_live.ensures.late
+    IfErr-weaker c.run_live.result.result _ _ (λ f late is.
+    let new = g.W.Write.contents c.run_live.result.output in
+    let r = late is in
+    subst (λ (l : List FrontView). RepliesLive RefusesClosing c.args.options.fronts c.args.options.close_at c.args.lines.next
+    (g.B.Read.remaining c.args.lines.input) c.args.sequencer l (g.W.Write.contents c.args.output) new) c.in-Ok.ensures.fronts
+    (replies c.args.options.fronts c.args.options.close_at c.args.lines.next (g.B.Read.remaining c.args.lines.input) c.args.ends c.in-Ok.workers.items
+    c.args.sequencer (g.W.Write.contents c.args.output) c.requires.ends c.in-Ok.ensures.tasks c.in-Ok.ensures.answers
+    (EndsLog RefusesClosing c.args.options.close_at new) r RefusesClosing new r.ended.closing)) c.run_live.ensures.late
