@@ -118,9 +118,9 @@ module _ {P T : Type 0} (does : P → T → List ℕ → P → Type 0) where
       → (sent k.answers ≡ sent cut.between.sink.answers) × SameProducer cut.between.sink.answers k.answers
   last_unsent a fault s k cut = elim cut.ended [
     | inl refused ↦ (
-        ap (λ (x : Outbox). sent x.answers) refused.0,
-        subst (λ (x : Outbox). SameProducer cut.between.sink.answers x.answers) (sym refused.0) ((refl, refl, refl, refl), refl),
-      )
+      ap (λ (x : Outbox). sent x.answers) refused.0,
+      subst (λ (x : Outbox). SameProducer cut.between.sink.answers x.answers) (sym refused.0) ((refl, refl, refl, refl), refl),
+    )
     | inr refused ↦ (refused.none, refused.same)
   ]
 

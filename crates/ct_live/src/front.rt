@@ -6,7 +6,7 @@ ghost use Rattle.ct_live.specs.LiveParties.{FrontReplies};
 use crate::replying::reply_object;
 use ct_house::Front;
 use ct_lines::FrontRequest;
-use ct_parties::{Party, Waiting, front_work};
+use ct_parties::{Party, Waiting, do_front_task};
 use std::alloc::{AllocError, Global};
 use std::sync::Wait;
 use std::thread::Threads;
@@ -27,7 +27,7 @@ impl Party<FrontRequest> for LiveFront {
         waiting: &Waiting,
         task: FrontRequest,
     ) -> Result<Vec<u8>, AllocError> {
-        let reply = front_work::do_task(rt, alloc, &mut self.front, task, waiting);
+        let reply = do_front_task(rt, alloc, &mut self.front, task, waiting);
         reply_object(alloc, &reply)
     }
 }

@@ -12,7 +12,7 @@ use crate::signing::{head_input, timestamp_input};
 use ct_codec::Refusal;
 use ct_core::Reply;
 use ct_house::Sequencer;
-use ct_parties::{Party, Waiting, operator_work};
+use ct_parties::{Party, Waiting, do_operator_task};
 use std::alloc::{AllocError, Global};
 use std::sync::Wait;
 use std::thread::Threads;
@@ -53,7 +53,7 @@ fn said(reply: Result<Reply, Refusal>) -> Result<DeskReply, Refusal>
 }
 
 // Does what a line asks for.
-fn do_task<R: Threads + Wait + Sync>(
+fn do_desk_task<R: Threads + Wait + Sync>(
     rt: &R,
     alloc: Global,
     sequencer: &mut Sequencer,
@@ -64,7 +64,7 @@ fn do_task<R: Threads + Wait + Sync>(
     ensures goes_on { GoesOn sequencer.old sequencer.new }
 {
     match task {
-        DeskTask::Do(task) => { said(operator_work::do_task(rt, alloc, sequencer, task, waiting)) }
+        DeskTask::Do(task) => { said(do_operator_task(rt, alloc, sequencer, task, waiting)) }
         DeskTask::Take { from, max, now } => {
             if usize::from(from) >= sequencer.fronts() {
                 return Err(Refusal::BadLine);
@@ -94,7 +94,7 @@ impl Party<DeskTask> for Sequencer {
         waiting: &Waiting,
         task: DeskTask,
     ) -> Result<Vec<u8>, AllocError> {
-        let reply = do_task(rt, alloc, self, task, waiting);
+        let reply = do_desk_task(rt, alloc, self, task, waiting);
         desk_object(alloc, reply)
     }
 }

@@ -20,8 +20,8 @@ use std::alloc::{AllocError, Global};
 use std::sync::Wait;
 use std::thread::Threads;
 
-// Sends a submission against which nothing stands, and rings where it is accepted.
-fn send(front: &mut Front, submission: Submission, accepted: &Bell) -> Result<Reply, Refusal>
+// Hands in a submission against which nothing stands, and rings where it is accepted.
+fn hand_in(front: &mut Front, submission: Submission, accepted: &Bell) -> Result<Reply, Refusal>
     ensures sends { Sends front.old.intake submission (answered result) front.new.intake }
     ensures same { SameIntake front.old.intake front.new.intake }
     ensures sight { front.new.sight ≡ front.old.sight }
@@ -44,7 +44,7 @@ fn submit_chain(front: &mut Front, chain: Vec<Vec<u8>>, accepted: &Bell) -> Resu
     ensures shutdown { front.old.intake.knows_shutdown ≡ true → front.new.intake.knows_shutdown ≡ true }
 {
     let submission = Submission::x509(chain)?;
-    send(front, submission, accepted)
+    hand_in(front, submission, accepted)
 }
 
 // Submits a precertificate.
@@ -61,7 +61,7 @@ fn submit_precert(
     ensures shutdown { front.old.intake.knows_shutdown ≡ true → front.new.intake.knows_shutdown ≡ true }
 {
     let submission = Submission::precert(issuer_key_hash, tbs, chain)?;
-    send(front, submission, accepted)
+    hand_in(front, submission, accepted)
 }
 
 // Asks the published log.
@@ -110,7 +110,7 @@ fn await_size<R: Wait>(
 
 /// Does what a line asks for. A line that waits ends after `waiting.turns` turns.
 #[tactic(auto, using(crate::proofs::FrontLemmas::looks_on, crate::proofs::FrontLemmas::submits_on))]
-pub fn do_task<R: Wait>(
+pub fn do_front_task<R: Wait>(
     rt: &R,
     alloc: Global,
     front: &mut Front,
@@ -143,7 +143,7 @@ impl Party<FrontRequest> for Front {
         waiting: &Waiting,
         task: FrontRequest,
     ) -> Result<Vec<u8>, AllocError> {
-        let reply = do_task(rt, alloc, self, task, waiting);
+        let reply = do_front_task(rt, alloc, self, task, waiting);
         reply_text(alloc, &reply)
     }
 }

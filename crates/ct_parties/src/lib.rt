@@ -11,9 +11,9 @@
 
 mod closing;
 mod fault;
-pub mod front_work;
+mod front_work;
 mod listed;
-pub mod operator_work;
+mod operator_work;
 mod options;
 mod serving;
 mod task;
@@ -21,6 +21,8 @@ mod waiting;
 
 pub use closing::close;
 pub use fault::Fault;
+pub use front_work::do_front_task;
+pub use operator_work::do_operator_task;
 pub use options::Options;
 pub use serving::{Party, Sink, Source, serve_all};
 pub use task::{OperatorTask, Task, line_task};

@@ -106,7 +106,7 @@ fn shut(sequencer: &mut Sequencer) -> Result<Reply, Refusal>
 }
 
 /// Does what a line asks for. A line that waits ends after `waiting.turns` turns in a row in which nothing came.
-pub fn do_task<R: Threads + Wait + Sync>(
+pub fn do_operator_task<R: Threads + Wait + Sync>(
     rt: &R,
     alloc: Global,
     sequencer: &mut Sequencer,
@@ -140,7 +140,7 @@ impl Party<OperatorTask> for Sequencer {
         waiting: &Waiting,
         task: OperatorTask,
     ) -> Result<Vec<u8>, AllocError> {
-        let reply = do_task(rt, alloc, self, task, waiting);
+        let reply = do_operator_task(rt, alloc, self, task, waiting);
         reply_text(alloc, &reply)
     }
 }
