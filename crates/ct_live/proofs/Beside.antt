@@ -17,7 +17,8 @@ use Rattle.rtrb.specs.declared.AnyItems.{AnyItems}
 use Rattle.rtrb.specs.declared.consumer.Consumer.{Consumer}
 use Rattle.rtrb.specs.declared.producer.Producer.{Producer}
 use Rattle.ct_live.specs.Rings.{all_received, all_sent, texts, ArePairs, ArePrefixes, AreTakenBelow}
-use Rattle.ct_live.specs.Written.{WritesBeginning, Passes, PassesSome}
+use Rattle.ct_live.specs.Written.{Passes, PassesSome}
+use Rattle.ct_lines.specs.Sends.{SendsSome}
 use Rattle.ct_live.proofs.Merging.{get_mapped, mapped_same, put_there, put_elsewhere}
 use Rattle.ct_live.proofs.Writing.{some_behind}
 
@@ -167,7 +168,7 @@ passes_more a b c before between after t e w s = record {
 
 -- a beginning of one more was written
 pub passes_some : (a b c : Option (List ℕ)) (before between after : List (Vec ℕ Global)) (t : Vec ℕ Global) → after ≡ between ++ t ∷ []
-    → WritesBeginning b c t.items → Passes a b before between
+    → SendsSome b c t.items → Passes a b before between
     → PassesSome a c before after
 passes_some a b c before between after t e w s = record {
   more = s.more ++ t ∷ [];

@@ -15,7 +15,7 @@ use Rattle.ct_live.specs.Rings.{all_received, all_sent, texts_each, ArePrefixes}
 use Rattle.ct_live.specs.Written.{in_order, BeginsOn, IsBegunOf, WritesOn}
 use Rattle.ct_live.specs.declared.pipes.answering.Numbered.{Numbered}
 use Rattle.ct_live.specs.declared.pipes.answering.PartyFault.{PartyFault}
-use Rattle.ct_live.specs.declared.pipes.output.WriteFailed.{WriteFailed}
+use Rattle.ct_lines.specs.declared.fault.Unwritten.{Unwritten}
 use Rattle.ct_live.specs.LiveEnding.{EndsLive, EndsSome, HaveDone, Rings, WritesNoMore}
 use Rattle.ct_live.specs.LiveRuns.{FrontWorker, party_fronts, worker_fronts, WritesOut}
 use Rattle.ct_live.specs.declared.front.LiveFront.{LiveFront}
@@ -27,14 +27,14 @@ use Rattle.ct_live.proofs.BrokenOff.{begins_out}
 use Rattle.ct_live.proofs.Joined.{when_ok}
 
 -- what the writer's thread did with the rings, where nothing more came out of them
-pub begins_no_more : (written : Result Unit WriteFailed) (before after : Rings) (old new : Option (List ℕ)) → WritesNoMore before after old new
+pub begins_no_more : (written : Result Unit Unwritten) (before after : Rings) (old new : Option (List ℕ)) → WritesNoMore before after old new
     → (first : Rings) (start : Option (List ℕ)) → WritesOut first before start old written → BeginsOn first after start new
 begins_no_more written before after old new n first start w = λ s is.
     subst (λ (l : List (List (Vec ℕ Global))). IsBegunOf (texts_each l) s new) (sym n.received)
     (subst (λ (o : Option (List ℕ)). IsBegunOf (texts_each (all_received before)) s o) (sym n.written) (begins_out first before start old written w s is))
 
 -- and where more did, behind all that the writer's thread had written
-pub begins_rest : (written : Result Unit WriteFailed) (before after : Rings) (old new : Option (List ℕ)) → IsOk written → BeginsOn before after old new
+pub begins_rest : (written : Result Unit Unwritten) (before after : Rings) (old new : Option (List ℕ)) → IsOk written → BeginsOn before after old new
     → (first : Rings) (start : Option (List ℕ)) → WritesOut first before start old written → BeginsOn first after start new
 begins_rest (Ok x) before after old new is b first start w = λ s given. b s (w.written s given)
 begins_rest (Err e) before after old new is b first start w = absurd (true≢false (sym is))
@@ -63,7 +63,7 @@ fronts_beside parties workers is = subst (λ (l : List LiveFront). party_fronts 
     mapped (w ∷ ws) = ap (λ (l : List FrontView). w.party.front ∷ l) (mapped ws)
 
 -- what was written behind what the writer's thread had, where nothing more was, or all had done what they had to
-pub begins_as_done : {U E : Type 0} (written : Result Unit WriteFailed) (operated : Result Unit PartyFault) (fault : Option PartyFault) (done : Result U E)
+pub begins_as_done : {U E : Type 0} (written : Result Unit Unwritten) (operated : Result Unit PartyFault) (fault : Option PartyFault) (done : Result U E)
     (before after : Rings) (old new : Option (List ℕ)) → OnOk done (HaveDone written operated fault)
     → WritesNoMore before after old new ⊎ (IsOk done × BeginsOn before after old new)
     → (first : Rings) (start : Option (List ℕ)) → WritesOut first before start old written → BeginsOn first after start new
@@ -77,7 +77,7 @@ begins_as_done written operated fault done before after old new had some = elim 
 -- the list of tasks that was looked at is that of the fronts, and that of answers is the fronts' and then the operator's
 module _ (inlets : Inlets) (tasks seen : List (Consumer (Numbered FrontRequest) Global AnyItems)) (answers all : List (Producer (Vec ℕ Global) Global AnyItems))
     (operator : DeskWorker) (same : seen ≡ tasks) (together : all ≡ answers ++ operator.answers ∷ []) where
-  pub ends_some : (written : Result Unit WriteFailed) (before rings : Rings) (old new : Option (List ℕ))
+  pub ends_some : (written : Result Unit Unwritten) (before rings : Rings) (old new : Option (List ℕ))
       → ArePrefixes (all_received seen) (all_sent inlets.fronts.items) × IsPrefix (received operator.tasks) (sent inlets.operator)
       → ArePrefixes (all_received rings) (all_sent all)
       → ((first : Rings) (start : Option (List ℕ)) → WritesOut first before start old written → BeginsOn first rings start new)

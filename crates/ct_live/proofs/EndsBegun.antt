@@ -9,7 +9,7 @@ use Rattle.ct_core.specs.Settlement.{Log}
 use Rattle.ct_house.specs.House.{FinalState, FrontView, HouseState}
 use Rattle.ct_parties.specs.ClosedLog.{Closes}
 use Rattle.ct_live.specs.Tagged.{tagged}
-use Rattle.ct_live.specs.Written.{WritesBeginning}
+use Rattle.ct_lines.specs.Sends.{SendsSome}
 use Rattle.ct_live.proofs.Writing.{some_behind}
 use Rattle.ct_tree.specs.declared.head.Head.{Head}
 use Rattle.ct_live.specs.LiveEnding.{EndsLog, EndsLogSome, WritesLastHead, WritesSomeBehind, WritesSomeLastHead}
@@ -25,7 +25,7 @@ known_appended None bs = tt
 known_appended (Some xs) bs = refl
 
 -- what the output would be with all of the bytes
-pub whole_begun : (a b : Option (List ℕ)) (bytes : List ℕ) → WritesBeginning a b bytes
+pub whole_begun : (a b : Option (List ℕ)) (bytes : List ℕ) → SendsSome a b bytes
     → (whole : Option (List ℕ)) × Appends a whole bytes × BeginsWhole a b whole
 whole_begun a b bytes (written, (rest, is), wrote) =
     let whole = append_known b rest in
@@ -40,7 +40,7 @@ whole_begun a b bytes (written, (rest, is), wrote) =
 -- by a line, and a beginning was written of its last head and of the replies to the lines behind
 ends_some_at_line : (s : HouseState) (fs : List FrontView) (close_at k now n : ℕ) (end : End) (left : FinalState) (h : Head) (behind : List (ℕ × List ℕ))
     (input a b : Option (List ℕ)) → end ≡ end_case.Close k now → Closes s fs now left → IsLastHead left.log h → AreLinesOf n input behind
-    → WritesBeginning a b (tagged k (object_text (a_published_head h)) ++ concat (closed_replies left.log behind))
+    → SendsSome a b (tagged k (object_text (a_published_head h)) ++ concat (closed_replies left.log behind))
     → EndsLogSome close_at b s fs end n input a
 ends_some_at_line s fs close_at k now n end left h behind input a b is closed last lines some =
     let text = tagged k (object_text (a_published_head h)) ++ concat (closed_replies left.log behind) in

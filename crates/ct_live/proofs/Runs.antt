@@ -13,7 +13,7 @@ use Rattle.ct_live.specs.Working.{AreJoinedOf}
 use Rattle.ct_live.specs.Written.{WritesOn}
 use Rattle.ct_live.specs.declared.pipes.answering.Numbered.{Numbered}
 use Rattle.ct_live.specs.declared.pipes.answering.PartyFault.{PartyFault}
-use Rattle.ct_live.specs.declared.pipes.output.WriteFailed.{WriteFailed}
+use Rattle.ct_lines.specs.declared.fault.Unwritten.{Unwritten}
 use Rattle.ct_live.specs.declared.pipes.workers.Joined.{Joined}
 use Rattle.ct_live.specs.LiveEnding.{EndsBrokenOff, EndsLive, EndsLogSome, EndsSome, HaveDone, Rings}
 use Rattle.ct_live.specs.LiveGiven.{ReadsOn}
@@ -29,7 +29,7 @@ use Rattle.ct_live.proofs.Ended.{fronts_beside}
 use Rattle.ct_live.proofs.Joined.{when_ok}
 
 runs_some : (n m : ℕ) (input left : Option (List ℕ)) (read : Result End GiveFault) (old new : Inlets) (before after : List FrontWorker) (o p : DeskWorker)
-    (first rings : Rings) (r : Result Unit WriteFailed) (a b c : Option (List ℕ)) → ReadsOn n m input left read old new → AllReplySome before after
+    (first rings : Rings) (r : Result Unit Unwritten) (a b c : Option (List ℕ)) → ReadsOn n m input left read old new → AllReplySome before after
     → DeskWorksSome o p → WritesOut first rings a b r → EndsSome new (worker_tasks after) (worker_answers after) p r rings b c
     → RunsSome n input old before first o a c
 runs_some n m input left read old new before after o p first rings r a b c given did worked wrote ended = record {
@@ -59,7 +59,7 @@ module _ (P : List FrontView → List (Consumer (Numbered FrontRequest) Global A
 -- all did what they had to
 pub ran : (Closing : HouseState → List FrontView → End → ℕ → Option (List ℕ) → Option (List ℕ) → Type 0) (n m : ℕ) (input left : Option (List ℕ))
     (read : Result End GiveFault) (old new : Inlets) (before : List FrontWorker) (joined : Joined LiveFront FrontRequest) (o p : DeskWorker) (first rings : Rings)
-    (written : Result Unit WriteFailed) (operated : Result Unit PartyFault) (a b : Option (List ℕ)) → ReadsOn n m input left read old new
+    (written : Result Unit Unwritten) (operated : Result Unit PartyFault) (a b : Option (List ℕ)) → ReadsOn n m input left read old new
     → AreJoinedOf FrontStep before joined → OnOk operated (DeskWorks o p) → WritesOut first rings a b written
     → HaveDone written operated joined.fault
     × EndsLive Closing new (party_fronts joined.parties.items) joined.tasks.items joined.answers.items p read m left rings b
@@ -82,7 +82,7 @@ ran Closing n m input left read old new before joined o p first rings written op
 
 -- a fault broke it off
 pub ran_broken : (close_at n m : ℕ) (input left : Option (List ℕ)) (read : Result End GiveFault) (old new : Inlets) (before : List FrontWorker)
-    (joined : Joined LiveFront FrontRequest) (o p : DeskWorker) (first rings : Rings) (written : Result Unit WriteFailed) (operated : Result Unit PartyFault)
+    (joined : Joined LiveFront FrontRequest) (o p : DeskWorker) (first rings : Rings) (written : Result Unit Unwritten) (operated : Result Unit PartyFault)
     (a b c : Option (List ℕ)) → ReadsOn n m input left read old new → AreJoinedOf FrontStep before joined → DeskWorksSome o p
     → OnOk operated (DeskWorks o p) → WritesOut first rings a b written
     → EndsBrokenOff new (party_fronts joined.parties.items) joined.tasks.items joined.answers.items p written operated joined.fault close_at read m left rings b c

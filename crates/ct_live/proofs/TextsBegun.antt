@@ -10,7 +10,6 @@ use Rattle.ct_lines.specs.Sends.{SendsSome}
 use Rattle.ct_parties.specs.Lines.{lines_of}
 use Rattle.ct_lines.specs.Lines.{IsNextLine}
 use Rattle.ct_live.specs.Tagged.{tagged}
-use Rattle.ct_live.specs.Written.{WritesBeginning}
 use Rattle.ct_live.proofs.Sending.{some_of_all}
 use Rattle.ct_live.proofs.Writing.{some_behind}
 use Rattle.ct_tree.specs.declared.head.Head.{Head}
@@ -25,11 +24,11 @@ use Rattle.ct_live.proofs.Texts.{replies_both, RepliesSoFar}
 -- ---- a beginning of some bytes
 
 -- nothing is one
-pub nothing_begun : (a : Option (List ℕ)) (bytes : List ℕ) → WritesBeginning a a bytes
+pub nothing_begun : (a : Option (List ℕ)) (bytes : List ℕ) → SendsSome a a bytes
 nothing_begun a bytes = ([], (bytes, refl), Appends-nil a)
 
 -- it is one of more bytes too
-pub begins_more : (a b : Option (List ℕ)) (bytes more : List ℕ) → WritesBeginning a b bytes → WritesBeginning a b (bytes ++ more)
+pub begins_more : (a b : Option (List ℕ)) (bytes more : List ℕ) → SendsSome a b bytes → SendsSome a b (bytes ++ more)
 begins_more a b bytes more (written, (rest, is), wrote) =
     (written, (rest ++ more, ap (λ (l : List ℕ). l ++ more) is ∙ append_assoc written rest more), wrote)
 
@@ -40,16 +39,16 @@ no_head_begun log k h a last = (h, last, nothing_begun a (tagged k (object_text 
 
 pub last_head_begun : (log : Log) (k : ℕ) (h : Head) (reply text : List ℕ) (a b : Option (List ℕ)) → slice_get log.heads (length log.heads - 1) ≡ Some h
     → reply ≡ object_text (a_published_head h) → text ≡ tagged k reply → SendsSome a b text → WritesSomeLastHead log k a b
-last_head_begun log k h reply text a b last own is some = (h, last, subst (λ (l : List ℕ). WritesBeginning a b l) (is ∙ ap (tagged k) own) some)
+last_head_begun log k h reply text a b last own is some = (h, last, subst (λ (l : List ℕ). SendsSome a b l) (is ∙ ap (tagged k) own) some)
 
 -- ---- the replies to the lines behind
 
 -- the reply to one line
 pub one_reply_begun : (log : Log) (k : ℕ) (line reply text : List ℕ) (a b : Option (List ℕ)) → 0 < length line → reply ≡ object_text (line_answer log line)
-    → text ≡ tagged k reply → SendsSome a b text → WritesBeginning a b (concat (closed_replies log ((k, line) ∷ [])))
+    → text ≡ tagged k reply → SendsSome a b text → SendsSome a b (concat (closed_replies log ((k, line) ∷ [])))
 one_reply_begun log k [] reply text a b long own is some = absurd (omega arith)
 one_reply_begun log k (c ∷ cs) reply text a b long own is some =
-    subst (λ (l : List ℕ). WritesBeginning a b l)
+    subst (λ (l : List ℕ). SendsSome a b l)
     (is ∙ ap (tagged k) own ∙ sym (append-nil (tagged k (object_text (line_answer log (c ∷ cs)))))) some
 
 -- the lines that are left of an input
@@ -59,12 +58,12 @@ lines_left m (Some xs) = (numbered_from m (lines_of xs), refl)
 
 -- a beginning of the replies to the lines that were read is one of the replies to all
 behind_begun : (log : Log) (n m : ℕ) (input left a b : Option (List ℕ)) (lines : List (ℕ × List ℕ)) → AreRead n m input left lines
-    → WritesBeginning a b (concat (closed_replies log lines)) → WritesSomeBehind log n input a b
+    → SendsSome a b (concat (closed_replies log lines)) → WritesSomeBehind log n input a b
 behind_begun log n m input left a b lines read some =
     let (later, are) = lines_left m left in (
       lines ++ later,
       read_all n m input left lines later read are,
-      subst (λ (l : List ℕ). WritesBeginning a b l) (sym (replies_both log lines later))
+      subst (λ (l : List ℕ). SendsSome a b l) (sym (replies_both log lines later))
           (begins_more a b (concat (closed_replies log lines)) (concat (closed_replies log later)) some),
     )
 
@@ -76,13 +75,13 @@ stops_behind log n m input left a b h =
 -- one more was read, and its reply was broken off
 pub stops_in_reply : (log : Log) (n m o k : ℕ) (text line : List ℕ) (e : Option ℕ) (input left later a b c : Option (List ℕ))
     → RepliesSoFar log n m input left a b → e ≡ Some k → IsNextLine m o left later line e → text ≡ line
-    → WritesBeginning b c (concat (closed_replies log ((k, text) ∷ []))) → WritesSomeBehind log n input a c
+    → SendsSome b c (concat (closed_replies log ((k, text) ∷ []))) → WritesSomeBehind log n input a c
 stops_in_reply log n m o k text line e input left later a b c h is read same some =
     let next : IsNextLine m o left later line (Some k) = next_named m o k left later line e is read in
     let whole = whole_line left line in
-    let begun : WritesBeginning b c (concat (closed_replies log ((k, whole) ∷ []))) =
-    subst (λ (l : List (List ℕ)). WritesBeginning b c (concat l)) (whole_replies log m o k left later line next)
-    (subst (λ (l : List ℕ). WritesBeginning b c (concat (closed_replies log ((k, l) ∷ [])))) same some) in
+    let begun : SendsSome b c (concat (closed_replies log ((k, whole) ∷ []))) =
+    subst (λ (l : List (List ℕ)). SendsSome b c (concat l)) (whole_replies log m o k left later line next)
+    (subst (λ (l : List ℕ). SendsSome b c (concat (closed_replies log ((k, l) ∷ [])))) same some) in
     behind_begun log n o input later a c (h.lines ++ (k, whole) ∷ [])
     (read_both n m o input left later h.lines ((k, whole) ∷ []) h.read (read_line m o k left later line next))
     (some_behind a b c (concat (closed_replies log h.lines)) (concat (closed_replies log ((k, whole) ∷ [])))

@@ -12,7 +12,8 @@ use Rattle.rtrb.specs.declared.AnyItems.{AnyItems}
 use Rattle.rtrb.specs.declared.consumer.Consumer.{Consumer}
 use Rattle.ct_live.specs.Parts.{IsMergeOf}
 use Rattle.ct_live.specs.Rings.{all_received, texts, texts_each}
-use Rattle.ct_live.specs.Written.{in_order, WritesBeginning, Passes, PassesSome, IsWritten, IsBegunOf}
+use Rattle.ct_live.specs.Written.{in_order, Passes, PassesSome, IsWritten, IsBegunOf}
+use Rattle.ct_lines.specs.Sends.{SendsSome}
 use Rattle.ct_live.proofs.Merging.{pairs_of, merge_grows, get_mapped}
 
 -- the texts of pairs of one party
@@ -27,8 +28,8 @@ order_grows order k ts =
     ∙ concat-append (map (λ (x : ℕ × List ℕ). x.1) order) ts
 
 -- a beginning of what stands behind what was written
-pub some_behind : (a b c : Option (List ℕ)) (front back all : List ℕ) → all ≡ front ++ back → Appends a b front → WritesBeginning b c back
-    → WritesBeginning a c all
+pub some_behind : (a b c : Option (List ℕ)) (front back all : List ℕ) → all ≡ front ++ back → Appends a b front → SendsSome b c back
+    → SendsSome a c all
 some_behind a b c front back all e first s = (
   front ++ s.0,
   (s.1.0, e ∙ ap (λ (l : List ℕ). front ++ l) s.1.1 ∙ sym (append_assoc front s.0 s.1.0)),

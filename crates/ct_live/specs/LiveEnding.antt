@@ -17,13 +17,12 @@ use Rattle.ct_parties.specs.declared.fault.Fault.TheVariants as fault_case
 use Rattle.ct_tree.specs.declared.head.Head.{Head}
 use Rattle.ct_live.specs.Rings.{all_received, all_sent, ArePrefixes}
 use Rattle.ct_live.specs.Tagged.{tagged}
-use Rattle.ct_live.specs.Written.{BeginsOn, WritesBeginning, WritesOn}
+use Rattle.ct_live.specs.Written.{BeginsOn, WritesOn}
+use Rattle.ct_lines.specs.Sends.{SendsSome}
 use Rattle.ct_live.specs.declared.pipes.answering.Numbered.{Numbered}
 use Rattle.ct_live.specs.declared.pipes.answering.PartyFault.{PartyFault}
 use Rattle.ct_live.specs.declared.pipes.answering.PartyFault.TheVariants as party_case
-use Rattle.ct_live.specs.declared.pipes.workers.StartFault.{StartFault}
-use Rattle.ct_live.specs.declared.pipes.workers.StartFault.TheVariants as start_case
-use Rattle.ct_live.specs.declared.pipes.output.WriteFailed.{WriteFailed}
+use Rattle.ct_lines.specs.declared.fault.Unwritten.{Unwritten}
 use Rattle.ct_live.specs.LiveReplied.{BeginsWhole, ClosesLog}
 use Rattle.ct_live.specs.LiveReplies.{object_text}
 use Rattle.ct_live.specs.LiveRuns.{WritesOut}
@@ -46,7 +45,7 @@ WritesLastHead log k old new = (h : Head) × IsLastHead log h × Appends old new
 
 -- or a beginning of it
 abbrev pub WritesSomeLastHead : Log → ℕ → Option (List ℕ) → Option (List ℕ) → Type 0
-WritesSomeLastHead log k old new = (h : Head) × IsLastHead log h × WritesBeginning old new (tagged k (object_text (a_published_head h)))
+WritesSomeLastHead log k old new = (h : Head) × IsLastHead log h × SendsSome old new (tagged k (object_text (a_published_head h)))
 
 -- the closed log's replies to the lines that were left of an input were written, of which the first has the number n
 abbrev pub WritesBehind : Log → ℕ → Option (List ℕ) → Option (List ℕ) → Option (List ℕ) → Type 0
@@ -55,7 +54,7 @@ WritesBehind log n input old new = (behind : List (ℕ × List ℕ)) × AreLines
 -- or a beginning of them
 abbrev pub WritesSomeBehind : Log → ℕ → Option (List ℕ) → Option (List ℕ) → Option (List ℕ) → Type 0
 WritesSomeBehind log n input old new =
-    (behind : List (ℕ × List ℕ)) × AreLinesOf n input behind × WritesBeginning old new (concat (closed_replies log behind))
+    (behind : List (ℕ × List ℕ)) × AreLinesOf n input behind × SendsSome old new (concat (closed_replies log behind))
 
 -- the log is closed at close_at where the input ended, and else at the moment of the line that closes it
 abbrev pub IsMomentOf : ℕ → End → ℕ → Type 0
@@ -105,7 +104,7 @@ pub record EndsLive (Closing : HouseState → List FrontView → End → ℕ →
 -- those that they were given, by `taken` and `ordered`; by `came` what came out of the rings, which are `rings` then, are the first answers;
 -- and by `wrote`, as far as the writer's thread had done so with this result, a beginning of them is written.
 pub record EndsSome (inlets : Inlets) (tasks : List (Consumer (Numbered FrontRequest) Global AnyItems))
-    (answers : List (Producer (Vec ℕ Global) Global AnyItems)) (operator : DeskWorker) (result : Result Unit WriteFailed) (before : Rings)
+    (answers : List (Producer (Vec ℕ Global) Global AnyItems)) (operator : DeskWorker) (result : Result Unit Unwritten) (before : Rings)
     (old new : Option (List ℕ)) : Type 0 where
   pub taken : ArePrefixes (all_received tasks) (all_sent inlets.fronts.items)
   pub ordered : IsPrefix (received operator.tasks) (sent inlets.operator)
@@ -114,7 +113,7 @@ pub record EndsSome (inlets : Inlets) (tasks : List (Consumer (Numbered FrontReq
   pub wrote : (first : Rings) (start : Option (List ℕ)) → WritesOut first before start old result → BeginsOn first rings start new
 
 -- no thread ended before its time: the writer's, the operator's, or a front's
-pub record HaveDone (written : Result Unit WriteFailed) (operated : Result Unit PartyFault) (fault : Option PartyFault) : Type 0 where
+pub record HaveDone (written : Result Unit Unwritten) (operated : Result Unit PartyFault) (fault : Option PartyFault) : Type 0 where
   pub writer : IsOk written
   pub operator : IsOk operated
   pub fronts : fault ≡ None
@@ -122,7 +121,7 @@ pub record HaveDone (written : Result Unit WriteFailed) (operated : Result Unit 
 -- What came once all threads had ended, where a fault broke it off: before the log was closed; or behind that, all had done what they had to,
 -- and of what the closed log replies a beginning was written.
 abbrev pub EndsBrokenOff : Inlets → List FrontView → List (Consumer (Numbered FrontRequest) Global AnyItems)
-    → List (Producer (Vec ℕ Global) Global AnyItems) → DeskWorker → Result Unit WriteFailed → Result Unit PartyFault → Option PartyFault → ℕ
+    → List (Producer (Vec ℕ Global) Global AnyItems) → DeskWorker → Result Unit Unwritten → Result Unit PartyFault → Option PartyFault → ℕ
     → Result End GiveFault → ℕ → Option (List ℕ) → Rings → Option (List ℕ) → Option (List ℕ) → Type 0
 EndsBrokenOff inlets fronts tasks answers operator written operated fault close_at read next input before old new =
     EndsSome inlets tasks answers operator written before old new
@@ -139,11 +138,6 @@ pub record WritesNoMore (before after : Rings) (old new : Option (List ℕ)) : T
 abbrev pub fault_of_party : PartyFault → Fault
 fault_of_party party_case.Memory = fault_case.Memory
 fault_of_party party_case.Stopped = fault_case.Threads
-
--- what ends the run where a party's thread didn't start
-abbrev pub fault_of_start : StartFault → Fault
-fault_of_start start_case.Memory = fault_case.Memory
-fault_of_start start_case.Threads = fault_case.Threads
 
 -- what is told of a run that ended so: the same; or, in place of `Read`, that a thread didn't start
 abbrev pub IsToldAs : Result Unit Fault → Result Unit Fault → Type 0

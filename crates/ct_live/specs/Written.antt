@@ -3,6 +3,7 @@ use Rattle.std.specs.Prelude.{◌≡◌, ◌++◌, ℕ, List, map, Option, Vec}
 use Rattle.std.specs.Global.{Global}
 use Rattle.std.specs.List.{concat}
 use Rattle.std.specs.Io.KnownBytes.{Appends}
+use Rattle.ct_lines.specs.Sends.{SendsSome}
 use Rattle.ct_live.specs.Parts.{IsMergeOf}
 use Rattle.rtrb.specs.declared.AnyItems.{AnyItems}
 use Rattle.rtrb.specs.declared.consumer.Consumer.{Consumer}
@@ -11,10 +12,6 @@ use Rattle.ct_live.specs.Rings.{all_received, texts, texts_each}
 -- the texts, one after the other
 abbrev pub in_order : List (ℕ × List ℕ) → List ℕ
 in_order order = concat (map (λ (x : ℕ × List ℕ). x.1) order)
-
--- a beginning of the bytes was written
-abbrev pub WritesBeginning : Option (List ℕ) → Option (List ℕ) → List ℕ → Type 0
-WritesBeginning old new bytes = (written : List ℕ) × ((rest : List ℕ) × (bytes ≡ written ++ rest)) × Appends old new written
 
 -- texts came out of a ring, and were written
 pub record Passes (old new : Option (List ℕ)) (before after : List (Vec ℕ Global)) : Type 0 where
@@ -26,7 +23,7 @@ pub record Passes (old new : Option (List ℕ)) (before after : List (Vec ℕ Gl
 pub record PassesSome (old new : Option (List ℕ)) (before after : List (Vec ℕ Global)) : Type 0 where
   pub more : List (Vec ℕ Global)
   pub came : after ≡ before ++ more
-  pub some : WritesBeginning old new (concat (texts more))
+  pub some : SendsSome old new (concat (texts more))
 
 -- the texts of the parties were written, each whole, and each party's in their order
 pub record IsWritten (lists : List (List (List ℕ))) (old new : Option (List ℕ)) : Type 0 where
@@ -38,7 +35,7 @@ pub record IsWritten (lists : List (List (List ℕ))) (old new : Option (List �
 pub record IsBegunOf (lists : List (List (List ℕ))) (old new : Option (List ℕ)) : Type 0 where
   pub order : List (ℕ × List ℕ)
   pub merge : IsMergeOf lists order
-  pub some : WritesBeginning old new (in_order order)
+  pub some : SendsSome old new (in_order order)
 
 -- where all that was received from some rings was written, it still is, with what was received since
 abbrev pub WritesOn : List (Consumer (Vec ℕ Global) Global AnyItems) → List (Consumer (Vec ℕ Global) Global AnyItems) → Option (List ℕ)

@@ -3,7 +3,6 @@
 ghost use Rattle.std.specs.Prelude.{◌≡◌, None, IfOk, IsOkUnless, MatchResult, option_map};
 ghost use Rattle.serde_json.specs.Errors.{IsMemory};
 ghost use Rattle.serde_json.specs.View.{view};
-ghost use Rattle.ct_lines.specs.Fields.{text_at};
 ghost use Rattle.ct_live.specs.LiveLines.{take_asked, live_asks, live_asked_in, live_asked, live_request_of, live_request_step, AsksLive, IsForFront};
 ghost use Rattle.ct_live.specs.LiveTasks.{live_step};
 
@@ -83,44 +82,34 @@ fn live_request(op: &str, value: &Value) -> Option<LiveRequest>
     }
 }
 
-// The text under a key.
-fn text<'v>(value: &'v Value, key: &str) -> Option<&'v str>
-    ensures { option_map (λ s. s.now) result ≡ text_at key.now (view value.now) }
-{
-    match value.get(key) {
-        Some(field) => field.as_str(),
-        None => None,
-    }
-}
-
 // What the value asks of a live log alone.
-fn request_in(value: &Value) -> Option<LiveRequest>
+fn live_request_in(value: &Value) -> Option<LiveRequest>
     ensures { option_map live_asked result ≡ live_asked_in (view value.now) }
 {
-    let who = text(value, "who")?;
+    let who = fields::text(value, "who")?;
     if who != "operator" {
         return None;
     }
-    let op = text(value, "op")?;
+    let op = fields::text(value, "op")?;
     live_request(op, value)
 }
 
 // Of a line that isn't read as JSON: it asks nothing, unless a growth was refused.
 #[derive(Drop)]
-struct Unread {
+struct NotJson {
     request: Result<Option<LiveRequest>, AllocError>,
 }
 
-impl From<Error> for Unread {
-    ghost from_gives = { λ error unread. MatchResult unread.request (λ o. (o ≡ None) × (IsMemory error → ⊥)) (λ _. IsMemory error) };
+impl From<Error> for NotJson {
+    ghost from_gives = { λ error not. MatchResult not.request (λ o. (o ≡ None) × (IsMemory error → ⊥)) (λ _. IsMemory error) };
 
-    fn from(error: Error) -> Unread {
+    fn from(error: Error) -> NotJson {
         let request = if error.is_memory() {
             Err(AllocError)
         } else {
             Ok(None)
         };
-        Unread { request }
+        NotJson { request }
     }
 }
 
@@ -132,8 +121,8 @@ fn read_live(alloc: Global, line: &[u8]) -> Result<Option<LiveRequest>, AllocErr
         return Ok(None);
     }
     match Value::from_slice(alloc, line) {
-        Ok(value) => Ok(request_in(&value)),
-        Err(error) => Unread::from(error).request,
+        Ok(value) => Ok(live_request_in(&value)),
+        Err(error) => NotJson::from(error).request,
     }
 }
 

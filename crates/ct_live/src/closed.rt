@@ -4,7 +4,7 @@ ghost use Rattle.std.specs.Prelude.{◌≡◌, ◌⊎◌, ◌∷◌, [], IfErr, 
 ghost use Rattle.std.specs.Io.KnownBytes.{Appends};
 ghost use Rattle.std.specs.List.{concat};
 ghost use Rattle.ct_lines.specs.Frozen.{line_answer};
-ghost use Rattle.ct_live.specs.Written.{WritesBeginning};
+ghost use Rattle.ct_lines.specs.Sends.{SendsSome};
 ghost use Rattle.ct_live.specs.LiveEnding.{WritesBehind, WritesLastHead, WritesSomeBehind, WritesSomeLastHead};
 ghost use Rattle.ct_live.specs.LiveReplies.{object_text};
 ghost use Rattle.ct_live.specs.LiveServed.{closed_replies};
@@ -58,7 +58,7 @@ fn send_reply<W: Write>(
     output: &mut W,
 ) -> Result<(), Fault>
     ensures all { OnOk result (Appends (W.contents output.old) (W.contents output.new) (concat (closed_replies log.now ((number, line.now) ∷ [])))) }
-    ensures begun { OnErr result (WritesBeginning (W.contents output.old) (W.contents output.new) (concat (closed_replies log.now ((number, line.now) ∷ [])))) }
+    ensures begun { OnErr result (SendsSome (W.contents output.old) (W.contents output.new) (concat (closed_replies log.now ((number, line.now) ∷ [])))) }
     ensures faults { IfErr result (λ f. (f ≡ Fault.Write) ⊎ (f ≡ Fault.Memory)) }
 {
     if line.is_empty() {

@@ -7,7 +7,7 @@ ghost use Rattle.rtrb.specs.Ring.{sent, received, IsPair};
 ghost use Rattle.ct_parties.specs.Parties.{AreFrontsOf};
 ghost use Rattle.ct_live.specs.Rings.{all_received, all_sent, ArePairs, ArePrefixes};
 ghost use Rattle.ct_live.specs.Written.{WritesOn, BeginsOn};
-ghost use Rattle.ct_live.specs.LiveEnding.{EndsBrokenOff, EndsLive, EndsLog, EndsLogSome, HaveDone, WritesNoMore, fault_of_party, fault_of_start};
+ghost use Rattle.ct_live.specs.LiveEnding.{EndsBrokenOff, EndsLive, EndsLog, EndsLogSome, HaveDone, WritesNoMore, fault_of_party};
 ghost use Rattle.ct_live.specs.LiveReplied.{ClosesLog, RefusesClosing};
 ghost use Rattle.ct_live.specs.LiveRuns.{AreBeside, party_fronts};
 
@@ -15,10 +15,10 @@ use crate::asking::DeskTask;
 use crate::closed::{send_last_head, serve_closed};
 use crate::front::LiveFront;
 use crate::giving::{End, GiveFault, Giver, Inlets};
-use crate::pipes::{Joined, Numbered, PartyFault, StartFault, WriteFailed, are_taken, write_left};
+use crate::pipes::{Joined, Numbered, PartyFault, are_taken, write_left};
 use crate::workers::DeskWorker;
 use ct_house::{Front, Sequencer};
-use ct_lines::{FrontRequest, NumberedLines};
+use ct_lines::{FrontRequest, NumberedLines, Unwritten};
 use ct_parties::{Fault, close};
 use ct_tree::Memory;
 use rtrb::{Consumer, Producer};
@@ -33,7 +33,7 @@ pub struct Left<B: BufRead + Drop> {
     pub giver: Giver<B>,
     pub end: Result<End, GiveFault>,
     pub fronts: Joined<LiveFront, FrontRequest>,
-    pub written: Result<(), WriteFailed>,
+    pub written: Result<(), Unwritten>,
     pub operated: Result<(), PartyFault>,
 }
 
@@ -65,40 +65,21 @@ fn are_received(
     all && left == 0
 }
 
-/// What ends the run where a thread ended before its time, or didn't start.
-#[derive(Drop)]
-pub struct Ended {
-    pub fault: Fault,
-}
+// What ends the run where a party ended before its time: a growth was refused, or the party was to end for another's sake.
+impl From<PartyFault> for Fault {
+    ghost from_gives = { λ party fault. fault ≡ fault_of_party party };
 
-// A growth was refused, or the party was to end for another's sake.
-impl From<PartyFault> for Ended {
-    ghost from_gives = { λ party ended. ended.fault ≡ fault_of_party party };
-
-    fn from(fault: PartyFault) -> Ended {
-        let fault = match fault {
+    fn from(fault: PartyFault) -> Fault {
+        match fault {
             PartyFault::Memory => Fault::Memory,
             PartyFault::Stopped => Fault::Threads,
-        };
-        Ended { fault }
-    }
-}
-
-impl From<StartFault> for Ended {
-    ghost from_gives = { λ start ended. ended.fault ≡ fault_of_start start };
-
-    fn from(fault: StartFault) -> Ended {
-        let fault = match fault {
-            StartFault::Memory => Fault::Memory,
-            StartFault::Threads => Fault::Threads,
-        };
-        Ended { fault }
+        }
     }
 }
 
 // What ended the threads before their time, if anything did.
 fn fault_of(
-    written: &Result<(), WriteFailed>,
+    written: &Result<(), Unwritten>,
     operated: &Result<(), PartyFault>,
     fronts: &Option<PartyFault>,
 ) -> Result<(), Fault>
@@ -110,9 +91,9 @@ fn fault_of(
     }
     match (operated, fronts) {
         (Ok(()), None) => Ok(()),
-        (Err(PartyFault::Stopped), Some(fault)) => Err(Ended::from(*fault).fault),
-        (Err(fault), _) => Err(Ended::from(*fault).fault),
-        (Ok(()), Some(fault)) => Err(Ended::from(*fault).fault),
+        (Err(PartyFault::Stopped), Some(fault)) => Err(Fault::from(*fault)),
+        (Err(fault), _) => Err(Fault::from(*fault)),
+        (Ok(()), Some(fault)) => Err(Fault::from(*fault)),
     }
 }
 

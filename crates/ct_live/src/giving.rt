@@ -8,7 +8,7 @@ ghost use Rattle.ct_live.specs.LiveTasks.{live_step};
 ghost use Rattle.ct_live.specs.declared.giving.GiveFault.TheVariants.{Stopped};
 
 use crate::asking::{DeskTask, LiveTask, live_task};
-use crate::pipes::{Numbered, Places, Seat, Stopped, give, send};
+use crate::pipes::{Numbered, Places, Seat, Stopped, deliver, give};
 use ct_lines::{FrontRequest, NumberedLines};
 use ct_parties::Fault;
 use rtrb::Producer;
@@ -106,7 +106,7 @@ fn give_task<R: Wait>(
         LiveTask::Operator(task) => {
             let seat = Seat::Party(inlets.fronts.len());
             let operator = &mut inlets.operator;
-            send(
+            deliver(
                 rt,
                 places,
                 Seat::Reader,

@@ -12,7 +12,7 @@ ghost use Rattle.ct_live.specs.LiveReplied.{ClosesLog, IsServedLate, IsServedLiv
 use crate::asking::DeskTask;
 use crate::front::LiveFront;
 use crate::giving::{Giver, Inlets};
-use crate::pipes::{Breaker, Numbered, PLACES, Pipes, Places, Worker, open as open_pipes};
+use crate::pipes::{Breaker, Numbered, PLACES, Pipes, Places, Worker, open_pipes};
 use crate::threads::{Out, Served, Start, run_live};
 use crate::workers::{DeskWorker, FrontWorker};
 use ct_house::{Front, Sequencer, open};

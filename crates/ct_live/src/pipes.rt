@@ -27,7 +27,6 @@ mod answering;
 mod breaker;
 mod ending;
 mod opening;
-mod output;
 mod places;
 mod post;
 mod tagging;
@@ -38,12 +37,11 @@ pub use ahead::{ReadAhead, read_ahead};
 pub use answering::{Answered, Numbered, PartyFault, answer_all};
 pub use breaker::Breaker;
 pub use ending::{are_taken, write_left};
-pub use opening::{PLACES, Pipes, open};
-pub use output::WriteFailed;
+pub use opening::{PLACES, Pipes, open_pipes};
 pub use places::{Places, Seat};
-pub use post::{Stopped, give, send};
+pub use post::{Stopped, deliver, give};
 pub use tagging::tag;
 pub use workers::{
-    Joined, StartFault, Worked, Worker, WorkerPromise, WorkerThread, join_workers, start_workers,
+    Joined, Worked, Worker, WorkerPromise, WorkerThread, join_workers, start_workers,
 };
 pub use writer::write_answers;

@@ -23,7 +23,7 @@ pub fn head_input(alloc: Global, log: &Published) -> Result<Vec<u8>, Refusal>
 }
 
 // The bytes of the leaf at an index.
-fn leaf_input(alloc: Global, log: &Published, index: u64) -> Result<Vec<u8>, Refusal>
+fn leaf_bytes(alloc: Global, log: &Published, index: u64) -> Result<Vec<u8>, Refusal>
     requires { index < length log.now.entries }
     ensures leaf { IfOk result (λ b. (e : Entry) × (slice_get log.now.entries index ≡ Some e) × (b.items ≡ leaf_at e.submission e.timestamp)) }
     ensures memory { IsOkUnless result Refusal.Memory }
@@ -58,7 +58,7 @@ pub fn timestamp_input(alloc: Global, log: &Published, ticket: u64) -> Result<Ve
         Reply::Receipt {
             leaf_index,
             timestamp: _,
-        } => leaf_input(alloc, log, leaf_index),
+        } => leaf_bytes(alloc, log, leaf_index),
         _ => unreachable!(),
     }
 }

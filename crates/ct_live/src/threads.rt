@@ -9,13 +9,13 @@ ghost use Rattle.ct_live.specs.LiveRunning.{RunsBrokenOff, RunsLive};
 ghost use Rattle.ct_live.specs.LiveRuns.{AreJoined, DeskWorks, DeskWorksSome, FrontStep, WritesOut};
 ghost use Rattle.ct_live.specs.declared.workers.DeskWorker.{DeskWorker as DeskWorkerOf};
 
-use crate::ending::{Ended, Left, abandon, end_live};
+use crate::ending::{Left, abandon, end_live};
 use crate::giving::{End, GiveFault, Giver, give_out};
 use crate::pipes::{
-    Answered, Joined, PartyFault, Places, WriteFailed, answer_all, join_workers, start_workers,
-    write_answers,
+    Answered, Joined, PartyFault, Places, answer_all, join_workers, start_workers, write_answers,
 };
 use crate::workers::{DeskWorker, FrontWorker};
+use ct_lines::Unwritten;
 use ct_parties::{Fault, Options, Waiting};
 use rtrb::Consumer;
 use std::alloc::Global;
@@ -43,7 +43,7 @@ pub struct Reading<B: BufRead + Drop> {
 #[derive(Drop)]
 pub struct Writing<W: Write + Drop> {
     pub out: Out<W>,
-    pub result: Result<(), WriteFailed>,
+    pub result: Result<(), Unwritten>,
 }
 
 // The reader: it gives the lines out, and then tells the parties that no more come.
@@ -301,7 +301,7 @@ fn run_in<
     };
     let threads = match start_workers(rt, alloc, scope, places, waiting, workers) {
         Ok(threads) => threads,
-        Err(fault) => return not_started(operator, out, Ended::from(fault).fault),
+        Err(fault) => return not_started(operator, out, fault),
     };
     let reader = match start_reader(rt, alloc, scope, places, count, giver) {
         Ok(reader) => reader,

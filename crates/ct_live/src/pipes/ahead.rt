@@ -156,7 +156,7 @@ fn read_here<I: Read>(alloc: Global, input: &mut I) -> Piece {
 
 // How an input is read.
 #[derive(Drop)]
-enum Source<I: Read + Copy> {
+enum Origin<I: Read + Copy> {
     // Another thread reads.
     Ahead(Pieces),
     // No thread started.
@@ -174,7 +174,7 @@ pub struct ReadAhead<R: Wait + Copy, I: Read + Copy> {
     rt: R,
     alloc: Global,
     breaker: Arc<Breaker>,
-    source: Source<I>,
+    origin: Origin<I>,
     piece: Vec<u8>,
     taken: usize,
 }
@@ -201,15 +201,15 @@ pub fn read_ahead<R: Threads + Wait + Copy + Send + 'static, I: Read + Copy + Se
     let own = Arc::try_clone(&room)?;
     let stop = Arc::try_clone(&breaker)?;
     let pumping = move || pump(&rt, alloc, &stop, &own, input, producer);
-    let source = match thread::spawn(&rt, pumping) {
-        Ok(_thread) => Source::Ahead(Pieces { ring, room }),
-        Err(_refused) => Source::Here(input),
+    let origin = match thread::spawn(&rt, pumping) {
+        Ok(_thread) => Origin::Ahead(Pieces { ring, room }),
+        Err(_refused) => Origin::Here(input),
     };
     Ok(ReadAhead {
         rt,
         alloc,
         breaker,
-        source,
+        origin,
         piece: Vec::new(alloc),
         taken: 0,
     })
@@ -218,10 +218,10 @@ pub fn read_ahead<R: Threads + Wait + Copy + Send + 'static, I: Read + Copy + Se
 impl<R: Wait + Copy, I: Read + Copy> ReadAhead<R, I> {
     // The next piece, in whatever way the input is read.
     fn next(&mut self) -> Piece {
-        match &mut self.source {
-            Source::Ahead(pieces) => next_piece(&self.rt, &self.breaker, pieces),
-            Source::Here(input) => read_here(self.alloc, input),
-            Source::Ended => Ok(Vec::new(self.alloc)),
+        match &mut self.origin {
+            Origin::Ahead(pieces) => next_piece(&self.rt, &self.breaker, pieces),
+            Origin::Here(input) => read_here(self.alloc, input),
+            Origin::Ended => Ok(Vec::new(self.alloc)),
         }
     }
 
@@ -229,7 +229,7 @@ impl<R: Wait + Copy, I: Read + Copy> ReadAhead<R, I> {
     fn refill(&mut self) -> io::Result<()> {
         let piece = self.next();
         if !goes_on(&piece) {
-            self.source = Source::Ended;
+            self.origin = Origin::Ended;
         }
         self.piece = piece?;
         self.taken = 0;

@@ -6,7 +6,7 @@ ghost use Rattle.ct_live.specs.Answered.{AnswersMore, AnswersAllButLast, TakesNe
 ghost use Rattle.ct_live.specs.declared.pipes.answering.PartyFault.TheVariants.{Memory};
 
 use crate::pipes::places::{Places, Seat};
-use crate::pipes::post::{Stopped, receive, send};
+use crate::pipes::post::{Stopped, deliver, receive};
 use crate::pipes::tagging::tag;
 use ct_parties::{Party, Sink, Source, Waiting, serve_all};
 use rtrb::{Consumer, Producer};
@@ -85,7 +85,7 @@ impl<'a> Sink<u64> for Outbox<'a> {
     ) -> Result<(), PartyFault> {
         let text = tag(alloc, mark, &reply)?;
         let own = Seat::Party(self.number);
-        match send(rt, self.places, own, Seat::Writer, &mut self.answers, text) {
+        match deliver(rt, self.places, own, Seat::Writer, &mut self.answers, text) {
             Ok(()) => Ok(()),
             Err(Stopped) => Err(PartyFault::Stopped),
         }

@@ -6,7 +6,7 @@ ghost use mathlib.Core.List.{IsPrefix};
 ghost use Rattle.ct_live.specs.Rings.{all_received, all_sent, ArePairs, ArePrefixes, AreTakenBelow};
 ghost use Rattle.ct_live.specs.Written.{Passes, PassesSome, WritesOn, BeginsOn};
 
-use crate::pipes::output::{WriteFailed, write_text};
+use ct_lines::{Unwritten, send};
 use rtrb::{Consumer, Producer};
 use std::io::Write;
 
@@ -44,11 +44,11 @@ pub fn are_taken<T>(producers: &mut [Producer<T>], consumers: &mut [Consumer<T>]
 }
 
 // Writes what is left of a party's answers.
-fn write_rest<W: Write>(
+fn write_rest_of_ring<W: Write>(
     producer: &mut Producer<Vec<u8>>,
     ring: &mut Consumer<Vec<u8>>,
     output: &mut W,
-) -> Result<(), WriteFailed>
+) -> Result<(), Unwritten>
     requires { IsPair producer.old ring.old }
     ensures pair { IsPair producer.new ring.new }
     ensures sent { sent producer.new ≡ sent producer.old }
@@ -61,7 +61,7 @@ fn write_rest<W: Write>(
     let left = ring.slots_beside(producer);
     for turn in 0..left {
         let text = ring.pop_known();
-        write_text(output, &text)?;
+        send(output, &text)?;
     }
     Ok(())
 }
@@ -72,7 +72,7 @@ fn write_rest_of<W: Write>(
     producers: &mut [Producer<Vec<u8>>],
     rings: &mut [Consumer<Vec<u8>>],
     output: &mut W,
-) -> Result<(), WriteFailed>
+) -> Result<(), Unwritten>
     requires { ArePairs producers.old rings.old × (party < length producers.old) }
     ensures pairs { ArePairs producers.new rings.new }
     ensures sent { all_sent producers.new ≡ all_sent producers.old }
@@ -82,7 +82,7 @@ fn write_rest_of<W: Write>(
 {
     let producer = &mut producers[party];
     let ring = &mut rings[party];
-    write_rest(producer, ring, output)
+    write_rest_of_ring(producer, ring, output)
 }
 
 // Writes what is left of the answers of all parties, one after the other.
@@ -90,7 +90,7 @@ fn write_each<W: Write>(
     producers: &mut [Producer<Vec<u8>>],
     rings: &mut [Consumer<Vec<u8>>],
     output: &mut W,
-) -> Result<(), WriteFailed>
+) -> Result<(), Unwritten>
     requires { ArePairs producers.old rings.old }
     ensures pairs { ArePairs producers.new rings.new }
     ensures sent { all_sent producers.new ≡ all_sent producers.old }
@@ -109,12 +109,12 @@ fn write_each<W: Write>(
 ///
 /// # Errors
 ///
-/// `WriteFailed`: of what came out of the rings a beginning is written, in the same sense.
+/// `Unwritten`: of what came out of the rings a beginning is written, in the same sense.
 pub fn write_left<W: Write>(
     producers: &mut [Producer<Vec<u8>>],
     rings: &mut [Consumer<Vec<u8>>],
     output: &mut W,
-) -> Result<(), WriteFailed>
+) -> Result<(), Unwritten>
     requires { ArePairs producers.old rings.old }
     ensures pairs { ArePairs producers.new rings.new }
     ensures sent { all_sent producers.new ≡ all_sent producers.old }

@@ -25,7 +25,7 @@ pub struct Pipes<T: Drop> {
 pub const PLACES: usize = 64;
 
 /// New rings for so many parties, each with `PLACES` places, and all empty.
-pub fn open<T: Drop>(alloc: Global, parties: usize) -> Result<Pipes<T>, AllocError>
+pub fn open_pipes<T: Drop>(alloc: Global, parties: usize) -> Result<Pipes<T>, AllocError>
     ensures { IfOk result (λ p. AreNew parties p) }
 {
     let mut given = Vec::new(alloc);

@@ -15,12 +15,12 @@ use thiserror::Error;
 #[error("all were to end")]
 pub struct Stopped;
 
-/// Sends an item from the thread `own` to `other`, and waits while the ring has no room.
+/// Delivers an item from the thread `own` to `other`, and waits while the ring has no room.
 ///
 /// # Errors
 ///
 /// `Stopped`, where all were to end before there was room: nothing was sent, and the ring was seen full.
-pub fn send<T: Drop, R: Wait>(
+pub fn deliver<T: Drop, R: Wait>(
     rt: &R,
     places: &Places,
     own: Seat,
@@ -97,5 +97,5 @@ pub fn give<T: Drop, R: Wait>(
     ensures same { SameProducers producers.old producers.new }
 {
     let producer = &mut producers[party];
-    send(rt, places, Seat::Reader, Seat::Party(party), producer, task)
+    deliver(rt, places, Seat::Reader, Seat::Party(party), producer, task)
 }

@@ -1,18 +1,16 @@
 //! The threads of the parties.
 
-ghost use Rattle.std.specs.Prelude.{◌≡◌, ◌<◌, ◌+◌, ◌++◌, ◌∷◌, [], length, map, IfOk, Ok, Err, OnOk, Some, None, ◌⊎◌, vec_len, vec_capacity};
+ghost use Rattle.std.specs.Prelude.{◌≡◌, ◌<◌, ◌+◌, ◌++◌, ◌∷◌, [], length, map, IfErr, IfOk, Ok, Err, OnOk, Some, None, ◌⊎◌, vec_len, vec_capacity};
 ghost use Rattle.ct_live.specs.Working.{Works, WorksSome, AreJoinedOf, HasRoom};
-ghost use Rattle.ct_live.specs.declared.pipes.workers.StartFault.TheVariants.{Memory};
 
 use crate::pipes::answering::{Answered, Numbered, PartyFault, answer_all};
 use crate::pipes::places::Places;
-use ct_parties::{Party, Waiting};
+use ct_parties::{Fault, Party, Waiting};
 use rtrb::{Consumer, Producer};
 use std::alloc::{AllocError, Global};
 use std::snapshot::Snapshot;
 use std::sync::Wait;
 use std::thread::{Promise, PromisedHandle, Scope, Threads};
-use thiserror::Error;
 
 /// A party, with the ends of its rings, as it begins and as it ends. A program makes it of any ends, under the number of the
 /// party's place.
@@ -78,25 +76,6 @@ impl<P: Party<T> + Drop, T: Drop> Promise<Worked<P, T>> for WorkerPromise<P, T> 
 /// The thread of a party.
 pub type WorkerThread<P, T> = PromisedHandle<Worked<P, T>, WorkerPromise<P, T>>;
 
-/// No thread started for a party, or a growth was refused.
-#[derive(Clone, Copy, Debug, PartialEq, Eq, Drop, Error)]
-pub enum StartFault {
-    /// A growth was refused.
-    #[error("memory was refused")]
-    Memory,
-    /// A thread didn't start.
-    #[error("a thread didn't start")]
-    Threads,
-}
-
-impl From<AllocError> for StartFault {
-    ghost from_gives = { λ _ fault. fault ≡ Memory };
-
-    fn from(_error: AllocError) -> StartFault {
-        StartFault::Memory
-    }
-}
-
 // Keeps an item.
 fn keep<T: Drop>(items: &mut Vec<T>, item: T) -> Result<(), AllocError>
     ensures { OnOk result (items.new.items ≡ items.old.items ++ item ∷ []) }
@@ -119,8 +98,9 @@ fn start_each<
     places: &'e Places,
     waiting: &'e Waiting,
     workers: Vec<Worker<P, T>>,
-) -> Result<Vec<WorkerThread<P, T>>, StartFault>
-    ensures { IfOk result (λ v. map (λ t. t.promise.0.value) v.items ≡ workers.items) }
+) -> Result<Vec<WorkerThread<P, T>>, Fault>
+    ensures started { IfOk result (λ v. map (λ t. t.promise.0.value) v.items ≡ workers.items) }
+    ensures faults { IfErr result (λ f. (f ≡ Fault.Memory) ⊎ (f ≡ Fault.Threads)) }
 {
     let mut threads = Vec::new(alloc);
     for worker in workers {
@@ -129,7 +109,7 @@ fn start_each<
             ensures { OnOk result.result (Works P.does worker result.worker) × WorksSome P.does worker result.worker }
         { work(rt, alloc, places, waiting, worker) };
         let Ok(thread) = scope.spawn_with(promise, working) else {
-            return Err(StartFault::Threads);
+            return Err(Fault::Threads);
         };
         keep(&mut threads, thread)?;
     }
@@ -154,8 +134,9 @@ pub fn start_workers<
     places: &'e Places,
     waiting: &'e Waiting,
     workers: Vec<Worker<P, T>>,
-) -> Result<Vec<WorkerThread<P, T>>, StartFault>
-    ensures { IfOk result (λ v. map (λ t. t.promise.0.value) v.items ≡ workers.items) }
+) -> Result<Vec<WorkerThread<P, T>>, Fault>
+    ensures started { IfOk result (λ v. map (λ t. t.promise.0.value) v.items ≡ workers.items) }
+    ensures faults { IfErr result (λ f. (f ≡ Fault.Memory) ⊎ (f ≡ Fault.Threads)) }
 {
     match start_each(rt, alloc, scope, places, waiting, workers) {
         Ok(threads) => Ok(threads),

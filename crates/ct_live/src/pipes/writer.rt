@@ -5,8 +5,8 @@ ghost use Rattle.rtrb.specs.Ring.{received, known_items, SameConsumer};
 ghost use Rattle.ct_live.specs.Rings.{AreSeenEmpty, EmptiedAt, SameConsumers};
 ghost use Rattle.ct_live.specs.Written.{Passes, PassesSome, WritesOn, BeginsOn};
 
-use crate::pipes::output::{WriteFailed, write_text};
 use crate::pipes::places::{Places, Seat};
+use ct_lines::{Unwritten, send};
 use rtrb::Consumer;
 use std::io::Write;
 use std::sync::Wait;
@@ -17,7 +17,7 @@ fn write_next<W: Write>(
     party: usize,
     ring: &mut Consumer<Vec<u8>>,
     output: &mut W,
-) -> Result<bool, WriteFailed>
+) -> Result<bool, Unwritten>
     ensures same { SameConsumer ring.old ring.new }
     ensures empty { IfOk result (λ any. any ≡ false → known_items ring.new ≡ []) }
     ensures written { OnOk result (Passes (W.contents output.old) (W.contents output.new)
@@ -29,7 +29,7 @@ fn write_next<W: Write>(
         return Ok(false);
     };
     places.wake(Seat::Party(party));
-    write_text(output, &text)?;
+    send(output, &text)?;
     Ok(true)
 }
 
@@ -39,7 +39,7 @@ fn write_of<W: Write>(
     party: usize,
     rings: &mut [Consumer<Vec<u8>>],
     output: &mut W,
-) -> Result<bool, WriteFailed>
+) -> Result<bool, Unwritten>
     requires { party < length rings.old }
     ensures same { SameConsumers rings.old rings.new }
     ensures empty { IfOk result (λ any. any ≡ false → EmptiedAt party rings.old rings.new) }
@@ -55,7 +55,7 @@ fn write_round<W: Write>(
     places: &Places,
     rings: &mut [Consumer<Vec<u8>>],
     output: &mut W,
-) -> Result<bool, WriteFailed>
+) -> Result<bool, Unwritten>
     ensures same { SameConsumers rings.old rings.new }
     ensures empty { IfOk result (λ any. any ≡ false → AreSeenEmpty rings.new) }
     ensures written { OnOk result (WritesOn rings.old rings.new (W.contents output.old) (W.contents output.new)) }
@@ -76,7 +76,7 @@ fn write_until_ended<R: Wait, W: Write>(
     places: &Places,
     rings: &mut [Consumer<Vec<u8>>],
     output: &mut W,
-) -> Result<(), WriteFailed>
+) -> Result<(), Unwritten>
     ensures same { SameConsumers rings.old rings.new }
     ensures empty { OnOk result (AreSeenEmpty rings.new) }
     ensures written { OnOk result (WritesOn rings.old rings.new (W.contents output.old) (W.contents output.new)) }
@@ -99,13 +99,13 @@ fn write_until_ended<R: Wait, W: Write>(
 ///
 /// # Errors
 ///
-/// `WriteFailed`, and all are to end: of what came out of the rings a beginning is written, in the same sense.
+/// `Unwritten`, and all are to end: of what came out of the rings a beginning is written, in the same sense.
 pub fn write_answers<R: Wait, W: Write>(
     rt: &R,
     places: &Places,
     rings: &mut [Consumer<Vec<u8>>],
     output: &mut W,
-) -> Result<(), WriteFailed>
+) -> Result<(), Unwritten>
     ensures same { SameConsumers rings.old rings.new }
     ensures empty { OnOk result (AreSeenEmpty rings.new) }
     ensures written { OnOk result (WritesOn rings.old rings.new (W.contents output.old) (W.contents output.new)) }

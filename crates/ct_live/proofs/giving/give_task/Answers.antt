@@ -18,7 +18,7 @@ returns-in_ok-give-in-Front-clause-given g c =
     c.in-Front.is c.from-party.ensures
     c.deref_mut.ensures.value (with_items_is fronts qs size) refl c.in_ok-give-in-Front.ensures.given
 
-pub returns-in_ok-send-in-Operator-clause-given : goal.returns-in_ok-send-in-Operator-clause-given
-returns-in_ok-send-in-Operator-clause-given g c =
-    let new : Inlets = record { fronts = c.args.inlets.now.fronts; operator = c.send.new.producer } in
-    given_to_desk c.args.inlets.now new c.args.number c.in-Operator.task c.args.task c.in-Operator.is refl c.in_ok-send-in-Operator.ensures.sent
+pub returns-in_ok-deliver-in-Operator-clause-given : goal.returns-in_ok-deliver-in-Operator-clause-given
+returns-in_ok-deliver-in-Operator-clause-given g c =
+    let new : Inlets = record { fronts = c.args.inlets.now.fronts; operator = c.deliver.new.producer } in
+    given_to_desk c.args.inlets.now new c.args.number c.in-Operator.task c.args.task c.in-Operator.is refl c.in_ok-deliver-in-Operator.ensures.sent

@@ -15,7 +15,7 @@ returns-clause-given g c =
 
 pub returns-clause-fronts : goal.returns-clause-fronts
 returns-clause-fronts g c =
-    subst (λ (l : List FrontWorker). AreJoinedOf FrontStep l c.join_workers-fronts.result) c.in-Ok-start_workers.ensures c.join_workers-fronts.ensures.joined
+    subst (λ (l : List FrontWorker). AreJoinedOf FrontStep l c.join_workers-fronts.result) c.in-Ok-start_workers.ensures.started c.join_workers-fronts.ensures.joined
 
 pub returns-clause-written : goal.returns-clause-written
 returns-clause-written g c =

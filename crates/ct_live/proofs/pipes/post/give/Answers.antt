@@ -4,19 +4,19 @@ use Rattle.ct_live.proofs.pipes.post.give.Goals as goal
 
 pub returns-clause-given : goal.returns-clause-given
 returns-clause-given g c =
-    on_ok_weaker c.send.result (sent_there c.args.producers.now c.args.party c.index-producers-party.result c.send.new.producer c.args.task c.requires)
-    c.send.ensures.sent
+    on_ok_weaker c.deliver.result (sent_there c.args.producers.now c.args.party c.index-producers-party.result c.deliver.new.producer c.args.task c.requires)
+    c.deliver.ensures.sent
 
 pub returns-clause-stopped : goal.returns-clause-stopped
 returns-clause-stopped g c =
-    on_err_weaker c.send.result (sent_none c.args.producers.now c.args.party c.index-producers-party.result c.send.new.producer c.requires)
-    c.send.ensures.stopped
+    on_err_weaker c.deliver.result (sent_none c.args.producers.now c.args.party c.index-producers-party.result c.deliver.new.producer c.requires)
+    c.deliver.ensures.stopped
 
 pub returns-clause-full : goal.returns-clause-full
 returns-clause-full g c =
-    on_err_weaker c.send.result (full_there c.args.producers.now c.args.party c.index-producers-party.result c.send.new.producer c.requires)
-    c.send.ensures.full
+    on_err_weaker c.deliver.result (full_there c.args.producers.now c.args.party c.index-producers-party.result c.deliver.new.producer c.requires)
+    c.deliver.ensures.full
 
 pub returns-clause-same : goal.returns-clause-same
 returns-clause-same g c =
-    same_producers c.args.producers.now c.args.party c.index-producers-party.result c.send.new.producer c.requires c.send.ensures.same
+    same_producers c.args.producers.now c.args.party c.index-producers-party.result c.deliver.new.producer c.requires c.deliver.ensures.same

@@ -5,5 +5,5 @@ returns-in-Ok-clause-put g c = record {
   text = c.in_ok-text.text;
   sends = c.in-Ok.ensures.sent;
   bytes = rw c.deref.ensures.value at c.in_ok-text.ensures;
-  same = c.send.ensures.same;
+  same = c.deliver.ensures.same;
 }

@@ -1,5 +1,5 @@
 use Rattle.ct_live.proofs.Opened.{empty_more, places_more}
-use Rattle.ct_live.proofs.pipes.opening.open.Goals as goal
+use Rattle.ct_live.proofs.pipes.opening.open_pipes.Goals as goal
 
 pub loop-party-preserved : goal.loop-party-preserved
 loop-party-preserved g c =

@@ -1,6 +1,6 @@
 use Rattle.ct_live.specs.Opening.{AreEmpty}
 use Rattle.ct_live.specs.Rings.{HavePlaces}
-use Rattle.ct_live.proofs.pipes.opening.open.Given as goal
+use Rattle.ct_live.proofs.pipes.opening.open_pipes.Given as goal
 
 abbrev pub invariant-loop-party : goal.invariant-loop-party
 invariant-loop-party g l = record {

@@ -1,7 +1,7 @@
 use Rattle.std.proofs.Common.{sym, ap, ◌∙◌}
 use Rattle.ct_core.specs.Replies.{shown}
 use Rattle.ct_live.proofs.Receipts.{leaf_shown}
-use Rattle.ct_live.proofs.signing.leaf_input.Goals as goal
+use Rattle.ct_live.proofs.signing.leaf_bytes.Goals as goal
 
 pub returns-clause-leaf : goal.returns-clause-leaf
 returns-clause-leaf c =
