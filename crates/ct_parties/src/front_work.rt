@@ -1,4 +1,4 @@
-//! The lines of a front, done in order.
+//! What a front does for its lines.
 
 ghost use Rattle.std.specs.Prelude.{◌≡◌, map, true, IfOk, IfErr};
 ghost use Rattle.ct_codec.specs.Submitted.{x509, precert};

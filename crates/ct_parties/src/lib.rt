@@ -7,13 +7,15 @@
 //! the lines behind it are begun.
 //!
 //! - `reading` reads the input line by line, `plan` gives the lines out, and `task` says what the operator does for a line.
-//! - `front_work` and `operator_work` do the lines of a front and of the operator, `replying` adds their replies, and
-//!   `waiting` is how a line waits for another party.
+//! - `front_work` and `operator_work` do the lines of a front and of the operator, and `waiting` is how a line waits for
+//!   another party.
+//! - `serving` has the loop in which any party does its tasks, over where they come from and where the replies go; `listed` has
+//!   tasks in a list, and replies one behind the other.
 //! - `party` has the fronts with their replies, and what they and the operator do in a shift; `threads` does the work of a
 //!   shift, each front in a thread of its own; and `shifting` ends shifts, and does them one after the other.
 //! - `closing` closes the log.
 //! - `options` has the numbers of a log, and `fault` names what ends a run before all is written.
-//! - `script` has `serve`.
+//! - `replying` adds the reply to the end of a shift, and `script` has `serve`.
 #![tactic(auto)]
 
 mod closing;

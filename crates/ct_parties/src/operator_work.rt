@@ -1,4 +1,4 @@
-//! The lines of the operator, done in order.
+//! What the operator does for its lines.
 
 ghost use Rattle.std.specs.Prelude.{◌≤◌, ◌<◌, length};
 ghost use Rattle.ct_lines.specs.ReplyText.{answered};
