@@ -10,7 +10,7 @@ use Rattle.std.proofs.lemmas.List.{map-append, map-set, length-map, get_or-map}
 use Rattle.std.proofs.lemmas.List.Folds.{concat-append}
 use Rattle.std.proofs.lemmas.Slice.Zip.{AllZip-long}
 use Rattle.std.proofs.lemmas.Option.{same_Some, slice_get-get_or}
-use Rattle.std.specs.Result.{OnErr}
+use Rattle.std.specs.Result.{OnOk, OnErr}
 use Rattle.std.specs.Prelude.{Result, Ok, Err}
 use Rattle.rtrb.specs.Ring.{sent, received, IsPair, SameConsumer}
 use Rattle.rtrb.specs.declared.AnyItems.{AnyItems}
@@ -199,3 +199,8 @@ still_pair p c d i s = (s.0.0 ∙ i.0, s.0.1 ∙ i.1, s.0.2 ∙ i.2, s.0.3 ∙ i
 pub of_error : {T E P : Type 0} (r : Result T E) → P → OnErr r P
 of_error (Ok v) p = tt
 of_error (Err e) p = p
+
+-- what follows of either result follows
+pub of_either : {T E X Y Z : Type 0} (r : Result T E) → OnOk r X → OnErr r Y → (X → Z) → (Y → Z) → Z
+of_either (Ok v) x y f g = f x
+of_either (Err e) x y f g = g y

@@ -8,7 +8,7 @@
 //!   `close`, and two for the bytes that are signed.
 //! - `signing` has the bytes that stand under the log's signatures.
 //! - `replying` has the reply to a line without the end of the line.
-//! - `front` is a front as a party of `pipes`; `operator` does the operator's tasks in turn, as a party does.
+//! - `front` is a front as a party, and `operator` the operator.
 //! - `giving` reads lines, and gives them out to the parties.
 //! - `threads` has the reader and the writer, each in a thread of its own, and the parties, and then ends the log.
 //! - `ending` is what comes once all threads have ended, and `workers` has the parties with the ends of their rings.

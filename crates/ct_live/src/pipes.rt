@@ -9,8 +9,9 @@
 //! - `post` has `give`, by which the reader's thread gives each party its tasks, and waits where a ring is full.
 //! - `workers` has the parties' threads: `start_workers` and `join_workers`. A thread hands back the party with the ends of its
 //!   rings (`Worked`), also where it ended before its time, and `Joined` has those of all threads: a program makes room for them
-//!   before it starts any, so that they can be joined without memory. What a party does is its own (`Party`, in `answering`):
-//!   `answer_all` has it reply to each of its tasks in turn, and `tagging` sets the line's number before the reply.
+//!   before it starts any, so that they can be joined without memory. What a party does is its own (`Party` of `ct_parties`):
+//!   `answer_all`, in `answering`, is `serve_all` of `ct_parties` over the ends of the party's rings, and `tagging` sets the line's
+//!   number before the reply.
 //! - `writer` writes the answers of all parties as they come, in the thread that calls it; `output` writes one.
 //! - `ending` is for when all threads have ended, with both ends of each ring at hand: `are_taken` finds whether all tasks
 //!   were received, and `write_left` writes what is left of the answers. Both show that what came out of each ring is a beginning

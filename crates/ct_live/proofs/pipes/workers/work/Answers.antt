@@ -1,0 +1,19 @@
+use Rattle.std.proofs.Common.{refl}
+use Rattle.rtrb.specs.Ring.{sent, received}
+use Rattle.ct_live.proofs.Beside.{of_either}
+use Rattle.ct_live.proofs.BrokenOff.{answers_but_last, answers_some}
+use Rattle.ct_live.proofs.pipes.workers.work.Goals as goal
+
+pub returns-clause-some : goal.returns-clause-some
+returns-clause-some g c =
+    let old = c.args.worker in
+    let all = c.answer_all-tasks in
+    let new = all.result in
+    record {
+      answered = of_either new.result all.ensures.answered all.ensures.begun
+          (answers_some g.P.Party.does old.party all.new.party (received old.tasks) (received new.tasks) (sent old.answers) (sent new.answers))
+          (answers_but_last g.P.Party.does old.party (received old.tasks) (received new.tasks) (sent old.answers) (sent new.answers));
+      tasks = all.ensures.same.0;
+      answers = all.ensures.same.1;
+      number = refl;
+    }
