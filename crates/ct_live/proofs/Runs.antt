@@ -15,7 +15,7 @@ use Rattle.ct_live.specs.declared.pipes.answering.Numbered.{Numbered}
 use Rattle.ct_live.specs.declared.pipes.answering.PartyFault.{PartyFault}
 use Rattle.ct_lines.specs.declared.fault.Unwritten.{Unwritten}
 use Rattle.ct_live.specs.declared.pipes.workers.Joined.{Joined}
-use Rattle.ct_live.specs.LiveEnding.{EndsBrokenOff, EndsLive, EndsLogSome, EndsSome, HaveDone, Rings}
+use Rattle.ct_live.specs.LiveEnding.{EndsBrokenOff, EndsLive, EndsSome, HaveDone, Rings}
 use Rattle.ct_live.specs.LiveGiven.{ReadsOn}
 use Rattle.ct_live.specs.LiveRunning.{RunsBrokenOff, RunsLive, RunsSome}
 use Rattle.ct_live.specs.LiveRuns.{FrontWorker, party_fronts, worker_fronts, worker_tasks, worker_answers, AllReplySome, FrontStep}
@@ -57,42 +57,43 @@ module _ (P : List FrontView → List (Consumer (Numbered FrontRequest) Global A
       (subst (λ (l : List (Producer (Vec ℕ Global) Global AnyItems)). P (party_fronts joined.parties.items) joined.tasks.items l) j.answers said))
 
 -- all did what they had to
-pub ran : (Closing : HouseState → List FrontView → End → ℕ → Option (List ℕ) → Option (List ℕ) → Type 0) (n m : ℕ) (input left : Option (List ℕ))
-    (read : Result End GiveFault) (old new : Inlets) (before : List FrontWorker) (joined : Joined LiveFront FrontRequest) (o p : DeskWorker) (first rings : Rings)
-    (written : Result Unit Unwritten) (operated : Result Unit PartyFault) (a b : Option (List ℕ)) → ReadsOn n m input left read old new
-    → AreJoinedOf FrontStep before joined → OnOk operated (DeskWorks o p) → WritesOut first rings a b written
+pub ran : {Closing : HouseState → List FrontView → End → ℕ → Option (List ℕ) → Option (List ℕ) → Type 0} {n m : ℕ} {input left : Option (List ℕ)}
+    {read : Result End GiveFault} {old new : Inlets} {before : List FrontWorker} {joined : Joined LiveFront FrontRequest} {o p : DeskWorker}
+    {first rings : Rings} {written : Result Unit Unwritten} {operated : Result Unit PartyFault} {a b : Option (List ℕ)}
+    → ReadsOn n m input left read old new → AreJoinedOf FrontStep before joined → OnOk operated (DeskWorks o p) → WritesOut first rings a b written
     → HaveDone written operated joined.fault
     × EndsLive Closing new (party_fronts joined.parties.items) joined.tasks.items joined.answers.items p read m left rings b
     → RunsLive Closing n input old before first o a
-ran Closing n m input left read old new before joined o p first rings written operated a b given j worked wrote (done, ended) = record {
-  inlets_then = new;
-  read = read;
-  next_then = m;
-  input_then = left;
-  given = given;
-  workers_then = j.workers_then;
-  did = j.all done.fronts;
-  operator_then = p;
-  operated = when_ok (DeskWorks o p) operated done.operator worked;
-  rings_then = rings;
-  mid = b;
-  wrote = when_ok (WritesOn first rings a b) written done.writer wrote.written;
-  ended = of_workers (λ fs ts xs. EndsLive Closing new fs ts xs p read m left rings b) before joined j ended;
-}
+ran {Closing} {m = m} {left = left} {read = read} {new = new} {before = before} {joined = joined} {o = o} {p = p} {first = first} {rings = rings}
+    {written = written} {operated = operated} {a = a} {b = b} given j worked wrote (done, ended) = record {
+      inlets_then = new;
+      read = read;
+      next_then = m;
+      input_then = left;
+      given = given;
+      workers_then = j.workers_then;
+      did = j.all done.fronts;
+      operator_then = p;
+      operated = when_ok (DeskWorks o p) operated done.operator worked;
+      rings_then = rings;
+      mid = b;
+      wrote = when_ok (WritesOn first rings a b) written done.writer wrote.written;
+      ended = of_workers (λ fs ts xs. EndsLive Closing new fs ts xs p read m left rings b) before joined j ended;
+    }
 
 -- a fault broke it off
-pub ran_broken : (close_at n m : ℕ) (input left : Option (List ℕ)) (read : Result End GiveFault) (old new : Inlets) (before : List FrontWorker)
-    (joined : Joined LiveFront FrontRequest) (o p : DeskWorker) (first rings : Rings) (written : Result Unit Unwritten) (operated : Result Unit PartyFault)
-    (a b c : Option (List ℕ)) → ReadsOn n m input left read old new → AreJoinedOf FrontStep before joined → DeskWorksSome o p
+pub ran_broken : {close_at n m : ℕ} {input left : Option (List ℕ)} {read : Result End GiveFault} {old new : Inlets} {before : List FrontWorker}
+    {joined : Joined LiveFront FrontRequest} {o p : DeskWorker} {first rings : Rings} {written : Result Unit Unwritten} {operated : Result Unit PartyFault}
+    {a b c : Option (List ℕ)} → ReadsOn n m input left read old new → AreJoinedOf FrontStep before joined → DeskWorksSome o p
     → OnOk operated (DeskWorks o p) → WritesOut first rings a b written
     → EndsBrokenOff new (party_fronts joined.parties.items) joined.tasks.items joined.answers.items p written operated joined.fault close_at read m left rings b c
     → RunsBrokenOff close_at n input old before first o a c
-ran_broken close_at n m input left read old new before joined o p first rings written operated a b c given j some worked wrote broken = elim broken [
-  | inl ended ↦ inr (inl (runs_some n m input left read old new before j.workers_then o p first rings written a b c given j.did some wrote
-      (of_workers (λ fs ts xs. EndsSome new ts xs p written rings b c) before joined j ended)))
-  | inr closing ↦ inr (inr (ran (EndsLogSome close_at c) n m input left read old new before joined o p first rings written operated a b given j worked
-      wrote closing))
-]
+ran_broken {n = n} {m} {input} {left} {read} {old} {new} {before} {joined} {o} {p} {first} {rings} {written} {a = a} {b} {c} given j some worked wrote broken =
+    elim broken [
+      | inl ended ↦ inr (inl (runs_some n m input left read old new before j.workers_then o p first rings written a b c given j.did some wrote
+          (of_workers (λ fs ts xs. EndsSome new ts xs p written rings b c) before joined j ended)))
+      | inr closing ↦ inr (inr (ran given j worked wrote closing))
+    ]
 
 -- ---- what the writer did, in its thread or in the one that started it
 

@@ -122,7 +122,8 @@ RepliesBrokenOff count close_at n input house fronts old new =
 
 -- ---- of a new house
 
--- This is said of the replies of a new house with its fronts: by `opened` it has so many fronts and places, and was opened at this moment.
+-- `house` is a new one, and `fronts` are its fronts: by `opened` it has so many, with so many places, and was opened at this moment; and by
+-- `replied` this is said of what they replied.
 pub record NewHouseReplies (count places open_at : ℕ) (Replied : HouseState → List FrontView → Type 0) : Type 0 where
   pub house : HouseState
   pub fronts : List FrontView

@@ -2,7 +2,6 @@ use Rattle.std.proofs.Common.{◌∙◌, inl, inr}
 use Rattle.std.proofs.lemmas.Result.{IfErr-weaker, on_err_weaker, on_ok_weaker}
 use Rattle.ct_live.specs.LiveEnding.{EndsLog, EndsLogSome, HaveDone}
 use Rattle.ct_live.specs.LiveReplied.{ClosesLog, RefusesClosing}
-use Rattle.ct_live.specs.LiveRuns.{party_fronts}
 use Rattle.ct_live.proofs.BrokenOff.{begins_on}
 use Rattle.ct_live.proofs.Ended.{begins_as_done, begins_rest, begins_then, ends_live, ends_some}
 use Rattle.ct_live.proofs.Joined.{when_ok}
@@ -23,12 +22,9 @@ returns-in-Ok-end-clause-ended g c =
     c.fault_of-done.ensures.done in
     on_ok_weaker c.close_and_serve.result (λ closing. (
       done,
-      ends_live c.args.left.giver.inlets c.args.left.fronts.tasks.items c.deref_mut.result.now c.args.left.fronts.answers.items c.deref_mut-2.result.now
-          c.args.operator c.deref_mut.ensures.value (c.deref_mut-2.ensures.value ∙ c.push_reserved.ensures.items)
-          (EndsLog ClosesLog c.args.close_at (g.W.Write.contents c.close_and_serve.new.output)) (party_fronts c.args.left.fronts.parties.items)
-          c.in-Ok.fronts.items c.args.left.end c.in-Ok-end.end c.args.left.giver.lines.next (g.B.Read.remaining c.args.left.giver.lines.input)
-          c.args.rings.now c.write_rest.new.rings (g.W.Write.contents c.args.output.now) (g.W.Write.contents c.write_rest.new.output)
-          c.in-Ok.ensures.fronts c.in-Ok-end.is
+      ends_live _ _ _ _ _ _ c.deref_mut.ensures.value (c.deref_mut-2.ensures.value ∙ c.push_reserved.ensures.items)
+          (EndsLog ClosesLog c.args.close_at (g.W.Write.contents c.close_and_serve.new.output)) _ _ _ _ _ _ _ c.write_rest.new.rings _
+          (g.W.Write.contents c.write_rest.new.output) c.in-Ok.ensures.fronts c.in-Ok-end.is
           (c.are_received-received.ensures.taken c.in-Ok.ensures.done.1) c.in-Ok.ensures.all c.in-Ok.ensures.written closing,
     )) c.close_and_serve.ensures.all
 
@@ -47,12 +43,9 @@ returns-in-Ok-end-clause-broken g c =
           (begins_then c.args.rings.now c.write_rest.new.rings old mid new c.in-Ok.ensures.written none)))
       | inr closing ↦ inr (
         done,
-        ends_live c.args.left.giver.inlets c.args.left.fronts.tasks.items c.deref_mut.result.now c.args.left.fronts.answers.items
-            c.deref_mut-2.result.now c.args.operator c.deref_mut.ensures.value (c.deref_mut-2.ensures.value ∙ c.push_reserved.ensures.items)
-            (EndsLogSome c.args.close_at new) (party_fronts c.args.left.fronts.parties.items) c.in-Ok.fronts.items c.args.left.end c.in-Ok-end.end
-            c.args.left.giver.lines.next (g.B.Read.remaining c.args.left.giver.lines.input) c.args.rings.now c.write_rest.new.rings old mid
-            c.in-Ok.ensures.fronts c.in-Ok-end.is (c.are_received-received.ensures.taken c.in-Ok.ensures.done.1) c.in-Ok.ensures.all
-            c.in-Ok.ensures.written closing,
+        ends_live _ _ _ _ _ _ c.deref_mut.ensures.value (c.deref_mut-2.ensures.value ∙ c.push_reserved.ensures.items) (EndsLogSome c.args.close_at new)
+            _ _ _ _ _ _ _ c.write_rest.new.rings _ mid c.in-Ok.ensures.fronts c.in-Ok-end.is
+            (c.are_received-received.ensures.taken c.in-Ok.ensures.done.1) c.in-Ok.ensures.all c.in-Ok.ensures.written closing,
       )
     ]) c.close_and_serve.ensures.begun
 
@@ -74,11 +67,8 @@ returns-in-Ok-end-clause-late g c =
     c.fault_of-done.ensures.done in
     IfErr-weaker c.close_and_serve.result _ _ (λ f late is. (
       done,
-      ends_live c.args.left.giver.inlets c.args.left.fronts.tasks.items c.deref_mut.result.now c.args.left.fronts.answers.items c.deref_mut-2.result.now
-          c.args.operator c.deref_mut.ensures.value (c.deref_mut-2.ensures.value ∙ c.push_reserved.ensures.items)
-          (EndsLog RefusesClosing c.args.close_at (g.W.Write.contents c.close_and_serve.new.output)) (party_fronts c.args.left.fronts.parties.items)
-          c.in-Ok.fronts.items c.args.left.end c.in-Ok-end.end c.args.left.giver.lines.next (g.B.Read.remaining c.args.left.giver.lines.input)
-          c.args.rings.now c.write_rest.new.rings (g.W.Write.contents c.args.output.now) (g.W.Write.contents c.write_rest.new.output)
-          c.in-Ok.ensures.fronts c.in-Ok-end.is (c.are_received-received.ensures.taken c.in-Ok.ensures.done.1) c.in-Ok.ensures.all
-          c.in-Ok.ensures.written (late is),
+      ends_live _ _ _ _ _ _ c.deref_mut.ensures.value (c.deref_mut-2.ensures.value ∙ c.push_reserved.ensures.items)
+          (EndsLog RefusesClosing c.args.close_at (g.W.Write.contents c.close_and_serve.new.output)) _ _ _ _ _ _ _ c.write_rest.new.rings _
+          (g.W.Write.contents c.write_rest.new.output) c.in-Ok.ensures.fronts c.in-Ok-end.is
+          (c.are_received-received.ensures.taken c.in-Ok.ensures.done.1) c.in-Ok.ensures.all c.in-Ok.ensures.written (late is),
     )) c.close_and_serve.ensures.late

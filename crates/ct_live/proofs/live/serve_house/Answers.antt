@@ -1,10 +1,8 @@
-use Rattle.std.proofs.Common.{◌⊎◌, inl, List, [], subst}
-use Rattle.std.specs.Io.KnownBytes.{Appends}
+use Rattle.std.proofs.Common.{inl, sym}
 use Rattle.std.proofs.KnownBytes.{Appends-nil}
 use Rattle.std.proofs.lemmas.Result.{IfErr-weaker, on_err_weaker, on_ok_weaker}
-use Rattle.ct_house.specs.House.{FrontView}
 use Rattle.ct_live.specs.LiveEnding.{EndsLog}
-use Rattle.ct_live.specs.LiveReplied.{ClosesLog, RefusesClosing, RepliesBrokenOff, RepliesLive}
+use Rattle.ct_live.specs.LiveReplied.{ClosesLog, RefusesClosing}
 use Rattle.ct_live.proofs.BrokenOff.{replies_broken}
 use Rattle.ct_live.proofs.Opens.{as_many, as_many_workers}
 use Rattle.ct_live.proofs.Replied.{replies}
@@ -22,31 +20,23 @@ returns-in-Err-clause-broken g c = inl (Appends-nil (g.W.Write.contents c.args.o
 
 pub returns-clause-replied : goal.returns-clause-replied
 returns-clause-replied g c =
-    on_ok_weaker c.run_live.result.result (λ r.
     let new = g.W.Write.contents c.run_live.result.output in
-    subst (λ (l : List FrontView). RepliesLive ClosesLog c.args.options.fronts c.args.options.close_at c.args.lines.next
-    (g.B.Read.remaining c.args.lines.input) c.args.sequencer l (g.W.Write.contents c.args.output) new) c.in-Ok.ensures.fronts
+    on_ok_weaker c.run_live.result.result (λ r. rw (sym c.in-Ok.ensures.fronts)
     (replies c.args.options.fronts c.args.options.close_at c.args.lines.next (g.B.Read.remaining c.args.lines.input) c.args.ends c.in-Ok.workers.items
     c.args.sequencer (g.W.Write.contents c.args.output) c.requires.ends c.in-Ok.ensures.tasks c.in-Ok.ensures.answers
     (EndsLog ClosesLog c.args.options.close_at new) r ClosesLog new r.ended.closing)) c.run_live.ensures.ran
 
 pub returns-clause-broken : goal.returns-clause-broken
 returns-clause-broken g c =
-    on_err_weaker c.run_live.result.result (λ r.
-    let new = g.W.Write.contents c.run_live.result.output in
-    subst (λ (l : List FrontView). Appends (g.W.Write.contents c.args.output) new [] ⊎ RepliesBrokenOff c.args.options.fronts c.args.options.close_at
-    c.args.lines.next (g.B.Read.remaining c.args.lines.input) c.args.sequencer l (g.W.Write.contents c.args.output) new) c.in-Ok.ensures.fronts
+    on_err_weaker c.run_live.result.result (λ r. rw (sym c.in-Ok.ensures.fronts)
     (replies_broken c.args.options.fronts c.args.options.close_at c.args.lines.next (g.B.Read.remaining c.args.lines.input) c.args.ends
-    c.in-Ok.workers.items c.args.sequencer (g.W.Write.contents c.args.output) new c.requires.ends c.in-Ok.ensures.tasks c.in-Ok.ensures.answers r))
-    c.run_live.ensures.broken
+    c.in-Ok.workers.items c.args.sequencer (g.W.Write.contents c.args.output) (g.W.Write.contents c.run_live.result.output) c.requires.ends
+    c.in-Ok.ensures.tasks c.in-Ok.ensures.answers r)) c.run_live.ensures.broken
 
 pub returns-clause-late : goal.returns-clause-late
 returns-clause-late g c =
-    IfErr-weaker c.run_live.result.result _ _ (λ f late is.
-    let new = g.W.Write.contents c.run_live.result.output in
-    let r = late is in
-    subst (λ (l : List FrontView). RepliesLive RefusesClosing c.args.options.fronts c.args.options.close_at c.args.lines.next
-    (g.B.Read.remaining c.args.lines.input) c.args.sequencer l (g.W.Write.contents c.args.output) new) c.in-Ok.ensures.fronts
+    IfErr-weaker c.run_live.result.result _ _ (λ f late is. rw (sym c.in-Ok.ensures.fronts)
     (replies c.args.options.fronts c.args.options.close_at c.args.lines.next (g.B.Read.remaining c.args.lines.input) c.args.ends c.in-Ok.workers.items
     c.args.sequencer (g.W.Write.contents c.args.output) c.requires.ends c.in-Ok.ensures.tasks c.in-Ok.ensures.answers
-    (EndsLog RefusesClosing c.args.options.close_at new) r RefusesClosing new r.ended.closing)) c.run_live.ensures.late
+    (EndsLog RefusesClosing c.args.options.close_at (g.W.Write.contents c.run_live.result.output)) (late is) RefusesClosing
+    (g.W.Write.contents c.run_live.result.output) (late is).ended.closing)) c.run_live.ensures.late

@@ -2,8 +2,7 @@ use Rattle.std.proofs.Common.{◌≡◌, subst, sym}
 use Rattle.std.proofs.lemmas.Result.{IfErr-at_err, IfErr-weaker, IfOk-at_ok, on_err_weaker, on_ok_weaker}
 use Rattle.std.specs.Prelude.{OnErr, OnOk}
 use Rattle.ct_live.specs.Rings.{SameConsumers}
-use Rattle.ct_live.specs.LiveEnding.{EndsLog, Rings}
-use Rattle.ct_live.specs.LiveReplied.{ClosesLog, RefusesClosing}
+use Rattle.ct_live.specs.LiveEnding.{Rings}
 use Rattle.ct_live.specs.LiveRuns.{DeskWorksSome, WritesOut}
 use Rattle.ct_live.proofs.Joined.{beside_kept, house_kept, when_ok}
 use Rattle.ct_live.proofs.Runs.{beside_joined, fronts_joined, nothing_ran, ran, ran_broken}
@@ -32,17 +31,11 @@ end_live-result-requires-clause-fronts g c κs within = λ done.
 pub returns-clause-ran : goal.returns-clause-ran
 returns-clause-ran g c = elim c.match-left.branch [
   | in-Ok w ↦
-      let left = w.in-Ok.left in
       rw w.result-is (rw w.output-is (on_ok_weaker w.end_live-result.result (λ ended.
-      ran (EndsLog ClosesLog c.args.options.close_at (g.W.Write.contents w.end_live-result.new.output))
-      c.args.start.giver.lines.next left.giver.lines.next (g.B.Read.remaining c.args.start.giver.lines.input)
-      (g.B.Read.remaining left.giver.lines.input) left.end c.args.start.giver.inlets left.giver.inlets c.args.start.workers.items left.fronts
-      c.args.operator c.run_threads-ran.result.operator c.args.start.out.rings.items w.deref_mut.result.now left.written left.operated
-      (g.W.Write.contents c.args.start.out.output) (g.W.Write.contents c.run_threads-ran.result.out.output)
-      (IfOk-at_ok _ w.in-Ok.is c.run_threads-ran.ensures.given) (IfOk-at_ok _ w.in-Ok.is c.run_threads-ran.ensures.fronts)
+      ran (IfOk-at_ok _ w.in-Ok.is c.run_threads-ran.ensures.given) (IfOk-at_ok _ w.in-Ok.is c.run_threads-ran.ensures.fronts)
       (IfOk-at_ok _ w.in-Ok.is c.run_threads-ran.ensures.operated)
       (subst (λ (l : Rings). WritesOut c.args.start.out.rings.items l (g.W.Write.contents c.args.start.out.output)
-      (g.W.Write.contents c.run_threads-ran.result.out.output) left.written) (sym w.deref_mut.ensures.value)
+      (g.W.Write.contents c.run_threads-ran.result.out.output) w.in-Ok.left.written) (sym w.deref_mut.ensures.value)
       (IfOk-at_ok _ w.in-Ok.is c.run_threads-ran.ensures.written))
       ended) w.end_live-result.ensures.ended))
   | in-Err w ↦ rw w.result-is tt
@@ -51,18 +44,12 @@ returns-clause-ran g c = elim c.match-left.branch [
 pub returns-clause-broken : goal.returns-clause-broken
 returns-clause-broken g c = elim c.match-left.branch [
   | in-Ok w ↦
-      let left = w.in-Ok.left in
       rw w.result-is (rw w.output-is (on_err_weaker w.end_live-result.result (λ broken.
-      ran_broken c.args.options.close_at c.args.start.giver.lines.next left.giver.lines.next (g.B.Read.remaining c.args.start.giver.lines.input)
-      (g.B.Read.remaining left.giver.lines.input) left.end c.args.start.giver.inlets left.giver.inlets c.args.start.workers.items left.fronts
-      c.args.operator c.run_threads-ran.result.operator c.args.start.out.rings.items w.deref_mut.result.now left.written left.operated
-      (g.W.Write.contents c.args.start.out.output) (g.W.Write.contents c.run_threads-ran.result.out.output)
-      (g.W.Write.contents w.end_live-result.new.output)
-      (IfOk-at_ok _ w.in-Ok.is c.run_threads-ran.ensures.given) (IfOk-at_ok _ w.in-Ok.is c.run_threads-ran.ensures.fronts)
+      ran_broken (IfOk-at_ok _ w.in-Ok.is c.run_threads-ran.ensures.given) (IfOk-at_ok _ w.in-Ok.is c.run_threads-ran.ensures.fronts)
       (subst (λ (r : _). OnOk r (DeskWorksSome c.args.operator c.run_threads-ran.result.operator)) w.in-Ok.is c.run_threads-ran.ensures.operated_some)
       (IfOk-at_ok _ w.in-Ok.is c.run_threads-ran.ensures.operated)
       (subst (λ (l : Rings). WritesOut c.args.start.out.rings.items l (g.W.Write.contents c.args.start.out.output)
-      (g.W.Write.contents c.run_threads-ran.result.out.output) left.written) (sym w.deref_mut.ensures.value)
+      (g.W.Write.contents c.run_threads-ran.result.out.output) w.in-Ok.left.written) (sym w.deref_mut.ensures.value)
       (IfOk-at_ok _ w.in-Ok.is c.run_threads-ran.ensures.written))
       broken) w.end_live-result.ensures.broken))
   | in-Err w ↦
@@ -77,17 +64,11 @@ returns-clause-broken g c = elim c.match-left.branch [
 pub returns-clause-late : goal.returns-clause-late
 returns-clause-late g c = elim c.match-left.branch [
   | in-Ok w ↦
-      let left = w.in-Ok.left in
       rw w.result-is (rw w.output-is (IfErr-weaker w.end_live-result.result _ _ (λ f late is.
-      ran (EndsLog RefusesClosing c.args.options.close_at (g.W.Write.contents w.end_live-result.new.output))
-      c.args.start.giver.lines.next left.giver.lines.next (g.B.Read.remaining c.args.start.giver.lines.input)
-      (g.B.Read.remaining left.giver.lines.input) left.end c.args.start.giver.inlets left.giver.inlets c.args.start.workers.items left.fronts
-      c.args.operator c.run_threads-ran.result.operator c.args.start.out.rings.items w.deref_mut.result.now left.written left.operated
-      (g.W.Write.contents c.args.start.out.output) (g.W.Write.contents c.run_threads-ran.result.out.output)
-      (IfOk-at_ok _ w.in-Ok.is c.run_threads-ran.ensures.given) (IfOk-at_ok _ w.in-Ok.is c.run_threads-ran.ensures.fronts)
+      ran (IfOk-at_ok _ w.in-Ok.is c.run_threads-ran.ensures.given) (IfOk-at_ok _ w.in-Ok.is c.run_threads-ran.ensures.fronts)
       (IfOk-at_ok _ w.in-Ok.is c.run_threads-ran.ensures.operated)
       (subst (λ (l : Rings). WritesOut c.args.start.out.rings.items l (g.W.Write.contents c.args.start.out.output)
-      (g.W.Write.contents c.run_threads-ran.result.out.output) left.written) (sym w.deref_mut.ensures.value)
+      (g.W.Write.contents c.run_threads-ran.result.out.output) w.in-Ok.left.written) (sym w.deref_mut.ensures.value)
       (IfOk-at_ok _ w.in-Ok.is c.run_threads-ran.ensures.written))
       (late is)) w.end_live-result.ensures.late))
   | in-Err w ↦ rw w.result-is (λ is. absurd (IfErr-at_err _ w.in-Err.is c.run_threads-ran.ensures.faults is))
