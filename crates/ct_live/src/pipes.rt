@@ -12,7 +12,7 @@
 //!   before it starts any, so that they can be joined without memory. What a party does is its own (`Party` of `ct_parties`):
 //!   `answer_all`, in `answering`, is `serve_all` of `ct_parties` over the ends of the party's rings, and `tagging` sets the line's
 //!   number before the reply.
-//! - `writer` writes the answers of all parties as they come, in the thread that calls it; `output` writes one.
+//! - `writer` writes the answers of all parties as they come, in the thread that calls it.
 //! - `ending` is for when all threads have ended, with both ends of each ring at hand: `are_taken` finds whether all tasks
 //!   were received, and `write_left` writes what is left of the answers. Both show that what came out of each ring is a beginning
 //!   of what went in, whatever happened before.
