@@ -56,7 +56,6 @@ TOLD = {
     },
     "ct_live/src/giving.rt": {"Stopped": (1, "all are to end")},
     "ct_live/src/live.rt": {"Threads": (1, "in place of Read, where all were to end")},
-    "ct_live/src/operator.rt": {"Stopped": (1, "all are to end")},
     "ct_live/src/threads.rt": {"Threads": (1, "the reader's thread didn't start")},
     "ct_live/src/pipes/ahead.rt": {
         "Error": (2, "there was no memory to read into; all are to end"),

@@ -9,7 +9,7 @@ use Rattle.rtrb.specs.declared.producer.Producer.{Producer}
 use Rattle.ct_parties.specs.InTurn.{InTurn}
 use Rattle.ct_parties.specs.Serving.{Serving, ServesAll, ServesAllButLast, Turn}
 use Rattle.ct_parties.proofs.TurnLemmas.{in_turn_keeps}
-use Rattle.ct_live.specs.Answered.{AnswersMore, AnswersAllButLast, SendsNothing, SendsTagged, TakesNext, TakesNoMore}
+use Rattle.ct_live.specs.Answered.{AnswersMore, AnswersAllButLast, SendsNothing, SendsTagged, ReceivesNext, ReceivesNoMore}
 use Rattle.ct_live.specs.Working.{AllWork, Works}
 use Rattle.ct_live.specs.declared.pipes.answering.Inbox.{Inbox}
 use Rattle.ct_live.specs.declared.pipes.answering.Numbered.{Numbered}
@@ -32,18 +32,18 @@ module _ {P T : Type 0} (does : P → T → List ℕ → P → Type 0) where
   -- a task was received, done, and its reply sent
   abbrev pub RingTurn : At → ℕ × T → List ℕ → At → Type 0
   RingTurn =
-      Turn (λ (before : Inbox T) (line : ℕ) (task : T) (after : Inbox T). TakesNext before.tasks line task after.tasks) does
+      Turn (λ (before : Inbox T) (line : ℕ) (task : T) (after : Inbox T). ReceivesNext before.tasks line task after.tasks) does
       (λ (before : Outbox) (line : ℕ) (reply : List ℕ) (after : Outbox). SendsTagged before.answers line reply after.answers)
 
   abbrev pub ServesRings : At → At → Type 0
   ServesRings =
-      ServesAll (λ (before : Inbox T) (line : ℕ) (task : T) (after : Inbox T). TakesNext before.tasks line task after.tasks)
-      (λ (before after : Inbox T). TakesNoMore before.tasks after.tasks) does
+      ServesAll (λ (before : Inbox T) (line : ℕ) (task : T) (after : Inbox T). ReceivesNext before.tasks line task after.tasks)
+      (λ (before after : Inbox T). ReceivesNoMore before.tasks after.tasks) does
       (λ (before : Outbox) (line : ℕ) (reply : List ℕ) (after : Outbox). SendsTagged before.answers line reply after.answers)
 
   abbrev pub ServesRingsButLast : At → PartyFault → Inbox T → Outbox → Type 0
   ServesRingsButLast =
-      ServesAllButLast (λ (before : Inbox T) (line : ℕ) (task : T) (after : Inbox T). TakesNext before.tasks line task after.tasks) does
+      ServesAllButLast (λ (before : Inbox T) (line : ℕ) (task : T) (after : Inbox T). ReceivesNext before.tasks line task after.tasks) does
       (λ (before : Outbox) (line : ℕ) (reply : List ℕ) (after : Outbox). SendsTagged before.answers line reply after.answers)
       (λ (e : AllocError) (fault : PartyFault). fault ≡ Memory)
       (λ (before : Outbox) (fault : PartyFault) (after : Outbox). SendsNothing before.answers fault after.answers)
@@ -118,9 +118,9 @@ module _ {P T : Type 0} (does : P → T → List ℕ → P → Type 0) where
       → (sent k.answers ≡ sent cut.between.sink.answers) × SameProducer cut.between.sink.answers k.answers
   last_unsent a fault s k cut = elim cut.ended [
     | inl refused ↦ (
-        ap (λ (x : Outbox). sent x.answers) refused.0,
-        subst (λ (x : Outbox). SameProducer cut.between.sink.answers x.answers) (sym refused.0) ((refl, refl, refl, refl), refl),
-      )
+      ap (λ (x : Outbox). sent x.answers) refused.0,
+      subst (λ (x : Outbox). SameProducer cut.between.sink.answers x.answers) (sym refused.0) ((refl, refl, refl, refl), refl),
+    )
     | inr refused ↦ (refused.none, refused.same)
   ]
 

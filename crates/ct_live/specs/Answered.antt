@@ -14,13 +14,13 @@ use Rattle.ct_live.specs.declared.pipes.answering.PartyFault.{PartyFault}
 use Rattle.ct_live.specs.declared.pipes.answering.PartyFault.TheVariants.{Stopped}
 
 -- this task of the line with this number was received next, from the same ring
-pub record TakesNext {T : Type 0} (before : Consumer (Numbered T) Global AnyItems) (line : ℕ) (task : T)
+pub record ReceivesNext {T : Type 0} (before : Consumer (Numbered T) Global AnyItems) (line : ℕ) (task : T)
     (after : Consumer (Numbered T) Global AnyItems) : Type 0 where
   pub next : received after ≡ received before ++ record { number = line; task = task } ∷ []
   pub same : SameConsumer before after
 
 -- no more was received, and the ring was seen empty
-pub record TakesNoMore {T : Type 0} (before after : Consumer (Numbered T) Global AnyItems) : Type 0 where
+pub record ReceivesNoMore {T : Type 0} (before after : Consumer (Numbered T) Global AnyItems) : Type 0 where
   pub none : received after ≡ received before
   pub empty : known_items after ≡ []
   pub same : SameConsumer before after

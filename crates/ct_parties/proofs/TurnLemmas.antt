@@ -111,7 +111,7 @@ module _ {State Task : Type 0} (does : State → Task → Answer → State → T
         one.answer ∷ answers,
         (m.party, one.did, others),
         text ∙ ap (λ (l : List ℕ). l ++ answer_lines answers) (first.put ∙ ap (λ (l : List ℕ). a.sink.items ++ l) one.line)
-        ∙ append_assoc a.sink.items (reply_line one.answer) (answer_lines answers),
+            ∙ append_assoc a.sink.items (reply_line one.answer) (answer_lines answers),
       )
 
   all_went_on : (a b : Listed) (ts : List (Unit {0} × Task)) (rs : List (List ℕ)) → InTurn OneTurn a ts rs b → on a.party b.party

@@ -2,7 +2,7 @@
 
 ghost use Rattle.std.specs.Prelude.{◌≡◌, [], IfErr, OnOk, OnErr};
 ghost use Rattle.rtrb.specs.Ring.{sent, received, known_free, known_items, SameProducer, SameConsumer};
-ghost use Rattle.ct_live.specs.Answered.{AnswersMore, AnswersAllButLast, TakesNext, TakesNoMore, SendsTagged, SendsNothing};
+ghost use Rattle.ct_live.specs.Answered.{AnswersMore, AnswersAllButLast, ReceivesNext, ReceivesNoMore, SendsTagged, SendsNothing};
 ghost use Rattle.ct_live.specs.declared.pipes.answering.PartyFault.TheVariants.{Memory};
 
 use crate::pipes::places::{Places, Seat};
@@ -50,9 +50,9 @@ struct Inbox<'a, T: Drop> {
 }
 
 impl<'a, T: Drop> Source<u64, T> for Inbox<'a, T> {
-    ghost takes = { λ before line task after. TakesNext before.tasks line task after.tasks };
+    ghost takes = { λ before line task after. ReceivesNext before.tasks line task after.tasks };
 
-    ghost ends = { λ before after. TakesNoMore before.tasks after.tasks };
+    ghost ends = { λ before after. ReceivesNoMore before.tasks after.tasks };
 
     fn next_task<R: Wait>(&mut self, rt: &R) -> Option<(u64, T)> {
         let numbered = receive(rt, self.places, self.number, &mut self.tasks)?;

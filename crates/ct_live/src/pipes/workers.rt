@@ -53,7 +53,9 @@ fn work<T: Drop, P: Party<T> + Drop, R: Threads + Wait + Sync>(
         tasks,
         answers,
         result,
-    } = answer_all(rt, alloc, places, number, waiting, &mut party, tasks, answers);
+    } = answer_all(
+        rt, alloc, places, number, waiting, &mut party, tasks, answers,
+    );
     Worked {
         worker: Worker {
             number,
