@@ -11,7 +11,7 @@ pub record Serving (S P K : Type 0) : Type 0 where
   pub party : P
   pub sink : K
 
--- a task came with a mark, was done, and its reply was put, with that mark
+-- One turn: a task came with a mark (`took`), was done (`did`), and its reply was put, with that mark (`put`).
 pub record Turn {S P K M T : Type 0} (takes : S → M → T → S → Type 0) (does : P → T → List ℕ → P → Type 0) (puts : K → M → List ℕ → K → Type 0)
     (a : Serving S P K) (task : M × T) (reply : List ℕ) (b : Serving S P K) : Type 0 where
   pub took : takes a.source task.0 task.1 b.source
