@@ -15,7 +15,7 @@ use Rattle.ct_live.specs.Rings.{all_received, all_sent, texts, texts_each, ArePr
 use Rattle.ct_live.specs.Written.{BeginsOn, in_order, IsBegunOf, WritesOn}
 use Rattle.ct_live.specs.declared.pipes.answering.Numbered.{Numbered}
 use Rattle.ct_live.specs.LiveOpening.{AreOpened}
-use Rattle.ct_live.specs.LiveParties.{DeskReplies, FrontReplies}
+use Rattle.ct_live.specs.LiveParties.{OperatorReplies, FrontReplies}
 use Rattle.ct_live.specs.LiveEnding.{EndsLogSome, Rings}
 use Rattle.ct_live.specs.LiveGiven.{GivesLines}
 use Rattle.ct_live.specs.LiveReplied.{AllAnswer, BeginsWhole, ClosesLog, IsServedSome, RepliesBrokenOff, RepliesClosing, RepliesSome}
@@ -23,7 +23,7 @@ use Rattle.ct_live.specs.LiveRunning.{RunsBrokenOff, RunsLive, RunsSome}
 use Rattle.ct_live.specs.LiveRuns.{FrontWorker, worker_fronts, worker_tasks, worker_answers, AllReplySome, WritesOut, FrontStep}
 use Rattle.ct_live.specs.declared.front.LiveFront.{LiveFront}
 use Rattle.ct_live.specs.declared.live.Ends.{Ends}
-use Rattle.ct_live.proofs.Replied.{desk_of, Empty, front_answered, last_unsent, no_order, no_task, no_text, nothing_written, of_new_house, replies, rest_of}
+use Rattle.ct_live.proofs.Replied.{operator_of, Empty, front_answered, last_unsent, no_order, no_task, no_text, nothing_written, of_new_house, replies, rest_of}
 use Rattle.ct_live.proofs.Tied.{all_asked, none_given}
 
 -- ---- beginnings of lists
@@ -196,37 +196,37 @@ begins_behind a b c whole front first h = record {
 module _ (n close_at next : ℕ) (input : Option (List ℕ)) (e : Ends) (workers : List FrontWorker) (house : HouseState) (old new : Option (List ℕ))
     (i : AreOpened n e) (tasks : worker_tasks workers ≡ e.tasks.items) (answers : worker_answers workers ≡ e.answers.items) where
   -- where something was broken off before the log was closed
-  replies_some : RunsSome next input e.inlets workers e.rings.items (desk_of house e) old new
+  replies_some : RunsSome next input e.inlets workers e.rings.items (operator_of house e) old new
       → RepliesSome n next input house (worker_fronts workers) old new
   replies_some r =
       let unsent = no_text n e workers i answers in
       let p = r.operator_then in
       let s = split_last (all_received r.rings_then) (all_sent (worker_answers r.workers_then)) (sent p.answers)
       (subst (λ (l : List (List (Vec ℕ Global))). ArePrefixes (all_received r.rings_then) l) (sent_last (worker_answers r.workers_then) p.answers) r.came) in
-      let fronts = all_answer_first workers r.workers_then e.desk_answers (all_sent r.inlets_then.fronts.items) s.front r.did (no_task n e workers i tasks)
+      let fronts = all_answer_first workers r.workers_then e.operator_answers (all_sent r.inlets_then.fronts.items) s.front r.did (no_task n e workers i tasks)
       unsent r.taken s.begin_first in
-      let desk = answers_cut DeskReplies house (received p.tasks) (sent r.inlets_then.operator) (texts (sent p.answers)) (texts s.back)
-      (first_since DeskReplies house (received e.desk_tasks) (received p.tasks) (sent e.desk_answers) (sent p.answers) (no_order n e workers i)
-      (last_unsent workers e.desk_answers unsent) r.operated.answered) r.ordered (texts_prefix s.back (sent p.answers) s.begins_last) in
+      let own = answers_cut OperatorReplies house (received p.tasks) (sent r.inlets_then.operator) (texts (sent p.answers)) (texts s.back)
+      (first_since OperatorReplies house (received e.operator_tasks) (received p.tasks) (sent e.operator_answers) (sent p.answers) (no_order n e workers i)
+      (last_unsent workers e.operator_answers unsent) r.operated.answered) r.ordered (texts_prefix s.back (sent p.answers) s.begins_last) in
       record {
         lines = r.given.lines;
         of_input = r.given.of_input;
         front_tasks = all_sent r.inlets_then.fronts.items;
-        desk_tasks = sent r.inlets_then.operator;
+        operator_tasks = sent r.inlets_then.operator;
         asked = all_asked n r.given.lines e.inlets r.inlets_then (all_sent r.inlets_then.fronts.items) (sent r.inlets_then.operator) (none_given n e i)
             (subst (λ (k : ℕ). GivesLines k r.given.lines e.inlets r.inlets_then) i.tasks.count r.given.gives) refl refl;
         first = record {
           front_first = fronts.first;
           front_cut = fronts.cut;
-          desk_first = desk.first;
-          desk_cut = desk.cut;
+          operator_first = own.first;
+          operator_cut = own.cut;
           answers = record {
             front_texts = texts_each s.front;
             fronts_then = fronts.fronts_then;
             answered = fronts.answered;
-            desk_texts = texts s.back;
-            house_then = desk.party_then;
-            operated = desk.answered;
+            operator_texts = texts s.back;
+            house_then = own.party_then;
+            operated = own.answered;
           };
         };
         begun = subst (λ (l : List (List (List ℕ))). IsBegunOf l old new) (ap texts_each s.split ∙ texts_behind s.front s.back)
@@ -234,7 +234,7 @@ module _ (n close_at next : ℕ) (input : Option (List ℕ)) (e : Ends) (workers
       }
 
   -- where something was broken off behind that
-  replies_closing : RunsLive (EndsLogSome close_at new) next input e.inlets workers e.rings.items (desk_of house e) old
+  replies_closing : RunsLive (EndsLogSome close_at new) next input e.inlets workers e.rings.items (operator_of house e) old
       → RepliesClosing n close_at next input house (worker_fronts workers) old new
   replies_closing r =
       let (whole, log, begun) = r.ended.closing in
@@ -245,7 +245,7 @@ module _ (n close_at next : ℕ) (input : Option (List ℕ)) (e : Ends) (workers
       )
 
   -- all of it
-  pub replies_broken : RunsBrokenOff close_at next input e.inlets workers e.rings.items (desk_of house e) old new
+  pub replies_broken : RunsBrokenOff close_at next input e.inlets workers e.rings.items (operator_of house e) old new
       → Appends old new [] ⊎ RepliesBrokenOff n close_at next input house (worker_fronts workers) old new
   replies_broken r = elim r [
     | inl nothing ↦ inl nothing

@@ -22,7 +22,7 @@ use Rattle.ct_live.specs.declared.front.LiveFront.{LiveFront}
 use Rattle.ct_live.specs.declared.giving.End.{End}
 use Rattle.ct_live.specs.declared.giving.GiveFault.{GiveFault}
 use Rattle.ct_live.specs.declared.giving.Inlets.{Inlets}
-use Rattle.ct_live.specs.declared.workers.DeskWorker.{DeskWorker}
+use Rattle.ct_live.specs.declared.workers.OperatorWorker.{OperatorWorker}
 use Rattle.ct_live.proofs.BrokenOff.{begins_out}
 use Rattle.ct_live.proofs.Joined.{when_ok}
 
@@ -76,7 +76,7 @@ begins_as_done written operated fault done before after old new had some = elim 
 
 -- the list of tasks that was looked at is that of the fronts, and that of answers is the fronts' and then the operator's
 module _ (inlets : Inlets) (tasks seen : List (Consumer (Numbered FrontRequest) Global AnyItems)) (answers all : List (Producer (Vec ℕ Global) Global AnyItems))
-    (operator : DeskWorker) (same : seen ≡ tasks) (together : all ≡ answers ++ operator.answers ∷ []) where
+    (operator : OperatorWorker) (same : seen ≡ tasks) (together : all ≡ answers ++ operator.answers ∷ []) where
   pub ends_some : (written : Result Unit Unwritten) (before rings : Rings) (old new : Option (List ℕ))
       → ArePrefixes (all_received seen) (all_sent inlets.fronts.items) × IsPrefix (received operator.tasks) (sent inlets.operator)
       → ArePrefixes (all_received rings) (all_sent all)

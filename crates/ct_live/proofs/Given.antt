@@ -14,11 +14,11 @@ use Rattle.ct_live.specs.Rings.{all_sent}
 use Rattle.ct_live.specs.declared.pipes.answering.Numbered.{Numbered}
 use Rattle.ct_live.specs.LiveGiven.{GivesLine, GivesStep, HaveGiven}
 use Rattle.ct_live.specs.LiveLines.{AsksLive}
-use Rattle.ct_live.specs.LiveServed.{desk_given, desk_task_asked, front_given, front_task_asked}
+use Rattle.ct_live.specs.LiveServed.{operator_given, operator_task_asked, front_given, front_task_asked}
 use Rattle.ct_live.specs.LiveTasks.{LiveStep, front_does, live_step, operator_does}
 use Rattle.ct_live.specs.declared.asking.LiveTask.{LiveTask}
 use Rattle.ct_live.specs.declared.asking.LiveTask.TheVariants as task_case
-use Rattle.ct_live.specs.declared.asking.DeskTask.{DeskTask}
+use Rattle.ct_live.specs.declared.asking.LiveOperatorTask.{LiveOperatorTask}
 use Rattle.ct_live.specs.declared.giving.Inlets.{Inlets}
 
 pub given_front : (old new : Inlets) (k f p : ℕ) (t : FrontRequest) → p ≡ f → sent new.operator ≡ sent old.operator
@@ -35,25 +35,25 @@ given_front old new k f p t e same give = (
         asked = map-append front_task_asked h.front_tasks ((p, x) ∷ []) ∙ ap (λ (l : List (ℕ × (ℕ × FrontAsked))). l ++ (p, (k, front_asked t)) ∷ []) h.asked
             ∙ ap (λ (n : ℕ). filter_map front_given steps ++ (n, (k, front_asked t)) ∷ []) e ∙ sym (filter_map-append front_given steps (s ∷ []));
         merge = give h.front_tasks h.merge;
-        ordered = ap (map desk_task_asked) same ∙ h.ordered ∙ sym (append-nil (filter_map desk_given steps)) ∙ sym (filter_map-append desk_given steps (s ∷ []));
+        ordered = ap (map operator_task_asked) same ∙ h.ordered ∙ sym (append-nil (filter_map operator_given steps)) ∙ sym (filter_map-append operator_given steps (s ∷ []));
       },
 )
 
-pub given_desk : (old new : Inlets) (k : ℕ) (t : DeskTask) → all_sent new.fronts.items ≡ all_sent old.fronts.items
+pub given_operator : (old new : Inlets) (k : ℕ) (t : LiveOperatorTask) → all_sent new.fronts.items ≡ all_sent old.fronts.items
     → sent new.operator ≡ sent old.operator ++ record { number = k; task = t } ∷ []
     → GivesStep k (operator_does t) None old new
-given_desk old new k t same more = (
+given_operator old new k t same more = (
   tt,
   λ steps h.
-      let x : Numbered DeskTask = record { number = k; task = t } in
+      let x : Numbered LiveOperatorTask = record { number = k; task = t } in
       let s : ℕ × LiveStep = (k, operator_does t) in
       record {
         front_tasks = h.front_tasks;
         asked = h.asked ∙ sym (append-nil (filter_map front_given steps)) ∙ sym (filter_map-append front_given steps (s ∷ []));
         merge = subst (λ (l : List (List (Numbered FrontRequest))). IsMergeOf l h.front_tasks) (sym same) h.merge;
-        ordered = ap (map desk_task_asked) more ∙ map-append desk_task_asked (sent old.operator) (x ∷ [])
-            ∙ ap (λ (l : List (ℕ × DeskTask)). l ++ (k, t) ∷ []) h.ordered
-            ∙ sym (filter_map-append desk_given steps (s ∷ []));
+        ordered = ap (map operator_task_asked) more ∙ map-append operator_task_asked (sent old.operator) (x ∷ [])
+            ∙ ap (λ (l : List (ℕ × LiveOperatorTask)). l ++ (k, t) ∷ []) h.ordered
+            ∙ sym (filter_map-append operator_given steps (s ∷ []));
       },
 )
 
@@ -87,6 +87,6 @@ given_to_front old new ps qs k f p t s is e before after same give =
     (sym after)
     (give given (subst (λ (l : List (Producer (Numbered FrontRequest) Global AnyItems)). IsMergeOf (all_sent l) given) (sym before) m))))
 
-pub given_to_desk : (old new : Inlets) (k : ℕ) (t : DeskTask) (s : LiveTask) → s ≡ task_case.Operator t → all_sent new.fronts.items ≡ all_sent old.fronts.items
+pub given_to_operator : (old new : Inlets) (k : ℕ) (t : LiveOperatorTask) (s : LiveTask) → s ≡ task_case.Operator t → all_sent new.fronts.items ≡ all_sent old.fronts.items
     → sent new.operator ≡ sent old.operator ++ record { number = k; task = t } ∷ [] → GivesStep k (live_step s) None old new
-given_to_desk old new k t s is same more = subst (λ (x : LiveTask). GivesStep k (live_step x) None old new) (sym is) (given_desk old new k t same more)
+given_to_operator old new k t s is same more = subst (λ (x : LiveTask). GivesStep k (live_step x) None old new) (sym is) (given_operator old new k t same more)

@@ -21,12 +21,12 @@ use Rattle.ct_live.specs.declared.pipes.answering.Numbered.{Numbered}
 use Rattle.ct_live.proofs.Merging.{zip_self}
 use Rattle.ct_live.proofs.Turns.{producer_trans}
 use Rattle.std.proofs.lemmas.List.Elements.{length_all_zip}
-use Rattle.ct_live.specs.LiveParties.{DeskReplies}
-use Rattle.ct_live.specs.LiveRuns.{FrontWorker, worker_fronts, worker_tasks, worker_answers, AreBeside, GivesOn, AllReply, AllReplySome, DeskWorks, DeskWorksSome, FrontStep}
-use Rattle.ct_live.specs.declared.asking.DeskTask.{DeskTask}
+use Rattle.ct_live.specs.LiveParties.{OperatorReplies}
+use Rattle.ct_live.specs.LiveRuns.{FrontWorker, worker_fronts, worker_tasks, worker_answers, AreBeside, GivesOn, AllReply, AllReplySome, OperatorWorks, OperatorWorksSome, FrontStep}
+use Rattle.ct_live.specs.declared.asking.LiveOperatorTask.{LiveOperatorTask}
 use Rattle.ct_live.specs.declared.front.LiveFront.{LiveFront}
 use Rattle.ct_live.specs.declared.giving.Inlets.{Inlets}
-use Rattle.ct_live.specs.declared.workers.DeskWorker.{DeskWorker}
+use Rattle.ct_live.specs.declared.workers.OperatorWorker.{OperatorWorker}
 
 -- a front that answered its tasks went on
 front_went_on : (a b : LiveFront) (ts : List (Numbered FrontRequest)) (xs : List (List ℕ)) → AreAnswered FrontStep a ts xs b → FrontGoesOn a.front b.front
@@ -35,8 +35,8 @@ front_went_on =
     (λ a m b. front_goes_on_both a.front m.front b.front) (λ a b t x one. one.1.goes_on)
 
 -- and so did the operator
-desk_went_on : (a b : HouseState) (ts : List (Numbered DeskTask)) (xs : List (List ℕ)) → AreAnswered DeskReplies a ts xs b → GoesOn a b
-desk_went_on = in_turn_keeps (AnswersWith DeskReplies) GoesOn goes_on_nothing goes_on_both (λ a b t x one. one.1.goes_on)
+operator_went_on : (a b : HouseState) (ts : List (Numbered LiveOperatorTask)) (xs : List (List ℕ)) → AreAnswered OperatorReplies a ts xs b → GoesOn a b
+operator_went_on = in_turn_keeps (AnswersWith OperatorReplies) GoesOn goes_on_nothing goes_on_both (λ a b t x one. one.1.goes_on)
 
 fronts_same : (before after : List FrontWorker) → AllReply before after → AreSame (worker_fronts before) (worker_fronts after)
 fronts_same [] [] all = tt
@@ -80,9 +80,9 @@ answers_kept (a ∷ before) (b ∷ after) p q (r ∷ rs) (s ∷ ss) (did, all) o
     (pair_kept a.answers b.answers r s did.answers one i, answers_kept before after p q rs ss all own same pairs)
 
 -- the ends of the rings
-pub beside_kept : (g h : Inlets) (before after : List FrontWorker) (o p : DeskWorker) (rs ss : List (Consumer (Vec ℕ Global) Global AnyItems))
+pub beside_kept : (g h : Inlets) (before after : List FrontWorker) (o p : OperatorWorker) (rs ss : List (Consumer (Vec ℕ Global) Global AnyItems))
     → AreBeside g (worker_tasks before) (worker_answers before) o rs
-    → GivesOn g h → AllReplySome before after → DeskWorksSome o p → SameConsumers rs ss → AreBeside h (worker_tasks after) (worker_answers after) p ss
+    → GivesOn g h → AllReplySome before after → OperatorWorksSome o p → SameConsumers rs ss → AreBeside h (worker_tasks after) (worker_answers after) p ss
 beside_kept g h before after o p rs ss i given did worked same = record {
   tasks_of = tasks_kept g.fronts.items h.fronts.items before after given.fronts did i.tasks_of;
   orders = pair_kept g.operator h.operator o.tasks p.tasks given.operator worked.tasks i.orders;
@@ -90,10 +90,10 @@ beside_kept g h before after o p rs ss i given did worked same = record {
 }
 
 -- the fronts, where all answered all their tasks
-pub house_kept : (before after : List FrontWorker) (o p : DeskWorker) → AreFrontsOf o.sequencer (worker_fronts before) → AllReply before after
-    → DeskWorks o p → AreFrontsOf p.sequencer (worker_fronts after)
+pub house_kept : (before after : List FrontWorker) (o p : OperatorWorker) → AreFrontsOf o.sequencer (worker_fronts before) → AllReply before after
+    → OperatorWorks o p → AreFrontsOf p.sequencer (worker_fronts after)
 house_kept before after o p i did worked =
-    let on = desk_went_on o.sequencer p.sequencer worked.answered.tasks (map (λ (v : Vec ℕ Global). v.items) worked.answered.answers) worked.answered.answered in
+    let on = operator_went_on o.sequencer p.sequencer worked.answered.tasks (map (λ (v : Vec ℕ Global). v.items) worked.answered.answers) worked.answered.answered in
     fronts_kept o.sequencer p.sequencer (worker_fronts before) (worker_fronts after) on.house on.count (fronts_same before after did) i
 
 -- ---- the rings into which tasks are given

@@ -13,7 +13,7 @@ use Rattle.ct_live.specs.LiveGiven.{AreRead, EndsReading, HaveGiven, ReadsOn}
 use Rattle.ct_live.specs.LiveGiven.{GivesLine, GivesLines, GivesNext, GivesNothing, GivesSome, GivesUpTo}
 use Rattle.ct_live.specs.LiveServed.{AllAskLive, AreFirstLinesOf, AreGiven, AreLinesOf, numbered_from}
 use Rattle.ct_live.specs.LiveTasks.{LiveStep, closes}
-use Rattle.ct_live.specs.declared.asking.DeskTask.{DeskTask}
+use Rattle.ct_live.specs.declared.asking.LiveOperatorTask.{LiveOperatorTask}
 use Rattle.ct_live.specs.declared.giving.End.{End}
 use Rattle.ct_live.specs.declared.giving.End.TheVariants as end_case
 use Rattle.ct_live.specs.declared.giving.GiveFault.{GiveFault}
@@ -181,7 +181,7 @@ nothing_more fronts lines a b c gives none steps h =
     let (more, asks, given) = gives steps h in (
       more,
       asks,
-      subst (λ (l : List (Numbered DeskTask)). AreGiven (steps ++ more) (all_sent c.fronts.items) l) (sym none.operator)
+      subst (λ (l : List (Numbered LiveOperatorTask)). AreGiven (steps ++ more) (all_sent c.fronts.items) l) (sym none.operator)
           (subst (λ (l : List (List (Numbered FrontRequest))). AreGiven (steps ++ more) l (sent b.operator)) (sym none.fronts) given),
     )
 

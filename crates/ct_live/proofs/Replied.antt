@@ -18,14 +18,14 @@ use Rattle.ct_live.specs.declared.pipes.answering.Numbered.{Numbered}
 use Rattle.ct_live.specs.LiveEnding.{EndsLog, Rings}
 use Rattle.ct_live.specs.LiveGiven.{GivesUpTo}
 use Rattle.ct_live.specs.LiveOpening.{AreOpened}
-use Rattle.ct_live.specs.LiveParties.{DeskReplies, FrontReplies}
+use Rattle.ct_live.specs.LiveParties.{OperatorReplies, FrontReplies}
 use Rattle.ct_live.specs.LiveReplied.{AllAnswer, NewHouseReplies, RepliesLive}
 use Rattle.ct_live.specs.LiveRunning.{RunsLive}
 use Rattle.ct_live.specs.LiveRuns.{FrontWorker, worker_fronts, worker_tasks, worker_answers, AllReply, FrontStep}
 use Rattle.ct_live.specs.declared.front.LiveFront.{LiveFront}
 use Rattle.ct_live.specs.declared.giving.End.{End}
 use Rattle.ct_live.specs.declared.live.Ends.{Ends}
-use Rattle.ct_live.specs.declared.workers.DeskWorker.{DeskWorker}
+use Rattle.ct_live.specs.declared.workers.OperatorWorker.{OperatorWorker}
 use Rattle.ct_live.proofs.Tied.{none_given, tasks_of}
 
 abbrev pub Empty : {A : Type 0} → List A → Type 0
@@ -78,18 +78,18 @@ last_unsent (a ∷ before) p no_text = last_unsent before p (rest_of Empty (sent
 -- ---- the parties whose ends are those of rings that were opened received nothing yet, and sent nothing
 
 -- the operator with the ends of its rings
-abbrev pub desk_of : HouseState → Ends → DeskWorker
-desk_of house e = record { sequencer = house; tasks = e.desk_tasks; answers = e.desk_answers }
+abbrev pub operator_of : HouseState → Ends → OperatorWorker
+operator_of house e = record { sequencer = house; tasks = e.operator_tasks; answers = e.operator_answers }
 
 module _ (n : ℕ) (e : Ends) (workers : List FrontWorker) (i : AreOpened n e) where
   pub no_task : worker_tasks workers ≡ e.tasks.items → All Empty (all_received (worker_tasks workers))
   no_task tasks = subst (λ (l : List (Consumer (Numbered FrontRequest) Global AnyItems)). All Empty (all_received l)) (sym tasks) i.tasks.unreceived
 
-  pub no_text : worker_answers workers ≡ e.answers.items → All Empty (all_sent (worker_answers workers ++ e.desk_answers ∷ []))
+  pub no_text : worker_answers workers ≡ e.answers.items → All Empty (all_sent (worker_answers workers ++ e.operator_answers ∷ []))
   no_text answers =
-      subst (λ (l : List (Producer (Vec ℕ Global) Global AnyItems)). All Empty (all_sent (l ++ e.desk_answers ∷ []))) (sym answers) i.answers.unsent
+      subst (λ (l : List (Producer (Vec ℕ Global) Global AnyItems)). All Empty (all_sent (l ++ e.operator_answers ∷ []))) (sym answers) i.answers.unsent
 
-  pub no_order : received e.desk_tasks ≡ []
+  pub no_order : received e.operator_tasks ≡ []
   no_order = i.orders.unreceived 0 [] (omega arith)
 
 -- ---- what is written
@@ -122,7 +122,7 @@ module _ {T E : Type 0} where
 module _ (n close_at next : ℕ) (input : Option (List ℕ)) (e : Ends) (workers : List FrontWorker) (house : HouseState) (old : Option (List ℕ))
     (i : AreOpened n e) (tasks : worker_tasks workers ≡ e.tasks.items) (answers : worker_answers workers ≡ e.answers.items)
     (Ending : HouseState → List FrontView → End → ℕ → Option (List ℕ) → Option (List ℕ) → Type 0)
-    (r : RunsLive Ending next input e.inlets workers e.rings.items (desk_of house e) old) where
+    (r : RunsLive Ending next input e.inlets workers e.rings.items (operator_of house e) old) where
   pub replies : (Closing : HouseState → List FrontView → ℕ → Option (ℕ × List (ℕ × List ℕ)) → List ℕ → Type 0) (new : Option (List ℕ))
       → EndsLog Closing close_at new r.operator_then.sequencer (worker_fronts r.workers_then) r.ended.end r.next_then r.input_then r.ended.mid
       → RepliesLive Closing n close_at next input house (worker_fronts workers) old new
@@ -145,18 +145,18 @@ module _ (n close_at next : ℕ) (input : Option (List ℕ)) (e : Ends) (workers
           lines = tie.lines;
           of_input = tie.of_input;
           front_tasks = all_received (worker_tasks r.workers_then);
-          desk_tasks = received p.tasks;
+          operator_tasks = received p.tasks;
           now = log.now;
           behind = tie.behind;
           tied = tie.tied;
           answers = record {
             front_texts = texts_each (all_sent (worker_answers r.workers_then));
             fronts_then = worker_fronts r.workers_then;
-            answered = all_answer workers r.workers_then e.desk_answers r.did (no_task n e workers i tasks) unsent;
-            desk_texts = texts (sent p.answers);
+            answered = all_answer workers r.workers_then e.operator_answers r.did (no_task n e workers i tasks) unsent;
+            operator_texts = texts (sent p.answers);
             house_then = p.sequencer;
-            operated = since DeskReplies house p.sequencer (received e.desk_tasks) (received p.tasks) (sent e.desk_answers) (sent p.answers)
-                (no_order n e workers i) (last_unsent workers e.desk_answers unsent) r.operated.answered;
+            operated = since OperatorReplies house p.sequencer (received e.operator_tasks) (received p.tasks) (sent e.operator_answers) (sent p.answers)
+                (no_order n e workers i) (last_unsent workers e.operator_answers unsent) r.operated.answered;
           };
         };
         text = log.text;

@@ -19,18 +19,18 @@ use Rattle.ct_live.specs.LiveEnding.{EndsBrokenOff, EndsLive, EndsSome, HaveDone
 use Rattle.ct_live.specs.LiveGiven.{ReadsOn}
 use Rattle.ct_live.specs.LiveRunning.{RunsBrokenOff, RunsLive, RunsSome}
 use Rattle.ct_live.specs.LiveRuns.{FrontWorker, party_fronts, worker_fronts, worker_tasks, worker_answers, AllReplySome, FrontStep}
-use Rattle.ct_live.specs.LiveRuns.{AreBeside, DeskWorks, DeskWorksSome, WritesOut}
+use Rattle.ct_live.specs.LiveRuns.{AreBeside, OperatorWorks, OperatorWorksSome, WritesOut}
 use Rattle.ct_live.specs.declared.front.LiveFront.{LiveFront}
 use Rattle.ct_live.specs.declared.giving.End.{End}
 use Rattle.ct_live.specs.declared.giving.GiveFault.{GiveFault}
 use Rattle.ct_live.specs.declared.giving.Inlets.{Inlets}
-use Rattle.ct_live.specs.declared.workers.DeskWorker.{DeskWorker}
+use Rattle.ct_live.specs.declared.workers.OperatorWorker.{OperatorWorker}
 use Rattle.ct_live.proofs.Ended.{fronts_beside}
 use Rattle.ct_live.proofs.Joined.{when_ok}
 
-runs_some : (n m : ℕ) (input left : Option (List ℕ)) (read : Result End GiveFault) (old new : Inlets) (before after : List FrontWorker) (o p : DeskWorker)
+runs_some : (n m : ℕ) (input left : Option (List ℕ)) (read : Result End GiveFault) (old new : Inlets) (before after : List FrontWorker) (o p : OperatorWorker)
     (first rings : Rings) (r : Result Unit Unwritten) (a b c : Option (List ℕ)) → ReadsOn n m input left read old new → AllReplySome before after
-    → DeskWorksSome o p → WritesOut first rings a b r → EndsSome new (worker_tasks after) (worker_answers after) p r rings b c
+    → OperatorWorksSome o p → WritesOut first rings a b r → EndsSome new (worker_tasks after) (worker_answers after) p r rings b c
     → RunsSome n input old before first o a c
 runs_some n m input left read old new before after o p first rings r a b c given did worked wrote ended = record {
   inlets_then = new;
@@ -58,9 +58,9 @@ module _ (P : List FrontView → List (Consumer (Numbered FrontRequest) Global A
 
 -- all did what they had to
 pub ran : {Closing : HouseState → List FrontView → End → ℕ → Option (List ℕ) → Option (List ℕ) → Type 0} {n m : ℕ} {input left : Option (List ℕ)}
-    {read : Result End GiveFault} {old new : Inlets} {before : List FrontWorker} {joined : Joined LiveFront FrontRequest} {o p : DeskWorker}
+    {read : Result End GiveFault} {old new : Inlets} {before : List FrontWorker} {joined : Joined LiveFront FrontRequest} {o p : OperatorWorker}
     {first rings : Rings} {written : Result Unit Unwritten} {operated : Result Unit PartyFault} {a b : Option (List ℕ)}
-    → ReadsOn n m input left read old new → AreJoinedOf FrontStep before joined → OnOk operated (DeskWorks o p) → WritesOut first rings a b written
+    → ReadsOn n m input left read old new → AreJoinedOf FrontStep before joined → OnOk operated (OperatorWorks o p) → WritesOut first rings a b written
     → HaveDone written operated joined.fault
     × EndsLive Closing new (party_fronts joined.parties.items) joined.tasks.items joined.answers.items p read m left rings b
     → RunsLive Closing n input old before first o a
@@ -74,7 +74,7 @@ ran {Closing} {m = m} {left = left} {read = read} {new = new} {before = before} 
       workers_then = j.workers_then;
       did = j.all done.fronts;
       operator_then = p;
-      operated = when_ok (DeskWorks o p) operated done.operator worked;
+      operated = when_ok (OperatorWorks o p) operated done.operator worked;
       rings_then = rings;
       mid = b;
       wrote = when_ok (WritesOn first rings a b) written done.writer wrote.written;
@@ -83,9 +83,9 @@ ran {Closing} {m = m} {left = left} {read = read} {new = new} {before = before} 
 
 -- a fault broke it off
 pub ran_broken : {close_at n m : ℕ} {input left : Option (List ℕ)} {read : Result End GiveFault} {old new : Inlets} {before : List FrontWorker}
-    {joined : Joined LiveFront FrontRequest} {o p : DeskWorker} {first rings : Rings} {written : Result Unit Unwritten} {operated : Result Unit PartyFault}
-    {a b c : Option (List ℕ)} → ReadsOn n m input left read old new → AreJoinedOf FrontStep before joined → DeskWorksSome o p
-    → OnOk operated (DeskWorks o p) → WritesOut first rings a b written
+    {joined : Joined LiveFront FrontRequest} {o p : OperatorWorker} {first rings : Rings} {written : Result Unit Unwritten} {operated : Result Unit PartyFault}
+    {a b c : Option (List ℕ)} → ReadsOn n m input left read old new → AreJoinedOf FrontStep before joined → OperatorWorksSome o p
+    → OnOk operated (OperatorWorks o p) → WritesOut first rings a b written
     → EndsBrokenOff new (party_fronts joined.parties.items) joined.tasks.items joined.answers.items p written operated joined.fault close_at read m left rings b c
     → RunsBrokenOff close_at n input old before first o a c
 ran_broken {n = n} {m} {input} {left} {read} {old} {new} {before} {joined} {o} {p} {first} {rings} {written} {a = a} {b} {c} given j some worked wrote broken =
@@ -109,7 +109,7 @@ writer_out (Err w) own text rings written done first a out e k wrote none same =
 
 -- ---- the ends of the rings that were handed back
 
-pub beside_joined : (g : Inlets) (before : List FrontWorker) (joined : Joined LiveFront FrontRequest) (p : DeskWorker) (rings : Rings)
+pub beside_joined : (g : Inlets) (before : List FrontWorker) (joined : Joined LiveFront FrontRequest) (p : OperatorWorker) (rings : Rings)
     (j : AreJoinedOf FrontStep before joined) → AreBeside g (worker_tasks j.workers_then) (worker_answers j.workers_then) p rings
     → AreBeside g joined.tasks.items joined.answers.items p rings
 beside_joined g before joined p rings j is =
@@ -126,6 +126,6 @@ fronts_joined before joined house j is =
 unwritten : (a b : Option (List ℕ)) → b ≡ a → Appends a b []
 unwritten a b same = subst (λ (o : Option (List ℕ)). Appends a o []) (sym same) (Appends-nil a)
 
-pub nothing_ran : (close_at next : ℕ) (input : Option (List ℕ)) (inlets : Inlets) (before : List FrontWorker) (rings : Rings) (o : DeskWorker)
+pub nothing_ran : (close_at next : ℕ) (input : Option (List ℕ)) (inlets : Inlets) (before : List FrontWorker) (rings : Rings) (o : OperatorWorker)
     (a b : Option (List ℕ)) → b ≡ a → RunsBrokenOff close_at next input inlets before rings o a b
 nothing_ran close_at next input inlets before rings o a b same = inl (unwritten a b same)

@@ -31,7 +31,7 @@ use Rattle.ct_live.specs.declared.giving.End.{End}
 use Rattle.ct_live.specs.declared.giving.End.TheVariants.{Close, Input}
 use Rattle.ct_live.specs.declared.giving.GiveFault.{GiveFault}
 use Rattle.ct_live.specs.declared.giving.Inlets.{Inlets}
-use Rattle.ct_live.specs.declared.workers.DeskWorker.{DeskWorker}
+use Rattle.ct_live.specs.declared.workers.OperatorWorker.{OperatorWorker}
 
 -- where the answers of all parties come out
 abbrev pub Rings : Type 0
@@ -88,7 +88,7 @@ EndsLogSome close_at new house fronts end n input old =
 -- that they were given, by `taken` and `ordered`; by `all` all their answers came out of the rings, which are `rings` then, by `written` those
 -- that were left are written, which makes the output `mid`; and `closing` is what is said of the closing behind that.
 pub record EndsLive (Closing : HouseState → List FrontView → End → ℕ → Option (List ℕ) → Option (List ℕ) → Type 0) (inlets : Inlets) (fronts : List FrontView)
-    (tasks : List (Consumer (Numbered FrontRequest) Global AnyItems)) (answers : List (Producer (Vec ℕ Global) Global AnyItems)) (operator : DeskWorker)
+    (tasks : List (Consumer (Numbered FrontRequest) Global AnyItems)) (answers : List (Producer (Vec ℕ Global) Global AnyItems)) (operator : OperatorWorker)
     (read : Result End GiveFault) (next : ℕ) (input : Option (List ℕ)) (before : Rings) (old : Option (List ℕ)) : Type 0 where
   pub taken : all_received tasks ≡ all_sent inlets.fronts.items
   pub ordered : received operator.tasks ≡ sent inlets.operator
@@ -104,7 +104,7 @@ pub record EndsLive (Closing : HouseState → List FrontView → End → ℕ →
 -- those that they were given, by `taken` and `ordered`; by `came` what came out of the rings, which are `rings` then, are the first answers;
 -- and by `wrote`, as far as the writer's thread had done so with this result, a beginning of them is written.
 pub record EndsSome (inlets : Inlets) (tasks : List (Consumer (Numbered FrontRequest) Global AnyItems))
-    (answers : List (Producer (Vec ℕ Global) Global AnyItems)) (operator : DeskWorker) (result : Result Unit Unwritten) (before : Rings)
+    (answers : List (Producer (Vec ℕ Global) Global AnyItems)) (operator : OperatorWorker) (result : Result Unit Unwritten) (before : Rings)
     (old new : Option (List ℕ)) : Type 0 where
   pub taken : ArePrefixes (all_received tasks) (all_sent inlets.fronts.items)
   pub ordered : IsPrefix (received operator.tasks) (sent inlets.operator)
@@ -121,7 +121,7 @@ pub record HaveDone (written : Result Unit Unwritten) (operated : Result Unit Pa
 -- What came once all threads had ended, where a fault broke it off: before the log was closed; or behind that, all had done what they had to,
 -- and of what the closed log replies a beginning was written.
 abbrev pub EndsBrokenOff : Inlets → List FrontView → List (Consumer (Numbered FrontRequest) Global AnyItems)
-    → List (Producer (Vec ℕ Global) Global AnyItems) → DeskWorker → Result Unit Unwritten → Result Unit PartyFault → Option PartyFault → ℕ
+    → List (Producer (Vec ℕ Global) Global AnyItems) → OperatorWorker → Result Unit Unwritten → Result Unit PartyFault → Option PartyFault → ℕ
     → Result End GiveFault → ℕ → Option (List ℕ) → Rings → Option (List ℕ) → Option (List ℕ) → Type 0
 EndsBrokenOff inlets fronts tasks answers operator written operated fault close_at read next input before old new =
     EndsSome inlets tasks answers operator written before old new

@@ -10,7 +10,7 @@ use Rattle.ct_parties.specs.declared.task.OperatorTask.TheVariants.{Sequence, Pu
 use Rattle.ct_live.specs.LiveTasks.{LiveStep, front_does, operator_does, closes}
 use Rattle.ct_live.specs.declared.asking.LiveRequest.{LiveRequest}
 use Rattle.ct_live.specs.declared.asking.LiveRequest.TheVariants as request_case
-use Rattle.ct_live.specs.declared.asking.DeskTask.TheVariants.{Do, Take, TreeHeadInput, TimestampInput, NotYet}
+use Rattle.ct_live.specs.declared.asking.LiveOperatorTask.TheVariants.{Do, Take, TreeHeadInput, TimestampInput, NotYet}
 
 -- What the operator asks of a live log alone: to take has a front, a number of items at most and a moment, to close a moment, and what
 -- stands under the signature of a certificate timestamp has a ticket.

@@ -5,10 +5,10 @@ use Rattle.ct_codec.specs.declared.refusal.Refusal.TheVariants as refusal
 use Rattle.ct_core.specs.Core.{clock_of, settle_refusal}
 use Rattle.ct_core.specs.Replies.{Answer, a_settled_count, refused}
 use Rattle.ct_house.specs.House.{FrontView, HouseState, hand_count}
-use Rattle.ct_live.specs.LiveReplies.{DeskAnswer, says, an_input, desk_text, object_text}
+use Rattle.ct_live.specs.LiveReplies.{LiveOperatorAnswer, says, an_input, operator_text, object_text}
 use Rattle.ct_live.specs.LiveSigning.{IsHeadInput, IsTimestampInput, RefusesTimestampInput}
-use Rattle.ct_live.specs.declared.asking.DeskTask.{DeskTask}
-use Rattle.ct_live.specs.declared.asking.DeskTask.TheVariants.{Do, Take, TreeHeadInput, TimestampInput, NotYet}
+use Rattle.ct_live.specs.declared.asking.LiveOperatorTask.{LiveOperatorTask}
+use Rattle.ct_live.specs.declared.asking.LiveOperatorTask.TheVariants.{Do, Take, TreeHeadInput, TimestampInput, NotYet}
 use Rattle.ct_parties.specs.FrontWork.{FrontDoes, FrontGoesOn}
 use Rattle.ct_parties.specs.OperatorWork.{GoesOn, IsBadLine, OperatorDoes, Settling}
 use Rattle.ct_lines.specs.declared.request.FrontRequest.{FrontRequest}
@@ -34,37 +34,37 @@ abbrev pub IsNotYet : HouseState → Answer → HouseState → Type 0
 IsNotYet old r new = (r ≡ refused refusal.NotYet) × (new ≡ old)
 
 -- The answer is the bytes that stand under the signature of the last published head, or the refusal of memory; and nothing is done.
-abbrev pub GivesHeadInput : HouseState → DeskAnswer → HouseState → Type 0
+abbrev pub GivesHeadInput : HouseState → LiveOperatorAnswer → HouseState → Type 0
 GivesHeadInput old (an_input b) new = IsHeadInput old.core.published b × (new ≡ old)
 GivesHeadInput old (says a) new = (a ≡ refused refusal.Memory) × (new ≡ old)
 
 -- The answer is the bytes that stand under the signature of the certificate timestamp of the ticket's receipt, or a refusal: as of the
 -- receipt, or of memory. And nothing is done.
-abbrev pub GivesTimestampInput : HouseState → ℕ → DeskAnswer → HouseState → Type 0
+abbrev pub GivesTimestampInput : HouseState → ℕ → LiveOperatorAnswer → HouseState → Type 0
 GivesTimestampInput old ticket (an_input b) new = IsTimestampInput old.core.published ticket b × (new ≡ old)
 GivesTimestampInput old ticket (says (refused e)) new = RefusesTimestampInput old.core.published ticket e × (new ≡ old)
 GivesTimestampInput old ticket (says _) new = ⊥
 
 -- the operator of a live log does a task that has no signature's bytes for its answer
-abbrev pub DeskSays : HouseState → DeskTask → Answer → HouseState → Type 0
-DeskSays old (Do t) r new = OperatorDoes old t r new
-DeskSays old (Take from max now) r new = MatchBool (nat_lt from (length old.lanes)) (TakesWhatIsThere from max now old r new) (IsBadLine old r new)
-DeskSays old NotYet r new = IsNotYet old r new
-DeskSays old _ r new = ⊥
+abbrev pub LiveOperatorSays : HouseState → LiveOperatorTask → Answer → HouseState → Type 0
+LiveOperatorSays old (Do t) r new = OperatorDoes old t r new
+LiveOperatorSays old (Take from max now) r new = MatchBool (nat_lt from (length old.lanes)) (TakesWhatIsThere from max now old r new) (IsBadLine old r new)
+LiveOperatorSays old NotYet r new = IsNotYet old r new
+LiveOperatorSays old _ r new = ⊥
 
 -- the operator of a live log does a task, with this answer
-abbrev pub DeskDoes : HouseState → DeskTask → DeskAnswer → HouseState → Type 0
-DeskDoes old TreeHeadInput r new = GivesHeadInput old r new
-DeskDoes old (TimestampInput ticket) r new = GivesTimestampInput old ticket r new
-DeskDoes old t (says a) new = DeskSays old t a new
-DeskDoes old t (an_input b) new = ⊥
+abbrev pub LiveOperatorDoes : HouseState → LiveOperatorTask → LiveOperatorAnswer → HouseState → Type 0
+LiveOperatorDoes old TreeHeadInput r new = GivesHeadInput old r new
+LiveOperatorDoes old (TimestampInput ticket) r new = GivesTimestampInput old ticket r new
+LiveOperatorDoes old t (says a) new = LiveOperatorSays old t a new
+LiveOperatorDoes old t (an_input b) new = ⊥
 
 -- the operator does a task, goes on, and replies with its answer
-pub record DeskReplies (old : HouseState) (t : DeskTask) (reply : List ℕ) (new : HouseState) : Type 0 where
-  pub answer : DeskAnswer
-  pub does : DeskDoes old t answer new
+pub record OperatorReplies (old : HouseState) (t : LiveOperatorTask) (reply : List ℕ) (new : HouseState) : Type 0 where
+  pub answer : LiveOperatorAnswer
+  pub does : LiveOperatorDoes old t answer new
   pub goes_on : GoesOn old new
-  pub text : reply ≡ desk_text answer
+  pub text : reply ≡ operator_text answer
 
 -- a front does a task, goes on, and replies with its answer
 pub record FrontReplies (a : FrontView) (t : FrontRequest) (reply : List ℕ) (b : FrontView) : Type 0 where

@@ -10,9 +10,9 @@ use Rattle.ct_live.specs.Parts.{IsMergeOf}
 use Rattle.ct_live.specs.Rings.{ArePrefixes}
 use Rattle.ct_live.specs.Written.{in_order, IsBegunOf}
 use Rattle.ct_live.specs.declared.pipes.answering.Numbered.{Numbered}
-use Rattle.ct_live.specs.LiveParties.{DeskReplies, FrontReplies}
+use Rattle.ct_live.specs.LiveParties.{OperatorReplies, FrontReplies}
 use Rattle.ct_live.specs.LiveServed.{AreAsked, AreFirstLinesOf, AreLinesOf, AreTasksOf, IsClosingText}
-use Rattle.ct_live.specs.declared.asking.DeskTask.{DeskTask}
+use Rattle.ct_live.specs.declared.asking.LiveOperatorTask.{LiveOperatorTask}
 
 -- ---- what the parties answered
 
@@ -23,40 +23,40 @@ AllAnswer (a ∷ before) (ts ∷ tasks) (xs ∷ texts) (b ∷ after) = AreAnswer
 AllAnswer _ _ _ _ = ⊥
 
 -- The parties of a house answered these tasks, each its own in turn, and no others: by `answered` each front, whose texts are in
--- `front_texts`, and which is then as in `fronts_then`; and by `operated` the operator, whose texts are `desk_texts`, and whose house is
+-- `front_texts`, and which is then as in `fronts_then`; and by `operated` the operator, whose texts are `operator_texts`, and whose house is
 -- `house_then` then.
 pub record PartiesAnswer (house : HouseState) (fronts : List FrontView) (front_tasks : List (List (Numbered FrontRequest)))
-    (desk_tasks : List (Numbered DeskTask)) : Type 0 where
+    (operator_tasks : List (Numbered LiveOperatorTask)) : Type 0 where
   pub front_texts : List (List (List ℕ))
   pub fronts_then : List FrontView
   pub answered : AllAnswer fronts front_tasks front_texts fronts_then
-  pub desk_texts : List (List ℕ)
+  pub operator_texts : List (List ℕ)
   pub house_then : HouseState
-  pub operated : AreAnswered DeskReplies house desk_tasks desk_texts house_then
+  pub operated : AreAnswered OperatorReplies house operator_tasks operator_texts house_then
 
 -- The parties answered the first of these tasks, each of its own, and no others: each front those in `front_first`, and the operator those
--- in `desk_first`, which are beginnings by `front_cut` and `desk_cut`; and `answers` says so.
+-- in `operator_first`, which are beginnings by `front_cut` and `operator_cut`; and `answers` says so.
 pub record PartiesAnswerFirst (house : HouseState) (fronts : List FrontView) (front_tasks : List (List (Numbered FrontRequest)))
-    (desk_tasks : List (Numbered DeskTask)) : Type 0 where
+    (operator_tasks : List (Numbered LiveOperatorTask)) : Type 0 where
   pub front_first : List (List (Numbered FrontRequest))
   pub front_cut : ArePrefixes front_first front_tasks
-  pub desk_first : List (Numbered DeskTask)
-  pub desk_cut : IsPrefix desk_first desk_tasks
-  pub answers : PartiesAnswer house fronts front_first desk_first
+  pub operator_first : List (Numbered LiveOperatorTask)
+  pub operator_cut : IsPrefix operator_first operator_tasks
+  pub answers : PartiesAnswer house fronts front_first operator_first
 
 -- The house's parties answered the tasks that the lines of the input ask for, and no others. `lines` are the input's, by `of_input`, and
--- the first has the number n. By `tied` they ask for the tasks in `front_tasks` and `desk_tasks`, up to the line that closes the log at
+-- the first has the number n. By `tied` they ask for the tasks in `front_tasks` and `operator_tasks`, up to the line that closes the log at
 -- `now`, or to the end of the input, where `now` is close_at; and `behind` is what is left of the lines. `answers` says that the parties
 -- answered these tasks.
 pub record Talks (count close_at n : ℕ) (input : Option (List ℕ)) (house : HouseState) (fronts : List FrontView) : Type 0 where
   pub lines : List (ℕ × List ℕ)
   pub of_input : AreLinesOf n input lines
   pub front_tasks : List (List (Numbered FrontRequest))
-  pub desk_tasks : List (Numbered DeskTask)
+  pub operator_tasks : List (Numbered LiveOperatorTask)
   pub now : ℕ
   pub behind : Option (ℕ × List (ℕ × List ℕ))
-  pub tied : AreTasksOf count close_at lines front_tasks desk_tasks now behind
-  pub answers : PartiesAnswer house fronts front_tasks desk_tasks
+  pub tied : AreTasksOf count close_at lines front_tasks operator_tasks now behind
+  pub answers : PartiesAnswer house fronts front_tasks operator_tasks
 
 -- ---- how a run ends
 
@@ -83,23 +83,23 @@ pub record RepliesLive (Closing : HouseState → List FrontView → ℕ → Opti
   pub text : List ℕ
   pub closing : Closing talk.answers.house_then talk.answers.fronts_then talk.now talk.behind text
   pub order : List (ℕ × List ℕ)
-  pub merge : IsMergeOf (talk.answers.front_texts ++ talk.answers.desk_texts ∷ []) order
+  pub merge : IsMergeOf (talk.answers.front_texts ++ talk.answers.operator_texts ∷ []) order
   pub written : Appends old new (in_order order ++ text)
 
 -- ---- where a fault broke it off
 
 -- The house's parties were given what the first lines of the input ask, none of which closes the log, and nothing else: these are `lines`,
--- by `of_input`, and the first has the number n; by `asked` the tasks in `front_tasks` and `desk_tasks` are what they ask. By `first`
+-- by `of_input`, and the first has the number n; by `asked` the tasks in `front_tasks` and `operator_tasks` are what they ask. By `first`
 -- each party answered the first of its tasks in turn, and by `begun` a beginning was written of a merge of these answers, each party's in
 -- their order, each with its line's number.
 pub record RepliesSome (count n : ℕ) (input : Option (List ℕ)) (house : HouseState) (fronts : List FrontView) (old new : Option (List ℕ)) : Type 0 where
   pub lines : List (ℕ × List ℕ)
   pub of_input : AreFirstLinesOf n input lines
   pub front_tasks : List (List (Numbered FrontRequest))
-  pub desk_tasks : List (Numbered DeskTask)
-  pub asked : AreAsked count lines front_tasks desk_tasks
-  pub first : PartiesAnswerFirst house fronts front_tasks desk_tasks
-  pub begun : IsBegunOf (first.answers.front_texts ++ first.answers.desk_texts ∷ []) old new
+  pub operator_tasks : List (Numbered LiveOperatorTask)
+  pub asked : AreAsked count lines front_tasks operator_tasks
+  pub first : PartiesAnswerFirst house fronts front_tasks operator_tasks
+  pub begun : IsBegunOf (first.answers.front_texts ++ first.answers.operator_texts ∷ []) old new
 
 -- A beginning was written, by `begun`, of what makes the output `whole`: `written` is that beginning, and, by `whole_is`, `rest` is what
 -- was left.

@@ -8,18 +8,18 @@ use Rattle.ct_live.specs.Rings.{all_received, all_sent, ArePrefixes}
 use Rattle.ct_live.specs.Written.{BeginsOn, WritesOn}
 use Rattle.ct_live.specs.LiveEnding.{EndsLive, EndsLogSome, Rings}
 use Rattle.ct_live.specs.LiveGiven.{GivesSome, ReadsOn}
-use Rattle.ct_live.specs.LiveRuns.{FrontWorker, worker_fronts, worker_tasks, worker_answers, AllReply, AllReplySome, DeskWorks, DeskWorksSome}
+use Rattle.ct_live.specs.LiveRuns.{FrontWorker, worker_fronts, worker_tasks, worker_answers, AllReply, AllReplySome, OperatorWorks, OperatorWorksSome}
 use Rattle.ct_live.specs.declared.giving.End.{End}
 use Rattle.ct_live.specs.declared.giving.GiveFault.{GiveFault}
 use Rattle.ct_live.specs.declared.giving.Inlets.{Inlets}
-use Rattle.ct_live.specs.declared.workers.DeskWorker.{DeskWorker}
+use Rattle.ct_live.specs.declared.workers.OperatorWorker.{OperatorWorker}
 
 -- What the threads and the end after them do: by `given` tasks were given for the lines of the input, by `did` and `operated` the fronts and
 -- the operator did theirs, by `wrote` answers were written as they came, and by `ended` the run ended then, with what `Closing` says of the
 -- closing. The others say what is there once the threads have ended: where tasks are given, the result of reading, the next line's number,
 -- what is left of the input, the fronts, the operator, where answers come out, and what is written.
 pub record RunsLive (Closing : HouseState → List FrontView → End → ℕ → Option (List ℕ) → Option (List ℕ) → Type 0) (next : ℕ) (input : Option (List ℕ))
-    (inlets : Inlets) (workers : List FrontWorker) (rings : Rings) (operator : DeskWorker) (old : Option (List ℕ)) : Type 0 where
+    (inlets : Inlets) (workers : List FrontWorker) (rings : Rings) (operator : OperatorWorker) (old : Option (List ℕ)) : Type 0 where
   pub inlets_then : Inlets
   pub read : Result End GiveFault
   pub next_then : ℕ
@@ -27,8 +27,8 @@ pub record RunsLive (Closing : HouseState → List FrontView → End → ℕ →
   pub given : ReadsOn next next_then input input_then read inlets inlets_then
   pub workers_then : List FrontWorker
   pub did : AllReply workers workers_then
-  pub operator_then : DeskWorker
-  pub operated : DeskWorks operator operator_then
+  pub operator_then : OperatorWorker
+  pub operated : OperatorWorks operator operator_then
   pub rings_then : Rings
   pub mid : Option (List ℕ)
   pub wrote : WritesOn rings rings_then old mid
@@ -38,14 +38,14 @@ pub record RunsLive (Closing : HouseState → List FrontView → End → ℕ →
 -- Once all threads have ended, one of them before its time, or what is left was not to be written: tasks were given for the first
 -- lines of the input, the fronts and the operator answered the first of those that they received, and a beginning was written of
 -- their answers.
-pub record RunsSome (next : ℕ) (input : Option (List ℕ)) (inlets : Inlets) (workers : List FrontWorker) (rings : Rings) (operator : DeskWorker)
+pub record RunsSome (next : ℕ) (input : Option (List ℕ)) (inlets : Inlets) (workers : List FrontWorker) (rings : Rings) (operator : OperatorWorker)
     (old new : Option (List ℕ)) : Type 0 where
   pub inlets_then : Inlets
   pub given : GivesSome next input inlets inlets_then
   pub workers_then : List FrontWorker
   pub did : AllReplySome workers workers_then
-  pub operator_then : DeskWorker
-  pub operated : DeskWorksSome operator operator_then
+  pub operator_then : OperatorWorker
+  pub operated : OperatorWorksSome operator operator_then
   pub rings_then : Rings
   pub taken : ArePrefixes (all_received (worker_tasks workers_then)) (all_sent inlets_then.fronts.items)
   pub ordered : IsPrefix (received operator_then.tasks) (sent inlets_then.operator)
@@ -54,7 +54,7 @@ pub record RunsSome (next : ℕ) (input : Option (List ℕ)) (inlets : Inlets) (
 
 -- What the threads and the end after them did where a fault broke it off: nothing was written; or a beginning, before the log was closed; or all
 -- did what they had to, the log was closed, and of what it replies a beginning was written.
-abbrev pub RunsBrokenOff : ℕ → ℕ → Option (List ℕ) → Inlets → List FrontWorker → Rings → DeskWorker → Option (List ℕ) → Option (List ℕ) → Type 0
+abbrev pub RunsBrokenOff : ℕ → ℕ → Option (List ℕ) → Inlets → List FrontWorker → Rings → OperatorWorker → Option (List ℕ) → Option (List ℕ) → Type 0
 RunsBrokenOff close_at next input inlets workers rings operator old new =
     Appends old new [] ⊎ (RunsSome next input inlets workers rings operator old new
     ⊎ RunsLive (EndsLogSome close_at new) next input inlets workers rings operator old)

@@ -14,11 +14,11 @@ use Rattle.ct_live.specs.Working.{AllWork, AllWorkSome}
 use Rattle.ct_live.specs.Written.{WritesOn, BeginsOn}
 use Rattle.ct_live.specs.declared.pipes.answering.Numbered.{Numbered}
 use Rattle.ct_live.specs.declared.pipes.workers.Worker.{Worker}
-use Rattle.ct_live.specs.LiveParties.{DeskReplies, FrontReplies}
-use Rattle.ct_live.specs.declared.asking.DeskTask.{DeskTask}
+use Rattle.ct_live.specs.LiveParties.{OperatorReplies, FrontReplies}
+use Rattle.ct_live.specs.declared.asking.LiveOperatorTask.{LiveOperatorTask}
 use Rattle.ct_live.specs.declared.front.LiveFront.{LiveFront}
 use Rattle.ct_live.specs.declared.giving.Inlets.{Inlets}
-use Rattle.ct_live.specs.declared.workers.DeskWorker.{DeskWorker}
+use Rattle.ct_live.specs.declared.workers.OperatorWorker.{OperatorWorker}
 
 -- the fronts that these parties are
 abbrev pub party_fronts : List LiveFront → List FrontView
@@ -43,14 +43,14 @@ worker_answers ws = map (λ (w : FrontWorker). w.answers) ws
 -- At hand are the ends of all rings, each with its other end: of those into which tasks are given, and of those whose other ends are
 -- these, the fronts' in order and then the operator's.
 pub record AreBeside (inlets : Inlets) (tasks : List (Consumer (Numbered FrontRequest) Global AnyItems))
-    (answers : List (Producer (Vec ℕ Global) Global AnyItems)) (operator : DeskWorker) (rings : List (Consumer (Vec ℕ Global) Global AnyItems)) : Type 0 where
+    (answers : List (Producer (Vec ℕ Global) Global AnyItems)) (operator : OperatorWorker) (rings : List (Consumer (Vec ℕ Global) Global AnyItems)) : Type 0 where
   pub tasks_of : ArePairs inlets.fronts.items tasks
   pub orders : IsPair inlets.operator operator.tasks
   pub answers_of : ArePairs (answers ++ operator.answers ∷ []) rings
 
 -- The parties have the one ends of the rings of which the reader and the writer have the other ones, and are all fronts of a house, in
 -- order, and its operator.
-pub record AreJoined (inlets : Inlets) (workers : List FrontWorker) (operator : DeskWorker)
+pub record AreJoined (inlets : Inlets) (workers : List FrontWorker) (operator : OperatorWorker)
     (rings : List (Consumer (Vec ℕ Global) Global AnyItems)) : Type 0 where
   pub beside : AreBeside inlets (worker_tasks workers) (worker_answers workers) operator rings
   pub fronts : AreFrontsOf operator.sequencer (worker_fronts workers)
@@ -69,8 +69,8 @@ abbrev pub FrontStep : LiveFront → FrontRequest → List ℕ → LiveFront →
 FrontStep a t r b = FrontReplies a.front t r b.front
 
 -- what the operator did: it answered all tasks that it received in turn, over the same rings
-pub record DeskWorks (a b : DeskWorker) : Type 0 where
-  pub answered : AnswersMore DeskReplies a.sequencer b.sequencer (received a.tasks) (received b.tasks) (sent a.answers) (sent b.answers)
+pub record OperatorWorks (a b : OperatorWorker) : Type 0 where
+  pub answered : AnswersMore OperatorReplies a.sequencer b.sequencer (received a.tasks) (received b.tasks) (sent a.answers) (sent b.answers)
   pub tasks : SameConsumer a.tasks b.tasks
   pub answers : SameProducer a.answers b.answers
 
@@ -79,8 +79,8 @@ abbrev pub AllReplySome : List FrontWorker → List FrontWorker → Type 0
 AllReplySome before after = AllWorkSome (λ (a : LiveFront) (t : FrontRequest) (r : List ℕ) (b : LiveFront). FrontReplies a.front t r b.front) before after
 
 -- the operator answered the first of the tasks that it received, in turn, over the same rings
-pub record DeskWorksSome (a b : DeskWorker) : Type 0 where
-  pub answered : AnswersSome DeskReplies a.sequencer (received a.tasks) (received b.tasks) (sent a.answers) (sent b.answers)
+pub record OperatorWorksSome (a b : OperatorWorker) : Type 0 where
+  pub answered : AnswersSome OperatorReplies a.sequencer (received a.tasks) (received b.tasks) (sent a.answers) (sent b.answers)
   pub tasks : SameConsumer a.tasks b.tasks
   pub answers : SameProducer a.answers b.answers
 

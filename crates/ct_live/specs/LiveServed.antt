@@ -16,7 +16,7 @@ use Rattle.ct_tree.specs.declared.head.Head.{Head}
 use Rattle.ct_live.specs.LiveLines.{AsksLive}
 use Rattle.ct_live.specs.LiveReplies.{object_text}
 use Rattle.ct_live.specs.LiveTasks.{LiveStep, front_does, operator_does, closes, LeavesOpen}
-use Rattle.ct_live.specs.declared.asking.DeskTask.{DeskTask}
+use Rattle.ct_live.specs.declared.asking.LiveOperatorTask.{LiveOperatorTask}
 
 -- lines with their numbers, of which the first has this one
 abbrev pub numbered_from : ℕ → List (List ℕ) → List (ℕ × List ℕ)
@@ -47,33 +47,33 @@ front_given (k, operator_does t) = None
 front_given (k, closes now) = None
 
 -- what a step gives the operator to do, with the line's number
-abbrev pub desk_given : ℕ × LiveStep → Option (ℕ × DeskTask)
-desk_given (k, front_does f r) = None
-desk_given (k, operator_does t) = Some (k, t)
-desk_given (k, closes now) = None
+abbrev pub operator_given : ℕ × LiveStep → Option (ℕ × LiveOperatorTask)
+operator_given (k, front_does f r) = None
+operator_given (k, operator_does t) = Some (k, t)
+operator_given (k, closes now) = None
 
 -- a task that a front was given, as it was asked: its line's number, and what the line asks
 abbrev pub front_task_asked : ℕ × Numbered FrontRequest → ℕ × (ℕ × FrontAsked)
 front_task_asked x = (x.0, (x.1.number, front_asked x.1.task))
 
 -- a task that the operator was given, as it was asked
-abbrev pub desk_task_asked : Numbered DeskTask → ℕ × DeskTask
-desk_task_asked t = (t.number, t.task)
+abbrev pub operator_task_asked : Numbered LiveOperatorTask → ℕ × LiveOperatorTask
+operator_task_asked t = (t.number, t.task)
 
 -- The tasks are what these steps ask, each with its line's number: the fronts' are a merge of what each front was given, each front's
 -- in its order, and the operator's stand in their order.
-pub record AreGiven (steps : List (ℕ × LiveStep)) (fronts : List (List (Numbered FrontRequest))) (desk : List (Numbered DeskTask)) : Type 0 where
+pub record AreGiven (steps : List (ℕ × LiveStep)) (fronts : List (List (Numbered FrontRequest))) (operator : List (Numbered LiveOperatorTask)) : Type 0 where
   pub front_tasks : List (ℕ × Numbered FrontRequest)
   pub asked : map front_task_asked front_tasks ≡ filter_map front_given steps
   pub merge : IsMergeOf fronts front_tasks
-  pub ordered : map desk_task_asked desk ≡ filter_map desk_given steps
+  pub ordered : map operator_task_asked operator ≡ filter_map operator_given steps
 
 -- The parties, of so many fronts, were given what these lines ask, and nothing else; none of them closes the log. `steps` are what they
 -- ask, by `asked`, and `given` says that the parties' tasks are these.
-pub record AreAsked (fronts : ℕ) (lines : List (ℕ × List ℕ)) (front_tasks : List (List (Numbered FrontRequest))) (desk_tasks : List (Numbered DeskTask)) : Type 0 where
+pub record AreAsked (fronts : ℕ) (lines : List (ℕ × List ℕ)) (front_tasks : List (List (Numbered FrontRequest))) (operator_tasks : List (Numbered LiveOperatorTask)) : Type 0 where
   pub steps : List (ℕ × LiveStep)
   pub asked : AllAskLive fronts lines steps
-  pub given : AreGiven steps front_tasks desk_tasks
+  pub given : AreGiven steps front_tasks operator_tasks
 
 -- Where the lines end that the parties do: with all of them, and the log is closed at close_at; or before a line that closes it at
 -- now, which has the number k, and those that are behind it.
@@ -103,7 +103,7 @@ IsClosingText log (Some (k, behind)) text =
 -- log, and it is closed at close_at; or those before the first one that closes it, which does so at now. `first` are these lines, `cut`
 -- says where they end, and `asked` that the parties' tasks are what they ask.
 pub record AreTasksOf (fronts close_at : ℕ) (lines : List (ℕ × List ℕ)) (front_tasks : List (List (Numbered FrontRequest)))
-    (desk_tasks : List (Numbered DeskTask)) (now : ℕ) (behind : Option (ℕ × List (ℕ × List ℕ))) : Type 0 where
+    (operator_tasks : List (Numbered LiveOperatorTask)) (now : ℕ) (behind : Option (ℕ × List (ℕ × List ℕ))) : Type 0 where
   pub first : List (ℕ × List ℕ)
   pub cut : EndsAtLine fronts close_at lines first now behind
-  pub asked : AreAsked fronts first front_tasks desk_tasks
+  pub asked : AreAsked fronts first front_tasks operator_tasks

@@ -2,14 +2,14 @@
 use Rattle.std.specs.Prelude.{ℕ}
 use Rattle.ct_lines.specs.Asked.{FrontAsked}
 use Rattle.ct_lines.specs.Requests.{front_asked}
-use Rattle.ct_live.specs.declared.asking.DeskTask.{DeskTask}
+use Rattle.ct_live.specs.declared.asking.LiveOperatorTask.{LiveOperatorTask}
 use Rattle.ct_live.specs.declared.asking.LiveTask.{LiveTask}
 use Rattle.ct_live.specs.declared.asking.LiveTask.TheVariants.{Front, Operator, Close}
 
 -- the front with this number does what it is asked, the operator does this, or the log is closed at this moment
 pub data LiveStep : Type 0 where
   front_does : ℕ → FrontAsked → LiveStep
-  operator_does : DeskTask → LiveStep
+  operator_does : LiveOperatorTask → LiveStep
   closes : ℕ → LiveStep
 
 -- the step leaves the log open: it is a front's or the operator's, and doesn't close the log

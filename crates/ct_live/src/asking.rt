@@ -13,7 +13,7 @@ use std::alloc::{AllocError, Global};
 
 /// What the operator does for a line of a live log.
 #[derive(Clone, Copy, Debug, PartialEq, Eq)]
-pub enum DeskTask {
+pub enum LiveOperatorTask {
     /// It does what the operator of every log does.
     Do(OperatorTask),
     /// What is there of the items that the front `from` accepted is settled at the moment `now`, in milliseconds, `max` of
@@ -33,7 +33,7 @@ pub enum LiveTask {
     /// The front with this number does this.
     Front(u16, FrontRequest),
     /// The operator does this.
-    Operator(DeskTask),
+    Operator(LiveOperatorTask),
     /// The log is closed at this moment, in milliseconds.
     Close(u64),
 }
@@ -133,17 +133,17 @@ fn live_request_task(fronts: u16, request: Option<LiveRequest>) -> LiveTask
     match request {
         Some(LiveRequest::Take { from, max, now }) => {
             if from >= u64::from(fronts) {
-                return LiveTask::Operator(DeskTask::Do(OperatorTask::BadLine));
+                return LiveTask::Operator(LiveOperatorTask::Do(OperatorTask::BadLine));
             }
             let from = from as u16;
-            LiveTask::Operator(DeskTask::Take { from, max, now })
+            LiveTask::Operator(LiveOperatorTask::Take { from, max, now })
         }
         Some(LiveRequest::Close { now }) => LiveTask::Close(now),
-        Some(LiveRequest::TreeHeadInput) => LiveTask::Operator(DeskTask::TreeHeadInput),
+        Some(LiveRequest::TreeHeadInput) => LiveTask::Operator(LiveOperatorTask::TreeHeadInput),
         Some(LiveRequest::TimestampInput { ticket }) => {
-            LiveTask::Operator(DeskTask::TimestampInput { ticket })
+            LiveTask::Operator(LiveOperatorTask::TimestampInput { ticket })
         }
-        None => LiveTask::Operator(DeskTask::Do(OperatorTask::BadLine)),
+        None => LiveTask::Operator(LiveOperatorTask::Do(OperatorTask::BadLine)),
     }
 }
 
@@ -165,8 +165,8 @@ pub fn live_task(alloc: Global, fronts: u16, line: &[u8]) -> Result<LiveTask, Fa
             let request = read_live(alloc, line)?;
             Ok(live_request_task(fronts, request))
         }
-        Task::Operator(task) => Ok(LiveTask::Operator(DeskTask::Do(task))),
-        Task::Frozen(_) => Ok(LiveTask::Operator(DeskTask::NotYet)),
-        Task::EndsShift(_) => Ok(LiveTask::Operator(DeskTask::Do(OperatorTask::BadLine))),
+        Task::Operator(task) => Ok(LiveTask::Operator(LiveOperatorTask::Do(task))),
+        Task::Frozen(_) => Ok(LiveTask::Operator(LiveOperatorTask::NotYet)),
+        Task::EndsShift(_) => Ok(LiveTask::Operator(LiveOperatorTask::Do(OperatorTask::BadLine))),
     }
 }

@@ -11,12 +11,12 @@ ghost use Rattle.ct_live.specs.LiveEnding.{EndsBrokenOff, EndsLive, EndsLog, End
 ghost use Rattle.ct_live.specs.LiveReplied.{ClosesLog, RefusesClosing};
 ghost use Rattle.ct_live.specs.LiveRuns.{AreBeside, party_fronts};
 
-use crate::asking::DeskTask;
+use crate::asking::LiveOperatorTask;
 use crate::closed::{send_last_head, serve_closed};
 use crate::front::LiveFront;
 use crate::giving::{End, GiveFault, Giver, Inlets};
 use crate::pipes::{Joined, Numbered, PartyFault, are_taken, write_left};
-use crate::workers::DeskWorker;
+use crate::workers::OperatorWorker;
 use ct_house::{Front, Sequencer};
 use ct_lines::{FrontRequest, NumberedLines, Unwritten};
 use ct_parties::{Fault, close};
@@ -53,7 +53,7 @@ fn fronts_of(alloc: Global, parties: Vec<LiveFront>) -> Result<Vec<Front>, Memor
 fn are_received(
     inlets: &mut Inlets,
     tasks: &mut [Consumer<Numbered<FrontRequest>>],
-    orders: &mut Consumer<Numbered<DeskTask>>,
+    orders: &mut Consumer<Numbered<LiveOperatorTask>>,
 ) -> bool
     requires tasks { ArePairs inlets.old.fronts.items tasks.old }
     requires orders { IsPair inlets.old.operator orders.old }
@@ -182,8 +182,8 @@ fn close_and_serve<H: Threads + Wait + Sync, B: BufRead + Drop, W: Write>(
 }
 
 /// Gives the house up of an operator that did nothing.
-pub fn abandon<H: Wait>(rt: &H, alloc: Global, operator: DeskWorker) {
-    let DeskWorker {
+pub fn abandon<H: Wait>(rt: &H, alloc: Global, operator: OperatorWorker) {
+    let OperatorWorker {
         sequencer,
         tasks: _,
         answers: _,
@@ -201,7 +201,7 @@ pub fn abandon<H: Wait>(rt: &H, alloc: Global, operator: DeskWorker) {
 pub fn end_live<H: Threads + Wait + Sync, B: BufRead + Drop, W: Write>(
     rt: &H,
     alloc: Global,
-    operator: DeskWorker,
+    operator: OperatorWorker,
     left: Left<B>,
     rings: &mut [Consumer<Vec<u8>>],
     close_at: u64,
@@ -221,10 +221,10 @@ pub fn end_live<H: Threads + Wait + Sync, B: BufRead + Drop, W: Write>(
         left.fronts.tasks.items left.fronts.answers.items operator left.end left.giver.lines.next (B.remaining left.giver.lines.input) rings.old
         (W.contents output.old)) }
 {
-    let DeskWorker {
+    let OperatorWorker {
         sequencer,
         tasks: mut orders,
-        answers: desk_answers,
+        answers: operator_answers,
     } = operator;
     let Left {
         mut giver,
@@ -239,7 +239,7 @@ pub fn end_live<H: Threads + Wait + Sync, B: BufRead + Drop, W: Write>(
         mut answers,
         fault,
     } = fronts;
-    answers.push_reserved(desk_answers);
+    answers.push_reserved(operator_answers);
     let received = are_received(&mut giver.inlets, &mut tasks, &mut orders);
     let done = fault_of(&written, &operated, &fault);
     let fronts = match write_rest(alloc, done, received, parties, &mut answers, rings, output) {

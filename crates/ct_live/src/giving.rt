@@ -7,7 +7,7 @@ ghost use Rattle.ct_live.specs.LiveRuns.{GivesOn};
 ghost use Rattle.ct_live.specs.LiveTasks.{live_step};
 ghost use Rattle.ct_live.specs.declared.giving.GiveFault.TheVariants.{Stopped};
 
-use crate::asking::{DeskTask, LiveTask, live_task};
+use crate::asking::{LiveOperatorTask, LiveTask, live_task};
 use crate::pipes::{Numbered, Places, Seat, Stopped, deliver, give};
 use ct_lines::{FrontRequest, NumberedLines};
 use ct_parties::Fault;
@@ -72,7 +72,7 @@ impl From<Stopped> for GiveFault {
 #[derive(Drop)]
 pub struct Inlets {
     pub fronts: Vec<Producer<Numbered<FrontRequest>>>,
-    pub operator: Producer<Numbered<DeskTask>>,
+    pub operator: Producer<Numbered<LiveOperatorTask>>,
 }
 
 /// The lines that are left, and where each party is given its tasks.

@@ -31,9 +31,9 @@ mod signing;
 mod threads;
 mod workers;
 
-pub use asking::{DeskTask, LiveTask, live_task};
+pub use asking::{LiveOperatorTask, LiveTask, live_task};
 pub use front::LiveFront;
 pub use live::{TURNS, serve_live};
 pub use pipes::{Breaker, ReadAhead, read_ahead};
-pub use replying::{DeskReply, desk_object, reply_object};
+pub use replying::{LiveOperatorReply, operator_object, reply_object};
 pub use threads::Served;

@@ -9,12 +9,12 @@ ghost use Rattle.ct_live.specs.LiveOpening.{AreOpened};
 ghost use Rattle.ct_live.specs.LiveEnding.{IsToldAs};
 ghost use Rattle.ct_live.specs.LiveReplied.{ClosesLog, IsServedLate, IsServedLive, IsServedSome, RefusesClosing, RepliesBrokenOff, RepliesLive};
 
-use crate::asking::DeskTask;
+use crate::asking::LiveOperatorTask;
 use crate::front::LiveFront;
 use crate::giving::{Giver, Inlets};
 use crate::pipes::{Breaker, Numbered, PLACES, Pipes, Places, Worker, open_pipes};
 use crate::threads::{Out, Served, Start, run_live};
-use crate::workers::{DeskWorker, FrontWorker};
+use crate::workers::{FrontWorker, OperatorWorker};
 use ct_house::{Front, Sequencer, open};
 use ct_lines::{FrontRequest, NumberedLines};
 use ct_parties::{Fault, Options, Waiting};
@@ -67,21 +67,21 @@ fn front_workers(
 
 // The ends of the operator's two rings.
 #[derive(Drop)]
-struct DeskPipes {
-    given: Producer<Numbered<DeskTask>>,
-    tasks: Consumer<Numbered<DeskTask>>,
+struct OperatorPipes {
+    given: Producer<Numbered<LiveOperatorTask>>,
+    tasks: Consumer<Numbered<LiveOperatorTask>>,
     answers: Producer<Vec<u8>>,
     ring: Consumer<Vec<u8>>,
 }
 
 // New rings for the operator.
-fn open_desk(alloc: Global) -> Result<DeskPipes, Memory>
+fn open_operator_pipes(alloc: Global) -> Result<OperatorPipes, Memory>
     ensures tasks { IfOk result (λ p. IsPair p.given p.tasks × (sent p.given ≡ []) × (received p.tasks ≡ [])) }
     ensures answers { IfOk result (λ p. IsPair p.answers p.ring × (sent p.answers ≡ []) × (received p.ring ≡ [])) }
 {
     let (given, tasks) = RingBuffer::new(alloc, PLACES)?;
     let (answers, ring) = RingBuffer::new(alloc, PLACES)?;
-    Ok(DeskPipes {
+    Ok(OperatorPipes {
         given,
         tasks,
         answers,
@@ -95,8 +95,8 @@ struct Ends {
     inlets: Inlets,
     tasks: Vec<Consumer<Numbered<FrontRequest>>>,
     answers: Vec<Producer<Vec<u8>>>,
-    desk_tasks: Consumer<Numbered<DeskTask>>,
-    desk_answers: Producer<Vec<u8>>,
+    operator_tasks: Consumer<Numbered<LiveOperatorTask>>,
+    operator_answers: Producer<Vec<u8>>,
     rings: Vec<Consumer<Vec<u8>>>,
 }
 
@@ -110,12 +110,12 @@ fn open_ends(alloc: Global, fronts: u16) -> Result<Ends, Memory>
         answers,
         mut rings,
     } = open_pipes(alloc, usize::from(fronts))?;
-    let DeskPipes {
+    let OperatorPipes {
         given: operator,
-        tasks: desk_tasks,
-        answers: desk_answers,
+        tasks: operator_tasks,
+        answers: operator_answers,
         ring,
-    } = open_desk(alloc)?;
+    } = open_operator_pipes(alloc)?;
     rings.push(ring)?;
     let inlets = Inlets {
         fronts: given,
@@ -125,8 +125,8 @@ fn open_ends(alloc: Global, fronts: u16) -> Result<Ends, Memory>
         inlets,
         tasks,
         answers,
-        desk_tasks,
-        desk_answers,
+        operator_tasks,
+        operator_answers,
         rings,
     })
 }
@@ -195,8 +195,8 @@ fn serve_house<H: Threads + Wait + Sync, B: BufRead + Drop + Send, W: Write + Dr
         inlets,
         tasks,
         answers,
-        desk_tasks,
-        desk_answers,
+        operator_tasks,
+        operator_answers,
         rings,
     } = ends;
     let workers = match front_workers(alloc, fronts, tasks, answers) {
@@ -209,10 +209,10 @@ fn serve_house<H: Threads + Wait + Sync, B: BufRead + Drop + Send, W: Write + Dr
             };
         }
     };
-    let operator = DeskWorker {
+    let operator = OperatorWorker {
         sequencer,
-        tasks: desk_tasks,
-        answers: desk_answers,
+        tasks: operator_tasks,
+        answers: operator_answers,
     };
     let start = Start {
         giver: Giver { inlets, lines },

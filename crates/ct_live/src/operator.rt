@@ -3,11 +3,11 @@
 ghost use Rattle.std.specs.Prelude.{◌≡◌, ◌<◌, length};
 ghost use Rattle.ct_lines.specs.ReplyText.{answered};
 ghost use Rattle.ct_parties.specs.OperatorWork.{GoesOn};
-ghost use Rattle.ct_live.specs.LiveParties.{TakesWhatIsThere, DeskDoes, DeskReplies};
-ghost use Rattle.ct_live.specs.LiveReplies.{says, desk_said};
+ghost use Rattle.ct_live.specs.LiveParties.{TakesWhatIsThere, LiveOperatorDoes, OperatorReplies};
+ghost use Rattle.ct_live.specs.LiveReplies.{says, operator_said};
 
-use crate::asking::DeskTask;
-use crate::replying::{DeskReply, desk_object};
+use crate::asking::LiveOperatorTask;
+use crate::replying::{LiveOperatorReply, operator_object};
 use crate::signing::{head_input, timestamp_input};
 use ct_codec::Refusal;
 use ct_core::Reply;
@@ -43,58 +43,60 @@ fn take<R: Threads + Sync>(
 }
 
 // A reply or a refusal of another log's operator.
-fn said(reply: Result<Reply, Refusal>) -> Result<DeskReply, Refusal>
-    ensures { desk_said result ≡ says (answered reply) }
+fn said(reply: Result<Reply, Refusal>) -> Result<LiveOperatorReply, Refusal>
+    ensures { operator_said result ≡ says (answered reply) }
 {
     match reply {
-        Ok(reply) => Ok(DeskReply::Said(reply)),
+        Ok(reply) => Ok(LiveOperatorReply::Said(reply)),
         Err(refusal) => Err(refusal),
     }
 }
 
 // Does what a line asks for.
-fn do_desk_task<R: Threads + Wait + Sync>(
+fn do_live_operator_task<R: Threads + Wait + Sync>(
     rt: &R,
     alloc: Global,
     sequencer: &mut Sequencer,
-    task: DeskTask,
+    task: LiveOperatorTask,
     waiting: &Waiting,
-) -> Result<DeskReply, Refusal>
-    ensures does { DeskDoes sequencer.old task (desk_said result) sequencer.new }
+) -> Result<LiveOperatorReply, Refusal>
+    ensures does { LiveOperatorDoes sequencer.old task (operator_said result) sequencer.new }
     ensures goes_on { GoesOn sequencer.old sequencer.new }
 {
     match task {
-        DeskTask::Do(task) => { said(do_operator_task(rt, alloc, sequencer, task, waiting)) }
-        DeskTask::Take { from, max, now } => {
+        LiveOperatorTask::Do(task) => {
+            said(do_operator_task(rt, alloc, sequencer, task, waiting))
+        }
+        LiveOperatorTask::Take { from, max, now } => {
             if usize::from(from) >= sequencer.fronts() {
                 return Err(Refusal::BadLine);
             }
             said(take(rt, alloc, sequencer, from, max, now))
         }
-        DeskTask::TreeHeadInput => {
+        LiveOperatorTask::TreeHeadInput => {
             let input = head_input(alloc, sequencer.published())?;
-            Ok(DeskReply::SignatureInput(input))
+            Ok(LiveOperatorReply::SignatureInput(input))
         }
-        DeskTask::TimestampInput { ticket } => {
+        LiveOperatorTask::TimestampInput { ticket } => {
             let input = timestamp_input(alloc, sequencer.published(), ticket)?;
-            Ok(DeskReply::SignatureInput(input))
+            Ok(LiveOperatorReply::SignatureInput(input))
         }
-        DeskTask::NotYet => Err(Refusal::NotYet),
+        LiveOperatorTask::NotYet => Err(Refusal::NotYet),
     }
 }
 
 // The operator of a live log is a party.
-impl Party<DeskTask> for Sequencer {
-    ghost does = { DeskReplies };
+impl Party<LiveOperatorTask> for Sequencer {
+    ghost does = { OperatorReplies };
 
     fn reply<R: Threads + Wait + Sync>(
         &mut self,
         rt: &R,
         alloc: Global,
         waiting: &Waiting,
-        task: DeskTask,
+        task: LiveOperatorTask,
     ) -> Result<Vec<u8>, AllocError> {
-        let reply = do_desk_task(rt, alloc, self, task, waiting);
-        desk_object(alloc, reply)
+        let reply = do_live_operator_task(rt, alloc, self, task, waiting);
+        operator_object(alloc, reply)
     }
 }

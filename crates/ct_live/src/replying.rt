@@ -4,7 +4,7 @@ ghost use Rattle.std.specs.Prelude.{◌≡◌, IfOk};
 ghost use Rattle.serde_json.specs.View.{view};
 ghost use Rattle.serde_json.specs.Written.{compact_text};
 ghost use Rattle.ct_lines.specs.ReplyText.{answered};
-ghost use Rattle.ct_live.specs.LiveReplies.{desk_said, desk_text, input_data, object_text};
+ghost use Rattle.ct_live.specs.LiveReplies.{operator_said, operator_text, input_data, object_text};
 
 use ct_codec::Refusal;
 use ct_core::Reply;
@@ -15,7 +15,7 @@ use std::alloc::Global;
 
 /// What the operator of a live log replies.
 #[derive(Debug, PartialEq, Eq, Drop)]
-pub enum DeskReply {
+pub enum LiveOperatorReply {
     /// What another log's operator would reply.
     Said(Reply),
     /// The bytes that stand under a signature.
@@ -49,12 +49,15 @@ fn input_object(alloc: Global, input: &[u8]) -> Result<Vec<u8>, Memory>
 }
 
 /// The JSON object of a reply of the operator or of a refusal.
-pub fn desk_object(alloc: Global, reply: Result<DeskReply, Refusal>) -> Result<Vec<u8>, Memory>
-    ensures { IfOk result (λ t. t.items ≡ desk_text (desk_said reply)) }
+pub fn operator_object(
+    alloc: Global,
+    reply: Result<LiveOperatorReply, Refusal>,
+) -> Result<Vec<u8>, Memory>
+    ensures { IfOk result (λ t. t.items ≡ operator_text (operator_said reply)) }
 {
     match reply {
-        Ok(DeskReply::Said(said)) => reply_object(alloc, &Ok(said)),
-        Ok(DeskReply::SignatureInput(input)) => input_object(alloc, &input),
+        Ok(LiveOperatorReply::Said(said)) => reply_object(alloc, &Ok(said)),
+        Ok(LiveOperatorReply::SignatureInput(input)) => input_object(alloc, &input),
         Err(refusal) => reply_object(alloc, &Err(refusal)),
     }
 }

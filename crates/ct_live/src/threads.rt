@@ -6,15 +6,15 @@ ghost use Rattle.ct_live.specs.LiveEnding.{EndsLog};
 ghost use Rattle.ct_live.specs.LiveGiven.{ReadsOn};
 ghost use Rattle.ct_live.specs.LiveReplied.{ClosesLog, RefusesClosing};
 ghost use Rattle.ct_live.specs.LiveRunning.{RunsBrokenOff, RunsLive};
-ghost use Rattle.ct_live.specs.LiveRuns.{AreJoined, DeskWorks, DeskWorksSome, FrontStep, WritesOut};
-ghost use Rattle.ct_live.specs.declared.workers.DeskWorker.{DeskWorker as DeskWorkerOf};
+ghost use Rattle.ct_live.specs.LiveRuns.{AreJoined, OperatorWorks, OperatorWorksSome, FrontStep, WritesOut};
+ghost use Rattle.ct_live.specs.declared.workers.OperatorWorker.{OperatorWorker as OperatorWorkerOf};
 
 use crate::ending::{Left, abandon, end_live};
 use crate::giving::{End, GiveFault, Giver, give_out};
 use crate::pipes::{
     Answered, Joined, PartyFault, Places, answer_all, join_workers, start_workers, write_answers,
 };
-use crate::workers::{DeskWorker, FrontWorker};
+use crate::workers::{FrontWorker, OperatorWorker};
 use ct_lines::Unwritten;
 use ct_parties::{Fault, Options, Waiting};
 use rtrb::Consumer;
@@ -158,7 +158,7 @@ fn start_writer<'e: 's, 's, R: Threads + Wait + Sync, W: Write + Drop + Send + '
 
 // The operator with the ends of its rings, as it ended, and whether that was before its time.
 struct Operated {
-    operator: DeskWorker,
+    operator: OperatorWorker,
     result: Result<(), PartyFault>,
 }
 
@@ -168,12 +168,12 @@ fn operate<R: Threads + Wait + Sync>(
     alloc: Global,
     places: &Places,
     waiting: &Waiting,
-    operator: DeskWorker,
+    operator: OperatorWorker,
 ) -> Operated
-    ensures all { OnOk result.result (DeskWorks operator result.operator) }
-    ensures some { DeskWorksSome operator result.operator }
+    ensures all { OnOk result.result (OperatorWorks operator result.operator) }
+    ensures some { OperatorWorksSome operator result.operator }
 {
-    let DeskWorker {
+    let OperatorWorker {
         mut sequencer,
         tasks,
         answers,
@@ -194,7 +194,7 @@ fn operate<R: Threads + Wait + Sync>(
         answers,
     );
     Operated {
-        operator: DeskWorker {
+        operator: OperatorWorker {
             sequencer,
             tasks,
             answers,
@@ -221,7 +221,7 @@ pub struct Served<W: Write + Drop> {
 /// What is there once all threads have ended.
 pub struct Ran<B: BufRead + Drop, W: Write + Drop> {
     /// The operator with the ends of its rings.
-    pub operator: DeskWorker,
+    pub operator: OperatorWorker,
     /// Where the answers come out, and where they are written.
     pub out: Out<W>,
     /// What the threads leave; or why they weren't all started.
@@ -230,7 +230,7 @@ pub struct Ran<B: BufRead + Drop, W: Write + Drop> {
 
 // What is there where the threads weren't all started: the operator did nothing, and nothing was written.
 fn not_started<B: BufRead + Drop, W: Write + Drop>(
-    operator: DeskWorker,
+    operator: OperatorWorker,
     out: Out<W>,
     fault: Fault,
 ) -> Ran<B, W>
@@ -275,7 +275,7 @@ fn run_in<
     waiting: &'e Waiting,
     count: u16,
     start: Start<B, W>,
-    operator: DeskWorker,
+    operator: OperatorWorker,
 ) -> Ran<B, W>
     requires count { length start.giver.inlets.fronts.items ≡ count }
     requires workers { length start.workers.items ≡ count }
@@ -285,8 +285,8 @@ fn run_in<
         (B.remaining l.giver.lines.input) l.end start.giver.inlets l.giver.inlets) }
     ensures fronts { IfOk result.left (λ l. AreJoinedOf FrontStep start.workers.items l.fronts) }
     ensures room { IfOk result.left (λ l. vec_len l.fronts.answers < vec_capacity l.fronts.answers) }
-    ensures operated { IfOk result.left (λ l. OnOk l.operated (DeskWorks operator result.operator)) }
-    ensures operated_some { OnOk result.left (DeskWorksSome operator result.operator) }
+    ensures operated { IfOk result.left (λ l. OnOk l.operated (OperatorWorks operator result.operator)) }
+    ensures operated_some { OnOk result.left (OperatorWorksSome operator result.operator) }
     ensures written { IfOk result.left (λ l. WritesOut start.out.rings.items result.out.rings.items (W.contents start.out.output)
         (W.contents result.out.output) l.written) }
 {
@@ -341,7 +341,7 @@ fn run_threads<R: Threads + Wait + Sync, B: BufRead + Drop + Send, W: Write + Dr
     waiting: &Waiting,
     count: u16,
     start: Start<B, W>,
-    operator: DeskWorker,
+    operator: OperatorWorker,
 ) -> Ran<B, W>
     requires count { length start.giver.inlets.fronts.items ≡ count }
     requires workers { length start.workers.items ≡ count }
@@ -351,8 +351,8 @@ fn run_threads<R: Threads + Wait + Sync, B: BufRead + Drop + Send, W: Write + Dr
         (B.remaining l.giver.lines.input) l.end start.giver.inlets l.giver.inlets) }
     ensures fronts { IfOk result.left (λ l. AreJoinedOf FrontStep start.workers.items l.fronts) }
     ensures room { IfOk result.left (λ l. vec_len l.fronts.answers < vec_capacity l.fronts.answers) }
-    ensures operated { IfOk result.left (λ l. OnOk l.operated (DeskWorks operator result.operator)) }
-    ensures operated_some { OnOk result.left (DeskWorksSome operator result.operator) }
+    ensures operated { IfOk result.left (λ l. OnOk l.operated (OperatorWorks operator result.operator)) }
+    ensures operated_some { OnOk result.left (OperatorWorksSome operator result.operator) }
     ensures written { IfOk result.left (λ l. WritesOut start.out.rings.items result.out.rings.items (W.contents start.out.output)
         (W.contents result.out.output) l.written) }
 {
@@ -371,8 +371,8 @@ fn run_threads<R: Threads + Wait + Sync, B: BufRead + Drop + Send, W: Write + Dr
                 (B.remaining l.giver.lines.input) l.end start.giver.inlets l.giver.inlets) }
             ensures fronts { IfOk result.left (λ l. AreJoinedOf FrontStep start.workers.items l.fronts) }
             ensures room { IfOk result.left (λ l. vec_len l.fronts.answers < vec_capacity l.fronts.answers) }
-            ensures operated { IfOk result.left (λ l. OnOk l.operated ((o : DeskWorkerOf) → taken.entry.now ≡ Some o → DeskWorks o result.operator)) }
-            ensures operated_some { OnOk result.left ((o : DeskWorkerOf) → taken.entry.now ≡ Some o → DeskWorksSome o result.operator) }
+            ensures operated { IfOk result.left (λ l. OnOk l.operated ((o : OperatorWorkerOf) → taken.entry.now ≡ Some o → OperatorWorks o result.operator)) }
+            ensures operated_some { OnOk result.left ((o : OperatorWorkerOf) → taken.entry.now ≡ Some o → OperatorWorksSome o result.operator) }
             ensures written { IfOk result.left (λ l. WritesOut start.out.rings.items result.out.rings.items (W.contents start.out.output)
                 (W.contents result.out.output) l.written) }
         {
@@ -397,7 +397,7 @@ pub fn run_live<R: Threads + Wait + Sync, B: BufRead + Drop + Send, W: Write + D
     waiting: &Waiting,
     options: Options,
     start: Start<B, W>,
-    operator: DeskWorker,
+    operator: OperatorWorker,
 ) -> Served<W>
     requires count { length start.giver.inlets.fronts.items ≡ options.fronts }
     requires workers { length start.workers.items ≡ options.fronts }

@@ -1,6 +1,6 @@
 //! The parties with the ends of their rings.
 
-use crate::asking::DeskTask;
+use crate::asking::LiveOperatorTask;
 use crate::front::LiveFront;
 use crate::pipes::{Numbered, Worker};
 use ct_house::Sequencer;
@@ -11,8 +11,8 @@ use rtrb::{Consumer, Producer};
 pub type FrontWorker = Worker<LiveFront, FrontRequest>;
 
 /// The operator with the ends of its rings.
-pub struct DeskWorker {
+pub struct OperatorWorker {
     pub sequencer: Sequencer,
-    pub tasks: Consumer<Numbered<DeskTask>>,
+    pub tasks: Consumer<Numbered<LiveOperatorTask>>,
     pub answers: Producer<Vec<u8>>,
 }

@@ -4,7 +4,7 @@ use Rattle.std.proofs.lemmas.List.{with_items_is}
 use Rattle.std.proofs.lemmas.List.Elements.{length_all_zip}
 use Rattle.rtrb.specs.Ring.{SameProducer}
 use Rattle.ct_live.specs.declared.giving.Inlets.{Inlets}
-use Rattle.ct_live.proofs.Given.{given_to_desk, given_to_front}
+use Rattle.ct_live.proofs.Given.{given_to_operator, given_to_front}
 use Rattle.ct_live.proofs.giving.give_task.Goals as goal
 
 pub returns-in_ok-give-in-Front-clause-given : goal.returns-in_ok-give-in-Front-clause-given
@@ -21,4 +21,4 @@ returns-in_ok-give-in-Front-clause-given g c =
 pub returns-in_ok-deliver-in-Operator-clause-given : goal.returns-in_ok-deliver-in-Operator-clause-given
 returns-in_ok-deliver-in-Operator-clause-given g c =
     let new : Inlets = record { fronts = c.args.inlets.now.fronts; operator = c.deliver.new.producer } in
-    given_to_desk c.args.inlets.now new c.args.number c.in-Operator.task c.args.task c.in-Operator.is refl c.in_ok-deliver-in-Operator.ensures.sent
+    given_to_operator c.args.inlets.now new c.args.number c.in-Operator.task c.args.task c.in-Operator.is refl c.in_ok-deliver-in-Operator.ensures.sent

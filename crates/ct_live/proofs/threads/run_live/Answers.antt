@@ -3,7 +3,7 @@ use Rattle.std.proofs.lemmas.Result.{IfErr-at_err, IfErr-weaker, IfOk-at_ok, on_
 use Rattle.std.specs.Prelude.{OnErr, OnOk}
 use Rattle.ct_live.specs.Rings.{SameConsumers}
 use Rattle.ct_live.specs.LiveEnding.{Rings}
-use Rattle.ct_live.specs.LiveRuns.{DeskWorksSome, WritesOut}
+use Rattle.ct_live.specs.LiveRuns.{OperatorWorksSome, WritesOut}
 use Rattle.ct_live.proofs.Joined.{beside_kept, house_kept, when_ok}
 use Rattle.ct_live.proofs.Runs.{beside_joined, fronts_joined, nothing_ran, ran, ran_broken}
 use Rattle.ct_live.proofs.threads.run_live.Goals as goal
@@ -13,7 +13,7 @@ pub end_live-result-requires-clause-beside : goal.end_live-result-requires-claus
 end_live-result-requires-clause-beside g c κs within =
     let given = IfOk-at_ok _ c.in-Ok.is c.run_threads-ran.ensures.given in
     let j = IfOk-at_ok _ c.in-Ok.is c.run_threads-ran.ensures.fronts in
-    let some = subst (λ (r : _). OnOk r (DeskWorksSome c.args.operator c.run_threads-ran.result.operator)) c.in-Ok.is
+    let some = subst (λ (r : _). OnOk r (OperatorWorksSome c.args.operator c.run_threads-ran.result.operator)) c.in-Ok.is
     c.run_threads-ran.ensures.operated_some in
     let wrote = IfOk-at_ok _ c.in-Ok.is c.run_threads-ran.ensures.written in
     beside_joined c.in-Ok.left.giver.inlets c.args.start.workers.items c.in-Ok.left.fronts c.run_threads-ran.result.operator c.deref_mut.result.now j
@@ -46,7 +46,7 @@ returns-clause-broken g c = elim c.match-left.branch [
   | in-Ok w ↦
       rw w.result-is (rw w.output-is (on_err_weaker w.end_live-result.result (λ broken.
       ran_broken (IfOk-at_ok _ w.in-Ok.is c.run_threads-ran.ensures.given) (IfOk-at_ok _ w.in-Ok.is c.run_threads-ran.ensures.fronts)
-      (subst (λ (r : _). OnOk r (DeskWorksSome c.args.operator c.run_threads-ran.result.operator)) w.in-Ok.is c.run_threads-ran.ensures.operated_some)
+      (subst (λ (r : _). OnOk r (OperatorWorksSome c.args.operator c.run_threads-ran.result.operator)) w.in-Ok.is c.run_threads-ran.ensures.operated_some)
       (IfOk-at_ok _ w.in-Ok.is c.run_threads-ran.ensures.operated)
       (subst (λ (l : Rings). WritesOut c.args.start.out.rings.items l (g.W.Write.contents c.args.start.out.output)
       (g.W.Write.contents c.run_threads-ran.result.out.output) w.in-Ok.left.written) (sym w.deref_mut.ensures.value)
