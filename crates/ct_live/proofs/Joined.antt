@@ -1,5 +1,5 @@
 -- The parties and their rings stay what they are while the threads run.
-use Rattle.std.proofs.Common.{◌≡◌, ◌∙◌, ℕ, List, [], ◌∷◌, ◌++◌, map, refl, reverse, sym, subst, length, Vec, Global, true≢false}
+use Rattle.std.proofs.Common.{◌≡◌, ◌∙◌, ℕ, List, [], ◌∷◌, ◌++◌, map, refl, reverse, sym, length, Vec, Global, true≢false}
 use Rattle.std.specs.List.{AllZip}
 use Rattle.std.specs.Prelude.{Result, Ok, Err, IsOk, OnOk}
 use Rattle.rtrb.specs.Ring.{IsPair, SameProducer, SameConsumer}

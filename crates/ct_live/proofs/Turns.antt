@@ -4,7 +4,6 @@ use Rattle.std.specs.Prelude.{Result, Ok, Err, IfErr, OnOk, OnErr}
 use Rattle.std.specs.declared.alloc.AllocError.{AllocError}
 use Rattle.rtrb.specs.Ring.{sent, received, SameConsumer, SameProducer}
 use Rattle.rtrb.specs.declared.AnyItems.{AnyItems}
-use Rattle.rtrb.specs.declared.consumer.Consumer.{Consumer}
 use Rattle.rtrb.specs.declared.producer.Producer.{Producer}
 use Rattle.ct_parties.specs.InTurn.{InTurn}
 use Rattle.ct_parties.specs.Serving.{Serving, ServesAll, ServesAllButLast, Turn}

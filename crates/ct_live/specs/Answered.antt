@@ -1,4 +1,4 @@
--- Tasks that are answered in turn.
+-- What only inner functions' contracts use, but for `AreAnswered` and what it stands on: tasks that are answered in turn.
 use Rattle.std.specs.Prelude.{◌≡◌, ℕ, List, [], ◌∷◌, ◌++◌, Vec}
 use Rattle.std.specs.Global.{Global}
 use mathlib.Core.List.{IsPrefix}

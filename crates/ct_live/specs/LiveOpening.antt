@@ -1,4 +1,4 @@
--- The rings of a live log, before its house is opened.
+-- What only inner functions' contracts use: the rings of a live log, before its house is opened.
 use Rattle.std.specs.Prelude.{◌+◌, ℕ, [], ◌∷◌, ◌++◌}
 use Rattle.ct_live.specs.Opening.{AreEmpty}
 use Rattle.ct_live.specs.declared.live.Ends.{Ends}

@@ -1,4 +1,4 @@
--- The parties of a live log with the ends of their rings, before their threads start and once all have ended.
+-- What only inner functions' contracts use: the parties of a live log with the ends of their rings, before their threads start and once all have ended.
 use Rattle.std.specs.Prelude.{ℕ, List, [], ◌∷◌, ◌++◌, map, Option, Result, OnOk, OnErr, Vec}
 use Rattle.std.specs.Global.{Global}
 use Rattle.rtrb.specs.Ring.{sent, received, IsPair, SameProducer, SameConsumer}

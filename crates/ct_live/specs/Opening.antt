@@ -1,4 +1,4 @@
--- New rings.
+-- What only inner functions' contracts use: new rings.
 use Rattle.std.specs.Prelude.{◌≡◌, ℕ, List, [], length, All}
 use Rattle.std.specs.Global.{Global}
 use Rattle.rtrb.specs.declared.AnyItems.{AnyItems}

@@ -1,4 +1,4 @@
--- What went into rings, and what came out.
+-- What only inner functions' contracts use, but for `ArePrefixes`: what went into rings, and what came out.
 use Rattle.std.specs.Prelude.{◌≡◌, ◌<◌, ℕ, List, [], All, IfSome, map, set, slice_get, Vec}
 use Rattle.std.specs.Global.{Global}
 use mathlib.Core.List.{IsPrefix}

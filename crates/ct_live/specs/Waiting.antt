@@ -1,4 +1,4 @@
--- Where threads wait.
+-- What only inner functions' contracts use: where threads wait.
 use Rattle.std.specs.Prelude.{ℕ, length}
 use Rattle.ct_live.specs.declared.pipes.places.Places.{Places}
 

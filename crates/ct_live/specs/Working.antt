@@ -1,4 +1,4 @@
--- What the parties did in their threads.
+-- What only inner functions' contracts use: what the parties did in their threads.
 use Rattle.std.specs.Prelude.{◌≡◌, ◌≤◌, ◌+◌, ℕ, List, length, map, None, vec_capacity}
 use Rattle.std.specs.List.{AllZip}
 use Rattle.rtrb.specs.Ring.{sent, received, SameProducer, SameConsumer}

@@ -1,4 +1,4 @@
--- What is written of the texts of some parties.
+-- What only inner functions' contracts use, but for `in_order` and `IsBegunOf`: what is written of the texts of some parties.
 use Rattle.std.specs.Prelude.{◌≡◌, ◌++◌, ℕ, List, map, Option, Vec}
 use Rattle.std.specs.Global.{Global}
 use Rattle.std.specs.List.{concat}
