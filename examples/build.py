@@ -4,8 +4,8 @@
     build.py CRATE ..
     build.py --show SCRIPT PART=CRATE[,CRATE].. ..
 
-With --show it runs `SCRIPT PART` as soon as the crates of a part are built, and prints what that writes in one piece. The crates of an earlier part go
-first, and of one part's those with the longest chain of crates above them, which gets a second processor where there are four.
+With --show it runs `SCRIPT PART` as soon as the crates of a part are built, and prints what that writes in one piece. The crates with the longest chain
+of crates above them go first, with two processors each where there are four, and then those of an earlier part.
 
 Crates that don't stand on each other are proved side by side, as many as processors and memory allow. Only one rt works in a crate's folder, and in
 those of all crates below it; so each of them works in a copy of the sources, which gets what is built of the crates below. What it builds is put
@@ -32,6 +32,8 @@ PROVED = re.compile(r"logic=proved functions=(\d+)")
 EVERY = 30
 # The memory that a proof is taken to need, in bytes, and the most proofs at a time.
 MEMORY, MOST = 2_000_000_000, 8
+# A chain of crates that is so much of the longest that is left decides how long all of it takes.
+LONG = 0.7
 
 
 class Crates:
@@ -205,17 +207,21 @@ class Build:
             free = self.copies[-1:]
         return free[0] if free else None
 
+    def is_long(self, name):
+        """Whether a chain of crates that decides begins with this one. It is of use where there are processors for more than a chain."""
+        left = [*self.left, *(proof.name for proof in self.running)]
+        return self.places >= 4 and self.behind[name] >= LONG * max(self.behind[it] for it in left)
+
     def ready(self):
         """The crates that can begin, those that matter most first."""
         found = [name for name in self.left if all(it in self.done for it in self.crates.uses[name])]
-        return sorted(found, key=lambda name: (self.rank[name], -self.behind[name]))
+        return sorted(found, key=lambda name: (not self.is_long(name), self.rank[name], -self.behind[name]))
 
     def jobs(self, name, idle, others):
         """How many jobs the proof of a crate gets of the idle processors, on which so many crates wait, itself among them; 0 leaves it to rt."""
         if self.places == 1:
             return 0
-        is_longest = self.behind[name] == max(self.behind[it] for it in self.left)
-        return max(1, min(4, idle // others), min(2, idle) if is_longest and self.places >= 4 else 1)
+        return max(1, min(4, idle // others), min(2, idle) if self.is_long(name) else 1)
 
     def begin(self, pool, room):
         """Begins as many proofs as there are places for, and answers those."""

@@ -18,6 +18,7 @@
 //! `Items`, `Signed`, `Laws`.
 #![tactic(auto)]
 
+mod copies;
 mod fault;
 mod item;
 pub mod laws;

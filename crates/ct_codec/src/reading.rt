@@ -9,6 +9,7 @@ ghost use Rattle.ct_codec.specs.Faults.{EntryFaulty, LeafFaulty, CertificatesFau
 ghost use Rattle.ct_codec.specs.declared.fault.DecodeFault.TheVariants.{Memory};
 ghost use Rattle.ct_codec.specs.Decoded.{entry_in, entry_lent, certificates_in, IsTextOf, GivesLeaf, GivesChain, GivesPreChain};
 
+use crate::copies::push_copy;
 use crate::fault::DecodeFault;
 use crate::reader::Reader;
 use std::alloc::{AllocError, Allocator, Global};
@@ -186,8 +187,7 @@ fn copy_certificates<A: Allocator + Clone>(
     let mut reader = Reader::new(bytes);
     'certificates: while !reader.is_at_end() {
         let certificate = reader.certificate()?;
-        let copy = Vec::from_slice(alloc.clone()?, certificate)?;
-        certificates.push(copy)?;
+        push_copy(&alloc, &mut certificates, certificate)?;
     }
     Ok(certificates)
 }
