@@ -63,7 +63,7 @@ TOLD = {
     },
     "ct_live/src/pipes/answering.rt": {"Stopped": (1, "all are to end")},
     "ct_live/src/pipes/post.rt": {"Stopped": (1, "all are to end")},
-    "ct_live/src/pipes/workers.rt": {"Threads": (1, "a party's thread didn't start"), "Stopped": (1, "a party's own is handed on")},
+    "ct_live/src/pipes/workers.rt": {"Threads": (1, "a party's thread didn't start"), **dict.fromkeys(("Read", "Stopped"), (1, "a thread's own is handed on"))},
     "ct_command/src/command.rt": {"ErrorKind": (2, "clap's kinds of a refusal, which clauses pin")},
     "ct_parties/src/front_work.rt": {"Late": (1, "behind the last turn of a line that waits")},
     "ct_parties/src/operator_work.rt": {"Late": (1, "behind the last turn of a line that waits")},

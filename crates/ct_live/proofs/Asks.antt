@@ -10,7 +10,7 @@ use Rattle.serde_json.specs.Data.{Data}
 use Rattle.serde_json.specs.Read.{read}
 use Rattle.ct_parties.specs.Tasks.{step}
 use Rattle.ct_parties.specs.Tasks.{AsksFor, does, for_operator}
-use Rattle.ct_parties.specs.declared.task.Task.{Task as CodeTask}
+use Rattle.ct_parties.specs.declared.task.Task.{Task}
 use Rattle.ct_parties.specs.declared.task.Task.TheVariants as task_case
 use Rattle.ct_parties.specs.declared.task.OperatorTask.{OperatorTask}
 use Rattle.ct_parties.specs.declared.task.OperatorTask.TheVariants.{BadLine}
@@ -53,6 +53,6 @@ asks_unread line (Ok o) P (e, other) none = ap (option_map live_asked) e ∙ ask
 asks_unread line (Err x) P is none = tt
 
 -- a line that every other log replies to with bad-line
-pub asked_bad : (fronts : ℕ) (line : List ℕ) (t : CodeTask) (o : OperatorTask) → t ≡ task_case.Operator o → o ≡ BadLine → AsksFor fronts line (step line t)
+pub asked_bad : (fronts : ℕ) (line : List ℕ) (t : Task) (o : OperatorTask) → t ≡ task_case.Operator o → o ≡ BadLine → AsksFor fronts line (step line t)
     → AsksFor fronts line (does (for_operator BadLine))
-asked_bad fronts line t o e k asked = subst (λ (x : CodeTask). AsksFor fronts line (step line x)) (e ∙ ap (λ (x : OperatorTask). task_case.Operator x) k) asked
+asked_bad fronts line t o e k asked = subst (λ (x : Task). AsksFor fronts line (step line x)) (e ∙ ap (λ (x : OperatorTask). task_case.Operator x) k) asked

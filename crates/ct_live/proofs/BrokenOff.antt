@@ -14,15 +14,15 @@ use Rattle.ct_live.specs.Answered.{AreAnswered, AnswersAllButLast, AnswersFirst,
 use Rattle.ct_live.specs.Rings.{all_received, all_sent, texts, texts_each, ArePrefixes}
 use Rattle.ct_live.specs.Written.{BeginsOn, in_order, IsBegunOf, WritesOn}
 use Rattle.ct_live.specs.declared.pipes.answering.Numbered.{Numbered}
-use Rattle.ct_live.specs.LiveOpening.{AreOpened}
+use Rattle.ct_live.specs.NewRings.{AreOpened}
 use Rattle.ct_live.specs.LiveParties.{OperatorReplies, FrontReplies}
 use Rattle.ct_live.specs.LiveEnding.{EndsLogSome, Rings}
 use Rattle.ct_live.specs.LiveGiven.{GivesLines}
 use Rattle.ct_live.specs.LiveReplied.{AllAnswer, BeginsWhole, ClosesLog, IsServedSome, RepliesBrokenOff, RepliesClosing, RepliesSome}
-use Rattle.ct_live.specs.LiveRunning.{RunsBrokenOff, RunsLive, RunsSome}
-use Rattle.ct_live.specs.LiveRuns.{FrontWorker, worker_fronts, worker_tasks, worker_answers, AllReplySome, WritesOut, FrontStep}
+use Rattle.ct_live.specs.LiveThreads.{RunsBrokenOff, RunsLive, RunsSome}
+use Rattle.ct_live.specs.LiveWorkers.{FrontWorker, worker_fronts, worker_tasks, worker_answers, AllReplySome, WritesOut, LiveFrontReplies}
 use Rattle.ct_live.specs.declared.front.LiveFront.{LiveFront}
-use Rattle.ct_live.specs.declared.live.Ends.{Ends}
+use Rattle.ct_live.specs.declared.live.AllPipes.{AllPipes}
 use Rattle.ct_live.proofs.Replied.{operator_of, Empty, front_answered, last_unsent, no_order, no_task, no_text, nothing_written, of_new_house, replies, rest_of}
 use Rattle.ct_live.proofs.Tied.{all_asked, none_given}
 
@@ -142,7 +142,7 @@ begins_out before after old new (Err e) out = out.failed
 
 -- ---- the answers of all parties
 
-front_first : (a : LiveFront) (ts : List (Numbered FrontRequest)) (xs : List (List ℕ)) → AnswersFirst FrontStep a ts xs → AnswersFirst FrontReplies a.front ts xs
+front_first : (a : LiveFront) (ts : List (Numbered FrontRequest)) (xs : List (List ℕ)) → AnswersFirst LiveFrontReplies a ts xs → AnswersFirst FrontReplies a.front ts xs
 front_first a ts xs h = record {
   first = h.first;
   cut = h.cut;
@@ -171,7 +171,7 @@ all_answer_first (a ∷ before) (b ∷ after) p (ts ∷ tasks) [] all none unsen
 all_answer_first (a ∷ before) (b ∷ after) p (ts ∷ tasks) (x ∷ came) (did, all) none unsent (taken, all_taken) (out, all_out) =
     let one = answers_cut FrontReplies a.party.front (received b.tasks) ts (texts (sent b.answers)) (texts x)
     (front_first a.party (received b.tasks) (texts (sent b.answers))
-    (first_since FrontStep a.party (received a.tasks) (received b.tasks) (sent a.answers) (sent b.answers) (none 0 [] (omega arith))
+    (first_since LiveFrontReplies a.party (received a.tasks) (received b.tasks) (sent a.answers) (sent b.answers) (none 0 [] (omega arith))
     (unsent 0 [] (omega arith)) did.answered)) taken (texts_prefix x (sent b.answers) out) in
     let more = all_answer_first before after p tasks came all (rest_of Empty (received a.tasks) (all_received (worker_tasks before)) none)
     (rest_of Empty (sent a.answers) (all_sent (worker_answers before ++ p ∷ [])) unsent) all_taken all_out in
@@ -193,7 +193,7 @@ begins_behind a b c whole front first h = record {
   whole_is = h.whole_is;
 }
 
-module _ (n close_at next : ℕ) (input : Option (List ℕ)) (e : Ends) (workers : List FrontWorker) (house : HouseState) (old new : Option (List ℕ))
+module _ (n close_at next : ℕ) (input : Option (List ℕ)) (e : AllPipes) (workers : List FrontWorker) (house : HouseState) (old new : Option (List ℕ))
     (i : AreOpened n e) (tasks : worker_tasks workers ≡ e.tasks.items) (answers : worker_answers workers ≡ e.answers.items) where
   -- where something was broken off before the log was closed
   replies_some : RunsSome next input e.inlets workers e.rings.items (operator_of house e) old new
@@ -207,7 +207,7 @@ module _ (n close_at next : ℕ) (input : Option (List ℕ)) (e : Ends) (workers
       unsent r.taken s.begin_first in
       let own = answers_cut OperatorReplies house (received p.tasks) (sent r.inlets_then.operator) (texts (sent p.answers)) (texts s.back)
       (first_since OperatorReplies house (received e.operator_tasks) (received p.tasks) (sent e.operator_answers) (sent p.answers) (no_order n e workers i)
-      (last_unsent workers e.operator_answers unsent) r.operated.answered) r.ordered (texts_prefix s.back (sent p.answers) s.begins_last) in
+      (last_unsent workers e.operator_answers unsent) r.operated.answered) r.operator_taken (texts_prefix s.back (sent p.answers) s.begins_last) in
       record {
         lines = r.given.lines;
         of_input = r.given.of_input;

@@ -14,15 +14,14 @@ use Rattle.ct_lines.specs.declared.request.FrontRequest.{FrontRequest}
 use Rattle.ct_live.specs.Rings.{all_received, all_sent, texts_each, ArePrefixes}
 use Rattle.ct_live.specs.Written.{in_order, BeginsOn, IsBegunOf, WritesOn}
 use Rattle.ct_live.specs.declared.pipes.answering.Numbered.{Numbered}
-use Rattle.ct_live.specs.declared.pipes.answering.PartyFault.{PartyFault}
+use Rattle.ct_live.specs.declared.pipes.fault.ThreadFault.{ThreadFault}
 use Rattle.ct_lines.specs.declared.fault.Unwritten.{Unwritten}
 use Rattle.ct_live.specs.LiveEnding.{EndsLive, EndsSome, HaveDone, Rings, WritesNoMore}
-use Rattle.ct_live.specs.LiveRuns.{FrontWorker, party_fronts, worker_fronts, WritesOut}
+use Rattle.ct_live.specs.LiveWorkers.{FrontWorker, party_fronts, worker_fronts, WritesOut}
 use Rattle.ct_live.specs.declared.front.LiveFront.{LiveFront}
 use Rattle.ct_live.specs.declared.giving.End.{End}
-use Rattle.ct_live.specs.declared.giving.GiveFault.{GiveFault}
 use Rattle.ct_live.specs.declared.giving.Inlets.{Inlets}
-use Rattle.ct_live.specs.declared.workers.OperatorWorker.{OperatorWorker}
+use Rattle.ct_live.specs.declared.operator.OperatorWorker.{OperatorWorker}
 use Rattle.ct_live.proofs.BrokenOff.{begins_out}
 use Rattle.ct_live.proofs.Joined.{when_ok}
 
@@ -63,7 +62,7 @@ fronts_beside parties workers is = subst (λ (l : List LiveFront). party_fronts 
     mapped (w ∷ ws) = ap (λ (l : List FrontView). w.party.front ∷ l) (mapped ws)
 
 -- what was written behind what the writer's thread had, where nothing more was, or all had done what they had to
-pub begins_as_done : {U E : Type 0} (written : Result Unit Unwritten) (operated : Result Unit PartyFault) (fault : Option PartyFault) (done : Result U E)
+pub begins_as_done : {U E : Type 0} (written : Result Unit Unwritten) (operated : Result Unit ThreadFault) (fault : Option ThreadFault) (done : Result U E)
     (before after : Rings) (old new : Option (List ℕ)) → OnOk done (HaveDone written operated fault)
     → WritesNoMore before after old new ⊎ (IsOk done × BeginsOn before after old new)
     → (first : Rings) (start : Option (List ℕ)) → WritesOut first before start old written → BeginsOn first after start new
@@ -84,20 +83,20 @@ module _ (inlets : Inlets) (tasks seen : List (Consumer (Numbered FrontRequest) 
       → EndsSome inlets tasks answers operator written before old new
   ends_some written before rings old new taken came wrote = record {
     taken = subst (λ (l : List (Consumer (Numbered FrontRequest) Global AnyItems)). ArePrefixes (all_received l) (all_sent inlets.fronts.items)) same taken.0;
-    ordered = taken.1;
+    operator_taken = taken.1;
     rings = rings;
     came = subst (λ (l : List (Producer (Vec ℕ Global) Global AnyItems)). ArePrefixes (all_received rings) (all_sent l)) together came;
     wrote = wrote;
   }
 
   pub ends_live : (Closing : HouseState → List FrontView → End → ℕ → Option (List ℕ) → Option (List ℕ) → Type 0) (fronts given : List FrontView)
-      (read : Result End GiveFault) (end : End) (next : ℕ) (input : Option (List ℕ)) (before rings : Rings) (old mid : Option (List ℕ)) → given ≡ fronts
+      (read : Result End ThreadFault) (end : End) (next : ℕ) (input : Option (List ℕ)) (before rings : Rings) (old mid : Option (List ℕ)) → given ≡ fronts
       → read ≡ Ok end → (all_received seen ≡ all_sent inlets.fronts.items) × (received operator.tasks ≡ sent inlets.operator)
       → all_received rings ≡ all_sent all → WritesOn before rings old mid → Closing operator.sequencer given end next input mid
       → EndsLive Closing inlets fronts tasks answers operator read next input before old
   ends_live Closing fronts given read end next input before rings old mid same_fronts so taken came writes closing = record {
     taken = sym (ap all_received same) ∙ taken.0;
-    ordered = taken.1;
+    operator_taken = taken.1;
     rings = rings;
     all = came ∙ ap all_sent together;
     mid = mid;

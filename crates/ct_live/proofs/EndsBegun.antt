@@ -14,8 +14,9 @@ use Rattle.ct_live.proofs.Writing.{some_behind}
 use Rattle.ct_tree.specs.declared.head.Head.{Head}
 use Rattle.ct_live.specs.LiveEnding.{EndsLog, EndsLogSome, WritesLastHead, WritesSomeBehind, WritesSomeLastHead}
 use Rattle.ct_live.specs.LiveReplied.{BeginsWhole, ClosesLog}
-use Rattle.ct_live.specs.LiveReplies.{object_text}
-use Rattle.ct_live.specs.LiveServed.{AreLinesOf, closed_replies, IsLastHead}
+use Rattle.ct_live.specs.ReplyObjects.{object_text}
+use Rattle.ct_live.specs.LiveInput.{AreLinesOf, closed_replies}
+use Rattle.ct_live.specs.LiveSigning.{IsLastHead}
 use Rattle.ct_live.specs.declared.giving.End.{End}
 use Rattle.ct_live.specs.declared.giving.End.TheVariants as end_case
 use Rattle.ct_live.proofs.TextsBegun.{begins_more, lines_left}

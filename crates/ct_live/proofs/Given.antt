@@ -9,13 +9,13 @@ use Rattle.rtrb.specs.declared.producer.Producer.{Producer}
 use Rattle.ct_lines.specs.Asked.{FrontAsked}
 use Rattle.ct_lines.specs.Requests.{front_asked}
 use Rattle.ct_lines.specs.declared.request.FrontRequest.{FrontRequest}
-use Rattle.ct_live.specs.Parts.{IsMergeOf}
+use Rattle.ct_live.specs.Merges.{IsMergeOf}
 use Rattle.ct_live.specs.Rings.{all_sent}
 use Rattle.ct_live.specs.declared.pipes.answering.Numbered.{Numbered}
 use Rattle.ct_live.specs.LiveGiven.{GivesLine, GivesStep, HaveGiven}
 use Rattle.ct_live.specs.LiveLines.{AsksLive}
-use Rattle.ct_live.specs.LiveServed.{operator_given, operator_task_asked, front_given, front_task_asked}
-use Rattle.ct_live.specs.LiveTasks.{LiveStep, front_does, live_step, operator_does}
+use Rattle.ct_live.specs.LiveInput.{operator_given, operator_task_asked, front_given, front_task_asked}
+use Rattle.ct_live.specs.LiveTasks.{LiveStep, gives_front, live_step, gives_operator}
 use Rattle.ct_live.specs.declared.asking.LiveTask.{LiveTask}
 use Rattle.ct_live.specs.declared.asking.LiveTask.TheVariants as task_case
 use Rattle.ct_live.specs.declared.asking.LiveOperatorTask.{LiveOperatorTask}
@@ -24,12 +24,12 @@ use Rattle.ct_live.specs.declared.giving.Inlets.{Inlets}
 pub given_front : (old new : Inlets) (k f p : ℕ) (t : FrontRequest) → p ≡ f → sent new.operator ≡ sent old.operator
     → ((given : List (ℕ × Numbered FrontRequest)) → IsMergeOf (all_sent old.fronts.items) given
     → IsMergeOf (all_sent new.fronts.items) (given ++ (p, record { number = k; task = t }) ∷ []))
-    → GivesStep k (front_does f (front_asked t)) None old new
+    → GivesStep k (gives_front f (front_asked t)) None old new
 given_front old new k f p t e same give = (
   tt,
   λ steps h.
       let x : Numbered FrontRequest = record { number = k; task = t } in
-      let s : ℕ × LiveStep = (k, front_does f (front_asked t)) in
+      let s : ℕ × LiveStep = (k, gives_front f (front_asked t)) in
       record {
         front_tasks = h.front_tasks ++ (p, x) ∷ [];
         asked = map-append front_task_asked h.front_tasks ((p, x) ∷ []) ∙ ap (λ (l : List (ℕ × (ℕ × FrontAsked))). l ++ (p, (k, front_asked t)) ∷ []) h.asked
@@ -41,12 +41,12 @@ given_front old new k f p t e same give = (
 
 pub given_operator : (old new : Inlets) (k : ℕ) (t : LiveOperatorTask) → all_sent new.fronts.items ≡ all_sent old.fronts.items
     → sent new.operator ≡ sent old.operator ++ record { number = k; task = t } ∷ []
-    → GivesStep k (operator_does t) None old new
+    → GivesStep k (gives_operator t) None old new
 given_operator old new k t same more = (
   tt,
   λ steps h.
       let x : Numbered LiveOperatorTask = record { number = k; task = t } in
-      let s : ℕ × LiveStep = (k, operator_does t) in
+      let s : ℕ × LiveStep = (k, gives_operator t) in
       record {
         front_tasks = h.front_tasks;
         asked = h.asked ∙ sym (append-nil (filter_map front_given steps)) ∙ sym (filter_map-append front_given steps (s ∷ []));

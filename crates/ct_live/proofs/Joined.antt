@@ -9,7 +9,7 @@ use Rattle.rtrb.specs.declared.producer.Producer.{Producer}
 use Rattle.ct_house.specs.House.{FrontView, HouseState}
 use Rattle.ct_parties.specs.FrontWork.{FrontGoesOn}
 use Rattle.ct_parties.specs.OperatorWork.{GoesOn}
-use Rattle.ct_parties.specs.Parties.{AreFrontsOf, AreSame}
+use Rattle.ct_parties.specs.Fronts.{AreFrontsOf, AllGoOn}
 use Rattle.ct_lines.specs.declared.request.FrontRequest.{FrontRequest}
 use Rattle.ct_parties.proofs.FrontLemmas.{front_goes_on_nothing, front_goes_on_both}
 use Rattle.ct_parties.proofs.OperatorLemmas.{goes_on_nothing, goes_on_both}
@@ -22,23 +22,23 @@ use Rattle.ct_live.proofs.Merging.{zip_self}
 use Rattle.ct_live.proofs.Turns.{producer_trans}
 use Rattle.std.proofs.lemmas.List.Elements.{length_all_zip}
 use Rattle.ct_live.specs.LiveParties.{OperatorReplies}
-use Rattle.ct_live.specs.LiveRuns.{FrontWorker, worker_fronts, worker_tasks, worker_answers, AreBeside, GivesOn, AllReply, AllReplySome, OperatorWorks, OperatorWorksSome, FrontStep}
+use Rattle.ct_live.specs.LiveWorkers.{FrontWorker, worker_fronts, worker_tasks, worker_answers, AreBeside, GivesOn, AllReply, AllReplySome, OperatorWorks, OperatorWorksSome, LiveFrontReplies}
 use Rattle.ct_live.specs.declared.asking.LiveOperatorTask.{LiveOperatorTask}
 use Rattle.ct_live.specs.declared.front.LiveFront.{LiveFront}
 use Rattle.ct_live.specs.declared.giving.Inlets.{Inlets}
-use Rattle.ct_live.specs.declared.workers.OperatorWorker.{OperatorWorker}
+use Rattle.ct_live.specs.declared.operator.OperatorWorker.{OperatorWorker}
 
 -- a front that answered its tasks went on
-front_went_on : (a b : LiveFront) (ts : List (Numbered FrontRequest)) (xs : List (List ℕ)) → AreAnswered FrontStep a ts xs b → FrontGoesOn a.front b.front
+front_went_on : (a b : LiveFront) (ts : List (Numbered FrontRequest)) (xs : List (List ℕ)) → AreAnswered LiveFrontReplies a ts xs b → FrontGoesOn a.front b.front
 front_went_on =
-    in_turn_keeps (AnswersWith FrontStep) (λ (a b : LiveFront). FrontGoesOn a.front b.front) (λ a. front_goes_on_nothing a.front)
+    in_turn_keeps (AnswersWith LiveFrontReplies) (λ (a b : LiveFront). FrontGoesOn a.front b.front) (λ a. front_goes_on_nothing a.front)
     (λ a m b. front_goes_on_both a.front m.front b.front) (λ a b t x one. one.1.goes_on)
 
 -- and so did the operator
 operator_went_on : (a b : HouseState) (ts : List (Numbered LiveOperatorTask)) (xs : List (List ℕ)) → AreAnswered OperatorReplies a ts xs b → GoesOn a b
 operator_went_on = in_turn_keeps (AnswersWith OperatorReplies) GoesOn goes_on_nothing goes_on_both (λ a b t x one. one.1.goes_on)
 
-fronts_same : (before after : List FrontWorker) → AllReply before after → AreSame (worker_fronts before) (worker_fronts after)
+fronts_same : (before after : List FrontWorker) → AllReply before after → AllGoOn (worker_fronts before) (worker_fronts after)
 fronts_same [] [] all = tt
 fronts_same [] (b ∷ after) all = absurd all
 fronts_same (a ∷ before) [] all = absurd all
@@ -85,7 +85,7 @@ pub beside_kept : (g h : Inlets) (before after : List FrontWorker) (o p : Operat
     → GivesOn g h → AllReplySome before after → OperatorWorksSome o p → SameConsumers rs ss → AreBeside h (worker_tasks after) (worker_answers after) p ss
 beside_kept g h before after o p rs ss i given did worked same = record {
   tasks_of = tasks_kept g.fronts.items h.fronts.items before after given.fronts did i.tasks_of;
-  orders = pair_kept g.operator h.operator o.tasks p.tasks given.operator worked.tasks i.orders;
+  operator_tasks_of = pair_kept g.operator h.operator o.tasks p.tasks given.operator worked.tasks i.operator_tasks_of;
   answers_of = answers_kept before after o.answers p.answers rs ss did worked.answers same i.answers_of;
 }
 

@@ -9,7 +9,7 @@ use Rattle.rtrb.specs.declared.consumer.Consumer.{Consumer}
 use Rattle.rtrb.specs.declared.producer.Producer.{Producer}
 use Rattle.ct_live.specs.Working.{Works, WorksSome, AreJoinedOf, HasRoom}
 use Rattle.ct_live.specs.declared.pipes.answering.Numbered.{Numbered}
-use Rattle.ct_live.specs.declared.pipes.answering.PartyFault.{PartyFault}
+use Rattle.ct_live.specs.declared.pipes.fault.ThreadFault.{ThreadFault}
 use Rattle.ct_live.specs.declared.pipes.workers.Joined.{Joined}
 use Rattle.ct_live.specs.declared.pipes.workers.Worker.{Worker}
 use Rattle.ct_live.proofs.Opened.{pairs_more}
@@ -36,7 +36,7 @@ module _ {P T : Type 0} where
 
   -- and room for the others behind it
   pub room_left : (n m : ℕ) (j : Joined P T) (ps : Vec P Global) (ts : Vec (Consumer (Numbered T) Global AnyItems) Global)
-      (us : Vec (Producer (Vec ℕ Global) Global AnyItems) Global) (f : Option PartyFault) (w : Worker P T)
+      (us : Vec (Producer (Vec ℕ Global) Global AnyItems) Global) (f : Option ThreadFault) (w : Worker P T)
       → n ≡ suc m → ps.items ≡ j.parties.items ++ w.party ∷ [] → vec_capacity ps ≡ vec_capacity j.parties
       → ts.items ≡ j.tasks.items ++ w.tasks ∷ [] → vec_capacity ts ≡ vec_capacity j.tasks
       → us.items ≡ j.answers.items ++ w.answers ∷ [] → vec_capacity us ≡ vec_capacity j.answers
@@ -52,12 +52,12 @@ module _ {P T : Type 0} where
         → AreJoinedOf does [] j
     none_joined j e = record { workers_then = []; did = tt; all = λ none. tt; parties = e.0; tasks = e.1; answers = e.2 }
 
-    done_there : (r : Result Unit PartyFault) (x w : Worker P T) → OnOk r (Works does x w) → r ≡ Ok tt → Works does x w
-    done_there r x w done e = subst (λ (s : Result Unit PartyFault). OnOk s (Works does x w)) e done
+    done_there : (r : Result Unit ThreadFault) (x w : Worker P T) → OnOk r (Works does x w) → r ≡ Ok tt → Works does x w
+    done_there r x w done e = subst (λ (s : Result Unit ThreadFault). OnOk s (Works does x w)) e done
 
     -- one thread more was joined
-    pub joined_more : (xs : List (Worker P T)) (x w : Worker P T) (r : Result Unit PartyFault) (j : Joined P T) (ps : Vec P Global)
-        (ts : Vec (Consumer (Numbered T) Global AnyItems) Global) (us : Vec (Producer (Vec ℕ Global) Global AnyItems) Global) (f : Option PartyFault)
+    pub joined_more : (xs : List (Worker P T)) (x w : Worker P T) (r : Result Unit ThreadFault) (j : Joined P T) (ps : Vec P Global)
+        (ts : Vec (Consumer (Numbered T) Global AnyItems) Global) (us : Vec (Producer (Vec ℕ Global) Global AnyItems) Global) (f : Option ThreadFault)
         → ps.items ≡ j.parties.items ++ w.party ∷ [] → ts.items ≡ j.tasks.items ++ w.tasks ∷ [] → us.items ≡ j.answers.items ++ w.answers ∷ []
         → (f ≡ None → (j.fault ≡ None) × (r ≡ Ok tt)) → OnOk r (Works does x w) × WorksSome does x w → AreJoinedOf does xs j
         → AreJoinedOf does (xs ++ x ∷ []) (record { parties = ps; tasks = ts; answers = us; fault = f })

@@ -14,8 +14,8 @@ use Rattle.ct_live.specs.Tagged.{tagged}
 use Rattle.ct_lines.proofs.KeptLines.{whole_or_long}
 use Rattle.ct_live.specs.LiveLines.{AsksLive, live_asked_in, live_request_of, live_request_step, live_step_for}
 use Rattle.ct_live.specs.LiveGiven.{GivesLines}
-use Rattle.ct_live.specs.LiveReplies.{object_text}
-use Rattle.ct_live.specs.LiveServed.{AllAskLive, closed_replies}
+use Rattle.ct_live.specs.ReplyObjects.{object_text}
+use Rattle.ct_live.specs.LiveInput.{AllAskLive, closed_replies}
 use Rattle.ct_live.specs.LiveTasks.{LiveStep}
 use Rattle.ct_live.specs.declared.giving.Inlets.{Inlets}
 

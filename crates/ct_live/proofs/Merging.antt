@@ -14,7 +14,7 @@ use Rattle.rtrb.specs.declared.AnyItems.{AnyItems}
 use Rattle.rtrb.specs.declared.consumer.Consumer.{Consumer}
 use Rattle.rtrb.specs.declared.producer.Producer.{Producer}
 use Rattle.ct_live.specs.Rings.{all_sent, AreSeenEmpty, EmptiedAt, IsSeenFull, SameProducers, SameConsumers}
-use Rattle.ct_live.specs.Parts.{part, part_of, IsMergeOf}
+use Rattle.ct_live.specs.Merges.{part, part_of, IsMergeOf}
 
 -- the element that was put there, and the others
 pub put_there : {A : Type 0} (xs : List A) (i : ℕ) (x y : A) → slice_get xs i ≡ Some x → slice_get (set xs i y) i ≡ Some y

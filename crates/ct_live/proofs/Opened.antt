@@ -8,7 +8,7 @@ use Rattle.rtrb.specs.Ring.{sent, received, producer_capacity, IsPair}
 use Rattle.rtrb.specs.declared.AnyItems.{AnyItems}
 use Rattle.rtrb.specs.declared.consumer.Consumer.{Consumer}
 use Rattle.rtrb.specs.declared.producer.Producer.{Producer}
-use Rattle.ct_live.specs.Opening.{AreEmpty}
+use Rattle.ct_live.specs.NewRings.{AreEmpty}
 use Rattle.ct_live.specs.Rings.{HavePlaces}
 
 pub pairs_more : {A B : Type 0} (R : A → B → Type 0) (xs : List A) (ys : List B) (x : A) (y : B) → AllZip R xs ys → R x y

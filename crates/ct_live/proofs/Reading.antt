@@ -11,12 +11,12 @@ use Rattle.ct_live.specs.Rings.{all_sent}
 use Rattle.ct_live.specs.declared.pipes.answering.Numbered.{Numbered}
 use Rattle.ct_live.specs.LiveGiven.{AreRead, EndsReading, HaveGiven, ReadsOn}
 use Rattle.ct_live.specs.LiveGiven.{GivesLine, GivesLines, GivesNext, GivesNothing, GivesSome, GivesUpTo}
-use Rattle.ct_live.specs.LiveServed.{AllAskLive, AreFirstLinesOf, AreGiven, AreLinesOf, numbered_from}
-use Rattle.ct_live.specs.LiveTasks.{LiveStep, closes}
+use Rattle.ct_live.specs.LiveInput.{AllAskLive, AreFirstLinesOf, AreGiven, AreLinesOf, numbered_from}
+use Rattle.ct_live.specs.LiveTasks.{LiveStep, closes_at}
 use Rattle.ct_live.specs.declared.asking.LiveOperatorTask.{LiveOperatorTask}
 use Rattle.ct_live.specs.declared.giving.End.{End}
 use Rattle.ct_live.specs.declared.giving.End.TheVariants as end_case
-use Rattle.ct_live.specs.declared.giving.GiveFault.{GiveFault}
+use Rattle.ct_live.specs.declared.pipes.fault.ThreadFault.{ThreadFault}
 use Rattle.ct_live.specs.declared.giving.Inlets.{Inlets}
 use Rattle.ct_live.proofs.Kept.{whole_asks, whole_gives, whole_line, whole_some}
 
@@ -140,7 +140,7 @@ all_given fronts n m o input left later (end_case.Close k now) a b c h next =
       ended = (
         whole_line left line,
         whole_some m o k left later line read some,
-        whole_asks fronts m o k left later line (closes now) read asks,
+        whole_asks fronts m o k left later line (closes_at now) read asks,
         read_both n m o input left later h.lines ((k, whole_line left line) ∷ []) h.read (read_line m o k left later line read),
       );
     }
@@ -205,13 +205,13 @@ given_begun fronts n m input left end a b count given = record {
 
 -- ---- the same, of the values as they are handed on
 
-pub reads_as : (n m i j : ℕ) (x y p q : Option (List ℕ)) (r s : Result End GiveFault) (a b c d : Inlets) → i ≡ n → j ≡ m → p ≡ x → q ≡ y → s ≡ r → b ≡ a → d ≡ c
+pub reads_as : (n m i j : ℕ) (x y p q : Option (List ℕ)) (r s : Result End ThreadFault) (a b c d : Inlets) → i ≡ n → j ≡ m → p ≡ x → q ≡ y → s ≡ r → b ≡ a → d ≡ c
     → ReadsOn i m p y r b c → ReadsOn n j x q s a d
 reads_as n m i j x y p q r s a b c d en em ep eq er ea ec on =
     subst (λ (k : ℕ). ReadsOn k j x q s a d) en
     (subst (λ (k : ℕ). ReadsOn i k x q s a d) (sym em)
     (subst (λ (o : Option (List ℕ)). ReadsOn i m o q s a d) ep
     (subst (λ (o : Option (List ℕ)). ReadsOn i m p o s a d) (sym eq)
-    (subst (λ (t : Result End GiveFault). ReadsOn i m p y t a d) (sym er)
+    (subst (λ (t : Result End ThreadFault). ReadsOn i m p y t a d) (sym er)
     (subst (λ (k : Inlets). ReadsOn i m p y r k d) ea
     (subst (λ (k : Inlets). ReadsOn i m p y r b k) (sym ec) on))))))

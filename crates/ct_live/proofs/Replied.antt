@@ -11,21 +11,21 @@ use Rattle.rtrb.specs.declared.producer.Producer.{Producer}
 use Rattle.ct_house.specs.House.{FrontView, HouseState, IsNewHouse}
 use Rattle.ct_lines.specs.declared.request.FrontRequest.{FrontRequest}
 use Rattle.ct_live.specs.Answered.{AreAnswered, AnswersMore}
-use Rattle.ct_live.specs.Parts.{IsMergeOf}
+use Rattle.ct_live.specs.Merges.{IsMergeOf}
 use Rattle.ct_live.specs.Rings.{all_received, all_sent, texts, texts_each}
 use Rattle.ct_live.specs.Written.{in_order, IsWritten}
 use Rattle.ct_live.specs.declared.pipes.answering.Numbered.{Numbered}
 use Rattle.ct_live.specs.LiveEnding.{EndsLog, Rings}
 use Rattle.ct_live.specs.LiveGiven.{GivesUpTo}
-use Rattle.ct_live.specs.LiveOpening.{AreOpened}
+use Rattle.ct_live.specs.NewRings.{AreOpened}
 use Rattle.ct_live.specs.LiveParties.{OperatorReplies, FrontReplies}
 use Rattle.ct_live.specs.LiveReplied.{AllAnswer, NewHouseReplies, RepliesLive}
-use Rattle.ct_live.specs.LiveRunning.{RunsLive}
-use Rattle.ct_live.specs.LiveRuns.{FrontWorker, worker_fronts, worker_tasks, worker_answers, AllReply, FrontStep}
+use Rattle.ct_live.specs.LiveThreads.{RunsLive}
+use Rattle.ct_live.specs.LiveWorkers.{FrontWorker, worker_fronts, worker_tasks, worker_answers, AllReply, LiveFrontReplies}
 use Rattle.ct_live.specs.declared.front.LiveFront.{LiveFront}
 use Rattle.ct_live.specs.declared.giving.End.{End}
-use Rattle.ct_live.specs.declared.live.Ends.{Ends}
-use Rattle.ct_live.specs.declared.workers.OperatorWorker.{OperatorWorker}
+use Rattle.ct_live.specs.declared.live.AllPipes.{AllPipes}
+use Rattle.ct_live.specs.declared.operator.OperatorWorker.{OperatorWorker}
 use Rattle.ct_live.proofs.Tied.{none_given, tasks_of}
 
 abbrev pub Empty : {A : Type 0} → List A → Type 0
@@ -33,7 +33,7 @@ Empty xs = xs ≡ []
 
 -- ---- the answers of a party, seen as its front or its house
 
-pub front_answered : (a b : LiveFront) (ts : List (Numbered FrontRequest)) (xs : List (List ℕ)) → AreAnswered FrontStep a ts xs b
+pub front_answered : (a b : LiveFront) (ts : List (Numbered FrontRequest)) (xs : List (List ℕ)) → AreAnswered LiveFrontReplies a ts xs b
     → AreAnswered FrontReplies a.front ts xs b.front
 front_answered a b [] [] is = ap (λ (f : LiveFront). f.front) is
 front_answered a b [] (x ∷ xs) is = absurd is
@@ -64,7 +64,7 @@ all_answer [] (b ∷ after) p all no_task no_text = absurd all
 all_answer (a ∷ before) [] p all no_task no_text = absurd all
 all_answer (a ∷ before) (b ∷ after) p (did, all) no_task no_text = (
   front_answered a.party b.party (received b.tasks) (texts (sent b.answers))
-      (since FrontStep a.party b.party (received a.tasks) (received b.tasks) (sent a.answers) (sent b.answers) (no_task 0 [] (omega arith))
+      (since LiveFrontReplies a.party b.party (received a.tasks) (received b.tasks) (sent a.answers) (sent b.answers) (no_task 0 [] (omega arith))
       (no_text 0 [] (omega arith)) did.answered),
   all_answer before after p all (rest_of Empty (received a.tasks) (all_received (worker_tasks before)) no_task)
       (rest_of Empty (sent a.answers) (all_sent (worker_answers before ++ p ∷ [])) no_text),
@@ -78,10 +78,10 @@ last_unsent (a ∷ before) p no_text = last_unsent before p (rest_of Empty (sent
 -- ---- the parties whose ends are those of rings that were opened received nothing yet, and sent nothing
 
 -- the operator with the ends of its rings
-abbrev pub operator_of : HouseState → Ends → OperatorWorker
+abbrev pub operator_of : HouseState → AllPipes → OperatorWorker
 operator_of house e = record { sequencer = house; tasks = e.operator_tasks; answers = e.operator_answers }
 
-module _ (n : ℕ) (e : Ends) (workers : List FrontWorker) (i : AreOpened n e) where
+module _ (n : ℕ) (e : AllPipes) (workers : List FrontWorker) (i : AreOpened n e) where
   pub no_task : worker_tasks workers ≡ e.tasks.items → All Empty (all_received (worker_tasks workers))
   no_task tasks = subst (λ (l : List (Consumer (Numbered FrontRequest) Global AnyItems)). All Empty (all_received l)) (sym tasks) i.tasks.unreceived
 
@@ -90,7 +90,7 @@ module _ (n : ℕ) (e : Ends) (workers : List FrontWorker) (i : AreOpened n e) w
       subst (λ (l : List (Producer (Vec ℕ Global) Global AnyItems)). All Empty (all_sent (l ++ e.operator_answers ∷ []))) (sym answers) i.answers.unsent
 
   pub no_order : received e.operator_tasks ≡ []
-  no_order = i.orders.unreceived 0 [] (omega arith)
+  no_order = i.operator_tasks.unreceived 0 [] (omega arith)
 
 -- ---- what is written
 
@@ -119,7 +119,7 @@ module _ {T E : Type 0} where
   ok_is r x P is holds = subst (λ (t : Result T E). IfOk t P) is holds
 
 -- what the parties reply, and the log as it was closed or wasn't
-module _ (n close_at next : ℕ) (input : Option (List ℕ)) (e : Ends) (workers : List FrontWorker) (house : HouseState) (old : Option (List ℕ))
+module _ (n close_at next : ℕ) (input : Option (List ℕ)) (e : AllPipes) (workers : List FrontWorker) (house : HouseState) (old : Option (List ℕ))
     (i : AreOpened n e) (tasks : worker_tasks workers ≡ e.tasks.items) (answers : worker_answers workers ≡ e.answers.items)
     (Ending : HouseState → List FrontView → End → ℕ → Option (List ℕ) → Option (List ℕ) → Type 0)
     (r : RunsLive Ending next input e.inlets workers e.rings.items (operator_of house e) old) where
@@ -138,7 +138,7 @@ module _ (n close_at next : ℕ) (input : Option (List ℕ)) (e : Ends) (workers
       r.ended.ended_so r.given.given) in
       let tie = tasks_of n close_at next r.next_then input r.input_then end e.inlets r.inlets_then (all_received (worker_tasks r.workers_then))
       (received p.tasks) log.now (λ b. Closing p.sequencer (worker_fronts r.workers_then) log.now b log.text) (none_given n e i) out log.moment
-      r.ended.taken r.ended.ordered log.last in
+      r.ended.taken r.ended.operator_taken log.last in
       let unsent = no_text n e workers i answers in
       record {
         talk = record {

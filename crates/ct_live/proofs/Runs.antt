@@ -7,28 +7,27 @@ use Rattle.rtrb.specs.declared.AnyItems.{AnyItems}
 use Rattle.rtrb.specs.declared.consumer.Consumer.{Consumer}
 use Rattle.rtrb.specs.declared.producer.Producer.{Producer}
 use Rattle.ct_house.specs.House.{FrontView, HouseState}
-use Rattle.ct_parties.specs.Parties.{AreFrontsOf}
+use Rattle.ct_parties.specs.Fronts.{AreFrontsOf}
 use Rattle.ct_lines.specs.declared.request.FrontRequest.{FrontRequest}
 use Rattle.ct_live.specs.Working.{AreJoinedOf}
 use Rattle.ct_live.specs.Written.{WritesOn}
 use Rattle.ct_live.specs.declared.pipes.answering.Numbered.{Numbered}
-use Rattle.ct_live.specs.declared.pipes.answering.PartyFault.{PartyFault}
+use Rattle.ct_live.specs.declared.pipes.fault.ThreadFault.{ThreadFault}
 use Rattle.ct_lines.specs.declared.fault.Unwritten.{Unwritten}
 use Rattle.ct_live.specs.declared.pipes.workers.Joined.{Joined}
 use Rattle.ct_live.specs.LiveEnding.{EndsBrokenOff, EndsLive, EndsSome, HaveDone, Rings}
 use Rattle.ct_live.specs.LiveGiven.{ReadsOn}
-use Rattle.ct_live.specs.LiveRunning.{RunsBrokenOff, RunsLive, RunsSome}
-use Rattle.ct_live.specs.LiveRuns.{FrontWorker, party_fronts, worker_fronts, worker_tasks, worker_answers, AllReplySome, FrontStep}
-use Rattle.ct_live.specs.LiveRuns.{AreBeside, OperatorWorks, OperatorWorksSome, WritesOut}
+use Rattle.ct_live.specs.LiveThreads.{RunsBrokenOff, RunsLive, RunsSome}
+use Rattle.ct_live.specs.LiveWorkers.{FrontWorker, party_fronts, worker_fronts, worker_tasks, worker_answers, AllReplySome, LiveFrontReplies}
+use Rattle.ct_live.specs.LiveWorkers.{AreBeside, OperatorWorks, OperatorWorksSome, WritesOut}
 use Rattle.ct_live.specs.declared.front.LiveFront.{LiveFront}
 use Rattle.ct_live.specs.declared.giving.End.{End}
-use Rattle.ct_live.specs.declared.giving.GiveFault.{GiveFault}
 use Rattle.ct_live.specs.declared.giving.Inlets.{Inlets}
-use Rattle.ct_live.specs.declared.workers.OperatorWorker.{OperatorWorker}
+use Rattle.ct_live.specs.declared.operator.OperatorWorker.{OperatorWorker}
 use Rattle.ct_live.proofs.Ended.{fronts_beside}
 use Rattle.ct_live.proofs.Joined.{when_ok}
 
-runs_some : (n m : ℕ) (input left : Option (List ℕ)) (read : Result End GiveFault) (old new : Inlets) (before after : List FrontWorker) (o p : OperatorWorker)
+runs_some : (n m : ℕ) (input left : Option (List ℕ)) (read : Result End ThreadFault) (old new : Inlets) (before after : List FrontWorker) (o p : OperatorWorker)
     (first rings : Rings) (r : Result Unit Unwritten) (a b c : Option (List ℕ)) → ReadsOn n m input left read old new → AllReplySome before after
     → OperatorWorksSome o p → WritesOut first rings a b r → EndsSome new (worker_tasks after) (worker_answers after) p r rings b c
     → RunsSome n input old before first o a c
@@ -41,7 +40,7 @@ runs_some n m input left read old new before after o p first rings r a b c given
   operated = worked;
   rings_then = ended.rings;
   taken = ended.taken;
-  ordered = ended.ordered;
+  operator_taken = ended.operator_taken;
   came = ended.came;
   wrote = ended.wrote first a wrote;
 }
@@ -49,7 +48,7 @@ runs_some n m input left read old new before after o p first rings r a b c given
 -- what is said of the fronts and the ends of their rings that were handed back, said of those that did so
 module _ (P : List FrontView → List (Consumer (Numbered FrontRequest) Global AnyItems) → List (Producer (Vec ℕ Global) Global AnyItems) → Type 0)
     (before : List FrontWorker) (joined : Joined LiveFront FrontRequest) where
-  of_workers : (j : AreJoinedOf FrontStep before joined) → P (party_fronts joined.parties.items) joined.tasks.items joined.answers.items
+  of_workers : (j : AreJoinedOf LiveFrontReplies before joined) → P (party_fronts joined.parties.items) joined.tasks.items joined.answers.items
       → P (worker_fronts j.workers_then) (worker_tasks j.workers_then) (worker_answers j.workers_then)
   of_workers j said =
       subst (λ (l : List FrontView). P l (worker_tasks j.workers_then) (worker_answers j.workers_then)) (fronts_beside joined.parties.items j.workers_then j.parties)
@@ -58,9 +57,9 @@ module _ (P : List FrontView → List (Consumer (Numbered FrontRequest) Global A
 
 -- all did what they had to
 pub ran : {Closing : HouseState → List FrontView → End → ℕ → Option (List ℕ) → Option (List ℕ) → Type 0} {n m : ℕ} {input left : Option (List ℕ)}
-    {read : Result End GiveFault} {old new : Inlets} {before : List FrontWorker} {joined : Joined LiveFront FrontRequest} {o p : OperatorWorker}
-    {first rings : Rings} {written : Result Unit Unwritten} {operated : Result Unit PartyFault} {a b : Option (List ℕ)}
-    → ReadsOn n m input left read old new → AreJoinedOf FrontStep before joined → OnOk operated (OperatorWorks o p) → WritesOut first rings a b written
+    {read : Result End ThreadFault} {old new : Inlets} {before : List FrontWorker} {joined : Joined LiveFront FrontRequest} {o p : OperatorWorker}
+    {first rings : Rings} {written : Result Unit Unwritten} {operated : Result Unit ThreadFault} {a b : Option (List ℕ)}
+    → ReadsOn n m input left read old new → AreJoinedOf LiveFrontReplies before joined → OnOk operated (OperatorWorks o p) → WritesOut first rings a b written
     → HaveDone written operated joined.fault
     × EndsLive Closing new (party_fronts joined.parties.items) joined.tasks.items joined.answers.items p read m left rings b
     → RunsLive Closing n input old before first o a
@@ -82,9 +81,9 @@ ran {Closing} {m = m} {left = left} {read = read} {new = new} {before = before} 
     }
 
 -- a fault broke it off
-pub ran_broken : {close_at n m : ℕ} {input left : Option (List ℕ)} {read : Result End GiveFault} {old new : Inlets} {before : List FrontWorker}
-    {joined : Joined LiveFront FrontRequest} {o p : OperatorWorker} {first rings : Rings} {written : Result Unit Unwritten} {operated : Result Unit PartyFault}
-    {a b c : Option (List ℕ)} → ReadsOn n m input left read old new → AreJoinedOf FrontStep before joined → OperatorWorksSome o p
+pub ran_broken : {close_at n m : ℕ} {input left : Option (List ℕ)} {read : Result End ThreadFault} {old new : Inlets} {before : List FrontWorker}
+    {joined : Joined LiveFront FrontRequest} {o p : OperatorWorker} {first rings : Rings} {written : Result Unit Unwritten} {operated : Result Unit ThreadFault}
+    {a b c : Option (List ℕ)} → ReadsOn n m input left read old new → AreJoinedOf LiveFrontReplies before joined → OperatorWorksSome o p
     → OnOk operated (OperatorWorks o p) → WritesOut first rings a b written
     → EndsBrokenOff new (party_fronts joined.parties.items) joined.tasks.items joined.answers.items p written operated joined.fault close_at read m left rings b c
     → RunsBrokenOff close_at n input old before first o a c
@@ -110,13 +109,13 @@ writer_out (Err w) own text rings written done first a out e k wrote none same =
 -- ---- the ends of the rings that were handed back
 
 pub beside_joined : (g : Inlets) (before : List FrontWorker) (joined : Joined LiveFront FrontRequest) (p : OperatorWorker) (rings : Rings)
-    (j : AreJoinedOf FrontStep before joined) → AreBeside g (worker_tasks j.workers_then) (worker_answers j.workers_then) p rings
+    (j : AreJoinedOf LiveFrontReplies before joined) → AreBeside g (worker_tasks j.workers_then) (worker_answers j.workers_then) p rings
     → AreBeside g joined.tasks.items joined.answers.items p rings
 beside_joined g before joined p rings j is =
     subst (λ (l : List (Consumer (Numbered FrontRequest) Global AnyItems)). AreBeside g l joined.answers.items p rings) (sym j.tasks)
     (subst (λ (l : List (Producer (Vec ℕ Global) Global AnyItems)). AreBeside g (worker_tasks j.workers_then) l p rings) (sym j.answers) is)
 
-pub fronts_joined : (before : List FrontWorker) (joined : Joined LiveFront FrontRequest) (house : HouseState) (j : AreJoinedOf FrontStep before joined)
+pub fronts_joined : (before : List FrontWorker) (joined : Joined LiveFront FrontRequest) (house : HouseState) (j : AreJoinedOf LiveFrontReplies before joined)
     → AreFrontsOf house (worker_fronts j.workers_then) → AreFrontsOf house (party_fronts joined.parties.items)
 fronts_joined before joined house j is =
     subst (λ (l : List FrontView). AreFrontsOf house l) (sym (fronts_beside joined.parties.items j.workers_then j.parties)) is

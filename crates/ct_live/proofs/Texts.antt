@@ -13,8 +13,8 @@ use Rattle.ct_live.specs.Tagged.{tagged}
 use Rattle.ct_tree.specs.declared.head.Head.{Head}
 use Rattle.ct_live.specs.LiveEnding.{EndsLog, WritesBehind, WritesLastHead}
 use Rattle.ct_live.specs.LiveReplied.{ClosesLog}
-use Rattle.ct_live.specs.LiveReplies.{object_text}
-use Rattle.ct_live.specs.LiveServed.{closed_replies}
+use Rattle.ct_live.specs.ReplyObjects.{object_text}
+use Rattle.ct_live.specs.LiveInput.{closed_replies}
 use Rattle.ct_live.specs.LiveGiven.{AreRead}
 use Rattle.ct_live.specs.declared.giving.End.{End}
 use Rattle.ct_live.specs.declared.giving.End.TheVariants as end_case

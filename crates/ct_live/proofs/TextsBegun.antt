@@ -15,8 +15,8 @@ use Rattle.ct_live.proofs.Writing.{some_behind}
 use Rattle.ct_tree.specs.declared.head.Head.{Head}
 use Rattle.ct_live.specs.LiveGiven.{AreRead}
 use Rattle.ct_live.specs.LiveEnding.{WritesSomeBehind, WritesSomeLastHead}
-use Rattle.ct_live.specs.LiveReplies.{object_text}
-use Rattle.ct_live.specs.LiveServed.{AreLinesOf, closed_replies, numbered_from}
+use Rattle.ct_live.specs.ReplyObjects.{object_text}
+use Rattle.ct_live.specs.LiveInput.{AreLinesOf, closed_replies, numbered_from}
 use Rattle.ct_live.proofs.Kept.{whole_line, whole_replies}
 use Rattle.ct_live.proofs.Reading.{next_named, read_all, read_both, read_line}
 use Rattle.ct_live.proofs.Texts.{replies_both, RepliesSoFar}

@@ -8,19 +8,19 @@ use Rattle.ct_live.specs.Rings.{all_sent}
 use Rattle.ct_live.specs.declared.pipes.answering.Numbered.{Numbered}
 use Rattle.ct_live.specs.LiveGiven.{GivesLines, GivesUpTo, HaveGiven}
 use Rattle.ct_live.specs.LiveLines.{AsksLive}
-use Rattle.ct_live.specs.LiveOpening.{AreOpened}
+use Rattle.ct_live.specs.NewRings.{AreOpened}
 use Rattle.ct_live.specs.LiveEnding.{EndsIn, IsMomentOf}
-use Rattle.ct_live.specs.LiveServed.{AreAsked, AreGiven, AreLinesOf, AreTasksOf, operator_task_asked, numbered_from}
-use Rattle.ct_live.specs.LiveTasks.{closes}
+use Rattle.ct_live.specs.LiveInput.{AreAsked, AreGiven, AreLinesOf, AreTasksOf, operator_task_asked, numbered_from}
+use Rattle.ct_live.specs.LiveTasks.{closes_at}
 use Rattle.ct_live.specs.declared.asking.LiveOperatorTask.{LiveOperatorTask}
 use Rattle.ct_live.specs.declared.giving.End.{End}
 use Rattle.ct_live.specs.declared.giving.End.TheVariants as end_case
 use Rattle.ct_live.specs.declared.giving.Inlets.{Inlets}
-use Rattle.ct_live.specs.declared.live.Ends.{Ends}
+use Rattle.ct_live.specs.declared.live.AllPipes.{AllPipes}
 use Rattle.ct_live.proofs.Reading.{read_all}
 
 -- into rings that were opened nothing was given yet
-pub none_given : (n : ℕ) (e : Ends) → AreOpened n e → HaveGiven [] e.inlets
+pub none_given : (n : ℕ) (e : AllPipes) → AreOpened n e → HaveGiven [] e.inlets
 none_given n e i = record {
   front_tasks = [];
   asked = refl;
@@ -30,7 +30,7 @@ none_given n e i = record {
         sym (get_or_from_slice_get (all_sent e.inlets.fronts.items) k list list at)
         ∙ i.tasks.unsent k list (slice_get_within (all_sent e.inlets.fronts.items) k list at);
   };
-  ordered = ap (map operator_task_asked) (i.orders.unsent 0 [] (omega arith));
+  ordered = ap (map operator_task_asked) (i.operator_tasks.unsent 0 [] (omega arith));
 }
 
 -- what is said of whatever is left
@@ -88,7 +88,7 @@ tasks_of fronts close_at n m input left (end_case.Close k at) old new front_task
         cut = (
           line,
           some,
-          subst (λ (t : ℕ). AsksLive fronts line (closes t)) (sym moment) closing,
+          subst (λ (t : ℕ). AsksLive fronts line (closes_at t)) (sym moment) closing,
           append_assoc out.lines ((k, line) ∷ []) rest,
         );
         asked = all_asked fronts out.lines old new front_tasks operator_tasks none out.gives fs ds;

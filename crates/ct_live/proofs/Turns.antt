@@ -13,8 +13,8 @@ use Rattle.ct_live.specs.Working.{AllWork, Works}
 use Rattle.ct_live.specs.declared.pipes.answering.Inbox.{Inbox}
 use Rattle.ct_live.specs.declared.pipes.answering.Numbered.{Numbered}
 use Rattle.ct_live.specs.declared.pipes.answering.Outbox.{Outbox}
-use Rattle.ct_live.specs.declared.pipes.answering.PartyFault.{PartyFault}
-use Rattle.ct_live.specs.declared.pipes.answering.PartyFault.TheVariants.{Memory}
+use Rattle.ct_live.specs.declared.pipes.fault.ThreadFault.{ThreadFault}
+use Rattle.ct_live.specs.declared.pipes.fault.ThreadFault.TheVariants.{Memory}
 use Rattle.ct_live.specs.declared.pipes.workers.Worker.{Worker}
 use Rattle.ct_live.proofs.Merging.{consumer_trans}
 use Rattle.ct_live.proofs.Opened.{pairs_more}
@@ -40,12 +40,12 @@ module _ {P T : Type 0} (does : P → T → List ℕ → P → Type 0) where
       (λ (before after : Inbox T). ReceivesNoMore before.tasks after.tasks) does
       (λ (before : Outbox) (line : ℕ) (reply : List ℕ) (after : Outbox). SendsTagged before.answers line reply after.answers)
 
-  abbrev pub ServesRingsButLast : At → PartyFault → Inbox T → Outbox → Type 0
+  abbrev pub ServesRingsButLast : At → ThreadFault → Inbox T → Outbox → Type 0
   ServesRingsButLast =
       ServesAllButLast (λ (before : Inbox T) (line : ℕ) (task : T) (after : Inbox T). ReceivesNext before.tasks line task after.tasks) does
       (λ (before : Outbox) (line : ℕ) (reply : List ℕ) (after : Outbox). SendsTagged before.answers line reply after.answers)
-      (λ (e : AllocError) (fault : PartyFault). fault ≡ Memory)
-      (λ (before : Outbox) (fault : PartyFault) (after : Outbox). SendsNothing before.answers fault after.answers)
+      (λ (e : AllocError) (fault : ThreadFault). fault ≡ Memory)
+      (λ (before : Outbox) (fault : ThreadFault) (after : Outbox). SendsNothing before.answers fault after.answers)
 
   -- from the one to the other more tasks were received and answered
   abbrev pub More : At → At → Type 0
@@ -113,7 +113,7 @@ module _ {P T : Type 0} (does : P → T → List ℕ → P → Type 0) where
       (consumer_trans a.source.tasks all.before_end.tasks b.source.tasks before.0 all.ended.same, before.1)
 
   -- the reply to the last was not sent
-  last_unsent : (a : At) (fault : PartyFault) (s : Inbox T) (k : Outbox) (cut : ServesRingsButLast a fault s k)
+  last_unsent : (a : At) (fault : ThreadFault) (s : Inbox T) (k : Outbox) (cut : ServesRingsButLast a fault s k)
       → (sent k.answers ≡ sent cut.between.sink.answers) × SameProducer cut.between.sink.answers k.answers
   last_unsent a fault s k cut = elim cut.ended [
     | inl refused ↦ (
@@ -123,7 +123,7 @@ module _ {P T : Type 0} (does : P → T → List ℕ → P → Type 0) where
     | inr refused ↦ (refused.none, refused.same)
   ]
 
-  but_last_more : (a : At) (fault : PartyFault) (s : Inbox T) (k : Outbox) → ServesRingsButLast a fault s k → ButLast a s k
+  but_last_more : (a : At) (fault : ThreadFault) (s : Inbox T) (k : Outbox) → ServesRingsButLast a fault s k → ButLast a s k
   but_last_more a fault s k cut =
       let before = turns_more a cut.between cut.tasks cut.replies cut.turns in
       record {
@@ -140,7 +140,7 @@ module _ {P T : Type 0} (does : P → T → List ℕ → P → Type 0) where
         };
       }
 
-  but_last_same : (a : At) (fault : PartyFault) (s : Inbox T) (k : Outbox) → ServesRingsButLast a fault s k → Same a s k
+  but_last_same : (a : At) (fault : ThreadFault) (s : Inbox T) (k : Outbox) → ServesRingsButLast a fault s k → Same a s k
   but_last_same a fault s k cut =
       let before = turns_same a cut.between cut.tasks cut.replies cut.turns in (
         consumer_trans a.source.tasks cut.between.source.tasks s.tasks before.0 cut.took.same,
@@ -149,16 +149,16 @@ module _ {P T : Type 0} (does : P → T → List ℕ → P → Type 0) where
 
   -- ---- what follows, whatever the result is
 
-  pub all_answered : {A : Type 0} (a b : At) (r : Result A PartyFault) → OnOk r (ServesRings a b) → OnOk r (More a b)
+  pub all_answered : {A : Type 0} (a b : At) (r : Result A ThreadFault) → OnOk r (ServesRings a b) → OnOk r (More a b)
   all_answered a b (Ok x) all = all_more a b all
   all_answered a b (Err fault) all = tt
 
-  pub but_last_answered : {A : Type 0} (a : At) (s : Inbox T) (k : Outbox) (r : Result A PartyFault)
+  pub but_last_answered : {A : Type 0} (a : At) (s : Inbox T) (k : Outbox) (r : Result A ThreadFault)
       → IfErr r (λ fault. ServesRingsButLast a fault s k) → OnErr r (ButLast a s k)
   but_last_answered a s k (Ok x) cut = tt
   but_last_answered a s k (Err fault) cut = but_last_more a fault s k cut
 
-  pub rings_same : {A : Type 0} (a b : At) (r : Result A PartyFault) → OnOk r (ServesRings a b)
+  pub rings_same : {A : Type 0} (a b : At) (r : Result A ThreadFault) → OnOk r (ServesRings a b)
       → IfErr r (λ fault. ServesRingsButLast a fault b.source b.sink) → Same a b.source b.sink
   rings_same a b (Ok x) all cut = all_same a b all
   rings_same a b (Err fault) all cut = but_last_same a fault b.source b.sink cut

@@ -10,7 +10,7 @@ use Rattle.std.proofs.lemmas.Option.{slice_get-get_or}
 use Rattle.rtrb.specs.Ring.{received}
 use Rattle.rtrb.specs.declared.AnyItems.{AnyItems}
 use Rattle.rtrb.specs.declared.consumer.Consumer.{Consumer}
-use Rattle.ct_live.specs.Parts.{IsMergeOf}
+use Rattle.ct_live.specs.Merges.{IsMergeOf}
 use Rattle.ct_live.specs.Rings.{all_received, texts, texts_each}
 use Rattle.ct_live.specs.Written.{in_order, Passes, PassesSome, IsWritten, IsBegunOf}
 use Rattle.ct_lines.specs.Sends.{SendsSome}

@@ -10,8 +10,8 @@ use Rattle.ct_parties.specs.InTurn.{InTurn}
 use Rattle.ct_live.specs.Rings.{texts}
 use Rattle.ct_live.specs.Tagged.{tagged}
 use Rattle.ct_live.specs.declared.pipes.answering.Numbered.{Numbered}
-use Rattle.ct_live.specs.declared.pipes.answering.PartyFault.{PartyFault}
-use Rattle.ct_live.specs.declared.pipes.answering.PartyFault.TheVariants.{Stopped}
+use Rattle.ct_live.specs.declared.pipes.fault.ThreadFault.{ThreadFault}
+use Rattle.ct_live.specs.declared.pipes.fault.ThreadFault.TheVariants.{Stopped}
 
 -- this task of the line with this number was received next, from the same ring
 pub record ReceivesNext {T : Type 0} (before : Consumer (Numbered T) Global AnyItems) (line : ℕ) (task : T)
@@ -34,7 +34,7 @@ pub record SendsTagged (before : Producer (Vec ℕ Global) Global AnyItems) (lin
   pub same : SameProducer before after
 
 -- nothing was sent, and where that was since all were to end, the ring was seen full
-pub record SendsNothing (before : Producer (Vec ℕ Global) Global AnyItems) (fault : PartyFault)
+pub record SendsNothing (before : Producer (Vec ℕ Global) Global AnyItems) (fault : ThreadFault)
     (after : Producer (Vec ℕ Global) Global AnyItems) : Type 0 where
   pub none : sent after ≡ sent before
   pub full : fault ≡ Stopped → known_free after ≡ 0

@@ -20,18 +20,17 @@ use Rattle.ct_live.specs.Tagged.{tagged}
 use Rattle.ct_live.specs.Written.{BeginsOn, WritesOn}
 use Rattle.ct_lines.specs.Sends.{SendsSome}
 use Rattle.ct_live.specs.declared.pipes.answering.Numbered.{Numbered}
-use Rattle.ct_live.specs.declared.pipes.answering.PartyFault.{PartyFault}
-use Rattle.ct_live.specs.declared.pipes.answering.PartyFault.TheVariants as party_case
+use Rattle.ct_live.specs.declared.pipes.fault.ThreadFault.{ThreadFault}
 use Rattle.ct_lines.specs.declared.fault.Unwritten.{Unwritten}
 use Rattle.ct_live.specs.LiveReplied.{BeginsWhole, ClosesLog}
-use Rattle.ct_live.specs.LiveReplies.{object_text}
-use Rattle.ct_live.specs.LiveRuns.{WritesOut}
-use Rattle.ct_live.specs.LiveServed.{AreLinesOf, closed_replies, IsLastHead}
+use Rattle.ct_live.specs.ReplyObjects.{object_text}
+use Rattle.ct_live.specs.LiveWorkers.{WritesOut}
+use Rattle.ct_live.specs.LiveInput.{AreLinesOf, closed_replies}
+use Rattle.ct_live.specs.LiveSigning.{IsLastHead}
 use Rattle.ct_live.specs.declared.giving.End.{End}
 use Rattle.ct_live.specs.declared.giving.End.TheVariants.{Close, Input}
-use Rattle.ct_live.specs.declared.giving.GiveFault.{GiveFault}
 use Rattle.ct_live.specs.declared.giving.Inlets.{Inlets}
-use Rattle.ct_live.specs.declared.workers.OperatorWorker.{OperatorWorker}
+use Rattle.ct_live.specs.declared.operator.OperatorWorker.{OperatorWorker}
 
 -- where the answers of all parties come out
 abbrev pub Rings : Type 0
@@ -85,13 +84,13 @@ EndsLogSome close_at new house fronts end n input old =
 -- ---- the end of the run
 
 -- Once all threads have ended: the reader wasn't kept from the lines, which `end` ended, by `ended_so`; the parties had received all tasks
--- that they were given, by `taken` and `ordered`; by `all` all their answers came out of the rings, which are `rings` then, by `written` those
+-- that they were given, by `taken` and `operator_taken`; by `all` all their answers came out of the rings, which are `rings` then, by `written` those
 -- that were left are written, which makes the output `mid`; and `closing` is what is said of the closing behind that.
 pub record EndsLive (Closing : HouseState → List FrontView → End → ℕ → Option (List ℕ) → Option (List ℕ) → Type 0) (inlets : Inlets) (fronts : List FrontView)
     (tasks : List (Consumer (Numbered FrontRequest) Global AnyItems)) (answers : List (Producer (Vec ℕ Global) Global AnyItems)) (operator : OperatorWorker)
-    (read : Result End GiveFault) (next : ℕ) (input : Option (List ℕ)) (before : Rings) (old : Option (List ℕ)) : Type 0 where
+    (read : Result End ThreadFault) (next : ℕ) (input : Option (List ℕ)) (before : Rings) (old : Option (List ℕ)) : Type 0 where
   pub taken : all_received tasks ≡ all_sent inlets.fronts.items
-  pub ordered : received operator.tasks ≡ sent inlets.operator
+  pub operator_taken : received operator.tasks ≡ sent inlets.operator
   pub rings : Rings
   pub all : all_received rings ≡ all_sent (answers ++ operator.answers ∷ [])
   pub mid : Option (List ℕ)
@@ -101,19 +100,19 @@ pub record EndsLive (Closing : HouseState → List FrontView → End → ℕ →
   pub closing : Closing operator.sequencer fronts end next input mid
 
 -- Once all threads have ended, where that end was broken off before the log was closed: the parties had received the first tasks of
--- those that they were given, by `taken` and `ordered`; by `came` what came out of the rings, which are `rings` then, are the first answers;
+-- those that they were given, by `taken` and `operator_taken`; by `came` what came out of the rings, which are `rings` then, are the first answers;
 -- and by `wrote`, as far as the writer's thread had done so with this result, a beginning of them is written.
 pub record EndsSome (inlets : Inlets) (tasks : List (Consumer (Numbered FrontRequest) Global AnyItems))
     (answers : List (Producer (Vec ℕ Global) Global AnyItems)) (operator : OperatorWorker) (result : Result Unit Unwritten) (before : Rings)
     (old new : Option (List ℕ)) : Type 0 where
   pub taken : ArePrefixes (all_received tasks) (all_sent inlets.fronts.items)
-  pub ordered : IsPrefix (received operator.tasks) (sent inlets.operator)
+  pub operator_taken : IsPrefix (received operator.tasks) (sent inlets.operator)
   pub rings : Rings
   pub came : ArePrefixes (all_received rings) (all_sent (answers ++ operator.answers ∷ []))
   pub wrote : (first : Rings) (start : Option (List ℕ)) → WritesOut first before start old result → BeginsOn first rings start new
 
 -- no thread ended before its time: the writer's, the operator's, or a front's
-pub record HaveDone (written : Result Unit Unwritten) (operated : Result Unit PartyFault) (fault : Option PartyFault) : Type 0 where
+pub record HaveDone (written : Result Unit Unwritten) (operated : Result Unit ThreadFault) (fault : Option ThreadFault) : Type 0 where
   pub writer : IsOk written
   pub operator : IsOk operated
   pub fronts : fault ≡ None
@@ -121,8 +120,8 @@ pub record HaveDone (written : Result Unit Unwritten) (operated : Result Unit Pa
 -- What came once all threads had ended, where a fault broke it off: before the log was closed; or behind that, all had done what they had to,
 -- and of what the closed log replies a beginning was written.
 abbrev pub EndsBrokenOff : Inlets → List FrontView → List (Consumer (Numbered FrontRequest) Global AnyItems)
-    → List (Producer (Vec ℕ Global) Global AnyItems) → OperatorWorker → Result Unit Unwritten → Result Unit PartyFault → Option PartyFault → ℕ
-    → Result End GiveFault → ℕ → Option (List ℕ) → Rings → Option (List ℕ) → Option (List ℕ) → Type 0
+    → List (Producer (Vec ℕ Global) Global AnyItems) → OperatorWorker → Result Unit Unwritten → Result Unit ThreadFault → Option ThreadFault → ℕ
+    → Result End ThreadFault → ℕ → Option (List ℕ) → Rings → Option (List ℕ) → Option (List ℕ) → Type 0
 EndsBrokenOff inlets fronts tasks answers operator written operated fault close_at read next input before old new =
     EndsSome inlets tasks answers operator written before old new
     ⊎ (HaveDone written operated fault × EndsLive (EndsLogSome close_at new) inlets fronts tasks answers operator read next input before old)
@@ -133,11 +132,6 @@ pub record WritesNoMore (before after : Rings) (old new : Option (List ℕ)) : T
   pub written : new ≡ old
 
 -- ---- what is told
-
--- what ends the run where a party ended before its time
-abbrev pub fault_of_party : PartyFault → Fault
-fault_of_party party_case.Memory = fault_case.Memory
-fault_of_party party_case.Stopped = fault_case.Threads
 
 -- what is told of a run that ended so: the same; or, in place of `Read`, that a thread didn't start
 abbrev pub IsToldAs : Result Unit Fault → Result Unit Fault → Type 0

@@ -2,30 +2,16 @@
 use Rattle.std.specs.Prelude.{◌≡◌, ◌≢◌, ℕ, List, [], ◌∷◌, ◌++◌, length, Option, Some, None, IfSome, IfOk, Result}
 use Rattle.rtrb.specs.Ring.{sent}
 use Rattle.ct_parties.specs.Lines.{lines_of}
-use Rattle.ct_parties.specs.declared.fault.Fault.{Fault}
-use Rattle.ct_parties.specs.declared.fault.Fault.TheVariants as fault_case
 use Rattle.ct_lines.specs.Lines.{IsNextLine}
 use Rattle.ct_live.specs.Rings.{all_sent}
 use Rattle.ct_live.specs.LiveLines.{AsksLive}
-use Rattle.ct_live.specs.LiveRuns.{GivesOn}
-use Rattle.ct_live.specs.LiveServed.{AllAskLive, AreFirstLinesOf, AreGiven, AreLinesOf, numbered_from}
-use Rattle.ct_live.specs.LiveTasks.{LiveStep, closes, LeavesOpen}
+use Rattle.ct_live.specs.LiveWorkers.{GivesOn}
+use Rattle.ct_live.specs.LiveInput.{AllAskLive, AreFirstLinesOf, AreGiven, AreLinesOf, numbered_from}
+use Rattle.ct_live.specs.LiveTasks.{LiveStep, closes_at, LeavesOpen}
 use Rattle.ct_live.specs.declared.giving.End.{End}
 use Rattle.ct_live.specs.declared.giving.End.TheVariants.{Close, Input}
-use Rattle.ct_live.specs.declared.giving.GiveFault.{GiveFault}
-use Rattle.ct_live.specs.declared.giving.GiveFault.TheVariants as give_case
+use Rattle.ct_live.specs.declared.pipes.fault.ThreadFault.{ThreadFault}
 use Rattle.ct_live.specs.declared.giving.Inlets.{Inlets}
-
--- why lines are left, where reading them or a line's growth fails so
-abbrev pub why_left : Fault → GiveFault
-why_left fault_case.Memory = give_case.Memory
-why_left _ = give_case.Read
-
--- what ends the run where lines are left: where all were to end, a thread that ended before its time has them end
-abbrev pub fault_of_left : GiveFault → Fault
-fault_of_left give_case.Memory = fault_case.Memory
-fault_of_left give_case.Read = fault_case.Read
-fault_of_left give_case.Stopped = fault_case.Threads
 
 -- what was given so far is what these steps ask
 abbrev pub HaveGiven : List (ℕ × LiveStep) → Inlets → Type 0
@@ -35,7 +21,7 @@ HaveGiven steps inlets = AreGiven steps (all_sent inlets.fronts.items) (sent inl
 -- was given anything.
 abbrev pub GivesStep : ℕ → LiveStep → Option ℕ → Inlets → Inlets → Type 0
 GivesStep k s None old new = LeavesOpen s × ((steps : List (ℕ × LiveStep)) → HaveGiven steps old → HaveGiven (steps ++ (k, s) ∷ []) new)
-GivesStep k s (Some now) old new = (s ≡ closes now) × (new ≡ old)
+GivesStep k s (Some now) old new = (s ≡ closes_at now) × (new ≡ old)
 
 -- what these lines ask was given, and nothing else
 abbrev pub GivesLines : ℕ → List (ℕ × List ℕ) → Inlets → Inlets → Type 0
@@ -45,7 +31,7 @@ GivesLines fronts lines old new =
 -- what a line asks was given, where it isn't empty; or it closes the log
 abbrev pub GivesLine : ℕ → ℕ → List ℕ → Option ℕ → Inlets → Inlets → Type 0
 GivesLine fronts k line None old new = GivesLines fronts ((k, line) ∷ []) old new
-GivesLine fronts k line (Some now) old new = (line ≢ []) × AsksLive fronts line (closes now) × (new ≡ old)
+GivesLine fronts k line (Some now) old new = (line ≢ []) × AsksLive fronts line (closes_at now) × (new ≡ old)
 
 -- The next line was read, and what it asks was given; or it closes the log; or none was left, and nobody was given anything. The next
 -- line had the number n, and has m then.
@@ -66,7 +52,7 @@ AreRead n m input left lines =
 abbrev pub EndsReading : ℕ → ℕ → ℕ → Option (List ℕ) → Option (List ℕ) → End → List (ℕ × List ℕ) → Type 0
 EndsReading fronts n m input left Input lines = AreLinesOf n input lines
 EndsReading fronts n m input left (Close k now) lines =
-    (line : List ℕ) × (line ≢ []) × AsksLive fronts line (closes now) × AreRead n m input left (lines ++ (k, line) ∷ [])
+    (line : List ℕ) × (line ≢ []) × AsksLive fronts line (closes_at now) × AreRead n m input left (lines ++ (k, line) ∷ [])
 
 -- what the lines ask was given out, up to what ended them
 pub record GivesUpTo (fronts n m : ℕ) (input left : Option (List ℕ)) (end : End) (old new : Inlets) : Type 0 where
@@ -86,7 +72,7 @@ pub record GivesSome (n : ℕ) (input : Option (List ℕ)) (old new : Inlets) : 
   pub gives : GivesLines (length old.fronts.items) lines old new
 
 -- what the reader did: into the same rings it gave out what the first lines ask, and what all ask, where it wasn't kept from it
-pub record ReadsOn (n m : ℕ) (input left : Option (List ℕ)) (result : Result End GiveFault) (old new : Inlets) : Type 0 where
+pub record ReadsOn (n m : ℕ) (input left : Option (List ℕ)) (result : Result End ThreadFault) (old new : Inlets) : Type 0 where
   pub same : GivesOn old new
   pub begun : GivesSome n input old new
   pub given : IfOk result (λ end. GivesUpTo (length old.fronts.items) n m input left end old new)

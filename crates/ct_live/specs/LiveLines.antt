@@ -7,7 +7,7 @@ use Rattle.ct_lines.specs.Asked.{with_three}
 use Rattle.ct_lines.specs.Fields.{text_at, number_at}
 use Rattle.ct_parties.specs.Tasks.{for_front, for_operator, for_frozen, Step, does, ends_shift, AsksFor}
 use Rattle.ct_parties.specs.declared.task.OperatorTask.TheVariants.{Sequence, Publish, Shutdown, BadLine}
-use Rattle.ct_live.specs.LiveTasks.{LiveStep, front_does, operator_does, closes}
+use Rattle.ct_live.specs.LiveTasks.{LiveStep, gives_front, gives_operator, closes_at}
 use Rattle.ct_live.specs.declared.asking.LiveRequest.{LiveRequest}
 use Rattle.ct_live.specs.declared.asking.LiveRequest.TheVariants as request_case
 use Rattle.ct_live.specs.declared.asking.LiveOperatorTask.TheVariants.{Do, Take, TreeHeadInput, TimestampInput, NotYet}
@@ -53,22 +53,22 @@ live_request_of line = if nat_le (length line) 1048576 && is_utf8 line then opti
 
 -- what is done for a line that every other log replies to with bad-line, by what it asks of a live log alone
 abbrev pub live_request_step : ℕ → Option LiveAsked → LiveStep
-live_request_step fronts (Some (take from max now)) = if nat_lt from fronts then operator_does (Take from max now) else operator_does (Do BadLine)
-live_request_step fronts (Some (close now)) = closes now
-live_request_step fronts (Some head_input) = operator_does TreeHeadInput
-live_request_step fronts (Some (timestamp_input ticket)) = operator_does (TimestampInput ticket)
-live_request_step fronts None = operator_does (Do BadLine)
+live_request_step fronts (Some (take from max now)) = if nat_lt from fronts then gives_operator (Take from max now) else gives_operator (Do BadLine)
+live_request_step fronts (Some (close now)) = closes_at now
+live_request_step fronts (Some head_input) = gives_operator TreeHeadInput
+live_request_step fronts (Some (timestamp_input ticket)) = gives_operator (TimestampInput ticket)
+live_request_step fronts None = gives_operator (Do BadLine)
 
 -- What a live log does for a line for which another log would do the first: the same, but that it has no shifts, that a line which
 -- asks the closed log is replied to with not-yet, and that a bad line may be a request that a live log alone has.
 abbrev pub live_step_for : ℕ → List ℕ → Step → LiveStep
-live_step_for fronts line (does (for_front n r)) = front_does n r
-live_step_for fronts line (does (for_operator (Sequence from count now))) = operator_does (Do (Sequence from count now))
-live_step_for fronts line (does (for_operator (Publish now))) = operator_does (Do (Publish now))
-live_step_for fronts line (does (for_operator Shutdown)) = operator_does (Do Shutdown)
+live_step_for fronts line (does (for_front n r)) = gives_front n r
+live_step_for fronts line (does (for_operator (Sequence from count now))) = gives_operator (Do (Sequence from count now))
+live_step_for fronts line (does (for_operator (Publish now))) = gives_operator (Do (Publish now))
+live_step_for fronts line (does (for_operator Shutdown)) = gives_operator (Do Shutdown)
 live_step_for fronts line (does (for_operator BadLine)) = live_request_step fronts (live_request_of line)
-live_step_for fronts line (does (for_frozen asked)) = operator_does NotYet
-live_step_for fronts line (ends_shift now) = operator_does (Do BadLine)
+live_step_for fronts line (does (for_frozen asked)) = gives_operator NotYet
+live_step_for fronts line (ends_shift now) = gives_operator (Do BadLine)
 
 -- The step is what a live log with so many fronts does for the line: what another log does, but that it has no shifts, that a line which
 -- asks the closed log is replied to with not-yet, and that a line which is none there may be a `take`, a `close`, or one that asks for
@@ -78,6 +78,6 @@ AsksLive fronts line s = (t : Step) × AsksFor fronts line t × (s ≡ live_step
 
 -- a front that does it is one of so many fronts
 abbrev pub IsForFront : ℕ → LiveStep → Type 0
-IsForFront fronts (front_does n r) = n < fronts
-IsForFront fronts (operator_does t) = Unit {0}
-IsForFront fronts (closes now) = Unit {0}
+IsForFront fronts (gives_front n r) = n < fronts
+IsForFront fronts (gives_operator t) = Unit {0}
+IsForFront fronts (closes_at now) = Unit {0}

@@ -5,7 +5,7 @@ use Rattle.ct_codec.specs.declared.refusal.Refusal.TheVariants as refusal
 use Rattle.ct_core.specs.Core.{clock_of, settle_refusal}
 use Rattle.ct_core.specs.Replies.{Answer, a_settled_count, refused}
 use Rattle.ct_house.specs.House.{FrontView, HouseState, hand_count}
-use Rattle.ct_live.specs.LiveReplies.{LiveOperatorAnswer, says, an_input, operator_text, object_text}
+use Rattle.ct_live.specs.ReplyObjects.{LiveOperatorAnswer, says, an_input, operator_text, object_text}
 use Rattle.ct_live.specs.LiveSigning.{IsHeadInput, IsTimestampInput, RefusesTimestampInput}
 use Rattle.ct_live.specs.declared.asking.LiveOperatorTask.{LiveOperatorTask}
 use Rattle.ct_live.specs.declared.asking.LiveOperatorTask.TheVariants.{Do, Take, TreeHeadInput, TimestampInput, NotYet}

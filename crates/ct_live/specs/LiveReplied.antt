@@ -6,12 +6,12 @@ use Rattle.ct_house.specs.House.{FinalState, FrontView, HouseState, IsNewHouse}
 use Rattle.ct_parties.specs.ClosedLog.{Closes, IsLate}
 use Rattle.ct_lines.specs.declared.request.FrontRequest.{FrontRequest}
 use Rattle.ct_live.specs.Answered.{AreAnswered}
-use Rattle.ct_live.specs.Parts.{IsMergeOf}
+use Rattle.ct_live.specs.Merges.{IsMergeOf}
 use Rattle.ct_live.specs.Rings.{ArePrefixes}
 use Rattle.ct_live.specs.Written.{in_order, IsBegunOf}
 use Rattle.ct_live.specs.declared.pipes.answering.Numbered.{Numbered}
 use Rattle.ct_live.specs.LiveParties.{OperatorReplies, FrontReplies}
-use Rattle.ct_live.specs.LiveServed.{AreAsked, AreFirstLinesOf, AreLinesOf, AreTasksOf, IsClosingText}
+use Rattle.ct_live.specs.LiveInput.{AreAsked, AreFirstLinesOf, AreLinesOf, AreTasksOf, IsClosingText}
 use Rattle.ct_live.specs.declared.asking.LiveOperatorTask.{LiveOperatorTask}
 
 -- ---- what the parties answered

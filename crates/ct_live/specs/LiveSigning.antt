@@ -10,9 +10,13 @@ use Rattle.ct_core.specs.Replies.{a_receipt, refused}
 use Rattle.ct_core.specs.Settlement.{Log}
 use Rattle.ct_tree.specs.declared.head.Head.{Head}
 
+-- the head is the last one of the log
+abbrev pub IsLastHead : Log → Head → Type 0
+IsLastHead log h = slice_get log.heads (length log.heads - 1) ≡ Some h
+
 -- the bytes stand under the signature of the last head: its timestamp, size and root (RFC 6962, section 3.5)
 abbrev pub IsHeadInput : Log → List ℕ → Type 0
-IsHeadInput log b = (h : Head) × (slice_get log.heads (length log.heads - 1) ≡ Some h) × (b ≡ tree_head_text h.timestamp h.tree_size h.root)
+IsHeadInput log b = (h : Head) × IsLastHead log h × (b ≡ tree_head_text h.timestamp h.tree_size h.root)
 
 -- the ticket's receipt names the index and the timestamp of this entry
 abbrev pub IsReceiptOf : Log → ℕ → Entry → Type 0

@@ -8,18 +8,18 @@ use Rattle.ct_live.specs.declared.asking.LiveTask.TheVariants.{Front, Operator, 
 
 -- the front with this number does what it is asked, the operator does this, or the log is closed at this moment
 pub data LiveStep : Type 0 where
-  front_does : ℕ → FrontAsked → LiveStep
-  operator_does : LiveOperatorTask → LiveStep
-  closes : ℕ → LiveStep
+  gives_front : ℕ → FrontAsked → LiveStep
+  gives_operator : LiveOperatorTask → LiveStep
+  closes_at : ℕ → LiveStep
 
 -- the step leaves the log open: it is a front's or the operator's, and doesn't close the log
 abbrev pub LeavesOpen : LiveStep → Type 0
-LeavesOpen (front_does f r) = Unit {0}
-LeavesOpen (operator_does t) = Unit {0}
-LeavesOpen (closes now) = ⊥
+LeavesOpen (gives_front f r) = Unit {0}
+LeavesOpen (gives_operator t) = Unit {0}
+LeavesOpen (closes_at now) = ⊥
 
 -- the step that a task is
 abbrev pub live_step : LiveTask → LiveStep
-live_step (Front n t) = front_does n (front_asked t)
-live_step (Operator t) = operator_does t
-live_step (Close now) = closes now
+live_step (Front n t) = gives_front n (front_asked t)
+live_step (Operator t) = gives_operator t
+live_step (Close now) = closes_at now

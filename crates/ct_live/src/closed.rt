@@ -6,23 +6,22 @@ ghost use Rattle.std.specs.List.{concat};
 ghost use Rattle.ct_lines.specs.Frozen.{line_answer};
 ghost use Rattle.ct_lines.specs.Sends.{SendsSome};
 ghost use Rattle.ct_live.specs.LiveEnding.{WritesBehind, WritesLastHead, WritesSomeBehind, WritesSomeLastHead};
-ghost use Rattle.ct_live.specs.LiveReplies.{object_text};
-ghost use Rattle.ct_live.specs.LiveServed.{closed_replies};
+ghost use Rattle.ct_live.specs.ReplyObjects.{object_text};
+ghost use Rattle.ct_live.specs.LiveInput.{closed_replies};
 
 use crate::pipes::tag;
 use crate::replying::reply_object;
 use ct_core::{Published, Reply};
 use ct_lines::{NumberedLines, frozen_reply, send};
 use ct_parties::Fault;
-use ct_tree::Memory;
-use std::alloc::Global;
+use std::alloc::{AllocError, Global};
 use std::io::{BufRead, Write};
 
 // How many lines are read at most, so that the loop ends.
 const LINES: u64 = 1 << 50;
 
 // The closed log's reply to a line, without the end of the line.
-fn closed_reply(alloc: Global, log: &Published, line: &[u8]) -> Result<Vec<u8>, Memory>
+fn closed_reply(alloc: Global, log: &Published, line: &[u8]) -> Result<Vec<u8>, AllocError>
     ensures { IfOk result (λ t. t.items ≡ object_text (line_answer log.now line.now)) }
 {
     let mut reply = frozen_reply(alloc, log, line)?;

@@ -4,25 +4,25 @@ ghost use Rattle.std.specs.Prelude.{◌≡◌, ◌≢◌, ◌<◌, ◌⊎◌, �
 ghost use Rattle.std.specs.Io.KnownBytes.{Appends};
 ghost use mathlib.Core.List.{IsPrefix};
 ghost use Rattle.rtrb.specs.Ring.{sent, received, IsPair};
-ghost use Rattle.ct_parties.specs.Parties.{AreFrontsOf};
+ghost use Rattle.ct_parties.specs.Fronts.{AreFrontsOf};
 ghost use Rattle.ct_live.specs.Rings.{all_received, all_sent, ArePairs, ArePrefixes};
 ghost use Rattle.ct_live.specs.Written.{WritesOn, BeginsOn};
-ghost use Rattle.ct_live.specs.LiveEnding.{EndsBrokenOff, EndsLive, EndsLog, EndsLogSome, HaveDone, WritesNoMore, fault_of_party};
+ghost use Rattle.ct_live.specs.LiveEnding.{EndsBrokenOff, EndsLive, EndsLog, EndsLogSome, HaveDone, WritesNoMore};
+ghost use Rattle.ct_live.specs.ThreadFaults.{fault_of_thread};
 ghost use Rattle.ct_live.specs.LiveReplied.{ClosesLog, RefusesClosing};
-ghost use Rattle.ct_live.specs.LiveRuns.{AreBeside, party_fronts};
+ghost use Rattle.ct_live.specs.LiveWorkers.{AreBeside, party_fronts};
 
 use crate::asking::LiveOperatorTask;
 use crate::closed::{send_last_head, serve_closed};
 use crate::front::LiveFront;
-use crate::giving::{End, GiveFault, Giver, Inlets};
-use crate::pipes::{Joined, Numbered, PartyFault, are_taken, write_left};
-use crate::workers::OperatorWorker;
+use crate::giving::{End, Giver, Inlets};
+use crate::operator::OperatorWorker;
+use crate::pipes::{Joined, Numbered, ThreadFault, are_taken, write_left};
 use ct_house::{Front, Sequencer};
 use ct_lines::{FrontRequest, NumberedLines, Unwritten};
 use ct_parties::{Fault, close};
-use ct_tree::Memory;
 use rtrb::{Consumer, Producer};
-use std::alloc::Global;
+use std::alloc::{AllocError, Global};
 use std::io::{BufRead, Write};
 use std::sync::Wait;
 use std::thread::Threads;
@@ -31,14 +31,14 @@ use std::thread::Threads;
 #[derive(Drop)]
 pub struct Left<B: BufRead + Drop> {
     pub giver: Giver<B>,
-    pub end: Result<End, GiveFault>,
+    pub end: Result<End, ThreadFault>,
     pub fronts: Joined<LiveFront, FrontRequest>,
     pub written: Result<(), Unwritten>,
-    pub operated: Result<(), PartyFault>,
+    pub operated: Result<(), ThreadFault>,
 }
 
 // The fronts, in order.
-fn fronts_of(alloc: Global, parties: Vec<LiveFront>) -> Result<Vec<Front>, Memory>
+fn fronts_of(alloc: Global, parties: Vec<LiveFront>) -> Result<Vec<Front>, AllocError>
     ensures { IfOk result (λ v. v.items ≡ party_fronts parties.items) }
 {
     let mut fronts = Vec::new(alloc);
@@ -53,26 +53,27 @@ fn fronts_of(alloc: Global, parties: Vec<LiveFront>) -> Result<Vec<Front>, Memor
 fn are_received(
     inlets: &mut Inlets,
     tasks: &mut [Consumer<Numbered<FrontRequest>>],
-    orders: &mut Consumer<Numbered<LiveOperatorTask>>,
+    operator_tasks: &mut Consumer<Numbered<LiveOperatorTask>>,
 ) -> bool
     requires tasks { ArePairs inlets.old.fronts.items tasks.old }
-    requires orders { IsPair inlets.old.operator orders.old }
-    ensures taken { result ≡ true → (all_received tasks.old ≡ all_sent inlets.old.fronts.items) × (received orders.old ≡ sent inlets.old.operator) }
-    ensures begun { ArePrefixes (all_received tasks.old) (all_sent inlets.old.fronts.items) × IsPrefix (received orders.old) (sent inlets.old.operator) }
+    requires operator_tasks { IsPair inlets.old.operator operator_tasks.old }
+    ensures taken { result ≡ true → (all_received tasks.old ≡ all_sent inlets.old.fronts.items) × (received operator_tasks.old ≡ sent inlets.old.operator) }
+    ensures begun { ArePrefixes (all_received tasks.old) (all_sent inlets.old.fronts.items) × IsPrefix (received operator_tasks.old) (sent inlets.old.operator) }
 {
     let all = are_taken(&mut inlets.fronts, tasks);
-    let left = orders.slots_beside(&mut inlets.operator);
+    let left = operator_tasks.slots_beside(&mut inlets.operator);
     all && left == 0
 }
 
-// What ends the run where a party ended before its time: a growth was refused, or the party was to end for another's sake.
-impl From<PartyFault> for Fault {
-    ghost from_gives = { λ party fault. fault ≡ fault_of_party party };
+// What ends the run where a thread ended before its time. Where all were to end, what had them end is told elsewhere.
+impl From<ThreadFault> for Fault {
+    ghost from_gives = { λ ended fault. fault ≡ fault_of_thread ended };
 
-    fn from(fault: PartyFault) -> Fault {
+    fn from(fault: ThreadFault) -> Fault {
         match fault {
-            PartyFault::Memory => Fault::Memory,
-            PartyFault::Stopped => Fault::Threads,
+            ThreadFault::Memory => Fault::Memory,
+            ThreadFault::Read => Fault::Read,
+            ThreadFault::Stopped => Fault::Threads,
         }
     }
 }
@@ -80,8 +81,8 @@ impl From<PartyFault> for Fault {
 // What ended the threads before their time, if anything did.
 fn fault_of(
     written: &Result<(), Unwritten>,
-    operated: &Result<(), PartyFault>,
-    fronts: &Option<PartyFault>,
+    operated: &Result<(), ThreadFault>,
+    fronts: &Option<ThreadFault>,
 ) -> Result<(), Fault>
     ensures done { OnOk result (HaveDone written.now operated.now fronts.now) }
     ensures faults { IfErr result (λ f. f ≢ Fault.ClockBack) }
@@ -91,7 +92,7 @@ fn fault_of(
     }
     match (operated, fronts) {
         (Ok(()), None) => Ok(()),
-        (Err(PartyFault::Stopped), Some(fault)) => Err(Fault::from(*fault)),
+        (Err(ThreadFault::Stopped), Some(fault)) => Err(Fault::from(*fault)),
         (Err(fault), _) => Err(Fault::from(*fault)),
         (Ok(()), Some(fault)) => Err(Fault::from(*fault)),
     }
@@ -223,7 +224,7 @@ pub fn end_live<H: Threads + Wait + Sync, B: BufRead + Drop, W: Write>(
 {
     let OperatorWorker {
         sequencer,
-        tasks: mut orders,
+        tasks: mut operator_tasks,
         answers: operator_answers,
     } = operator;
     let Left {
@@ -240,7 +241,7 @@ pub fn end_live<H: Threads + Wait + Sync, B: BufRead + Drop, W: Write>(
         fault,
     } = fronts;
     answers.push_reserved(operator_answers);
-    let received = are_received(&mut giver.inlets, &mut tasks, &mut orders);
+    let received = are_received(&mut giver.inlets, &mut tasks, &mut operator_tasks);
     let done = fault_of(&written, &operated, &fault);
     let fronts = match write_rest(alloc, done, received, parties, &mut answers, rings, output) {
         Ok(fronts) => fronts,

@@ -3,6 +3,7 @@
 ghost use Rattle.std.specs.Prelude.{◌≡◌, ℕ, List, IfOk};
 ghost use Rattle.ct_live.specs.LiveParties.{FrontReplies};
 
+use crate::pipes::Worker;
 use crate::replying::reply_object;
 use ct_house::Front;
 use ct_lines::FrontRequest;
@@ -16,6 +17,9 @@ use std::thread::Threads;
 pub struct LiveFront {
     pub front: Front,
 }
+
+/// A front with the ends of its rings.
+pub type FrontWorker = Worker<LiveFront, FrontRequest>;
 
 impl Party<FrontRequest> for LiveFront {
     ghost does = { λ a t r b. FrontReplies a.front t r b.front };

@@ -1,14 +1,14 @@
 //! Lines read as they come, and given out to the parties.
 
 ghost use Rattle.std.specs.Prelude.{◌≡◌, length, IfOk, OnErr};
-ghost use Rattle.ct_live.specs.LiveGiven.{GivesLine, GivesNext, GivesNothing, GivesSome, GivesUpTo, GivesStep, fault_of_left, why_left};
+ghost use Rattle.ct_live.specs.LiveGiven.{GivesLine, GivesNext, GivesNothing, GivesSome, GivesUpTo, GivesStep};
 ghost use Rattle.ct_live.specs.LiveLines.{IsForFront};
-ghost use Rattle.ct_live.specs.LiveRuns.{GivesOn};
+ghost use Rattle.ct_live.specs.LiveWorkers.{GivesOn};
 ghost use Rattle.ct_live.specs.LiveTasks.{live_step};
-ghost use Rattle.ct_live.specs.declared.giving.GiveFault.TheVariants.{Stopped};
+ghost use Rattle.ct_live.specs.ThreadFaults.{thread_fault_of};
 
 use crate::asking::{LiveOperatorTask, LiveTask, live_task};
-use crate::pipes::{Numbered, Places, Seat, Stopped, deliver, give};
+use crate::pipes::{Numbered, Parkers, ThreadFault, Waiter, deliver, give};
 use ct_lines::{FrontRequest, NumberedLines};
 use ct_parties::Fault;
 use rtrb::Producer;
@@ -25,46 +25,15 @@ pub enum End {
     Input,
 }
 
-/// Why lines were left.
-#[derive(Clone, Copy, Debug, PartialEq, Eq, Drop)]
-pub enum GiveFault {
-    /// A growth was refused.
-    Memory,
-    /// The input couldn't be read.
-    Read,
-    /// All were to end.
-    Stopped,
-}
+// Why the reader's thread ends before its time, where a line can't be read.
+impl From<Fault> for ThreadFault {
+    ghost from_gives = { λ fault ended. ended ≡ thread_fault_of fault };
 
-impl From<Fault> for GiveFault {
-    ghost from_gives = { λ fault why. why ≡ why_left fault };
-
-    fn from(fault: Fault) -> GiveFault {
+    fn from(fault: Fault) -> ThreadFault {
         match fault {
-            Fault::Memory => GiveFault::Memory,
-            _ => GiveFault::Read,
+            Fault::Memory => ThreadFault::Memory,
+            _ => ThreadFault::Read,
         }
-    }
-}
-
-// What ends the run where lines are left. Where all were to end, what had them end is told elsewhere.
-impl From<GiveFault> for Fault {
-    ghost from_gives = { λ why fault. fault ≡ fault_of_left why };
-
-    fn from(fault: GiveFault) -> Fault {
-        match fault {
-            GiveFault::Memory => Fault::Memory,
-            GiveFault::Read => Fault::Read,
-            GiveFault::Stopped => Fault::Threads,
-        }
-    }
-}
-
-impl From<Stopped> for GiveFault {
-    ghost from_gives = { λ _ why. why ≡ Stopped };
-
-    fn from(_stopped: Stopped) -> GiveFault {
-        GiveFault::Stopped
     }
 }
 
@@ -86,11 +55,11 @@ pub struct Giver<B: BufRead + Drop> {
 #[tactic(auto, using(crate::proofs::Joined::producers_self, crate::proofs::Joined::gives_none))]
 fn give_task<R: Wait>(
     rt: &R,
-    places: &Places,
+    parkers: &Parkers,
     inlets: &mut Inlets,
     number: u64,
     task: LiveTask,
-) -> Result<Option<u64>, GiveFault>
+) -> Result<Option<u64>, ThreadFault>
     requires { IsForFront (length inlets.old.fronts.items) (live_step task) }
     ensures same { GivesOn inlets.old inlets.new }
     ensures given { IfOk result (λ o. GivesStep number (live_step task) o inlets.old inlets.new) }
@@ -100,17 +69,17 @@ fn give_task<R: Wait>(
         LiveTask::Front(front, task) => {
             let party = usize::from(front);
             let fronts = &mut inlets.fronts;
-            give(rt, places, fronts, party, Numbered { number, task })?;
+            give(rt, parkers, fronts, party, Numbered { number, task })?;
             Ok(None)
         }
         LiveTask::Operator(task) => {
-            let seat = Seat::Party(inlets.fronts.len());
+            let waiter = Waiter::Party(inlets.fronts.len());
             let operator = &mut inlets.operator;
             deliver(
                 rt,
-                places,
-                Seat::Reader,
-                seat,
+                parkers,
+                Waiter::Reader,
+                waiter,
                 operator,
                 Numbered { number, task },
             )?;
@@ -125,12 +94,12 @@ fn give_task<R: Wait>(
 fn give_line<R: Wait>(
     rt: &R,
     alloc: Global,
-    places: &Places,
+    parkers: &Parkers,
     count: u16,
     inlets: &mut Inlets,
     number: u64,
     line: &[u8],
-) -> Result<Option<u64>, GiveFault>
+) -> Result<Option<u64>, ThreadFault>
     requires { length inlets.old.fronts.items ≡ count }
     ensures same { GivesOn inlets.old inlets.new }
     ensures given { IfOk result (λ o. GivesLine count number line.now o inlets.old inlets.new) }
@@ -140,7 +109,7 @@ fn give_line<R: Wait>(
         return Ok(None);
     }
     let task = live_task(alloc, count, line)?;
-    give_task(rt, places, inlets, number, task)
+    give_task(rt, parkers, inlets, number, task)
 }
 
 // Reads the next line into the buffer, and gives out what it asks for. It answers what ended the lines, if they ended.
@@ -148,11 +117,11 @@ fn give_line<R: Wait>(
 fn give_next<R: Wait, B: BufRead + Drop>(
     rt: &R,
     alloc: Global,
-    places: &Places,
+    parkers: &Parkers,
     count: u16,
     giver: &mut Giver<B>,
     buffer: &mut Vec<u8>,
-) -> Result<Option<End>, GiveFault>
+) -> Result<Option<End>, ThreadFault>
     requires { length giver.old.inlets.fronts.items ≡ count }
     ensures same { GivesOn giver.old.inlets giver.new.inlets }
     ensures given { IfOk result (λ o. GivesNext count giver.old.lines.next giver.new.lines.next
@@ -162,10 +131,10 @@ fn give_next<R: Wait, B: BufRead + Drop>(
     let number = match giver.lines.read(buffer) {
         Ok(Some(number)) => number,
         Ok(None) => return Ok(Some(End::Input)),
-        Err(error) => return Err(GiveFault::from(Fault::from(error.kind()))),
+        Err(error) => return Err(ThreadFault::from(Fault::from(error.kind()))),
     };
     let inlets = &mut giver.inlets;
-    match give_line(rt, alloc, places, count, inlets, number, buffer)? {
+    match give_line(rt, alloc, parkers, count, inlets, number, buffer)? {
         Some(now) => Ok(Some(End::Close { line: number, now })),
         None => Ok(None),
     }
@@ -175,10 +144,10 @@ fn give_next<R: Wait, B: BufRead + Drop>(
 pub fn give_out<R: Wait, B: BufRead + Drop>(
     rt: &R,
     alloc: Global,
-    places: &Places,
+    parkers: &Parkers,
     count: u16,
     giver: &mut Giver<B>,
-) -> Result<End, GiveFault>
+) -> Result<End, ThreadFault>
     requires { length giver.old.inlets.fronts.items ≡ count }
     ensures same { GivesOn giver.old.inlets giver.new.inlets }
     ensures given { IfOk result (λ end. GivesUpTo count giver.old.lines.next giver.new.lines.next
@@ -187,10 +156,10 @@ pub fn give_out<R: Wait, B: BufRead + Drop>(
 {
     let mut buffer = Vec::new(alloc);
     for _ in rt.forever() {
-        if places.has_stopped() {
-            return Err(GiveFault::Stopped);
+        if parkers.has_stopped() {
+            return Err(ThreadFault::Stopped);
         }
-        match give_next(rt, alloc, places, count, giver, &mut buffer)? {
+        match give_next(rt, alloc, parkers, count, giver, &mut buffer)? {
             Some(end) => return Ok(end),
             None => {}
         }

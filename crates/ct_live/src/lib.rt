@@ -8,10 +8,10 @@
 //!   `close`, and two for the bytes that are signed.
 //! - `signing` has the bytes that stand under the log's signatures.
 //! - `replying` has the reply to a line without the end of the line.
-//! - `front` is a front as a party, and `operator` the operator.
+//! - `front` is a front as a party, and `operator` the operator, each also with the ends of its rings.
 //! - `giving` reads lines, and gives them out to the parties.
 //! - `threads` has the reader and the writer, each in a thread of its own, and the parties, and then ends the log.
-//! - `ending` is what comes once all threads have ended, and `workers` has the parties with the ends of their rings.
+//! - `ending` is what comes once all threads have ended.
 //! - `closed` closes the log, and has it reply to the lines that are left.
 //! - `pipes` has tasks given out to some parties, each in a thread of its own, and their answers written as they come; and the
 //!   `Breaker`, which has all end.
@@ -29,7 +29,6 @@ mod pipes;
 mod replying;
 mod signing;
 mod threads;
-mod workers;
 
 pub use asking::{LiveOperatorTask, LiveTask, live_task};
 pub use front::LiveFront;

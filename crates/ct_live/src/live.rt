@@ -3,24 +3,23 @@
 ghost use Rattle.std.specs.Prelude.{◌≡◌, ◌⊎◌, [], length, IfOk, IfErr, OnOk, OnErr};
 ghost use Rattle.std.specs.Io.KnownBytes.{Appends};
 ghost use Rattle.rtrb.specs.Ring.{sent, received, IsPair};
-ghost use Rattle.ct_parties.specs.Parties.{AreFrontsOf};
-ghost use Rattle.ct_live.specs.LiveRuns.{worker_answers, worker_fronts, worker_tasks};
-ghost use Rattle.ct_live.specs.LiveOpening.{AreOpened};
+ghost use Rattle.ct_parties.specs.Fronts.{AreFrontsOf};
+ghost use Rattle.ct_live.specs.LiveWorkers.{worker_answers, worker_fronts, worker_tasks};
+ghost use Rattle.ct_live.specs.NewRings.{AreOpened};
 ghost use Rattle.ct_live.specs.LiveEnding.{IsToldAs};
 ghost use Rattle.ct_live.specs.LiveReplied.{ClosesLog, IsServedLate, IsServedLive, IsServedSome, RefusesClosing, RepliesBrokenOff, RepliesLive};
 
 use crate::asking::LiveOperatorTask;
-use crate::front::LiveFront;
+use crate::front::{FrontWorker, LiveFront};
 use crate::giving::{Giver, Inlets};
-use crate::pipes::{Breaker, Numbered, PLACES, Pipes, Places, Worker, open_pipes};
+use crate::operator::OperatorWorker;
+use crate::pipes::{Breaker, Numbered, PLACES, Parkers, Pipes, Worker, open_pipes};
 use crate::threads::{Out, Served, Start, run_live};
-use crate::workers::{FrontWorker, OperatorWorker};
 use ct_house::{Front, Sequencer, open};
 use ct_lines::{FrontRequest, NumberedLines};
 use ct_parties::{Fault, Options, Waiting};
-use ct_tree::Memory;
 use rtrb::{Consumer, Producer, RingBuffer};
-use std::alloc::Global;
+use std::alloc::{AllocError, Global};
 use std::io::{BufRead, BufReader, Read, Write};
 use std::sync::{Arc, Wait};
 use std::thread::Threads;
@@ -37,7 +36,7 @@ fn front_workers(
     mut fronts: Vec<Front>,
     mut tasks: Vec<Consumer<Numbered<FrontRequest>>>,
     mut answers: Vec<Producer<Vec<u8>>>,
-) -> Result<Vec<FrontWorker>, Memory>
+) -> Result<Vec<FrontWorker>, AllocError>
     requires tasks { length tasks.items ≡ length fronts.items }
     requires answers { length answers.items ≡ length fronts.items }
     ensures fronts { IfOk result (λ v. worker_fronts v.items ≡ fronts.items) }
@@ -75,7 +74,7 @@ struct OperatorPipes {
 }
 
 // New rings for the operator.
-fn open_operator_pipes(alloc: Global) -> Result<OperatorPipes, Memory>
+fn open_operator_pipes(alloc: Global) -> Result<OperatorPipes, AllocError>
     ensures tasks { IfOk result (λ p. IsPair p.given p.tasks × (sent p.given ≡ []) × (received p.tasks ≡ [])) }
     ensures answers { IfOk result (λ p. IsPair p.answers p.ring × (sent p.answers ≡ []) × (received p.ring ≡ [])) }
 {
@@ -89,9 +88,9 @@ fn open_operator_pipes(alloc: Global) -> Result<OperatorPipes, Memory>
     })
 }
 
-// What the rings are for, before the house is opened.
+// The ends of the rings of all parties, before the house is opened.
 #[derive(Drop)]
-struct Ends {
+struct AllPipes {
     inlets: Inlets,
     tasks: Vec<Consumer<Numbered<FrontRequest>>>,
     answers: Vec<Producer<Vec<u8>>>,
@@ -101,7 +100,7 @@ struct Ends {
 }
 
 // New rings for all parties.
-fn open_ends(alloc: Global, fronts: u16) -> Result<Ends, Memory>
+fn open_all_pipes(alloc: Global, fronts: u16) -> Result<AllPipes, AllocError>
     ensures { IfOk result (λ e. AreOpened fronts e) }
 {
     let Pipes {
@@ -121,7 +120,7 @@ fn open_ends(alloc: Global, fronts: u16) -> Result<Ends, Memory>
         fronts: given,
         operator,
     };
-    Ok(Ends {
+    Ok(AllPipes {
         inlets,
         tasks,
         answers,
@@ -134,37 +133,37 @@ fn open_ends(alloc: Global, fronts: u16) -> Result<Ends, Memory>
 // Where the threads wait: for one another, and in a line for another party. Whatever has all end ends both.
 #[derive(Drop)]
 struct Waits {
-    places: Places,
+    parkers: Parkers,
     waiting: Waiting,
 }
 
-// The places of so many parties, and lines that wait so many turns.
+// The parkers of so many parties, and lines that wait so many turns.
 fn open_waits(
     alloc: Global,
     parties: usize,
     turns: u64,
     breaker: Arc<Breaker>,
-) -> Result<Waits, Memory> {
+) -> Result<Waits, AllocError> {
     let stopped = breaker.flag()?;
-    let places = Places::new(alloc, parties, breaker)?;
+    let parkers = Parkers::new(alloc, parties, breaker)?;
     Ok(Waits {
-        places,
+        parkers,
         waiting: Waiting::until(turns, stopped),
     })
 }
 
-// New rings for all parties, and the places where these wait.
+// New rings for all parties, and the parkers where these wait.
 fn prepare(
     alloc: Global,
     fronts: u16,
     turns: u64,
     breaker: Arc<Breaker>,
-) -> Result<(Ends, Waits), Memory>
+) -> Result<(AllPipes, Waits), AllocError>
     ensures { IfOk result (λ p. AreOpened fronts p.0) }
 {
-    let ends = open_ends(alloc, fronts)?;
+    let all_pipes = open_all_pipes(alloc, fronts)?;
     let waits = open_waits(alloc, usize::from(fronts) + 1, turns, breaker)?;
-    Ok((ends, waits))
+    Ok((all_pipes, waits))
 }
 
 // Serves a house that was opened.
@@ -172,15 +171,15 @@ fn serve_house<H: Threads + Wait + Sync, B: BufRead + Drop + Send, W: Write + Dr
     rt: &H,
     alloc: Global,
     options: Options,
-    places: &Places,
+    parkers: &Parkers,
     waiting: &Waiting,
     lines: NumberedLines<B>,
-    ends: Ends,
+    all_pipes: AllPipes,
     sequencer: Sequencer,
     fronts: Vec<Front>,
     output: W,
 ) -> Served<W>
-    requires ends { AreOpened options.fronts ends }
+    requires all_pipes { AreOpened options.fronts all_pipes }
     requires count { length fronts.items ≡ options.fronts }
     requires lanes { length sequencer.lanes ≡ options.fronts }
     requires fronts { AreFrontsOf sequencer fronts.items }
@@ -191,14 +190,14 @@ fn serve_house<H: Threads + Wait + Sync, B: BufRead + Drop + Send, W: Write + Dr
     ensures late { IfErr result.result (λ f. f ≡ Fault.ClockBack → RepliesLive RefusesClosing options.fronts options.close_at lines.next
         (B.remaining lines.input) sequencer fronts.items (W.contents output) (W.contents result.output)) }
 {
-    let Ends {
+    let AllPipes {
         inlets,
         tasks,
         answers,
         operator_tasks,
         operator_answers,
         rings,
-    } = ends;
+    } = all_pipes;
     let workers = match front_workers(alloc, fronts, tasks, answers) {
         Ok(workers) => workers,
         Err(error) => {
@@ -219,16 +218,16 @@ fn serve_house<H: Threads + Wait + Sync, B: BufRead + Drop + Send, W: Write + Dr
         workers,
         out: Out { rings, output },
     };
-    run_live(rt, alloc, places, waiting, options, start, operator)
+    run_live(rt, alloc, parkers, waiting, options, start, operator)
 }
 
 // What is told of a run that ended so. Where all were to end, that is what ended a read that waited, so it isn't told as the fault:
 // what had them end is. A thread that ended before its time is told before any read, so it is that the writer's didn't start.
-fn told(places: &Places, ended: Result<(), Fault>) -> Result<(), Fault>
+fn told(parkers: &Parkers, ended: Result<(), Fault>) -> Result<(), Fault>
     ensures { IsToldAs ended result }
 {
     match ended {
-        Err(Fault::Read) if places.has_stopped() => Err(Fault::Threads),
+        Err(Fault::Read) if parkers.has_stopped() => Err(Fault::Threads),
         other => other,
     }
 }
@@ -250,7 +249,7 @@ fn serve_lines<H: Threads + Wait + Sync, B: BufRead + Drop + Send, W: Write + Dr
     ensures late { IfErr result.result (λ f. f ≡ Fault.ClockBack → IsServedLate options.fronts options.ring options.open_at options.close_at
         (B.remaining input) (W.contents output) (W.contents result.output)) }
 {
-    let (ends, waits) = match prepare(alloc, options.fronts, turns, breaker) {
+    let (all_pipes, waits) = match prepare(alloc, options.fronts, turns, breaker) {
         Ok(prepared) => prepared,
         Err(error) => {
             return Served {
@@ -266,17 +265,17 @@ fn serve_lines<H: Threads + Wait + Sync, B: BufRead + Drop + Send, W: Write + Dr
                 rt,
                 alloc,
                 options,
-                &waits.places,
+                &waits.parkers,
                 &waits.waiting,
                 lines,
-                ends,
+                all_pipes,
                 sequencer,
                 fronts,
                 output,
             );
             Served {
                 output,
-                result: told(&waits.places, result),
+                result: told(&waits.parkers, result),
             }
         }
         Err(refusal) => Served {

@@ -4,18 +4,27 @@ ghost use Rattle.std.specs.Prelude.{◌≡◌, ◌<◌, length};
 ghost use Rattle.ct_lines.specs.ReplyText.{answered};
 ghost use Rattle.ct_parties.specs.OperatorWork.{GoesOn};
 ghost use Rattle.ct_live.specs.LiveParties.{TakesWhatIsThere, LiveOperatorDoes, OperatorReplies};
-ghost use Rattle.ct_live.specs.LiveReplies.{says, operator_said};
+ghost use Rattle.ct_live.specs.ReplyObjects.{says, operator_said};
 
 use crate::asking::LiveOperatorTask;
+use crate::pipes::Numbered;
 use crate::replying::{LiveOperatorReply, operator_object};
 use crate::signing::{head_input, timestamp_input};
 use ct_codec::Refusal;
 use ct_core::Reply;
 use ct_house::Sequencer;
 use ct_parties::{Party, Waiting, do_operator_task};
+use rtrb::{Consumer, Producer};
 use std::alloc::{AllocError, Global};
 use std::sync::Wait;
 use std::thread::Threads;
+
+/// The operator with the ends of its rings.
+pub struct OperatorWorker {
+    pub sequencer: Sequencer,
+    pub tasks: Consumer<Numbered<LiveOperatorTask>>,
+    pub answers: Producer<Vec<u8>>,
+}
 
 // How many items are settled by one `take`.
 const BATCH: u64 = 256;

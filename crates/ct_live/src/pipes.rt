@@ -5,7 +5,7 @@
 //!
 //! The parts, in the order in which a program puts them together:
 //!
-//! - `opening` makes the rings: `open`, of whose ends each thread has its own.
+//! - `opening` makes the rings: `open_pipes`, of whose ends each thread has its own.
 //! - `post` has `give`, by which the reader's thread gives each party its tasks, and waits where a ring is full.
 //! - `workers` has the parties' threads: `start_workers` and `join_workers`. A thread hands back the party with the ends of its
 //!   rings (`Worked`), also where it ended before its time, and `Joined` has those of all threads: a program makes room for them
@@ -13,34 +13,36 @@
 //!   `answer_all`, in `answering`, is `serve_all` of `ct_parties` over the ends of the party's rings, and `tagging` sets the line's
 //!   number before the reply.
 //! - `writer` writes the answers of all parties as they come, in the thread that calls it.
-//! - `ending` is for when all threads have ended, with both ends of each ring at hand: `are_taken` finds whether all tasks
+//! - `draining` is for when all threads have ended, with both ends of each ring at hand: `are_taken` finds whether all tasks
 //!   were received, and `write_left` writes what is left of the answers. Both show that what came out of each ring is a beginning
 //!   of what went in, whatever happened before.
-//! - `places` is where these threads wait for one another, and what they tell each other beside the rings. No proof rests
-//!   on it: it only ends waits. `breaker` has all of them end.
+//! - `parkers` is where these threads wait for one another, and what they tell each other beside the rings. No proof rests
+//!   on it: it only ends waits. `breaker` has all of them end, and `fault` says why one ended before its time.
 //! - `ahead` reads an input ahead in a thread of its own, so that the breaker ends the reader's wait for it too.
 //!
-//! `specs/Parts.antt`, `Rings`, `Written`, `Answered`, `Working`, `Waiting`, `Tagged` and `Opening` are the words of
+//! `specs/Merges.antt`, `Rings`, `Written`, `Answered`, `Working`, `Parkers`, `Tagged` and `NewRings` are the words of
 //! the contracts.
 
 mod ahead;
 mod answering;
 mod breaker;
-mod ending;
+mod draining;
+mod fault;
 mod opening;
-mod places;
+mod parkers;
 mod post;
 mod tagging;
 mod workers;
 mod writer;
 
 pub use ahead::{ReadAhead, read_ahead};
-pub use answering::{Answered, Numbered, PartyFault, answer_all};
+pub use answering::{Answered, Numbered, answer_all};
 pub use breaker::Breaker;
-pub use ending::{are_taken, write_left};
+pub use draining::{are_taken, write_left};
+pub use fault::ThreadFault;
 pub use opening::{PLACES, Pipes, open_pipes};
-pub use places::{Places, Seat};
-pub use post::{Stopped, deliver, give};
+pub use parkers::{Parkers, Waiter};
+pub use post::{deliver, give};
 pub use tagging::tag;
 pub use workers::{
     Joined, Worked, Worker, WorkerPromise, WorkerThread, join_workers, start_workers,

@@ -4,14 +4,13 @@ ghost use Rattle.std.specs.Prelude.{◌≡◌, IfOk};
 ghost use Rattle.serde_json.specs.View.{view};
 ghost use Rattle.serde_json.specs.Written.{compact_text};
 ghost use Rattle.ct_lines.specs.ReplyText.{answered};
-ghost use Rattle.ct_live.specs.LiveReplies.{operator_said, operator_text, input_data, object_text};
+ghost use Rattle.ct_live.specs.ReplyObjects.{operator_said, operator_text, input_data, object_text};
 
 use ct_codec::Refusal;
 use ct_core::Reply;
 use ct_lines::{bytes_value, reply_text};
-use ct_tree::Memory;
 use serde_json::{Value, json};
-use std::alloc::Global;
+use std::alloc::{AllocError, Global};
 
 /// What the operator of a live log replies.
 #[derive(Debug, PartialEq, Eq, Drop)]
@@ -23,7 +22,7 @@ pub enum LiveOperatorReply {
 }
 
 /// The JSON object of a reply or of a refusal.
-pub fn reply_object(alloc: Global, reply: &Result<Reply, Refusal>) -> Result<Vec<u8>, Memory>
+pub fn reply_object(alloc: Global, reply: &Result<Reply, Refusal>) -> Result<Vec<u8>, AllocError>
     ensures { IfOk result (λ t. t.items ≡ object_text (answered reply.now)) }
 {
     let mut text = reply_text(alloc, reply)?;
@@ -32,7 +31,7 @@ pub fn reply_object(alloc: Global, reply: &Result<Reply, Refusal>) -> Result<Vec
 }
 
 // Bytes that stand under a signature, as a JSON value.
-fn input_value(alloc: Global, input: &[u8]) -> Result<Value, Memory>
+fn input_value(alloc: Global, input: &[u8]) -> Result<Value, AllocError>
     ensures { IfOk result (λ v. view v ≡ input_data input.now) }
 {
     let input = bytes_value(alloc, input)?;
@@ -40,7 +39,7 @@ fn input_value(alloc: Global, input: &[u8]) -> Result<Value, Memory>
 }
 
 // The JSON object of bytes that stand under a signature.
-fn input_object(alloc: Global, input: &[u8]) -> Result<Vec<u8>, Memory>
+fn input_object(alloc: Global, input: &[u8]) -> Result<Vec<u8>, AllocError>
     ensures { IfOk result (λ t. t.items ≡ compact_text (input_data input.now)) }
 {
     let value = input_value(alloc, input)?;
@@ -52,7 +51,7 @@ fn input_object(alloc: Global, input: &[u8]) -> Result<Vec<u8>, Memory>
 pub fn operator_object(
     alloc: Global,
     reply: Result<LiveOperatorReply, Refusal>,
-) -> Result<Vec<u8>, Memory>
+) -> Result<Vec<u8>, AllocError>
     ensures { IfOk result (λ t. t.items ≡ operator_text (operator_said reply)) }
 {
     match reply {

@@ -5,16 +5,17 @@ ghost use Rattle.ct_live.specs.Working.{AreJoinedOf};
 ghost use Rattle.ct_live.specs.LiveEnding.{EndsLog};
 ghost use Rattle.ct_live.specs.LiveGiven.{ReadsOn};
 ghost use Rattle.ct_live.specs.LiveReplied.{ClosesLog, RefusesClosing};
-ghost use Rattle.ct_live.specs.LiveRunning.{RunsBrokenOff, RunsLive};
-ghost use Rattle.ct_live.specs.LiveRuns.{AreJoined, OperatorWorks, OperatorWorksSome, FrontStep, WritesOut};
-ghost use Rattle.ct_live.specs.declared.workers.OperatorWorker.{OperatorWorker as OperatorWorkerOf};
+ghost use Rattle.ct_live.specs.LiveThreads.{RunsBrokenOff, RunsLive};
+ghost use Rattle.ct_live.specs.LiveWorkers.{AreJoined, OperatorWorks, OperatorWorksSome, LiveFrontReplies, WritesOut};
+ghost use Rattle.ct_live.specs.declared.operator.OperatorWorker.{OperatorWorker as OperatorWorkerOf};
 
 use crate::ending::{Left, abandon, end_live};
-use crate::giving::{End, GiveFault, Giver, give_out};
+use crate::front::FrontWorker;
+use crate::giving::{End, Giver, give_out};
+use crate::operator::OperatorWorker;
 use crate::pipes::{
-    Answered, Joined, PartyFault, Places, answer_all, join_workers, start_workers, write_answers,
+    Answered, Joined, Parkers, ThreadFault, answer_all, join_workers, start_workers, write_answers,
 };
-use crate::workers::{FrontWorker, OperatorWorker};
 use ct_lines::Unwritten;
 use ct_parties::{Fault, Options, Waiting};
 use rtrb::Consumer;
@@ -36,7 +37,7 @@ pub struct Out<W: Write + Drop> {
 #[derive(Drop)]
 pub struct Reading<B: BufRead + Drop> {
     pub giver: Giver<B>,
-    pub end: Result<End, GiveFault>,
+    pub end: Result<End, ThreadFault>,
 }
 
 /// What the writer's thread hands back.
@@ -47,10 +48,10 @@ pub struct Writing<W: Write + Drop> {
 }
 
 // The reader: it gives the lines out, and then tells the parties that no more come.
-fn read<R: Wait, B: BufRead + Drop>(
+fn run_reader<R: Wait, B: BufRead + Drop>(
     rt: &R,
     alloc: Global,
-    places: &Places,
+    parkers: &Parkers,
     count: u16,
     mut giver: Giver<B>,
 ) -> Reading<B>
@@ -58,8 +59,8 @@ fn read<R: Wait, B: BufRead + Drop>(
     ensures { ReadsOn giver.lines.next result.giver.lines.next (B.remaining giver.lines.input) (B.remaining result.giver.lines.input)
         result.end giver.inlets result.giver.inlets }
 {
-    let end = give_out(rt, alloc, places, count, &mut giver);
-    places.end_giving();
+    let end = give_out(rt, alloc, parkers, count, &mut giver);
+    parkers.end_giving();
     Reading { giver, end }
 }
 
@@ -79,7 +80,7 @@ fn start_reader<'e: 's, 's, R: Threads + Wait + Sync, B: BufRead + Drop + Send +
     rt: &'e R,
     alloc: Global,
     scope: &'s Scope<'s, &'e ()>,
-    places: &'e Places,
+    parkers: &'e Parkers,
     count: u16,
     giver: Giver<B>,
 ) -> Result<ReaderThread<B>, Fault>
@@ -95,25 +96,25 @@ fn start_reader<'e: 's, 's, R: Threads + Wait + Sync, B: BufRead + Drop + Send +
         requires { length giver.inlets.fronts.items ≡ count }
         ensures { ReadsOn giver.lines.next result.giver.lines.next (B.remaining giver.lines.input) (B.remaining result.giver.lines.input)
             result.end giver.inlets result.giver.inlets }
-    { read(rt, alloc, places, count, giver) };
+    { run_reader(rt, alloc, parkers, count, giver) };
     match scope.spawn_with(promise, reading) {
         Ok(thread) => Ok(thread),
         Err(_) => {
-            places.stop();
+            parkers.stop();
             Err(Fault::Threads)
         }
     }
 }
 
 // The writer.
-fn write<R: Wait, W: Write + Drop>(rt: &R, places: &Places, out: Out<W>) -> Writing<W>
+fn run_writer<R: Wait, W: Write + Drop>(rt: &R, parkers: &Parkers, out: Out<W>) -> Writing<W>
     ensures { WritesOut out.rings.items result.out.rings.items (W.contents out.output) (W.contents result.out.output) result.result }
 {
     let Out {
         mut rings,
         mut output,
     } = out;
-    let result = write_answers(rt, places, &mut rings, &mut output);
+    let result = write_answers(rt, parkers, &mut rings, &mut output);
     Writing {
         out: Out { rings, output },
         result,
@@ -134,7 +135,7 @@ type WriterThread<W> = PromisedHandle<Writing<W>, WriterPromise<W>>;
 fn start_writer<'e: 's, 's, R: Threads + Wait + Sync, W: Write + Drop + Send + 's>(
     rt: &'e R,
     scope: &'s Scope<'s, &'e ()>,
-    places: &'e Places,
+    parkers: &'e Parkers,
     out: Out<W>,
 ) -> Result<WriterThread<W>, Writing<W>>
     ensures started { IfOk result (λ t. t.promise.0.value ≡ out) }
@@ -145,11 +146,11 @@ fn start_writer<'e: 's, 's, R: Threads + Wait + Sync, W: Write + Drop + Send + '
     let promise = WriterPromise(Snapshot::of(&out));
     let writing = move || -> Writing<W>
         ensures { WritesOut out.rings.items result.out.rings.items (W.contents out.output) (W.contents result.out.output) result.result }
-    { write(rt, places, out) };
+    { run_writer(rt, parkers, out) };
     match scope.spawn_with(promise, writing) {
         Ok(thread) => Ok(thread),
         Err(refused) => {
-            places.stop();
+            parkers.stop();
             let SpawnError { value: writing } = refused;
             Err(writing())
         }
@@ -159,14 +160,14 @@ fn start_writer<'e: 's, 's, R: Threads + Wait + Sync, W: Write + Drop + Send + '
 // The operator with the ends of its rings, as it ended, and whether that was before its time.
 struct Operated {
     operator: OperatorWorker,
-    result: Result<(), PartyFault>,
+    result: Result<(), ThreadFault>,
 }
 
 // The operator: it answers its tasks as a front does.
-fn operate<R: Threads + Wait + Sync>(
+fn run_operator<R: Threads + Wait + Sync>(
     rt: &R,
     alloc: Global,
-    places: &Places,
+    parkers: &Parkers,
     waiting: &Waiting,
     operator: OperatorWorker,
 ) -> Operated
@@ -186,7 +187,7 @@ fn operate<R: Threads + Wait + Sync>(
     } = answer_all(
         rt,
         alloc,
-        places,
+        parkers,
         number,
         waiting,
         &mut sequencer,
@@ -271,7 +272,7 @@ fn run_in<
     rt: &'e R,
     alloc: Global,
     scope: &'s Scope<'s, &'e ()>,
-    places: &'e Places,
+    parkers: &'e Parkers,
     waiting: &'e Waiting,
     count: u16,
     start: Start<B, W>,
@@ -283,7 +284,7 @@ fn run_in<
     ensures faults { IfErr result.left (λ f. f ≢ Fault.ClockBack) }
     ensures given { IfOk result.left (λ l. ReadsOn start.giver.lines.next l.giver.lines.next (B.remaining start.giver.lines.input)
         (B.remaining l.giver.lines.input) l.end start.giver.inlets l.giver.inlets) }
-    ensures fronts { IfOk result.left (λ l. AreJoinedOf FrontStep start.workers.items l.fronts) }
+    ensures fronts { IfOk result.left (λ l. AreJoinedOf LiveFrontReplies start.workers.items l.fronts) }
     ensures room { IfOk result.left (λ l. vec_len l.fronts.answers < vec_capacity l.fronts.answers) }
     ensures operated { IfOk result.left (λ l. OnOk l.operated (OperatorWorks operator result.operator)) }
     ensures operated_some { OnOk result.left (OperatorWorksSome operator result.operator) }
@@ -299,19 +300,19 @@ fn run_in<
         Ok(room) => room,
         Err(error) => return not_started(operator, out, Fault::from(error)),
     };
-    let threads = match start_workers(rt, alloc, scope, places, waiting, workers) {
+    let threads = match start_workers(rt, alloc, scope, parkers, waiting, workers) {
         Ok(threads) => threads,
         Err(fault) => return not_started(operator, out, fault),
     };
-    let reader = match start_reader(rt, alloc, scope, places, count, giver) {
+    let reader = match start_reader(rt, alloc, scope, parkers, count, giver) {
         Ok(reader) => reader,
         Err(fault) => return not_started(operator, out, fault),
     };
-    let writer = start_writer(rt, scope, places, out);
+    let writer = start_writer(rt, scope, parkers, out);
     let Operated {
         operator,
         result: operated,
-    } = operate(rt, alloc, places, waiting, operator);
+    } = run_operator(rt, alloc, parkers, waiting, operator);
     let fronts = join_workers(rt, threads, room);
     let Reading { giver, end } = reader.join(rt);
     let Writing {
@@ -337,7 +338,7 @@ fn run_in<
 fn run_threads<R: Threads + Wait + Sync, B: BufRead + Drop + Send, W: Write + Drop + Send>(
     rt: &R,
     alloc: Global,
-    places: &Places,
+    parkers: &Parkers,
     waiting: &Waiting,
     count: u16,
     start: Start<B, W>,
@@ -349,7 +350,7 @@ fn run_threads<R: Threads + Wait + Sync, B: BufRead + Drop + Send, W: Write + Dr
     ensures faults { IfErr result.left (λ f. f ≢ Fault.ClockBack) }
     ensures given { IfOk result.left (λ l. ReadsOn start.giver.lines.next l.giver.lines.next (B.remaining start.giver.lines.input)
         (B.remaining l.giver.lines.input) l.end start.giver.inlets l.giver.inlets) }
-    ensures fronts { IfOk result.left (λ l. AreJoinedOf FrontStep start.workers.items l.fronts) }
+    ensures fronts { IfOk result.left (λ l. AreJoinedOf LiveFrontReplies start.workers.items l.fronts) }
     ensures room { IfOk result.left (λ l. vec_len l.fronts.answers < vec_capacity l.fronts.answers) }
     ensures operated { IfOk result.left (λ l. OnOk l.operated (OperatorWorks operator result.operator)) }
     ensures operated_some { OnOk result.left (OperatorWorksSome operator result.operator) }
@@ -369,7 +370,7 @@ fn run_threads<R: Threads + Wait + Sync, B: BufRead + Drop + Send, W: Write + Dr
             ensures faults { IfErr result.left (λ f. f ≢ Fault.ClockBack) }
             ensures given { IfOk result.left (λ l. ReadsOn start.giver.lines.next l.giver.lines.next (B.remaining start.giver.lines.input)
                 (B.remaining l.giver.lines.input) l.end start.giver.inlets l.giver.inlets) }
-            ensures fronts { IfOk result.left (λ l. AreJoinedOf FrontStep start.workers.items l.fronts) }
+            ensures fronts { IfOk result.left (λ l. AreJoinedOf LiveFrontReplies start.workers.items l.fronts) }
             ensures room { IfOk result.left (λ l. vec_len l.fronts.answers < vec_capacity l.fronts.answers) }
             ensures operated { IfOk result.left (λ l. OnOk l.operated ((o : OperatorWorkerOf) → taken.entry.now ≡ Some o → OperatorWorks o result.operator)) }
             ensures operated_some { OnOk result.left ((o : OperatorWorkerOf) → taken.entry.now ≡ Some o → OperatorWorksSome o result.operator) }
@@ -379,7 +380,7 @@ fn run_threads<R: Threads + Wait + Sync, B: BufRead + Drop + Send, W: Write + Dr
             let Some(operator) = taken.take() else {
                 unreachable!()
             };
-            run_in(rt, alloc, scope, places, waiting, count, start, operator)
+            run_in(rt, alloc, scope, parkers, waiting, count, start, operator)
         },
     );
     if let Some(operator) = slot {
@@ -393,7 +394,7 @@ fn run_threads<R: Threads + Wait + Sync, B: BufRead + Drop + Send, W: Write + Dr
 pub fn run_live<R: Threads + Wait + Sync, B: BufRead + Drop + Send, W: Write + Drop + Send>(
     rt: &R,
     alloc: Global,
-    places: &Places,
+    parkers: &Parkers,
     waiting: &Waiting,
     options: Options,
     start: Start<B, W>,
@@ -410,7 +411,7 @@ pub fn run_live<R: Threads + Wait + Sync, B: BufRead + Drop + Send, W: Write + D
         start.giver.lines.next (B.remaining start.giver.lines.input) start.giver.inlets start.workers.items start.out.rings.items operator
         (W.contents start.out.output)) }
 {
-    let ran = run_threads(rt, alloc, places, waiting, options.fronts, start, operator);
+    let ran = run_threads(rt, alloc, parkers, waiting, options.fronts, start, operator);
     let Ran {
         operator,
         out,

@@ -5,7 +5,7 @@ use Rattle.std.specs.Prelude.{◌<◌, All, Some, Vec, slice_get}
 use Rattle.std.specs.List.{range_with_len}
 use Rattle.ct_parties.specs.FrontWork.{FrontGoesOn}
 use Rattle.ct_house.specs.House.{HouseName, HouseState, FrontView, IsOfHouse, numbers_of}
-use Rattle.ct_parties.specs.Parties.{AreFrontsOf, AreSame}
+use Rattle.ct_parties.specs.Fronts.{AreFrontsOf, AllGoOn}
 
 of_house : (house : HouseName) (a b : FrontView) → FrontGoesOn a b → IsOfHouse house a → IsOfHouse house b
 of_house house a b on own = record {
@@ -14,21 +14,21 @@ of_house house a b on own = record {
   series = on.moves.series ∙ own.series;
 }
 
-pub are_of_house : (house : HouseName) (xs ys : List FrontView) → AreSame xs ys → All (IsOfHouse house) xs → All (IsOfHouse house) ys
+pub are_of_house : (house : HouseName) (xs ys : List FrontView) → AllGoOn xs ys → All (IsOfHouse house) xs → All (IsOfHouse house) ys
 are_of_house house [] [] same own = λ k d below. absurd (omega arith)
 are_of_house house [] (b ∷ ys) same own = absurd same
 are_of_house house (a ∷ xs) [] same own = absurd same
 are_of_house house (a ∷ xs) (b ∷ ys) (same, rest) own =
     All-cons (IsOfHouse house) b ys (of_house house a b same (own 0 a (omega arith))) (are_of_house house xs ys rest (λ k d below. own (suc k) d (omega arith)))
 
-pub same_numbers : (xs ys : List FrontView) → AreSame xs ys → numbers_of ys ≡ numbers_of xs
+pub same_numbers : (xs ys : List FrontView) → AllGoOn xs ys → numbers_of ys ≡ numbers_of xs
 same_numbers [] [] same = refl
 same_numbers [] (b ∷ ys) same = absurd same
 same_numbers (a ∷ xs) [] same = absurd same
 same_numbers (a ∷ xs) (b ∷ ys) (on, rest) = ap (λ (n : ℕ). n ∷ numbers_of ys) (on.same.1) ∙ ap (λ (ns : List ℕ). a.intake.number ∷ ns) (same_numbers xs ys rest)
 
 -- the fronts of a house stay its fronts, where the house and its lanes stay
-pub fronts_kept : (old new : HouseState) (xs ys : List FrontView) → new.house ≡ old.house → length new.lanes ≡ length old.lanes → AreSame xs ys
+pub fronts_kept : (old new : HouseState) (xs ys : List FrontView) → new.house ≡ old.house → length new.lanes ≡ length old.lanes → AllGoOn xs ys
     → AreFrontsOf old xs → AreFrontsOf new ys
 fronts_kept old new xs ys house count same i = record {
   of_house = subst (λ (h : HouseName). All (IsOfHouse h) ys) (sym house) (are_of_house old.house xs ys same i.of_house);

@@ -18,19 +18,19 @@ use Rattle.ct_lines.specs.declared.request.FrontRequest.{FrontRequest}
 use Rattle.ct_lines.specs.declared.request.FrontRequest.TheVariants.{AddChain, AddPreChain, AwaitSize, Ask}
 
 -- a submission is accepted, and its ticket is the answer; or its refusal is, and nothing was accepted
-abbrev pub Sends : IntakeView → Submitted → Answer → IntakeView → Type 0
-Sends a s (a_ticket n) b = SameIntake a b × Accepts a s n b
-Sends a s (refused e) b = SameIntake a b × Refuses a e b × (b.accepted ≡ a.accepted)
-Sends a s _ b = ⊥
+abbrev pub HandsIn : IntakeView → Submitted → Answer → IntakeView → Type 0
+HandsIn a s (a_ticket n) b = SameIntake a b × Accepts a s n b
+HandsIn a s (refused e) b = SameIntake a b × Refuses a e b × (b.accepted ≡ a.accepted)
+HandsIn a s _ b = ⊥
 
 -- the same where this stands against the submission: it is the answer, and nothing was done
-abbrev pub SendsUnless : Option Refusal → FrontView → Submitted → Answer → FrontView → Type 0
-SendsUnless (Some e) a s r b = (r ≡ refused e) × (b ≡ a)
-SendsUnless None a s r b = Sends a.intake s r b.intake
+abbrev pub HandsInUnless : Option Refusal → FrontView → Submitted → Answer → FrontView → Type 0
+HandsInUnless (Some e) a s r b = (r ≡ refused e) × (b ≡ a)
+HandsInUnless None a s r b = HandsIn a.intake s r b.intake
 
 -- it is submitted: a certificate or a precertificate, with its chain
 abbrev pub Submits : FrontView → Submitted → Answer → FrontView → Type 0
-Submits a s r b = SendsUnless (refusal_of s) a s r b
+Submits a s r b = HandsInUnless (refusal_of s) a s r b
 
 -- the front looked at the published log: it is the same, and what it had seen begins what it has seen now
 pub record Looks (a b : FrontView) : Type 0 where

@@ -4,6 +4,6 @@ pub mod InTurn
 pub mod Serving
 pub mod FrontWork
 pub mod OperatorWork
-pub mod Parties
+pub mod Fronts
 pub mod ClosedLog
 pub mod Faults

@@ -3,20 +3,20 @@ use Rattle.std.specs.Prelude.{◌≡◌, ◌<◌, ◌⊎◌, ℕ, List, nat_lt, 
 use Rattle.ct_lines.specs.Asked.{Asked, by_front, by_operator, by_frozen, FrontAsked, OperatorAsked, sequence, publish, shutdown, shift, IsRequest}
 use Rattle.ct_lines.specs.Requests.{front_asked, frozen_asked}
 use Rattle.ct_lines.specs.declared.request.FrozenRequest.{FrozenRequest}
-use Rattle.ct_parties.specs.declared.task.Task.{Task as CodeTask}
+use Rattle.ct_parties.specs.declared.task.Task.{Task}
 use Rattle.ct_parties.specs.declared.task.Task.TheVariants as task_case
 use Rattle.ct_parties.specs.declared.task.OperatorTask.{OperatorTask}
 use Rattle.ct_parties.specs.declared.task.OperatorTask.TheVariants.{Sequence, Publish, Shutdown, BadLine}
 
 -- the front with this number does what it is asked, or the operator does this, or the frozen log answers the line
-pub data Task : Type 0 where
-  for_front : ℕ → FrontAsked → Task
-  for_operator : OperatorTask → Task
-  for_frozen : List ℕ → Task
+pub data PartyTask : Type 0 where
+  for_front : ℕ → FrontAsked → PartyTask
+  for_operator : OperatorTask → PartyTask
+  for_frozen : List ℕ → PartyTask
 
 -- what is done for a line: a task of a shift, or the shift ends at this moment
 pub data Step : Type 0 where
-  does : Task → Step
+  does : PartyTask → Step
   ends_shift : ℕ → Step
 
 -- what is done for a request of a front, where there are so many fronts
@@ -49,7 +49,7 @@ AsksFor fronts line s = ((a : Asked) × IsRequest line a × (s ≡ step_of front
     ⊎ ((s ≡ does (for_operator BadLine)) × ((a : Asked) → IsRequest line a → ⊥))
 
 -- the step that a task is which was read from this line
-abbrev pub step : List ℕ → CodeTask → Step
+abbrev pub step : List ℕ → Task → Step
 step line (task_case.Front n t) = does (for_front n (front_asked t))
 step line (task_case.Operator t) = does (for_operator t)
 step line (task_case.Frozen r) = does (for_frozen line)
@@ -60,14 +60,14 @@ abbrev pub IsFrozenLine : FrozenRequest → List ℕ → Type 0
 IsFrozenLine r line = IsRequest line (by_frozen (frozen_asked r))
 
 -- a task for the frozen log is the request that the line is
-abbrev pub IsFrozenTask : List ℕ → CodeTask → Type 0
+abbrev pub IsFrozenTask : List ℕ → Task → Type 0
 IsFrozenTask line (task_case.Front n t) = Unit {0}
 IsFrozenTask line (task_case.Operator t) = Unit {0}
 IsFrozenTask line (task_case.Frozen r) = IsFrozenLine r line
 IsFrozenTask line (task_case.EndsShift now) = Unit {0}
 
 -- The task is the one of this line with this step, and a front that does it is one of so many fronts.
-pub record IsTaskFor (fronts : ℕ) (line : List ℕ) (s : Step) (t : CodeTask) : Type 0 where
+pub record IsTaskFor (fronts : ℕ) (line : List ℕ) (s : Step) (t : Task) : Type 0 where
   pub asked : step line t ≡ s
   pub there : IsForThere fronts (step line t)
   pub frozen : IsFrozenTask line t

@@ -7,13 +7,13 @@ ghost use Rattle.ct_parties.specs.ClosedLog.{IsReady, IsRefusedAtClosing, IsClos
 use crate::fault::Fault;
 use ct_codec::Refusal;
 use ct_house::{FinalLog, Front, Retired, Sequencer};
-use ct_tree::{Head, Memory};
-use std::alloc::Global;
+use ct_tree::Head;
+use std::alloc::{AllocError, Global};
 use std::sync::Wait;
 use std::thread::Threads;
 
 // The fronts, retired, in order.
-fn retire_all(alloc: Global, fronts: Vec<Front>) -> Result<Vec<Retired>, Memory>
+fn retire_all(alloc: Global, fronts: Vec<Front>) -> Result<Vec<Retired>, AllocError>
     ensures { IfOk result (λ ends. ends.items ≡ fronts.items) }
 {
     let mut ends = Vec::with_capacity(alloc, fronts.len())?;

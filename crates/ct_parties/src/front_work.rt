@@ -7,7 +7,7 @@ ghost use Rattle.ct_core.specs.declared.query.Query.TheVariants.{GetSth};
 ghost use Rattle.ct_gate.specs.Ends.{SameIntake};
 ghost use Rattle.ct_lines.specs.ReplyText.{answered};
 ghost use Rattle.ct_tree.specs.declared.head.Head.{Head};
-ghost use Rattle.ct_parties.specs.FrontWork.{Sends, Submits, Looks, Shows, Awaits, FrontDoes, FrontGoesOn};
+ghost use Rattle.ct_parties.specs.FrontWork.{HandsIn, Submits, Looks, Shows, Awaits, FrontDoes, FrontGoesOn};
 ghost use Rattle.ct_parties.specs.Serving.{DoesWithLine};
 
 use crate::serving::Party;
@@ -22,7 +22,7 @@ use std::thread::Threads;
 
 // Hands in a submission against which nothing stands, and rings where it is accepted.
 fn hand_in(front: &mut Front, submission: Submission, accepted: &Bell) -> Result<Reply, Refusal>
-    ensures sends { Sends front.old.intake submission (answered result) front.new.intake }
+    ensures hands_in { HandsIn front.old.intake submission (answered result) front.new.intake }
     ensures same { SameIntake front.old.intake front.new.intake }
     ensures sight { front.new.sight ≡ front.old.sight }
     ensures shutdown { front.old.intake.knows_shutdown ≡ true → front.new.intake.knows_shutdown ≡ true }

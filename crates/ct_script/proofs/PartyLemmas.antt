@@ -4,7 +4,7 @@ use Rattle.std.specs.Global.{Global}
 use Rattle.std.specs.Prelude.{Vec, Result, Ok, OnOk}
 use Rattle.ct_house.specs.House.{HouseState}
 use Rattle.ct_parties.specs.OperatorWork.{GoesOn, OperatorServes}
-use Rattle.ct_parties.specs.Parties.{AreSame}
+use Rattle.ct_parties.specs.Fronts.{AllGoOn}
 use Rattle.ct_script.specs.Parties.{DoesShift, FrontDoesShift, FrontsDo, FrontsDoShift, fronts_of}
 use Rattle.ct_script.specs.declared.party.FrontParty.{FrontParty}
 use Rattle.ct_script.specs.declared.party.FrontShift.{FrontShift}
@@ -26,7 +26,7 @@ did_shift (s ∷ shifts) (b ∷ after) (first, rest) = (first, did_shift shifts 
 
 -- and went on
 pub shift_same : (before : List FrontParty) (work : List (Vec FrontRequest Global)) (after : List FrontParty) → FrontsDoShift before work after
-    → AreSame (fronts_of before) (fronts_of after)
+    → AllGoOn (fronts_of before) (fronts_of after)
 shift_same [] [] [] all = tt
 shift_same [] [] (b ∷ after) all = absurd all
 shift_same [] (w ∷ work) after all = absurd all

@@ -14,12 +14,12 @@ use Rattle.ct_lines.specs.declared.request.FrontRequest.{FrontRequest}
 use Rattle.ct_lines.specs.declared.request.FrozenRequest.{FrozenRequest}
 use Rattle.ct_parties.specs.declared.task.OperatorTask.{OperatorTask}
 use Rattle.ct_script.specs.declared.plan.Plan.{Plan}
-use Rattle.ct_parties.specs.declared.task.Task.{Task as CodeTask}
+use Rattle.ct_parties.specs.declared.task.Task.{Task}
 use Rattle.ct_parties.specs.declared.task.Task.TheVariants as task_case
 use Rattle.ct_script.specs.declared.party.Shift.{Shift}
 use Rattle.ct_script.specs.declared.party.Work.{Work}
 use Rattle.ct_script.specs.Shifts.{AreForFronts}
-use Rattle.ct_parties.specs.Tasks.{Task, Step, does, ends_shift, for_front, for_operator, for_frozen, IsForThere}
+use Rattle.ct_parties.specs.Tasks.{PartyTask, Step, does, ends_shift, for_front, for_operator, for_frozen, IsForThere}
 use Rattle.ct_script.specs.Steps.{front_part, front_parts, operator_part, frozen_line}
 use Rattle.ct_lines.specs.Requests.{front_asked}
 use Rattle.ct_script.specs.Plans.{AreShiftsOf, IsPlanOf, IsShiftOf, IsWorkOf, ShiftTasks, shift_steps}
@@ -63,7 +63,7 @@ put_elsewhere (z ∷ zs) (suc i) zero y apart = refl
 put_elsewhere (z ∷ zs) (suc i) (suc j) y apart = put_elsewhere zs i j y (λ e. apart (ap (λ (n : ℕ). suc n) e))
 
 -- the tasks of one front grow by one, and those of the others stay
-fronts_grow : (lists : List (Vec FrontRequest Global)) (ts : List Task) (f : ℕ) (old new : Vec FrontRequest Global) (t : FrontRequest)
+fronts_grow : (lists : List (Vec FrontRequest Global)) (ts : List PartyTask) (f : ℕ) (old new : Vec FrontRequest Global) (t : FrontRequest)
     → slice_get lists f ≡ Some old → new.items ≡ old.items ++ t ∷ []
     → ((k : ℕ) (v : Vec FrontRequest Global) → slice_get lists k ≡ Some v → map front_asked v.items ≡ front_parts k ts)
     → (k : ℕ) (v : Vec FrontRequest Global) → slice_get (set lists f new) k ≡ Some v
@@ -82,7 +82,7 @@ fronts_grow lists ts f old new t there grown each k v at = elim (eqb_tells k f) 
 ]
 
 -- a front has one task more to do
-pub front_added : (n : ℕ) (w : Work) (ts : List Task) (f : ℕ) (old new : Vec FrontRequest Global) (t : FrontRequest) → f < length w.fronts.items
+pub front_added : (n : ℕ) (w : Work) (ts : List PartyTask) (f : ℕ) (old new : Vec FrontRequest Global) (t : FrontRequest) → f < length w.fronts.items
     → old ≡ get_or w.fronts.items f old
     → new.items ≡ old.items ++ t ∷ [] → IsWorkOf n w ts
     → IsWorkOf n record { fronts = with_item w.fronts f new; operator = w.operator } (ts ++ for_front f (front_asked t) ∷ [])
@@ -93,7 +93,7 @@ front_added n w ts f old new t below at grown i = record {
 }
 
 -- the operator has one task more to do
-pub operator_added : (n : ℕ) (w : Work) (ts : List Task) (t : OperatorTask) (new : Vec OperatorTask Global)
+pub operator_added : (n : ℕ) (w : Work) (ts : List PartyTask) (t : OperatorTask) (new : Vec OperatorTask Global)
     → new.items ≡ w.operator.items ++ t ∷ [] → IsWorkOf n w ts
     → IsWorkOf n record { fronts = w.fronts; operator = new } (ts ++ for_operator t ∷ [])
 operator_added n w ts t new grown i = record {
@@ -103,7 +103,7 @@ operator_added n w ts t new grown i = record {
 }
 
 -- what is for the frozen log is no work
-pub frozen_beside : (n : ℕ) (w : Work) (ts : List Task) (line : List ℕ) → IsWorkOf n w ts → IsWorkOf n w (ts ++ for_frozen line ∷ [])
+pub frozen_beside : (n : ℕ) (w : Work) (ts : List PartyTask) (line : List ℕ) → IsWorkOf n w ts → IsWorkOf n w (ts ++ for_frozen line ∷ [])
 frozen_beside n w ts line i = record {
   count = i.count;
   fronts = λ k v at. part_kept (front_part k) ts (for_frozen line) (map front_asked v.items) (i.fronts k v at) refl;
@@ -121,8 +121,8 @@ all_zip_more R (a ∷ xs) [] x y all one = absurd all
 all_zip_more R (a ∷ xs) (b ∷ ys) x y (first, rest) one = (first, all_zip_more R xs ys x y rest one)
 
 -- the last work has one task more
-task_added : (n : ℕ) (shifts : List Shift) (old new : Work) (ss : List Step) (t : Task)
-    → ((ts : List Task) → IsWorkOf n old ts → IsWorkOf n new (ts ++ t ∷ [])) → AreShiftsOf n shifts old ss
+task_added : (n : ℕ) (shifts : List Shift) (old new : Work) (ss : List Step) (t : PartyTask)
+    → ((ts : List PartyTask) → IsWorkOf n old ts → IsWorkOf n new (ts ++ t ∷ [])) → AreShiftsOf n shifts old ss
     → AreShiftsOf n shifts new (ss ++ does t ∷ [])
 task_added n shifts old new ss t grows a = record {
   ended = a.ended;
@@ -133,8 +133,8 @@ task_added n shifts old new ss t grows a = record {
   rest = grows a.left a.rest;
 }
 
-pub plan_does : (n : ℕ) (p : Plan) (new : Work) (ss : List Step) (t : Task) → filter_map frozen_line (does t ∷ []) ≡ []
-    → ((ts : List Task) → IsWorkOf n p.last ts → IsWorkOf n new (ts ++ t ∷ [])) → IsPlanOf n p ss
+pub plan_does : (n : ℕ) (p : Plan) (new : Work) (ss : List Step) (t : PartyTask) → filter_map frozen_line (does t ∷ []) ≡ []
+    → ((ts : List PartyTask) → IsWorkOf n p.last ts → IsWorkOf n new (ts ++ t ∷ [])) → IsPlanOf n p ss
     → IsPlanOf n record { shifts = p.shifts; last = new; frozen = p.frozen } (ss ++ does t ∷ [])
 plan_does n p new ss t none grows i = record {
   given = task_added n p.shifts.items p.last new ss t grows i.given;
@@ -195,7 +195,7 @@ plan_new n p none quiet work = record {
 }
 
 -- who is there doesn't depend on the line
-pub there_anyway : (n : ℕ) (line other : List ℕ) (t : CodeTask) → IsForThere n (step line t) → IsForThere n (step other t)
+pub there_anyway : (n : ℕ) (line other : List ℕ) (t : Task) → IsForThere n (step line t) → IsForThere n (step other t)
 there_anyway n line other (task_case.Front k r) there = there
 there_anyway n line other (task_case.Operator t) there = there
 there_anyway n line other (task_case.Frozen r) there = there

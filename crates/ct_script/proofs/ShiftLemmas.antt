@@ -11,7 +11,7 @@ use Rattle.ct_core.specs.Core.{clock_of}
 use Rattle.ct_core.specs.Settlement.{Log}
 use Rattle.ct_gate.specs.Ends.{IntakeView, SameIntake}
 use Rattle.ct_house.specs.House.{FrontView, HouseState, SettlesMore, AreInOrder, IsAllSettled, IsOfHouse, drained_lane}
-use Rattle.ct_parties.specs.Parties.{AreFrontsOf, AreSame}
+use Rattle.ct_parties.specs.Fronts.{AreFrontsOf, AllGoOn}
 use Rattle.ct_script.specs.Parties.{DoesShift, Parties, fronts_of}
 use Rattle.ct_script.specs.Shifts.{DoShifts, EndsShift, IsEndRefused, IsShiftFault, Succeeds}
 use Rattle.ct_parties.specs.declared.fault.Fault.{Fault}
@@ -112,7 +112,7 @@ all_between {A = A} P all before x rest own e = go before (subst (All P) e own)
 same_none : (a b : IntakeView) → b ≡ a → SameIntake a b
 same_none a b e = subst (SameIntake a) (sym e) (refl, refl, refl, refl)
 
-successors_same : (published : Log) (before after : List FrontParty) → AllZip (Succeeds published) before after → AreSame (fronts_of before) (fronts_of after)
+successors_same : (published : Log) (before after : List FrontParty) → AllZip (Succeeds published) before after → AllGoOn (fronts_of before) (fronts_of after)
 successors_same published [] [] all = tt
 successors_same published [] (b ∷ after) all = absurd all
 successors_same published (a ∷ before) [] all = absurd all

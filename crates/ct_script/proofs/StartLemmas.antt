@@ -1,7 +1,7 @@
 -- The parties of a new house.
 use Rattle.std.proofs.Common.{◌≡◌, ◌<◌, ℕ, length, sym, subst, ◌∙◌}
 use Rattle.std.proofs.lemmas.List.{length-map}
-use Rattle.ct_parties.specs.Parties.{AreFrontsOf}
+use Rattle.ct_parties.specs.Fronts.{AreFrontsOf}
 use Rattle.ct_parties.proofs.HouseLemmas.{new_of_house, new_in_order}
 use Rattle.ct_script.specs.declared.party.FrontParty.{FrontParty}
 use Rattle.ct_script.specs.Parties.{Parties, fronts_of}

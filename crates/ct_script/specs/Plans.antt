@@ -5,21 +5,21 @@ use Rattle.std.specs.List.{AllZip, filter_map, flat_map}
 use Rattle.std.specs.Io.BufRead.{first_piece, drop_through}
 use Rattle.ct_lines.specs.Requests.{front_asked}
 use Rattle.ct_lines.specs.declared.request.FrontRequest.{FrontRequest}
-use Rattle.ct_parties.specs.Tasks.{Task, Step, does, ends_shift, IsFrozenLine}
+use Rattle.ct_parties.specs.Tasks.{PartyTask, Step, does, ends_shift, IsFrozenLine}
 use Rattle.ct_script.specs.Steps.{AllAskFor, AreWhole, front_parts, operator_parts, frozen_line}
 use Rattle.ct_script.specs.declared.party.Shift.{Shift}
 use Rattle.ct_script.specs.declared.party.Work.{Work}
 use Rattle.ct_script.specs.declared.plan.Plan.{Plan}
 
 -- the work gives these tasks of one shift out to so many fronts and to the operator, each in order
-pub record IsWorkOf (n : ℕ) (w : Work) (ts : List Task) : Type 0 where
+pub record IsWorkOf (n : ℕ) (w : Work) (ts : List PartyTask) : Type 0 where
   pub count : length w.fronts.items ≡ n
   pub fronts : (k : ℕ) (v : Vec FrontRequest Global) → slice_get w.fronts.items k ≡ Some v → map front_asked v.items ≡ front_parts k ts
   pub operator : w.operator.items ≡ operator_parts ts
 
 -- the tasks of a shift, and the moment at which it ends
 pub record ShiftTasks : Type 0 where
-  pub tasks : List Task
+  pub tasks : List PartyTask
   pub now : ℕ
 
 -- its steps, the last of which ends it
@@ -34,7 +34,7 @@ IsShiftOf n s t = IsWorkOf n s.work t.tasks × (s.now ≡ t.now)
 -- each shift has the tasks before its end, and the last work those behind the last end.
 pub record AreShiftsOf (n : ℕ) (shifts : List Shift) (last : Work) (ss : List Step) : Type 0 where
   pub ended : List ShiftTasks
-  pub left : List Task
+  pub left : List PartyTask
   pub cut : ss ≡ flat_map shift_steps ended ++ map does left
   pub each : AllZip (IsShiftOf n) shifts ended
   pub rest : IsWorkOf n last left

@@ -2,7 +2,7 @@
 use Rattle.std.specs.Prelude.{◌≢◌, ◌<◌, ℕ, List, [], ◌∷◌, ◌++◌, length, Option, Some, None, nat_eq, if◌then◌else◌}
 use Rattle.std.specs.List.{AllByRecursion, filter_map, flat_map}
 use Rattle.ct_lines.specs.Asked.{FrontAsked}
-use Rattle.ct_parties.specs.Tasks.{Task, for_front, for_operator, for_frozen, Step, does, ends_shift, AsksFor}
+use Rattle.ct_parties.specs.Tasks.{PartyTask, for_front, for_operator, for_frozen, Step, does, ends_shift, AsksFor}
 use Rattle.ct_parties.specs.declared.task.OperatorTask.{OperatorTask}
 
 -- the steps are what is done for the lines, in order: for an empty line there is none
@@ -14,13 +14,13 @@ AllAskFor fronts ((b ∷ bs) ∷ lines) [] = ⊥
 AllAskFor fronts ((b ∷ bs) ∷ lines) (s ∷ ss) = AsksFor fronts (b ∷ bs) s × AllAskFor fronts lines ss
 
 -- the front k's part of a task
-abbrev pub front_part : ℕ → Task → Option FrontAsked
+abbrev pub front_part : ℕ → PartyTask → Option FrontAsked
 front_part k (for_front n r) = if nat_eq n k then Some r else None
 front_part k (for_operator t) = None
 front_part k (for_frozen line) = None
 
 -- the operator's part of a task
-abbrev pub operator_part : Task → Option OperatorTask
+abbrev pub operator_part : PartyTask → Option OperatorTask
 operator_part (for_front n r) = None
 operator_part (for_operator t) = Some t
 operator_part (for_frozen line) = None
@@ -48,11 +48,11 @@ abbrev pub AreWhole : List Step → Type 0
 AreWhole ss = AllByRecursion IsWholeLine (filter_map frozen_line ss)
 
 -- what the front k does in a shift, in order
-abbrev pub front_parts : ℕ → List Task → List FrontAsked
+abbrev pub front_parts : ℕ → List PartyTask → List FrontAsked
 front_parts k ts = filter_map (front_part k) ts
 
 -- what the operator does in a shift, in order
-abbrev pub operator_parts : List Task → List OperatorTask
+abbrev pub operator_parts : List PartyTask → List OperatorTask
 operator_parts ts = filter_map operator_part ts
 
 -- the lines of all shifts that the closed log answers, in order

@@ -4,14 +4,13 @@ ghost use Rattle.std.specs.Prelude.{◌≡◌, ◌<◌, ◌++◌, ◌∷◌, ℕ
 ghost use Rattle.std.specs.Global.{Global as GlobalOf};
 ghost use Rattle.ct_lines.specs.Requests.{front_asked};
 ghost use Rattle.ct_lines.specs.declared.request.FrontRequest.{FrontRequest as FrontRequestOf};
-ghost use Rattle.ct_parties.specs.Tasks.{Task as TaskOf, Step, does, ends_shift, for_front, for_operator, for_frozen, step, IsForThere, IsFrozenLine, IsFrozenTask};
+ghost use Rattle.ct_parties.specs.Tasks.{PartyTask, Step, does, ends_shift, for_front, for_operator, for_frozen, step, IsForThere, IsFrozenLine, IsFrozenTask};
 ghost use Rattle.ct_script.specs.Plans.{IsWorkOf, IsPlanOf, GivesOut};
 
 use crate::party::{Shift, Work};
 use ct_lines::{FrontRequest, FrozenRequest};
 use ct_parties::{Fault, OperatorTask, Task, line_task};
-use ct_tree::Memory;
-use std::alloc::Global;
+use std::alloc::{AllocError, Global};
 use std::mem;
 
 /// What the lines of an input ask for, given out to those who do it.
@@ -26,7 +25,7 @@ pub struct Plan {
 }
 
 // A list for each front, with nothing to do in it.
-fn no_tasks(alloc: Global, fronts: usize) -> Result<Vec<Vec<FrontRequest>>, Memory>
+fn no_tasks(alloc: Global, fronts: usize) -> Result<Vec<Vec<FrontRequest>>, AllocError>
     ensures count { IfOk result (λ lists. length lists.items ≡ fronts) }
     ensures empty { IfOk result (λ lists. (k : ℕ) (v : Vec FrontRequestOf GlobalOf) → slice_get lists.items k ≡ Some v → v.items ≡ []) }
 {
@@ -39,7 +38,7 @@ fn no_tasks(alloc: Global, fronts: usize) -> Result<Vec<Vec<FrontRequest>>, Memo
 
 impl Work {
     // Work of so many fronts and of the operator, with nothing to do.
-    fn new(alloc: Global, fronts: usize) -> Result<Work, Memory>
+    fn new(alloc: Global, fronts: usize) -> Result<Work, AllocError>
         ensures { IfOk result (λ w. IsWorkOf fronts w []) }
     {
         let fronts = no_tasks(alloc, fronts)?;
@@ -50,9 +49,9 @@ impl Work {
     }
 
     // Adds what a front does.
-    fn add_front_task(&mut self, number: u16, task: FrontRequest) -> Result<(), Memory>
+    fn add_front_task(&mut self, number: u16, task: FrontRequest) -> Result<(), AllocError>
         requires { number < length self.old.fronts.items }
-        ensures { OnOk result ((fronts : ℕ) (tasks : List TaskOf) → IsWorkOf fronts self.old tasks
+        ensures { OnOk result ((fronts : ℕ) (tasks : List PartyTask) → IsWorkOf fronts self.old tasks
             → IsWorkOf fronts self.new (tasks ++ for_front number (front_asked task) ∷ [])) }
     {
         let tasks = &mut self.fronts[number as usize];
@@ -61,8 +60,8 @@ impl Work {
     }
 
     // Adds what the operator does.
-    fn add_operator_task(&mut self, task: OperatorTask) -> Result<(), Memory>
-        ensures { OnOk result ((fronts : ℕ) (tasks : List TaskOf) → IsWorkOf fronts self.old tasks
+    fn add_operator_task(&mut self, task: OperatorTask) -> Result<(), AllocError>
+        ensures { OnOk result ((fronts : ℕ) (tasks : List PartyTask) → IsWorkOf fronts self.old tasks
             → IsWorkOf fronts self.new (tasks ++ for_operator task ∷ [])) }
     {
         self.operator.push(task)?;
@@ -72,7 +71,7 @@ impl Work {
 
 impl Plan {
     /// A plan for so many fronts, with nothing to do.
-    pub fn new(alloc: Global, fronts: u16) -> Result<Plan, Memory>
+    pub fn new(alloc: Global, fronts: u16) -> Result<Plan, AllocError>
         ensures { IfOk result (λ p. IsPlanOf fronts p []) }
     {
         let last = Work::new(alloc, usize::from(fronts))?;
@@ -84,7 +83,7 @@ impl Plan {
     }
 
     // Adds a request that the frozen log answers.
-    fn add_frozen_request(&mut self, request: FrozenRequest) -> Result<(), Memory>
+    fn add_frozen_request(&mut self, request: FrozenRequest) -> Result<(), AllocError>
         ensures { OnOk result ((fronts : ℕ) (steps : List Step) (line : List ℕ) → IsFrozenLine request line → IsPlanOf fronts self.old steps
             → IsPlanOf fronts self.new (steps ++ does (for_frozen line) ∷ [])) }
     {
@@ -93,7 +92,7 @@ impl Plan {
     }
 
     // Ends the shift at this moment, so that another begins.
-    fn end_shift(&mut self, alloc: Global, now: u64) -> Result<(), Memory>
+    fn end_shift(&mut self, alloc: Global, now: u64) -> Result<(), AllocError>
         ensures { OnOk result ((fronts : ℕ) (steps : List Step) → IsPlanOf fronts self.old steps
             → IsPlanOf fronts self.new (steps ++ ends_shift now ∷ [])) }
     {
@@ -104,7 +103,7 @@ impl Plan {
     }
 
     // Adds what a line asks for.
-    fn add(&mut self, alloc: Global, task: Task) -> Result<(), Memory>
+    fn add(&mut self, alloc: Global, task: Task) -> Result<(), AllocError>
         requires { (line : List ℕ) → IsForThere (length self.old.last.fronts.items) (step line task) }
         ensures { OnOk result ((fronts : ℕ) (steps : List Step) (line : List ℕ) → IsFrozenTask line task → IsPlanOf fronts self.old steps
             → IsPlanOf fronts self.new (steps ++ step line task ∷ [])) }

@@ -7,7 +7,7 @@ ghost use Rattle.ct_lines.specs.Frozen.{frozen_text};
 ghost use Rattle.ct_lines.specs.Serving.{IsShort};
 ghost use Rattle.ct_script.specs.Output.{IsFrozenFault};
 ghost use Rattle.ct_script.specs.Output.{AreFrozenLines, AreNewParties, request_reply, SomeReplies, WritesAll, WritesSome, IsServed, IsBegun};
-ghost use Rattle.ct_parties.specs.Parties.{AreFrontsOf};
+ghost use Rattle.ct_parties.specs.Fronts.{AreFrontsOf};
 ghost use Rattle.ct_script.specs.Parties.{fronts_of};
 ghost use Rattle.ct_script.specs.Shifts.{AreForFronts, start_of};
 ghost use Rattle.ct_script.specs.declared.party.FrontParty.{FrontParty as FrontPartyOf};
@@ -20,14 +20,13 @@ use ct_core::Published;
 use ct_house::{Front, open};
 use ct_lines::{FrozenRequest, frozen_request_reply, send, write_whole};
 use ct_parties::{Fault, Options, close};
-use ct_tree::Memory;
-use std::alloc::Global;
+use std::alloc::{AllocError, Global};
 use std::io::{Read, Write};
 use std::sync::Wait;
 use std::thread::Threads;
 
 // The fronts of a new house, none of which has replied to anything.
-fn new_parties(alloc: Global, fronts: Vec<Front>) -> Result<Vec<FrontParty>, Memory>
+fn new_parties(alloc: Global, fronts: Vec<Front>) -> Result<Vec<FrontParty>, AllocError>
     ensures fronts { IfOk result (λ v. fronts_of v.items ≡ fronts.items) }
     ensures silent { IfOk result (λ v. flat_map (λ (p : FrontPartyOf). p.replies.items) v.items ≡ []) }
 {

@@ -7,7 +7,7 @@ ghost use Rattle.ct_core.specs.Core.{clock_of};
 ghost use Rattle.ct_house.specs.House.{SettlesMore, IsAllSettled, IsOfHouse, drained_lane};
 ghost use Rattle.ct_script.specs.declared.party.FrontParty.{FrontParty as FrontPartyOf};
 ghost use Rattle.ct_script.specs.declared.party.Shift.{Shift as ShiftOf};
-ghost use Rattle.ct_parties.specs.Parties.{AreFrontsOf};
+ghost use Rattle.ct_parties.specs.Fronts.{AreFrontsOf};
 ghost use Rattle.ct_script.specs.Parties.{fronts_of};
 ghost use Rattle.ct_script.specs.Shifts.{IsSuccessor, Succeeds, EndsShift, DoShifts, PartiesServe, IsEndRefused, IsShiftFault, AreForFronts, start_of};
 
@@ -17,8 +17,7 @@ use crate::threads::{keep_party, serve_shift};
 use ct_core::Reply;
 use ct_house::{Front, Retired, Sequencer};
 use ct_parties::Fault;
-use ct_tree::Memory;
-use std::alloc::Global;
+use std::alloc::{AllocError, Global};
 use std::sync::Wait;
 use std::thread::Threads;
 
@@ -177,7 +176,7 @@ fn join_replies(
     alloc: Global,
     parties: Vec<FrontParty>,
     told: &[u8],
-) -> Result<(Vec<Front>, Vec<u8>), Memory>
+) -> Result<(Vec<Front>, Vec<u8>), AllocError>
     ensures fronts { IfOk result (λ d. d.0.items ≡ fronts_of parties.items) }
     ensures replies { IfOk result (λ d. d.1.items ≡ flat_map (λ (p : FrontPartyOf). p.replies.items) parties.items ++ told.now) }
 {

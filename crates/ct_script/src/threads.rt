@@ -10,8 +10,7 @@ use crate::party::{FrontParty, FrontShift, House, Work};
 use ct_house::Sequencer;
 use ct_lines::FrontRequest;
 use ct_parties::{Fault, OperatorTask, Waiting, serve_all};
-use ct_tree::Memory;
-use std::alloc::Global;
+use std::alloc::{AllocError, Global};
 use std::snapshot::Snapshot;
 use std::sync::Wait;
 use std::thread;
@@ -23,7 +22,7 @@ fn serve_front_shift<R: Threads + Wait + Sync>(
     alloc: Global,
     shift: FrontShift,
     waiting: &Waiting,
-) -> Result<FrontParty, Memory>
+) -> Result<FrontParty, AllocError>
     ensures { IfOk result (λ d. FrontDoesShift shift.party shift.tasks.items d) }
 {
     let FrontShift { party, tasks } = shift;
@@ -46,7 +45,7 @@ fn front_shifts(
     alloc: Global,
     mut parties: Vec<FrontParty>,
     mut tasks: Vec<Vec<FrontRequest>>,
-) -> Result<Vec<FrontShift>, Memory>
+) -> Result<Vec<FrontShift>, AllocError>
     requires { length tasks.items ≡ length parties.items }
     ensures parties { IfOk result (λ v. map (λ s. s.party) v.items ≡ parties.items) }
     ensures tasks { IfOk result (λ v. map (λ s. s.tasks) v.items ≡ tasks.items) }
@@ -66,11 +65,11 @@ fn front_shifts(
 #[derive(Drop)]
 struct FrontPromise(Snapshot<FrontShift>);
 
-impl Promise<Result<FrontParty, Memory>> for FrontPromise {
+impl Promise<Result<FrontParty, AllocError>> for FrontPromise {
     ghost kept_by = { λ p r. IfOk r (λ d. FrontDoesShift p.0.value.party p.0.value.tasks.items d) };
 }
 
-type FrontThread = PromisedHandle<Result<FrontParty, Memory>, FrontPromise>;
+type FrontThread = PromisedHandle<Result<FrontParty, AllocError>, FrontPromise>;
 
 // Starts a thread for each front.
 fn start_fronts<'e: 's, 's, R: Threads + Wait + Sync>(
@@ -86,7 +85,7 @@ fn start_fronts<'e: 's, 's, R: Threads + Wait + Sync>(
     let mut threads = Vec::new(alloc);
     for shift in shifts {
         let promise = FrontPromise(Snapshot::of(&shift));
-        let work = move || -> Result<FrontParty, Memory>
+        let work = move || -> Result<FrontParty, AllocError>
             ensures { IfOk result (λ d. FrontDoesShift shift.party shift.tasks.items d) }
         { serve_front_shift(rt, alloc, shift, waiting) };
         let Ok(thread) = scope.spawn_with(promise, work) else {

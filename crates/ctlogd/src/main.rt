@@ -67,21 +67,21 @@ fn run_words<H: Threads + Wait + Sync, I: Read + Drop + Send, W: Write + Drop + 
 
 // An input that is read ahead, and what has a read of it end.
 #[derive(Drop)]
-struct Source<H: Wait + Copy, I: Read + Copy> {
+struct AheadInput<H: Wait + Copy, I: Read + Copy> {
     breaker: Arc<Breaker>,
     input: ReadAhead<H, I>,
 }
 
 // Nothing is read of the input before the log asks for it.
-fn open_source<H: Threads + Wait + Copy + Send + 'static, I: Read + Copy + Send + 'static>(
+fn open_input<H: Threads + Wait + Copy + Send + 'static, I: Read + Copy + Send + 'static>(
     rt: &H,
     alloc: Global,
     input: I,
-) -> Result<Source<H, I>, AllocError> {
+) -> Result<AheadInput<H, I>, AllocError> {
     let breaker = Arc::new(alloc, Breaker::new(alloc)?)?;
     let own = Arc::try_clone(&breaker)?;
     let input = read_ahead(*rt, alloc, own, input)?;
-    Ok(Source { breaker, input })
+    Ok(AheadInput { breaker, input })
 }
 
 // Runs the program over these words and an input that is read ahead.
@@ -91,8 +91,8 @@ fn run_ahead<
     W: Write + Drop + Send,
     E: Write,
 >(rt: &H, alloc: Global, words: &[String], input: I, output: W, faults: &mut E) -> u8 {
-    match open_source(rt, alloc, input) {
-        Ok(Source { breaker, input }) => {
+    match open_input(rt, alloc, input) {
+        Ok(AheadInput { breaker, input }) => {
             run_words(rt, alloc, words, breaker, input, output, faults).status
         }
         Err(error) => report(Program::Ctlogd, Fault::from(error), faults),

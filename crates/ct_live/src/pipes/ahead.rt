@@ -18,19 +18,19 @@ const PIECES: usize = 4;
 // A piece of the input, of no bytes at its end; or why it couldn't be read.
 type Piece = io::Result<Vec<u8>>;
 
-// Where the thread that reads ahead waits: until the first bytes are asked for, and for room.
+// Whether bytes were asked for, and where the thread that reads ahead waits: for that, and for room in the ring.
 #[derive(Drop)]
-struct Room {
+struct Demand {
     asked: AtomicBool,
-    place: Parker,
+    parker: Parker,
 }
 
-impl Room {
+impl Demand {
     // Asks for bytes.
     fn ask(&self) {
         if !self.asked.load(Ordering::SeqCst) {
             self.asked.store(true, Ordering::SeqCst);
-            self.place.unpark();
+            self.parker.unpark();
         }
     }
 
@@ -40,7 +40,7 @@ impl Room {
             if self.asked.load(Ordering::SeqCst) {
                 return;
             }
-            self.place.park(rt);
+            self.parker.park(rt);
         }
         unreachable!()
     }
@@ -57,7 +57,7 @@ fn read_piece<I: Read>(alloc: Global, input: &mut I, buffer: &mut [u8]) -> Piece
 fn hand_on<R: Wait>(
     rt: &R,
     breaker: &Breaker,
-    room: &Room,
+    demand: &Demand,
     pieces: &mut Producer<Piece>,
     piece: Piece,
 ) -> bool {
@@ -73,7 +73,7 @@ fn hand_on<R: Wait>(
         if breaker.has_stopped() {
             return false;
         }
-        room.place.park(rt);
+        demand.parker.park(rt);
     }
     unreachable!()
 }
@@ -91,16 +91,16 @@ fn pump_all<R: Wait, I: Read + Copy>(
     rt: &R,
     alloc: Global,
     breaker: &Breaker,
-    room: &Room,
+    demand: &Demand,
     mut input: I,
     pieces: &mut Producer<Piece>,
 ) -> Result<(), AllocError> {
-    room.wait_for_ask(rt);
+    demand.wait_for_ask(rt);
     let mut buffer = vec![in alloc; 0u8; PIECE]?;
     for _ in rt.forever() {
         let piece = read_piece(alloc, &mut input, &mut buffer);
         let more = goes_on(&piece);
-        let is_handed = hand_on(rt, breaker, room, pieces, piece);
+        let is_handed = hand_on(rt, breaker, demand, pieces, piece);
         if !(more && is_handed) {
             return Ok(());
         }
@@ -113,14 +113,20 @@ fn pump<R: Wait, I: Read + Copy>(
     rt: &R,
     alloc: Global,
     breaker: &Breaker,
-    room: &Room,
+    demand: &Demand,
     input: I,
     mut pieces: Producer<Piece>,
 ) {
-    match pump_all(rt, alloc, breaker, room, input, &mut pieces) {
+    match pump_all(rt, alloc, breaker, demand, input, &mut pieces) {
         Ok(()) => {}
         Err(error) => {
-            hand_on(rt, breaker, room, &mut pieces, Err(io::Error::from(error)));
+            hand_on(
+                rt,
+                breaker,
+                demand,
+                &mut pieces,
+                Err(io::Error::from(error)),
+            );
         }
     }
 }
@@ -129,20 +135,20 @@ fn pump<R: Wait, I: Read + Copy>(
 #[derive(Drop)]
 struct Pieces {
     ring: Consumer<Piece>,
-    room: Arc<Room>,
+    demand: Arc<Demand>,
 }
 
 // The next piece, for which it waits. Where all are to end it is an error.
 fn next_piece<R: Wait>(rt: &R, breaker: &Breaker, pieces: &mut Pieces) -> Piece {
     for _ in rt.forever() {
         if let Ok(piece) = pieces.ring.pop() {
-            pieces.room.place.unpark();
+            pieces.demand.parker.unpark();
             return piece;
         }
         if breaker.has_stopped() {
             return Err(io::Error::from(ErrorKind::BrokenPipe));
         }
-        pieces.room.ask();
+        pieces.demand.ask();
         breaker.wait(rt);
     }
     unreachable!()
@@ -191,18 +197,18 @@ pub fn read_ahead<R: Threads + Wait + Copy + Send + 'static, I: Read + Copy + Se
     input: I,
 ) -> Result<ReadAhead<R, I>, AllocError> {
     let (producer, ring) = RingBuffer::new(alloc, PIECES)?;
-    let room = Arc::new(
+    let demand = Arc::new(
         alloc,
-        Room {
+        Demand {
             asked: AtomicBool::new(false),
-            place: Parker::new(),
+            parker: Parker::new(),
         },
     )?;
-    let own = Arc::try_clone(&room)?;
+    let own = Arc::try_clone(&demand)?;
     let stop = Arc::try_clone(&breaker)?;
     let pumping = move || pump(&rt, alloc, &stop, &own, input, producer);
     let origin = match thread::spawn(&rt, pumping) {
-        Ok(_thread) => Origin::Ahead(Pieces { ring, room }),
+        Ok(_thread) => Origin::Ahead(Pieces { ring, demand }),
         Err(_refused) => Origin::Here(input),
     };
     Ok(ReadAhead {

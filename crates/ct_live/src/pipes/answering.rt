@@ -3,17 +3,16 @@
 ghost use Rattle.std.specs.Prelude.{◌≡◌, [], IfErr, OnOk, OnErr};
 ghost use Rattle.rtrb.specs.Ring.{sent, received, known_free, known_items, SameProducer, SameConsumer};
 ghost use Rattle.ct_live.specs.Answered.{AnswersMore, AnswersAllButLast, ReceivesNext, ReceivesNoMore, SendsTagged, SendsNothing};
-ghost use Rattle.ct_live.specs.declared.pipes.answering.PartyFault.TheVariants.{Memory};
 
-use crate::pipes::places::{Places, Seat};
+use crate::pipes::fault::ThreadFault;
+use crate::pipes::parkers::{Parkers, Waiter};
 use crate::pipes::post::{Stopped, deliver, receive};
 use crate::pipes::tagging::tag;
 use ct_parties::{Party, Sink, Source, Waiting, serve_all};
 use rtrb::{Consumer, Producer};
-use std::alloc::{AllocError, Global};
+use std::alloc::Global;
 use std::sync::Wait;
 use std::thread::Threads;
-use thiserror::Error;
 
 /// A task, with the number of the line that asks for it. Any number goes with any task.
 #[derive(Drop)]
@@ -22,29 +21,10 @@ pub struct Numbered<T: Drop> {
     pub task: T,
 }
 
-/// What ended a party before all its tasks were answered.
-#[derive(Clone, Copy, Debug, PartialEq, Eq, Drop, Error)]
-pub enum PartyFault {
-    /// A growth was refused.
-    #[error("memory was refused")]
-    Memory,
-    /// All were to end.
-    #[error("all were to end")]
-    Stopped,
-}
-
-impl From<AllocError> for PartyFault {
-    ghost from_gives = { λ _ fault. fault ≡ Memory };
-
-    fn from(_error: AllocError) -> PartyFault {
-        PartyFault::Memory
-    }
-}
-
 // Where the party with this number receives its tasks.
 #[derive(Drop)]
 struct Inbox<'a, T: Drop> {
-    places: &'a Places,
+    parkers: &'a Parkers,
     number: usize,
     tasks: Consumer<Numbered<T>>,
 }
@@ -55,7 +35,7 @@ impl<'a, T: Drop> Source<u64, T> for Inbox<'a, T> {
     ghost ends = { λ before after. ReceivesNoMore before.tasks after.tasks };
 
     fn next_task<R: Wait>(&mut self, rt: &R) -> Option<(u64, T)> {
-        let numbered = receive(rt, self.places, self.number, &mut self.tasks)?;
+        let numbered = receive(rt, self.parkers, self.number, &mut self.tasks)?;
         let Numbered { number, task } = numbered;
         Some((number, task))
     }
@@ -64,13 +44,13 @@ impl<'a, T: Drop> Source<u64, T> for Inbox<'a, T> {
 // Where it sends its answers.
 #[derive(Drop)]
 struct Outbox<'a> {
-    places: &'a Places,
+    parkers: &'a Parkers,
     number: usize,
     answers: Producer<Vec<u8>>,
 }
 
 impl<'a> Sink<u64> for Outbox<'a> {
-    type Fault = PartyFault;
+    type Fault = ThreadFault;
 
     ghost puts = { λ before line reply after. SendsTagged before.answers line reply after.answers };
 
@@ -82,12 +62,19 @@ impl<'a> Sink<u64> for Outbox<'a> {
         alloc: Global,
         mark: u64,
         reply: Vec<u8>,
-    ) -> Result<(), PartyFault> {
+    ) -> Result<(), ThreadFault> {
         let text = tag(alloc, mark, &reply)?;
-        let own = Seat::Party(self.number);
-        match deliver(rt, self.places, own, Seat::Writer, &mut self.answers, text) {
+        let own = Waiter::Party(self.number);
+        match deliver(
+            rt,
+            self.parkers,
+            own,
+            Waiter::Writer,
+            &mut self.answers,
+            text,
+        ) {
             Ok(()) => Ok(()),
-            Err(Stopped) => Err(PartyFault::Stopped),
+            Err(Stopped) => Err(ThreadFault::Stopped),
         }
     }
 }
@@ -97,7 +84,7 @@ impl<'a> Sink<u64> for Outbox<'a> {
 pub struct Answered<T: Drop> {
     pub tasks: Consumer<Numbered<T>>,
     pub answers: Producer<Vec<u8>>,
-    pub result: Result<(), PartyFault>,
+    pub result: Result<(), ThreadFault>,
 }
 
 /// Answers the tasks of the party with this number, until no more are given, and tells the writer that the party ends. One that
@@ -106,7 +93,7 @@ pub struct Answered<T: Drop> {
 pub fn answer_all<T: Drop, P: Party<T>, R: Threads + Wait + Sync>(
     rt: &R,
     alloc: Global,
-    places: &Places,
+    parkers: &Parkers,
     number: usize,
     waiting: &Waiting,
     party: &mut P,
@@ -118,23 +105,23 @@ pub fn answer_all<T: Drop, P: Party<T>, R: Threads + Wait + Sync>(
     ensures none_left { OnOk result.result (known_items result.tasks ≡ []) }
     ensures begun { OnErr result.result (AnswersAllButLast P.does party.old
         (received tasks) (received result.tasks) (sent answers) (sent result.answers)) }
-    ensures full { IfErr result.result (λ fault. fault ≡ PartyFault.Stopped → known_free result.answers ≡ 0) }
+    ensures full { IfErr result.result (λ fault. fault ≡ ThreadFault.Stopped → known_free result.answers ≡ 0) }
     ensures same { SameConsumer tasks result.tasks × SameProducer answers result.answers }
 {
     let mut inbox = Inbox {
-        places,
+        parkers,
         number,
         tasks,
     };
     let mut outbox = Outbox {
-        places,
+        parkers,
         number,
         answers,
     };
     let result = serve_all(rt, alloc, waiting, &mut inbox, party, &mut outbox);
     match result {
-        Ok(()) => places.end_party(),
-        Err(_) => places.stop(),
+        Ok(()) => parkers.end_party(),
+        Err(_) => parkers.stop(),
     }
     Answered {
         tasks: inbox.tasks,

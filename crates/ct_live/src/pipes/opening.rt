@@ -1,7 +1,7 @@
 //! New rings.
 
 ghost use Rattle.std.specs.Prelude.{IfOk};
-ghost use Rattle.ct_live.specs.Opening.{AreNew};
+ghost use Rattle.ct_live.specs.NewRings.{AreNew};
 
 use rtrb::{Consumer, Producer, RingBuffer};
 use std::alloc::{AllocError, Global};

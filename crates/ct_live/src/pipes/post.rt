@@ -2,10 +2,10 @@
 
 ghost use Rattle.std.specs.Prelude.{◌≡◌, ◌<◌, ◌++◌, ◌∷◌, [], ℕ, List, length, IfSome, IfNone, OnOk, OnErr};
 ghost use Rattle.rtrb.specs.Ring.{sent, received, known_free, known_items, SameProducer, SameConsumer};
-ghost use Rattle.ct_live.specs.Parts.{IsMergeOf};
+ghost use Rattle.ct_live.specs.Merges.{IsMergeOf};
 ghost use Rattle.ct_live.specs.Rings.{all_sent, IsSeenFull, SameProducers};
 
-use crate::pipes::places::{Places, Seat};
+use crate::pipes::parkers::{Parkers, Waiter};
 use rtrb::{Consumer, Producer, PushError};
 use std::sync::Wait;
 use thiserror::Error;
@@ -22,9 +22,9 @@ pub struct Stopped;
 /// `Stopped`, where all were to end before there was room: nothing was sent, and the ring was seen full.
 pub fn deliver<T: Drop, R: Wait>(
     rt: &R,
-    places: &Places,
-    own: Seat,
-    other: Seat,
+    parkers: &Parkers,
+    own: Waiter,
+    other: Waiter,
     producer: &mut Producer<T>,
     item: T,
 ) -> Result<(), Stopped>
@@ -37,15 +37,15 @@ pub fn deliver<T: Drop, R: Wait>(
     for _ in rt.forever() {
         match producer.push(item) {
             Ok(()) => {
-                places.wake(other);
+                parkers.wake(other);
                 return Ok(());
             }
             Err(PushError::Full(back)) => item = back,
         }
-        if places.has_stopped() {
+        if parkers.has_stopped() {
             return Err(Stopped);
         }
-        places.wait(rt, own);
+        parkers.wait(rt, own);
     }
     unreachable!()
 }
@@ -54,7 +54,7 @@ pub fn deliver<T: Drop, R: Wait>(
 /// was seen empty.
 pub fn receive<T, R: Wait>(
     rt: &R,
-    places: &Places,
+    parkers: &Parkers,
     party: usize,
     consumer: &mut Consumer<T>,
 ) -> Option<T>
@@ -64,15 +64,15 @@ pub fn receive<T, R: Wait>(
     ensures same { SameConsumer consumer.old consumer.new }
 {
     for _ in rt.forever() {
-        let given = places.has_given();
+        let given = parkers.has_given();
         if let Ok(item) = consumer.pop() {
-            places.wake(Seat::Reader);
+            parkers.wake(Waiter::Reader);
             return Some(item);
         }
         if given {
             return None;
         }
-        places.wait(rt, Seat::Party(party));
+        parkers.wait(rt, Waiter::Party(party));
     }
     unreachable!()
 }
@@ -84,7 +84,7 @@ pub fn receive<T, R: Wait>(
 /// `Stopped`, where all were to end before there was room: nobody was given anything, and the party's ring was seen full.
 pub fn give<T: Drop, R: Wait>(
     rt: &R,
-    places: &Places,
+    parkers: &Parkers,
     producers: &mut [Producer<T>],
     party: usize,
     task: T,
@@ -97,5 +97,12 @@ pub fn give<T: Drop, R: Wait>(
     ensures same { SameProducers producers.old producers.new }
 {
     let producer = &mut producers[party];
-    deliver(rt, places, Seat::Reader, Seat::Party(party), producer, task)
+    deliver(
+        rt,
+        parkers,
+        Waiter::Reader,
+        Waiter::Party(party),
+        producer,
+        task,
+    )
 }

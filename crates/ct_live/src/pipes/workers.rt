@@ -3,8 +3,9 @@
 ghost use Rattle.std.specs.Prelude.{◌≡◌, ◌<◌, ◌+◌, ◌++◌, ◌∷◌, [], length, map, IfErr, IfOk, Ok, Err, OnOk, Some, None, ◌⊎◌, vec_len, vec_capacity};
 ghost use Rattle.ct_live.specs.Working.{Works, WorksSome, AreJoinedOf, HasRoom};
 
-use crate::pipes::answering::{Answered, Numbered, PartyFault, answer_all};
-use crate::pipes::places::Places;
+use crate::pipes::answering::{Answered, Numbered, answer_all};
+use crate::pipes::fault::ThreadFault;
+use crate::pipes::parkers::Parkers;
 use ct_parties::{Fault, Party, Waiting};
 use rtrb::{Consumer, Producer};
 use std::alloc::{AllocError, Global};
@@ -26,7 +27,7 @@ pub struct Worker<P: Drop, T: Drop> {
 #[derive(Drop)]
 pub struct Worked<P: Drop, T: Drop> {
     pub worker: Worker<P, T>,
-    pub result: Result<(), PartyFault>,
+    pub result: Result<(), ThreadFault>,
 }
 
 // Answers the tasks of a party. It hands its rings back all the same where it ended before its time: what it sent is then the
@@ -34,7 +35,7 @@ pub struct Worked<P: Drop, T: Drop> {
 fn work<T: Drop, P: Party<T> + Drop, R: Threads + Wait + Sync>(
     rt: &R,
     alloc: Global,
-    places: &Places,
+    parkers: &Parkers,
     waiting: &Waiting,
     worker: Worker<P, T>,
 ) -> Worked<P, T>
@@ -52,7 +53,7 @@ fn work<T: Drop, P: Party<T> + Drop, R: Threads + Wait + Sync>(
         answers,
         result,
     } = answer_all(
-        rt, alloc, places, number, waiting, &mut party, tasks, answers,
+        rt, alloc, parkers, number, waiting, &mut party, tasks, answers,
     );
     Worked {
         worker: Worker {
@@ -95,7 +96,7 @@ fn start_each<
     rt: &'e R,
     alloc: Global,
     scope: &'s Scope<'s, &'e ()>,
-    places: &'e Places,
+    parkers: &'e Parkers,
     waiting: &'e Waiting,
     workers: Vec<Worker<P, T>>,
 ) -> Result<Vec<WorkerThread<P, T>>, Fault>
@@ -107,7 +108,7 @@ fn start_each<
         let promise = WorkerPromise(Snapshot::of(&worker));
         let working = move || -> Worked<P, T>
             ensures { OnOk result.result (Works P.does worker result.worker) × WorksSome P.does worker result.worker }
-        { work(rt, alloc, places, waiting, worker) };
+        { work(rt, alloc, parkers, waiting, worker) };
         let Ok(thread) = scope.spawn_with(promise, working) else {
             return Err(Fault::Threads);
         };
@@ -131,17 +132,17 @@ pub fn start_workers<
     rt: &'e R,
     alloc: Global,
     scope: &'s Scope<'s, &'e ()>,
-    places: &'e Places,
+    parkers: &'e Parkers,
     waiting: &'e Waiting,
     workers: Vec<Worker<P, T>>,
 ) -> Result<Vec<WorkerThread<P, T>>, Fault>
     ensures started { IfOk result (λ v. map (λ t. t.promise.0.value) v.items ≡ workers.items) }
     ensures faults { IfErr result (λ f. (f ≡ Fault.Memory) ⊎ (f ≡ Fault.Threads)) }
 {
-    match start_each(rt, alloc, scope, places, waiting, workers) {
+    match start_each(rt, alloc, scope, parkers, waiting, workers) {
         Ok(threads) => Ok(threads),
         Err(fault) => {
-            places.stop();
+            parkers.stop();
             Err(fault)
         }
     }
@@ -153,7 +154,7 @@ pub struct Joined<P: Drop, T: Drop> {
     pub parties: Vec<P>,
     pub tasks: Vec<Consumer<Numbered<T>>>,
     pub answers: Vec<Producer<Vec<u8>>>,
-    pub fault: Option<PartyFault>,
+    pub fault: Option<ThreadFault>,
 }
 
 impl<P: Drop, T: Drop> Joined<P, T> {
@@ -178,14 +179,15 @@ impl<P: Drop, T: Drop> Joined<P, T> {
 
 // Why a party ended before its time, once one more has ended: as the first that did; but that memory was refused goes before that
 // all were to end, so that a party that was only told to end doesn't hide it.
-fn fault_with(before: Option<PartyFault>, ended: Result<(), PartyFault>) -> Option<PartyFault>
+fn fault_with(before: Option<ThreadFault>, ended: Result<(), ThreadFault>) -> Option<ThreadFault>
     ensures none { result ≡ None → (before ≡ None) × (ended ≡ Ok tt) }
-    ensures refused { (before ≡ Some PartyFault.Memory) ⊎ (ended ≡ Err PartyFault.Memory) → result ≡ Some PartyFault.Memory }
-    ensures memory { result ≡ Some PartyFault.Memory → (before ≡ Some PartyFault.Memory) ⊎ (ended ≡ Err PartyFault.Memory) }
+    ensures refused { (before ≡ Some ThreadFault.Memory) ⊎ (ended ≡ Err ThreadFault.Memory) → result ≡ Some ThreadFault.Memory }
+    ensures memory { result ≡ Some ThreadFault.Memory → (before ≡ Some ThreadFault.Memory) ⊎ (ended ≡ Err ThreadFault.Memory) }
 {
     match ended {
         Ok(()) => before,
-        Err(PartyFault::Stopped) => before.or(Some(PartyFault::Stopped)),
+        Err(ThreadFault::Stopped) => before.or(Some(ThreadFault::Stopped)),
+        Err(ThreadFault::Read) => before.or(Some(ThreadFault::Read)),
         Err(memory) => Some(memory),
     }
 }

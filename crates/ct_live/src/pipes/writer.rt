@@ -5,7 +5,7 @@ ghost use Rattle.rtrb.specs.Ring.{received, known_items, SameConsumer};
 ghost use Rattle.ct_live.specs.Rings.{AreSeenEmpty, EmptiedAt, SameConsumers};
 ghost use Rattle.ct_live.specs.Written.{Passes, PassesSome, WritesOn, BeginsOn};
 
-use crate::pipes::places::{Places, Seat};
+use crate::pipes::parkers::{Parkers, Waiter};
 use ct_lines::{Unwritten, send};
 use rtrb::Consumer;
 use std::io::Write;
@@ -13,7 +13,7 @@ use std::sync::Wait;
 
 // Writes the next answer of a party, if one is seen. It answers whether there was one.
 fn write_next<W: Write>(
-    places: &Places,
+    parkers: &Parkers,
     party: usize,
     ring: &mut Consumer<Vec<u8>>,
     output: &mut W,
@@ -28,14 +28,14 @@ fn write_next<W: Write>(
     let Ok(text) = ring.pop() else {
         return Ok(false);
     };
-    places.wake(Seat::Party(party));
+    parkers.wake(Waiter::Party(party));
     send(output, &text)?;
     Ok(true)
 }
 
 // The same, among the answers of all parties.
 fn write_of<W: Write>(
-    places: &Places,
+    parkers: &Parkers,
     party: usize,
     rings: &mut [Consumer<Vec<u8>>],
     output: &mut W,
@@ -47,12 +47,12 @@ fn write_of<W: Write>(
     ensures failed { OnErr result (BeginsOn rings.old rings.new (W.contents output.old) (W.contents output.new)) }
 {
     let ring = &mut rings[party];
-    write_next(places, party, ring, output)
+    write_next(parkers, party, ring, output)
 }
 
 // Writes an answer of each party of which one is seen. It answers whether there was any.
 fn write_round<W: Write>(
-    places: &Places,
+    parkers: &Parkers,
     rings: &mut [Consumer<Vec<u8>>],
     output: &mut W,
 ) -> Result<bool, Unwritten>
@@ -63,7 +63,7 @@ fn write_round<W: Write>(
 {
     let mut any = false;
     for party in 0..rings.len() {
-        if write_of(places, party, rings, output)? {
+        if write_of(parkers, party, rings, output)? {
             any = true;
         }
     }
@@ -73,7 +73,7 @@ fn write_round<W: Write>(
 // Writes the answers of all parties as they come, until all parties have ended, or all were to end.
 fn write_until_ended<R: Wait, W: Write>(
     rt: &R,
-    places: &Places,
+    parkers: &Parkers,
     rings: &mut [Consumer<Vec<u8>>],
     output: &mut W,
 ) -> Result<(), Unwritten>
@@ -83,12 +83,12 @@ fn write_until_ended<R: Wait, W: Write>(
     ensures failed { OnErr result (BeginsOn rings.old rings.new (W.contents output.old) (W.contents output.new)) }
 {
     for _ in rt.forever() {
-        let ended = places.have_ended();
-        if !write_round(places, rings, output)? {
+        let ended = parkers.have_ended();
+        if !write_round(parkers, rings, output)? {
             if ended {
                 return Ok(());
             }
-            places.wait(rt, Seat::Writer);
+            parkers.wait(rt, Waiter::Writer);
         }
     }
     unreachable!()
@@ -102,7 +102,7 @@ fn write_until_ended<R: Wait, W: Write>(
 /// `Unwritten`, and all are to end: of what came out of the rings a beginning is written, in the same sense.
 pub fn write_answers<R: Wait, W: Write>(
     rt: &R,
-    places: &Places,
+    parkers: &Parkers,
     rings: &mut [Consumer<Vec<u8>>],
     output: &mut W,
 ) -> Result<(), Unwritten>
@@ -111,10 +111,10 @@ pub fn write_answers<R: Wait, W: Write>(
     ensures written { OnOk result (WritesOn rings.old rings.new (W.contents output.old) (W.contents output.new)) }
     ensures failed { OnErr result (BeginsOn rings.old rings.new (W.contents output.old) (W.contents output.new)) }
 {
-    match write_until_ended(rt, places, rings, output) {
+    match write_until_ended(rt, parkers, rings, output) {
         Ok(()) => Ok(()),
         Err(failed) => {
-            places.stop();
+            parkers.stop();
             Err(failed)
         }
     }

@@ -1,6 +1,6 @@
 use Rattle.std.proofs.Common.{◌∙◌}
 use Rattle.ct_lines.specs.Frozen.{line_answer}
-use Rattle.ct_live.specs.LiveReplies.{object_text}
+use Rattle.ct_live.specs.ReplyObjects.{object_text}
 use Rattle.ct_live.proofs.Replies.{last_left}
 use Rattle.ct_live.proofs.Texts.{reply_and_end}
 use Rattle.ct_live.proofs.closed.closed_reply.Goals as goal

@@ -1,7 +1,7 @@
 use Rattle.std.proofs.Common.{rules, ◌∙◌, ◌∷◌, []}
 use Rattle.std.specs.List.{concat}
 use Rattle.ct_live.proofs.Beside.{of_error}
-use Rattle.ct_live.specs.LiveServed.{closed_replies}
+use Rattle.ct_live.specs.LiveInput.{closed_replies}
 use Rattle.ct_live.proofs.TextsBegun.{nothing_begun, one_reply_begun}
 use Rattle.ct_live.proofs.closed.send_reply.Goals as goal
 

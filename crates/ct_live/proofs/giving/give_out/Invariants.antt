@@ -1,5 +1,5 @@
 use Rattle.std.proofs.Common.{◌≡◌, length}
-use Rattle.ct_live.specs.LiveRuns.{GivesOn}
+use Rattle.ct_live.specs.LiveWorkers.{GivesOn}
 use Rattle.ct_live.proofs.Reading.{HasRead}
 use Rattle.ct_live.proofs.giving.give_out.Given as goal
 

@@ -1,6 +1,6 @@
 use Rattle.std.proofs.Common.{List, refl, subst}
 use Rattle.ct_live.specs.Working.{AreJoinedOf}
-use Rattle.ct_live.specs.LiveRuns.{FrontStep, FrontWorker}
+use Rattle.ct_live.specs.LiveWorkers.{LiveFrontReplies, FrontWorker}
 use Rattle.ct_live.proofs.Reading.{reads_as}
 use Rattle.ct_live.proofs.Runs.{writer_out}
 use Rattle.ct_live.proofs.threads.run_in.Goals as goal
@@ -15,7 +15,7 @@ returns-clause-given g c =
 
 pub returns-clause-fronts : goal.returns-clause-fronts
 returns-clause-fronts g c =
-    subst (λ (l : List FrontWorker). AreJoinedOf FrontStep l c.join_workers-fronts.result) c.in-Ok-start_workers.ensures.started c.join_workers-fronts.ensures.joined
+    subst (λ (l : List FrontWorker). AreJoinedOf LiveFrontReplies l c.join_workers-fronts.result) c.in-Ok-start_workers.ensures.started c.join_workers-fronts.ensures.joined
 
 pub returns-clause-written : goal.returns-clause-written
 returns-clause-written g c =

@@ -3,7 +3,7 @@ use Rattle.std.proofs.lemmas.Result.{IfErr-at_err, IfErr-weaker, IfOk-at_ok, on_
 use Rattle.std.specs.Prelude.{OnErr, OnOk}
 use Rattle.ct_live.specs.Rings.{SameConsumers}
 use Rattle.ct_live.specs.LiveEnding.{Rings}
-use Rattle.ct_live.specs.LiveRuns.{OperatorWorksSome, WritesOut}
+use Rattle.ct_live.specs.LiveWorkers.{OperatorWorksSome, WritesOut}
 use Rattle.ct_live.proofs.Joined.{beside_kept, house_kept, when_ok}
 use Rattle.ct_live.proofs.Runs.{beside_joined, fronts_joined, nothing_ran, ran, ran_broken}
 use Rattle.ct_live.proofs.threads.run_live.Goals as goal

@@ -1,6 +1,6 @@
 use Rattle.std.proofs.Common.{List, sym, subst, ◌∙◌}
 use Rattle.ct_house.specs.House.{FrontView}
-use Rattle.ct_parties.specs.Parties.{AreFrontsOf}
+use Rattle.ct_parties.specs.Fronts.{AreFrontsOf}
 use Rattle.ct_script.specs.Shifts.{start_of}
 use Rattle.ct_script.proofs.ShiftLemmas.{does_stay, lanes_count, shifts_stay}
 use Rattle.ct_script.proofs.shifting.serve_parties.Goals as goal

@@ -6,9 +6,9 @@ returns-clause-answered g c =
     let served = c.serve_all-result in
     all_answered g.P.Party.does
     (record {
-      source = record { places = c.args.places; number = c.args.number; tasks = c.args.tasks };
+      source = record { parkers = c.args.parkers; number = c.args.number; tasks = c.args.tasks };
       party = c.args.party.now;
-      sink = record { places = c.args.places; number = c.args.number; answers = c.args.answers };
+      sink = record { parkers = c.args.parkers; number = c.args.number; answers = c.args.answers };
     })
     (record { source = served.new.source; party = served.new.party; sink = served.new.sink }) served.result served.ensures.all
 
@@ -17,9 +17,9 @@ returns-clause-begun g c =
     let served = c.serve_all-result in
     but_last_answered g.P.Party.does
     (record {
-      source = record { places = c.args.places; number = c.args.number; tasks = c.args.tasks };
+      source = record { parkers = c.args.parkers; number = c.args.number; tasks = c.args.tasks };
       party = c.args.party.now;
-      sink = record { places = c.args.places; number = c.args.number; answers = c.args.answers };
+      sink = record { parkers = c.args.parkers; number = c.args.number; answers = c.args.answers };
     })
     served.new.source served.new.sink served.result served.ensures.all_but_last
 
@@ -28,9 +28,9 @@ returns-clause-same g c =
     let served = c.serve_all-result in
     rings_same g.P.Party.does
     (record {
-      source = record { places = c.args.places; number = c.args.number; tasks = c.args.tasks };
+      source = record { parkers = c.args.parkers; number = c.args.number; tasks = c.args.tasks };
       party = c.args.party.now;
-      sink = record { places = c.args.places; number = c.args.number; answers = c.args.answers };
+      sink = record { parkers = c.args.parkers; number = c.args.number; answers = c.args.answers };
     })
     (record { source = served.new.source; party = served.new.party; sink = served.new.sink }) served.result served.ensures.all
     served.ensures.all_but_last

@@ -1,4 +1,4 @@
-use Rattle.ct_live.specs.Opening.{AreEmpty}
+use Rattle.ct_live.specs.NewRings.{AreEmpty}
 use Rattle.ct_live.specs.Rings.{HavePlaces}
 use Rattle.ct_live.proofs.pipes.opening.open_pipes.Given as goal
 

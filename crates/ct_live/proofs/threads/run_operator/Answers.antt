@@ -2,7 +2,7 @@ use Rattle.rtrb.specs.Ring.{sent, received}
 use Rattle.ct_live.specs.LiveParties.{OperatorReplies}
 use Rattle.ct_live.proofs.Beside.{of_either}
 use Rattle.ct_live.proofs.BrokenOff.{answers_but_last, answers_some}
-use Rattle.ct_live.proofs.threads.operate.Goals as goal
+use Rattle.ct_live.proofs.threads.run_operator.Goals as goal
 
 pub returns-clause-some : goal.returns-clause-some
 returns-clause-some g c =

@@ -1,5 +1,5 @@
 use Rattle.ct_live.proofs.Opens.{opened}
-use Rattle.ct_live.proofs.live.open_ends.Goals as goal
+use Rattle.ct_live.proofs.live.open_all_pipes.Goals as goal
 
 pub returns : goal.returns
 returns c =

@@ -3,7 +3,7 @@ use Rattle.std.proofs.lemmas.Result.{on_err_weaker, on_ok_weaker}
 use Rattle.ct_live.proofs.Beside.{as_long, pair_there, pairs_kept, received_more}
 use Rattle.ct_live.proofs.Merging.{sent_none}
 use Rattle.ct_live.proofs.Writing.{begun_there, written_there}
-use Rattle.ct_live.proofs.pipes.ending.write_rest_of.Goals as goal
+use Rattle.ct_live.proofs.pipes.draining.write_rest_of.Goals as goal
 
 pub bounds-rings-party : goal.bounds-rings-party
 bounds-rings-party g c = omega (arith, as_long c.args.producers.now c.args.rings.now c.requires.0)

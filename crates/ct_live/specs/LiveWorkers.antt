@@ -6,7 +6,7 @@ use Rattle.rtrb.specs.declared.AnyItems.{AnyItems}
 use Rattle.rtrb.specs.declared.consumer.Consumer.{Consumer}
 use Rattle.rtrb.specs.declared.producer.Producer.{Producer}
 use Rattle.ct_house.specs.House.{FrontView}
-use Rattle.ct_parties.specs.Parties.{AreFrontsOf}
+use Rattle.ct_parties.specs.Fronts.{AreFrontsOf}
 use Rattle.ct_lines.specs.declared.request.FrontRequest.{FrontRequest}
 use Rattle.ct_live.specs.Answered.{AnswersMore, AnswersSome}
 use Rattle.ct_live.specs.Rings.{ArePairs, SameConsumers, SameProducers}
@@ -15,10 +15,9 @@ use Rattle.ct_live.specs.Written.{WritesOn, BeginsOn}
 use Rattle.ct_live.specs.declared.pipes.answering.Numbered.{Numbered}
 use Rattle.ct_live.specs.declared.pipes.workers.Worker.{Worker}
 use Rattle.ct_live.specs.LiveParties.{OperatorReplies, FrontReplies}
-use Rattle.ct_live.specs.declared.asking.LiveOperatorTask.{LiveOperatorTask}
 use Rattle.ct_live.specs.declared.front.LiveFront.{LiveFront}
 use Rattle.ct_live.specs.declared.giving.Inlets.{Inlets}
-use Rattle.ct_live.specs.declared.workers.OperatorWorker.{OperatorWorker}
+use Rattle.ct_live.specs.declared.operator.OperatorWorker.{OperatorWorker}
 
 -- the fronts that these parties are
 abbrev pub party_fronts : List LiveFront → List FrontView
@@ -45,7 +44,7 @@ worker_answers ws = map (λ (w : FrontWorker). w.answers) ws
 pub record AreBeside (inlets : Inlets) (tasks : List (Consumer (Numbered FrontRequest) Global AnyItems))
     (answers : List (Producer (Vec ℕ Global) Global AnyItems)) (operator : OperatorWorker) (rings : List (Consumer (Vec ℕ Global) Global AnyItems)) : Type 0 where
   pub tasks_of : ArePairs inlets.fronts.items tasks
-  pub orders : IsPair inlets.operator operator.tasks
+  pub operator_tasks_of : IsPair inlets.operator operator.tasks
   pub answers_of : ArePairs (answers ++ operator.answers ∷ []) rings
 
 -- The parties have the one ends of the rings of which the reader and the writer have the other ones, and are all fronts of a house, in
@@ -60,13 +59,13 @@ pub record GivesOn (a b : Inlets) : Type 0 where
   pub fronts : SameProducers a.fronts.items b.fronts.items
   pub operator : SameProducer a.operator b.operator
 
+-- a front of a live log does one task, and replies to it
+abbrev pub LiveFrontReplies : LiveFront → FrontRequest → List ℕ → LiveFront → Type 0
+LiveFrontReplies a t r b = FrontReplies a.front t r b.front
+
 -- what each front did in its thread
 abbrev pub AllReply : List FrontWorker → List FrontWorker → Type 0
-AllReply before after = AllWork (λ (a : LiveFront) (t : FrontRequest) (r : List ℕ) (b : LiveFront). FrontReplies a.front t r b.front) before after
-
--- a front does one task, and replies to it
-abbrev pub FrontStep : LiveFront → FrontRequest → List ℕ → LiveFront → Type 0
-FrontStep a t r b = FrontReplies a.front t r b.front
+AllReply before after = AllWork LiveFrontReplies before after
 
 -- what the operator did: it answered all tasks that it received in turn, over the same rings
 pub record OperatorWorks (a b : OperatorWorker) : Type 0 where
@@ -76,7 +75,7 @@ pub record OperatorWorks (a b : OperatorWorker) : Type 0 where
 
 -- the same of each front of which not all tasks are known to be answered: it answered the first of those that it received
 abbrev pub AllReplySome : List FrontWorker → List FrontWorker → Type 0
-AllReplySome before after = AllWorkSome (λ (a : LiveFront) (t : FrontRequest) (r : List ℕ) (b : LiveFront). FrontReplies a.front t r b.front) before after
+AllReplySome before after = AllWorkSome LiveFrontReplies before after
 
 -- the operator answered the first of the tasks that it received, in turn, over the same rings
 pub record OperatorWorksSome (a b : OperatorWorker) : Type 0 where

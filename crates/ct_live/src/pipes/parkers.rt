@@ -1,7 +1,7 @@
 //! Where threads wait for one another, and what they tell each other beside the rings.
 
 ghost use Rattle.std.specs.Prelude.{◌≡◌, IfOk};
-ghost use Rattle.ct_live.specs.Waiting.{party_places};
+ghost use Rattle.ct_live.specs.Parkers.{party_parkers};
 
 use crate::pipes::breaker::Breaker;
 use std::alloc::{AllocError, Global};
@@ -11,16 +11,16 @@ use std::thread::Parker;
 
 /// A thread that may wait: the reader, the writer, or the party with this number.
 #[derive(Clone, Copy, Debug, PartialEq, Eq)]
-pub enum Seat {
+pub enum Waiter {
     Reader,
     Writer,
     Party(usize),
 }
 
-/// The places where the reader, the writer and so many parties wait, and how far each has come. No contract rests on what
-/// is told here: it only ends waits.
+/// Where the reader, the writer and so many parties wait, and how far each has come. No contract rests on what is told here:
+/// it only ends waits.
 #[derive(Drop)]
-pub struct Places {
+pub struct Parkers {
     // Whether all are to end, though there may be more to do, and where the reader waits.
     breaker: Arc<Breaker>,
     writer: Parker,
@@ -31,16 +31,16 @@ pub struct Places {
     ended: AtomicU64,
 }
 
-impl Places {
-    /// Places for so many parties, in a run that this breaker ends.
-    pub fn new(alloc: Global, parties: usize, breaker: Arc<Breaker>) -> Result<Places, AllocError>
-        ensures { IfOk result (λ p. party_places p ≡ parties) }
+impl Parkers {
+    /// Parkers for so many parties, in a run that this breaker ends.
+    pub fn new(alloc: Global, parties: usize, breaker: Arc<Breaker>) -> Result<Parkers, AllocError>
+        ensures { IfOk result (λ p. party_parkers p ≡ parties) }
     {
         let mut parkers = Vec::new(alloc);
         for _party in 0..parties {
             parkers.push(Parker::new())?;
         }
-        Ok(Places {
+        Ok(Parkers {
             breaker,
             writer: Parker::new(),
             parties: parkers,
@@ -50,11 +50,11 @@ impl Places {
     }
 
     /// Has this thread go on, or not wait the next time.
-    pub fn wake(&self, seat: Seat) {
-        match seat {
-            Seat::Reader => self.breaker.wake(),
-            Seat::Writer => self.writer.unpark(),
-            Seat::Party(number) => {
+    pub fn wake(&self, waiter: Waiter) {
+        match waiter {
+            Waiter::Reader => self.breaker.wake(),
+            Waiter::Writer => self.writer.unpark(),
+            Waiter::Party(number) => {
                 if let Some(parker) = self.parties.get(number) {
                     parker.unpark();
                 }
@@ -62,12 +62,12 @@ impl Places {
         }
     }
 
-    /// Waits in this thread's place until another wakes it. There is no wait for a party that isn't there.
-    pub fn wait<R: Wait>(&self, rt: &R, seat: Seat) {
-        match seat {
-            Seat::Reader => self.breaker.wait(rt),
-            Seat::Writer => self.writer.park(rt),
-            Seat::Party(number) => {
+    /// Waits as this thread until another wakes it. There is no wait for a party that isn't there.
+    pub fn wait<R: Wait>(&self, rt: &R, waiter: Waiter) {
+        match waiter {
+            Waiter::Reader => self.breaker.wait(rt),
+            Waiter::Writer => self.writer.park(rt),
+            Waiter::Party(number) => {
                 if let Some(parker) = self.parties.get(number) {
                     parker.park(rt);
                 }

@@ -2,8 +2,8 @@ use Rattle.std.proofs.Common.{◌<◌, ◌∙◌, length, sym, arith}
 use Rattle.ct_live.specs.Rings.{all_received, all_sent}
 use Rattle.ct_live.proofs.Merging.{sent_none}
 use Rattle.ct_live.proofs.Beside.{all_begun, all_taken, as_long, begun_more, not_all_taken, pair_there, pairs_kept, received_none, taken_more}
-use Rattle.ct_live.proofs.pipes.ending.are_taken.Goals as goal
-use Rattle.ct_live.proofs.pipes.ending.are_taken.Goals.{then-not-is_taken, else-not-is_taken}
+use Rattle.ct_live.proofs.pipes.draining.are_taken.Goals as goal
+use Rattle.ct_live.proofs.pipes.draining.are_taken.Goals.{then-not-is_taken, else-not-is_taken}
 
 pub bounds-consumers-party : goal.bounds-consumers-party
 bounds-consumers-party g c = omega (arith, as_long c.loop-party.producers c.loop-party.consumers c.loop-party.invariant.pairs)

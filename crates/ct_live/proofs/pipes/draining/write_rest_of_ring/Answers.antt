@@ -1,6 +1,6 @@
 use Rattle.rtrb.specs.Ring.{received, known_items}
 use Rattle.ct_live.proofs.Beside.{known_less, known_step, of_error, passes_more, passes_some, still_pair}
-use Rattle.ct_live.proofs.pipes.ending.write_rest_of_ring.Goals as goal
+use Rattle.ct_live.proofs.pipes.draining.write_rest_of_ring.Goals as goal
 
 pub returns-in_err-send-clause-failed : goal.returns-in_err-send-clause-failed
 returns-in_err-send-clause-failed g c =

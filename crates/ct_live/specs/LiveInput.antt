@@ -1,5 +1,5 @@
 -- What the lines of a live log's input ask of its parties, and what the closed log replies to those behind.
-use Rattle.std.specs.Prelude.{◌≡◌, ◌≢◌, ◌+◌, ◌-◌, ℕ, List, [], ◌∷◌, ◌++◌, length, map, slice_get, Option, Some, None, IfSome}
+use Rattle.std.specs.Prelude.{◌≡◌, ◌≢◌, ◌+◌, ℕ, List, [], ◌∷◌, ◌++◌, map, Option, Some, None, IfSome}
 use Rattle.std.specs.List.{concat, filter_map}
 use mathlib.Core.List.{IsPrefix}
 use Rattle.ct_core.specs.Replies.{a_published_head}
@@ -9,13 +9,14 @@ use Rattle.ct_lines.specs.Frozen.{line_answer}
 use Rattle.ct_lines.specs.Requests.{front_asked}
 use Rattle.ct_lines.specs.declared.request.FrontRequest.{FrontRequest}
 use Rattle.ct_parties.specs.Lines.{lines_of}
-use Rattle.ct_live.specs.Parts.{IsMergeOf}
+use Rattle.ct_live.specs.Merges.{IsMergeOf}
 use Rattle.ct_live.specs.Tagged.{tagged}
 use Rattle.ct_live.specs.declared.pipes.answering.Numbered.{Numbered}
 use Rattle.ct_tree.specs.declared.head.Head.{Head}
 use Rattle.ct_live.specs.LiveLines.{AsksLive}
-use Rattle.ct_live.specs.LiveReplies.{object_text}
-use Rattle.ct_live.specs.LiveTasks.{LiveStep, front_does, operator_does, closes, LeavesOpen}
+use Rattle.ct_live.specs.ReplyObjects.{object_text}
+use Rattle.ct_live.specs.LiveSigning.{IsLastHead}
+use Rattle.ct_live.specs.LiveTasks.{LiveStep, gives_front, gives_operator, closes_at, LeavesOpen}
 use Rattle.ct_live.specs.declared.asking.LiveOperatorTask.{LiveOperatorTask}
 
 -- lines with their numbers, of which the first has this one
@@ -42,15 +43,15 @@ AllAskLive fronts ((k, b ∷ bs) ∷ lines) (s ∷ ss) = (s.0 ≡ k) × AsksLive
 
 -- what a step gives a front to do, with the front's number and the line's
 abbrev pub front_given : ℕ × LiveStep → Option (ℕ × (ℕ × FrontAsked))
-front_given (k, front_does f r) = Some (f, (k, r))
-front_given (k, operator_does t) = None
-front_given (k, closes now) = None
+front_given (k, gives_front f r) = Some (f, (k, r))
+front_given (k, gives_operator t) = None
+front_given (k, closes_at now) = None
 
 -- what a step gives the operator to do, with the line's number
 abbrev pub operator_given : ℕ × LiveStep → Option (ℕ × LiveOperatorTask)
-operator_given (k, front_does f r) = None
-operator_given (k, operator_does t) = Some (k, t)
-operator_given (k, closes now) = None
+operator_given (k, gives_front f r) = None
+operator_given (k, gives_operator t) = Some (k, t)
+operator_given (k, closes_at now) = None
 
 -- a task that a front was given, as it was asked: its line's number, and what the line asks
 abbrev pub front_task_asked : ℕ × Numbered FrontRequest → ℕ × (ℕ × FrontAsked)
@@ -80,17 +81,13 @@ pub record AreAsked (fronts : ℕ) (lines : List (ℕ × List ℕ)) (front_tasks
 abbrev pub EndsAtLine : ℕ → ℕ → List (ℕ × List ℕ) → List (ℕ × List ℕ) → ℕ → Option (ℕ × List (ℕ × List ℕ)) → Type 0
 EndsAtLine fronts close_at lines first now None = (first ≡ lines) × (now ≡ close_at)
 EndsAtLine fronts close_at lines first now (Some (k, behind)) =
-    (line : List ℕ) × (line ≢ []) × AsksLive fronts line (closes now) × (lines ≡ first ++ (k, line) ∷ behind)
+    (line : List ℕ) × (line ≢ []) × AsksLive fronts line (closes_at now) × (lines ≡ first ++ (k, line) ∷ behind)
 
 -- the closed log's replies to lines, each with its line's number: to an empty line there is none
 abbrev pub closed_replies : Log → List (ℕ × List ℕ) → List (List ℕ)
 closed_replies log [] = []
 closed_replies log ((k, []) ∷ lines) = closed_replies log lines
 closed_replies log ((k, b ∷ bs) ∷ lines) = tagged k (object_text (line_answer log (b ∷ bs))) ∷ closed_replies log lines
-
--- the head is the last one of the log
-abbrev pub IsLastHead : Log → Head → Type 0
-IsLastHead log h = slice_get log.heads (length log.heads - 1) ≡ Some h
 
 -- what is written once the log is closed: nothing, where the input ended; or the last head, in reply to the line that closes it, and
 -- the replies to the lines behind

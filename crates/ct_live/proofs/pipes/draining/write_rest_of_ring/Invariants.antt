@@ -1,7 +1,7 @@
 use Rattle.std.specs.Prelude.{◌≡◌, ◌+◌, ◌++◌, length}
 use Rattle.rtrb.specs.Ring.{sent, received, known_items, IsPair}
 use Rattle.ct_live.specs.Written.{Passes}
-use Rattle.ct_live.proofs.pipes.ending.write_rest_of_ring.Given as goal
+use Rattle.ct_live.proofs.pipes.draining.write_rest_of_ring.Given as goal
 
 abbrev pub invariant-loop-turn : goal.invariant-loop-turn
 invariant-loop-turn g l = record {

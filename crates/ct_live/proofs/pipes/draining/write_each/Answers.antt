@@ -1,6 +1,6 @@
 use Rattle.std.proofs.Common.{arith}
 use Rattle.ct_live.proofs.Beside.{all_taken, as_long}
-use Rattle.ct_live.proofs.pipes.ending.write_each.Goals as goal
+use Rattle.ct_live.proofs.pipes.draining.write_each.Goals as goal
 
 pub returns-clause-all : goal.returns-clause-all
 returns-clause-all g c =

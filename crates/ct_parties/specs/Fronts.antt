@@ -11,5 +11,5 @@ pub record AreFrontsOf (s : HouseState) (fronts : List FrontView) : Type 0 where
   pub some : 0 < length fronts
 
 -- the fronts went on, place by place
-abbrev pub AreSame : List FrontView → List FrontView → Type 0
-AreSame before after = AllZip FrontGoesOn before after
+abbrev pub AllGoOn : List FrontView → List FrontView → Type 0
+AllGoOn before after = AllZip FrontGoesOn before after

@@ -1,7 +1,7 @@
 use Rattle.std.specs.Prelude.{◌≡◌, ℕ, List, Option}
 use Rattle.ct_live.specs.Rings.{all_received, all_sent, texts_each, ArePairs, AreTakenBelow}
 use Rattle.ct_live.specs.Written.{IsWritten}
-use Rattle.ct_live.proofs.pipes.ending.write_each.Given as goal
+use Rattle.ct_live.proofs.pipes.draining.write_each.Given as goal
 
 abbrev pub invariant-loop-party : goal.invariant-loop-party
 invariant-loop-party g l = record {

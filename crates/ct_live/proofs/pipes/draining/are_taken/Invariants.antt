@@ -1,7 +1,7 @@
 use Rattle.std.specs.Prelude.{◌≡◌, ◌≢◌, true, false}
 use Rattle.ct_live.specs.Rings.{all_received, all_sent, ArePairs, AreTakenBelow}
 use Rattle.ct_live.proofs.Beside.{AreBegunBelow}
-use Rattle.ct_live.proofs.pipes.ending.are_taken.Given as goal
+use Rattle.ct_live.proofs.pipes.draining.are_taken.Given as goal
 
 abbrev pub invariant-loop-party : goal.invariant-loop-party
 invariant-loop-party g l = record {

@@ -8,11 +8,11 @@ use Rattle.ct_live.specs.Rings.{all_received, all_sent, ArePrefixes}
 use Rattle.ct_live.specs.Written.{BeginsOn, WritesOn}
 use Rattle.ct_live.specs.LiveEnding.{EndsLive, EndsLogSome, Rings}
 use Rattle.ct_live.specs.LiveGiven.{GivesSome, ReadsOn}
-use Rattle.ct_live.specs.LiveRuns.{FrontWorker, worker_fronts, worker_tasks, worker_answers, AllReply, AllReplySome, OperatorWorks, OperatorWorksSome}
+use Rattle.ct_live.specs.LiveWorkers.{FrontWorker, worker_fronts, worker_tasks, worker_answers, AllReply, AllReplySome, OperatorWorks, OperatorWorksSome}
 use Rattle.ct_live.specs.declared.giving.End.{End}
-use Rattle.ct_live.specs.declared.giving.GiveFault.{GiveFault}
+use Rattle.ct_live.specs.declared.pipes.fault.ThreadFault.{ThreadFault}
 use Rattle.ct_live.specs.declared.giving.Inlets.{Inlets}
-use Rattle.ct_live.specs.declared.workers.OperatorWorker.{OperatorWorker}
+use Rattle.ct_live.specs.declared.operator.OperatorWorker.{OperatorWorker}
 
 -- What the threads and the end after them do: by `given` tasks were given for the lines of the input, by `did` and `operated` the fronts and
 -- the operator did theirs, by `wrote` answers were written as they came, and by `ended` the run ended then, with what `Closing` says of the
@@ -21,7 +21,7 @@ use Rattle.ct_live.specs.declared.workers.OperatorWorker.{OperatorWorker}
 pub record RunsLive (Closing : HouseState → List FrontView → End → ℕ → Option (List ℕ) → Option (List ℕ) → Type 0) (next : ℕ) (input : Option (List ℕ))
     (inlets : Inlets) (workers : List FrontWorker) (rings : Rings) (operator : OperatorWorker) (old : Option (List ℕ)) : Type 0 where
   pub inlets_then : Inlets
-  pub read : Result End GiveFault
+  pub read : Result End ThreadFault
   pub next_then : ℕ
   pub input_then : Option (List ℕ)
   pub given : ReadsOn next next_then input input_then read inlets inlets_then
@@ -48,7 +48,7 @@ pub record RunsSome (next : ℕ) (input : Option (List ℕ)) (inlets : Inlets) (
   pub operated : OperatorWorksSome operator operator_then
   pub rings_then : Rings
   pub taken : ArePrefixes (all_received (worker_tasks workers_then)) (all_sent inlets_then.fronts.items)
-  pub ordered : IsPrefix (received operator_then.tasks) (sent inlets_then.operator)
+  pub operator_taken : IsPrefix (received operator_then.tasks) (sent inlets_then.operator)
   pub came : ArePrefixes (all_received rings_then) (all_sent (worker_answers workers_then ++ operator_then.answers ∷ []))
   pub wrote : BeginsOn rings rings_then old new
 
