@@ -28,9 +28,13 @@ END = re.compile(r"\bExitCode::from\(status\)\s*\}\s*$")
 TELLS = re.compile(r"\btell\([^;]*\);\s*1\s*\}")
 # How long a line waits.
 WAITS = {
-    "ct_live/src/live.rt": {"TURNS": "50_000_000"},
-    "ctlog/src/program.rt": {"TURNS": "50_000_000"},
-    "ct_parties/src/waiting.rt": {"GLANCES": "256", "TURNS_ASLEEP": "16_384"},
+    "ct_live/src/live.rt": {"TURNS": "5_000_000"},
+    "ctlog/src/program.rt": {"TURNS": "5_000_000"},
+    "ct_parties/src/operator_work.rt": {"ENOUGH": "16"},
+    "ct_parties/src/waiting.rt": {
+        **{"GLANCES_FOR_HEADS": "0", "MILLISECONDS_FOR_HEADS": "10", "GLANCES_FOR_FRONT": "64", "MILLISECONDS_FOR_FRONT": "1"},
+        **{"LONGEST": "10", "TURNS_ASLEEP": "1_638"},
+    },
 }
 # How often each file tells each of these faults, and where.
 TOLD = {

@@ -26,7 +26,7 @@ use std::sync::{Arc, Wait};
 use std::thread::Threads;
 
 /// How many turns a line may wait in the process.
-pub const TURNS: u64 = 50_000_000;
+pub const TURNS: u64 = 5_000_000;
 
 // How many bytes are asked of the reader at a time.
 const CAPACITY: usize = 65_536;

@@ -16,7 +16,7 @@ use std::sync::Wait;
 use std::thread::Threads;
 
 /// How many turns a line may wait in the process.
-pub const TURNS: u64 = 50_000_000;
+pub const TURNS: u64 = 5_000_000;
 
 /// Runs the program over its command line, whose first word is its name, and answers its exit status. A line that waits
 /// for another party looks `turns` times.
