@@ -30,7 +30,11 @@ TELLS = re.compile(r"\btell\([^;]*\);\s*1\s*\}")
 WAITS = {
     "ct_live/src/live.rt": {"TURNS": "50_000_000"},
     "ctlog/src/program.rt": {"TURNS": "50_000_000"},
-    "ct_parties/src/waiting.rt": {"GLANCES": "256", "TURNS_ASLEEP": "16_384"},
+    "ct_parties/src/operator_work.rt": {"ENOUGH": "16"},
+    "ct_parties/src/waiting.rt": {
+        **{"GLANCES_FOR_HEADS": "0", "MILLISECONDS_FOR_HEADS": "4", "GLANCES_FOR_FRONT": "64", "MILLISECONDS_FOR_FRONT": "1"},
+        **{"TURNS_ASLEEP": "16_384"},
+    },
 }
 # How often each file tells each of these faults, and where.
 TOLD = {

@@ -11,7 +11,7 @@ ghost use Rattle.ct_parties.specs.FrontWork.{HandsIn, Submits, Looks, Shows, Awa
 ghost use Rattle.ct_parties.specs.Serving.{DoesWithLine};
 
 use crate::serving::Party;
-use crate::waiting::{Bell, Waiting};
+use crate::waiting::Waiting;
 use ct_codec::{Refusal, Submission};
 use ct_core::{Query, Reply};
 use ct_house::Front;
@@ -21,7 +21,7 @@ use std::sync::Wait;
 use std::thread::Threads;
 
 // Hands in a submission against which nothing stands, and rings where it is accepted.
-fn hand_in(front: &mut Front, submission: Submission, accepted: &Bell) -> Result<Reply, Refusal>
+fn hand_in(front: &mut Front, submission: Submission, waiting: &Waiting) -> Result<Reply, Refusal>
     ensures hands_in { HandsIn front.old.intake submission (answered result) front.new.intake }
     ensures same { SameIntake front.old.intake front.new.intake }
     ensures sight { front.new.sight ≡ front.old.sight }
@@ -29,7 +29,7 @@ fn hand_in(front: &mut Front, submission: Submission, accepted: &Bell) -> Result
 {
     match front.submit(submission) {
         Ok(ticket) => {
-            accepted.ring();
+            waiting.accepted(front.number()).ring();
             Ok(Reply::Ticket(ticket))
         }
         Err((refusal, _)) => Err(refusal),
@@ -37,14 +37,14 @@ fn hand_in(front: &mut Front, submission: Submission, accepted: &Bell) -> Result
 }
 
 // Submits a chain.
-fn submit_chain(front: &mut Front, chain: Vec<Vec<u8>>, accepted: &Bell) -> Result<Reply, Refusal>
+fn submit_chain(front: &mut Front, chain: Vec<Vec<u8>>, waiting: &Waiting) -> Result<Reply, Refusal>
     ensures submits { Submits front.old (x509 (map (λ c. c.items) chain.items)) (answered result) front.new }
     ensures same { SameIntake front.old.intake front.new.intake }
     ensures sight { front.new.sight ≡ front.old.sight }
     ensures shutdown { front.old.intake.knows_shutdown ≡ true → front.new.intake.knows_shutdown ≡ true }
 {
     let submission = Submission::x509(chain)?;
-    hand_in(front, submission, accepted)
+    hand_in(front, submission, waiting)
 }
 
 // Submits a precertificate.
@@ -53,7 +53,7 @@ fn submit_precert(
     issuer_key_hash: [u8; 32],
     tbs: Vec<u8>,
     chain: Vec<Vec<u8>>,
-    accepted: &Bell,
+    waiting: &Waiting,
 ) -> Result<Reply, Refusal>
     ensures submits { Submits front.old (precert issuer_key_hash tbs.items (map (λ c. c.items) chain.items)) (answered result) front.new }
     ensures same { SameIntake front.old.intake front.new.intake }
@@ -61,7 +61,7 @@ fn submit_precert(
     ensures shutdown { front.old.intake.knows_shutdown ≡ true → front.new.intake.knows_shutdown ≡ true }
 {
     let submission = Submission::precert(issuer_key_hash, tbs, chain)?;
-    hand_in(front, submission, accepted)
+    hand_in(front, submission, waiting)
 }
 
 // Asks the published log.
@@ -103,7 +103,7 @@ fn await_size<R: Wait>(
         if size <= published_size(alloc, front)? {
             return Ok(Reply::Reached(size));
         }
-        turn = waiting.heads.wait_turn(rt, turn, seen);
+        turn = waiting.heads.wait_turn(rt, turn, seen, 1);
     }
     Err(Refusal::Late)
 }
@@ -121,12 +121,12 @@ pub fn do_front_task<R: Wait>(
     ensures goes_on { FrontGoesOn front.old front.new }
 {
     match task {
-        FrontRequest::AddChain { chain } => submit_chain(front, chain, &waiting.accepted),
+        FrontRequest::AddChain { chain } => submit_chain(front, chain, waiting),
         FrontRequest::AddPreChain {
             issuer_key_hash,
             tbs,
             chain,
-        } => submit_precert(front, issuer_key_hash, tbs, chain, &waiting.accepted),
+        } => submit_precert(front, issuer_key_hash, tbs, chain, waiting),
         FrontRequest::AwaitSize { tree_size } => await_size(rt, alloc, front, tree_size, waiting),
         FrontRequest::Ask(query) => ask(alloc, front, &query),
     }

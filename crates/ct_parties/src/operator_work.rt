@@ -19,6 +19,10 @@ use std::thread::Threads;
 // How many items are settled at once.
 const BATCH: u64 = 256;
 
+// For how many items the operator waits at most before it looks whether there are any: to sleep once more costs more than to settle
+// one.
+const ENOUGH: u64 = 16;
+
 // Settles items of a front, so many at most and one at least, as soon as there are any.
 fn settle_some<R: Threads + Wait + Sync>(
     rt: &R,
@@ -34,9 +38,11 @@ fn settle_some<R: Threads + Wait + Sync>(
     ensures { SettlesSome front most now sequencer.old result sequencer.new }
 {
     let turns = waiting.turns;
+    let accepted = waiting.accepted(front);
+    let more = u64::from(most).min(ENOUGH);
     let mut turn = 0;
     while turn < turns && !waiting.is_over() {
-        let seen = waiting.accepted.rung();
+        let seen = accepted.rung();
         match sequencer.take(rt, alloc, front, most, now) {
             Ok(settled) => {
                 if settled > 0 {
@@ -45,7 +51,7 @@ fn settle_some<R: Threads + Wait + Sync>(
             }
             Err(refusal) => return Err(refusal),
         }
-        turn = waiting.accepted.wait_turn(rt, turn, seen);
+        turn = accepted.wait_turn(rt, turn, seen, more);
     }
     Err(Refusal::Late)
 }

@@ -1,32 +1,52 @@
 //! How a line waits for another party: it glances at that party's bell some times in a row, and then sleeps until the
-//! bell rings. It looks again after each ring, and after each sleep that nobody ended.
+//! bell was rung often enough. It looks again after that, and after each sleep that nobody ended. Each front has a bell of its
+//! own: the operator waits for one front at a time, and the others don't wake it.
 
 ghost use Rattle.std.specs.Prelude.{◌≡◌, ◌<◌, ◌≤◌, ◌+◌, ◌-◌, ◌^◌};
 
+use std::array::from_fn;
 use std::hint::spin_loop;
 use std::sync::atomic::{AtomicBool, AtomicU64, Ordering};
 use std::sync::{Arc, Wait};
 use std::time::Duration;
 
-// So often a line glances at the bell before it sleeps: a glance is one load of a word.
-const GLANCES: u64 = 256;
+// So often a line that waits for a head glances at the bell, a load of a word, before it sleeps, and so many milliseconds it
+// sleeps at most. Before a head comes, the operator settles what all fronts have accepted: so it sleeps at once.
+const GLANCES_FOR_HEADS: u64 = 0;
+
+const MILLISECONDS_FOR_HEADS: u64 = 4;
+
+// The same of the operator, who waits for a front. One that is at work rings within microseconds.
+const GLANCES_FOR_FRONT: u64 = 64;
+
+const MILLISECONDS_FOR_FRONT: u64 = 1;
 
 // A turn asleep that nobody ended counts as so many.
 const TURNS_ASLEEP: u64 = 16_384;
 
-/// A bell that some threads ring, and on which others sleep until it is rung.
+// How many fronts have a bell.
+const FRONTS: usize = 16;
+
+/// A bell that one party rings, and at which others wait until it was rung often enough.
 #[derive(Drop)]
 pub struct Bell {
+    // How often who waits glances before it sleeps, and for how many milliseconds.
+    glances: u64,
+    milliseconds: u64,
     rung: AtomicU64,
-    asleep: AtomicU64,
+    // How often it has to have been rung for who sleeps to be woken, and 0 where nobody sleeps: the least number where these
+    // differ.
+    awaited: AtomicU64,
 }
 
 impl Bell {
-    /// A bell that wasn't rung.
-    pub fn new() -> Bell {
+    // A bell that wasn't rung.
+    fn new(glances: u64, milliseconds: u64) -> Bell {
         Bell {
+            glances,
+            milliseconds,
             rung: AtomicU64::new(0),
-            asleep: AtomicU64::new(0),
+            awaited: AtomicU64::new(0),
         }
     }
 
@@ -35,27 +55,40 @@ impl Bell {
         self.rung.load(Ordering::SeqCst)
     }
 
-    /// Rings, and wakes who sleeps. Where nobody sleeps it is one step on a word, and no call of the system.
+    /// Rings, and wakes who sleeps until it was rung so often. Where nobody does, it is two steps on words, and no call of the
+    /// system.
     pub fn ring(&self) {
-        self.rung.fetch_add(1, Ordering::SeqCst);
-        if self.asleep.load(Ordering::SeqCst) > 0 {
-            self.rung.wake_all();
+        let rung = self.rung.fetch_add(1, Ordering::SeqCst).wrapping_add(1);
+        let awaited = self.awaited.load(Ordering::SeqCst);
+        if awaited > 0 && awaited <= rung {
+            self.awaited.store(0, Ordering::SeqCst);
+            self.awaited.wake_all();
         }
     }
 
-    /// Sleeps until the bell was rung more than `seen` times, for a millisecond at most. A ring between the look at its
-    /// number and the sleep isn't missed.
-    pub fn sleep<R: Wait>(&self, rt: &R, seen: u64) {
-        self.asleep.fetch_add(1, Ordering::SeqCst);
-        self.rung
-            .park_timeout(rt, (seen & 0xffff_ffff) as u32, Duration::from_millis(1));
-        self.asleep.fetch_sub(1, Ordering::SeqCst);
+    // Sleeps until the bell was rung so often, or for as long as one sleeps here. No ring is missed: who rings looks at what is
+    // awaited behind its ring, and the sleep ends where that isn't what it was.
+    fn sleep<R: Wait>(&self, rt: &R, until: u64) {
+        let awaited = self.awaited.load(Ordering::SeqCst);
+        let least = if awaited > 0 {
+            until.min(awaited)
+        } else {
+            until
+        };
+        self.awaited.store(least, Ordering::SeqCst);
+        if self.rung() < until {
+            self.awaited.park_timeout(
+                rt,
+                (least & 0xffff_ffff) as u32,
+                Duration::from_millis(self.milliseconds),
+            );
+        }
     }
 
-    // Whether it is rung more than `seen` times at one of some glances in a row.
-    fn is_rung(&self, seen: u64) -> bool {
-        for _ in 0..GLANCES {
-            if self.rung() != seen {
+    // Whether it was rung so often at one of some glances in a row.
+    fn is_rung(&self, until: u64) -> bool {
+        for _ in 0..self.glances {
+            if self.rung() >= until {
                 return true;
             }
             spin_loop();
@@ -63,14 +96,15 @@ impl Bell {
         false
     }
 
-    /// Ends a turn of a line that waits, and answers the next turn's number. `seen` is how often the bell was rung before
-    /// the line looked.
-    pub fn wait_turn<R: Wait>(&self, rt: &R, turn: u64, seen: u64) -> u64
+    /// Ends a turn of a line that waits until the bell was rung `more` times, and answers the next turn's number. `seen` is how
+    /// often the bell was rung before the line looked.
+    pub fn wait_turn<R: Wait>(&self, rt: &R, turn: u64, seen: u64, more: u64) -> u64
         ensures later { turn < 2 ^ 64 - 1 → turn < result }
         ensures some { result ≤ turn + 16384 }
     {
-        if !self.is_rung(seen) {
-            self.sleep(rt, seen);
+        let until = seen.saturating_add(more);
+        if !self.is_rung(until) {
+            self.sleep(rt, until);
         }
         let turns = if self.rung() == seen { TURNS_ASLEEP } else { 1 };
         turn.saturating_add(turns)
@@ -84,8 +118,8 @@ pub struct Waiting {
     pub turns: u64,
     /// Rung when a head was published.
     pub heads: Bell,
-    /// Rung when a front accepted a submission.
-    pub accepted: Bell,
+    // A front's is rung when it accepted a submission.
+    accepted: [Bell; FRONTS],
     // Whether a thread of the run didn't start, or had no memory: then no line waits any more.
     ended: AtomicBool,
     // Whether the run is to end, if anything ends it: then no line waits any more.
@@ -93,30 +127,36 @@ pub struct Waiting {
 }
 
 impl Waiting {
-    /// Lines that wait so many turns, with bells that weren't rung.
-    pub fn new(turns: u64) -> Waiting
+    // Lines that wait so many turns, with bells that weren't rung, in a run that this flag ends, if there is one.
+    fn with(turns: u64, stopped: Option<Arc<AtomicBool>>) -> Waiting
         ensures { result.turns ≡ turns }
     {
         Waiting {
             turns,
-            heads: Bell::new(),
-            accepted: Bell::new(),
+            heads: Bell::new(GLANCES_FOR_HEADS, MILLISECONDS_FOR_HEADS),
+            accepted: from_fn(|_| Bell::new(GLANCES_FOR_FRONT, MILLISECONDS_FOR_FRONT)),
             ended: AtomicBool::new(false),
-            stopped: None,
+            stopped,
         }
+    }
+
+    /// Lines that wait so many turns, with bells that weren't rung.
+    pub fn new(turns: u64) -> Waiting
+        ensures { result.turns ≡ turns }
+    {
+        Waiting::with(turns, None)
     }
 
     /// The same in a run that may be broken off: once the flag is set, no line waits any more, and those that do are late.
     pub fn until(turns: u64, stopped: Arc<AtomicBool>) -> Waiting
         ensures { result.turns ≡ turns }
     {
-        Waiting {
-            turns,
-            heads: Bell::new(),
-            accepted: Bell::new(),
-            ended: AtomicBool::new(false),
-            stopped: Some(stopped),
-        }
+        Waiting::with(turns, Some(stopped))
+    }
+
+    /// The bell of the front with this number, rung when it accepted a submission.
+    pub fn accepted(&self, front: u16) -> &Bell {
+        &self.accepted[usize::from(front) % FRONTS]
     }
 
     /// Has no line wait any more.
