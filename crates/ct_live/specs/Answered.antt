@@ -11,7 +11,7 @@ use Rattle.ct_live.specs.Rings.{texts}
 use Rattle.ct_live.specs.Tagged.{tagged}
 use Rattle.ct_live.specs.declared.pipes.answering.Numbered.{Numbered}
 use Rattle.ct_live.specs.declared.pipes.fault.ThreadFault.{ThreadFault}
-use Rattle.ct_live.specs.declared.pipes.fault.ThreadFault.TheVariants.{Stopped}
+use Rattle.ct_live.specs.declared.pipes.fault.ThreadFault.TheVariants.{Memory, Stopped}
 
 -- this task of the line with this number was received next, from the same ring
 pub record ReceivesNext {T : Type 0} (before : Consumer (Numbered T) Global AnyItems) (line : ℕ) (task : T)
@@ -33,11 +33,12 @@ pub record SendsTagged (before : Producer (Vec ℕ Global) Global AnyItems) (lin
   pub bytes : text.items ≡ tagged line reply
   pub same : SameProducer before after
 
--- nothing was sent, and where that was since all were to end, the ring was seen full
+-- nothing was sent: where that was since all were to end, the ring was seen full; and where a growth was refused, its end is as it was
 pub record SendsNothing (before : Producer (Vec ℕ Global) Global AnyItems) (fault : ThreadFault)
     (after : Producer (Vec ℕ Global) Global AnyItems) : Type 0 where
   pub none : sent after ≡ sent before
   pub full : fault ≡ Stopped → known_free after ≡ 0
+  pub untouched : fault ≡ Memory → after ≡ before
   pub same : SameProducer before after
 
 -- a party does a task, and this text is the reply that `does` gives, with the number of the task's line

@@ -18,7 +18,7 @@ pub record Turn {S P K M T : Type 0} (takes : S → M → T → S → Type 0) (d
   pub did : does a.party task.1 reply b.party
   pub put : puts a.sink task.0 reply b.sink
 
--- All tasks that came were done in turn, and each reply was put before the next task came; then no more came.
+-- All tasks that came were done in turn, and their replies were put in that order; then no more came.
 pub record ServesAll {S P K M T : Type 0} (takes : S → M → T → S → Type 0) (ends : S → S → Type 0) (does : P → T → List ℕ → P → Type 0)
     (puts : K → M → List ℕ → K → Type 0) (a b : Serving S P K) : Type 0 where
   pub tasks : List (M × T)

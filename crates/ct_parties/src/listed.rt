@@ -1,6 +1,6 @@
 //! Tasks in a list, and replies one behind the other.
 
-ghost use Rattle.std.specs.Prelude.{◌≡◌, ◌∷◌, ◌++◌, [], ⊤};
+ghost use Rattle.std.specs.Prelude.{◌≡◌, ◌∷◌, ◌++◌, []};
 ghost use Rattle.std.specs.Vec.Iter.{into_iter_items};
 
 use crate::serving::{Sink, Source};
@@ -20,13 +20,13 @@ impl<T: Drop> Source<(), T> for IntoIter<T> {
     }
 }
 
-/// Each reply stands behind those before it.
+/// Each reply stands behind those before it. Where a growth is refused these stay as they are.
 impl Sink<()> for Vec<u8> {
     type Fault = AllocError;
 
     ghost puts = { λ before _ reply after. after.items ≡ before.items ++ reply };
 
-    ghost refuses = { λ _ _ _. ⊤ };
+    ghost refuses = { λ before _ after. after.items ≡ before.items };
 
     fn put_reply<R: Wait>(
         &mut self,
