@@ -3,7 +3,7 @@ use Rattle.std.proofs.Common.{◌≡◌, ◌<◌, ◌≤◌, ◌+◌, ℕ, List,
 use Rattle.std.proofs.Common.{append_assoc, length-append, take_all, take-append-drop}
 use Rattle.std.proofs.lemmas.List.{drop_at, map-append, take_at, take_more}
 use Rattle.std.proofs.lemmas.List.Folds.{concat-append}
-use Rattle.std.specs.Prelude.{Option, Some, Result, Ok, Err, OnErr, IsErrAnd, IfErr}
+use Rattle.std.specs.Prelude.{Option, Result, Ok, Err, OnErr, IfErr}
 use Rattle.std.specs.List.{AllByRecursion, AllZip, concat, filter_map, flat_map}
 use Rattle.std.specs.Io.KnownBytes.{Appends, Keeps}
 use Rattle.ct_core.specs.Settlement.{Log}

@@ -1,5 +1,5 @@
 -- What the fronts and the operator leave of a shift, one front after the other.
-use Rattle.std.proofs.Common.{◌≡◌, ℕ, suc, List, [], ◌∷◌, ◌++◌, length, map, refl, sym, ap, subst, ◌∙◌, arith, reverse}
+use Rattle.std.proofs.Common.{◌≡◌, ℕ, List, [], ◌∷◌, ◌++◌, length, map, sym, subst, reverse}
 use Rattle.std.specs.Global.{Global}
 use Rattle.std.specs.Prelude.{Vec, Result, Ok, OnOk}
 use Rattle.ct_house.specs.House.{HouseState}
