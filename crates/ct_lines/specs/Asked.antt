@@ -9,10 +9,10 @@ use Rattle.ct_core.specs.declared.query.Query.{Query}
 use Rattle.ct_core.specs.declared.query.Query.TheVariants.{GetSth, Consistency, ProofByHash, Entries, EntryAndProof, Receipt}
 
 -- who makes a request: a front by its number, the operator, or a reader of the frozen log
-pub data Party : Type 0 where
-  front : ℕ → Party
-  operator : Party
-  frozen : Party
+pub data Who : Type 0 where
+  front : ℕ → Who
+  operator : Who
+  frozen : Who
 
 -- what a front asks; a precertificate is submitted with its issuer's key hash, its TBSCertificate and its chain
 pub data FrontAsked : Type 0 where
@@ -44,11 +44,11 @@ pub data Asked : Type 0 where
   by_frozen : FrozenAsked → Asked
 
 -- the party of a name
-abbrev pub named_party : List ℕ → Option Party
+abbrev pub named_party : List ℕ → Option Who
 named_party name = if bytes_eq name (codes "operator") then Some operator else (if bytes_eq name (codes "frozen") then Some frozen else None)
 
 -- the party that a value names: a number is a front
-abbrev pub party_in : Data → Option Party
+abbrev pub party_in : Data → Option Who
 party_in null = None
 party_in (boolean b) = None
 party_in (number n) = option_map front (as_u64 n)
@@ -57,7 +57,7 @@ party_in (array ds) = None
 party_in (object ms) = None
 
 -- who makes the request
-abbrev pub party_at : Data → Option Party
+abbrev pub party_at : Data → Option Who
 party_at d = option_and_then party_in (get (codes "who") d)
 
 -- the question of the op get-sth-consistency
@@ -140,7 +140,7 @@ frozen_asks op d =
     else option_map frozen_query (query_asked op d)
 
 -- what a party asks by an op
-abbrev pub asked_by : Party → List ℕ → Data → Option Asked
+abbrev pub asked_by : Who → List ℕ → Data → Option Asked
 asked_by (front n) op d = option_map (by_front n) (front_asks op d)
 asked_by operator op d = option_map by_operator (operator_asks op d)
 asked_by frozen op d = option_map by_frozen (frozen_asks op d)

@@ -1,9 +1,9 @@
 -- The requests as the code has them.
 use Rattle.std.specs.Prelude.{map}
 use Rattle.ct_lines.specs.Asked.{Asked, by_front, by_operator, by_frozen, FrontAsked, add_chain, add_pre_chain, await_size, front_query, OperatorAsked}
-use Rattle.ct_lines.specs.Asked.{sequence, publish, shutdown, shift, AuditAsked, audit, FrozenAsked, frozen_query, frozen_audit, Party, front, operator, frozen}
-use Rattle.ct_lines.specs.declared.reading.Party.{Party as CodeParty}
-use Rattle.ct_lines.specs.declared.reading.Party.TheVariants as party_case
+use Rattle.ct_lines.specs.Asked.{sequence, publish, shutdown, shift, AuditAsked, audit, FrozenAsked, frozen_query, frozen_audit, Who, front, operator, frozen}
+use Rattle.ct_lines.specs.declared.reading.Who.{Who as CodeWho}
+use Rattle.ct_lines.specs.declared.reading.Who.TheVariants as who_case
 use Rattle.ct_lines.specs.declared.request.FrontRequest.{FrontRequest}
 use Rattle.ct_lines.specs.declared.request.FrontRequest.TheVariants as front_case
 use Rattle.ct_lines.specs.declared.request.OperatorRequest.{OperatorRequest}
@@ -44,7 +44,7 @@ asked (request_case.Operator r) = by_operator (operator_asked r)
 asked (request_case.Frozen r) = by_frozen (frozen_asked r)
 
 -- who makes a request
-abbrev pub party : CodeParty → Party
-party (party_case.Front n) = front n
-party party_case.Operator = operator
-party party_case.Frozen = frozen
+abbrev pub party : CodeWho → Who
+party (who_case.Front n) = front n
+party who_case.Operator = operator
+party who_case.Frozen = frozen

@@ -41,7 +41,7 @@ fn decode(alloc: Global, text: &str) -> Result<Option<Vec<u8>>, AllocError>
 }
 
 // The bytes that a value stands for.
-fn bytes_value(alloc: Global, value: &Value) -> Result<Option<Vec<u8>>, AllocError>
+fn bytes_of_value(alloc: Global, value: &Value) -> Result<Option<Vec<u8>>, AllocError>
     ensures { IfOk result (λ o. option_map (λ b. b.items) o ≡ bytes_in (view value.now)) }
 {
     match value.as_str() {
@@ -55,18 +55,18 @@ pub fn bytes(alloc: Global, value: &Value, key: &str) -> Result<Option<Vec<u8>>,
     ensures { IfOk result (λ o. option_map (λ b. b.items) o ≡ bytes_at key.now (view value.now)) }
 {
     match value.get(key) {
-        Some(field) => bytes_value(alloc, field),
+        Some(field) => bytes_of_value(alloc, field),
         None => Ok(None),
     }
 }
 
 // The bytes that each of the values stands for.
-fn bytes_values(alloc: Global, values: &[Value]) -> Result<Option<Vec<Vec<u8>>>, AllocError>
+fn bytes_of_values(alloc: Global, values: &[Value]) -> Result<Option<Vec<Vec<u8>>>, AllocError>
     ensures { IfOk result (λ o. option_map (λ v. map (λ c. c.items) v.items) o ≡ bytes_of_items (items_view values.now)) }
 {
     let mut all = Vec::new(alloc);
     for value in values {
-        let Some(bytes) = bytes_value(alloc, value)? else {
+        let Some(bytes) = bytes_of_value(alloc, value)? else {
             return Ok(None);
         };
         all.push(bytes)?;
@@ -86,7 +86,7 @@ pub fn bytes_list(
         return Ok(None);
     };
     match field.as_array() {
-        Some(values) => bytes_values(alloc, values),
+        Some(values) => bytes_of_values(alloc, values),
         None => Ok(None),
     }
 }
@@ -95,7 +95,7 @@ pub fn bytes_list(
 fn hash_value(alloc: Global, value: &Value) -> Result<Option<[u8; 32]>, AllocError>
     ensures { IfOk result (λ o. o ≡ hash_in (view value.now)) }
 {
-    let Some(bytes) = bytes_value(alloc, value)? else {
+    let Some(bytes) = bytes_of_value(alloc, value)? else {
         return Ok(None);
     };
     match <[u8; 32]>::try_from(bytes.as_slice()) {

@@ -18,26 +18,26 @@ pub(crate) const LONGEST: usize = 1_048_576;
 
 // Who makes a request.
 #[derive(Clone, Copy, Debug)]
-enum Party {
+enum Who {
     Front(u64),
     Operator,
     Frozen,
 }
 
 // Who makes the request, by the value under `who`.
-fn party_of(value: &Value) -> Option<Party>
+fn party_of(value: &Value) -> Option<Who>
     ensures { option_map party result ≡ party_at (view value.now) }
 {
     let who = value.get("who")?;
     if let Some(name) = who.as_str() {
         return match name {
-            "operator" => Some(Party::Operator),
-            "frozen" => Some(Party::Frozen),
+            "operator" => Some(Who::Operator),
+            "frozen" => Some(Who::Frozen),
             _ => None,
         };
     }
     let number = who.as_u64()?;
-    Some(Party::Front(number))
+    Some(Who::Front(number))
 }
 
 fn consistency_query(value: &Value) -> Option<Query>
@@ -231,15 +231,15 @@ fn request_in(alloc: Global, value: &Value) -> Result<Option<Request>, AllocErro
         return Ok(None);
     };
     match party {
-        Party::Front(number) => match front_request(alloc, op, value)? {
+        Who::Front(number) => match front_request(alloc, op, value)? {
             Some(request) => Ok(Some(Request::Front(number, request))),
             None => Ok(None),
         },
-        Party::Operator => match operator_request(op, value) {
+        Who::Operator => match operator_request(op, value) {
             Some(request) => Ok(Some(Request::Operator(request))),
             None => Ok(None),
         },
-        Party::Frozen => match frozen_request(alloc, op, value)? {
+        Who::Frozen => match frozen_request(alloc, op, value)? {
             Some(request) => Ok(Some(Request::Frozen(request))),
             None => Ok(None),
         },

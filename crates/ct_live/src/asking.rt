@@ -96,20 +96,20 @@ fn live_request_in(value: &Value) -> Option<LiveRequest>
 
 // Of a line that isn't read as JSON: it asks nothing, unless a growth was refused.
 #[derive(Drop)]
-struct NotJson {
+struct Unread {
     request: Result<Option<LiveRequest>, AllocError>,
 }
 
-impl From<Error> for NotJson {
+impl From<Error> for Unread {
     ghost from_gives = { λ error not. MatchResult not.request (λ o. (o ≡ None) × (IsMemory error → ⊥)) (λ _. IsMemory error) };
 
-    fn from(error: Error) -> NotJson {
+    fn from(error: Error) -> Unread {
         let request = if error.is_memory() {
             Err(AllocError)
         } else {
             Ok(None)
         };
-        NotJson { request }
+        Unread { request }
     }
 }
 
@@ -122,7 +122,7 @@ fn read_live(alloc: Global, line: &[u8]) -> Result<Option<LiveRequest>, AllocErr
     }
     match Value::from_slice(alloc, line) {
         Ok(value) => Ok(live_request_in(&value)),
-        Err(error) => NotJson::from(error).request,
+        Err(error) => Unread::from(error).request,
     }
 }
 
