@@ -7,9 +7,13 @@ how long it has been at work.
 
 Beside the edits of crates/NAME/must-fail it has `rt ci` try those of crates/NAME/by-turns, of a third of the crates that have this folder: the
 commit's hash says which, or TURN=0, 1 or 2 in the environment. They stand in must-fail while it runs.
+
+`rt ci` guesses what memory a proof needs, at three times what it takes, and lets a large crate wait while smaller ones have that: so the longest
+chain of crates would begin last. Where each processor has memory for a proof, it is told to use them all, by RT_JOBS.
 """
 import os
 import pathlib
+import re
 import shutil
 import signal
 import subprocess
@@ -19,6 +23,9 @@ import time
 
 ROOT = pathlib.Path(__file__).resolve().parent.parent
 THIRDS = 3
+
+# The memory that a proof takes at most, in bytes.
+MEMORY = 4_000_000_000
 
 # How often it says that the gate is still at work, in seconds, while nothing else happens.
 EVERY = 60
@@ -63,6 +70,14 @@ def main():
         put_out()
 
 
+def surroundings():
+    """The environment of `rt ci`."""
+    processors = len(os.sched_getaffinity(0))
+    free = re.search(r"MemAvailable:\s+(\d+)", pathlib.Path("/proc/meminfo").read_text())
+    jobs = {"RT_JOBS": str(processors)} if free and int(free[1]) * 1024 >= processors * MEMORY else {}
+    return {**jobs, **os.environ, "PYTHONUNBUFFERED": "1"}
+
+
 def run():
     """Runs `rt ci` and tells of it; the answer is its status."""
     start, said = time.monotonic(), time.monotonic()
@@ -80,7 +95,7 @@ def run():
             if time.monotonic() - said >= EVERY:
                 say("at work")
 
-    gate = subprocess.Popen(["rt", "ci"], stdout=subprocess.PIPE, text=True, errors="replace", env={**os.environ, "PYTHONUNBUFFERED": "1"})
+    gate = subprocess.Popen(["rt", "ci"], stdout=subprocess.PIPE, text=True, errors="replace", env=surroundings())
     threading.Thread(target=wait, daemon=True).start()
     last = ""
     try:

@@ -76,7 +76,7 @@ def main():
     for name in names:
         kept = ROOT / "crates" / name / "out" / "proved"
         sum_now = check.now(name)
-        if sum_now is not None and kept.exists() and kept.read_text() == sum_now and (check.crates.is_program(name) or check.rlib(name).exists()):
+        if sum_now is not None and kept.exists() and kept.read_text() == sum_now and (check.crates.is_put_together(name) or check.rlib(name).exists()):
             continue
         print(f"{name}: it changed, or what it reads of those below it", flush=True)
         if not check.prove(name):
