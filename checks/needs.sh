@@ -8,7 +8,7 @@ missing=0
 
 # The processor minutes that a target takes where nothing was proved before, by a run of the gate, from which demo, serve,
 # serve-ctlogd and link are reckoned. After another run: put its figures into this line, and let `needs.sh write` put the times into README.md.
-work_of() { local demo=67 serve=49 ctlogd=63 link=9 test=305 name=${1#serve-} && echo "${!name}"; }
+work_of() { local demo=74 serve=44 ctlogd=51 link=12 test=237 name=${1#serve-} && echo "${!name}"; }
 
 # The minutes that target $1 takes on $2 processors, rounded to five. Crates are proved side by side: a third is added where processors share
 # them, and more than eight gain little, of a program's own crates more than four.
