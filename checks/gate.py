@@ -8,8 +8,8 @@ how long it has been at work.
 Beside the edits of crates/NAME/must-fail it has `rt ci` try those of crates/NAME/by-turns, of a third of the crates that have this folder: the
 commit's hash says which, or TURN=0, 1 or 2 in the environment. They stand in must-fail while it runs.
 
-`rt ci` guesses what memory a proof needs, at three times what it takes, and lets a large crate wait while smaller ones have that: so the longest
-chain of crates would begin last. Where each processor has memory for a proof, it is told to use them all, by RT_JOBS.
+`rt ci` guesses what memory a proof needs, at two to three times what was seen, and lets a large crate wait while smaller ones have that: so ct_live, in
+the longest chain of crates, waited. Where each processor has memory for a proof, it is told to use them all, by RT_JOBS.
 """
 import os
 import pathlib
@@ -24,7 +24,7 @@ import time
 ROOT = pathlib.Path(__file__).resolve().parent.parent
 THIRDS = 3
 
-# The memory that a proof takes at most, in bytes.
+# About the most memory that a proof was seen to take, in bytes.
 MEMORY = 4_000_000_000
 
 # How often it says that the gate is still at work, in seconds, while nothing else happens.
