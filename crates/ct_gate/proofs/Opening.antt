@@ -9,9 +9,9 @@ use mathlib.Core.Option.{some-ne-none, some-injective}
 use Rattle.atomic_table.specs.Table.{Me, Splits, opening}
 use Rattle.ct_codec.specs.Items.{times}
 use Rattle.ct_gate.specs.Ends.{IntakeView, OutletView}
-use Rattle.ct_gate.specs.Seats.{FrontTickets, SeatView, EachView, tickets_in, fronts_in, front_view, shutter_view}
+use Rattle.ct_gate.specs.Seats.{FrontTickets, SeatView, EachView, tickets_in, fronts_in, view_of_front, view_of_shutter}
 use Rattle.ct_gate.specs.Word.{HasTickets, IsSound, IsOpen, IsShut, GateHolds}
-use Rattle.ct_gate.specs.Opening.{stands_for, new_fronts, all_in_one, rest_of, first_seat, without_first, first_alone, IsNewFront, AreNewFronts}
+use Rattle.ct_gate.specs.Opening.{view_of_fronts, new_fronts, all_in_one, rest_of, first_seat, without_first, first_alone, IsNewFront, AreNewFronts}
 use Rattle.ct_gate.proofs.Counts.{off, times-append, times_set, times_snoc, each_set, each_snoc, below_more}
 
 fronts_cut : (x : ℕ) (fs : List FrontTickets)
@@ -40,9 +40,9 @@ tickets_first (f ∷ fs) h = λ k d lt. at k d lt
 
 -- The first front of those that the opener still stands for gets a seat.
 deals : (fronts id : ℕ) (fs : List FrontTickets)
-    → Splits (GateHolds fronts) id (stands_for fs true) (rest_of (stands_for fs true)) (first_seat (stands_for fs true))
+    → Splits (GateHolds fronts) id (view_of_fronts fs true) (rest_of (view_of_fronts fs true)) (first_seat (view_of_fronts fs true))
 deals fronts id fs s h at =
-    let v = stands_for fs true in
+    let v = view_of_fronts fs true in
     let left = rest_of v in
     let right = first_seat v in
     let was = (h.seats id v at).0 in
@@ -81,7 +81,7 @@ deals fronts id fs s h at =
           h.phase;
     }
 
-pub deals_as : (fronts id : ℕ) (v : SeatView) (fs : List FrontTickets) → v ≡ stands_for fs true → Splits (GateHolds fronts) id v (rest_of v) (first_seat v)
+pub deals_as : (fronts id : ℕ) (v : SeatView) (fs : List FrontTickets) → v ≡ view_of_fronts fs true → Splits (GateHolds fronts) id v (rest_of v) (first_seat v)
 deals_as fronts id v fs is = subst (λ (v : SeatView). Splits (GateHolds fronts) id v (rest_of v) (first_seat v)) (sym is) (deals fronts id fs)
 
 below_at : (x m n : ℕ) → m ≡ n → ◌≡◌ {A = ℕ} (if nat_lt x m then 1 else 0) (if nat_lt x n then 1 else 0)
@@ -137,18 +137,18 @@ next_front : (k n : ℕ) → k < n → new_fronts k (n - k) ≡ record { front =
 next_front k n lt = let e : n - k ≡ suc (n - (k + 1)) = omega arith in ap (new_fronts k) e
 
 -- what is left after the k-th front of n got its seat, and that seat
-pub rest_left : (k n : ℕ) (m : Me (Unit {0}) SeatView) → k < n → m ≡ (stands_for (new_fronts k (n - k)) true, [])
-    → ◌≡◌ {A = Me (Unit {0}) SeatView} (rest_of m.0, m.1) (stands_for (new_fronts (k + 1) (n - (k + 1))) true, [])
+pub rest_left : (k n : ℕ) (m : Me (Unit {0}) SeatView) → k < n → m ≡ (view_of_fronts (new_fronts k (n - k)) true, [])
+    → ◌≡◌ {A = Me (Unit {0}) SeatView} (rest_of m.0, m.1) (view_of_fronts (new_fronts (k + 1) (n - (k + 1))) true, [])
 rest_left k n m lt is = ap (λ (m : Me (Unit {0}) SeatView). (rest_of m.0, m.1)) is
-    ∙ ap (λ (fs : List FrontTickets). (rest_of (stands_for fs true), [])) (next_front k n lt)
+    ∙ ap (λ (fs : List FrontTickets). (rest_of (view_of_fronts fs true), [])) (next_front k n lt)
 
-pub first_given : (k n : ℕ) (m : Me (Unit {0}) SeatView) → k < n → m ≡ (stands_for (new_fronts k (n - k)) true, [])
-    → ◌≡◌ {A = Me (Unit {0}) SeatView} (first_seat m.0, []) (front_view k [] false 0, [])
+pub first_given : (k n : ℕ) (m : Me (Unit {0}) SeatView) → k < n → m ≡ (view_of_fronts (new_fronts k (n - k)) true, [])
+    → ◌≡◌ {A = Me (Unit {0}) SeatView} (first_seat m.0, []) (view_of_front k [] false 0, [])
 first_given k n m lt is = ap (λ (m : Me (Unit {0}) SeatView). (first_seat m.0, [])) is
-    ∙ ap (λ (fs : List FrontTickets). (first_seat (stands_for fs true), [])) (next_front k n lt)
+    ∙ ap (λ (fs : List FrontTickets). (first_seat (view_of_fronts fs true), [])) (next_front k n lt)
 
-pub no_front_left : (n : ℕ) (m : Me (Unit {0}) SeatView) → m ≡ (stands_for (new_fronts n (n - n)) true, []) → m ≡ (shutter_view None, [])
-no_front_left n m is = let e : n - n ≡ 0 = omega arith in is ∙ ap (λ (j : ℕ). (stands_for (new_fronts n j) true, [])) e
+pub no_front_left : (n : ℕ) (m : Me (Unit {0}) SeatView) → m ≡ (view_of_fronts (new_fronts n (n - n)) true, []) → m ≡ (view_of_shutter None, [])
+no_front_left n m is = let e : n - n ≡ 0 = omega arith in is ∙ ap (λ (j : ℕ). (view_of_fronts (new_fronts n j) true, [])) e
 
 -- an element of a list with one more at its end
 pub get_snoc : {X : Type 0} (xs : List X) (x y : X) (k : ℕ) → slice_get (xs ++ x ∷ []) k ≡ Some y → ((k < length xs) × (slice_get xs k ≡ Some y))

@@ -10,7 +10,7 @@ use mathlib.Core.Option.{Option as Maybe, none, some}
 use lib.ListN.{get_elem?}
 use Rattle.atomic_table.specs.Table.{State, Me, keeps, step, Allows}
 use Rattle.ct_codec.specs.Items.{times, EachOnceBelow, Rises}
-use Rattle.ct_gate.specs.Seats.{SeatView, refused_draws, tickets_in, fronts_in, front_view, shutter_view}
+use Rattle.ct_gate.specs.Seats.{SeatView, refused_draws, tickets_in, fronts_in, view_of_front, view_of_shutter}
 use Rattle.ct_gate.specs.Word.{HasTickets, IsSound, IsOpen, IsShut, GateHolds}
 use Rattle.ct_gate.specs.Steps.{Draws, Glances, Shuts, after_shut}
 use Rattle.ct_gate.proofs.Counts.{off, times-append, times_set, times_within, times_there, refused_set, each_set, length_once, member_below, tickets_bound}
@@ -64,11 +64,11 @@ not_clear n word r is lt = omega arith
 
 -- a draw, by the phase in which it falls
 module _ (fronts id number : ℕ) (ts : List ℕ) (refused : ℕ) (few : length ts < 2 ^ 32) (s : State (Unit {0}) SeatView) (h : GateHolds fronts s)
-    (at : get_elem? s.views id ≡ some (front_view number ts false refused)) where
-  draw_open : (n : ℕ) → IsOpen n s.views → IsOpen (n + 1) (set s.views id (front_view number (ts ++ n ∷ []) false refused))
+    (at : get_elem? s.views id ≡ some (view_of_front number ts false refused)) where
+  draw_open : (n : ℕ) → IsOpen n s.views → IsOpen (n + 1) (set s.views id (view_of_front number (ts ++ n ∷ []) false refused))
   draw_open n o =
-      let v = front_view number ts false refused in
-      let w = front_view number (ts ++ n ∷ []) false refused in
+      let v = view_of_front number ts false refused in
+      let w = view_of_front number (ts ++ n ∷ []) false refused in
       record {
         clear = omega (arith, tickets_count fronts n s h o.tickets);
         tickets = λ x. omega (
@@ -84,9 +84,9 @@ module _ (fronts id number : ℕ) (ts : List ℕ) (refused : ℕ) (few : length 
         unknown = each_set (λ j u. (u.knows_shutdown ≡ false) × (u.accepted ≡ None)) s.views id w (λ j u apart e. o.unknown j u e) (refl, refl);
       }
 
-  draw_sound : (n : ℕ) → EachOnceBelow n (flat_map tickets_in s.views) → IsSound (front_view number (ts ++ n ∷ []) false refused)
+  draw_sound : (n : ℕ) → EachOnceBelow n (flat_map tickets_in s.views) → IsSound (view_of_front number (ts ++ n ∷ []) false refused)
   draw_sound n once =
-      let v = front_view number ts false refused in
+      let v = view_of_front number ts false refused in
       let was = (h.seats id v at).0 in
       let mine : Rises ts × (length ts ≤ 2 ^ 32) = was.tickets 0 (record { front = number; tickets = ts }) (omega arith) in
       let below = λ (k d : ℕ) (lt : k < length ts). member_below n (flat_map tickets_in s.views) once (get_or ts k d)
@@ -102,32 +102,32 @@ module _ (fronts id number : ℕ) (ts : List ℕ) (refused : ℕ) (few : length 
       one_alone us r l zero d lt = (r, l)
       one_alone us r l (suc k) d lt = absurd (omega arith)
 
-  draw_shut : (n word : ℕ) → IsShut n word s.views → IsShut n (word + 1) (set s.views id (front_view number ts true (refused + 1)))
+  draw_shut : (n word : ℕ) → IsShut n word s.views → IsShut n (word + 1) (set s.views id (view_of_front number ts true (refused + 1)))
   draw_shut n word c =
-      let v = front_view number ts false refused in
-      let w = front_view number ts true (refused + 1) in
+      let v = view_of_front number ts false refused in
+      let w = view_of_front number ts true (refused + 1) in
       record {
         tickets = λ x. omega (arith, times_set tickets_in s.views id v w x at, c.tickets x);
         draws = omega (arith, refused_set s.views id v w at, c.draws);
         accepted = each_set (λ j u. u.is_shutter ≡ true → u.accepted ≡ Some n) s.views id w (λ j u apart e. c.accepted j u e) (λ k. absurd (off k));
       }
 
-  refuse_sound : IsSound (front_view number ts true (refused + 1))
+  refuse_sound : IsSound (view_of_front number ts true (refused + 1))
   refuse_sound =
-      let was = (h.seats id (front_view number ts false refused) at).0 in
+      let was = (h.seats id (view_of_front number ts false refused) at).0 in
       record { tickets = was.tickets; refused = omega (arith, was.unknown refl); unknown = λ k. absurd (true≢false k); others = λ _. refl }
 
 -- A front's seat draws.
 pub draws : (fronts slots id number : ℕ) (ts : List ℕ) (refused : ℕ) → length ts < 2 ^ 32
-    → Allows (GateHolds fronts) slots id (front_view number ts false refused, []) 0 (λ n. (n + 1) % 2 ^ 64)
-    (Draws (step slots 0 1 0 none) (front_view number ts false refused, []))
+    → Allows (GateHolds fronts) slots id (view_of_front number ts false refused, []) 0 (λ n. (n + 1) % 2 ^ 64)
+    (Draws (step slots 0 1 0 none) (view_of_front number ts false refused, []))
 draws fronts slots id number ts refused few s h _ at fits =
     let word : ℕ = slice_index s.words 0 in
-    let v = front_view number ts false refused in
+    let v = view_of_front number ts false refused in
     let is = found_word fronts s h in
     ⊎_elim
     (λ (o : IsOpen word s.views).
-    let w = front_view number (ts ++ word ∷ []) false refused in
+    let w = view_of_front number (ts ++ word ∷ []) false refused in
     let next : (word + 1) % 2 ^ 64 ≡ word + 1 = mod-eq_of_lt (room_open word o.clear) in (
       w,
       keeps,
@@ -139,7 +139,7 @@ draws fronts slots id number ts refused few s h _ at fits =
       (refl, (λ _. refl), (λ ge. absurd (not_both word o.clear ge))),
     ))
     (λ (c : (n : ℕ) × IsShut n word s.views).
-    let w = front_view number ts true (refused + 1) in
+    let w = view_of_front number ts true (refused + 1) in
     let next : (word + 1) % 2 ^ 64 ≡ word + 1 =
     mod-eq_of_lt (room_shut c.0 word (refused_draws s.views) c.1.draws (tickets_count fronts c.0 s h c.1.tickets) (refused_count fronts s h)) in (
       w,
@@ -161,12 +161,12 @@ draws fronts slots id number ts refused few s h _ at fits =
 
 -- A front's seat glances at the word.
 pub glances : (fronts slots id number : ℕ) (ts : List ℕ) (refused : ℕ)
-    → Allows (GateHolds fronts) slots id (front_view number ts false refused, []) 0 (λ n. n)
-    (Glances (step slots 0 0 0 none) (front_view number ts false refused, []))
+    → Allows (GateHolds fronts) slots id (view_of_front number ts false refused, []) 0 (λ n. n)
+    (Glances (step slots 0 0 0 none) (view_of_front number ts false refused, []))
 glances fronts slots id number ts refused s h _ at fits =
     let word : ℕ = slice_index s.words 0 in
-    let v = front_view number ts false refused in
-    let w = front_view number ts true refused in
+    let v = view_of_front number ts false refused in
+    let w = view_of_front number ts true refused in
     let is = found_word fronts s h in
     let was = (h.seats id v at).0 in
     ⊎_elim
@@ -204,11 +204,11 @@ none_refused [] h = refl
 none_refused (v ∷ vs) h = omega (arith, h 0 v refl, none_refused vs (λ id u e. h (suc id) u e))
 
 -- The shutter's seat sets bit 63.
-pub shuts : (fronts slots id : ℕ) → Allows (GateHolds fronts) slots id (shutter_view None, []) 0 (λ n. bit_or n (2 ^ 63))
-    (Shuts (step slots 0 (2 ^ 63) 0 none) (shutter_view None, []))
+pub shuts : (fronts slots id : ℕ) → Allows (GateHolds fronts) slots id (view_of_shutter None, []) 0 (λ n. bit_or n (2 ^ 63))
+    (Shuts (step slots 0 (2 ^ 63) 0 none) (view_of_shutter None, []))
 shuts fronts slots id s h _ at fits =
     let word : ℕ = slice_index s.words 0 in
-    let v = shutter_view None in
+    let v = view_of_shutter None in
     let is = found_word fronts s h in
     let mine = h.seats id v at in
     ⊎_elim
@@ -234,19 +234,19 @@ shuts fronts slots id s h _ at fits =
     (found_phase fronts s h)
 
 -- the steps, at a seat whose view is known
-pub shuts_as : (fronts slots id : ℕ) (m : Me (Unit {0}) SeatView) → m ≡ (shutter_view None, [])
+pub shuts_as : (fronts slots id : ℕ) (m : Me (Unit {0}) SeatView) → m ≡ (view_of_shutter None, [])
     → Allows (GateHolds fronts) slots id m 0 (λ n. bit_or n (2 ^ 63)) (Shuts (step slots 0 (2 ^ 63) 0 none) m)
 shuts_as fronts slots id m is = subst (λ (m : Me (Unit {0}) SeatView).
     Allows (GateHolds fronts) slots id m 0 (λ n. bit_or n (2 ^ 63)) (Shuts (step slots 0 (2 ^ 63) 0 none) m)) (sym is) (shuts fronts slots id)
 
 pub draws_as : (fronts slots id : ℕ) (m : Me (Unit {0}) SeatView) (number : ℕ) (ts : List ℕ) (refused : ℕ)
-    → m ≡ (front_view number ts false refused, []) → length ts < 2 ^ 32
+    → m ≡ (view_of_front number ts false refused, []) → length ts < 2 ^ 32
     → Allows (GateHolds fronts) slots id m 0 (λ n. (n + 1) % 2 ^ 64) (Draws (step slots 0 1 0 none) m)
 draws_as fronts slots id m number ts refused is few =
     subst (λ (m : Me (Unit {0}) SeatView). Allows (GateHolds fronts) slots id m 0 (λ n. (n + 1) % 2 ^ 64) (Draws (step slots 0 1 0 none) m)) (sym is)
     (draws fronts slots id number ts refused few)
 
-pub glances_as : (fronts slots id : ℕ) (m : Me (Unit {0}) SeatView) (number : ℕ) (ts : List ℕ) (refused : ℕ) → m ≡ (front_view number ts false refused, [])
+pub glances_as : (fronts slots id : ℕ) (m : Me (Unit {0}) SeatView) (number : ℕ) (ts : List ℕ) (refused : ℕ) → m ≡ (view_of_front number ts false refused, [])
     → Allows (GateHolds fronts) slots id m 0 (λ n. n) (Glances (step slots 0 0 0 none) m)
 glances_as fronts slots id m number ts refused is =
     subst (λ (m : Me (Unit {0}) SeatView). Allows (GateHolds fronts) slots id m 0 (λ n. n) (Glances (step slots 0 0 0 none) m)) (sym is)

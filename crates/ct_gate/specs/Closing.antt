@@ -3,7 +3,7 @@ use Rattle.std.specs.Prelude.{◌+◌, false, ◌||◌, ◌++◌, []}
 use Rattle.ct_codec.specs.Items.{tickets_of}
 use Rattle.ct_gate.specs.Seats.{FrontTickets, SeatView}
 use Rattle.ct_gate.specs.Ends.{IntakeView}
-use Rattle.ct_gate.specs.Opening.{stands_for}
+use Rattle.ct_gate.specs.Opening.{view_of_fronts}
 
 -- the fronts of gathered, and the first one's place as shutter
 abbrev pub gathered : SeatView → SeatView → SeatView
@@ -19,7 +19,7 @@ gathered v w =
 
 -- what is left of a seat that was taken in
 abbrev pub spent : SeatView
-spent = stands_for [] false
+spent = view_of_fronts [] false
 
 -- an intake's front and its tickets
 abbrev pub front_tickets : IntakeView → FrontTickets

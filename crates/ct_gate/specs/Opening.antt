@@ -10,12 +10,12 @@ new_fronts k zero = []
 new_fronts k (suc n) = record { front = k; tickets = [] } ∷ new_fronts (k + 1) n
 
 -- who stands for these fronts, where nobody has drawn or knows anything
-abbrev pub stands_for : List FrontTickets → Bool → SeatView
-stands_for fs is_shutter = record { fronts = fs; knows_shutdown = false; refused = 0; is_shutter = is_shutter; accepted = None }
+abbrev pub view_of_fronts : List FrontTickets → Bool → SeatView
+view_of_fronts fs is_shutter = record { fronts = fs; knows_shutdown = false; refused = 0; is_shutter = is_shutter; accepted = None }
 
 -- who opens a gate with n fronts
 abbrev pub all_in_one : ℕ → SeatView
-all_in_one n = stands_for (new_fronts 0 n) true
+all_in_one n = view_of_fronts (new_fronts 0 n) true
 
 -- the tickets of the fronts behind the first
 abbrev pub without_first : List FrontTickets → List FrontTickets

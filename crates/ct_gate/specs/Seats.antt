@@ -35,8 +35,8 @@ abbrev pub EachView : (ℕ → SeatView → Type 0) → List SeatView → Type 0
 EachView P views = (id : ℕ) (v : SeatView) → get_elem? views id ≡ some v → P id v
 
 -- what the seat of one front knows
-abbrev pub front_view : ℕ → List ℕ → Bool → ℕ → SeatView
-front_view number tickets knows_shutdown refused =
+abbrev pub view_of_front : ℕ → List ℕ → Bool → ℕ → SeatView
+view_of_front number tickets knows_shutdown refused =
     record {
       fronts = record { front = number; tickets = tickets } ∷ [];
       knows_shutdown = knows_shutdown;
@@ -46,8 +46,8 @@ front_view number tickets knows_shutdown refused =
     }
 
 -- of the shutter's seat
-abbrev pub shutter_view : Option ℕ → SeatView
-shutter_view accepted = record { fronts = []; knows_shutdown = false; refused = 0; is_shutter = true; accepted = accepted }
+abbrev pub view_of_shutter : Option ℕ → SeatView
+view_of_shutter accepted = record { fronts = []; knows_shutdown = false; refused = 0; is_shutter = true; accepted = accepted }
 
 -- of a seat that stands for nothing
 abbrev pub nothing_known : SeatView

@@ -8,7 +8,7 @@ ghost use Rattle.ct_gate.specs.Closing.{front_tickets};
 
 use crate::intake::Intake;
 use crate::shutter::Shutter;
-use crate::word::{Gate, Gather, Place};
+use crate::word::{Gate, GateSeat, Gather};
 use std::sync::{Arc, Wait};
 use std::thread;
 
@@ -37,7 +37,7 @@ pub fn close_gate<R: Wait>(rt: &R, shutter: Shutter, intakes: Vec<Intake>) -> u6
 }
 
 // The seat takes in the intake's front, and the ring's end is given up.
-fn give_up(table: &Arc<Gate>, seat: &mut Place, intake: Intake)
+fn give_up(table: &Arc<Gate>, seat: &mut GateSeat, intake: Intake)
     requires { (seat.old.table_id ≡ (arc_value table.now).shared.table_id)
         × (intake.gate ≡ seat.old.table_id) × (seat.old.table_id.words ≡ 1) }
     ensures same { (seat.new.table_id ≡ seat.old.table_id) × (seat.new.me.1 ≡ seat.old.me.1)

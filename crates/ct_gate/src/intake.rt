@@ -5,7 +5,7 @@ ghost use Rattle.rtrb.specs.Ring.{known_free, ProducerLooked};
 ghost use Rattle.ct_gate.specs.Ends.{SameIntake};
 ghost use Rattle.ct_gate.specs.Sending.{Accepts, Refuses};
 
-use crate::word::{Draw, Gate, Glance, Place, SHUTDOWN};
+use crate::word::{Draw, Gate, GateSeat, Glance, SHUTDOWN};
 use ct_codec::{Item, Refusal, Submission};
 use rtrb::Producer;
 use std::marker::Model;
@@ -21,7 +21,7 @@ const MOST: u64 = 1 << 32;
 #[derive(Drop)]
 pub struct Intake {
     pub(crate) table: Arc<Gate>,
-    pub(crate) seat: Place,
+    pub(crate) seat: GateSeat,
     pub(crate) producer: Producer<Item>,
     pub(crate) number: u16,
     pub(crate) tickets: u64,
@@ -35,7 +35,7 @@ impl Model for Intake {
     ghost use Rattle.std.specs.Arc.{arc_value};
     ghost use Rattle.rtrb.specs.Ring.{sent, known_free, producer_capacity};
     ghost use Rattle.ct_codec.specs.Items.{tickets_of};
-    ghost use Rattle.ct_gate.specs.Seats.{front_view};
+    ghost use Rattle.ct_gate.specs.Seats.{view_of_front};
     ghost use Rattle.ct_gate.specs.Ring.{producer_ring};
     ghost use Rattle.ct_gate.specs.Ends.{IntakeView};
 
@@ -56,7 +56,7 @@ impl Model for Intake {
     // is free.
     ghost invariant = { λ i.
         (i.seat.table_id ≡ (arc_value i.table).shared.table_id) × (i.seat.table_id.words ≡ 1)
-        × (i.seat.me ≡ (front_view i.number (tickets_of (sent i.producer)) i.knows_shutdown i.seat.me.0.refused, []))
+        × (i.seat.me ≡ (view_of_front i.number (tickets_of (sent i.producer)) i.knows_shutdown i.seat.me.0.refused, []))
         × (i.tickets ≡ length (sent i.producer)) × (i.tickets ≤ 2 ^ 32)
         × All (λ t. t.front ≡ i.number) (sent i.producer)
         × (i.room ≤ known_free i.producer)

@@ -3,12 +3,12 @@
 ghost use Rattle.std.specs.Prelude.{◌≡◌, ◌+◌, ◌-◌, ◌<◌, ◌≤◌, [], ◌∷◌, ◌++◌, true, None, IfOk, IfErr, OnOk};
 ghost use Rattle.std.specs.Arc.{arc_value};
 ghost use Rattle.ct_codec.specs.declared.refusal.Refusal.TheVariants.{Memory};
-ghost use Rattle.ct_gate.specs.Opening.{stands_for, new_fronts, IsNewFront, AreNewFronts};
+ghost use Rattle.ct_gate.specs.Opening.{view_of_fronts, new_fronts, IsNewFront, AreNewFronts};
 
 use crate::intake::Intake;
 use crate::outlet::Outlet;
 use crate::shutter::Shutter;
-use crate::word::{Deal, Gate, Place};
+use crate::word::{Deal, Gate, GateSeat};
 use atomic_table::Table;
 use ct_codec::Refusal;
 use rtrb::RingBuffer;
@@ -50,7 +50,7 @@ pub fn open_gate(
 fn new_front(
     alloc: Global,
     table: &Arc<Gate>,
-    seat: &mut Place,
+    seat: &mut GateSeat,
     number: u16,
     fronts: u16,
     ring: usize,
@@ -58,9 +58,9 @@ fn new_front(
     requires table { (seat.old.table_id ≡ (arc_value table.now).shared.table_id)
         × (seat.old.table_id.words ≡ 1) }
     requires seat { (number < fronts)
-        × (seat.old.me ≡ (stands_for (new_fronts number (fronts - number)) true, [])) }
+        × (seat.old.me ≡ (view_of_fronts (new_fronts number (fronts - number)) true, [])) }
     ensures seat { (seat.new.table_id ≡ seat.old.table_id)
-        × (seat.new.me ≡ (stands_for (new_fronts (number + 1) (fronts - (number + 1))) true, [])) }
+        × (seat.new.me ≡ (view_of_fronts (new_fronts (number + 1) (fronts - (number + 1))) true, [])) }
     ensures front { IfOk result (λ f. IsNewFront seat.old.table_id ring number f.0 f.1) }
     ensures refused { IfErr result (λ r. r ≡ Memory) }
 {

@@ -4,7 +4,7 @@ ghost use Rattle.std.specs.Prelude.{◌≡◌, ◌≢◌, None, Some, MatchResul
 ghost use Rattle.ct_codec.specs.declared.refusal.Refusal.TheVariants.{Shutdown};
 ghost use Rattle.ct_gate.specs.Ends.{SameShutter};
 
-use crate::word::{Gate, Place, SHUTDOWN, Shut};
+use crate::word::{Gate, GateSeat, SHUTDOWN, Shut};
 use ct_codec::Refusal;
 use std::marker::Model;
 use std::sync::Arc;
@@ -16,14 +16,14 @@ use std::sync::Arc;
 #[derive(Drop)]
 pub struct Shutter {
     pub(crate) table: Arc<Gate>,
-    pub(crate) seat: Place,
+    pub(crate) seat: GateSeat,
     pub(crate) accepted: Option<u64>,
 }
 
 impl Model for Shutter {
     ghost use Rattle.std.specs.Prelude.{◌≡◌, []};
     ghost use Rattle.std.specs.Arc.{arc_value};
-    ghost use Rattle.ct_gate.specs.Seats.{shutter_view};
+    ghost use Rattle.ct_gate.specs.Seats.{view_of_shutter};
     ghost use Rattle.ct_gate.specs.Ends.{ShutterView};
 
     ghost Value = { ShutterView };
@@ -37,7 +37,7 @@ impl Model for Shutter {
     // The seat is of the table, which has the one word and no slot. Its view is the shutter's.
     ghost invariant = { λ s.
         (s.seat.table_id ≡ (arc_value s.table).shared.table_id) × (s.seat.table_id.words ≡ 1)
-        × (s.seat.table_id.slots ≡ 0) × (s.seat.me ≡ (shutter_view s.accepted, [])) };
+        × (s.seat.table_id.slots ≡ 0) × (s.seat.me ≡ (view_of_shutter s.accepted, [])) };
 }
 
 impl Shutter {

@@ -11,7 +11,7 @@ pub const SHUTDOWN: u64 = 1 << 63;
 pub type Gate = Table<(), Knowledge, u64, GateRule, Global>;
 
 /// A seat at the gate word.
-pub type Place = Seat<(), Knowledge>;
+pub type GateSeat = Seat<(), Knowledge>;
 
 /// The rule of the gate word.
 pub struct GateRule;

@@ -16,7 +16,7 @@ use Rattle.ct_core.specs.Settlement.{Log, Lawful, IsHeadOf}
 use Rattle.ct_core.specs.Answers.{is_size, first_leaves, answer, text_of, entry_found}
 use Rattle.ct_codec.specs.declared.refusal.Refusal.TheVariants.{UnknownSize}
 use Rattle.ct_core.specs.declared.query.Query.TheVariants.{EntryAndProof}
-use Rattle.ct_core.specs.Replies.{EntryText, an_entry, proof_holds, proof_refused, refused}
+use Rattle.ct_core.specs.Replies.{EntryBytes, an_entry, proof_holds, proof_refused, refused}
 use Rattle.ct_lines.specs.Asked.{audit}
 use Rattle.ct_lines.specs.Verdicts.{is_accepted, verdict_on, verdict, audit_answer}
 
@@ -37,7 +37,7 @@ pub head_none : (log : Log) (n : ℕ) (o : Option Head) → is_some o ≡ is_siz
 head_none log n o size e = sym size ∙ ap is_some e
 
 -- the log's own leaf and path at an index below a published size
-pub own_audited : (log : Log) (m n : ℕ) (t : EntryText) (v : List (List ℕ)) → is_size log n ≡ true → m < n → an_entry t v ≡ answer log (EntryAndProof m n)
+pub own_audited : (log : Log) (m n : ℕ) (t : EntryBytes) (v : List (List ℕ)) → is_size log n ≡ true → m < n → an_entry t v ≡ answer log (EntryAndProof m n)
     → IsAudited sha256 (first_leaves log n) t.leaf_input m v
 unfolding path_of sha256_leaf
 own_audited log m n t v sized below e =
@@ -55,7 +55,7 @@ own_audited log m n t v sized below e =
         let within : m < length (take n log.entries) = slice_get_within (take n log.entries) m x at in
         let count : length (first_leaves log n) ≡ length (take n log.entries) = length-map (take n log.entries) leaf in (
           omega (arith, within, count),
-          ap (λ (z : EntryText). z.leaf_input) text ∙ sym (ap leaf (get_or_from_slice_get (take n log.entries) m x x at))
+          ap (λ (z : EntryBytes). z.leaf_input) text ∙ sym (ap leaf (get_or_from_slice_get (take n log.entries) m x x at))
               ∙ sym (get_or-map leaf (take n log.entries) m x [] within),
           way,
         )

@@ -2,7 +2,7 @@
 use Rattle.std.proofs.Common.{◌≡◌, ℕ, List, [], ◌∷◌, map, false, refl}
 use Rattle.serde_json.specs.View.{items_of}
 use Rattle.serde_json.specs.Written.{has_float, items_have_float}
-use Rattle.ct_core.specs.Replies.{EntryText, Answer, a_head, a_proof, an_index, some_entries, an_entry, a_receipt, a_ticket, a_reached_size, a_settled_count}
+use Rattle.ct_core.specs.Replies.{EntryBytes, Answer, a_head, a_proof, an_index, some_entries, an_entry, a_receipt, a_ticket, a_reached_size, a_settled_count}
 use Rattle.ct_core.specs.Replies.{a_published_head, an_accepted_count, a_shift, proof_holds, proof_refused, a_collision, refused}
 use Rattle.ct_lines.specs.ReplyText.{bytes_data, entry_data, reply_data}
 
@@ -10,7 +10,7 @@ hashes_no_float : (hs : List (List ℕ)) → items_have_float (items_of (map byt
 hashes_no_float [] = refl
 hashes_no_float (h ∷ hs) = hashes_no_float hs
 
-entries_no_float : (es : List EntryText) → items_have_float (items_of (map entry_data es)) ≡ false
+entries_no_float : (es : List EntryBytes) → items_have_float (items_of (map entry_data es)) ≡ false
 entries_no_float [] = refl
 entries_no_float (e ∷ es) = entries_no_float es
 

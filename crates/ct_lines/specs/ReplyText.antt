@@ -10,7 +10,7 @@ use Rattle.ct_codec.specs.declared.refusal.Refusal.TheVariants.{Memory, Full, Sh
 use Rattle.ct_codec.specs.declared.refusal.Refusal.TheVariants.{ChainTooLong, ClockBack, UnknownSize, BadRange, UnknownLeaf, MissingFront, BadLine, NotYet}
 use Rattle.ct_codec.specs.declared.refusal.Refusal.TheVariants.{Late, Closed}
 use Rattle.ct_core.specs.declared.query.Reply.{Reply}
-use Rattle.ct_core.specs.Replies.{EntryText, Answer, a_head, a_proof, an_index, some_entries, an_entry, a_receipt, a_ticket, a_reached_size, a_settled_count}
+use Rattle.ct_core.specs.Replies.{EntryBytes, Answer, a_head, a_proof, an_index, some_entries, an_entry, a_receipt, a_ticket, a_reached_size, a_settled_count}
 use Rattle.ct_core.specs.Replies.{a_published_head, an_accepted_count, a_shift, proof_holds, proof_refused, a_collision, refused, shown}
 
 -- the name of a refusal
@@ -50,11 +50,11 @@ abbrev pub hashes_data : List (List ℕ) → Data
 hashes_data hs = array (items_of (map bytes_data hs))
 
 -- an entry as a JSON object, and entries as a JSON array
-abbrev pub entry_data : EntryText → Data
+abbrev pub entry_data : EntryBytes → Data
 entry_data e = object (member (codes "extra_data") (bytes_data e.extra_data) (member (codes "leaf_input") (bytes_data e.leaf_input) no_members))
 
 -- entries as a JSON array of objects
-abbrev pub entries_data : List EntryText → Data
+abbrev pub entries_data : List EntryBytes → Data
 entries_data es = array (items_of (map entry_data es))
 
 -- the object of one count

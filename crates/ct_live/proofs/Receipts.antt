@@ -8,7 +8,7 @@ use Rattle.ct_codec.specs.declared.refusal.Refusal.{Refusal}
 use Rattle.ct_codec.specs.declared.refusal.Refusal.TheVariants.{Memory}
 use Rattle.ct_core.specs.Answers.{last_size, text_of, entries_answer, receipt_answer, receipt_found}
 use Rattle.ct_core.specs.Leaf.{Entry, leaf_at}
-use Rattle.ct_core.specs.Replies.{Answer, EntryText, a_receipt, some_entries, shown_text}
+use Rattle.ct_core.specs.Replies.{Answer, EntryBytes, a_receipt, some_entries, shown_text}
 use Rattle.ct_core.specs.Settlement.{Log, Lawful}
 use Rattle.ct_core.specs.declared.query.ShownEntry.{ShownEntry}
 use Rattle.ct_core.specs.declared.settled.Settled.{Settled}
@@ -64,7 +64,7 @@ cut_out [] i x e = absurd (none-some x e)
 cut_out (y ∷ xs) zero x e = ap (λ (z : _). z ∷ []) (same_Some y x e)
 cut_out (y ∷ xs) (suc i) x e = cut_out xs i x e
 
-abbrev entries_in : Answer → List EntryText
+abbrev entries_in : Answer → List EntryBytes
 entries_in (some_entries es) = es
 entries_in _ = []
 
@@ -79,10 +79,10 @@ one_entry log i e law below at =
     ∙ ap (λ (es : List Entry). some_entries (map text_of es)) (cut_out log.entries i e at)
 
 -- the last one of the entries that were shown is that entry
-last_shown : (xs ys : List ShownEntry) (x : ShownEntry) (t : EntryText) → map shown_text xs ≡ t ∷ [] → xs ≡ ys ++ x ∷ [] → shown_text x ≡ t
+last_shown : (xs ys : List ShownEntry) (x : ShownEntry) (t : EntryBytes) → map shown_text xs ≡ t ∷ [] → xs ≡ ys ++ x ∷ [] → shown_text x ≡ t
 last_shown xs [] x t is at = ap (first_of t) (sym (ap (map shown_text) at) ∙ is)
   where
-    first_of : EntryText → List EntryText → EntryText
+    first_of : EntryBytes → List EntryBytes → EntryBytes
     first_of d [] = d
     first_of d (u ∷ us) = u
 last_shown xs (y ∷ ys) x t is at =
@@ -97,7 +97,7 @@ pub leaf_shown : (log : Log) (i : ℕ) (xs ys : List ShownEntry) (x : ShownEntry
 leaf_shown log i xs ys x law below is at =
     let (e, there) = slice_get_is log.entries i below in
     let one = ap entries_in (is ∙ one_entry log i e law below there) in
-    (e, there, ap (λ (t : EntryText). t.leaf_input) (last_shown xs ys x (text_of e) one at))
+    (e, there, ap (λ (t : EntryBytes). t.leaf_input) (last_shown xs ys x (text_of e) one at))
 
 -- the leaf of a receipt's entry, or memory was refused for it
 pub receipt_named : (log : Log) (ticket i t : ℕ) (r : Result (Vec ℕ Global) Refusal) → Lawful log → a_receipt i t ≡ receipt_answer log ticket

@@ -70,7 +70,7 @@ impl Plain<(), Publication, u64> for MakeRight {
 
 // A state to be added, and the right to add the next one.
 #[derive(Drop)]
-struct Asked<'a> {
+struct Announced<'a> {
     state: &'a Published,
     turn: &'a Pen,
 }
@@ -110,7 +110,7 @@ impl Play<Publication, u64> for Add {
     ghost then = { AddsToLine };
 }
 
-impl<'a> Plain<Asked<'a>, Publication, u64> for Add {
+impl<'a> Plain<Announced<'a>, Publication, u64> for Add {
     ghost use Rattle.std.specs.Prelude.{None};
 
     ghost ask = { λ about. record { line = 0; state = about.state.now; turn = about.turn.now.nib.key } };
@@ -248,12 +248,12 @@ impl Reached {
         ensures turn { (turn.new.book ≡ self.new.book) × IsRight turn.new.nib self.new.last.turn }
     {
         let following = make_right(head, &self.seen);
-        let asked = Asked {
+        let announced = Announced {
             state: next,
             turn: &following,
         };
         let mut seen = self.seen.again();
-        let mut offer = seen.plain::<Nothing, Asked, Add>(&asked);
+        let mut offer = seen.plain::<Nothing, Announced, Add>(&announced);
         head.compare_exchange::<Add, Nothing>(0, 0, &mut seen, &mut offer, turn);
         self.heads = next.heads().len();
         self.seen = seen;
@@ -271,11 +271,11 @@ impl Announcer {
         let head = Word::tracked(0, &mut pen);
         let mut line = make_right(&head, &seen);
         let turn = make_right(&head, &seen);
-        let asked = Asked {
+        let announced = Announced {
             state: first,
             turn: &turn,
         };
-        let mut offer = seen.plain::<Nothing, Asked, Add>(&asked);
+        let mut offer = seen.plain::<Nothing, Announced, Add>(&announced);
         head.compare_exchange::<Open, Nothing>(0, 0, &mut seen, &mut offer, &mut line);
         let reached = Reached {
             heads: first.heads().len(),

@@ -2,7 +2,7 @@ use Rattle.std.proofs.Common.{◌≡◌, ◌-◌, false, [], List, length, sym, 
 use Rattle.rtrb.specs.Ring.{sent}
 use Rattle.ct_codec.specs.declared.item.Item.{Item}
 use Rattle.ct_gate.specs.Opening.{new_fronts}
-use Rattle.ct_gate.specs.Seats.{front_view}
+use Rattle.ct_gate.specs.Seats.{view_of_front}
 use Rattle.ct_codec.specs.Items.{tickets_of}
 use Rattle.ct_gate.proofs.Opening.{deals_as, rest_left, first_given}
 use Rattle.ct_gate.proofs.open.new_front.Goals as goal
@@ -39,7 +39,7 @@ invariant_of-intake c =
     let nothing : sent c.in_ok-producer.producer ≡ [] = p.0 in (
       s.3 ∙ c.requires.table.0 ∙ ap (λ t. t.shared.table_id) (sym cloned),
       ap (λ z. z.words) s.3 ∙ c.requires.table.1,
-      me ∙ ap₂ (λ (l : List Item) k. (front_view c.args.number (tickets_of l) false k, [])) (sym nothing) (sym (ap (λ m. m.0.refused) me)),
+      me ∙ ap₂ (λ (l : List Item) k. (view_of_front c.args.number (tickets_of l) false k, [])) (sym nothing) (sym (ap (λ m. m.0.refused) me)),
       ap length (sym nothing),
       omega arith,
       (λ k d lt. absurd (omega (arith, ap length nothing))),

@@ -1,5 +1,5 @@
 use Rattle.std.proofs.Common.{◌≡◌, ◌≤◌, ◌+◌, ◌-◌, ◌++◌, ◌∷◌, ℕ, [], true, sym, ap, ◌∙◌, subst, subst₂, arith}
-use Rattle.ct_gate.specs.Opening.{stands_for, new_fronts, AreNewFronts}
+use Rattle.ct_gate.specs.Opening.{view_of_fronts, new_fronts, AreNewFronts}
 use Rattle.atomic_table.specs.Seated.{TableId}
 use Rattle.ct_gate.proofs.Opening.{opens, no_front_left, one_more_front}
 use Rattle.ct_gate.proofs.open.open_gate.Goals as goal
@@ -31,7 +31,7 @@ pub invariant_of-shutter : goal.invariant_of-shutter
 invariant_of-shutter c =
     let i = c.loop-number.invariant in
     let all : c.loop-number.number ≡ c.args.fronts = omega arith in
-    (i.0, i.1, i.2, no_front_left c.args.fronts c.loop-number.seat.me (i.4 ∙ ap (λ (n : ℕ). (stands_for (new_fronts n (c.args.fronts - n)) true, [])) all))
+    (i.0, i.1, i.2, no_front_left c.args.fronts c.loop-number.seat.me (i.4 ∙ ap (λ (n : ℕ). (view_of_fronts (new_fronts n (c.args.fronts - n)) true, [])) all))
 
 pub returns-clause-fronts : goal.returns-clause-fronts
 returns-clause-fronts c =

@@ -1,6 +1,6 @@
 use Rattle.std.proofs.Common.{◌≡◌, [], false, sym, ap, ◌∙◌, arith}
 use Rattle.rtrb.specs.Ring.{sent}
-use Rattle.ct_gate.specs.Seats.{front_view}
+use Rattle.ct_gate.specs.Seats.{view_of_front}
 use Rattle.ct_codec.specs.Items.{tickets_of}
 use Rattle.ct_gate.proofs.Steps.{glances_as}
 use Rattle.ct_gate.proofs.intake.Intake.is_shut.Goals as goal
@@ -16,5 +16,5 @@ load-found-requires c =
       table,
       omega arith,
       glances_as c.deref.result.now.shared.key c.deref.result.now.shared.table_id.slots f.seat.id f.seat.me f.number ts f.seat.me.0.refused
-          (i.2 ∙ ap (λ k. (front_view f.number ts k f.seat.me.0.refused, [])) unknown),
+          (i.2 ∙ ap (λ k. (view_of_front f.number ts k f.seat.me.0.refused, [])) unknown),
     )

@@ -2,7 +2,7 @@ use Rattle.std.proofs.Common.{◌≡◌, ◌<◌, ◌^◌, [], length, false, sy
 use Rattle.std.proofs.lemmas.List.{length-map}
 use Rattle.rtrb.specs.Ring.{sent}
 use Rattle.ct_codec.specs.declared.item.Item.{Item}
-use Rattle.ct_gate.specs.Seats.{front_view}
+use Rattle.ct_gate.specs.Seats.{view_of_front}
 use Rattle.ct_codec.specs.Items.{tickets_of}
 use Rattle.ct_gate.proofs.Steps.{draws_as}
 use Rattle.ct_gate.proofs.intake.Intake.send.Goals as goal
@@ -23,5 +23,5 @@ fetch_add-ticket-requires c =
       table,
       omega arith,
       draws_as c.deref.result.now.shared.key c.deref.result.now.shared.table_id.slots f.seat.id f.seat.me f.number ts f.seat.me.0.refused
-          (i.2 ∙ ap (λ k. (front_view f.number ts k f.seat.me.0.refused, [])) unknown) few,
+          (i.2 ∙ ap (λ k. (view_of_front f.number ts k f.seat.me.0.refused, [])) unknown) few,
     )

@@ -1,5 +1,5 @@
 use Rattle.std.proofs.Common.{◌≡◌, ℕ, Option, None, Some, [], false, true≢false, is_some, refl, sym, ap, ◌∙◌, arith}
-use Rattle.ct_gate.specs.Seats.{shutter_view}
+use Rattle.ct_gate.specs.Seats.{view_of_shutter}
 use Rattle.ct_gate.proofs.Steps.{shuts_as}
 use Rattle.ct_gate.proofs.shutter.Shutter.shut.Goals as goal
 
@@ -16,5 +16,5 @@ fetch_or-count-requires c =
       table,
       omega arith,
       shuts_as c.deref.result.now.shared.key c.deref.result.now.shared.table_id.slots c.self.inside.seat.id c.self.inside.seat.me
-          (i.3 ∙ ap (λ k. (shutter_view k, [])) none_yet),
+          (i.3 ∙ ap (λ k. (view_of_shutter k, [])) none_yet),
     )
