@@ -94,8 +94,10 @@ def told(text):
 
 
 def is_whole(text, name):
-    """Whether a constant is so many turns."""
-    return re.search(rf"\bconst {name}: u64 = {TURNS};", text) is not None
+    """Whether a constant is so many turns: ct_lines' own, which the source is or imports."""
+    own = re.search(rf"\bconst {name}: u64 = {TURNS};", text)
+    imported = re.search(rf"\buse (?:crate::lines|ct_lines)::{{[^}}]*\b{name}\b", text)
+    return bool(own or imported and re.search(rf"\bpub const {name}: u64 = {TURNS};", (CRATES / "ct_lines/src/lines.rt").read_text()))
 
 
 def loops(text):

@@ -5,27 +5,27 @@ use Rattle.std.proofs.lemmas.Bool.Decides.{nat_tests}
 use Rattle.std.proofs.lemmas.List.{map-append, length-map, nil_from_length}
 use mathlib.Core.List.{IsPrefix}
 use Rattle.ct_codec.specs.declared.item.Item.{Item}
-use Rattle.ct_gate.specs.Ends.{numbered, made_item}
+use Rattle.ct_gate.specs.Ends.{from_front, made_item}
 
-numbered_own : (n : ℕ) (xs : List Item) → All (λ (t : Item). t.front ≡ n) xs → numbered n xs ≡ xs
-numbered_own n [] h = refl
-numbered_own n (x ∷ xs) h = λ i. record { front = sym (h 0 x (omega arith)) i; ticket = x.ticket; submission = x.submission }
-    ∷ numbered_own n xs (λ k d lt. h (suc k) d (omega arith)) i
+own_front : (n : ℕ) (xs : List Item) → All (λ (t : Item). t.front ≡ n) xs → from_front n xs ≡ xs
+own_front n [] h = refl
+own_front n (x ∷ xs) h = λ i. record { front = sym (h 0 x (omega arith)) i; ticket = x.ticket; submission = x.submission }
+    ∷ own_front n xs (λ k d lt. h (suc k) d (omega arith)) i
 
 -- n is the outlet's number and m the intake's
 pub in_order : (n m : ℕ) (taken known sent : List Item) → taken ++ known ≡ sent → All (λ (t : Item). t.front ≡ m) sent → n ≡ m
-    → numbered n taken ++ numbered n known ≡ sent
+    → from_front n taken ++ from_front n known ≡ sent
 in_order n m taken known sent e h same =
-    sym (map-append (λ (t : Item). made_item n t.ticket t.submission) taken known) ∙ ap (numbered n) e
-    ∙ numbered_own n sent (subst (λ (k : ℕ). All (λ (t : Item). t.front ≡ k) sent) (sym same) h)
+    sym (map-append (λ (t : Item). made_item n t.ticket t.submission) taken known) ∙ ap (from_front n) e
+    ∙ own_front n sent (subst (λ (k : ℕ). All (λ (t : Item). t.front ≡ k) sent) (sym same) h)
 
 pub all_taken : (n m : ℕ) (taken known sent : List Item) → taken ++ known ≡ sent → All (λ (t : Item). t.front ≡ m) sent → n ≡ m → length known ≡ 0
-    → numbered n taken ≡ sent
+    → from_front n taken ≡ sent
 all_taken n m taken known sent e h same none =
-    sym (append-nil (numbered n taken)) ∙ ap (λ (l : List Item). numbered n taken ++ numbered n l) (sym (nil_from_length known none))
+    sym (append-nil (from_front n taken)) ∙ ap (λ (l : List Item). from_front n taken ++ from_front n l) (sym (nil_from_length known none))
     ∙ in_order n m taken known sent e h same
 
-pub none_known : (n : ℕ) (taken known sent : List Item) → taken ++ known ≡ sent → numbered n taken ≡ sent → length known ≡ 0
+pub none_known : (n : ℕ) (taken known sent : List Item) → taken ++ known ≡ sent → from_front n taken ≡ sent → length known ≡ 0
 none_known n taken known sent e all =
     omega (arith, length-append taken known, ap length e, ap length all, length-map taken (λ (t : Item). made_item n t.ticket t.submission))
 
@@ -37,13 +37,13 @@ pub is_zero : (n : ℕ) → IsTrue (nat_eq n 0) → n ≡ 0
 is_zero n h = grind (arith, nat_tests)
 
 -- what was in sight, and what is now
-pub still_seen : (n : ℕ) (before after : List Item) → IsPrefix before after → IsPrefix (numbered n before) (numbered n after)
-still_seen n before after (more, e) = (numbered n more, sym (map-append (λ (t : Item). made_item n t.ticket t.submission) before more) ∙ ap (numbered n) e)
+pub still_seen : (n : ℕ) (before after : List Item) → IsPrefix before after → IsPrefix (from_front n before) (from_front n after)
+still_seen n before after (more, e) = (from_front n more, sym (map-append (λ (t : Item). made_item n t.ticket t.submission) before more) ∙ ap (from_front n) e)
 
 pub taken_first : (n : ℕ) (before after : List Item) (x i : Item) → IsPrefix before (x ∷ after) → i ≡ made_item n x.ticket x.submission
-    → IsPrefix (numbered n before) (i ∷ numbered n after)
+    → IsPrefix (from_front n before) (i ∷ from_front n after)
 taken_first n before after x i first e =
-    subst (λ (y : Item). IsPrefix (numbered n before) (y ∷ numbered n after)) (sym e) (still_seen n before (x ∷ after) first)
+    subst (λ (y : Item). IsPrefix (from_front n before) (y ∷ from_front n after)) (sym e) (still_seen n before (x ∷ after) first)
 
 pub none_before : (known : List Item) → (0 < length known → ⊥) → known ≡ []
 none_before [] h = refl

@@ -34,8 +34,8 @@ abbrev pub made_item : ℕ → ℕ → Submitted → Item
 made_item front ticket s = record { front = front; ticket = ticket; submission = s }
 
 -- the items, with the front's number set in each
-abbrev pub numbered : ℕ → List Item → List Item
-numbered front items = map (λ i. made_item front i.ticket i.submission) items
+abbrev pub from_front : ℕ → List Item → List Item
+from_front front items = map (λ i. made_item front i.ticket i.submission) items
 
 -- the shutter is of the same gate, with as many fronts, as before
 abbrev pub SameShutter : ShutterView → ShutterView → Type 0

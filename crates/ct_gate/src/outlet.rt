@@ -22,15 +22,15 @@ pub struct Outlet {
 impl Model for Outlet {
     ghost use Rattle.rtrb.specs.Ring.{received as taken, known_items};
     ghost use Rattle.ct_gate.specs.Ring.{consumer_ring};
-    ghost use Rattle.ct_gate.specs.Ends.{OutletView, numbered};
+    ghost use Rattle.ct_gate.specs.Ends.{OutletView, from_front};
 
     ghost Value = { OutletView };
 
     ghost view = { λ o. record {
       number = o.number;
       ring = consumer_ring o.consumer;
-      received = numbered o.number (taken o.consumer);
-      in_sight = numbered o.number (known_items o.consumer);
+      received = from_front o.number (taken o.consumer);
+      in_sight = from_front o.number (known_items o.consumer);
     } };
 }
 
@@ -50,7 +50,7 @@ impl Outlet {
         ensures numbered { IfSome result (λ i. i.front ≡ self.old.number) }
     {
         match self.consumer.pop() {
-            Ok(item) => Some(numbered(self.number, item)),
+            Ok(item) => Some(from_front(self.number, item)),
             Err(_) => None,
         }
     }
@@ -71,7 +71,7 @@ impl Outlet {
             return None;
         }
         let item = self.consumer.pop_known();
-        Some(numbered(self.number, item))
+        Some(from_front(self.number, item))
     }
 
     /// Whether all that was accepted has been received. It takes nothing out, and no memory.
@@ -87,7 +87,7 @@ impl Outlet {
 }
 
 // The item, with the front's number.
-fn numbered(number: u16, item: Item) -> Item
+fn from_front(number: u16, item: Item) -> Item
     ensures { result ≡ made_item number item.ticket item.submission }
 {
     Item {

@@ -3,6 +3,7 @@ use Rattle.std.proofs.Common.{◌≡◌, ◌∙◌, ◌==◌, ℕ, List, [], ◌
 use Rattle.std.proofs.lemmas.Bool.{eqb-true}
 use Rattle.std.proofs.lemmas.List.{append_assoc}
 use Rattle.std.proofs.lemmas.List.Elements.{All-nil, All-cons, All-head, All-tail}
+use Rattle.core.specs.Option.{option_map_or}
 use Rattle.std.specs.Prelude.{⊤, option_map, option_and_then}
 use Rattle.std.specs.Io.BufRead.{first_piece, drop_through}
 use Rattle.serde_json.specs.Data.{Data, Items, no_items, item}
@@ -14,6 +15,7 @@ use Rattle.ct_guard.specs.History.{Passed, ArePassed}
 use Rattle.ct_guard.specs.declared.refusal.ReceiptRefusal.TheVariants.{NoHead, NoLeaf, NotThere}
 use Rattle.ct_guard.proofs.History.{passed_heads_agree}
 use Rattle.ct_lines.specs.Fields.{hash_of, hash_in, bytes_in, each_item, hashes_of_items, hashes_at}
+use Rattle.ct_lines.specs.Values.{value_of_line}
 use Rattle.ct_monitor.specs.Heads.{IsHeadOfAll}
 use Rattle.ct_tree.specs.declared.head.Head.{Head}
 use Rattle.ct_verify.specs.Laws.{AreHashes}
@@ -105,8 +107,11 @@ ask_hashes r d =
     (head_hashes (head_fields d) (hashes_at (codes "consistency") d) (of_hashes (option_and_then as_array (get (codes "consistency") d)))) (leaf_hashes r d)
 
 line_hashes : (r : Receipts) (line : List ℕ) (a : Ask) → Requests r line a → ProofHashes a
-line_hashes r line a (inl is) = subst ProofHashes (sym is.2.2) (ask_hashes r is.2.0)
-line_hashes r line a (inr none) = subst ProofHashes (sym none.0) tt
+line_hashes r line a is = subst ProofHashes (sym is) (go (value_of_line 1048576 line))
+  where
+    go : (o : Option Data) → ProofHashes (option_map_or (ask_in r) o for_nothing)
+    go None = tt
+    go (Some d) = ask_hashes r d
 
 -- ---- heads that were given are heads that were let through
 

@@ -1,11 +1,13 @@
 -- A line of which a beginning is kept gives what that beginning gives.
 use Rattle.std.proofs.Common.{◌≡◌, ◌∙◌, ◌<◌, ℕ, List, [], ◌∷◌, length, Bool, true, false, sym, refl, ap, subst, arith, inl, inr, Some, None, Option}
 use Rattle.std.proofs.lemmas.Bool.{eqb-true}
+use Rattle.core.specs.Option.{option_map_or}
 use Rattle.std.specs.Prelude.{◌==◌}
 use Rattle.std.specs.Io.BufRead.{drop_through, first_piece}
 use Rattle.ct_lines.specs.Lines.{kept_line, IsNextLine}
 use Rattle.ct_lines.proofs.KeptLines.{whole_or_long}
-use Rattle.ct_guard_lines.specs.Asks.{Ask, Requests}
+use Rattle.ct_lines.proofs.Values.{value_long}
+use Rattle.ct_guard_lines.specs.Asks.{Ask, ask_in, for_nothing, Requests}
 use Rattle.ct_guard_lines.specs.GuardSession.{GuardOptions, GuardStep, Replies, StepsLine, GuardsLine, GuardsFirst, KeepsLine, GetsLine, IsNoState}
 use Rattle.ct_guard_lines.specs.declared.guarding.Guarding.{Guarding}
 use Rattle.ct_guard_lines.specs.declared.settings.Receipts.{Receipts}
@@ -46,8 +48,8 @@ gives_none s before (b ∷ bs) text e is empty nil =
 -- ---- a line that is too long
 
 long_asks : (r : Receipts) (a b : List ℕ) (ask : Ask) → 1048576 < length a → 1048576 < length b → Requests r a ask → Requests r b ask
-long_asks r a b ask long_a long_b (inl is) = absurd (omega (arith, long_a, is.0))
-long_asks r a b ask long_a long_b (inr none) = inr (none.0, λ fits. absurd (omega (arith, long_b, fits)))
+long_asks r a b ask long_a long_b is =
+    is ∙ ap (λ o. option_map_or (ask_in r) o for_nothing) (sym (value_long 1048576 a long_a) ∙ value_long 1048576 b long_b)
 
 long_steps : (s : GuardOptions) (before : Guarding) (a b : List ℕ) (step : GuardStep) → 1048576 < length a → 1048576 < length b
     → StepsLine s before a step → StepsLine s before b step

@@ -1,7 +1,7 @@
 -- A state's line is read back as that state.
-use Rattle.std.proofs.Common.{◌≡◌, ◌≢◌, ◌∙◌, ◌<◌, ◌≤◌, ◌^◌, ℕ, refl, sym, ap, subst, inl, inr, arith, IsUtf8, List, [], ◌++◌, length, append-nil, eq-eqb, Some, None, Option}
+use Rattle.std.proofs.Common.{◌≡◌, ◌≢◌, ◌∙◌, ◌<◌, ◌≤◌, ◌^◌, ℕ, refl, sym, ap, subst, arith, List, [], ◌++◌, length, append-nil, eq-eqb, Some, None, Option}
 use Rattle.std.proofs.lemmas.Option.{same_Some, none-some}
-use Rattle.std.specs.Prelude.{option_and_then, Result, Ok, Err, MatchResult, IfOk}
+use Rattle.std.specs.Prelude.{option_and_then}
 use Rattle.std.specs.Result.{result_ok}
 use Rattle.base64.specs.Engines.{standard}
 use Rattle.base64.specs.GeneralPurpose.{IsBytes, IsConsistent}
@@ -20,9 +20,12 @@ use Rattle.serde_json.proofs.Texts.{print-outline}
 use Rattle.ct_lines.specs.Fields.{bytes_of}
 use Rattle.ct_lines.specs.ReplyText.{base64_text}
 use Rattle.ct_tree.specs.declared.head.Head.{Head}
+use Rattle.ct_lines.specs.Values.{value_of_line}
+use Rattle.ct_lines.proofs.Values.{value_read}
 use Rattle.ct_guard_lines.proofs.Plain.{state_plain}
+use Rattle.ct_guard_lines.proofs.Short.{state_short}
 use Rattle.ct_guard_lines.specs.GuardSession.{IsGuardState, IsNoState}
-use Rattle.ct_guard_lines.specs.GuardState.{StateReadBack, StatesDiffer, IsHeadValue, last_of_line, last_of_state, ReadsLast, guard_state_data, guard_state_text}
+use Rattle.ct_guard_lines.specs.GuardState.{StateReadBack, StatesDiffer, IsHeadValue, IsLastValue, last_of_line, last_of_state, guard_state_data, guard_state_text}
 
 -- ---- a text without floats is read back
 
@@ -55,36 +58,33 @@ of_some head v = rw (number_of-decimal 1 one, number_of-decimal head.timestamp v
 fields_back : (head : Head) → IsHeadValue head → last_of_state (guard_state_data (Some head)) ≡ Some (Some head)
 fields_back head v = rw (base_back head.root v.2, eq-eqb (length head.root) 32 v.3) refl
 
-pub state_read_back : StateReadBack
+line_is : (last : Option Head) → IsLastValue last → read (guard_state_text last) ≡ Some (guard_state_data last)
+    → value_of_line 1048576 (guard_state_text last) ≡ Some (guard_state_data last)
+line_is last v is = sym (value_read 1048576 (guard_state_text last) (guard_state_data last) (state_short last v) (state_plain last v) is)
+
+state_read : (last : Option Head) → IsLastValue last → read (guard_state_text last) ≡ Some (guard_state_data last)
 unfolding guard_state_text
-state_read_back None v =
-    ap (option_and_then last_of_state) (text_read (guard_state_data None) (IsNumber-decimal 1 one, (tt, tt)) (omega arith) of_none)
-state_read_back (Some head) v =
-    ap (option_and_then last_of_state) (text_read (guard_state_data (Some head))
-    (IsNumber-decimal 1 one, ((tt, (IsNumber-decimal head.timestamp v.1, (IsNumber-decimal head.tree_size v.0, tt))), tt)) (omega arith) (of_some head v))
-    ∙ fields_back head v
+state_read None v = text_read (guard_state_data None) (IsNumber-decimal 1 one, (tt, tt)) (omega arith) of_none
+state_read (Some head) v =
+    text_read (guard_state_data (Some head))
+    (IsNumber-decimal 1 one, ((tt, (IsNumber-decimal head.timestamp v.1, (IsNumber-decimal head.tree_size v.0, tt))), tt)) (omega arith) (of_some head v)
+
+pub state_read_back : StateReadBack
+state_read_back None v = ap (option_and_then last_of_state) (line_is None v (state_read None v))
+state_read_back (Some head) v = ap (option_and_then last_of_state) (line_is (Some head) v (state_read (Some head) v)) ∙ fields_back head v
 
 pub states_differ : StatesDiffer
 states_differ a b va vb e = same_Some a b (sym (state_read_back a va) ∙ ap last_of_line e ∙ state_read_back b vb)
 
 -- ---- a line that is no state's
 
-pub line_of_state : (line : List ℕ) (last : Option Head) → IsGuardState line last → last_of_line line ≡ Some last
+line_of_state : (line : List ℕ) (last : Option Head) → IsGuardState line last → last_of_line line ≡ Some last
 line_of_state line last is = ap last_of_line is.0 ∙ state_read_back last is.1
 
-pub not_read : (line : List ℕ) (o : Option (Option Head)) → ReadsLast line o → o ≡ None → IsNoState line
-not_read line o (inl r) none last is = none-some last (sym (sym r.1 ∙ none) ∙ line_of_state line last is)
-not_read line o (inr r) none last is =
-    none-some last (sym (r.1 (subst IsUtf8 (sym is.0) (state_plain last is.1))) ∙ line_of_state line last is)
+pub not_read : (line : List ℕ) (o : Option (Option Head)) → o ≡ last_of_line line → o ≡ None → IsNoState line
+not_read line o r none last is = none-some last (sym (sym r ∙ none) ∙ line_of_state line last is)
 
-pub other_text : (line : List ℕ) (o : Option (Option Head)) (last : Option Head) → ReadsLast line o → o ≡ Some last → line ≢ guard_state_text last
+pub other_text : (line : List ℕ) (o : Option (Option Head)) (last : Option Head) → o ≡ last_of_line line → o ≡ Some last → line ≢ guard_state_text last
     → IsNoState line
-other_text line o last (inl r) found other next is =
-    let same : last ≡ next = same_Some last next (sym (sym r.1 ∙ found) ∙ line_of_state line next is) in other (is.0 ∙ ap guard_state_text (sym same))
-other_text line o last (inr r) found other next is = absurd (none-some last (sym r.0 ∙ found))
-
--- a line that is no JSON
-pub err_last : {F : Type 0} (r : Result (Option (Option Head)) F) (line : List ℕ) (memory : Type 0)
-    → MatchResult r (λ o. (o ≡ None) × (memory → ⊥)) (λ _. memory) → ((memory → ⊥) → IsUtf8 line → read line ≡ None) → IfOk r (λ o. ReadsLast line o)
-err_last (Ok o) line memory from err = inr (from.0, λ u. ap (option_and_then last_of_state) (err from.1 u))
-err_last (Err f) line memory from err = tt
+other_text line o last r found other next is =
+    let same : last ≡ next = same_Some last next (sym (sym r ∙ found) ∙ line_of_state line next is) in other (is.0 ∙ ap guard_state_text (sym same))

@@ -1,11 +1,11 @@
 -- What a line asks of a guard.
-use Rattle.std.specs.Prelude.{◌≡◌, ◌⊎◌, ◌≤◌, ℕ, List, length, Option, Some, None, option_map, option_and_then, codes}
-use Rattle.std.specs.Str.{IsUtf8}
+use Rattle.std.specs.Prelude.{◌≡◌, ℕ, List, Option, Some, None, option_map, option_and_then, codes}
+use Rattle.core.specs.Option.{option_map_or}
 use Rattle.serde_json.specs.Data.{Data}
 use Rattle.serde_json.specs.Find.{get}
-use Rattle.serde_json.specs.Read.{read}
 use Rattle.ct_tree.specs.declared.head.Head.{Head}
 use Rattle.ct_lines.specs.Fields.{number_at, bytes_at, hashes_at}
+use Rattle.ct_lines.specs.Values.{value_of_line}
 use Rattle.ct_guard_lines.specs.GuardState.{head_fields}
 use Rattle.ct_guard_lines.specs.declared.request.Request.{Request}
 use Rattle.ct_guard_lines.specs.declared.request.Request.TheVariants as request
@@ -65,7 +65,6 @@ no_state_or (Some d) other = None
 abbrev pub ask_in : Receipts → Data → Ask
 ask_in receipts d = ask_or_nothing (no_state_or (get (codes "guard") d) (ask_or (head_ask d) (leaf_ask receipts d)))
 
--- the line asks for this: it has at most 1,048,576 bytes, is UTF-8, and is JSON that asks for it; or it asks for nothing that there is
+-- the line asks for this: what the JSON value that it is, of at most 1,048,576 bytes, asks for; or nothing that there is
 abbrev pub Requests : Receipts → List ℕ → Ask → Type 0
-Requests receipts line a = ((length line ≤ 1048576) × IsUtf8 line × ((d : Data) × (read line ≡ Some d) × (a ≡ ask_in receipts d)))
-    ⊎ ((a ≡ for_nothing) × (length line ≤ 1048576 → IsUtf8 line → (d : Data) → read line ≡ Some d → ⊥))
+Requests receipts line a = a ≡ option_map_or (ask_in receipts) (value_of_line 1048576 line) for_nothing

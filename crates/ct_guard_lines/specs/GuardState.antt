@@ -1,14 +1,13 @@
 -- The line of a guard's state: the head that was let through last, if one was.
-use Rattle.std.specs.Prelude.{◌≡◌, ◌⊎◌, ◌<◌, ◌^◌, ⊤, ℕ, List, length, Some, None, option_map, option_and_then, codes}
-use Rattle.std.specs.Str.{IsUtf8}
+use Rattle.std.specs.Prelude.{◌≡◌, ◌<◌, ◌^◌, ⊤, ℕ, List, length, Some, None, option_map, option_and_then, codes}
 use Rattle.std.specs.declared.option.Option.{Option}
 use Rattle.base64.specs.GeneralPurpose.{IsBytes}
 use Rattle.serde_json.specs.Data.{Data, null, boolean, number, string, array, object, member, no_members}
 use Rattle.serde_json.specs.Find.{get}
-use Rattle.serde_json.specs.Read.{read}
 use Rattle.serde_json.specs.Written.{compact_text}
 use Rattle.ct_lines.specs.Fields.{number_at, hash_at}
 use Rattle.ct_lines.specs.ReplyText.{number_data, bytes_data}
+use Rattle.ct_lines.specs.Values.{value_of_line}
 use Rattle.ct_tree.specs.declared.head.Head.{Head}
 
 -- the object of the last head, or null
@@ -44,14 +43,9 @@ last_in (object ms) = option_map (λ head. Some head) (head_fields (object ms))
 abbrev pub last_of_state : Data → Option (Option Head)
 last_of_state d = option_and_then last_in (get (codes "last") d)
 
--- the last head of the state that a line is, however it is written
+-- the last head of the state that a line is, of at most 1,048,576 bytes, however it is written
 abbrev pub last_of_line : List ℕ → Option (Option Head)
-last_of_line line = option_and_then last_of_state (read line)
-
--- the line is read as that of the state with this last head: it is UTF-8, and this is it, or none where it is no state's; or it isn't
--- read at all
-abbrev pub ReadsLast : List ℕ → Option (Option Head) → Type 0
-ReadsLast line o = (IsUtf8 line × (o ≡ last_of_line line)) ⊎ ((o ≡ None) × (IsUtf8 line → last_of_line line ≡ None))
+last_of_line line = option_and_then last_of_state (value_of_line 1048576 line)
 
 -- the head is one that the code can have: numbers below 2^64, and a root of 32 bytes
 abbrev pub IsHeadValue : Head → Type 0

@@ -1,18 +1,13 @@
 //! What ends a run before the state is written, and what an error of a crate below says of it.
 
-ghost use Rattle.std.specs.Prelude.{◌≡◌, ◌≢◌, None, MatchResult, OnOk};
+ghost use Rattle.std.specs.Prelude.{◌≡◌, ◌≢◌, OnOk};
 ghost use Rattle.ct_codec.specs.declared.refusal.Refusal.TheVariants.{Memory as Refused};
 ghost use Rattle.std.specs.IoError.{error_kind};
-ghost use Rattle.serde_json.specs.Errors.{IsMemory};
-ghost use Rattle.ct_guard_lines.specs.Asks.{ask_of, for_nothing};
 ghost use Rattle.ct_guard_lines.specs.GuardFaults.{IsReadFault, guard_fault_line};
 ghost use Rattle.ct_guard_lines.specs.declared.fault.Fault.TheVariants.{Memory, Write};
 
-use crate::request::Request;
 use ct_codec::Refusal;
 use ct_lines::Unwritten;
-use ct_tree::Head;
-use serde_json::Error;
 use std::alloc::AllocError;
 use std::io;
 
@@ -67,44 +62,6 @@ impl From<io::Error> for Fault {
             io::ErrorKind::OutOfMemory => Fault::Memory,
             _ => Fault::Read,
         }
-    }
-}
-
-// Of a line that isn't read as JSON: it asks for nothing, unless a growth was refused.
-#[derive(Drop)]
-pub(crate) struct Unread {
-    pub(crate) request: Result<Request, AllocError>,
-}
-
-impl From<Error> for Unread {
-    ghost from_gives = { λ error unread. MatchResult unread.request (λ r. (ask_of r ≡ for_nothing) × (IsMemory error → ⊥)) (λ _. IsMemory error) };
-
-    fn from(error: Error) -> Unread {
-        let request = if error.is_memory() {
-            Err(AllocError)
-        } else {
-            Ok(Request::Other)
-        };
-        Unread { request }
-    }
-}
-
-// Of a line that isn't read as a state: it is none, unless a growth was refused.
-#[derive(Drop)]
-pub(crate) struct UnreadState {
-    pub(crate) state: Result<Option<Option<Head>>, AllocError>,
-}
-
-impl From<Error> for UnreadState {
-    ghost from_gives = { λ error unread. MatchResult unread.state (λ o. (o ≡ None) × (IsMemory error → ⊥)) (λ _. IsMemory error) };
-
-    fn from(error: Error) -> UnreadState {
-        let state = if error.is_memory() {
-            Err(AllocError)
-        } else {
-            Ok(None)
-        };
-        UnreadState { state }
     }
 }
 

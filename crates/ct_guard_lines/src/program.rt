@@ -13,7 +13,7 @@ use crate::command::{Command, command_of};
 use crate::fault::Fault;
 use crate::guarding::Guarding;
 use crate::settings::Settings;
-use ct_lines::{NumberedLines, send, tell};
+use ct_lines::{NumberedLines, READS, send, tell};
 use std::alloc::Global;
 use std::io::{BufRead, BufReader, Read, Write};
 
@@ -23,9 +23,6 @@ const USAGE: &str =
 
 // The version of the programs (include/wagtenib.pc.in).
 const VERSION: &str = "ctguard 0.1.0\n";
-
-// How many lines are read at most, so that the loop ends.
-const LINES: u64 = 1 << 50;
 
 // Reads the next line into `line`, without its end, in place of what stood there, and answers whether there was one. Of a line that
 // is longer than a line may be a beginning is kept that is so too.
@@ -95,7 +92,7 @@ fn take_lines<B: BufRead + Drop, W: Write>(
     ensures { OnOk result (IsGuarded (options_of settings.now) guarding.old guarding.new
         (B.remaining lines.old.input) (W.contents writer.old) (W.contents writer.new)) }
 {
-    for turn in 0..LINES {
+    for turn in 0..READS {
         let done = take_next(alloc, settings, guarding, lines, line, writer)?;
         if done {
             return Ok(());

@@ -4,10 +4,9 @@ ghost use Rattle.std.specs.Prelude.{◌≡◌, IfOk, option_map, Some};
 ghost use Rattle.serde_json.specs.View.{view};
 ghost use Rattle.ct_guard_lines.specs.Asks.{ask_of, head_ask, receipt_ask, promise_ask, leaf_ask, ask_in, Requests};
 
-use crate::fault::Unread;
 use crate::settings::Receipts;
 use crate::state::head;
-use ct_lines::fields;
+use ct_lines::{LONGEST_REQUEST, fields, line_value};
 use ct_tree::Head;
 use serde_json::Value;
 use std::alloc::{AllocError, Global};
@@ -24,9 +23,6 @@ pub enum Request {
     // Nothing that there is.
     Other,
 }
-
-/// The longest line, in bytes, without its end.
-pub(crate) const LONGEST: usize = 1_048_576;
 
 // A tree head and a consistency proof.
 fn head_request(alloc: Global, value: &Value) -> Result<Option<Request>, AllocError>
@@ -105,11 +101,8 @@ pub(crate) fn read_request(
 ) -> Result<Request, AllocError>
     ensures { IfOk result (λ r. Requests receipts line.now (ask_of r)) }
 {
-    if line.len() > LONGEST {
-        return Ok(Request::Other);
-    }
-    match Value::from_slice(alloc, line) {
-        Ok(value) => request_of(alloc, receipts, &value),
-        Err(error) => Unread::from(error).request,
+    match line_value(alloc, LONGEST_REQUEST, line)? {
+        Some(value) => request_of(alloc, receipts, &value),
+        None => Ok(Request::Other),
     }
 }

@@ -4,11 +4,9 @@ ghost use Rattle.std.specs.Prelude.{◌≡◌, ◌<◌, ◌^◌, IfOk, IfSome, N
 ghost use Rattle.base64.specs.GeneralPurpose.{IsBytes};
 ghost use Rattle.serde_json.specs.View.{view};
 ghost use Rattle.ct_guard_lines.specs.GuardSession.{IsNoState, IsGuardState};
-ghost use Rattle.ct_guard_lines.specs.GuardState.{guard_state_data, guard_state_text, head_fields, last_data, last_in, last_of_state, IsLastValue, ReadsLast};
+ghost use Rattle.ct_guard_lines.specs.GuardState.{guard_state_data, guard_state_text, head_fields, last_data, last_in, last_of_line, last_of_state, IsLastValue};
 
-use crate::fault::UnreadState;
-use crate::request::LONGEST;
-use ct_lines::{bytes_value, fields};
+use ct_lines::{LONGEST_REQUEST, bytes_value, fields, line_value};
 use ct_tree::Head;
 use serde_json::{Value, json};
 use std::alloc::{AllocError, Global};
@@ -88,11 +86,11 @@ fn last_of_value(alloc: Global, value: &Value) -> Result<Option<Option<Head>>, A
 
 // The last head of the state that a line is, however it is written.
 fn read_last(alloc: Global, line: &[u8]) -> Result<Option<Option<Head>>, AllocError>
-    ensures { IfOk result (λ o. ReadsLast line.now o) }
+    ensures { IfOk result (λ o. o ≡ last_of_line line.now) }
 {
-    match Value::from_slice(alloc, line) {
-        Ok(value) => last_of_value(alloc, &value),
-        Err(error) => UnreadState::from(error).state,
+    match line_value(alloc, LONGEST_REQUEST, line)? {
+        Some(value) => last_of_value(alloc, &value),
+        None => Ok(None),
     }
 }
 

@@ -1,16 +1,14 @@
--- What a line asks, as a relation and as a function.
-use Rattle.std.proofs.Common.{inl, inr, ◌≡◌, ◌<◌, ℕ, List, [], ◌∷◌, length, Vec, Global, Option, Some, None, Result, Ok, Err, Bool, true, false, ◌&&◌, nat_le}
-use Rattle.std.proofs.Common.{cond, refl, sym, ap, subst, ◌∙◌, arith, take, take_all}
+-- What a line asks, and the answer to it.
+use Rattle.std.proofs.Common.{inl, inr, ◌≡◌, ◌<◌, ◌≤◌, ℕ, List, [], ◌∷◌, length, Vec, Global, Option, Some, None, Result, Ok, Err}
+use Rattle.std.proofs.Common.{refl, sym, ap, subst, ◌∙◌, arith, take, take_all}
 use Rattle.std.proofs.lemmas.Bool.{cases_lt}
 use Rattle.std.proofs.lemmas.List.{length-take}
 use Rattle.std.specs.Prelude.{◌≢◌, option_and_then, IfOk, MatchResult}
 use Rattle.std.specs.declared.alloc.AllocError.{AllocError}
-use Rattle.std.specs.Str.{is_utf8}
-use Rattle.std.proofs.lemmas.Bool.Decides.{nat_tests}
-use Rattle.std.proofs.lemmas.Str.{IsUtf8-from_is_utf8, is_utf8-from_IsUtf8}
 use Rattle.std.proofs.lemmas.Option.{none-some}
-use Rattle.serde_json.specs.Read.{read}
-use Rattle.ct_lines.specs.Asked.{Asked, by_frozen, FrozenAsked, IsRequest, asked_in}
+use Rattle.serde_json.specs.Data.{Data}
+use Rattle.ct_lines.specs.Values.{value_of_line}
+use Rattle.ct_lines.specs.Asked.{Asked, by_frozen, FrozenAsked, IsRequest, asked_in, request_of}
 use Rattle.ct_codec.specs.declared.refusal.Refusal.{Refusal}
 use Rattle.ct_codec.specs.declared.refusal.Refusal.TheVariants.{Memory, BadLine}
 use Rattle.ct_core.specs.declared.query.Reply.{Reply}
@@ -18,42 +16,31 @@ use Rattle.ct_core.specs.Settlement.{Log}
 use Rattle.ct_core.specs.Replies.{Answer, refused}
 use Rattle.ct_lines.specs.ReplyText.{answered, reply_line}
 use Rattle.ct_lines.specs.Serving.{reply_if}
-use Rattle.ct_lines.specs.Frozen.{request_of, asked_answer, answer_if, frozen_answer, line_answer, Answers, frozen_reply}
+use Rattle.ct_lines.specs.Frozen.{asked_answer, answer_if, frozen_answer, line_answer, Answers, frozen_reply}
+use Rattle.ct_lines.proofs.Values.{value_is, value_long}
 
--- what a text asks
-abbrev asks : List ℕ → Option Asked
-asks line = option_and_then asked_in (read line)
+-- a line that is too long asks nothing
+pub too_long : (line : List ℕ) → 1048576 < length line → request_of line ≡ None
+too_long line h = ap (option_and_then asked_in) (sym (value_long 1048576 line h))
 
-both_true : (t u : Bool) (x : Option Asked) (a : Asked) → cond (t && u) x None ≡ Some a → (t ≡ true) × (u ≡ true) × (x ≡ Some a)
-both_true true true x a e = (refl, refl, e)
-both_true true false x a e = absurd (none-some a e)
-both_true false u x a e = absurd (none-some a e)
+-- a request isn't too long
+pub request_fits : (line : List ℕ) (a : Asked) → IsRequest line a → length line ≤ 1048576
+request_fits line a is = go (value_of_line 1048576 line) refl is
+  where
+    go : (o : Option Data) → value_of_line 1048576 line ≡ o → option_and_then asked_in o ≡ Some a → length line ≤ 1048576
+    go None e p = absurd (none-some a p)
+    go (Some d) e p = (value_is 1048576 line d e).0
 
-pub request_of-is : (line : List ℕ) (a : Asked) → IsRequest line a → request_of line ≡ Some a
-unfolding request_of
-request_of-is line a r =
-    let fits : nat_le (length line) 1048576 ≡ true = grind (arith, nat_tests, r.fits) in
-    ap (λ t. cond (t && is_utf8 line) (asks line) None) fits ∙ ap (λ t. cond t (asks line) None) (is_utf8-from_IsUtf8 line r.text) ∙ r.value
-
-pub is_request : (line : List ℕ) (a : Asked) → request_of line ≡ Some a → IsRequest line a
-unfolding request_of
-is_request line a e =
-    let b = both_true (nat_le (length line) 1048576) (is_utf8 line) (asks line) a e in
-    record { fits = grind (arith, nat_tests, b.0); text = IsUtf8-from_is_utf8 line b.1; value = b.2 }
-
-pub no_request : (line : List ℕ) → ((a : Asked) → IsRequest line a → ⊥) → request_of line ≡ None
+no_request : (line : List ℕ) → ((a : Asked) → IsRequest line a → ⊥) → request_of line ≡ None
 no_request line h = go (request_of line) refl
   where
     go : (o : Option Asked) → request_of line ≡ o → request_of line ≡ None
     go None e = e
-    go (Some a) e = absurd (h a (is_request line a e))
-
-pub too_long : (line : List ℕ) → 1048576 < length line → request_of line ≡ None
-too_long line h = no_request line (λ a r. omega (arith, h, r.fits))
+    go (Some a) e = absurd (h a e)
 
 -- the answer to a line that is a request, and to one that is none
 pub asked_line : (log : Log) (line : List ℕ) (a : Asked) → IsRequest line a → asked_answer log a ≡ line_answer log line
-asked_line log line a r = sym (ap (answer_if log) (request_of-is line a r))
+asked_line log line a r = sym (ap (answer_if log) r)
 
 pub bad_line : (log : Log) (line : List ℕ) → ((a : Asked) → IsRequest line a → ⊥) → refused BadLine ≡ line_answer log line
 bad_line log line h = sym (ap (answer_if log) (no_request line h))

@@ -7,7 +7,7 @@ use Rattle.base64.specs.GeneralPurpose.{IsStrict, decode_of}
 use Rattle.base64.proofs.EngineFacts.{decode_of_iff}
 use Rattle.ct_lines.specs.Fields.{bytes_of}
 use Rattle.ct_lines.specs.ReplyText.{base64_text}
-use Rattle.ct_lines.specs.Laws.{BytesReadBack, LineIsOneRequest}
+use Rattle.ct_lines.specs.Laws.{BytesReadBack}
 
 is_strict : IsStrict standard
 is_strict = (refl, refl)
@@ -21,6 +21,3 @@ unfolding bytes_of base64_text
 bytes_read_back text b is_text are_bytes =
     let iff = decode_of_iff standard text b is_strict is_text are_bytes in
     (λ e. iff.0 (ok_of (decode_of standard text) b e), λ e. ap result_ok (iff.1 e))
-
-pub line_is_one_request : LineIsOneRequest
-line_is_one_request line a b p q = same_Some a b (sym p.value ∙ q.value)

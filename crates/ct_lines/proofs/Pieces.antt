@@ -10,16 +10,21 @@ use Rattle.std.specs.List.{concat}
 use Rattle.std.proofs.lemmas.List.Folds.{concat-append}
 use Rattle.ct_lines.specs.declared.fault.ServeFault.{ServeFault}
 use Rattle.ct_lines.specs.declared.fault.ServeFault.TheVariants.{Read, Write, Memory, Endless}
-use Rattle.ct_lines.specs.Frozen.{cut, replies}
+use Rattle.ct_lines.specs.Frozen.{replies}
 use Rattle.ct_lines.specs.Serving.{count_in, reply_if, ended, IsShort, IsCutOff, RepliedToEnded, IsEndedBy}
 use Rattle.ct_lines.proofs.KeptLines.{all_of_none, ends_here, ends_on, kept_fits, kept_on}
-use Rattle.ct_lines.specs.Lines.{IsPiece}
+use Rattle.ct_lines.specs.Lines.{last_line, lines_behind, lines_of, IsPiece}
 use Rattle.ct_lines.specs.Progress.{StandsFor, EndsAs, ServesPiece, StopsBefore, IsStopped, Goes, StopsWithin}
 
 -- the replies from a line on, first its own
 pub line_first : (reply : List ℕ → List ℕ) (m : List ℕ) (ls : List (List ℕ)) → replies reply (m ∷ ls) ≡ reply_if reply m ++ replies reply ls
 line_first reply [] ls = refl
 line_first reply (b ∷ bs) ls = refl
+
+-- the reply to the last line, if it has one
+last_replied : (reply : List ℕ → List ℕ) (m : List ℕ) → replies reply (last_line m) ≡ reply_if reply m
+last_replied reply [] = refl
+last_replied reply (b ∷ bs) = refl
 
 pub served_none : (reply : List ℕ → List ℕ) (line : List ℕ) → ServesPiece reply line [] [] line
 served_none reply line = record { goes_on = λ more. refl; ends_on = λ more. refl }
@@ -28,8 +33,8 @@ pub served_byte : (reply : List ℕ → List ℕ) (line p m : List ℕ) (rs : Li
     → ServesPiece reply line (p ++ b ∷ []) rs (m ++ b ∷ [])
 served_byte reply line p m rs b other s = record {
   goes_on = λ more.
-      ap (λ l. replies reply (cut line l)) (append_assoc p (b ∷ []) more) ∙ s.goes_on (b ∷ more)
-      ∙ ap (λ (t : Bool). rs ++ replies reply (cond t (m ∷ cut [] more) (cut (m ++ b ∷ []) more))) other;
+      ap (λ l. replies reply (lines_behind line l)) (append_assoc p (b ∷ []) more) ∙ s.goes_on (b ∷ more)
+      ∙ ap (λ (t : Bool). rs ++ replies reply (cond t (m ∷ lines_of more) (lines_behind (m ++ b ∷ []) more))) other;
   ends_on = λ more.
       ap (λ l. replies reply (ended line l)) (append_assoc p (b ∷ []) more) ∙ s.ends_on (b ∷ more)
       ∙ ap (λ (t : Bool). rs ++ replies reply (cond t (m ∷ ended [] more) (ended (m ++ b ∷ []) more))) other;
@@ -53,9 +58,9 @@ pub served_end : (reply : List ℕ → List ℕ) (line p m : List ℕ) (rs : Lis
     → ServesPiece reply line (p ++ 10 ∷ []) (rs ++ reply_if reply m) []
 served_end reply line p m rs s = record {
   goes_on = λ more.
-      ap (λ l. replies reply (cut line l)) (append_assoc p (10 ∷ []) more) ∙ s.goes_on (10 ∷ more)
-      ∙ ap (λ l. rs ++ l) (line_first reply m (cut [] more))
-      ∙ sym (append_assoc rs (reply_if reply m) (replies reply (cut [] more)));
+      ap (λ l. replies reply (lines_behind line l)) (append_assoc p (10 ∷ []) more) ∙ s.goes_on (10 ∷ more)
+      ∙ ap (λ l. rs ++ l) (line_first reply m (lines_of more))
+      ∙ sym (append_assoc rs (reply_if reply m) (replies reply (lines_of more)));
   ends_on = λ more.
       ap (λ l. replies reply (ended line l)) (append_assoc p (10 ∷ []) more) ∙ s.ends_on (10 ∷ more)
       ∙ ap (λ l. rs ++ l) (line_first reply m (ended [] more))
@@ -86,16 +91,16 @@ short_take n r h = go (take n r) refl
 pub stopped_end : (reply : List ℕ → List ℕ) (line p m rest next : List ℕ) (rs : List (List ℕ)) (f : ServeFault) → ServesPiece reply line p rs m
     → IsShort next (reply_if reply m) → StopsBefore f next (reply_if reply m) → IsStopped reply line (p ++ 10 ∷ rest) rs next f
 stopped_end reply line p m rest next rs f s h b = record {
-  later = reply_if reply m ++ replies reply (cut [] rest);
-  order = s.goes_on (10 ∷ rest) ∙ ap (λ l. rs ++ l) (line_first reply m (cut [] rest));
-  short = short_more next (reply_if reply m) (replies reply (cut [] rest)) h;
-  why = before_more f next (reply_if reply m) (replies reply (cut [] rest)) b;
+  later = reply_if reply m ++ replies reply (lines_of rest);
+  order = s.goes_on (10 ∷ rest) ∙ ap (λ l. rs ++ l) (line_first reply m (lines_of rest));
+  short = short_more next (reply_if reply m) (replies reply (lines_of rest)) h;
+  why = before_more f next (reply_if reply m) (replies reply (lines_of rest)) b;
 }
 
 -- serving stops with no reply begun
 pub stopped_between : (reply : List ℕ → List ℕ) (line p m rest : List ℕ) (rs : List (List ℕ)) (k : ℕ) → ServesPiece reply line p rs m
     → IsStopped reply line (p ++ rest) rs [] (Memory k)
-stopped_between reply line p m rest rs k s = record { later = replies reply (cut m rest); order = s.goes_on rest; short = tt; why = refl }
+stopped_between reply line p m rest rs k s = record { later = replies reply (lines_behind m rest); order = s.goes_on rest; short = tt; why = refl }
 
 -- a reply of which a proper beginning was written
 pub stop_here : (reply : List ℕ → List ℕ) (line bytes : List ℕ) (a b : Option (List ℕ)) (k : ℕ) → bytes ∷ [] ≡ reply_if reply line → (n : ℕ)
@@ -237,8 +242,8 @@ served_then : (reply : List ℕ → List ℕ) (line p m q k : List ℕ) (rs ss :
     → ServesPiece reply line (p ++ q) (rs ++ ss) k
 served_then reply line p m q k rs ss s t = record {
   goes_on = λ more.
-      ap (λ l. replies reply (cut line l)) (append_assoc p q more) ∙ s.goes_on (q ++ more) ∙ ap (λ l. rs ++ l) (t.goes_on more)
-      ∙ sym (append_assoc rs ss (replies reply (cut k more)));
+      ap (λ l. replies reply (lines_behind line l)) (append_assoc p q more) ∙ s.goes_on (q ++ more) ∙ ap (λ l. rs ++ l) (t.goes_on more)
+      ∙ sym (append_assoc rs ss (replies reply (lines_behind k more)));
   ends_on = λ more.
       ap (λ l. replies reply (ended line l)) (append_assoc p q more) ∙ s.ends_on (q ++ more) ∙ ap (λ l. rs ++ l) (t.ends_on more)
       ∙ sym (append_assoc rs ss (replies reply (ended k more)));
@@ -262,7 +267,7 @@ goes_then reply old mid new kept after count n m line p q g then =
 -- what a caller reads of serving that stopped
 abbrev pub CutOff : (List ℕ → List ℕ) → Option (List ℕ) → Option (List ℕ) → List ℕ → ServeFault → Type 0
 CutOff reply old new input f =
-    (written : List ℕ) × Appends old new written × IsCutOff (replies reply (cut [] input)) written (count_in f) × IsEndedBy reply input written f
+    (written : List ℕ) × Appends old new written × IsCutOff (replies reply (lines_of input)) written (count_in f) × IsEndedBy reply input written f
 
 -- the texts that are whole, and the beginning of the next
 cut_off : (texts whole later : List (List ℕ)) (next : List ℕ) (k : ℕ) → texts ≡ whole ++ later → k ≡ length whole → IsShort next later
@@ -279,28 +284,28 @@ cut_off texts whole later next k e n short =
     }
 
 ended_by : (reply : List ℕ → List ℕ) (input : List ℕ) (whole later : List (List ℕ)) (next : List ℕ) (f : ServeFault)
-    → replies reply (cut [] input) ≡ whole ++ later → count_in f ≡ length whole
+    → replies reply (lines_of input) ≡ whole ++ later → count_in f ≡ length whole
     → StopsBefore f next later → IsEndedBy reply input (concat whole ++ next) f
 ended_by reply input whole later next (Read k) e n why = absurd why
 ended_by reply input whole later next (Write k) e n why =
-    let size : length (replies reply (cut [] input)) ≡ length whole + length later = ap length e ∙ length-append whole later in
+    let size : length (replies reply (lines_of input)) ≡ length whole + length later = ap length e ∙ length-append whole later in
     omega (arith, size, n, why)
 ended_by reply input whole later next (Memory k) e n why =
-    let front : take k (replies reply (cut [] input)) ≡ whole = ap (λ l. take k l) e ∙ take_at whole later k (sym n) in
+    let front : take k (replies reply (lines_of input)) ≡ whole = ap (λ l. take k l) e ∙ take_at whole later k (sym n) in
     ap (λ l. concat whole ++ l) why ∙ append-nil (concat whole) ∙ ap concat (sym front)
 ended_by reply input whole later next (Endless k) e n why = absurd why
 
 -- where the reader is called again, no reply is owed
 pub cut_between : (reply : List ℕ → List ℕ) (old new : Option (List ℕ)) (kept : List ℕ) (n : ℕ) (input : List ℕ) → Goes reply old new kept 0 n [] input
-    → (written : List ℕ) × Appends old new written × IsCutOff (replies reply (cut [] input)) written n × RepliedToEnded reply input written n
+    → (written : List ℕ) × Appends old new written × IsCutOff (replies reply (lines_of input)) written n × RepliedToEnded reply input written n
 cut_between reply old new kept n input g =
     let over : replies reply (ended [] input) ≡ g.texts =
     ap (λ l. replies reply (ended [] l)) (sym (append-nil input)) ∙ g.served.ends_on [] ∙ append-nil g.texts in
-    let order : replies reply (cut [] input) ≡ g.texts ++ replies reply (cut g.line2 []) =
-    ap (λ l. replies reply (cut [] l)) (sym (append-nil input)) ∙ g.served.goes_on [] in (
+    let order : replies reply (lines_of input) ≡ g.texts ++ replies reply (lines_behind g.line2 []) =
+    ap (λ l. replies reply (lines_of l)) (sym (append-nil input)) ∙ g.served.goes_on [] in (
       concat g.texts ++ [],
       subst (λ l. Appends old new l) (sym (append-nil (concat g.texts))) g.written,
-      cut_off (replies reply (cut [] input)) g.texts (replies reply (cut g.line2 [])) [] n order (omega (arith, g.counted)) tt,
+      cut_off (replies reply (lines_of input)) g.texts (replies reply (lines_behind g.line2 [])) [] n order (omega (arith, g.counted)) tt,
       (append-nil (concat g.texts) ∙ ap concat (sym over), omega (arith, g.counted, ap length over)),
     )
 
@@ -310,24 +315,24 @@ cut_stopped reply old mid new kept n f input q g stop =
     let h = stop g.line2 g.stands in
     let text : concat (g.texts ++ h.texts) ++ h.next ≡ concat g.texts ++ (concat h.texts ++ h.next) =
     ap (λ l. l ++ h.next) (concat-append g.texts h.texts) ∙ append_assoc (concat g.texts) (concat h.texts) h.next in
-    let order : replies reply (cut [] (input ++ q)) ≡ (g.texts ++ h.texts) ++ h.stopped.later =
+    let order : replies reply (lines_of (input ++ q)) ≡ (g.texts ++ h.texts) ++ h.stopped.later =
     g.served.goes_on q ∙ ap (λ l. g.texts ++ l) h.stopped.order ∙ sym (append_assoc g.texts h.texts h.stopped.later) in
     let size : count_in f ≡ length (g.texts ++ h.texts) = omega (arith, g.counted, h.counted, length-append g.texts h.texts) in (
       concat (g.texts ++ h.texts) ++ h.next,
       subst (λ l. Appends old new l) (sym text) (Appends-trans old mid new (concat g.texts) (concat h.texts ++ h.next) g.written h.written),
-      cut_off (replies reply (cut [] (input ++ q))) (g.texts ++ h.texts) h.stopped.later h.next (count_in f) order size h.stopped.short,
+      cut_off (replies reply (lines_of (input ++ q))) (g.texts ++ h.texts) h.stopped.later h.next (count_in f) order size h.stopped.short,
       ended_by reply (input ++ q) (g.texts ++ h.texts) h.stopped.later h.next f order size h.stopped.why,
     )
 
 -- at the end of the input the last line is answered
 pub served_whole : (reply : List ℕ → List ℕ) (old mid new : Option (List ℕ)) (kept : List ℕ) (n m : ℕ) (input : List ℕ)
     → Goes reply old mid kept 0 n [] input → ((l : List ℕ) → EndsAs kept l → Appends mid new (concat (reply_if reply l))
-    × (m ≡ n + length (reply_if reply l))) → Appends old new (concat (replies reply (cut [] input)))
+    × (m ≡ n + length (reply_if reply l))) → Appends old new (concat (replies reply (lines_of input)))
 served_whole reply old mid new kept n m input g write =
     let w = write g.line2 (ends_here 1048578 kept g.line2 g.stands.0 g.stands.1) in
     let own = reply_if reply g.line2 in
-    let order : replies reply (cut [] input) ≡ g.texts ++ own =
-    ap (λ l. replies reply (cut [] l)) (sym (append-nil input)) ∙ g.served.goes_on [] ∙ ap (λ l. g.texts ++ l) (line_first reply g.line2 [] ∙ append-nil own) in
+    let order : replies reply (lines_of input) ≡ g.texts ++ own =
+    ap (λ l. replies reply (lines_of l)) (sym (append-nil input)) ∙ g.served.goes_on [] ∙ ap (λ l. g.texts ++ l) (last_replied reply g.line2) in
     subst (λ l. Appends old new l) (sym (ap concat order ∙ concat-append g.texts own)) (Appends-trans old mid new (concat g.texts) (concat own) g.written w.0)
 
 pub cut_last : (reply : List ℕ → List ℕ) (old mid new : Option (List ℕ)) (kept : List ℕ) (n : ℕ) (f : ServeFault) (input : List ℕ)
@@ -335,14 +340,13 @@ pub cut_last : (reply : List ℕ → List ℕ) (old mid new : Option (List ℕ))
     × StopsBefore f next (reply_if reply l) × Appends mid new next) → count_in f ≡ n → CutOff reply old new input f
 cut_last reply old mid new kept n f input g stop same =
     let s = stop g.line2 (ends_here 1048578 kept g.line2 g.stands.0 g.stands.1) in
-    let order : replies reply (cut [] input) ≡ g.texts ++ (reply_if reply g.line2 ++ []) =
-    ap (λ l. replies reply (cut [] l)) (sym (append-nil input)) ∙ g.served.goes_on [] ∙ ap (λ l. g.texts ++ l) (line_first reply g.line2 []) in
+    let order : replies reply (lines_of input) ≡ g.texts ++ reply_if reply g.line2 =
+    ap (λ l. replies reply (lines_of l)) (sym (append-nil input)) ∙ g.served.goes_on [] ∙ ap (λ l. g.texts ++ l) (last_replied reply g.line2) in
     let size : count_in f ≡ length g.texts = omega (arith, g.counted, same) in (
       concat g.texts ++ s.0,
       Appends-trans old mid new (concat g.texts) s.0 g.written s.3,
-      cut_off (replies reply (cut [] input)) g.texts (reply_if reply g.line2 ++ []) s.0 (count_in f) order size
-          (short_more s.0 (reply_if reply g.line2) [] s.1),
-      ended_by reply input g.texts (reply_if reply g.line2 ++ []) s.0 f order size (before_more f s.0 (reply_if reply g.line2) [] s.2),
+      cut_off (replies reply (lines_of input)) g.texts (reply_if reply g.line2) s.0 (count_in f) order size s.1,
+      ended_by reply input g.texts (reply_if reply g.line2) s.0 f order size s.2,
     )
 
 pub consumed_none : (a b c : Option (List ℕ)) (xs ys : List ℕ) (n : ℕ) → n ≡ 0 → Consumes a b xs → Consumes b c (take n ys) → Consumes a c xs

@@ -1,10 +1,10 @@
 -- What a request line asks.
-use Rattle.std.specs.Prelude.{◌≡◌, ◌≤◌, ℕ, List, length, Option, Some, None, option_map, option_and_then, if◌then◌else◌, codes}
-use Rattle.std.specs.Str.{bytes_eq, IsUtf8}
+use Rattle.std.specs.Prelude.{◌≡◌, ℕ, List, Option, Some, None, option_map, option_and_then, if◌then◌else◌, codes}
+use Rattle.std.specs.Str.{bytes_eq}
 use Rattle.serde_json.specs.Data.{Data, null, boolean, number, string, array, object}
-use Rattle.serde_json.specs.Read.{read}
 use Rattle.serde_json.specs.Find.{get, as_u64}
 use Rattle.ct_lines.specs.Fields.{text_at, number_at, bytes_at, bytes_list_at, hash_at, hashes_at}
+use Rattle.ct_lines.specs.Values.{value_of_line}
 use Rattle.ct_core.specs.declared.query.Query.{Query}
 use Rattle.ct_core.specs.declared.query.Query.TheVariants.{GetSth, Consistency, ProofByHash, Entries, EntryAndProof, Receipt}
 
@@ -43,22 +43,22 @@ pub data Asked : Type 0 where
   by_operator : OperatorAsked → Asked
   by_frozen : FrozenAsked → Asked
 
--- the party of a name
-abbrev pub named_party : List ℕ → Option Who
-named_party name = if bytes_eq name (codes "operator") then Some operator else (if bytes_eq name (codes "frozen") then Some frozen else None)
+-- who has a name
+abbrev pub who_named : List ℕ → Option Who
+who_named name = if bytes_eq name (codes "operator") then Some operator else (if bytes_eq name (codes "frozen") then Some frozen else None)
 
--- the party that a value names: a number is a front
-abbrev pub party_in : Data → Option Who
-party_in null = None
-party_in (boolean b) = None
-party_in (number n) = option_map front (as_u64 n)
-party_in (string name) = named_party name
-party_in (array ds) = None
-party_in (object ms) = None
+-- who a value is: a number is a front
+abbrev pub who_in : Data → Option Who
+who_in null = None
+who_in (boolean b) = None
+who_in (number n) = option_map front (as_u64 n)
+who_in (string name) = who_named name
+who_in (array ds) = None
+who_in (object ms) = None
 
 -- who makes the request
-abbrev pub party_at : Data → Option Who
-party_at d = option_and_then party_in (get (codes "who") d)
+abbrev pub who_at : Data → Option Who
+who_at d = option_and_then who_in (get (codes "who") d)
 
 -- the question of the op get-sth-consistency
 abbrev pub consistency_asked : Data → Option Query
@@ -139,7 +139,7 @@ frozen_asks op d =
     if bytes_eq op (codes "audit") then option_map frozen_audit (audit_asked d)
     else option_map frozen_query (query_asked op d)
 
--- what a party asks by an op
+-- what is asked by an op, by who asks it
 abbrev pub asked_by : Who → List ℕ → Data → Option Asked
 asked_by (front n) op d = option_map (by_front n) (front_asks op d)
 asked_by operator op d = option_map by_operator (operator_asks op d)
@@ -147,11 +147,12 @@ asked_by frozen op d = option_map by_frozen (frozen_asks op d)
 
 -- what a JSON value asks
 abbrev pub asked_in : Data → Option Asked
-asked_in d = option_and_then (λ who. option_and_then (λ op. asked_by who op d) (text_at (codes "op") d)) (party_at d)
+asked_in d = option_and_then (λ who. option_and_then (λ op. asked_by who op d) (text_at (codes "op") d)) (who_at d)
 
--- the line is a request that asks this: it has at most 1,048,576 bytes, is UTF-8, and is a JSON value, as `serde_json` reads it, that asks
--- this (RFC 8259; docs/LINES.md)
-pub record IsRequest (line : List ℕ) (a : Asked) : Type 0 where
-  pub fits : length line ≤ 1048576
-  pub text : IsUtf8 line
-  pub value : option_and_then asked_in (read line) ≡ Some a
+-- what a line asks, where it is a request: a JSON value of at most 1,048,576 bytes that asks it
+abbrev pub request_of : List ℕ → Option Asked
+request_of line = option_and_then asked_in (value_of_line 1048576 line)
+
+-- the line is a request that asks this
+abbrev pub IsRequest : List ℕ → Asked → Type 0
+IsRequest line a = request_of line ≡ Some a

@@ -1,22 +1,17 @@
 -- What the frozen log replies to its input.
-use Rattle.std.specs.Prelude.{◌≡◌, ◌⊎◌, Bool, true, false, ◌||◌, ℕ, List, [], ◌∷◌, ◌++◌, length, Option, Some, None, option_and_then, ◌&&◌, ◌==◌, nat_le}
+use Rattle.std.specs.Prelude.{◌≡◌, ◌⊎◌, Bool, true, false, ◌||◌, ℕ, List, [], ◌∷◌, ◌++◌, length, Option, Some, None, ◌==◌}
 use Rattle.std.specs.Prelude.{if◌then◌else◌, Result, MatchResult}
 use Rattle.std.specs.List.{concat}
-use Rattle.std.specs.Str.{is_utf8}
-use Rattle.serde_json.specs.Read.{read}
 use Rattle.ct_codec.specs.declared.refusal.Refusal.{Refusal}
 use Rattle.ct_codec.specs.declared.refusal.Refusal.TheVariants.{Memory, BadLine}
 use Rattle.ct_core.specs.declared.query.Reply.{Reply}
 use Rattle.ct_core.specs.Settlement.{Log}
 use Rattle.ct_core.specs.Answers.{answer}
 use Rattle.ct_core.specs.Replies.{Answer, proof_holds, a_collision, refused, shown, takes_memory}
-use Rattle.ct_lines.specs.Asked.{Asked, by_front, by_operator, by_frozen, FrozenAsked, frozen_query, frozen_audit, asked_in}
+use Rattle.ct_lines.specs.Asked.{Asked, by_front, by_operator, by_frozen, FrozenAsked, frozen_query, frozen_audit, request_of}
+use Rattle.ct_lines.specs.Lines.{lines_of}
 use Rattle.ct_lines.specs.ReplyText.{reply_line}
 use Rattle.ct_lines.specs.Verdicts.{audit_answer}
-
--- what a line asks, where it is a request
-unfoldable pub request_of : List ℕ → Option Asked
-request_of line = if nat_le (length line) 1048576 && is_utf8 line then option_and_then asked_in (read line) else None
 
 -- the result says this answer, or that a growth was refused
 abbrev pub Answers : Result Reply Refusal → Answer → Type 0
@@ -61,20 +56,15 @@ line_answer log line = answer_if log (request_of line)
 unfoldable pub frozen_reply : Log → List ℕ → List ℕ
 frozen_reply log line = reply_line (line_answer log line)
 
--- the input cut at each byte 0A, where `line` stands before it
-abbrev pub cut : List ℕ → List ℕ → List (List ℕ)
-cut line [] = line ∷ []
-cut line (b ∷ bs) = if b == 10 then line ∷ cut [] bs else cut (line ++ b ∷ []) bs
-
 -- the replies to the lines that aren't empty
 abbrev pub replies : (List ℕ → List ℕ) → List (List ℕ) → List (List ℕ)
 replies reply [] = []
 replies reply ([] ∷ lines) = replies reply lines
 replies reply ((b ∷ bs) ∷ lines) = reply (b ∷ bs) ∷ replies reply lines
 
--- the replies of the closed log to the lines of an input, in order: it is cut at each 0A, and each piece that isn't empty has its reply
+-- the replies of the closed log to the lines of an input, in order: each that isn't empty has its reply
 abbrev pub frozen_replies : Log → List ℕ → List (List ℕ)
-frozen_replies log input = replies (frozen_reply log) (cut [] input)
+frozen_replies log input = replies (frozen_reply log) (lines_of input)
 
 -- all that the closed log writes for an input: these replies one after the other
 abbrev pub frozen_text : Log → List ℕ → List ℕ

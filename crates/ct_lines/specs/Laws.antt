@@ -2,24 +2,15 @@
 use Rattle.std.specs.Prelude.{◌≡◌, ◌≢◌, ◌↔◌, ℕ, List, ◌∷◌, ◌++◌, Some}
 use Rattle.std.specs.List.{AllByRecursion}
 use Rattle.base64.specs.GeneralPurpose.{IsBytes}
-use Rattle.ct_lines.specs.Asked.{Asked, IsRequest}
 use Rattle.ct_lines.specs.Fields.{bytes_of}
 use Rattle.ct_core.specs.Settlement.{Log}
 use Rattle.ct_lines.specs.ReplyText.{base64_text}
-use Rattle.ct_lines.specs.Frozen.{request_of, frozen_reply, frozen_replies}
+use Rattle.ct_lines.specs.Frozen.{frozen_reply, frozen_replies}
 use Rattle.ct_lines.specs.Serving.{reply_if}
 
 -- A text is read as some bytes exactly where it is what is written for them.
 abbrev pub BytesReadBack : Type 0
 BytesReadBack = (text b : List ℕ) → IsBytes text → IsBytes b → (bytes_of text ≡ Some b) ↔ (text ≡ base64_text b)
-
--- A line is one request at most.
-abbrev pub LineIsOneRequest : Type 0
-LineIsOneRequest = (line : List ℕ) (a b : Asked) → IsRequest line a → IsRequest line b → a ≡ b
-
--- A line is a request that asks this exactly where `request_of` gives this.
-abbrev pub RequestIsFound : Type 0
-RequestIsFound = (line : List ℕ) (a : Asked) → IsRequest line a ↔ (request_of line ≡ Some a)
 
 -- The replies to a line with its end and what stands behind are the line's own, or none where it is empty, and then those to what stands behind.
 abbrev pub RepliesByLines : Type 0

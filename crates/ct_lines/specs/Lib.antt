@@ -1,4 +1,5 @@
 pub mod Fields
+pub mod Values
 pub mod Asked
 pub mod Requests
 pub mod ReplyText

@@ -1,8 +1,22 @@
--- The next line of an input.
-use Rattle.std.specs.Prelude.{◌≡◌, ◌≢◌, ◌<◌, ◌≤◌, ◌+◌, ◌-◌, ℕ, Bool, true, false, List, [], ◌++◌, All, length, slice_index, take, Option, Some, None, Result, Ok, IfSome, OnSome}
+-- The lines of an input, and the next of them.
+use Rattle.std.specs.Prelude.{◌≡◌, ◌≢◌, ◌<◌, ◌≤◌, ◌+◌, ◌-◌, ℕ, Bool, true, false, List, [], ◌∷◌, ◌++◌, ◌==◌, if◌then◌else◌, All, length, slice_index, take, Option, Some, None, Result, Ok, IfSome, OnSome}
 use Rattle.std.specs.Io.{StopsAt, IsEmptyOrEndsWith}
 use Rattle.std.specs.Io.KnownBytes.{Consumes, IsAtEnd}
 use Rattle.std.specs.Io.BufRead.{drop_through, strip_last, take_through}
+
+-- the last line, which ends with the input: there is none behind an end of line
+abbrev pub last_line : List ℕ → List (List ℕ)
+last_line [] = []
+last_line (b ∷ bs) = (b ∷ bs) ∷ []
+
+-- the lines of an input, where `line` stands before it
+abbrev pub lines_behind : List ℕ → List ℕ → List (List ℕ)
+lines_behind line [] = last_line line
+lines_behind line (b ∷ bs) = if b == 10 then line ∷ lines_behind [] bs else lines_behind (line ++ b ∷ []) bs
+
+-- the lines of an input: each ends at the byte 0A, and the last may end with the input
+abbrev pub lines_of : List ℕ → List (List ℕ)
+lines_of input = lines_behind [] input
 
 -- What is kept of the first line of xs, without its end: all of it, but of a line that has more than `most` bytes with its end the
 -- first `most`.

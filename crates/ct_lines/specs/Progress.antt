@@ -5,7 +5,8 @@ use Rattle.std.specs.Io.BufRead.{strip_last}
 use Rattle.std.specs.Io.KnownBytes.{Appends}
 use Rattle.ct_lines.specs.declared.fault.ServeFault.{ServeFault}
 use Rattle.ct_lines.specs.declared.fault.ServeFault.TheVariants.{Read, Write, Memory, Endless}
-use Rattle.ct_lines.specs.Frozen.{cut, replies}
+use Rattle.ct_lines.specs.Frozen.{replies}
+use Rattle.ct_lines.specs.Lines.{lines_behind}
 use Rattle.ct_lines.specs.Serving.{count_in, ended, IsShort}
 
 -- what is kept of the line that stands, of whose bytes none is its end
@@ -18,7 +19,7 @@ EndsAs kept line = strip_last 10 kept ≡ take 1048578 line
 
 -- from `line`, a piece of the input gives these replies, and `line2` stands behind it
 pub record ServesPiece (reply : List ℕ → List ℕ) (line piece : List ℕ) (texts : List (List ℕ)) (line2 : List ℕ) : Type 0 where
-  pub goes_on : (more : List ℕ) → replies reply (cut line (piece ++ more)) ≡ texts ++ replies reply (cut line2 more)
+  pub goes_on : (more : List ℕ) → replies reply (lines_behind line (piece ++ more)) ≡ texts ++ replies reply (lines_behind line2 more)
   pub ends_on : (more : List ℕ) → replies reply (ended line (piece ++ more)) ≡ texts ++ replies reply (ended line2 more)
 
 -- how serving stops before the texts: memory is refused before one is begun, and a writer fails at one
@@ -31,7 +32,7 @@ StopsBefore (Endless k) next texts = ⊥
 -- from `line`, a piece of the input gives these replies and others, of the first of which `next` is at most a proper beginning
 pub record IsStopped (reply : List ℕ → List ℕ) (line piece : List ℕ) (texts : List (List ℕ)) (next : List ℕ) (fault : ServeFault) : Type 0 where
   pub later : List (List ℕ)
-  pub order : replies reply (cut line piece) ≡ texts ++ later
+  pub order : replies reply (lines_behind line piece) ≡ texts ++ later
   pub short : IsShort next later
   pub why : StopsBefore fault next later
 

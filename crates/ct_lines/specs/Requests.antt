@@ -44,7 +44,7 @@ asked (request_case.Operator r) = by_operator (operator_asked r)
 asked (request_case.Frozen r) = by_frozen (frozen_asked r)
 
 -- who makes a request
-abbrev pub party : CodeWho → Who
-party (who_case.Front n) = front n
-party who_case.Operator = operator
-party who_case.Frozen = frozen
+abbrev pub who : CodeWho → Who
+who (who_case.Front n) = front n
+who who_case.Operator = operator
+who who_case.Frozen = frozen

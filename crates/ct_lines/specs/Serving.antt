@@ -4,7 +4,8 @@ use Rattle.std.specs.List.{concat}
 use Rattle.std.specs.Global.{Global}
 use Rattle.ct_lines.specs.declared.fault.ServeFault.{ServeFault}
 use Rattle.ct_lines.specs.declared.fault.ServeFault.TheVariants.{Read, Write, Memory, Endless}
-use Rattle.ct_lines.specs.Frozen.{cut, replies}
+use Rattle.ct_lines.specs.Frozen.{replies}
+use Rattle.ct_lines.specs.Lines.{lines_of}
 
 -- how many replies were written whole before a fault
 abbrev pub count_in : ServeFault → ℕ
@@ -26,7 +27,7 @@ pub record IsCutOff (texts : List (List ℕ)) (written : List ℕ) (k : ℕ) : T
   pub order : written ≡ concat (take k texts) ++ next
   pub short : IsShort next (drop k texts)
 
--- the lines that end in the input, where `line` stands before it: those of `cut` but the last
+-- the lines that end in the input, where `line` stands before it: all but one that ends with the input
 abbrev pub ended : List ℕ → List ℕ → List (List ℕ)
 ended line [] = []
 ended line (b ∷ bs) = if b == 10 then line ∷ ended [] bs else ended (line ++ b ∷ []) bs
@@ -39,8 +40,8 @@ RepliedToEnded reply input written k = (written ≡ concat (replies reply (ended
 -- Write: a reply is owed that isn't whole. Memory: no reply is begun that isn't whole. Endless: none is owed, and 2^50 bytes were read
 abbrev pub IsEndedBy : (List ℕ → List ℕ) → List ℕ → List ℕ → ServeFault → Type 0
 IsEndedBy reply input written (Read k) = RepliedToEnded reply input written k
-IsEndedBy reply input written (Write k) = k < length (replies reply (cut [] input))
-IsEndedBy reply input written (Memory k) = written ≡ concat (take k (replies reply (cut [] input)))
+IsEndedBy reply input written (Write k) = k < length (replies reply (lines_of input))
+IsEndedBy reply input written (Memory k) = written ≡ concat (take k (replies reply (lines_of input)))
 IsEndedBy reply input written (Endless k) = RepliedToEnded reply input written k × (2 ^ 50 ≤ length input)
 
 -- the reply to a line, or none to an empty one

@@ -1,6 +1,6 @@
 //! Request lines and reply lines: one JSON object a line (RFC 8259), bytes as base64 (RFC 4648, section 4).
 //!
-//! - `read_line` answers the `Request` that a line is, or `BadLine` exactly where it is none.
+//! - `line_value` answers the JSON value that a line is, and `read_line` the `Request`, or `BadLine` exactly where it is none.
 //! - `reply_text` answers the text of a `Reply` or of a refusal, with the end of the line.
 //! - `frozen_reply` is a closed log's reply to a line. `serve_frozen` reads request lines from a reader, and writes the replies
 //!   of a closed log to a writer.
@@ -30,8 +30,8 @@ mod writing;
 
 pub use fault::{ServeFault, Unwritten};
 pub use frozen::{frozen_reply, frozen_request_reply};
-pub use lines::{NumberedLines, REQUEST_KEPT, next_line};
-pub use reading::read_line;
+pub use lines::{NumberedLines, READS, REQUEST_KEPT, next_line};
+pub use reading::{LONGEST_REQUEST, line_value, read_line};
 pub use request::{Audit, FrontRequest, FrozenRequest, OperatorRequest, Request};
 pub use sending::{send, tell, write_whole};
 pub use serving::serve_frozen;

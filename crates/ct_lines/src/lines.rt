@@ -8,8 +8,8 @@ use std::alloc::AllocError;
 use std::io;
 use std::io::{BufRead, ErrorKind};
 
-// How many lines are numbered at most, so that their numbers can be counted, and how many pieces of a line are read.
-const LINES: u64 = 1 << 50;
+/// How many lines of an input are read at most, and how many pieces: so they can be counted, and each loop over them ends.
+pub const READS: u64 = 1 << 50;
 
 /// How many bytes of a request line are kept, its end among them: two more than the longest request has.
 pub const REQUEST_KEPT: usize = 1_048_578;
@@ -87,7 +87,7 @@ fn take_line<R: BufRead>(input: &mut R, most: usize, line: &mut Vec<u8>) -> io::
     ensures one { OnOk result (All (λ x. x ≢ 10) (strip_last 10 line.new.items)) }
     ensures none_lost { OnErr result (IsKeptOf most (R.remaining input.old) (R.remaining input.new) line.new.items) }
 {
-    for turn in 0..LINES {
+    for turn in 0..READS {
         if take_piece(input, most, line)? {
             return Ok(());
         }
@@ -150,7 +150,7 @@ impl<R: BufRead + Drop> NumberedLines<R> {
         ensures none_lost { OnErr result (self.old.next < 2 ^ 50
             → IsKeptOf 1048578 (R.remaining self.old.input) (R.remaining self.new.input) line.new.items) }
     {
-        if self.next == LINES {
+        if self.next == READS {
             return Err(io::Error::from(ErrorKind::Other));
         }
         if !next_line(&mut self.input, REQUEST_KEPT, line)? {

@@ -2,8 +2,9 @@
 
 ghost use Rattle.std.specs.Prelude.{◌≡◌, ◌⊎◌, ◌≤◌, length, IfOk, IfErr, IsErrOf, option_map};
 ghost use Rattle.serde_json.specs.View.{view};
-ghost use Rattle.ct_lines.specs.Asked.{Asked, IsRequest, asked_in, consistency_asked, proof_by_hash_asked, entries_asked, entry_and_proof_asked, receipt_asked, query_asked, chain_asked, pre_chain_asked, sequence_asked, audit_asked, front_asks, operator_asks, frozen_asks, party_at};
-ghost use Rattle.ct_lines.specs.Requests.{asked, front_asked, operator_asked, frozen_asked, audit_of, party};
+ghost use Rattle.ct_lines.specs.Asked.{Asked, IsRequest, asked_in, consistency_asked, proof_by_hash_asked, entries_asked, entry_and_proof_asked, receipt_asked, query_asked, chain_asked, pre_chain_asked, sequence_asked, audit_asked, front_asks, operator_asks, frozen_asks, who_at};
+ghost use Rattle.ct_lines.specs.Values.{value_of_line};
+ghost use Rattle.ct_lines.specs.Requests.{asked, front_asked, operator_asked, frozen_asked, audit_of, who};
 
 use crate::fields;
 use crate::request::{Audit, FrontRequest, FrozenRequest, OperatorRequest, Request};
@@ -13,8 +14,27 @@ use ct_core::Query;
 use serde_json::Value;
 use std::alloc::{AllocError, Global};
 
-// The longest line, in bytes, without its end.
-pub(crate) const LONGEST: usize = 1_048_576;
+/// How many bytes the longest request has, without the end of its line.
+pub const LONGEST_REQUEST: usize = 1_048_576;
+
+/// The JSON value that a line is (RFC 8259), without the byte that ends it: none where it isn't UTF-8 or isn't JSON, or has more than
+/// `longest` bytes, when it takes no memory.
+///
+/// # Errors
+///
+/// Where a growth is refused.
+pub fn line_value(alloc: Global, longest: usize, line: &[u8]) -> Result<Option<Value>, AllocError>
+    ensures value { IfOk result (λ o. option_map view o ≡ value_of_line longest line.now) }
+    ensures fits { IfErr result (λ _. length line.now ≤ longest) }
+{
+    if line.len() > longest {
+        return Ok(None);
+    }
+    match Value::from_slice(alloc, line) {
+        Ok(value) => Ok(Some(value)),
+        Err(error) => Unread::from(error).value,
+    }
+}
 
 // Who makes a request.
 #[derive(Clone, Copy, Debug)]
@@ -25,8 +45,8 @@ enum Who {
 }
 
 // Who makes the request, by the value under `who`.
-fn party_of(value: &Value) -> Option<Who>
-    ensures { option_map party result ≡ party_at (view value.now) }
+fn who_makes(value: &Value) -> Option<Who>
+    ensures { option_map who result ≡ who_at (view value.now) }
 {
     let who = value.get("who")?;
     if let Some(name) = who.as_str() {
@@ -224,13 +244,13 @@ fn frozen_request(
 fn request_in(alloc: Global, value: &Value) -> Result<Option<Request>, AllocError>
     ensures { IfOk result (λ o. option_map asked o ≡ asked_in (view value.now)) }
 {
-    let Some(party) = party_of(value) else {
+    let Some(who) = who_makes(value) else {
         return Ok(None);
     };
     let Some(op) = fields::text(value, "op") else {
         return Ok(None);
     };
-    match party {
+    match who {
         Who::Front(number) => match front_request(alloc, op, value)? {
             Some(request) => Ok(Some(Request::Front(number, request))),
             None => Ok(None),
@@ -254,12 +274,8 @@ pub fn read_line(alloc: Global, line: &[u8]) -> Result<Request, Refusal>
     ensures refusals { IfErr result (λ e. (e ≡ Refusal.BadLine) ⊎ (e ≡ Refusal.Memory)) }
     ensures memory { IfErr result (λ e. e ≡ Refusal.Memory → length line.now ≤ 1048576) }
 {
-    if line.len() > LONGEST {
+    let Some(value) = line_value(alloc, LONGEST_REQUEST, line)? else {
         return Err(Refusal::BadLine);
-    }
-    let value = match Value::from_slice(alloc, line) {
-        Ok(value) => value,
-        Err(error) => return Err(Unread::from(error).refusal),
     };
     match request_in(alloc, &value)? {
         Some(request) => Ok(request),

@@ -9,15 +9,12 @@ ghost use Rattle.ct_lines.specs.Progress.{StandsFor, EndsAs, Goes, StopsBefore, 
 
 use crate::fault::{GrowthRefused, ReadFailed, ServeFault, WriteFailed};
 use crate::frozen::frozen_reply;
-use crate::lines::{REQUEST_KEPT, content, cut_piece};
+use crate::lines::{READS, REQUEST_KEPT, content, cut_piece};
 use crate::sending::write_bytes;
 use ct_core::Published;
 use ct_tree::Memory;
 use std::alloc::Global;
 use std::io::{Read, Write};
-
-// How often the reader is called at most: so many pieces have fewer lines than a u64 counts, and the loop ends.
-const READS: u64 = 1 << 50;
 
 // The reply to a line that ended, of which this is kept, or none where it is empty.
 fn ended_reply(alloc: Global, log: &Published, kept: &[u8]) -> Result<Option<Vec<u8>>, Memory>

@@ -11,7 +11,7 @@ use base64::DecodeAllocError;
 use ct_codec::Refusal;
 use ct_core::Reply;
 use ct_verify::EvidenceFault;
-use serde_json::Error;
+use serde_json::{Error, Value};
 use std::alloc::AllocError;
 
 // Of a text that wasn't decoded: it stands for no bytes, unless a growth was refused.
@@ -32,22 +32,22 @@ impl From<DecodeAllocError> for Undecoded {
     }
 }
 
-// Of a line that isn't read as JSON: it is bad, unless a growth was refused.
+// Of a text that isn't read as JSON: it is no value, unless a growth was refused.
 #[derive(Drop)]
 pub(crate) struct Unread {
-    pub(crate) refusal: Refusal,
+    pub(crate) value: Result<Option<Value>, AllocError>,
 }
 
 impl From<Error> for Unread {
-    ghost from_gives = { λ error unread. ((unread.refusal ≡ Memory) × IsMemory error) ⊎ ((unread.refusal ≡ BadLine) × (IsMemory error → ⊥)) };
+    ghost from_gives = { λ error unread. MatchResult unread.value (λ o. (o ≡ None) × (IsMemory error → ⊥)) (λ _. IsMemory error) };
 
     fn from(error: Error) -> Unread {
-        let refusal = if error.is_memory() {
-            Refusal::Memory
+        let value = if error.is_memory() {
+            Err(AllocError)
         } else {
-            Refusal::BadLine
+            Ok(None)
         };
-        Unread { refusal }
+        Unread { value }
     }
 }
 

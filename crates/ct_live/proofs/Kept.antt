@@ -1,14 +1,12 @@
 -- A line of which a beginning is kept asks what that beginning asks: nothing, since both are longer than any request.
-use Rattle.std.proofs.Common.{◌≡◌, ◌≢◌, ◌<◌, inl, inr, [], ◌∷◌, Option, ◌&&◌, ℕ, false, cond, List, Some, None, length, refl, sym, ap, subst, ◌∙◌, arith}
-use Rattle.std.proofs.lemmas.Bool.Decides.{nat_tests}
-use Rattle.std.specs.Prelude.{nat_le, option_and_then}
-use Rattle.std.specs.Str.{is_utf8}
-use Rattle.serde_json.specs.Read.{read}
+use Rattle.std.proofs.Common.{◌≡◌, ◌≢◌, ◌<◌, inl, inr, [], ◌∷◌, Option, ℕ, List, Some, None, length, refl, sym, ap, subst, ◌∙◌, arith}
+use Rattle.std.specs.Prelude.{option_and_then}
 use Rattle.std.specs.Io.BufRead.{drop_through, first_piece}
 use Rattle.ct_core.specs.Replies.{Answer}
 use Rattle.ct_core.specs.Settlement.{Log}
 use Rattle.ct_lines.specs.Frozen.{answer_if, line_answer}
-use Rattle.ct_lines.proofs.Asking.{too_long}
+use Rattle.ct_lines.proofs.Asking.{request_fits, too_long}
+use Rattle.ct_lines.proofs.Values.{value_long}
 use Rattle.ct_lines.specs.Lines.{kept_line, IsNextLine}
 use Rattle.ct_live.specs.Tagged.{tagged}
 use Rattle.ct_lines.proofs.KeptLines.{whole_or_long}
@@ -21,16 +19,13 @@ use Rattle.ct_live.specs.declared.giving.Inlets.{Inlets}
 
 -- a line that is too long asks nothing of a live log alone
 live_too_long : (line : List ℕ) → 1048576 < length line → live_request_of line ≡ None
-unfolding live_request_of
-live_too_long line long =
-    let no : nat_le (length line) 1048576 ≡ false = grind (arith, nat_tests, long) in
-    ap (λ t. cond (t && is_utf8 line) (option_and_then live_asked_in (read line)) None) no
+live_too_long line long = ap (option_and_then live_asked_in) (sym (value_long 1048576 line long))
 
 asks_long : (fronts : ℕ) (a b : List ℕ) (s : LiveStep) → 1048576 < length a → 1048576 < length b → AsksLive fronts a s → AsksLive fronts b s
-asks_long fronts a b s long_a long_b (t, inl (r, is, e), step) = absurd (omega (arith, long_a, is.fits))
+asks_long fronts a b s long_a long_b (t, inl (r, is, e), step) = absurd (omega (arith, long_a, request_fits a r is))
 asks_long fronts a b s long_a long_b (t, inr (bad, none), step) = (
   t,
-  inr (bad, λ r is. omega (arith, long_b, is.fits)),
+  inr (bad, λ r is. omega (arith, long_b, request_fits b r is)),
   step ∙ ap (live_step_for fronts a) bad ∙ ap (live_request_step fronts) (live_too_long a long_a ∙ sym (live_too_long b long_b))
       ∙ sym (ap (live_step_for fronts b) bad),
 )

@@ -7,8 +7,7 @@ use Rattle.ct_core.specs.Replies.{a_published_head}
 use Rattle.ct_core.specs.Settlement.{Log}
 use Rattle.ct_lines.specs.Frozen.{line_answer}
 use Rattle.ct_lines.specs.Sends.{SendsSome}
-use Rattle.ct_parties.specs.Lines.{lines_of}
-use Rattle.ct_lines.specs.Lines.{IsNextLine}
+use Rattle.ct_lines.specs.Lines.{lines_of, IsNextLine}
 use Rattle.ct_live.specs.Tagged.{tagged}
 use Rattle.ct_live.proofs.Sending.{some_of_all}
 use Rattle.ct_live.proofs.Writing.{some_behind}

@@ -1,10 +1,10 @@
 -- What a line asks of a live log.
-use Rattle.std.specs.Prelude.{◌≡◌, ◌<◌, ℕ, List, length, nat_le, nat_lt, ◌&&◌, Option, Some, None, option_map, option_and_then, if◌then◌else◌, codes}
-use Rattle.std.specs.Str.{bytes_eq, is_utf8}
+use Rattle.std.specs.Prelude.{◌≡◌, ◌<◌, ℕ, List, nat_lt, Option, Some, None, option_map, option_and_then, if◌then◌else◌, codes}
+use Rattle.std.specs.Str.{bytes_eq}
 use Rattle.serde_json.specs.Data.{Data}
-use Rattle.serde_json.specs.Read.{read}
 use Rattle.ct_lines.specs.Asked.{with_three}
 use Rattle.ct_lines.specs.Fields.{text_at, number_at}
+use Rattle.ct_lines.specs.Values.{value_of_line}
 use Rattle.ct_parties.specs.Tasks.{for_front, for_operator, for_frozen, Step, does, ends_shift, AsksFor}
 use Rattle.ct_parties.specs.declared.task.OperatorTask.TheVariants.{Sequence, Publish, Shutdown, BadLine}
 use Rattle.ct_live.specs.LiveTasks.{LiveStep, gives_front, gives_operator, closes_at}
@@ -47,9 +47,9 @@ live_asks_by who d = if bytes_eq who (codes "operator") then option_and_then (λ
 abbrev pub live_asked_in : Data → Option LiveAsked
 live_asked_in d = option_and_then (λ who. live_asks_by who d) (text_at (codes "who") d)
 
--- what a line asks of a live log alone: one that is not too long, is UTF-8, and is JSON that asks it
-unfoldable pub live_request_of : List ℕ → Option LiveAsked
-live_request_of line = if nat_le (length line) 1048576 && is_utf8 line then option_and_then live_asked_in (read line) else None
+-- what a line asks of a live log alone: a JSON value of at most 1,048,576 bytes that asks it
+abbrev pub live_request_of : List ℕ → Option LiveAsked
+live_request_of line = option_and_then live_asked_in (value_of_line 1048576 line)
 
 -- what is done for a line that every other log replies to with bad-line, by what it asks of a live log alone
 abbrev pub live_request_step : ℕ → Option LiveAsked → LiveStep

@@ -1,14 +1,13 @@
 //! What a line asks of a live log.
 
-ghost use Rattle.std.specs.Prelude.{◌≡◌, None, IfOk, IsOkUnless, MatchResult, option_map};
-ghost use Rattle.serde_json.specs.Errors.{IsMemory};
+ghost use Rattle.std.specs.Prelude.{◌≡◌, IfOk, IsOkUnless, option_map};
 ghost use Rattle.serde_json.specs.View.{view};
 ghost use Rattle.ct_live.specs.LiveLines.{take_asked, live_asks, live_asked_in, live_asked, live_request_of, live_request_step, AsksLive, IsForFront};
 ghost use Rattle.ct_live.specs.LiveTasks.{live_step};
 
-use ct_lines::{FrontRequest, fields};
+use ct_lines::{FrontRequest, LONGEST_REQUEST, fields, line_value};
 use ct_parties::{Fault, OperatorTask, Task, line_task};
-use serde_json::{Error, Value};
+use serde_json::Value;
 use std::alloc::{AllocError, Global};
 
 /// What the operator does for a line of a live log.
@@ -51,9 +50,6 @@ enum LiveRequest {
     TimestampInput { ticket: u64 },
 }
 
-// The longest line, in bytes, without its end.
-const LONGEST: usize = 1_048_576;
-
 fn take_request(value: &Value) -> Option<LiveRequest>
     ensures { option_map live_asked result ≡ take_asked (view value.now) }
 {
@@ -94,35 +90,13 @@ fn live_request_in(value: &Value) -> Option<LiveRequest>
     live_request(op, value)
 }
 
-// Of a line that isn't read as JSON: it asks nothing, unless a growth was refused.
-#[derive(Drop)]
-struct Unread {
-    request: Result<Option<LiveRequest>, AllocError>,
-}
-
-impl From<Error> for Unread {
-    ghost from_gives = { λ error not. MatchResult not.request (λ o. (o ≡ None) × (IsMemory error → ⊥)) (λ _. IsMemory error) };
-
-    fn from(error: Error) -> Unread {
-        let request = if error.is_memory() {
-            Err(AllocError)
-        } else {
-            Ok(None)
-        };
-        Unread { request }
-    }
-}
-
 // What the line asks of a live log alone.
 fn read_live(alloc: Global, line: &[u8]) -> Result<Option<LiveRequest>, AllocError>
     ensures { IfOk result (λ o. option_map live_asked o ≡ live_request_of line.now) }
 {
-    if line.len() > LONGEST {
-        return Ok(None);
-    }
-    match Value::from_slice(alloc, line) {
-        Ok(value) => Ok(live_request_in(&value)),
-        Err(error) => Unread::from(error).request,
+    match line_value(alloc, LONGEST_REQUEST, line)? {
+        Some(value) => Ok(live_request_in(&value)),
+        None => Ok(None),
     }
 }
 

@@ -12,13 +12,10 @@ ghost use Rattle.ct_live.specs.LiveInput.{closed_replies};
 use crate::pipes::tag;
 use crate::replying::reply_object;
 use ct_core::{Published, Reply};
-use ct_lines::{NumberedLines, frozen_reply, send};
+use ct_lines::{NumberedLines, READS, frozen_reply, send};
 use ct_parties::Fault;
 use std::alloc::{AllocError, Global};
 use std::io::{BufRead, Write};
-
-// How many lines are read at most, so that the loop ends.
-const LINES: u64 = 1 << 50;
 
 // The closed log's reply to a line, without the end of the line.
 fn closed_reply(alloc: Global, log: &Published, line: &[u8]) -> Result<Vec<u8>, AllocError>
@@ -81,7 +78,7 @@ pub fn serve_closed<B: BufRead + Drop, W: Write>(
     ensures faults { IfErr result (λ f. (f ≡ Fault.Write) ⊎ ((f ≡ Fault.Memory) ⊎ (f ≡ Fault.Read))) }
 {
     let mut line = Vec::new(alloc);
-    for turn in 0..LINES {
+    for turn in 0..READS {
         match lines.read(&mut line) {
             Ok(Some(number)) => {
                 send_reply(alloc, log, number, &line, output)?;

@@ -17,7 +17,7 @@ use crate::closed::{send_last_head, serve_closed};
 use crate::front::LiveFront;
 use crate::giving::{End, Giver, Inlets};
 use crate::operator::OperatorWorker;
-use crate::pipes::{Joined, Numbered, ThreadFault, are_taken, write_left};
+use crate::pipes::{JoinedParties, Numbered, ThreadFault, are_taken, write_left};
 use ct_house::{Front, Sequencer};
 use ct_lines::{FrontRequest, NumberedLines, Unwritten};
 use ct_parties::{Fault, close};
@@ -32,7 +32,7 @@ use std::thread::Threads;
 pub struct Left<B: BufRead + Drop> {
     pub giver: Giver<B>,
     pub end: Result<End, ThreadFault>,
-    pub fronts: Joined<LiveFront, FrontRequest>,
+    pub fronts: JoinedParties<LiveFront, FrontRequest>,
     pub written: Result<(), Unwritten>,
     pub operated: Result<(), ThreadFault>,
 }
@@ -234,7 +234,7 @@ pub fn end_live<H: Threads + Wait + Sync, B: BufRead + Drop, W: Write>(
         written,
         operated,
     } = left;
-    let Joined {
+    let JoinedParties {
         parties,
         mut tasks,
         mut answers,

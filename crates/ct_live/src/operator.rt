@@ -13,7 +13,7 @@ use crate::signing::{head_input, timestamp_input};
 use ct_codec::Refusal;
 use ct_core::Reply;
 use ct_house::Sequencer;
-use ct_parties::{Party, Waiting, do_operator_task};
+use ct_parties::{BATCH, Party, Waiting, do_operator_task};
 use rtrb::{Consumer, Producer};
 use std::alloc::{AllocError, Global};
 use std::sync::Wait;
@@ -25,9 +25,6 @@ pub struct OperatorWorker {
     pub tasks: Consumer<Numbered<LiveOperatorTask>>,
     pub answers: Producer<Vec<u8>>,
 }
-
-// How many items are settled by one `take`.
-const BATCH: u64 = 256;
 
 // Settles what is there of a front's items, so many at most, and 256 at most.
 fn take<R: Threads + Sync>(

@@ -8,7 +8,7 @@
 //! - `opening` makes the rings: `open_pipes`, of whose ends each thread has its own.
 //! - `post` has `give`, by which the reader's thread gives each party its tasks, and waits where a ring is full.
 //! - `workers` has the parties' threads: `start_workers` and `join_workers`. A thread hands back the party with the ends of its
-//!   rings (`Worked`), also where it ended before its time, and `Joined` has those of all threads: a program makes room for them
+//!   rings (`Worked`), also where it ended before its time, and `JoinedParties` has those of all threads: a program makes room for them
 //!   before it starts any, so that they can be joined without memory. What a party does is its own (`Party` of `ct_parties`):
 //!   `answer_all`, in `answering`, is `serve_all` of `ct_parties` over the ends of the party's rings, and `tagging` sets the line's
 //!   number before the reply.
@@ -36,7 +36,7 @@ mod workers;
 mod writer;
 
 pub use ahead::{ReadAhead, read_ahead};
-pub use answering::{Answered, Numbered, answer_all};
+pub use answering::{Numbered, PartyEnd, answer_all};
 pub use breaker::Breaker;
 pub use draining::{are_taken, write_left};
 pub use fault::ThreadFault;
@@ -45,6 +45,6 @@ pub use parkers::{Parkers, Waiter};
 pub use post::{deliver, give};
 pub use tagging::tag;
 pub use workers::{
-    Joined, Worked, Worker, WorkerPromise, WorkerThread, join_workers, start_workers,
+    JoinedParties, Worked, Worker, WorkerPromise, WorkerThread, join_workers, start_workers,
 };
 pub use writer::write_answers;

@@ -14,7 +14,8 @@ use crate::front::FrontWorker;
 use crate::giving::{End, Giver, give_out};
 use crate::operator::OperatorWorker;
 use crate::pipes::{
-    Answered, Joined, Parkers, ThreadFault, answer_all, join_workers, start_workers, write_answers,
+    JoinedParties, Parkers, PartyEnd, ThreadFault, answer_all, join_workers, start_workers,
+    write_answers,
 };
 use ct_lines::Unwritten;
 use ct_parties::{Fault, Options, Waiting};
@@ -180,7 +181,7 @@ fn run_operator<R: Threads + Wait + Sync>(
         answers,
     } = operator;
     let number = sequencer.fronts();
-    let Answered {
+    let PartyEnd {
         tasks,
         answers,
         result,
@@ -296,7 +297,7 @@ fn run_in<
         workers,
         out,
     } = start;
-    let room = match Joined::with_room(alloc, count) {
+    let room = match JoinedParties::with_room(alloc, count) {
         Ok(room) => room,
         Err(error) => return not_started(operator, out, Fault::from(error)),
     };

@@ -2,19 +2,21 @@
 use Rattle.std.proofs.Common.{◌≡◌, ◌∙◌, ◌<◌, ℕ, List, [], ◌∷◌, ◌++◌, length, Bool, true, false, if◌then◌else◌, Option, Some, None, Vec, Global, sym, refl, ap, subst, inl, inr}
 use Rattle.std.proofs.Common.{◌≤◌, arith}
 use Rattle.ct_lines.specs.Lines.{kept_line, IsFirstLine}
+use Rattle.ct_lines.specs.Values.{value_of_line}
 use Rattle.ct_lines.proofs.KeptLines.{whole_or_long}
+use Rattle.ct_lines.proofs.Values.{value_long, value_none}
 use Rattle.std.proofs.lemmas.List.{append_assoc}
 use Rattle.std.proofs.lemmas.Option.{same_Some, none-some}
-use Rattle.std.specs.Prelude.{IfSome, IfOk, OnOk, MatchResult, Result, Ok, Err}
+use Rattle.core.specs.Option.{option_map_or}
+use Rattle.std.specs.Prelude.{IfSome, IfOk, OnOk, Result, Ok, Err}
 use Rattle.std.specs.Str.{IsUtf8}
-use Rattle.serde_json.specs.Read.{read}
 use Rattle.sha2.specs.Sha256.{sha256}
 use Rattle.ct_monitor.specs.Watched.{nothing_seen}
 use Rattle.ct_monitor.specs.WatcherState.{Keeps, WatcherState}
 use Rattle.std.specs.Io.BufRead.{drop_through, first_piece}
 use Rattle.std.specs.Io.KnownBytes.{Appends}
 use Rattle.std.proofs.KnownBytes.{Appends-nil, Appends-trans}
-use Rattle.ct_monitor_lines.specs.Answers.{Answered, Reads}
+use Rattle.ct_monitor_lines.specs.Answers.{Answered, answer_in, no_answer, Reads}
 use Rattle.ct_monitor_lines.specs.Session.{LineStep, Tells, KeptGives, LineGives, FirstGives, TakesLines, TakesAll, OneTaken, IsTaken, IsAllTaken, IsRun, IsRunStatus}
 use Rattle.ct_monitor_lines.specs.Session.{status_of}
 use Rattle.ct_monitor_lines.specs.StateText.{state_text, IsLineOfState, IsNoStateLine, IsOfBytes, ReadsState}
@@ -26,8 +28,8 @@ use Rattle.ct_monitor_lines.specs.declared.session.Session.{Session}
 
 -- a line that is too long is none, whatever its bytes are
 reads_long : (a b : List ℕ) (what : Answered) → 16777216 < length a → 16777216 < length b → Reads a what → Reads b what
-reads_long a b what long_a long_b (inl r) = absurd (omega (arith, long_a, r.0))
-reads_long a b what long_a long_b (inr r) = inr (r.0, λ fits. absurd (omega (arith, long_b, fits)))
+reads_long a b what long_a long_b is =
+    is ∙ ap (λ o. option_map_or answer_in o no_answer) (sym (value_long 16777216 a long_a) ∙ value_long 16777216 b long_b)
 
 gives_long : (names : List (List ℕ)) (before : Session) (a b : List ℕ) (text : List ℕ) (after : Session) → 16777216 < length a → 16777216 < length b
     → LineGives names before a text after → LineGives names before b text after
@@ -260,9 +262,6 @@ pub line_passed : (line : List ℕ) (o : Option WatcherState) → ReadsState lin
 line_passed line None reads is = reads
 line_passed line (Some s) reads is = absurd (none-some s (sym is))
 
--- a line that is no JSON, or no UTF-8
-pub err_state : {F : Type 0} (r : Result (Option WatcherState) F) (line : List ℕ) (memory : Type 0)
-    → MatchResult r (λ o. (o ≡ None) × (memory → ⊥)) (λ _. memory) → ((memory → ⊥) → IsUtf8 line → read line ≡ None) → IfOk r (λ o. ReadsState line o)
-err_state (Ok None) line memory from err = λ s l. no_value line (err from.1 (subst IsUtf8 (sym l.2) (state_is_utf8 s l.0))) s l
-err_state (Ok (Some w)) line memory from err = absurd (none-some w (sym from.0))
-err_state (Err f) line memory from err = tt
+-- a line that is none
+pub none_state : (line : List ℕ) → None ≡ value_of_line 16777216 line → IsNoStateLine line
+none_state line none s l = no_value line (value_none 16777216 line (sym none) l.1 (subst IsUtf8 (sym l.2) (state_is_utf8 s l.0))) s l

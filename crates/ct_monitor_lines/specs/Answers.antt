@@ -1,11 +1,11 @@
 -- What a line of a log is: an answer of its front end, or a checkpoint or data tile of it.
-use Rattle.std.specs.Prelude.{◌≡◌, ◌⊎◌, ◌≤◌, ℕ, List, map, length, Option, Some, None, option_map, option_and_then, codes, string_bytes}
-use Rattle.std.specs.Str.{IsUtf8}
+use Rattle.std.specs.Prelude.{◌≡◌, ℕ, List, map, Option, Some, None, option_map, option_and_then, codes, string_bytes}
+use Rattle.core.specs.Option.{option_map_or}
 use Rattle.serde_json.specs.Data.{Data, Items}
 use Rattle.serde_json.specs.Find.{get, as_number, as_u64, as_array}
-use Rattle.serde_json.specs.Read.{read}
 use Rattle.ct_tree.specs.declared.head.Head.{Head}
 use Rattle.ct_lines.specs.Fields.{text_at, number_at, bytes_at, hash_at, hashes_at, each_item}
+use Rattle.ct_lines.specs.Values.{value_of_line}
 use Rattle.ct_monitor_lines.specs.declared.answer.Answer.{Answer}
 use Rattle.ct_monitor_lines.specs.declared.answer.Answer.TheVariants as answer_case
 
@@ -113,7 +113,6 @@ state_or (Some d) other = a_state
 abbrev pub answer_in : Data → Answered
 answer_in d = state_or (get (codes "state") d) (head_or (head_in d) (entries_in d))
 
--- the line is this: it has at most 16,777,216 bytes, is UTF-8, and is JSON that is this; or it is none
+-- the line is this: what the JSON value is that it is, of at most 16,777,216 bytes; or none of these
 abbrev pub Reads : List ℕ → Answered → Type 0
-Reads line a = ((length line ≤ 16777216) × IsUtf8 line × ((d : Data) × (read line ≡ Some d) × (a ≡ answer_in d)))
-    ⊎ ((a ≡ no_answer) × (length line ≤ 16777216 → IsUtf8 line → (d : Data) → read line ≡ Some d → ⊥))
+Reads line a = a ≡ option_map_or answer_in (value_of_line 16777216 line) no_answer

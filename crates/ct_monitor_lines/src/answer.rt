@@ -4,8 +4,7 @@ ghost use Rattle.std.specs.Prelude.{◌≡◌, IfOk, map, option_map};
 ghost use Rattle.serde_json.specs.View.{view, items_view};
 ghost use Rattle.ct_monitor_lines.specs.Answers.{answer_in, answer_read, checkpoint_in, entries_in, head_in, leaves_in, leaves_of_items, start_in, tile_in, tiled_in, Reads};
 
-use crate::fault::Unread;
-use ct_lines::fields;
+use ct_lines::{fields, line_value};
 use ct_tree::Head;
 use serde_json::Value;
 use std::alloc::{AllocError, Global};
@@ -166,11 +165,8 @@ pub(crate) const LONGEST: usize = 16_777_216;
 pub(crate) fn read_answer(alloc: Global, line: &[u8]) -> Result<Answer, AllocError>
     ensures { IfOk result (λ a. Reads line.now (answer_read a)) }
 {
-    if line.len() > LONGEST {
-        return Ok(Answer::Other);
-    }
-    match Value::from_slice(alloc, line) {
-        Ok(value) => answer_of(alloc, &value),
-        Err(error) => Unread::from(error).answer,
+    match line_value(alloc, LONGEST, line)? {
+        Some(value) => answer_of(alloc, &value),
+        None => Ok(Answer::Other),
     }
 }

@@ -14,7 +14,7 @@ use crate::answer::LONGEST;
 use crate::command::{Command, command_of, refusal};
 use crate::fault::Fault;
 use crate::session::Session;
-use ct_lines::{next_line, send, tell};
+use ct_lines::{READS, next_line, send, tell};
 use ct_monitor::Watcher;
 use ct_tree::Sha256Hash;
 use std::alloc::{AllocError, Global};
@@ -57,9 +57,6 @@ Usage: ctmonitor [OPTIONS] < lines > verdicts
 
 For more information, try '--help'.
 ";
-
-// How many lines are read at most, so that the loop ends.
-const LINES: u64 = 1 << 50;
 
 // How many bytes of a line are kept, its end among them: two more than the longest line has.
 const KEPT: usize = 16_777_218;
@@ -146,7 +143,7 @@ fn take_lines<B: BufRead, W: Write>(
     ensures { OnOk result (IsTaken (map string_bytes names.now) session.old session.new
         (B.remaining reader.old) (B.remaining reader.new) (W.contents writer.old) (W.contents writer.new)) }
 {
-    for turn in 0..LINES {
+    for turn in 0..READS {
         let done = take_next(alloc, names, session, reader, writer)?;
         if done {
             return Ok(());

@@ -10,8 +10,7 @@ ghost use Rattle.sha2.specs.Sha256.{sha256};
 ghost use Rattle.ct_monitor_lines.specs.StateText.{maybe_head_data, peaks_data, state_data, check_data, state_text, IsRootHash, ArePeaksOfBytes, IsNoneOrOfBytes, IsOfBytes, peaks_in, peaks_at, head_at, state_in, ReadsState};
 
 use crate::answer::LONGEST;
-use crate::fault::UnreadState;
-use ct_lines::{bytes_value, fields, hashes_value};
+use ct_lines::{bytes_value, fields, hashes_value, line_value};
 use ct_monitor::{Peaks, Watcher};
 use ct_tree::{Head, Sha256Hash};
 use serde_json::{Value, json};
@@ -225,12 +224,8 @@ pub(crate) fn read_state(
 ) -> Result<Option<Watcher<Sha256Hash>>, AllocError>
     ensures { IfOk result (λ o. ReadsState line.now o) }
 {
-    let is_long = line.len() > LONGEST;
-    if is_long {
-        return Ok(None);
-    }
-    match Value::from_slice(alloc, line) {
-        Ok(value) => state_of(alloc, line, &value),
-        Err(error) => UnreadState::from(error).state,
+    match line_value(alloc, LONGEST, line)? {
+        Some(value) => state_of(alloc, line, &value),
+        None => Ok(None),
     }
 }

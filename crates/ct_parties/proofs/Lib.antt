@@ -1,4 +1,3 @@
-pub mod LineLemmas
 pub mod ClosingLemmas
 pub mod TurnLemmas
 pub mod OperatorLemmas

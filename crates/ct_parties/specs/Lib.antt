@@ -1,4 +1,3 @@
-pub mod Lines
 pub mod Tasks
 pub mod InTurn
 pub mod Serving

@@ -22,7 +22,7 @@ mod waiting;
 pub use closing::close;
 pub use fault::Fault;
 pub use front_work::do_front_task;
-pub use operator_work::do_operator_task;
+pub use operator_work::{BATCH, do_operator_task};
 pub use options::Options;
 pub use serving::{Party, Sink, Source, serve_all};
 pub use task::{OperatorTask, Task, line_task};

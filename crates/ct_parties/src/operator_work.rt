@@ -16,8 +16,8 @@ use std::alloc::{AllocError, Global};
 use std::sync::Wait;
 use std::thread::Threads;
 
-// How many items are settled at once.
-const BATCH: u64 = 256;
+/// How many items are settled at once.
+pub const BATCH: u64 = 256;
 
 // For how many items the operator waits at most before it looks whether there are any: to sleep once more costs more than to settle
 // one.

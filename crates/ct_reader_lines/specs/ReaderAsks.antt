@@ -1,9 +1,9 @@
 -- What a line asks of a reader of a log's tiles.
-use Rattle.std.specs.Prelude.{◌≡◌, ◌⊎◌, ◌≤◌, ℕ, List, length, map, Option, Some, None, option_map, option_and_then, codes}
-use Rattle.std.specs.Str.{IsUtf8}
+use Rattle.std.specs.Prelude.{◌≡◌, ℕ, List, map, Option, Some, None, option_map, option_and_then, codes}
+use Rattle.core.specs.Option.{option_map_or}
 use Rattle.serde_json.specs.Data.{Data}
-use Rattle.serde_json.specs.Read.{read}
 use Rattle.ct_lines.specs.Fields.{number_at, bytes_list_at}
+use Rattle.ct_lines.specs.Values.{value_of_line}
 use Rattle.ct_reader_lines.specs.declared.request.Reading.{Reading}
 use Rattle.ct_reader_lines.specs.declared.request.Reading.TheVariants.{Root, Path, Proof}
 use Rattle.ct_reader_lines.specs.declared.request.Request.{Request}
@@ -57,7 +57,6 @@ reader_asked_in d =
     (reader_ask_or (tiles_ask (root_under (codes "needs_root") d))
     (reader_ask_or (hashes_ask (root_under (codes "root") d) d) for_no_reading)))))
 
--- the line asks for this: it has at most 2^26 bytes, is UTF-8, and is JSON that asks for it; or it asks for nothing that there is
+-- the line asks for this: what the JSON value that it is, of at most 2^26 bytes, asks for; or nothing that there is
 abbrev pub AsksReader : List ℕ → ReaderAsk → Type 0
-AsksReader line a = ((length line ≤ 67108864) × IsUtf8 line × ((d : Data) × (read line ≡ Some d) × (a ≡ reader_asked_in d)))
-    ⊎ ((a ≡ for_no_reading) × (length line ≤ 67108864 → IsUtf8 line → (d : Data) → read line ≡ Some d → ⊥))
+AsksReader line a = a ≡ option_map_or reader_asked_in (value_of_line 67108864 line) for_no_reading

@@ -2,18 +2,14 @@
 
 ghost use Rattle.std.specs.Prelude.{◌≡◌, MatchResult};
 ghost use Rattle.std.specs.IoError.{error_kind};
-ghost use Rattle.serde_json.specs.Errors.{IsMemory};
 ghost use Rattle.ct_tile_reader.specs.declared.handed.HandedFault.TheVariants.{Memory as HandedMemory};
 ghost use Rattle.ct_reader_lines.specs.ReaderAnswers.{RefusesHanded};
-ghost use Rattle.ct_reader_lines.specs.ReaderAsks.{reader_ask_of, for_no_reading};
 ghost use Rattle.ct_reader_lines.specs.ReaderOptions.{IsReaderInputFault, reader_fault_line};
 ghost use Rattle.ct_reader_lines.specs.declared.fault.Fault.TheVariants.{Memory, Write};
 
 use crate::answering::Refusal;
-use crate::request::Request;
 use ct_lines::Unwritten;
 use ct_tile_reader::HandedFault;
-use serde_json::Error;
 use std::alloc::AllocError;
 use std::io;
 
@@ -68,25 +64,6 @@ impl From<io::Error> for Fault {
             io::ErrorKind::OutOfMemory => Fault::Memory,
             _ => Fault::Read,
         }
-    }
-}
-
-// Of a line that isn't read as JSON: it asks for nothing, unless a growth was refused.
-#[derive(Drop)]
-pub(crate) struct Unread {
-    pub(crate) request: Result<Request, AllocError>,
-}
-
-impl From<Error> for Unread {
-    ghost from_gives = { λ error unread. MatchResult unread.request (λ r. (reader_ask_of r ≡ for_no_reading) × (IsMemory error → ⊥)) (λ _. IsMemory error) };
-
-    fn from(error: Error) -> Unread {
-        let request = if error.is_memory() {
-            Err(AllocError)
-        } else {
-            Ok(Request::Other)
-        };
-        Unread { request }
     }
 }
 

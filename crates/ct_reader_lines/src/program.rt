@@ -12,7 +12,7 @@ use crate::command::{Command, command_of};
 use crate::fault::Fault;
 use crate::replies::{is_bad, reply_line};
 use crate::request::{LONGEST, read_request};
-use ct_lines::{next_line, send, tell};
+use ct_lines::{READS, next_line, send, tell};
 use std::alloc::{AllocError, Global};
 use std::io::{BufRead, BufReader, Read, Write};
 
@@ -21,9 +21,6 @@ const USAGE: &str = "usage: ctproof < lines > replies\n";
 
 // The version of the programs (include/wagtenib.pc.in).
 const VERSION: &str = "ctproof 0.1.0\n";
-
-// How many lines are read at most, so that the loop ends.
-const LINES: u64 = 1 << 50;
 
 // How many bytes of a line are kept, its end among them: two more than the longest has.
 const KEPT: usize = LONGEST + 2;
@@ -80,7 +77,7 @@ fn take_lines<B: BufRead, W: Write>(
     ensures { OnOk result (AllRead bad.old bad.new (B.remaining input.old) (W.contents writer.old) (W.contents writer.new)) }
 {
     let mut line = Vec::new(alloc);
-    for turn in 0..LINES {
+    for turn in 0..READS {
         let done = take_next(alloc, bad, input, &mut line, writer)?;
         if done {
             return Ok(());

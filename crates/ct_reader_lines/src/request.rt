@@ -4,8 +4,7 @@ ghost use Rattle.std.specs.Prelude.{◌≡◌, IfOk, option_map};
 ghost use Rattle.serde_json.specs.View.{view};
 ghost use Rattle.ct_reader_lines.specs.ReaderAsks.{reader_ask_of, root_under, path_under, proof_under, hashes_ask, reader_asked_in, AsksReader};
 
-use crate::fault::Unread;
-use ct_lines::fields;
+use ct_lines::{fields, line_value};
 use serde_json::Value;
 use std::alloc::{AllocError, Global};
 
@@ -106,11 +105,8 @@ fn request_of(alloc: Global, value: &Value) -> Result<Request, AllocError>
 pub(crate) fn read_request(alloc: Global, line: &[u8]) -> Result<Request, AllocError>
     ensures { IfOk result (λ r. AsksReader line.now (reader_ask_of r)) }
 {
-    if line.len() > LONGEST {
-        return Ok(Request::Other);
-    }
-    match Value::from_slice(alloc, line) {
-        Ok(value) => request_of(alloc, &value),
-        Err(error) => Unread::from(error).request,
+    match line_value(alloc, LONGEST, line)? {
+        Some(value) => request_of(alloc, &value),
+        None => Ok(Request::Other),
     }
 }

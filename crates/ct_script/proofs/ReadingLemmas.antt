@@ -6,16 +6,16 @@ use Rattle.std.specs.Prelude.{nat_lt, IfSome}
 use Rattle.std.specs.List.{AllByRecursion, filter_map}
 use Rattle.std.specs.Io.BufRead.{drop_through, first_piece}
 use Rattle.ct_lines.specs.Asked.{Asked, by_front, by_frozen, by_operator, publish, sequence, shift, shutdown}
-use Rattle.ct_lines.specs.Lines.{kept_line, IsFirstLine, TakesNext}
+use Rattle.ct_lines.specs.Lines.{kept_line, lines_of, IsFirstLine, TakesNext}
+use Rattle.ct_lines.proofs.Asking.{request_fits}
 use Rattle.ct_lines.proofs.KeptLines.{whole_or_long}
-use Rattle.ct_parties.specs.Lines.{lines_of}
 use Rattle.ct_script.specs.Output.{AreStepsOf}
 use Rattle.ct_script.specs.Plans.{GivesOut, IsPlanOf, LineTaken}
 use Rattle.ct_parties.specs.Tasks.{Step, does, for_front, for_operator, step_of, AsksFor}
 use Rattle.ct_script.specs.Steps.{frozen_line, AllAskFor, AreWhole, IsWholeLine}
 use Rattle.ct_parties.specs.declared.task.OperatorTask.TheVariants.{Sequence, BadLine}
 use Rattle.ct_script.specs.declared.plan.Plan.{Plan}
-use Rattle.ct_parties.proofs.LineLemmas.{first_line_cut}
+use Rattle.ct_lines.proofs.LinesOf.{first_line_cut}
 
 -- the tasks so far, and what is left, are the input's
 abbrev pub LeadsTo : ℕ → List ℕ → List Step → List ℕ → Type 0
@@ -40,8 +40,8 @@ asked_nothing fronts (b ∷ bs) none = absurd (omega arith)
 
 -- a line that is too long for a request asks what any other such line asks
 asks_long : (fronts : ℕ) (a b : List ℕ) (s : Step) → 1048576 < length a → 1048576 < length b → AsksFor fronts a s → AsksFor fronts b s
-asks_long fronts a b s long_a long_b (inl (r, is, e)) = absurd (omega (arith, long_a, is.fits))
-asks_long fronts a b s long_a long_b (inr (bad, none)) = inr (bad, λ r is. omega (arith, long_b, is.fits))
+asks_long fronts a b s long_a long_b (inl (r, is, e)) = absurd (omega (arith, long_a, request_fits a r is))
+asks_long fronts a b s long_a long_b (inr (bad, none)) = inr (bad, λ r is. omega (arith, long_b, request_fits b r is))
 
 asks_alike : (fronts : ℕ) (a b : List ℕ) (ss : List Step) → 1048576 < length a → 1048576 < length b → AllAskFor fronts (a ∷ []) ss
     → AllAskFor fronts (b ∷ []) ss

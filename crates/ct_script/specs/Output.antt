@@ -15,7 +15,7 @@ use Rattle.ct_parties.specs.declared.fault.Fault.TheVariants.{Memory, Read, Writ
 use Rattle.ct_script.specs.declared.party.Shift.{Shift}
 use Rattle.ct_script.specs.declared.party.Work.{Work}
 use Rattle.ct_parties.specs.ClosedLog.{Closes, IsClosingFault}
-use Rattle.ct_parties.specs.Lines.{lines_of}
+use Rattle.ct_lines.specs.Lines.{lines_of}
 use Rattle.ct_parties.specs.Tasks.{Step}
 use Rattle.ct_script.specs.Steps.{AllAskFor, IsWholeLine, frozen_lines}
 use Rattle.ct_script.specs.Plans.{AreShiftsOf}

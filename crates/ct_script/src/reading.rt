@@ -7,13 +7,10 @@ ghost use Rattle.ct_parties.specs.Tasks.{Step};
 ghost use Rattle.ct_script.specs.Steps.{AreWhole};
 
 use crate::plan::Plan;
-use ct_lines::{REQUEST_KEPT, next_line};
+use ct_lines::{READS, REQUEST_KEPT, next_line};
 use ct_parties::Fault;
 use std::alloc::Global;
 use std::io::{BufRead, BufReader, Read};
-
-// How many lines are read at most, so that the loop ends.
-const LINES: u64 = 1 << 50;
 
 // How many bytes are asked of the reader at a time.
 const CAPACITY: usize = 65_536;
@@ -48,7 +45,7 @@ fn give_out<R: BufRead>(alloc: Global, fronts: u16, input: &mut R) -> Result<Pla
 {
     let mut plan = Plan::new(alloc, fronts)?;
     let mut buffer = Vec::new(alloc);
-    for turn in 0..LINES {
+    for turn in 0..READS {
         let done = take_line(alloc, fronts, input, &mut buffer, &mut plan)?;
         if done {
             return Ok(plan);

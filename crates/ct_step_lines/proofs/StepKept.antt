@@ -1,12 +1,14 @@
 -- What a line gives, and that a line of which a beginning is kept gives what that beginning gives.
-use Rattle.std.proofs.Common.{◌≡◌, ◌∙◌, ◌<◌, ◌||◌, ℕ, List, [], ◌∷◌, length, Bool, true, false, sym, refl, subst, arith, inl, inr, Some, None, Option}
+use Rattle.std.proofs.Common.{◌≡◌, ◌∙◌, ◌<◌, ◌||◌, ℕ, List, [], ◌∷◌, length, Bool, true, false, sym, refl, ap, subst, arith, inl, inr, Some, None, Option}
 use Rattle.std.proofs.lemmas.Bool.{eqb-true}
 use Rattle.std.specs.Prelude.{◌==◌, Result, Ok, Err, Vec, IfOk}
+use Rattle.core.specs.Option.{option_map_or}
 use Rattle.std.specs.Global.{Global}
 use Rattle.std.specs.Io.BufRead.{first_piece}
 use Rattle.ct_lines.specs.Lines.{kept_line, TakesNext}
 use Rattle.ct_lines.proofs.KeptLines.{whole_or_long}
-use Rattle.ct_step_lines.specs.StepAsks.{StepAsk, AsksStep}
+use Rattle.ct_lines.proofs.Values.{value_long}
+use Rattle.ct_step_lines.specs.StepAsks.{StepAsk, for_no_step, step_asked_in, AsksStep}
 use Rattle.ct_step_lines.specs.StepAnswers.{IsReplyTo}
 use Rattle.ct_step_lines.specs.StepWords.{StepReply, step_reply_data, step_line}
 use Rattle.ct_step_lines.specs.StepSession.{LineGiven, IsLineAnswered, GivesReply, GivesText, KeepsStepLine, GetsStepLine, IsReplyText, is_no_step}
@@ -56,8 +58,8 @@ gives_none origin before (b ∷ bs) text e is empty nil =
 -- ---- a line that is too long
 
 long_asks : (a b : List ℕ) (ask : StepAsk) → 67108864 < length a → 67108864 < length b → AsksStep a ask → AsksStep b ask
-long_asks a b ask long_a long_b (inl is) = absurd (omega (arith, long_a, is.0))
-long_asks a b ask long_a long_b (inr none) = inr (none.0, λ fits. absurd (omega (arith, long_b, fits)))
+long_asks a b ask long_a long_b is =
+    is ∙ ap (λ o. option_map_or step_asked_in o for_no_step) (sym (value_long 67108864 a long_a) ∙ value_long 67108864 b long_b)
 
 long_gives : (origin : Option (List ℕ)) (a b : List ℕ) (given : LineGiven) → 67108864 < length a → 67108864 < length b → GivesReply origin a given
     → GivesReply origin b given

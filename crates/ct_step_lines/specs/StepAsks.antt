@@ -1,12 +1,12 @@
 -- What a line asks of a step.
-use Rattle.std.specs.Prelude.{◌≡◌, ◌⊎◌, ◌≤◌, ℕ, List, [], ◌∷◌, length, map, nat_lt, if◌then◌else◌, Option, Some, None, option_map, option_and_then, codes}
+use Rattle.std.specs.Prelude.{◌≡◌, ℕ, List, [], ◌∷◌, length, map, nat_lt, if◌then◌else◌, Option, Some, None, option_map, option_and_then, codes}
 use Rattle.std.specs.Result.{result_ok}
-use Rattle.std.specs.Str.{IsUtf8}
+use Rattle.core.specs.Option.{option_map_or}
 use Rattle.serde_json.specs.Data.{Data, Items, no_items, item}
 use Rattle.serde_json.specs.Find.{get, as_array}
-use Rattle.serde_json.specs.Read.{read}
 use Rattle.ct_codec.specs.Submitted.{Submitted, x509, precert, refusal_of, admitted}
 use Rattle.ct_lines.specs.Fields.{text_at, number_at, bytes_at, bytes_list_at, hash_at, hashes_at}
+use Rattle.ct_lines.specs.Values.{value_of_line}
 use Rattle.ct_repeats.specs.declared.claim.Claim.{Claim}
 use Rattle.ct_step_lines.specs.declared.entry.Entry.{Entry}
 use Rattle.ct_step_lines.specs.declared.request.Request.{Request}
@@ -134,7 +134,6 @@ abbrev pub step_asked_in : Data → StepAsk
 step_asked_in d =
     ask_or_no_step (first_or (begin_ask d) (first_or (needs_ask d) (first_or (step_ask d) (first_or (resume_ask d) (claim_ask d)))))
 
--- the line asks for this: it has at most 2^26 bytes, is UTF-8, and is JSON that asks for it; or it asks for nothing that there is
+-- the line asks for this: what the JSON value that it is, of at most 2^26 bytes, asks for; or nothing that there is
 abbrev pub AsksStep : List ℕ → StepAsk → Type 0
-AsksStep line a = ((length line ≤ 67108864) × IsUtf8 line × ((d : Data) × (read line ≡ Some d) × (a ≡ step_asked_in d)))
-    ⊎ ((a ≡ for_no_step) × (length line ≤ 67108864 → IsUtf8 line → (d : Data) → read line ≡ Some d → ⊥))
+AsksStep line a = a ≡ option_map_or step_asked_in (value_of_line 67108864 line) for_no_step

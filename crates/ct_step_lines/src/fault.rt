@@ -9,14 +9,11 @@ ghost use Rattle.ct_growth.specs.declared.growth.GrowthFault.TheVariants.{Refuse
 ghost use Rattle.ct_repeats.specs.declared.claim.ClaimFault.TheVariants.{Refused as ClaimRefused};
 ghost use Rattle.ct_step.specs.declared.step.StepFault.TheVariants.{Growth};
 ghost use Rattle.ct_tile_names.specs.declared.tile.NameFault.TheVariants.{NoSuchTile, Memory as NameMemory};
-ghost use Rattle.serde_json.specs.Errors.{IsMemory};
-ghost use Rattle.ct_step_lines.specs.StepAsks.{step_ask_of, for_no_step};
 ghost use Rattle.ct_step_lines.specs.StepAnswers.{NamesStepFault};
 ghost use Rattle.ct_step_lines.specs.StepFaults.{IsStepInputFault, step_fault_line};
 ghost use Rattle.ct_step_lines.specs.declared.fault.Fault.TheVariants.{Memory, Write};
 
 use crate::replies::StepRefusal;
-use crate::request::Request;
 use ct_bundles::ResumeFault;
 use ct_codec::Refusal;
 use ct_growth::GrowthFault;
@@ -24,7 +21,6 @@ use ct_lines::Unwritten;
 use ct_repeats::ClaimFault;
 use ct_step::StepFault;
 use ct_tile_names::NameFault;
-use serde_json::Error;
 use std::alloc::AllocError;
 use std::io;
 
@@ -79,25 +75,6 @@ impl From<io::Error> for Fault {
             io::ErrorKind::OutOfMemory => Fault::Memory,
             _ => Fault::Read,
         }
-    }
-}
-
-// Of a line that isn't read as JSON: it asks for nothing, unless a growth was refused.
-#[derive(Drop)]
-pub(crate) struct Unread {
-    pub(crate) request: Result<Request, AllocError>,
-}
-
-impl From<Error> for Unread {
-    ghost from_gives = { λ error unread. MatchResult unread.request (λ r. (step_ask_of r ≡ for_no_step) × (IsMemory error → ⊥)) (λ _. IsMemory error) };
-
-    fn from(error: Error) -> Unread {
-        let request = if error.is_memory() {
-            Err(AllocError)
-        } else {
-            Ok(Request::Other)
-        };
-        Unread { request }
     }
 }
 

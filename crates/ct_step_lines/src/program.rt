@@ -14,7 +14,7 @@ use crate::fault::Fault;
 use crate::replies::StepRefusal;
 use crate::request::{LONGEST, Request, read_request};
 use crate::stepping::reply_line;
-use ct_lines::{next_line, send, tell};
+use ct_lines::{READS, next_line, send, tell};
 use std::alloc::{AllocError, Global};
 use std::io::{BufRead, BufReader, Read, Write};
 
@@ -23,9 +23,6 @@ const USAGE: &str = "usage: cttile [--origin TEXT] < lines > replies\n";
 
 // The version of the programs (include/wagtenib.pc.in).
 const VERSION: &str = "cttile 0.1.0\n";
-
-// How many lines are read at most, so that the loop ends.
-const LINES: u64 = 1 << 50;
 
 // How many bytes of a line are kept, its end among them: two more than the longest has.
 const KEPT: usize = LONGEST + 2;
@@ -99,7 +96,7 @@ fn take_lines<B: BufRead, W: Write>(
         (B.remaining input.old) (W.contents writer.old) (W.contents writer.new)) }
 {
     let mut line = Vec::new(alloc);
-    for turn in 0..LINES {
+    for turn in 0..READS {
         let done = take_next(alloc, origin, bad, input, &mut line, writer)?;
         if done {
             return Ok(());

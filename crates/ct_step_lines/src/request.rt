@@ -8,9 +8,8 @@ ghost use Rattle.ct_step.specs.Entries.{AreShort};
 ghost use Rattle.ct_step_lines.specs.StepAsks.{entry_parts, step_ask_of, chain_hashes_at, certificate_at, precertificate_at, first_or, submitted_in, submission_in, batch_of_items, batch_at, step_of_batch, begin_ask, needs_ask, step_ask, resume_ask, claim_in, claim_at, submitted_at, claim_ask, step_asked_in, AsksStep};
 
 use crate::entry::Entry;
-use crate::fault::Unread;
 use ct_codec::Submission;
-use ct_lines::fields;
+use ct_lines::{fields, line_value};
 use ct_repeats::Claim;
 use serde_json::Value;
 use std::alloc::{AllocError, Global};
@@ -282,11 +281,8 @@ fn request_of(alloc: Global, value: &Value) -> Result<Request, AllocError>
 pub(crate) fn read_request(alloc: Global, line: &[u8]) -> Result<Request, AllocError>
     ensures { IfOk result (λ r. AsksStep line.now (step_ask_of r)) }
 {
-    if line.len() > LONGEST {
-        return Ok(Request::Other);
-    }
-    match Value::from_slice(alloc, line) {
-        Ok(value) => request_of(alloc, &value),
-        Err(error) => Unread::from(error).request,
+    match line_value(alloc, LONGEST, line)? {
+        Some(value) => request_of(alloc, &value),
+        None => Ok(Request::Other),
     }
 }

@@ -23,7 +23,7 @@ mod program;
 use ct_command::{Program, refuse_words, report, texts};
 use ct_live::{Breaker, ReadAhead, TURNS, read_ahead};
 use ct_parties::Fault;
-use program::{Ended, run};
+use program::{RunEnd, run};
 use std::alloc::{AllocError, Global};
 use std::io;
 use std::io::{Read, Write};
@@ -46,7 +46,7 @@ fn run_words<H: Threads + Wait + Sync, I: Read + Drop + Send, W: Write + Drop + 
     input: I,
     output: W,
     faults: &mut E,
-) -> Ended<W>
+) -> RunEnd<W>
     ensures status { result.status ≤ 2 }
     ensures done { result.status ≡ 0
         → IsLiveDone (asked_of (name_of Program.Ctlogd) words.now) (I.remaining input) (W.contents output) (W.contents result.output) }
@@ -60,7 +60,7 @@ fn run_words<H: Threads + Wait + Sync, I: Read + Drop + Send, W: Write + Drop + 
         Ok(texts) => run(rt, alloc, &texts, TURNS, breaker, input, output, faults),
         Err(error) => {
             let status = report(Program::Ctlogd, Fault::from(error), faults);
-            Ended { status, output }
+            RunEnd { status, output }
         }
     }
 }

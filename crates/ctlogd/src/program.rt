@@ -19,7 +19,7 @@ use std::thread::Threads;
 
 /// A run that has ended: its exit status, and its output.
 #[derive(Drop)]
-pub struct Ended<W: Write + Drop> {
+pub struct RunEnd<W: Write + Drop> {
     pub status: u8,
     pub output: W,
 }
@@ -34,7 +34,7 @@ fn serve<H: Threads + Wait + Sync, I: Read + Drop + Send, W: Write + Drop + Send
     input: I,
     output: W,
     faults: &mut E,
-) -> Ended<W>
+) -> RunEnd<W>
     ensures status { result.status ≤ 1 }
     ensures done { result.status ≡ 0 → IsServedLive options.fronts options.ring options.open_at options.close_at (I.remaining input)
         (W.contents output) (W.contents result.output) }
@@ -47,10 +47,10 @@ fn serve<H: Threads + Wait + Sync, I: Read + Drop + Send, W: Write + Drop + Send
 {
     let Served { output, result } = serve_live(rt, alloc, options, turns, breaker, input, output);
     match result {
-        Ok(()) => Ended { status: 0, output },
+        Ok(()) => RunEnd { status: 0, output },
         Err(fault) => {
             let status = report(Program::Ctlogd, fault, faults);
-            Ended { status, output }
+            RunEnd { status, output }
         }
     }
 }
@@ -76,7 +76,7 @@ pub fn run<'a, H: Threads + Wait + Sync, I: Read + Drop + Send, W: Write + Drop 
     input: I,
     output: W,
     faults: &mut E,
-) -> Ended<W>
+) -> RunEnd<W>
     ensures status { result.status ≤ 2 }
     ensures done { result.status ≡ 0
         → IsLiveDone (asked_for (name_of Program.Ctlogd) words.now) (I.remaining input) (W.contents output) (W.contents result.output) }
@@ -91,7 +91,7 @@ pub fn run<'a, H: Threads + Wait + Sync, I: Read + Drop + Send, W: Write + Drop 
         Err(error) => {
             let mut output = output;
             let status = answer_command_line(alloc, Program::Ctlogd, &error, &mut output, faults);
-            Ended { status, output }
+            RunEnd { status, output }
         }
     }
 }

@@ -3,7 +3,7 @@
 ghost use Rattle.std.specs.Prelude.{◌≡◌, ◌<◌, ◌≤◌, [], ◌∷◌, ◌++◌, length, slice_index_or, OnOk, OnErr, IfOk};
 ghost use Rattle.shared.specs.Flat.{concatenated, AllOf};
 
-use crate::chunk::{Chunk, SIZE};
+use crate::chunk::{CHUNK, Chunk};
 use crate::count::one_more;
 use crate::parts::Parts;
 use crate::share::{Share, share_all};
@@ -42,7 +42,7 @@ fn make_room<T: Share>(
     ensures short { length last.new.items ≤ 128 }
     ensures room { OnOk result (length last.new.items < 128) }
 {
-    if last.len() < SIZE {
+    if last.len() < CHUNK {
         return Ok(());
     }
     let chunk = Chunk::of(alloc, last)?;
@@ -72,12 +72,12 @@ impl<T> Chunked<T> {
         requires { index < length self.now }
         ensures { result.now ≡ slice_index_or self.now index result.now }
     {
-        let chunk = index / SIZE;
+        let chunk = index / CHUNK;
         let full = self.full.values();
         if chunk < full.len() {
-            full[chunk].at(index % SIZE)
+            full[chunk].at(index % CHUNK)
         } else {
-            &self.last[index % SIZE]
+            &self.last[index % CHUNK]
         }
     }
 }
@@ -98,7 +98,7 @@ impl<T: Share> Chunked<T> {
         ensures { IfOk result (λ r. r ≡ self.now) }
     {
         let full = self.full.share()?;
-        let mut last = Vec::with_capacity(alloc, SIZE)?;
+        let mut last = Vec::with_capacity(alloc, CHUNK)?;
         share_all(&self.last, &mut last)?;
         Ok(Chunked {
             full,

@@ -14,7 +14,7 @@ use std::alloc::{AllocError, Global};
 use std::marker::Model;
 
 // The number of values in a block.
-const SIZE: usize = 16384;
+const BLOCK: usize = 16384;
 
 /// A list that only grows, and whose copies share what they have in common with it. Contracts see the plain list.
 ///
@@ -51,10 +51,10 @@ fn make_room<T: Share>(
     ensures short { length row.new ≤ 16384 }
     ensures room { OnOk result (length row.new < 16384) }
 {
-    if row.len() < SIZE {
+    if row.len() < BLOCK {
         return Ok(());
     }
-    let mut values = Vec::with_capacity(alloc, SIZE)?;
+    let mut values = Vec::with_capacity(alloc, BLOCK)?;
     row.share_into(&mut values)?;
     let block = Chunk::new(alloc, values)?;
     blocks.push(alloc, block)?;
@@ -86,12 +86,12 @@ impl<T> SharedList<T> {
         requires { index < length self.now }
         ensures { result.now ≡ slice_index_or self.now index result.now }
     {
-        let block = index / SIZE;
+        let block = index / BLOCK;
         let blocks = self.blocks.values();
         if block < blocks.len() {
-            blocks[block].at(index % SIZE)
+            blocks[block].at(index % BLOCK)
         } else {
-            self.row.at(index % SIZE)
+            self.row.at(index % BLOCK)
         }
     }
 

@@ -81,7 +81,7 @@ impl<'a> Sink<u64> for Outbox<'a> {
 
 /// The ends of a party's rings as it left them, and whether that was before its time.
 #[derive(Drop)]
-pub struct Answered<T: Drop> {
+pub struct PartyEnd<T: Drop> {
     pub tasks: Consumer<Numbered<T>>,
     pub answers: Producer<Vec<u8>>,
     pub result: Result<(), ThreadFault>,
@@ -99,7 +99,7 @@ pub fn answer_all<T: Drop, P: Party<T>, R: Threads + Wait + Sync>(
     party: &mut P,
     tasks: Consumer<Numbered<T>>,
     answers: Producer<Vec<u8>>,
-) -> Answered<T>
+) -> PartyEnd<T>
     ensures answered { OnOk result.result (AnswersMore P.does party.old party.new
         (received tasks) (received result.tasks) (sent answers) (sent result.answers)) }
     ensures none_left { OnOk result.result (known_items result.tasks ≡ []) }
@@ -123,7 +123,7 @@ pub fn answer_all<T: Drop, P: Party<T>, R: Threads + Wait + Sync>(
         Ok(()) => parkers.end_party(),
         Err(_) => parkers.stop(),
     }
-    Answered {
+    PartyEnd {
         tasks: inbox.tasks,
         answers: outbox.answers,
         result,

@@ -3,7 +3,7 @@
 ghost use Rattle.std.specs.Prelude.{◌≡◌, ◌<◌, ◌+◌, ◌++◌, ◌∷◌, [], length, map, IfErr, IfOk, Ok, Err, OnOk, Some, None, ◌⊎◌, vec_len, vec_capacity};
 ghost use Rattle.ct_live.specs.Working.{Works, WorksSome, AreJoinedOf, HasRoom};
 
-use crate::pipes::answering::{Answered, Numbered, answer_all};
+use crate::pipes::answering::{Numbered, PartyEnd, answer_all};
 use crate::pipes::fault::ThreadFault;
 use crate::pipes::parkers::Parkers;
 use ct_parties::{Fault, Party, Waiting};
@@ -48,7 +48,7 @@ fn work<T: Drop, P: Party<T> + Drop, R: Threads + Wait + Sync>(
         tasks,
         answers,
     } = worker;
-    let Answered {
+    let PartyEnd {
         tasks,
         answers,
         result,
@@ -150,25 +150,25 @@ pub fn start_workers<
 
 /// The parties and the ends of their rings, as their threads handed them back, and why one ended before its time.
 #[derive(Drop)]
-pub struct Joined<P: Drop, T: Drop> {
+pub struct JoinedParties<P: Drop, T: Drop> {
     pub parties: Vec<P>,
     pub tasks: Vec<Consumer<Numbered<T>>>,
     pub answers: Vec<Producer<Vec<u8>>>,
     pub fault: Option<ThreadFault>,
 }
 
-impl<P: Drop, T: Drop> Joined<P, T> {
+impl<P: Drop, T: Drop> JoinedParties<P, T> {
     /// Nothing yet, with room for what so many parties hand back, and for the end of one more ring of answers.
     ///
     /// # Errors
     ///
     /// `AllocError`, where the room is refused.
-    pub fn with_room(alloc: Global, count: u16) -> Result<Joined<P, T>, AllocError>
+    pub fn with_room(alloc: Global, count: u16) -> Result<JoinedParties<P, T>, AllocError>
         ensures room { IfOk result (λ j. HasRoom count j) }
         ensures empty { IfOk result (λ j. (j.parties.items ≡ []) × (j.tasks.items ≡ []) × (j.answers.items ≡ []) × (j.fault ≡ None)) }
     {
         let count = count as usize;
-        Ok(Joined {
+        Ok(JoinedParties {
             parties: Vec::with_capacity(alloc, count)?,
             tasks: Vec::with_capacity(alloc, count)?,
             answers: Vec::with_capacity(alloc, count + 1)?,
@@ -199,8 +199,8 @@ fn fault_with(before: Option<ThreadFault>, ended: Result<(), ThreadFault>) -> Op
 pub fn join_workers<T: Drop + Send, P: Party<T> + Drop + Send, R: Threads>(
     rt: &R,
     threads: Vec<WorkerThread<P, T>>,
-    room: Joined<P, T>,
-) -> Joined<P, T>
+    room: JoinedParties<P, T>,
+) -> JoinedParties<P, T>
     requires room { HasRoom (length threads.items) room }
     requires empty { (room.parties.items ≡ []) × (room.tasks.items ≡ []) × (room.answers.items ≡ []) × (room.fault ≡ None) }
     ensures joined { AreJoinedOf P.does (map (λ t. t.promise.0.value) threads.items) result }

@@ -1,10 +1,10 @@
--- Lines read one by one.
+-- The lines of an input, one by one.
 use Rattle.std.proofs.Common.{◌≡◌, ◌<◌, ◌==◌, ℕ, suc, List, [], ◌∷◌, ◌++◌, length, length-append, take, slice_index, ◌+◌, ◌-◌, Bool, true, false, refl, sym, ap}
 use Rattle.std.proofs.Common.{◌∙◌, arith, append_assoc, append-nil}
 use Rattle.std.proofs.lemmas.Bool.{lt-ltb}
 use Rattle.std.specs.Prelude.{◌&&◌, if◌then◌else◌}
 use Rattle.std.specs.Io.BufRead.{drop_through, first_piece, strip_last, take_through}
-use Rattle.ct_parties.specs.Lines.{lines_behind, lines_of}
+use Rattle.ct_lines.specs.Lines.{lines_behind, lines_of}
 
 -- bytes of which there are k before the last
 strip_is : (xs : List ℕ) (k : ℕ) → length xs ≡ suc k → strip_last 10 xs ≡ (if slice_index xs k == 10 then take k xs else xs)
