@@ -3,8 +3,7 @@ use Rattle.std.proofs.Common.{◌≡◌, ◌∙◌, ◌==◌, ℕ, List, [], ◌
 use Rattle.std.proofs.lemmas.Bool.{eqb-true}
 use Rattle.std.proofs.lemmas.List.{append_assoc}
 use Rattle.std.proofs.lemmas.List.Elements.{All-nil, All-cons, All-head, All-tail}
-use Rattle.core.specs.Option.{option_map_or}
-use Rattle.std.specs.Prelude.{⊤, option_map, option_and_then}
+use Rattle.std.specs.Prelude.{⊤, option_map, option_and_then, unwrap_or}
 use Rattle.std.specs.Io.BufRead.{first_piece, drop_through}
 use Rattle.serde_json.specs.Data.{Data, Items, no_items, item}
 use Rattle.serde_json.specs.Find.{get, as_array}
@@ -109,7 +108,7 @@ ask_hashes r d =
 line_hashes : (r : Receipts) (line : List ℕ) (a : Ask) → Requests r line a → ProofHashes a
 line_hashes r line a is = subst ProofHashes (sym is) (go (value_of_line 1048576 line))
   where
-    go : (o : Option Data) → ProofHashes (option_map_or (ask_in r) o for_nothing)
+    go : (o : Option Data) → ProofHashes (unwrap_or (option_map (ask_in r) o) for_nothing)
     go None = tt
     go (Some d) = ask_hashes r d
 

@@ -1,8 +1,7 @@
 -- A line of which a beginning is kept gives what that beginning gives.
 use Rattle.std.proofs.Common.{◌≡◌, ◌∙◌, ◌<◌, ℕ, List, [], ◌∷◌, length, Bool, true, false, sym, refl, ap, subst, arith, inl, inr, Some, None, Option}
 use Rattle.std.proofs.lemmas.Bool.{eqb-true}
-use Rattle.core.specs.Option.{option_map_or}
-use Rattle.std.specs.Prelude.{◌==◌}
+use Rattle.std.specs.Prelude.{◌==◌, option_map, unwrap_or}
 use Rattle.std.specs.Io.BufRead.{drop_through, first_piece}
 use Rattle.ct_lines.specs.Lines.{kept_line, IsNextLine}
 use Rattle.ct_lines.proofs.KeptLines.{whole_or_long}
@@ -49,7 +48,7 @@ gives_none s before (b ∷ bs) text e is empty nil =
 
 long_asks : (r : Receipts) (a b : List ℕ) (ask : Ask) → 1048576 < length a → 1048576 < length b → Requests r a ask → Requests r b ask
 long_asks r a b ask long_a long_b is =
-    is ∙ ap (λ o. option_map_or (ask_in r) o for_nothing) (sym (value_long 1048576 a long_a) ∙ value_long 1048576 b long_b)
+    is ∙ ap (λ o. unwrap_or (option_map (ask_in r) o) for_nothing) (sym (value_long 1048576 a long_a) ∙ value_long 1048576 b long_b)
 
 long_steps : (s : GuardOptions) (before : Guarding) (a b : List ℕ) (step : GuardStep) → 1048576 < length a → 1048576 < length b
     → StepsLine s before a step → StepsLine s before b step

@@ -1,6 +1,5 @@
 -- What a line asks of a guard.
-use Rattle.std.specs.Prelude.{◌≡◌, ℕ, List, Option, Some, None, option_map, option_and_then, codes}
-use Rattle.core.specs.Option.{option_map_or}
+use Rattle.std.specs.Prelude.{◌≡◌, ℕ, List, Option, Some, None, option_map, option_and_then, codes, unwrap_or}
 use Rattle.serde_json.specs.Data.{Data}
 use Rattle.serde_json.specs.Find.{get}
 use Rattle.ct_tree.specs.declared.head.Head.{Head}
@@ -67,4 +66,4 @@ ask_in receipts d = ask_or_nothing (no_state_or (get (codes "guard") d) (ask_or 
 
 -- the line asks for this: what the JSON value that it is, of at most 1,048,576 bytes, asks for; or nothing that there is
 abbrev pub Requests : Receipts → List ℕ → Ask → Type 0
-Requests receipts line a = a ≡ option_map_or (ask_in receipts) (value_of_line 1048576 line) for_nothing
+Requests receipts line a = a ≡ unwrap_or (option_map (ask_in receipts) (value_of_line 1048576 line)) for_nothing

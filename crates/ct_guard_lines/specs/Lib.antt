@@ -1,7 +1,6 @@
 pub mod GuardState
 pub mod Asks
 pub mod Given
-pub mod GuardFaults
 pub mod GuardSession
 pub mod GuardHistory
 pub mod GuardWords

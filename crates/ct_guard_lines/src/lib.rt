@@ -7,9 +7,9 @@
 //! - `settings` has what a run is told, and `command` reads it from the words of a command line.
 //! - `request` reads what a line asks for, and `state` reads and writes the state between two runs.
 //! - `guarding` takes one line after the other, and `replies` writes what is answered.
-//! - `fault` names what ends a run before the state is written.
+//! - `fault` has what an error of a crate below says of a run.
 //! - `laws` says what holds of many runs, and of the state's line.
-//! - `program` has `run`, and `answer_words`, which does what the words of a command line ask for.
+//! - `program` has `run`, `answer_words`, which does what the words of a command line ask for, and the text of a fault.
 #![tactic(auto)]
 
 mod command;
@@ -22,6 +22,5 @@ mod request;
 mod settings;
 mod state;
 
-pub use fault::Fault;
-pub use program::{answer_words, run};
+pub use program::{answer_words, fault_text, run};
 pub use settings::{Receipts, Settings};

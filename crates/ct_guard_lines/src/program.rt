@@ -1,19 +1,18 @@
 //! The program over the words of a command line, a reader of lines and a writer of replies.
 
-ghost use Rattle.std.specs.Prelude.{◌≡◌, ◌≢◌, ◌++◌, ◌∷◌, [], IfOk, OnOk, OnErr, map, string_bytes};
+ghost use Rattle.std.specs.Prelude.{◌≡◌, ◌≢◌, ◌++◌, ◌∷◌, [], IfOk, OnOk, OnErr, map, string_bytes, codes};
 ghost use Rattle.std.specs.Io.KnownBytes.{Appends};
 ghost use Rattle.ct_lines.specs.Sends.{SendsSome};
 ghost use Rattle.ct_guard_lines.specs.GuardWords.{guard_asked, IsGuardAnswered};
-ghost use Rattle.ct_guard_lines.specs.GuardFaults.{guard_fault_line};
-ghost use Rattle.ct_guard_lines.specs.declared.fault.Fault.{Fault as FaultOf};
+ghost use Rattle.ct_lines.specs.Faults.{run_fault_line};
+ghost use Rattle.ct_lines.specs.declared.fault.RunFault.{RunFault as FaultOf};
 ghost use Rattle.ct_guard_lines.specs.GuardSession.{options_of, last_head, GuardsFirst, GuardsLine, OneGuarded, GetsLine, IsGuarded, IsAllGuarded, IsGuardRun, IsGuardStatus, guard_status};
 ghost use Rattle.ct_guard_lines.specs.GuardState.{guard_state_text, IsLastValue};
 
 use crate::command::{Command, command_of};
-use crate::fault::Fault;
 use crate::guarding::Guarding;
 use crate::settings::Settings;
-use ct_lines::{NumberedLines, READS, send, tell};
+use ct_lines::{NumberedLines, READS, RunFault, send, tell};
 use std::alloc::Global;
 use std::io::{BufRead, BufReader, Read, Write};
 
@@ -29,7 +28,7 @@ const VERSION: &str = "ctguard 0.1.0\n";
 fn next_line<B: BufRead + Drop>(
     lines: &mut NumberedLines<B>,
     line: &mut Vec<u8>,
-) -> Result<bool, Fault>
+) -> Result<bool, RunFault>
     ensures { IfOk result (λ some. GetsLine some (B.remaining lines.old.input) (B.remaining lines.new.input) line.new.items) }
 {
     match lines.read(line)? {
@@ -46,7 +45,7 @@ fn take_next<B: BufRead + Drop, W: Write>(
     lines: &mut NumberedLines<B>,
     line: &mut Vec<u8>,
     writer: &mut W,
-) -> Result<bool, Fault>
+) -> Result<bool, RunFault>
     ensures { IfOk result (λ done. OneGuarded (GuardsLine (options_of settings.now)) guarding.old guarding.new
         (B.remaining lines.old.input) (B.remaining lines.new.input) (W.contents writer.old) (W.contents writer.new) done) }
 {
@@ -67,7 +66,7 @@ fn take_start<B: BufRead + Drop, W: Write>(
     lines: &mut NumberedLines<B>,
     line: &mut Vec<u8>,
     writer: &mut W,
-) -> Result<bool, Fault>
+) -> Result<bool, RunFault>
     ensures { IfOk result (λ done. OneGuarded (GuardsFirst (options_of settings.now)) guarding.old guarding.new
         (B.remaining lines.old.input) (B.remaining lines.new.input) (W.contents writer.old) (W.contents writer.new) done) }
 {
@@ -88,7 +87,7 @@ fn take_lines<B: BufRead + Drop, W: Write>(
     lines: &mut NumberedLines<B>,
     line: &mut Vec<u8>,
     writer: &mut W,
-) -> Result<(), Fault>
+) -> Result<(), RunFault>
     ensures { OnOk result (IsGuarded (options_of settings.now) guarding.old guarding.new
         (B.remaining lines.old.input) (W.contents writer.old) (W.contents writer.new)) }
 {
@@ -98,7 +97,7 @@ fn take_lines<B: BufRead + Drop, W: Write>(
             return Ok(());
         }
     }
-    Err(Fault::Read)
+    Err(RunFault::Read)
 }
 
 // Takes all lines, of which the first may be a state.
@@ -108,7 +107,7 @@ fn take_all<B: BufRead + Drop, W: Write>(
     guarding: &mut Guarding,
     input: B,
     writer: &mut W,
-) -> Result<(), Fault>
+) -> Result<(), RunFault>
     ensures { OnOk result (IsAllGuarded (options_of settings.now) guarding.old guarding.new
         (B.remaining input) (W.contents writer.old) (W.contents writer.new)) }
 {
@@ -123,7 +122,7 @@ fn take_all<B: BufRead + Drop, W: Write>(
 }
 
 // Writes the state as the last line, and answers the exit status.
-fn finish<W: Write>(alloc: Global, guarding: &Guarding, writer: &mut W) -> Result<u8, Fault>
+fn finish<W: Write>(alloc: Global, guarding: &Guarding, writer: &mut W) -> Result<u8, RunFault>
     ensures status { IfOk result (λ status. status ≡ guard_status guarding.now) }
     ensures written { OnOk result (Appends (W.contents writer.old) (W.contents writer.new) (guard_state_text (last_head guarding.now) ++ 10 ∷ [])) }
     ensures kept { OnOk result (IsLastValue (last_head guarding.now)) }
@@ -145,7 +144,7 @@ pub fn run<B: BufRead + Drop, W: Write>(
     settings: &Settings,
     input: B,
     writer: &mut W,
-) -> Result<u8, Fault>
+) -> Result<u8, RunFault>
     ensures written { IfOk result (λ status. IsGuardRun (options_of settings.now) (B.remaining input) (W.contents writer.old) (W.contents writer.new) status) }
     ensures status { IfOk result (λ status. IsGuardStatus status) }
 {
@@ -161,7 +160,7 @@ fn do_asked<R: Read + Drop, W: Write, E: Write>(
     input: R,
     output: &mut W,
     faults: &mut E,
-) -> Result<u8, Fault>
+) -> Result<u8, RunFault>
     ensures answered { IfOk result (λ status. IsGuardAnswered (guard_asked (map string_bytes words.now)) (R.remaining input)
         (W.contents output.old) (W.contents output.new) (E.contents faults.old) (E.contents faults.new) status) }
     ensures status { IfOk result (λ status. status ≢ 1) }
@@ -187,6 +186,17 @@ fn do_asked<R: Read + Drop, W: Write, E: Write>(
     }
 }
 
+/// What is written of a fault, with the end of the line.
+pub fn fault_text(fault: RunFault) -> &'static str
+    ensures { result.now ≡ run_fault_line (codes "ctguard") fault }
+{
+    match fault {
+        RunFault::Memory => "ctguard: memory\n",
+        RunFault::Read => "ctguard: read\n",
+        RunFault::Write => "ctguard: write\n",
+    }
+}
+
 /// Does what the words of a command line ask for, the program's name left out, and answers the exit status.
 ///
 /// - 0, 4: `run` read the input and wrote its replies, with that status; or, for 0, the words ask for help or the version, which was
@@ -203,12 +213,12 @@ pub fn answer_words<R: Read + Drop, W: Write, E: Write>(
     ensures answered { result ≢ 1 → IsGuardAnswered (guard_asked (map string_bytes words.now)) (R.remaining input)
         (W.contents output.old) (W.contents output.new) (E.contents faults.old) (E.contents faults.new) result }
     ensures fault { result ≡ 1 → (f : FaultOf)
-        × SendsSome (E.contents faults.old) (E.contents faults.new) (guard_fault_line f) }
+        × SendsSome (E.contents faults.old) (E.contents faults.new) (run_fault_line (codes "ctguard") f) }
 {
     match do_asked(alloc, words, input, output, faults) {
         Ok(status) => status,
         Err(fault) => {
-            tell(faults, fault.text().as_bytes());
+            tell(faults, fault_text(fault).as_bytes());
             1
         }
     }

@@ -21,10 +21,12 @@ use Rattle.ct_lines.proofs.Values.{value_is, value_long}
 
 -- a line that is too long asks nothing
 pub too_long : (line : List ℕ) → 1048576 < length line → request_of line ≡ None
+unfolding request_of
 too_long line h = ap (option_and_then asked_in) (sym (value_long 1048576 line h))
 
 -- a request isn't too long
 pub request_fits : (line : List ℕ) (a : Asked) → IsRequest line a → length line ≤ 1048576
+unfolding request_of
 request_fits line a is = go (value_of_line 1048576 line) refl is
   where
     go : (o : Option Data) → value_of_line 1048576 line ≡ o → option_and_then asked_in o ≡ Some a → length line ≤ 1048576

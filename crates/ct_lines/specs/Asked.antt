@@ -150,7 +150,7 @@ abbrev pub asked_in : Data → Option Asked
 asked_in d = option_and_then (λ who. option_and_then (λ op. asked_by who op d) (text_at (codes "op") d)) (who_at d)
 
 -- what a line asks, where it is a request: a JSON value of at most 1,048,576 bytes that asks it
-abbrev pub request_of : List ℕ → Option Asked
+unfoldable pub request_of : List ℕ → Option Asked
 request_of line = option_and_then asked_in (value_of_line 1048576 line)
 
 -- the line is a request that asks this

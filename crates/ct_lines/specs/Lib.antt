@@ -10,3 +10,4 @@ pub mod Sends
 pub mod Progress
 pub mod Laws
 pub mod Lines
+pub mod Faults

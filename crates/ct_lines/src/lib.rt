@@ -5,7 +5,8 @@
 //! - `frozen_reply` is a closed log's reply to a line. `serve_frozen` reads request lines from a reader, and writes the replies
 //!   of a closed log to a writer.
 //! - `next_line` reads an input line by line, and holds no more of a line than is asked for; `NumberedLines` numbers request
-//!   lines. `write_whole` writes bytes, `send` hands them on as well, and `tell` doesn't say whether it could: for the programs.
+//!   lines. `write_whole` writes bytes, `send` hands them on as well, and `tell` doesn't say whether it could: for the programs,
+//!   whose runs a `RunFault` ends.
 //! - `fields` reads what stands under a key of a JSON object; `bytes_value` and `hashes_value` are bytes and hashes as JSON.
 //!
 //! What a line asks and how a reply is written are defined in `specs/`, over `serde_json`'s own words for the value
@@ -28,7 +29,7 @@ mod serving;
 mod wanting;
 mod writing;
 
-pub use fault::{ServeFault, Unwritten};
+pub use fault::{RunFault, ServeFault, Unwritten};
 pub use frozen::{frozen_reply, frozen_request_reply};
 pub use lines::{NumberedLines, READS, REQUEST_KEPT, next_line};
 pub use reading::{LONGEST_REQUEST, line_value, read_line};

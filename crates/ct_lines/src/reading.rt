@@ -268,6 +268,7 @@ fn request_in(alloc: Global, value: &Value) -> Result<Option<Request>, AllocErro
 
 /// The request that the line is, without the byte that ends it. `BadLine`: the line is no request. `Memory`: a growth
 /// was refused before the request was read, or known to be none; a line of more than 1,048,576 bytes takes no memory.
+#[tactic(auto, unfolding(crate::specs::Asked::request_of))]
 pub fn read_line(alloc: Global, line: &[u8]) -> Result<Request, Refusal>
     ensures found { IfOk result (λ r. IsRequest line.now (asked r)) }
     ensures bad { IsErrOf result Refusal.BadLine → (a : Asked) → IsRequest line.now a → ⊥ }

@@ -10,7 +10,7 @@ use Rattle.rtrb.specs.declared.producer.Producer.{Producer}
 use Rattle.ct_live.specs.Working.{Works, WorksSome, AreJoinedOf, HasRoom}
 use Rattle.ct_live.specs.declared.pipes.answering.Numbered.{Numbered}
 use Rattle.ct_live.specs.declared.pipes.fault.ThreadFault.{ThreadFault}
-use Rattle.ct_live.specs.declared.pipes.workers.Joined.{Joined}
+use Rattle.ct_live.specs.declared.pipes.workers.JoinedParties.{JoinedParties}
 use Rattle.ct_live.specs.declared.pipes.workers.Worker.{Worker}
 use Rattle.ct_live.proofs.Opened.{pairs_more}
 
@@ -25,17 +25,17 @@ place_there n m v less room = omega (arith, less, room, v.ok.0)
 
 module _ {P T : Type 0} where
   -- there is a place for what one more thread hands back
-  pub party_fits : (n m : ℕ) (j : Joined P T) → n ≡ suc m → HasRoom n j → vec_len j.parties < vec_capacity j.parties
+  pub party_fits : (n m : ℕ) (j : JoinedParties P T) → n ≡ suc m → HasRoom n j → vec_len j.parties < vec_capacity j.parties
   party_fits n m j less room = place_there n m j.parties less room.parties
 
-  pub tasks_fit : (n m : ℕ) (j : Joined P T) → n ≡ suc m → HasRoom n j → vec_len j.tasks < vec_capacity j.tasks
+  pub tasks_fit : (n m : ℕ) (j : JoinedParties P T) → n ≡ suc m → HasRoom n j → vec_len j.tasks < vec_capacity j.tasks
   tasks_fit n m j less room = place_there n m j.tasks less room.tasks
 
-  pub answers_fit : (n : ℕ) (j : Joined P T) → HasRoom n j → vec_len j.answers < vec_capacity j.answers
+  pub answers_fit : (n : ℕ) (j : JoinedParties P T) → HasRoom n j → vec_len j.answers < vec_capacity j.answers
   answers_fit n j room = place_there (n + 1) n j.answers (omega arith) room.answers
 
   -- and room for the others behind it
-  pub room_left : (n m : ℕ) (j : Joined P T) (ps : Vec P Global) (ts : Vec (Consumer (Numbered T) Global AnyItems) Global)
+  pub room_left : (n m : ℕ) (j : JoinedParties P T) (ps : Vec P Global) (ts : Vec (Consumer (Numbered T) Global AnyItems) Global)
       (us : Vec (Producer (Vec ℕ Global) Global AnyItems) Global) (f : Option ThreadFault) (w : Worker P T)
       → n ≡ suc m → ps.items ≡ j.parties.items ++ w.party ∷ [] → vec_capacity ps ≡ vec_capacity j.parties
       → ts.items ≡ j.tasks.items ++ w.tasks ∷ [] → vec_capacity ts ≡ vec_capacity j.tasks
@@ -48,7 +48,7 @@ module _ {P T : Type 0} where
   }
 
   module _ (does : P → T → List ℕ → P → Type 0) where
-    pub none_joined : (j : Joined P T) → (j.parties.items ≡ []) × (j.tasks.items ≡ []) × (j.answers.items ≡ []) × (j.fault ≡ None)
+    pub none_joined : (j : JoinedParties P T) → (j.parties.items ≡ []) × (j.tasks.items ≡ []) × (j.answers.items ≡ []) × (j.fault ≡ None)
         → AreJoinedOf does [] j
     none_joined j e = record { workers_then = []; did = tt; all = λ none. tt; parties = e.0; tasks = e.1; answers = e.2 }
 
@@ -56,7 +56,7 @@ module _ {P T : Type 0} where
     done_there r x w done e = subst (λ (s : Result Unit ThreadFault). OnOk s (Works does x w)) e done
 
     -- one thread more was joined
-    pub joined_more : (xs : List (Worker P T)) (x w : Worker P T) (r : Result Unit ThreadFault) (j : Joined P T) (ps : Vec P Global)
+    pub joined_more : (xs : List (Worker P T)) (x w : Worker P T) (r : Result Unit ThreadFault) (j : JoinedParties P T) (ps : Vec P Global)
         (ts : Vec (Consumer (Numbered T) Global AnyItems) Global) (us : Vec (Producer (Vec ℕ Global) Global AnyItems) Global) (f : Option ThreadFault)
         → ps.items ≡ j.parties.items ++ w.party ∷ [] → ts.items ≡ j.tasks.items ++ w.tasks ∷ [] → us.items ≡ j.answers.items ++ w.answers ∷ []
         → (f ≡ None → (j.fault ≡ None) × (r ≡ Ok tt)) → OnOk r (Works does x w) × WorksSome does x w → AreJoinedOf does xs j

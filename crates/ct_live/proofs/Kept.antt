@@ -19,6 +19,7 @@ use Rattle.ct_live.specs.declared.giving.Inlets.{Inlets}
 
 -- a line that is too long asks nothing of a live log alone
 live_too_long : (line : List ℕ) → 1048576 < length line → live_request_of line ≡ None
+unfolding live_request_of
 live_too_long line long = ap (option_and_then live_asked_in) (sym (value_long 1048576 line long))
 
 asks_long : (fronts : ℕ) (a b : List ℕ) (s : LiveStep) → 1048576 < length a → 1048576 < length b → AsksLive fronts a s → AsksLive fronts b s

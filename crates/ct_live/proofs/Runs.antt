@@ -14,7 +14,7 @@ use Rattle.ct_live.specs.Written.{WritesOn}
 use Rattle.ct_live.specs.declared.pipes.answering.Numbered.{Numbered}
 use Rattle.ct_live.specs.declared.pipes.fault.ThreadFault.{ThreadFault}
 use Rattle.ct_lines.specs.declared.fault.Unwritten.{Unwritten}
-use Rattle.ct_live.specs.declared.pipes.workers.Joined.{Joined}
+use Rattle.ct_live.specs.declared.pipes.workers.JoinedParties.{JoinedParties}
 use Rattle.ct_live.specs.LiveEnding.{EndsBrokenOff, EndsLive, EndsSome, HaveDone, Rings}
 use Rattle.ct_live.specs.LiveGiven.{ReadsOn}
 use Rattle.ct_live.specs.LiveThreads.{RunsBrokenOff, RunsLive, RunsSome}
@@ -47,7 +47,7 @@ runs_some n m input left read old new before after o p first rings r a b c given
 
 -- what is said of the fronts and the ends of their rings that were handed back, said of those that did so
 module _ (P : List FrontView → List (Consumer (Numbered FrontRequest) Global AnyItems) → List (Producer (Vec ℕ Global) Global AnyItems) → Type 0)
-    (before : List FrontWorker) (joined : Joined LiveFront FrontRequest) where
+    (before : List FrontWorker) (joined : JoinedParties LiveFront FrontRequest) where
   of_workers : (j : AreJoinedOf LiveFrontReplies before joined) → P (party_fronts joined.parties.items) joined.tasks.items joined.answers.items
       → P (worker_fronts j.workers_then) (worker_tasks j.workers_then) (worker_answers j.workers_then)
   of_workers j said =
@@ -57,7 +57,7 @@ module _ (P : List FrontView → List (Consumer (Numbered FrontRequest) Global A
 
 -- all did what they had to
 pub ran : {Closing : HouseState → List FrontView → End → ℕ → Option (List ℕ) → Option (List ℕ) → Type 0} {n m : ℕ} {input left : Option (List ℕ)}
-    {read : Result End ThreadFault} {old new : Inlets} {before : List FrontWorker} {joined : Joined LiveFront FrontRequest} {o p : OperatorWorker}
+    {read : Result End ThreadFault} {old new : Inlets} {before : List FrontWorker} {joined : JoinedParties LiveFront FrontRequest} {o p : OperatorWorker}
     {first rings : Rings} {written : Result Unit Unwritten} {operated : Result Unit ThreadFault} {a b : Option (List ℕ)}
     → ReadsOn n m input left read old new → AreJoinedOf LiveFrontReplies before joined → OnOk operated (OperatorWorks o p) → WritesOut first rings a b written
     → HaveDone written operated joined.fault
@@ -82,7 +82,7 @@ ran {Closing} {m = m} {left = left} {read = read} {new = new} {before = before} 
 
 -- a fault broke it off
 pub ran_broken : {close_at n m : ℕ} {input left : Option (List ℕ)} {read : Result End ThreadFault} {old new : Inlets} {before : List FrontWorker}
-    {joined : Joined LiveFront FrontRequest} {o p : OperatorWorker} {first rings : Rings} {written : Result Unit Unwritten} {operated : Result Unit ThreadFault}
+    {joined : JoinedParties LiveFront FrontRequest} {o p : OperatorWorker} {first rings : Rings} {written : Result Unit Unwritten} {operated : Result Unit ThreadFault}
     {a b c : Option (List ℕ)} → ReadsOn n m input left read old new → AreJoinedOf LiveFrontReplies before joined → OperatorWorksSome o p
     → OnOk operated (OperatorWorks o p) → WritesOut first rings a b written
     → EndsBrokenOff new (party_fronts joined.parties.items) joined.tasks.items joined.answers.items p written operated joined.fault close_at read m left rings b c
@@ -108,14 +108,14 @@ writer_out (Err w) own text rings written done first a out e k wrote none same =
 
 -- ---- the ends of the rings that were handed back
 
-pub beside_joined : (g : Inlets) (before : List FrontWorker) (joined : Joined LiveFront FrontRequest) (p : OperatorWorker) (rings : Rings)
+pub beside_joined : (g : Inlets) (before : List FrontWorker) (joined : JoinedParties LiveFront FrontRequest) (p : OperatorWorker) (rings : Rings)
     (j : AreJoinedOf LiveFrontReplies before joined) → AreBeside g (worker_tasks j.workers_then) (worker_answers j.workers_then) p rings
     → AreBeside g joined.tasks.items joined.answers.items p rings
 beside_joined g before joined p rings j is =
     subst (λ (l : List (Consumer (Numbered FrontRequest) Global AnyItems)). AreBeside g l joined.answers.items p rings) (sym j.tasks)
     (subst (λ (l : List (Producer (Vec ℕ Global) Global AnyItems)). AreBeside g (worker_tasks j.workers_then) l p rings) (sym j.answers) is)
 
-pub fronts_joined : (before : List FrontWorker) (joined : Joined LiveFront FrontRequest) (house : HouseState) (j : AreJoinedOf LiveFrontReplies before joined)
+pub fronts_joined : (before : List FrontWorker) (joined : JoinedParties LiveFront FrontRequest) (house : HouseState) (j : AreJoinedOf LiveFrontReplies before joined)
     → AreFrontsOf house (worker_fronts j.workers_then) → AreFrontsOf house (party_fronts joined.parties.items)
 fronts_joined before joined house j is =
     subst (λ (l : List FrontView). AreFrontsOf house l) (sym (fronts_beside joined.parties.items j.workers_then j.parties)) is

@@ -48,7 +48,7 @@ abbrev pub live_asked_in : Data → Option LiveAsked
 live_asked_in d = option_and_then (λ who. live_asks_by who d) (text_at (codes "who") d)
 
 -- what a line asks of a live log alone: a JSON value of at most 1,048,576 bytes that asks it
-abbrev pub live_request_of : List ℕ → Option LiveAsked
+unfoldable pub live_request_of : List ℕ → Option LiveAsked
 live_request_of line = option_and_then live_asked_in (value_of_line 1048576 line)
 
 -- what is done for a line that every other log replies to with bad-line, by what it asks of a live log alone

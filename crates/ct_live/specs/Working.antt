@@ -3,7 +3,7 @@ use Rattle.std.specs.Prelude.{◌≡◌, ◌≤◌, ◌+◌, ℕ, List, length, 
 use Rattle.std.specs.List.{AllZip}
 use Rattle.rtrb.specs.Ring.{sent, received, SameProducer, SameConsumer}
 use Rattle.ct_live.specs.Answered.{AnswersMore, AnswersSome}
-use Rattle.ct_live.specs.declared.pipes.workers.Joined.{Joined}
+use Rattle.ct_live.specs.declared.pipes.workers.JoinedParties.{JoinedParties}
 use Rattle.ct_live.specs.declared.pipes.workers.Worker.{Worker}
 
 -- all tasks that the party received were answered in turn, over the same rings, and under the same number
@@ -30,7 +30,7 @@ AllWorkSome does old new = AllZip (WorksSome does) old new
 
 -- What the threads of these parties handed back: the parties and the ends of their rings, in the order in which the threads were
 -- started. Each answered the first of the tasks that it received; and all of them, where none ended before its time.
-pub record AreJoinedOf {P T : Type 0} (does : P → T → List ℕ → P → Type 0) (workers : List (Worker P T)) (joined : Joined P T) : Type 0 where
+pub record AreJoinedOf {P T : Type 0} (does : P → T → List ℕ → P → Type 0) (workers : List (Worker P T)) (joined : JoinedParties P T) : Type 0 where
   pub workers_then : List (Worker P T)
   pub did : AllWorkSome does workers workers_then
   pub all : joined.fault ≡ None → AllWork does workers workers_then
@@ -39,7 +39,7 @@ pub record AreJoinedOf {P T : Type 0} (does : P → T → List ℕ → P → Typ
   pub answers : joined.answers.items ≡ map (λ (w : Worker P T). w.answers) workers_then
 
 -- there is room for so many parties with the ends of their rings, and in the list of answers for one more
-pub record HasRoom {P T : Type 0} (count : ℕ) (joined : Joined P T) : Type 0 where
+pub record HasRoom {P T : Type 0} (count : ℕ) (joined : JoinedParties P T) : Type 0 where
   pub parties : length joined.parties.items + count ≤ vec_capacity joined.parties
   pub tasks : length joined.tasks.items + count ≤ vec_capacity joined.tasks
   pub answers : length joined.answers.items + (count + 1) ≤ vec_capacity joined.answers

@@ -91,6 +91,7 @@ fn live_request_in(value: &Value) -> Option<LiveRequest>
 }
 
 // What the line asks of a live log alone.
+#[tactic(auto, unfolding(crate::specs::LiveLines::live_request_of))]
 fn read_live(alloc: Global, line: &[u8]) -> Result<Option<LiveRequest>, AllocError>
     ensures { IfOk result (λ o. option_map live_asked o ≡ live_request_of line.now) }
 {

@@ -7,8 +7,7 @@ use Rattle.ct_lines.proofs.KeptLines.{whole_or_long}
 use Rattle.ct_lines.proofs.Values.{value_long, value_none}
 use Rattle.std.proofs.lemmas.List.{append_assoc}
 use Rattle.std.proofs.lemmas.Option.{same_Some, none-some}
-use Rattle.core.specs.Option.{option_map_or}
-use Rattle.std.specs.Prelude.{IfSome, IfOk, OnOk, Result, Ok, Err}
+use Rattle.std.specs.Prelude.{IfSome, IfOk, OnOk, Result, Ok, Err, option_map, unwrap_or}
 use Rattle.std.specs.Str.{IsUtf8}
 use Rattle.sha2.specs.Sha256.{sha256}
 use Rattle.ct_monitor.specs.Watched.{nothing_seen}
@@ -29,7 +28,7 @@ use Rattle.ct_monitor_lines.specs.declared.session.Session.{Session}
 -- a line that is too long is none, whatever its bytes are
 reads_long : (a b : List ℕ) (what : Answered) → 16777216 < length a → 16777216 < length b → Reads a what → Reads b what
 reads_long a b what long_a long_b is =
-    is ∙ ap (λ o. option_map_or answer_in o no_answer) (sym (value_long 16777216 a long_a) ∙ value_long 16777216 b long_b)
+    is ∙ ap (λ o. unwrap_or (option_map answer_in o) no_answer) (sym (value_long 16777216 a long_a) ∙ value_long 16777216 b long_b)
 
 gives_long : (names : List (List ℕ)) (before : Session) (a b : List ℕ) (text : List ℕ) (after : Session) → 16777216 < length a → 16777216 < length b
     → LineGives names before a text after → LineGives names before b text after

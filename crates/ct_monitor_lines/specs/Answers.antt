@@ -1,6 +1,5 @@
 -- What a line of a log is: an answer of its front end, or a checkpoint or data tile of it.
-use Rattle.std.specs.Prelude.{◌≡◌, ℕ, List, map, Option, Some, None, option_map, option_and_then, codes, string_bytes}
-use Rattle.core.specs.Option.{option_map_or}
+use Rattle.std.specs.Prelude.{◌≡◌, ℕ, List, map, Option, Some, None, option_map, option_and_then, codes, string_bytes, unwrap_or}
 use Rattle.serde_json.specs.Data.{Data, Items}
 use Rattle.serde_json.specs.Find.{get, as_number, as_u64, as_array}
 use Rattle.ct_tree.specs.declared.head.Head.{Head}
@@ -115,4 +114,4 @@ answer_in d = state_or (get (codes "state") d) (head_or (head_in d) (entries_in 
 
 -- the line is this: what the JSON value is that it is, of at most 16,777,216 bytes; or none of these
 abbrev pub Reads : List ℕ → Answered → Type 0
-Reads line a = a ≡ option_map_or answer_in (value_of_line 16777216 line) no_answer
+Reads line a = a ≡ unwrap_or (option_map answer_in (value_of_line 16777216 line)) no_answer

@@ -5,7 +5,6 @@ pub mod Texts
 pub mod VerdictText
 pub mod EntryText
 pub mod StateText
-pub mod Faults
 pub mod Session
 pub mod History
 pub mod CommandWords

@@ -8,7 +8,6 @@
 //! - `seen` reads what a checkpoint or a data tile is to who has read entries up to an index, and `refusal` names why one is refused.
 //! - `names` looks for watched names, `entries` writes of them, `verdicts` writes of verdicts, and `text` writes lines.
 //! - `session` takes one line after the other.
-//! - `fault` names what ends a run before the state is written.
 //! - `laws` says what holds of many runs.
 //! - `program` has `run`, and `answer_words`, which does what the words of a command line ask for; `refuse_words` answers words that
 //!   couldn't be read.
@@ -17,7 +16,6 @@
 mod answer;
 mod command;
 mod entries;
-mod fault;
 pub mod laws;
 mod names;
 mod program;
@@ -28,5 +26,4 @@ mod state;
 mod text;
 mod verdicts;
 
-pub use fault::Fault;
 pub use program::{answer_words, refuse_words, run};

@@ -1,20 +1,19 @@
 //! The program over the words of a command line, a reader of lines and a writer of verdicts.
 
-ghost use Rattle.std.specs.Prelude.{◌≡◌, ◌≢◌, ◌⊎◌, ◌++◌, ◌∷◌, [], IfOk, OnOk, OnErr, map, string_bytes};
+ghost use Rattle.std.specs.Prelude.{◌≡◌, ◌≢◌, ◌⊎◌, ◌++◌, ◌∷◌, [], IfOk, OnOk, OnErr, map, string_bytes, codes};
 ghost use Rattle.std.specs.Io.KnownBytes.{Appends};
 ghost use Rattle.ct_lines.specs.Sends.{SendsSome};
 ghost use Rattle.ct_monitor_lines.specs.CommandWords.{monitor_call, refusal_text, unreadable_text, IsAnswered};
-ghost use Rattle.ct_monitor_lines.specs.Faults.{monitor_fault_line};
-ghost use Rattle.ct_monitor_lines.specs.declared.fault.Fault.{Fault as FaultOf};
-ghost use Rattle.ct_monitor_lines.specs.declared.fault.Fault.TheVariants.{Read as ReadFault};
+ghost use Rattle.ct_lines.specs.Faults.{run_fault_line};
+ghost use Rattle.ct_lines.specs.declared.fault.RunFault.{RunFault as FaultOf};
+ghost use Rattle.ct_lines.specs.declared.fault.RunFault.TheVariants.{Read as ReadFault};
 ghost use Rattle.ct_monitor_lines.specs.Session.{FirstGives, KeptGives, LineGives, OneTaken, IsTaken, IsAllTaken, IsRun, IsRunStatus, status_of};
 ghost use Rattle.ct_monitor_lines.specs.StateText.{state_text, IsOfBytes};
 
 use crate::answer::LONGEST;
 use crate::command::{Command, command_of, refusal};
-use crate::fault::Fault;
 use crate::session::Session;
-use ct_lines::{READS, next_line, send, tell};
+use ct_lines::{READS, RunFault, next_line, send, tell};
 use ct_monitor::Watcher;
 use ct_tree::Sha256Hash;
 use std::alloc::{AllocError, Global};
@@ -97,7 +96,7 @@ fn take_next<B: BufRead, W: Write>(
     session: &mut Session,
     reader: &mut B,
     writer: &mut W,
-) -> Result<bool, Fault>
+) -> Result<bool, RunFault>
     ensures { IfOk result (λ done. OneTaken (LineGives (map string_bytes names.now)) session.old session.new
         (B.remaining reader.old) (B.remaining reader.new) (W.contents writer.old) (W.contents writer.new) done) }
 {
@@ -118,7 +117,7 @@ fn take_start<B: BufRead, W: Write>(
     session: &mut Session,
     reader: &mut B,
     writer: &mut W,
-) -> Result<bool, Fault>
+) -> Result<bool, RunFault>
     ensures { IfOk result (λ done. OneTaken (FirstGives (map string_bytes names.now)) session.old session.new
         (B.remaining reader.old) (B.remaining reader.new) (W.contents writer.old) (W.contents writer.new) done) }
 {
@@ -139,7 +138,7 @@ fn take_lines<B: BufRead, W: Write>(
     session: &mut Session,
     reader: &mut B,
     writer: &mut W,
-) -> Result<(), Fault>
+) -> Result<(), RunFault>
     ensures { OnOk result (IsTaken (map string_bytes names.now) session.old session.new
         (B.remaining reader.old) (B.remaining reader.new) (W.contents writer.old) (W.contents writer.new)) }
 {
@@ -149,7 +148,7 @@ fn take_lines<B: BufRead, W: Write>(
             return Ok(());
         }
     }
-    Err(Fault::Read)
+    Err(RunFault::Read)
 }
 
 // Takes all lines, of which the first may be a state.
@@ -159,7 +158,7 @@ fn take_all<B: BufRead, W: Write>(
     session: &mut Session,
     reader: &mut B,
     writer: &mut W,
-) -> Result<(), Fault>
+) -> Result<(), RunFault>
     ensures { OnOk result (IsAllTaken (map string_bytes names.now) session.old session.new
         (B.remaining reader.old) (B.remaining reader.new) (W.contents writer.old) (W.contents writer.new)) }
 {
@@ -172,7 +171,7 @@ fn take_all<B: BufRead, W: Write>(
 }
 
 // Writes the state as the last line, and answers the exit status.
-fn finish<W: Write>(alloc: Global, session: &Session, writer: &mut W) -> Result<u8, Fault>
+fn finish<W: Write>(alloc: Global, session: &Session, writer: &mut W) -> Result<u8, RunFault>
     ensures status { IfOk result (λ status. status ≡ status_of session.now) }
     ensures of_bytes { IsOfBytes session.now.watcher }
     ensures written { OnOk result (Appends (W.contents writer.old) (W.contents writer.new) (state_text session.now.watcher ++ 10 ∷ [])) }
@@ -190,7 +189,7 @@ pub fn run<B: BufRead, W: Write>(
     names: &[String],
     reader: &mut B,
     writer: &mut W,
-) -> Result<u8, Fault>
+) -> Result<u8, RunFault>
     ensures written { IfOk result (λ status. IsRun (map string_bytes names.now) (B.remaining reader.old) (B.remaining reader.new)
         (W.contents writer.old) (W.contents writer.new) status) }
     ensures status { IfOk result (λ status. IsRunStatus status) }
@@ -201,7 +200,7 @@ pub fn run<B: BufRead, W: Write>(
 }
 
 // Writes a text that was asked for, and answers the exit status 0.
-fn notice<W: Write>(text: &str, output: &mut W) -> Result<u8, Fault>
+fn notice<W: Write>(text: &str, output: &mut W) -> Result<u8, RunFault>
     ensures { IfOk result (λ status. (status ≡ 0) × Appends (W.contents output.old) (W.contents output.new) text.now) }
 {
     send(output, text.as_bytes())?;
@@ -218,7 +217,7 @@ fn refuse<E: Write>(text: &[u8], faults: &mut E) -> u8
 }
 
 // Tells, as far as it can be written, that this word is none that there is, and answers the exit status 2.
-fn refuse_word<E: Write>(alloc: Global, word: &str, faults: &mut E) -> Result<u8, Fault>
+fn refuse_word<E: Write>(alloc: Global, word: &str, faults: &mut E) -> Result<u8, RunFault>
     ensures told { IfOk result (λ status. (status ≡ 2) × SendsSome (E.contents faults.old) (E.contents faults.new) (refusal_text word.now)) }
     ensures quiet { OnErr result (E.contents faults.new ≡ E.contents faults.old) }
 {
@@ -233,7 +232,7 @@ fn do_asked<R: Read + Drop, W: Write, E: Write>(
     input: R,
     output: &mut W,
     faults: &mut E,
-) -> Result<u8, Fault>
+) -> Result<u8, RunFault>
     ensures answered { IfOk result (λ status. IsAnswered (monitor_call (map string_bytes words.now)) (R.remaining input)
         (W.contents output.old) (W.contents output.new) (E.contents faults.old) (E.contents faults.new) status) }
     ensures status { IfOk result (λ status. status ≢ 1) }
@@ -248,6 +247,17 @@ fn do_asked<R: Read + Drop, W: Write, E: Write>(
         Command::Version => notice(VERSION, output),
         Command::Refused(word) => refuse_word(alloc, word.as_str(), faults),
         Command::Unnamed => Ok(refuse(UNNAMED.as_bytes(), faults)),
+    }
+}
+
+// What is written of a fault, with the end of the line.
+fn fault_text(fault: RunFault) -> &'static str
+    ensures { result.now ≡ run_fault_line (codes "ctmonitor") fault }
+{
+    match fault {
+        RunFault::Memory => "ctmonitor: memory\n",
+        RunFault::Read => "ctmonitor: read\n",
+        RunFault::Write => "ctmonitor: write\n",
     }
 }
 
@@ -267,12 +277,12 @@ pub fn answer_words<R: Read + Drop, W: Write, E: Write>(
     ensures answered { result ≢ 1 → IsAnswered (monitor_call (map string_bytes words.now)) (R.remaining input)
         (W.contents output.old) (W.contents output.new) (E.contents faults.old) (E.contents faults.new) result }
     ensures fault { result ≡ 1 → (f : FaultOf)
-        × SendsSome (E.contents faults.old) (E.contents faults.new) (monitor_fault_line f) }
+        × SendsSome (E.contents faults.old) (E.contents faults.new) (run_fault_line (codes "ctmonitor") f) }
 {
     match do_asked(alloc, words, input, output, faults) {
         Ok(status) => status,
         Err(fault) => {
-            tell(faults, fault.text().as_bytes());
+            tell(faults, fault_text(fault).as_bytes());
             1
         }
     }
@@ -282,15 +292,15 @@ pub fn answer_words<R: Read + Drop, W: Write, E: Write>(
 ///
 /// - 1: there was no memory: the fault's line was written among the faults, as far as it could be.
 /// - 2: a word isn't UTF-8, which was written among the faults, as far as it could be.
-pub fn refuse_words<E: Write>(fault: Fault, faults: &mut E) -> u8
+pub fn refuse_words<E: Write>(fault: RunFault, faults: &mut E) -> u8
     ensures status { (result ≡ 1) ⊎ (result ≡ 2) }
-    ensures fault { result ≡ 1 → SendsSome (E.contents faults.old) (E.contents faults.new) (monitor_fault_line fault) }
+    ensures fault { result ≡ 1 → SendsSome (E.contents faults.old) (E.contents faults.new) (run_fault_line (codes "ctmonitor") fault) }
     ensures refused { result ≡ 2 → (fault ≡ ReadFault) × SendsSome (E.contents faults.old) (E.contents faults.new) unreadable_text }
 {
     match fault {
-        Fault::Read => refuse(UNREADABLE.as_bytes(), faults),
+        RunFault::Read => refuse(UNREADABLE.as_bytes(), faults),
         fault => {
-            tell(faults, fault.text().as_bytes());
+            tell(faults, fault_text(fault).as_bytes());
             1
         }
     }

@@ -1,8 +1,7 @@
 -- What a line gives, and that a line of which a beginning is kept gives what that beginning gives.
 use Rattle.std.proofs.Common.{◌≡◌, ◌∙◌, ◌<◌, ◌||◌, ℕ, List, [], ◌∷◌, length, Bool, true, false, sym, refl, ap, subst, arith, inl, inr, Some, None, Option}
 use Rattle.std.proofs.lemmas.Bool.{eqb-true}
-use Rattle.std.specs.Prelude.{◌==◌, Result, Ok, Err, Vec, IfOk}
-use Rattle.core.specs.Option.{option_map_or}
+use Rattle.std.specs.Prelude.{◌==◌, Result, Ok, Err, Vec, IfOk, option_map, unwrap_or}
 use Rattle.std.specs.Global.{Global}
 use Rattle.std.specs.Io.BufRead.{first_piece}
 use Rattle.ct_lines.specs.Lines.{kept_line, TakesNext}
@@ -60,7 +59,7 @@ gives_none before (b ∷ bs) text e is empty nil =
 
 long_asks : (a b : List ℕ) (ask : ReaderAsk) → 67108864 < length a → 67108864 < length b → AsksReader a ask → AsksReader b ask
 long_asks a b ask long_a long_b is =
-    is ∙ ap (λ o. option_map_or reader_asked_in o for_no_reading) (sym (value_long 67108864 a long_a) ∙ value_long 67108864 b long_b)
+    is ∙ ap (λ o. unwrap_or (option_map reader_asked_in o) for_no_reading) (sym (value_long 67108864 a long_a) ∙ value_long 67108864 b long_b)
 
 long_gives : (a b : List ℕ) (given : ReadingGiven) → 67108864 < length a → 67108864 < length b → GivesReading a given
     → GivesReading b given

@@ -1,6 +1,5 @@
 -- What a line asks of a reader of a log's tiles.
-use Rattle.std.specs.Prelude.{◌≡◌, ℕ, List, map, Option, Some, None, option_map, option_and_then, codes}
-use Rattle.core.specs.Option.{option_map_or}
+use Rattle.std.specs.Prelude.{◌≡◌, ℕ, List, map, Option, Some, None, option_map, option_and_then, codes, unwrap_or}
 use Rattle.serde_json.specs.Data.{Data}
 use Rattle.ct_lines.specs.Fields.{number_at, bytes_list_at}
 use Rattle.ct_lines.specs.Values.{value_of_line}
@@ -59,4 +58,4 @@ reader_asked_in d =
 
 -- the line asks for this: what the JSON value that it is, of at most 2^26 bytes, asks for; or nothing that there is
 abbrev pub AsksReader : List ℕ → ReaderAsk → Type 0
-AsksReader line a = a ≡ option_map_or reader_asked_in (value_of_line 67108864 line) for_no_reading
+AsksReader line a = a ≡ unwrap_or (option_map reader_asked_in (value_of_line 67108864 line)) for_no_reading

@@ -1,14 +1,10 @@
--- What the words of ctproof's command line ask for, the program's name left out: nothing, or help, or the version; and the lines of faults.
-use Rattle.std.specs.Prelude.{◌≡◌, ◌≢◌, ◌++◌, ℕ, List, [], ◌∷◌, Option, if◌then◌else◌, codes, bytes_eq}
+-- What the words of ctproof's command line ask for, the program's name left out: nothing, or help, or the version.
+use Rattle.std.specs.Prelude.{◌≡◌, ℕ, List, [], ◌∷◌, Option, if◌then◌else◌, codes, bytes_eq}
 use Rattle.std.specs.Io.KnownBytes.{Appends}
-use Rattle.std.specs.declared.io.ErrorKind.{ErrorKind}
-use Rattle.std.specs.declared.io.ErrorKind.TheVariants.{OutOfMemory}
 use Rattle.ct_lines.specs.Sends.{SendsSome}
 use Rattle.ct_reader_lines.specs.ReaderSession.{IsReaderRun, IsReaderStatus}
 use Rattle.ct_reader_lines.specs.declared.command.Command.{Command}
 use Rattle.ct_reader_lines.specs.declared.command.Command.TheVariants.{Answer, Help, Version, Refused}
-use Rattle.ct_reader_lines.specs.declared.fault.Fault.{Fault}
-use Rattle.ct_reader_lines.specs.declared.fault.Fault.TheVariants.{Memory, Read, Write}
 
 -- what a first word asks for: help or the version, whatever stands behind it; or nothing that there is
 abbrev pub reader_word : List ℕ → Command
@@ -40,18 +36,3 @@ IsReaderAnswered Version source sink sink_next faults faults_next status =
     (status ≡ 0) × Appends sink sink_next reader_version_text × (faults_next ≡ faults)
 IsReaderAnswered Refused source sink sink_next faults faults_next status =
     (status ≡ 2) × (sink_next ≡ sink) × SendsSome faults faults_next reader_usage
-
--- what stands behind the program's name
-abbrev pub reader_fault_name : Fault → List ℕ
-reader_fault_name Memory = codes "memory"
-reader_fault_name Read = codes "read"
-reader_fault_name Write = codes "write"
-
--- the line that is written of a fault
-abbrev pub reader_fault_line : Fault → List ℕ
-reader_fault_line f = codes "ctproof: " ++ reader_fault_name f ++ 10 ∷ []
-
--- the fault that an error of this kind is, where the input is read: want of memory, or that it couldn't be read
-pub record IsReaderInputFault (k : ErrorKind) (f : Fault) : Type 0 where
-  pub memory : k ≡ OutOfMemory → f ≡ Memory
-  pub other : k ≢ OutOfMemory → f ≡ Read

@@ -6,8 +6,8 @@
 //!
 //! - `request` reads what a line asks for.
 //! - `answering` answers a request, and `replies` writes what is answered.
-//! - `command` reads the words of a command line, and `fault` names what ends a run.
-//! - `program` has `run`, and `answer_words`, which does what the words of a command line ask for.
+//! - `command` reads the words of a command line, and `fault` has what an error of a crate below says of a run.
+//! - `program` has `run`, `answer_words`, which does what the words of a command line ask for, and the text of a fault.
 #![tactic(auto)]
 
 mod answering;
@@ -17,5 +17,4 @@ mod program;
 mod replies;
 mod request;
 
-pub use fault::Fault;
-pub use program::{answer_words, run};
+pub use program::{answer_words, fault_text, run};

@@ -3,6 +3,5 @@ pub mod StepRepeats
 pub mod StepAsks
 pub mod StepAnswers
 pub mod StepSession
-pub mod StepFaults
 pub mod StepOptions
 pub mod StepLaws

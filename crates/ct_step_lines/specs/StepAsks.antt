@@ -1,7 +1,6 @@
 -- What a line asks of a step.
-use Rattle.std.specs.Prelude.{◌≡◌, ℕ, List, [], ◌∷◌, length, map, nat_lt, if◌then◌else◌, Option, Some, None, option_map, option_and_then, codes}
+use Rattle.std.specs.Prelude.{◌≡◌, ℕ, List, [], ◌∷◌, length, map, nat_lt, if◌then◌else◌, Option, Some, None, option_map, option_and_then, codes, unwrap_or}
 use Rattle.std.specs.Result.{result_ok}
-use Rattle.core.specs.Option.{option_map_or}
 use Rattle.serde_json.specs.Data.{Data, Items, no_items, item}
 use Rattle.serde_json.specs.Find.{get, as_array}
 use Rattle.ct_codec.specs.Submitted.{Submitted, x509, precert, refusal_of, admitted}
@@ -136,4 +135,4 @@ step_asked_in d =
 
 -- the line asks for this: what the JSON value that it is, of at most 2^26 bytes, asks for; or nothing that there is
 abbrev pub AsksStep : List ℕ → StepAsk → Type 0
-AsksStep line a = a ≡ option_map_or step_asked_in (value_of_line 67108864 line) for_no_step
+AsksStep line a = a ≡ unwrap_or (option_map step_asked_in (value_of_line 67108864 line)) for_no_step

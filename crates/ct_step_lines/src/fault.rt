@@ -1,7 +1,6 @@
-//! What ends a run, and what an error of a crate below says of it.
+//! What an error of a crate below says of a run.
 
 ghost use Rattle.std.specs.Prelude.{◌≡◌, ◌≢◌, MatchResult, MatchOption};
-ghost use Rattle.std.specs.IoError.{error_kind};
 ghost use Rattle.ct_bundles.specs.declared.rolling_out.ResumeFault.TheVariants.{Bundle, Memory as ResumeMemory};
 ghost use Rattle.ct_codec.specs.declared.refusal.Refusal.{Refusal as RefusalOf};
 ghost use Rattle.ct_codec.specs.declared.refusal.Refusal.TheVariants.{Memory as Refused};
@@ -10,73 +9,15 @@ ghost use Rattle.ct_repeats.specs.declared.claim.ClaimFault.TheVariants.{Refused
 ghost use Rattle.ct_step.specs.declared.step.StepFault.TheVariants.{Growth};
 ghost use Rattle.ct_tile_names.specs.declared.tile.NameFault.TheVariants.{NoSuchTile, Memory as NameMemory};
 ghost use Rattle.ct_step_lines.specs.StepAnswers.{NamesStepFault};
-ghost use Rattle.ct_step_lines.specs.StepFaults.{IsStepInputFault, step_fault_line};
-ghost use Rattle.ct_step_lines.specs.declared.fault.Fault.TheVariants.{Memory, Write};
 
 use crate::replies::StepRefusal;
 use ct_bundles::ResumeFault;
 use ct_codec::Refusal;
 use ct_growth::GrowthFault;
-use ct_lines::Unwritten;
 use ct_repeats::ClaimFault;
 use ct_step::StepFault;
 use ct_tile_names::NameFault;
 use std::alloc::AllocError;
-use std::io;
-
-/// What ended a run: the program's status is 1 then.
-#[derive(Clone, Copy, Debug, PartialEq, Eq, thiserror::Error)]
-pub enum Fault {
-    /// A growth was refused.
-    #[error("memory was refused")]
-    Memory,
-    /// The input couldn't be read.
-    #[error("the input couldn't be read")]
-    Read,
-    /// The output couldn't be written.
-    #[error("the output couldn't be written")]
-    Write,
-}
-
-impl Fault {
-    /// What is written of the fault, with the end of the line.
-    pub fn text(self) -> &'static str
-        ensures { result.now ≡ step_fault_line self }
-    {
-        match self {
-            Fault::Memory => "cttile: memory\n",
-            Fault::Read => "cttile: read\n",
-            Fault::Write => "cttile: write\n",
-        }
-    }
-}
-
-impl From<AllocError> for Fault {
-    ghost from_gives = { λ _ f. f ≡ Memory };
-
-    fn from(_e: AllocError) -> Fault {
-        Fault::Memory
-    }
-}
-
-impl From<Unwritten> for Fault {
-    ghost from_gives = { λ _ f. f ≡ Write };
-
-    fn from(_e: Unwritten) -> Fault {
-        Fault::Write
-    }
-}
-
-impl From<io::Error> for Fault {
-    ghost from_gives = { λ error f. IsStepInputFault (error_kind error) f };
-
-    fn from(error: io::Error) -> Fault {
-        match error.kind() {
-            io::ErrorKind::OutOfMemory => Fault::Memory,
-            _ => Fault::Read,
-        }
-    }
-}
 
 // Of a step that wasn't taken: the name of the refusal, unless a growth was refused. Another refusal of the codec has none.
 #[derive(Drop)]

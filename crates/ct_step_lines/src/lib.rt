@@ -8,9 +8,9 @@
 //! - `repeats` takes the repeats out of a batch.
 //! - `edge` sets the contents at a log's edge out as a step takes them.
 //! - `stepping` replies to a request, and `replies` writes what is replied.
-//! - `command` reads the words of a command line, and `fault` names what ends a run.
+//! - `command` reads the words of a command line, and `fault` has what an error of a crate below says of a run.
 //! - `laws` says that the steps are those of the law over sequencers.
-//! - `program` has `run`, and `answer_words`, which does what the words of a command line ask for.
+//! - `program` has `run`, `answer_words`, which does what the words of a command line ask for, and the text of a fault.
 #![tactic(auto)]
 
 mod command;
@@ -24,5 +24,4 @@ mod replies;
 mod request;
 mod stepping;
 
-pub use fault::Fault;
-pub use program::{answer_words, run};
+pub use program::{answer_words, fault_text, run};

@@ -1,20 +1,19 @@
 //! The program over the words of a command line, a reader of lines and a writer of replies.
 
-ghost use Rattle.std.specs.Prelude.{◌≡◌, ◌≢◌, ◌||◌, IfOk, OnOk, OnErr, map, option_map, string_bytes};
+ghost use Rattle.std.specs.Prelude.{◌≡◌, ◌≢◌, ◌||◌, IfOk, OnOk, OnErr, map, option_map, string_bytes, codes};
 ghost use Rattle.std.specs.Io.KnownBytes.{Appends};
 ghost use Rattle.ct_lines.specs.Sends.{SendsSome};
 ghost use Rattle.ct_step_lines.specs.StepAsks.{step_ask_of};
-ghost use Rattle.ct_step_lines.specs.StepFaults.{step_fault_line};
+ghost use Rattle.ct_lines.specs.Faults.{run_fault_line};
 ghost use Rattle.ct_step_lines.specs.StepOptions.{step_asked_of_words, IsStepAnswered};
 ghost use Rattle.ct_step_lines.specs.StepSession.{GivesText, GetsStepLine, OneReplied, IsReplied, IsStepRun, IsStepStatus, is_no_step};
-ghost use Rattle.ct_step_lines.specs.declared.fault.Fault.{Fault as FaultOf};
+ghost use Rattle.ct_lines.specs.declared.fault.RunFault.{RunFault as FaultOf};
 
 use crate::command::{Command, command_of};
-use crate::fault::Fault;
 use crate::replies::StepRefusal;
 use crate::request::{LONGEST, Request, read_request};
 use crate::stepping::reply_line;
-use ct_lines::{READS, next_line, send, tell};
+use ct_lines::{READS, RunFault, next_line, send, tell};
 use std::alloc::{AllocError, Global};
 use std::io::{BufRead, BufReader, Read, Write};
 
@@ -29,7 +28,7 @@ const KEPT: usize = LONGEST + 2;
 
 // Reads the next line into `line`, without its end, in place of what stood there, and answers whether there was one. Of a line that
 // is longer than a line may be a beginning is kept that is so too.
-fn read_next<B: BufRead>(input: &mut B, line: &mut Vec<u8>) -> Result<bool, Fault>
+fn read_next<B: BufRead>(input: &mut B, line: &mut Vec<u8>) -> Result<bool, RunFault>
     ensures { IfOk result (λ some. GetsStepLine some (B.remaining input.old) (B.remaining input.new) line.new.items) }
 {
     let some = next_line(input, KEPT, line)?;
@@ -71,7 +70,7 @@ fn take_next<B: BufRead, W: Write>(
     input: &mut B,
     line: &mut Vec<u8>,
     writer: &mut W,
-) -> Result<bool, Fault>
+) -> Result<bool, RunFault>
     ensures { IfOk result (λ done. OneReplied (option_map string_bytes origin.now) bad.old bad.new
         (B.remaining input.old) (B.remaining input.new) (W.contents writer.old) (W.contents writer.new) done) }
 {
@@ -91,7 +90,7 @@ fn take_lines<B: BufRead, W: Write>(
     bad: &mut bool,
     input: &mut B,
     writer: &mut W,
-) -> Result<(), Fault>
+) -> Result<(), RunFault>
     ensures { OnOk result (IsReplied (option_map string_bytes origin.now) bad.old bad.new
         (B.remaining input.old) (W.contents writer.old) (W.contents writer.new)) }
 {
@@ -102,7 +101,7 @@ fn take_lines<B: BufRead, W: Write>(
             return Ok(());
         }
     }
-    Err(Fault::Read)
+    Err(RunFault::Read)
 }
 
 /// Reads the lines of an input, and writes a reply to each, which is handed on before the next line is read. Of a log with an origin (C2SP
@@ -118,7 +117,7 @@ pub fn run<B: BufRead + Drop, W: Write>(
     origin: &Option<String>,
     input: B,
     writer: &mut W,
-) -> Result<u8, Fault>
+) -> Result<u8, RunFault>
     ensures written { IfOk result (λ status. IsStepRun (option_map string_bytes origin.now) (B.remaining input) (W.contents writer.old) (W.contents writer.new) status) }
     ensures status { IfOk result (λ status. IsStepStatus status) }
 {
@@ -135,7 +134,7 @@ fn do_asked<R: Read + Drop, W: Write, E: Write>(
     input: R,
     output: &mut W,
     faults: &mut E,
-) -> Result<u8, Fault>
+) -> Result<u8, RunFault>
     ensures answered { IfOk result (λ status. IsStepAnswered (step_asked_of_words (map string_bytes words.now)) (R.remaining input)
         (W.contents output.old) (W.contents output.new) (E.contents faults.old) (E.contents faults.new) status) }
     ensures status { IfOk result (λ status. status ≢ 1) }
@@ -161,6 +160,17 @@ fn do_asked<R: Read + Drop, W: Write, E: Write>(
     }
 }
 
+/// What is written of a fault, with the end of the line.
+pub fn fault_text(fault: RunFault) -> &'static str
+    ensures { result.now ≡ run_fault_line (codes "cttile") fault }
+{
+    match fault {
+        RunFault::Memory => "cttile: memory\n",
+        RunFault::Read => "cttile: read\n",
+        RunFault::Write => "cttile: write\n",
+    }
+}
+
 /// Does what the words of a command line ask for, the program's name left out, and answers the exit status.
 ///
 /// - 0, 4: `run` read the input and wrote its replies, with that status; or, for 0, the words ask for help or the version, which was
@@ -177,12 +187,12 @@ pub fn answer_words<R: Read + Drop, W: Write, E: Write>(
     ensures answered { result ≢ 1 → IsStepAnswered (step_asked_of_words (map string_bytes words.now)) (R.remaining input)
         (W.contents output.old) (W.contents output.new) (E.contents faults.old) (E.contents faults.new) result }
     ensures fault { result ≡ 1 → (f : FaultOf)
-        × SendsSome (E.contents faults.old) (E.contents faults.new) (step_fault_line f) }
+        × SendsSome (E.contents faults.old) (E.contents faults.new) (run_fault_line (codes "cttile") f) }
 {
     match do_asked(alloc, words, input, output, faults) {
         Ok(status) => status,
         Err(fault) => {
-            tell(faults, fault.text().as_bytes());
+            tell(faults, fault_text(fault).as_bytes());
             1
         }
     }

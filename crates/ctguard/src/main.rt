@@ -2,13 +2,13 @@
 //! does is `answer_words` of `ct_guard_lines`, over the process's words, standard input, output and error.
 #![tactic(auto)]
 
-use ct_guard_lines::{Fault, answer_words};
-use ct_lines::tell;
+use ct_guard_lines::{answer_words, fault_text};
+use ct_lines::{RunFault, tell};
 use std::io;
 use std::process::ExitCode;
 
 // The words of the command line. Std's contracts don't say which these are.
-fn collected(rt: &HostRuntime) -> Result<Vec<String>, Fault> {
+fn collected(rt: &HostRuntime) -> Result<Vec<String>, RunFault> {
     let words = std::env::args(rt)?.collect(rt.alloc())?;
     Ok(words)
 }
@@ -22,7 +22,7 @@ fn main(rt: HostRuntime) -> ExitCode {
             answer_words(rt.alloc(), words, rt.reader(), &mut output, &mut faults)
         }
         Err(fault) => {
-            tell(&mut faults, fault.text().as_bytes());
+            tell(&mut faults, fault_text(fault).as_bytes());
             1
         }
     };

@@ -2,12 +2,13 @@
 //! does is `answer_words` of `ct_monitor_lines`, over the process's words, standard input, output and error.
 #![tactic(auto)]
 
-use ct_monitor_lines::{Fault, answer_words, refuse_words};
+use ct_lines::RunFault;
+use ct_monitor_lines::{answer_words, refuse_words};
 use std::io;
 use std::process::ExitCode;
 
 // The words of the command line. Std's contracts don't say which these are.
-fn collected(rt: &HostRuntime) -> Result<Vec<String>, Fault> {
+fn collected(rt: &HostRuntime) -> Result<Vec<String>, RunFault> {
     let words = std::env::args(rt)?.collect(rt.alloc())?;
     Ok(words)
 }

@@ -1,6 +1,7 @@
 // What is expected was computed by another program: tests/guard/runs.py, with hashlib alone.
 use crate::programs::{NoInput, Room, words_of};
-use ct_guard_lines::{Fault, Receipts, Settings, answer_words, run};
+use ct_guard_lines::{Receipts, Settings, answer_words, run};
+use ct_lines::RunFault;
 use std::alloc::{AllocError, Global};
 use std::io::{BufReader, ErrorKind, Read};
 use std::test::Fail;
@@ -372,7 +373,7 @@ fn is_output_failing(alloc: Global, room: usize) -> Result<bool, Fail> {
     };
     let mut output = Room(room);
     let reader = BufReader::new(alloc, GROWS.as_bytes())?;
-    Ok(run(alloc, &settings, reader, &mut output) == Err(Fault::Write))
+    Ok(run(alloc, &settings, reader, &mut output) == Err(RunFault::Write))
 }
 
 #[test]

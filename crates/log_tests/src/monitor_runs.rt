@@ -1,6 +1,7 @@
 // What is expected was computed by another program: tests/monitor/answers.py, with hashlib alone, over short leaves.
 use crate::programs::{NoInput, Room, words_of};
-use ct_monitor_lines::{Fault, answer_words, refuse_words, run};
+use ct_lines::RunFault;
+use ct_monitor_lines::{answer_words, refuse_words, run};
 use std::alloc::{AllocError, Global};
 use std::io::{BufRead, BufReader, ErrorKind, Read};
 use std::test::Fail;
@@ -195,7 +196,7 @@ fn ends<B: BufRead>(
     names: &[String],
     reader: &mut B,
     text: &str,
-    end: Result<u8, Fault>,
+    end: Result<u8, RunFault>,
 ) -> bool {
     let mut output = Vec::new(alloc);
     run(alloc, names, reader, &mut output) == end && output.as_slice() == text.as_bytes()
@@ -371,7 +372,7 @@ fn help(rt: HostRuntime) {
 }
 
 // Whether words that couldn't be read are refused so.
-fn are_words_refused(alloc: Global, fault: Fault, told: &str, due: u8) -> bool {
+fn are_words_refused(alloc: Global, fault: RunFault, told: &str, due: u8) -> bool {
     let mut faults = Vec::new(alloc);
     refuse_words(fault, &mut faults) == due && faults.as_slice() == told.as_bytes()
 }
@@ -379,8 +380,8 @@ fn are_words_refused(alloc: Global, fault: Fault, told: &str, due: u8) -> bool {
 // Words that can't be read are refused, and want of memory is a fault.
 #[test]
 fn words_that_cannot_be_read(rt: HostRuntime) {
-    assert!(rt; are_words_refused(rt.alloc(), Fault::Read, UNREADABLE, 2));
-    assert!(rt; are_words_refused(rt.alloc(), Fault::Memory, "ctmonitor: memory\n", 1));
+    assert!(rt; are_words_refused(rt.alloc(), RunFault::Read, UNREADABLE, 2));
+    assert!(rt; are_words_refused(rt.alloc(), RunFault::Memory, "ctmonitor: memory\n", 1));
 }
 
 // A fault that ends the program is told by its line.
@@ -432,15 +433,15 @@ fn a_line_that_is_too_long(rt: HostRuntime) -> Result<(), Fail> {
 }
 
 // Whether a run over a reader that fails so writes nothing and ends with this fault.
-fn ends_by(alloc: Global, kind: ErrorKind, fault: Fault) -> Result<bool, Fail> {
+fn ends_by(alloc: Global, kind: ErrorKind, fault: RunFault) -> Result<bool, Fail> {
     let mut reader = BufReader::new(alloc, NoInput(kind))?;
     Ok(ends(alloc, &[], &mut reader, "", Err(fault)))
 }
 
 #[test]
 fn an_input_that_fails(rt: HostRuntime) -> Result<(), Fail> {
-    assert!(rt; ends_by(rt.alloc(), ErrorKind::BrokenPipe, Fault::Read)?);
-    assert!(rt; ends_by(rt.alloc(), ErrorKind::OutOfMemory, Fault::Memory)?);
+    assert!(rt; ends_by(rt.alloc(), ErrorKind::BrokenPipe, RunFault::Read)?);
+    assert!(rt; ends_by(rt.alloc(), ErrorKind::OutOfMemory, RunFault::Memory)?);
     Ok(())
 }
 
@@ -448,7 +449,7 @@ fn an_input_that_fails(rt: HostRuntime) -> Result<(), Fail> {
 fn is_output_failing(alloc: Global, room: usize) -> Result<bool, Fail> {
     let mut output = Room(room);
     let mut reader = BufReader::new(alloc, FORK.as_bytes())?;
-    Ok(run(alloc, &[], &mut reader, &mut output) == Err(Fault::Write))
+    Ok(run(alloc, &[], &mut reader, &mut output) == Err(RunFault::Write))
 }
 
 #[test]

@@ -1,13 +1,17 @@
-use Rattle.std.proofs.Common.{◌<◌, arith, length}
-use Rattle.std.proofs.lemmas.Grind.{common_steps}
-use Rattle.serde_json.specs.Errors.{IsMemory}
-use Rattle.ct_monitor_lines.proofs.Lines.{err_state, long_is_none}
+use Rattle.std.proofs.Common.{◌∙◌, sym, ap}
+use Rattle.std.specs.Prelude.{option_map}
+use Rattle.serde_json.specs.View.{view}
+use Rattle.ct_lines.proofs.Values.{value_is}
+use Rattle.ct_monitor_lines.proofs.Lines.{none_state}
 use Rattle.ct_monitor_lines.proofs.state.read_state.Goals as goal
 
-pub returns-then-is_long : goal.returns-then-is_long
-returns-then-is_long c =
-    let long : 16777216 < length c.args.line.now = grind (arith, common_steps) in
-    long_is_none c.args.line.now long
+pub state_of-requires-clause-short : goal.state_of-requires-clause-short
+state_of-requires-clause-short c =
+    (value_is 16777216 c.args.line.now (view c.in-Some.value) (sym c.in_ok-value.ensures.value ∙ ap (option_map view) c.in-Some.is)).0
 
-pub returns-in-Err : goal.returns-in-Err
-returns-in-Err c = err_state c.from.result.state c.args.line.now (IsMemory c.in-Err.error) c.from.ensures c.in-Err.ensures.err
+pub state_of-requires-clause-read : goal.state_of-requires-clause-read
+state_of-requires-clause-read c =
+    (value_is 16777216 c.args.line.now (view c.in-Some.value) (sym c.in_ok-value.ensures.value ∙ ap (option_map view) c.in-Some.is)).2
+
+pub returns-in-None : goal.returns-in-None
+returns-in-None c = none_state c.args.line.now (sym (ap (option_map view) c.in-None.is) ∙ c.in_ok-value.ensures.value)
