@@ -6,19 +6,20 @@ cd "$(dirname "$0")/.."
 what=$1
 missing=0
 
-# The processor minutes that a target takes where nothing was proved before, by a run of the gate, from which demo, serve,
+# The processor minutes that a target takes where nothing was proved before: test by a run of the gate, demo by a run of its own, from which serve,
 # serve-ctlogd and link are reckoned. After another run: put its figures into this line, and let `needs.sh write` put the times into README.md.
-work_of() { local demo=74 serve=44 ctlogd=51 link=12 test=237 name=${1#serve-} && echo "${!name}"; }
+work_of() { local demo=60 serve=36 ctlogd=41 link=10 test=204 name=${1#serve-} && echo "${!name}"; }
 
-# The minutes that target $1 takes on $2 processors, rounded to five. Crates are proved side by side: a third is added where processors share
-# them, and more than eight gain little, of a program's own crates more than four.
+# The minutes that target $1 takes on $2 processors, rounded up to five. Crates are proved side by side: where processors share them a third is added, or
+# a fifteenth to the gate's, and more than eight gain little, of a program's own crates more than four.
 minutes() {
   python3 - "$1" "$(work_of "$1")" "$2" <<'END'
+import math
 import sys
 
 what, work, processors = sys.argv[1], int(sys.argv[2]), int(sys.argv[3])
-taken = work if processors == 1 else work * 4 / 3 / min(processors, 8 if what == "test" else 4)
-print(max(5, round(taken / 5) * 5))
+taken = work if processors == 1 else work * (16 / 15 if what == "test" else 4 / 3) / min(processors, 8 if what == "test" else 4)
+print(max(5, math.ceil(round(taken, 3) / 5) * 5))
 END
 }
 
