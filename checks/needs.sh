@@ -24,7 +24,7 @@ END
 }
 
 # The sentence of README.md that says whose times these are.
-whose() { echo "The times are reckoned from an earlier run of the gate."; }
+whose() { echo "The times are reckoned from earlier runs."; }
 
 time_of() { echo "$(minutes "$1" 4) minutes ($(work_of "$1") of one processor)"; }
 
@@ -92,4 +92,4 @@ case $what in
   test) first="everything, from nothing. That" ;;
   *) exit 0 ;;
 esac
-echo "make $what proves $first takes some $(minutes "$what" "$processors") minutes on $on ($(work_of "$what") of one processor), reckoned from an earlier run of the gate."
+echo "make $what proves $first takes some $(minutes "$what" "$processors") minutes on $on ($(work_of "$what") of one processor), reckoned from earlier runs."
