@@ -1,12 +1,11 @@
-//! The leaf hashes of many leaves, by fork and join.
+//! The leaf hashes of many leaves, by threads that are joined.
 ghost use Rattle.std.specs.Prelude.{◌≡◌, ◌+◌, ◌<◌, ◌≤◌, ℕ, List, length, map, slice_index_or, IfOk};
 ghost use Rattle.std.specs.List.{flat_map};
-ghost use Rattle.std.specs.Thread.{IsSync};
 ghost use Rattle.ct_tree.specs.Tree.{hash_leaf};
 
 use crate::hash::{NodeHash, leaf_hash, leaf_hash_parts};
 use std::alloc::{AllocError, Allocator};
-use std::thread::{Threads, join_mut};
+use std::thread::{Threads, for_each_mut};
 
 // A leaf, in whatever form its bytes are held.
 trait LeafBytes {
@@ -32,21 +31,8 @@ impl<'a> LeafBytes for [&'a [u8]; 5] {
     }
 }
 
-// One worker's part.
-fn hash_part<H: NodeHash, L: LeafBytes>(h: &H, leaves: &[L], hashes: &mut [[u8; 32]])
-    requires { length hashes.old ≡ length leaves.now }
-    ensures length { length hashes.new ≡ length hashes.old }
-    ensures each { (k : ℕ) (d : List ℕ) (e : L) → k < length hashes.old
-        → slice_index_or hashes.new k d ≡ hash_leaf H.digest (L.bytes (slice_index_or leaves.now k e)) }
-{
-    for k in 0..hashes.len() {
-        hashes[k] = leaves[k].hashed(h);
-    }
-}
-
-// Each worker takes one part: the parts' lengths differ by one at most, since at each fork the leaves are shared out by
-// the numbers of workers on the two sides. The part for which no thread can be started is hashed in the caller's.
-fn hash_among<H: NodeHash + Sync, L: LeafBytes + Sync, R: Threads + Sync>(
+// Each worker takes one part. The part for which no thread can be started is hashed in the caller's.
+fn hash_each<H: NodeHash + Sync, L: LeafBytes + Sync, R: Threads + Sync>(
     rt: &R,
     h: &H,
     leaves: &[L],
@@ -54,35 +40,12 @@ fn hash_among<H: NodeHash + Sync, L: LeafBytes + Sync, R: Threads + Sync>(
     workers: usize,
 )
     requires length { length hashes.old ≡ length leaves.now }
-    requires workers { (0 < workers) × (workers ≤ 64) }
+    requires workers { 0 < workers }
     ensures length { length hashes.new ≡ length hashes.old }
     ensures each { (k : ℕ) (d : List ℕ) (e : L) → k < length hashes.old
         → slice_index_or hashes.new k d ≡ hash_leaf H.digest (L.bytes (slice_index_or leaves.now k e)) }
 {
-    if workers == 1 || leaves.len() < 2 {
-        hash_part(h, leaves, hashes);
-        return;
-    }
-    let second = workers / 2;
-    let first = workers - second;
-    let cut = leaves.len() / workers * first + leaves.len() % workers * first / workers;
-    let (left, right) = leaves.split_at(cut);
-    let (front, back) = hashes.split_at_mut(cut);
-    join_mut(
-        rt,
-        &mut ||
-            requires { IsSync R.row × IsSync H.row × IsSync L.row
-                × (length front.now ≡ length left.now) × (0 < first) × (first ≤ 64) }
-            ensures { (k : ℕ) (d : List ℕ) (e : L) → k < length front.entry.now
-                → slice_index_or front.exit.now k d ≡ hash_leaf H.digest (L.bytes (slice_index_or left.entry.now k e)) }
-        { hash_among(rt, h, left, front, first) },
-        &mut ||
-            requires { IsSync R.row × IsSync H.row × IsSync L.row
-                × (length back.now ≡ length right.now) × (0 < second) × (second ≤ 64) }
-            ensures { (k : ℕ) (d : List ℕ) (e : L) → k < length back.entry.now
-                → slice_index_or back.exit.now k d ≡ hash_leaf H.digest (L.bytes (slice_index_or right.entry.now k e)) }
-        { hash_among(rt, h, right, back, second) },
-    );
+    for_each_mut(rt, hashes, workers, &|k, hash| *hash = leaves[k].hashed(h));
 }
 
 // The leaf hashes in order.
@@ -98,13 +61,13 @@ fn hash_all<A: Allocator, H: NodeHash + Sync, L: LeafBytes + Sync, R: Threads + 
         hashes.items ≡ map (λ leaf. hash_leaf H.digest (L.bytes leaf)) leaves.now) }
 {
     let mut hashes = vec![in alloc; [0; 32]; leaves.len()]?;
-    hash_among(rt, h, leaves, &mut hashes, workers);
+    hash_each(rt, h, leaves, &mut hashes, workers);
     Ok(hashes)
 }
 
 /// The leaf hashes of `leaves` in order (RFC 6962, section 2.1), by 1 to 64 workers. Each worker hashes one contiguous
-/// part, and the lengths of the parts differ by one at most. Where no thread can be started for a worker, its part is
-/// hashed all the same.
+/// part, and no part has more leaves than the first, which has their number over that of the workers, rounded up. Where no
+/// thread can be started for a worker, its part is hashed all the same.
 pub fn hash_batch<A: Allocator, H: NodeHash + Sync, R: Threads + Sync>(
     rt: &R,
     alloc: A,

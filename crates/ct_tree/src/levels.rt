@@ -25,6 +25,22 @@ pub(crate) fn stored(
     }
 }
 
+// Adds an empty list, where this is the level of the first one that is missing.
+fn reach(
+    alloc: Global,
+    above: &mut Vec<SharedList<[u8; 32]>>,
+    level: usize,
+) -> Result<(), AllocError>
+    requires { level ≤ length above.old.items }
+    ensures same { HaveSameLevels above.new.items above.old.items }
+    ensures there { OnOk result (level < length above.new.items) }
+{
+    if level == above.len() {
+        above.push(SharedList::new(alloc))?;
+    }
+    Ok(())
+}
+
 // Adds a node at the end of a list, where the index is the list's length. The list may be the first one that is missing.
 fn put(
     alloc: Global,
@@ -40,9 +56,7 @@ fn put(
     ensures there { OnOk result ((length (get_or above.old.items level []) ≡ index → ⊥) → get_or above.new.items level [] ≡ get_or above.old.items level []) }
     ensures err { OnErr result (HaveSameLevels above.new.items above.old.items) }
 {
-    if level == above.len() {
-        above.push(SharedList::new(alloc))?;
-    }
+    reach(alloc, above, level)?;
     if above[level].len() == index {
         above[level].push(alloc, *node)?;
     }
