@@ -109,7 +109,7 @@ sweep: ## refuses each growth of ctlog, of ctlogd and of the library's calls in 
 	@PYTHONDONTWRITEBYTECODE=1 python3 tests/growths.py
 	@PYTHONDONTWRITEBYTECODE=1 python3 tests/short_calls.py
 
-# After `make check`, over whose work it goes. The gate tries those of must-fail/ itself.
+# After `make check`, over whose work it goes. The gate tries those of must-fail/ each time.
 wrong: ## has the prover refuse the wrong bodies of CRATE=ct_core that not every gate tries (crates/*/wrong-bodies, by-turns)
 	@PYTHONDONTWRITEBYTECODE=1 python3 checks/wrong_bodies.py $(or $(CRATE),ct_core)
 

@@ -6,7 +6,8 @@ more as it is, and the status is that of `rt ci`.
 how long it has been at work.
 
 Beside the edits of crates/NAME/must-fail it has `rt ci` try those of crates/NAME/by-turns, of a third of the crates that have this folder: the
-commit's hash says which, or TURN=0, 1 or 2 in the environment. They stand in must-fail while it runs.
+commit's hash says which, or TURN=0, 1 or 2 in the environment. They stand in must-fail while it runs. What a crate's edits cost is one more proof of
+the crate, and little for each; so the thirds are made of whole crates, of about the same size.
 
 `rt ci` guesses what memory a proof needs, at two to three times what was seen, and lets a large crate wait while smaller ones have that: so ct_live, in
 the longest chain of crates, waited. Where each processor has memory for a proof, it is told to use them all, by RT_JOBS.
@@ -49,10 +50,23 @@ def put_out():
             there.parent.rmdir()
 
 
+def size_of(crate):
+    """The bytes of a crate's code, specs and proofs."""
+    return sum(path.stat().st_size for part in ("src", "specs", "proofs") for path in (crate / part).rglob("*") if path.is_file())
+
+
+def thirds():
+    """The crates that have edits by turns, in thirds: the largest first, each goes where least is so far."""
+    found = [[] for _ in range(THIRDS)]
+    for crate in sorted((folder.parent for folder in ROOT.glob("crates/*/by-turns")), key=lambda it: (-size_of(it), it.name)):
+        min(found, key=lambda third: sum(map(size_of, third))).append(crate)
+    return found
+
+
 def put_in():
     """Puts the edits of this turn into must-fail, and answers the names of their crates."""
     put_out()
-    crates = sorted(folder.parent for folder in ROOT.glob("crates/*/by-turns"))[turn() :: THIRDS]
+    crates = sorted(thirds()[turn()])
     for crate in crates:
         for edit in (crate / "by-turns").glob("*.edit"):
             (crate / "must-fail").mkdir(exist_ok=True)

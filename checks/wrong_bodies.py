@@ -4,10 +4,10 @@
     wrong_bodies.py [CRATE..]
 
 crates/NAME/wrong-bodies/ has edits of the form that crates/NAME/must-fail/ has: a line 'file: PATH', and then pairs of lines 'old: TEXT' and
-'new: TEXT', of which each TEXT stands in that file exactly once. The gate tries those of must-fail, a few a crate, since one costs up to a
-minute of a processor, and by turns those of by-turns (gate.py). Without a name it looks, in a moment, whether all edits of the three folders
-can be applied, and whether no name stands in two. With names it has rt try the crates' edits of wrong-bodies and by-turns, over a copy of the
-repository with what is proved there.
+'new: TEXT', of which each TEXT stands in that file exactly once. The gate tries those of must-fail each time, and those of by-turns of a third of
+the crates (gate.py), since one costs up to a minute of a processor, and a crate's first one a proof of the crate. Without a name it looks, in a
+moment, whether all edits of the three folders can be applied, and whether no name stands in two. With names it has rt try the crates' edits of
+wrong-bodies and by-turns, over a copy of the repository with what is proved there.
 """
 import pathlib
 import re
