@@ -8,7 +8,7 @@ use Rattle.ct_verify.proofs.Shown.{Shows, evid_shows, audited_none, audited_acce
 use Rattle.ct_verify.specs.Rebuild.{rebuild}
 use Rattle.ct_verify.specs.Verdict.{AcceptsInclusion}
 use Rattle.ct_verify.specs.Evidence.{Collides, evid, IsAudited}
-use Rattle.ct_verify.specs.Difference.{IsCollision}
+use Rattle.ct_verify.specs.Strings.{IsCollision}
 use Rattle.ct_verify.specs.Laws.{PathHolds}
 use Rattle.ct_verify.specs.InclusionEvidence.{IsAccepted, InclusionEvidence, InclusionFault}
 use Rattle.ct_verify.specs.declared.evidence.Evidence.{Evidence}

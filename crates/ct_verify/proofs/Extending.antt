@@ -1,5 +1,5 @@
 -- The evidence for a consistency proof.
-use Rattle.std.proofs.Common.{◌≡◌, ℕ, refl, subst, sym, ◌∙◌, ap, false, eqb, List, length, take, map, Ok, Err, Result, MatchResult}
+use Rattle.std.proofs.Common.{◌≡◌, ℕ, refl, subst, sym, ◌∙◌, ap, true, false, eqb, List, length, take, map, Some, Ok, Err, Result, MatchResult}
 use Rattle.std.specs.Prelude.{IsErr, IsErrAnd}
 use Rattle.std.specs.Bool.{Decides}
 use Rattle.std.specs.Cmp.Lexicographic.{pointwise, pointwise_decides}
@@ -8,7 +8,10 @@ use Rattle.std.proofs.lemmas.Bool.{both_ways}
 use Rattle.std.proofs.lemmas.Slice.Eq.{bytes_eq-Decides}
 use Rattle.std.proofs.lemmas.List.{length-map, take-map}
 use Rattle.ct_tree.specs.Tree.{mth_of_leaves}
+use Rattle.ct_verify.proofs.Clashes.{along_collides}
 use Rattle.ct_verify.proofs.Defined.{accepted_proof_not_refused}
+use Rattle.ct_verify.specs.Clash.{ClashAlong}
+use Rattle.ct_verify.specs.Strings.{IsCollision}
 use Rattle.ct_verify.specs.Verdict.{AcceptsConsistency, RefusesConsistency}
 use Rattle.ct_verify.specs.ConsistencyEvidence.{IsAcceptedFor, IsBeginning, ConsistencyEvidence, ConsistencyFault}
 use Rattle.ct_verify.specs.declared.fault.ProofFault.{ProofFault}
@@ -52,3 +55,11 @@ module _ (H : List ℕ → List ℕ) where
   extension_holds E D p (Err (ProofRefused v)) e a b =
       absurd (accepted_proof_not_refused H (length E) (length D) (mth_of_leaves H E) (mth_of_leaves H D) p v a e)
   extension_holds E D p (Err Memory) e a b = absurd (e.1 b)
+
+  -- the first clash along an accepted proof is the evidence
+  pub clash_found : {A : Type 0} → (E D p : List (List ℕ)) (z : List ℕ × List ℕ) (e : Evidence A) → IsAcceptedFor H E D p → (¬ IsBeginning E D)
+      → ClashAlong H true (mth_of_leaves H E) E D p (Some z) → IsCollision z e → ConsistencyEvidence H E D p e
+  clash_found E D p z Holds a n w i = absurd i
+  clash_found E D p z (Collision x y) a n w i =
+      let c = along_collides H true (mth_of_leaves H E) E D p (Some z) z w refl in
+      (a, n, rw (i.0, i.1) c, rw (i.0, i.1) w)

@@ -1,8 +1,7 @@
 -- No path and no proof is refused in two ways.
-use Rattle.std.proofs.Common.{refl, ◌≡◌, ℕ, sym, ◌∙◌, ap, arith, List, length, Some, true}
+use Rattle.std.proofs.Common.{refl, ◌≡◌, ℕ, sym, ◌∙◌, ap, arith, List, length, true}
 use Rattle.ct_verify.proofs.Defined.{both_defined_length, not_empty}
 use Rattle.ct_verify.proofs.Options.{same_some}
-use Rattle.ct_verify.specs.Rebuild.{both_roots}
 use Rattle.ct_verify.specs.Verdict.{RefusesInclusion, RefusesConsistency}
 use Rattle.ct_verify.specs.declared.fault.ProofFault.{ProofFault}
 use Rattle.ct_verify.specs.declared.fault.ProofFault.TheVariants.{IndexOutOfRange, PathTooLong, PathTooShort, RootMismatch, EmptyPath, FirstMismatch}

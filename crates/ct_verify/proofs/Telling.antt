@@ -1,7 +1,7 @@
 -- An accepted proof, held against the lists: the old list begins the new one, or two different strings have one hash. So does an
 -- accepted path.
-use Rattle.std.proofs.Common.{refl, subst, zero, suc, ◌⊎◌, inl, inr, ⊎_elim, ◌≡◌, ℕ, ◌-◌, ◌<◌, ◌≤◌, sym, ◌∙◌, ap, arith, Bool, true, false, List, [], ◌∷◌, ◌++◌}
-use Rattle.std.proofs.Common.{length, take, drop, Option, Some, None, All, length-drop}
+use Rattle.std.proofs.Common.{refl, zero, suc, ◌⊎◌, inl, inr, ⊎_elim, ◌≡◌, ℕ, ◌-◌, ◌<◌, ◌≤◌, sym, ◌∙◌, ap, arith, Bool, true, false, List, [], ◌∷◌, ◌++◌}
+use Rattle.std.proofs.Common.{length, take, drop, Option, Some, None, length-drop}
 use Rattle.std.specs.Option.{option_or}
 use Rattle.std.proofs.lemmas.Bool.{cases_lt}
 use Rattle.std.proofs.lemmas.List.{length-take-le}
@@ -12,9 +12,8 @@ use Rattle.ct_verify.proofs.Clashes.{lists_collide, lists_same, along_collides, 
 use Rattle.ct_verify.proofs.Shown.{Shows, evid_shows}
 use Rattle.ct_verify.proofs.Walking.{short, inner_left, inner_right}
 use Rattle.ct_verify.specs.Clash.{clash, root_string, ClashOfLists, leaf, node, ClashAlong, whole, left, right}
-use Rattle.ct_verify.specs.ConsistencyEvidence.{IsAcceptedFor, IsBeginning}
-use Rattle.ct_verify.specs.Evidence.{Collides, IsAudited, evid}
-use Rattle.ct_verify.specs.InclusionEvidence.{IsAccepted}
+use Rattle.ct_verify.specs.ConsistencyEvidence.{IsBeginning}
+use Rattle.ct_verify.specs.Evidence.{IsAudited, evid}
 use Rattle.ct_verify.specs.Laws.{AreHashes, SomeCollide, PathTells, ProofTells, RootTells}
 use Rattle.ct_verify.specs.Rebuild.{both_roots}
 

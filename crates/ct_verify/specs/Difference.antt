@@ -1,8 +1,6 @@
 -- The strings that an audit path and a list of leaves hash, where they differ.
-use Rattle.std.specs.Prelude.{◌≡◌, ℕ, List, ◌∷◌}
+use Rattle.std.specs.Prelude.{ℕ, List, ◌∷◌}
 use Rattle.ct_verify.specs.Strings.{children_string}
-use Rattle.ct_verify.specs.declared.evidence.Evidence.{Evidence}
-use Rattle.ct_verify.specs.declared.evidence.Evidence.TheVariants.{Holds, Collision}
 use Rattle.ct_verify.specs.declared.inclusion_evidence.Difference.{Difference}
 use Rattle.ct_verify.specs.declared.inclusion_evidence.Difference.TheVariants.{AtLeaf, AtNode}
 
@@ -10,8 +8,3 @@ use Rattle.ct_verify.specs.declared.inclusion_evidence.Difference.TheVariants.{A
 abbrev pub strings : List ℕ → List ℕ → Difference → List ℕ × List ℕ
 strings leaf other AtLeaf = (0 ∷ leaf, 0 ∷ other)
 strings leaf other (AtNode proved listed) = (children_string proved, children_string listed)
-
--- a collision of this pair of strings
-abbrev pub IsCollision : {A : Type 0} → List ℕ × List ℕ → Evidence A → Type 0
-IsCollision z Holds = ⊥
-IsCollision z (Collision a b) = (a.items ≡ z.0) × (b.items ≡ z.1)

@@ -1,13 +1,20 @@
 -- What the search for a collision between two lists finds, as the contracts of its helper functions cite it.
-use Rattle.std.specs.Prelude.{◌≡◌, ℕ, Bool, List, length, take, Option, Some}
+use Rattle.std.specs.Prelude.{◌≡◌, ℕ, Bool, List, ◌∷◌, length, take, Option, Some}
 use Rattle.std.specs.Option.{option_map}
 use Rattle.ct_tree.specs.Tree.{mth_of_leaves, hash_node}
 use Rattle.ct_verify.specs.Rebuild.{both_roots}
-use Rattle.ct_verify.specs.declared.consistency_evidence.Pair.{Pair}
+use Rattle.ct_verify.specs.Strings.{children_string}
+use Rattle.ct_verify.specs.declared.consistency_evidence.Clash.{Clash}
+use Rattle.ct_verify.specs.declared.consistency_evidence.Clash.TheVariants.{Leaves, Nodes}
+
+-- the two strings of a clash
+abbrev pub clash_strings : Clash → List ℕ × List ℕ
+clash_strings (Leaves a b) = (0 ∷ a.now, 0 ∷ b.now)
+clash_strings (Nodes a b) = (children_string a, children_string b)
 
 -- the strings that were found
-abbrev pub found_strings : {A : Type 0} → Option (Pair A) → Option (List ℕ × List ℕ)
-found_strings o = option_map (λ z. (z.first.items, z.second.items)) o
+abbrev pub found_strings : Option Clash → Option (List ℕ × List ℕ)
+found_strings o = option_map clash_strings o
 
 -- the hashes of two nodes, where they are equal, are made from equal parts
 abbrev pub NodesApart : (List ℕ → List ℕ) → List ℕ → List ℕ → List ℕ → List ℕ → Type 0

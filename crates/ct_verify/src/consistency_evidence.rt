@@ -3,162 +3,135 @@ ghost use Rattle.std.specs.Prelude.{◌≡◌, ◌<◌, ◌≤◌, ◌↔◌, �
 ghost use Rattle.std.specs.Option.{option_or};
 ghost use Rattle.ct_tree.specs.Tree.{hash_leaf, hash_node, mth_of_leaves};
 ghost use Rattle.ct_verify.specs.Rebuild.{both_roots};
-ghost use Rattle.ct_verify.specs.Strings.{children_string};
-ghost use Rattle.ct_verify.specs.Search.{found_strings};
-ghost use Rattle.ct_verify.specs.Clash.{clash_by, clash, ClashOfLists, ClashAlong};
+ghost use Rattle.ct_verify.specs.Strings.{children_string, IsCollision};
+ghost use Rattle.ct_verify.specs.Search.{clash_strings, found_strings};
+ghost use Rattle.ct_verify.specs.Clash.{clash, ClashOfLists, ClashAlong};
 ghost use Rattle.ct_verify.specs.ConsistencyEvidence.{IsAcceptedFor, IsBeginning, ConsistencyEvidence, ConsistencyFault};
 ghost use Rattle.ct_verify.specs.declared.evidence.Evidence.TheVariants.{Holds};
 
 use crate::children::{Children, is_same, is_same_string, under_node};
 use crate::consistency::verify_consistency;
-use crate::evidence::{Evidence, EvidenceFault, hashed_string};
+use crate::evidence::{Evidence, EvidenceFault, leaf_collision, node_collision};
 use crate::halves::{last_and_rest, root_of_leaves};
 use ct_tree::{NodeHash, largest_power_below, leaf_hash, node_hash};
 use std::alloc::{AllocError, Allocator};
 
-// Two different strings with one hash.
-#[derive(Drop)]
-struct Pair<A: Allocator> {
-    first: Vec<u8, A>,
-    second: Vec<u8, A>,
+// Two strings that differ and have one hash, by what is hashed: two leaves, or what stands under two nodes.
+#[derive(Clone, Copy)]
+enum Clash<'a> {
+    Leaves(&'a [u8], &'a [u8]),
+    Nodes(Children, Children),
 }
 
-// Two lists of one length: their roots, and a collision where one was found.
-#[derive(Drop)]
-struct Sides<A: Allocator> {
+// Two nodes beside each other: their hashes, and the clash of their strings.
+#[derive(Clone, Copy)]
+struct Met<'a> {
+    first: [u8; 32],
+    second: [u8; 32],
+    found: Option<Clash<'a>>,
+}
+
+// Two lists of one length: their roots, and the first clash in them.
+#[derive(Clone, Copy)]
+struct Sides<'a> {
     old_root: [u8; 32],
     new_root: [u8; 32],
-    found: Option<Pair<A>>,
+    found: Option<Clash<'a>>,
 }
 
-// Two lists and the roots that a proof gives for them.
-#[derive(Drop)]
-struct Walked<A: Allocator> {
+// Two lists and the roots that a proof gives for them, and the first clash along the proof.
+#[derive(Clone, Copy)]
+struct Walked<'a> {
     first: [u8; 32],
     second: [u8; 32],
     old_root: [u8; 32],
     new_root: [u8; 32],
-    found: Option<Pair<A>>,
+    found: Option<Clash<'a>>,
 }
 
-// The strings of two nodes with these hashes, where they differ and the hashes are equal.
-fn meet<A: Allocator + Clone>(
-    alloc: &A,
-    a: &Children,
-    b: &Children,
-    hash: &[u8; 32],
-    other: &[u8; 32],
-) -> Result<Option<Pair<A>>, AllocError>
-    ensures { IfOk result (λ o. found_strings o ≡ clash_by hash.now other.now (children_string a.now) (children_string b.now)) }
+// Two nodes beside each other.
+fn beside_nodes<'a, H: NodeHash>(h: &H, a: Children, b: Children) -> Met<'a>
+    ensures first { result.first ≡ H.digest (children_string a) }
+    ensures second { result.second ≡ H.digest (children_string b) }
+    ensures found { found_strings result.found ≡ clash H.digest (children_string a) (children_string b) }
 {
-    if is_same_string(a, b) {
-        return Ok(None);
-    }
-    if !is_same(hash, other) {
-        return Ok(None);
-    }
-    let first = hashed_string(alloc.clone()?, 1, &a.left, &a.right)?;
-    let second = hashed_string(alloc.clone()?, 1, &b.left, &b.right)?;
-    Ok(Some(Pair { first, second }))
-}
-
-// The strings of two leaves with these hashes, where they differ and the hashes are equal.
-fn meet_leaves<A: Allocator + Clone>(
-    alloc: &A,
-    a: &[u8],
-    b: &[u8],
-    hash: &[u8; 32],
-    other: &[u8; 32],
-) -> Result<Option<Pair<A>>, AllocError>
-    ensures { IfOk result (λ o. found_strings o ≡ clash_by hash.now other.now (0 ∷ a.now) (0 ∷ b.now)) }
-{
-    if a == b {
-        return Ok(None);
-    }
-    if !is_same(hash, other) {
-        return Ok(None);
-    }
-    let first = hashed_string(alloc.clone()?, 0, a, &[])?;
-    let second = hashed_string(alloc.clone()?, 0, b, &[])?;
-    Ok(Some(Pair { first, second }))
-}
-
-// The first pair that was found.
-fn first_found<A: Allocator>(a: Option<Pair<A>>, b: Option<Pair<A>>) -> Option<Pair<A>>
-    ensures { found_strings result ≡ option_or (found_strings a) (found_strings b) }
-{
-    match a {
-        Some(pair) => Some(pair),
-        None => b,
+    let first = node_hash(h, &a.left, &a.right);
+    let second = node_hash(h, &b.left, &b.right);
+    let found = if !is_same_string(&a, &b) && is_same(&first, &second) {
+        Some(Clash::Nodes(a, b))
+    } else {
+        None
+    };
+    Met {
+        first,
+        second,
+        found,
     }
 }
 
 // Two leaves beside each other.
-fn beside_leaves<A: Allocator + Clone, H: NodeHash>(
-    alloc: &A,
-    h: &H,
-    old: &[u8],
-    new: &[u8],
-) -> Result<Sides<A>, AllocError>
-    ensures old { IfOk result (λ s. s.old_root ≡ hash_leaf H.digest old.now) }
-    ensures new { IfOk result (λ s. s.new_root ≡ hash_leaf H.digest new.now) }
-    ensures found { IfOk result (λ s. found_strings s.found ≡ clash H.digest (0 ∷ old.now) (0 ∷ new.now)) }
+fn beside_leaves<'a, H: NodeHash>(h: &H, old: &'a [u8], new: &'a [u8]) -> Sides<'a>
+    ensures old { result.old_root ≡ hash_leaf H.digest old.now }
+    ensures new { result.new_root ≡ hash_leaf H.digest new.now }
+    ensures found { found_strings result.found ≡ clash H.digest (0 ∷ old.now) (0 ∷ new.now) }
 {
     let old_root = leaf_hash(h, old);
     let new_root = leaf_hash(h, new);
-    let found = meet_leaves(alloc, old, new, &old_root, &new_root)?;
-    Ok(Sides {
+    let found = if old != new && is_same(&old_root, &new_root) {
+        Some(Clash::Leaves(old, new))
+    } else {
+        None
+    };
+    Sides {
         old_root,
         new_root,
         found,
-    })
+    }
+}
+
+// The first clash that was found.
+fn first_found<'a>(a: Option<Clash<'a>>, b: Option<Clash<'a>>) -> Option<Clash<'a>>
+    ensures { found_strings result ≡ option_or (found_strings a.entry) (found_strings b.entry) }
+{
+    match a {
+        Some(clash) => Some(clash),
+        None => b,
+    }
 }
 
 // The node over two parts of each list.
-fn over_parts<A: Allocator + Clone, H: NodeHash>(
-    alloc: &A,
-    h: &H,
-    left: Sides<A>,
-    right: Sides<A>,
-) -> Result<Sides<A>, AllocError>
-    ensures old { IfOk result (λ s. s.old_root ≡ hash_node H.digest left.old_root right.old_root) }
-    ensures new { IfOk result (λ s. s.new_root ≡ hash_node H.digest left.new_root right.new_root) }
-    ensures found { IfOk result (λ s. found_strings s.found ≡ option_or (option_or (found_strings left.found) (found_strings right.found))
-        (clash H.digest (1 ∷ left.old_root ++ right.old_root) (1 ∷ left.new_root ++ right.new_root))) }
+fn over_parts<'a, H: NodeHash>(h: &H, left: Sides<'a>, right: Sides<'a>) -> Sides<'a>
+    ensures old { result.old_root ≡ hash_node H.digest left.entry.old_root right.entry.old_root }
+    ensures new { result.new_root ≡ hash_node H.digest left.entry.new_root right.entry.new_root }
+    ensures found { found_strings result.found ≡ option_or (option_or (found_strings left.entry.found) (found_strings right.entry.found))
+        (clash H.digest (1 ∷ left.entry.old_root ++ right.entry.old_root) (1 ∷ left.entry.new_root ++ right.entry.new_root)) }
 {
     let a = under_node(left.old_root, right.old_root);
     let b = under_node(left.new_root, right.new_root);
-    let old_root = node_hash(h, &a.left, &a.right);
-    let new_root = node_hash(h, &b.left, &b.right);
-    let met = meet(alloc, &a, &b, &old_root, &new_root)?;
-    let found = first_found(first_found(left.found, right.found), met);
-    Ok(Sides {
-        old_root,
-        new_root,
+    let met = beside_nodes(h, a, b);
+    let found = first_found(first_found(left.found, right.found), met.found);
+    Sides {
+        old_root: met.first,
+        new_root: met.second,
         found,
-    })
+    }
 }
 
 // The roots of two lists of one length, and what is found in them. Each leaf is hashed once.
-fn diverge<A: Allocator + Clone, H: NodeHash>(
-    alloc: &A,
-    h: &H,
-    old: &[Vec<u8>],
-    new: &[Vec<u8>],
-) -> Result<Sides<A>, AllocError>
+fn diverge<'a, H: NodeHash>(h: &H, old: &'a [Vec<u8>], new: &'a [Vec<u8>]) -> Sides<'a>
     requires some { 0 < length old.now }
     requires same { length old.now ≡ length new.now }
-    ensures old { IfOk result (λ s. s.old_root ≡ mth_of_leaves H.digest (map (λ l. l.items) old.now)) }
-    ensures new { IfOk result (λ s. s.new_root ≡ mth_of_leaves H.digest (map (λ l. l.items) new.now)) }
-    ensures found { IfOk result (λ s. ClashOfLists H.digest (map (λ l. l.items) old.now) (map (λ l. l.items) new.now) (found_strings s.found)) }
+    ensures old { result.old_root ≡ mth_of_leaves H.digest (map (λ l. l.items) old.now) }
+    ensures new { result.new_root ≡ mth_of_leaves H.digest (map (λ l. l.items) new.now) }
+    ensures found { ClashOfLists H.digest (map (λ l. l.items) old.now) (map (λ l. l.items) new.now) (found_strings result.found) }
 {
     if old.len() == 1 {
-        return beside_leaves(alloc, h, &old[0], &new[0]);
+        return beside_leaves(h, &old[0], &new[0]);
     }
     let middle = largest_power_below(old.len());
-    let left = diverge(alloc, h, &old[..middle], &new[..middle])?;
-    let right = diverge(alloc, h, &old[middle..], &new[middle..])?;
-    over_parts(alloc, h, left, right)
+    let left = diverge(h, &old[..middle], &new[..middle]);
+    let right = diverge(h, &old[middle..], &new[middle..]);
+    over_parts(h, left, right)
 }
 
 // One of two digests.
@@ -170,116 +143,103 @@ fn chosen(known: bool, a: &[u8; 32], b: &[u8; 32]) -> [u8; 32]
 
 // The node over the part with the old list, at the left, and a part of the new list alone: the proof has `sibling` for
 // it, and `other` is its root.
-fn over_left<A: Allocator + Clone, H: NodeHash>(
-    alloc: &A,
+fn over_left<'a, H: NodeHash>(
     h: &H,
-    part: Walked<A>,
+    part: Walked<'a>,
     sibling: &[u8; 32],
     other: &[u8; 32],
-) -> Result<Walked<A>, AllocError>
-    ensures proof { IfOk result (λ w. (w.first ≡ part.first) × (w.second ≡ hash_node H.digest part.second sibling.now)) }
-    ensures old { IfOk result (λ w. w.old_root ≡ part.old_root) }
-    ensures new { IfOk result (λ w. w.new_root ≡ hash_node H.digest part.new_root other.now) }
-    ensures found { IfOk result (λ w. found_strings w.found ≡ option_or (found_strings part.found)
-        (clash H.digest (1 ∷ part.second ++ sibling.now) (1 ∷ part.new_root ++ other.now))) }
+) -> Walked<'a>
+    ensures proof { (result.first ≡ part.entry.first) × (result.second ≡ hash_node H.digest part.entry.second sibling.now) }
+    ensures old { result.old_root ≡ part.entry.old_root }
+    ensures new { result.new_root ≡ hash_node H.digest part.entry.new_root other.now }
+    ensures found { found_strings result.found ≡ option_or (found_strings part.entry.found)
+        (clash H.digest (1 ∷ part.entry.second ++ sibling.now) (1 ∷ part.entry.new_root ++ other.now)) }
 {
     let a = under_node(part.second, *sibling);
     let b = under_node(part.new_root, *other);
-    let second = node_hash(h, &a.left, &a.right);
-    let new_root = node_hash(h, &b.left, &b.right);
-    let met = meet(alloc, &a, &b, &second, &new_root)?;
-    let first = part.first;
-    let old_root = part.old_root;
-    let found = first_found(part.found, met);
-    Ok(Walked {
-        first,
-        second,
-        old_root,
-        new_root,
+    let met = beside_nodes(h, a, b);
+    let found = first_found(part.found, met.found);
+    Walked {
+        first: part.first,
+        second: met.first,
+        old_root: part.old_root,
+        new_root: met.second,
         found,
-    })
+    }
 }
 
 // The nodes over a part that both lists have, at the left, and the part in which the old list ends: the proof has
 // `sibling` for the first of them.
-fn over_right<A: Allocator + Clone, H: NodeHash>(
-    alloc: &A,
+fn over_right<'a, H: NodeHash>(
     h: &H,
-    sides: Sides<A>,
-    part: Walked<A>,
+    sides: Sides<'a>,
+    part: Walked<'a>,
     sibling: &[u8; 32],
-) -> Result<Walked<A>, AllocError>
-    ensures proof { IfOk result (λ w. (w.first ≡ hash_node H.digest sibling.now part.first) × (w.second ≡ hash_node H.digest sibling.now part.second)) }
-    ensures old { IfOk result (λ w. w.old_root ≡ hash_node H.digest sides.old_root part.old_root) }
-    ensures new { IfOk result (λ w. w.new_root ≡ hash_node H.digest sides.new_root part.new_root) }
-    ensures found { IfOk result (λ w. found_strings w.found ≡ option_or (option_or (found_strings sides.found) (found_strings part.found))
-        (option_or (clash H.digest (1 ∷ sibling.now ++ part.first) (1 ∷ sides.old_root ++ part.old_root))
-        (clash H.digest (1 ∷ sibling.now ++ part.second) (1 ∷ sides.new_root ++ part.new_root)))) }
+) -> Walked<'a>
+    ensures proof { (result.first ≡ hash_node H.digest sibling.now part.entry.first) × (result.second ≡ hash_node H.digest sibling.now part.entry.second) }
+    ensures old { result.old_root ≡ hash_node H.digest sides.entry.old_root part.entry.old_root }
+    ensures new { result.new_root ≡ hash_node H.digest sides.entry.new_root part.entry.new_root }
+    ensures found { found_strings result.found ≡ option_or (option_or (found_strings sides.entry.found) (found_strings part.entry.found))
+        (option_or (clash H.digest (1 ∷ sibling.now ++ part.entry.first) (1 ∷ sides.entry.old_root ++ part.entry.old_root))
+        (clash H.digest (1 ∷ sibling.now ++ part.entry.second) (1 ∷ sides.entry.new_root ++ part.entry.new_root))) }
 {
     let a = under_node(*sibling, part.first);
     let b = under_node(sides.old_root, part.old_root);
-    let first = node_hash(h, &a.left, &a.right);
-    let old_root = node_hash(h, &b.left, &b.right);
-    let met_old = meet(alloc, &a, &b, &first, &old_root)?;
+    let met_old = beside_nodes(h, a, b);
     let c = under_node(*sibling, part.second);
     let d = under_node(sides.new_root, part.new_root);
-    let second = node_hash(h, &c.left, &c.right);
-    let new_root = node_hash(h, &d.left, &d.right);
-    let met_new = meet(alloc, &c, &d, &second, &new_root)?;
+    let met_new = beside_nodes(h, c, d);
     let below = first_found(sides.found, part.found);
-    let found = first_found(below, first_found(met_old, met_new));
-    Ok(Walked {
-        first,
-        second,
-        old_root,
-        new_root,
+    let found = first_found(below, first_found(met_old.found, met_new.found));
+    Walked {
+        first: met_old.first,
+        second: met_new.first,
+        old_root: met_old.second,
+        new_root: met_new.second,
         found,
-    })
+    }
 }
 
 // Goes along a consistency proof through both lists. Each leaf is hashed once.
-fn walk<A: Allocator + Clone, H: NodeHash>(
-    alloc: &A,
+fn walk<'a, H: NodeHash>(
     h: &H,
-    old: &[Vec<u8>],
-    new: &[Vec<u8>],
+    old: &'a [Vec<u8>],
+    new: &'a [Vec<u8>],
     known: bool,
     first_root: &[u8; 32],
     path: &[[u8; 32]],
-) -> Result<Walked<A>, AllocError>
+) -> Walked<'a>
     requires some { 0 < length old.now }
     requires within { length old.now ≤ length new.now }
-    ensures old { IfOk result (λ w. w.old_root ≡ mth_of_leaves H.digest (map (λ l. l.items) old.now)) }
-    ensures new { IfOk result (λ w. w.new_root ≡ mth_of_leaves H.digest (map (λ l. l.items) new.now)) }
-    ensures rebuilt { IfOk result (λ w. (x y : List ℕ) → both_roots H.digest (length old.now) (length new.now) known first_root.now path.now ≡ Some (x, y)
-        → (w.first ≡ x) × (w.second ≡ y)) }
-    ensures found { IfOk result (λ w. (x y : List ℕ) → both_roots H.digest (length old.now) (length new.now) known first_root.now path.now ≡ Some (x, y)
-        → ClashAlong H.digest known first_root.now (map (λ l. l.items) old.now) (map (λ l. l.items) new.now) path.now (found_strings w.found)) }
+    ensures old { result.old_root ≡ mth_of_leaves H.digest (map (λ l. l.items) old.now) }
+    ensures new { result.new_root ≡ mth_of_leaves H.digest (map (λ l. l.items) new.now) }
+    ensures rebuilt { (x y : List ℕ) → both_roots H.digest (length old.now) (length new.now) known first_root.now path.now ≡ Some (x, y)
+        → (result.first ≡ x) × (result.second ≡ y) }
+    ensures found { (x y : List ℕ) → both_roots H.digest (length old.now) (length new.now) known first_root.now path.now ≡ Some (x, y)
+        → ClashAlong H.digest known first_root.now (map (λ l. l.items) old.now) (map (λ l. l.items) new.now) path.now (found_strings result.found) }
 {
     let (sibling, rest) = last_and_rest(path);
     if old.len() == new.len() {
-        let sides = diverge(alloc, h, old, new)?;
+        let sides = diverge(h, old, new);
         let value = chosen(known, first_root, &sibling);
-        let old_root = sides.old_root;
-        let new_root = sides.new_root;
-        return Ok(Walked {
+        return Walked {
             first: value,
             second: value,
-            old_root,
-            new_root,
+            old_root: sides.old_root,
+            new_root: sides.new_root,
             found: sides.found,
-        });
+        };
     }
     let middle = largest_power_below(new.len());
     if old.len() <= middle {
-        let part = walk(alloc, h, old, &new[..middle], known, first_root, rest)?;
+        let part = walk(h, old, &new[..middle], known, first_root, rest);
         let other = root_of_leaves(h, &new[middle..]);
-        return over_left(alloc, h, part, &sibling, &other);
+        return over_left(h, part, &sibling, &other);
     }
-    let sides = diverge(alloc, h, &old[..middle], &new[..middle])?;
+    let sides = diverge(h, &old[..middle], &new[..middle]);
     let (ending, beyond) = (&old[middle..], &new[middle..]);
-    let part = walk(alloc, h, ending, beyond, false, first_root, rest)?;
-    over_right(alloc, h, sides, part, &sibling)
+    let part = walk(h, ending, beyond, false, first_root, rest);
+    over_right(h, sides, part, &sibling)
 }
 
 // Whether the old list is the beginning of the new one.
@@ -291,9 +251,19 @@ fn begins(old: &[Vec<u8>], new: &[Vec<u8>]) -> bool
     old == beginning
 }
 
+// The two strings of one hash.
+fn collision<A: Allocator + Clone>(alloc: A, clash: Clash<'_>) -> Result<Evidence<A>, AllocError>
+    ensures { IfOk result (IsCollision (clash_strings clash.entry)) }
+{
+    match clash {
+        Clash::Leaves(old, new) => leaf_collision(alloc, old, new),
+        Clash::Nodes(a, b) => node_collision(alloc, &a, &b),
+    }
+}
+
 // The evidence that the comparison and the search give.
 fn evidence_for<A: Allocator + Clone, H: NodeHash>(
-    alloc: &A,
+    alloc: A,
     h: &H,
     old: &[Vec<u8>],
     new: &[Vec<u8>],
@@ -310,9 +280,8 @@ fn evidence_for<A: Allocator + Clone, H: NodeHash>(
     if begins(old, new) {
         return Ok(Evidence::Holds);
     }
-    let walked = walk(alloc, h, old, new, true, &old_root, path)?;
-    match walked.found {
-        Some(pair) => Ok(Evidence::Collision(pair.first, pair.second)),
+    match walk(h, old, new, true, &old_root, path).found {
+        Some(clash) => Ok(collision(alloc, clash)?),
         // Where nothing is found, the old list begins the new one. So this doesn't come.
         None => Ok(Evidence::Holds),
     }
@@ -343,5 +312,5 @@ pub fn explain_consistency<A: Allocator + Clone, H: NodeHash>(
     ensures holds { IsAcceptedFor H.digest (map (λ l. l.items) old.now) (map (λ l. l.items) new.now) path.now
         → IsBeginning (map (λ l. l.items) old.now) (map (λ l. l.items) new.now) → result ≡ Ok Holds }
 {
-    evidence_for(&alloc, h, old, new, path)
+    evidence_for(alloc, h, old, new, path)
 }

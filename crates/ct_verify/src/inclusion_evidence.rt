@@ -4,13 +4,13 @@ ghost use Rattle.std.specs.Option.{option_map};
 ghost use Rattle.ct_tree.specs.Tree.{hash_leaf, mth_of_leaves};
 ghost use Rattle.ct_verify.specs.Rebuild.{rebuild};
 ghost use Rattle.ct_verify.specs.Evidence.{compared, evid, IsAudited};
-ghost use Rattle.ct_verify.specs.Strings.{children_string};
-ghost use Rattle.ct_verify.specs.Difference.{strings, IsCollision};
+ghost use Rattle.ct_verify.specs.Strings.{children_string, IsCollision};
+ghost use Rattle.ct_verify.specs.Difference.{strings};
 ghost use Rattle.ct_verify.specs.InclusionEvidence.{InclusionEvidence, InclusionFault};
 ghost use Rattle.ct_verify.specs.declared.evidence.Evidence.TheVariants.{Holds};
 
 use crate::children::{Children, is_same_string, under_node};
-use crate::evidence::{Evidence, EvidenceFault, hashed_string};
+use crate::evidence::{Evidence, EvidenceFault, leaf_collision, node_collision};
 use crate::fault::ProofFault;
 use crate::halves::{last_and_rest, root_of_leaves};
 use crate::inclusion::verify_inclusion;
@@ -140,16 +140,8 @@ fn collision<A: Allocator + Clone>(
     ensures { IfOk result (IsCollision (strings leaf.now listed.now difference)) }
 {
     match difference {
-        Difference::AtLeaf => {
-            let proved = hashed_string(alloc.clone()?, 0, leaf, &[])?;
-            let other = hashed_string(alloc, 0, listed, &[])?;
-            Ok(Evidence::Collision(proved, other))
-        }
-        Difference::AtNode(proved, listed) => {
-            let first = hashed_string(alloc.clone()?, 1, &proved.left, &proved.right)?;
-            let second = hashed_string(alloc, 1, &listed.left, &listed.right)?;
-            Ok(Evidence::Collision(first, second))
-        }
+        Difference::AtLeaf => leaf_collision(alloc, leaf, listed),
+        Difference::AtNode(proved, listed) => node_collision(alloc, &proved, &listed),
     }
 }
 
