@@ -5,6 +5,7 @@ ghost use Rattle.std.specs.List.{find};
 ghost use Rattle.shared.specs.Looked.{AddsPlace};
 ghost use Rattle.ct_core.specs.Tickets.{ticket_of, AreEntered};
 
+use crate::both::both;
 use crate::settled::Settled;
 use ct_codec::Refusal;
 use shared::{SharedList, Slot, Table, Test, copy, first_place, with_all};
@@ -87,6 +88,21 @@ fn take_all_in(
     Ok(slots)
 }
 
+// The list with these records behind it, and the places of those by their tickets.
+fn records_with(
+    alloc: Global,
+    records: &SharedList<Settled>,
+    more: &[Settled],
+) -> Result<(SharedList<Settled>, Vec<Slot>), Refusal>
+    ensures pushed { IfOk result (λ p. p.0 ≡ records.now ++ more.now) }
+    ensures entered { IfOk result (λ p. AreEntered p.1.items (length records.now) more.now) }
+    ensures memory { IsOkUnless result Refusal.Memory }
+{
+    let mut all = records.copy(alloc)?;
+    let slots = take_all_in(alloc, &mut all, more);
+    both(Ok(all), slots)
+}
+
 impl RecordTable {
     // An empty table. It takes no memory.
     pub(crate) fn new(alloc: Global) -> RecordTable
@@ -131,10 +147,8 @@ impl RecordTable {
         ensures same { IfOk result (λ t. t ≡ self.now) }
         ensures memory { IsOkUnless result Refusal.Memory }
     {
-        Ok(RecordTable {
-            records: self.records.copy(alloc)?,
-            by_ticket: copy(alloc, &self.by_ticket)?,
-        })
+        let (records, by_ticket) = both(self.records.copy(alloc), copy(alloc, &self.by_ticket))?;
+        Ok(RecordTable { records, by_ticket })
     }
 
     // The table with these records behind those that it has. It shares what it can with this one.
@@ -146,9 +160,9 @@ impl RecordTable {
         ensures more { IfOk result (λ t. t ≡ self.now ++ more.now) }
         ensures memory { IsOkUnless result Refusal.Memory }
     {
-        let mut records = self.records.copy(alloc)?;
-        let slots = take_all_in(alloc, &mut records, more)?;
-        let by_ticket = with_all(alloc, &self.by_ticket, &slots)?;
+        let (records, slots) = records_with(alloc, &self.records, more)?;
+        let by_ticket = with_all(alloc, &self.by_ticket, &slots);
+        let (records, by_ticket) = both(Ok(records), by_ticket)?;
         Ok(RecordTable { records, by_ticket })
     }
 }

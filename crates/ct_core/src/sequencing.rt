@@ -196,8 +196,9 @@ impl Core {
     {
         // The clause `lawful` follows from the invariant of the type, which a look at a field brings in.
         let _ = &self.published;
-        let next = Arc::new(alloc, self.next(alloc, now)?)?;
-        Ok(self.adopt(next))
+        let next = self.next(alloc, now)?;
+        let shared = Arc::new(alloc, next)?;
+        Ok(self.adopt(shared))
     }
 
     /// Whether nothing stands past the last head: all entries and records so far are published.

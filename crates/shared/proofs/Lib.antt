@@ -4,3 +4,4 @@ pub mod Blocks
 pub mod Sides
 pub mod Firsts
 pub mod Positions
+mod InParts

@@ -1,5 +1,5 @@
 -- Places in one of 64 parts.
-use Rattle.std.proofs.Common.{◌≡◌, ℕ, zero, suc, ◌+◌, ◌*◌, ◌/◌, ◌%◌, ◌<◌, ◌≢◌, List, [], ◌∷◌, ◌++◌, length, get_or, refl, ap, sym, ◌∙◌, arith, append_assoc}
+use Rattle.std.proofs.Common.{◌≡◌, ℕ, zero, suc, ◌+◌, ◌*◌, ◌/◌, ◌%◌, ◌<◌, ◌≤◌, ◌≢◌, List, [], ◌∷◌, ◌++◌, length, get_or, refl, ap, sym, ◌∙◌, arith, append_assoc}
 use Rattle.std.proofs.Common.{inl, inr}
 use Rattle.std.proofs.lemmas.List.{append-nil, length-set}
 use Rattle.std.proofs.lemmas.Bool.{cases_lt, cases_eq}
@@ -7,7 +7,7 @@ use Rattle.std.proofs.lemmas.Grind.{common_steps}
 use Rattle.std.specs.Prelude.{Some, slice_get, slice_set, Vec}
 use Rattle.std.specs.Global.{Global}
 use Rattle.shared.specs.declared.slots.Slot.{Slot}
-use Rattle.shared.specs.Looked.{places_in, if_at, in_part, at_index, below, AreParts}
+use Rattle.shared.specs.Looked.{places_in, if_at, in_part, at_index, below, AreParts, AreMore}
 
 pub places_in-append : (xs ys : List Slot) (a : ℕ) → places_in (xs ++ ys) a ≡ places_in xs a ++ places_in ys a
 places_in-append [] ys a = refl
@@ -34,10 +34,6 @@ get_left (x ∷ xs) y (suc i) h = get_left xs y i (omega arith)
 get_end : {A : Type 0} (xs : List A) (y : A) → slice_get (xs ++ y ∷ []) (length xs) ≡ Some y
 get_end [] y = refl
 get_end (x ∷ xs) y = get_end xs y
-
--- the first parts are those of the list before, with the places of these slots
-abbrev pub AreMore : {A : Type 0} → List A → List A → (A → ℕ → List ℕ) → List Slot → ℕ → Type 0
-AreMore now old look slots n = (k : ℕ) → k < n → (b : ℕ) → at_index now look k b ≡ at_index old look k b ++ places_in slots (b * 64 + k)
 
 -- one part more
 pub part_more : {A : Type 0} (now old : List A) (look : A → ℕ → List ℕ) (slots part : List Slot) (n : ℕ) (x : A) → length now ≡ n → AreMore now old look slots n
@@ -67,6 +63,17 @@ found_at [] look x i b h e = absurd (omega arith)
 found_at (y ∷ xs) look x zero b h e = ap (λ (z : _). look z b) (sym e)
 found_at (y ∷ xs) look x (suc i) b h e = found_at xs look x i b (omega arith) e
 
+-- a part where there was none
+nothing_at : {A : Type 0} (xs : List A) (look : A → ℕ → List ℕ) (i b : ℕ) → length xs ≤ i → at_index xs look i b ≡ []
+nothing_at [] look i b past = refl
+nothing_at (x ∷ xs) look zero b past = absurd (omega arith)
+nothing_at (x ∷ xs) look (suc i) b past = nothing_at xs look i b (omega arith)
+
+pub part_begins : {A : Type 0} (xs : List A) (look : A → ℕ → List ℕ) (y : A) (i : ℕ) (part : List Slot) → length xs ≤ i
+    → ((b : ℕ) → look y b ≡ places_in part b)
+    → (b : ℕ) → look y b ≡ at_index xs look i b ++ places_in part b
+part_begins xs look y i part past new b = new b ∙ ap (λ (r : List ℕ). r ++ places_in part b) (sym (nothing_at xs look i b past))
+
 -- a slot as it stands below
 abbrev pub lowered : Slot → Slot
 lowered s = record { address = s.address / 64; place = s.place }
@@ -91,6 +98,19 @@ empty_push [] look y none are zero b = none b
 empty_push [] look y none are (suc k) b = refl
 empty_push (x ∷ xs) look y none are zero b = are zero b
 empty_push (x ∷ xs) look y none are (suc k) b = empty_push xs look y none (λ j c. are (suc j) c) k b
+
+-- the same, with the slots of the part at that index
+pub slots_more : {A : Type 0} (now old : List A) (look : A → ℕ → List ℕ) (parts : List (Vec Slot Global)) (part : Vec Slot Global) (taken : List Slot)
+    (n : ℕ) (x : A) → length now ≡ n → n < 64 → length parts ≡ 64 → part ≡ get_or parts n part → taken ≡ part.items
+    → ((b : ℕ) → look x b ≡ at_index old look n b ++ places_in taken b)
+    → ((slots : List Slot) → AreParts parts slots → AreMore now old look slots n)
+    → (slots : List Slot) → AreParts parts slots → AreMore (now ++ x ∷ []) old look slots (n + 1)
+slots_more now old look parts part taken n x size small count at is this are slots of_parts =
+    let inside : n < length parts = omega arith in
+    part_more now old look slots taken n x size (are slots of_parts) this
+    (λ b. ap (λ (xs : List Slot). places_in xs b) is
+    ∙ sym (found_at parts (λ p c. places_in p.items c) part n b inside at)
+    ∙ of_parts.1 n small b)
 
 -- a slot comes to the part of its address's lowest bits
 pub part_put : (parts : List (Vec Slot Global)) (slots : List Slot) (s : Slot) (old new : Vec Slot Global) → old ≡ get_or parts (s.address % 64) old

@@ -32,6 +32,10 @@ below xs look a = at_index xs look (a % 64) (a / 64)
 abbrev pub AreParts : List (Vec Slot Global) → List Slot → Type 0
 AreParts parts slots = (length parts ≡ 64) × ((k : ℕ) → k < 64 → (b : ℕ) → at_index parts (λ p c. places_in p.items c) k b ≡ places_in slots (b * 64 + k))
 
+-- the first parts are those of the list before, with the places of these slots
+abbrev pub AreMore : {A : Type 0} → List A → List A → (A → ℕ → List ℕ) → List Slot → ℕ → Type 0
+AreMore now old look slots n = (k : ℕ) → k < n → (b : ℕ) → at_index now look k b ≡ at_index old look k b ++ places_in slots (b * 64 + k)
+
 -- the places that a row has at an address, in the order in which they were added
 abbrev pub looked_row : Row → ℕ → List ℕ
 looked_row row a = below row.buckets (λ p c. places_in (arc_value p).items c) a ++ places_in row.fresh.items a

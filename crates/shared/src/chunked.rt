@@ -6,7 +6,7 @@ ghost use Rattle.shared.specs.Flat.{concatenated, AllOf};
 use crate::chunk::{CHUNK, Chunk};
 use crate::count::one_more;
 use crate::parts::Parts;
-use crate::share::{Share, share_all};
+use crate::share::{Share, share_all, shared_values};
 use std::alloc::{AllocError, Global};
 use std::marker::Model;
 
@@ -98,8 +98,7 @@ impl<T: Share> Chunked<T> {
         ensures { IfOk result (λ r. r ≡ self.now) }
     {
         let full = self.full.share()?;
-        let mut last = Vec::with_capacity(alloc, CHUNK)?;
-        share_all(&self.last, &mut last)?;
+        let last = shared_values(alloc, &self.last, CHUNK)?;
         Ok(Chunked {
             full,
             last,

@@ -38,6 +38,16 @@ impl<T> Model for SharedList<T> {
     ghost invariant = { λ s. IsInParts 16384 s.blocks s.row s.len };
 }
 
+// A block of values equal to those of a row.
+fn block_of<T: Share>(alloc: Global, row: &Chunked<T>) -> Result<Chunk<T>, AllocError>
+    ensures { IfOk result (λ block. block ≡ row.now) }
+{
+    let mut values = Vec::with_capacity(alloc, BLOCK)?;
+    row.share_into(&mut values)?;
+    let block = Chunk::new(alloc, values)?;
+    Ok(block)
+}
+
 // Makes room in the row: where it is full, it becomes a block.
 fn make_room<T: Share>(
     alloc: Global,
@@ -54,9 +64,7 @@ fn make_room<T: Share>(
     if row.len() < BLOCK {
         return Ok(());
     }
-    let mut values = Vec::with_capacity(alloc, BLOCK)?;
-    row.share_into(&mut values)?;
-    let block = Chunk::new(alloc, values)?;
+    let block = block_of(alloc, row)?;
     blocks.push(alloc, block)?;
     row.clear();
     Ok(())
@@ -172,9 +180,10 @@ impl<T: Share> SharedList<T> {
     pub fn copy(&self, alloc: Global) -> Result<SharedList<T>, AllocError>
         ensures { IfOk result (λ s. s ≡ self.now) }
     {
+        let blocks = self.blocks.share()?;
         let row = self.row.copy(alloc)?;
         Ok(SharedList {
-            blocks: self.blocks.share()?,
+            blocks,
             row,
             len: self.len,
         })

@@ -4,7 +4,7 @@ ghost use Rattle.std.specs.Prelude.{◌≡◌, [], ◌∷◌, ◌++◌, OnOk, On
 ghost use Rattle.std.specs.Arc.{arc_value};
 
 use crate::chunk::Chunk;
-use crate::share::{Share, share_all};
+use crate::share::{Share, shared_values};
 use std::alloc::{AllocError, Global};
 use std::marker::Model;
 use std::sync::Arc;
@@ -25,16 +25,6 @@ impl<T> Model for Parts<T> {
     ghost view = { λ p. shared_items p.chunks (λ chunks. (arc_value chunks).items) };
 }
 
-// One part.
-fn first_part<T: Drop>(alloc: Global, part: Chunk<T>) -> Result<Arc<Vec<Chunk<T>>>, AllocError>
-    ensures { IfOk result (λ all. (arc_value all).items ≡ part ∷ []) }
-{
-    let mut all = Vec::with_capacity(alloc, 1)?;
-    all.push(part)?;
-    let all = Arc::new(alloc, all)?;
-    Ok(all)
-}
-
 // These parts and one more, in new memory.
 fn one_more_part<T: Drop>(
     alloc: Global,
@@ -43,8 +33,7 @@ fn one_more_part<T: Drop>(
 ) -> Result<Arc<Vec<Chunk<T>>>, AllocError>
     ensures { IfOk result (λ all. (arc_value all).items ≡ parts.now ++ part ∷ []) }
 {
-    let mut all = Vec::with_capacity(alloc, parts.len().saturating_add(1))?;
-    share_all(parts, &mut all)?;
+    let mut all = shared_values(alloc, parts, parts.len().saturating_add(1))?;
     all.push(part)?;
     let all = Arc::new(alloc, all)?;
     Ok(all)
@@ -94,7 +83,7 @@ impl<T: Drop> Parts<T> {
     {
         match &mut self.chunks {
             None => {
-                self.chunks = Some(first_part(alloc, part)?);
+                self.chunks = Some(one_more_part(alloc, self.values(), part)?);
                 Ok(())
             }
             Some(chunks) => push_part(alloc, chunks, part),

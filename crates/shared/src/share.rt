@@ -2,7 +2,7 @@
 
 ghost use Rattle.std.specs.Prelude.{◌≡◌, ◌++◌, OnOk, IfOk};
 
-use std::alloc::AllocError;
+use std::alloc::{AllocError, Global};
 
 /// A value of which there can be a second one, equal to it, at little cost.
 pub trait Share: Drop {
@@ -15,6 +15,19 @@ impl<T: Copy> Share for T {
     fn share(&self) -> Result<T, AllocError> {
         Ok(*self)
     }
+}
+
+// Values equal to these, with room for so many.
+pub(crate) fn shared_values<T: Share>(
+    alloc: Global,
+    list: &[T],
+    capacity: usize,
+) -> Result<Vec<T>, AllocError>
+    ensures { IfOk result (λ values. values.items ≡ list.now) }
+{
+    let mut values = Vec::with_capacity(alloc, capacity)?;
+    share_all(list, &mut values)?;
+    Ok(values)
 }
 
 // Adds equal values at the end of a list.

@@ -1,8 +1,9 @@
 //! The table.
 
-ghost use Rattle.std.specs.Prelude.{◌≡◌, ◌<◌, ℕ, List, [], ◌∷◌, ◌++◌, IfOk};
+ghost use Rattle.std.specs.Prelude.{◌≡◌, ◌<◌, ℕ, List, [], ◌∷◌, ◌++◌, length, IfOk};
 ghost use Rattle.std.specs.Arc.{arc_value};
-ghost use Rattle.shared.specs.Looked.{places_in, at_index, below, looked_row, looked, if_at};
+ghost use Rattle.shared.specs.Looked.{places_in, at_index, below, looked_row, looked, if_at, AreParts, AreMore};
+ghost use Rattle.shared.specs.declared.slots.Slot.{Slot};
 
 use crate::shared::Shared;
 use crate::slots::{Slot, joined, parts_of};
@@ -33,6 +34,19 @@ pub struct Table {
     pub(crate) fresh: Vec<Slot>,
 }
 
+// Slots behind others, to be shared.
+fn shared_slots(
+    alloc: Global,
+    first: &[Slot],
+    second: &[Slot],
+) -> Result<Arc<Vec<Slot>>, AllocError>
+    ensures { IfOk result (λ all. (arc_value all).items ≡ first.now ++ second.now) }
+{
+    let all = joined(alloc, first, second)?;
+    let all = Arc::new(alloc, all)?;
+    Ok(all)
+}
+
 // A bucket with places more.
 fn bucket_with(
     alloc: Global,
@@ -44,8 +58,7 @@ fn bucket_with(
         (λ p c. places_in (arc_value p).items c) index b ++ places_in part.now b) }
 {
     if buckets.len() <= index {
-        let part = joined(alloc, &[], part)?;
-        let bucket = Arc::new(alloc, part)?;
+        let bucket = shared_slots(alloc, &[], part)?;
         return Ok(bucket);
     }
     let old = &buckets[index];
@@ -53,9 +66,26 @@ fn bucket_with(
         let bucket = Arc::try_clone(old)?;
         return Ok(bucket);
     }
-    let all = joined(alloc, old, part)?;
-    let bucket = Arc::new(alloc, all)?;
+    let bucket = shared_slots(alloc, old, part)?;
     Ok(bucket)
+}
+
+// Each of 64 buckets, with the places of its part more.
+fn each_bucket_with(
+    alloc: Global,
+    buckets: &[Arc<Vec<Slot>>],
+    parts: &[Vec<Slot>],
+) -> Result<Vec<Arc<Vec<Slot>>>, AllocError>
+    requires { length parts.now ≡ 64 }
+    ensures { IfOk result (λ all. (slots : List Slot) → AreParts parts.now slots → AreMore all.items buckets.now
+        (λ p c. places_in (arc_value p).items c) slots 64) }
+{
+    let mut all = Vec::with_capacity(alloc, 64)?;
+    for index in 0..64 {
+        let bucket = bucket_with(alloc, buckets, index, &parts[index])?;
+        all.push(bucket)?;
+    }
+    Ok(all)
 }
 
 // The buckets with places more.
@@ -68,11 +98,7 @@ fn buckets_with(
         (λ p c. places_in (arc_value p).items c) a ++ places_in slots.now a) }
 {
     let parts = parts_of(alloc, slots)?;
-    let mut all = Vec::with_capacity(alloc, 64)?;
-    for index in 0..64 {
-        let bucket = bucket_with(alloc, buckets, index, &parts[index])?;
-        all.push(bucket)?;
-    }
+    let all = each_bucket_with(alloc, buckets, &parts)?;
     let all = Shared::of(alloc, all)?;
     Ok(all)
 }
@@ -94,6 +120,22 @@ fn row_of(
     Ok(Row { buckets, fresh })
 }
 
+// A row of these buckets, and of slots behind others, to be shared.
+fn shared_row(
+    alloc: Global,
+    buckets: &Shared<Arc<Vec<Slot>>>,
+    first: &[Slot],
+    second: &[Slot],
+) -> Result<Arc<Row>, AllocError>
+    ensures { IfOk result (λ r. (a : ℕ) → looked_row (arc_value r) a ≡ below buckets.now (λ p c. places_in (arc_value p).items c) a
+        ++ places_in (first.now ++ second.now) a) }
+{
+    let fresh = joined(alloc, first, second)?;
+    let row = row_of(alloc, buckets, fresh)?;
+    let shared = Arc::new(alloc, row)?;
+    Ok(shared)
+}
+
 // A row with places more, of the rows of a table.
 fn row_with(
     alloc: Global,
@@ -105,9 +147,7 @@ fn row_with(
         (λ p c. looked_row (arc_value p) c) index b ++ places_in part.now b) }
 {
     if rows.len() <= index {
-        let part = joined(alloc, &[], part)?;
-        let row = row_of(alloc, &Shared::new(), part)?;
-        let row = Arc::new(alloc, row)?;
+        let row = shared_row(alloc, &Shared::new(), &[], part)?;
         return Ok(row);
     }
     let old = &rows[index];
@@ -115,10 +155,26 @@ fn row_with(
         let row = Arc::try_clone(old)?;
         return Ok(row);
     }
-    let fresh = joined(alloc, &old.fresh, part)?;
-    let row = row_of(alloc, &old.buckets, fresh)?;
-    let row = Arc::new(alloc, row)?;
+    let row = shared_row(alloc, &old.buckets, &old.fresh, part)?;
     Ok(row)
+}
+
+// Each of 64 rows, with the places of its part more.
+fn each_row_with(
+    alloc: Global,
+    rows: &[Arc<Row>],
+    parts: &[Vec<Slot>],
+) -> Result<Vec<Arc<Row>>, AllocError>
+    requires { length parts.now ≡ 64 }
+    ensures { IfOk result (λ all. (slots : List Slot) → AreParts parts.now slots → AreMore all.items rows.now
+        (λ p c. looked_row (arc_value p) c) slots 64) }
+{
+    let mut all = Vec::with_capacity(alloc, 64)?;
+    for index in 0..64 {
+        let row = row_with(alloc, rows, index, &parts[index])?;
+        all.push(row)?;
+    }
+    Ok(all)
 }
 
 // The rows with places more.
@@ -131,11 +187,7 @@ fn rows_with(
         (λ p c. looked_row (arc_value p) c) a ++ places_in slots.now a) }
 {
     let parts = parts_of(alloc, slots)?;
-    let mut all = Vec::with_capacity(alloc, 64)?;
-    for index in 0..64 {
-        let row = row_with(alloc, rows, index, &parts[index])?;
-        all.push(row)?;
-    }
+    let all = each_row_with(alloc, rows, &parts)?;
     let all = Shared::of(alloc, all)?;
     Ok(all)
 }

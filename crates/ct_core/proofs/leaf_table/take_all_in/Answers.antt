@@ -1,8 +1,8 @@
-use Rattle.std.proofs.Common.{◌≡◌, List, ℕ, [], ◌∷◌, ◌+◌, ◌++◌, length, map, take, ap, sym, ◌∙◌, append_assoc}
-use Rattle.std.proofs.lemmas.List.{length-append}
+use Rattle.std.proofs.Common.{◌≡◌, List, ℕ, [], ◌∷◌, ◌+◌, ◌++◌, length, map, take, ap, sym, ◌∙◌, subst, append_assoc}
+use Rattle.std.proofs.lemmas.List.{length-append, take_all}
 use Rattle.shared.specs.Looked.{places_from}
-use Rattle.ct_core.specs.Leaf.{leaves_of}
-use Rattle.ct_core.specs.LeafHashes.{address_of}
+use Rattle.ct_core.specs.Leaf.{Entry, leaves_of}
+use Rattle.ct_core.specs.LeafHashes.{address_of, AreNoted}
 use Rattle.ct_core.specs.Tree.{sha256_leaf}
 use Rattle.ct_core.proofs.HashPlaces.{hashes_more}
 use Rattle.ct_core.proofs.leaf_table.take_all_in.Goals as goal
@@ -22,3 +22,15 @@ loop-entry-preserved c =
       λ a. c.in_ok-take_in.ensures.noted (length nodes) hashes count noted a
           ∙ ap (λ (hs : List (List ℕ)). places_from (length nodes) (map address_of hs) a) (sym step),
     )
+
+pub returns-clause-pushed : goal.returns-clause-pushed
+returns-clause-pushed c =
+    let all = take_all c.loop-entry.entry-index c.args.entries.now c.loop-entry-test.false in
+    let (taken, noted) = c.loop-entry.invariant in
+    taken ∙ ap (λ (es : List Entry). c.args.nodes.now ++ map sha256_leaf (leaves_of es)) all
+
+pub returns-clause-noted : goal.returns-clause-noted
+returns-clause-noted c =
+    let all = take_all c.loop-entry.entry-index c.args.entries.now c.loop-entry-test.false in
+    let (taken, noted) = c.loop-entry.invariant in
+    subst (λ (es : List Entry). AreNoted c.loop-entry.slots.items (length c.args.nodes.now) (map sha256_leaf (leaves_of es))) all noted

@@ -2,8 +2,13 @@ use Rattle.std.proofs.Common.{◌≡◌, ◌++◌, [], ap, ◌∙◌, arith}
 use Rattle.std.proofs.lemmas.Grind.{common_steps}
 use Rattle.std.specs.Arc.{arc_value}
 use Rattle.shared.specs.Looked.{places_in}
-use Rattle.shared.proofs.Sides.{part_grows, part_stays, places_in-append}
+use Rattle.shared.proofs.Sides.{part_begins, part_grows, part_stays, places_in-append}
 use Rattle.shared.proofs.table.bucket_with.Goals as goal
+
+pub returns-then-buckets-index : goal.returns-then-buckets-index
+returns-then-buckets-index c =
+    part_begins c.args.buckets.now (λ p b. places_in (arc_value p).items b) c.in_ok-bucket.bucket c.args.index c.args.part.now c.if-buckets-index.true
+    (λ b. ap (λ (xs : _). places_in xs b) c.in_ok-bucket.ensures)
 
 pub returns-then-is_empty : goal.returns-then-is_empty
 returns-then-is_empty c =

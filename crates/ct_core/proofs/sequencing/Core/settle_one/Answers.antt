@@ -1,11 +1,30 @@
-use Rattle.std.proofs.Common.{◌≡◌, List, [], ◌∷◌, ◌++◌, ap, sym, ◌∙◌, subst, ◌≤◌, ℕ}
+use Rattle.std.proofs.Common.{◌≡◌, List, [], ◌∷◌, ◌++◌, refl, ap, sym, ◌∙◌, subst, ◌≤◌, ℕ, rules}
 use Rattle.std.specs.Arc.{arc_value}
+use Rattle.ct_codec.specs.declared.refusal.Refusal.TheVariants.{Memory}
 use Rattle.ct_codec.specs.Submitted.{Submitted}
 use Rattle.ct_core.specs.declared.settled.Settled.{Settled}
 use Rattle.ct_core.specs.Core.{clock_of, entry_at}
 use Rattle.ct_core.specs.Leaf.{Entry}
-use Rattle.ct_core.proofs.SettleSteps.{placed_record, settles}
+use Rattle.ct_core.proofs.SettleSteps.{placed_record, same_fields, in_time_refusal, settles}
 use Rattle.ct_core.proofs.sequencing.Core.settle_one.Goals as goal
+
+pub returns-in-Err-clause-refused : goal.returns-in-Err-clause-refused
+returns-in-Err-clause-refused c =
+    let a = c.self.inside in
+    let memory : c.into.result ≡ Memory = search rules in (
+      memory ∙ in_time_refusal c.args.self.now c.args.now c.clock.result c.clock.ensures c.if-now-clock.false,
+      refl,
+      same_fields (arc_value a.published) a.entries.keys a.entries.keys a.settlement.items c.reserve.new.self.items refl c.reserve.ensures.items ∙ c.self.view_is,
+    )
+
+pub returns-in-Err-reserve-clause-refused : goal.returns-in-Err-reserve-clause-refused
+returns-in-Err-reserve-clause-refused c =
+    let a = c.self.inside in
+    let memory : c.into-in-Err-reserve.result ≡ Memory = search rules in (
+      memory ∙ in_time_refusal c.args.self.now c.args.now c.clock.result c.clock.ensures c.if-now-clock.false,
+      refl,
+      same_fields (arc_value a.published) a.entries.keys c.reserve-2.new.self.keys a.settlement.items c.reserve.new.self.items c.reserve-2.ensures.keys c.reserve.ensures.items ∙ c.self.view_is,
+    )
 
 pub invariant_of-self-2 : goal.invariant_of-self-2
 invariant_of-self-2 c =
