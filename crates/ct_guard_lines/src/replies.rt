@@ -4,6 +4,7 @@ ghost use Rattle.std.specs.Prelude.{◌≡◌, false, IfOk, option_map, string_b
 ghost use Rattle.serde_json.specs.View.{view};
 ghost use Rattle.serde_json.specs.Written.{has_float};
 ghost use Rattle.ct_codec.specs.Signed.{tree_head_text};
+ghost use Rattle.ct_lines.specs.ReplyText.{bytes_data};
 ghost use Rattle.ct_guard_lines.specs.Asks.{ask_of};
 ghost use Rattle.ct_guard_lines.specs.Given.{proof_refusal_name, leaf_refusal_name, refused_data, refused_fault_data, head_refused_data, receipt_refused_data, bad_line_data, receipt_given_data, head_given_data, given_data, guard_reply_data, guard_line};
 
@@ -125,6 +126,14 @@ fn head_input(alloc: Global, head: &Head) -> Result<Vec<u8>, AllocError>
     }
 }
 
+// Those bytes as a JSON string.
+fn head_input_value(alloc: Global, head: &Head) -> Result<Value, AllocError>
+    ensures { IfOk result (λ v. view v ≡ bytes_data (tree_head_text head.now.timestamp head.now.tree_size head.now.root)) }
+{
+    let input = head_input(alloc, head)?;
+    bytes_value(alloc, &input)
+}
+
 fn head_given_value(
     alloc: Global,
     origin: &Option<String>,
@@ -132,16 +141,16 @@ fn head_given_value(
 ) -> Result<Value, AllocError>
     ensures { IfOk result (λ v. view v ≡ head_given_data (option_map string_bytes origin.now) head.now) }
 {
-    let input = head_input(alloc, head)?;
-    let sign = bytes_value(alloc, &input)?;
-    let state = state_value(alloc, Some(*head))?;
     match origin {
-        Some(origin) => {
-            let text = write_checkpoint(alloc, origin.as_str(), head.tree_size, &head.root)?;
-            let checkpoint = Value::String(text);
-            json!(in alloc; {"checkpoint": checkpoint, "sign": sign, "state": state})
-        }
-        None => json!(in alloc; {"sign": sign, "state": state}),
+        Some(origin) => json!(in alloc; {
+            "checkpoint": Value::String(write_checkpoint(alloc, origin.as_str(), head.tree_size, &head.root)?),
+            "sign": head_input_value(alloc, head)?,
+            "state": state_value(alloc, Some(*head))?
+        }),
+        None => json!(in alloc; {
+            "sign": head_input_value(alloc, head)?,
+            "state": state_value(alloc, Some(*head))?
+        }),
     }
 }
 

@@ -8,8 +8,9 @@ use Rattle.sha2.specs.Sha256.{sha256}
 use Rattle.ct_tree.specs.Tree.{hash_leaf, mth_of_leaves}
 use Rattle.ct_verify.specs.Rebuild.{rebuild}
 use Rattle.ct_verify.specs.Evidence.{evid}
-use Rattle.ct_verify.specs.Verdict.{RefusesInclusion}
+use Rattle.ct_verify.specs.Verdict.{AcceptsInclusion, RefusesInclusion}
 use Rattle.std.specs.Prelude.{◌≢◌, MatchResult}
+use Rattle.std.specs.Result.{is_ok}
 use Rattle.ct_verify.specs.InclusionEvidence.{IsAccepted, InclusionEvidence, InclusionFault}
 use Rattle.ct_verify.specs.declared.evidence.EvidenceFault.{EvidenceFault}
 use Rattle.ct_verify.specs.declared.evidence.EvidenceFault.TheVariants.{ProofRefused, Memory as NoEvidence}
@@ -44,6 +45,18 @@ accepted D leaf m p a =
     let below : nat_lt m (length D) ≡ true = grind (arith, nat_tests, a.0) in
     ap (λ t. t && is_root (rebuild sha256 m (length D) (hash_leaf sha256 leaf) p) (mth_of_leaves sha256 D)) below
     ∙ ap (λ o. is_root o (mth_of_leaves sha256 D)) a.1 ∙ (bytes_eq-Decides (mth_of_leaves sha256 D) (mth_of_leaves sha256 D)).1 refl
+
+-- whether the path leads to the root is what the verifier answers
+pub accepted-judged : (D : List (List ℕ)) (leaf : List ℕ) (m : ℕ) (p : List (List ℕ)) (r : Result (Unit {0}) ProofFault) → PathNotRefused
+    → MatchResult r (λ _. AcceptsInclusion sha256 (hash_leaf sha256 leaf) m (length D) p (mth_of_leaves sha256 D))
+    (RefusesInclusion sha256 (hash_leaf sha256 leaf) m (length D) p (mth_of_leaves sha256 D))
+    → is_ok r ≡ is_accepted D leaf m p
+accepted-judged D leaf m p (Ok u) law a = sym (accepted D leaf m p a)
+accepted-judged D leaf m p (Err fault) law r = go (is_accepted D leaf m p) refl
+  where
+    go : (t : Bool) → is_accepted D leaf m p ≡ t → false ≡ is_accepted D leaf m p
+    go false e = sym e
+    go true e = absurd (law sha256 (hash_leaf sha256 leaf) m (length D) p (mth_of_leaves sha256 D) fault (accepts D leaf m p e) r)
 
 pub verdict-evidence : (D : List (List ℕ)) (leaf : List ℕ) (m : ℕ) (p : List (List ℕ)) (e : Evidence Global) → InclusionEvidence sha256 D leaf m p e
     → evidence_answer e ≡ verdict D leaf m p

@@ -67,9 +67,10 @@ pub fn hashes_value(alloc: Global, hashes: &[[u8; 32]]) -> Result<Value, Memory>
 fn entry_value(alloc: Global, entry: &ShownEntry) -> Result<Value, Memory>
     ensures { IfOk result (λ v. view v ≡ entry_data (shown_text entry.now)) }
 {
-    let extra_data = bytes_value(alloc, &entry.extra_data)?;
-    let leaf_input = bytes_value(alloc, &entry.leaf_input)?;
-    json!(in alloc; {"extra_data": extra_data, "leaf_input": leaf_input})
+    json!(in alloc; {
+        "extra_data": bytes_value(alloc, &entry.extra_data)?,
+        "leaf_input": bytes_value(alloc, &entry.leaf_input)?
+    })
 }
 
 // Entries as a JSON array.
@@ -125,10 +126,11 @@ fn entry_and_proof_value(
 ) -> Result<Value, Memory>
     ensures { IfOk result (λ v. view v ≡ reply_data (an_entry (shown_text entry.now) path.now)) }
 {
-    let path = hashes_value(alloc, path)?;
-    let extra_data = bytes_value(alloc, &entry.extra_data)?;
-    let leaf_input = bytes_value(alloc, &entry.leaf_input)?;
-    json!(in alloc; {"audit_path": path, "extra_data": extra_data, "leaf_input": leaf_input})
+    json!(in alloc; {
+        "audit_path": hashes_value(alloc, path)?,
+        "extra_data": bytes_value(alloc, &entry.extra_data)?,
+        "leaf_input": bytes_value(alloc, &entry.leaf_input)?
+    })
 }
 
 fn receipt_value(alloc: Global, leaf_index: u64, timestamp: u64) -> Result<Value, Memory>
@@ -153,9 +155,11 @@ fn verdict_value(alloc: Global, verdict: &str) -> Result<Value, Memory>
 fn collision_value(alloc: Global, left: &[u8], right: &[u8]) -> Result<Value, Memory>
     ensures { IfOk result (λ v. view v ≡ reply_data (a_collision left.now right.now)) }
 {
-    let left = bytes_value(alloc, left)?;
-    let right = bytes_value(alloc, right)?;
-    json!(in alloc; {"left": left, "right": right, "verdict": "collision"})
+    json!(in alloc; {
+        "left": bytes_value(alloc, left)?,
+        "right": bytes_value(alloc, right)?,
+        "verdict": "collision"
+    })
 }
 
 fn refusal_value(alloc: Global, refusal: Refusal) -> Result<Value, Memory>
