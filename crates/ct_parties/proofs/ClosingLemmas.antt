@@ -1,18 +1,18 @@
 -- What the closing leaves.
-use Rattle.std.proofs.Common.{◌≡◌, ◌⊎◌, ◌<◌, ◌≤◌, ◌+◌, ℕ, List, Bool, true, false, refl, sym, ap, subst, ◌∙◌, arith, inl, inr}
+use Rattle.std.proofs.Common.{◌≡◌, ◌⊎◌, ◌<◌, ◌≤◌, ◌+◌, ℕ, List, [], ◌∷◌, ◌++◌, length, Bool, true, false, refl, sym, ap, subst, ◌∙◌, arith, inl, inr}
 use Rattle.std.specs.Prelude.{◌≢◌, ◌||◌, All, map, if◌then◌else◌, nat_lt, None, Some, Result, Ok, Err, IfErr, IfOk, MatchResult, OnOk}
 use Rattle.std.proofs.lemmas.Bool.{ltb-true}
 use Rattle.std.proofs.lemmas.List.Elements.{All-map}
 use Rattle.std.proofs.lemmas.Option.{none-some}
 use Rattle.ct_codec.specs.declared.item.Item.{Item}
 use Rattle.ct_codec.specs.declared.refusal.Refusal.{Refusal}
-use Rattle.ct_codec.specs.declared.refusal.Refusal.TheVariants.{ClockBack, Memory, Shutdown}
+use Rattle.ct_codec.specs.declared.refusal.Refusal.TheVariants.{ClockBack, Memory, MissingFront, Shutdown}
 use Rattle.ct_tree.specs.declared.head.Head.{Head}
 use Rattle.ct_core.specs.Leaf.{Entry}
 use Rattle.ct_core.specs.Settlement.{Log, firsts_after}
 use Rattle.ct_core.specs.declared.settled.Settled.{Settled}
-use Rattle.ct_core.specs.Core.{Begins, CoreState, IsNextHead, after_publishing, entry_at, newest_leaf, last_moment, clock_of, publish_refusal, IsSettled}
-use Rattle.ct_house.specs.House.{FrontView, HouseState, SettlesMore}
+use Rattle.ct_core.specs.Core.{Begins, CoreState, IsCovered, IsInTime, IsNextHead, after_publishing, entry_at, newest_leaf, last_moment, clock_of, publish_refusal, settle_refusal, IsSettled}
+use Rattle.ct_house.specs.House.{AreInOrder, FrontView, HouseState, IsAllSettled, SettlesMore}
 use Rattle.ct_parties.specs.ClosedLog.{EndsAt, EntersAt, IsClosingFault, IsLate, IsReady, IsRefusedAtClosing, KeepsCount, KeepsSettled}
 use Rattle.ct_parties.specs.Faults.{IsRefusalFault}
 use Rattle.ct_parties.specs.declared.fault.Fault.{Fault}
@@ -52,6 +52,56 @@ closing_refused (Err r) old shut settled after xs now e s time p = elim (publish
   | inl c ↦ inl (c.0, late_head old shut settled xs now e s time c.1)
   | inr m ↦ inr m
 ]
+
+-- the clock refuses, or there was no memory
+refused_by_clock : (late : Bool) (e : Refusal) (P : Type 0) → (late ≡ true → P) → e ≡ (if late then ClockBack else Memory)
+    → ((e ≡ ClockBack) × P) ⊎ (e ≡ Memory)
+refused_by_clock true e P p h = inl (h, p refl)
+refused_by_clock false e P p h = inr h
+
+-- where the ends are those of all fronts, a settling is refused by the clock or for want of memory
+pub settling_refused : (old shut : HouseState) (ends : List FrontView) (now : ℕ) (e : Refusal) → shut ≡ record old { accepted = shut.accepted }
+    → AreInOrder (length old.lanes) ends
+    → ((AreInOrder (length shut.lanes) ends → ⊥) × (e ≡ MissingFront)) ⊎ (AreInOrder (length shut.lanes) ends × (e ≡ settle_refusal shut.core now))
+    → IsRefusedAtClosing old now e
+settling_refused old shut ends now e same order (inl missing) =
+    absurd (missing.0 (subst (λ (h : HouseState). AreInOrder (length h.lanes) ends) (sym same) order))
+settling_refused old shut ends now e same order (inr refused) =
+    refused_by_clock (nat_lt now (clock_of old.core)) e (IsLate old.core now) (λ t. inl (ltb-true now (clock_of old.core) t))
+    (refused.1 ∙ ap (λ (h : HouseState). settle_refusal h.core now) same)
+
+-- a shutdown leaves the house shut, whether it was before or not
+shut_now : (told : Result ℕ Refusal) (old shut : HouseState)
+    → MatchResult told (λ n. (old.accepted ≡ None) × (shut.accepted ≡ Some n)) (λ e. (e ≡ Shutdown) × (old.accepted ≢ None) × (shut ≡ old))
+    → shut.accepted ≢ None
+shut_now (Ok n) old shut t none = none-some n (sym none ∙ t.1)
+shut_now (Err e) old shut t none = t.1 (ap (λ (h : HouseState). h.accepted) (sym t.2) ∙ none)
+
+-- what is settled in full at a moment that the clock takes, and published then, is ready to be closed
+pub closing_ready : (told : Result ℕ Refusal) (r : Result Head Refusal) (old shut settled after : HouseState) (ends : List FrontView) (xs : List Item)
+    (now : ℕ) → shut ≡ record old { accepted = shut.accepted }
+    → MatchResult told (λ n. (old.accepted ≡ None) × (shut.accepted ≡ Some n)) (λ e. (e ≡ Shutdown) × (old.accepted ≢ None) × (shut ≡ old))
+    → SettlesMore shut settled xs now → IsAllSettled settled ends → clock_of shut.core ≤ now
+    → IfOk r (λ h. IsNextHead settled.core now h × (after ≡ record settled { core = after_publishing settled.core h }))
+    → OnOk r (IsInTime settled.core now) → IfOk r (λ h. IsReady old ends now h after)
+closing_ready told (Err e) old shut settled after ends xs now same t s all time p late = tt
+closing_ready told (Ok h) old shut settled after ends xs now same t s all time p late =
+    let published : settled.core.published ≡ old.core.published = s.core.published ∙ ap (λ (k : HouseState). k.core.published) same in
+    let clock : clock_of old.core ≤ now = subst (λ (k : HouseState). clock_of k.core ≤ now) same time in
+    let last : last_moment old.core.published.heads < now = subst (λ (l : Log). last_moment l.heads < now) published late.heads in
+    record {
+      house = ap (λ (k : HouseState). k.house) p.1 ∙ s.house ∙ ap (λ (k : HouseState). k.house) same;
+      shut = λ none. shut_now told old shut t (sym s.accepted ∙ ap (λ (k : HouseState). k.accepted) (sym p.1) ∙ none);
+      settled = subst (λ (k : HouseState). IsAllSettled k ends) (sym p.1) (record { in_order = all.in_order; drained = all.drained });
+      covered = subst (λ (k : HouseState). IsCovered k.core) (sym p.1) (refl, refl);
+      heads = ap (λ (k : HouseState). k.core.published.heads) p.1 ∙ ap (λ (l : Log). l.heads ++ h ∷ []) published;
+      moment = p.0.moment;
+      in_time = not_late old.core now clock last;
+    }
+  where
+    not_late : (core : CoreState) (now : ℕ) → clock_of core ≤ now → last_moment core.published.heads < now → IsLate core now → ⊥
+    not_late core now clock last (inl before) = omega arith
+    not_late core now clock last (inr past) = omega arith
 
 -- a refusal of the closing is a fault of the closing
 pub closing_fault : (s : HouseState) (now : ℕ) (e : Refusal) (f : Fault) → IsRefusedAtClosing s now e → IsRefusalFault e f → IsClosingFault s.core now f
