@@ -253,17 +253,23 @@ struct Five {
     path: Vec<[u8; 32]>,
 }
 
+// The root and the path of the third leaf.
+fn third_of(alloc: Global, leaves: &[Vec<u8>]) -> Result<([u8; 32], Vec<[u8; 32]>), AllocError> {
+    let hashes = hashes_of(alloc, &WeakHash, leaves)?;
+    let root = reference::root(&WeakHash, &hashes);
+    if hashes.len() < 5 {
+        return Ok((root, Vec::new(alloc)));
+    }
+    Ok((root, reference::path(alloc, &WeakHash, 2, &hashes)?))
+}
+
 fn five_leaves(alloc: Global) -> Result<Five, AllocError> {
     let leaves = one_byte_leaves(alloc, &[1, 2, 3, 4, 5])?;
-    let hashes = hashes_of(alloc, &WeakHash, &leaves)?;
-    let mut path = Vec::new(alloc);
-    if hashes.len() == 5 {
-        path = reference::path(alloc, &WeakHash, 2, &hashes)?;
-    }
+    let (root, path) = third_of(alloc, &leaves)?;
     Ok(Five {
         leaves,
         leaf: leaf_hash(&WeakHash, &[3]),
-        root: reference::root(&WeakHash, &hashes),
+        root,
         path,
     })
 }
@@ -355,15 +361,20 @@ fn are_beginnings_tried(
     Ok(tried.right && tried.is_one_accepted)
 }
 
+// The true proof from the first three leaves. None starts where there are no more.
+fn proof_from_three(alloc: Global, leaves: &[Vec<u8>]) -> Result<Vec<[u8; 32]>, AllocError> {
+    let hashes = hashes_of(alloc, &WeakHash, leaves)?;
+    if hashes.len() < 4 {
+        return Ok(Vec::new(alloc));
+    }
+    reference::proof(alloc, &WeakHash, 3, &hashes)
+}
+
 // Whether one of many lists that don't begin five leaves is accepted as their beginning under the weak hash, by the true
 // proof of the beginning, and whether each that is gives a true collision, and each other one the refusal.
 fn accepted_false_proofs(alloc: Global, trials: u32) -> Result<bool, AllocError> {
     let new = one_byte_leaves(alloc, &[1, 2, 3, 4, 5])?;
-    let hashes = hashes_of(alloc, &WeakHash, &new)?;
-    if hashes.len() < 5 {
-        return Ok(false);
-    }
-    let proof = reference::proof(alloc, &WeakHash, 3, &hashes)?;
+    let proof = proof_from_three(alloc, &new)?;
     are_beginnings_tried(alloc, &new, &proof, trials)
 }
 

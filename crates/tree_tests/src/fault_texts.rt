@@ -12,9 +12,18 @@ fn is_told<T: Display>(alloc: Global, fault: &T, words: &str) -> bool {
     }
 }
 
+// The same of each of them.
+fn are_told<T: Display>(alloc: Global, faults: &[(T, &str)]) -> bool {
+    for (fault, words) in faults {
+        if !is_told(alloc, fault, words) {
+            return false;
+        }
+    }
+    true
+}
+
 #[test]
 fn each_fault_of_a_proof(rt: HostRuntime) {
-    let alloc = rt.alloc();
     let faults = [
         (
             ProofFault::IndexOutOfRange,
@@ -45,29 +54,26 @@ fn each_fault_of_a_proof(rt: HostRuntime) {
             "the first tree is empty, or is not smaller than the second",
         ),
     ];
-    for (fault, words) in &faults {
-        assert!(rt; is_told(alloc, fault, words));
-    }
+    assert!(rt; are_told(rt.alloc(), &faults));
 }
 
 #[test]
 fn each_fault_of_evidence(rt: HostRuntime) {
-    let alloc = rt.alloc();
-    let refused = EvidenceFault::ProofRefused(ProofFault::PathTooShort);
-    let words = "the proof is refused: the path has fewer elements than a proof at this place has";
-    assert!(rt; is_told(alloc, &refused, words));
-    assert!(rt;
-        is_told(
-            alloc,
-            &EvidenceFault::Memory,
-            "there is no memory for the two strings"
-        )
-    );
+    let faults = [
+        (
+            EvidenceFault::ProofRefused(ProofFault::PathTooShort),
+            "the proof is refused: the path has fewer elements than a proof at this place has",
+        ),
+        (
+            EvidenceFault::Memory,
+            "there is no memory for the two strings",
+        ),
+    ];
+    assert!(rt; are_told(rt.alloc(), &faults));
 }
 
 #[test]
 fn each_fault_of_a_head(rt: HostRuntime) {
-    let alloc = rt.alloc();
     let faults = [
         (
             MonitorFault::RootMismatch,
@@ -94,7 +100,5 @@ fn each_fault_of_a_head(rt: HostRuntime) {
             "there is no memory for the new leaves",
         ),
     ];
-    for (fault, words) in &faults {
-        assert!(rt; is_told(alloc, fault, words));
-    }
+    assert!(rt; are_told(rt.alloc(), &faults));
 }

@@ -3,21 +3,14 @@
 // root down, by the recursions of RFC 6962, sections 2.1.1 and 2.1.2, while the verifiers go up from the leaf. The numbers of proofs, and of
 // those accepted, were computed by Python: the 45 true paths and 36 true proofs, and 44 and 48 times the same ones at another index or size
 // from which they go by the same sides. A path doesn't show the size of its tree: the tree head does.
-ghost use Rattle.std.specs.Prelude.{◌≡◌, ◌<◌, IfOk, length};
+ghost use Rattle.std.specs.Prelude.{◌<◌, length};
 
+use crate::claims::{Claim, Kind, first_of};
+use crate::sweeps::{copied, push_variants, split};
 use ct_tree::reference::{path, proof, root};
 use ct_tree::{Sha256Hash, leaf_hash, node_hash};
-use ct_verify::{ProofFault, verify_consistency, verify_inclusion};
+use ct_verify::ProofFault;
 use std::alloc::{AllocError, Global};
-
-// The largest power of two smaller than `n`.
-fn split(n: usize) -> usize
-    requires { 1 < n }
-    ensures positive { 0 < result }
-    ensures below { result < n }
-{
-    if n == 2 { 1 } else { 2 * split(n - n / 2) }
-}
 
 // The root to which the path leads from the leaf `m` of `n`.
 fn root_by_path(
@@ -114,6 +107,13 @@ fn proof_answer(
     }
 }
 
+fn wanted(claim: &Claim, proof: &[[u8; 32]]) -> Result<(), ProofFault> {
+    match claim.kind {
+        Kind::Path => path_answer(&claim.first, claim.m, claim.n, proof, &claim.root),
+        Kind::Proof => proof_answer(claim.m, claim.n, &claim.first, &claim.root, proof),
+    }
+}
+
 // How many proofs were tried and accepted, and whether each was answered rightly.
 #[derive(Clone, Copy, PartialEq)]
 struct Tally {
@@ -139,28 +139,8 @@ impl Tally {
         self.right = self.right && answer == wanted;
     }
 
-    fn try_path(
-        &mut self,
-        leaf: &[u8; 32],
-        m: usize,
-        n: usize,
-        path: &[[u8; 32]],
-        root: &[u8; 32],
-    ) {
-        let answer = verify_inclusion(&Sha256Hash, leaf, m as u64, n as u64, path, root);
-        self.note(answer, path_answer(leaf, m, n, path, root));
-    }
-
-    fn try_proof(
-        &mut self,
-        m: usize,
-        n: usize,
-        first: &[u8; 32],
-        second: &[u8; 32],
-        proof: &[[u8; 32]],
-    ) {
-        let answer = verify_consistency(&Sha256Hash, m as u64, n as u64, first, second, proof);
-        self.note(answer, proof_answer(m, n, first, second, proof));
+    fn try_proof(&mut self, claim: &Claim, proof: &[[u8; 32]]) {
+        self.note(claim.answer(proof), wanted(claim, proof));
     }
 }
 
@@ -169,35 +149,6 @@ fn flipped(hash: &[u8; 32], place: usize) -> [u8; 32] {
     let mut other = *hash;
     other[place % 32] ^= 0x10;
     other
-}
-
-fn copied(alloc: Global, path: &[[u8; 32]]) -> Result<Vec<[u8; 32]>, AllocError>
-    ensures { IfOk result (λ copy. copy.items ≡ path.now) }
-{
-    let mut copy = Vec::new(alloc);
-    copy.extend_from_slice(path)?;
-    Ok(copy)
-}
-
-// The path with an element left out, doubled, and with one bit changed.
-fn push_forged(
-    alloc: Global,
-    path: &[[u8; 32]],
-    i: usize,
-    all: &mut Vec<Vec<[u8; 32]>>,
-) -> Result<(), AllocError>
-    requires { i < length path.now }
-{
-    let mut shorter = copied(alloc, path)?;
-    shorter.remove(i);
-    all.push(shorter)?;
-    let mut longer = copied(alloc, path)?;
-    longer.insert(i, path[i])?;
-    all.push(longer)?;
-    let mut changed = copied(alloc, path)?;
-    changed[i] = flipped(&path[i], i);
-    all.push(changed)?;
-    Ok(())
 }
 
 // The path with an element swapped with each behind it.
@@ -221,136 +172,88 @@ fn push_swapped(
 fn forged(alloc: Global, path: &[[u8; 32]]) -> Result<Vec<Vec<[u8; 32]>>, AllocError> {
     let mut all = Vec::new(alloc);
     for i in 0..path.len() {
-        push_forged(alloc, path, i, &mut all)?;
+        push_variants(alloc, path, i, flipped(&path[i], i), &mut all)?;
         push_swapped(alloc, path, i, &mut all)?;
     }
     Ok(all)
 }
 
-// A leaf, its index, the size and the root.
-#[derive(Clone, Copy)]
-struct Place {
-    leaf: [u8; 32],
-    m: usize,
-    n: usize,
-    root: [u8; 32],
-}
-
-impl Place {
-    fn try_all(&self, paths: &[Vec<[u8; 32]>], tally: &mut Tally) {
-        for path in paths {
-            tally.try_path(&self.leaf, self.m, self.n, path, &self.root);
+impl Claim {
+    fn try_all(&self, proofs: &[Vec<[u8; 32]>], tally: &mut Tally) {
+        for proof in proofs {
+            tally.try_proof(self, proof);
         }
     }
 
-    // The path at other indices and sizes.
-    fn try_near(&self, path: &[[u8; 32]], tally: &mut Tally) {
-        for index in self.m.saturating_sub(1)..=self.m.saturating_add(1) {
-            for size in self.n.saturating_sub(1)..=self.n.saturating_add(1) {
-                tally.try_path(&self.leaf, index, size, path, &self.root);
+    // The proof at other places and sizes.
+    fn try_near(&self, proof: &[[u8; 32]], tally: &mut Tally) {
+        for m in self.m.saturating_sub(1)..=self.m.saturating_add(1) {
+            for n in self.n.saturating_sub(1)..=self.n.saturating_add(1) {
+                tally.try_proof(&Claim { m, n, ..*self }, proof);
             }
         }
     }
 
-    // The path with another leaf and another root.
-    fn try_changed(&self, path: &[[u8; 32]], tally: &mut Tally) {
-        let leaf = flipped(&self.leaf, self.m);
-        tally.try_path(&leaf, self.m, self.n, path, &self.root);
+    // The proof with another leaf or first root, and with another root.
+    fn try_changed(&self, proof: &[[u8; 32]], tally: &mut Tally) {
+        let first = flipped(&self.first, self.m);
+        tally.try_proof(&Claim { first, ..*self }, proof);
         let root = flipped(&self.root, self.m);
-        tally.try_path(&self.leaf, self.m, self.n, path, &root);
+        tally.try_proof(&Claim { root, ..*self }, proof);
     }
 }
 
-// The path of a leaf, as it is at near places, changed and forged.
-fn try_leaf(
+// The true proof. None starts from no leaves.
+fn whole(
     alloc: Global,
+    kind: Kind,
+    leaves: &[[u8; 32]],
+    m: usize,
+) -> Result<Vec<[u8; 32]>, AllocError>
+    requires { m < length leaves.now }
+{
+    match kind {
+        Kind::Path => path(alloc, &Sha256Hash, m, leaves),
+        Kind::Proof if m == 0 => Ok(Vec::new(alloc)),
+        Kind::Proof => proof(alloc, &Sha256Hash, m, leaves),
+    }
+}
+
+// The proof at a place, as it is at near places, changed and forged.
+fn try_place(
+    alloc: Global,
+    kind: Kind,
     leaves: &[[u8; 32]],
     m: usize,
     tally: &mut Tally,
 ) -> Result<(), AllocError>
     requires { m < length leaves.now }
 {
-    let whole = path(alloc, &Sha256Hash, m, leaves)?;
-    let forged = forged(alloc, &whole)?;
-    let place = Place {
-        leaf: leaves[m],
+    let claim = Claim {
+        kind,
         m,
         n: leaves.len(),
+        first: first_of(kind, leaves, m),
         root: root(&Sha256Hash, leaves),
     };
-    place.try_near(&whole, tally);
-    place.try_changed(&whole, tally);
-    place.try_all(&forged, tally);
-    Ok(())
-}
-
-fn try_paths(alloc: Global, leaves: &[[u8; 32]], tally: &mut Tally) -> Result<(), AllocError> {
-    for m in 0..leaves.len() {
-        try_leaf(alloc, leaves, m, tally)?;
-    }
-    Ok(())
-}
-
-// Two sizes and their roots.
-#[derive(Clone, Copy)]
-struct Sizes {
-    m: usize,
-    n: usize,
-    first: [u8; 32],
-    second: [u8; 32],
-}
-
-impl Sizes {
-    fn try_all(&self, proofs: &[Vec<[u8; 32]>], tally: &mut Tally) {
-        for proof in proofs {
-            tally.try_proof(self.m, self.n, &self.first, &self.second, proof);
-        }
-    }
-
-    // The proof at other sizes.
-    fn try_near(&self, proof: &[[u8; 32]], tally: &mut Tally) {
-        for old in self.m.saturating_sub(1)..=self.m.saturating_add(1) {
-            for new in self.n.saturating_sub(1)..=self.n.saturating_add(1) {
-                tally.try_proof(old, new, &self.first, &self.second, proof);
-            }
-        }
-    }
-
-    // The proof with other roots.
-    fn try_changed(&self, proof: &[[u8; 32]], tally: &mut Tally) {
-        let first = flipped(&self.first, self.m);
-        tally.try_proof(self.m, self.n, &first, &self.second, proof);
-        let second = flipped(&self.second, self.m);
-        tally.try_proof(self.m, self.n, &self.first, &second, proof);
-    }
-}
-
-// The proof from a size, as it is at near sizes, changed and forged.
-fn try_size(
-    alloc: Global,
-    leaves: &[[u8; 32]],
-    m: usize,
-    tally: &mut Tally,
-) -> Result<(), AllocError>
-    requires { (0 < m) × (m < length leaves.now) }
-{
-    let whole = proof(alloc, &Sha256Hash, m, leaves)?;
+    let whole = whole(alloc, kind, leaves, m)?;
     let forged = forged(alloc, &whole)?;
-    let sizes = Sizes {
-        m,
-        n: leaves.len(),
-        first: root(&Sha256Hash, &leaves[..m]),
-        second: root(&Sha256Hash, leaves),
-    };
-    sizes.try_near(&whole, tally);
-    sizes.try_changed(&whole, tally);
-    sizes.try_all(&forged, tally);
+    claim.try_near(&whole, tally);
+    claim.try_changed(&whole, tally);
+    claim.try_all(&forged, tally);
     Ok(())
 }
 
-fn try_proofs(alloc: Global, leaves: &[[u8; 32]], tally: &mut Tally) -> Result<(), AllocError> {
-    for m in 1..leaves.len() {
-        try_size(alloc, leaves, m, tally)?;
+// The proof at each place: paths from the leaf 0 on, and proofs from the size 1 on.
+fn try_places(
+    alloc: Global,
+    kind: Kind,
+    leaves: &[[u8; 32]],
+    tally: &mut Tally,
+) -> Result<(), AllocError> {
+    let least = usize::from(kind == Kind::Proof);
+    for m in least..leaves.len() {
+        try_place(alloc, kind, leaves, m, tally)?;
     }
     Ok(())
 }
@@ -364,11 +267,12 @@ fn nine_leaves() -> [[u8; 32]; 9] {
     leaves
 }
 
-fn tally_of_paths(alloc: Global) -> Result<Tally, AllocError> {
+// The proofs of this kind of the sizes 1 to 9.
+fn tally_of(alloc: Global, kind: Kind) -> Result<Tally, AllocError> {
     let leaves = nine_leaves();
     let mut tally = Tally::new();
     for size in 1..=9 {
-        try_paths(alloc, &leaves[..size], &mut tally)?;
+        try_places(alloc, kind, &leaves[..size], &mut tally)?;
     }
     Ok(tally)
 }
@@ -380,16 +284,7 @@ fn forged_paths_of_sizes_1_to_9(rt: HostRuntime) {
         accepted: 89,
         right: true,
     };
-    assert!(rt; tally_of_paths(rt.alloc()) == Ok(wanted));
-}
-
-fn tally_of_proofs(alloc: Global) -> Result<Tally, AllocError> {
-    let leaves = nine_leaves();
-    let mut tally = Tally::new();
-    for size in 2..=9 {
-        try_proofs(alloc, &leaves[..size], &mut tally)?;
-    }
-    Ok(tally)
+    assert!(rt; tally_of(rt.alloc(), Kind::Path) == Ok(wanted));
 }
 
 #[test]
@@ -399,5 +294,5 @@ fn forged_proofs_of_sizes_2_to_9(rt: HostRuntime) {
         accepted: 84,
         right: true,
     };
-    assert!(rt; tally_of_proofs(rt.alloc()) == Ok(wanted));
+    assert!(rt; tally_of(rt.alloc(), Kind::Proof) == Ok(wanted));
 }
