@@ -9,7 +9,7 @@ ghost use Rattle.ct_core.specs.Core.{Extends};
 ghost use Rattle.ct_versions.specs.Publications.{series_of};
 ghost use Rattle.ct_versions.specs.Sights.{last_of, sight_at};
 
-use crate::publications::Announcer;
+use crate::publications::{Announcer, Reached};
 use crate::version::{Notes, Sees, Version, VersionWriter};
 use crate::viewer::{Bulletin, Viewer};
 use core::mem::replace_with;
@@ -54,6 +54,20 @@ impl From<NotAppended> for Refusal {
     }
 }
 
+// Three versions of the state that was announced last.
+fn three_versions(
+    state: Arc<Published>,
+    reached: Reached,
+) -> Result<(Version, Version, Version), AllocError>
+    requires { reached.last.state ≡ arc_value state }
+    ensures { IfOk result (λ v. (v.0 ≡ reached) × (v.1 ≡ reached) × (v.2 ≡ reached)) }
+{
+    let first = Version::new(state, reached);
+    let second = first.again()?;
+    let third = first.again()?;
+    Ok((first, second, third))
+}
+
 // Shows what was taken in, unless memory is refused.
 fn turn<R: Wait>(writer: VersionWriter, rt: &R) -> (VersionWriter, Result<(), AllocError>)
     requires { series_of (last_of writer.desk.shown.value (drop writer.behind writer.log.items)) ≡ series_of writer.desk.shown.value }
@@ -82,12 +96,8 @@ impl Shelf {
         ensures shown { IfOk result (λ s. s.shown ≡ arc_value state) }
         ensures memory { IsOkUnless result Refusal.Memory }
     {
-        let other = Arc::try_clone(&state)?;
-        let third = Arc::try_clone(&state)?;
         let announcer = Announcer::open(&state);
-        let first = Version::new(state, announcer.reached());
-        let second = Version::new(other, announcer.reached());
-        let again = Version::new(third, announcer.reached());
+        let (first, second, again) = three_versions(state, announcer.reached())?;
         let mut writer = VersionWriter::new(alloc, first, second, viewers)?;
         // This makes the room that later publications take.
         if let Err(version) = writer.append(again) {

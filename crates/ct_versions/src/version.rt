@@ -46,7 +46,7 @@ impl Version {
     }
 
     // The same, sharing the state.
-    fn again(&self) -> Result<Version, AllocError>
+    pub(crate) fn again(&self) -> Result<Version, AllocError>
         ensures { IfOk result (λ v. v ≡ self.now) }
     {
         Ok(Version {

@@ -1,5 +1,4 @@
 use Rattle.std.proofs.Common.{◌≡◌, List, [], ◌∷◌, ◌++◌, length, ap, ◌∙◌, arith}
-use Rattle.std.proofs.lemmas.Grind.{common_steps}
 use Rattle.shared.specs.Flat.{concatenated}
 use Rattle.shared.proofs.Concatenated.{same-moved}
 use Rattle.shared.proofs.Blocks.{AllOf-push}
@@ -7,14 +6,16 @@ use Rattle.shared.proofs.list.make_room.Goals as goal
 
 pub returns-clause-same : goal.returns-clause-same
 returns-clause-same g c =
-    let full : c.push.new.self ≡ c.args.blocks.now ++ c.args.row.now ∷ [] = grind (arith, common_steps) in
-    let last : c.clear.new.self ≡ [] = grind (arith, common_steps) in
+    let full : c.push.new.self ≡ c.args.blocks.now ++ c.args.row.now ∷ [] = c.in_ok-push.ensures.ok
+    ∙ ap (λ (b : List _). c.args.blocks.now ++ b ∷ []) c.in_ok-block.ensures in
+    let last : c.clear.new.self ≡ [] = c.clear.ensures in
     ap (λ (cs : List (List _)). concatenated cs ++ c.clear.new.self) full
     ∙ ap (λ (r : List _). concatenated (c.args.blocks.now ++ c.args.row.now ∷ []) ++ r) last
     ∙ same-moved c.args.blocks.now c.args.row.now
 
 pub returns-clause-each : goal.returns-clause-each
 returns-clause-each g c =
-    let full : c.push.new.self ≡ c.args.blocks.now ++ c.args.row.now ∷ [] = grind (arith, common_steps) in
-    let size : length c.args.row.now ≡ 16384 = grind (arith, common_steps) in
+    let full : c.push.new.self ≡ c.args.blocks.now ++ c.args.row.now ∷ [] = c.in_ok-push.ensures.ok
+    ∙ ap (λ (b : List _). c.args.blocks.now ++ b ∷ []) c.in_ok-block.ensures in
+    let size : length c.args.row.now ≡ 16384 = omega arith in
     rw full (AllOf-push c.args.blocks.now c.args.row.now c.requires.each size)
