@@ -101,11 +101,14 @@ fn state_value(
 ) -> Result<Value, AllocError>
     ensures { IfOk result (λ v. view v ≡ state_data watcher.now (view check)) }
 {
-    let accepted = head_value(alloc, watcher.accepted())?;
-    let all = peaks_value(alloc, watcher.all())?;
-    let sure = peaks_value(alloc, watcher.sure())?;
-    let waiting = head_value(alloc, watcher.waiting())?;
-    json!(in alloc; {"accepted": accepted, "all": all, "check": check, "state": 1u64, "sure": sure, "waiting": waiting})
+    json!(in alloc; {
+        "accepted": head_value(alloc, watcher.accepted())?,
+        "all": peaks_value(alloc, watcher.all())?,
+        "check": check,
+        "state": 1u64,
+        "sure": peaks_value(alloc, watcher.sure())?,
+        "waiting": head_value(alloc, watcher.waiting())?
+    })
 }
 
 fn null_value() -> Value
