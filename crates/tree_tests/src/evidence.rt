@@ -92,9 +92,12 @@ impl Shown for Explained {
     }
 }
 
-#[test]
-fn paths_under_the_hash_of_zeros(rt: HostRuntime) {
-    let rows = "\
+// Rows of what is explained, and how many there are.
+const EXPLAINED: [(u32, &str); 2] = [
+    // Paths under the hash of zeros.
+    (
+        8,
+        "\
 path-zeros A B 0 - Ok(Collision([0, 66], [0, 65]))
 path-zeros AB A 0 ONES Ok(Collision([1, 0, 0, 0, 0, 0, 0, 0, 0, 0, 0, 0, 0, 0, 0, 0, 0, 0, 0, 0, 0, 0, 0, 0, 0, 0, 0, 0, 0, 0, 0, 0, 0, 1, 1, 1, 1, 1, 1, 1, 1, 1, 1, 1, 1, 1, 1, 1, 1, 1, 1, 1, 1, 1, 1, 1, 1, 1, 1, 1, 1, 1, 1, 1, 1], [1, 0, 0, 0, 0, 0, 0, 0, 0, 0, 0, 0, 0, 0, 0, 0, 0, 0, 0, 0, 0, 0, 0, 0, 0, 0, 0, 0, 0, 0, 0, 0, 0, 0, 0, 0, 0, 0, 0, 0, 0, 0, 0, 0, 0, 0, 0, 0, 0, 0, 0, 0, 0, 0, 0, 0, 0, 0, 0, 0, 0, 0, 0, 0, 0]))
 path-zeros AB A 0 ZEROS Ok(Holds)
@@ -102,20 +105,26 @@ path-zeros AB A 2 ZEROS Err(ProofRefused(IndexOutOfRange))
 path-zeros - A 0 - Err(ProofRefused(IndexOutOfRange))
 path-zeros A A 0 ZEROS Err(ProofRefused(PathTooLong))
 path-zeros AB A 0 - Err(ProofRefused(PathTooShort))
-path-sha256 AB A 0 ZEROS Err(ProofRefused(RootMismatch))";
-    assert!(rt; right_rows(rt.alloc(), &mut Explained, rows) == 8);
-}
-
-#[test]
-fn proofs_under_the_hash_of_zeros(rt: HostRuntime) {
-    let rows = "\
+path-sha256 AB A 0 ZEROS Err(ProofRefused(RootMismatch))",
+    ),
+    // Proofs under the hash of zeros.
+    (
+        6,
+        "\
 proof-zeros A AB ONES Ok(Holds)
 proof-zeros A BC ZEROS Ok(Collision([0, 65], [0, 66]))
 proof-zeros A AB - Err(ProofRefused(EmptyPath))
 proof-zeros A AB ZEROS,ZEROS Err(ProofRefused(PathTooLong))
 proof-zeros AB BC ZEROS Err(ProofRefused(SizesOutOfRange))
-proof-sha256 A BC ZEROS Err(ProofRefused(RootMismatch))";
-    assert!(rt; right_rows(rt.alloc(), &mut Explained, rows) == 6);
+proof-sha256 A BC ZEROS Err(ProofRefused(RootMismatch))",
+    ),
+];
+
+#[test]
+fn paths_and_proofs_under_the_hash_of_zeros(rt: HostRuntime) {
+    for (count, rows) in &EXPLAINED {
+        assert!(rt; right_rows(rt.alloc(), &mut Explained, rows) == *count);
+    }
 }
 
 // Whether the string is that of the node over these.

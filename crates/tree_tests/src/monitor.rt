@@ -32,36 +32,44 @@ fn observed(rt: &HostRuntime, rows: &str) -> u32 {
     right_rows(rt.alloc(), &mut monitor, rows)
 }
 
-#[test]
-fn a_monitor_follows_three_heads(rt: HostRuntime) {
-    let rows = "\
+// Rows, each lot of a monitor of its own, and how many there are.
+const OBSERVED: [(u32, &str); 3] = [
+    // A monitor follows three heads.
+    (
+        3,
+        "\
 1 5 A A A 1 5 A Ok(())
 2 6 AB B AB 2 6 AB Ok(())
-3 7 ABC C ABC 3 7 ABC Ok(())";
-    assert!(rt; observed(&rt, rows) == 3);
-}
-
-#[test]
-fn faults_beside_one_leaf(rt: HostRuntime) {
-    let rows = "\
+3 7 ABC C ABC 3 7 ABC Ok(())",
+    ),
+    // Faults beside one leaf.
+    (
+        6,
+        "\
 1 5 A A A 1 5 A Ok(())
 1 6 SEVENS - A 1 5 A Err(Fork)
 0 6 A - A 1 5 A Err(Shrunk)
 1 4 A - A 1 5 A Err(TimeNotLater)
 3 6 ABC B A 1 5 A Err(CountMismatch)
-1 5 A - A 1 5 A Ok(())";
-    assert!(rt; observed(&rt, rows) == 6);
-}
-
-#[test]
-fn faults_beside_two_leaves(rt: HostRuntime) {
-    let rows = "\
+1 5 A - A 1 5 A Ok(())",
+    ),
+    // Faults beside two leaves.
+    (
+        5,
+        "\
 2 5 AB AB AB 2 5 AB Ok(())
 1 4 A - AB 2 5 AB Err(Shrunk)
 2 4 A - AB 2 5 AB Err(Fork)
 3 6 AB C AB 2 5 AB Err(RootMismatch)
-3 6 ABC C ABC 3 6 ABC Ok(())";
-    assert!(rt; observed(&rt, rows) == 5);
+3 6 ABC C ABC 3 6 ABC Ok(())",
+    ),
+];
+
+#[test]
+fn a_monitor_answers_heads(rt: HostRuntime) {
+    for (count, rows) in &OBSERVED {
+        assert!(rt; observed(&rt, rows) == *count);
+    }
 }
 
 // A row of two heads and the proof.
@@ -113,25 +121,34 @@ impl<H: NodeHash + Drop> Shown for Auditor<H> {
     }
 }
 
-#[test]
-fn an_auditor_checks_three_heads(rt: HostRuntime) {
-    let rows = "\
+// Rows of an auditor, and how many there are.
+const AUDITED: [(u32, &str); 2] = [
+    // An auditor checks three heads.
+    (
+        5,
+        "\
 heads 1 5 A 2 6 AB B Ok(())
 heads 2 6 AB 3 7 ABC C Ok(())
 heads 1 5 A 3 7 ABC B,C Ok(())
 heads 2 6 AB 1 5 A B Err(SizesOutOfRange)
-heads 1 5 A 2 6 ABC B Err(RootMismatch)";
-    assert!(rt; right_rows(rt.alloc(), &mut Auditor::new(Sha256Hash), rows) == 5);
-}
-
-#[test]
-fn an_auditor_checks_and_explains_paths(rt: HostRuntime) {
-    let rows = "\
+heads 1 5 A 2 6 ABC B Err(RootMismatch)",
+    ),
+    // An auditor checks and explains paths.
+    (
+        4,
+        "\
 check 3 7 ABC B 1 A,C Ok(())
 explain ABC B 1 A,C Ok(Holds)
 check 3 7 ABC C 1 A,C Err(RootMismatch)
-explain ABC C 1 A,C Err(ProofRefused(RootMismatch))";
-    assert!(rt; right_rows(rt.alloc(), &mut Auditor::new(Sha256Hash), rows) == 4);
+explain ABC C 1 A,C Err(ProofRefused(RootMismatch))",
+    ),
+];
+
+#[test]
+fn an_auditor_checks_and_explains(rt: HostRuntime) {
+    for (count, rows) in &AUDITED {
+        assert!(rt; right_rows(rt.alloc(), &mut Auditor::new(Sha256Hash), rows) == *count);
+    }
 }
 
 #[test]
@@ -360,9 +377,12 @@ fn watched(rt: &HostRuntime, rows: &str) -> u32 {
     right_rows(rt.alloc(), &mut Watcher::new(rt.alloc(), Sha256Hash), rows)
 }
 
-#[test]
-fn a_watcher_takes_answers(rt: HostRuntime) {
-    let rows = "\
+// Rows, each lot of a watcher of its own, and how many there are.
+const WATCHED: [(u32, &str); 3] = [
+    // A watcher takes answers.
+    (
+        9,
+        "\
 head 1 5 A (Pending, false)
 entries 0 ABC (Accepted, false)
 head 3 7 ABC (Pending, false)
@@ -371,14 +391,13 @@ entries 2 C (Gap, false)
 entries 1 B (Pending, false)
 made-again true
 entries 2 C (Accepted, false)
-accepted 3 7 ABC (true, true)";
-    assert!(rt; watched(&rt, rows) == 9);
-}
-
-// The root that is told is of the leaves 41 to 44, by Python's hashlib.
-#[test]
-fn a_watcher_tells_what_speaks_against_a_log(rt: HostRuntime) {
-    let rows = "\
+accepted 3 7 ABC (true, true)",
+    ),
+    // A watcher tells what speaks against a log.
+    // The root that is told is of the leaves 41 to 44, by Python's hashlib.
+    (
+        9,
+        "\
 head 3 7 ABC (Pending, false)
 entries 0 ABC (Accepted, false)
 head 2 6 AB (Stale, false)
@@ -387,14 +406,12 @@ head 3 9 ABC (Again, false)
 head 3 9 A (Fork(Head { tree_size: 3, timestamp: 7, root: [150, 29, 46, 43, 226, 15, 83, 143, 253, 245, 105, 98, 168, 109, 27, 209, 101, 73, 143, 34, 38, 132, 238, 76, 94, 2, 193, 233, 248, 82, 173, 197] }), true)
 head 4 9 ABC (Pending, false)
 entries 3 D (RootMismatch([92, 141, 198, 23, 210, 135, 164, 41, 126, 178, 188, 184, 27, 55, 100, 75, 81, 56, 229, 122, 212, 97, 198, 87, 219, 21, 33, 9, 227, 252, 159, 202]), true)
-all (3, true)";
-    assert!(rt; watched(&rt, rows) == 9);
-}
-
-// A larger head is later than the known ones, the accepted and the waiting one. The roots are those of the test before.
-#[test]
-fn a_larger_head_is_later(rt: HostRuntime) {
-    let rows = "\
+all (3, true)",
+    ),
+    // A larger head is later than the known ones, the accepted and the waiting one. The roots are those of the rows before.
+    (
+        10,
+        "\
 head 3 7 ABC (Pending, false)
 entries 0 ABC (Accepted, false)
 head 4 7 ABCD (TimeNotLater(Head { tree_size: 3, timestamp: 7, root: [150, 29, 46, 43, 226, 15, 83, 143, 253, 245, 105, 98, 168, 109, 27, 209, 101, 73, 143, 34, 38, 132, 238, 76, 94, 2, 193, 233, 248, 82, 173, 197] }), true)
@@ -404,8 +421,15 @@ head 5 8 ABCDE (TimeNotLater(Head { tree_size: 4, timestamp: 8, root: [92, 141, 
 head 5 7 ABCDE (TimeNotLater(Head { tree_size: 3, timestamp: 7, root: [150, 29, 46, 43, 226, 15, 83, 143, 253, 245, 105, 98, 168, 109, 27, 209, 101, 73, 143, 34, 38, 132, 238, 76, 94, 2, 193, 233, 248, 82, 173, 197] }), true)
 head 5 9 ABCDE (Pending, false)
 entries 3 DE (Accepted, false)
-accepted 4 8 ABCD (true, true)";
-    assert!(rt; watched(&rt, rows) == 10);
+accepted 4 8 ABCD (true, true)",
+    ),
+];
+
+#[test]
+fn a_watcher_answers(rt: HostRuntime) {
+    for (count, rows) in &WATCHED {
+        assert!(rt; watched(&rt, rows) == *count);
+    }
 }
 
 // So many leaves, from a number on: each is its number in four bytes.

@@ -69,19 +69,21 @@ fn right(rt: &HostRuntime, rows: &str) -> u32 {
     right_rows(rt.alloc(), &mut Verifiers, rows)
 }
 
-#[test]
-fn eight_leaves(rt: HostRuntime) {
-    let rows = "\
+// Rows of worked paths and proofs, and how many there are.
+const VERIFIED: [(u32, &str); 7] = [
+    // Eight leaves.
+    (
+        2,
+        "\
 path L7 7 8 L6,N45,N0123 MTH_8 Ok(())
-proof 7 8 MTH_7 MTH_8 L6,L7,N45,N0123 Ok(())";
-    assert!(rt; right(&rt, rows) == 2);
-}
-
-// The example of RFC 6962, section 2.1.3: the paths of d0 [b, h, l], d3 [c, g, l], d4 [f, j, k] and d6 [i, k], and the
-// proofs from three leaves [c, d, g, l], from four [l] and from six [i, j, k].
-#[test]
-fn seven_leaves_paths(rt: HostRuntime) {
-    let rows = "\
+proof 7 8 MTH_7 MTH_8 L6,L7,N45,N0123 Ok(())",
+    ),
+    // Paths of seven leaves.
+    // The example of RFC 6962, section 2.1.3: the paths of d0 [b, h, l], d3 [c, g, l], d4 [f, j, k] and d6 [i, k], and the
+    // proofs from three leaves [c, d, g, l], from four [l] and from six [i, j, k].
+    (
+        9,
+        "\
 path L0 0 7 L1,N23,N456 MTH_7 Ok(())
 path L3 3 7 L2,N01,N456 MTH_7 Ok(())
 path L4 4 7 L5,L6,N0123 MTH_7 Ok(())
@@ -90,31 +92,28 @@ path L6 6 7 N45 MTH_7 Err(PathTooShort)
 path L6 6 7 N45,N0123,N0123 MTH_7 Err(PathTooLong)
 path L6 7 7 N45,N0123 MTH_7 Err(IndexOutOfRange)
 path L0 0 1 - L0 Ok(())
-path L0 0 1 - ZEROS Err(RootMismatch)";
-    assert!(rt; right(&rt, rows) == 9);
-}
-
-#[test]
-fn seven_leaves_proofs(rt: HostRuntime) {
-    let rows = "\
+path L0 0 1 - ZEROS Err(RootMismatch)",
+    ),
+    // Proofs of seven leaves.
+    (
+        3,
+        "\
 proof 3 7 MTH_3 MTH_7 L2,L3,N01,N456 Ok(())
 proof 4 7 N0123 MTH_7 N456 Ok(())
-proof 6 7 MTH_6 MTH_7 N45,L6,N0123 Ok(())";
-    assert!(rt; right(&rt, rows) == 3);
-}
-
-#[test]
-fn five_leaves_paths(rt: HostRuntime) {
-    let rows = "\
+proof 6 7 MTH_6 MTH_7 N45,L6,N0123 Ok(())",
+    ),
+    // Paths of five leaves.
+    (
+        3,
+        "\
 path L4 4 5 N0123 MTH_5 Ok(())
 path L2 2 5 L3,N01,L4 MTH_5 Ok(())
-path L0 0 5 L1,N23,L4 MTH_5 Ok(())";
-    assert!(rt; right(&rt, rows) == 3);
-}
-
-#[test]
-fn five_leaves_proofs(rt: HostRuntime) {
-    let rows = "\
+path L0 0 5 L1,N23,L4 MTH_5 Ok(())",
+    ),
+    // Proofs of five leaves.
+    (
+        11,
+        "\
 proof 3 5 MTH_3 MTH_5 L2,L3,N01,L4 Ok(())
 proof 4 5 N0123 MTH_5 L4 Ok(())
 proof 2 5 N01 MTH_5 N23,L4 Ok(())
@@ -125,35 +124,39 @@ proof 3 5 MTH_3 MTH_5 L2,L3,N01 Err(PathTooShort)
 proof 3 5 MTH_3 MTH_5 L2,L3,N01,L4,L4 Err(PathTooLong)
 proof 5 5 MTH_3 MTH_5 L2,L3,N01,L4 Err(SizesOutOfRange)
 proof 0 5 MTH_3 MTH_5 L2,L3,N01,L4 Err(SizesOutOfRange)
-proof 3 5 MTH_3 MTH_5 - Err(EmptyPath)";
-    assert!(rt; right(&rt, rows) == 11);
-}
-
-// Of two faults, the one that comes first in the order is answered.
-#[test]
-fn the_first_fault_is_answered(rt: HostRuntime) {
-    let rows = "\
+proof 3 5 MTH_3 MTH_5 - Err(EmptyPath)",
+    ),
+    // Of two faults, the one that comes first in the order is answered.
+    (
+        7,
+        "\
 path L0 1 1 L1 ZEROS Err(IndexOutOfRange)
 path L0 0 1 L1 ZEROS Err(PathTooLong)
 path L0 0 2 - ZEROS Err(PathTooShort)
 proof 5 3 ZEROS ZEROS - Err(SizesOutOfRange)
 proof 3 5 ZEROS ZEROS - Err(EmptyPath)
 proof 3 5 ZEROS ZEROS L2 Err(PathTooShort)
-proof 3 5 ZEROS ZEROS L2,L3,N01,L4 Err(FirstMismatch)";
-    assert!(rt; right(&rt, rows) == 7);
-}
-
-#[test]
-fn largest_size(rt: HostRuntime) {
-    let rows = "\
+proof 3 5 ZEROS ZEROS L2,L3,N01,L4 Err(FirstMismatch)",
+    ),
+    // Largest size.
+    (
+        7,
+        "\
 zeros 0 18446744073709551615 63 Err(PathTooShort)
 zeros 0 18446744073709551615 64 Err(RootMismatch)
 zeros 0 18446744073709551615 65 Err(PathTooLong)
 zeros 18446744073709551614 18446744073709551615 62 Err(PathTooShort)
 zeros 18446744073709551614 18446744073709551615 63 Err(RootMismatch)
 zeros 18446744073709551614 18446744073709551615 64 Err(PathTooLong)
-zeros 18446744073709551615 18446744073709551615 65 Err(IndexOutOfRange)";
-    assert!(rt; right(&rt, rows) == 7);
+zeros 18446744073709551615 18446744073709551615 65 Err(IndexOutOfRange)",
+    ),
+];
+
+#[test]
+fn worked_paths_and_proofs(rt: HostRuntime) {
+    for (count, rows) in &VERIFIED {
+        assert!(rt; right(&rt, rows) == *count);
+    }
 }
 
 // Under another hash function, and at the largest size, a path of the right length is accepted.
