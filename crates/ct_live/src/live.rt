@@ -103,19 +103,20 @@ struct AllPipes {
 fn open_all_pipes(alloc: Global, fronts: u16) -> Result<AllPipes, AllocError>
     ensures { IfOk result (λ e. AreOpened fronts e) }
 {
-    let Pipes {
-        given,
-        tasks,
-        answers,
-        mut rings,
-    } = open_pipes(alloc, usize::from(fronts))?;
+    let mut pipes = open_pipes(alloc, usize::from(fronts))?;
     let OperatorPipes {
         given: operator,
         tasks: operator_tasks,
         answers: operator_answers,
         ring,
     } = open_operator_pipes(alloc)?;
-    rings.push(ring)?;
+    pipes.rings.push(ring)?;
+    let Pipes {
+        given,
+        tasks,
+        answers,
+        rings,
+    } = pipes;
     let inlets = Inlets {
         fronts: given,
         operator,
