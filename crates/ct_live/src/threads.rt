@@ -1,7 +1,7 @@
 //! The threads: the reader, the writer, each front, and the operator in the thread that calls.
 
-ghost use Rattle.std.specs.Prelude.{◌≡◌, ◌≢◌, ◌<◌, [], length, map, Ok, Err, Some, None, IfOk, IfErr, OnOk, OnErr, vec_len, vec_capacity};
-ghost use Rattle.ct_live.specs.Working.{AreJoinedOf, HasRoom};
+ghost use Rattle.std.specs.Prelude.{◌≡◌, ◌≢◌, ◌<◌, length, Ok, Err, Some, None, IfOk, IfErr, OnOk, OnErr, vec_len, vec_capacity};
+ghost use Rattle.ct_live.specs.Working.{AreJoinedOf};
 ghost use Rattle.ct_live.specs.LiveEnding.{EndsLog};
 ghost use Rattle.ct_live.specs.LiveGiven.{ReadsOn};
 ghost use Rattle.ct_live.specs.LiveReplied.{ClosesLog, RefusesClosing};
@@ -10,14 +10,14 @@ ghost use Rattle.ct_live.specs.LiveWorkers.{AreJoined, OperatorWorks, OperatorWo
 ghost use Rattle.ct_live.specs.declared.operator.OperatorWorker.{OperatorWorker as OperatorWorkerOf};
 
 use crate::ending::{Left, abandon, end_live};
-use crate::front::{FrontWorker, LiveFront};
+use crate::front::FrontWorker;
 use crate::giving::{End, Giver, give_out};
 use crate::operator::OperatorWorker;
 use crate::pipes::{
-    JoinedParties, Parkers, PartyEnd, ThreadFault, WorkerThread, answer_all, join_workers,
-    start_workers, write_answers,
+    JoinedParties, Parkers, PartyEnd, ThreadFault, answer_all, join_workers, start_workers,
+    write_answers,
 };
-use ct_lines::{FrontRequest, Unwritten};
+use ct_lines::Unwritten;
 use ct_parties::{Fault, Options, Waiting};
 use rtrb::Consumer;
 use std::alloc::Global;
@@ -262,45 +262,6 @@ fn join_writer<R: Threads, W: Write + Drop + Send>(
     }
 }
 
-// What was started beside the writer's thread: the parties' threads, with room for what they hand back, and the reader's.
-#[derive(Drop)]
-struct Started<B: BufRead + Drop> {
-    room: JoinedParties<LiveFront, FrontRequest>,
-    parties: Vec<WorkerThread<LiveFront, FrontRequest>>,
-    reader: ReaderThread<B>,
-}
-
-// Starts the threads of the parties and the reader's.
-fn start_parties_and_reader<'e: 's, 's, R: Threads + Wait + Sync, B: BufRead + Drop + Send + 's>(
-    rt: &'e R,
-    alloc: Global,
-    scope: &'s Scope<'s, &'e ()>,
-    parkers: &'e Parkers,
-    waiting: &'e Waiting,
-    count: u16,
-    workers: Vec<FrontWorker>,
-    giver: Giver<B>,
-) -> Result<Started<B>, Fault>
-    requires count { length giver.inlets.fronts.items ≡ count }
-    requires workers { length workers.items ≡ count }
-    ensures parties { IfOk result (λ s. map (λ t. t.promise.0.value) s.parties.items ≡ workers.items) }
-    ensures room { IfOk result (λ s. HasRoom (length s.parties.items) s.room) }
-    ensures empty { IfOk result (λ s. (s.room.parties.items ≡ []) × (s.room.tasks.items ≡ []) × (s.room.answers.items ≡ []) × (s.room.fault ≡ None)) }
-    ensures inlets { IfOk result (λ s. s.reader.promise.0.value.inlets ≡ giver.inlets) }
-    ensures next { IfOk result (λ s. s.reader.promise.0.value.lines.next ≡ giver.lines.next) }
-    ensures input { IfOk result (λ s. B.remaining s.reader.promise.0.value.lines.input ≡ B.remaining giver.lines.input) }
-    ensures faults { IfErr result (λ f. f ≢ Fault.ClockBack) }
-{
-    let room = JoinedParties::with_room(alloc, count)?;
-    let parties = start_workers(rt, alloc, scope, parkers, waiting, workers)?;
-    let reader = start_reader(rt, alloc, scope, parkers, count, giver)?;
-    Ok(Started {
-        room,
-        parties,
-        reader,
-    })
-}
-
 // Starts the threads, has the operator do its tasks here, and joins them all.
 fn run_in<
     'e: 's,
@@ -336,12 +297,16 @@ fn run_in<
         workers,
         out,
     } = start;
-    let Started {
-        room,
-        parties,
-        reader,
-    } = match start_parties_and_reader(rt, alloc, scope, parkers, waiting, count, workers, giver) {
-        Ok(started) => started,
+    let room = match JoinedParties::with_room(alloc, count) {
+        Ok(room) => room,
+        Err(error) => return not_started(operator, out, Fault::from(error)),
+    };
+    let threads = match start_workers(rt, alloc, scope, parkers, waiting, workers) {
+        Ok(threads) => threads,
+        Err(fault) => return not_started(operator, out, fault),
+    };
+    let reader = match start_reader(rt, alloc, scope, parkers, count, giver) {
+        Ok(reader) => reader,
         Err(fault) => return not_started(operator, out, fault),
     };
     let writer = start_writer(rt, scope, parkers, out);
@@ -349,7 +314,7 @@ fn run_in<
         operator,
         result: operated,
     } = run_operator(rt, alloc, parkers, waiting, operator);
-    let fronts = join_workers(rt, parties, room);
+    let fronts = join_workers(rt, threads, room);
     let Reading { giver, end } = reader.join(rt);
     let Writing {
         out,

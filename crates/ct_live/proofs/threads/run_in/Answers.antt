@@ -11,11 +11,11 @@ returns-clause-given g c =
     (g.B.Read.remaining c.args.start.giver.lines.input) (g.B.Read.remaining c.join-giver.result.giver.lines.input) _
     (g.B.Read.remaining c.join-giver.result.giver.lines.input) c.join-giver.result.end c.join-giver.result.end
     c.args.start.giver.inlets _ c.join-giver.result.giver.inlets c.join-giver.result.giver.inlets
-    c.in-Ok.ensures.next refl c.in-Ok.ensures.input refl refl c.in-Ok.ensures.inlets refl c.join-giver.ensures
+    c.in-Ok-start_reader.ensures.next refl c.in-Ok-start_reader.ensures.input refl refl c.in-Ok-start_reader.ensures.inlets refl c.join-giver.ensures
 
 pub returns-clause-fronts : goal.returns-clause-fronts
 returns-clause-fronts g c =
-    subst (λ (l : List FrontWorker). AreJoinedOf LiveFrontReplies l c.join_workers-fronts.result) c.in-Ok.ensures.parties c.join_workers-fronts.ensures.joined
+    subst (λ (l : List FrontWorker). AreJoinedOf LiveFrontReplies l c.join_workers-fronts.result) c.in-Ok-start_workers.ensures.started c.join_workers-fronts.ensures.joined
 
 pub returns-clause-written : goal.returns-clause-written
 returns-clause-written g c =
