@@ -1,11 +1,12 @@
 #!/usr/bin/env python3
 """Tries watch.sh against logs of its own on 127.0.0.1, one that is called and one of tiles: a log that is down, forks, is rewritten, answers with
-nothing or with what is no answer.
+nothing or with what is no answer; a disk that is full, and a run that is killed.
 
 The judge is the built ctmonitor where there is one, else stand_in.py. Both it holds against the runs of answers.py and grown.py first, whose roots
 Go's tlog computes where it is installed (roots.sh). It prints what it tried with which of the two, and ends with status 1 at the first thing that
 isn't as it has to be. Nothing depends on how fast the machine is.
 """
+import contextlib
 import http.server
 import json
 import os
@@ -140,9 +141,20 @@ class Watch:
         self.bin.mkdir()
         self.put_judge(f'exec {judge} "$@"')
 
+    def put(self, name, line):
+        """Has a script of this line stand before the program of that name."""
+        (self.bin / name).write_text(f"#!/bin/sh\n{line}\n")
+        (self.bin / name).chmod(0o755)
+
     def put_judge(self, line):
-        (self.bin / "ctmonitor").write_text(f"#!/bin/sh\n{line}\n")
-        (self.bin / "ctmonitor").chmod(0o755)
+        self.put("ctmonitor", line)
+
+    @contextlib.contextmanager
+    def instead(self, name, line):
+        """The same for a while."""
+        self.put(name, line)
+        yield
+        (self.bin / name).unlink()
 
     def start(self, logs, *words):
         environment = {**os.environ, "PATH": f"{self.bin}:{os.environ['PATH']}", "LOG": logs, "no_proxy": "127.0.0.1", "PYTHONDONTWRITEBYTECODE": "1"}
@@ -369,6 +381,42 @@ def try_no_tiles(watch):
     watch.ends("more leaves than the shell can count", 5, huge.url, says="can't be reached: tile/data/000")
 
 
+# Stand before `tr`, `sync` and `cp` where the disk is full, or where the run is killed as its state is in place.
+NO_ANSWER = '[ "$1" != -d ] || exit 1; PATH=${PATH#*:}; exec tr "$@"'
+KILLING = '[ "$1" != . ] || kill -9 0'
+
+
+def try_full_disk(watch):
+    """Where an answer, a verdict, a head or an alarm can't be written, that is told and the state stays, and so does the alarm's status."""
+    log = Log()
+    with watch.instead("tr", NO_ANSWER):
+        watch.leaves_unchanged("an answer that can't be written", 1, log, says="an answer can't be written")
+    for file, says in (("verdicts", "the verdicts can't be written"), ("heads", "the head can't be kept")):
+        watch.path(log, file).mkdir()
+        watch.leaves_unchanged(f"{file} that can't be written", 1, log, says=says)
+        watch.path(log, file).rmdir()
+    watch.ends("a disk with room again", 0, log.url, says="accepted 8 leaves")
+    log.leaves = FORKED
+    with watch.instead("cp", "exit 1"):
+        watch.leaves_unchanged("a fork that can't be kept", 3, log, says="ALARM, which can't be kept: {")
+    watch.path(log, "verdicts").unlink()
+    watch.path(log, "verdicts").mkdir()
+    watch.leaves_unchanged("a fork whose verdict can't be written", 3, log, says="ALARM, kept in ")
+
+
+def try_killed(watch):
+    """A head whose state is there is kept, also where the run was killed behind the state; and only once where it comes again."""
+    log = Tiles()
+    kept, due = watch.path(log, "heads"), note(MANY[:8], log.now) + "\n"
+    with watch.instead("sync", KILLING):
+        watch.start(log.url).communicate()
+    if watch.state(log)["waiting"]["tree_size"] != 8 or not kept.exists() or kept.read_text() != due:
+        fail(f"a kill behind the state: of the head is kept {kept.exists() and kept.read_text()}")
+    watch.ends("the run behind it", 0, log.url, says="accepted 8 leaves")
+    if kept.read_text() != due:
+        fail(f"the run behind a kill: of one head is kept {kept.read_text()}")
+
+
 def try_several(watch, followed, forked):
     """Each log of a list has a line, and the gravest status counts."""
     closed = closed_port()
@@ -525,6 +573,8 @@ def main():
         try_tiles_days(watch)
         try_tiles_alarms(watch)
         try_no_tiles(watch)
+        try_full_disk(watch)
+        try_killed(watch)
         try_several(watch, followed, forked)
         try_judges(watch, followed, judge)
     print(f"examples/monitor: watch.sh as expected in {watch.count} runs, over {which}.")
