@@ -29,7 +29,10 @@ while [ $# -gt 0 ]; do
   shift 2
 done
 case "${pieces:-none}$older" in *[!0-9]*) usage ;; esac
-[ -n "${LOG:-}" ] || usage
+case ${LOG:-} in *[![:space:]]*) ;; *) usage ;; esac
+for tool in ctmonitor curl flock; do
+  command -v $tool >/dev/null || { echo "watch.sh: $tool isn't on the PATH" >&2; exit 2; }
+done
 # The words that are left are ctmonitor's.
 ctmonitor "$@" </dev/null >/dev/null || exit 2
 
@@ -264,7 +267,7 @@ watch() {
 }
 
 mkdir -p "$folder" && exec 9>"$folder/lock" || exit 1
-flock -n 9 || { echo "watch.sh: another run is at work in $folder" && exit 7; }
+flock -n 9 || { echo "watch.sh: another run is at work in $folder"; exit 7; }
 statuses=
 for log in $LOG; do
   case $log in

@@ -156,16 +156,24 @@ class Watch:
         yield
         (self.bin / name).unlink()
 
-    def start(self, logs, *words):
-        environment = {**os.environ, "PATH": f"{self.bin}:{os.environ['PATH']}", "LOG": logs, "no_proxy": "127.0.0.1", "PYTHONDONTWRITEBYTECODE": "1"}
-        how = {"stdout": subprocess.PIPE, "stderr": subprocess.STDOUT, "text": True, "start_new_session": True, "env": environment}
+    def path_without(self, tool):
+        """A PATH that has what watch.sh calls first, but for this."""
+        folder = self.bin.parent / f"without-{tool}"
+        folder.mkdir()
+        for name in {"curl", "flock", "grep", "mkdir", "sed", "tr"} - {tool}:
+            (folder / name).symlink_to(shutil.which(name))
+        return folder
+
+    def start(self, logs, *words, path=os.environ["PATH"], stdout=subprocess.PIPE):
+        environment = {**os.environ, "PATH": f"{self.bin}:{path}", "LOG": logs, "no_proxy": "127.0.0.1", "PYTHONDONTWRITEBYTECODE": "1"}
+        how = {"stdout": stdout, "stderr": subprocess.STDOUT, "text": True, "start_new_session": True, "env": environment}
         return subprocess.Popen([MONITOR / "watch.sh", "--folder", self.folder, *words], **how)
 
-    def ends(self, what, status, logs, *words, says=""):
+    def ends(self, what, status, logs, *words, says="", **more):
         """Runs it, and sees that it ends with that status and has those words on its output, which is answered."""
         self.count += 1
-        ran = self.start(logs, *words)
-        output = ran.communicate()[0]
+        ran = self.start(logs, *words, **more)
+        output = ran.communicate()[0] or ""
         if ran.returncode != status or says not in output:
             fail(f"{what}: status {ran.returncode} where {status} is due with '{says}': {output}")
         return output
@@ -483,10 +491,15 @@ def try_judges(watch, log, judge):
     watch.put_judge(f'exec {judge} "$@"')
     watch.ends("a word that ctmonitor doesn't know", 2, log.url, "--nome", "a")
     watch.ends("no number", 2, log.url, "--pieces", "many", says="watch.sh [--folder DIR]")
-    watch.ends("no log", 2, "", says="watch.sh [--folder DIR]")
+    for logs in ("", " \t\n"):
+        watch.ends("no log", 2, logs, says="watch.sh [--folder DIR]")
+    for tool in ("curl", "flock"):
+        watch.ends(f"no {tool}", 2, log.url, path=watch.path_without(tool), says=f"{tool} isn't on the PATH")
     held = subprocess.Popen(["flock", watch.folder / "lock", "sh", "-c", "echo held; read line"], stdin=subprocess.PIPE, stdout=subprocess.PIPE)
     held.stdout.readline()
     watch.ends("another run", 7, log.url, says="another run is at work")
+    with open("/dev/full", "w") as full:
+        watch.ends("another run, of which nothing can be said", 7, log.url, stdout=full)
     held.communicate()
 
 
