@@ -251,6 +251,11 @@ tell() {
   say "accepted ${size:-no} leaves${waiting:+, has read $(leaves) of $waiting}"
 }
 
+# The name of a log's folder, made of its address.
+name_of() {
+  echo "${1#*://}" | tr -c 'A-Za-z0-9.\n-' _
+}
+
 # Watches the log whose folder this is.
 watch() {
   if [ -e state ] && ! grep -q '^{"accepted":' state; then
@@ -275,7 +280,10 @@ for log in $LOG; do
     *) kind=calls ;;
   esac
   address=${log#tiled+} address=${address%/} count=1
-  name=$(echo "${log#*://}" | tr -c 'A-Za-z0-9.\n-' _)
+  # (with a slash behind its address a log has the same folder: the one that is there, by whichever name; where there are two, each goes on)
+  for name in "$(name_of "$log")" "$(name_of "$address")" "$(name_of "$address/")" "$(name_of "$address")"; do
+    [ ! -d "$folder/$name" ] || break
+  done
   (mkdir -p "$folder/$name" && cd "$folder/$name" && watch "$@")
   statuses="$statuses $?"
 done

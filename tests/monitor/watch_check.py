@@ -425,6 +425,19 @@ def try_killed(watch):
         fail(f"the run behind a kill: of one head is kept {kept.read_text()}")
 
 
+def try_slashes(watch):
+    """A slash behind a log's address makes no other folder; a folder that has it in its name goes on, by either address."""
+    log, older = Log(), Log()
+    watch.ends("a slash behind the address", 0, f"{log.url}/", says="accepted 8 leaves")
+    watch.ends("a log whose folder is named by the slash", 0, older.url)
+    own = watch.path(older, "")
+    own.rename(f"{own}_")
+    for forked in (log, older):
+        forked.leaves = FORKED
+        for address in (forked.url, f"{forked.url}/"):
+            watch.ends(f"a fork at {address}", 3, address, says='"verdict":"fork"')
+
+
 def try_several(watch, followed, forked):
     """Each log of a list has a line, and the gravest status counts."""
     closed = closed_port()
@@ -588,6 +601,7 @@ def main():
         try_no_tiles(watch)
         try_full_disk(watch)
         try_killed(watch)
+        try_slashes(watch)
         try_several(watch, followed, forked)
         try_judges(watch, followed, judge)
     print(f"examples/monitor: watch.sh as expected in {watch.count} runs, over {which}.")
