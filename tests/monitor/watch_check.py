@@ -485,6 +485,17 @@ def try_signatures(folder):
         ran = subprocess.run([MONITOR / "signature.sh", key], input=given, capture_output=True, text=True)
         if ran.returncode != status or ran.stdout != due:
             fail(f"signature.sh on {what}: status {ran.returncode} where {status} is due: {ran.stdout}{ran.stderr}")
+    room = folder / "room"
+    room.mkdir()
+    how = {"stdin": subprocess.PIPE, "stdout": subprocess.PIPE, "text": True, "env": {**os.environ, "TMPDIR": str(room)}}
+    with subprocess.Popen([MONITOR / "signature.sh", keys[0]], **how) as ran:
+        ran.stdin.write(notes[0] + "\n")
+        ran.stdin.flush()
+        ran.stdout.readline()
+        ran.terminate()
+        ran.wait()
+    if ran.returncode != 1 or os.listdir(room):
+        fail(f"signature.sh, ended by a signal: status {ran.returncode}, and there is left {os.listdir(room)}")
 
 
 # Judges that don't do as ctmonitor does, with the status that is due.
