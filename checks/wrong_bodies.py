@@ -7,7 +7,8 @@ crates/NAME/wrong-bodies/ has edits of the form that crates/NAME/must-fail/ has:
 'new: TEXT', of which each TEXT stands in that file exactly once. The gate tries those of must-fail each time, and those of by-turns of a third of
 the crates (gate.py), since one costs up to a minute of a processor, and a crate's first one a proof of the crate. Without a name it looks, in a
 moment, whether all edits of the three folders can be applied, and whether no name stands in two. With names it has rt try the crates' edits of
-wrong-bodies and by-turns, over a copy of the repository with what is proved there.
+wrong-bodies and by-turns, over a copy of the repository with what is proved there. First it takes out of must-fail what a gate that was killed has
+left there of by-turns; not while a gate is at work here.
 """
 import pathlib
 import re
@@ -16,8 +17,9 @@ import subprocess
 import sys
 import tempfile
 
-ROOT = pathlib.Path(__file__).resolve().parent.parent
-CRATES = ROOT / "crates"
+import gate
+from source import CRATES, ROOT
+
 FOLDERS = ("must-fail", "by-turns", "wrong-bodies")
 
 
@@ -75,4 +77,6 @@ def tried(names):
 
 
 if __name__ == "__main__":
+    if left := gate.put_out_left():
+        print(f"checks/wrong_bodies.py: {left} edits that a gate has left in must-fail were taken out", flush=True)
     sys.exit(0 if looked() and (not sys.argv[1:] or tried(sys.argv[1:])) else 1)
