@@ -10,6 +10,7 @@ moment, whether all edits of the three folders can be applied, and whether no na
 wrong-bodies and by-turns, over a copy of the repository with what is proved there. First it takes out of must-fail what a gate that was killed has
 left there of by-turns; not while a gate is at work here.
 """
+import os
 import pathlib
 import re
 import shutil
@@ -18,7 +19,7 @@ import sys
 import tempfile
 
 import gate
-from source import CRATES, ROOT
+from source import CRATES, MADE, ROOT
 
 FOLDERS = ("must-fail", "by-turns", "wrong-bodies")
 
@@ -58,14 +59,23 @@ def looked():
     return not found
 
 
+def passed_over(folder, names):
+    """Of a folder's names those that no copy needs: what is made there, but for what is built, and what is no file (a socket, say)."""
+    paths = {name: pathlib.Path(folder, name) for name in names}
+    return [name for name, path in paths.items() if name in MADE - {"out"} or not (path.is_symlink() or path.is_file() or path.is_dir())]
+
+
 def tried(names):
     """Whether the prover refuses each edit of these crates' folders."""
     for name in names:
         if not any(edit for folder in FOLDERS[1:] for edit in (CRATES / name / folder).glob("*.edit")):
             sys.exit(f"wrong_bodies.py: crates/{name} has no edit in wrong-bodies or by-turns")
-    with tempfile.TemporaryDirectory() as room:
+    gate.end_in_order()
+    # (the copy takes some GB: a folder of the disk, not of memory)
+    disk = None if "TMPDIR" in os.environ or not os.access("/var/tmp", os.W_OK) else "/var/tmp"
+    with tempfile.TemporaryDirectory(prefix="wagtenib-", dir=disk) as room:
         copy = pathlib.Path(room, "copy")
-        shutil.copytree(ROOT, copy, symlinks=True, ignore=shutil.ignore_patterns(".git"))
+        shutil.copytree(ROOT, copy, symlinks=True, ignore=passed_over)
         (copy / ".git").mkdir()
         for name in names:
             crate = copy / "crates" / name
