@@ -1,6 +1,6 @@
 #!/usr/bin/env python3
 """Tries the scripts of examples/ and of this folder: bad_lines.py, pem_lines.py, expected.py, check.py, guard/model.py and those of tiles/ on
-stored input, tiles/step.py on random histories, and monitor/watch.sh on logs of its own. It runs no ctlog.
+stored input, tiles/step.py on random histories, those of checks/ on a made-up repository, and monitor/watch.sh on logs of its own. It runs no ctlog.
 
 It prints one line where all is as expected; else it says what isn't, and ends with status 1.
 """
@@ -282,6 +282,9 @@ def main():
         ran = run("expected.py", *words.split(), given=(EXAMPLES / f"{name}.jsonl").read_bytes())
         if ran.stdout != (EXAMPLES / f"{name}.expected.jsonl").read_bytes():
             fail(f"expected.py computes other replies than {name}.expected.jsonl")
+    checks = run("checks.py")
+    if checks.returncode:
+        fail(checks.stdout.decode() + checks.stderr.decode())
     watched = run("monitor/watch_check.py")
     if watched.returncode:
         fail(f"monitor/watch_check.py: {watched.stderr.decode()}")
