@@ -91,6 +91,26 @@ def taken_up(folder):
         os.close(kept.folder)
 
 
+def new_folders(folder):
+    """The state's folder is on disk in the one above it, and so is each folder above it that a start makes."""
+    synced, own = [], os.fsync
+
+    def noted(file):
+        synced.append(os.readlink(f"/proc/self/fd/{file}"))
+        own(file)
+
+    os.fsync = noted
+    try:
+        kept = Journal(os.path.join(folder, "upper", "state"))
+    finally:
+        os.fsync = own
+    os.close(kept.folder)
+    folder = os.path.realpath(folder)
+    due = [os.path.dirname(folder), folder, os.path.join(folder, "upper")]
+    hold(synced == due, "of new folders these are on disk:", synced, "and not", due)
+    return f"{len(due)} new folders"
+
+
 def every_byte(folder):
     """Each byte of a small journal in turn is another one, with the file of heads whole, empty and gone: the log is refused, or
     it is the same."""
@@ -314,4 +334,4 @@ def long_batches(folder):
     return f"{len(batches)} batches, the longest of {max(batches)} bytes"
 
 
-CASES = (every_byte, every_cut, damages, keys, old_journal, full_disk, long_batches)
+CASES = (new_folders, every_byte, every_cut, damages, keys, old_journal, full_disk, long_batches)
