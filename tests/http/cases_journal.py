@@ -185,12 +185,16 @@ def damages(folder):
     torn = {**content, "heads.jsonl": heads[:-20]}, {**content, "journal.jsonl": journal + b'{"who":0,"op":"add-ch'}
     with socket.create_server(("127.0.0.1", 0)) as taken:
         refused(folder, torn[1], "in use", "--port", str(taken.getsockname()[1]))
+    roots = pathlib.Path(folder + "-roots")
+    for other in (b"", b"\x30\x82\x01", b"-----BEGIN CERTIFICATE-----\nA\n-----END CERTIFICATE-----\n"):
+        roots.write_bytes(other)
+        refused(folder, content, "has no certificates in PEM", "--roots", str(roots))
     for whole in (*torn, content):
         put(folder, whole)
         front = started(folder, LOG)
         hold(Client(front.port).get("get-entries", start=0, end=5) == entries, "other entries are taken up")
         hold(front.end() == (0, ""), "the front doesn't end in order")
-    return f"{len(rows) + 1} refused starts"
+    return f"{len(rows) + 4} refused starts"
 
 
 def keys(folder):
