@@ -29,7 +29,6 @@ NO_REQUEST = b"this line is no request"
 DAMAGED = 1000
 # The stored run of ctlogd, and its fronts.
 LIVE, LIVE_FRONTS = HERE.parent / "crates" / "ctlogd", 2
-# The stored run of ctguard.
 # The stored inputs, each with the fronts, ring and moments under which its replies are expected.
 INPUTS = {
     "first-session": "1 4096 0 7",
@@ -270,7 +269,7 @@ def main():
     outputs = try_live()
     with tempfile.TemporaryDirectory() as folder:
         chains = try_pem(pathlib.Path(folder))
-    with tempfile.TemporaryDirectory() as folder:
+    with tempfile.TemporaryDirectory(prefix="two words ") as folder:
         files = try_install(pathlib.Path(folder))
     try_figures()
     quotations = try_quotations()
