@@ -33,7 +33,7 @@ check: ## for daily work: proves what changed
 	@$(MAKE) --silent sources
 
 serve: ## serves a log over HTTP at PORT=8618 out of the folder FOLDER=ct-log, by ctserve over cttile, ctguard and ctproof; builds what isn't built
-	@service/serve.sh $(FOLDER) $(PORT)
+	@service/serve.sh "$(FOLDER)" "$(PORT)"
 
 service: ## builds service/out/ctserve, the service in Go (docs/OPERATING.md), and ctcheck, ctload and ctread
 	@checks/needs.sh service
@@ -57,13 +57,13 @@ service-clients: ## has certspotter, Google's client library, x/mod's tlog and c
 # LOAD=no leaves the loader and the reader out.
 cluster: ## runs three nodes of ctserve on engines of their own in CLUSTER=ct-cluster (etcd, Ceph's S3; from PORT=8618 on), with a loader and a reader
 	@checks/needs.sh service
-	@service/cluster.sh start $(CLUSTER) $(PORT)
+	@service/cluster.sh start "$(CLUSTER)" "$(PORT)"
 
 cluster-status: ## says what runs of it
-	@service/cluster.sh status $(CLUSTER)
+	@service/cluster.sh status "$(CLUSTER)"
 
 cluster-stop: ## ends it, and judges what it published and answered
-	@service/cluster.sh stop $(CLUSTER)
+	@service/cluster.sh stop "$(CLUSTER)"
 
 link: ## builds libwagtenib, the proof checkers for C, and runs programs in C, Rust and Python over it
 	@checks/needs.sh link
@@ -71,22 +71,23 @@ link: ## builds libwagtenib, the proof checkers for C, and runs programs in C, R
 
 # BUILT is the folder in which the crates' builds lie.
 install: $(PROGRAMS:%=install-%) install-library ## installs what is built, below PREFIX=/usr/local: ctlog, ctlogd, ctmonitor, ctguard, cttile, ctproof, watch.sh as ctmonitor-watch, and libwagtenib
-	@[ -n "$(wildcard $(foreach program,$(PROGRAMS),$(BUILT)/$(program)/out/$(program)) $(LIBRARY).a)" ] || { echo "make install: nothing is built" >&2; exit 1; }
+	@for program in $(PROGRAMS); do [ ! -e "$(BUILT)/$$program/out/$$program" ] || exit 0; done; \
+	[ -e "$(LIBRARY).a" ] || { echo "make install: nothing is built" >&2; exit 1; }
 
 $(PROGRAMS:%=install-%): install-%:
-	@if [ -x $(BUILT)/$*/out/$* ]; then install -d $(TO)/bin && install -m 755 $(BUILT)/$*/out/$* $(TO)/bin && echo "$(PREFIX)/bin/$*"; \
+	@if [ -x "$(BUILT)/$*/out/$*" ]; then install -d "$(TO)/bin" && install -m 755 "$(BUILT)/$*/out/$*" "$(TO)/bin" && echo "$(PREFIX)/bin/$*"; \
 	else echo "$* isn't built: make demo builds ctlog and ctmonitor, make serve cttile, ctguard and ctproof, make serve-ctlogd ctlogd, and rt run in its folder any other"; fi
-	@if [ $* = ctmonitor ] && [ -x $(BUILT)/$*/out/$* ]; then install -m 755 examples/monitor/watch.sh $(TO)/bin/ctmonitor-watch && echo "$(PREFIX)/bin/ctmonitor-watch"; fi
+	@if [ $* = ctmonitor ] && [ -x "$(BUILT)/$*/out/$*" ]; then install -m 755 examples/monitor/watch.sh "$(TO)/bin/ctmonitor-watch" && echo "$(PREFIX)/bin/ctmonitor-watch"; fi
 
 install-library:
-	@if [ -f $(LIBRARY).a ]; then \
-	  install -d $(TO)/include $(TO)/lib/pkgconfig && \
-	  install -m 644 include/wagtenib.h $(TO)/include && \
-	  install -m 644 $(LIBRARY).a $(TO)/lib && \
-	  install -m 755 $(LIBRARY).so $(TO)/lib/libwagtenib.so.$(VERSION) && \
-	  ln -sf libwagtenib.so.$(VERSION) $(TO)/lib/libwagtenib.so.0 && \
-	  ln -sf libwagtenib.so.0 $(TO)/lib/libwagtenib.so && \
-	  sed 's|@PREFIX@|$(PREFIX)|' include/wagtenib.pc.in > $(TO)/lib/pkgconfig/wagtenib.pc && \
+	@if [ -f "$(LIBRARY).a" ]; then \
+	  install -d "$(TO)/include" "$(TO)/lib/pkgconfig" && \
+	  install -m 644 include/wagtenib.h "$(TO)/include" && \
+	  install -m 644 "$(LIBRARY).a" "$(TO)/lib" && \
+	  install -m 755 "$(LIBRARY).so" "$(TO)/lib/libwagtenib.so.$(VERSION)" && \
+	  ln -sf libwagtenib.so.$(VERSION) "$(TO)/lib/libwagtenib.so.0" && \
+	  ln -sf libwagtenib.so.0 "$(TO)/lib/libwagtenib.so" && \
+	  sed 's|@PREFIX@|$(PREFIX)|' include/wagtenib.pc.in > "$(TO)/lib/pkgconfig/wagtenib.pc" && \
 	  echo "$(PREFIX)/lib/libwagtenib.so.$(VERSION), libwagtenib.a, wagtenib.h and wagtenib.pc"; \
 	else echo "libwagtenib isn't built: make link builds it"; fi
 

@@ -111,10 +111,10 @@ def reply_times(program, fronts, replies):
 
 
 def stream(program, fronts, count):
-    """The seconds from the program's start to its end for the lines of make_lines.py, and its use of the machine."""
-    lines = Path(tempfile.mkdtemp(), "lines")
-    with open(lines, "wb") as out:
+    """The seconds from the program's start to its end for the lines of make_lines.py, its use of the machine, and the file of the lines."""
+    with tempfile.NamedTemporaryFile(delete=False) as out:
         subprocess.run([sys.executable, HERE / "make_lines.py", str(count), str(fronts)], stdout=out, check=True)
+    lines = Path(out.name)
     start = time.perf_counter()
     live = Live(program, fronts)
     tickets = 0

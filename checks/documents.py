@@ -13,7 +13,7 @@ import pathlib
 import re
 import sys
 
-from source import ROOT
+from source import MADE, ROOT
 
 LINK = re.compile(r"\[[^\]]*\]\(([^)\s]+)\)")
 BLOCK = re.compile(r"^```.*?^```$|(?:^(?: {4}|\t)[^\n]*\n)+", re.M | re.S)
@@ -30,17 +30,13 @@ OWN = ("documents.py", "elsewhere.txt")
 ELSEWHERE = set((ROOT / "checks" / "elsewhere.txt").read_text().split())
 
 
-def is_made(path):
-    """Whether a file is made by a build, or is git's."""
-    return {"out", ".git", "__pycache__"} & set(path.parts)
-
-
 def files():
-    """The paths of all files of the repository, from its top."""
+    """The paths of all files of the repository, from its top, without what is made there, and without what is no file (a socket, say)."""
     found = []
     for folder, below, names in os.walk(ROOT):
-        below[:] = [name for name in below if not is_made(pathlib.PurePath(name))]
-        found += [(pathlib.PurePath(folder) / name).relative_to(ROOT) for name in names if name != ".git"]
+        below[:] = [name for name in below if name not in MADE]
+        paths = [pathlib.Path(folder, name) for name in names if name not in MADE]
+        found += [path.relative_to(ROOT) for path in paths if path.is_file()]
     return found
 
 

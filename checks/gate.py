@@ -6,12 +6,15 @@ more as it is, and the status is that of `rt ci`.
 how long it has been at work.
 
 Beside the edits of crates/NAME/must-fail it has `rt ci` try those of crates/NAME/by-turns, of a third of the crates that have this folder: the
-commit's hash says which, or TURN=0, 1 or 2 in the environment. They stand in must-fail while it runs. What a crate's edits cost is one more proof of
-the crate, and little for each; so the thirds are made of whole crates, of about the same size.
+commit's hash says which, or TURN=0, 1 or 2 in the environment. They stand in must-fail while it runs; what a run that was killed has left there
+wrong_bodies.py takes away. What a crate's edits cost is one more proof of the crate, and little for each; so the thirds are made of whole crates, of
+about the same size.
 
 `rt ci` guesses what memory a proof needs, at two to three times what was seen, and lets a large crate wait while smaller ones have that: so ct_live, in
 the longest chain of crates, waited. Where each processor has memory for a proof, it is told to use them all, by RT_JOBS.
 """
+import contextlib
+import fcntl
 import os
 import pathlib
 import re
@@ -31,23 +34,54 @@ MEMORY = 4_000_000_000
 # How often it says that the gate is still at work, in seconds, while nothing else happens.
 EVERY = 60
 
+# The signals at which it ends in order, where they aren't ignored already.
+ENDINGS = (signal.SIGTERM, signal.SIGHUP)
+
 
 def turn():
-    """Which third of the crates is tried."""
+    """Which third of the crates is tried: the first where no commit is known."""
     said = os.environ.get("TURN", "")
     if said.isdigit():
         return int(said) % THIRDS
-    commit = subprocess.run(["git", "rev-parse", "HEAD"], cwd=ROOT, capture_output=True, text=True).stdout.strip()
+    try:
+        commit = subprocess.run(["git", "rev-parse", "HEAD"], cwd=ROOT, capture_output=True, text=True).stdout.strip()
+    except OSError:
+        # (git isn't here)
+        commit = ""
     return int(commit or "0", 16) % THIRDS
 
 
-def put_out():
-    """Takes away what put_in has put into must-fail, now or in a run that was killed."""
-    for edit in ROOT.glob("crates/*/by-turns/*.edit"):
-        there = edit.parent.parent / "must-fail" / edit.name
+def put_out(own=()):
+    """Takes these edits out of must-fail, and those of by-turns that a run that was killed has left there, whole or cut off; one with another text
+    stays. The answer is how many were left."""
+    pairs = [(edit, edit.parent.parent / "must-fail" / edit.name) for edit in ROOT.glob("crates/*/by-turns/*.edit")]
+    left = [there for edit, there in pairs if there.exists() and edit.read_bytes().startswith(there.read_bytes())]
+    for there in {*own, *left}:
         there.unlink(missing_ok=True)
-        if there.parent.is_dir() and not any(there.parent.iterdir()):
-            there.parent.rmdir()
+    for folder in {there.parent for _, there in pairs}:
+        if folder.is_dir() and not any(folder.iterdir()):
+            folder.rmdir()
+    return len(left)
+
+
+@contextlib.contextmanager
+def at_work():
+    """A run in this checkout: meanwhile put_out_left leaves its edits where they are."""
+    with open(__file__) as lock:
+        # (without locks in the file system put_out_left does nothing)
+        with contextlib.suppress(OSError):
+            fcntl.flock(lock, fcntl.LOCK_SH)
+        yield
+
+
+def put_out_left():
+    """Takes away what a run that was killed has left in must-fail, and answers how many edits these are; none while a run is at work."""
+    with open(__file__) as lock:
+        try:
+            fcntl.flock(lock, fcntl.LOCK_EX | fcntl.LOCK_NB)
+        except OSError:
+            return 0
+        return put_out()
 
 
 def size_of(crate):
@@ -64,24 +98,41 @@ def thirds():
 
 
 def put_in():
-    """Puts the edits of this turn into must-fail, and answers the names of their crates."""
+    """Puts the edits of this turn into must-fail, and answers where they stand there."""
     put_out()
-    crates = sorted(thirds()[turn()])
-    for crate in crates:
+    found = []
+    for crate in sorted(thirds()[turn()]):
         for edit in (crate / "by-turns").glob("*.edit"):
             (crate / "must-fail").mkdir(exist_ok=True)
-            shutil.copy(edit, crate / "must-fail")
-    return [crate.name for crate in crates]
+            found.append(pathlib.Path(shutil.copy(edit, crate / "must-fail")))
+    return found
+
+
+def stop(*_):
+    """Ends it, and lets no further signal break that off."""
+    for number in ENDINGS:
+        signal.signal(number, signal.SIG_IGN)
+    sys.exit(1)
+
+
+def end_in_order():
+    """Has each of these signals end the program as an exit does."""
+    for number in ENDINGS:
+        if signal.getsignal(number) != signal.SIG_IGN:
+            signal.signal(number, stop)
 
 
 def main():
-    signal.signal(signal.SIGTERM, lambda *_: sys.exit(1))
-    try:
-        names = put_in()
-        print(f"Of the wrong bodies that are tried by turns, it tries those of {', '.join(names) or 'no crate'}.", flush=True)
-        sys.exit(run())
-    finally:
-        put_out()
+    end_in_order()
+    with at_work():
+        edits = []
+        try:
+            edits = put_in()
+            names = sorted({edit.parent.parent.name for edit in edits})
+            print(f"Of the wrong bodies that are tried by turns, it tries those of {', '.join(names) or 'no crate'}.", flush=True)
+            sys.exit(run())
+        finally:
+            put_out(edits)
 
 
 def surroundings():

@@ -3,7 +3,8 @@
 
 A crate reads the contracts of those below it, their specs and proofs, and the bodies of none. So where a body alone changed, that crate is proved, and
 none above it. `make test` proves all of it from nothing, and decides; this is for daily work, and takes crates of tests and measurements as the
-programs that they are, without their tests. What a crate was last proved with lies in crates/NAME/out/proved, as a sum.
+programs that they are, without their tests. What a crate was last proved with lies in crates/NAME/out/proved, as a sum; of one that was changed
+meanwhile it isn't known, and none lies there.
 """
 import hashlib
 import importlib.util
@@ -81,8 +82,11 @@ def main():
         print(f"{name}: it changed, or what it reads of those below it", flush=True)
         if not check.prove(name):
             sys.exit(f"{name} isn't proved")
+        if check.now(name) != sum_now:
+            kept.unlink(missing_ok=True)
+            sys.exit(f"{name} was changed while it was proved: make check once more")
         check.reads.pop(name, None)
-        kept.write_text(check.now(name) or "")
+        kept.write_text(sum_now or "")
         proved += 1
     print(f"{len(names)} crates proved, {proved} of them now, in {int(time.monotonic() - start)} s. Tests and wrong bodies are tried by make test.")
 

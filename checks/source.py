@@ -4,6 +4,8 @@ import re
 
 ROOT = pathlib.Path(__file__).resolve().parent.parent
 CRATES = ROOT / "crates"
+# The names of folders that git has or passes over: what builds, logs, clusters and watches write here.
+MADE = {".git", *(line.rstrip("/") for line in (ROOT / ".gitignore").read_text().splitlines())}
 
 
 def crates():

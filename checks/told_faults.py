@@ -6,8 +6,8 @@ and imports may name them. Such faults too are an error of std's input and outpu
 was handed back), and a call of std that may fail by itself. What is told behind the last turn over lines or calls stands right behind a loop of
 2^50 turns, which nothing breaks off, or a test whether there were 2^50. And since std's contracts don't say what a process's status is, the `main`
 of a program ends with the one status that it was answered, and makes none up; and how long a line waits are the numbers of this table. The script
-prints each file in which a fault is told more or less often than this table says, or in which such a loop, a test, an end or a number is another,
-and ends with status 1 where there is one."""
+prints each file in which a fault is told more or less often than this table says, or in which such a loop, a test, an end or a number is another, or
+which isn't there, and ends with status 1 where there is one."""
 import re
 import sys
 
@@ -125,10 +125,11 @@ def ends_and_waits(text, name):
 
 
 def main():
-    differ = []
+    differ, seen = [], set()
     for crate in crates():
         for path in [] if is_for_tests(crate) else sources(crate):
             text, name = path.read_text(), str(path.relative_to(CRATES))
+            seen.add(name)
             places, ends = list(told(text)), set(loops(text))
             differ += ends_and_waits(text, name)
             if None in ends:
@@ -140,6 +141,7 @@ def main():
                     differ.append(f"{name} tells {fault} in {len(lines)} places: lines {', '.join(map(str, lines)) or 'none'}")
                 if "behind the last turn over" in reason and not {at for at, other in places if other == fault} <= ends:
                     differ.append(f"{name} tells {fault} elsewhere than right behind such a loop")
+    differ += [f"{name} is in a table here, and isn't among the sources" for name in sorted({*TOLD, *WAITS} - seen)]
     if differ:
         print("\n".join(differ))
         sys.exit("a fault that no clause can pin is told where checks/told_faults.py doesn't say why")

@@ -7,8 +7,10 @@ crates/NAME/wrong-bodies/ has edits of the form that crates/NAME/must-fail/ has:
 'new: TEXT', of which each TEXT stands in that file exactly once. The gate tries those of must-fail each time, and those of by-turns of a third of
 the crates (gate.py), since one costs up to a minute of a processor, and a crate's first one a proof of the crate. Without a name it looks, in a
 moment, whether all edits of the three folders can be applied, and whether no name stands in two. With names it has rt try the crates' edits of
-wrong-bodies and by-turns, over a copy of the repository with what is proved there.
+wrong-bodies and by-turns, over a copy of the repository with what is proved there. First it takes out of must-fail what a gate that was killed has
+left there of by-turns; not while a gate is at work here.
 """
+import os
 import pathlib
 import re
 import shutil
@@ -16,8 +18,9 @@ import subprocess
 import sys
 import tempfile
 
-ROOT = pathlib.Path(__file__).resolve().parent.parent
-CRATES = ROOT / "crates"
+import gate
+from source import CRATES, MADE, ROOT
+
 FOLDERS = ("must-fail", "by-turns", "wrong-bodies")
 
 
@@ -56,14 +59,23 @@ def looked():
     return not found
 
 
+def passed_over(folder, names):
+    """Of a folder's names those that no copy needs: what is made there, but for what is built, and what is no file (a socket, say)."""
+    paths = {name: pathlib.Path(folder, name) for name in names}
+    return [name for name, path in paths.items() if name in MADE - {"out"} or not (path.is_symlink() or path.is_file() or path.is_dir())]
+
+
 def tried(names):
     """Whether the prover refuses each edit of these crates' folders."""
     for name in names:
         if not any(edit for folder in FOLDERS[1:] for edit in (CRATES / name / folder).glob("*.edit")):
             sys.exit(f"wrong_bodies.py: crates/{name} has no edit in wrong-bodies or by-turns")
-    with tempfile.TemporaryDirectory() as room:
+    gate.end_in_order()
+    # (the copy takes some GB: a folder of the disk, not of memory)
+    disk = None if "TMPDIR" in os.environ or not os.access("/var/tmp", os.W_OK) else "/var/tmp"
+    with tempfile.TemporaryDirectory(prefix="wagtenib-", dir=disk) as room:
         copy = pathlib.Path(room, "copy")
-        shutil.copytree(ROOT, copy, symlinks=True, ignore=shutil.ignore_patterns(".git"))
+        shutil.copytree(ROOT, copy, symlinks=True, ignore=passed_over)
         (copy / ".git").mkdir()
         for name in names:
             crate = copy / "crates" / name
@@ -75,4 +87,6 @@ def tried(names):
 
 
 if __name__ == "__main__":
+    if left := gate.put_out_left():
+        print(f"checks/wrong_bodies.py: {left} edits that a gate has left in must-fail were taken out", flush=True)
     sys.exit(0 if looked() and (not sys.argv[1:] or tried(sys.argv[1:])) else 1)

@@ -1,6 +1,6 @@
 #!/usr/bin/env bash
 # Looks through the documents, in seconds: links, names of files and functions, commands, quotations, the contracts of PROMISES.md, and their length.
-# make check and make test run it before the proofs.
+# make test runs it before the proofs, and make check behind them.
 set -u
 cd "$(dirname "$0")/.."
 export PYTHONDONTWRITEBYTECODE=1

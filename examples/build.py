@@ -30,6 +30,8 @@ SO_FAR = re.compile(r"so far: (\d+) of (\d+) functions checked")
 PROVED = re.compile(r"logic=proved functions=(\d+)")
 # How often it says where it is, in seconds, while nothing else happens.
 EVERY = 30
+# The signals at which it ends in order, where they aren't ignored already.
+ENDINGS = (signal.SIGTERM, signal.SIGHUP)
 # The memory that a proof is taken to need, in bytes, and the most proofs at a time.
 MEMORY, MOST = 2_000_000_000, 8
 # A chain of crates that is so much of the longest that is left decides how long all of it takes.
@@ -190,9 +192,10 @@ class Build:
             shutil.move(ROOT / "crates" / name / "out", top / "crates" / name / "out")
 
     def take_back(self, name, top):
-        """Puts what was built in a copy here, and leaves there what crates above it read."""
+        """Puts what was built in a copy here, in place of what another program made here meanwhile, and leaves there what crates above it read."""
         built, here = (it / "crates" / name / "out" for it in (top, ROOT))
         if built.exists():
+            shutil.rmtree(here, ignore_errors=True)
             shutil.move(built, here)
             if (here / "rlib").exists():
                 shutil.copytree(here / "rlib", built / "rlib", symlinks=True)
@@ -314,11 +317,16 @@ class Build:
 
 
 def stop(*_):
+    """Ends it, and lets no further signal break that off."""
+    for number in ENDINGS:
+        signal.signal(number, signal.SIG_IGN)
     sys.exit("stopped; what was proved is kept")
 
 
 def main():
-    signal.signal(signal.SIGTERM, stop)
+    for number in ENDINGS:
+        if signal.getsignal(number) != signal.SIG_IGN:
+            signal.signal(number, stop)
     words = sys.argv[1:]
     script = words[1] if words[:1] == ["--show"] else None
     if script:

@@ -175,9 +175,9 @@ show_watched() {
 ensures answered { result ≢ 1 → IsAnswered (monitor_call (map string_bytes words.now)) (R.remaining input)
     (W.contents output.old) (W.contents output.new) (E.contents faults.old) (E.contents faults.new) result }
 END
-  { cat examples/real-chains.jsonl && echo '{"who":"frozen","op":"get-entries","start":0,"end":99}'; } |
-    "$program" --fronts 1 --ring "$ring" --open-at "$open_at" --close-at "$close_at" | tail -n 2 |
-    "$monitor" --name microsoft.com >"$work/watched" || fail "ctmonitor ended with status $?"
+  { cat examples/real-chains.jsonl && echo '{"who":"frozen","op":"get-entries","start":0,"end":99}'; } >"$work/asked"
+  "$program" --fronts 1 --ring "$ring" --open-at "$open_at" --close-at "$close_at" <"$work/asked" >"$work/told" || fail "$program ended with status $?"
+  tail -n 2 "$work/told" | "$monitor" --name microsoft.com >"$work/watched" || fail "ctmonitor ended with status $?"
   grep -q '"verdict":"accepted"' "$work/watched" || fail "ctmonitor didn't accept ctlog's head"
   short <"$work/watched"
 }

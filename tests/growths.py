@@ -53,7 +53,10 @@ class Counted:
         ended = subprocess.run(words, input="".join(f"{text}\n" for text in lines).encode(), stdout=subprocess.PIPE, env=place)
         if ended.returncode:
             sys.exit(f"growths.py: the status is {ended.returncode}")
-        return ended.stdout.decode().splitlines(), int.from_bytes(self.asked.read_bytes(), sys.byteorder)
+        asked = int.from_bytes(self.asked.read_bytes(), sys.byteorder)
+        if not asked:
+            sys.exit("growths.py: of what the program asks for nothing is counted")
+        return ended.stdout.decode().splitlines(), asked
 
     def cost(self, before, text):
         """What one of a last line costs, in bytes, and its reply."""

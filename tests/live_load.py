@@ -12,20 +12,19 @@ its replies are read as fast as it writes them.
 
 check.py judges that each line has one reply, in its party's order, and which refusals are told; the tickets, the order of the settlement and of the
 entries, the receipts, and each root. Before that the output of a shorter run is damaged in each of the ways of tests/damages.py, and check.py
-has to refuse each. At the first output that isn't judged as it should be the lines and the output are kept, and the status is 1.
+has to refuse each. At the first output that isn't judged as it should be, and at a run that doesn't end, the lines and the output are kept, and the
+status is 1.
 """
 import argparse
 import os
 import pathlib
 import random
-import subprocess
 import sys
-import tempfile
 import time
 
 from check import LiveLines, Wrong, checked_live
 from damages import damages
-from load import CERTIFICATES, CLOSE_AT, OPEN_AT, RING, SUBMISSION, front_line, line_of
+from load import CERTIFICATES, CLOSE_AT, OPEN_AT, RING, SUBMISSION, front_line, kept, line_of, ran
 
 HERE = pathlib.Path(__file__).resolve().parent
 
@@ -84,13 +83,6 @@ def input_of(seed, fronts, lines):
     return "\n".join([*given, line_of("operator", "close", now=CLOSE_AT), *closed_lines(source, fronts, lines)]) + "\n"
 
 
-def kept(given, written):
-    folder = pathlib.Path(tempfile.mkdtemp(prefix="live-load-"))
-    (folder / "lines.jsonl").write_text(given)
-    (folder / "output.jsonl").write_text(written)
-    return f"The lines and the output are in {folder}"
-
-
 def told(written):
     """How many submissions were accepted, told the shutdown, and told that their ring was full. The operator is told the shutdown once."""
     return written.count(',"reply":{"ticket":'), written.count('{"error":"shutdown"}') - 1, written.count('{"error":"full"}')
@@ -101,18 +93,17 @@ def judge(program, seed, fronts, lines):
     given = input_of(seed, fronts, lines)
     words = ["--fronts", str(fronts), "--ring", str(RING), "--open-at", str(OPEN_AT), "--close-at", str(CLOSE_AT)]
     start = time.perf_counter()
-    done = subprocess.run([*program, *words], input=given.encode(), capture_output=True, timeout=LONGEST_RUN, check=False)
+    written, wrong = ran([*program, *words], given, LONGEST_RUN)
     seconds = time.perf_counter() - start
-    written = done.stdout.decode()
     try:
-        if done.returncode or done.stderr:
-            raise Wrong(f"status {done.returncode} with {done.stderr[:200]!r} on standard error")
+        if wrong:
+            raise Wrong(wrong)
         checked_live(fronts, given, written)
         counts = told(written)
         if sum(counts) != given.count(SUBMISSION):
             raise Wrong("a submission was told neither a ticket nor the shutdown nor that its ring is full")
     except FAULTS as fault:
-        sys.exit(f"live_load.py: seed {seed}: {fault!r}\n{kept(given, written)}")
+        sys.exit(f"live_load.py: seed {seed}: {fault!r}\n{kept('live-load-', given, written)}")
     accepted, shut, full = counts
     told_others = f"{shut:,} told the shutdown, {full:,} that their ring is full"
     print(f"seed {seed}: {len(given.splitlines()):,} lines in {seconds:.1f} s; {accepted:,} submissions accepted, {told_others}", flush=True)
@@ -129,7 +120,7 @@ def try_damages(seed, fronts, given, written):
             print(f"  refused, {what}: {str(fault)[:120]}", flush=True)
             count += 1
             continue
-        sys.exit(f"live_load.py: seed {seed}: not refused, {what}\n{kept(given, output)}")
+        sys.exit(f"live_load.py: seed {seed}: not refused, {what}\n{kept('live-load-', given, output)}")
     return count
 
 

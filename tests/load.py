@@ -9,7 +9,7 @@ In the last shift the operator settles a random number of submissions, in small 
 the log twice and publishes once more; in the others it publishes once, and what the fronts submit settles as the shift ends. Nothing orders
 the fronts' lines of a shift and the shutdown, so it falls where the threads have come to: before all submissions of the last shift, behind
 all, or in the middle. check.py judges the tickets, the order of the settlement and of the entries, the receipts, and each
-root. At the first output that it refuses, the lines and the output are kept, and the status is 1.
+root. At the first output that it refuses, and at a run that doesn't end, the lines and the output are kept, and the status is 1.
 """
 import argparse
 import base64
@@ -99,24 +99,38 @@ def told(written):
     return replies['{"ticket":'], shutdowns
 
 
+def ran(call, given, longest):
+    """Runs a program over lines, and answers what it wrote, and what is wrong with its end: it may take so many seconds."""
+    try:
+        done = subprocess.run(call, input=given.encode(), capture_output=True, timeout=longest, check=False)
+    except subprocess.TimeoutExpired as late:
+        return (late.stdout or b"").decode(errors="replace"), f"it didn't end within {longest} s"
+    wrong = f"status {done.returncode} with {done.stderr[:200]!r} on standard error" if done.returncode or done.stderr else None
+    return done.stdout.decode(errors="replace"), wrong
+
+
+def kept(prefix, given, written):
+    """Keeps the lines and the output of a run, and says where."""
+    folder = pathlib.Path(tempfile.mkdtemp(prefix=prefix))
+    (folder / "lines.jsonl").write_text(given)
+    (folder / "output.jsonl").write_text(written)
+    return f"The lines and the output are in {folder}"
+
+
 def judge(program, seed, fronts, lines, shifts):
     """Runs the program once, and answers what its submissions were told, and how many of the last shift were accepted."""
     given, last = input_of(seed, fronts, lines, shifts)
     words = ["--fronts", str(fronts), "--ring", str(RING), "--open-at", str(OPEN_AT), "--close-at", str(CLOSE_AT)]
-    done = subprocess.run([program, *words], input=given.encode(), capture_output=True, timeout=LONGEST_RUN, check=False)
-    written = done.stdout.decode()
+    written, wrong = ran([program, *words], given, LONGEST_RUN)
     try:
-        if done.returncode != 0 or done.stderr:
-            raise Wrong(f"status {done.returncode} with {done.stderr[:200]!r} on standard error")
+        if wrong:
+            raise Wrong(wrong)
         checked(fronts, given, written)
         accepted, shut = told(written)
         if accepted + shut != given.count(SUBMISSION):
             raise Wrong("a submission was told neither a ticket nor the shutdown")
     except (Wrong, KeyError, IndexError, ValueError) as fault:
-        kept = pathlib.Path(tempfile.mkdtemp(prefix=f"load-{seed}-"))
-        (kept / "lines.jsonl").write_text(given)
-        (kept / "output.jsonl").write_text(written)
-        sys.exit(f"load.py: seed {seed}: {fault!r}\nThe lines and the output are in {kept}")
+        sys.exit(f"load.py: seed {seed}: {fault!r}\n{kept(f'load-{seed}-', given, written)}")
     return accepted, shut, last - shut
 
 

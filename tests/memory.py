@@ -10,7 +10,7 @@ library, refuses them, as for `sweep.py`.
 A test makes a refused call again, and compares each answer with the one that it has to be. So each run has to end by itself with status 0, and
 to say which call was refused: one of those in CALLS. It may say that none was, and then all was as with ample memory, only in the
 batch of forty leaves, where the start of a worker that hashes was refused.
-The counts are printed, and the status is 1 at the first run that isn't as asked.
+The counts are printed, and the status is 1 at the first run that isn't as asked, and where no growth was refused.
 """
 import argparse
 import collections
@@ -109,6 +109,8 @@ def main():
                 total += sweep.sweep(test, options.first)
         except Wrong as fault:
             sys.exit(f"memory.py: {fault}")
+    if not total:
+        sys.exit("memory.py: there was no growth to be refused")
     print(f"{total} growths refused, one in each run; each run was as asked")
 
 

@@ -28,7 +28,7 @@ def main():
         sys.exit(f"repeat.py: {given.program} isn't there: build it by 'rt test' in crates/house_tests")
     listed = subprocess.run([given.program, "--list"], capture_output=True, check=True, text=True).stdout
     tests = [line[: -len(": test")] for line in listed.splitlines() if line.startswith(TESTS) and line.endswith(": test")]
-    if len(tests) < len(TESTS):
+    if not all(any(test.startswith(name) for test in tests) for name in TESTS):
         sys.exit(f"repeat.py: the tests aren't there, but {tests}")
     for test in tests:
         began = time.monotonic()

@@ -1,6 +1,6 @@
 #!/usr/bin/env python3
 """Tries the scripts of examples/ and of this folder: bad_lines.py, pem_lines.py, expected.py, check.py, guard/model.py and those of tiles/ on
-stored input, tiles/step.py on random histories, and monitor/watch.sh on logs of its own. It runs no ctlog.
+stored input, tiles/step.py on random histories, those of checks/ on a made-up repository, and monitor/watch.sh on logs of its own. It runs no ctlog.
 
 It prints one line where all is as expected; else it says what isn't, and ends with status 1.
 """
@@ -29,7 +29,6 @@ NO_REQUEST = b"this line is no request"
 DAMAGED = 1000
 # The stored run of ctlogd, and its fronts.
 LIVE, LIVE_FRONTS = HERE.parent / "crates" / "ctlogd", 2
-# The stored run of ctguard.
 # The stored inputs, each with the fronts, ring and moments under which its replies are expected.
 INPUTS = {
     "first-session": "1 4096 0 7",
@@ -270,7 +269,7 @@ def main():
     outputs = try_live()
     with tempfile.TemporaryDirectory() as folder:
         chains = try_pem(pathlib.Path(folder))
-    with tempfile.TemporaryDirectory() as folder:
+    with tempfile.TemporaryDirectory(prefix="two words ") as folder:
         files = try_install(pathlib.Path(folder))
     try_figures()
     quotations = try_quotations()
@@ -282,6 +281,9 @@ def main():
         ran = run("expected.py", *words.split(), given=(EXAMPLES / f"{name}.jsonl").read_bytes())
         if ran.stdout != (EXAMPLES / f"{name}.expected.jsonl").read_bytes():
             fail(f"expected.py computes other replies than {name}.expected.jsonl")
+    checks = run("checks.py")
+    if checks.returncode:
+        fail(checks.stdout.decode() + checks.stderr.decode())
     watched = run("monitor/watch_check.py")
     if watched.returncode:
         fail(f"monitor/watch_check.py: {watched.stderr.decode()}")

@@ -6,11 +6,12 @@ how they end too: no program gives a reader or a writer up that goes on.
 
 FOLDER has the built programs, each as NAME/out/NAME (crates, where it isn't given; `rt run -- --help` in crates/NAME builds one). Of each that is
 there the lines are those of its stored run, and for ctlog a chain of 100,000 bytes and the entry that it becomes, too, whose reply is one text.
-The status is 1 at the first difference.
+The status is 1 at the first difference, and where no read or no write was shortened.
 """
 import base64
 import os
 import pathlib
+import struct
 import subprocess
 import sys
 import tempfile
@@ -44,13 +45,17 @@ def main():
     if not names:
         sys.exit(f"short_calls.py: no program is built in {built}")
     with tempfile.TemporaryDirectory() as folder:
-        shim = pathlib.Path(folder, "short.so")
+        shim, count = pathlib.Path(folder, "short.so"), pathlib.Path(folder, "count")
         subprocess.run(["cc", "-shared", "-fPIC", "-O2", "-o", shim, HERE / "sweep" / "short.c"], check=True)
         for name in names:
             for words, given in runs(name):
                 call = [built / name / "out" / name, *words]
                 whole = subprocess.run(call, input=given, capture_output=True)
-                short = subprocess.run(call, input=given, capture_output=True, env=dict(os.environ, LD_PRELOAD=str(shim)))
+                count.write_bytes(bytes(2 * struct.calcsize("@L")))
+                short = subprocess.run(call, input=given, capture_output=True, env=dict(os.environ, LD_PRELOAD=str(shim), COUNT=str(count)))
+                reads, writes = struct.unpack("@2L", count.read_bytes())
+                if not reads or not writes:
+                    sys.exit(f"short_calls.py: of {name} {reads} reads and {writes} writes were shortened")
                 if (whole.returncode, whole.stdout, whole.stderr) != (short.returncode, short.stdout, short.stderr):
                     sys.exit(f"short_calls.py: {name} ended with {short.returncode}, and wrote {len(short.stdout)} of {len(whole.stdout)} bytes")
                 print(f"{name}: {len(given)} bytes read, {len(whole.stdout)} written, status {whole.returncode}, byte for byte the same")

@@ -24,7 +24,8 @@ without one left out, and those of the ample run up to the party's first line th
 output and status have to be the stored ones; with a growth refused, too, or the status 1, with `NAME: memory` or a beginning of that line, and whole replies.
 Before that an output that is full has to end it with status 1 and `NAME: write`, and an input that is a folder with `NAME: read`.
 
-Never a signal, an abort, a hang, or another wrong reply. The counts are printed, and the status is 1 at the first run that isn't as asked.
+Never a signal, an abort, a hang, or another wrong reply. The counts are printed, and the status is 1 at the first run that isn't as asked, and where no
+growth was refused.
 """
 import argparse
 import base64
@@ -273,6 +274,8 @@ def main():
                 break
             sweep.found[what] += 1
             refused += 1
+    if not sweep.found:
+        sys.exit("sweep.py: there was no growth to be refused")
     for what, times in sorted(sweep.found.items(), key=lambda pair: -pair[1]):
         print(f"{times:6} {what}")
     print(f"{sum(sweep.found.values())} growths refused, one in each run; each run was as asked")

@@ -15,6 +15,16 @@ def sync_folder(path):
         os.close(folder)
 
 
+def make_folder(path):
+    """Has a folder be there; each that it makes, those above it too, is on disk in the one above."""
+    if os.path.isdir(path):
+        return
+    above = os.path.dirname(path.rstrip("/")) or "."
+    make_folder(above)
+    os.makedirs(path, exist_ok=True)
+    sync_folder(above)
+
+
 def write_new(path, content):
     """Writes a file of its owner's alone, which is there whole or not at all."""
     part = path + ".part"

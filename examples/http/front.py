@@ -44,9 +44,16 @@ PEM = re.compile(r"-----BEGIN CERTIFICATE-----(.*?)-----END CERTIFICATE-----", r
 
 
 def roots_of(path):
-    """The certificates of a file of PEM."""
-    text = pathlib.Path(path).read_text() if path else ""
-    return [base64.b64decode(body) for body in PEM.findall(text)]
+    """The certificates of a file of PEM, which has some; none where no file is named."""
+    if not path:
+        return []
+    try:
+        found = [base64.b64decode(body) for body in PEM.findall(pathlib.Path(path).read_text())]
+    except ValueError:
+        found = []
+    if not found:
+        raise Broken(f"{path} has no certificates in PEM")
+    return found
 
 
 def words_given():

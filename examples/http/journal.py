@@ -18,7 +18,7 @@ import json
 import os
 import re
 
-from disk import Appended
+from disk import Appended, make_folder
 from entries import identity_of
 from faults import Broken
 from notes import Notes
@@ -55,7 +55,7 @@ class Journal:
     """The journal of a folder, whose lock is held from the first look at it on. `published` counts the heads."""
 
     def __init__(self, folder):
-        os.makedirs(folder, exist_ok=True)
+        make_folder(folder)
         self.folder, self.path = os.open(folder, os.O_RDONLY), os.path.join(folder, "journal.jsonl")
         try:
             fcntl.flock(self.folder, fcntl.LOCK_EX | fcntl.LOCK_NB)

@@ -202,7 +202,8 @@ class Sequencer:
             due, self.due = [identity for identity in dict.fromkeys(self.due) if identity in self.under_way], []
         signed = self.timestamps_of([self.entries.index_of(identity) for identity in due]) if due else []
         with self.new_head:
-            self.signed.update(zip(due, signed))
+            # (one who went away meanwhile, as late, takes none)
+            self.signed.update((identity, answer) for identity, answer in zip(due, signed) if identity in self.under_way)
             self.new_head.notify_all()
 
     def timestamps_of(self, indexes):

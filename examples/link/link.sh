@@ -1,6 +1,6 @@
 #!/usr/bin/env bash
 # Builds libwagtenib.a and libwagtenib.so into crates/wagtenib/out/link, and runs programs in C, Rust and Python over them.
-set -eu
+set -euo pipefail
 cd "$(dirname "$0")/../.."
 out=$PWD/crates/wagtenib/out/link
 compiler=${CC:-cc}

@@ -11,7 +11,7 @@ if [ $# != 1 ]; then
   sed -n '2,8s/^# \{0,1\}//p' "$0" >&2
   exit 2
 fi
-work=$(mktemp -d) && trap 'rm -rf "$work"' EXIT && cd "$work" || exit 1
+work=$(mktemp -d) && trap 'rm -rf "$work"' EXIT && trap 'exit 1' HUP INT TERM && cd "$work" || exit 1
 if ! echo "$1" | base64 -d 2>/dev/null | openssl pkey -pubin -inform DER >key 2>fault; then
   echo "signature.sh: the key is no public key: $(tail -n 1 fault)" >&2
   exit 2

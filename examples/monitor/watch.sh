@@ -29,7 +29,10 @@ while [ $# -gt 0 ]; do
   shift 2
 done
 case "${pieces:-none}$older" in *[!0-9]*) usage ;; esac
-[ -n "${LOG:-}" ] || usage
+case ${LOG:-} in *[![:space:]]*) ;; *) usage ;; esac
+for tool in ctmonitor curl flock; do
+  command -v $tool >/dev/null || { echo "watch.sh: $tool isn't on the PATH" >&2; exit 2; }
+done
 # The words that are left are ctmonitor's.
 ctmonitor "$@" </dev/null >/dev/null || exit 2
 
@@ -74,8 +77,10 @@ unreachable() {
 
 # Fetches the log's answer to $1 as one line in the file `answer`. Where there is none, says so, and answers 5.
 get() {
-  { fetch "ct/v1/$1" && tr -d '\n' <got/1 >answer && [ -s answer ]; } || unreachable "$1" || return
-  echo >>answer
+  fetch "ct/v1/$1" || unreachable "$1" || return
+  tr -d '\n' <got/1 >answer || disk_full || return
+  [ -s answer ] || unreachable "$1" || return
+  echo >>answer || disk_full
 }
 
 # The moment that a note's RFC6962NoteSignature has (C2SP static-ct-api): of those in the name of its origin, the first whose bytes are a key's
@@ -131,8 +136,21 @@ replace() {
   tail -n 1 told >state.new && grep -q '^{"accepted":.*"state":1,' state.new && sync state.new verdicts && mv state.new state && sync .
 }
 
-# Has ctmonitor judge the answer behind the state. At status 0 alone its state takes the place of the old one, and behind its verdicts.
-# Several tiles that aren't judged with 0 are as if they hadn't come.
+# Tells an alarm, and where what ctmonitor read and wrote, and the answer, are kept. Where they can't be, it is told all the same.
+alarm() {
+  kept=alarm.$(date +%s) where="which can't be kept"
+  mkdir -p "$kept" && cp lines told "$kept" && cp got/1 "$kept/answer" && where="kept in $PWD/$kept"
+  say "ALARM, $where: $(grep -E '"(fork|shrunk|time-not-later|root-mismatch|inconsistent|older-than-entry|wrong-index)"' told | tail -n 1)"
+}
+
+# Keeps a new head as it came, with its signature, before the state has it: so one may stand there twice, and none is left out.
+keep_head() {
+  [ $is_head = yes ] && ! grep -qE '"verdict":"(again|stale)"' told || return 0
+  { cat got/1 && echo; } >text && cat text >>heads && sync heads
+}
+
+# Has ctmonitor judge the answer behind the state. At status 0 alone its state takes the place of the old one, behind its verdicts and the head, and
+# where these can be written. Several tiles that aren't judged with 0 are as if they hadn't come.
 judge() {
   # (without a state the first line is empty: what a log answers is never taken for a state)
   if ! { if [ -e state ]; then cat state; else echo; fi && cat answer; } >lines; then
@@ -147,15 +165,18 @@ judge() {
     return 5
   fi
   case $status in
-    0 | 3 | 4) sed '$d' told >>verdicts ;;
-    *) say "ctmonitor ended with status $status" && return 1 ;;
-  esac
-  case $status in
-    3) alarm=alarm.$(date +%s) && mkdir -p "$alarm" && cp lines told "$alarm" && cp got/1 "$alarm/answer" && say "ALARM, kept in $PWD/$alarm: $(grep -E '"(fork|shrunk|time-not-later|root-mismatch|inconsistent|older-than-entry|wrong-index)"' told | tail -n 1)" ;;
+    0) ;;
+    3) alarm ;;
     4) say "a line was none, or the state is damaged; the state is left as it was: $(grep '"error"' told | tail -n 1)" ;;
-    0) replace || { say "the state can't be written, and is left as it was" && return 1; } ;;
+    *) say "ctmonitor ended with status $status"; return 1 ;;
   esac
-  return $status
+  if ! sed '$d' told >>verdicts; then
+    say "the verdicts can't be written; the state is left as it was"
+    [ $status != 0 ] || return 1
+  fi
+  [ $status = 0 ] || return $status
+  keep_head || { say "the head can't be kept; the state is left as it was"; return 1; }
+  replace || { say "the state can't be written, and is left as it was"; return 1; }
 }
 
 # How many leaves the state has read.
@@ -168,29 +189,29 @@ waiting() {
   sed -n 's/.*"waiting":{.*"tree_size":\([0-9]*\)}}$/\1/p' state
 }
 
-# Fetches and judges the log's head, and keeps it as it came, with its signature, where it is a new one.
+# Fetches and judges the log's head.
 read_head() {
+  is_head=yes
   case $kind in
     calls) get get-sth || return ;;
     tiles) get_checkpoint || return ;;
   esac
-  judge "$@" || return
-  grep -qE '"verdict":"(again|stale)"' told || { cat got/1 && echo; } >>heads || disk_full
+  judge "$@"
 }
 
 # Fetches and judges the next piece. Where that brings no leaf, says so, and answers 5.
 read_piece() {
-  have=$(leaves)
+  is_head=no have=$(leaves)
   case $kind in
     calls) read_entries "$@" || return ;;
     tiles) read_tiles "$@" || return ;;
   esac
-  [ "$(leaves)" -gt "$have" ] || { say "gives no entries from $have on" && return 5; }
+  [ "$(leaves)" -gt "$have" ] || { say "gives no entries from $have on"; return 5; }
 }
 
 read_entries() {
   get "get-entries?start=$have&end=$((have + 255))" || return
-  sed "s/^[[:space:]]*{/{\"start\":$have,/" answer >numbered && mv numbered answer || return 1
+  sed "s/^[[:space:]]*{/{\"start\":$have,/" answer >numbered && mv numbered answer || disk_full || return
   judge "$@"
 }
 
@@ -230,6 +251,11 @@ tell() {
   say "accepted ${size:-no} leaves${waiting:+, has read $(leaves) of $waiting}"
 }
 
+# The name of a log's folder, made of its address.
+name_of() {
+  echo "${1#*://}" | tr -c 'A-Za-z0-9.\n-' _
+}
+
 # Watches the log whose folder this is.
 watch() {
   if [ -e state ] && ! grep -q '^{"accepted":' state; then
@@ -246,7 +272,7 @@ watch() {
 }
 
 mkdir -p "$folder" && exec 9>"$folder/lock" || exit 1
-flock -n 9 || { echo "watch.sh: another run is at work in $folder" && exit 7; }
+flock -n 9 || { echo "watch.sh: another run is at work in $folder"; exit 7; }
 statuses=
 for log in $LOG; do
   case $log in
@@ -254,7 +280,10 @@ for log in $LOG; do
     *) kind=calls ;;
   esac
   address=${log#tiled+} address=${address%/} count=1
-  name=$(echo "${log#*://}" | tr -c 'A-Za-z0-9.\n-' _)
+  # (with a slash behind its address a log has the same folder: the one that is there, by whichever name; where there are two, each goes on)
+  for name in "$(name_of "$log")" "$(name_of "$address")" "$(name_of "$address/")" "$(name_of "$address")"; do
+    [ ! -d "$folder/$name" ] || break
+  done
   (mkdir -p "$folder/$name" && cd "$folder/$name" && watch "$@")
   statuses="$statuses $?"
 done

@@ -91,6 +91,26 @@ def taken_up(folder):
         os.close(kept.folder)
 
 
+def new_folders(folder):
+    """The state's folder is on disk in the one above it, and so is each folder above it that a start makes."""
+    synced, own = [], os.fsync
+
+    def noted(file):
+        synced.append(os.readlink(f"/proc/self/fd/{file}"))
+        own(file)
+
+    os.fsync = noted
+    try:
+        kept = Journal(os.path.join(folder, "upper", "state"))
+    finally:
+        os.fsync = own
+    os.close(kept.folder)
+    folder = os.path.realpath(folder)
+    due = [os.path.dirname(folder), folder, os.path.join(folder, "upper")]
+    hold(synced == due, "of new folders these are on disk:", synced, "and not", due)
+    return f"{len(due)} new folders"
+
+
 def every_byte(folder):
     """Each byte of a small journal in turn is another one, with the file of heads whole, empty and gone: the log is refused, or
     it is the same."""
@@ -165,12 +185,16 @@ def damages(folder):
     torn = {**content, "heads.jsonl": heads[:-20]}, {**content, "journal.jsonl": journal + b'{"who":0,"op":"add-ch'}
     with socket.create_server(("127.0.0.1", 0)) as taken:
         refused(folder, torn[1], "in use", "--port", str(taken.getsockname()[1]))
+    roots = pathlib.Path(folder + "-roots")
+    for other in (b"", b"\x30\x82\x01", b"-----BEGIN CERTIFICATE-----\nA\n-----END CERTIFICATE-----\n"):
+        roots.write_bytes(other)
+        refused(folder, content, "has no certificates in PEM", "--roots", str(roots))
     for whole in (*torn, content):
         put(folder, whole)
         front = started(folder, LOG)
         hold(Client(front.port).get("get-entries", start=0, end=5) == entries, "other entries are taken up")
         hold(front.end() == (0, ""), "the front doesn't end in order")
-    return f"{len(rows) + 1} refused starts"
+    return f"{len(rows) + 4} refused starts"
 
 
 def keys(folder):
@@ -314,4 +338,4 @@ def long_batches(folder):
     return f"{len(batches)} batches, the longest of {max(batches)} bytes"
 
 
-CASES = (every_byte, every_cut, damages, keys, old_journal, full_disk, long_batches)
+CASES = (new_folders, every_byte, every_cut, damages, keys, old_journal, full_disk, long_batches)

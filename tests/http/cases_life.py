@@ -1,4 +1,5 @@
 """Cases of the front's life: stops under load, a log that ends or hangs, clocks that are wrong, certificates that come again."""
+import collections
 import http.client
 import os
 import pathlib
@@ -6,11 +7,13 @@ import signal
 import sys
 import threading
 import time
+import types
 
 from cases_journal import files, refused
 from harness import HERE, LOG, Client, Front, Wrong, hold, leaf_of, leaves_of, started, text
 
 import merkle
+from sequencer import Sequencer
 
 CLIENTS, ROUNDS = 32, 20
 # A log of one entry at most that does as it is told by the name of the call: it cuts its reply off, answers what is no reply, answers
@@ -263,4 +266,20 @@ def repeats(folder):
     return f"{len(answers)} submissions of one certificate"
 
 
-CASES = (stopped_under_load, retired_under_load, retired_with_one_under_way, log_that_fails, log_that_hangs, wrong_clock, repeats)
+def late_while_signed(folder):
+    """Of one who goes away as late while the timestamp is being signed nothing stays, and who waits has it."""
+    kept, entries = types.SimpleNamespace(published=0, retired=False), types.SimpleNamespace(index_of=ord)
+    sequencer = Sequencer(None, None, kept, types.SimpleNamespace(fronts=1), entries, None, collections.deque(), None)
+
+    def timestamps_of(indexes):
+        del sequencer.under_way["b"]
+        return [f"signed {index}" for index in indexes]
+
+    sequencer.timestamps_of = timestamps_of
+    sequencer.under_way, sequencer.due = dict.fromkeys("abc"), ["a", "b"]
+    sequencer.sign_due()
+    hold(sequencer.signed == {"a": "signed 97"}, "while one went away, there is signed", sequencer.signed)
+    return "one who is late"
+
+
+CASES = (stopped_under_load, retired_under_load, retired_with_one_under_way, log_that_fails, log_that_hangs, wrong_clock, repeats, late_while_signed)

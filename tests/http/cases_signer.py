@@ -332,7 +332,7 @@ def check_state(folder, heads, program):
 def killed(folder, here=HERE, kills=KILLS, places=PLACES):
     """kill -9 of the signer under load: between the guard's answer and its state on disk, between that and the signature, and
     behind it. What was signed is in the state, no other history is signed behind it, and the service goes on."""
-    noted, answered, seen, fired = pathlib.Path(folder + "-noted"), [], [], 0
+    noted, answered, seen = pathlib.Path(folder + "-noted"), [], []
     for turn in range(kills):
         where, number = places[turn % len(places)], str(CHANCE.randint(3, 9))
         words = [sys.executable, "-c", KILLED, str(here), str(noted), where, number]
@@ -761,22 +761,34 @@ WRONG = {
 }
 
 
+def copied(top):
+    """A copy of the signer and of the guard's model, with what both stand on; its folder of examples."""
+    for below in ("examples/http", "tests/guard"):
+        shutil.copytree(ROOT / below, top / below, ignore=shutil.ignore_patterns("__pycache__"))
+    for path in (ROOT / "tests").glob("*.py"):
+        shutil.copy(path, top / "tests")
+    return top / HERE.relative_to(ROOT)
+
+
+def looked_at(case, folder, here):
+    """Has a case look at the signer of a copy."""
+    if case == "killed":
+        killed(folder, here, 2, ("answer", "part"))
+    else:
+        case(folder, here / SIGNER)
+
+
 def wrong_signers(folder):
-    """Signers and guards that are wrong, each in one way: a case sees each."""
+    """Signers and guards that are wrong, each in one way: a case sees each. An unchanged copy passes the same cases."""
+    here = copied(pathlib.Path(folder + "-same"))
+    for number, case in enumerate(dict.fromkeys(case for _, _, _, case in WRONG.values())):
+        looked_at(case, f"{folder}-same/state-{number}", here)
     for number, (name, (file, old, new, case)) in enumerate(WRONG.items()):
-        top, source = pathlib.Path(f"{folder}-{number}"), (HERE / file).read_text()
-        here = top / HERE.relative_to(ROOT)
-        for below in ("examples/http", "tests/guard"):
-            shutil.copytree(ROOT / below, top / below, ignore=shutil.ignore_patterns("__pycache__"))
-        for path in (ROOT / "tests").glob("*.py"):
-            shutil.copy(path, top / "tests")
+        here, source = copied(pathlib.Path(f"{folder}-{number}")), (HERE / file).read_text()
         hold(source.count(old) == 1, file, "has so often what is to be wrong:", source.count(old), name)
         (here / file).write_text(source.replace(old, new))
         try:
-            if case == "killed":
-                killed(f"{folder}-{number}/state", here, 2, ("answer", "part"))
-            else:
-                case(f"{folder}-{number}/state", here / SIGNER)
+            looked_at(case, f"{folder}-{number}/state", here)
         except Wrong:
             continue
         raise Wrong(f"no case sees that {name}")

@@ -1,4 +1,5 @@
 """What the cases of check.py share: a front that runs, a client, and submissions."""
+import atexit
 import base64
 import http.client
 import json
@@ -45,6 +46,18 @@ def bytes_of(value):
     return base64.b64decode(value, validate=True)
 
 
+# The processes of all fronts that were started.
+STARTED = []
+
+
+@atexit.register
+def end_all():
+    """Takes off each front that is still at work as this program ends, where a case has failed say; what it has started ends with it."""
+    for process in STARTED:
+        if process.poll() is None:
+            process.kill()
+
+
 class Front:
     """A front that runs, and its address."""
 
@@ -53,6 +66,7 @@ class Front:
         options = ["--port", "0", "--state", folder, "--fronts", str(fronts), "--ring", str(ring), "--every", "0.05"]
         line = [*front, *options, "--guard", shlex.join(GUARD), *words, "--", *program]
         self.process = subprocess.Popen(line, stdout=subprocess.PIPE, stderr=subprocess.PIPE, text=True)
+        STARTED.append(self.process)
         self.told = self.process.stdout.readline()
         found = re.match(r"http://127\.0\.0\.1:(\d+)/", self.told)
         self.port = int(found[1]) if found else None

@@ -1,11 +1,12 @@
 #!/usr/bin/env python3
 """Tries watch.sh against logs of its own on 127.0.0.1, one that is called and one of tiles: a log that is down, forks, is rewritten, answers with
-nothing or with what is no answer.
+nothing or with what is no answer; a disk that is full, and a run that is killed.
 
 The judge is the built ctmonitor where there is one, else stand_in.py. Both it holds against the runs of answers.py and grown.py first, whose roots
 Go's tlog computes where it is installed (roots.sh). It prints what it tried with which of the two, and ends with status 1 at the first thing that
 isn't as it has to be. Nothing depends on how fast the machine is.
 """
+import contextlib
 import http.server
 import json
 import os
@@ -140,20 +141,39 @@ class Watch:
         self.bin.mkdir()
         self.put_judge(f'exec {judge} "$@"')
 
-    def put_judge(self, line):
-        (self.bin / "ctmonitor").write_text(f"#!/bin/sh\n{line}\n")
-        (self.bin / "ctmonitor").chmod(0o755)
+    def put(self, name, line):
+        """Has a script of this line stand before the program of that name."""
+        (self.bin / name).write_text(f"#!/bin/sh\n{line}\n")
+        (self.bin / name).chmod(0o755)
 
-    def start(self, logs, *words):
-        environment = {**os.environ, "PATH": f"{self.bin}:{os.environ['PATH']}", "LOG": logs, "no_proxy": "127.0.0.1", "PYTHONDONTWRITEBYTECODE": "1"}
-        how = {"stdout": subprocess.PIPE, "stderr": subprocess.STDOUT, "text": True, "start_new_session": True, "env": environment}
+    def put_judge(self, line):
+        self.put("ctmonitor", line)
+
+    @contextlib.contextmanager
+    def instead(self, name, line):
+        """The same for a while."""
+        self.put(name, line)
+        yield
+        (self.bin / name).unlink()
+
+    def path_without(self, tool):
+        """A PATH that has what watch.sh calls first, but for this."""
+        folder = self.bin.parent / f"without-{tool}"
+        folder.mkdir()
+        for name in {"curl", "flock", "grep", "mkdir", "sed", "tr"} - {tool}:
+            (folder / name).symlink_to(shutil.which(name))
+        return folder
+
+    def start(self, logs, *words, path=os.environ["PATH"], stdout=subprocess.PIPE):
+        environment = {**os.environ, "PATH": f"{self.bin}:{path}", "LOG": logs, "no_proxy": "127.0.0.1", "PYTHONDONTWRITEBYTECODE": "1"}
+        how = {"stdout": stdout, "stderr": subprocess.STDOUT, "text": True, "start_new_session": True, "env": environment}
         return subprocess.Popen([MONITOR / "watch.sh", "--folder", self.folder, *words], **how)
 
-    def ends(self, what, status, logs, *words, says=""):
+    def ends(self, what, status, logs, *words, says="", **more):
         """Runs it, and sees that it ends with that status and has those words on its output, which is answered."""
         self.count += 1
-        ran = self.start(logs, *words)
-        output = ran.communicate()[0]
+        ran = self.start(logs, *words, **more)
+        output = ran.communicate()[0] or ""
         if ran.returncode != status or says not in output:
             fail(f"{what}: status {ran.returncode} where {status} is due with '{says}': {output}")
         return output
@@ -369,6 +389,55 @@ def try_no_tiles(watch):
     watch.ends("more leaves than the shell can count", 5, huge.url, says="can't be reached: tile/data/000")
 
 
+# Stand before `tr`, `sync` and `cp` where the disk is full, or where the run is killed as its state is in place.
+NO_ANSWER = '[ "$1" != -d ] || exit 1; PATH=${PATH#*:}; exec tr "$@"'
+KILLING = '[ "$1" != . ] || kill -9 0'
+
+
+def try_full_disk(watch):
+    """Where an answer, a verdict, a head or an alarm can't be written, that is told and the state stays, and so does the alarm's status."""
+    log = Log()
+    with watch.instead("tr", NO_ANSWER):
+        watch.leaves_unchanged("an answer that can't be written", 1, log, says="an answer can't be written")
+    for file, says in (("verdicts", "the verdicts can't be written"), ("heads", "the head can't be kept")):
+        watch.path(log, file).mkdir()
+        watch.leaves_unchanged(f"{file} that can't be written", 1, log, says=says)
+        watch.path(log, file).rmdir()
+    watch.ends("a disk with room again", 0, log.url, says="accepted 8 leaves")
+    log.leaves = FORKED
+    with watch.instead("cp", "exit 1"):
+        watch.leaves_unchanged("a fork that can't be kept", 3, log, says="ALARM, which can't be kept: {")
+    watch.path(log, "verdicts").unlink()
+    watch.path(log, "verdicts").mkdir()
+    watch.leaves_unchanged("a fork whose verdict can't be written", 3, log, says="ALARM, kept in ")
+
+
+def try_killed(watch):
+    """A head whose state is there is kept, also where the run was killed behind the state; and only once where it comes again."""
+    log = Tiles()
+    kept, due = watch.path(log, "heads"), note(MANY[:8], log.now) + "\n"
+    with watch.instead("sync", KILLING):
+        watch.start(log.url).communicate()
+    if watch.state(log)["waiting"]["tree_size"] != 8 or not kept.exists() or kept.read_text() != due:
+        fail(f"a kill behind the state: of the head is kept {kept.exists() and kept.read_text()}")
+    watch.ends("the run behind it", 0, log.url, says="accepted 8 leaves")
+    if kept.read_text() != due:
+        fail(f"the run behind a kill: of one head is kept {kept.read_text()}")
+
+
+def try_slashes(watch):
+    """A slash behind a log's address makes no other folder; a folder that has it in its name goes on, by either address."""
+    log, older = Log(), Log()
+    watch.ends("a slash behind the address", 0, f"{log.url}/", says="accepted 8 leaves")
+    watch.ends("a log whose folder is named by the slash", 0, older.url)
+    own = watch.path(older, "")
+    own.rename(f"{own}_")
+    for forked in (log, older):
+        forked.leaves = FORKED
+        for address in (forked.url, f"{forked.url}/"):
+            watch.ends(f"a fork at {address}", 3, address, says='"verdict":"fork"')
+
+
 def try_several(watch, followed, forked):
     """Each log of a list has a line, and the gravest status counts."""
     closed = closed_port()
@@ -416,6 +485,17 @@ def try_signatures(folder):
         ran = subprocess.run([MONITOR / "signature.sh", key], input=given, capture_output=True, text=True)
         if ran.returncode != status or ran.stdout != due:
             fail(f"signature.sh on {what}: status {ran.returncode} where {status} is due: {ran.stdout}{ran.stderr}")
+    room = folder / "room"
+    room.mkdir()
+    how = {"stdin": subprocess.PIPE, "stdout": subprocess.PIPE, "text": True, "env": {**os.environ, "TMPDIR": str(room)}}
+    with subprocess.Popen([MONITOR / "signature.sh", keys[0]], **how) as ran:
+        ran.stdin.write(notes[0] + "\n")
+        ran.stdin.flush()
+        ran.stdout.readline()
+        ran.terminate()
+        ran.wait()
+    if ran.returncode != 1 or os.listdir(room):
+        fail(f"signature.sh, ended by a signal: status {ran.returncode}, and there is left {os.listdir(room)}")
 
 
 # Judges that don't do as ctmonitor does, with the status that is due.
@@ -435,10 +515,15 @@ def try_judges(watch, log, judge):
     watch.put_judge(f'exec {judge} "$@"')
     watch.ends("a word that ctmonitor doesn't know", 2, log.url, "--nome", "a")
     watch.ends("no number", 2, log.url, "--pieces", "many", says="watch.sh [--folder DIR]")
-    watch.ends("no log", 2, "", says="watch.sh [--folder DIR]")
+    for logs in ("", " \t\n"):
+        watch.ends("no log", 2, logs, says="watch.sh [--folder DIR]")
+    for tool in ("curl", "flock"):
+        watch.ends(f"no {tool}", 2, log.url, path=watch.path_without(tool), says=f"{tool} isn't on the PATH")
     held = subprocess.Popen(["flock", watch.folder / "lock", "sh", "-c", "echo held; read line"], stdin=subprocess.PIPE, stdout=subprocess.PIPE)
     held.stdout.readline()
     watch.ends("another run", 7, log.url, says="another run is at work")
+    with open("/dev/full", "w") as full:
+        watch.ends("another run, of which nothing can be said", 7, log.url, stdout=full)
     held.communicate()
 
 
@@ -525,6 +610,9 @@ def main():
         try_tiles_days(watch)
         try_tiles_alarms(watch)
         try_no_tiles(watch)
+        try_full_disk(watch)
+        try_killed(watch)
+        try_slashes(watch)
         try_several(watch, followed, forked)
         try_judges(watch, followed, judge)
     print(f"examples/monitor: watch.sh as expected in {watch.count} runs, over {which}.")

@@ -23,7 +23,8 @@ if command -v go >/dev/null && [ -d $packages/src/golang.org/x/mod/sumdb/tlog ];
 else
   echo "check.sh: Go or golang.org/x/mod isn't installed: the lines are compared with hashlib's" >&2
   for size in "${sizes[@]}"; do
-    cmp <("$program" "$size" 1000) <(python3 "$here/expected.py" "$size" 1000)
+    "$program" "$size" 1000 >"$work/lines"
+    python3 "$here/expected.py" "$size" 1000 | cmp - "$work/lines"
     echo "leaves $size the same"
   done
 fi

@@ -1,6 +1,6 @@
 #!/usr/bin/env python3
 """Plants faults in copies of step.py, and has histories.py see each: once by the judge alone, where the damaged program is compared with
-itself, and once by the comparison with step.py.
+itself, and once by the comparison with step.py. In a copy without a fault nothing may be seen.
 
     planted.py [WORD]
 
@@ -90,22 +90,27 @@ FAULTS = (
 )
 
 
-def planted(folder, file, old, new):
-    """The command of a copy of step.py with one text in the place of another."""
+def copied(folder):
+    """The command of a copy of step.py."""
     for path in [*HERE.glob("*.py"), *HERE.parent.glob("*.py")]:
         (folder / path.relative_to(HERE.parent)).parent.mkdir(parents=True, exist_ok=True)
         shutil.copy(path, folder / path.relative_to(HERE.parent))
-    path = folder / "tiles" / file
-    text = path.read_text()
-    if text.count(old) != 1:
-        sys.exit(f"planted.py: {file} has {text.count(old)} times the text {old!r}")
-    path.write_text(text.replace(old, new))
     # (a Python that is told not to keep what is written would hand each reply on)
     return ["env", "-u", "PYTHONUNBUFFERED", sys.executable, str(folder / "tiles" / "step.py")]
 
 
+def planted(folder, file, old, new):
+    """The same with one text in the place of another."""
+    program, path = copied(folder), folder / "tiles" / file
+    text = path.read_text()
+    if text.count(old) != 1:
+        sys.exit(f"planted.py: {file} has {text.count(old)} times the text {old!r}")
+    path.write_text(text.replace(old, new))
+    return program
+
+
 def seen(program, model):
-    """What histories.py says of a program that is compared with another, and in which run; none where it sees nothing."""
+    """What histories.py says of a program that is compared with another, and in which run; None where it sees nothing."""
     histories.MODEL = model
     for number in range(RUNS):
         try:
@@ -118,6 +123,11 @@ def seen(program, model):
 def main():
     word, missed = "".join(sys.argv[1:]), 0
     histories.PATIENCE = 20
+    with tempfile.TemporaryDirectory() as folder:
+        program = copied(pathlib.Path(folder))
+        # (the judge looks at the replies that are compared, too)
+        if what := seen(program, MODEL):
+            sys.exit(f"planted.py: in a copy without a fault is seen: {what}")
     for name, file, old, new in FAULTS:
         if word not in name:
             continue
