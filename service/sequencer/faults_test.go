@@ -117,19 +117,43 @@ func TestDamagedTiles(t *testing.T) {
 	}
 }
 
-// TestDamagedRepeats bends tiles that only a repeat wants.
+// beside submits a number whose entry stands in the log together with new ones, which are answered, and gives what the first is told. Where
+// the interval is long they are in one round, behind another one.
+func beside(t *testing.T, got *answers, s *Sequencer, repeat, from, to int) error {
+	t.Helper()
+	must(t, got.submitAll(limited(t), s, from, from+1, 1))
+	told := make(chan error, 1)
+	go func() {
+		_, err := s.Submit(limited(t), entryOf(repeat))
+		told <- err
+	}()
+	must(t, got.submitAll(limited(t), s, from+1, to, to-from))
+	return <-told
+}
+
+// again submits a number whose entry stands in the log until it is answered: what it is told before is of some kind.
+func again(t *testing.T, got *answers, s *Sequencer, repeat int, kind error) {
+	t.Helper()
+	for {
+		err := got.submitAll(limited(t), s, repeat, repeat+1, 1)
+		if err == nil {
+			return
+		}
+		wants(t, err, kind)
+		time.Sleep(quick)
+	}
+}
+
+// TestDamagedRepeats bends tiles that only a repeat wants: it is told so, and who comes beside it is answered.
 func TestDamagedRepeats(t *testing.T) {
 	t.Parallel()
 	for _, object := range []string{"tile/0/000", "tile/data/000"} {
-		p, ctx, got := newPlace(t), limited(t), &answers{}
-		s := started(t, p.config(t), hooks{})
-		must(t, got.submitAll(ctx, s, 0, 300, 300))
-		first := got.all[0]
-		for _, a := range got.all {
-			if string(a.Extensions) == string(extensionsOf(0)) {
-				first = a
-			}
-		}
+		p, got := newPlace(t), &answers{}
+		config := p.config(t)
+		config.Interval = 300 * time.Millisecond
+		s := started(t, config, hooks{})
+		must(t, got.submitAll(limited(t), s, 0, 300, 300))
+		repeat := got.numberAt(t, 0)
 		path := filepath.Join(p.objects(), object)
 		content, err := os.ReadFile(path)
 		must(t, err)
@@ -137,26 +161,78 @@ func TestDamagedRepeats(t *testing.T) {
 		// (a byte of the first entry, or of its hash)
 		bent[16] ^= 1
 		must(t, os.WriteFile(path, bent, 0o644))
-		var repeat int
-		for n := 0; n < 300; n++ {
-			if a := answerOf(entryOf(n), log.Place{}); string(a.Certificate)+string(a.TBSCertificate) == string(first.Certificate)+string(first.TBSCertificate) {
-				repeat = n
-			}
-		}
-		_, err = s.Submit(ctx, entryOf(repeat))
-		wants(t, err, log.ErrStore, ErrDamaged)
+		wants(t, beside(t, got, s, repeat, 300, 310), log.ErrStore, ErrDamaged)
 		must(t, os.WriteFile(path, content, 0o644))
-		for {
-			// Put right, it is answered once a round has seen it.
-			place, err := s.Submit(ctx, entryOf(repeat))
-			if err == nil {
-				got.add(answerOf(entryOf(repeat), place))
-				break
-			}
-			wants(t, err, ErrDamaged)
-			time.Sleep(quick)
+		again(t, got, s, repeat, ErrDamaged)
+		if report := p.right(t, got); report.Leaves != 310 {
+			t.Fatalf("%+v", report)
 		}
-		p.right(t, got)
+	}
+}
+
+// TestUnreadRepeats has a tile not be read that only a repeat wants: it is told so behind Patience, by the tile's name, and who comes beside
+// it is answered. Where the tile is read again, so is the repeat.
+func TestUnreadRepeats(t *testing.T) {
+	t.Parallel()
+	for _, object := range []string{"tile/0/000", "tile/data/000"} {
+		for how, fails := range waysUnread {
+			object, fails := object, fails
+			t.Run(object+" "+how, func(t *testing.T) {
+				t.Parallel()
+				p, got := newPlace(t), &answers{}
+				config := p.config(t)
+				objects := &unreadable{Objects: config.Objects}
+				config.Objects, config.TendEvery = objects, time.Hour
+				s := started(t, config, hooks{})
+				must(t, got.submitAll(limited(t), s, 0, 300, 300))
+				repeat := got.numberAt(t, 0)
+				objects.set(object, fails)
+				for from := 300; from < 320; from += 10 {
+					began := time.Now()
+					err := beside(t, got, s, repeat, from, from+10)
+					if wants(t, err, log.ErrStore); !strings.Contains(err.Error(), object) {
+						t.Errorf("%v doesn't name %s", err, object)
+					}
+					if took := time.Since(began); took > 10*config.Patience {
+						t.Errorf("it took %v", took)
+					}
+					if f := s.Figures(); f.Damaged != 1 {
+						t.Errorf("%+v", f)
+					}
+				}
+				objects.set(object, nil)
+				again(t, got, s, repeat, log.ErrStore)
+				if report := p.right(t, got); report.Leaves != 320 {
+					t.Fatalf("%+v", report)
+				}
+			})
+		}
+	}
+}
+
+// TestRepeatsBehindAnOutage has a tile not be read for less than Patience: a repeat waits, and is answered.
+func TestRepeatsBehindAnOutage(t *testing.T) {
+	t.Parallel()
+	p, ctx, got := newPlace(t), limited(t), &answers{}
+	config := p.config(t)
+	objects := &unreadable{Objects: config.Objects}
+	config.Objects, config.Patience, config.TendEvery = objects, longest, time.Hour
+	s := started(t, config, hooks{})
+	must(t, got.submitAll(ctx, s, 0, 300, 300))
+	repeat := got.numberAt(t, 0)
+	objects.set("tile/data/000", waysUnread["refused"])
+	done := make(chan error, 1)
+	go func() { done <- got.submitAll(ctx, s, repeat, repeat+1, 1) }()
+	must(t, got.submitAll(ctx, s, 300, 310, 1))
+	select {
+	case err := <-done:
+		t.Fatalf("it is told before its time: %v", err)
+	default:
+	}
+	objects.set("tile/data/000", nil)
+	must(t, <-done)
+	if report := p.right(t, got); report.Leaves != 310 || s.Figures().Damaged != 0 {
+		t.Fatalf("%+v", report)
 	}
 }
 

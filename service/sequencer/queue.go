@@ -5,6 +5,7 @@ import (
 	"context"
 	"fmt"
 	"sync"
+	"time"
 
 	"wagtenib/service/log"
 	"wagtenib/service/step"
@@ -24,6 +25,8 @@ type waiting struct {
 	at *list.Element
 	// seated says that it is counted.
 	seated bool
+	// unread is since when the tile that it wants can't be read: the loop's own.
+	unread time.Time
 }
 
 type answer struct {

@@ -48,7 +48,7 @@ func (s *Sequencer) loop(ctx context.Context) {
 		if !some {
 			s.idle(ctx)
 		}
-		if until := s.config.Interval - time.Since(began); until > 0 && !ending {
+		if until := s.config.Interval - time.Since(began); until > 0 && (!ending || s.later) {
 			_ = wait(ctx, until)
 		}
 		began = time.Now()
@@ -104,6 +104,7 @@ func (s *Sequencer) settle(err error) {
 
 // round learns the newest state, has it rolled out, and takes who waits one step further.
 func (s *Sequencer) round(ctx context.Context) error {
+	s.later = false
 	s.mu.Lock()
 	stopped, why := s.stopped, s.fault
 	s.mu.Unlock()

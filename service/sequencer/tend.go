@@ -18,6 +18,9 @@ const (
 	mostDamage = 1024
 )
 
+// errUnread: an object of the log may be there, and can't be read.
+var errUnread = errors.New("sequencer: an object can't be read")
+
 // tender takes partial tiles away that nobody needs any more, and reads old tiles again.
 type tender struct {
 	s *Sequencer
@@ -51,6 +54,14 @@ func (s *Sequencer) noteDamage(tile uint64, err error) {
 	if _, known := s.damage[tile]; known || len(s.damage) < mostDamage {
 		s.damage[tile] = err
 	}
+}
+
+// isDamaged says whether something was seen of a data tile.
+func (s *Sequencer) isDamaged(tile uint64) bool {
+	s.mu.Lock()
+	defer s.mu.Unlock()
+	_, known := s.damage[tile]
+	return known
 }
 
 // damagedBehind gives the first damaged tile from a number on. The caller has the lock.
@@ -219,14 +230,17 @@ func (s *Sequencer) scrub(ctx context.Context, of tlog.Tree, index uint64) error
 	return nil
 }
 
-// readStore reads an object of the log out of the store.
+// readStore reads an object of the log out of the store. One that is missing, or longer than any, is ErrDamaged; what else it isn't read
+// for is errUnread.
 func (s *Sequencer) readStore(ctx context.Context, name string) ([]byte, error) {
 	content, err := s.config.Objects.Get(ctx, name, stores.MostObject)
-	if errors.Is(err, stores.ErrAbsent) {
+	switch {
+	case err == nil:
+		return content, nil
+	case errors.Is(err, stores.ErrAbsent):
 		return nil, fmt.Errorf("%w: %s is missing", ErrDamaged, name)
+	case errors.Is(err, stores.ErrTooLong):
+		return nil, fmt.Errorf("%w: %s has more bytes than an object of a log", ErrDamaged, name)
 	}
-	if err != nil {
-		return nil, fmt.Errorf("sequencer: %w", err)
-	}
-	return content, nil
+	return nil, fault{errUnread, fmt.Errorf("%s: %w", name, err)}
 }

@@ -262,6 +262,23 @@ func (a *answers) add(one check.Answer) {
 	a.all = append(a.all, one)
 }
 
+// numberAt is the number of the entry that was answered with an index.
+func (a *answers) numberAt(t testing.TB, index uint64) int {
+	t.Helper()
+	a.mu.Lock()
+	defer a.mu.Unlock()
+	for _, one := range a.all {
+		for n := 0; n < 2000 && string(one.Extensions) == string(extensionsOf(index)); n++ {
+			of := answerOf(entryOf(n), log.Place{})
+			if string(of.Certificate) == string(one.Certificate) && string(of.TBSCertificate) == string(one.TBSCertificate) {
+				return n
+			}
+		}
+	}
+	t.Fatalf("no answer is of index %d", index)
+	return 0
+}
+
 // submitAll submits numbers from one to another, some at once, and gives the first error.
 func (a *answers) submitAll(ctx context.Context, s log.Log, from, to, atOnce int) error {
 	numbers, failed := make(chan int), make(chan error, atOnce)
