@@ -57,21 +57,126 @@ func TestSweptTiles(t *testing.T) {
 	}
 }
 
-// TestUnsweptTiles takes the full tile away: its partial ones stay.
+// TestUnsweptTiles has a full tile be gone, cut or bent: its partial ones stay until it is put right.
 func TestUnsweptTiles(t *testing.T) {
+	t.Parallel()
+	for how, damage := range map[string]func([]byte) []byte{
+		"gone": func([]byte) []byte { return nil },
+		"cut":  func(b []byte) []byte { return b[:len(b)-32] },
+		"bent": func(b []byte) []byte { b[16] ^= 1; return b },
+	} {
+		for _, object := range []string{"tile/0/000", "tile/data/000"} {
+			object, damage := object, damage
+			t.Run(object+" "+how, func(t *testing.T) {
+				t.Parallel()
+				p, got := newPlace(t), &answers{}
+				config := p.config(t)
+				config.SweepAfter, config.TendEvery = time.Hour, time.Hour
+				s := started(t, config, hooks{})
+				must(t, got.submitAll(limited(t), s, 0, 100, 100))
+				must(t, got.submitAll(limited(t), s, 100, 300, 200))
+				path := filepath.Join(p.objects(), object)
+				content, err := os.ReadFile(path)
+				must(t, err)
+				must(t, os.Remove(path))
+				if bad := damage(append([]byte{}, content...)); bad != nil {
+					must(t, os.WriteFile(path, bad, 0o644))
+				}
+				swept := &tender{s: s, settled: 300}
+				for turn := 0; turn < 3; turn++ {
+					err := swept.sweep(limited(t))
+					wants(t, err, ErrDamaged)
+					if len(partials(t, p, object)) == 0 {
+						t.Fatal("the partial tiles went")
+					}
+				}
+				must(t, os.WriteFile(path, content, 0o644))
+				for len(swept.passed) > 0 {
+					must(t, swept.sweep(limited(t)))
+				}
+				if left := append(partials(t, p, "tile/0/000"), partials(t, p, "tile/data/000")...); len(left) > 0 {
+					t.Errorf("%v are left", left)
+				}
+				p.right(t, got)
+			})
+		}
+	}
+}
+
+// TestUnreadTiles has an old tile not be read: it counts as damaged, and those behind it are read and swept all the same. Where no object
+// is read, no tile counts.
+func TestUnreadTiles(t *testing.T) {
+	t.Parallel()
+	for how, fails := range waysUnread {
+		fails := fails
+		t.Run(how, func(t *testing.T) {
+			t.Parallel()
+			p, got := newPlace(t), &answers{}
+			config := p.config(t)
+			objects := &unreadable{Objects: config.Objects}
+			config.Objects, config.Patience = objects, 400*time.Millisecond
+			config.SweepAfter, config.TendEvery = 20*time.Millisecond, 5*time.Millisecond
+			objects.set("tile/data/000", fails)
+			s := started(t, config, hooks{})
+			for at := 0; at < 600; at += 200 {
+				must(t, got.submitAll(limited(t), s, at, at+200, 200))
+			}
+			damaged := func(count int, name string) func() bool {
+				return func() bool {
+					s.mu.Lock()
+					defer s.mu.Unlock()
+					for _, err := range s.damage {
+						if len(s.damage) == count && strings.Contains(err.Error(), name) {
+							return true
+						}
+					}
+					return false
+				}
+			}
+			eventually(t, "it counts as damaged", damaged(1, "tile/data/000"))
+			eventually(t, "those behind it are swept", func() bool { return len(partials(t, p, "tile/data/001"))+len(partials(t, p, "tile/0/000")) == 0 })
+			if len(partials(t, p, "tile/data/000")) == 0 {
+				t.Error("its own partial tiles went")
+			}
+			path := filepath.Join(p.objects(), "tile/data/001")
+			content, err := os.ReadFile(path)
+			must(t, err)
+			must(t, os.Remove(path))
+			eventually(t, "those behind it are read", damaged(2, "tile/data/001 is missing"))
+			must(t, os.WriteFile(path+".other", content, 0o644))
+			must(t, os.Rename(path+".other", path))
+			objects.set("tile/data/000", nil)
+			eventually(t, "it is forgotten", func() bool { return s.Figures().Damaged == 0 && len(partials(t, p, "tile/data/000")) == 0 })
+			p.right(t, got)
+		})
+	}
+}
+
+// TestUnreadStore has the store give nothing for a while: no tile counts as damaged, and none is passed over.
+func TestUnreadStore(t *testing.T) {
 	t.Parallel()
 	p, got := newPlace(t), &answers{}
 	config := p.config(t)
-	config.SweepAfter, config.TendEvery = time.Hour, time.Hour
+	faults := &faulty{}
+	faults.wrap(&config)
+	config.TendEvery = time.Hour
 	s := started(t, config, hooks{})
-	must(t, got.submitAll(limited(t), s, 0, 100, 100))
-	must(t, got.submitAll(limited(t), s, 100, 300, 200))
-	must(t, os.Remove(filepath.Join(p.objects(), "tile/0/000")))
-	swept := &tender{s: s, settled: 300}
-	err := swept.sweep(limited(t))
-	wants(t, err, ErrDamaged)
-	if found, err := filepath.Glob(filepath.Join(p.objects(), "tile/0/000.p/*")); err != nil || len(found) == 0 {
-		t.Errorf("the partial tiles went: %v", err)
+	must(t, got.submitAll(limited(t), s, 0, 300, 300))
+	tender := &tender{s: s, settled: 300}
+	faults.failEvery(1)
+	for turn := 0; turn < 2*mostRefused; turn++ {
+		if err := tender.sweep(limited(t)); err == nil {
+			t.Fatal("it is swept")
+		}
+		tender.readNext(limited(t))
+	}
+	faults.failEvery(0)
+	if f := s.Figures(); f.Damaged != 0 || tender.read != 0 || len(tender.passed) != 0 || tender.swept != [6]uint64{} {
+		t.Errorf("%+v, %+v", f, tender)
+	}
+	tender.readNext(limited(t))
+	if tender.read != 1 {
+		t.Error("it isn't read where the store gives it again")
 	}
 }
 
