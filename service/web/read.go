@@ -2,6 +2,8 @@ package web
 
 import (
 	"context"
+	"crypto/sha256"
+	"encoding/hex"
 	"errors"
 	"fmt"
 	"net/http"
@@ -57,7 +59,8 @@ func (f *Front) checkpoint(w http.ResponseWriter, r *http.Request) error {
 	return nil
 }
 
-// tile answers a tile of hashes or of entries. A partial one has its content for ever, too, but it goes once the full one stands.
+// tile answers a tile of hashes or of entries, which has as many as its name says: what a cache takes it keeps for ever. A partial one has its
+// content for ever, too, but it goes once the full one stands.
 func (f *Front) tile(w http.ResponseWriter, r *http.Request) error {
 	name, ok := readTileName(strings.TrimPrefix(r.URL.Path, "/tile/"))
 	if !ok {
@@ -68,6 +71,9 @@ func (f *Front) tile(w http.ResponseWriter, r *http.Request) error {
 	content, err := f.read(ctx, name.String())
 	if err != nil {
 		return err
+	}
+	if !name.isOf(content) {
+		return fmt.Errorf("%w: %s isn't a tile of %d", log.ErrStore, name, name.width)
 	}
 	keep := forEver
 	if name.width != fullWidth {
@@ -88,6 +94,9 @@ func (f *Front) issuer(w http.ResponseWriter, r *http.Request) error {
 	content, err := f.read(ctx, "issuer/"+fingerprint)
 	if err != nil {
 		return err
+	}
+	if hash := sha256.Sum256(content); hex.EncodeToString(hash[:]) != fingerprint {
+		return fmt.Errorf("%w: issuer/%s has another content", log.ErrStore, fingerprint)
 	}
 	f.object(w, forEver, "application/pkix-cert", content)
 	return nil

@@ -61,6 +61,34 @@ func TestObjectsAreServed(t *testing.T) {
 	}
 }
 
+// What hasn't as many hashes or entries as its name says, or another hash than its name, is a fault of the store, and no cache keeps it.
+func TestDamagedObjectsAreNotServed(t *testing.T) {
+	f := newFixture(t, 0, nil)
+	f.fill(260)
+	for path, width := range map[string]int{
+		"/tile/0/000": 256, "/tile/0/001.p/4": 4, "/tile/data/000": 256, "/tile/data/001.p/4": 4, "/issuer/" + fingerprintOf(f.authority.Root.Raw): 1,
+	} {
+		content := f.get(path).Body.Bytes()
+		one := len(content) / width
+		with := func(more []byte) []byte { return append(append([]byte{}, content...), more...) }
+		for what, other := range map[string][]byte{
+			"empty": {}, "short": content[:len(content)-1], "one less": content[:len(content)-one], "long": with([]byte{0}), "one more": with(content[:one]),
+		} {
+			f.log.Change(path[1:], other)
+			refused(t, path+", "+what, f.get(path), 503, "store")
+		}
+		f.log.Change(path[1:], content)
+		if w := f.get(path); w.Code != 200 || !bytes.Equal(w.Body.Bytes(), content) {
+			t.Errorf("%s, put right: %d", path, w.Code)
+		}
+	}
+	issuer := "issuer/" + fingerprintOf(f.authority.Root.Raw)
+	bent := append([]byte{}, f.authority.Root.Raw...)
+	bent[7] ^= 1
+	f.log.Change(issuer, bent)
+	refused(t, "another issuer", f.get("/"+issuer), 503, "store")
+}
+
 func TestNames(t *testing.T) {
 	for text, want := range map[string]tileName{
 		"0/000":                  {level: 0, width: 256},
@@ -206,20 +234,25 @@ func TestParametersAreRefused(t *testing.T) {
 	}
 }
 
+// dataTileOf is a data tile of certificates of so many bytes.
+func dataTileOf(sizes ...int) []byte {
+	var b cryptobyte.Builder
+	for _, size := range sizes {
+		certificate := make([]byte, size)
+		b.AddUint64(7)
+		b.AddUint16(0)
+		b.AddUint24LengthPrefixed(func(b *cryptobyte.Builder) { b.AddBytes(certificate) })
+		b.AddUint16LengthPrefixed(func(b *cryptobyte.Builder) {})
+		b.AddUint16LengthPrefixed(func(b *cryptobyte.Builder) {})
+	}
+	return b.BytesOrPanic()
+}
+
 // An answer has as many bytes as the bound says, and one entry that has more by itself comes alone.
 func TestEntriesAreBoundedByBytes(t *testing.T) {
 	f := newFixture(t, 0, nil)
 	f.fill(3)
-	var b cryptobyte.Builder
-	for _, size := range []int{700000, MostEntryBytes + 1, 700000} {
-		big := make([]byte, size)
-		b.AddUint64(7)
-		b.AddUint16(0)
-		b.AddUint24LengthPrefixed(func(b *cryptobyte.Builder) { b.AddBytes(big) })
-		b.AddUint16LengthPrefixed(func(b *cryptobyte.Builder) {})
-		b.AddUint16LengthPrefixed(func(b *cryptobyte.Builder) {})
-	}
-	f.log.Change("tile/data/000.p/3", b.BytesOrPanic())
+	f.log.Change("tile/data/000.p/3", dataTileOf(700000, MostEntryBytes+1, 700000))
 	for start := uint64(0); start < 3; start++ {
 		if entries := f.entries(start, 2); len(entries) != 1 {
 			t.Errorf("%d entries from %d on", len(entries), start)

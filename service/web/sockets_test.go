@@ -156,7 +156,11 @@ func TestSlowClients(t *testing.T) {
 		o.Limits.Submission, o.Limits.Answer = 100*time.Millisecond, 100*time.Millisecond
 	})
 	address, _ := f.listening(nil)
-	f.log.Change("tile/data/000", make([]byte, 32<<20))
+	sizes := make([]int, fullWidth)
+	for i := range sizes {
+		sizes[i] = 128 << 10
+	}
+	f.log.Change("tile/data/000", dataTileOf(sizes...))
 	slow := map[string]func(net.Conn){
 		"nothing at all": func(net.Conn) {},
 		"headers, a byte at a time": func(c net.Conn) {
