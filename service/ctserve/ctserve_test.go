@@ -549,6 +549,53 @@ func TestRealLog(t *testing.T) {
 	}
 }
 
+// A damaged tile that no step wants: who submits its entry again is refused, the log is ready all the same, and its name is told until it is
+// put right.
+func TestDamageIsTold(t *testing.T) {
+	t.Parallel()
+	at := newPlace(t)
+	words := at.realWords("--signing-key", at.path("log.pem"), "--read-again-every", "50ms")
+	words = append(words, "--guard", at.guard)
+	p := started(t, "", append(words, "--create")...)
+	body := at.submission()
+	if status, text := post(p.clients, body); status != 200 {
+		t.Fatalf("%d %s", status, text)
+	}
+	p.signal(syscall.SIGTERM)
+	if status := p.ends(); status != 0 {
+		t.Errorf("it ended with status %d", status)
+	}
+	const tile = "tile/data/000.p/1"
+	content, err := os.ReadFile(at.path("log/objects/" + tile))
+	if err != nil {
+		t.Fatal(err)
+	}
+	if err := os.Remove(at.path("log/objects/" + tile)); err != nil {
+		t.Fatal(err)
+	}
+	p = started(t, "", words...)
+	if status, text := post(p.clients, body); status != 503 || !strings.Contains(text, `"store"`) {
+		t.Errorf("%d %s", status, text)
+	}
+	if line := p.until("damage"); line["level"] != "error" || !strings.Contains(fmt.Sprint(line["detail"]), tile+" is missing") {
+		t.Errorf("it says %v", line)
+	}
+	if status, text := get(p.clients, "/readyz"); status != 200 {
+		t.Errorf("/readyz: %d %s", status, text)
+	}
+	_, text := get(p.operator, "/metrics")
+	for _, line := range []string{"ctserve_fault 0", "ctserve_damaged_tiles 1"} {
+		if !strings.Contains(text, "\n"+line+"\n") {
+			t.Errorf("/metrics lacks %s", line)
+		}
+	}
+	at.write("log/objects/"+tile, content)
+	p.until("mended")
+	if status, text := post(p.clients, body); status != 200 {
+		t.Errorf("put right: %d %s", status, text)
+	}
+}
+
 // A signer at a socket: it is killed and started again below a log, one of another key isn't taken, and two nodes share it.
 func TestSignerAtASocket(t *testing.T) {
 	t.Parallel()

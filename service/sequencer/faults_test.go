@@ -196,7 +196,7 @@ func TestUnreadRepeats(t *testing.T) {
 					if took := time.Since(began); took > 10*config.Patience {
 						t.Errorf("it took %v", took)
 					}
-					if f := s.Figures(); f.Damaged != 1 {
+					if f := s.Figures(); f.Damaged != 1 || !strings.Contains(f.Damage, object) || f.Fault != "" {
 						t.Errorf("%+v", f)
 					}
 				}

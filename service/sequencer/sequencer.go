@@ -318,7 +318,7 @@ func (s *Sequencer) Figures() log.Figures {
 		f.HeadAge = time.Duration(s.clock.wall().UnixMilli()-int64(s.head.Timestamp)) * time.Millisecond
 	}
 	if first, ok := s.damagedBehind(0); ok {
-		f.Fault = s.damage[first].Error()
+		f.Damage = s.damage[first].Error()
 	}
 	if s.fault != nil {
 		f.Fault = s.fault.Error()

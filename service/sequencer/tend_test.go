@@ -121,19 +121,10 @@ func TestUnreadTiles(t *testing.T) {
 			for at := 0; at < 600; at += 200 {
 				must(t, got.submitAll(limited(t), s, at, at+200, 200))
 			}
-			damaged := func(count int, name string) func() bool {
-				return func() bool {
-					s.mu.Lock()
-					defer s.mu.Unlock()
-					for _, err := range s.damage {
-						if len(s.damage) == count && strings.Contains(err.Error(), name) {
-							return true
-						}
-					}
-					return false
-				}
-			}
-			eventually(t, "it counts as damaged", damaged(1, "tile/data/000"))
+			eventually(t, "it counts as damaged", func() bool {
+				f := s.Figures()
+				return f.Damaged == 1 && strings.Contains(f.Damage, "tile/data/000")
+			})
 			eventually(t, "those behind it are swept", func() bool { return len(partials(t, p, "tile/data/001"))+len(partials(t, p, "tile/0/000")) == 0 })
 			if len(partials(t, p, "tile/data/000")) == 0 {
 				t.Error("its own partial tiles went")
@@ -142,7 +133,7 @@ func TestUnreadTiles(t *testing.T) {
 			content, err := os.ReadFile(path)
 			must(t, err)
 			must(t, os.Remove(path))
-			eventually(t, "those behind it are read", damaged(2, "tile/data/001 is missing"))
+			eventually(t, "those behind it are read", func() bool { return s.Figures().Damaged == 2 })
 			must(t, os.WriteFile(path+".other", content, 0o644))
 			must(t, os.Rename(path+".other", path))
 			objects.set("tile/data/000", nil)
@@ -189,7 +180,7 @@ func TestScrubbedTiles(t *testing.T) {
 			t.Parallel()
 			p, s, _ := tended(t)
 			eventually(t, "tiles are read again", func() bool { return s.scrubbed.Load() > 3 })
-			if f := s.Figures(); f.Damaged != 0 || f.Fault != "" || f.Scrubbed == 0 {
+			if f := s.Figures(); f.Damaged != 0 || f.Damage != "" || f.Scrubbed == 0 {
 				t.Fatalf("%+v", f)
 			}
 			path := filepath.Join(p.objects(), object)
@@ -200,17 +191,17 @@ func TestScrubbedTiles(t *testing.T) {
 			other := path + ".other"
 			must(t, os.WriteFile(other, bent, 0o644))
 			must(t, os.Rename(other, path))
-			eventually(t, "the damage is told", func() bool { return strings.Contains(s.Figures().Fault, "tile/data/000") })
+			eventually(t, "the damage is told", func() bool { return strings.Contains(s.Figures().Damage, "tile/data/000") })
 			must(t, os.Remove(path))
 			eventually(t, "the loss is told", func() bool {
 				f := s.Figures()
-				return strings.Contains(f.Fault, object+" is missing") && f.Damaged == 1
+				return strings.Contains(f.Damage, object+" is missing") && f.Damaged == 1 && f.Fault == ""
 			})
 			must(t, os.WriteFile(other, content, 0o644))
 			must(t, os.Rename(other, path))
 			eventually(t, "it is forgotten", func() bool {
 				f := s.Figures()
-				return f.Fault == "" && f.Damaged == 0
+				return f.Damage == "" && f.Damaged == 0
 			})
 		})
 	}
@@ -233,13 +224,13 @@ func TestDamageOfARepeat(t *testing.T) {
 	must(t, os.Remove(path))
 	_, err = s.Submit(limited(t), entryOf(3))
 	wants(t, err, ErrDamaged)
-	if f := s.Figures(); f.Damaged != 1 || !strings.Contains(f.Fault, "tile/data/000.p/5") {
+	if f := s.Figures(); f.Damaged != 1 || !strings.Contains(f.Damage, "tile/data/000.p/5") {
 		t.Errorf("%+v", f)
 	}
 	must(t, os.WriteFile(path, content, 0o644))
 	eventually(t, "it is forgotten", func() bool {
 		f := s.Figures()
-		return f.Fault == "" && f.Damaged == 0
+		return f.Damage == "" && f.Damaged == 0
 	})
 	must(t, got.submitAll(limited(t), s, 3, 6, 1))
 	p.right(t, got)

@@ -83,7 +83,7 @@ var (
 	descSigner     = described("ctserve_signer_starts_total", "How often the signer was started, or found.")
 	descSwept      = described("ctserve_swept_tiles_total", "Partial tiles that were deleted behind their full one.")
 	descScrubbed   = described("ctserve_scrubbed_tiles_total", "Old data tiles that were read again and were right.")
-	descDamaged    = described("ctserve_damaged_tiles", "Data tiles that are missing or aren't the log's, or stand below hash tiles that aren't, by what was read last.")
+	descDamaged    = described("ctserve_damaged_tiles", "Data tiles that are missing, can't be read or aren't the log's, or stand below such hash tiles, by what was read last.")
 	descOpen       = described("ctserve_connections", "Connections that are open.")
 	descWaiting    = described("ctserve_waiting_bytes", "Bytes of the submissions that are read, checked or wait.")
 	descRoots      = described("ctserve_roots", "Roots that chains are checked against.")

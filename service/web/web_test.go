@@ -441,6 +441,56 @@ func TestMetricsAndHealth(t *testing.T) {
 	}
 }
 
+// What of the log is damaged is told by its name, and doesn't make it unready; what keeps it from going on does. Each is told once, and so is
+// its end.
+func TestFaultsAndDamageAreTold(t *testing.T) {
+	f := newFixture(t, 0, nil)
+	f.fill(1)
+	ctx, cancel := context.WithCancel(context.Background())
+	done := make(chan struct{})
+	go func() {
+		defer close(done)
+		f.front.Tell(ctx, time.Millisecond)
+	}()
+	tells := func(what string) {
+		t.Helper()
+		for until := time.Now().Add(20 * time.Second); !strings.Contains(f.lines.String(), what); time.Sleep(time.Millisecond) {
+			if time.Now().After(until) {
+				t.Fatalf("it isn't told: %s", what)
+			}
+		}
+	}
+	measures := func(line string) {
+		t.Helper()
+		w := httptest.NewRecorder()
+		f.front.Operator().ServeHTTP(w, httptest.NewRequest("GET", "/metrics", nil))
+		if !strings.Contains(w.Body.String(), "\n"+line+"\n") {
+			t.Errorf("/metrics lacks %s", line)
+		}
+	}
+	f.log.Bend("tile/data/007 is missing")
+	tells(`"level":"error","event":"damage","detail":"tile/data/007 is missing","tiles":6}`)
+	if w := f.get("/readyz"); w.Code != 200 {
+		t.Errorf("/readyz with a damaged tile: %d %s", w.Code, w.Body)
+	}
+	measures("ctserve_fault 0")
+	f.log.Break(errors.New("no disk"))
+	tells(`"level":"error","event":"fault","detail":"no disk"}`)
+	refused(t, "/readyz", f.get("/readyz"), 503, "fault")
+	measures("ctserve_fault 1")
+	f.log.Break(nil)
+	f.log.Bend("")
+	tells(`"event":"mended","detail":"no disk"}`)
+	tells(`"event":"mended","detail":"tile/data/007 is missing"}`)
+	cancel()
+	<-done
+	for _, event := range []string{"fault", "damage"} {
+		if count := strings.Count(f.lines.String(), `"event":"`+event+`"`); count != 1 {
+			t.Errorf("%s is told %d times", event, count)
+		}
+	}
+}
+
 // A panic of the log is a refusal, and is told.
 func TestPanic(t *testing.T) {
 	f := newFixture(t, 0, nil)
