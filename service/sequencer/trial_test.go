@@ -158,6 +158,11 @@ func (p place) guarded(ctx context.Context, receipts signer.Receipts) (signer.Si
 	if err != nil {
 		return nil, err
 	}
+	return guardedOver(ctx, key, state, receipts)
+}
+
+// guardedOver puts a guard before a key, whose state is in a register.
+func guardedOver(ctx context.Context, key *signer.Key, state stores.Register, receipts signer.Receipts) (signer.Signer, error) {
 	guard := []string{guardBuilt}
 	if _, err := os.Stat(guardBuilt); err != nil {
 		guard = []string{"python3", guardFile}

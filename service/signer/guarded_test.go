@@ -14,6 +14,7 @@ import (
 	"os/exec"
 	"path/filepath"
 	"strings"
+	"sync"
 	"testing"
 	"time"
 
@@ -430,6 +431,92 @@ func TestUnkept(t *testing.T) {
 	}
 	state.fails = nil
 	_, err = g.SignHead(ctx, right.head(t, 9, 102), right.proof(t, 4, 9))
+	must(t, err)
+}
+
+// failing is a register that isn't read as long as fails is an error.
+type failing struct {
+	stores.Register
+	mu    sync.Mutex
+	fails error
+}
+
+func (f *failing) set(err error) {
+	f.mu.Lock()
+	defer f.mu.Unlock()
+	f.fails = err
+}
+
+func (f *failing) Read(ctx context.Context) (string, error) {
+	f.mu.Lock()
+	fails := f.fails
+	f.mu.Unlock()
+	if fails != nil {
+		return "", fails
+	}
+	return f.Register.Read(ctx)
+}
+
+// TestUnreadStates has the state's register not be read for a moment: that isn't a state that is gone, here and by lines, and behind it
+// heads are signed as before.
+func TestUnreadStates(t *testing.T) {
+	t.Parallel()
+	ctx, key, right := limited(t), newKey(t), listOf(t, 20, 20)
+	state := &failing{Register: register(t, t.TempDir())}
+	g, err := Behind(ctx, key, Guard{Command: model, State: state, Create: true, Receipts: InHead})
+	must(t, err)
+	defer g.Close()
+	path := filepath.Join(t.TempDir(), "socket")
+	go func() { _ = Listen(ctx, g, path) }()
+	var c *Client
+	for c == nil {
+		if c, err = Ask(ctx, func(ctx context.Context) (*pipe.End, error) { return pipe.Dial(ctx, path, MostLine) }, 20*time.Second); err != nil {
+			wants(t, err, pipe.ErrGone)
+			time.Sleep(time.Millisecond)
+		}
+	}
+	defer c.Close()
+	size := 0
+	for _, s := range []Signer{g, c} {
+		// The guard runs, or has to begin.
+		for _, runs := range []bool{true, false} {
+			_, err := s.SignHead(ctx, right.head(t, size+1, uint64(size+1)), right.proof(t, size, size+1))
+			must(t, err)
+			size++
+			if !runs {
+				must(t, g.Close())
+			}
+			for fails, isState := range map[error]bool{errors.New("a register that is late"): false, context.DeadlineExceeded: false, stores.ErrAbsent: true} {
+				state.set(fails)
+				if _, err := s.Last(ctx); err == nil || errors.Is(err, ErrState) != isState {
+					t.Errorf("%v: %v", fails, err)
+				}
+			}
+			state.set(nil)
+			if last, err := s.Last(ctx); err != nil || last.Size != uint64(size) {
+				t.Errorf("%+v, %v", last, err)
+			}
+		}
+	}
+}
+
+// TestGuardThatEnds has a guard end before it replies, once: that isn't a state that it doesn't take up.
+func TestGuardThatEnds(t *testing.T) {
+	t.Parallel()
+	ctx, key, right, folder := limited(t), newKey(t), listOf(t, 9, 9), t.TempDir()
+	ends := filepath.Join(folder, "ends")
+	script := filepath.Join(folder, "guard.sh")
+	must(t, os.WriteFile(script, []byte(fmt.Sprintf("rm '%s' 2>/dev/null && exit 1; exec python3 '%s' \"$@\"", ends, model[1])), 0o700))
+	g := behind(t, key, folder, []string{"sh", script}, InHead)
+	_, err := g.SignHead(ctx, right.head(t, 5, 100), nil)
+	must(t, err)
+	must(t, g.Close())
+	must(t, os.WriteFile(ends, nil, 0o600))
+	_, err = g.Last(ctx)
+	if wants(t, err, pipe.ErrGone); errors.Is(err, ErrState) {
+		t.Error(err)
+	}
+	_, err = g.SignHead(ctx, right.head(t, 9, 101), right.proof(t, 5, 9))
 	must(t, err)
 }
 
