@@ -2,13 +2,16 @@ package sequencer
 
 import (
 	"context"
+	"encoding/hex"
+	"encoding/json"
 	"fmt"
-	"io"
+	"net/http"
 	"net/http/httptest"
 	"os"
 	"path/filepath"
 	"strings"
 	"sync"
+	"sync/atomic"
 	"testing"
 	"time"
 
@@ -461,15 +464,97 @@ func TestHandingOver(t *testing.T) {
 	if report := p.right(t, got); report.Leaves != 80 {
 		t.Fatalf("%+v", report)
 	}
-	for header, body := range map[string]string{"": "{}", "Bearer the secret of those nodes": "{}", "Bearer the secret of these nodes": "no"} {
-		request := httptest.NewRequest("POST", "/", strings.NewReader(body))
-		request.Header.Set("Authorization", header)
+	const shown = "Bearer the secret of these nodes"
+	this := hex.EncodeToString(nodes[1].logID[:])
+	for _, c := range []struct {
+		method, secret, log, body string
+		status                    int
+	}{
+		{"POST", "", this, "{}", 403},
+		{"POST", "Bearer the secret of those nodes", this, "{}", 403},
+		{"GET", shown, this, "", 405},
+		{"POST", shown, "", "{}", 421},
+		{"POST", shown, strings.Repeat("0", 64), "{}", 421},
+		{"POST", shown, this, "no", 400},
+		{"POST", shown, this, `{"submissions":[` + strings.Repeat("{},", MostBatch) + "{}]}", 400},
+		{"POST", shown, this, "{}", 200},
+	} {
+		request := httptest.NewRequest(c.method, "/", strings.NewReader(c.body))
+		request.Header.Set("Authorization", c.secret)
+		request.Header.Set(logHeader, c.log)
 		reply := httptest.NewRecorder()
 		nodes[1].Handler().ServeHTTP(reply, request)
-		if reply.Code != 403 && reply.Code != 400 {
-			t.Errorf("%q %q: %d", header, body, reply.Code)
+		if reply.Code != c.status {
+			t.Errorf("%.100v: %d %s", c, reply.Code, reply.Body)
 		}
-		io.Copy(io.Discard, reply.Body)
+	}
+}
+
+// TestHandedBackWrong has the other node give back what the log didn't sign: nobody is answered by it, and all are answered all the same.
+func TestHandedBackWrong(t *testing.T) {
+	t.Parallel()
+	each := func(bend func(place *handedPlace)) func(*handedBack, handedPlace) {
+		return func(back *handedBack, _ handedPlace) {
+			for i := range back.Places {
+				bend(&back.Places[i])
+			}
+		}
+	}
+	for what, bend := range map[string]func(back *handedBack, other handedPlace){
+		"another index":         each(func(place *handedPlace) { place.LeafIndex++ }),
+		"an index without room": each(func(place *handedPlace) { place.LeafIndex += step.MostLeaves }),
+		"another moment":        each(func(place *handedPlace) { place.Timestamp++ }),
+		"no signature":          each(func(place *handedPlace) { place.Signature = []byte{4, 3, 0, 0} }),
+		"a bent signature": each(func(place *handedPlace) {
+			if last := len(place.Signature) - 1; last >= 0 {
+				place.Signature[last] ^= 1
+			}
+		}),
+		"one place less": func(back *handedBack, _ handedPlace) { back.Places = back.Places[1:] },
+		"another entry's": func(back *handedBack, other handedPlace) {
+			for i := range back.Places {
+				back.Places[i] = other
+			}
+		},
+	} {
+		bend := bend
+		t.Run(what, func(t *testing.T) {
+			t.Parallel()
+			p, ctx, got := newPlace(t), limited(t), &answers{}
+			var bent atomic.Int64
+			var other atomic.Value
+			var nodes [2]*Sequencer
+			for i := range nodes {
+				config, server := p.config(t), httptest.NewUnstartedServer(nil)
+				config.Address, config.Secret = "http://"+server.Listener.Addr().String()+"/sequence", "the secret of these nodes"
+				nodes[i] = started(t, config, hooks{})
+				right := nodes[i].Handler()
+				server.Config.Handler = http.HandlerFunc(func(w http.ResponseWriter, r *http.Request) {
+					reply := httptest.NewRecorder()
+					right.ServeHTTP(reply, r)
+					var back handedBack
+					if err := json.Unmarshal(reply.Body.Bytes(), &back); err != nil || len(back.Places) == 0 {
+						t.Errorf("%d %s", reply.Code, reply.Body)
+						return
+					}
+					bend(&back, other.Load().(handedPlace))
+					bent.Add(1)
+					json.NewEncoder(w).Encode(back)
+				})
+				server.Start()
+				t.Cleanup(server.Close)
+			}
+			must(t, got.submitAll(ctx, nodes[0], 0, 10, 1))
+			first := got.all[0]
+			other.Store(handedPlace{LeafIndex: uint64(first.Extensions[7]), Timestamp: first.Timestamp, Signature: first.Signature})
+			must(t, got.submitAll(ctx, nodes[1], 10, 60, 8))
+			if f := nodes[1].Figures(); f.HandedOver != 0 || bent.Load() == 0 {
+				t.Errorf("%d of %d batches: %+v", f.HandedOver, bent.Load(), f)
+			}
+			if report := p.right(t, got); report.Leaves != 60 {
+				t.Fatalf("%+v", report)
+			}
+		})
 	}
 }
 
