@@ -169,6 +169,24 @@ func TestS3IsBrokenOff(t *testing.T) {
 	}
 }
 
+// TestS3SaysNoLength: an answer in chunks isn't an object, whether it has more than may be or not.
+func TestS3SaysNoLength(t *testing.T) {
+	server := httptest.NewServer(http.HandlerFunc(func(w http.ResponseWriter, r *http.Request) {
+		w.Header().Set("Last-Modified", "Thu, 01 Jan 2026 00:00:00 GMT")
+		w.(http.Flusher).Flush()
+		w.Write(make([]byte, 50))
+	}))
+	defer server.Close()
+	at := S3{Endpoint: strings.TrimPrefix(server.URL, "http://"), Bucket: fakeBucket, Key: "key", Secret: "secret", Region: "us-east-1"}
+	store, err := OpenS3(limited(t), at)
+	must(t, err)
+	for _, most := range []int64{10, 50, manyBytes} {
+		if got, err := store.Get(limited(t), "a", most); !errors.Is(err, errNoLength) {
+			t.Errorf("%d bytes, %v", len(got), err)
+		}
+	}
+}
+
 func TestPostgresThatKeepsNothing(t *testing.T) {
 	if why := wants(postgresURL, "postgresql"); why != "" {
 		t.Skip(why)
