@@ -384,6 +384,12 @@ func TestServesTLSAndAWindow(t *testing.T) {
 func TestSettings(t *testing.T) {
 	at := newPlace(t)
 	at.write("secret", []byte("sixteen bytes or more\n"))
+	at.write("empty", nil)
+	at.write("short", []byte("fifteen bytes..\n"))
+	at.write("open", []byte("sixteen bytes or more\n"))
+	if err := os.Chmod(at.path("open"), 0o640); err != nil {
+		t.Fatal(err)
+	}
 	files := 0
 	file := func(text string) []string {
 		files++
@@ -416,6 +422,9 @@ func TestSettings(t *testing.T) {
 		{file(needed + "proxies 1.2.3"), "proxies"},
 		{file(needed + "nodes-listen 127.0.0.1:1"), "go together"},
 		{file(needed + "nodes-listen 127.0.0.1:1\nnodes-address http://x/\nnodes-secret " + at.path("none")), "no such file"},
+		{file(needed + "nodes-listen 127.0.0.1:1\nnodes-address http://x/\nnodes-secret " + at.path("empty")), "has 0 bytes"},
+		{file(needed + "nodes-listen 127.0.0.1:1\nnodes-address http://x/\nnodes-secret " + at.path("short")), "has 15 bytes"},
+		{file(needed + "nodes-listen 127.0.0.1:1\nnodes-address http://x/\nnodes-secret " + at.path("open")), "others than its owner may read"},
 	} {
 		if _, err := parse(test.words, io.Discard); !errors.Is(err, errUsage) || !strings.Contains(err.Error(), test.why) {
 			t.Errorf("%q: %v, and not %s", test.words, err, test.why)

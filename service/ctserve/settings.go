@@ -13,6 +13,7 @@ import (
 	"time"
 
 	"wagtenib/service/chains"
+	"wagtenib/service/sequencer"
 	"wagtenib/service/web"
 )
 
@@ -106,7 +107,7 @@ func parse(words []string, help io.Writer) (*settings, error) {
 	flags.BoolVar(&n.create, "create", false, "make a log where there is none; without it, an empty register ends the start")
 	flags.StringVar(&s.listenNodes, "nodes-listen", "", "`address` for the other nodes of the log; none where it is empty")
 	flags.StringVar(&n.address, "nodes-address", "", "`URL` by which other nodes find this one")
-	flags.StringVar(&s.nodesSecretAt, "nodes-secret", "", "`file` with what the nodes show each other, 16 bytes or more")
+	flags.StringVar(&s.nodesSecretAt, "nodes-secret", "", "`file` with what the nodes show each other, 16 bytes or more, that none but its owner may read")
 
 	if err := flags.Parse(words); err != nil {
 		if errors.Is(err, flag.ErrHelp) {
@@ -211,13 +212,41 @@ func (s *settings) settle() error {
 		return errors.New("--nodes-listen, --nodes-address and --nodes-secret go together")
 	}
 	if s.nodesSecretAt != "" {
-		secret, err := os.ReadFile(s.nodesSecretAt)
+		secret, err := readSecret(s.nodesSecretAt)
 		if err != nil {
 			return err
 		}
-		n.secret = strings.TrimSpace(string(secret))
+		n.secret = secret
 	}
 	return nil
+}
+
+// mostSecret is how many bytes of the nodes' secret are read.
+const mostSecret = 64 << 10
+
+// readSecret reads the nodes' secret from a file that none but its owner may read.
+func readSecret(path string) (string, error) {
+	opened, err := os.Open(path)
+	if err != nil {
+		return "", err
+	}
+	defer opened.Close()
+	info, err := opened.Stat()
+	if err != nil {
+		return "", err
+	}
+	if info.Mode().Perm()&0o077 != 0 {
+		return "", fmt.Errorf("--nodes-secret: others than its owner may read or write %s", path)
+	}
+	content, err := io.ReadAll(io.LimitReader(opened, mostSecret))
+	if err != nil {
+		return "", err
+	}
+	secret := strings.TrimSpace(string(content))
+	if len(secret) < sequencer.LeastSecret {
+		return "", fmt.Errorf("--nodes-secret: %s has %d bytes, and at least %d are needed", path, len(secret), sequencer.LeastSecret)
+	}
+	return secret, nil
 }
 
 func prefixes(text string) (found []netip.Prefix, err error) {
