@@ -328,6 +328,46 @@ func TestFullQueue(t *testing.T) {
 	wants(t, err, log.ErrTooLarge)
 }
 
+// holding is a store of objects whose puts below a prefix wait until they are let.
+type holding struct {
+	stores.Objects
+	prefix            string
+	reached, released chan struct{}
+}
+
+func (h *holding) Put(ctx context.Context, name string, content []byte) error {
+	if strings.HasPrefix(name, h.prefix) {
+		h.reached <- struct{}{}
+		<-h.released
+	}
+	return h.Objects.Put(ctx, name, content)
+}
+
+// TestAnsweredBeforeItWaits has all be told of a fault while the issuer of one is put: it is told too, and its entry doesn't come in.
+func TestAnsweredBeforeItWaits(t *testing.T) {
+	t.Parallel()
+	p, ctx, got := newPlace(t), limited(t), &answers{}
+	config := p.config(t)
+	held := &holding{config.Objects, "issuer/", make(chan struct{}, 10), make(chan struct{})}
+	config.Objects = held
+	s := started(t, config, hooks{})
+	told := make(chan error, 1)
+	go func() {
+		_, err := s.Submit(ctx, entryOf(1))
+		told <- err
+	}()
+	<-held.reached
+	if count := s.queue.answerAll(fault{log.ErrStore, errTried}); count != 1 {
+		t.Errorf("%d were told", count)
+	}
+	close(held.released)
+	wants(t, <-told, log.ErrStore, errTried)
+	must(t, got.submitAll(ctx, s, 2, 3, 1))
+	if report := p.right(t, got); report.Leaves != 1 {
+		t.Fatalf("%+v", report)
+	}
+}
+
 // TestGivenUp has who waits give up: the seat is free again.
 func TestGivenUp(t *testing.T) {
 	t.Parallel()

@@ -88,13 +88,16 @@ func (q *queue) unseat(w *waiting) {
 	}
 }
 
-// add puts one who has a seat at the end.
+// add puts one who has a seat at the end; who was answered meanwhile has none.
 func (q *queue) add(w *waiting) error {
 	q.mu.Lock()
 	defer q.mu.Unlock()
 	if q.ending {
 		q.unseat(w)
 		return log.ErrEnded
+	}
+	if !w.seated {
+		return nil
 	}
 	w.at = q.waits.PushBack(w)
 	q.wake()
