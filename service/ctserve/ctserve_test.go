@@ -558,6 +558,36 @@ func TestRealLog(t *testing.T) {
 	}
 }
 
+// A signer that is started again makes no state of the guard, where that is gone.
+func TestSignerIsCreatedOnce(t *testing.T) {
+	t.Parallel()
+	at := newPlace(t)
+	at.realWords()
+	ctx, cancel := context.WithTimeout(context.Background(), time.Minute)
+	defer cancel()
+	asked, err := askSigner(ctx, node{signingKey: at.path("log.pem"), guard: strings.Fields(at.guard), guardState: "file:" + at.path("guard"), create: true})
+	if err != nil {
+		t.Fatal(err)
+	}
+	defer asked.Close()
+	for _, gone := range []bool{false, true} {
+		if err := asked.Close(); err != nil {
+			t.Fatal(err)
+		}
+		if gone {
+			if err := os.RemoveAll(at.path("guard")); err != nil {
+				t.Fatal(err)
+			}
+		}
+		if _, err := asked.Last(ctx); gone != (err != nil) || gone && !strings.Contains(err.Error(), "there is none") {
+			t.Errorf("gone %t: %v", gone, err)
+		}
+	}
+	if _, err := os.Stat(at.path("guard/text")); err == nil {
+		t.Error("it is made again")
+	}
+}
+
 // A damaged tile that no step wants: who submits its entry again is refused, the log is ready all the same, and its name is told until it is
 // put right.
 func TestDamageIsTold(t *testing.T) {
