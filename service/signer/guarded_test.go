@@ -10,11 +10,13 @@ import (
 	"errors"
 	"fmt"
 	mathrand "math/rand"
+	"net"
 	"os"
 	"os/exec"
 	"path/filepath"
 	"strings"
 	"sync"
+	"syscall"
 	"testing"
 	"time"
 
@@ -723,6 +725,71 @@ func TestOtherKey(t *testing.T) {
 	if message := (Head{Moment: 5}).message(); len(message) != 50 || string(message[2:10]) != string(eight[:]) {
 		t.Errorf("%x", message)
 	}
+}
+
+// moody is a listener that fails some times before a connection comes.
+type moody struct {
+	net.Listener
+	fails int
+}
+
+func (m *moody) Accept() (net.Conn, error) {
+	if m.fails--; m.fails >= 0 {
+		return nil, syscall.EMFILE
+	}
+	return m.Listener.Accept()
+}
+
+// TestClients has more connect to a signer than it serves, at a listener that fails now and then: who asks is answered, and of those who say
+// nothing the first has to go.
+func TestClients(t *testing.T) {
+	t.Parallel()
+	key, path := newKey(t), filepath.Join(t.TempDir(), "socket")
+	ctx, cancel := context.WithCancel(limited(t))
+	listener, err := net.Listen("unix", path)
+	must(t, err)
+	all, done := newClients(), make(chan error, 1)
+	go func() { done <- all.serve(ctx, key, &moody{listener, 3}) }()
+	ask := func() *Client {
+		t.Helper()
+		c, err := Ask(ctx, func(ctx context.Context) (*pipe.End, error) { return pipe.Dial(ctx, path, MostLine) }, 5*time.Second)
+		must(t, err)
+		t.Cleanup(func() { c.Close() })
+		return c
+	}
+	first := ask()
+	var silent []net.Conn
+	for len(silent) < mostClients-1 {
+		connection, err := net.Dial("unix", path)
+		must(t, err)
+		t.Cleanup(func() { connection.Close() })
+		silent = append(silent, connection)
+	}
+	for there := 0; there < mostClients; time.Sleep(time.Millisecond) {
+		all.mu.Lock()
+		there = len(all.there)
+		all.mu.Unlock()
+	}
+	// (so that it isn't the one that asked nothing for the longest)
+	_, err = first.Last(ctx)
+	must(t, err)
+	second := ask()
+	for _, c := range []*Client{first, second} {
+		if _, err := c.Last(ctx); err != nil || c.Starts() != 1 {
+			t.Errorf("%v, opened %d times", err, c.Starts())
+		}
+	}
+	for i, gone := range map[int]bool{0: true, len(silent) - 1: false} {
+		must(t, silent[i].SetReadDeadline(time.Now().Add(time.Second)))
+		_, err := silent[i].Read(make([]byte, 1))
+		var late net.Error
+		if waits := errors.As(err, &late) && late.Timeout(); waits == gone {
+			t.Errorf("the silent one %d: %v", i, err)
+		}
+	}
+	cancel()
+	listener.Close()
+	wants(t, <-done, net.ErrClosed)
 }
 
 // TestLines sends a signer lines that ask for nothing, or for what can't be: each is replied to, and nothing is signed.
