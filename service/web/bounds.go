@@ -30,25 +30,32 @@ type counts struct {
 	of    map[netip.Addr]int
 }
 
-func (c *counts) take(address netip.Addr) bool {
+func (c *counts) take(address netip.Addr) bool { return c.takeSome(address, 1) }
+
+func (c *counts) takeSome(address netip.Addr, some int) bool {
 	address = groupOf(address)
 	c.mutex.Lock()
 	defer c.mutex.Unlock()
-	if c.of[address] >= c.most {
+	if c.of[address]+some > c.most {
 		return false
 	}
 	if c.of == nil {
 		c.of = map[netip.Addr]int{}
 	}
-	c.of[address]++
+	c.of[address] += some
 	return true
 }
 
-func (c *counts) give(address netip.Addr) {
+func (c *counts) give(address netip.Addr) { c.giveSome(address, 1) }
+
+func (c *counts) giveSome(address netip.Addr, some int) {
+	if some == 0 {
+		return
+	}
 	address = groupOf(address)
 	c.mutex.Lock()
 	defer c.mutex.Unlock()
-	if c.of[address]--; c.of[address] <= 0 {
+	if c.of[address] -= some; c.of[address] <= 0 {
 		delete(c.of, address)
 	}
 }

@@ -2,7 +2,7 @@
 // it answers comes from a log.Log, and which chains are taken a chains.Checker says.
 //
 // It speaks HTTP/1.1. Nothing in it grows without a bound: connections are counted, altogether and by address; bodies and the
-// submissions that wait have so many bytes together; each request has its time.
+// submissions that wait have so many bytes, together and by address; each request has its time.
 package web
 
 import (
@@ -48,8 +48,17 @@ type Limits struct {
 	Connections, ConnectionsByAddress int
 	// Checks is how many chains are checked at once.
 	Checks int
-	// WaitingBytes is how many bytes the bodies of all submissions have that are read, checked or wait.
+	// WaitingBytes is how many bytes the bodies of all submissions have that are read, checked or wait. Those of one address have an eighth
+	// of it, and at least as many as one body may have.
 	WaitingBytes int64
+}
+
+// waitingByAddress is how many bytes the bodies of one address have.
+func (l Limits) waitingByAddress() int {
+	if l.WaitingBytes/8 > MostBody {
+		return int(l.WaitingBytes / 8)
+	}
+	return MostBody
 }
 
 // DefaultLimits are those of a log on one machine.
@@ -84,6 +93,7 @@ type Front struct {
 	ending      atomic.Bool
 	checks      chan struct{}
 	waiting     budget
+	waitingOf   counts
 	requests    counts
 	connections connections
 	roots       atomic.Pointer[encodedRoots]
@@ -98,9 +108,10 @@ func New(of log.Log, proofs *reader.Reader, checker *chains.Checker, options Opt
 	}
 	f := &Front{
 		log: of, reader: proofs, checker: checker, options: options, limits: limits,
-		checks:   make(chan struct{}, limits.Checks),
-		waiting:  budget{most: limits.WaitingBytes},
-		requests: counts{most: limits.ConnectionsByAddress},
+		checks:    make(chan struct{}, limits.Checks),
+		waiting:   budget{most: limits.WaitingBytes},
+		waitingOf: counts{most: limits.waitingByAddress()},
+		requests:  counts{most: limits.ConnectionsByAddress},
 	}
 	f.connections.byAddress.most = limits.ConnectionsByAddress
 	f.metrics = newMetrics(f)

@@ -232,6 +232,35 @@ func TestBodiesAreRefused(t *testing.T) {
 	}
 }
 
+// The bodies of one address have an eighth of what all have, or as much as one may; another address has its own.
+func TestBytesByAddress(t *testing.T) {
+	for _, test := range []struct{ all, one int }{{64 << 20, 8 << 20}, {3 << 20, MostBody}} {
+		f := newFixture(t, 5*time.Millisecond, func(o *Options) { o.Limits.WaitingBytes = int64(test.all) })
+		client, same := netip.MustParseAddr("2001:db8::1"), "[2001:db8::2:3]:7"
+		from := func(peer string) *httptest.ResponseRecorder {
+			r := httptest.NewRequest("POST", "/ct/v1/add-chain", bytes.NewReader(standin.Submission(f.issue(false))))
+			r.RemoteAddr = peer
+			w := httptest.NewRecorder()
+			f.front.ServeHTTP(w, r)
+			return w
+		}
+		if !f.front.waitingOf.takeSome(client, test.one) || f.front.waitingOf.takeSome(client, 1) {
+			t.Errorf("of %d bytes one address hasn't %d", test.all, test.one)
+		}
+		refused(t, "the same address", from(same), 429, "too-many-bytes")
+		if w := from("[2001:db8:0:1::1]:7"); w.Code != 200 {
+			t.Errorf("another address: %d %s", w.Code, w.Body)
+		}
+		f.front.waitingOf.giveSome(client, test.one)
+		if w := from(same); w.Code != 200 {
+			t.Errorf("the same address, behind it: %d %s", w.Code, w.Body)
+		}
+		if used := f.front.waiting.used.Load(); used != 0 || len(f.front.waitingOf.of) != 0 {
+			t.Errorf("%d bytes and %v are still counted", used, f.front.waitingOf.of)
+		}
+	}
+}
+
 // What the log answers comes out with its status, and where it is of a moment, with the time to ask again.
 func TestErrorsOfTheLog(t *testing.T) {
 	f := newFixture(t, 10*time.Millisecond, func(o *Options) { o.Limits.Submission, o.Limits.Reading = 50*time.Millisecond, 50*time.Millisecond })
