@@ -417,6 +417,7 @@ func TestSettings(t *testing.T) {
 		{file(needed + "idle-within 0s"), "above 0"},
 		{file(needed + "most-connections 0"), "above 0"},
 		{file(needed + "most-waiting-bytes 1000"), "1048576"},
+		{file(needed + "most-answer-bytes 1000"), "67108864"},
 		{file(needed + "not-after-from 2027-01-01\nnot-after-to 2027-01-01"), "isn't before"},
 		{file(needed + "not-after-from soon"), "not-after-from"},
 		{file(needed + "proxies 1.2.3"), "proxies"},

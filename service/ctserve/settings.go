@@ -14,6 +14,7 @@ import (
 
 	"wagtenib/service/chains"
 	"wagtenib/service/sequencer"
+	"wagtenib/service/stores"
 	"wagtenib/service/web"
 )
 
@@ -76,6 +77,7 @@ func parse(words []string, help io.Writer) (*settings, error) {
 	flags.IntVar(&s.limits.ConnectionsByAddress, "most-connections-by-address", s.limits.ConnectionsByAddress, "connections at once of one address, or one /64; of a client behind a proxy requests at once")
 	flags.IntVar(&s.limits.Checks, "most-checks", s.limits.Checks, "chains that are checked at once")
 	flags.Int64Var(&s.limits.WaitingBytes, "most-waiting-bytes", s.limits.WaitingBytes, "bytes of all submissions that are read or wait")
+	flags.Int64Var(&s.limits.AnswerBytes, "most-answer-bytes", s.limits.AnswerBytes, "bytes of all objects that are read for answers or sent")
 	flags.DurationVar(&s.limits.Headers, "headers-within", s.limits.Headers, "how long the headers of a request may take")
 	flags.DurationVar(&s.limits.Request, "request-within", s.limits.Request, "how long a request with its body may take")
 	flags.DurationVar(&s.limits.Submission, "submission-within", s.limits.Submission, "how long a submission waits")
@@ -187,8 +189,8 @@ func (s *settings) settle() error {
 			return errors.New("a time is above 0")
 		}
 	}
-	if l.Connections < 1 || l.ConnectionsByAddress < 1 || l.Checks < 1 || l.WaitingBytes < web.MostBody || n.mostQueue < 1 || n.mostBatch < 1 || n.mostProofs < 1 {
-		return fmt.Errorf("a bound is above 0, and --most-waiting-bytes at least %d", web.MostBody)
+	if l.Connections < 1 || l.ConnectionsByAddress < 1 || l.Checks < 1 || l.WaitingBytes < web.MostBody || l.AnswerBytes < stores.MostObject || n.mostQueue < 1 || n.mostBatch < 1 || n.mostProofs < 1 {
+		return fmt.Errorf("a bound is above 0, --most-waiting-bytes at least %d, and --most-answer-bytes at least %d", web.MostBody, stores.MostObject)
 	}
 	if len(n.step) == 0 {
 		n.step = []string{"cttile"}

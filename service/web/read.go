@@ -25,12 +25,32 @@ func (f *Front) reading(r *http.Request) (context.Context, context.CancelFunc) {
 	return context.WithTimeout(r.Context(), f.limits.Reading)
 }
 
-// read reads an object of the log. What isn't for want of the object or of time is the store's fault.
+// How many bytes an object counts as until it is read: a data tile, or another one.
+const (
+	likelyEntries = 1 << 20
+	likelyOther   = 8 << 10
+)
+
+// read reads an object of the log, whose bytes count until the request is answered. What isn't for want of the object, of time or of room is
+// the store's fault.
 func (f *Front) read(ctx context.Context, name string) ([]byte, error) {
+	held, likely := heldIn(ctx), int64(likelyOther)
+	if strings.HasPrefix(name, "tile/data/") {
+		likely = likelyEntries
+	}
+	busy := func() error { return fmt.Errorf("%w: answers have %d bytes", log.ErrBusy, f.answers.used.Load()) }
+	if !held.change(likely) {
+		return nil, busy()
+	}
 	content, err := f.log.Object(ctx, name)
-	switch {
-	case err == nil:
+	if err == nil {
+		if !held.change(int64(len(content)) - likely) {
+			return nil, busy()
+		}
 		return content, nil
+	}
+	held.change(-likely)
+	switch {
 	case ctx.Err() != nil:
 		return nil, ctx.Err()
 	case errors.Is(err, stores.ErrAbsent), errors.Is(err, stores.ErrName):

@@ -3,9 +3,11 @@ package web
 import (
 	"bytes"
 	"context"
+	"encoding/base64"
 	"encoding/json"
 	"fmt"
 	"net/http/httptest"
+	"net/url"
 	"strings"
 	"testing"
 	"time"
@@ -87,6 +89,52 @@ func TestDamagedObjectsAreNotServed(t *testing.T) {
 	bent[7] ^= 1
 	f.log.Change(issuer, bent)
 	refused(t, "another issuer", f.get("/"+issuer), 503, "store")
+}
+
+// Where answers have as many bytes as they may, what reads objects is refused, and what reads none is not. What was read doesn't count behind
+// its answer, nor what wasn't there.
+func TestAnswersAreBounded(t *testing.T) {
+	f := newFixture(t, 0, func(o *Options) { o.Limits.AnswerBytes = 2 << 20 })
+	f.fill(260)
+	leaves, _ := f.leaves()
+	objects := []string{
+		"/tile/0/000", "/tile/data/000", "/issuer/" + fingerprintOf(f.authority.Root.Raw), "/ct/v1/get-entries?start=0&end=1",
+		"/ct/v1/get-proof-by-hash?tree_size=260&hash=" + url.QueryEscape(base64.StdEncoding.EncodeToString(leaves[1][:])), "/ct/v1/get-entry-and-proof?leaf_index=1&tree_size=260",
+	}
+	none := []string{"/checkpoint", "/ct/v1/get-sth", "/ct/v1/get-sth-consistency?first=0&second=7", "/healthz"}
+	answered := func(paths ...string) {
+		t.Helper()
+		for _, path := range paths {
+			if w := f.get(path); w.Code != 200 {
+				t.Errorf("%s: %d %s", path, w.Code, w.Body)
+			}
+		}
+	}
+	for i := 0; i < 3; i++ {
+		answered(objects...)
+		refused(t, "no tile", f.get("/tile/data/007"), 404, "absent")
+	}
+	// (issuers are at hand by now)
+	f.front.issuers.kept, f.front.issuers.bytes = nil, 0
+	const all = 2<<20 - 4096
+	if !f.front.answers.take(all) {
+		t.Fatalf("%d bytes are still counted", f.front.answers.used.Load())
+	}
+	for _, path := range objects {
+		w := f.get(path)
+		if refused(t, path, w, 503, "busy"); w.Header().Get("Retry-After") != "1" {
+			t.Errorf("%s: it isn't told when to come again", path)
+		}
+	}
+	answered(none...)
+	f.front.answers.give(all)
+	answered(objects...)
+	// One that has more bytes than it was taken to have.
+	f.log.Change("tile/data/001.p/4", dataTileOf(700000, 700000, 700000, 700000))
+	refused(t, "a large tile", f.get("/tile/data/001.p/4"), 503, "busy")
+	if used := f.front.answers.used.Load(); used != 0 {
+		t.Errorf("%d bytes are still counted", used)
+	}
 }
 
 func TestNames(t *testing.T) {

@@ -2,10 +2,11 @@
 // it answers comes from a log.Log, and which chains are taken a chains.Checker says.
 //
 // It speaks HTTP/1.1. Nothing in it grows without a bound: connections are counted, altogether and by address; bodies and the
-// submissions that wait have so many bytes, together and by address; each request has its time.
+// submissions that wait have so many bytes, together and by address, and objects in answers so many together; each request has its time.
 package web
 
 import (
+	"context"
 	"net/http"
 	"net/netip"
 	"runtime"
@@ -51,6 +52,8 @@ type Limits struct {
 	// WaitingBytes is how many bytes the bodies of all submissions have that are read, checked or wait. Those of one address have an eighth
 	// of it, and at least as many as one body may have.
 	WaitingBytes int64
+	// AnswerBytes is how many bytes the objects have that are read for answers, or sent.
+	AnswerBytes int64
 }
 
 // waitingByAddress is how many bytes the bodies of one address have.
@@ -67,7 +70,7 @@ func DefaultLimits() Limits {
 		Headers: 10 * time.Second, Request: 20 * time.Second, Submission: 30 * time.Second, Reading: 10 * time.Second,
 		Answer: 60 * time.Second, Idle: 60 * time.Second,
 		Connections: 4096, ConnectionsByAddress: 64,
-		Checks: 2 * runtime.GOMAXPROCS(0), WaitingBytes: 64 << 20,
+		Checks: 2 * runtime.GOMAXPROCS(0), WaitingBytes: 64 << 20, AnswerBytes: 512 << 20,
 	}
 }
 
@@ -94,6 +97,7 @@ type Front struct {
 	checks      chan struct{}
 	waiting     budget
 	waitingOf   counts
+	answers     budget
 	requests    counts
 	connections connections
 	roots       atomic.Pointer[encodedRoots]
@@ -111,6 +115,7 @@ func New(of log.Log, proofs *reader.Reader, checker *chains.Checker, options Opt
 		checks:    make(chan struct{}, limits.Checks),
 		waiting:   budget{most: limits.WaitingBytes},
 		waitingOf: counts{most: limits.waitingByAddress()},
+		answers:   budget{most: limits.AnswerBytes},
 		requests:  counts{most: limits.ConnectionsByAddress},
 	}
 	f.connections.byAddress.most = limits.ConnectionsByAddress
@@ -187,7 +192,9 @@ func (f *Front) ServeHTTP(w http.ResponseWriter, r *http.Request) {
 		return
 	}
 	defer f.requests.give(client)
-	if err := f.serve(c, a, r); err != nil {
+	own := &held{of: &f.answers}
+	defer own.giveAll()
+	if err := f.serve(c, a, r.WithContext(context.WithValue(r.Context(), heldKey{}, own))); err != nil {
 		f.refuse(a, refusalOf(err))
 	}
 }
