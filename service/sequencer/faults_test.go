@@ -15,6 +15,7 @@ import (
 	"testing"
 	"time"
 
+	"wagtenib/service/check"
 	"wagtenib/service/log"
 	"wagtenib/service/signer"
 	"wagtenib/service/step"
@@ -711,11 +712,8 @@ func plantedOrders(t *testing.T, on ground) {
 		}
 		s := started(t, p.unguarded(t), hooks{})
 		_ = got.submitAll(limited(t), s, 20, 40, 1)
-		if report, err := p.judged(got.all); err == nil {
-			t.Fatalf("the checker sees nothing: %+v", report)
-		} else {
-			t.Log(err)
-		}
+		report, err := p.judged(got.all)
+		sees(t, report, err, "leaves of the last head", "isn't the defined tile")
 	})
 	t.Run(answerFirst, func(t *testing.T) {
 		// What it answered last may be lost with it, on a busy machine: then there is nothing to see, and another one is killed.
@@ -729,12 +727,9 @@ func plantedOrders(t *testing.T, on ground) {
 			s := started(t, p.unguarded(t), hooks{})
 			must(t, got.submitAll(limited(t), s, 60, 80, 8))
 			report, err := p.judged(got.all)
-			if err != nil {
-				t.Log(err)
+			if err != nil || try == 10 {
+				sees(t, report, err, "isn't what its timestamp is of", "and the last head has")
 				return
-			}
-			if try == 10 {
-				t.Fatalf("the checker sees nothing: %+v", report)
 			}
 		}
 	})
@@ -746,10 +741,22 @@ func plantedOrders(t *testing.T, on ground) {
 		for n := 0; n < 600 && short.Err() == nil; n += 37 {
 			_ = got.submitAll(short, s, n, n+37, 37)
 		}
-		if report, err := p.judged(got.all); err == nil {
-			t.Fatalf("the checker sees nothing: %+v", report)
-		} else {
-			t.Log(err)
-		}
+		report, err := p.judged(got.all)
+		sees(t, report, err, "is missing")
 	})
+}
+
+// sees wants the checker's verdict to be one of these.
+func sees(t *testing.T, report check.Report, err error, verdicts ...string) {
+	t.Helper()
+	if err == nil {
+		t.Fatalf("the checker sees nothing: %+v", report)
+	}
+	for _, verdict := range verdicts {
+		if strings.Contains(err.Error(), verdict) {
+			t.Log(err)
+			return
+		}
+	}
+	t.Errorf("the checker says %v, and none of %q", err, verdicts)
 }
