@@ -27,12 +27,12 @@ func tileName(tile tlog.Tile) string {
 	return "tile/" + tile.Path()[len(before):]
 }
 
-// tiles reads the hash tiles of a tree, for tlog, which checks them against its root.
+// tiles reads the hash tiles of a tree, for tlog, which checks them against its root. Who asked looks at failed first, whatever tlog gave.
 type tiles struct {
 	ctx  context.Context
 	read func(context.Context, string) ([]byte, error)
 	seen map[string][]byte
-	// failed is why one couldn't be read.
+	// failed is why one couldn't be read, or that it isn't the tree's.
 	failed error
 }
 
@@ -41,7 +41,40 @@ const mostSeen = 512
 
 func (t *tiles) Height() int { return tileHeight }
 
-func (t *tiles) SaveTiles([]tlog.Tile, [][]byte) {}
+// SaveTiles looks at what tlog has checked: it compares those at the tree's right edge with the root, and of the others, in the x/mod of
+// Debian 12, some with nothing. Each of them has the hash that the tile above it has of it.
+func (t *tiles) SaveTiles(read []tlog.Tile, contents [][]byte) {
+	type place struct {
+		level int
+		index int64
+	}
+	at := map[place][]byte{}
+	for i, tile := range read {
+		at[place{tile.L, tile.N}] = contents[i]
+	}
+	for i, tile := range read {
+		above, ok := at[place{tile.L + 1, tile.N / tileWidth}]
+		if from := int(tile.N % tileWidth * tlog.HashSize); ok && tile.W == tileWidth && t.failed == nil {
+			if root := rootOf(contents[i]); len(above) < from+tlog.HashSize || string(root[:]) != string(above[from:from+tlog.HashSize]) {
+				t.failed = fmt.Errorf("%w: %s isn't the one that the tile above it has", ErrDamaged, tileName(tile))
+			}
+		}
+	}
+}
+
+// rootOf is the Merkle Tree Hash of a full tile's hashes (RFC 6962, section 2.1).
+func rootOf(content []byte) tlog.Hash {
+	var hashes []tlog.Hash
+	for ; len(content) >= tlog.HashSize; content = content[tlog.HashSize:] {
+		hashes = append(hashes, *(*tlog.Hash)(content))
+	}
+	for ; len(hashes) > 1; hashes = hashes[:len(hashes)/2] {
+		for i := 0; i+1 < len(hashes); i += 2 {
+			hashes[i/2] = tlog.NodeHash(hashes[i], hashes[i+1])
+		}
+	}
+	return hashes[0]
+}
 
 func (t *tiles) ReadTiles(wanted []tlog.Tile) ([][]byte, error) {
 	var contents [][]byte
@@ -219,10 +252,10 @@ func (t *tree) leafAt(index uint64) (*leaf, error) {
 	}
 	l := &t.leaves[index%tileWidth]
 	hashes, err := t.hashes.ReadHashes([]int64{tlog.StoredHashIndex(0, int64(index))})
+	if t.tiles.failed != nil {
+		return nil, t.tiles.failed
+	}
 	if err != nil {
-		if t.tiles.failed != nil {
-			return nil, t.tiles.failed
-		}
 		return nil, fmt.Errorf("%w: the hash tiles above entry %d: %v", ErrDamaged, index, err)
 	}
 	if l.index != index || tlog.RecordHash(l.signed) != hashes[0] {
@@ -239,10 +272,10 @@ func (t *tree) receiptAt(place stores.Place, line string, w *waiting) (*step.Rec
 		return nil, err
 	}
 	proof, err := tlog.ProveRecord(int64(t.state.Size), int64(place.Index), t.hashes)
+	if t.tiles.failed != nil {
+		return nil, t.tiles.failed
+	}
 	if err != nil {
-		if t.tiles.failed != nil {
-			return nil, t.tiles.failed
-		}
 		return nil, fmt.Errorf("%w: the hash tiles above entry %d: %v", ErrDamaged, place.Index, err)
 	}
 	path := make([][]byte, 0, len(proof))

@@ -1,13 +1,20 @@
 package sequencer
 
 import (
+	"context"
+	"errors"
+	"fmt"
 	"os"
 	"path/filepath"
 	"strings"
 	"testing"
 	"time"
 
+	"golang.org/x/mod/sumdb/tlog"
+
+	"wagtenib/service/log"
 	"wagtenib/service/step"
+	"wagtenib/service/stores"
 )
 
 // eventually waits until something holds.
@@ -103,6 +110,67 @@ func TestUnsweptTiles(t *testing.T) {
 	}
 }
 
+// inMemory is a store of objects that is read alone.
+type inMemory struct {
+	stores.Objects
+	contents map[string][]byte
+}
+
+func (m inMemory) Get(_ context.Context, name string, _ int64) ([]byte, error) {
+	content, ok := m.contents[name]
+	if !ok {
+		return nil, stores.ErrAbsent
+	}
+	return content, nil
+}
+
+// stored are the hashes of a tree, as x/mod keeps them.
+type stored []tlog.Hash
+
+func (s stored) ReadHashes(indexes []int64) (found []tlog.Hash, err error) {
+	for _, i := range indexes {
+		found = append(found, s[i])
+	}
+	return found, nil
+}
+
+// TestWholeTiles has a full tile of each level of a tree be gone, cut or bent.
+func TestWholeTiles(t *testing.T) {
+	t.Parallel()
+	const size = 256*256 + 300
+	var hashes stored
+	for i := int64(0); i < size; i++ {
+		more, err := tlog.StoredHashes(i, []byte(fmt.Sprint(i)), hashes)
+		must(t, err)
+		hashes = append(hashes, more...)
+	}
+	root, err := tlog.TreeHash(size, hashes)
+	must(t, err)
+	objects := inMemory{contents: map[string][]byte{}}
+	for _, tile := range tlog.NewTiles(tileHeight, 0, size) {
+		content, err := tlog.ReadTileData(tile, hashes)
+		must(t, err)
+		objects.contents[tileName(tile)] = content
+	}
+	tender := &tender{s: &Sequencer{config: Config{Objects: objects, Patience: longest}, head: &log.Head{TreeSize: size, RootHash: root}}}
+	for _, tile := range []tlog.Tile{{H: tileHeight, L: 0, N: 7, W: tileWidth}, {H: tileHeight, L: 0, N: 256, W: tileWidth}, {H: tileHeight, L: 1, N: 0, W: tileWidth}} {
+		name := tileName(tile)
+		content := objects.contents[name]
+		must(t, tender.whole(limited(t), tile))
+		bent := append([]byte{}, content...)
+		bent[7*32] ^= 1
+		for how, other := range map[string][]byte{"cut": content[:len(content)-32], "long": append(append([]byte{}, content...), content[:32]...), "bent": bent} {
+			objects.contents[name] = other
+			if err := tender.whole(limited(t), tile); !errors.Is(err, ErrDamaged) {
+				t.Errorf("%s %s: %v", name, how, err)
+			}
+		}
+		delete(objects.contents, name)
+		wants(t, tender.whole(limited(t), tile), ErrDamaged)
+		objects.contents[name] = content
+	}
+}
+
 // TestUnreadTiles has an old tile not be read: it counts as damaged, and those behind it are read and swept all the same. Where no object
 // is read, no tile counts.
 func TestUnreadTiles(t *testing.T) {
@@ -191,7 +259,7 @@ func TestScrubbedTiles(t *testing.T) {
 			other := path + ".other"
 			must(t, os.WriteFile(other, bent, 0o644))
 			must(t, os.Rename(other, path))
-			eventually(t, "the damage is told", func() bool { return strings.Contains(s.Figures().Damage, "tile/data/000") })
+			eventually(t, "the damage is told", func() bool { return strings.Contains(s.Figures().Damage, object) })
 			must(t, os.Remove(path))
 			eventually(t, "the loss is told", func() bool {
 				f := s.Figures()
