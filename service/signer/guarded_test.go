@@ -704,8 +704,8 @@ func TestOtherKey(t *testing.T) {
 	ctx, keys := limited(t), []*Key{newKey(t), newKey(t)}
 	opened := 0
 	c, err := Ask(ctx, func(ctx context.Context) (*pipe.End, error) {
-		path := filepath.Join(t.TempDir(), "socket")
-		go func() { _ = Listen(ctx, keys[opened%2], path) }()
+		path, key := filepath.Join(t.TempDir(), "socket"), keys[opened%2]
+		go func() { _ = Listen(ctx, key, path) }()
 		for {
 			if end, err := pipe.Dial(ctx, path, MostLine); err == nil {
 				opened++
