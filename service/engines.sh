@@ -83,6 +83,9 @@ next_port() {
   while port=$((port + 1)); (exec 3<>"/dev/tcp/127.0.0.1/$port") 2>/dev/null; do :; done
 }
 
+# What has etcd forget the revisions that the register and the places leave behind: without it the quota of its storage fills.
+compacting=(--auto-compaction-mode periodic --auto-compaction-retention 1h)
+
 # has NAME PACKAGE PROGRAM..: whether the programs are there.
 has() {
   local name=$1 package=$2
@@ -98,7 +101,7 @@ start_etcd() {
   next_port; here=http://127.0.0.1:$port
   next_port; peer=http://127.0.0.1:$port
   begin etcd "ETCDCTL_API=3 etcdctl --endpoints $here endpoint health" etcd --name one --data-dir "$work/etcd" --listen-client-urls "$here" --advertise-client-urls "$here" \
-    --listen-peer-urls "$peer" --initial-advertise-peer-urls "$peer" --initial-cluster "one=$peer" --logger zap
+    --listen-peer-urls "$peer" --initial-advertise-peer-urls "$peer" --initial-cluster "one=$peer" --logger zap "${compacting[@]}"
   tell STORES_ETCD "${here#http://}"
 }
 
@@ -114,7 +117,7 @@ start_members() {
   for i in 1 2 3; do
     ready="exec 3<>/dev/tcp/${clients[i - 1]/://}"
     [ "$i" = 3 ] && ready="ETCDCTL_API=3 etcdctl --endpoints ${clients[2]} endpoint health"
-    begin "member-$i" "$ready" etcd --name "member-$i" --data-dir "$work/member-$i" --logger zap --initial-cluster "$all" \
+    begin "member-$i" "$ready" etcd --name "member-$i" --data-dir "$work/member-$i" --logger zap "${compacting[@]}" --initial-cluster "$all" \
       --listen-client-urls "http://${clients[i - 1]}" --advertise-client-urls "http://${clients[i - 1]}" \
       --listen-peer-urls "${peers[i - 1]}" --initial-advertise-peer-urls "${peers[i - 1]}"
   done

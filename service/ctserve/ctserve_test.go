@@ -384,6 +384,12 @@ func TestServesTLSAndAWindow(t *testing.T) {
 func TestSettings(t *testing.T) {
 	at := newPlace(t)
 	at.write("secret", []byte("sixteen bytes or more\n"))
+	at.write("empty", nil)
+	at.write("short", []byte("fifteen bytes..\n"))
+	at.write("open", []byte("sixteen bytes or more\n"))
+	if err := os.Chmod(at.path("open"), 0o640); err != nil {
+		t.Fatal(err)
+	}
 	files := 0
 	file := func(text string) []string {
 		files++
@@ -411,11 +417,15 @@ func TestSettings(t *testing.T) {
 		{file(needed + "idle-within 0s"), "above 0"},
 		{file(needed + "most-connections 0"), "above 0"},
 		{file(needed + "most-waiting-bytes 1000"), "1048576"},
+		{file(needed + "most-answer-bytes 1000"), "67108864"},
 		{file(needed + "not-after-from 2027-01-01\nnot-after-to 2027-01-01"), "isn't before"},
 		{file(needed + "not-after-from soon"), "not-after-from"},
 		{file(needed + "proxies 1.2.3"), "proxies"},
 		{file(needed + "nodes-listen 127.0.0.1:1"), "go together"},
 		{file(needed + "nodes-listen 127.0.0.1:1\nnodes-address http://x/\nnodes-secret " + at.path("none")), "no such file"},
+		{file(needed + "nodes-listen 127.0.0.1:1\nnodes-address http://x/\nnodes-secret " + at.path("empty")), "has 0 bytes"},
+		{file(needed + "nodes-listen 127.0.0.1:1\nnodes-address http://x/\nnodes-secret " + at.path("short")), "has 15 bytes"},
+		{file(needed + "nodes-listen 127.0.0.1:1\nnodes-address http://x/\nnodes-secret " + at.path("open")), "others than its owner may read"},
 	} {
 		if _, err := parse(test.words, io.Discard); !errors.Is(err, errUsage) || !strings.Contains(err.Error(), test.why) {
 			t.Errorf("%q: %v, and not %s", test.words, err, test.why)
@@ -546,6 +556,83 @@ func TestRealLog(t *testing.T) {
 	p.signal(syscall.SIGTERM)
 	if status := p.ends(); status != 0 {
 		t.Errorf("it ended with status %d", status)
+	}
+}
+
+// A signer that is started again makes no state of the guard, where that is gone.
+func TestSignerIsCreatedOnce(t *testing.T) {
+	t.Parallel()
+	at := newPlace(t)
+	at.realWords()
+	ctx, cancel := context.WithTimeout(context.Background(), time.Minute)
+	defer cancel()
+	asked, err := askSigner(ctx, node{signingKey: at.path("log.pem"), guard: strings.Fields(at.guard), guardState: "file:" + at.path("guard"), create: true})
+	if err != nil {
+		t.Fatal(err)
+	}
+	defer asked.Close()
+	for _, gone := range []bool{false, true} {
+		if err := asked.Close(); err != nil {
+			t.Fatal(err)
+		}
+		if gone {
+			if err := os.RemoveAll(at.path("guard")); err != nil {
+				t.Fatal(err)
+			}
+		}
+		if _, err := asked.Last(ctx); gone != (err != nil) || gone && !strings.Contains(err.Error(), "there is none") {
+			t.Errorf("gone %t: %v", gone, err)
+		}
+	}
+	if _, err := os.Stat(at.path("guard/text")); err == nil {
+		t.Error("it is made again")
+	}
+}
+
+// A damaged tile that no step wants: who submits its entry again is refused, the log is ready all the same, and its name is told until it is
+// put right.
+func TestDamageIsTold(t *testing.T) {
+	t.Parallel()
+	at := newPlace(t)
+	words := at.realWords("--signing-key", at.path("log.pem"), "--read-again-every", "50ms")
+	words = append(words, "--guard", at.guard)
+	p := started(t, "", append(words, "--create")...)
+	body := at.submission()
+	if status, text := post(p.clients, body); status != 200 {
+		t.Fatalf("%d %s", status, text)
+	}
+	p.signal(syscall.SIGTERM)
+	if status := p.ends(); status != 0 {
+		t.Errorf("it ended with status %d", status)
+	}
+	const tile = "tile/data/000.p/1"
+	content, err := os.ReadFile(at.path("log/objects/" + tile))
+	if err != nil {
+		t.Fatal(err)
+	}
+	if err := os.Remove(at.path("log/objects/" + tile)); err != nil {
+		t.Fatal(err)
+	}
+	p = started(t, "", words...)
+	if status, text := post(p.clients, body); status != 503 || !strings.Contains(text, `"store"`) {
+		t.Errorf("%d %s", status, text)
+	}
+	if line := p.until("damage"); line["level"] != "error" || !strings.Contains(fmt.Sprint(line["detail"]), tile+" is missing") {
+		t.Errorf("it says %v", line)
+	}
+	if status, text := get(p.clients, "/readyz"); status != 200 {
+		t.Errorf("/readyz: %d %s", status, text)
+	}
+	_, text := get(p.operator, "/metrics")
+	for _, line := range []string{"ctserve_fault 0", "ctserve_damaged_tiles 1"} {
+		if !strings.Contains(text, "\n"+line+"\n") {
+			t.Errorf("/metrics lacks %s", line)
+		}
+	}
+	at.write("log/objects/"+tile, content)
+	p.until("mended")
+	if status, text := post(p.clients, body); status != 200 {
+		t.Errorf("put right: %d %s", status, text)
 	}
 }
 

@@ -19,6 +19,7 @@ import (
 	"os"
 	"os/signal"
 	"syscall"
+	"time"
 
 	"wagtenib/service/chains"
 	"wagtenib/service/log"
@@ -36,6 +37,9 @@ type opened struct {
 }
 
 type opener func(context.Context, node) (*opened, error)
+
+// looksEvery is how often the log is looked at for what an operator is to be told.
+const looksEvery = time.Second
 
 func main() { os.Exit(run(os.Args[1:], os.Stderr, openNode)) }
 
@@ -125,6 +129,9 @@ func serve(s *settings, lines *web.Lines, signals <-chan os.Signal, open opener)
 	}
 	if err == nil {
 		tellHead(s, of.log, lines)
+		telling, stop := context.WithCancel(context.Background())
+		defer stop()
+		go front.Tell(telling, looksEvery)
 		err = wait(s, front, checker, certificate, lines, signals, failed)
 	}
 	// From here on another signal ends the process.

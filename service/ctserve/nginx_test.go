@@ -13,6 +13,8 @@ import (
 	"syscall"
 	"testing"
 	"time"
+
+	"wagtenib/service/web"
 )
 
 // nginxBefore starts nginx by the file for operators, at a port of loopback without TLS, and gives its address.
@@ -83,6 +85,21 @@ func nginxBefore(t *testing.T, clients string) string {
 func isThere(path string) bool {
 	_, err := os.Stat(path)
 	return err == nil
+}
+
+// By the file for operators nginx leaves idle connections before ctserve closes them.
+func TestNginxLeavesFirst(t *testing.T) {
+	text, err := os.ReadFile("../nginx.conf")
+	if err != nil {
+		t.Fatal(err)
+	}
+	_, upstream, _ := strings.Cut(string(text), "upstream ctserve {")
+	upstream, _, _ = strings.Cut(upstream, "}")
+	_, after, _ := strings.Cut(upstream, "keepalive_timeout ")
+	after, _, _ = strings.Cut(after, ";")
+	if idle, err := time.ParseDuration(after); err != nil || idle > web.DefaultLimits().Idle-5*time.Second {
+		t.Errorf("it leaves after %q, %v, where %v are waited", after, err, web.DefaultLimits().Idle)
+	}
 }
 
 // Behind nginx: submissions and reading go through, tiles are kept by nginx and refusals aren't, and a client is counted by its

@@ -2,8 +2,6 @@ package main
 
 import (
 	"context"
-	"fmt"
-	"os"
 
 	"wagtenib/service/reader"
 	"wagtenib/service/sequencer"
@@ -29,8 +27,8 @@ func openNode(ctx context.Context, n node) (of *opened, err error) {
 		SweepAfter: n.sweepAfter, TendEvery: n.readEvery, BehindSwap: n.behindSwap, Address: n.address, Secret: n.secret,
 	}
 	if n.makesFolder {
-		if err := os.MkdirAll(n.folder, 0o755); err != nil {
-			return nil, fmt.Errorf("ctserve: %w", err)
+		if err := stores.MakeFolder(n.folder); err != nil {
+			return nil, err
 		}
 	}
 	asked, err := askSigner(ctx, n)

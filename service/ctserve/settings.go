@@ -13,6 +13,8 @@ import (
 	"time"
 
 	"wagtenib/service/chains"
+	"wagtenib/service/sequencer"
+	"wagtenib/service/stores"
 	"wagtenib/service/web"
 )
 
@@ -75,6 +77,7 @@ func parse(words []string, help io.Writer) (*settings, error) {
 	flags.IntVar(&s.limits.ConnectionsByAddress, "most-connections-by-address", s.limits.ConnectionsByAddress, "connections at once of one address, or one /64; of a client behind a proxy requests at once")
 	flags.IntVar(&s.limits.Checks, "most-checks", s.limits.Checks, "chains that are checked at once")
 	flags.Int64Var(&s.limits.WaitingBytes, "most-waiting-bytes", s.limits.WaitingBytes, "bytes of all submissions that are read or wait")
+	flags.Int64Var(&s.limits.AnswerBytes, "most-answer-bytes", s.limits.AnswerBytes, "bytes of all objects that are read for answers or sent")
 	flags.DurationVar(&s.limits.Headers, "headers-within", s.limits.Headers, "how long the headers of a request may take")
 	flags.DurationVar(&s.limits.Request, "request-within", s.limits.Request, "how long a request with its body may take")
 	flags.DurationVar(&s.limits.Submission, "submission-within", s.limits.Submission, "how long a submission waits")
@@ -106,7 +109,7 @@ func parse(words []string, help io.Writer) (*settings, error) {
 	flags.BoolVar(&n.create, "create", false, "make a log where there is none; without it, an empty register ends the start")
 	flags.StringVar(&s.listenNodes, "nodes-listen", "", "`address` for the other nodes of the log; none where it is empty")
 	flags.StringVar(&n.address, "nodes-address", "", "`URL` by which other nodes find this one")
-	flags.StringVar(&s.nodesSecretAt, "nodes-secret", "", "`file` with what the nodes show each other, 16 bytes or more")
+	flags.StringVar(&s.nodesSecretAt, "nodes-secret", "", "`file` with what the nodes show each other, 16 bytes or more, that none but its owner may read")
 
 	if err := flags.Parse(words); err != nil {
 		if errors.Is(err, flag.ErrHelp) {
@@ -186,8 +189,8 @@ func (s *settings) settle() error {
 			return errors.New("a time is above 0")
 		}
 	}
-	if l.Connections < 1 || l.ConnectionsByAddress < 1 || l.Checks < 1 || l.WaitingBytes < web.MostBody || n.mostQueue < 1 || n.mostBatch < 1 || n.mostProofs < 1 {
-		return fmt.Errorf("a bound is above 0, and --most-waiting-bytes at least %d", web.MostBody)
+	if l.Connections < 1 || l.ConnectionsByAddress < 1 || l.Checks < 1 || l.WaitingBytes < web.MostBody || l.AnswerBytes < stores.MostObject || n.mostQueue < 1 || n.mostBatch < 1 || n.mostProofs < 1 {
+		return fmt.Errorf("a bound is above 0, --most-waiting-bytes at least %d, and --most-answer-bytes at least %d", web.MostBody, stores.MostObject)
 	}
 	if len(n.step) == 0 {
 		n.step = []string{"cttile"}
@@ -211,13 +214,41 @@ func (s *settings) settle() error {
 		return errors.New("--nodes-listen, --nodes-address and --nodes-secret go together")
 	}
 	if s.nodesSecretAt != "" {
-		secret, err := os.ReadFile(s.nodesSecretAt)
+		secret, err := readSecret(s.nodesSecretAt)
 		if err != nil {
 			return err
 		}
-		n.secret = strings.TrimSpace(string(secret))
+		n.secret = secret
 	}
 	return nil
+}
+
+// mostSecret is how many bytes of the nodes' secret are read.
+const mostSecret = 64 << 10
+
+// readSecret reads the nodes' secret from a file that none but its owner may read.
+func readSecret(path string) (string, error) {
+	opened, err := os.Open(path)
+	if err != nil {
+		return "", err
+	}
+	defer opened.Close()
+	info, err := opened.Stat()
+	if err != nil {
+		return "", err
+	}
+	if info.Mode().Perm()&0o077 != 0 {
+		return "", fmt.Errorf("--nodes-secret: others than its owner may read or write %s", path)
+	}
+	content, err := io.ReadAll(io.LimitReader(opened, mostSecret))
+	if err != nil {
+		return "", err
+	}
+	secret := strings.TrimSpace(string(content))
+	if len(secret) < sequencer.LeastSecret {
+		return "", fmt.Errorf("--nodes-secret: %s has %d bytes, and at least %d are needed", path, len(secret), sequencer.LeastSecret)
+	}
+	return secret, nil
 }
 
 func prefixes(text string) (found []netip.Prefix, err error) {

@@ -26,7 +26,8 @@ const (
 	signsWithin = 30 * time.Second
 )
 
-// askSigner starts the log's signer, a process of its own, or finds the one at a socket.
+// askSigner starts the log's signer, a process of its own, or finds the one at a socket. One that is started again makes no state of the
+// guard: what it would make it of is gone.
 func askSigner(ctx context.Context, n node) (*signer.Client, error) {
 	open := func(ctx context.Context) (*pipe.End, error) { return pipe.Dial(ctx, n.signerAt, signer.MostLine) }
 	if n.signerAt == "" {
@@ -38,9 +39,12 @@ func askSigner(ctx context.Context, n node) (*signer.Client, error) {
 		if n.behindSwap {
 			receipts = signer.Promised
 		}
-		words := []string{self, "signer", "--signing-key", n.signingKey, "--guard", strings.Join(n.guard, " "), "--receipts", string(receipts), "--create=" + strconv.FormatBool(n.create)}
+		words := []string{self, "signer", "--signing-key", n.signingKey, "--guard", strings.Join(n.guard, " "), "--receipts", string(receipts)}
+		create := n.create
 		open = func(context.Context) (*pipe.End, error) {
-			return pipe.Start(words, signer.MostLine, guardStateKey+"="+n.guardState)
+			these := append(append([]string{}, words...), "--create="+strconv.FormatBool(create))
+			create = false
+			return pipe.Start(these, signer.MostLine, guardStateKey+"="+n.guardState)
 		}
 	}
 	return signer.Ask(ctx, open, signsWithin)

@@ -70,8 +70,10 @@ type Figures struct {
 	StepStarts, SignerStarts uint64
 	// Swept counts partial tiles that were deleted behind their full one, and Scrubbed data tiles that were read again and were right.
 	Swept, Scrubbed uint64
-	// Damaged is how many data tiles, by what was read last, are missing or aren't the log's, or stand below hash tiles that aren't.
+	// Damaged is how many data tiles, by what was read last, are missing, can't be read or aren't the log's, or stand below hash tiles of
+	// which one of these is so; the log goes on all the same. Damage is what was seen of one of them, in one line.
 	Damaged int
+	Damage  string
 	// Fault is what keeps the log from going on, in one line; empty where nothing does.
 	Fault string
 }

@@ -2,16 +2,20 @@ package sequencer
 
 import (
 	"context"
+	"encoding/hex"
+	"encoding/json"
 	"fmt"
-	"io"
+	"net/http"
 	"net/http/httptest"
 	"os"
 	"path/filepath"
 	"strings"
 	"sync"
+	"sync/atomic"
 	"testing"
 	"time"
 
+	"wagtenib/service/check"
 	"wagtenib/service/log"
 	"wagtenib/service/signer"
 	"wagtenib/service/step"
@@ -117,19 +121,43 @@ func TestDamagedTiles(t *testing.T) {
 	}
 }
 
-// TestDamagedRepeats bends tiles that only a repeat wants.
+// beside submits a number whose entry stands in the log together with new ones, which are answered, and gives what the first is told. Where
+// the interval is long they are in one round, behind another one.
+func beside(t *testing.T, got *answers, s *Sequencer, repeat, from, to int) error {
+	t.Helper()
+	must(t, got.submitAll(limited(t), s, from, from+1, 1))
+	told := make(chan error, 1)
+	go func() {
+		_, err := s.Submit(limited(t), entryOf(repeat))
+		told <- err
+	}()
+	must(t, got.submitAll(limited(t), s, from+1, to, to-from))
+	return <-told
+}
+
+// again submits a number whose entry stands in the log until it is answered: what it is told before is of some kind.
+func again(t *testing.T, got *answers, s *Sequencer, repeat int, kind error) {
+	t.Helper()
+	for {
+		err := got.submitAll(limited(t), s, repeat, repeat+1, 1)
+		if err == nil {
+			return
+		}
+		wants(t, err, kind)
+		time.Sleep(quick)
+	}
+}
+
+// TestDamagedRepeats bends tiles that only a repeat wants: it is told so, and who comes beside it is answered.
 func TestDamagedRepeats(t *testing.T) {
 	t.Parallel()
 	for _, object := range []string{"tile/0/000", "tile/data/000"} {
-		p, ctx, got := newPlace(t), limited(t), &answers{}
-		s := started(t, p.config(t), hooks{})
-		must(t, got.submitAll(ctx, s, 0, 300, 300))
-		first := got.all[0]
-		for _, a := range got.all {
-			if string(a.Extensions) == string(extensionsOf(0)) {
-				first = a
-			}
-		}
+		p, got := newPlace(t), &answers{}
+		config := p.config(t)
+		config.Interval = 300 * time.Millisecond
+		s := started(t, config, hooks{})
+		must(t, got.submitAll(limited(t), s, 0, 300, 300))
+		repeat := got.numberAt(t, 0)
 		path := filepath.Join(p.objects(), object)
 		content, err := os.ReadFile(path)
 		must(t, err)
@@ -137,26 +165,78 @@ func TestDamagedRepeats(t *testing.T) {
 		// (a byte of the first entry, or of its hash)
 		bent[16] ^= 1
 		must(t, os.WriteFile(path, bent, 0o644))
-		var repeat int
-		for n := 0; n < 300; n++ {
-			if a := answerOf(entryOf(n), log.Place{}); string(a.Certificate)+string(a.TBSCertificate) == string(first.Certificate)+string(first.TBSCertificate) {
-				repeat = n
-			}
-		}
-		_, err = s.Submit(ctx, entryOf(repeat))
-		wants(t, err, log.ErrStore, ErrDamaged)
+		wants(t, beside(t, got, s, repeat, 300, 310), log.ErrStore, ErrDamaged)
 		must(t, os.WriteFile(path, content, 0o644))
-		for {
-			// Put right, it is answered once a round has seen it.
-			place, err := s.Submit(ctx, entryOf(repeat))
-			if err == nil {
-				got.add(answerOf(entryOf(repeat), place))
-				break
-			}
-			wants(t, err, ErrDamaged)
-			time.Sleep(quick)
+		again(t, got, s, repeat, ErrDamaged)
+		if report := p.right(t, got); report.Leaves != 310 {
+			t.Fatalf("%+v", report)
 		}
-		p.right(t, got)
+	}
+}
+
+// TestUnreadRepeats has a tile not be read that only a repeat wants: it is told so behind Patience, by the tile's name, and who comes beside
+// it is answered. Where the tile is read again, so is the repeat.
+func TestUnreadRepeats(t *testing.T) {
+	t.Parallel()
+	for _, object := range []string{"tile/0/000", "tile/data/000"} {
+		for how, fails := range waysUnread {
+			object, fails := object, fails
+			t.Run(object+" "+how, func(t *testing.T) {
+				t.Parallel()
+				p, got := newPlace(t), &answers{}
+				config := p.config(t)
+				objects := &unreadable{Objects: config.Objects}
+				config.Objects, config.TendEvery = objects, time.Hour
+				s := started(t, config, hooks{})
+				must(t, got.submitAll(limited(t), s, 0, 300, 300))
+				repeat := got.numberAt(t, 0)
+				objects.set(object, fails)
+				for from := 300; from < 320; from += 10 {
+					began := time.Now()
+					err := beside(t, got, s, repeat, from, from+10)
+					if wants(t, err, log.ErrStore); !strings.Contains(err.Error(), object) {
+						t.Errorf("%v doesn't name %s", err, object)
+					}
+					if took := time.Since(began); took > 10*config.Patience {
+						t.Errorf("it took %v", took)
+					}
+					if f := s.Figures(); f.Damaged != 1 || !strings.Contains(f.Damage, object) || f.Fault != "" {
+						t.Errorf("%+v", f)
+					}
+				}
+				objects.set(object, nil)
+				again(t, got, s, repeat, log.ErrStore)
+				if report := p.right(t, got); report.Leaves != 320 {
+					t.Fatalf("%+v", report)
+				}
+			})
+		}
+	}
+}
+
+// TestRepeatsBehindAnOutage has a tile not be read for less than Patience: a repeat waits, and is answered.
+func TestRepeatsBehindAnOutage(t *testing.T) {
+	t.Parallel()
+	p, ctx, got := newPlace(t), limited(t), &answers{}
+	config := p.config(t)
+	objects := &unreadable{Objects: config.Objects}
+	config.Objects, config.Patience, config.TendEvery = objects, longest, time.Hour
+	s := started(t, config, hooks{})
+	must(t, got.submitAll(ctx, s, 0, 300, 300))
+	repeat := got.numberAt(t, 0)
+	objects.set("tile/data/000", waysUnread["refused"])
+	done := make(chan error, 1)
+	go func() { done <- got.submitAll(ctx, s, repeat, repeat+1, 1) }()
+	must(t, got.submitAll(ctx, s, 300, 310, 1))
+	select {
+	case err := <-done:
+		t.Fatalf("it is told before its time: %v", err)
+	default:
+	}
+	objects.set("tile/data/000", nil)
+	must(t, <-done)
+	if report := p.right(t, got); report.Leaves != 310 || s.Figures().Damaged != 0 {
+		t.Fatalf("%+v", report)
 	}
 }
 
@@ -247,6 +327,46 @@ func TestFullQueue(t *testing.T) {
 	large.Certificate = make([]byte, MostEntry+1)
 	_, err = s.Submit(ctx, large)
 	wants(t, err, log.ErrTooLarge)
+}
+
+// holding is a store of objects whose puts below a prefix wait until they are let.
+type holding struct {
+	stores.Objects
+	prefix            string
+	reached, released chan struct{}
+}
+
+func (h *holding) Put(ctx context.Context, name string, content []byte) error {
+	if strings.HasPrefix(name, h.prefix) {
+		h.reached <- struct{}{}
+		<-h.released
+	}
+	return h.Objects.Put(ctx, name, content)
+}
+
+// TestAnsweredBeforeItWaits has all be told of a fault while the issuer of one is put: it is told too, and its entry doesn't come in.
+func TestAnsweredBeforeItWaits(t *testing.T) {
+	t.Parallel()
+	p, ctx, got := newPlace(t), limited(t), &answers{}
+	config := p.config(t)
+	held := &holding{config.Objects, "issuer/", make(chan struct{}, 10), make(chan struct{})}
+	config.Objects = held
+	s := started(t, config, hooks{})
+	told := make(chan error, 1)
+	go func() {
+		_, err := s.Submit(ctx, entryOf(1))
+		told <- err
+	}()
+	<-held.reached
+	if count := s.queue.answerAll(fault{log.ErrStore, errTried}); count != 1 {
+		t.Errorf("%d were told", count)
+	}
+	close(held.released)
+	wants(t, <-told, log.ErrStore, errTried)
+	must(t, got.submitAll(ctx, s, 2, 3, 1))
+	if report := p.right(t, got); report.Leaves != 1 {
+		t.Fatalf("%+v", report)
+	}
 }
 
 // TestGivenUp has who waits give up: the seat is free again.
@@ -385,15 +505,97 @@ func TestHandingOver(t *testing.T) {
 	if report := p.right(t, got); report.Leaves != 80 {
 		t.Fatalf("%+v", report)
 	}
-	for header, body := range map[string]string{"": "{}", "Bearer the secret of those nodes": "{}", "Bearer the secret of these nodes": "no"} {
-		request := httptest.NewRequest("POST", "/", strings.NewReader(body))
-		request.Header.Set("Authorization", header)
+	const shown = "Bearer the secret of these nodes"
+	this := hex.EncodeToString(nodes[1].logID[:])
+	for _, c := range []struct {
+		method, secret, log, body string
+		status                    int
+	}{
+		{"POST", "", this, "{}", 403},
+		{"POST", "Bearer the secret of those nodes", this, "{}", 403},
+		{"GET", shown, this, "", 405},
+		{"POST", shown, "", "{}", 421},
+		{"POST", shown, strings.Repeat("0", 64), "{}", 421},
+		{"POST", shown, this, "no", 400},
+		{"POST", shown, this, `{"submissions":[` + strings.Repeat("{},", MostBatch) + "{}]}", 400},
+		{"POST", shown, this, "{}", 200},
+	} {
+		request := httptest.NewRequest(c.method, "/", strings.NewReader(c.body))
+		request.Header.Set("Authorization", c.secret)
+		request.Header.Set(logHeader, c.log)
 		reply := httptest.NewRecorder()
 		nodes[1].Handler().ServeHTTP(reply, request)
-		if reply.Code != 403 && reply.Code != 400 {
-			t.Errorf("%q %q: %d", header, body, reply.Code)
+		if reply.Code != c.status {
+			t.Errorf("%.100v: %d %s", c, reply.Code, reply.Body)
 		}
-		io.Copy(io.Discard, reply.Body)
+	}
+}
+
+// TestHandedBackWrong has the other node give back what the log didn't sign: nobody is answered by it, and all are answered all the same.
+func TestHandedBackWrong(t *testing.T) {
+	t.Parallel()
+	each := func(bend func(place *handedPlace)) func(*handedBack, handedPlace) {
+		return func(back *handedBack, _ handedPlace) {
+			for i := range back.Places {
+				bend(&back.Places[i])
+			}
+		}
+	}
+	for what, bend := range map[string]func(back *handedBack, other handedPlace){
+		"another index":         each(func(place *handedPlace) { place.LeafIndex++ }),
+		"an index without room": each(func(place *handedPlace) { place.LeafIndex += step.MostLeaves }),
+		"another moment":        each(func(place *handedPlace) { place.Timestamp++ }),
+		"no signature":          each(func(place *handedPlace) { place.Signature = []byte{4, 3, 0, 0} }),
+		"a bent signature": each(func(place *handedPlace) {
+			if last := len(place.Signature) - 1; last >= 0 {
+				place.Signature[last] ^= 1
+			}
+		}),
+		"one place less": func(back *handedBack, _ handedPlace) { back.Places = back.Places[1:] },
+		"another entry's": func(back *handedBack, other handedPlace) {
+			for i := range back.Places {
+				back.Places[i] = other
+			}
+		},
+	} {
+		bend := bend
+		t.Run(what, func(t *testing.T) {
+			t.Parallel()
+			p, ctx, got := newPlace(t), limited(t), &answers{}
+			var bent atomic.Int64
+			var other atomic.Value
+			var nodes [2]*Sequencer
+			for i := range nodes {
+				config, server := p.config(t), httptest.NewUnstartedServer(nil)
+				config.Address, config.Secret = "http://"+server.Listener.Addr().String()+"/sequence", "the secret of these nodes"
+				nodes[i] = started(t, config, hooks{})
+				right := nodes[i].Handler()
+				server.Config.Handler = http.HandlerFunc(func(w http.ResponseWriter, r *http.Request) {
+					reply := httptest.NewRecorder()
+					right.ServeHTTP(reply, r)
+					var back handedBack
+					if err := json.Unmarshal(reply.Body.Bytes(), &back); err != nil || len(back.Places) == 0 {
+						t.Errorf("%d %s", reply.Code, reply.Body)
+						return
+					}
+					bend(&back, other.Load().(handedPlace))
+					bent.Add(1)
+					json.NewEncoder(w).Encode(back)
+				})
+				server.Start()
+				t.Cleanup(server.Close)
+			}
+			must(t, got.submitAll(ctx, nodes[0], 0, 10, 1))
+			first := got.all[0]
+			other.Store(handedPlace{LeafIndex: uint64(first.Extensions[7]), Timestamp: first.Timestamp, Signature: first.Signature})
+			must(t, got.submitAll(ctx, nodes[1], 10, 60, 8))
+			if f := nodes[1].Figures(); f.HandedOver != 0 || bent.Load() == 0 {
+				t.Errorf("%d of %d batches: %+v", f.HandedOver, bent.Load(), f)
+			}
+			if report := p.right(t, got); report.Leaves != 60 {
+				t.Fatalf("%+v", report)
+			}
+		})
 	}
 }
 
@@ -510,11 +712,8 @@ func plantedOrders(t *testing.T, on ground) {
 		}
 		s := started(t, p.unguarded(t), hooks{})
 		_ = got.submitAll(limited(t), s, 20, 40, 1)
-		if report, err := p.judged(got.all); err == nil {
-			t.Fatalf("the checker sees nothing: %+v", report)
-		} else {
-			t.Log(err)
-		}
+		report, err := p.judged(got.all)
+		sees(t, report, err, "leaves of the last head", "isn't the defined tile")
 	})
 	t.Run(answerFirst, func(t *testing.T) {
 		// What it answered last may be lost with it, on a busy machine: then there is nothing to see, and another one is killed.
@@ -528,12 +727,9 @@ func plantedOrders(t *testing.T, on ground) {
 			s := started(t, p.unguarded(t), hooks{})
 			must(t, got.submitAll(limited(t), s, 60, 80, 8))
 			report, err := p.judged(got.all)
-			if err != nil {
-				t.Log(err)
+			if err != nil || try == 10 {
+				sees(t, report, err, "isn't what its timestamp is of", "and the last head has")
 				return
-			}
-			if try == 10 {
-				t.Fatalf("the checker sees nothing: %+v", report)
 			}
 		}
 	})
@@ -545,10 +741,22 @@ func plantedOrders(t *testing.T, on ground) {
 		for n := 0; n < 600 && short.Err() == nil; n += 37 {
 			_ = got.submitAll(short, s, n, n+37, 37)
 		}
-		if report, err := p.judged(got.all); err == nil {
-			t.Fatalf("the checker sees nothing: %+v", report)
-		} else {
-			t.Log(err)
-		}
+		report, err := p.judged(got.all)
+		sees(t, report, err, "is missing")
 	})
+}
+
+// sees wants the checker's verdict to be one of these.
+func sees(t *testing.T, report check.Report, err error, verdicts ...string) {
+	t.Helper()
+	if err == nil {
+		t.Fatalf("the checker sees nothing: %+v", report)
+	}
+	for _, verdict := range verdicts {
+		if strings.Contains(err.Error(), verdict) {
+			t.Log(err)
+			return
+		}
+	}
+	t.Errorf("the checker says %v, and none of %q", err, verdicts)
 }

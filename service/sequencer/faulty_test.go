@@ -101,6 +101,40 @@ func (o faultyObjects) Delete(ctx context.Context, name string) error {
 	return o.f.call(ctx, func() error { return o.Objects.Delete(ctx, name) })
 }
 
+// unreadable has some objects not be read, though they stand there.
+type unreadable struct {
+	stores.Objects
+	mu    sync.Mutex
+	fails map[string]func(context.Context) error
+}
+
+// waysUnread are ways in which an object isn't read.
+var waysUnread = map[string]func(context.Context) error{
+	"refused":  func(context.Context) error { return errTried },
+	"silent":   func(ctx context.Context) error { return wait(ctx, 2*longest) },
+	"too long": func(context.Context) error { return stores.ErrTooLong },
+}
+
+// set has an object not be read in some way, or be read again where that is nil.
+func (u *unreadable) set(name string, fails func(context.Context) error) {
+	u.mu.Lock()
+	defer u.mu.Unlock()
+	if u.fails == nil {
+		u.fails = map[string]func(context.Context) error{}
+	}
+	u.fails[name] = fails
+}
+
+func (u *unreadable) Get(ctx context.Context, name string, most int64) ([]byte, error) {
+	u.mu.Lock()
+	fails := u.fails[name]
+	u.mu.Unlock()
+	if fails != nil {
+		return nil, fails(ctx)
+	}
+	return u.Objects.Get(ctx, name, most)
+}
+
 type faultyRegister struct {
 	stores.Register
 	f *faulty

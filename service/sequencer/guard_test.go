@@ -10,6 +10,7 @@ import (
 
 	"wagtenib/service/log"
 	"wagtenib/service/signer"
+	"wagtenib/service/stores"
 )
 
 // copied copies a log, or its guard's state: another place with the key of this one.
@@ -93,6 +94,31 @@ func TestSetBack(t *testing.T) {
 	must(t, got.submitAll(ctx, s, 50, 70, 8))
 	if report := p.right(t, got); report.Leaves != 70 {
 		t.Fatalf("%+v", report)
+	}
+}
+
+// TestUnreadGuardState has one call in four of the register with the guard's state fail, for less than Patience: who waits is told nothing
+// of it, and is answered.
+func TestUnreadGuardState(t *testing.T) {
+	t.Parallel()
+	p, ctx, got, faults := newPlace(t), limited(t), &answers{}, &faulty{}
+	config := p.config(t)
+	config.Patience = longest
+	key, err := signer.OpenKey(filepath.Join(string(p), "key.pem"))
+	must(t, err)
+	state, err := stores.OpenFile(p.guardState())
+	must(t, err)
+	closeAll(Config{Signer: config.Signer})
+	config.Signer, err = guardedOver(ctx, key, faultyRegister{state, faults}, signer.InHead)
+	must(t, err)
+	t.Cleanup(func() { closeAll(Config{Signer: config.Signer}) })
+	s := started(t, config, hooks{})
+	must(t, got.submitAll(ctx, s, 0, 10, 8))
+	faults.failEvery(4)
+	must(t, got.submitAll(ctx, s, 10, 60, 8))
+	faults.failEvery(0)
+	if report := p.right(t, got); report.Leaves != 60 || faults.failed == 0 {
+		t.Fatalf("%+v, and %d calls failed", report, faults.failed)
 	}
 }
 

@@ -1,8 +1,10 @@
 package sequencer
 
 import (
+	"errors"
 	"fmt"
 	"sync"
+	"sync/atomic"
 	"testing"
 )
 
@@ -39,6 +41,9 @@ func killsAtEachPhase(t *testing.T, on ground) {
 	}
 }
 
+// ownNumbers is how many entries a node gets that no other one has.
+const ownNumbers = 20
+
 // TestNodesAtOnce has three processes carry one log, with the same submissions among them, each killed once in another phase.
 func TestNodesAtOnce(t *testing.T) {
 	t.Parallel()
@@ -48,18 +53,38 @@ func TestNodesAtOnce(t *testing.T) {
 func nodesAtOnce(t *testing.T, on ground) {
 	p, got := newPlaceOn(t, on), &answers{}
 	var all sync.WaitGroup
+	var own atomic.Int64
 	failed := make(chan error, 3)
 	for i, phase := range []string{"bundle put", "swapped", "tiles out"} {
 		all.Add(1)
 		go func(i int, phase string) {
 			defer all.Done()
-			if _, err := (child{Place: string(p), KillAt: phase, KillOn: 3, From: 40 * i, To: 40*i + 100}).run(got); err != nil {
-				failed <- fmt.Errorf("node %d: %w", i, err)
+			fails := func(err error) bool {
+				if err != nil {
+					failed <- fmt.Errorf("node %d: %w", i, err)
+				}
+				return err != nil
+			}
+			// One whose entries came in by the others' steps comes into no phase so often: it gets entries that no other one has.
+			var numbers []int
+			killed, err := child{Place: string(p), KillAt: phase, KillOn: 3, From: 40 * i, To: 40*i + 100}.run(got)
+			for try := 0; err == nil && !killed && try < 5; try++ {
+				var more []int
+				for n := 0; n < ownNumbers; n++ {
+					more = append(more, 1000*(i+1)+ownNumbers*try+n)
+				}
+				numbers = append(numbers, more...)
+				own.Add(ownNumbers)
+				killed, err = child{Place: string(p), KillAt: phase, KillOn: 1, Numbers: more}.run(got)
+			}
+			if err == nil && !killed {
+				err = errors.New("it was never killed")
+			}
+			if fails(err) {
 				return
 			}
-			if _, err := (child{Place: string(p), From: 40 * i, To: 40*i + 100}).run(got); err != nil {
-				failed <- fmt.Errorf("node %d: %w", i, err)
-			}
+			_, err = child{Place: string(p), From: 40 * i, To: 40*i + 100, Numbers: numbers}.run(got)
+			fails(err)
 		}(i, phase)
 	}
 	all.Wait()
@@ -67,8 +92,8 @@ func nodesAtOnce(t *testing.T, on ground) {
 	for err := range failed {
 		t.Error(err)
 	}
-	if report := p.right(t, got); report.Leaves != 180 {
-		t.Fatalf("%+v", report)
+	if report := p.right(t, got); report.Leaves != 180+int(own.Load()) {
+		t.Fatalf("%+v, and %d numbers besides", report, own.Load())
 	}
 }
 

@@ -4,6 +4,7 @@ import (
 	"bytes"
 	"context"
 	"crypto/subtle"
+	"encoding/hex"
 	"encoding/json"
 	"errors"
 	"fmt"
@@ -14,7 +15,9 @@ import (
 	"sync"
 	"time"
 
+	"wagtenib/service/chains"
 	"wagtenib/service/log"
+	"wagtenib/service/signer"
 	"wagtenib/service/step"
 )
 
@@ -31,8 +34,11 @@ const (
 	// mostBody is how many bytes a batch has, with base64 and names around it, and its reply.
 	mostBody = 2*MostBatchBytes + MostBatch*chainBytes
 	// chainBytes bounds the fingerprints of a submission, in base64.
-	chainBytes  = 1 << 10
-	leastSecret = 16
+	chainBytes = 1 << 10
+	// LeastSecret is how many bytes the nodes' secret has at least.
+	LeastSecret = 16
+	// logHeader names the log that a batch is for: its ID in hexadecimal digits.
+	logHeader = "Log-Id"
 )
 
 func (c *Config) settlePeers() error {
@@ -40,8 +46,8 @@ func (c *Config) settlePeers() error {
 		return nil
 	}
 	u, err := url.Parse(c.Address)
-	if err != nil || u.Scheme != "http" && u.Scheme != "https" || u.Host == "" || u.User != nil || len(c.Address) > 200 || len(c.Secret) < leastSecret {
-		return fmt.Errorf("%w: a node's address is a URL, and the nodes' secret has at least %d bytes", ErrConfig, leastSecret)
+	if err != nil || u.Scheme != "http" && u.Scheme != "https" || u.Host == "" || u.User != nil || len(c.Address) > 200 || len(c.Secret) < LeastSecret {
+		return fmt.Errorf("%w: a node's address is a URL, and the nodes' secret has at least %d bytes", ErrConfig, LeastSecret)
 	}
 	if c.Peers == nil {
 		c.Peers = &http.Client{
@@ -104,7 +110,31 @@ func (s *Sequencer) handOver(k known) bool {
 
 var errNode = errors.New("sequencer: another node doesn't answer")
 
-// hand has another node take a batch, and answers those whom it answers.
+// isSigned says whether a place that was handed back is a submission's: the log's key signed the timestamp of its entry there.
+func (s *Sequencer) isSigned(of step.Submission, place handedPlace) error {
+	if place.LeafIndex >= step.MostLeaves {
+		return fmt.Errorf("%w: it gives the index %d", errNode, place.LeafIndex)
+	}
+	if err := signer.Check(s.config.Signer.Key(), messageOf(of, place.LeafIndex, place.Timestamp), place.Signature); err != nil {
+		return fmt.Errorf("%w: what it gives isn't the log's: %v", errNode, err)
+	}
+	return nil
+}
+
+// messageOf are the bytes under the signature of a submission's timestamp (RFC 6962, section 3.2).
+func messageOf(of step.Submission, index, moment uint64) []byte {
+	kind, content := chains.X509Entry, of.LeafCertificate
+	if len(content) == 0 {
+		kind, content = chains.PrecertEntry, of.TBSCertificate
+	}
+	message := append([]byte{0, 0}, eight(moment)...)
+	message = append(append(message, byte(kind>>8), byte(kind)), of.IssuerKeyHash...)
+	message = append(append(message, eight(uint64(len(content)))[5:]...), content...)
+	extensions := extensionsOf(index)
+	return append(append(message, eight(uint64(len(extensions)))[6:]...), extensions...)
+}
+
+// hand has another node take a batch, and answers those whom it answers by what the log signed. Who isn't among them waits on.
 func (s *Sequencer) hand(node string, batch []*waiting) error {
 	ctx, cancel := context.WithTimeout(context.Background(), mostHanded)
 	defer cancel()
@@ -121,6 +151,7 @@ func (s *Sequencer) hand(node string, batch []*waiting) error {
 		return err
 	}
 	request.Header.Set("Authorization", "Bearer "+s.config.Secret)
+	request.Header.Set(logHeader, hex.EncodeToString(s.logID[:]))
 	request.Header.Set("Content-Type", "application/json")
 	reply, err := s.config.Peers.Do(request)
 	if err != nil {
@@ -143,6 +174,9 @@ func (s *Sequencer) hand(node string, batch []*waiting) error {
 			missing++
 			continue
 		}
+		if err := s.isSigned(batch[i].submission, place); err != nil {
+			return err
+		}
 		s.handed.Add(1)
 		s.queue.answer(batch[i], answer{place: log.Place{LeafIndex: place.LeafIndex, Timestamp: place.Timestamp, Extensions: extensionsOf(place.LeafIndex), Signature: place.Signature, LogID: s.logID}})
 	}
@@ -163,6 +197,10 @@ func (s *Sequencer) Handler() http.Handler {
 		}
 		if r.Method != http.MethodPost {
 			http.Error(w, "POST alone", http.StatusMethodNotAllowed)
+			return
+		}
+		if r.Header.Get(logHeader) != hex.EncodeToString(s.logID[:]) {
+			http.Error(w, "another log's batch", http.StatusMisdirectedRequest)
 			return
 		}
 		var over handedOver

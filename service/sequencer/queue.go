@@ -5,6 +5,7 @@ import (
 	"context"
 	"fmt"
 	"sync"
+	"time"
 
 	"wagtenib/service/log"
 	"wagtenib/service/step"
@@ -24,6 +25,8 @@ type waiting struct {
 	at *list.Element
 	// seated says that it is counted.
 	seated bool
+	// unread is since when the tile that it wants can't be read: the loop's own.
+	unread time.Time
 }
 
 type answer struct {
@@ -85,13 +88,16 @@ func (q *queue) unseat(w *waiting) {
 	}
 }
 
-// add puts one who has a seat at the end.
+// add puts one who has a seat at the end; who was answered meanwhile has none.
 func (q *queue) add(w *waiting) error {
 	q.mu.Lock()
 	defer q.mu.Unlock()
 	if q.ending {
 		q.unseat(w)
 		return log.ErrEnded
+	}
+	if !w.seated {
+		return nil
 	}
 	w.at = q.waits.PushBack(w)
 	q.wake()

@@ -5,6 +5,7 @@ import (
 	"errors"
 	"fmt"
 	"sort"
+	"time"
 
 	"golang.org/x/mod/sumdb/tlog"
 
@@ -26,12 +27,12 @@ func tileName(tile tlog.Tile) string {
 	return "tile/" + tile.Path()[len(before):]
 }
 
-// tiles reads the hash tiles of a tree, for tlog, which checks them against its root.
+// tiles reads the hash tiles of a tree, for tlog, which checks them against its root. Who asked looks at failed first, whatever tlog gave.
 type tiles struct {
 	ctx  context.Context
 	read func(context.Context, string) ([]byte, error)
 	seen map[string][]byte
-	// failed is why one couldn't be read.
+	// failed is why one couldn't be read, or that it isn't the tree's.
 	failed error
 }
 
@@ -40,7 +41,40 @@ const mostSeen = 512
 
 func (t *tiles) Height() int { return tileHeight }
 
-func (t *tiles) SaveTiles([]tlog.Tile, [][]byte) {}
+// SaveTiles looks at what tlog has checked: it compares those at the tree's right edge with the root, and of the others, in the x/mod of
+// Debian 12, some with nothing. Each of them has the hash that the tile above it has of it.
+func (t *tiles) SaveTiles(read []tlog.Tile, contents [][]byte) {
+	type place struct {
+		level int
+		index int64
+	}
+	at := map[place][]byte{}
+	for i, tile := range read {
+		at[place{tile.L, tile.N}] = contents[i]
+	}
+	for i, tile := range read {
+		above, ok := at[place{tile.L + 1, tile.N / tileWidth}]
+		if from := int(tile.N % tileWidth * tlog.HashSize); ok && tile.W == tileWidth && t.failed == nil {
+			if root := rootOf(contents[i]); len(above) < from+tlog.HashSize || string(root[:]) != string(above[from:from+tlog.HashSize]) {
+				t.failed = fmt.Errorf("%w: %s isn't the one that the tile above it has", ErrDamaged, tileName(tile))
+			}
+		}
+	}
+}
+
+// rootOf is the Merkle Tree Hash of a full tile's hashes (RFC 6962, section 2.1).
+func rootOf(content []byte) tlog.Hash {
+	var hashes []tlog.Hash
+	for ; len(content) >= tlog.HashSize; content = content[tlog.HashSize:] {
+		hashes = append(hashes, *(*tlog.Hash)(content))
+	}
+	for ; len(hashes) > 1; hashes = hashes[:len(hashes)/2] {
+		for i := 0; i+1 < len(hashes); i += 2 {
+			hashes[i/2] = tlog.NodeHash(hashes[i], hashes[i+1])
+		}
+	}
+	return hashes[0]
+}
 
 func (t *tiles) ReadTiles(wanted []tlog.Tile) ([][]byte, error) {
 	var contents [][]byte
@@ -74,6 +108,9 @@ func (s *Sequencer) read(ctx context.Context, name string) ([]byte, error) {
 // answerRepeats answers those whose entry stands in the log, with its first place, and gives the others. The state is rolled out,
 // so all its places are there. A place is believed only where the entry stands in its data tile, and that one's leaf in the tree; and what is
 // signed is what the program answers, which has checked the entry's audit path against the state's root.
+//
+// Who wants a tile that is damaged is told so. Who wants one that can't be read is left for the next round, and told behind Patience. The
+// others have nothing to do with either.
 func (s *Sequencer) answerRepeats(ctx context.Context, k known, batch []*waiting) (rest []*waiting, err error) {
 	identities := make([]stores.Identity, 0, len(batch))
 	for _, w := range batch {
@@ -97,13 +134,24 @@ func (s *Sequencer) answerRepeats(ctx context.Context, k known, batch []*waiting
 	// In the order of places, so that each tile is read once.
 	sort.SliceStable(repeats, func(i, j int) bool { return found[repeats[i].identity].Index < found[repeats[j].identity].Index })
 	tree := s.treeOf(ctx, k.state)
-	var known []*waiting
+	var known, later []*waiting
+	defer func() {
+		s.queue.giveBack(later)
+		s.later = len(later) > 0
+	}()
 	var all []timestamp
 	for i, w := range repeats {
-		place := found[w.identity]
+		place, began := found[w.identity], time.Now()
 		receipt, err := tree.receiptAt(place, k.line, w)
-		if errors.Is(err, ErrDamaged) {
-			// The others have nothing to do with it.
+		unread := errors.Is(err, errUnread) && ctx.Err() == nil
+		if unread && w.unread.IsZero() {
+			w.unread = began
+		}
+		if errors.Is(err, errNotYet) || unread && time.Since(w.unread) < s.config.Patience && !s.isDamaged(place.Index/tileWidth) {
+			later = append(later, w)
+			continue
+		}
+		if errors.Is(err, ErrDamaged) || unread {
 			s.noteDamage(place.Index/tileWidth, err)
 			s.queue.answer(w, answer{err: fault{log.ErrStore, err}})
 			continue
@@ -136,6 +184,9 @@ type tree struct {
 	tiles  *tiles
 	hashes tlog.HashReader
 	ctx    context.Context
+	// left is for how long it reads the store yet, and damaged says that what it reads is known to be.
+	left    time.Duration
+	damaged bool
 	// name and leaves are the data tile's that was read last.
 	name   string
 	leaves []leaf
@@ -143,23 +194,50 @@ type tree struct {
 
 func (s *Sequencer) treeOf(ctx context.Context, state step.State) *tree {
 	root := tlog.Tree{N: int64(state.Size), Hash: tlog.Hash(state.Root)}
-	reader := &tiles{ctx: ctx, read: s.read, seen: map[string][]byte{}}
-	return &tree{s: s, state: state, ctx: ctx, tiles: reader, hashes: tlog.TileHashReader(root, reader)}
+	t := &tree{s: s, state: state, ctx: ctx, left: s.config.Patience}
+	t.tiles = &tiles{ctx: ctx, read: t.read, seen: map[string][]byte{}}
+	t.hashes = tlog.TileHashReader(root, t.tiles)
+	return t
+}
+
+// errNotYet: it isn't read in this round any more.
+var errNotYet = errors.New("sequencer: reading took too long")
+
+// read reads an object. All that repeats want of the store in one round takes Patience at most, and of what is known to be damaged each
+// object a tenth of it: the others wait that long.
+func (t *tree) read(ctx context.Context, name string) ([]byte, error) {
+	if content, ok := t.s.edge[name]; ok {
+		return content, nil
+	}
+	if t.left <= 0 {
+		return nil, errNotYet
+	}
+	most := t.left
+	if brief := t.s.config.Patience / 10; t.damaged && most > brief {
+		most = brief
+	}
+	ctx, cancel := context.WithTimeout(ctx, most)
+	defer cancel()
+	began := time.Now()
+	content, err := t.s.readStore(ctx, name)
+	t.left -= time.Since(began)
+	return content, err
 }
 
 // leafAt gives the entry at an index, whose leaf hash is the tree's; none where the tree has no such index. A data tile that is
-// missing, or isn't the tree's, is ErrDamaged.
+// missing, or isn't the tree's, is ErrDamaged, and one that can't be read errUnread.
 func (t *tree) leafAt(index uint64) (*leaf, error) {
 	if index >= t.state.Size {
 		return nil, nil
 	}
+	t.tiles.failed, t.damaged = nil, t.s.isDamaged(index/tileWidth)
 	tile := tlog.Tile{H: tileHeight, L: -1, N: int64(index / tileWidth), W: tileWidth}
 	if tile.N == int64(t.state.Size/tileWidth) {
 		tile.W = int(t.state.Size % tileWidth)
 	}
 	name := tileName(tile)
 	if name != t.name {
-		content, err := t.s.read(t.ctx, name)
+		content, err := t.read(t.ctx, name)
 		if err != nil {
 			return nil, err
 		}
@@ -174,10 +252,10 @@ func (t *tree) leafAt(index uint64) (*leaf, error) {
 	}
 	l := &t.leaves[index%tileWidth]
 	hashes, err := t.hashes.ReadHashes([]int64{tlog.StoredHashIndex(0, int64(index))})
+	if t.tiles.failed != nil {
+		return nil, t.tiles.failed
+	}
 	if err != nil {
-		if t.tiles.failed != nil {
-			return nil, t.tiles.failed
-		}
 		return nil, fmt.Errorf("%w: the hash tiles above entry %d: %v", ErrDamaged, index, err)
 	}
 	if l.index != index || tlog.RecordHash(l.signed) != hashes[0] {
@@ -194,10 +272,10 @@ func (t *tree) receiptAt(place stores.Place, line string, w *waiting) (*step.Rec
 		return nil, err
 	}
 	proof, err := tlog.ProveRecord(int64(t.state.Size), int64(place.Index), t.hashes)
+	if t.tiles.failed != nil {
+		return nil, t.tiles.failed
+	}
 	if err != nil {
-		if t.tiles.failed != nil {
-			return nil, t.tiles.failed
-		}
 		return nil, fmt.Errorf("%w: the hash tiles above entry %d: %v", ErrDamaged, place.Index, err)
 	}
 	path := make([][]byte, 0, len(proof))

@@ -39,7 +39,7 @@ func wait(ctx context.Context, long time.Duration) error {
 // loop makes round after round until the queue has ended and is empty, or the context ends.
 func (s *Sequencer) loop(ctx context.Context) {
 	defer close(s.ended)
-	backoff, began, owes := s.config.Interval, time.Time{}, false
+	backoff, began, owes := s.config.Interval, time.Time{}, s.config.BehindSwap
 	for ctx.Err() == nil {
 		some, ending := s.queue.state()
 		if !some && ending && !owes && s.queue.length() == 0 {
@@ -48,7 +48,7 @@ func (s *Sequencer) loop(ctx context.Context) {
 		if !some {
 			s.idle(ctx)
 		}
-		if until := s.config.Interval - time.Since(began); until > 0 && !ending {
+		if until := s.config.Interval - time.Since(began); until > 0 && (!ending || s.later) {
 			_ = wait(ctx, until)
 		}
 		began = time.Now()
@@ -56,8 +56,8 @@ func (s *Sequencer) loop(ctx context.Context) {
 		err := s.round(round)
 		cancel()
 		s.settle(err)
-		// What was answered behind a swap is published before the end, unless that can't be.
-		owes = s.config.BehindSwap && err != nil && !isNamed(err)
+		// What was answered behind a swap is published before the end, unless that can't be: by this node, or by another one that goes on.
+		owes = s.config.BehindSwap && !isNamed(err) && (err != nil || !s.isOut())
 		if err == nil {
 			backoff = s.config.Interval
 			continue
@@ -67,6 +67,13 @@ func (s *Sequencer) loop(ctx context.Context) {
 			backoff = mostBackoff
 		}
 	}
+}
+
+// isOut says whether the newest state that was learned is known to be rolled out.
+func (s *Sequencer) isOut() bool {
+	s.mu.Lock()
+	defer s.mu.Unlock()
+	return s.newest.state.IsBegin() || s.newest.line == s.rolled
 }
 
 // idle waits for a submission, or until the register is looked at anyway.
@@ -104,6 +111,7 @@ func (s *Sequencer) settle(err error) {
 
 // round learns the newest state, has it rolled out, and takes who waits one step further.
 func (s *Sequencer) round(ctx context.Context) error {
+	s.later = false
 	s.mu.Lock()
 	stopped, why := s.stopped, s.fault
 	s.mu.Unlock()

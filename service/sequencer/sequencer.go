@@ -137,6 +137,8 @@ type Sequencer struct {
 	// edge has tiles of the newest state that need not be read, and rolled is the line of the last state that is rolled out.
 	edge   map[string][]byte
 	rolled string
+	// later says that somebody was left for the next round, since a tile couldn't be read.
+	later bool
 
 	mu sync.Mutex
 	// newest is what the register had when it was read last, and head the newest published one of those that were seen.
@@ -316,7 +318,7 @@ func (s *Sequencer) Figures() log.Figures {
 		f.HeadAge = time.Duration(s.clock.wall().UnixMilli()-int64(s.head.Timestamp)) * time.Millisecond
 	}
 	if first, ok := s.damagedBehind(0); ok {
-		f.Fault = s.damage[first].Error()
+		f.Damage = s.damage[first].Error()
 	}
 	if s.fault != nil {
 		f.Fault = s.fault.Error()

@@ -7,6 +7,7 @@ import (
 
 	"wagtenib/service/log"
 	"wagtenib/service/signer"
+	"wagtenib/service/stores"
 )
 
 // TestOneNode takes 700 entries in, over the edge of two full tiles, stops and goes on, and has the folder judged.
@@ -78,5 +79,48 @@ func TestBehindSwap(t *testing.T) {
 		if report := p.right(t, got); report.Leaves != 2 {
 			t.Fatalf("%+v", report)
 		}
+	}
+}
+
+// halting is a store of places that fails once, when it is let.
+type halting struct {
+	stores.Places
+	reached, release chan struct{}
+}
+
+func (h *halting) Add(ctx context.Context, placed []stores.Placed) error {
+	if h.reached != nil {
+		close(h.reached)
+		h.reached = nil
+		<-h.release
+		return errTried
+	}
+	return h.Places.Add(ctx, placed)
+}
+
+// TestEndOwesAHead ends a node that answered behind its swap, and whose roll-out fails then: it ends in order once the head is out.
+func TestEndOwesAHead(t *testing.T) {
+	t.Parallel()
+	p, ctx, got := newPlace(t), limited(t), &answers{}
+	config := p.config(t)
+	config.BehindSwap = true
+	p.signedBy(t, &config, signer.Promised)
+	reached, release := make(chan struct{}), make(chan struct{})
+	config.Places = &halting{config.Places, reached, release}
+	s := started(t, config, hooks{})
+	must(t, got.submitAll(ctx, s, 0, 1, 1))
+	<-reached
+	done := make(chan error, 1)
+	go func() { done <- s.End(ctx) }()
+	for _, ending := s.queue.state(); !ending; _, ending = s.queue.state() {
+		time.Sleep(time.Millisecond)
+	}
+	close(release)
+	must(t, <-done)
+	if head, err := s.Checkpoint(ctx); err != nil || head.TreeSize != 1 {
+		t.Errorf("it ended with the head %+v, %v", head, err)
+	}
+	if report := p.right(t, got); report.Leaves != 1 {
+		t.Fatalf("%+v", report)
 	}
 }

@@ -8,6 +8,8 @@ import (
 
 	"golang.org/x/mod/sumdb/tlog"
 
+	"wagtenib/service/log"
+	"wagtenib/service/step"
 	"wagtenib/service/stores"
 )
 
@@ -16,7 +18,12 @@ const (
 	mostSwept = 16
 	// mostDamage is how many damaged tiles are remembered.
 	mostDamage = 1024
+	// mostRefused is how often in a row the tender fails at a tile, where another object is read, before it goes on behind it.
+	mostRefused = 3
 )
+
+// errUnread: an object of the log may be there, and can't be read.
+var errUnread = errors.New("sequencer: an object can't be read")
 
 // tender takes partial tiles away that nobody needs any more, and reads old tiles again.
 type tender struct {
@@ -27,8 +34,27 @@ type tender struct {
 	// swept has for each level, the data tiles' first, how many full tiles were looked at, and read is the next one to be read again.
 	swept [6]uint64
 	read  uint64
+	// passed are full tiles, at most mostDamage, that weren't whole when they were looked at: their partial ones stay until they are.
+	passed []tlog.Tile
 	// again is the damaged tile to be looked at next, or the one before it.
 	again uint64
+	// unswept and unread are of the tiles at which sweeping and reading stands.
+	unswept, unread refusals
+}
+
+// refusals counts how often in a row a tile failed.
+type refusals struct {
+	of    tlog.Tile
+	times int
+}
+
+// last counts one more, and says whether it is the last that is waited for.
+func (r *refusals) last(of tlog.Tile) bool {
+	if r.of != of {
+		*r = refusals{of: of}
+	}
+	r.times++
+	return r.times >= mostRefused
 }
 
 // tend has a turn every TendEvery, until the context ends.
@@ -44,6 +70,25 @@ func (s *Sequencer) tend(ctx context.Context) {
 	}
 }
 
+// briefly does something for as long as Patience: what doesn't answer keeps the tender from nothing else.
+func (t *tender) briefly(ctx context.Context, do func(context.Context) error) error {
+	ctx, cancel := context.WithTimeout(ctx, t.s.config.Patience)
+	defer cancel()
+	return do(ctx)
+}
+
+// isOne says whether what failed is one object, and not the store: the newest head is read, or is said to be missing.
+func (t *tender) isOne(ctx context.Context) bool {
+	head := t.s.seen()
+	return head != nil && t.briefly(ctx, func(ctx context.Context) error {
+		_, err := t.s.config.Objects.Get(ctx, headName(step.State{Size: head.TreeSize, Moment: head.Timestamp}), mostNote)
+		if errors.Is(err, stores.ErrAbsent) {
+			return nil
+		}
+		return err
+	}) == nil
+}
+
 // noteDamage keeps what was seen of a data tile.
 func (s *Sequencer) noteDamage(tile uint64, err error) {
 	s.mu.Lock()
@@ -51,6 +96,14 @@ func (s *Sequencer) noteDamage(tile uint64, err error) {
 	if _, known := s.damage[tile]; known || len(s.damage) < mostDamage {
 		s.damage[tile] = err
 	}
+}
+
+// isDamaged says whether something was seen of a data tile.
+func (s *Sequencer) isDamaged(tile uint64) bool {
+	s.mu.Lock()
+	defer s.mu.Unlock()
+	_, known := s.damage[tile]
+	return known
 }
 
 // damagedBehind gives the first damaged tile from a number on. The caller has the lock.
@@ -74,14 +127,23 @@ func (t *tender) settle() {
 	}
 }
 
-// seenSize is the size of the newest published head that was seen.
-func (s *Sequencer) seenSize() uint64 {
+// seen is the newest published head that was seen, or nil, and seenSize its size.
+func (s *Sequencer) seen() *log.Head {
 	s.mu.Lock()
 	defer s.mu.Unlock()
-	if s.head == nil {
-		return 0
+	return s.head
+}
+
+func (s *Sequencer) seenSize() uint64 {
+	if head := s.seen(); head != nil {
+		return head.TreeSize
 	}
-	return s.head.TreeSize
+	return 0
+}
+
+// treeUnder is a head's tree.
+func treeUnder(head *log.Head) tlog.Tree {
+	return tlog.Tree{N: int64(head.TreeSize), Hash: head.RootHash}
 }
 
 // fullTiles is how many full tiles of a level, -1 for data, a tree has.
@@ -92,33 +154,59 @@ func fullTiles(level int, size uint64) uint64 {
 	return size >> uint(tileHeight*(level+1))
 }
 
-// sweep takes the partial tiles of some full ones away.
-func (t *tender) sweep(ctx context.Context) error {
+// sweep takes the partial tiles of some full ones away, and gives the first error. Where a full one isn't whole, or it alone fails, it goes
+// on behind it, and each turn looks at one of those again.
+func (t *tender) sweep(ctx context.Context) (first error) {
+	pass := func(tile tlog.Tile, err error) {
+		if first == nil {
+			first = err
+		}
+		if len(t.passed) < mostDamage {
+			t.passed = append(t.passed, tile)
+		}
+	}
+	if len(t.passed) > 0 {
+		tile := t.passed[0]
+		t.passed = t.passed[1:]
+		if err := t.sweepTile(ctx, tile); err != nil {
+			pass(tile, err)
+		}
+	}
 	left := mostSwept
 	for at := range t.swept {
 		level := at - 1
 		for ; left > 0 && t.swept[at] < fullTiles(level, t.settled); left-- {
-			if err := t.sweepTile(ctx, tlog.Tile{H: tileHeight, L: level, N: int64(t.swept[at]), W: tileWidth}); err != nil {
+			tile := tlog.Tile{H: tileHeight, L: level, N: int64(t.swept[at]), W: tileWidth}
+			err := t.sweepTile(ctx, tile)
+			if err != nil && !errors.Is(err, ErrDamaged) && !(t.isOne(ctx) && t.unswept.last(tile)) {
 				return err
 			}
+			if err != nil {
+				pass(tile, err)
+			}
 			t.swept[at]++
+			t.unswept = refusals{}
 		}
 	}
-	return nil
+	return first
 }
 
 func (t *tender) sweepTile(ctx context.Context, tile tlog.Tile) error {
 	objects, name := t.s.config.Objects, tileName(tile)
-	partials, err := objects.List(ctx, name+partial, "", tileWidth)
+	var partials []string
+	err := t.briefly(ctx, func(ctx context.Context) (err error) {
+		partials, err = objects.List(ctx, name+partial, "", tileWidth)
+		return err
+	})
 	if err != nil || len(partials) == 0 {
 		return err
 	}
-	// As long as the full one isn't there, they are what is left of it.
-	if _, err := t.s.readStore(ctx, name); err != nil {
+	// As long as the full one isn't whole, they are what is left of it.
+	if err := t.briefly(ctx, func(ctx context.Context) error { return t.whole(ctx, tile) }); err != nil {
 		return err
 	}
 	for _, partial := range partials {
-		if err := objects.Delete(ctx, partial); err != nil {
+		if err := t.briefly(ctx, func(ctx context.Context) error { return objects.Delete(ctx, partial) }); err != nil {
 			return err
 		}
 		t.s.swept.Add(1)
@@ -126,8 +214,23 @@ func (t *tender) sweepTile(ctx context.Context, tile tlog.Tile) error {
 	return nil
 }
 
+// whole sees that a full tile is there and is the newest head's: of a data tile its entries, of another one its hashes.
+func (t *tender) whole(ctx context.Context, tile tlog.Tile) error {
+	head := t.s.seen()
+	if tile.L < 0 {
+		return t.s.scrub(ctx, treeUnder(head), uint64(tile.N))
+	}
+	var wanted []int64
+	for i := int64(0); i < tileWidth; i++ {
+		wanted = append(wanted, tlog.StoredHashIndex(tile.L*tileHeight, tile.N*tileWidth+i))
+	}
+	_, err := t.s.storedHashes(ctx, treeUnder(head), wanted, tileName(tile))
+	return err
+}
+
 // readNext reads the next full data tile, and the hash tiles from its leaves to the root of the newest head that was seen. Where they
-// are missing or aren't the tree's, the next turn goes on behind them all the same.
+// are missing or aren't the tree's, the next turn goes on behind them all the same, and so it does where they can't be read and others
+// can: then the tile counts as damaged.
 func (t *tender) readNext(ctx context.Context) {
 	full := fullTiles(-1, t.s.seenSize())
 	if full == 0 {
@@ -136,8 +239,14 @@ func (t *tender) readNext(ctx context.Context) {
 	if t.read >= full {
 		t.read = 0
 	}
-	if t.readAgain(ctx, t.read) {
+	err := t.readAgain(ctx, t.read)
+	if err != nil && (t.s.isDamaged(t.read) || t.isOne(ctx) && t.unread.last(tlog.Tile{N: int64(t.read)})) {
+		t.s.noteDamage(t.read, err)
+		err = nil
+	}
+	if err == nil {
 		t.read++
+		t.unread = refusals{}
 	}
 }
 
@@ -149,32 +258,31 @@ func (t *tender) readDamaged(ctx context.Context) {
 		tile, ok = t.s.damagedBehind(0)
 	}
 	t.s.mu.Unlock()
-	if ok && t.readAgain(ctx, tile) {
+	if ok {
 		t.again = tile + 1
+		// What isn't known of it now stays as it was.
+		_ = t.readAgain(ctx, tile)
 	}
 }
 
-// readAgain reads a data tile of the newest head that was seen, and keeps whether it is damaged. It says no where that isn't known.
-func (t *tender) readAgain(ctx context.Context, tile uint64) bool {
-	s := t.s
-	s.mu.Lock()
-	head := s.head
-	s.mu.Unlock()
+// readAgain reads a data tile of the newest head that was seen, and keeps whether it is damaged. An error says that this isn't known.
+func (t *tender) readAgain(ctx context.Context, tile uint64) error {
+	s, head := t.s, t.s.seen()
 	if head == nil || tile > fullTiles(-1, head.TreeSize) {
-		return false
+		return fmt.Errorf("sequencer: no head with data tile %d was seen", tile)
 	}
-	err := s.scrub(ctx, tlog.Tree{N: int64(head.TreeSize), Hash: head.RootHash}, tile)
+	err := t.briefly(ctx, func(ctx context.Context) error { return s.scrub(ctx, treeUnder(head), tile) })
 	if errors.Is(err, ErrDamaged) {
 		s.noteDamage(tile, err)
-		return true
+		return nil
 	}
 	if err != nil {
-		return false
+		return err
 	}
 	s.mu.Lock()
 	defer s.mu.Unlock()
 	delete(s.damage, tile)
-	return true
+	return nil
 }
 
 // scrub compares the entries of a data tile with a tree.
@@ -202,13 +310,9 @@ func (s *Sequencer) scrub(ctx context.Context, of tlog.Tree, index uint64) error
 	for i := range leaves {
 		wanted = append(wanted, tlog.StoredHashIndex(0, int64(index*tileWidth)+int64(i)))
 	}
-	reader := &tiles{ctx: ctx, read: s.readStore, seen: map[string][]byte{}}
-	hashes, err := tlog.TileHashReader(of, reader).ReadHashes(wanted)
-	if reader.failed != nil {
-		return reader.failed
-	}
+	hashes, err := s.storedHashes(ctx, of, wanted, name)
 	if err != nil {
-		return fmt.Errorf("%w: the hash tiles above %s: %v", ErrDamaged, name, err)
+		return err
 	}
 	for i, l := range leaves {
 		if l.index != index*tileWidth+uint64(i) || tlog.RecordHash(l.signed) != hashes[i] {
@@ -219,14 +323,30 @@ func (s *Sequencer) scrub(ctx context.Context, of tlog.Tree, index uint64) error
 	return nil
 }
 
-// readStore reads an object of the log out of the store.
-func (s *Sequencer) readStore(ctx context.Context, name string) ([]byte, error) {
-	content, err := s.config.Objects.Get(ctx, name, stores.MostObject)
-	if errors.Is(err, stores.ErrAbsent) {
-		return nil, fmt.Errorf("%w: %s is missing", ErrDamaged, name)
+// storedHashes reads hashes of a tree out of the store's tiles, for a tile.
+func (s *Sequencer) storedHashes(ctx context.Context, of tlog.Tree, wanted []int64, tile string) ([]tlog.Hash, error) {
+	reader := &tiles{ctx: ctx, read: s.readStore, seen: map[string][]byte{}}
+	hashes, err := tlog.TileHashReader(of, reader).ReadHashes(wanted)
+	if reader.failed != nil {
+		return nil, reader.failed
 	}
 	if err != nil {
-		return nil, fmt.Errorf("sequencer: %w", err)
+		return nil, fmt.Errorf("%w: the hash tiles above %s: %v", ErrDamaged, tile, err)
 	}
-	return content, nil
+	return hashes, nil
+}
+
+// readStore reads an object of the log out of the store. One that is missing, or longer than any, is ErrDamaged; what else it isn't read
+// for is errUnread.
+func (s *Sequencer) readStore(ctx context.Context, name string) ([]byte, error) {
+	content, err := s.config.Objects.Get(ctx, name, stores.MostObject)
+	switch {
+	case err == nil:
+		return content, nil
+	case errors.Is(err, stores.ErrAbsent):
+		return nil, fmt.Errorf("%w: %s is missing", ErrDamaged, name)
+	case errors.Is(err, stores.ErrTooLong):
+		return nil, fmt.Errorf("%w: %s has more bytes than an object of a log", ErrDamaged, name)
+	}
+	return nil, fault{errUnread, fmt.Errorf("%s: %w", name, err)}
 }

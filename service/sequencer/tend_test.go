@@ -1,13 +1,20 @@
 package sequencer
 
 import (
+	"context"
+	"errors"
+	"fmt"
 	"os"
 	"path/filepath"
 	"strings"
 	"testing"
 	"time"
 
+	"golang.org/x/mod/sumdb/tlog"
+
+	"wagtenib/service/log"
 	"wagtenib/service/step"
+	"wagtenib/service/stores"
 )
 
 // eventually waits until something holds.
@@ -57,21 +64,178 @@ func TestSweptTiles(t *testing.T) {
 	}
 }
 
-// TestUnsweptTiles takes the full tile away: its partial ones stay.
+// TestUnsweptTiles has a full tile be gone, cut or bent: its partial ones stay until it is put right.
 func TestUnsweptTiles(t *testing.T) {
+	t.Parallel()
+	for how, damage := range map[string]func([]byte) []byte{
+		"gone": func([]byte) []byte { return nil },
+		"cut":  func(b []byte) []byte { return b[:len(b)-32] },
+		"bent": func(b []byte) []byte { b[16] ^= 1; return b },
+	} {
+		for _, object := range []string{"tile/0/000", "tile/data/000"} {
+			object, damage := object, damage
+			t.Run(object+" "+how, func(t *testing.T) {
+				t.Parallel()
+				p, got := newPlace(t), &answers{}
+				config := p.config(t)
+				config.SweepAfter, config.TendEvery = time.Hour, time.Hour
+				s := started(t, config, hooks{})
+				must(t, got.submitAll(limited(t), s, 0, 100, 100))
+				must(t, got.submitAll(limited(t), s, 100, 300, 200))
+				path := filepath.Join(p.objects(), object)
+				content, err := os.ReadFile(path)
+				must(t, err)
+				must(t, os.Remove(path))
+				if bad := damage(append([]byte{}, content...)); bad != nil {
+					must(t, os.WriteFile(path, bad, 0o644))
+				}
+				swept := &tender{s: s, settled: 300}
+				for turn := 0; turn < 3; turn++ {
+					err := swept.sweep(limited(t))
+					wants(t, err, ErrDamaged)
+					if len(partials(t, p, object)) == 0 {
+						t.Fatal("the partial tiles went")
+					}
+				}
+				must(t, os.WriteFile(path, content, 0o644))
+				for len(swept.passed) > 0 {
+					must(t, swept.sweep(limited(t)))
+				}
+				if left := append(partials(t, p, "tile/0/000"), partials(t, p, "tile/data/000")...); len(left) > 0 {
+					t.Errorf("%v are left", left)
+				}
+				p.right(t, got)
+			})
+		}
+	}
+}
+
+// inMemory is a store of objects that is read alone.
+type inMemory struct {
+	stores.Objects
+	contents map[string][]byte
+}
+
+func (m inMemory) Get(_ context.Context, name string, _ int64) ([]byte, error) {
+	content, ok := m.contents[name]
+	if !ok {
+		return nil, stores.ErrAbsent
+	}
+	return content, nil
+}
+
+// stored are the hashes of a tree, as x/mod keeps them.
+type stored []tlog.Hash
+
+func (s stored) ReadHashes(indexes []int64) (found []tlog.Hash, err error) {
+	for _, i := range indexes {
+		found = append(found, s[i])
+	}
+	return found, nil
+}
+
+// TestWholeTiles has a full tile of each level of a tree be gone, cut or bent.
+func TestWholeTiles(t *testing.T) {
+	t.Parallel()
+	const size = 256*256 + 300
+	var hashes stored
+	for i := int64(0); i < size; i++ {
+		more, err := tlog.StoredHashes(i, []byte(fmt.Sprint(i)), hashes)
+		must(t, err)
+		hashes = append(hashes, more...)
+	}
+	root, err := tlog.TreeHash(size, hashes)
+	must(t, err)
+	objects := inMemory{contents: map[string][]byte{}}
+	for _, tile := range tlog.NewTiles(tileHeight, 0, size) {
+		content, err := tlog.ReadTileData(tile, hashes)
+		must(t, err)
+		objects.contents[tileName(tile)] = content
+	}
+	tender := &tender{s: &Sequencer{config: Config{Objects: objects, Patience: longest}, head: &log.Head{TreeSize: size, RootHash: root}}}
+	for _, tile := range []tlog.Tile{{H: tileHeight, L: 0, N: 7, W: tileWidth}, {H: tileHeight, L: 0, N: 256, W: tileWidth}, {H: tileHeight, L: 1, N: 0, W: tileWidth}} {
+		name := tileName(tile)
+		content := objects.contents[name]
+		must(t, tender.whole(limited(t), tile))
+		bent := append([]byte{}, content...)
+		bent[7*32] ^= 1
+		for how, other := range map[string][]byte{"cut": content[:len(content)-32], "long": append(append([]byte{}, content...), content[:32]...), "bent": bent} {
+			objects.contents[name] = other
+			if err := tender.whole(limited(t), tile); !errors.Is(err, ErrDamaged) {
+				t.Errorf("%s %s: %v", name, how, err)
+			}
+		}
+		delete(objects.contents, name)
+		wants(t, tender.whole(limited(t), tile), ErrDamaged)
+		objects.contents[name] = content
+	}
+}
+
+// TestUnreadTiles has an old tile not be read: it counts as damaged, and those behind it are read and swept all the same. Where no object
+// is read, no tile counts.
+func TestUnreadTiles(t *testing.T) {
+	t.Parallel()
+	for how, fails := range waysUnread {
+		fails := fails
+		t.Run(how, func(t *testing.T) {
+			t.Parallel()
+			p, got := newPlace(t), &answers{}
+			config := p.config(t)
+			objects := &unreadable{Objects: config.Objects}
+			config.Objects, config.Patience = objects, 400*time.Millisecond
+			config.SweepAfter, config.TendEvery = 20*time.Millisecond, 5*time.Millisecond
+			objects.set("tile/data/000", fails)
+			s := started(t, config, hooks{})
+			for at := 0; at < 600; at += 200 {
+				must(t, got.submitAll(limited(t), s, at, at+200, 200))
+			}
+			eventually(t, "it counts as damaged", func() bool {
+				f := s.Figures()
+				return f.Damaged == 1 && strings.Contains(f.Damage, "tile/data/000")
+			})
+			eventually(t, "those behind it are swept", func() bool { return len(partials(t, p, "tile/data/001"))+len(partials(t, p, "tile/0/000")) == 0 })
+			if len(partials(t, p, "tile/data/000")) == 0 {
+				t.Error("its own partial tiles went")
+			}
+			path := filepath.Join(p.objects(), "tile/data/001")
+			content, err := os.ReadFile(path)
+			must(t, err)
+			must(t, os.Remove(path))
+			eventually(t, "those behind it are read", func() bool { return s.Figures().Damaged == 2 })
+			must(t, os.WriteFile(path+".other", content, 0o644))
+			must(t, os.Rename(path+".other", path))
+			objects.set("tile/data/000", nil)
+			eventually(t, "it is forgotten", func() bool { return s.Figures().Damaged == 0 && len(partials(t, p, "tile/data/000")) == 0 })
+			p.right(t, got)
+		})
+	}
+}
+
+// TestUnreadStore has the store give nothing for a while: no tile counts as damaged, and none is passed over.
+func TestUnreadStore(t *testing.T) {
 	t.Parallel()
 	p, got := newPlace(t), &answers{}
 	config := p.config(t)
-	config.SweepAfter, config.TendEvery = time.Hour, time.Hour
+	faults := &faulty{}
+	faults.wrap(&config)
+	config.TendEvery = time.Hour
 	s := started(t, config, hooks{})
-	must(t, got.submitAll(limited(t), s, 0, 100, 100))
-	must(t, got.submitAll(limited(t), s, 100, 300, 200))
-	must(t, os.Remove(filepath.Join(p.objects(), "tile/0/000")))
-	swept := &tender{s: s, settled: 300}
-	err := swept.sweep(limited(t))
-	wants(t, err, ErrDamaged)
-	if found, err := filepath.Glob(filepath.Join(p.objects(), "tile/0/000.p/*")); err != nil || len(found) == 0 {
-		t.Errorf("the partial tiles went: %v", err)
+	must(t, got.submitAll(limited(t), s, 0, 300, 300))
+	tender := &tender{s: s, settled: 300}
+	faults.failEvery(1)
+	for turn := 0; turn < 2*mostRefused; turn++ {
+		if err := tender.sweep(limited(t)); err == nil {
+			t.Fatal("it is swept")
+		}
+		tender.readNext(limited(t))
+	}
+	faults.failEvery(0)
+	if f := s.Figures(); f.Damaged != 0 || tender.read != 0 || len(tender.passed) != 0 || tender.swept != [6]uint64{} {
+		t.Errorf("%+v, %+v", f, tender)
+	}
+	tender.readNext(limited(t))
+	if tender.read != 1 {
+		t.Error("it isn't read where the store gives it again")
 	}
 }
 
@@ -84,7 +248,7 @@ func TestScrubbedTiles(t *testing.T) {
 			t.Parallel()
 			p, s, _ := tended(t)
 			eventually(t, "tiles are read again", func() bool { return s.scrubbed.Load() > 3 })
-			if f := s.Figures(); f.Damaged != 0 || f.Fault != "" || f.Scrubbed == 0 {
+			if f := s.Figures(); f.Damaged != 0 || f.Damage != "" || f.Scrubbed == 0 {
 				t.Fatalf("%+v", f)
 			}
 			path := filepath.Join(p.objects(), object)
@@ -95,17 +259,17 @@ func TestScrubbedTiles(t *testing.T) {
 			other := path + ".other"
 			must(t, os.WriteFile(other, bent, 0o644))
 			must(t, os.Rename(other, path))
-			eventually(t, "the damage is told", func() bool { return strings.Contains(s.Figures().Fault, "tile/data/000") })
+			eventually(t, "the damage is told", func() bool { return strings.Contains(s.Figures().Damage, object) })
 			must(t, os.Remove(path))
 			eventually(t, "the loss is told", func() bool {
 				f := s.Figures()
-				return strings.Contains(f.Fault, object+" is missing") && f.Damaged == 1
+				return strings.Contains(f.Damage, object+" is missing") && f.Damaged == 1 && f.Fault == ""
 			})
 			must(t, os.WriteFile(other, content, 0o644))
 			must(t, os.Rename(other, path))
 			eventually(t, "it is forgotten", func() bool {
 				f := s.Figures()
-				return f.Fault == "" && f.Damaged == 0
+				return f.Damage == "" && f.Damaged == 0
 			})
 		})
 	}
@@ -128,13 +292,13 @@ func TestDamageOfARepeat(t *testing.T) {
 	must(t, os.Remove(path))
 	_, err = s.Submit(limited(t), entryOf(3))
 	wants(t, err, ErrDamaged)
-	if f := s.Figures(); f.Damaged != 1 || !strings.Contains(f.Fault, "tile/data/000.p/5") {
+	if f := s.Figures(); f.Damaged != 1 || !strings.Contains(f.Damage, "tile/data/000.p/5") {
 		t.Errorf("%+v", f)
 	}
 	must(t, os.WriteFile(path, content, 0o644))
 	eventually(t, "it is forgotten", func() bool {
 		f := s.Figures()
-		return f.Fault == "" && f.Damaged == 0
+		return f.Damage == "" && f.Damaged == 0
 	})
 	must(t, got.submitAll(limited(t), s, 3, 6, 1))
 	p.right(t, got)

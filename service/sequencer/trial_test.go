@@ -158,6 +158,11 @@ func (p place) guarded(ctx context.Context, receipts signer.Receipts) (signer.Si
 	if err != nil {
 		return nil, err
 	}
+	return guardedOver(ctx, key, state, receipts)
+}
+
+// guardedOver puts a guard before a key, whose state is in a register.
+func guardedOver(ctx context.Context, key *signer.Key, state stores.Register, receipts signer.Receipts) (signer.Signer, error) {
 	guard := []string{guardBuilt}
 	if _, err := os.Stat(guardBuilt); err != nil {
 		guard = []string{"python3", guardFile}
@@ -260,6 +265,23 @@ func (a *answers) add(one check.Answer) {
 	a.mu.Lock()
 	defer a.mu.Unlock()
 	a.all = append(a.all, one)
+}
+
+// numberAt is the number of the entry that was answered with an index.
+func (a *answers) numberAt(t testing.TB, index uint64) int {
+	t.Helper()
+	a.mu.Lock()
+	defer a.mu.Unlock()
+	for _, one := range a.all {
+		for n := 0; n < 2000 && string(one.Extensions) == string(extensionsOf(index)); n++ {
+			of := answerOf(entryOf(n), log.Place{})
+			if string(of.Certificate) == string(one.Certificate) && string(of.TBSCertificate) == string(one.TBSCertificate) {
+				return n
+			}
+		}
+	}
+	t.Fatalf("no answer is of index %d", index)
+	return 0
 }
 
 // submitAll submits numbers from one to another, some at once, and gives the first error.

@@ -154,17 +154,26 @@ func (g *Guarded) drop() {
 	}
 }
 
+// stands reads the state that stands. Only where there is none it is ErrState: a register that doesn't answer may have it.
+func (g *Guarded) stands(ctx context.Context) (string, error) {
+	text, err := g.of.State.Read(ctx)
+	if errors.Is(err, stores.ErrAbsent) {
+		return "", fmt.Errorf("%w: there is none", ErrState)
+	}
+	if err != nil {
+		return "", fmt.Errorf("signer: the guard's state: %w", err)
+	}
+	return text, nil
+}
+
 // begin has a guard run that began with the state that stands.
 func (g *Guarded) begin(ctx context.Context) error {
 	if g.end != nil {
 		return nil
 	}
-	text, err := g.of.State.Read(ctx)
-	if errors.Is(err, stores.ErrAbsent) {
-		return fmt.Errorf("%w: there is none", ErrState)
-	}
+	text, err := g.stands(ctx)
 	if err != nil {
-		return fmt.Errorf("signer: %w", err)
+		return err
 	}
 	last, err := readState(text)
 	if err != nil {
@@ -178,12 +187,15 @@ func (g *Guarded) begin(ctx context.Context) error {
 	if last == nil {
 		return nil
 	}
-	// Whether it took the state up shows where it is asked for its head once more.
-	if _, err := g.askHead(ctx, *last, nil, stateOf(last)+"\n"); err != nil {
+	// Whether it took the state up shows where it is asked for its head once more. One that ended, or gave no reply in time, says nothing of it.
+	_, err = g.askHead(ctx, *last, nil, stateOf(last)+"\n")
+	if err != nil {
 		g.drop()
+	}
+	if err != nil && !errors.Is(err, pipe.ErrGone) {
 		return fmt.Errorf("%w: the guard doesn't take it up: %v", ErrState, err)
 	}
-	return nil
+	return err
 }
 
 // guardReply is a line of the guard's.
@@ -281,9 +293,9 @@ func (g *Guarded) Last(ctx context.Context) (*Head, error) {
 	}
 	defer func() { <-g.turn }()
 	if g.end != nil {
-		text, err := g.of.State.Read(ctx)
+		text, err := g.stands(ctx)
 		if err != nil {
-			return nil, fmt.Errorf("%w: %v", ErrState, err)
+			return nil, err
 		}
 		if text != g.text {
 			g.drop()

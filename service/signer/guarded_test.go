@@ -10,10 +10,13 @@ import (
 	"errors"
 	"fmt"
 	mathrand "math/rand"
+	"net"
 	"os"
 	"os/exec"
 	"path/filepath"
 	"strings"
+	"sync"
+	"syscall"
 	"testing"
 	"time"
 
@@ -433,6 +436,92 @@ func TestUnkept(t *testing.T) {
 	must(t, err)
 }
 
+// failing is a register that isn't read as long as fails is an error.
+type failing struct {
+	stores.Register
+	mu    sync.Mutex
+	fails error
+}
+
+func (f *failing) set(err error) {
+	f.mu.Lock()
+	defer f.mu.Unlock()
+	f.fails = err
+}
+
+func (f *failing) Read(ctx context.Context) (string, error) {
+	f.mu.Lock()
+	fails := f.fails
+	f.mu.Unlock()
+	if fails != nil {
+		return "", fails
+	}
+	return f.Register.Read(ctx)
+}
+
+// TestUnreadStates has the state's register not be read for a moment: that isn't a state that is gone, here and by lines, and behind it
+// heads are signed as before.
+func TestUnreadStates(t *testing.T) {
+	t.Parallel()
+	ctx, key, right := limited(t), newKey(t), listOf(t, 20, 20)
+	state := &failing{Register: register(t, t.TempDir())}
+	g, err := Behind(ctx, key, Guard{Command: model, State: state, Create: true, Receipts: InHead})
+	must(t, err)
+	defer g.Close()
+	path := filepath.Join(t.TempDir(), "socket")
+	go func() { _ = Listen(ctx, g, path) }()
+	var c *Client
+	for c == nil {
+		if c, err = Ask(ctx, func(ctx context.Context) (*pipe.End, error) { return pipe.Dial(ctx, path, MostLine) }, 20*time.Second); err != nil {
+			wants(t, err, pipe.ErrGone)
+			time.Sleep(time.Millisecond)
+		}
+	}
+	defer c.Close()
+	size := 0
+	for _, s := range []Signer{g, c} {
+		// The guard runs, or has to begin.
+		for _, runs := range []bool{true, false} {
+			_, err := s.SignHead(ctx, right.head(t, size+1, uint64(size+1)), right.proof(t, size, size+1))
+			must(t, err)
+			size++
+			if !runs {
+				must(t, g.Close())
+			}
+			for fails, isState := range map[error]bool{errors.New("a register that is late"): false, context.DeadlineExceeded: false, stores.ErrAbsent: true} {
+				state.set(fails)
+				if _, err := s.Last(ctx); err == nil || errors.Is(err, ErrState) != isState {
+					t.Errorf("%v: %v", fails, err)
+				}
+			}
+			state.set(nil)
+			if last, err := s.Last(ctx); err != nil || last.Size != uint64(size) {
+				t.Errorf("%+v, %v", last, err)
+			}
+		}
+	}
+}
+
+// TestGuardThatEnds has a guard end before it replies, once: that isn't a state that it doesn't take up.
+func TestGuardThatEnds(t *testing.T) {
+	t.Parallel()
+	ctx, key, right, folder := limited(t), newKey(t), listOf(t, 9, 9), t.TempDir()
+	ends := filepath.Join(folder, "ends")
+	script := filepath.Join(folder, "guard.sh")
+	must(t, os.WriteFile(script, []byte(fmt.Sprintf("rm '%s' 2>/dev/null && exit 1; exec python3 '%s' \"$@\"", ends, model[1])), 0o700))
+	g := behind(t, key, folder, []string{"sh", script}, InHead)
+	_, err := g.SignHead(ctx, right.head(t, 5, 100), nil)
+	must(t, err)
+	must(t, g.Close())
+	must(t, os.WriteFile(ends, nil, 0o600))
+	_, err = g.Last(ctx)
+	if wants(t, err, pipe.ErrGone); errors.Is(err, ErrState) {
+		t.Error(err)
+	}
+	_, err = g.SignHead(ctx, right.head(t, 9, 101), right.proof(t, 5, 9))
+	must(t, err)
+}
+
 // TestWrongGuards has programs in the guard's place that reply other bytes, or none: nothing is signed.
 func TestWrongGuards(t *testing.T) {
 	t.Parallel()
@@ -615,8 +704,8 @@ func TestOtherKey(t *testing.T) {
 	ctx, keys := limited(t), []*Key{newKey(t), newKey(t)}
 	opened := 0
 	c, err := Ask(ctx, func(ctx context.Context) (*pipe.End, error) {
-		path := filepath.Join(t.TempDir(), "socket")
-		go func() { _ = Listen(ctx, keys[opened%2], path) }()
+		path, key := filepath.Join(t.TempDir(), "socket"), keys[opened%2]
+		go func() { _ = Listen(ctx, key, path) }()
 		for {
 			if end, err := pipe.Dial(ctx, path, MostLine); err == nil {
 				opened++
@@ -636,6 +725,71 @@ func TestOtherKey(t *testing.T) {
 	if message := (Head{Moment: 5}).message(); len(message) != 50 || string(message[2:10]) != string(eight[:]) {
 		t.Errorf("%x", message)
 	}
+}
+
+// moody is a listener that fails some times before a connection comes.
+type moody struct {
+	net.Listener
+	fails int
+}
+
+func (m *moody) Accept() (net.Conn, error) {
+	if m.fails--; m.fails >= 0 {
+		return nil, syscall.EMFILE
+	}
+	return m.Listener.Accept()
+}
+
+// TestClients has more connect to a signer than it serves, at a listener that fails now and then: who asks is answered, and of those who say
+// nothing the first has to go.
+func TestClients(t *testing.T) {
+	t.Parallel()
+	key, path := newKey(t), filepath.Join(t.TempDir(), "socket")
+	ctx, cancel := context.WithCancel(limited(t))
+	listener, err := net.Listen("unix", path)
+	must(t, err)
+	all, done := newClients(), make(chan error, 1)
+	go func() { done <- all.serve(ctx, key, &moody{listener, 3}) }()
+	ask := func() *Client {
+		t.Helper()
+		c, err := Ask(ctx, func(ctx context.Context) (*pipe.End, error) { return pipe.Dial(ctx, path, MostLine) }, 5*time.Second)
+		must(t, err)
+		t.Cleanup(func() { c.Close() })
+		return c
+	}
+	first := ask()
+	var silent []net.Conn
+	for len(silent) < mostClients-1 {
+		connection, err := net.Dial("unix", path)
+		must(t, err)
+		t.Cleanup(func() { connection.Close() })
+		silent = append(silent, connection)
+	}
+	for there := 0; there < mostClients; time.Sleep(time.Millisecond) {
+		all.mu.Lock()
+		there = len(all.there)
+		all.mu.Unlock()
+	}
+	// (so that it isn't the one that asked nothing for the longest)
+	_, err = first.Last(ctx)
+	must(t, err)
+	second := ask()
+	for _, c := range []*Client{first, second} {
+		if _, err := c.Last(ctx); err != nil || c.Starts() != 1 {
+			t.Errorf("%v, opened %d times", err, c.Starts())
+		}
+	}
+	for i, gone := range map[int]bool{0: true, len(silent) - 1: false} {
+		must(t, silent[i].SetReadDeadline(time.Now().Add(time.Second)))
+		_, err := silent[i].Read(make([]byte, 1))
+		var late net.Error
+		if waits := errors.As(err, &late) && late.Timeout(); waits == gone {
+			t.Errorf("the silent one %d: %v", i, err)
+		}
+	}
+	cancel()
+	listener.Close()
+	wants(t, <-done, net.ErrClosed)
 }
 
 // TestLines sends a signer lines that ask for nothing, or for what can't be: each is replied to, and nothing is signed.

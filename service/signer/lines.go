@@ -10,6 +10,7 @@ import (
 	"net"
 	"os"
 	"path/filepath"
+	"sync"
 	"time"
 
 	"wagtenib/service/pipe"
@@ -20,7 +21,7 @@ const (
 	// MostLine is how many bytes a line has, and MostReceipts how many timestamps one asks for.
 	MostLine     = 64 << 20
 	MostReceipts = 4096
-	// mostClients is how many are served at once, and answersWithin how long one request may take.
+	// mostClients is how many are served at once, and answersWithin how long one request may take: to come, to be answered, and its reply.
 	mostClients   = 32
 	answersWithin = 30 * time.Second
 )
@@ -166,24 +167,144 @@ func Listen(ctx context.Context, s Signer, path string) error {
 		return err
 	}
 	defer listener.Close()
-	room := make(chan struct{}, mostClients)
 	go func() {
 		<-ctx.Done()
 		listener.Close()
 	}()
+	return newClients().serve(ctx, s, listener)
+}
+
+// looksAgain is how far two looks for a connection, or for room, are apart where there was none.
+const looksAgain = 20 * time.Millisecond
+
+// clients are those who are connected, at most as many as there is room.
+type clients struct {
+	room  chan struct{}
+	mu    sync.Mutex
+	there map[*client]bool
+}
+
+func newClients() *clients {
+	return &clients{room: make(chan struct{}, mostClients), there: map[*client]bool{}}
+}
+
+// serve serves who comes to a listener, until that is closed. What else it fails by passes: files may be wanting for a moment.
+func (c *clients) serve(ctx context.Context, s Signer, listener net.Listener) error {
 	for {
 		connection, err := listener.Accept()
-		if err != nil {
+		if errors.Is(err, net.ErrClosed) {
 			return fmt.Errorf("signer: %w", err)
 		}
-		room <- struct{}{}
+		if err != nil {
+			time.Sleep(looksAgain)
+			continue
+		}
+		one := &client{Conn: connection, since: time.Now()}
+		if !c.take(ctx, one) {
+			connection.Close()
+			continue
+		}
 		go func() {
-			defer func() { <-room }()
-			defer connection.Close()
+			defer c.leave(one)
 			// Who breaks off comes again.
-			_ = Serve(ctx, s, connection, connection)
+			_ = Serve(ctx, s, one, one)
 		}()
 	}
+}
+
+// take waits for room until the context ends. Where there is none, who has asked nothing for the longest has to go, and comes again.
+func (c *clients) take(ctx context.Context, one *client) bool {
+	for full := false; ; full = true {
+		if full {
+			c.closeIdle()
+		}
+		late := time.NewTimer(looksAgain)
+		select {
+		case c.room <- struct{}{}:
+			late.Stop()
+			c.mu.Lock()
+			defer c.mu.Unlock()
+			c.there[one] = true
+			return true
+		case <-late.C:
+		case <-ctx.Done():
+			late.Stop()
+			return false
+		}
+	}
+}
+
+// leave closes a connection.
+func (c *clients) leave(one *client) {
+	one.Conn.Close()
+	c.mu.Lock()
+	delete(c.there, one)
+	c.mu.Unlock()
+	<-c.room
+}
+
+// closeIdle closes the connection on which nothing was asked for the longest.
+func (c *clients) closeIdle() {
+	c.mu.Lock()
+	defer c.mu.Unlock()
+	var longest *client
+	for one := range c.there {
+		if since, idle := one.idle(); idle {
+			if other, _ := longest.idle(); longest == nil || since.Before(other) {
+				longest = one
+			}
+		}
+	}
+	if longest != nil {
+		longest.Conn.Close()
+	}
+}
+
+// client is a connection of one who asks a line and waits for its reply. A line that was begun has its time, and so has a reply.
+type client struct {
+	net.Conn
+	mu sync.Mutex
+	// asks says that a line was begun that isn't replied to, and since is when the last one was.
+	asks  bool
+	since time.Time
+}
+
+// idle says since when nothing is asked.
+func (c *client) idle() (since time.Time, idle bool) {
+	if c == nil {
+		return time.Time{}, false
+	}
+	c.mu.Lock()
+	defer c.mu.Unlock()
+	return c.since, !c.asks
+}
+
+func (c *client) Read(into []byte) (int, error) {
+	n, err := c.Conn.Read(into)
+	c.mu.Lock()
+	defer c.mu.Unlock()
+	if n > 0 && !c.asks {
+		c.asks = true
+		if late := c.Conn.SetReadDeadline(time.Now().Add(answersWithin)); err == nil {
+			err = late
+		}
+	}
+	return n, err
+}
+
+// Write sends a reply: each is one write.
+func (c *client) Write(from []byte) (int, error) {
+	if err := c.Conn.SetWriteDeadline(time.Now().Add(answersWithin)); err != nil {
+		return 0, err
+	}
+	n, err := c.Conn.Write(from)
+	c.mu.Lock()
+	defer c.mu.Unlock()
+	c.asks, c.since = false, time.Now()
+	if late := c.Conn.SetReadDeadline(time.Time{}); err == nil {
+		err = late
+	}
+	return n, err
 }
 
 // Client asks a signer in another process.

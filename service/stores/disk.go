@@ -37,7 +37,7 @@ func openDisk(root string) (*disk, error) {
 		return nil, fmt.Errorf("stores: folder: %w", err)
 	}
 	d := &disk{root: root, synced: map[string]bool{}}
-	if err := makeFolder(filepath.Join(root, temporary)); err != nil {
+	if err := MakeFolder(filepath.Join(root, temporary)); err != nil {
 		return nil, err
 	}
 	if err := syncFolder(filepath.Dir(root)); err != nil {
@@ -49,11 +49,11 @@ func openDisk(root string) (*disk, error) {
 	return d, syncFolder(root)
 }
 
-// makeFolder makes a folder and those above it where they aren't there, and writes the names of those that it made to the disk.
-func makeFolder(path string) error {
+// MakeFolder makes a folder and those above it where they aren't there, and writes the names of those that it made to the disk.
+func MakeFolder(path string) error {
 	err := os.Mkdir(path, 0o755)
 	if errors.Is(err, fs.ErrNotExist) {
-		if err := makeFolder(filepath.Dir(path)); err != nil {
+		if err := MakeFolder(filepath.Dir(path)); err != nil {
 			return err
 		}
 		err = os.Mkdir(path, 0o755)

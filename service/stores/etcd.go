@@ -53,7 +53,8 @@ func (at Etcd) open() (*clientv3.Client, error) {
 //
 // It asks of the cluster: transactions and reads are linearizable (reads are, unless they are said to be serializable, which
 // none here is), and what a majority acknowledged stays: members keep their data folders, and fsync is left on
-// (--unsafe-no-fsync isn't given). A restore from a backup sets the register back, and isn't to be done to a log.
+// (--unsafe-no-fsync isn't given). A restore from a backup sets the register back, and isn't to be done to a log. Old revisions, which nobody
+// reads, are compacted (--auto-compaction-retention): each swap and each place leaves one, and they fill the cluster's quota.
 type inEtcd struct {
 	client          *clientv3.Client
 	text, published string

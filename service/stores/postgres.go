@@ -3,6 +3,7 @@ package stores
 import (
 	"context"
 	"database/sql"
+	"database/sql/driver"
 	"errors"
 	"fmt"
 
@@ -33,13 +34,34 @@ func (at Postgres) open(ctx context.Context) (*sql.DB, error) {
 		return nil, fmt.Errorf("stores: PostgreSQL: %w", err)
 	}
 	connector.Dialer(impatient{})
-	db := sql.OpenDB(connector)
+	db := sql.OpenDB(brief{connector})
 	db.SetMaxOpenConns(mostConnections)
 	if _, err := within(ctx, func() (any, error) { return nil, prepare(ctx, db) }); err != nil {
 		db.Close()
 		return nil, err
 	}
 	return db, nil
+}
+
+// brief opens sessions that don't wait for long for a row that another one has locked. Whose commit waits for a standby has it locked, and
+// the server forgets no session that waits for him.
+type brief struct{ driver.Connector }
+
+func (b brief) Connect(ctx context.Context) (driver.Conn, error) {
+	connection, err := b.Connector.Connect(ctx)
+	if err != nil {
+		return nil, err
+	}
+	session, ok := connection.(driver.ExecerContext)
+	if !ok {
+		connection.Close()
+		return nil, fmt.Errorf("%w: PostgreSQL: a session takes no settings", ErrUnsafe)
+	}
+	if _, err := session.ExecContext(ctx, "set lock_timeout = '10s'", nil); err != nil {
+		connection.Close()
+		return nil, err
+	}
+	return connection, nil
 }
 
 func prepare(ctx context.Context, db *sql.DB) error {
@@ -61,7 +83,8 @@ func prepare(ctx context.Context, db *sql.DB) error {
 // inPostgres keeps the register in a row.
 //
 // It asks of the server: fsync, full_page_writes and synchronous_commit are on (all three are looked at), and where a standby
-// may take over, synchronous_standby_names names it, so that it has all that was acknowledged, and one server alone writes.
+// may take over, synchronous_standby_names names it, so that it has all that was acknowledged, and one server alone writes. No
+// statement_timeout is set, which would end a commit's wait for the standby, and have it acknowledged.
 type inPostgres struct {
 	db  *sql.DB
 	log string
@@ -85,21 +108,27 @@ func written(what string, err error) error {
 	return fmt.Errorf("%w: PostgreSQL: %s: %v", ErrUnknown, what, err)
 }
 
-// changed makes a write, and says whether it changed a row. It goes over one connection: the pool itself would make a write
-// again on another where the first broke, and would so tell a swap that was done that it lost.
-func (p *inPostgres) changed(ctx context.Context, what, statement string, values ...any) (bool, error) {
-	rows, err := within(ctx, func() (int64, error) {
-		connection, err := p.db.Conn(ctx)
+// uncancelled makes a write, and says how many rows it changed. It goes over one connection: the pool itself would make a write
+// again on another where the first broke, and would so tell a swap that was done that it lost. The end of the context ends the call, and
+// doesn't cancel the write: the server would end its commit's wait for a standby by that, show it, and acknowledge it.
+func uncancelled(ctx context.Context, db *sql.DB, statement string, values ...any) (int64, error) {
+	return within(ctx, func() (int64, error) {
+		connection, err := db.Conn(ctx)
 		if err != nil {
 			return 0, err
 		}
 		defer connection.Close()
-		result, err := connection.ExecContext(ctx, statement, values...)
+		result, err := connection.ExecContext(context.Background(), statement, values...)
 		if err != nil {
 			return 0, err
 		}
 		return result.RowsAffected()
 	})
+}
+
+// changed makes a write, and says whether it changed a row.
+func (p *inPostgres) changed(ctx context.Context, what, statement string, values ...any) (bool, error) {
+	rows, err := uncancelled(ctx, p.db, statement, values...)
 	if err != nil {
 		return false, written(what, err)
 	}
@@ -251,8 +280,7 @@ func (p *placesInPostgres) Add(ctx context.Context, placed []Placed) error {
 	}
 	// In the order of identities, so that of two such calls neither waits for the other.
 	add := "insert into " + p.table + ` select $1, i, n, t from unnest($2::bytea[], $3::bigint[], $4::bigint[]) as u(i, n, t) order by i on conflict do nothing`
-	_, err = within(ctx, func() (sql.Result, error) { return p.db.ExecContext(ctx, add, p.log, identities, indexes, timestamps) })
-	if err != nil {
+	if _, err = uncancelled(ctx, p.db, add, p.log, identities, indexes, timestamps); err != nil {
 		return fmt.Errorf("stores: PostgreSQL: add: %w", err)
 	}
 	return nil

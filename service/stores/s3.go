@@ -156,6 +156,9 @@ func (b *bucket) Get(ctx context.Context, name string, most int64) ([]byte, erro
 	return content, nil
 }
 
+// errNoLength: whether all of an answer came isn't known where it doesn't say how much that is.
+var errNoLength = errors.New("the answer doesn't say how many bytes it has")
+
 func (b *bucket) get(ctx context.Context, name string, most int64) ([]byte, error) {
 	body, info, _, err := b.core.GetObject(ctx, b.name, name, minio.GetObjectOptions{})
 	if err != nil {
@@ -167,6 +170,9 @@ func (b *bucket) get(ctx context.Context, name string, most int64) ([]byte, erro
 	defer body.Close()
 	if info.Size > most {
 		return nil, fmt.Errorf("%w: %d bytes", ErrTooLong, info.Size)
+	}
+	if info.Size < 0 {
+		return nil, errNoLength
 	}
 	content := make([]byte, info.Size)
 	if _, err := io.ReadFull(body, content); err != nil {

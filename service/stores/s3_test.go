@@ -2,6 +2,7 @@ package stores
 
 import (
 	"context"
+	"database/sql"
 	"encoding/xml"
 	"errors"
 	"fmt"
@@ -12,6 +13,7 @@ import (
 	"strings"
 	"sync"
 	"testing"
+	"time"
 )
 
 // fakeS3 is a bucket in memory, which speaks as much of S3 as the suite wants: so the client is tried where no engine is, and
@@ -169,6 +171,24 @@ func TestS3IsBrokenOff(t *testing.T) {
 	}
 }
 
+// TestS3SaysNoLength: an answer in chunks isn't an object, whether it has more than may be or not.
+func TestS3SaysNoLength(t *testing.T) {
+	server := httptest.NewServer(http.HandlerFunc(func(w http.ResponseWriter, r *http.Request) {
+		w.Header().Set("Last-Modified", "Thu, 01 Jan 2026 00:00:00 GMT")
+		w.(http.Flusher).Flush()
+		w.Write(make([]byte, 50))
+	}))
+	defer server.Close()
+	at := S3{Endpoint: strings.TrimPrefix(server.URL, "http://"), Bucket: fakeBucket, Key: "key", Secret: "secret", Region: "us-east-1"}
+	store, err := OpenS3(limited(t), at)
+	must(t, err)
+	for _, most := range []int64{10, 50, manyBytes} {
+		if got, err := store.Get(limited(t), "a", most); !errors.Is(err, errNoLength) {
+			t.Errorf("%d bytes, %v", len(got), err)
+		}
+	}
+}
+
 func TestPostgresThatKeepsNothing(t *testing.T) {
 	if why := wants(postgresURL, "postgresql"); why != "" {
 		t.Skip(why)
@@ -179,6 +199,63 @@ func TestPostgresThatKeepsNothing(t *testing.T) {
 	}
 	if _, err := OpenPostgresPlaces(limited(t), at); !errors.Is(err, ErrUnsafe) {
 		t.Errorf("synchronous_commit is off: %v", err)
+	}
+}
+
+// TestPostgresWithoutItsStandby has PostgreSQL wait for a standby that isn't there: a swap whose caller goes meanwhile is of unknown outcome,
+// nobody reads its text, and it is done once the server waits no more.
+func TestPostgresWithoutItsStandby(t *testing.T) {
+	if why := wants(postgresURL, "postgresql"); why != "" {
+		t.Skip(why)
+	}
+	at := Postgres{postgresURL, "suite-" + chance()}
+	register, err := OpenPostgres(limited(t), at)
+	must(t, err)
+	defer register.Close()
+	must(t, register.Create(limited(t), "0"))
+	server, err := sql.Open("postgres", postgresURL)
+	must(t, err)
+	defer server.Close()
+	set := func(statement string) {
+		for _, each := range []string{statement, "select pg_reload_conf()"} {
+			_, err := server.ExecContext(limited(t), each)
+			must(t, err)
+		}
+	}
+	const reset = "alter system reset synchronous_standby_names"
+	defer set(reset)
+	set("alter system set synchronous_standby_names = 'nobody'")
+	swap := func(from int) error {
+		ctx, cancel := context.WithTimeout(context.Background(), 300*time.Millisecond)
+		defer cancel()
+		return register.Swap(ctx, fmt.Sprint(from), fmt.Sprint(from+1))
+	}
+	stands := 0
+	for ; ; stands++ {
+		// (the server takes the setting up by and by)
+		if err := swap(stands); err != nil {
+			if !errors.Is(err, ErrUnknown) {
+				t.Fatal(err)
+			}
+			break
+		}
+	}
+	for i := 0; i < 3; i++ {
+		if text, err := register.Read(limited(t)); err != nil || text != fmt.Sprint(stands) {
+			t.Errorf("%q is read, %v", text, err)
+		}
+		if err := swap(stands); !errors.Is(err, ErrUnknown) {
+			t.Errorf("once more: %v", err)
+		}
+	}
+	set(reset)
+	for since := time.Now(); swap(stands) != nil; time.Sleep(10 * time.Millisecond) {
+		if time.Since(since) > 20*time.Second {
+			t.Fatal("it isn't done")
+		}
+	}
+	if text, err := register.Read(limited(t)); err != nil || text != fmt.Sprint(stands+1) {
+		t.Errorf("%q is read, %v", text, err)
 	}
 }
 

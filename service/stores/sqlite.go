@@ -32,7 +32,7 @@ func OpenSQLite(ctx context.Context, path string) (Places, error) {
 	if err != nil {
 		return nil, fmt.Errorf("stores: SQLite: %w", err)
 	}
-	if err := makeFolder(filepath.Dir(path)); err != nil {
+	if err := MakeFolder(filepath.Dir(path)); err != nil {
 		return nil, err
 	}
 	settings := url.Values{"_journal_mode": {"WAL"}, "_synchronous": {"FULL"}, "_busy_timeout": {"50"}, "_txlock": {"immediate"}}

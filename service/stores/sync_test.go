@@ -56,6 +56,18 @@ func TestFolderSyncs(t *testing.T) {
 	syncedAs(t, "one at the top", put("f"), []string{"file", ". (named)"})
 }
 
+// TestMadeFoldersSync: folders that are made are on the disk with their names, each before the one below it; one that is there stays as it is.
+func TestMadeFoldersSync(t *testing.T) {
+	root := t.TempDir()
+	folders := func() error { return MakeFolder(filepath.Join(root, "a/b")) }
+	syncedAs(t, "new folders", syncs(t, root, "none", folders), []string{".", "a"})
+	syncedAs(t, "the same once more", syncs(t, root, "none", folders), nil)
+	must(t, os.WriteFile(filepath.Join(root, "file"), nil, 0o600))
+	if err := MakeFolder(filepath.Join(root, "file/b")); err == nil {
+		t.Error("a folder is made below a file")
+	}
+}
+
 // TestFileSyncs: a text is on the disk before it has its name, and the folder before Swap and Read return.
 func TestFileSyncs(t *testing.T) {
 	root, ctx := t.TempDir(), limited(t)

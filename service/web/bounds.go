@@ -1,6 +1,7 @@
 package web
 
 import (
+	"context"
 	"net"
 	"net/netip"
 	"sync"
@@ -23,6 +24,36 @@ func (b *budget) take(bytes int64) bool {
 
 func (b *budget) give(bytes int64) { b.used.Add(-bytes) }
 
+// held are the bytes of objects that one request has read and not yet answered. A nil one counts nothing.
+type held struct {
+	of    *budget
+	bytes int64
+}
+
+// heldKey is where a request's context has them.
+type heldKey struct{}
+
+func heldIn(ctx context.Context) *held {
+	h, _ := ctx.Value(heldKey{}).(*held)
+	return h
+}
+
+// change takes so many more, or gives back where that is below 0.
+func (h *held) change(bytes int64) bool {
+	if h == nil {
+		return true
+	}
+	if bytes <= 0 {
+		h.of.give(-bytes)
+	} else if !h.of.take(bytes) {
+		return false
+	}
+	h.bytes += bytes
+	return true
+}
+
+func (h *held) giveAll() { h.change(-h.bytes) }
+
 // counts counts by address, up to a bound for each. An address of IPv6 counts with its /64, which one customer has.
 type counts struct {
 	most  int
@@ -30,25 +61,32 @@ type counts struct {
 	of    map[netip.Addr]int
 }
 
-func (c *counts) take(address netip.Addr) bool {
+func (c *counts) take(address netip.Addr) bool { return c.takeSome(address, 1) }
+
+func (c *counts) takeSome(address netip.Addr, some int) bool {
 	address = groupOf(address)
 	c.mutex.Lock()
 	defer c.mutex.Unlock()
-	if c.of[address] >= c.most {
+	if c.of[address]+some > c.most {
 		return false
 	}
 	if c.of == nil {
 		c.of = map[netip.Addr]int{}
 	}
-	c.of[address]++
+	c.of[address] += some
 	return true
 }
 
-func (c *counts) give(address netip.Addr) {
+func (c *counts) give(address netip.Addr) { c.giveSome(address, 1) }
+
+func (c *counts) giveSome(address netip.Addr, some int) {
+	if some == 0 {
+		return
+	}
 	address = groupOf(address)
 	c.mutex.Lock()
 	defer c.mutex.Unlock()
-	if c.of[address]--; c.of[address] <= 0 {
+	if c.of[address] -= some; c.of[address] <= 0 {
 		delete(c.of, address)
 	}
 }

@@ -140,11 +140,11 @@ type tileLeaf struct {
 	issuers []byte
 }
 
-// readDataTile reads a data tile: all of it, or none.
+// readDataTile reads a data tile: all of it, or none. It has at most as many entries as a full one.
 func readDataTile(content []byte) (leaves []tileLeaf, ok bool) {
 	for tile := cryptobyte.String(content); !tile.Empty(); {
 		leaf, ok := readTileLeaf(&tile)
-		if !ok {
+		if !ok || len(leaves) == fullWidth {
 			return nil, false
 		}
 		leaves = append(leaves, leaf)

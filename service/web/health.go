@@ -2,6 +2,7 @@ package web
 
 import (
 	"context"
+	"errors"
 	"net/http"
 	"time"
 )
@@ -14,19 +15,19 @@ func (f *Front) healthz(w http.ResponseWriter, r *http.Request) error {
 }
 
 // readyz says whether submissions would be taken now: the log doesn't end, nothing keeps it from going on, its queue has room,
-// and its head is read within two seconds.
+// and its head is read within two seconds. An old tile that is damaged keeps it from nothing.
 func (f *Front) readyz(w http.ResponseWriter, r *http.Request) error {
-	unready := func(name string) error {
-		return refusal{status: http.StatusServiceUnavailable, name: name, after: 1}
+	unready := func(name string, why error) error {
+		return refusal{status: http.StatusServiceUnavailable, name: name, after: 1, why: why}
 	}
 	figures := f.log.Figures()
 	switch {
 	case f.ending.Load():
-		return unready("ended")
+		return unready("ended", nil)
 	case figures.Fault != "":
-		return unready("fault")
+		return unready("fault", errors.New(figures.Fault))
 	case figures.MostQueue > 0 && figures.Queue >= figures.MostQueue:
-		return unready("busy")
+		return unready("busy", nil)
 	}
 	ctx, cancel := context.WithTimeout(r.Context(), 2*time.Second)
 	defer cancel()
@@ -38,4 +39,37 @@ func (f *Front) readyz(w http.ResponseWriter, r *http.Request) error {
 	w.Header().Set("Cache-Control", "no-store")
 	write(w, http.StatusOK, "text/plain; charset=utf-8", []byte("ready\n"))
 	return nil
+}
+
+// Tell looks at the log every so often until the context ends, and tells what keeps it from going on, what of it is damaged, and the end of
+// either.
+func (f *Front) Tell(ctx context.Context, every time.Duration) {
+	timer := time.NewTicker(every)
+	defer timer.Stop()
+	var fault, damage string
+	damaged := 0
+	for {
+		figures := f.log.Figures()
+		if figures.Fault != fault {
+			f.tellOf("fault", fault, figures.Fault)
+		}
+		if figures.Damage != damage || figures.Damaged != damaged && damage != "" {
+			f.tellOf("damage", damage, figures.Damage, "tiles", figures.Damaged)
+		}
+		fault, damage, damaged = figures.Fault, figures.Damage, figures.Damaged
+		select {
+		case <-timer.C:
+		case <-ctx.Done():
+			return
+		}
+	}
+}
+
+// tellOf tells what is wrong now, or that what was wrong isn't any more.
+func (f *Front) tellOf(event, before, now string, more ...any) {
+	if now == "" {
+		f.options.Lines.Info("mended", "detail", before)
+		return
+	}
+	f.options.Lines.Error(event, append([]any{"detail", now}, more...)...)
 }

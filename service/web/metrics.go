@@ -83,9 +83,10 @@ var (
 	descSigner     = described("ctserve_signer_starts_total", "How often the signer was started, or found.")
 	descSwept      = described("ctserve_swept_tiles_total", "Partial tiles that were deleted behind their full one.")
 	descScrubbed   = described("ctserve_scrubbed_tiles_total", "Old data tiles that were read again and were right.")
-	descDamaged    = described("ctserve_damaged_tiles", "Data tiles that are missing or aren't the log's, or stand below hash tiles that aren't, by what was read last.")
+	descDamaged    = described("ctserve_damaged_tiles", "Data tiles that are missing, can't be read or aren't the log's, or stand below such hash tiles, by what was read last.")
 	descOpen       = described("ctserve_connections", "Connections that are open.")
 	descWaiting    = described("ctserve_waiting_bytes", "Bytes of the submissions that are read, checked or wait.")
+	descAnswers    = described("ctserve_answer_bytes", "Bytes of the objects that are read for answers, or sent.")
 	descRoots      = described("ctserve_roots", "Roots that chains are checked against.")
 )
 
@@ -121,6 +122,7 @@ func (c figures) Collect(to chan<- prometheus.Metric) {
 	gauge(descDamaged, float64(f.Damaged))
 	gauge(descOpen, float64(c.front.connections.open.Load()))
 	gauge(descWaiting, float64(c.front.waiting.used.Load()))
+	gauge(descAnswers, float64(c.front.answers.used.Load()))
 	gauge(descRoots, float64(len(c.front.checker.Roots().Certificates())))
 }
 

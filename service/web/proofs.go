@@ -153,7 +153,7 @@ func (f *Front) underHead(r *http.Request, size uint64, ask func(context.Context
 func faultOf(err error) error {
 	var known refusal
 	switch {
-	case err == nil, errors.As(err, &known), errors.Is(err, context.DeadlineExceeded), errors.Is(err, context.Canceled), errors.Is(err, log.ErrStore):
+	case err == nil, errors.As(err, &known), errors.Is(err, context.DeadlineExceeded), errors.Is(err, context.Canceled), errors.Is(err, log.ErrStore), errors.Is(err, log.ErrBusy):
 		return err
 	case errors.Is(err, reader.ErrBusy):
 		return fmt.Errorf("%w: %v", log.ErrBusy, err)

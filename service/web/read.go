@@ -2,6 +2,8 @@ package web
 
 import (
 	"context"
+	"crypto/sha256"
+	"encoding/hex"
 	"errors"
 	"fmt"
 	"net/http"
@@ -23,12 +25,32 @@ func (f *Front) reading(r *http.Request) (context.Context, context.CancelFunc) {
 	return context.WithTimeout(r.Context(), f.limits.Reading)
 }
 
-// read reads an object of the log. What isn't for want of the object or of time is the store's fault.
+// How many bytes an object counts as until it is read: a data tile, or another one.
+const (
+	likelyEntries = 1 << 20
+	likelyOther   = 8 << 10
+)
+
+// read reads an object of the log, whose bytes count until the request is answered. What isn't for want of the object, of time or of room is
+// the store's fault.
 func (f *Front) read(ctx context.Context, name string) ([]byte, error) {
+	held, likely := heldIn(ctx), int64(likelyOther)
+	if strings.HasPrefix(name, "tile/data/") {
+		likely = likelyEntries
+	}
+	busy := func() error { return fmt.Errorf("%w: answers have %d bytes", log.ErrBusy, f.answers.used.Load()) }
+	if !held.change(likely) {
+		return nil, busy()
+	}
 	content, err := f.log.Object(ctx, name)
-	switch {
-	case err == nil:
+	if err == nil {
+		if !held.change(int64(len(content)) - likely) {
+			return nil, busy()
+		}
 		return content, nil
+	}
+	held.change(-likely)
+	switch {
 	case ctx.Err() != nil:
 		return nil, ctx.Err()
 	case errors.Is(err, stores.ErrAbsent), errors.Is(err, stores.ErrName):
@@ -57,7 +79,8 @@ func (f *Front) checkpoint(w http.ResponseWriter, r *http.Request) error {
 	return nil
 }
 
-// tile answers a tile of hashes or of entries. A partial one has its content for ever, too, but it goes once the full one stands.
+// tile answers a tile of hashes or of entries, which has as many as its name says: what a cache takes it keeps for ever. A partial one has its
+// content for ever, too, but it goes once the full one stands.
 func (f *Front) tile(w http.ResponseWriter, r *http.Request) error {
 	name, ok := readTileName(strings.TrimPrefix(r.URL.Path, "/tile/"))
 	if !ok {
@@ -68,6 +91,9 @@ func (f *Front) tile(w http.ResponseWriter, r *http.Request) error {
 	content, err := f.read(ctx, name.String())
 	if err != nil {
 		return err
+	}
+	if !name.isOf(content) {
+		return fmt.Errorf("%w: %s isn't a tile of %d", log.ErrStore, name, name.width)
 	}
 	keep := forEver
 	if name.width != fullWidth {
@@ -88,6 +114,9 @@ func (f *Front) issuer(w http.ResponseWriter, r *http.Request) error {
 	content, err := f.read(ctx, "issuer/"+fingerprint)
 	if err != nil {
 		return err
+	}
+	if hash := sha256.Sum256(content); hex.EncodeToString(hash[:]) != fingerprint {
+		return fmt.Errorf("%w: issuer/%s has another content", log.ErrStore, fingerprint)
 	}
 	f.object(w, forEver, "application/pkix-cert", content)
 	return nil

@@ -3,9 +3,11 @@ package web
 import (
 	"bytes"
 	"context"
+	"encoding/base64"
 	"encoding/json"
 	"fmt"
 	"net/http/httptest"
+	"net/url"
 	"strings"
 	"testing"
 	"time"
@@ -58,6 +60,80 @@ func TestObjectsAreServed(t *testing.T) {
 	}
 	for _, path := range []string{"/tile/0/002", "/tile/0/000.p/255", "/tile/1/000.p/2", "/tile/data/x001/000", "/issuer/" + strings.Repeat("0", 64)} {
 		refused(t, path, f.get(path), 404, "absent")
+	}
+}
+
+// What hasn't as many hashes or entries as its name says, or another hash than its name, is a fault of the store, and no cache keeps it.
+func TestDamagedObjectsAreNotServed(t *testing.T) {
+	f := newFixture(t, 0, nil)
+	f.fill(260)
+	for path, width := range map[string]int{
+		"/tile/0/000": 256, "/tile/0/001.p/4": 4, "/tile/data/000": 256, "/tile/data/001.p/4": 4, "/issuer/" + fingerprintOf(f.authority.Root.Raw): 1,
+	} {
+		content := f.get(path).Body.Bytes()
+		one := len(content) / width
+		with := func(more []byte) []byte { return append(append([]byte{}, content...), more...) }
+		for what, other := range map[string][]byte{
+			"empty": {}, "short": content[:len(content)-1], "one less": content[:len(content)-one], "long": with([]byte{0}), "one more": with(content[:one]),
+		} {
+			f.log.Change(path[1:], other)
+			refused(t, path+", "+what, f.get(path), 503, "store")
+		}
+		f.log.Change(path[1:], content)
+		if w := f.get(path); w.Code != 200 || !bytes.Equal(w.Body.Bytes(), content) {
+			t.Errorf("%s, put right: %d", path, w.Code)
+		}
+	}
+	issuer := "issuer/" + fingerprintOf(f.authority.Root.Raw)
+	bent := append([]byte{}, f.authority.Root.Raw...)
+	bent[7] ^= 1
+	f.log.Change(issuer, bent)
+	refused(t, "another issuer", f.get("/"+issuer), 503, "store")
+}
+
+// Where answers have as many bytes as they may, what reads objects is refused, and what reads none is not. What was read doesn't count behind
+// its answer, nor what wasn't there.
+func TestAnswersAreBounded(t *testing.T) {
+	f := newFixture(t, 0, func(o *Options) { o.Limits.AnswerBytes = 2 << 20 })
+	f.fill(260)
+	leaves, _ := f.leaves()
+	objects := []string{
+		"/tile/0/000", "/tile/data/000", "/issuer/" + fingerprintOf(f.authority.Root.Raw), "/ct/v1/get-entries?start=0&end=1",
+		"/ct/v1/get-proof-by-hash?tree_size=260&hash=" + url.QueryEscape(base64.StdEncoding.EncodeToString(leaves[1][:])), "/ct/v1/get-entry-and-proof?leaf_index=1&tree_size=260",
+	}
+	none := []string{"/checkpoint", "/ct/v1/get-sth", "/ct/v1/get-sth-consistency?first=0&second=7", "/healthz"}
+	answered := func(paths ...string) {
+		t.Helper()
+		for _, path := range paths {
+			if w := f.get(path); w.Code != 200 {
+				t.Errorf("%s: %d %s", path, w.Code, w.Body)
+			}
+		}
+	}
+	for i := 0; i < 3; i++ {
+		answered(objects...)
+		refused(t, "no tile", f.get("/tile/data/007"), 404, "absent")
+	}
+	// (issuers are at hand by now)
+	f.front.issuers.kept, f.front.issuers.bytes = nil, 0
+	const all = 2<<20 - 4096
+	if !f.front.answers.take(all) {
+		t.Fatalf("%d bytes are still counted", f.front.answers.used.Load())
+	}
+	for _, path := range objects {
+		w := f.get(path)
+		if refused(t, path, w, 503, "busy"); w.Header().Get("Retry-After") != "1" {
+			t.Errorf("%s: it isn't told when to come again", path)
+		}
+	}
+	answered(none...)
+	f.front.answers.give(all)
+	answered(objects...)
+	// One that has more bytes than it was taken to have.
+	f.log.Change("tile/data/001.p/4", dataTileOf(700000, 700000, 700000, 700000))
+	refused(t, "a large tile", f.get("/tile/data/001.p/4"), 503, "busy")
+	if used := f.front.answers.used.Load(); used != 0 {
+		t.Errorf("%d bytes are still counted", used)
 	}
 }
 
@@ -206,20 +282,25 @@ func TestParametersAreRefused(t *testing.T) {
 	}
 }
 
+// dataTileOf is a data tile of certificates of so many bytes.
+func dataTileOf(sizes ...int) []byte {
+	var b cryptobyte.Builder
+	for _, size := range sizes {
+		certificate := make([]byte, size)
+		b.AddUint64(7)
+		b.AddUint16(0)
+		b.AddUint24LengthPrefixed(func(b *cryptobyte.Builder) { b.AddBytes(certificate) })
+		b.AddUint16LengthPrefixed(func(b *cryptobyte.Builder) {})
+		b.AddUint16LengthPrefixed(func(b *cryptobyte.Builder) {})
+	}
+	return b.BytesOrPanic()
+}
+
 // An answer has as many bytes as the bound says, and one entry that has more by itself comes alone.
 func TestEntriesAreBoundedByBytes(t *testing.T) {
 	f := newFixture(t, 0, nil)
 	f.fill(3)
-	var b cryptobyte.Builder
-	for _, size := range []int{700000, MostEntryBytes + 1, 700000} {
-		big := make([]byte, size)
-		b.AddUint64(7)
-		b.AddUint16(0)
-		b.AddUint24LengthPrefixed(func(b *cryptobyte.Builder) { b.AddBytes(big) })
-		b.AddUint16LengthPrefixed(func(b *cryptobyte.Builder) {})
-		b.AddUint16LengthPrefixed(func(b *cryptobyte.Builder) {})
-	}
-	f.log.Change("tile/data/000.p/3", b.BytesOrPanic())
+	f.log.Change("tile/data/000.p/3", dataTileOf(700000, MostEntryBytes+1, 700000))
 	for start := uint64(0); start < 3; start++ {
 		if entries := f.entries(start, 2); len(entries) != 1 {
 			t.Errorf("%d entries from %d on", len(entries), start)

@@ -156,7 +156,11 @@ func TestSlowClients(t *testing.T) {
 		o.Limits.Submission, o.Limits.Answer = 100*time.Millisecond, 100*time.Millisecond
 	})
 	address, _ := f.listening(nil)
-	f.log.Change("tile/data/000", make([]byte, 32<<20))
+	sizes := make([]int, fullWidth)
+	for i := range sizes {
+		sizes[i] = 128 << 10
+	}
+	f.log.Change("tile/data/000", dataTileOf(sizes...))
 	slow := map[string]func(net.Conn){
 		"nothing at all": func(net.Conn) {},
 		"headers, a byte at a time": func(c net.Conn) {
@@ -194,6 +198,11 @@ func TestSlowClients(t *testing.T) {
 	greedy := dial(t, address)
 	greedy.(*net.TCPConn).SetReadBuffer(4096)
 	fmt.Fprintf(greedy, "GET /tile/data/000 HTTP/1.1\r\nHost: log\r\n\r\n")
+	for until := time.Now().Add(3 * time.Second); f.front.answers.used.Load() < 32<<20; time.Sleep(time.Millisecond) {
+		if time.Now().After(until) {
+			t.Fatal("the object that it doesn't take isn't counted")
+		}
+	}
 	if statuses := said(t, address, "GET /healthz HTTP/1.1\r\nHost: log\r\n\r\n"); fmt.Sprint(statuses) != "[200]" {
 		t.Errorf("another one: %v", statuses)
 	}
@@ -214,8 +223,8 @@ func TestSlowClients(t *testing.T) {
 			t.Fatalf("%d connections stay open", f.front.connections.open.Load())
 		}
 	}
-	if used := f.front.waiting.used.Load(); used != 0 {
-		t.Errorf("%d bytes are still counted", used)
+	if waiting, answers := f.front.waiting.used.Load(), f.front.answers.used.Load(); waiting != 0 || answers != 0 {
+		t.Errorf("%d and %d bytes are still counted", waiting, answers)
 	}
 }
 

@@ -6,6 +6,7 @@ import (
 	"errors"
 	"io"
 	"net/http"
+	"net/netip"
 
 	"wagtenib/service/chains"
 	"wagtenib/service/log"
@@ -32,9 +33,11 @@ func (f *Front) add(w http.ResponseWriter, r *http.Request, check func([][]byte)
 	if f.ending.Load() {
 		return refusal{status: http.StatusServiceUnavailable, name: "ended", after: 10, closes: true}
 	}
-	body, taken, err := f.body(r)
+	client := f.clientOf(r)
+	body, taken, err := f.body(r, client)
 	// What of it is kept, the entry, has fewer bytes than it; so they count until the answer is there.
 	defer f.waiting.give(taken)
+	defer f.waitingOf.giveSome(client, int(taken))
 	if err != nil {
 		return err
 	}
@@ -60,7 +63,7 @@ func timestampOf(place log.Place) signedTimestamp {
 
 // body reads a submission, and says how many bytes of the budget it took. A body whose length isn't said is refused: no client
 // of logs sends one, and where two programs on the way disagree about where it ends, one takes its rest for a request.
-func (f *Front) body(r *http.Request) (body []byte, taken int64, err error) {
+func (f *Front) body(r *http.Request, client netip.Addr) (body []byte, taken int64, err error) {
 	if r.ContentLength < 0 || len(r.TransferEncoding) > 0 {
 		return nil, 0, refusal{status: http.StatusLengthRequired, name: "length-required", closes: true}
 	}
@@ -72,7 +75,11 @@ func (f *Front) body(r *http.Request) (body []byte, taken int64, err error) {
 		n, err := r.Body.Read(piece)
 		if n > 0 {
 			// What came counts, and not what was announced: a client that sends nothing takes nothing.
+			if !f.waitingOf.takeSome(client, n) {
+				return nil, taken, refusal{status: http.StatusTooManyRequests, name: "too-many-bytes", after: 1, closes: true}
+			}
 			if !f.waiting.take(int64(n)) {
+				f.waitingOf.giveSome(client, n)
 				return nil, taken, refusal{status: http.StatusServiceUnavailable, name: "busy", after: 1, closes: true}
 			}
 			taken += int64(n)

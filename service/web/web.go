@@ -2,10 +2,11 @@
 // it answers comes from a log.Log, and which chains are taken a chains.Checker says.
 //
 // It speaks HTTP/1.1. Nothing in it grows without a bound: connections are counted, altogether and by address; bodies and the
-// submissions that wait have so many bytes together; each request has its time.
+// submissions that wait have so many bytes, together and by address, and objects in answers so many together; each request has its time.
 package web
 
 import (
+	"context"
 	"net/http"
 	"net/netip"
 	"runtime"
@@ -48,8 +49,19 @@ type Limits struct {
 	Connections, ConnectionsByAddress int
 	// Checks is how many chains are checked at once.
 	Checks int
-	// WaitingBytes is how many bytes the bodies of all submissions have that are read, checked or wait.
+	// WaitingBytes is how many bytes the bodies of all submissions have that are read, checked or wait. Those of one address have an eighth
+	// of it, and at least as many as one body may have.
 	WaitingBytes int64
+	// AnswerBytes is how many bytes the objects have that are read for answers, or sent.
+	AnswerBytes int64
+}
+
+// waitingByAddress is how many bytes the bodies of one address have.
+func (l Limits) waitingByAddress() int {
+	if l.WaitingBytes/8 > MostBody {
+		return int(l.WaitingBytes / 8)
+	}
+	return MostBody
 }
 
 // DefaultLimits are those of a log on one machine.
@@ -58,7 +70,7 @@ func DefaultLimits() Limits {
 		Headers: 10 * time.Second, Request: 20 * time.Second, Submission: 30 * time.Second, Reading: 10 * time.Second,
 		Answer: 60 * time.Second, Idle: 60 * time.Second,
 		Connections: 4096, ConnectionsByAddress: 64,
-		Checks: 2 * runtime.GOMAXPROCS(0), WaitingBytes: 64 << 20,
+		Checks: 2 * runtime.GOMAXPROCS(0), WaitingBytes: 64 << 20, AnswerBytes: 512 << 20,
 	}
 }
 
@@ -84,6 +96,8 @@ type Front struct {
 	ending      atomic.Bool
 	checks      chan struct{}
 	waiting     budget
+	waitingOf   counts
+	answers     budget
 	requests    counts
 	connections connections
 	roots       atomic.Pointer[encodedRoots]
@@ -98,9 +112,11 @@ func New(of log.Log, proofs *reader.Reader, checker *chains.Checker, options Opt
 	}
 	f := &Front{
 		log: of, reader: proofs, checker: checker, options: options, limits: limits,
-		checks:   make(chan struct{}, limits.Checks),
-		waiting:  budget{most: limits.WaitingBytes},
-		requests: counts{most: limits.ConnectionsByAddress},
+		checks:    make(chan struct{}, limits.Checks),
+		waiting:   budget{most: limits.WaitingBytes},
+		waitingOf: counts{most: limits.waitingByAddress()},
+		answers:   budget{most: limits.AnswerBytes},
+		requests:  counts{most: limits.ConnectionsByAddress},
 	}
 	f.connections.byAddress.most = limits.ConnectionsByAddress
 	f.metrics = newMetrics(f)
@@ -176,7 +192,9 @@ func (f *Front) ServeHTTP(w http.ResponseWriter, r *http.Request) {
 		return
 	}
 	defer f.requests.give(client)
-	if err := f.serve(c, a, r); err != nil {
+	own := &held{of: &f.answers}
+	defer own.giveAll()
+	if err := f.serve(c, a, r.WithContext(context.WithValue(r.Context(), heldKey{}, own))); err != nil {
 		f.refuse(a, refusalOf(err))
 	}
 }

@@ -232,6 +232,35 @@ func TestBodiesAreRefused(t *testing.T) {
 	}
 }
 
+// The bodies of one address have an eighth of what all have, or as much as one may; another address has its own.
+func TestBytesByAddress(t *testing.T) {
+	for _, test := range []struct{ all, one int }{{64 << 20, 8 << 20}, {3 << 20, MostBody}} {
+		f := newFixture(t, 5*time.Millisecond, func(o *Options) { o.Limits.WaitingBytes = int64(test.all) })
+		client, same := netip.MustParseAddr("2001:db8::1"), "[2001:db8::2:3]:7"
+		from := func(peer string) *httptest.ResponseRecorder {
+			r := httptest.NewRequest("POST", "/ct/v1/add-chain", bytes.NewReader(standin.Submission(f.issue(false))))
+			r.RemoteAddr = peer
+			w := httptest.NewRecorder()
+			f.front.ServeHTTP(w, r)
+			return w
+		}
+		if !f.front.waitingOf.takeSome(client, test.one) || f.front.waitingOf.takeSome(client, 1) {
+			t.Errorf("of %d bytes one address hasn't %d", test.all, test.one)
+		}
+		refused(t, "the same address", from(same), 429, "too-many-bytes")
+		if w := from("[2001:db8:0:1::1]:7"); w.Code != 200 {
+			t.Errorf("another address: %d %s", w.Code, w.Body)
+		}
+		f.front.waitingOf.giveSome(client, test.one)
+		if w := from(same); w.Code != 200 {
+			t.Errorf("the same address, behind it: %d %s", w.Code, w.Body)
+		}
+		if used := f.front.waiting.used.Load(); used != 0 || len(f.front.waitingOf.of) != 0 {
+			t.Errorf("%d bytes and %v are still counted", used, f.front.waitingOf.of)
+		}
+	}
+}
+
 // What the log answers comes out with its status, and where it is of a moment, with the time to ask again.
 func TestErrorsOfTheLog(t *testing.T) {
 	f := newFixture(t, 10*time.Millisecond, func(o *Options) { o.Limits.Submission, o.Limits.Reading = 50*time.Millisecond, 50*time.Millisecond })
@@ -416,7 +445,7 @@ func TestMetricsAndHealth(t *testing.T) {
 		`ctserve_refusals_total{call="add-chain",refusal="empty-chain"} 1`,
 		`ctserve_request_seconds_count{call="checkpoint"} 1`,
 		"ctserve_entries 5", "ctserve_queue 0", "ctserve_queue_most 1024", "ctserve_lost_swaps_total 3", "ctserve_fault 0", "ctserve_roots 1",
-		"ctserve_swept_tiles_total 4", "ctserve_scrubbed_tiles_total 5", "ctserve_damaged_tiles 6", "ctserve_signer_starts_total 7", "ctserve_waiting_bytes 0", `ctserve_connections_refused_total{bound="address"} 0`,
+		"ctserve_swept_tiles_total 4", "ctserve_scrubbed_tiles_total 5", "ctserve_damaged_tiles 6", "ctserve_signer_starts_total 7", "ctserve_waiting_bytes 0", "ctserve_answer_bytes 0", `ctserve_connections_refused_total{bound="address"} 0`,
 	} {
 		if !strings.Contains(w.Body.String(), line+"\n") {
 			t.Errorf("/metrics lacks %s", line)
@@ -437,6 +466,56 @@ func TestMetricsAndHealth(t *testing.T) {
 		var told map[string]any
 		if err := json.Unmarshal([]byte(line), &told); err != nil || told["event"] != "request" || told["time"] == "" {
 			t.Errorf("a line: %s: %v", line, err)
+		}
+	}
+}
+
+// What of the log is damaged is told by its name, and doesn't make it unready; what keeps it from going on does. Each is told once, and so is
+// its end.
+func TestFaultsAndDamageAreTold(t *testing.T) {
+	f := newFixture(t, 0, nil)
+	f.fill(1)
+	ctx, cancel := context.WithCancel(context.Background())
+	done := make(chan struct{})
+	go func() {
+		defer close(done)
+		f.front.Tell(ctx, time.Millisecond)
+	}()
+	tells := func(what string) {
+		t.Helper()
+		for until := time.Now().Add(20 * time.Second); !strings.Contains(f.lines.String(), what); time.Sleep(time.Millisecond) {
+			if time.Now().After(until) {
+				t.Fatalf("it isn't told: %s", what)
+			}
+		}
+	}
+	measures := func(line string) {
+		t.Helper()
+		w := httptest.NewRecorder()
+		f.front.Operator().ServeHTTP(w, httptest.NewRequest("GET", "/metrics", nil))
+		if !strings.Contains(w.Body.String(), "\n"+line+"\n") {
+			t.Errorf("/metrics lacks %s", line)
+		}
+	}
+	f.log.Bend("tile/data/007 is missing")
+	tells(`"level":"error","event":"damage","detail":"tile/data/007 is missing","tiles":6}`)
+	if w := f.get("/readyz"); w.Code != 200 {
+		t.Errorf("/readyz with a damaged tile: %d %s", w.Code, w.Body)
+	}
+	measures("ctserve_fault 0")
+	f.log.Break(errors.New("no disk"))
+	tells(`"level":"error","event":"fault","detail":"no disk"}`)
+	refused(t, "/readyz", f.get("/readyz"), 503, "fault")
+	measures("ctserve_fault 1")
+	f.log.Break(nil)
+	f.log.Bend("")
+	tells(`"event":"mended","detail":"no disk"}`)
+	tells(`"event":"mended","detail":"tile/data/007 is missing"}`)
+	cancel()
+	<-done
+	for _, event := range []string{"fault", "damage"} {
+		if count := strings.Count(f.lines.String(), `"event":"`+event+`"`); count != 1 {
+			t.Errorf("%s is told %d times", event, count)
 		}
 	}
 }

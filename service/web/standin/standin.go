@@ -30,6 +30,8 @@ type Log struct {
 	MostQueue int
 	// Fault, where it isn't nil, is what each call gives.
 	Fault error
+	// Damage is what its figures say of a tile that is damaged.
+	Damage string
 	// Slow is how long each reading takes.
 	Slow time.Duration
 
@@ -275,6 +277,13 @@ func (l *Log) Break(err error) {
 	l.Fault = err
 }
 
+// Bend has its figures tell of damage; an empty text ends that.
+func (l *Log) Bend(damage string) {
+	l.mutex.Lock()
+	defer l.mutex.Unlock()
+	l.Damage = damage
+}
+
 // IndexOf is log.Log's.
 func (l *Log) IndexOf(ctx context.Context, leafHash [32]byte) (uint64, error) {
 	if err := l.slowly(ctx); err != nil {
@@ -309,7 +318,7 @@ func (l *Log) Figures() log.Figures {
 	figures := log.Figures{
 		Queue: len(l.waiting), MostQueue: l.MostQueue, Entries: l.head.TreeSize,
 		HeadAge: time.Since(time.UnixMilli(int64(l.head.Timestamp))), LostSwaps: 3,
-		Swept: 4, Scrubbed: 5, Damaged: 6, SignerStarts: 7,
+		Swept: 4, Scrubbed: 5, Damaged: 6, Damage: l.Damage, SignerStarts: 7,
 	}
 	if l.Fault != nil {
 		figures.Fault = l.Fault.Error()
