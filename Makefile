@@ -11,7 +11,8 @@ FOLDER ?= ct-log
 PROGRAMS := ctlog ctlogd ctmonitor ctguard cttile ctproof
 LIBRARY = $(BUILT)/wagtenib/out/link/libwagtenib
 VERSION = $(shell sed -n 's/^Version: //p' include/wagtenib.pc.in)
-TO = $(DESTDIR)$(PREFIX)
+# (a shell expands no ~ in quotes)
+TO = $(DESTDIR)$(PREFIX:~/%=$(HOME)/%)
 
 help: ## says what each target does
 	@sed -n 's/^\([a-z-]*\):.*## /make \1	/p' Makefile | expand -t 24
@@ -33,7 +34,7 @@ check: ## for daily work: proves what changed
 	@$(MAKE) --silent sources
 
 serve: ## serves a log over HTTP at PORT=8618 out of the folder FOLDER=ct-log, by ctserve over cttile, ctguard and ctproof; builds what isn't built
-	@service/serve.sh "$(FOLDER)" "$(PORT)"
+	@service/serve.sh "$(FOLDER:~/%=$(HOME)/%)" "$(PORT)"
 
 service: ## builds service/out/ctserve, the service in Go (docs/OPERATING.md), and ctcheck, ctload and ctread
 	@checks/needs.sh service
@@ -57,13 +58,13 @@ service-clients: ## has certspotter, Google's client library, x/mod's tlog and c
 # LOAD=no leaves the loader and the reader out.
 cluster: ## runs three nodes of ctserve on engines of their own in CLUSTER=ct-cluster (etcd, Ceph's S3; from PORT=8618 on), with a loader and a reader
 	@checks/needs.sh service
-	@service/cluster.sh start "$(CLUSTER)" "$(PORT)"
+	@service/cluster.sh start "$(CLUSTER:~/%=$(HOME)/%)" "$(PORT)"
 
 cluster-status: ## says what runs of it
-	@service/cluster.sh status "$(CLUSTER)"
+	@service/cluster.sh status "$(CLUSTER:~/%=$(HOME)/%)"
 
 cluster-stop: ## ends it, and judges what it published and answered
-	@service/cluster.sh stop "$(CLUSTER)"
+	@service/cluster.sh stop "$(CLUSTER:~/%=$(HOME)/%)"
 
 link: ## builds libwagtenib, the proof checkers for C, and runs programs in C, Rust and Python over it
 	@checks/needs.sh link

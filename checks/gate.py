@@ -130,7 +130,10 @@ def main():
             edits = put_in()
             names = sorted({edit.parent.parent.name for edit in edits})
             print(f"Of the wrong bodies that are tried by turns, it tries those of {', '.join(names) or 'no crate'}.", flush=True)
-            sys.exit(run())
+            status = run()
+            if gone := [edit.name for edit in edits if not edit.exists()]:
+                sys.exit(f"gate.py: {len(gone)} edits were taken out of must-fail while it ran, {gone[0]} among them: run it once more")
+            sys.exit(status)
         finally:
             put_out(edits)
 

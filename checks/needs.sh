@@ -70,6 +70,7 @@ fi
 case $what in
   demo) tools="awk cmp cut diff grep mktemp realpath sed seq sort tail uniq wc" ;; # (and a C compiler, where its part is to be linked)
   link) tools="${CC:-cc} ar mktemp nm sed" ;;
+  check | test) tools="cmp rm" ;;
   *) tools= ;;
 esac
 for tool in $tools; do

@@ -63,7 +63,7 @@ class Crates:
         return self.is_program(name) or name in self.archives
 
     def sources(self, name):
-        return [path for part in ("src", "specs", "proofs") for path in (ROOT / "crates" / name / part).rglob("*") if path.is_file()]
+        return [path for part in ("src", "specs", "proofs") for path in (ROOT / "crates" / name / part).rglob("*") if path.is_file() and not path.name.startswith(".")]
 
     def size(self, name):
         """A crate's bytes, by which its proof's time is guessed."""

@@ -11,13 +11,13 @@ import os
 import pathlib
 import shutil
 import signal
-import socket
+import stat
 import subprocess
 import sys
 import tempfile
 
 ROOT = pathlib.Path(__file__).resolve().parent.parent
-sys.path.append(str(ROOT / "checks"))
+sys.path.insert(1, str(ROOT / "checks"))
 
 import documents  # noqa: E402
 import wrong_bodies  # noqa: E402
@@ -76,15 +76,18 @@ def hold(what, found, due):
 
 
 def try_gate(repository):
-    """The gate has the edits in must-fail while rt runs, and none behind it: where it ends, and where its terminal does. Git isn't there."""
+    """The gate has the edits in must-fail while rt runs, and none behind it: where it ends, where its terminal does, and
+    where one of them goes meanwhile. Git isn't there."""
     looks = "cmp -s crates/made_up/by-turns/whole.edit crates/made_up/must-fail/whole.edit || exit 3"
     repository.put("must-fail", OWN)
     alone = repository.folder / "alone"
     alone.mkdir()
-    (alone / "cmp").symlink_to(shutil.which("cmp"))
+    for tool in ("cmp", "rm"):
+        (alone / tool).symlink_to(shutil.which(tool))
     for what, rt, status in (
         ("a gate", f"{looks}; echo >crates/made_up/by-turns/cut.edit; echo 1 passed, 0 failed", 0),
         ("a gate whose terminal ends", f"{looks}; kill -HUP $PPID", 1),
+        ("a gate whose edits go meanwhile", f"{looks}; rm crates/made_up/must-fail/whole.edit; echo 1 passed, 0 failed", 1),
     ):
         ended, said = repository.run("checks/gate.py", rt=rt, path=alone)
         hold(f"{what} ends with {said}", ended, status)
@@ -142,8 +145,7 @@ def try_sockets(folder):
     for path in ("ct-log/entries", "crates/made_up/out/made", "docs/page.md"):
         (folder / path).parent.mkdir(parents=True)
         (folder / path).write_text("text")
-    with socket.socket(socket.AF_UNIX) as listening:
-        listening.bind(str(folder / "docs" / "socket"))
+    os.mknod(folder / "docs" / "socket", stat.S_IFSOCK | 0o600)
     documents.ROOT = folder
     hold("the files are", list(map(str, documents.files())), ["docs/page.md"])
     found = [*wrong_bodies.passed_over(folder, os.listdir(folder)), *wrong_bodies.passed_over(folder / "docs", ["page.md", "socket"])]

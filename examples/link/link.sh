@@ -44,7 +44,7 @@ else
   echo "Rust: not tried, no rustc here"
 fi
 python3 examples/link/verify.py "$out/libwagtenib.so" <"$work/cases"
-if command -v valgrind >/dev/null; then
+if command -v valgrind >/dev/null && valgrind --quiet true 2>/dev/null; then
   "$compiler" $flags -g examples/link/verify.c "$out/libwagtenib.a" -o "$work/plain"
   valgrind --quiet --leak-check=full --error-exitcode=3 "$work/plain" <"$work/cases" | sed 's/^C:/C under valgrind:/'
 fi

@@ -70,6 +70,8 @@ disk_full() {
 }
 
 unreachable() {
+  # (what curl ends with where it can't write what comes)
+  [ $? != 23 ] || disk_full || return
   say "can't be reached: $1: $(tail -n 1 fault)"
   [ "$count" -gt 1 ] || echo '{"error":"unreachable"}' >>verdicts
   return 5
@@ -119,7 +121,7 @@ get_tiles() {
   case $status$1 in
     22*.p/*) set -- "${1%.p/*}" && fetch "$1" && status=0 ;;
   esac
-  [ $status = 0 ] || unreachable "$1" || return
+  (exit $status) || unreachable "$1" || return
   tile_lines "$@" >answer || disk_full
 }
 
@@ -143,10 +145,16 @@ alarm() {
   say "ALARM, $where: $(grep -E '"(fork|shrunk|time-not-later|root-mismatch|inconsistent|older-than-entry|wrong-index)"' told | tail -n 1)"
 }
 
+# Adds the file $1 to the end of the file $2: all of it, or nothing.
+add() {
+  had=$(wc -c 2>fault <"$2" || echo 0)
+  cat "$1" >>"$2" || { truncate -s "$had" "$2" 2>fault; return 1; }
+}
+
 # Keeps a new head as it came, with its signature, before the state has it: so one may stand there twice, and none is left out.
 keep_head() {
   [ $is_head = yes ] && ! grep -qE '"verdict":"(again|stale)"' told || return 0
-  { cat got/1 && echo; } >text && cat text >>heads && sync heads
+  { cat got/1 && echo; } >text && add text heads && sync heads
 }
 
 # Has ctmonitor judge the answer behind the state. At status 0 alone its state takes the place of the old one, behind its verdicts and the head, and
@@ -170,7 +178,7 @@ judge() {
     4) say "a line was none, or the state is damaged; the state is left as it was: $(grep '"error"' told | tail -n 1)" ;;
     *) say "ctmonitor ended with status $status"; return 1 ;;
   esac
-  if ! sed '$d' told >>verdicts; then
+  if ! { sed '$d' told >text && add text verdicts; }; then
     say "the verdicts can't be written; the state is left as it was"
     [ $status != 0 ] || return 1
   fi

@@ -167,7 +167,7 @@ func TestDamagedRepeats(t *testing.T) {
 		must(t, os.WriteFile(path, bent, 0o644))
 		wants(t, beside(t, got, s, repeat, 300, 310), log.ErrStore, ErrDamaged)
 		must(t, os.WriteFile(path, content, 0o644))
-		again(t, got, s, repeat, ErrDamaged)
+		again(t, got, s, repeat, log.ErrStore)
 		if report := p.right(t, got); report.Leaves != 310 {
 			t.Fatalf("%+v", report)
 		}
@@ -578,7 +578,8 @@ func TestHandedBackWrong(t *testing.T) {
 						t.Errorf("%d %s", reply.Code, reply.Body)
 						return
 					}
-					bend(&back, other.Load().(handedPlace))
+					first, _ := other.Load().(handedPlace)
+					bend(&back, first)
 					bent.Add(1)
 					json.NewEncoder(w).Encode(back)
 				})
@@ -589,10 +590,16 @@ func TestHandedBackWrong(t *testing.T) {
 			first := got.all[0]
 			other.Store(handedPlace{LeafIndex: uint64(first.Extensions[7]), Timestamp: first.Timestamp, Signature: first.Signature})
 			must(t, got.submitAll(ctx, nodes[1], 10, 60, 8))
+			leaves := 60
+			// (on a slow machine the other node isn't the one that set the newest state any more)
+			for ; bent.Load() == 0 && leaves < 70; leaves += 2 {
+				must(t, got.submitAll(ctx, nodes[0], leaves, leaves+1, 1))
+				must(t, got.submitAll(ctx, nodes[1], leaves+1, leaves+2, 1))
+			}
 			if f := nodes[1].Figures(); f.HandedOver != 0 || bent.Load() == 0 {
 				t.Errorf("%d of %d batches: %+v", f.HandedOver, bent.Load(), f)
 			}
-			if report := p.right(t, got); report.Leaves != 60 {
+			if report := p.right(t, got); report.Leaves != leaves {
 				t.Fatalf("%+v", report)
 			}
 		})

@@ -140,6 +140,8 @@ func (s *Sequencer) answerRepeats(ctx context.Context, k known, batch []*waiting
 		s.later = len(later) > 0
 	}()
 	var all []timestamp
+	// (where no object is read, no tile counts as damaged)
+	var isOne, asked bool
 	for i, w := range repeats {
 		place, began := found[w.identity], time.Now()
 		receipt, err := tree.receiptAt(place, k.line, w)
@@ -151,8 +153,13 @@ func (s *Sequencer) answerRepeats(ctx context.Context, k known, batch []*waiting
 			later = append(later, w)
 			continue
 		}
+		if unread && !asked {
+			isOne, asked = s.isOne(ctx), true
+		}
 		if errors.Is(err, ErrDamaged) || unread {
-			s.noteDamage(place.Index/tileWidth, err)
+			if !unread || isOne {
+				s.noteDamage(place.Index/tileWidth, err)
+			}
 			s.queue.answer(w, answer{err: fault{log.ErrStore, err}})
 			continue
 		}
@@ -166,7 +173,7 @@ func (s *Sequencer) answerRepeats(ctx context.Context, k known, batch []*waiting
 		}
 		known, all = append(known, w), append(all, timestamp{receipt.LeafIndex, receipt.Timestamp, receipt.Sign})
 	}
-	places, err := s.signTimestamps(ctx, all, nil)
+	places, err := s.signTimestamps(ctx, all, fresh(tree.tiles.seen))
 	if err != nil {
 		return append(known, rest...), err
 	}
@@ -184,7 +191,7 @@ type tree struct {
 	tiles  *tiles
 	hashes tlog.HashReader
 	ctx    context.Context
-	// left is for how long it reads the store yet, and damaged says that what it reads is known to be.
+	// left is for how long it begins to read entries yet, and damaged says that what it reads is known to be.
 	left    time.Duration
 	damaged bool
 	// name and leaves are the data tile's that was read last.
@@ -203,18 +210,14 @@ func (s *Sequencer) treeOf(ctx context.Context, state step.State) *tree {
 // errNotYet: it isn't read in this round any more.
 var errNotYet = errors.New("sequencer: reading took too long")
 
-// read reads an object. All that repeats want of the store in one round takes Patience at most, and of what is known to be damaged each
-// object a tenth of it: the others wait that long.
+// read reads an object. Each has Patience, and where it is known to be damaged a tenth of it: one that doesn't come keeps no round for longer.
 func (t *tree) read(ctx context.Context, name string) ([]byte, error) {
 	if content, ok := t.s.edge[name]; ok {
 		return content, nil
 	}
-	if t.left <= 0 {
-		return nil, errNotYet
-	}
-	most := t.left
-	if brief := t.s.config.Patience / 10; t.damaged && most > brief {
-		most = brief
+	most := t.s.config.Patience
+	if t.damaged {
+		most /= 10
 	}
 	ctx, cancel := context.WithTimeout(ctx, most)
 	defer cancel()
@@ -225,10 +228,14 @@ func (t *tree) read(ctx context.Context, name string) ([]byte, error) {
 }
 
 // leafAt gives the entry at an index, whose leaf hash is the tree's; none where the tree has no such index. A data tile that is
-// missing, or isn't the tree's, is ErrDamaged, and one that can't be read errUnread.
+// missing, or isn't the tree's, is ErrDamaged, and one that can't be read errUnread. Where reading took Patience already in this round, none is
+// begun.
 func (t *tree) leafAt(index uint64) (*leaf, error) {
 	if index >= t.state.Size {
 		return nil, nil
+	}
+	if t.left <= 0 {
+		return nil, errNotYet
 	}
 	t.tiles.failed, t.damaged = nil, t.s.isDamaged(index/tileWidth)
 	tile := tlog.Tile{H: tileHeight, L: -1, N: int64(index / tileWidth), W: tileWidth}

@@ -69,11 +69,12 @@ func (s *Sequencer) loop(ctx context.Context) {
 	}
 }
 
-// isOut says whether the newest state that was learned is known to be rolled out.
+// isOut says whether this node's newest state is known to be rolled out. One that another node set stands behind it: that one rolled it out first.
 func (s *Sequencer) isOut() bool {
 	s.mu.Lock()
 	defer s.mu.Unlock()
-	return s.newest.state.IsBegin() || s.newest.line == s.rolled
+	ofAnother := s.config.Address != "" && s.newest.node != "" && s.newest.node != s.config.Address
+	return s.newest.state.IsBegin() || s.newest.line == s.rolled || ofAnother
 }
 
 // idle waits for a submission, or until the register is looked at anyway.

@@ -70,18 +70,27 @@ func (s *Sequencer) tend(ctx context.Context) {
 	}
 }
 
-// briefly does something for as long as Patience: what doesn't answer keeps the tender from nothing else.
-func (t *tender) briefly(ctx context.Context, do func(context.Context) error) error {
-	ctx, cancel := context.WithTimeout(ctx, t.s.config.Patience)
+// briefly does something for as long as Patience: what doesn't answer keeps nothing else waiting.
+func (s *Sequencer) briefly(ctx context.Context, do func(context.Context) error) error {
+	ctx, cancel := context.WithTimeout(ctx, s.config.Patience)
 	defer cancel()
 	return do(ctx)
 }
 
+// readBriefly is readStore for as long as Patience.
+func (s *Sequencer) readBriefly(ctx context.Context, name string) (content []byte, err error) {
+	err = s.briefly(ctx, func(ctx context.Context) (err error) {
+		content, err = s.readStore(ctx, name)
+		return err
+	})
+	return content, err
+}
+
 // isOne says whether what failed is one object, and not the store: the newest head is read, or is said to be missing.
-func (t *tender) isOne(ctx context.Context) bool {
-	head := t.s.seen()
-	return head != nil && t.briefly(ctx, func(ctx context.Context) error {
-		_, err := t.s.config.Objects.Get(ctx, headName(step.State{Size: head.TreeSize, Moment: head.Timestamp}), mostNote)
+func (s *Sequencer) isOne(ctx context.Context) bool {
+	head := s.seen()
+	return head != nil && s.briefly(ctx, func(ctx context.Context) error {
+		_, err := s.config.Objects.Get(ctx, headName(step.State{Size: head.TreeSize, Moment: head.Timestamp}), mostNote)
 		if errors.Is(err, stores.ErrAbsent) {
 			return nil
 		}
@@ -178,7 +187,7 @@ func (t *tender) sweep(ctx context.Context) (first error) {
 		for ; left > 0 && t.swept[at] < fullTiles(level, t.settled); left-- {
 			tile := tlog.Tile{H: tileHeight, L: level, N: int64(t.swept[at]), W: tileWidth}
 			err := t.sweepTile(ctx, tile)
-			if err != nil && !errors.Is(err, ErrDamaged) && !(t.isOne(ctx) && t.unswept.last(tile)) {
+			if err != nil && !errors.Is(err, ErrDamaged) && !(t.s.isOne(ctx) && t.unswept.last(tile)) {
 				return err
 			}
 			if err != nil {
@@ -194,7 +203,7 @@ func (t *tender) sweep(ctx context.Context) (first error) {
 func (t *tender) sweepTile(ctx context.Context, tile tlog.Tile) error {
 	objects, name := t.s.config.Objects, tileName(tile)
 	var partials []string
-	err := t.briefly(ctx, func(ctx context.Context) (err error) {
+	err := t.s.briefly(ctx, func(ctx context.Context) (err error) {
 		partials, err = objects.List(ctx, name+partial, "", tileWidth)
 		return err
 	})
@@ -202,11 +211,11 @@ func (t *tender) sweepTile(ctx context.Context, tile tlog.Tile) error {
 		return err
 	}
 	// As long as the full one isn't whole, they are what is left of it.
-	if err := t.briefly(ctx, func(ctx context.Context) error { return t.whole(ctx, tile) }); err != nil {
+	if err := t.whole(ctx, tile); err != nil {
 		return err
 	}
 	for _, partial := range partials {
-		if err := t.briefly(ctx, func(ctx context.Context) error { return objects.Delete(ctx, partial) }); err != nil {
+		if err := t.s.briefly(ctx, func(ctx context.Context) error { return objects.Delete(ctx, partial) }); err != nil {
 			return err
 		}
 		t.s.swept.Add(1)
@@ -240,7 +249,7 @@ func (t *tender) readNext(ctx context.Context) {
 		t.read = 0
 	}
 	err := t.readAgain(ctx, t.read)
-	if err != nil && (t.s.isDamaged(t.read) || t.isOne(ctx) && t.unread.last(tlog.Tile{N: int64(t.read)})) {
+	if err != nil && (t.s.isDamaged(t.read) || t.s.isOne(ctx) && t.unread.last(tlog.Tile{N: int64(t.read)})) {
 		t.s.noteDamage(t.read, err)
 		err = nil
 	}
@@ -271,7 +280,7 @@ func (t *tender) readAgain(ctx context.Context, tile uint64) error {
 	if head == nil || tile > fullTiles(-1, head.TreeSize) {
 		return fmt.Errorf("sequencer: no head with data tile %d was seen", tile)
 	}
-	err := t.briefly(ctx, func(ctx context.Context) error { return s.scrub(ctx, treeUnder(head), tile) })
+	err := s.scrub(ctx, treeUnder(head), tile)
 	if errors.Is(err, ErrDamaged) {
 		s.noteDamage(tile, err)
 		return nil
@@ -285,7 +294,7 @@ func (t *tender) readAgain(ctx context.Context, tile uint64) error {
 	return nil
 }
 
-// scrub compares the entries of a data tile with a tree.
+// scrub compares the entries of a data tile with a tree. Each object has Patience to come.
 func (s *Sequencer) scrub(ctx context.Context, of tlog.Tree, index uint64) error {
 	width := tileWidth
 	if left := of.N - int64(index*tileWidth); left < tileWidth {
@@ -295,7 +304,7 @@ func (s *Sequencer) scrub(ctx context.Context, of tlog.Tree, index uint64) error
 		return nil
 	}
 	name := tileName(tlog.Tile{H: tileHeight, L: -1, N: int64(index), W: width})
-	content, err := s.readStore(ctx, name)
+	content, err := s.readBriefly(ctx, name)
 	if err != nil {
 		return err
 	}
@@ -325,7 +334,7 @@ func (s *Sequencer) scrub(ctx context.Context, of tlog.Tree, index uint64) error
 
 // storedHashes reads hashes of a tree out of the store's tiles, for a tile.
 func (s *Sequencer) storedHashes(ctx context.Context, of tlog.Tree, wanted []int64, tile string) ([]tlog.Hash, error) {
-	reader := &tiles{ctx: ctx, read: s.readStore, seen: map[string][]byte{}}
+	reader := &tiles{ctx: ctx, read: s.readBriefly, seen: map[string][]byte{}}
 	hashes, err := tlog.TileHashReader(of, reader).ReadHashes(wanted)
 	if reader.failed != nil {
 		return nil, reader.failed

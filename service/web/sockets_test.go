@@ -153,7 +153,7 @@ func TestUnclearRequests(t *testing.T) {
 func TestSlowClients(t *testing.T) {
 	f := newFixture(t, 10*time.Millisecond, func(o *Options) {
 		o.Limits.Headers, o.Limits.Request, o.Limits.Idle = 200*time.Millisecond, 400*time.Millisecond, 300*time.Millisecond
-		o.Limits.Submission, o.Limits.Answer = 100*time.Millisecond, 100*time.Millisecond
+		o.Limits.Submission, o.Limits.Answer = 100*time.Millisecond, time.Second
 	})
 	address, _ := f.listening(nil)
 	sizes := make([]int, fullWidth)

@@ -389,8 +389,9 @@ def try_no_tiles(watch):
     watch.ends("more leaves than the shell can count", 5, huge.url, says="can't be reached: tile/data/000")
 
 
-# Stand before `tr`, `sync` and `cp` where the disk is full, or where the run is killed as its state is in place.
+# Stand before `tr`, `cat`, `sync` and `cp` where the disk is full, or where the run is killed as its state is in place.
 NO_ANSWER = '[ "$1" != -d ] || exit 1; PATH=${PATH#*:}; exec tr "$@"'
+CUT_OFF = 'PATH=${PATH#*:}; [ "$1" != text ] || { head -c 9 text; exit 1; }; exec cat "$@"'
 KILLING = '[ "$1" != . ] || kill -9 0'
 
 
@@ -399,10 +400,17 @@ def try_full_disk(watch):
     log = Log()
     with watch.instead("tr", NO_ANSWER):
         watch.leaves_unchanged("an answer that can't be written", 1, log, says="an answer can't be written")
+    with watch.instead("curl", "exit 23"):
+        watch.leaves_unchanged("an answer that curl can't write", 1, log, says="an answer can't be written")
     for file, says in (("verdicts", "the verdicts can't be written"), ("heads", "the head can't be kept")):
         watch.path(log, file).mkdir()
         watch.leaves_unchanged(f"{file} that can't be written", 1, log, says=says)
         watch.path(log, file).rmdir()
+    before = watch.path(log, "verdicts").read_text()
+    with watch.instead("cat", CUT_OFF):
+        watch.leaves_unchanged("verdicts that are cut off", 1, log, says="the verdicts can't be written")
+    if watch.path(log, "verdicts").read_text() != before:
+        fail(f"verdicts that are cut off: there stands {watch.path(log, 'verdicts').read_text()}")
     watch.ends("a disk with room again", 0, log.url, says="accepted 8 leaves")
     log.leaves = FORKED
     with watch.instead("cp", "exit 1"):
@@ -493,6 +501,8 @@ def try_signatures(folder):
         ran.stdin.flush()
         ran.stdout.readline()
         ran.terminate()
+        # (a signal that comes just before a shell reads is taken behind what it reads)
+        ran.stdin.close()
         ran.wait()
     if ran.returncode != 1 or os.listdir(room):
         fail(f"signature.sh, ended by a signal: status {ran.returncode}, and there is left {os.listdir(room)}")
