@@ -9,6 +9,7 @@ import (
 
 	"golang.org/x/mod/sumdb/tlog"
 
+	"wagtenib/service/hashtiles"
 	"wagtenib/service/log"
 	"wagtenib/service/step"
 	"wagtenib/service/stores"
@@ -41,39 +42,11 @@ const mostSeen = 512
 
 func (t *tiles) Height() int { return tileHeight }
 
-// SaveTiles looks at what tlog has checked: it compares those at the tree's right edge with the root, and of the others, in the x/mod of
-// Debian 12, some with nothing. Each of them has the hash that the tile above it has of it.
+// SaveTiles looks at what tlog has checked.
 func (t *tiles) SaveTiles(read []tlog.Tile, contents [][]byte) {
-	type place struct {
-		level int
-		index int64
+	if bent, found := hashtiles.Bent(read, contents); found && t.failed == nil {
+		t.failed = fmt.Errorf("%w: %s isn't the one that the tile above it has", ErrDamaged, tileName(bent))
 	}
-	at := map[place][]byte{}
-	for i, tile := range read {
-		at[place{tile.L, tile.N}] = contents[i]
-	}
-	for i, tile := range read {
-		above, ok := at[place{tile.L + 1, tile.N / tileWidth}]
-		if from := int(tile.N % tileWidth * tlog.HashSize); ok && tile.W == tileWidth && t.failed == nil {
-			if root := rootOf(contents[i]); len(above) < from+tlog.HashSize || string(root[:]) != string(above[from:from+tlog.HashSize]) {
-				t.failed = fmt.Errorf("%w: %s isn't the one that the tile above it has", ErrDamaged, tileName(tile))
-			}
-		}
-	}
-}
-
-// rootOf is the Merkle Tree Hash of a full tile's hashes (RFC 6962, section 2.1).
-func rootOf(content []byte) tlog.Hash {
-	var hashes []tlog.Hash
-	for ; len(content) >= tlog.HashSize; content = content[tlog.HashSize:] {
-		hashes = append(hashes, *(*tlog.Hash)(content))
-	}
-	for ; len(hashes) > 1; hashes = hashes[:len(hashes)/2] {
-		for i := 0; i+1 < len(hashes); i += 2 {
-			hashes[i/2] = tlog.NodeHash(hashes[i], hashes[i+1])
-		}
-	}
-	return hashes[0]
 }
 
 func (t *tiles) ReadTiles(wanted []tlog.Tile) ([][]byte, error) {
