@@ -68,8 +68,9 @@ type Figures struct {
 	Repeats, Helped, HandedOver uint64
 	// StepStarts counts how often the step's process was started, and SignerStarts how often the signer was, or was found.
 	StepStarts, SignerStarts uint64
-	// Swept counts partial tiles that were deleted behind their full one, and Scrubbed data tiles that were read again and were right.
-	Swept, Scrubbed uint64
+	// Swept counts partial tiles that were deleted behind their full one, SweptHeads heads that were behind a later one, and Scrubbed data
+	// tiles that were read again and were right.
+	Swept, SweptHeads, Scrubbed uint64
 	// Damaged is how many data tiles, by what was read last, are missing, can't be read or aren't the log's, or stand below hash tiles of
 	// which one of these is so; the log goes on all the same. Damage is what was seen of one of them, in one line.
 	Damaged int

@@ -214,19 +214,26 @@ func TestUnreadRepeats(t *testing.T) {
 	}
 }
 
-// TestRepeatsBehindAnOutage has a tile not be read for less than Patience: a repeat waits, and is answered.
+// TestRepeatsBehindAnOutage has a tile not be read for less than Patience: repeats wait, more of them than a step takes in, and are
+// answered; new entries don't wait for that.
 func TestRepeatsBehindAnOutage(t *testing.T) {
 	t.Parallel()
 	p, ctx, got := newPlace(t), limited(t), &answers{}
+	s := started(t, p.config(t), hooks{})
+	must(t, got.submitAll(ctx, s, 0, 300, 300))
+	must(t, s.End(ctx))
 	config := p.config(t)
 	objects := &unreadable{Objects: config.Objects}
-	config.Objects, config.Patience, config.TendEvery = objects, longest, time.Hour
-	s := started(t, config, hooks{})
-	must(t, got.submitAll(ctx, s, 0, 300, 300))
-	repeat := got.numberAt(t, 0)
+	config.Objects, config.Patience, config.TendEvery, config.MostBatch = objects, longest, time.Hour, 4
 	objects.set("tile/data/000", waysUnread["refused"])
-	done := make(chan error, 1)
-	go func() { done <- got.submitAll(ctx, s, repeat, repeat+1, 1) }()
+	s = started(t, config, hooks{})
+	const repeats = 9
+	done := make(chan error, repeats)
+	for index := uint64(0); index < repeats; index++ {
+		repeat := got.numberAt(t, index)
+		go func() { done <- got.submitAll(ctx, s, repeat, repeat+1, 1) }()
+	}
+	eventually(t, "the repeats wait", func() bool { return s.Figures().Queue == repeats })
 	must(t, got.submitAll(ctx, s, 300, 310, 1))
 	select {
 	case err := <-done:
@@ -234,7 +241,9 @@ func TestRepeatsBehindAnOutage(t *testing.T) {
 	default:
 	}
 	objects.set("tile/data/000", nil)
-	must(t, <-done)
+	for index := 0; index < repeats; index++ {
+		must(t, <-done)
+	}
 	if report := p.right(t, got); report.Leaves != 310 || s.Figures().Damaged != 0 {
 		t.Fatalf("%+v", report)
 	}
@@ -476,6 +485,34 @@ func TestFailingStore(t *testing.T) {
 	}
 	if faults.failed == 0 {
 		t.Error("nothing failed")
+	}
+}
+
+// TestFailingRounds has each head's first put fail, and two groups submit by turns: each round rolls the other group's step out, and fails
+// behind its own. None of them waits longer for that.
+func TestFailingRounds(t *testing.T) {
+	t.Parallel()
+	p, ctx, got := newPlace(t), limited(t), &answers{}
+	config := p.config(t)
+	heads := &refusesHeads{Objects: config.Objects, refused: map[string]bool{}}
+	config.Objects, config.Patience = heads, longest
+	// (a node with an address rolls out its own steps at once)
+	config.Address, config.Secret = "http://127.0.0.1:9/sequence", "the secret of these nodes"
+	stepped := make(chan struct{})
+	var first sync.Once
+	s := started(t, config, hooks{phase: func(name string) {
+		if name == "stepped" {
+			first.Do(func() { close(stepped) })
+		}
+	}})
+	done := make(chan error, 1)
+	go func() { done <- got.submitAll(ctx, s, 0, 200, 8) }()
+	<-stepped
+	must(t, got.submitAll(ctx, s, 200, 400, 8))
+	must(t, <-done)
+	report := p.right(t, got)
+	if f := s.Figures(); report.Leaves != 400 || f.Helped < 40 || len(heads.refused) < 40 {
+		t.Fatalf("%+v %+v, and %d heads were refused", report, f, len(heads.refused))
 	}
 }
 

@@ -4,16 +4,20 @@ import (
 	"context"
 	"errors"
 	"fmt"
+	"math/rand"
+	"strings"
 	"sync"
 	"time"
 
 	"wagtenib/service/stores"
 )
 
-// faulty has one call in some of a node's stores fail: by turns before it is done, behind it, and by standing still for a while.
+// faulty has one call in some of a node's stores fail: by turns before it is done, behind it, and by standing still for a while. Which
+// ones chance says, always in the same way: where each tenth failed, rounds of ten calls would all fail.
 type faulty struct {
-	mu                   sync.Mutex
-	every, calls, failed int
+	mu            sync.Mutex
+	chance        *rand.Rand
+	every, failed int
 }
 
 var errTried = errors.New("a store that fails")
@@ -25,6 +29,9 @@ func (f *faulty) failEvery(every int) {
 	f.mu.Lock()
 	defer f.mu.Unlock()
 	f.every = every
+	if f.chance == nil {
+		f.chance = rand.New(rand.NewSource(1))
+	}
 }
 
 // callFault is how one call fails.
@@ -40,8 +47,7 @@ const (
 func (f *faulty) next() callFault {
 	f.mu.Lock()
 	defer f.mu.Unlock()
-	f.calls++
-	if f.every == 0 || f.calls%f.every != 0 {
+	if f.every == 0 || f.chance.Intn(f.every) > 0 {
 		return works
 	}
 	f.failed++
@@ -99,6 +105,26 @@ func (o faultyObjects) List(ctx context.Context, prefix, after string, most int)
 
 func (o faultyObjects) Delete(ctx context.Context, name string) error {
 	return o.f.call(ctx, func() error { return o.Objects.Delete(ctx, name) })
+}
+
+// refusesHeads has each head's first put fail, before it is done.
+type refusesHeads struct {
+	stores.Objects
+	mu      sync.Mutex
+	refused map[string]bool
+}
+
+func (r *refusesHeads) Put(ctx context.Context, name string, content []byte) error {
+	r.mu.Lock()
+	first := strings.HasPrefix(name, headsPrefix) && !r.refused[name]
+	if first {
+		r.refused[name] = true
+	}
+	r.mu.Unlock()
+	if first {
+		return errTried
+	}
+	return r.Objects.Put(ctx, name, content)
 }
 
 // unreadable has some objects not be read, though they stand there.

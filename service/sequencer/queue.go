@@ -39,7 +39,7 @@ func (w *waiting) bytes() int {
 	return len(s.LeafCertificate) + len(s.PreCertificate) + len(s.TBSCertificate) + 32*len(s.Chain)
 }
 
-// queue holds those who wait, in the order in which they came. Who is in a step, or has its issuers put, keeps a seat.
+// queue holds those who wait, in the order in which they came, but for who was put off. Who is in a step, or has its issuers put, keeps a seat.
 type queue struct {
 	mu               sync.Mutex
 	waits            list.List
@@ -141,6 +141,20 @@ func (q *queue) giveBack(taken []*waiting) {
 	for i := len(taken) - 1; i >= 0; i-- {
 		if w := taken[i]; w.seated && w.at == nil {
 			w.at = q.waits.PushFront(w)
+		}
+	}
+	if len(taken) > 0 {
+		q.wake()
+	}
+}
+
+// putOff puts those who were taken at the end again, in their order; who doesn't wait any more, isn't.
+func (q *queue) putOff(taken []*waiting) {
+	q.mu.Lock()
+	defer q.mu.Unlock()
+	for _, w := range taken {
+		if w.seated && w.at == nil {
+			w.at = q.waits.PushBack(w)
 		}
 	}
 	if len(taken) > 0 {

@@ -82,8 +82,8 @@ func (s *Sequencer) read(ctx context.Context, name string) ([]byte, error) {
 // so all its places are there. A place is believed only where the entry stands in its data tile, and that one's leaf in the tree; and what is
 // signed is what the program answers, which has checked the entry's audit path against the state's root.
 //
-// Who wants a tile that is damaged is told so. Who wants one that can't be read is left for the next round, and told behind Patience. The
-// others have nothing to do with either.
+// Who wants a tile that is damaged is told so. Who wants one that can't be read, or isn't tried any more, is left for a later round, behind
+// all who wait, and told behind Patience. The others have nothing to do with either.
 func (s *Sequencer) answerRepeats(ctx context.Context, k known, batch []*waiting) (rest []*waiting, err error) {
 	identities := make([]stores.Identity, 0, len(batch))
 	for _, w := range batch {
@@ -109,7 +109,7 @@ func (s *Sequencer) answerRepeats(ctx context.Context, k known, batch []*waiting
 	tree := s.treeOf(ctx, k.state)
 	var known, later []*waiting
 	defer func() {
-		s.queue.giveBack(later)
+		s.queue.putOff(later)
 		s.later = len(later) > 0
 	}()
 	var all []timestamp

@@ -153,13 +153,16 @@ func (s *Sequencer) putAll(ctx context.Context, objects []step.Object) error {
 }
 
 // putHead has a state's head signed, and puts it. Where another node put one, that is the head: signatures of one head differ. The
-// signer lets an older head than its last one through no more; then the other one's stands there, too.
+// signer lets an older head than its last one through no more; then the other one's stands there, too, or it was swept, which is no fault.
 func (s *Sequencer) putHead(ctx context.Context, state step.State, head step.Head, objects fresh) (log.Head, error) {
 	name := headName(state)
 	signed, err := s.signHead(ctx, state, objects)
 	if errors.Is(err, signer.ErrRefused) {
 		if made, absent := s.readHead(ctx, name); absent == nil {
 			return made, matches(made, state)
+		}
+		if newest, learned := s.learn(ctx); learned == nil && later(newest.state, state) {
+			return log.Head{}, fmt.Errorf("sequencer: %s is past, and %s stands: %v", name, headName(newest.state), err)
 		}
 	}
 	if err != nil {
@@ -248,15 +251,7 @@ func (s *Sequencer) parseNote(note []byte) (log.Head, error) {
 	return head, nil
 }
 
-// Checkpoint is log.Log's. It never falls behind what is published when it is called.
-func (s *Sequencer) Checkpoint(ctx context.Context) (log.Head, error) {
-	head, err := s.checkpoint(ctx)
-	if err != nil {
-		return log.Head{}, fault{log.ErrStore, err}
-	}
-	return head, nil
-}
-
+// checkpoint reads the newest published head.
 func (s *Sequencer) checkpoint(ctx context.Context) (log.Head, error) {
 	published, err := s.config.Register.Published(ctx)
 	if err != nil {

@@ -19,7 +19,7 @@ const (
 	// helpsAfter is how long a node waits for another one's head before it rolls it out, and up to as much more by chance, since
 	// all would help at once otherwise.
 	helpsAfter = 400 * time.Millisecond
-	// mostRound is how long a round may take, and mostBackoff how far two that fail are apart.
+	// mostRound is how long a round may take, and mostBackoff how far two that fail, and get nothing done, are apart.
 	mostRound   = 2 * time.Minute
 	mostBackoff = 5 * time.Second
 )
@@ -36,7 +36,18 @@ func wait(ctx context.Context, long time.Duration) error {
 	}
 }
 
-// loop makes round after round until the queue has ended and is empty, or the context ends.
+// achieved is what rounds got done so far: the state that is rolled out, and how many steps were decided and how many repeats answered.
+type achieved struct {
+	rolled         string
+	steps, repeats uint64
+}
+
+func (s *Sequencer) achieved() achieved {
+	return achieved{s.rolled, s.steps.Load(), s.repeats.Load()}
+}
+
+// loop makes round after round until the queue has ended and is empty, or the context ends. One that fails waits, each for twice as long as
+// the one before; but not one that got something done: a store that gives some calls up isn't gone.
 func (s *Sequencer) loop(ctx context.Context) {
 	defer close(s.ended)
 	backoff, began, owes := s.config.Interval, time.Time{}, s.config.BehindSwap
@@ -52,14 +63,17 @@ func (s *Sequencer) loop(ctx context.Context) {
 			_ = wait(ctx, until)
 		}
 		began = time.Now()
+		before := s.achieved()
 		round, cancel := context.WithTimeout(ctx, mostRound)
 		err := s.round(round)
 		cancel()
 		s.settle(err)
 		// What was answered behind a swap is published before the end, unless that can't be: by this node, or by another one that goes on.
 		owes = s.config.BehindSwap && !isNamed(err) && (err != nil || !s.isOut())
-		if err == nil {
+		if err == nil || s.achieved() != before {
 			backoff = s.config.Interval
+		}
+		if err == nil {
 			continue
 		}
 		_ = wait(ctx, backoff)

@@ -79,10 +79,10 @@ type Config struct {
 	Patience time.Duration
 	// BehindSwap answers behind the swap, and not once the head is published: sooner, but a merge is owed until then.
 	BehindSwap bool
-	// SweepAfter is how long a full tile stands before the partial tiles below its name go, at least, and twice as long at most; an
-	// hour where it is 0.
+	// SweepAfter is how long a full tile stands before the partial tiles below its name go, and a head before the heads of older states
+	// do, at least, and twice as long at most; an hour where it is 0.
 	SweepAfter time.Duration
-	// TendEvery is how far two turns are apart in each of which partial tiles are swept, and one old tile is read again; 1 s where
+	// TendEvery is how far two turns are apart in each of which partial tiles and heads are swept, and one old tile is read again; 1 s where
 	// it is 0.
 	TendEvery time.Duration
 	// Address is where other nodes find this one's Handler, as http://HOST:PORT/PATH; none where it is empty. Secret is what they
@@ -137,7 +137,7 @@ type Sequencer struct {
 	// edge has tiles of the newest state that need not be read, and rolled is the line of the last state that is rolled out.
 	edge   map[string][]byte
 	rolled string
-	// later says that somebody was left for the next round, since a tile couldn't be read.
+	// later says that somebody was left for a later round, since a tile couldn't be read.
 	later bool
 
 	mu sync.Mutex
@@ -153,7 +153,9 @@ type Sequencer struct {
 	// alone is until when nothing is handed over, since a node didn't answer.
 	alone time.Time
 
-	steps, lost, unknown, repeats, helped, handed, swept, scrubbed atomic.Uint64
+	readings readings
+
+	steps, lost, unknown, repeats, helped, handed, swept, sweptHeads, scrubbed atomic.Uint64
 	// handing holds who hands over.
 	handing chan struct{}
 
@@ -308,7 +310,7 @@ func (s *Sequencer) Figures() log.Figures {
 		Queue: s.queue.length(), MostQueue: s.config.MostQueue,
 		Steps: s.steps.Load(), LostSwaps: s.lost.Load(), Unknown: s.unknown.Load(),
 		Repeats: s.repeats.Load(), Helped: s.helped.Load(), HandedOver: s.handed.Load(),
-		StepStarts: s.config.Step.Starts(), Swept: s.swept.Load(), Scrubbed: s.scrubbed.Load(), Damaged: len(s.damage),
+		StepStarts: s.config.Step.Starts(), Swept: s.swept.Load(), SweptHeads: s.sweptHeads.Load(), Scrubbed: s.scrubbed.Load(), Damaged: len(s.damage),
 	}
 	if counted, ok := s.config.Signer.(interface{ Starts() uint64 }); ok {
 		f.SignerStarts = counted.Starts()

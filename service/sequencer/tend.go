@@ -4,6 +4,7 @@ import (
 	"context"
 	"errors"
 	"fmt"
+	"sort"
 	"time"
 
 	"golang.org/x/mod/sumdb/tlog"
@@ -16,6 +17,9 @@ import (
 const (
 	// mostSwept is how many tiles one turn looks for partial ones of.
 	mostSwept = 16
+	// mostHeads is how many old heads one turn deletes, and mostListing how long it may take to list some.
+	mostHeads   = 256
+	mostListing = time.Minute
 	// mostDamage is how many damaged tiles are remembered.
 	mostDamage = 1024
 	// mostRefused is how often in a row the tender fails at a tile, where another object is read, before it goes on behind it.
@@ -25,12 +29,15 @@ const (
 // errUnread: an object of the log may be there, and can't be read.
 var errUnread = errors.New("sequencer: an object can't be read")
 
-// tender takes partial tiles away that nobody needs any more, and reads old tiles again.
+// tender takes partial tiles and heads away that nobody needs any more, and reads old tiles again.
 type tender struct {
 	s *Sequencer
-	// settled is a size whose full tiles have stood for SweepAfter, young the size that settles next, and since when it was seen.
-	settled, young uint64
+	// settled is a head that has stood for SweepAfter, young the one that settles next, and since when it was seen.
+	settled, young *log.Head
 	since          time.Time
+	// heads are names of heads before the settled one, and headsGone says that none is left.
+	heads     []string
+	headsGone bool
 	// swept has for each level, the data tiles' first, how many full tiles were looked at, and read is the next one to be read again.
 	swept [6]uint64
 	read  uint64
@@ -65,6 +72,7 @@ func (s *Sequencer) tend(ctx context.Context) {
 		t.settle()
 		// What fails is tried again in the next turn: the log doesn't wait for it.
 		_ = t.sweep(ctx)
+		_ = t.sweepHeads(ctx)
 		t.readDamaged(ctx)
 		t.readNext(ctx)
 	}
@@ -90,7 +98,7 @@ func (s *Sequencer) readBriefly(ctx context.Context, name string) (content []byt
 func (s *Sequencer) isOne(ctx context.Context) bool {
 	head := s.seen()
 	return head != nil && s.briefly(ctx, func(ctx context.Context) error {
-		_, err := s.config.Objects.Get(ctx, headName(step.State{Size: head.TreeSize, Moment: head.Timestamp}), mostNote)
+		_, err := s.config.Objects.Get(ctx, nameOf(head), mostNote)
 		if errors.Is(err, stores.ErrAbsent) {
 			return nil
 		}
@@ -125,29 +133,36 @@ func (s *Sequencer) damagedBehind(from uint64) (first uint64, ok bool) {
 	return first, ok
 }
 
-// settle takes up which full tiles have stood for SweepAfter: those of a head that was seen so long ago.
+// settle takes up which head has stood for SweepAfter, and its full tiles: one that was seen so long ago.
 func (t *tender) settle() {
-	size := t.s.seenSize()
+	head := t.s.seen()
 	if t.since.IsZero() {
-		t.young, t.since = size, time.Now()
+		t.young, t.since = head, time.Now()
 	}
 	if time.Since(t.since) >= t.s.config.SweepAfter {
-		t.settled, t.young, t.since = t.young, size, time.Now()
+		t.headsGone = t.headsGone && t.young == t.settled
+		t.settled, t.young, t.since = t.young, head, time.Now()
 	}
 }
 
-// seen is the newest published head that was seen, or nil, and seenSize its size.
+// seen is the newest published head that was seen, or nil.
 func (s *Sequencer) seen() *log.Head {
 	s.mu.Lock()
 	defer s.mu.Unlock()
 	return s.head
 }
 
-func (s *Sequencer) seenSize() uint64 {
-	if head := s.seen(); head != nil {
-		return head.TreeSize
+// sizeOf is a head's size, 0 where there is none.
+func sizeOf(head *log.Head) uint64 {
+	if head == nil {
+		return 0
 	}
-	return 0
+	return head.TreeSize
+}
+
+// nameOf is a head's name.
+func nameOf(head *log.Head) string {
+	return headName(step.State{Size: head.TreeSize, Moment: head.Timestamp})
 }
 
 // treeUnder is a head's tree.
@@ -184,7 +199,7 @@ func (t *tender) sweep(ctx context.Context) (first error) {
 	left := mostSwept
 	for at := range t.swept {
 		level := at - 1
-		for ; left > 0 && t.swept[at] < fullTiles(level, t.settled); left-- {
+		for ; left > 0 && t.swept[at] < fullTiles(level, sizeOf(t.settled)); left-- {
 			tile := tlog.Tile{H: tileHeight, L: level, N: int64(t.swept[at]), W: tileWidth}
 			err := t.sweepTile(ctx, tile)
 			if err != nil && !errors.Is(err, ErrDamaged) && !(t.s.isOne(ctx) && t.unswept.last(tile)) {
@@ -223,6 +238,35 @@ func (t *tender) sweepTile(ctx context.Context, tile tlog.Tile) error {
 	return nil
 }
 
+// sweepHeads deletes some heads before the settled one, and gives the first error; what isn't deleted is listed again. Nobody wants them: a
+// start, a reader and the guard want the newest head, or ask whether one stands behind another, and who would put one again is told that a
+// later state stands.
+func (t *tender) sweepHeads(ctx context.Context) error {
+	objects := t.s.config.Objects
+	if t.settled == nil || t.headsGone {
+		return nil
+	}
+	if len(t.heads) == 0 {
+		listing, cancel := context.WithTimeout(ctx, mostListing)
+		names, err := objects.List(listing, headsPrefix, "", stores.MostListed)
+		cancel()
+		if err != nil {
+			return err
+		}
+		t.heads = names[:sort.SearchStrings(names, nameOf(t.settled))]
+		t.headsGone = len(t.heads) == 0
+	}
+	for left := mostHeads; left > 0 && len(t.heads) > 0; left-- {
+		name := t.heads[0]
+		t.heads = t.heads[1:]
+		if err := t.s.briefly(ctx, func(ctx context.Context) error { return objects.Delete(ctx, name) }); err != nil {
+			return err
+		}
+		t.s.sweptHeads.Add(1)
+	}
+	return nil
+}
+
 // whole sees that a full tile is there and is the newest head's: of a data tile its entries, of another one its hashes.
 func (t *tender) whole(ctx context.Context, tile tlog.Tile) error {
 	head := t.s.seen()
@@ -241,7 +285,7 @@ func (t *tender) whole(ctx context.Context, tile tlog.Tile) error {
 // are missing or aren't the tree's, the next turn goes on behind them all the same, and so it does where they can't be read and others
 // can: then the tile counts as damaged.
 func (t *tender) readNext(ctx context.Context) {
-	full := fullTiles(-1, t.s.seenSize())
+	full := fullTiles(-1, sizeOf(t.s.seen()))
 	if full == 0 {
 		return
 	}

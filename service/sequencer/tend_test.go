@@ -7,6 +7,7 @@ import (
 	"os"
 	"path/filepath"
 	"strings"
+	"sync"
 	"testing"
 	"time"
 
@@ -53,13 +54,122 @@ func TestSweptTiles(t *testing.T) {
 	eventually(t, "partial tiles are swept", func() bool {
 		return len(partials(t, p, "tile/0/000"))+len(partials(t, p, "tile/data/000")) == 0 && s.Figures().Swept > 0
 	})
+	eventually(t, "old heads are swept", func() bool {
+		left := headsOf(t, p)
+		return len(left) == 1 && left[0] == nameOf(s.seen())
+	})
 	for _, of := range []string{"tile/0/001", "tile/data/001", "tile/1/000"} {
 		if len(partials(t, p, of)) == 0 {
 			t.Errorf("the partial tiles of %s are gone", of)
 		}
 	}
 	must(t, got.submitAll(limited(t), s, 250, 350, 50))
+	must(t, s.End(limited(t)))
 	if report := p.right(t, got); report.Leaves != 350 {
+		t.Fatalf("%+v", report)
+	}
+}
+
+// headsOf are the names of the heads in a place, in order.
+func headsOf(t testing.TB, p place) (names []string) {
+	found, err := filepath.Glob(filepath.Join(p.objects(), headsPrefix, "*"))
+	must(t, err)
+	for _, path := range found {
+		names = append(names, headsPrefix+filepath.Base(path))
+	}
+	return names
+}
+
+// TestSweptHeads has the heads go that are older than one that has stood, and no others, also where the store fails at times. A node starts
+// over what is left, and none over a register that knows less.
+func TestSweptHeads(t *testing.T) {
+	t.Parallel()
+	p, ctx, got, faults := newPlace(t), limited(t), &answers{}, &faulty{}
+	config := p.config(t)
+	faults.wrap(&config)
+	config.TendEvery = time.Hour
+	s := started(t, config, hooks{})
+	must(t, got.submitAll(ctx, s, 0, 100, 8))
+	older := p.copied(t, "register")
+	// (older heads, of which only the names are looked at)
+	for moment := uint64(1); moment <= mostHeads+6; moment++ {
+		must(t, os.WriteFile(filepath.Join(p.objects(), headName(step.State{Moment: moment})), nil, 0o644))
+	}
+	must(t, got.submitAll(ctx, s, 100, 200, 8))
+	tender, before := &tender{s: s, settled: s.seen()}, headsOf(t, p)
+	must(t, got.submitAll(ctx, s, 200, 300, 8))
+	all := headsOf(t, p)
+	stay := all[len(before)-1:]
+	if len(stay) < 2 || stay[0] != nameOf(tender.settled) {
+		t.Fatalf("%v, of which none is before %s", stay, nameOf(tender.settled))
+	}
+	// Each way to fail once: what is listed by then isn't taken up.
+	faults.failEvery(1)
+	for way := 0; way < 3; way++ {
+		if err := tender.sweepHeads(ctx); err == nil || len(tender.heads) > 0 || len(headsOf(t, p)) != len(all) {
+			t.Errorf("%v, and %d heads of %d are left", err, len(headsOf(t, p)), len(all))
+		}
+	}
+	faults.failEvery(0)
+	must(t, tender.sweepHeads(ctx))
+	if left := headsOf(t, p); len(left) != len(all)-mostHeads || s.Figures().SweptHeads != mostHeads {
+		t.Errorf("a turn leaves %d heads of %d; %+v", len(left), len(all), s.Figures())
+	}
+	faults.failEvery(4)
+	for turn := 0; !tender.headsGone; turn++ {
+		if _ = tender.sweepHeads(ctx); turn > 100 {
+			t.Fatalf("%d heads are left", len(headsOf(t, p)))
+		}
+	}
+	faults.failEvery(0)
+	if left := headsOf(t, p); strings.Join(left, " ") != strings.Join(stay, " ") {
+		t.Errorf("%v are left, and not %v", left, stay)
+	}
+	must(t, got.submitAll(ctx, s, 250, 310, 8))
+	must(t, s.End(ctx))
+
+	back := p.copied(t, "objects", "places.db")
+	must(t, os.Rename(filepath.Join(string(older), "register"), filepath.Join(string(back), "register")))
+	_, err := New(ctx, back.unguarded(t))
+	wants(t, err, ErrSetBack)
+	s = started(t, p.config(t), hooks{})
+	must(t, got.submitAll(ctx, s, 300, 320, 8))
+	if report := p.right(t, got); report.Leaves != 320 {
+		t.Fatalf("%+v", report)
+	}
+}
+
+// TestHeadSweptMeanwhile has a node stand still before it signs a head, until another one has put that head, gone on, and swept it: the signer
+// refuses the first one's, which isn't told as a fork, and who waits there is answered.
+func TestHeadSweptMeanwhile(t *testing.T) {
+	t.Parallel()
+	p, ctx, got := newPlace(t), limited(t), &answers{}
+	stands, goes := make(chan struct{}), make(chan struct{})
+	var once sync.Once
+	here := started(t, p.config(t), hooks{phase: func(name string) {
+		if name == "places added" {
+			once.Do(func() {
+				close(stands)
+				<-goes
+			})
+		}
+	}})
+	done := make(chan error, 1)
+	go func() { done <- got.submitAll(ctx, here, 0, 8, 8) }()
+	<-stands
+	there := started(t, p.config(t), hooks{})
+	must(t, got.submitAll(ctx, there, 8, 16, 8))
+	swept := &tender{s: there, settled: there.seen()}
+	for !swept.headsGone {
+		must(t, swept.sweepHeads(ctx))
+	}
+	if left := headsOf(t, p); len(left) != 1 {
+		t.Fatalf("%v are left", left)
+	}
+	close(goes)
+	must(t, <-done)
+	eventually(t, "its figures say no fault", func() bool { return here.Figures().Fault == "" })
+	if report := p.right(t, got); report.Leaves != 16 {
 		t.Fatalf("%+v", report)
 	}
 }
@@ -89,7 +199,7 @@ func TestUnsweptTiles(t *testing.T) {
 				if bad := damage(append([]byte{}, content...)); bad != nil {
 					must(t, os.WriteFile(path, bad, 0o644))
 				}
-				swept := &tender{s: s, settled: 300}
+				swept := &tender{s: s, settled: s.seen()}
 				for turn := 0; turn < 3; turn++ {
 					err := swept.sweep(limited(t))
 					wants(t, err, ErrDamaged)
@@ -206,6 +316,7 @@ func TestUnreadTiles(t *testing.T) {
 			must(t, os.Rename(path+".other", path))
 			objects.set("tile/data/000", nil)
 			eventually(t, "it is forgotten", func() bool { return s.Figures().Damaged == 0 && len(partials(t, p, "tile/data/000")) == 0 })
+			must(t, s.End(limited(t)))
 			p.right(t, got)
 		})
 	}
@@ -221,7 +332,7 @@ func TestUnreadStore(t *testing.T) {
 	config.TendEvery = time.Hour
 	s := started(t, config, hooks{})
 	must(t, got.submitAll(limited(t), s, 0, 300, 300))
-	tender := &tender{s: s, settled: 300}
+	tender := &tender{s: s, settled: s.seen()}
 	faults.failEvery(1)
 	for turn := 0; turn < 2*mostRefused; turn++ {
 		if err := tender.sweep(limited(t)); err == nil {

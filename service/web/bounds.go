@@ -2,10 +2,14 @@ package web
 
 import (
 	"context"
+	"fmt"
 	"net"
+	"net/http"
 	"net/netip"
 	"sync"
 	"sync/atomic"
+
+	"wagtenib/service/log"
 )
 
 // budget counts bytes up to a bound.
@@ -24,10 +28,13 @@ func (b *budget) take(bytes int64) bool {
 
 func (b *budget) give(bytes int64) { b.used.Add(-bytes) }
 
-// held are the bytes of objects that one request has read and not yet answered. A nil one counts nothing.
+// held are the bytes of objects that one request has read and not yet answered, which count among those of all and of its client. A nil
+// one counts nothing.
 type held struct {
-	of    *budget
-	bytes int64
+	of       *budget
+	ofClient *counts
+	client   netip.Addr
+	bytes    int64
 }
 
 // heldKey is where a request's context has them.
@@ -38,21 +45,26 @@ func heldIn(ctx context.Context) *held {
 	return h
 }
 
-// change takes so many more, or gives back where that is below 0.
-func (h *held) change(bytes int64) bool {
+// change takes so many more, or refuses to, or gives back where that is below 0.
+func (h *held) change(bytes int64) error {
 	if h == nil {
-		return true
+		return nil
 	}
 	if bytes <= 0 {
 		h.of.give(-bytes)
+		h.ofClient.giveSome(h.client, int(-bytes))
+	} else if !h.ofClient.takeSome(h.client, int(bytes)) {
+		return refusal{status: http.StatusTooManyRequests, name: "too-many-bytes", after: 1}
 	} else if !h.of.take(bytes) {
-		return false
+		h.ofClient.giveSome(h.client, int(bytes))
+		return fmt.Errorf("%w: answers have %d bytes", log.ErrBusy, h.of.used.Load())
 	}
 	h.bytes += bytes
-	return true
+	return nil
 }
 
-func (h *held) giveAll() { h.change(-h.bytes) }
+// giveAll gives back all that it took.
+func (h *held) giveAll() { _ = h.change(-h.bytes) }
 
 // counts counts by address, up to a bound for each. An address of IPv6 counts with its /64, which one customer has.
 type counts struct {

@@ -38,18 +38,17 @@ func (f *Front) read(ctx context.Context, name string) ([]byte, error) {
 	if strings.HasPrefix(name, "tile/data/") {
 		likely = likelyEntries
 	}
-	busy := func() error { return fmt.Errorf("%w: answers have %d bytes", log.ErrBusy, f.answers.used.Load()) }
-	if !held.change(likely) {
-		return nil, busy()
+	if err := held.change(likely); err != nil {
+		return nil, err
 	}
 	content, err := f.log.Object(ctx, name)
 	if err == nil {
-		if !held.change(int64(len(content)) - likely) {
-			return nil, busy()
+		if err := held.change(int64(len(content)) - likely); err != nil {
+			return nil, err
 		}
 		return content, nil
 	}
-	held.change(-likely)
+	_ = held.change(-likely)
 	switch {
 	case ctx.Err() != nil:
 		return nil, ctx.Err()

@@ -7,6 +7,7 @@ import (
 	"encoding/json"
 	"fmt"
 	"net/http/httptest"
+	"net/netip"
 	"net/url"
 	"strings"
 	"testing"
@@ -16,6 +17,7 @@ import (
 
 	"wagtenib/service/chains"
 	"wagtenib/service/log"
+	"wagtenib/service/stores"
 	"wagtenib/service/web/standin"
 )
 
@@ -134,6 +136,46 @@ func TestAnswersAreBounded(t *testing.T) {
 	refused(t, "a large tile", f.get("/tile/data/001.p/4"), 503, "busy")
 	if used := f.front.answers.used.Load(); used != 0 {
 		t.Errorf("%d bytes are still counted", used)
+	}
+}
+
+// The answers of one address have an eighth of what all have, or as much as one object may; another address has its own.
+func TestAnswersByAddress(t *testing.T) {
+	for _, test := range []struct{ all, one int }{{1 << 30, 128 << 20}, {512 << 20, 65 << 20}, {80 << 20, stores.MostObject + 1<<20}} {
+		f := newFixture(t, 0, func(o *Options) { o.Limits.AnswerBytes = int64(test.all) })
+		f.fill(5)
+		client, same, other := netip.MustParseAddr("2001:db8::1"), "[2001:db8::2:3]:7", "[2001:db8:0:1::1]:7"
+		from := func(peer string) *httptest.ResponseRecorder {
+			r := httptest.NewRequest("GET", "/tile/data/000.p/5", nil)
+			r.RemoteAddr = peer
+			w := httptest.NewRecorder()
+			f.front.ServeHTTP(w, r)
+			return w
+		}
+		taken := test.one - likelyEntries
+		if !f.front.answersOf.takeSome(client, taken) {
+			t.Fatalf("of %d bytes one address hasn't %d", test.all, taken)
+		}
+		if w := from(same); w.Code != 200 {
+			t.Errorf("an object that has room: %d %s", w.Code, w.Body)
+		}
+		if !f.front.answersOf.takeSome(client, 1) {
+			t.Errorf("of %d bytes one address hasn't %d", test.all, taken+1)
+		}
+		w := from(same)
+		if refused(t, "the same address", w, 429, "too-many-bytes"); w.Header().Get("Retry-After") != "1" {
+			t.Error("it isn't told when to come again")
+		}
+		if w := from(other); w.Code != 200 {
+			t.Errorf("another address: %d %s", w.Code, w.Body)
+		}
+		f.front.answersOf.giveSome(client, taken+1)
+		if w := from(same); w.Code != 200 {
+			t.Errorf("the same address, behind it: %d %s", w.Code, w.Body)
+		}
+		if used := f.front.answers.used.Load(); used != 0 || len(f.front.answersOf.of) != 0 {
+			t.Errorf("%d bytes and %v are still counted", used, f.front.answersOf.of)
+		}
 	}
 }
 

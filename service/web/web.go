@@ -2,7 +2,7 @@
 // it answers comes from a log.Log, and which chains are taken a chains.Checker says.
 //
 // It speaks HTTP/1.1. Nothing in it grows without a bound: connections are counted, altogether and by address; bodies and the
-// submissions that wait have so many bytes, together and by address, and objects in answers so many together; each request has its time.
+// submissions that wait have so many bytes, together and by address, and so have objects in answers; each request has its time.
 package web
 
 import (
@@ -18,6 +18,7 @@ import (
 	"wagtenib/service/chains"
 	"wagtenib/service/log"
 	"wagtenib/service/reader"
+	"wagtenib/service/stores"
 )
 
 // The bounds that no option moves.
@@ -52,16 +53,17 @@ type Limits struct {
 	// WaitingBytes is how many bytes the bodies of all submissions have that are read, checked or wait. Those of one address have an eighth
 	// of it, and at least as many as one body may have.
 	WaitingBytes int64
-	// AnswerBytes is how many bytes the objects have that are read for answers, or sent.
+	// AnswerBytes is how many bytes the objects have that are read for answers, or sent. Those of one address have an eighth of it, and at
+	// least as many as one object may have and those count that are read beside it.
 	AnswerBytes int64
 }
 
-// waitingByAddress is how many bytes the bodies of one address have.
-func (l Limits) waitingByAddress() int {
-	if l.WaitingBytes/8 > MostBody {
-		return int(l.WaitingBytes / 8)
+// byAddress is how many of all bytes those of one address have: an eighth, and at least so many.
+func byAddress(all, least int64) int {
+	if all/8 > least {
+		return int(all / 8)
 	}
-	return MostBody
+	return int(least)
 }
 
 // DefaultLimits are those of a log on one machine.
@@ -98,6 +100,7 @@ type Front struct {
 	waiting     budget
 	waitingOf   counts
 	answers     budget
+	answersOf   counts
 	requests    counts
 	connections connections
 	roots       atomic.Pointer[encodedRoots]
@@ -114,8 +117,9 @@ func New(of log.Log, proofs *reader.Reader, checker *chains.Checker, options Opt
 		log: of, reader: proofs, checker: checker, options: options, limits: limits,
 		checks:    make(chan struct{}, limits.Checks),
 		waiting:   budget{most: limits.WaitingBytes},
-		waitingOf: counts{most: limits.waitingByAddress()},
+		waitingOf: counts{most: byAddress(limits.WaitingBytes, MostBody)},
 		answers:   budget{most: limits.AnswerBytes},
+		answersOf: counts{most: byAddress(limits.AnswerBytes, stores.MostObject+likelyEntries)},
 		requests:  counts{most: limits.ConnectionsByAddress},
 	}
 	f.connections.byAddress.most = limits.ConnectionsByAddress
@@ -192,7 +196,7 @@ func (f *Front) ServeHTTP(w http.ResponseWriter, r *http.Request) {
 		return
 	}
 	defer f.requests.give(client)
-	own := &held{of: &f.answers}
+	own := &held{of: &f.answers, ofClient: &f.answersOf, client: client}
 	defer own.giveAll()
 	if err := f.serve(c, a, r.WithContext(context.WithValue(r.Context(), heldKey{}, own))); err != nil {
 		f.refuse(a, refusalOf(err))

@@ -445,7 +445,7 @@ func TestMetricsAndHealth(t *testing.T) {
 		`ctserve_refusals_total{call="add-chain",refusal="empty-chain"} 1`,
 		`ctserve_request_seconds_count{call="checkpoint"} 1`,
 		"ctserve_entries 5", "ctserve_queue 0", "ctserve_queue_most 1024", "ctserve_lost_swaps_total 3", "ctserve_fault 0", "ctserve_roots 1",
-		"ctserve_swept_tiles_total 4", "ctserve_scrubbed_tiles_total 5", "ctserve_damaged_tiles 6", "ctserve_signer_starts_total 7", "ctserve_waiting_bytes 0", "ctserve_answer_bytes 0", `ctserve_connections_refused_total{bound="address"} 0`,
+		"ctserve_swept_tiles_total 4", "ctserve_swept_heads_total 8", "ctserve_scrubbed_tiles_total 5", "ctserve_damaged_tiles 6", "ctserve_signer_starts_total 7", "ctserve_waiting_bytes 0", "ctserve_answer_bytes 0", `ctserve_connections_refused_total{bound="address"} 0`,
 	} {
 		if !strings.Contains(w.Body.String(), line+"\n") {
 			t.Errorf("/metrics lacks %s", line)

@@ -318,7 +318,7 @@ func (l *Log) Figures() log.Figures {
 	figures := log.Figures{
 		Queue: len(l.waiting), MostQueue: l.MostQueue, Entries: l.head.TreeSize,
 		HeadAge: time.Since(time.UnixMilli(int64(l.head.Timestamp))), LostSwaps: 3,
-		Swept: 4, Scrubbed: 5, Damaged: 6, Damage: l.Damage, SignerStarts: 7,
+		Swept: 4, SweptHeads: 8, Scrubbed: 5, Damaged: 6, Damage: l.Damage, SignerStarts: 7,
 	}
 	if l.Fault != nil {
 		figures.Fault = l.Fault.Error()

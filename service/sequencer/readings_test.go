@@ -1,0 +1,132 @@
+package sequencer
+
+import (
+	"context"
+	"sync"
+	"sync/atomic"
+	"testing"
+	"time"
+
+	"wagtenib/service/log"
+	"wagtenib/service/stores"
+)
+
+// heldRegister is a register whose readings of the published size wait, behind the reading, until they are let go; it counts them.
+type heldRegister struct {
+	stores.Register
+	began atomic.Int64
+	let   chan struct{}
+}
+
+func (r *heldRegister) Published(ctx context.Context) (uint64, error) {
+	published, err := r.Register.Published(ctx)
+	r.began.Add(1)
+	select {
+	case <-r.let:
+		return published, err
+	case <-ctx.Done():
+		return 0, ctx.Err()
+	}
+}
+
+// TestSharedReadings has many want the newest head while an older one is being read: each gets what was published when it asked, by few
+// readings; and who doesn't wait for one is told so.
+func TestSharedReadings(t *testing.T) {
+	t.Parallel()
+	p, ctx, got := newPlace(t), limited(t), &answers{}
+	s := started(t, p.config(t), hooks{})
+	must(t, got.submitAll(ctx, s, 0, 10, 8))
+	register := &heldRegister{Register: s.config.Register, let: make(chan struct{})}
+	reader := &Sequencer{config: s.config, logID: s.logID}
+	reader.config.Register = register
+
+	const many = 64
+	sizes, failed := make(chan uint64, many), make(chan error, many+1)
+	ask := func(sizes chan<- uint64) {
+		head, err := reader.Checkpoint(ctx)
+		if err != nil {
+			failed <- err
+		}
+		sizes <- head.TreeSize
+	}
+	first := make(chan uint64, 1)
+	go ask(first)
+	eventually(t, "the first reading goes on", func() bool { return register.began.Load() == 1 })
+	must(t, got.submitAll(ctx, s, 10, 20, 8))
+	brief, cancel := context.WithTimeout(ctx, 10*time.Millisecond)
+	_, err := reader.Checkpoint(brief)
+	cancel()
+	wants(t, err, log.ErrStore, context.DeadlineExceeded)
+	var all sync.WaitGroup
+	for i := 0; i < many; i++ {
+		all.Add(1)
+		go func() {
+			defer all.Done()
+			ask(sizes)
+		}()
+	}
+	time.Sleep(100 * time.Millisecond)
+	close(register.let)
+	all.Wait()
+	close(sizes)
+	for size := range sizes {
+		if size != 20 {
+			t.Errorf("20 entries are published, and one who asks gets %d", size)
+		}
+	}
+	if size := <-first; size != 10 && size != 20 {
+		t.Errorf("the first one gets %d entries", size)
+	}
+	for len(failed) > 0 {
+		t.Error(<-failed)
+	}
+	if began := register.began.Load(); began < 2 || began > many/4 {
+		t.Errorf("%d readings of the register for %d", began, many+2)
+	}
+	// Where none goes on, the next one begins at once.
+	must(t, got.submitAll(ctx, s, 20, 30, 8))
+	if head, err := reader.Checkpoint(ctx); err != nil || head.TreeSize != 30 {
+		t.Errorf("%+v, %v", head, err)
+	}
+}
+
+// hungRegister is a register that never gives the published size to whom it is asked by first.
+type hungRegister struct {
+	stores.Register
+	asked atomic.Int64
+}
+
+func (r *hungRegister) Published(ctx context.Context) (uint64, error) {
+	if r.asked.Add(1) == 1 {
+		<-ctx.Done()
+		return 0, ctx.Err()
+	}
+	return r.Register.Published(ctx)
+}
+
+// TestHungReading has one reading of the newest head never come: those who ask behind it are answered by others.
+func TestHungReading(t *testing.T) {
+	t.Parallel()
+	p, ctx, got := newPlace(t), limited(t), &answers{}
+	s := started(t, p.config(t), hooks{})
+	must(t, got.submitAll(ctx, s, 0, 10, 8))
+	register := &hungRegister{Register: s.config.Register}
+	reader := &Sequencer{config: s.config, logID: s.logID}
+	reader.config.Register = register
+	hung, cancel := context.WithCancel(ctx)
+	first := make(chan error, 1)
+	go func() {
+		_, err := reader.Checkpoint(hung)
+		first <- err
+	}()
+	eventually(t, "the first reading hangs", func() bool { return register.asked.Load() == 1 })
+	for i := 0; i < 3; i++ {
+		brief, cancel := context.WithTimeout(ctx, mostReading/2)
+		if head, err := reader.Checkpoint(brief); err != nil || head.TreeSize != 10 {
+			t.Errorf("%+v, %v", head, err)
+		}
+		cancel()
+	}
+	cancel()
+	wants(t, <-first, log.ErrStore, context.Canceled)
+}
