@@ -83,7 +83,13 @@ def tried(names):
             (crate / "must-fail").mkdir()
             for edit in (it for folder in FOLDERS[1:] for it in (crate / folder).glob("*.edit")):
                 shutil.copy(edit, crate / "must-fail")
-        return subprocess.run(["rt", "must-fail", *names], cwd=copy, check=False).returncode == 0
+        trial = subprocess.Popen(["rt", "must-fail", *names], cwd=copy)
+        try:
+            return trial.wait() == 0
+        finally:
+            # (where this program is ended, rt ends what it has begun, before the copy goes)
+            trial.terminate()
+            trial.wait()
 
 
 if __name__ == "__main__":

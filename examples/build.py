@@ -5,14 +5,15 @@
     build.py --show SCRIPT PART=CRATE[,CRATE].. ..
 
 With --show it runs `SCRIPT PART` as soon as the crates of a part are built, and prints what that writes in one piece. The crates with the longest chain
-of crates above them go first, with two processors each where there are four, and then those of an earlier part.
+of crates above them go first. Where there are four processors these get two or more each, and the others, those of an earlier part first, what they leave.
 
 Crates that don't stand on each other are proved side by side, as many as processors and memory allow. Only one rt works in a crate's folder, and in
 those of all crates below it; so each of them works in a copy of the sources, which gets what is built of the crates below. What it builds is put
-here, where the programs are put together. rt decides what has to be proved: a library that is newer than its sources and those below it is only not
-asked for. What rt prints is kept, and printed where it fails.
+here. rt decides what has to be proved: a library that is newer than its sources and those below it is only not asked for. What rt prints is kept, and
+printed where it fails.
 """
 import concurrent.futures
+import contextlib
 import os
 import pathlib
 import re
@@ -36,6 +37,10 @@ ENDINGS = (signal.SIGTERM, signal.SIGHUP)
 MEMORY, MOST = 2_000_000_000, 8
 # A chain of crates that is so much of the longest that is left decides how long all of it takes.
 LONG = 0.7
+# What a program takes to be put together, as bytes of a crate whose proof takes as long.
+TOGETHER = 80_000
+# How much nicer the proofs of crates on no such chain are.
+NICER = 5
 
 
 class Crates:
@@ -79,7 +84,8 @@ class Crates:
         """For each of these crates the longest chain of work that begins with it."""
         found = {}
         for name in reversed(names):
-            found[name] = self.size(name) + max((found[it] for it in found if name in self.uses[it]), default=0)
+            own = self.size(name) + (TOGETHER if self.is_program(name) else 0)
+            found[name] = own + max((found[it] for it in found if name in self.uses[it]), default=0)
         return found
 
 
@@ -87,10 +93,10 @@ def processors():
     return len(os.sched_getaffinity(0))
 
 
-def places():
-    """How many proofs may run side by side."""
+def fitting():
+    """How many proofs memory has room for."""
     free = re.search(r"MemAvailable:\s+(\d+)", pathlib.Path("/proc/meminfo").read_text())
-    return max(1, min(processors(), MOST, int(free[1]) * 1024 // MEMORY)) if free else 1
+    return max(1, int(free[1]) * 1024 // MEMORY) if free else 1
 
 
 def family(pid):
@@ -111,8 +117,8 @@ def family(pid):
 class Proof:
     """One rt at work on a crate."""
 
-    def __init__(self, name, top, jobs):
-        self.name, self.jobs, self.top = name, jobs, top
+    def __init__(self, name, top, jobs, is_long, nicer):
+        self.name, self.jobs, self.top, self.is_long, self.nicer = name, jobs, top, is_long, nicer
         self.log, self.functions, self.so_far, self.status = [], None, "", None
         self.start = time.monotonic()
         self.ran = None
@@ -127,6 +133,9 @@ class Proof:
         # (rt is a Python program: with this its own lines come as they are written)
         environment = {**os.environ, "PYTHONUNBUFFERED": "1"}
         self.ran = subprocess.Popen(self.words(is_program), cwd=self.top / "crates" / self.name, env=environment, **how)
+        if self.nicer:
+            with contextlib.suppress(OSError):
+                os.setpriority(os.PRIO_PROCESS, self.ran.pid, os.getpriority(os.PRIO_PROCESS, 0) + self.nicer)
         for line in self.ran.stdout:
             self.log.append(line)
             if so_far := SO_FAR.search(line):
@@ -164,8 +173,11 @@ class Build:
         built = {name for name in self.all if not crates.is_put_together(name) and crates.is_built(name)}
         self.left = [name for name in self.all if name not in built]
         self.done, self.count, self.running = set(built), 0, {}
-        self.places = places() if len(self.left) > 1 and any(not crates.is_put_together(name) for name in self.left) else 1
-        # The checkout itself is for what is put together; where proofs don't run side by side, it is for all.
+        fit = fitting() if len(self.left) > 1 and any(not crates.is_put_together(name) for name in self.left) else 1
+        self.places = min(processors(), MOST, fit)
+        # How many jobs there may be beside those of a chain that decides.
+        self.beside = min(self.places, fit - self.places) if self.places >= 4 else 0
+        # The checkout itself is for archives; where proofs don't run side by side, it is for all.
         self.copies, self.failed = [], None
 
     def say(self, text):
@@ -202,42 +214,52 @@ class Build:
 
     def place(self, name, room):
         """A folder for the crate's proof, or None while there is none."""
-        if self.places == 1 or self.crates.is_put_together(name):
+        if self.places == 1 or name in self.crates.archives:
             return None if ROOT in self.running.values() else ROOT
         free = [top for top in self.copies if top not in self.running.values()]
-        if not free and len(self.copies) < self.places:
+        if not free:
             self.copies.append(self.copy(room))
             free = self.copies[-1:]
-        return free[0] if free else None
+        return free[0]
 
     def is_long(self, name):
-        """Whether a chain of crates that decides begins with this one. It is of use where there are processors for more than a chain."""
+        """Whether a chain of crates that decides begins with this one, or the first of several parts stands on it. It is of use where there are processors for
+        more than a chain."""
         left = [*self.left, *(proof.name for proof in self.running)]
-        return self.places >= 4 and self.behind[name] >= LONG * max(self.behind[it] for it in left)
+        decides = self.behind[name] >= LONG * max(self.behind[it] for it in left)
+        return self.places >= 4 and (decides or self.rank[name] == 0 < max(self.rank.values()))
 
     def ready(self):
         """The crates that can begin, those that matter most first."""
         found = [name for name in self.left if all(it in self.done for it in self.crates.uses[name])]
         return sorted(found, key=lambda name: (not self.is_long(name), self.rank[name], -self.behind[name]))
 
-    def jobs(self, name, idle, others):
-        """How many jobs the proof of a crate gets of the idle processors, on which so many crates wait, itself among them; 0 leaves it to rt."""
+    def idle(self, is_long):
+        """How many jobs may yet begin: of chains that decide as many as there are places, of others what these leave, or those beside them; and of both no more
+        than memory has room for."""
+        chains = sum(proof.jobs or 1 for proof in self.running if proof.is_long)
+        others = sum(proof.jobs or 1 for proof in self.running if not proof.is_long)
+        left = self.places - chains
+        return min(left if is_long else max(left, self.beside) - others, self.places + self.beside - chains - others)
+
+    def jobs(self, is_long, idle, others):
+        """How many of these jobs the proof of a crate gets, on which so many crates wait, itself among them; 0 leaves it to rt."""
         if self.places == 1:
             return 0
-        return max(1, min(4, idle // others), min(2, idle) if self.is_long(name) else 1)
+        most = 4 if is_long or not self.beside else 2
+        return max(1, min(most, idle // others), min(2, idle) if is_long else 1)
 
     def begin(self, pool, room):
         """Begins as many proofs as there are places for, and answers those."""
         begun = {}
-        ready = self.ready()
-        for at, name in enumerate(ready):
-            idle = self.places - sum(proof.jobs or 1 for proof in self.running)
-            if idle < 1:
-                break
-            top = self.place(name, room)
-            if top is None:
+        ready = [(name, self.is_long(name)) for name in self.ready()]
+        for at, (name, is_long) in enumerate(ready):
+            idle = self.idle(is_long)
+            is_full = idle < 1 or not is_long and len(self.running) >= self.places
+            if is_full or (top := self.place(name, room)) is None:
                 continue
-            proof = Proof(name, top, self.jobs(name, idle, len(ready) - at))
+            others = sum(1 for _, it in ready[at:] if it or not is_long or not self.beside)
+            proof = Proof(name, top, self.jobs(is_long, idle, others), is_long, NICER if self.beside and not is_long else 0)
             if top != ROOT:
                 self.hand_over(name, top)
             self.left.remove(name)
@@ -285,7 +307,7 @@ class Build:
 
     def work(self, room):
         """Does all of it, and answers what failed: a proof, a part's name, or None. However it ends, no rt is left at work."""
-        with concurrent.futures.ThreadPoolExecutor(self.places + 1) as pool, concurrent.futures.ThreadPoolExecutor(1) as shows:
+        with concurrent.futures.ThreadPoolExecutor(2 * self.places) as pool, concurrent.futures.ThreadPoolExecutor(1) as shows:
             try:
                 self.loop(pool, shows, room)
             finally:

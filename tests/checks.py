@@ -1,7 +1,7 @@
 #!/usr/bin/env python3
 """Tries what scripts do around proofs, over a made-up repository and an `rt` that is a script: gate.py and build.py where they are ended, and gate.py
-without git; wrong_bodies.py behind a gate that was killed; prove.py where a crate is changed during its proof; documents.py beside sockets and the
-folder of a log.
+without git; wrong_bodies.py behind a gate that was killed, and where it is ended; prove.py where a crate is changed during its proof; which crates
+build.py begins with; documents.py beside sockets and the folder of a log.
 
 It prints nothing where all is as it has to be; else it says what isn't, and ends with status 1.
 """
@@ -15,6 +15,7 @@ import stat
 import subprocess
 import sys
 import tempfile
+import types
 
 ROOT = pathlib.Path(__file__).resolve().parent.parent
 sys.path.insert(1, str(ROOT / "checks"))
@@ -34,12 +35,13 @@ def fail(why):
 
 
 class Repository:
-    """A repository of one crate, a library, with some of the scripts, and with an `rt`."""
+    """A repository of one crate, a library, with some of the scripts, and beside it an `rt` and a room for copies."""
 
-    def __init__(self, folder):
-        self.folder, self.crate, self.bin, self.room = folder, folder / "crates" / "made_up", folder / "bin", folder / "room"
+    def __init__(self, top):
+        folder = self.folder = top / "repository"
+        self.crate, self.bin, self.room = folder / "crates" / "made_up", top / "bin", top / "room"
         for path in ("checks/gate.py", "checks/source.py", "checks/wrong_bodies.py", "checks/prove.py", "examples/build.py", ".gitignore"):
-            (folder / path).parent.mkdir(exist_ok=True)
+            (folder / path).parent.mkdir(parents=True, exist_ok=True)
             shutil.copy(ROOT / path, folder / path)
         (folder / "crates.txt").write_text("made_up:\n")
         (folder / "HANDLES").write_text("")
@@ -111,6 +113,16 @@ def try_left(repository):
     hold("it leaves in must-fail", repository.texts("must-fail"), {**OWN, **other})
 
 
+def try_ended(repository):
+    """Where wrong_bodies.py is ended, so is rt, which can put things in order before its copy goes."""
+    beside = repository.folder / "beside"
+    rt = f'sleep 60 & trap "ls >{beside}; kill $!; exit 1" TERM; sleep 1; kill -TERM $PPID; wait'
+    ended, said = repository.run("checks/wrong_bodies.py", "made_up", rt=rt)
+    hold(f"wrong_bodies.py that is ended says {said}", ended, 1)
+    hold("rt, when it ends, has", "crates" in beside.read_text().split() if beside.exists() else None, True)
+    hold("there is left", os.listdir(repository.room), [])
+
+
 def try_prove(repository):
     """A crate that is changed while it is proved isn't taken as proved; one that isn't changed is, once."""
     proves = "case $1 in lib) mkdir -p out/rlib/made_up.rlib && echo contract >out/rlib/made_up.rlib/contracts ;; esac"
@@ -124,14 +136,48 @@ def try_prove(repository):
             fail(f"prove.py, of a crate that was changed {what}: status {ended}, {said}")
 
 
+def loaded(repository):
+    """The repository's build.py."""
+    spec = importlib.util.spec_from_file_location("build", repository.folder / "examples" / "build.py")
+    build = importlib.util.module_from_spec(spec)
+    spec.loader.exec_module(build)
+    return build
+
+
+def try_order(repository):
+    """build.py begins with the longest chain of crates, and with what is shown first. Where processors and memory allow, others run beside it, with the jobs
+    that are left, and are nicer."""
+    for name, file in (("low", "lib.rt"), ("top", "main.rt"), ("wide", "lib.rt"), ("thin", "lib.rt")):
+        (repository.folder / "crates" / name / "src").mkdir(parents=True)
+        (repository.folder / "crates" / name / "src" / file).write_text(name)
+    (repository.folder / "crates.txt").write_text("low:\ntop: low\nwide:\nthin:\n")
+    build = loaded(repository)
+    pool = types.SimpleNamespace(submit=lambda run, is_program: object())
+    one, two = {"all": ["top", "wide", "thin"]}, {"first": ["thin"], "last": ["top", "wide"]}
+    for processors, memory, parts, wanted in (
+        (4, 12, one, {"low": (4, 0), "wide": (2, 5), "thin": (2, 5)}),
+        (4, 12, two, {"thin": (2, 0), "low": (2, 0), "wide": (2, 5)}),
+        (4, 5, one, {"low": (4, 0), "wide": (1, 5)}),
+        (4, 4, one, {"low": (2, 0), "wide": (1, 0), "thin": (1, 0)}),
+        (2, 12, one, {"low": (1, 0), "wide": (1, 0)}),
+        (4, 1, one, {"low": (0, 0)}),
+    ):
+        build.processors, build.fitting = lambda: processors, lambda: memory
+        work = build.Build(build.Crates(), parts, None)
+        begun = work.begin(pool, repository.room).values()
+        hold(f"with {processors} processors there begin", {proof.name: (proof.jobs, proof.nicer) for proof in begun}, wanted)
+    others = [types.SimpleNamespace(jobs=2, is_long=False)] * 3
+    for beside, wanted in ((2, 0), (3, 1), (4, 2)):
+        work = types.SimpleNamespace(places=4, beside=beside, running=others)
+        hold("beside six other jobs a chain gets", build.Build.idle(work, True), wanted)
+
+
 def try_build(repository):
     """Where its terminal ends, build.py ends what it has begun, and leaves no copy; a build takes the place of what was made beside it."""
     ended, said = repository.run("examples/build.py", "made_up", rt="sleep 0.2; kill -HUP $PPID; exec sleep 60")
     if ended != 1 or "stopped; what was proved is kept" not in said or os.listdir(repository.room):
         fail(f"build.py, whose terminal ended: status {ended}, {said}, and there is left {os.listdir(repository.room)}")
-    spec = importlib.util.spec_from_file_location("build", repository.folder / "examples" / "build.py")
-    build = importlib.util.module_from_spec(spec)
-    spec.loader.exec_module(build)
+    build = loaded(repository)
     copy = repository.room / "crates" / "made_up" / "out"
     copy.mkdir(parents=True)
     (copy / "made").write_text("built")
@@ -154,7 +200,7 @@ def try_sockets(folder):
 
 
 def main():
-    for case in (try_gate, try_left, try_prove, try_build):
+    for case in (try_gate, try_left, try_ended, try_prove, try_build, try_order):
         with tempfile.TemporaryDirectory() as folder:
             case(Repository(pathlib.Path(folder)))
     with tempfile.TemporaryDirectory() as folder:
