@@ -15,7 +15,7 @@ use Rattle.ct_tile_names.specs.declared.tile.Tile.{Tile}
 use Rattle.ct_step_lines.specs.declared.replies.StepRefusal.{StepRefusal}
 use Rattle.ct_step_lines.specs.declared.replies.StepRefusal.TheVariants.{BadLine, BadState, TooMany, Edge, Entries, ClockBack, Full, TooLong, Bundle, Claim}
 
--- the bytes are the name of a tile (C2SP tlog-tiles, "Merkle Tree" and "Log Entries")
+-- the bytes are the name of a tile (C2SP tlog-tiles, "Merkle Tree"; static-ct-api, "Log Entries")
 abbrev pub IsTileName : List ℕ → Type 0
 IsTileName name = (tile : Tile) × IsTile tile × (name_text tile ≡ name)
 

@@ -1,4 +1,4 @@
--- The names of tiles (C2SP tlog-tiles, "Merkle Tree" and "Log Entries"), as the ASCII bytes of their texts.
+-- The names of tiles (C2SP tlog-tiles, "Merkle Tree"; static-ct-api, "Log Entries"), as the ASCII bytes of their texts.
 use Rattle.std.specs.Prelude.{ℕ, zero, suc, ◌+◌, ◌/◌, ◌%◌, ◌^◌, ◌<◌, ◌≤◌, ⊤, nat_lt, if◌then◌else◌, List, [], ◌∷◌, ◌++◌, codes}
 use Rattle.ct_tile_names.specs.declared.tile.Content.{Content}
 use Rattle.ct_tile_names.specs.declared.tile.Content.TheVariants.{Hashes, Entries}

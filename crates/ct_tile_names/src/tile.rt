@@ -13,7 +13,7 @@ use thiserror::Error;
 /// What stands in a tile.
 #[derive(Clone, Copy, Debug, PartialEq, Eq)]
 pub enum Content {
-    /// Hashes of a level, 0 to 63.
+    /// Hashes of a level, 0 to 63, of which a log of C2SP tlog-tiles has 0 to 5.
     Hashes(u8),
     /// The entries whose hashes a tile of level 0 has: a data tile.
     Entries,
@@ -77,9 +77,9 @@ impl Tile {
         is_named(*self)
     }
 
-    /// The name, as ASCII (C2SP tlog-tiles, "Merkle Tree"): `tile/<L>/<N>` or `tile/data/<N>`, and `.p/<W>` behind it
-    /// where the width is below 256. N is the index in groups of three digits, each but the last with an x in front.
-    /// Takes memory for the name alone.
+    /// The name, as ASCII: `tile/<L>/<N>` (C2SP tlog-tiles, "Merkle Tree") or `tile/data/<N>` (C2SP static-ct-api,
+    /// "Log Entries"), and `.p/<W>` behind it where the width is below 256. N is the index in groups of three digits,
+    /// each but the last with an x in front. Takes memory for the name alone.
     pub fn name(&self, alloc: Global) -> Result<Vec<u8>, NameFault>
         ensures { MatchResult result (λ text. IsTile self.now × (text.items ≡ name_text self.now)) (NotWritten self.now) }
     {

@@ -1,4 +1,4 @@
--- The entries of a data tile, by their indexes in the log (C2SP static-ct-api, "Log Entries"; tlog-tiles, "Log Entries").
+-- The entries of a data tile, by their indexes in the log (C2SP static-ct-api, "Log Entries").
 use Rattle.std.specs.Prelude.{◌≡◌, ◌⊎◌, ◌<◌, ◌≤◌, ◌^◌, ◌+◌, ◌-◌, ◌*◌, ℕ, List, [], ◌∷◌, drop, Some, None}
 use Rattle.std.specs.declared.option.Option.{Option}
 use Rattle.ct_codec.specs.Leaf.{index_extension}

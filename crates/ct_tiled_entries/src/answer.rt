@@ -5,7 +5,7 @@ use ct_tile_leaves::TileFault;
 /// Why there is no data tile of that name: the first reason in this order.
 #[derive(Clone, Copy, Debug, PartialEq, Eq)]
 pub enum Damage {
-    /// The name is no data tile's (C2SP tlog-tiles, "Log Entries").
+    /// The name is no data tile's (C2SP static-ct-api, "Log Entries").
     NoDataTile,
     /// At this place in the tile, the first leaf's is 0, no leaf is there.
     AtLeaf(usize, TileFault),

@@ -130,7 +130,7 @@ fn entries_of_bytes(
     }))
 }
 
-/// What the data tile of this name (C2SP tlog-tiles, "Log Entries") and these bytes (C2SP static-ct-api, "Log Entries") is to who has read the
+/// What the data tile of this name and these bytes (C2SP static-ct-api, "Log Entries") is to who has read the
 /// entries of a log before the index `next`, and wants the one at it. A tile that begins behind it or ends before it is told by its name, and
 /// its bytes aren't read.
 ///
