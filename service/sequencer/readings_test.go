@@ -57,14 +57,17 @@ func TestSharedReadings(t *testing.T) {
 	_, err := reader.Checkpoint(brief)
 	cancel()
 	wants(t, err, log.ErrStore, context.DeadlineExceeded)
-	var all sync.WaitGroup
+	var all, asking sync.WaitGroup
 	for i := 0; i < many; i++ {
 		all.Add(1)
+		asking.Add(1)
 		go func() {
 			defer all.Done()
+			asking.Done()
 			ask(sizes)
 		}()
 	}
+	asking.Wait()
 	time.Sleep(100 * time.Millisecond)
 	close(register.let)
 	all.Wait()

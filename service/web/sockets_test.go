@@ -198,7 +198,7 @@ func TestSlowClients(t *testing.T) {
 	greedy := dial(t, address)
 	greedy.(*net.TCPConn).SetReadBuffer(4096)
 	fmt.Fprintf(greedy, "GET /tile/data/000 HTTP/1.1\r\nHost: log\r\n\r\n")
-	for until := time.Now().Add(3 * time.Second); f.front.answers.used.Load() < 32<<20; time.Sleep(time.Millisecond) {
+	for until := time.Now().Add(20 * time.Second); f.front.answers.used.Load() < 32<<20; time.Sleep(time.Millisecond) {
 		if time.Now().After(until) {
 			t.Fatal("the object that it doesn't take isn't counted")
 		}
@@ -210,15 +210,15 @@ func TestSlowClients(t *testing.T) {
 	for what := range slow {
 		left[what] = true
 	}
-	for until := time.After(3 * time.Second); len(left) > 0; {
+	for until := time.After(20 * time.Second); len(left) > 0; {
 		select {
 		case what := <-ended:
 			delete(left, what)
 		case <-until:
-			t.Fatalf("not cut off within 3 s: %v", left)
+			t.Fatalf("not cut off within 20 s: %v", left)
 		}
 	}
-	for until := time.Now().Add(3 * time.Second); f.front.connections.open.Load() > 0; time.Sleep(5 * time.Millisecond) {
+	for until := time.Now().Add(20 * time.Second); f.front.connections.open.Load() > 0; time.Sleep(5 * time.Millisecond) {
 		if time.Now().After(until) {
 			t.Fatalf("%d connections stay open", f.front.connections.open.Load())
 		}
@@ -257,7 +257,7 @@ func TestConnectionsAreBounded(t *testing.T) {
 		above := dial(t, address)
 		closed(t, test.what+", one above the bound", above)
 		open[0].Close()
-		for until := time.Now().Add(3 * time.Second); ; time.Sleep(5 * time.Millisecond) {
+		for until := time.Now().Add(20 * time.Second); ; time.Sleep(5 * time.Millisecond) {
 			again := dial(t, address)
 			fmt.Fprintf(again, "GET /healthz HTTP/1.1\r\nHost: log\r\nConnection: close\r\n\r\n")
 			if answer, err := http.ReadResponse(bufio.NewReader(again), nil); err == nil && answer.StatusCode == 200 {
@@ -296,7 +296,7 @@ func TestServerEnds(t *testing.T) {
 	if err := server.End(ctx); err != nil {
 		t.Errorf("it doesn't end: %v", err)
 	}
-	if took := time.Since(began); took > 2*time.Second {
+	if took := time.Since(began); took > 8*time.Second {
 		t.Errorf("it took %v", took)
 	}
 	if statuses := answersOn(t, waits); fmt.Sprint(statuses) != "[200]" {
@@ -355,7 +355,7 @@ func TestClientsThatGo(t *testing.T) {
 		t.Errorf("%d bytes wait", f.front.waiting.used.Load())
 	}
 	connection.Close()
-	for until := time.Now().Add(3 * time.Second); f.front.waiting.used.Load() != 0; time.Sleep(time.Millisecond) {
+	for until := time.Now().Add(20 * time.Second); f.front.waiting.used.Load() != 0; time.Sleep(time.Millisecond) {
 		if time.Now().After(until) {
 			t.Fatal("its bytes are still counted")
 		}
