@@ -71,7 +71,7 @@ TOLD = {
     "ct_command/src/command.rt": {"ErrorKind": (2, "clap's kinds of a refusal, which clauses pin")},
     "ct_parties/src/front_work.rt": {"Late": (1, "behind the last turn of a line that waits")},
     "ct_parties/src/operator_work.rt": {"Late": (1, "behind the last turn of a line that waits")},
-    "ct_script/src/reading.rt": {"Read": (1, "behind the last turn over the lines")},
+    "ct_tasks/src/reading.rt": {"Read": (1, "behind the last turn over the lines")},
     "ct_script/src/script.rt": {"Write": (2, "a reply of the closed log couldn't be written whole, or the output handed on")},
     "ct_script/src/threads.rt": {"Threads": (1, "a front's thread didn't start")},
     "ct_tiled_entries/src/entries.rt": {"Unwritten": (1, "of a leaf's bytes that weren't made, a conversion of its own")},

@@ -3,7 +3,8 @@
 use crate::core_work as work;
 use crate::prepared::prepare;
 use ct_codec::Refusal;
-use ct_core::{Core, Query, Reply, Settled};
+use ct_core::{Query, Reply, Settled};
+use ct_sequencing::Core;
 use std::alloc::AllocError;
 use std::io;
 use std::time::{Duration, Instant};

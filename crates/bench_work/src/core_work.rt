@@ -2,7 +2,7 @@
 
 use crate::prepared::{ReadyItem, prepare};
 use ct_codec::Refusal;
-use ct_core::Core;
+use ct_sequencing::Core;
 use std::alloc::Global;
 
 // The items of `count` certificates, from the one with the number `first`.

@@ -1,7 +1,7 @@
 //! Work over the sequencing core of `ct_core`.
 
 use crate::{core_timing as timing, core_work as work};
-use ct_core::Core;
+use ct_sequencing::Core;
 use std::io;
 
 // Settles a hundred items of the certificates from one number on, and prints how many were firsts.

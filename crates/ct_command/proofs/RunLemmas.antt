@@ -4,8 +4,8 @@ use Rattle.std.specs.Prelude.{Option}
 use Rattle.std.specs.Io.KnownBytes.{Appends}
 use Rattle.clap.specs.declared.error.kind.ErrorKind.{ErrorKind}
 use Rattle.clap.specs.declared.error.kind.ErrorKind.TheVariants as kind
-use Rattle.ct_parties.specs.declared.fault.Fault.{Fault}
-use Rattle.ct_parties.specs.declared.fault.Fault.TheVariants.{Memory, Write}
+use Rattle.ct_tasks.specs.declared.fault.Fault.{Fault}
+use Rattle.ct_tasks.specs.declared.fault.Fault.TheVariants.{Memory, Write}
 use Rattle.ct_command.specs.CommandLine.{CommandLine, IsNotice, IsRefusalOf, IsUnanswered, by_kind, help, version, nothing}
 
 not_both : {P : Type 0} (k : ErrorKind) → k ≡ kind.OutOfMemory → IsNotice k → P

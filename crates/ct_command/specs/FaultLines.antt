@@ -1,7 +1,7 @@
 -- The names of the programs, and the lines of faults.
 use Rattle.std.specs.Prelude.{ℕ, List, [], ◌∷◌, ◌++◌, codes}
-use Rattle.ct_parties.specs.Faults.{fault_name}
-use Rattle.ct_parties.specs.declared.fault.Fault.{Fault}
+use Rattle.ct_tasks.specs.Faults.{fault_name}
+use Rattle.ct_tasks.specs.declared.fault.Fault.{Fault}
 use Rattle.ct_command.specs.declared.program.Program.{Program}
 use Rattle.ct_command.specs.declared.program.Program.TheVariants.{Ctlog, Ctlogd}
 

@@ -5,7 +5,7 @@ use Rattle.clap.specs.declared.error.kind.ErrorKind.TheVariants as kind
 use Rattle.ct_command.specs.CommandLine.{IsNotice}
 use Rattle.ct_command.specs.declared.command.NoOptions.{NoOptions}
 use Rattle.ct_command.specs.declared.command.NoOptions.TheVariants.{Fault, Notice, Refusal}
-use Rattle.ct_parties.specs.declared.fault.Fault.TheVariants.{Memory}
+use Rattle.ct_tasks.specs.declared.fault.Fault.TheVariants.{Memory}
 
 -- it is answered so where clap's error is of this kind
 abbrev pub IsNoOptions : NoOptions → ErrorKind → Type 0

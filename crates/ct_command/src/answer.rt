@@ -7,7 +7,7 @@ ghost use Rattle.std.specs.declared.io.ErrorKind.TheVariants.{OutOfMemory as NoM
 ghost use Rattle.clap.specs.Words.{kind_of};
 ghost use Rattle.clap.specs.declared.error.kind.ErrorKind.TheVariants.{OutOfMemory};
 ghost use Rattle.ct_lines.specs.Sends.{SendsSome};
-ghost use Rattle.ct_parties.specs.declared.fault.Fault.{Fault as FaultOf};
+ghost use Rattle.ct_tasks.specs.declared.fault.Fault.{Fault as FaultOf};
 ghost use Rattle.ct_command.specs.CommandLine.{IsNotice, IsUnanswered};
 ghost use Rattle.ct_command.specs.FaultLines.{fault_line, name_of};
 
@@ -16,7 +16,7 @@ use crate::program::Program;
 use crate::reporting::report;
 use clap::Error;
 use ct_lines::{send, tell};
-use ct_parties::Fault;
+use ct_tasks::Fault;
 use std::alloc::Global;
 use std::io;
 use std::io::Write;

@@ -10,7 +10,7 @@ ghost use Rattle.ct_command.specs.NoOptions.{IsNoOptions};
 use crate::program::Program;
 use clap::error::ErrorKind;
 use clap::{Arg, ArgAction, Command, Error, value_parser};
-use ct_parties::{Fault, Options};
+use ct_tasks::{Fault, Options};
 use std::alloc::Global;
 
 // The last moment that the command line takes, 2^53 - 1, in milliseconds.

@@ -3,7 +3,7 @@
 ghost use Rattle.std.specs.Prelude.{◌≡◌};
 ghost use Rattle.ct_command.specs.FaultLines.{fault_line, name_of};
 
-use ct_parties::Fault;
+use ct_tasks::Fault;
 
 /// A program that runs a log. All of them take the same options.
 #[derive(Clone, Copy, Debug, PartialEq, Eq)]

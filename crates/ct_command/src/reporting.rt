@@ -6,7 +6,7 @@ ghost use Rattle.ct_command.specs.FaultLines.{fault_line, name_of};
 
 use crate::program::Program;
 use ct_lines::tell;
-use ct_parties::Fault;
+use ct_tasks::Fault;
 use std::io::Write;
 
 /// Writes the fault's line, as far as it can be written, and answers the status 1.

@@ -1,8 +1,8 @@
 -- The places of records, by their tickets.
 use Rattle.std.proofs.Common.{◌≡◌, ℕ, zero, suc, ◌+◌, ◌<◌, List, [], ◌∷◌, length, get_or, map, refl, ap, sym, ◌∙◌, arith}
 use Rattle.std.specs.Prelude.{◌==◌, Some, false, position, slice_get}
-use Rattle.shared.specs.Looked.{places_from, first_where}
-use Rattle.shared.proofs.Positions.{first_place, position-seek}
+use Rattle.shared_table.specs.Looked.{places_from, first_where}
+use Rattle.shared_table.proofs.Positions.{first_place, position-seek}
 use Rattle.ct_core.specs.declared.settled.Settled.{Settled}
 use Rattle.ct_core.specs.Tickets.{ticket_of, is_of_ticket, is_ticket_at}
 

@@ -1,8 +1,8 @@
 -- The table from ticket to the first record that has it.
 use Rattle.std.specs.Prelude.{ℕ, List, slice_get, Option, Some, None, Bool, false, ◌==◌}
-use Rattle.shared.specs.Looked.{HasPlaces, ArePlaced}
-use Rattle.shared.specs.declared.slots.Slot.{Slot}
-use Rattle.shared.specs.declared.table.Table.{Table}
+use Rattle.shared_table.specs.Looked.{HasPlaces, ArePlaced}
+use Rattle.shared_table.specs.declared.slots.Slot.{Slot}
+use Rattle.shared_table.specs.declared.table.Table.{Table}
 use Rattle.ct_core.specs.declared.settled.Settled.{Settled}
 
 -- the record's ticket

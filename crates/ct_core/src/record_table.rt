@@ -2,13 +2,14 @@
 
 ghost use Rattle.std.specs.Prelude.{◌≡◌, ◌==◌, [], ◌∷◌, ◌++◌, length, position, IfOk, IsOkUnless, OnOk};
 ghost use Rattle.std.specs.List.{find};
-ghost use Rattle.shared.specs.Looked.{AddsPlace};
+ghost use Rattle.shared_table.specs.Looked.{AddsPlace};
 ghost use Rattle.ct_core.specs.Tickets.{ticket_of, AreEntered};
 
 use crate::both::both;
 use crate::settled::Settled;
 use ct_codec::Refusal;
-use shared::{SharedList, Slot, Table, Test, copy, first_place, with_all};
+use shared::SharedList;
+use shared_table::{Slot, Table, Test, copy, first_place, with_all};
 use std::alloc::Global;
 use std::marker::Model;
 

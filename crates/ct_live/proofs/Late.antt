@@ -4,8 +4,8 @@ use Rattle.std.specs.Prelude.{Option, None}
 use Rattle.std.proofs.KnownBytes.{Appends-nil}
 use Rattle.ct_house.specs.House.{FrontView, HouseState}
 use Rattle.ct_parties.specs.ClosedLog.{IsClosingFault}
-use Rattle.ct_parties.specs.declared.fault.Fault.{Fault}
-use Rattle.ct_parties.specs.declared.fault.Fault.TheVariants.{ClockBack, Memory, Read, Threads, Write}
+use Rattle.ct_tasks.specs.declared.fault.Fault.{Fault}
+use Rattle.ct_tasks.specs.declared.fault.Fault.TheVariants.{ClockBack, Memory, Read, Threads, Write}
 use Rattle.ct_live.specs.LiveEnding.{EndsLog, IsMomentOf}
 use Rattle.ct_live.specs.LiveReplied.{RefusesClosing}
 use Rattle.ct_live.specs.declared.giving.End.{End}

@@ -1,8 +1,8 @@
 -- What is told of a run, where all were to end.
 use Rattle.std.proofs.Common.{◌≡◌, inl, inr, sym, subst, Result}
 use Rattle.std.specs.Prelude.{IfErr, OnErr, OnOk}
-use Rattle.ct_parties.specs.declared.fault.Fault.{Fault}
-use Rattle.ct_parties.specs.declared.fault.Fault.TheVariants.{ClockBack}
+use Rattle.ct_tasks.specs.declared.fault.Fault.{Fault}
+use Rattle.ct_tasks.specs.declared.fault.Fault.TheVariants.{ClockBack}
 use Rattle.ct_live.specs.LiveEnding.{IsToldAs}
 use Rattle.ct_live.proofs.Late.{threads_not_late}
 

@@ -12,8 +12,8 @@ use Rattle.ct_core.specs.Replies.{a_published_head}
 use Rattle.ct_core.specs.Settlement.{Log}
 use Rattle.ct_house.specs.House.{FrontView, HouseState}
 use Rattle.ct_lines.specs.declared.request.FrontRequest.{FrontRequest}
-use Rattle.ct_parties.specs.declared.fault.Fault.{Fault}
-use Rattle.ct_parties.specs.declared.fault.Fault.TheVariants as fault_case
+use Rattle.ct_tasks.specs.declared.fault.Fault.{Fault}
+use Rattle.ct_tasks.specs.declared.fault.Fault.TheVariants as fault_case
 use Rattle.ct_tree.specs.declared.head.Head.{Head}
 use Rattle.ct_live.specs.Rings.{all_received, all_sent, ArePrefixes}
 use Rattle.ct_live.specs.Tagged.{tagged}

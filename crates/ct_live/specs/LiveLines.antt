@@ -5,8 +5,8 @@ use Rattle.serde_json.specs.Data.{Data}
 use Rattle.ct_lines.specs.Asked.{with_three}
 use Rattle.ct_lines.specs.Fields.{text_at, number_at}
 use Rattle.ct_lines.specs.Values.{value_of_line}
-use Rattle.ct_parties.specs.Tasks.{for_front, for_operator, for_frozen, Step, does, ends_shift, AsksFor}
-use Rattle.ct_parties.specs.declared.task.OperatorTask.TheVariants.{Sequence, Publish, Shutdown, BadLine}
+use Rattle.ct_tasks.specs.Tasks.{for_front, for_operator, for_frozen, Step, does, ends_shift, AsksFor}
+use Rattle.ct_tasks.specs.declared.task.OperatorTask.TheVariants.{Sequence, Publish, Shutdown, BadLine}
 use Rattle.ct_live.specs.LiveTasks.{LiveStep, gives_front, gives_operator, closes_at}
 use Rattle.ct_live.specs.declared.asking.LiveRequest.{LiveRequest}
 use Rattle.ct_live.specs.declared.asking.LiveRequest.TheVariants as request_case

@@ -1,6 +1,6 @@
 -- What only inner functions' contracts use: why a thread ended before its time, and what that ends the run with.
-use Rattle.ct_parties.specs.declared.fault.Fault.{Fault}
-use Rattle.ct_parties.specs.declared.fault.Fault.TheVariants as fault_case
+use Rattle.ct_tasks.specs.declared.fault.Fault.{Fault}
+use Rattle.ct_tasks.specs.declared.fault.Fault.TheVariants as fault_case
 use Rattle.ct_live.specs.declared.pipes.fault.ThreadFault.{ThreadFault}
 use Rattle.ct_live.specs.declared.pipes.fault.ThreadFault.TheVariants as thread_case
 

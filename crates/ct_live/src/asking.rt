@@ -6,7 +6,7 @@ ghost use Rattle.ct_live.specs.LiveLines.{take_asked, live_asks, live_asked_in, 
 ghost use Rattle.ct_live.specs.LiveTasks.{live_step};
 
 use ct_lines::{FrontRequest, LONGEST_REQUEST, fields, line_value};
-use ct_parties::{Fault, OperatorTask, Task, line_task};
+use ct_tasks::{Fault, OperatorTask, Task, line_task};
 use serde_json::Value;
 use std::alloc::{AllocError, Global};
 

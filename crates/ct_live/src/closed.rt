@@ -13,7 +13,7 @@ use crate::pipes::tag;
 use crate::replying::reply_object;
 use ct_core::{Published, Reply};
 use ct_lines::{NumberedLines, READS, frozen_reply, send};
-use ct_parties::Fault;
+use ct_tasks::Fault;
 use std::alloc::{AllocError, Global};
 use std::io::{BufRead, Write};
 

@@ -10,7 +10,7 @@ ghost use Rattle.ct_live.specs.ThreadFaults.{thread_fault_of};
 use crate::asking::{LiveOperatorTask, LiveTask, live_task};
 use crate::pipes::{Numbered, Parkers, ThreadFault, Waiter, deliver, give};
 use ct_lines::{FrontRequest, NumberedLines};
-use ct_parties::Fault;
+use ct_tasks::Fault;
 use rtrb::Producer;
 use std::alloc::Global;
 use std::io::BufRead;

@@ -17,7 +17,8 @@ use crate::pipes::{Breaker, Numbered, PLACES, Parkers, Pipes, Worker, open_pipes
 use crate::threads::{Out, Served, Start, run_live};
 use ct_house::{Front, Sequencer, open};
 use ct_lines::{FrontRequest, NumberedLines};
-use ct_parties::{Fault, Options, Waiting};
+use ct_parties::Waiting;
+use ct_tasks::{Fault, Options};
 use rtrb::{Consumer, Producer, RingBuffer};
 use std::alloc::{AllocError, Global};
 use std::io::{BufRead, BufReader, Read, Write};

@@ -18,7 +18,8 @@ use crate::pipes::{
     write_answers,
 };
 use ct_lines::Unwritten;
-use ct_parties::{Fault, Options, Waiting};
+use ct_parties::Waiting;
+use ct_tasks::{Fault, Options};
 use rtrb::Consumer;
 use std::alloc::Global;
 use std::io::{BufRead, Write};

@@ -1,8 +1,6 @@
-pub mod Tasks
 pub mod InTurn
 pub mod Serving
 pub mod FrontWork
 pub mod OperatorWork
 pub mod Fronts
 pub mod ClosedLog
-pub mod Faults

@@ -7,8 +7,8 @@ use Rattle.ct_core.specs.Core.{Begins, clock_of, settle_refusal, IsNextHead, IsI
 use Rattle.ct_core.specs.Replies.{Answer, a_settled_count, a_published_head, an_accepted_count, refused}
 use Rattle.ct_house.specs.House.{HouseState, SettlesMore}
 use Rattle.ct_parties.specs.InTurn.{Serves}
-use Rattle.ct_parties.specs.declared.task.OperatorTask.{OperatorTask}
-use Rattle.ct_parties.specs.declared.task.OperatorTask.TheVariants.{Sequence, Publish, Shutdown, BadLine}
+use Rattle.ct_tasks.specs.declared.task.OperatorTask.{OperatorTask}
+use Rattle.ct_tasks.specs.declared.task.OperatorTask.TheVariants.{Sequence, Publish, Shutdown, BadLine}
 
 -- the house goes on: it is the same house, a shutdown stays, and so does what was settled and published
 pub record GoesOn (old new : HouseState) : Type 0 where

@@ -4,9 +4,9 @@ ghost use Rattle.std.specs.Prelude.{◌≡◌, ◌⊎◌, List, length, All, IfO
 ghost use Rattle.ct_house.specs.House.{IsOfHouse, AreInOrder};
 ghost use Rattle.ct_parties.specs.ClosedLog.{IsReady, IsRefusedAtClosing, IsClosingFault, Closes, KeepsCount, KeepsSettled};
 
-use crate::fault::Fault;
 use ct_codec::Refusal;
 use ct_house::{FinalLog, Front, Retired, Sequencer};
+use ct_tasks::Fault;
 use ct_tree::Head;
 use std::alloc::{AllocError, Global};
 use std::sync::Wait;

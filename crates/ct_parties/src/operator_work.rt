@@ -6,12 +6,12 @@ ghost use Rattle.ct_parties.specs.OperatorWork.{GoesOn, SettlesSome, SequencesFr
 ghost use Rattle.ct_parties.specs.Serving.{DoesWithLine};
 
 use crate::serving::Party;
-use crate::task::OperatorTask;
 use crate::waiting::{Bell, Waiting};
 use ct_codec::Refusal;
 use ct_core::Reply;
 use ct_house::Sequencer;
 use ct_lines::reply_text;
+use ct_tasks::OperatorTask;
 use std::alloc::{AllocError, Global};
 use std::sync::Wait;
 use std::thread::Threads;

@@ -1,6 +1,3 @@
-mod TaskLemmas
-mod PlanLemmas
-mod ReadingLemmas
 mod PartyLemmas
 mod OrderLemmas
 mod ShiftLemmas

@@ -18,18 +18,18 @@ use Rattle.ct_lines.specs.declared.request.FrozenRequest.{FrozenRequest}
 use Rattle.ct_lines.proofs.Asking.{asked_line}
 use Rattle.ct_lines.proofs.ByLines.{replies_by_lines}
 use Rattle.ct_lines.proofs.Pieces.{short_take}
-use Rattle.ct_script.specs.declared.party.Shift.{Shift}
-use Rattle.ct_script.specs.declared.party.Work.{Work}
-use Rattle.ct_script.specs.declared.plan.Plan.{Plan}
-use Rattle.ct_parties.specs.declared.fault.Fault.{Fault}
+use Rattle.ct_tasks.specs.declared.plan.Shift.{Shift}
+use Rattle.ct_tasks.specs.declared.plan.Work.{Work}
+use Rattle.ct_tasks.specs.declared.plan.Plan.{Plan}
+use Rattle.ct_tasks.specs.declared.fault.Fault.{Fault}
 use Rattle.ct_script.specs.Output.{IsFrozenFault}
 use Rattle.ct_script.specs.Output.{request_reply, AreFrozenLines, IsClosed, SomeReplies, WritesAll, WritesSome, log_begun}
 use Rattle.ct_script.specs.Parties.{Parties}
-use Rattle.ct_parties.specs.Tasks.{IsFrozenLine}
-use Rattle.ct_script.specs.Plans.{IsPlanOf}
+use Rattle.ct_tasks.specs.Tasks.{IsFrozenLine}
+use Rattle.ct_tasks.specs.Plans.{IsPlanOf}
 use Rattle.ct_script.specs.Shifts.{PartiesServe}
-use Rattle.ct_parties.specs.Tasks.{Step, does, ends_shift, for_front, for_frozen, for_operator}
-use Rattle.ct_script.specs.Steps.{frozen_line, frozen_lines, AreWhole, IsWholeLine}
+use Rattle.ct_tasks.specs.Tasks.{Step, does, ends_shift, for_front, for_frozen, for_operator}
+use Rattle.ct_tasks.specs.Steps.{frozen_line, frozen_lines, AreWhole, IsWholeLine}
 use Rattle.std.proofs.KnownBytes.{Appends-nil, Appends-trans, Appends-kept}
 
 -- what holds of the error, and in that case

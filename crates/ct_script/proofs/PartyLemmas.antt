@@ -8,8 +8,8 @@ use Rattle.ct_parties.specs.Fronts.{AllGoOn}
 use Rattle.ct_script.specs.Parties.{DoesShift, FrontDoesShift, FrontsDo, FrontsDoShift, fronts_of}
 use Rattle.ct_script.specs.declared.party.FrontParty.{FrontParty}
 use Rattle.ct_script.specs.declared.party.FrontShift.{FrontShift}
-use Rattle.ct_script.specs.declared.party.Work.{Work}
-use Rattle.ct_script.proofs.PlanLemmas.{all_zip_more}
+use Rattle.ct_tasks.specs.declared.plan.Work.{Work}
+use Rattle.ct_tasks.proofs.PlanLemmas.{all_zip_more}
 use Rattle.ct_lines.specs.declared.request.FrontRequest.{FrontRequest}
 
 -- what holds where a result is Ok holds of one that is

@@ -14,10 +14,10 @@ use Rattle.ct_house.specs.House.{FrontView, HouseState, SettlesMore, AreInOrder,
 use Rattle.ct_parties.specs.Fronts.{AreFrontsOf, AllGoOn}
 use Rattle.ct_script.specs.Parties.{DoesShift, Parties, fronts_of}
 use Rattle.ct_script.specs.Shifts.{DoShifts, EndsShift, IsEndRefused, IsShiftFault, Succeeds}
-use Rattle.ct_parties.specs.declared.fault.Fault.{Fault}
+use Rattle.ct_tasks.specs.declared.fault.Fault.{Fault}
 use Rattle.ct_script.specs.declared.party.FrontParty.{FrontParty}
-use Rattle.ct_script.specs.declared.party.Shift.{Shift}
-use Rattle.ct_script.specs.declared.party.Work.{Work}
+use Rattle.ct_tasks.specs.declared.plan.Shift.{Shift}
+use Rattle.ct_tasks.specs.declared.plan.Work.{Work}
 use Rattle.ct_parties.proofs.OperatorLemmas.{settles_both, settles_none}
 use Rattle.ct_script.proofs.OrderLemmas.{order_at, order_count}
 use Rattle.ct_parties.proofs.PartyLemmas.{fronts_kept}

@@ -1,5 +1,5 @@
 -- What is written for an input.
-use Rattle.std.specs.Prelude.{◌≡◌, ◌⊎◌, ℕ, List, [], ◌∷◌, ◌++◌, Option, IfSome}
+use Rattle.std.specs.Prelude.{◌≡◌, ◌⊎◌, ℕ, List, [], ◌∷◌, ◌++◌, Option}
 use Rattle.std.specs.List.{AllByRecursion, AllZip, flat_map}
 use Rattle.std.specs.Io.KnownBytes.{Appends}
 use Rattle.ct_core.specs.Core.{Begins}
@@ -10,23 +10,18 @@ use Rattle.ct_lines.specs.ReplyText.{reply_line}
 use Rattle.ct_lines.specs.Requests.{frozen_asked}
 use Rattle.ct_lines.specs.declared.request.FrozenRequest.{FrozenRequest}
 use Rattle.ct_lines.specs.Serving.{IsCutOff}
-use Rattle.ct_parties.specs.declared.fault.Fault.{Fault}
-use Rattle.ct_parties.specs.declared.fault.Fault.TheVariants.{Memory, Read, Write}
-use Rattle.ct_script.specs.declared.party.Shift.{Shift}
-use Rattle.ct_script.specs.declared.party.Work.{Work}
+use Rattle.ct_tasks.specs.declared.fault.Fault.{Fault}
+use Rattle.ct_tasks.specs.declared.fault.Fault.TheVariants.{Memory, Read, Write}
+use Rattle.ct_tasks.specs.declared.plan.Shift.{Shift}
+use Rattle.ct_tasks.specs.declared.plan.Work.{Work}
 use Rattle.ct_parties.specs.ClosedLog.{Closes, IsClosingFault}
-use Rattle.ct_lines.specs.Lines.{lines_of}
-use Rattle.ct_parties.specs.Tasks.{Step}
-use Rattle.ct_script.specs.Steps.{AllAskFor, IsWholeLine, frozen_lines}
-use Rattle.ct_script.specs.Plans.{AreShiftsOf}
-use Rattle.ct_parties.specs.Tasks.{IsFrozenLine}
+use Rattle.ct_tasks.specs.Tasks.{Step}
+use Rattle.ct_tasks.specs.Steps.{AreStepsOf, IsWholeLine, frozen_lines}
+use Rattle.ct_tasks.specs.Plans.{AreShiftsOf}
+use Rattle.ct_tasks.specs.Tasks.{IsFrozenLine}
 use Rattle.ct_script.specs.Parties.{Parties, IsPartyFault, all_replies, fronts_of}
 use Rattle.ct_script.specs.Shifts.{IsShiftFault, PartiesServe}
 use Rattle.ct_lines.specs.Sends.{SendsSome}
-
--- the steps are those that an input asks for, where its bytes are known, of so many fronts
-abbrev pub AreStepsOf : ℕ → Option (List ℕ) → List Step → Type 0
-AreStepsOf n input ss = IfSome input (λ bytes. AllAskFor n (lines_of bytes) ss)
 
 -- the parties of a new house with so many fronts, each with so many places, opened at this moment: nobody has replied to anything
 pub record AreNewParties (n places open_at : ℕ) (start : Parties) : Type 0 where

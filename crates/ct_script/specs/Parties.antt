@@ -3,13 +3,13 @@ use Rattle.std.specs.Prelude.{◌≡◌, ◌⊎◌, ℕ, List, [], ◌∷◌, �
 use Rattle.std.specs.Global.{Global}
 use Rattle.std.specs.List.{AllZip, flat_map}
 use Rattle.ct_house.specs.House.{FrontView, HouseState}
-use Rattle.ct_parties.specs.declared.fault.Fault.{Fault}
-use Rattle.ct_parties.specs.declared.fault.Fault.TheVariants.{Memory, Threads}
+use Rattle.ct_tasks.specs.declared.fault.Fault.{Fault}
+use Rattle.ct_tasks.specs.declared.fault.Fault.TheVariants.{Memory, Threads}
 use Rattle.ct_parties.specs.FrontWork.{FrontGoesOn, FrontServes}
 use Rattle.ct_parties.specs.OperatorWork.{OperatorServes, GoesOn}
 use Rattle.ct_script.specs.declared.party.FrontParty.{FrontParty}
 use Rattle.ct_script.specs.declared.party.FrontShift.{FrontShift}
-use Rattle.ct_script.specs.declared.party.Work.{Work}
+use Rattle.ct_tasks.specs.declared.plan.Work.{Work}
 use Rattle.ct_lines.specs.declared.request.FrontRequest.{FrontRequest}
 
 -- the parties between two tasks: the house, the operator's replies so far, and each front with its replies so far

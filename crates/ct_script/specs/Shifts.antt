@@ -1,6 +1,6 @@
 -- What the fronts and the operator do over shifts. A shift ends when all have done what they had to do in it; then each front goes
 -- on in a new holder, and the next shift begins.
-use Rattle.std.specs.Prelude.{◌≡◌, ◌<◌, ◌≤◌, ◌⊎◌, ◌+◌, ℕ, List, [], ◌∷◌, ◌++◌, length, All}
+use Rattle.std.specs.Prelude.{◌≡◌, ◌<◌, ◌≤◌, ◌⊎◌, ◌+◌, ℕ, List, [], ◌∷◌, ◌++◌}
 use Rattle.std.specs.List.{AllZip}
 use Rattle.ct_codec.specs.declared.item.Item.{Item}
 use Rattle.ct_core.specs.Core.{Begins, Extends, clock_of}
@@ -9,12 +9,12 @@ use Rattle.ct_core.specs.Settlement.{Log}
 use Rattle.ct_house.specs.House.{FrontView, HouseState, SettlesMore, IsAllSettled}
 use Rattle.ct_lines.specs.ReplyText.{reply_line}
 use Rattle.ct_versions.specs.Sights.{Moves}
-use Rattle.ct_parties.specs.declared.fault.Fault.{Fault}
-use Rattle.ct_parties.specs.declared.fault.Fault.TheVariants.{ClockBack, Memory}
+use Rattle.ct_tasks.specs.declared.fault.Fault.{Fault}
+use Rattle.ct_tasks.specs.declared.fault.Fault.TheVariants.{ClockBack, Memory}
 use Rattle.ct_script.specs.declared.party.FrontParty.{FrontParty}
 use Rattle.ct_script.specs.declared.party.House.{House}
-use Rattle.ct_script.specs.declared.party.Shift.{Shift}
-use Rattle.ct_script.specs.declared.party.Work.{Work}
+use Rattle.ct_tasks.specs.declared.plan.Shift.{Shift}
+use Rattle.ct_tasks.specs.declared.plan.Work.{Work}
 use Rattle.ct_script.specs.Parties.{Parties, DoesShift, IsPartyFault, all_replies, fronts_of}
 
 -- a front's successor, once this log is published: its end of the gate is the same, with all that was accepted there; it has seen what the
@@ -56,10 +56,6 @@ pub record PartiesServe (start : Parties) (shifts : List Shift) (last : Work) (s
 -- the parties of a house between two shifts, or before the first
 abbrev pub start_of : House → Parties
 start_of h = record { house = h.sequencer; told = h.told.items; fronts = h.parties.items }
-
--- each shift, and the last work, has a list of tasks for each of so many fronts
-abbrev pub AreForFronts : ℕ → List Shift → Work → Type 0
-AreForFronts n shifts last = All (λ (s : Shift). length s.work.fronts.items ≡ n) shifts × (length last.fronts.items ≡ n)
 
 -- why a shift can't end at now: the clock refuses the moment, or there is no memory
 abbrev pub IsEndRefused : HouseState → ℕ → Fault → Type 0

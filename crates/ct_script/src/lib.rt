@@ -5,15 +5,12 @@
 //! their numbers, then the operator's, then, once the log is closed, its own. A line that ends a shift has all lines before it
 //! done, and all fronts go on, before the lines behind it are begun.
 //!
-//! - `reading` reads the input line by line, and `plan` gives the lines out.
-//! - `party` has the fronts with their replies, and what they and the operator do in a shift; `threads` does the work of a
-//!   shift, each front in a thread of its own; and `shifting` ends shifts, and does them one after the other.
+//! - `party` has the fronts with their replies; `threads` does the work of a shift, each front in a thread of its own; and
+//!   `shifting` ends shifts, and does them one after the other.
 //! - `replying` adds a reply that is no task's, and `script` has `serve`.
 #![tactic(auto)]
 
 mod party;
-mod plan;
-mod reading;
 mod replying;
 mod script;
 mod shifting;

@@ -1,10 +1,9 @@
-//! The fronts with their replies, and what they and the operator do in a shift.
+//! The fronts with their replies, and with what they do in a shift.
 
 ghost use Rattle.std.specs.Prelude.{◌≡◌, ◌<◌, vec_len, vec_capacity};
 
 use ct_house::{Front, Retired, Sequencer};
 use ct_lines::FrontRequest;
-use ct_parties::OperatorTask;
 
 /// A front, and its replies so far.
 #[derive(Drop)]
@@ -22,24 +21,6 @@ pub struct FrontShift {
     pub party: FrontParty,
     /// Its tasks, in order.
     pub tasks: Vec<FrontRequest>,
-}
-
-/// What the fronts and the operator do in a shift.
-#[derive(Drop)]
-pub struct Work {
-    /// What each front does, in order.
-    pub fronts: Vec<Vec<FrontRequest>>,
-    /// What the operator does, in order.
-    pub operator: Vec<OperatorTask>,
-}
-
-/// A shift that ends.
-#[derive(Drop)]
-pub struct Shift {
-    /// What is done in it.
-    pub work: Work,
-    /// The moment at which it ends, in milliseconds.
-    pub now: u64,
 }
 
 /// A house that was opened, between two shifts. Its sequencer ends it, or gives it up.

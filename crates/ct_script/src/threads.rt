@@ -6,10 +6,11 @@ ghost use Rattle.ct_parties.specs.OperatorWork.{GoesOn, OperatorServes};
 ghost use Rattle.ct_script.specs.Parties.{FrontDoesShift, FrontsDo, DoesShift, IsPartyFault};
 ghost use Rattle.ct_script.specs.Shifts.{start_of};
 
-use crate::party::{FrontParty, FrontShift, House, Work};
+use crate::party::{FrontParty, FrontShift, House};
 use ct_house::Sequencer;
 use ct_lines::FrontRequest;
-use ct_parties::{Fault, OperatorTask, Waiting, serve_all};
+use ct_parties::{Waiting, serve_all};
+use ct_tasks::{Fault, OperatorTask, Work};
 use std::alloc::{AllocError, Global};
 use std::snapshot::Snapshot;
 use std::sync::Wait;

@@ -3,8 +3,8 @@ use Rattle.std.proofs.Common.{◌≡◌, ℕ, List, [], inr}
 use Rattle.std.specs.Prelude.{Option}
 use Rattle.std.specs.Io.KnownBytes.{Appends}
 use Rattle.ct_script.specs.Output.{not_begun}
-use Rattle.ct_parties.specs.declared.fault.Fault.{Fault}
-use Rattle.ct_parties.specs.declared.fault.Fault.TheVariants.{Memory}
+use Rattle.ct_tasks.specs.declared.fault.Fault.{Fault}
+use Rattle.ct_tasks.specs.declared.fault.Fault.TheVariants.{Memory}
 use Rattle.ct_command.specs.CommandLine.{CommandLine, log_with, help, version, nothing}
 use Rattle.ctlog.specs.Runs.{IsBrokenOff}
 

@@ -2,8 +2,8 @@
 use Rattle.std.specs.Prelude.{◌≡◌, ◌⊎◌, ℕ, List, [], Option}
 use Rattle.std.specs.Io.KnownBytes.{Appends}
 use Rattle.ct_script.specs.Output.{IsBegun, IsServed}
-use Rattle.ct_parties.specs.declared.fault.Fault.{Fault}
-use Rattle.ct_parties.specs.declared.fault.Fault.TheVariants.{Memory, Write}
+use Rattle.ct_tasks.specs.declared.fault.Fault.{Fault}
+use Rattle.ct_tasks.specs.declared.fault.Fault.TheVariants.{Memory, Write}
 use Rattle.ct_command.specs.CommandLine.{CommandLine, log_with, help, version, nothing}
 
 -- what a run with status 0 wrote, by what its command line asks for: all replies; or the text of help or of the version

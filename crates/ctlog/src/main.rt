@@ -11,7 +11,7 @@
 #![tactic(auto)]
 
 ghost use Rattle.std.specs.Prelude.{◌≡◌, ◌⊎◌, ◌≤◌};
-ghost use Rattle.ct_parties.specs.declared.fault.Fault.{Fault as FaultOf};
+ghost use Rattle.ct_tasks.specs.declared.fault.Fault.{Fault as FaultOf};
 ghost use Rattle.ct_command.specs.CommandLine.{asked_of, help, version, nothing};
 ghost use Rattle.ct_command.specs.FaultLines.{fault_line, name_of};
 ghost use Rattle.ctlog.specs.Runs.{IsDone, IsBrokenOff};
@@ -22,7 +22,7 @@ mod program;
 mod tests;
 
 use ct_command::{Program, refuse_words, report, texts};
-use ct_parties::Fault;
+use ct_tasks::Fault;
 use program::{TURNS, run};
 use std::alloc::Global;
 use std::io;

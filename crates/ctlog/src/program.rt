@@ -2,14 +2,14 @@
 
 ghost use Rattle.std.specs.Prelude.{◌≡◌, ◌⊎◌, ◌≤◌};
 ghost use Rattle.ct_lines.specs.Sends.{SendsSome};
-ghost use Rattle.ct_parties.specs.declared.fault.Fault.{Fault as FaultOf};
+ghost use Rattle.ct_tasks.specs.declared.fault.Fault.{Fault as FaultOf};
 ghost use Rattle.ct_command.specs.CommandLine.{asked_for, help, version, nothing};
 ghost use Rattle.ct_command.specs.FaultLines.{fault_line, name_of};
 ghost use Rattle.ctlog.specs.Runs.{IsDone, IsBrokenOff};
 
 use ct_command::{Program, answer_command_line, read_options, report};
-use ct_parties::Fault;
 use ct_script::serve;
+use ct_tasks::Fault;
 use std::alloc::Global;
 use std::io::{Read, Write};
 use std::sync::Wait;

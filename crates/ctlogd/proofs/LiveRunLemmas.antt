@@ -2,8 +2,8 @@
 use Rattle.std.proofs.Common.{◌≡◌, ◌∙◌, ℕ, Bool, true, false, true≢false, List, [], ap, sym, inl, inr}
 use Rattle.std.specs.Prelude.{Option}
 use Rattle.std.specs.Io.KnownBytes.{Appends}
-use Rattle.ct_parties.specs.declared.fault.Fault.{Fault}
-use Rattle.ct_parties.specs.declared.fault.Fault.TheVariants.{ClockBack, Memory, Read, Threads, Write}
+use Rattle.ct_tasks.specs.declared.fault.Fault.{Fault}
+use Rattle.ct_tasks.specs.declared.fault.Fault.TheVariants.{ClockBack, Memory, Read, Threads, Write}
 use Rattle.ct_command.specs.CommandLine.{CommandLine, log_with, help, version, nothing}
 use Rattle.ctlogd.specs.LiveRuns.{IsLiveBrokenOff}
 

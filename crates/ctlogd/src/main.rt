@@ -13,7 +13,7 @@
 
 ghost use Rattle.std.specs.Prelude.{◌≡◌, ◌≤◌};
 ghost use Rattle.ct_lines.specs.Sends.{SendsSome};
-ghost use Rattle.ct_parties.specs.declared.fault.Fault.{Fault as FaultOf};
+ghost use Rattle.ct_tasks.specs.declared.fault.Fault.{Fault as FaultOf};
 ghost use Rattle.ct_command.specs.CommandLine.{asked_of, nothing};
 ghost use Rattle.ct_command.specs.FaultLines.{fault_line, name_of};
 ghost use Rattle.ctlogd.specs.LiveRuns.{IsLiveDone, IsLiveBrokenOff};
@@ -22,7 +22,7 @@ mod program;
 
 use ct_command::{Program, refuse_words, report, texts};
 use ct_live::{Breaker, ReadAhead, TURNS, read_ahead};
-use ct_parties::Fault;
+use ct_tasks::Fault;
 use program::{RunEnd, run};
 use std::alloc::{AllocError, Global};
 use std::io;

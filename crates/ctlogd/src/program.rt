@@ -2,8 +2,8 @@
 
 ghost use Rattle.std.specs.Prelude.{◌≡◌, ◌≤◌};
 ghost use Rattle.ct_lines.specs.Sends.{SendsSome};
-ghost use Rattle.ct_parties.specs.declared.fault.Fault.{Fault as FaultOf};
-ghost use Rattle.ct_parties.specs.declared.fault.Fault.TheVariants.{ClockBack};
+ghost use Rattle.ct_tasks.specs.declared.fault.Fault.{Fault as FaultOf};
+ghost use Rattle.ct_tasks.specs.declared.fault.Fault.TheVariants.{ClockBack};
 ghost use Rattle.ct_live.specs.LiveReplied.{IsServedLate, IsServedLive, IsServedSome};
 ghost use Rattle.ct_command.specs.CommandLine.{asked_for, nothing};
 ghost use Rattle.ct_command.specs.FaultLines.{fault_line, name_of};
@@ -11,7 +11,7 @@ ghost use Rattle.ctlogd.specs.LiveRuns.{IsLiveDone, IsLiveBrokenOff};
 
 use ct_command::{Program, answer_command_line, read_options, report};
 use ct_live::{Breaker, Served, serve_live};
-use ct_parties::Options;
+use ct_tasks::Options;
 use std::alloc::Global;
 use std::io::{Read, Write};
 use std::sync::{Arc, Wait};

@@ -1,7 +1,7 @@
 // Each call of the reader and of the writer fails in turn.
 use crate::pace::{Calls, Failure, Outcome, Run, ends_with, outcome_of};
 use crate::replies::{LINES, REPLIES};
-use ct_parties::Fault;
+use ct_tasks::Fault;
 use std::alloc::Global;
 use std::io::ErrorKind;
 use std::sync::Wait;

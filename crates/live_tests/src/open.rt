@@ -3,7 +3,7 @@ use crate::behind::{CLOSE, CLOSED};
 use crate::pace::{OPTIONS, new_breaker};
 use crate::replies::LINES;
 use ct_live::{Breaker, Served, read_ahead, serve_live};
-use ct_parties::Fault;
+use ct_tasks::Fault;
 use std::alloc::{AllocError, Global};
 use std::io;
 use std::io::{ErrorKind, Read, Write};

@@ -1,6 +1,6 @@
 // A reader that goes by what the writer was given, the writer, and a run of a live log over both.
 use ct_live::{Breaker, Served, TURNS, serve_live};
-use ct_parties::{Fault, Options};
+use ct_tasks::{Fault, Options};
 use std::alloc::{AllocError, Global};
 use std::io;
 use std::io::{ErrorKind, Read, Write};

@@ -1,6 +1,6 @@
 // Lines, each given once those before it are replied to, and what has to be written. The hashes come from `tests/merkle.py`.
 use crate::pace::{Run, ends_with};
-use ct_parties::Fault;
+use ct_tasks::Fault;
 use std::test::Fail;
 
 // Two certificates and a repeat, lines that are no request, one of each op, bytes to be signed, and the closed log.

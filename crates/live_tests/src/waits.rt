@@ -1,6 +1,6 @@
 // Lines that wait for others, and a writer for which the reader has to wait.
 use crate::pace::{Calls, Failure, Run, ends_with, outcome_of};
-use ct_parties::Fault;
+use ct_tasks::Fault;
 use std::alloc::{AllocError, Global};
 use std::sync::Wait;
 use std::test::Fail;

@@ -1,6 +1,6 @@
 use Rattle.std.proofs.Common.{◌≡◌, List, ℕ, [], ◌∷◌, ◌+◌, ◌++◌, length, map, take, ap, sym, ◌∙◌, subst, append_assoc}
 use Rattle.std.proofs.lemmas.List.{length-append, take_all}
-use Rattle.shared.specs.Looked.{places_from}
+use Rattle.shared_table.specs.Looked.{places_from}
 use Rattle.ct_core.specs.Leaf.{Entry, leaves_of}
 use Rattle.ct_core.specs.LeafHashes.{address_of, AreNoted}
 use Rattle.ct_core.specs.Tree.{sha256_leaf}

@@ -1,8 +1,8 @@
 use Rattle.std.proofs.Common.{◌≡◌, List, [], ◌∷◌, ◌++◌, length, ap, ◌∙◌, arith}
 use Rattle.std.proofs.lemmas.Grind.{common_steps}
-use Rattle.shared.specs.declared.slots.Slot.{Slot}
-use Rattle.shared.specs.Looked.{places_in}
-use Rattle.shared.proofs.Positions.{placed-push}
+use Rattle.shared_table.specs.declared.slots.Slot.{Slot}
+use Rattle.shared_table.specs.Looked.{places_in}
+use Rattle.shared_table.proofs.Positions.{placed-push}
 use Rattle.ct_core.specs.LeafHashes.{address_of}
 use Rattle.ct_core.proofs.leaf_table.take_in.Goals as goal
 

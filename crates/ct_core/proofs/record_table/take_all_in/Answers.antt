@@ -1,7 +1,7 @@
 use Rattle.std.proofs.Common.{◌≡◌, List, [], ◌∷◌, ◌+◌, ◌++◌, length, get_or, map, take, ap, sym, ◌∙◌, subst, append_assoc}
 use Rattle.std.proofs.lemmas.List.{length-append, take_all, take_more}
 use Rattle.std.specs.Prelude.{false}
-use Rattle.shared.specs.Looked.{places_from}
+use Rattle.shared_table.specs.Looked.{places_from}
 use Rattle.ct_core.specs.declared.settled.Settled.{Settled}
 use Rattle.ct_core.specs.Tickets.{ticket_of, AreEntered}
 use Rattle.ct_core.proofs.record_table.take_all_in.Goals as goal

@@ -1,6 +1,6 @@
 use Rattle.std.proofs.Common.{ap, ◌∙◌}
-use Rattle.ct_parties.specs.Tasks.{does, for_operator}
-use Rattle.ct_parties.specs.declared.task.OperatorTask.TheVariants.{BadLine}
+use Rattle.ct_tasks.specs.Tasks.{does, for_operator}
+use Rattle.ct_tasks.specs.declared.task.OperatorTask.TheVariants.{BadLine}
 use Rattle.ct_live.specs.LiveLines.{live_request_step}
 use Rattle.ct_live.proofs.Asks.{asked_bad}
 use Rattle.ct_live.proofs.asking.live_task.Goals as goal

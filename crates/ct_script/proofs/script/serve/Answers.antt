@@ -2,11 +2,12 @@ use Rattle.std.proofs.Common.{List, ℕ, subst, sym}
 use Rattle.std.proofs.lemmas.Result.{on_ok_weaker, IfErr-weaker}
 use Rattle.ct_lines.specs.declared.request.FrozenRequest.{FrozenRequest}
 use Rattle.ct_script.specs.Output.{AreFrozenLines, begun}
-use Rattle.ct_script.specs.Shifts.{AreForFronts, start_of}
-use Rattle.ct_script.specs.Steps.{frozen_lines}
+use Rattle.ct_script.specs.Shifts.{start_of}
+use Rattle.ct_tasks.specs.Plans.{AreForFronts}
+use Rattle.ct_tasks.specs.Steps.{frozen_lines}
 use Rattle.ct_script.proofs.StartLemmas.{new_fronts, new_count}
 use Rattle.ct_script.proofs.OutputLemmas.{plan_lines}
-use Rattle.ct_script.proofs.PlanLemmas.{for_fronts}
+use Rattle.ct_tasks.proofs.PlanLemmas.{for_fronts}
 use Rattle.ct_script.proofs.script.serve.Goals as goal
 
 pub serve_parties_and_log-requires-clause-fronts : goal.serve_parties_and_log-requires-clause-fronts

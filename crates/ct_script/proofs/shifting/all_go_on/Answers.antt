@@ -7,7 +7,7 @@ use Rattle.ct_house.specs.House.{FrontView, HouseName, IsOfHouse}
 use Rattle.ct_script.specs.Parties.{fronts_of}
 use Rattle.ct_script.specs.Shifts.{IsSuccessor, Succeeds}
 use Rattle.ct_script.specs.declared.party.FrontParty.{FrontParty}
-use Rattle.ct_script.proofs.PlanLemmas.{all_zip_more}
+use Rattle.ct_tasks.proofs.PlanLemmas.{all_zip_more}
 use Rattle.ct_script.proofs.ShiftLemmas.{Going, cut_end, cut_here, cut_on, going_all, going_more, going_none, next_number, next_of_house}
 use Rattle.ct_script.proofs.shifting.all_go_on.Goals as goal
 

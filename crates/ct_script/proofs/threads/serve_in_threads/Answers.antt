@@ -1,6 +1,6 @@
 use Rattle.std.proofs.Common.{List, subst}
 use Rattle.ct_parties.specs.OperatorWork.{GoesOn, OperatorDoes, OperatorServes}
-use Rattle.ct_parties.specs.declared.task.OperatorTask.{OperatorTask}
+use Rattle.ct_tasks.specs.declared.task.OperatorTask.{OperatorTask}
 use Rattle.ct_parties.proofs.OperatorLemmas.{goes_on_nothing, goes_on_both}
 use Rattle.ct_parties.proofs.TurnLemmas.{list_served, list_went_on}
 use Rattle.ct_script.proofs.PartyLemmas.{on_ok_is}

@@ -1,7 +1,7 @@
 use Rattle.std.proofs.Common.{ℕ, map, ap, ◌∙◌}
 use Rattle.std.specs.Prelude.{position}
 use Rattle.std.specs.Str.{bytes_eq}
-use Rattle.shared.specs.Looked.{first_where, places_from}
+use Rattle.shared_table.specs.Looked.{first_where, places_from}
 use Rattle.ct_core.specs.LeafHashes.{address_of, is_hash_at}
 use Rattle.ct_core.proofs.HashPlaces.{first_of_hash}
 use Rattle.ct_core.proofs.leaf_table.LeafTable.index_of.Goals as goal

@@ -1,8 +1,8 @@
 use Rattle.std.proofs.Common.{◌≡◌, ℕ, List, ◌++◌, map, ap, ◌∙◌}
 use Rattle.std.proofs.lemmas.Result.{IfOk-at_ok}
-use Rattle.shared.specs.declared.slots.Slot.{Slot}
-use Rattle.shared.specs.Looked.{looked, places_in}
-use Rattle.shared.proofs.Positions.{placed-append}
+use Rattle.shared_table.specs.declared.slots.Slot.{Slot}
+use Rattle.shared_table.specs.Looked.{looked, places_in}
+use Rattle.shared_table.proofs.Positions.{placed-append}
 use Rattle.ct_core.specs.Leaf.{leaves_of}
 use Rattle.ct_core.specs.LeafHashes.{address_of}
 use Rattle.ct_core.specs.Tree.{sha256_leaf}

@@ -1,6 +1,6 @@
 use Rattle.std.proofs.Common.{ap, ◌∙◌}
 use Rattle.std.specs.Prelude.{position, ◌==◌}
-use Rattle.shared.specs.Looked.{first_where}
+use Rattle.shared_table.specs.Looked.{first_where}
 use Rattle.ct_core.specs.declared.settled.Settled.{Settled}
 use Rattle.ct_core.specs.Tickets.{is_ticket_at}
 use Rattle.ct_core.proofs.TicketPlaces.{first_of_ticket}

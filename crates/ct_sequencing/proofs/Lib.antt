@@ -1,0 +1,2 @@
+pub mod SettleSteps
+pub mod AdoptSteps

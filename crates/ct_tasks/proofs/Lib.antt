@@ -1,0 +1,3 @@
+mod TaskLemmas
+pub mod PlanLemmas
+mod ReadingLemmas

@@ -1,0 +1,4 @@
+pub mod Tasks
+pub mod Faults
+pub mod Steps
+pub mod Plans

@@ -1,0 +1,95 @@
+//! What ends a run before all is written.
+
+ghost use Rattle.std.specs.Prelude.{◌≡◌};
+ghost use Rattle.ct_tasks.specs.declared.fault.Fault.TheVariants.{Memory, Write};
+ghost use Rattle.ct_tasks.specs.Faults.{fault_name, IsReadingFault, IsRefusalFault};
+
+use ct_codec::Refusal;
+use ct_lines::Unwritten;
+use std::alloc::{AllocError, AllocFailed};
+use std::io;
+use thiserror::Error;
+
+/// What ended a run.
+#[derive(Clone, Copy, Debug, PartialEq, Eq, Error)]
+pub enum Fault {
+    /// A growth was refused.
+    #[error("memory was refused")]
+    Memory,
+    /// The clock refuses the moment at which the log is to be closed.
+    #[error("the clock refuses the moment at which the log is to be closed")]
+    ClockBack,
+    /// A thread didn't start.
+    #[error("a thread didn't start")]
+    Threads,
+    /// The input couldn't be read.
+    #[error("the input couldn't be read")]
+    Read,
+    /// The output couldn't be written.
+    #[error("the output couldn't be written")]
+    Write,
+}
+
+impl Fault {
+    /// The fault's name, in small letters.
+    pub fn name(self) -> &'static str
+        ensures { result.now ≡ fault_name self }
+    {
+        match self {
+            Fault::Memory => "memory",
+            Fault::ClockBack => "clock-back",
+            Fault::Threads => "threads",
+            Fault::Read => "read",
+            Fault::Write => "write",
+        }
+    }
+}
+
+impl From<AllocError> for Fault {
+    ghost from_gives = { λ _ f. f ≡ Memory };
+
+    fn from(_e: AllocError) -> Fault {
+        Fault::Memory
+    }
+}
+
+impl<T: Drop> From<AllocFailed<T>> for Fault {
+    ghost from_gives = { λ _ f. f ≡ Memory };
+
+    fn from(_e: AllocFailed<T>) -> Fault {
+        Fault::Memory
+    }
+}
+
+// What ends the run where the opening or the closing is refused: by their contracts no other refusal comes.
+impl From<Refusal> for Fault {
+    ghost from_gives = { λ refusal f. IsRefusalFault refusal f };
+
+    fn from(refusal: Refusal) -> Fault {
+        match refusal {
+            Refusal::Memory => Fault::Memory,
+            _ => Fault::ClockBack,
+        }
+    }
+}
+
+// What ends the run where replies can't be written.
+impl From<Unwritten> for Fault {
+    ghost from_gives = { λ _ f. f ≡ Write };
+
+    fn from(_e: Unwritten) -> Fault {
+        Fault::Write
+    }
+}
+
+// What ends the run where words or the input can't be read.
+impl From<io::ErrorKind> for Fault {
+    ghost from_gives = { λ kind f. IsReadingFault kind f };
+
+    fn from(kind: io::ErrorKind) -> Fault {
+        match kind {
+            io::ErrorKind::OutOfMemory => Fault::Memory,
+            _ => Fault::Read,
+        }
+    }
+}

@@ -1,0 +1,71 @@
+//! The lines of the input, read one by one and given out.
+
+ghost use Rattle.std.specs.Prelude.{◌≡◌, ◌⊎◌, List, length, IfOk, IfErr};
+ghost use Rattle.ct_tasks.specs.Plans.{IsPlanOf, LineTaken};
+ghost use Rattle.ct_tasks.specs.Tasks.{Step};
+ghost use Rattle.ct_tasks.specs.Steps.{AreStepsOf, AreWhole};
+
+use crate::fault::Fault;
+use crate::plan::Plan;
+use ct_lines::{READS, REQUEST_KEPT, next_line};
+use std::alloc::Global;
+use std::io::{BufRead, BufReader, Read};
+
+// How many bytes are asked of the reader at a time.
+const CAPACITY: usize = 65_536;
+
+// Reads the next line into the buffer, and adds what it asks for. It answers whether none was left.
+fn take_line<R: BufRead>(
+    alloc: Global,
+    fronts: u16,
+    input: &mut R,
+    buffer: &mut Vec<u8>,
+    plan: &mut Plan,
+) -> Result<bool, Fault>
+    requires { length plan.old.last.fronts.items ≡ fronts }
+    ensures taken { IfOk result (λ done. LineTaken fronts plan.old plan.new (R.remaining input.old) (R.remaining input.new) done) }
+    ensures faults { IfErr result (λ f. (f ≡ Fault.Read) ⊎ (f ≡ Fault.Memory)) }
+{
+    let is_line = match next_line(input, REQUEST_KEPT, buffer) {
+        Ok(is_line) => is_line,
+        Err(error) => return Err(Fault::from(error.kind())),
+    };
+    if !is_line {
+        return Ok(true);
+    }
+    plan.add_line(alloc, fronts, buffer)?;
+    Ok(false)
+}
+
+// Gives the lines that are left out.
+fn give_out<R: BufRead>(alloc: Global, fronts: u16, input: &mut R) -> Result<Plan, Fault>
+    ensures plan { IfOk result (λ p. (ss : List Step) × AreStepsOf fronts (R.remaining input.old) ss × IsPlanOf fronts p ss × AreWhole ss) }
+    ensures faults { IfErr result (λ f. (f ≡ Fault.Read) ⊎ (f ≡ Fault.Memory)) }
+{
+    let mut plan = Plan::new(alloc, fronts)?;
+    let mut buffer = Vec::new(alloc);
+    for turn in 0..READS {
+        let done = take_line(alloc, fronts, input, &mut buffer, &mut plan)?;
+        if done {
+            return Ok(plan);
+        }
+    }
+    Err(Fault::Read)
+}
+
+/// Reads the input to its end, and gives its lines out to so many fronts, to the operator and to the closed log, shift by
+/// shift. No more than a line of it is held at a time, and of a line that is too long for a request no more than 1,048,578 bytes.
+/// An empty line is nobody's.
+///
+/// # Errors
+///
+/// `Read` where the reader fails, or where there are more than 2^50 lines; `Memory` where a growth is refused.
+pub fn read_plan<R: Read>(alloc: Global, fronts: u16, input: &mut R) -> Result<Plan, Fault>
+    ensures plan { IfOk result (λ p. (ss : List Step) × AreStepsOf fronts (R.remaining input.old) ss × IsPlanOf fronts p ss × AreWhole ss) }
+    ensures faults { IfErr result (λ f. (f ≡ Fault.Read) ⊎ (f ≡ Fault.Memory)) }
+{
+    match BufReader::with_capacity(alloc, CAPACITY, input) {
+        Ok(mut reader) => give_out(alloc, fronts, &mut reader),
+        Err(error) => Err(Fault::from(error.kind())),
+    }
+}

@@ -1,6 +1,0 @@
-use Rattle.std.proofs.Common.{take}
-use Rattle.shared.specs.Looked.{AreParts}
-use Rattle.shared.proofs.slots.parts_of.Given as goal
-
-abbrev pub invariant-loop-slot : goal.invariant-loop-slot
-invariant-loop-slot l = AreParts l.parts.items (take l.slot-index l.slots)

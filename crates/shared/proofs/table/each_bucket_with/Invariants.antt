@@ -1,8 +1,0 @@
-use Rattle.std.proofs.Common.{◌≡◌, List, length}
-use Rattle.std.specs.Arc.{arc_value}
-use Rattle.shared.specs.declared.slots.Slot.{Slot}
-use Rattle.shared.specs.Looked.{places_in, AreParts, AreMore}
-use Rattle.shared.proofs.table.each_bucket_with.Given as goal
-
-abbrev pub invariant-loop-index : goal.invariant-loop-index
-invariant-loop-index l = (length l.all.items ≡ l.index) × ((slots : List Slot) → AreParts l.parts slots → AreMore l.all.items l.buckets (λ p k. places_in (arc_value p).items k) slots l.index)
