@@ -5,7 +5,8 @@
     build.py --show SCRIPT PART=CRATE[,CRATE].. ..
 
 With --show it runs `SCRIPT PART` as soon as the crates of a part are built, and prints what that writes in one piece. The crates with the longest chain
-of crates above them go first. Where there are four processors these get two or more each, and the others, those of an earlier part first, what they leave.
+of crates above them go first. Where there are four processors each of these begins as soon as it can, and the others, those of an earlier part first, get what
+they leave.
 
 Crates that don't stand on each other are proved side by side, as many as processors and memory allow. Only one rt works in a crate's folder, and in
 those of all crates below it; so each of them works in a copy of the sources, which gets what is built of the crates below. What it builds is put
@@ -40,7 +41,7 @@ LONG = 0.7
 # What a program takes to be put together, as bytes of a crate whose proof takes as long.
 TOGETHER = 80_000
 # How much nicer the proofs of crates on no such chain are.
-NICER = 5
+NICER = 15
 
 
 class Crates:
@@ -175,8 +176,9 @@ class Build:
         self.done, self.count, self.running = set(built), 0, {}
         fit = fitting() if len(self.left) > 1 and any(not crates.is_put_together(name) for name in self.left) else 1
         self.places = min(processors(), MOST, fit)
-        # How many jobs there may be beside those of a chain that decides.
+        # How many jobs there may be beside those of chains that decide, and in all.
         self.beside = min(self.places, fit - self.places) if self.places >= 4 else 0
+        self.most = fit if self.beside else self.places
         # The checkout itself is for archives; where proofs don't run side by side, it is for all.
         self.copies, self.failed = [], None
 
@@ -232,22 +234,27 @@ class Build:
     def ready(self):
         """The crates that can begin, those that matter most first."""
         found = [name for name in self.left if all(it in self.done for it in self.crates.uses[name])]
-        return sorted(found, key=lambda name: (not self.is_long(name), self.rank[name], -self.behind[name]))
+        first = {name: (0, self.rank[name] > 0) if self.is_long(name) else (1, self.rank[name]) for name in found}
+        return sorted(found, key=lambda name: (*first[name], -self.behind[name]))
 
     def idle(self, is_long):
-        """How many jobs may yet begin: of chains that decide as many as there are places, of others what these leave, or those beside them; and of both no more
-        than memory has room for."""
-        chains = sum(proof.jobs or 1 for proof in self.running if proof.is_long)
+        """How many jobs may yet begin: of chains that decide as many as there are places, and one while fewer chains than places are at work, since a job more
+        for one chain gains less than another chain does; of others what these leave, or those beside them; and of both no more than memory has room for."""
+        chains = [proof.jobs or 1 for proof in self.running if proof.is_long]
         others = sum(proof.jobs or 1 for proof in self.running if not proof.is_long)
-        left = self.places - chains
-        return min(left if is_long else max(left, self.beside) - others, self.places + self.beside - chains - others)
+        left = self.places - sum(chains)
+        if is_long:
+            wanted = max(left, 1 if self.beside and len(chains) < self.places else 0)
+        else:
+            wanted = max(left, self.beside) - others
+        return min(wanted, self.most - sum(chains) - others)
 
     def jobs(self, is_long, idle, others):
         """How many of these jobs the proof of a crate gets, on which so many crates wait, itself among them; 0 leaves it to rt."""
         if self.places == 1:
             return 0
-        most = 4 if is_long or not self.beside else 2
-        return max(1, min(most, idle // others), min(2, idle) if is_long else 1)
+        most = 4 if is_long or not self.beside else 1
+        return max(1, min(most, idle // others), min(2, idle) if is_long and not self.beside else 1)
 
     def begin(self, pool, room):
         """Begins as many proofs as there are places for, and answers those."""

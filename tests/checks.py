@@ -155,9 +155,9 @@ def try_order(repository):
     pool = types.SimpleNamespace(submit=lambda run, is_program: object())
     one, two = {"all": ["top", "wide", "thin"]}, {"first": ["thin"], "last": ["top", "wide"]}
     for processors, memory, parts, wanted in (
-        (4, 12, one, {"low": (4, 0), "wide": (2, 5), "thin": (2, 5)}),
-        (4, 12, two, {"thin": (2, 0), "low": (2, 0), "wide": (2, 5)}),
-        (4, 5, one, {"low": (4, 0), "wide": (1, 5)}),
+        (4, 12, one, {"low": (4, 0), "wide": (1, 15), "thin": (1, 15)}),
+        (4, 12, two, {"thin": (2, 0), "low": (2, 0), "wide": (1, 15)}),
+        (4, 5, one, {"low": (4, 0), "wide": (1, 15)}),
         (4, 4, one, {"low": (2, 0), "wide": (1, 0), "thin": (1, 0)}),
         (2, 12, one, {"low": (1, 0), "wide": (1, 0)}),
         (4, 1, one, {"low": (0, 0)}),
@@ -166,10 +166,18 @@ def try_order(repository):
         work = build.Build(build.Crates(), parts, None)
         begun = work.begin(pool, repository.room).values()
         hold(f"with {processors} processors there begin", {proof.name: (proof.jobs, proof.nicer) for proof in begun}, wanted)
-    others = [types.SimpleNamespace(jobs=2, is_long=False)] * 3
-    for beside, wanted in ((2, 0), (3, 1), (4, 2)):
-        work = types.SimpleNamespace(places=4, beside=beside, running=others)
-        hold("beside six other jobs a chain gets", build.Build.idle(work, True), wanted)
+    other, chain = (types.SimpleNamespace(jobs=2, is_long=is_long) for is_long in (False, True))
+    for running, beside, wanted in (
+        ([other] * 3, 2, 0),
+        ([other] * 3, 3, 1),
+        ([other] * 3, 4, 2),
+        ([chain] * 2, 4, 1),
+        ([chain] * 2, 0, 0),
+        ([chain] * 2 + [other] * 2, 4, 0),
+        ([chain] * 4, 4, 0),
+    ):
+        work = types.SimpleNamespace(places=4, beside=beside, most=4 + beside, running=running)
+        hold(f"beside {len(running)} others a chain gets", build.Build.idle(work, True), wanted)
 
 
 def try_build(repository):
