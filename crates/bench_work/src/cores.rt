@@ -1,4 +1,4 @@
-//! Work over the sequencing core of `ct_core`.
+//! Work over the sequencing core of `ct_sequencing`.
 
 use crate::{core_timing as timing, core_work as work};
 use ct_sequencing::Core;

@@ -1,7 +1,7 @@
 //! Work whose time is taken: over the sequencing core, over the tree and its tiles, and steps of a tiled log. Without arguments it does a fixed
 //! amount of each and prints what came out. Else the first argument says which work, and those behind it how much:
 //!
-//! - `core ENTRIES..` prints, for each number of entries, how many nanoseconds a call of `ct_core` takes;
+//! - `core ENTRIES..` prints, for each number of entries, how many nanoseconds a call of the sequencing core takes;
 //! - `tree LEAVES..` the same of `ct_tree`, for each number of leaves;
 //! - `tree append LEAVES 1` and `tree take-in LEAVES BATCH` grow a log, as `Nodes` and as tiles, by so many leaves at a time, and print the
 //!   root;
