@@ -87,7 +87,7 @@ func TestSweptHeads(t *testing.T) {
 	p, ctx, got, faults := newPlace(t), limited(t), &answers{}, &faulty{}
 	config := p.config(t)
 	faults.wrap(&config)
-	config.TendEvery = time.Hour
+	config.TendEvery, config.Patience = time.Hour, longest
 	s := started(t, config, hooks{})
 	must(t, got.submitAll(ctx, s, 0, 100, 8))
 	older := p.copied(t, "register")
