@@ -207,7 +207,7 @@ def try_install(folder):
     ran = make_install(folder, folder / "built")
     due = {path: f"made up: {source}" for path, source in sources.items()}
     due.update({f"lib/libwagtenib.{end}": due["lib/libwagtenib.so.0.1.0"] for end in ("so.0", "so")})
-    due["bin/ctmonitor-watch"] = (EXAMPLES / "monitor" / "watch.sh").read_text()
+    due.update({f"bin/ctmonitor-{name}": (EXAMPLES / "monitor" / f"{name}.sh").read_text() for name in ("watch", "mail")})
     due["include/wagtenib.h"] = (HERE.parent / "include" / "wagtenib.h").read_text()
     due["lib/pkgconfig/wagtenib.pc"] = (HERE.parent / "include" / "wagtenib.pc.in").read_text().replace("@PREFIX@", "/opt/log")
     to = folder / "to" / "opt" / "log"

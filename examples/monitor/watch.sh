@@ -1,39 +1,62 @@
 #!/bin/sh
-# Looks at logs once, for cron: fetches each log's head and the entries that its state lacks, and has ctmonitor judge them.
+# Looks at logs once, for cron or a timer: fetches each log's head and the entries that its state lacks, and has ctmonitor judge them.
 #
-#   LOG="https://log.example tiled+https://tiles.example .." watch.sh [--folder DIR] [--pieces N] [--older-than HOURS] [--name NAME]..
+#   LOG="https://log.example tiled+https://tiles.example .." watch.sh [--folder DIR] [--pieces N] [--older-than HOURS]
+#       [--name NAME].. [--name-file FILE] [--tell COMMAND]
 #
 # A log is read by the calls of RFC 6962; with tiled+ before its address, by its checkpoint and data tiles (C2SP static-ct-api).
 # Each has a folder of its own below DIR (ct-watch): its state, the verdicts, the heads as they came, and alarm.* with what an alarm was told of.
-# It fetches until the log's head is judged, N pieces at most (5000). It prints a line for each log; docs/MONITOR.md has the exit statuses.
+# It fetches until the log's head is judged, N pieces at most (5000). It prints a line for each log, and one for each entry that has a watched name:
+# those of --name and of the lines of FILE. COMMAND gets each such entry, each alarm, and once a day a log that wasn't judged for a day.
+# docs/MONITOR.md has the exit statuses, and what COMMAND is given.
 set -u
 # How many full data tiles are a piece.
 TILES=16
-folder=ct-watch pieces=5000 older=
+# How long COMMAND may take, and after how long it is told that a log wasn't judged, in seconds.
+PATIENCE=60 DAY=86400
+folder=ct-watch pieces=5000 here=$PWD older='' tell='' name_file=''
 
 usage() {
-  sed -n '2,8s/^# \{0,1\}//p' "$0" >&2
+  sed -n '2,11s/^# \{0,1\}//p' "$0" >&2
   exit 2
 }
 
-while [ $# -gt 0 ]; do
+# The words that aren't its own are ctmonitor's: they go to the end, one behind the other.
+left=$#
+while [ $left -gt 0 ]; do
   case $1 in
-    --folder | --pieces | --older-than) [ $# -gt 1 ] || usage ;;
-    *) break ;;
+    --folder | --pieces | --older-than | --tell | --name | --name-file) [ $left -gt 1 ] || usage ;;
+    *) set -- "$@" "$1" && shift && left=$((left - 1)) && continue ;;
   esac
   case $1 in
     --folder) folder=$2 ;;
     --pieces) pieces=$2 ;;
     --older-than) older=$2 ;;
+    --tell) tell=$2 ;;
+    --name) set -- "$@" "$1" "$2" ;;
+    --name-file) name_file=$2 ;;
   esac
   shift 2
+  left=$((left - 2))
 done
 case "${pieces:-none}$older" in *[!0-9]*) usage ;; esac
+# A line of it is a name; what is empty or begins with # isn't.
+if [ -n "$name_file" ]; then
+  if [ ! -f "$name_file" ] || [ ! -r "$name_file" ]; then
+    echo "watch.sh: $name_file can't be read" >&2
+    exit 2
+  fi
+  had=$# return=$(printf '\r')
+  while read -r name || [ -n "$name" ]; do
+    name=${name%"$return"}
+    case $name in '' | '#'*) ;; *) set -- "$@" --name "$name" ;; esac
+  done <"$name_file"
+  [ $# -gt $had ] || { echo "watch.sh: there is no name in $name_file" >&2; exit 2; }
+fi
 case ${LOG:-} in *[![:space:]]*) ;; *) usage ;; esac
 for tool in ctmonitor curl flock; do
   command -v $tool >/dev/null || { echo "watch.sh: $tool isn't on the PATH" >&2; exit 2; }
 done
-# The words that are left are ctmonitor's.
 ctmonitor "$@" </dev/null >/dev/null || exit 2
 
 # Says it of the log; but nothing of a piece of several tiles (`count`), which is read again one at a time.
@@ -142,13 +165,94 @@ replace() {
 alarm() {
   kept=alarm.$(date +%s) where="which can't be kept"
   mkdir -p "$kept" && cp lines told "$kept" && cp got/1 "$kept/answer" && where="kept in $PWD/$kept"
-  say "ALARM, $where: $(grep -E '"(fork|shrunk|time-not-later|root-mismatch|inconsistent|older-than-entry|wrong-index)"' told | tail -n 1)"
+  verdict=$(grep -E '"(fork|shrunk|time-not-later|root-mismatch|inconsistent|older-than-entry|wrong-index)"' told | tail -n 1)
+  say "ALARM, $where: $verdict"
+  hand alarm no "ALARM, $where: $verdict" "$verdict" || say "the alarm couldn't be told by the command"
 }
 
 # Adds the file $1 to the end of the file $2: all of it, or nothing.
 add() {
   had=$(wc -c 2>fault <"$2" || echo 0)
   cat "$1" >>"$2" || { truncate -s "$had" "$2" 2>fault; return 1; }
+}
+
+# Runs COMMAND, where there is one, in the folder in which watch.sh was begun: of the event $1 (found, alarm or health), whether it may have been told
+# before ($2), what is said of it ($3), and the line of JSON that it is about ($4). Its standard input has that line with log, event and again.
+hand() {
+  [ -n "$tell" ] || return 0
+  (
+    again=false WATCH_EVENT=$1 WATCH_AGAIN=$2 WATCH_SAYS="$log: $3" WATCH_LOG=$log
+    [ "$2" = no ] || again=true
+    WATCH_ENTRY=$(field entry "$4") WATCH_TIMESTAMP=$(field timestamp "$4") WATCH_TYPE=$(field type "$4") WATCH_NAME=$(field name "$4")
+    export WATCH_EVENT WATCH_AGAIN WATCH_SAYS WATCH_LOG WATCH_ENTRY WATCH_TIMESTAMP WATCH_TYPE WATCH_NAME
+    cd "$here" && printf '{"again":%s,"event":"%s","log":"%s",%s\n' $again "$1" "$log" "${4#\{}" | timeout -k 5 $PATIENCE sh -c "$tell" 3<&- 9>&-
+  )
+}
+
+# What stands in the field $1 of the line of JSON $2: a number, or a text.
+field() {
+  printf '%s\n' "$2" | sed -nE 's/.*"'"$1"'":("(([^"\]|\\.)*)"|([0-9]+)).*/\2\4/p' | sed 's/\\\(["\\/]\)/\1/g'
+}
+
+# Puts the entries that have a watched name into the file `untold`, before the state has them: so none is left out, whenever the run is killed.
+keep_found() {
+  grep -E '^\{"entry":[0-9]+,(.*,)?"name":"' told >text || return 0
+  add text untold && sync untold
+}
+
+# Tells each line of `untold` that isn't in `found`, which has those that were told. One that is in `begun` was begun by a run that was killed, or
+# by a command that failed: it is told again, and marked. It answers 8 where something was told, and 1 where something couldn't be.
+tell_found() {
+  [ -s untold ] || return 0
+  touch found begun && grep -vxFf found untold | awk '!seen[$0]++' >text && mv text left && cp begun before || return 1
+  count=1 told=0 failed=0
+  while IFS= read -r line <&3; do
+    again=no
+    ! grep -qxF -e "$line" before || again=yes
+    if printf '%s\n' "$line" >text && add text begun && sync begun && tell_line && add text found; then
+      told=8
+    else
+      failed=$((failed + 1))
+    fi
+  done 3<left
+  if [ $failed != 0 ]; then
+    say "of the entries found $failed couldn't be told: the next run tells them again"
+    return 1
+  fi
+  sync found && rm -f untold && rm -f begun before left && return $told
+}
+
+tell_line() {
+  moment=$(field timestamp "$line") kind=certificate
+  [ "$(field type "$line")" != precert ] || kind=precertificate
+  says="FOUND $(field name "$line"): entry $(field entry "$line"), a $kind, $(date -u -d "@$((moment / 1000))" +%Y-%m-%dT%H:%M:%SZ 2>fault)"
+  [ $again = no ] || says="$says, told again"
+  printf '%s\n' "$log: $says" && hand found $again "$says" "$line"
+}
+
+# Notes when the log was judged last, by this machine's clock. Where that is more than a day ago, says so, to COMMAND once a day.
+health() {
+  now=$(date +%s)
+  case $1 in
+    0 | 3 | 6)
+      echo "$now" >judged
+      rm -f ailing
+      return
+      ;;
+  esac
+  [ "$(moment_in judged)" != 0 ] || echo "$now" >judged
+  hours=$(((now - $(moment_in judged)) / 3600))
+  [ $((hours * 3600)) -ge $DAY ] || return
+  say "HEALTH: for $hours hours nothing of this log could be judged"
+  [ $((now - $(moment_in ailing))) -lt $DAY ] ||
+    { hand health no "HEALTH: for $hours hours nothing of this log could be judged" "{\"hours\":$hours,\"status\":$1}" && echo "$now" >ailing; } ||
+    say "this couldn't be told by the command"
+}
+
+# The moment that stands in a file, in seconds; else 0.
+moment_in() {
+  moment=$(head -c 12 "$1" 2>fault)
+  case $moment in '' | *[!0-9]* | 0?*) echo 0 ;; *) echo "$moment" ;; esac
 }
 
 # Keeps a new head as it came, with its signature, before the state has it: so one may stand there twice, and none is left out.
@@ -180,6 +284,10 @@ judge() {
   esac
   if ! { sed '$d' told >text && add text verdicts; }; then
     say "the verdicts can't be written; the state is left as it was"
+    [ $status != 0 ] || return 1
+  fi
+  if ! keep_found; then
+    say "what was found can't be kept; the state is left as it was"
     [ $status != 0 ] || return 1
   fi
   [ $status = 0 ] || return $status
@@ -247,7 +355,7 @@ read_tiles() {
 }
 
 # Says how far it is, and answers 6 where the last accepted head is older than it may be.
-tell() {
+say_how_far() {
   accepted=$(sed -n 's/^{"accepted":{"sha256_root_hash":"[^"]*","timestamp":\([0-9]*\),"tree_size":\([0-9]*\)}.*/\1 \2/p' state)
   waiting=$(waiting)
   moment=${accepted% *} size=${accepted#* }
@@ -276,7 +384,21 @@ watch() {
     turn=$((turn + 1))
     read_piece "$@" || return
   done
-  tell
+  say_how_far
+}
+
+# The same, and tells what was found. It answers the graver of the two statuses.
+watch_and_tell() {
+  watch "$@"
+  status=$?
+  tell_found
+  found=$?
+  health $status
+  case $status$found in
+    ?0 | [34]? | ?8) [ $status$found != 08 ] || status=8 ;;
+    *) status=1 ;;
+  esac
+  return $status
 }
 
 mkdir -p "$folder" && exec 9>"$folder/lock" || exit 1
@@ -292,10 +414,10 @@ for log in $LOG; do
   for name in "$(name_of "$log")" "$(name_of "$address")" "$(name_of "$address/")" "$(name_of "$address")"; do
     [ ! -d "$folder/$name" ] || break
   done
-  (mkdir -p "$folder/$name" && cd "$folder/$name" && watch "$@")
+  (mkdir -p "$folder/$name" && cd "$folder/$name" && watch_and_tell "$@")
   statuses="$statuses $?"
 done
-for gravest in 3 4 1 2 5 6; do
+for gravest in 3 4 1 2 5 6 8; do
   case "$statuses " in *" $gravest "*) exit $gravest ;; esac
 done
 case $statuses in *[!\ 0]*) exit 1 ;; esac

@@ -1,6 +1,6 @@
 #!/usr/bin/env python3
 """Tries watch.sh against logs of its own on 127.0.0.1, one that is called and one of tiles: a log that is down, forks, is rewritten, answers with
-nothing or with what is no answer; a disk that is full, and a run that is killed.
+nothing or with what is no answer; a disk that is full, and a run that is killed; and what is told of watched names.
 
 The judge is the built ctmonitor where there is one, else stand_in.py. Both it holds against the runs of answers.py and grown.py first, whose roots
 Go's tlog computes where it is installed (roots.sh). It prints what it tried with which of the two, and ends with status 1 at the first thing that
@@ -195,10 +195,10 @@ class Watch:
 def try_days(watch):
     """A log that grows is followed to each of its heads, over more pieces than 20, from where the run before ended."""
     log = Log()
-    watch.ends("the first day", 0, log.url, "--name", "example.org", says="accepted 8 leaves")
+    watch.ends("the first day", 8, log.url, "--name", "example.org", says="accepted 8 leaves")
     if log.asked != [0] or watch.path(log, "verdicts").read_text().count('"name":"example.org"') != 8:
         fail("the first day: the names of 8 entries were to be told")
-    watch.ends("the same head", 0, log.url, says="accepted 8 leaves")
+    watch.ends("the same head", 0, log.url, "--name", "example.org", says="accepted 8 leaves")
     log.size, log.most, log.now = 40, 1, log.now + 1000
     watch.ends("two pieces at most", 0, log.url, "--pieces", "2", says="accepted 8 leaves, has read 10 of 40")
     watch.ends("all pieces", 0, log.url, says="accepted 40 leaves")
@@ -293,7 +293,7 @@ def tiles_asked(what, log, *names):
 def try_tiles_days(watch):
     """A tiled log is followed over the edges of its tiles: up to one, over one, and over sixteen in a piece."""
     log = Tiles()
-    watch.ends("a tiled log's first day", 0, log.url, "--name", "ficate 7", says=f"{log.url}: accepted 8 leaves")
+    watch.ends("a tiled log's first day", 8, log.url, "--name", "ficate 7", says=f"{log.url}: accepted 8 leaves")
     tiles_asked("the first day", log, "000.p/8")
     if watch.path(log, "verdicts").read_text().count('"name":"ficate 7"') != 1:
         fail("a tiled log's first day: the name of one entry was to be told")
@@ -508,6 +508,195 @@ def try_signatures(folder):
         fail(f"signature.sh, ended by a signal: status {ran.returncode}, and there is left {os.listdir(room)}")
 
 
+# What a watched name of these two characters and more becomes in JSON and comes out of it.
+ODD = 'od"d\\name'
+NAMED = [answers.leaf(answers.MOMENT + 1000 * i, (b"of example.org %d" if i % 3 else b"of another %d") % i, None) for i in range(9)]
+NAMED += [answers.leaf(answers.MOMENT + 9000, f"of {ODD} and EXAMPLE.ORG".encode(), bytes(32))]
+TOLD = {"entry", "name", "timestamp", "type"}
+
+
+class Command:
+    """A command for --tell, which notes what it is given: `told` has the lines of its standard input, with its environment in `around`."""
+
+    def __init__(self, folder, behind="true"):
+        self.file, self.line = folder / "told", f"cat >>'{folder}/told'; env | grep ^WATCH_ >>'{folder}/around'; {behind}"
+        self.around = folder / "around"
+        self.forget()
+
+    def forget(self):
+        self.file.write_text("")
+        self.around.write_text("")
+
+    def told(self):
+        return [json.loads(line) for line in self.file.read_text().splitlines()]
+
+
+def due_of(log, entries, name="example.org", again=()):
+    """What a command is to be given of these entries."""
+    kinds = {i: "precert" if i == 9 else "x509" for i in entries}
+    moments = {i: answers.MOMENT + 1000 * i for i in entries}
+    due = ({"again": i in again, "entry": i, "event": "found", "log": log.url, "name": name, "timestamp": moments[i], "type": kinds[i]} for i in entries)
+    return list(due)
+
+
+def is_told(what, command, due):
+    if command.told() != due:
+        fail(f"{what}: the command was given {command.told()} where {due} is due")
+    command.forget()
+
+
+def named_log(size, leaves=NAMED):
+    log = Log()
+    log.leaves, log.size, log.now = leaves, size, answers.MOMENT + 10_000
+    return log
+
+
+OF_EXAMPLE = [1, 2, 4, 5, 7, 8, 9]
+
+
+def try_telling(watch):
+    """Each entry with a watched name is a line and status 8, and is given to the command, once."""
+    command, log = Command(watch.folder), named_log(6)
+    words = ("--tell", command.line, "--name", "example.org")
+    output = watch.ends("four entries of a name", 8, log.url, *words, says="accepted 6 leaves")
+    lines = [line for line in output.splitlines() if "FOUND" in line]
+    moment = time.strftime("%Y-%m-%dT%H:%M:%SZ", time.gmtime(answers.MOMENT // 1000 + 4))
+    if len(lines) != 4 or lines[2] != f"{log.url}: FOUND example.org: entry 4, a certificate, {moment}":
+        fail(f"four entries of a name: the lines {lines}")
+    is_told("four entries of a name", command, due_of(log, [1, 2, 4, 5]))
+    if "FOUND" in watch.ends("the same", 0, log.url, *words) or command.told():
+        fail("the same head: an entry is told once more")
+    log.size, log.now = 10, log.now + 1
+    output = watch.ends("two names, the words in another order", 8, log.url, "--name", ODD, *words[2:], *words[:2], says="entry 9, a precertificate")
+    around = command.around.read_text()
+    is_told("two names", command, sorted(due_of(log, OF_EXAMPLE[4:]) + due_of(log, [9], ODD), key=lambda line: (line["entry"], line["name"] != ODD)))
+    due = {"EVENT": "found", "LOG": log.url, "ENTRY": "9", "NAME": ODD, "TIMESTAMP": str(answers.MOMENT + 9000), "TYPE": "precert", "AGAIN": "no"}
+    if any(f"WATCH_{name}={value}\n" not in around for name, value in due.items()) or f"WATCH_SAYS={log.url}: FOUND {ODD}: entry 9" not in around:
+        fail(f"two names: the command's environment has {around}")
+    tiled = Tiles()
+    tiled.size = 600
+    watch.ends("a tiled log's entry", 8, tiled.url, "--tell", command.line, "--name", "ificate 599", says="entry 599, a certificate")
+    if [line["entry"] for line in command.told()] != [599]:
+        fail(f"a tiled log's entry: the command was given {command.told()}")
+    command.forget()
+
+
+def try_telling_again(watch):
+    """An entry is told at least once wherever a run is killed, and marked where that may be the second time; and so where the command fails."""
+    command, log = Command(watch.folder), named_log(10)
+    with watch.instead("sync", '[ "$1" != untold ] || kill -9 0'):
+        watch.start(log.url, "--tell", command.line, "--name", "example.org").communicate()
+    if watch.path(log).exists() and watch.state(log)["all"]["size"] or command.told():
+        fail("a kill before the state: the state has the entries, or they were told")
+    with watch.instead("sync", KILLING):
+        watch.start(log.url, "--tell", command.line, "--name", "example.org").communicate()
+    is_told("a kill behind the head's state", command, [])
+    begun, goes_on = watch.folder / "begun", watch.folder / "goes-on"
+    for fifo in (begun, goes_on):
+        os.mkfifo(fifo)
+    holding = Command(watch.folder, f"if [ $WATCH_ENTRY = 4 ]; then echo >'{begun}'; read line <'{goes_on}'; fi")
+    ran = watch.start(log.url, "--tell", holding.line, "--name", "example.org")
+    begun.read_text()
+    os.killpg(ran.pid, signal.SIGKILL)
+    goes_on.write_text("\n")
+    ran.communicate()
+    is_told("a run that is killed while it tells", command, due_of(log, [1, 2, 4]))
+    output = watch.ends("the run behind it", 8, log.url, "--tell", command.line, "--name", "example.org", says="entry 4, a certificate")
+    if output.count(", told again\n") != 1:
+        fail(f"the run behind it: not one entry is marked: {output}")
+    is_told("the run behind it", command, due_of(log, OF_EXAMPLE[2:], again=[4]))
+    failing, other = Command(watch.folder, "[ $WATCH_ENTRY != 2 ]"), named_log(6)
+    watch.ends("a command that fails", 1, other.url, "--tell", failing.line, "--name", "example.org", says="of the entries found 1 couldn't be told")
+    is_told("a command that fails", failing, due_of(other, [1, 2, 4, 5]))
+    watch.ends("a command that does again", 8, other.url, "--tell", command.line, "--name", "example.org", says="entry 2, a certificate")
+    is_told("a command that does again", command, due_of(other, [2], again=[2]))
+    watch.ends("all told", 0, other.url, "--tell", command.line, "--name", "example.org")
+    full = named_log(6)
+    watch.ends("a folder for what is found", 0, full.url)
+    full.size, full.now = 9, full.now + 1
+    watch.path(full, "untold").mkdir()
+    watch.ends("the head", 1, full.url, "--name", "example.org", says="what was found can't be kept")
+    watch.path(full, "untold").rmdir()
+    watch.ends("what was found, after all", 8, full.url, "--name", "example.org", says="entry 8, a certificate")
+
+
+def try_alarms_told(watch):
+    """An alarm is given to the command; the entries of the piece that it is about are told once, however often that is read again."""
+    command, log = Command(watch.folder), named_log(6)
+    words = ("--tell", command.line, "--name", "example.org")
+    watch.ends("a first head", 8, log.url, *words)
+    command.forget()
+    log.leaves, log.size, log.now = FORKED[:2] + NAMED[2:], 10, log.now + 1
+    output = watch.ends("a rewritten log", 3, log.url, *words, says='"verdict":"root-mismatch"')
+    told = command.told()
+    if [line["event"] for line in told] != ["alarm", *["found"] * 3] or told[0]["verdict"] != "root-mismatch" or output.count("FOUND") != 3:
+        fail(f"a rewritten log: the command was given {told}: {output}")
+    command.forget()
+    if "FOUND" in watch.ends("the same", 3, log.url, *words, says='"verdict":"root-mismatch"'):
+        fail("a rewritten log, read again: an entry is told once more")
+    if [line["event"] for line in command.told()] != ["alarm"]:
+        fail(f"a rewritten log, read again: the command was given {command.told()}")
+    command.forget()
+    failing = Command(watch.folder, "false")
+    watch.ends("an alarm that can't be told", 3, log.url, "--tell", failing.line, says="the alarm couldn't be told by the command")
+
+
+def try_health(watch):
+    """A log that wasn't judged for a day is a line in each run, and is given to the command once a day."""
+    command, log = Command(watch.folder), Log()
+    watch.ends("a first day", 0, log.url)
+    judged, ailing, address = watch.path(log, "judged"), watch.path(log, "ailing"), log.url
+    log.instead = {"get-sth": {"status": 503}}
+    if "HEALTH" in watch.ends("an hour without it", 5, address, "--tell", command.line):
+        fail("a log that wasn't judged for a moment is told")
+    for what, hours, given in (("23 hours", 23.9, 0), ("a day", 25.5, 1), ("the next hour", 26.5, 0), ("the next day", 50.5, 1)):
+        judged.write_text(str(int(time.time() - hours * 3600)))
+        if what == "the next day":
+            ailing.write_text(str(int(time.time() - 86400)))
+        output = watch.ends(what, 5, address, "--tell", command.line)
+        due = [{"again": False, "event": "health", "hours": int(hours), "log": address, "status": 5}] * given
+        if (f"HEALTH: for {int(hours)} hours nothing" in output) != (hours > 24):
+            fail(f"a log that wasn't judged for {hours} hours: {output}")
+        is_told(what, command, due)
+    judged.write_text("no number")
+    if "HEALTH" in watch.ends("a moment that is none", 5, address):
+        fail("a log of which isn't known when it was judged is told")
+    log.instead = {}
+    watch.ends("the log again", 0, address)
+    if ailing.exists() or int(judged.read_text()) < time.time() - 3600:
+        fail("a log that was judged isn't noted")
+
+
+def try_names_of_a_file(watch):
+    """The lines of a file are names; a file without one, or none, is refused."""
+    names = watch.folder / "names"
+    names.write_text(f"# mine\n\nno.name\r\n  {ODD.replace(chr(92), chr(92))}\r\nexample.org")
+    log = named_log(10)
+    output = watch.ends("names of a file", 8, log.url, "--name-file", names, "--name", "another 0")
+    if output.count("FOUND example.org: ") != 7 or output.count(f"FOUND {ODD}: ") != 1 or output.count("FOUND another 0: ") != 1:
+        fail(f"names of a file: {output}")
+    names.write_text("# none\n\n")
+    watch.ends("a file without a name", 2, log.url, "--name-file", names, says="there is no name in")
+    watch.ends("no file", 2, log.url, "--name-file", watch.folder / "none", says="none can't be read")
+    watch.ends("a word without its value", 2, log.url, "--name", "a", "--tell", says="watch.sh [--folder DIR]")
+
+
+def try_mail(watch):
+    """mail.sh hands a message to sendmail, of which a script stands in the place."""
+    log, sent, sendmail = named_log(2), watch.folder / "sent", watch.folder / "sendmail"
+    sendmail.write_text(f"#!/bin/sh\necho \"$@\" >>'{sent}'\ncat >>'{sent}'\n")
+    sendmail.chmod(0o755)
+    watch.ends("a mail", 8, log.url, "--tell", f"SENDMAIL='{sendmail}' '{MONITOR}/mail.sh' you@example.org", "--name", "example.org")
+    lines = sent.read_text().splitlines()
+    if lines[:3] != ["-oi -- you@example.org", "To: you@example.org", "Subject: found: example.org"] or lines[lines.index("") + 1].split(": ")[1] != "FOUND example.org":
+        fail(f"mail.sh hands over {lines}")
+    if json.loads(lines[-1]) != due_of(log, [1])[0]:
+        fail(f"mail.sh hands over, at its end, {lines[-1]}")
+    ran = subprocess.run([MONITOR / "mail.sh"], stdin=subprocess.DEVNULL, capture_output=True, text=True)
+    if ran.returncode != 2 or "watch.sh --tell" not in ran.stderr:
+        fail(f"mail.sh without words: status {ran.returncode}: {ran.stderr}")
+
+
 # Judges that don't do as ctmonitor does, with the status that is due.
 BAD_JUDGES = [
     ("is killed", 1, "grep -q . && kill -9 $$; exit 0"),
@@ -622,6 +811,12 @@ def main():
         try_no_tiles(watch)
         try_full_disk(watch)
         try_killed(watch)
+        try_telling(watch)
+        try_telling_again(watch)
+        try_alarms_told(watch)
+        try_health(watch)
+        try_names_of_a_file(watch)
+        try_mail(watch)
         try_slashes(watch)
         try_several(watch, followed, forked)
         try_judges(watch, followed, judge)
