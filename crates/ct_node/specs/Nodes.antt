@@ -1,0 +1,101 @@
+-- What a node does next: the command behind what came of one.
+use Rattle.std.specs.Prelude.{ℕ, ◌+◌, Bool, not, ◌&&◌, ◌==◌, nat_lt, if◌then◌else◌}
+use Rattle.ct_node.specs.declared.state.State.{State}
+use Rattle.ct_node.specs.declared.node.Node.{Node}
+use Rattle.ct_node.specs.declared.node.Node.TheVariants.{Reading, Looking, Stepping, Staging, Swapping, Promising, Deleting, Putting, Placing, Heading, Answering}
+use Rattle.ct_node.specs.declared.node.Outcome.{Outcome}
+use Rattle.ct_node.specs.declared.node.Outcome.TheVariants.{Done, Promise, Lost, Read, Published, Bundle, Stepped, Listed}
+
+-- the state l may come behind k: it was made from k's moment, and is later
+abbrev pub follows : State → State → Bool
+follows k l = l.before == k.moment && nat_lt k.moment l.moment
+
+-- where the register came to k, and l isn't k: l was made from an earlier moment than k's
+abbrev pub is_behind : State → State → Bool
+is_behind k l = nat_lt l.before k.moment && not (l.moment == k.moment && l.salt == k.salt)
+
+-- the object at an index, of so many; behind the last one the places
+abbrev pub putting_of : State → ℕ → ℕ → Node
+putting_of l i n = if nat_lt i n then Putting l i n else Placing l
+
+-- reading: the state that was read is looked at
+abbrev pub on_reading : Outcome → Node
+on_reading (Read k) = Looking k
+on_reading o = Reading
+
+-- looking at k: where its head stands, a step may be made from it; else its bundle's objects are put first
+abbrev pub on_looking : State → Outcome → Node
+on_looking k Published = Stepping k
+on_looking k (Bundle n) = putting_of k 0 n
+on_looking k Lost = Reading
+on_looking k o = Looking k
+
+-- stepping from k: a step that may come behind k is staged, and a bundle that is of no use any more is deleted
+abbrev pub on_stepping : State → Outcome → Node
+on_stepping k (Stepped l n) = if follows k l then Staging k l n else Stepping k
+on_stepping k (Listed l) = if is_behind k l then Deleting k l else Stepping k
+on_stepping k Lost = Reading
+on_stepping k o = Stepping k
+
+-- staging the step from k to l: once its bundle stands, it is swapped for k
+abbrev pub on_staging : State → State → ℕ → Outcome → Node
+on_staging k l n Done = Swapping k l n
+on_staging k l n Lost = Reading
+on_staging k l n o = Staging k l n
+
+-- swapping k for l: once the register took it, its objects are put, or who waits is answered first, by a promise
+abbrev pub on_swapping : State → State → ℕ → Outcome → Node
+on_swapping k l n Done = putting_of l 0 n
+on_swapping k l n Promise = Promising l n
+on_swapping k l n Lost = Reading
+on_swapping k l n o = Swapping k l n
+
+-- promising what the register took: behind it l's objects are put
+abbrev pub on_promising : State → ℕ → Outcome → Node
+on_promising l n Done = putting_of l 0 n
+on_promising l n Lost = Reading
+on_promising l n o = Promising l n
+
+-- deleting the bundle of l: whatever came of it, a step may be made from k
+abbrev pub on_deleting : State → State → Outcome → Node
+on_deleting k l Done = Stepping k
+on_deleting k l Lost = Stepping k
+on_deleting k l o = Deleting k l
+
+-- putting the object at an index: behind it the next one, behind the last one the places
+abbrev pub on_putting : State → ℕ → ℕ → Outcome → Node
+on_putting l i n Done = if nat_lt i n then putting_of l (i + 1) n else Placing l
+on_putting l i n Lost = Reading
+on_putting l i n o = Putting l i n
+
+-- adding the places: behind them the head
+abbrev pub on_placing : State → Outcome → Node
+on_placing l Done = Heading l
+on_placing l Lost = Reading
+on_placing l o = Placing l
+
+-- putting the head: behind it who waits is answered
+abbrev pub on_heading : State → Outcome → Node
+on_heading l Done = Answering l
+on_heading l Lost = Reading
+on_heading l o = Heading l
+
+-- answering who waits: whatever came of it, the register is read again
+abbrev pub on_answering : State → Outcome → Node
+on_answering l Done = Reading
+on_answering l Lost = Reading
+on_answering l o = Answering l
+
+-- The command behind what came of one. What leads on nowhere leaves the node as it is, so the command is given once more.
+abbrev pub after : Node → Outcome → Node
+after Reading o = on_reading o
+after (Looking k) o = on_looking k o
+after (Stepping k) o = on_stepping k o
+after (Staging k l n) o = on_staging k l n o
+after (Swapping k l n) o = on_swapping k l n o
+after (Promising l n) o = on_promising l n o
+after (Deleting k l) o = on_deleting k l o
+after (Putting l i n) o = on_putting l i n o
+after (Placing l) o = on_placing l o
+after (Heading l) o = on_heading l o
+after (Answering l) o = on_answering l o
