@@ -183,7 +183,7 @@ func (r faultyRegister) Swap(ctx context.Context, old, new string) error {
 	return err
 }
 
-func (r faultyRegister) Published(ctx context.Context) (published uint64, err error) {
+func (r faultyRegister) Published(ctx context.Context) (published stores.Published, err error) {
 	err = r.f.call(ctx, func() error {
 		published, err = r.Register.Published(ctx)
 		return err
@@ -191,7 +191,7 @@ func (r faultyRegister) Published(ctx context.Context) (published uint64, err er
 	return published, err
 }
 
-func (r faultyRegister) Raise(ctx context.Context, published uint64) error {
+func (r faultyRegister) Raise(ctx context.Context, published stores.Published) error {
 	return r.f.call(ctx, func() error { return r.Register.Raise(ctx, published) })
 }
 

@@ -18,14 +18,14 @@ type heldRegister struct {
 	let   chan struct{}
 }
 
-func (r *heldRegister) Published(ctx context.Context) (uint64, error) {
+func (r *heldRegister) Published(ctx context.Context) (stores.Published, error) {
 	published, err := r.Register.Published(ctx)
 	r.began.Add(1)
 	select {
 	case <-r.let:
 		return published, err
 	case <-ctx.Done():
-		return 0, ctx.Err()
+		return stores.Published{}, ctx.Err()
 	}
 }
 
@@ -99,10 +99,10 @@ type hungRegister struct {
 	asked atomic.Int64
 }
 
-func (r *hungRegister) Published(ctx context.Context) (uint64, error) {
+func (r *hungRegister) Published(ctx context.Context) (stores.Published, error) {
 	if r.asked.Add(1) == 1 {
 		<-ctx.Done()
-		return 0, ctx.Err()
+		return stores.Published{}, ctx.Err()
 	}
 	return r.Register.Published(ctx)
 }

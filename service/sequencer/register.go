@@ -111,11 +111,11 @@ func (s *Sequencer) takeUp(ctx context.Context) error {
 		if moved {
 			continue
 		}
-		if len(further) == 0 && published <= k.state.Size {
+		if len(further) == 0 && !publishedAt(k.state).Before(published) {
 			s.mu.Lock()
 			s.newest = k
 			s.mu.Unlock()
-			return nil
+			return s.takeUpHead(ctx, published, k)
 		}
 		// Another node may have set it meanwhile.
 		again, err := s.config.Register.Read(ctx)
@@ -123,10 +123,43 @@ func (s *Sequencer) takeUp(ctx context.Context) error {
 			return fmt.Errorf("sequencer: %w", err)
 		}
 		if again == text {
-			return fmt.Errorf("%w: it has %d entries at %d ms; the store has %v, and %d are published", ErrSetBack, k.state.Size, k.state.Moment, further, published)
+			return fmt.Errorf("%w: it has %d entries at %d ms; the store has %v, and %d at %d ms are published", ErrSetBack, k.state.Size, k.state.Moment, further, published.Size, published.Moment)
 		}
 	}
 	return fmt.Errorf("%w: in %d tries it didn't stand still", ErrSetBack, mostTries)
+}
+
+// takeUpHead publishes the newest head that is in the store, where what is published is before it: a head is put behind all that it stands for.
+func (s *Sequencer) takeUpHead(ctx context.Context, published stores.Published, k known) error {
+	newest, after := "", headName(step.State{Size: published.Size, Moment: published.Moment})
+	for {
+		names, err := s.config.Objects.List(ctx, headsPrefix, after, stores.MostListed)
+		if err != nil {
+			return fmt.Errorf("sequencer: %w", err)
+		}
+		if len(names) == 0 {
+			break
+		}
+		after = names[len(names)-1]
+		newest = after
+	}
+	if newest == "" || newest > headName(k.state) {
+		return nil
+	}
+	head, err := s.readHead(ctx, newest)
+	if errors.Is(err, ErrDamaged) || err == nil && (nameOf(&head) != newest || newest == headName(k.state) && matches(head, k.state) != nil) {
+		// It isn't served; the loop says so.
+		return nil
+	}
+	if err != nil {
+		return err
+	}
+	return s.raise(ctx, published, head)
+}
+
+// publishedAt is what is published once a state is.
+func publishedAt(state step.State) stores.Published {
+	return stores.Published{Size: state.Size, Moment: state.Moment}
 }
 
 // agrees sees that the signer's last head is the newest state's, or one before it that no published head is later than. It says that

@@ -11,6 +11,7 @@ import (
 	"strconv"
 	"strings"
 	"sync"
+	"time"
 
 	"wagtenib/service/log"
 	"wagtenib/service/signer"
@@ -30,7 +31,7 @@ func (s *Sequencer) isRolledOut(ctx context.Context, k known) (bool, error) {
 	if err != nil {
 		return false, fmt.Errorf("sequencer: %w", err)
 	}
-	if published < k.state.Size {
+	if published.Size < k.state.Size {
 		return false, nil
 	}
 	head, err := s.readHead(ctx, headName(k.state))
@@ -43,7 +44,9 @@ func (s *Sequencer) isRolledOut(ctx context.Context, k known) (bool, error) {
 	if err := matches(head, k.state); err != nil {
 		return false, err
 	}
-	s.see(head)
+	if err := s.raise(ctx, published, head); err != nil {
+		return false, err
+	}
 	s.rolled = k.line
 	return true, nil
 }
@@ -53,6 +56,22 @@ func matches(head log.Head, state step.State) error {
 		return fmt.Errorf("%w: %s is of another tree than the register's state", ErrDamaged, headName(state))
 	}
 	return nil
+}
+
+// raise publishes a head whose objects are out, as it is itself, where what is published is before it.
+func (s *Sequencer) raise(ctx context.Context, published stores.Published, head log.Head) error {
+	if published.Before(publishedOf(head)) {
+		if err := s.config.Register.Raise(ctx, publishedOf(head)); err != nil {
+			return fmt.Errorf("sequencer: %w", err)
+		}
+	}
+	s.see(head)
+	return nil
+}
+
+// publishedOf is what is published once a head is.
+func publishedOf(head log.Head) stores.Published {
+	return stores.Published{Size: head.TreeSize, Moment: head.Timestamp}
 }
 
 // see keeps the newest published head.
@@ -112,11 +131,10 @@ func (s *Sequencer) rollOut(ctx context.Context, k known, objects []step.Object,
 		return err
 	}
 	s.phase("head out")
-	if err := s.config.Register.Raise(ctx, k.state.Size); err != nil {
-		return fmt.Errorf("sequencer: %w", err)
+	if err := s.raise(ctx, stores.Published{}, published); err != nil {
+		return err
 	}
 	s.phase("published")
-	s.see(published)
 	s.rolled = k.line
 	// The bundle before isn't needed any more. What stays of it where this fails is in nobody's way.
 	_ = s.config.Objects.Delete(ctx, bundleName(k.state.Before))
@@ -251,48 +269,80 @@ func (s *Sequencer) parseNote(note []byte) (log.Head, error) {
 	return head, nil
 }
 
-// checkpoint reads the newest published head.
+// mostUnread is for how long a register that doesn't answer is waited for, where a published head is known.
+const mostUnread = 2 * time.Second
+
+// checkpoint gives the newest published head, and no other: what the register has is the latest that any node published. Where the register
+// can't be read, it is the newest one that this node knows.
 func (s *Sequencer) checkpoint(ctx context.Context) (log.Head, error) {
-	published, err := s.config.Register.Published(ctx)
-	if err != nil {
-		return log.Head{}, fmt.Errorf("sequencer: %w", err)
+	seen := s.seen()
+	for try := 0; ; try++ {
+		published, err := s.published(ctx, seen != nil)
+		if err != nil && seen != nil {
+			return *seen, nil
+		}
+		if err != nil {
+			return log.Head{}, fmt.Errorf("sequencer: %w", err)
+		}
+		if seen = s.seen(); seen != nil && !publishedOf(*seen).Before(published) {
+			return *seen, nil
+		}
+		head, err := s.headAt(ctx, published)
+		// It was swept, where a later one is published by now.
+		if !errors.Is(err, stores.ErrAbsent) || try == mostTries {
+			return head, err
+		}
+		if again, reading := s.published(ctx, false); reading != nil || again == published {
+			return head, err
+		}
 	}
-	text, err := s.config.Register.Read(ctx)
-	if err != nil {
-		return log.Head{}, fmt.Errorf("sequencer: %w", err)
+}
+
+// published reads how far the log is published; briefly, where something is known without it.
+func (s *Sequencer) published(ctx context.Context, briefly bool) (stores.Published, error) {
+	if briefly {
+		var cancel context.CancelFunc
+		ctx, cancel = context.WithTimeout(ctx, mostUnread)
+		defer cancel()
 	}
-	k, err := readText(text)
-	if err != nil {
-		return log.Head{}, err
-	}
-	s.mu.Lock()
-	seen := s.head
-	s.mu.Unlock()
-	if seen != nil && seen.TreeSize >= published && (seen.TreeSize > published || seen.Timestamp >= k.state.Moment || k.state.Size > published) {
-		return *seen, nil
-	}
+	return s.config.Register.Published(ctx)
+}
+
+// headAt reads the head that is published. Where the register has its size alone, as versions before wrote it, it is the newest one of this
+// size, whose moment is published now.
+func (s *Sequencer) headAt(ctx context.Context, published stores.Published) (log.Head, error) {
+	name := headName(step.State{Size: published.Size, Moment: published.Moment})
 	head, err := log.Head{}, stores.ErrAbsent
-	if k.state.Size == published {
-		head, err = s.readHead(ctx, headName(k.state))
+	if published.Moment > 0 {
+		head, err = s.readHead(ctx, name)
 	}
 	if errors.Is(err, stores.ErrAbsent) {
-		// The newest state's isn't out yet.
-		head, err = s.publishedHead(ctx, published)
+		if name, err = s.newestHead(ctx, published.Size); err == nil {
+			head, err = s.readHead(ctx, name)
+		}
+	}
+	if err == nil && nameOf(&head) != name {
+		err = fmt.Errorf("%w: %s has the head of %d entries at %d ms", ErrDamaged, name, head.TreeSize, head.Timestamp)
+	}
+	if err == nil && publishedOf(head).Before(published) {
+		err = fmt.Errorf("%w: the head of %d entries at %d ms, which is published, is missing", ErrDamaged, published.Size, published.Moment)
+	}
+	if err == nil {
+		err = s.raise(ctx, published, head)
 	}
 	if err != nil {
 		return log.Head{}, err
 	}
-	s.see(head)
 	return head, nil
 }
 
-// publishedHead reads the newest head of a size.
-func (s *Sequencer) publishedHead(ctx context.Context, size uint64) (log.Head, error) {
+// newestHead gives the name of the newest head of a size.
+func (s *Sequencer) newestHead(ctx context.Context, size uint64) (string, error) {
 	newest, prefix := "", fmt.Sprintf("%s%020d-", headsPrefix, size)
 	for after := prefix; ; after = newest {
 		names, err := s.config.Objects.List(ctx, headsPrefix, after, stores.MostListed)
 		if err != nil {
-			return log.Head{}, fmt.Errorf("sequencer: %w", err)
+			return "", fmt.Errorf("sequencer: %w", err)
 		}
 		ours := 0
 		for ; ours < len(names) && strings.HasPrefix(names[ours], prefix); ours++ {
@@ -303,7 +353,7 @@ func (s *Sequencer) publishedHead(ctx context.Context, size uint64) (log.Head, e
 		}
 	}
 	if newest == "" {
-		return log.Head{}, fmt.Errorf("sequencer: no head of %d entries is published: %w", size, stores.ErrAbsent)
+		return "", fmt.Errorf("sequencer: no head of %d entries is published: %w", size, stores.ErrAbsent)
 	}
-	return s.readHead(ctx, newest)
+	return newest, nil
 }

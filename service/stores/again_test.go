@@ -120,14 +120,14 @@ func TestRegisterOutlivesItsEngine(t *testing.T) {
 			if err != nil {
 				return err
 			}
-			return register.Raise(ctx, uint64(i))
+			return register.Raise(ctx, Published{uint64(i), uint64(2 * i)})
 		})
 		text, err := register.Read(ctx)
 		if err != nil || number(text) < last || !strings.HasPrefix(text, "try ") {
 			t.Errorf("%q stands, %v, and %d was acknowledged", text, err, last)
 		}
-		if published, err := register.Published(ctx); err != nil || published < uint64(last) {
-			t.Errorf("%d is published, %v, and %d was acknowledged", published, err, last)
+		if published, err := register.Published(ctx); err != nil || published.Size < uint64(last) || published.Moment != 2*published.Size {
+			t.Errorf("%v is published, %v, and %d was acknowledged", published, err, last)
 		}
 	})
 }

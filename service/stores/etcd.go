@@ -49,15 +49,16 @@ func (at Etcd) open() (*clientv3.Client, error) {
 	return client, nil
 }
 
-// inEtcd keeps the register in two keys.
+// inEtcd keeps the register in three keys: the text; the published size, which is all that versions before the third read; and the size and the
+// moment of the published head.
 //
 // It asks of the cluster: transactions and reads are linearizable (reads are, unless they are said to be serializable, which
 // none here is), and what a majority acknowledged stays: members keep their data folders, and fsync is left on
 // (--unsafe-no-fsync isn't given). A restore from a backup sets the register back, and isn't to be done to a log. Old revisions, which nobody
 // reads, are compacted (--auto-compaction-retention): each swap and each place leaves one, and they fill the cluster's quota.
 type inEtcd struct {
-	client          *clientv3.Client
-	text, published string
+	client                *clientv3.Client
+	text, published, head string
 }
 
 // OpenEtcd opens the register below a prefix.
@@ -66,7 +67,7 @@ func OpenEtcd(at Etcd) (Register, error) {
 	if err != nil {
 		return nil, err
 	}
-	return &inEtcd{client, at.Prefix + "/text", at.Prefix + "/published"}, nil
+	return &inEtcd{client, at.Prefix + "/text", at.Prefix + "/published", at.Prefix + "/head"}, nil
 }
 
 // isAbsent is true of a key that isn't there.
@@ -89,7 +90,7 @@ func (e *inEtcd) Create(ctx context.Context, text string) error {
 		return err
 	}
 	answer, err := e.client.Txn(ctx).If(isAbsent(e.text), isAbsent(e.published)).
-		Then(clientv3.OpPut(e.text, text), clientv3.OpPut(e.published, inOrder(0))).Commit()
+		Then(clientv3.OpPut(e.text, text), clientv3.OpPut(e.published, inOrder(0)), clientv3.OpPut(e.head, headInOrder(Published{}))).Commit()
 	if err != nil {
 		return sent("create", err)
 	}
@@ -135,28 +136,55 @@ func (e *inEtcd) Swap(ctx context.Context, old, new string) error {
 	return ErrLost
 }
 
-func (e *inEtcd) Published(ctx context.Context) (uint64, error) {
-	text, err := e.get(ctx, e.published)
+// headInOrder writes a size and a moment so that the order of texts is that of heads.
+func headInOrder(p Published) string { return inOrder(p.Size) + "-" + inOrder(p.Moment) }
+
+// headFormInOrder reads what headInOrder wrote.
+const headFormInOrder = "%020d-%020d"
+
+// Published reads both keys at once. The first alone is larger where a version raised it that doesn't know the other.
+func (e *inEtcd) Published(ctx context.Context) (Published, error) {
+	answer, err := e.client.Txn(ctx).Then(clientv3.OpGet(e.published), clientv3.OpGet(e.head)).Commit()
 	if err != nil {
-		return 0, err
+		return Published{}, fmt.Errorf("stores: etcd: read: %w", err)
 	}
-	number, err := strconv.ParseUint(text, 10, 63)
+	size, head := answer.Responses[0].GetResponseRange().Kvs, answer.Responses[1].GetResponseRange().Kvs
+	if len(size) == 0 {
+		return Published{}, ErrAbsent
+	}
+	number, err := strconv.ParseUint(string(size[0].Value), 10, 63)
 	if err != nil {
-		return 0, fmt.Errorf("stores: etcd: published: %w", err)
+		return Published{}, fmt.Errorf("stores: etcd: %s has %.40q, and not how far the log is published", e.published, size[0].Value)
 	}
-	return number, nil
+	published := Published{Size: number}
+	if len(head) == 0 {
+		return published, nil
+	}
+	var later Published
+	if n, err := fmt.Sscanf(string(head[0].Value), headFormInOrder, &later.Size, &later.Moment); n != 2 || err != nil {
+		return Published{}, fmt.Errorf("stores: etcd: %s has %.60q, and not how far the log is published", e.head, head[0].Value)
+	}
+	if published.Before(later) {
+		return later, nil
+	}
+	return published, nil
 }
 
-func (e *inEtcd) Raise(ctx context.Context, published uint64) error {
-	if err := checkNumbers(published); err != nil {
+func (e *inEtcd) Raise(ctx context.Context, published Published) error {
+	if err := checkNumbers(published.Size, published.Moment); err != nil {
 		return err
 	}
-	answer, err := e.client.Txn(ctx).If(clientv3.Compare(clientv3.Value(e.published), "<", inOrder(published))).
-		Then(clientv3.OpPut(e.published, inOrder(published))).Else(clientv3.OpGet(e.published)).Commit()
+	raise := func(key, value string) clientv3.Op {
+		return clientv3.OpTxn([]clientv3.Cmp{clientv3.Compare(clientv3.Value(key), "<", value)}, []clientv3.Op{clientv3.OpPut(key, value)}, nil)
+	}
+	head := headInOrder(published)
+	// (of a key that isn't there each comparison of values is false)
+	first := clientv3.OpTxn([]clientv3.Cmp{isAbsent(e.head)}, []clientv3.Op{clientv3.OpPut(e.head, head)}, []clientv3.Op{raise(e.head, head)})
+	answer, err := e.client.Txn(ctx).If(isAbsent(e.published)).Else(raise(e.published, inOrder(published.Size)), first).Commit()
 	if err != nil {
 		return sent("raise", err)
 	}
-	if !answer.Succeeded && len(answer.Responses[0].GetResponseRange().Kvs) == 0 {
+	if answer.Succeeded {
 		return ErrAbsent
 	}
 	return nil

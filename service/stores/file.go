@@ -14,13 +14,16 @@ import (
 
 // The register's files.
 const (
-	lockFile      = "lock"
-	textFile      = "text"
+	lockFile = "lock"
+	textFile = "text"
+	// publishedFile has the published size, which is all that versions before headFile read; that has the size and the moment. Each is
+	// replaced as a whole, and the later of the two is what is published.
 	publishedFile = "published"
+	headFile      = "head"
 )
 
-// file keeps the register in a folder: a file with the text, a file with the published size, and a file that who works on
-// either has locked. Several processes may use it at once, on one machine.
+// file keeps the register in a folder: a file with the text, two with what is published, and a file that who changes one of them
+// has locked. Several processes may use it at once, on one machine. Who reads waits for nobody.
 //
 // It asks of the file system: flock(2) excludes, and ends with its process; rename(2) is atomic; what fsync(2) of a file and
 // of the folder with its name acknowledged stays. (Not over NFS, where flock may lock the one machine alone.)
@@ -41,7 +44,8 @@ func (f *file) path(name string) string { return filepath.Join(f.disk.root, name
 
 // alone calls do while the register is locked. It waits for the lock until the context ends.
 func (f *file) alone(ctx context.Context, do func() error) error {
-	lock, err := os.OpenFile(f.path(lockFile), os.O_RDWR|os.O_CREATE, 0o644)
+	// (who may open it may keep all others waiting)
+	lock, err := os.OpenFile(f.path(lockFile), os.O_RDWR|os.O_CREATE, 0o600)
 	if err != nil {
 		return fmt.Errorf("stores: register: %w", err)
 	}
@@ -66,19 +70,34 @@ func (f *file) alone(ctx context.Context, do func() error) error {
 	return do()
 }
 
-// read gives a file's content. What it gives is on the disk: who set it may have been killed before it was.
-func (f *file) read(name string) (string, error) {
+// raw gives a file's content, which may not be on the disk yet.
+func (f *file) raw(name string) (string, error) {
 	content, err := os.ReadFile(f.path(name))
 	if errors.Is(err, fs.ErrNotExist) {
 		return "", ErrAbsent
-	}
-	if err == nil {
-		err = syncFolder(f.disk.root)
 	}
 	if err != nil {
 		return "", fmt.Errorf("stores: register: %w", err)
 	}
 	return string(content), nil
+}
+
+// keep sees to it that what was read is on the disk: who set it may have been killed before it was. (A file system that isn't written any
+// more has what it has.)
+func (f *file) keep() error {
+	if err := syncFolder(f.disk.root); err != nil && !errors.Is(err, syscall.EROFS) {
+		return fmt.Errorf("stores: register: %w", err)
+	}
+	return nil
+}
+
+// read gives a file's content, which is on the disk.
+func (f *file) read(name string) (string, error) {
+	content, err := f.raw(name)
+	if err == nil {
+		err = f.keep()
+	}
+	return content, err
 }
 
 // set gives a file another content. Its errors before the file has its name are plain; behind that, ErrUnknown.
@@ -108,9 +127,9 @@ func (f *file) Create(ctx context.Context, text string) error {
 			return err
 		}
 		// A published size without a text was left by who was killed here, or the text was lost.
-		published, err := f.number()
-		if err == nil && published != 0 {
-			return fmt.Errorf("%w: its text is gone, and %d is published", ErrExists, published)
+		published, err := f.published()
+		if err == nil && published != (Published{}) {
+			return fmt.Errorf("%w: its text is gone, and %d is published", ErrExists, published.Size)
 		}
 		if err != nil && !errors.Is(err, ErrAbsent) {
 			return err
@@ -123,11 +142,10 @@ func (f *file) Create(ctx context.Context, text string) error {
 }
 
 func (f *file) Read(ctx context.Context) (text string, err error) {
-	err = f.alone(ctx, func() (err error) {
-		text, err = f.read(textFile)
-		return err
-	})
-	return text, err
+	if err := ctx.Err(); err != nil {
+		return "", fmt.Errorf("stores: register: %w", err)
+	}
+	return f.read(textFile)
 }
 
 func (f *file) Swap(ctx context.Context, old, new string) error {
@@ -148,44 +166,76 @@ func (f *file) Swap(ctx context.Context, old, new string) error {
 	})
 }
 
-// created gives the published size of a register that was created.
-func (f *file) created() (uint64, error) {
-	if _, err := f.read(textFile); err != nil {
-		return 0, err
+// published gives the later of what the two files have. One of them may be there alone.
+func (f *file) published() (Published, error) {
+	text, err := f.raw(publishedFile)
+	if err != nil && !errors.Is(err, ErrAbsent) {
+		return Published{}, err
 	}
-	return f.number()
-}
-
-func (f *file) number() (uint64, error) {
-	content, err := f.read(publishedFile)
+	size, wrong := strconv.ParseUint(text, 10, 63)
+	if head, err := f.raw(headFile); err == nil {
+		var p Published
+		if n, err := fmt.Sscanf(head, headForm, &p.Size, &p.Moment); n == 2 && err == nil && fmt.Sprintf(headForm, p.Size, p.Moment) == head {
+			if (Published{Size: size}).Before(p) {
+				return p, nil
+			}
+			return Published{Size: size}, nil
+		}
+		return Published{}, fmt.Errorf("stores: register: %s has %.40q, and not how far the log is published", f.path(headFile), head)
+	} else if !errors.Is(err, ErrAbsent) {
+		return Published{}, err
+	}
 	if err != nil {
-		return 0, err
+		return Published{}, fmt.Errorf("stores: register: %s, which says how far the log is published, is gone: %w", f.path(publishedFile), err)
 	}
-	number, err := strconv.ParseUint(content, 10, 63)
+	if wrong != nil {
+		return Published{}, fmt.Errorf("stores: register: %s has %.40q, and not how far the log is published", f.path(publishedFile), text)
+	}
+	return Published{Size: size}, nil
+}
+
+// headForm is how headFile has a size and a moment.
+const headForm = "%d %d"
+
+// created gives what is published of a register that was created, on the disk.
+func (f *file) created() (Published, error) {
+	if _, err := f.raw(textFile); err != nil {
+		return Published{}, err
+	}
+	published, err := f.published()
+	if errors.Is(err, ErrAbsent) {
+		// Its text is there: it isn't absent.
+		return Published{}, fmt.Errorf("%v", err)
+	}
 	if err != nil {
-		return 0, fmt.Errorf("stores: register: published: %w", err)
+		return Published{}, err
 	}
-	return number, nil
+	return published, f.keep()
 }
 
-func (f *file) Published(ctx context.Context) (number uint64, err error) {
-	err = f.alone(ctx, func() (err error) {
-		number, err = f.created()
-		return err
-	})
-	return number, err
+func (f *file) Published(ctx context.Context) (Published, error) {
+	if err := ctx.Err(); err != nil {
+		return Published{}, fmt.Errorf("stores: register: %w", err)
+	}
+	return f.created()
 }
 
-func (f *file) Raise(ctx context.Context, published uint64) error {
-	if err := checkNumbers(published); err != nil {
+func (f *file) Raise(ctx context.Context, published Published) error {
+	if err := checkNumbers(published.Size, published.Moment); err != nil {
 		return err
 	}
 	return f.alone(ctx, func() error {
 		standing, err := f.created()
-		if err != nil || standing >= published {
+		if err != nil || !standing.Before(published) {
 			return err
 		}
-		return f.set(publishedFile, strconv.FormatUint(published, 10))
+		if err := f.set(headFile, fmt.Sprintf(headForm, published.Size, published.Moment)); err != nil {
+			return err
+		}
+		if standing.Size == published.Size {
+			return nil
+		}
+		return f.set(publishedFile, strconv.FormatUint(published.Size, 10))
 	})
 }
 

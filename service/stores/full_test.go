@@ -76,19 +76,19 @@ func TestFileOnAFullDisk(t *testing.T) {
 	register, err := OpenFile(filepath.Join(disk, "register"))
 	must(t, err)
 	must(t, register.Create(ctx, "first"))
-	must(t, register.Raise(ctx, 5))
+	must(t, register.Raise(ctx, Published{Size: 5}))
 	room := fill(t, disk)
 	long := strings.Repeat("x", MostText)
 	if err := register.Swap(ctx, "first", long); !isFull(err) || errors.Is(err, ErrUnknown) {
 		t.Errorf("Swap: %v", err)
 	}
-	if err := register.Raise(ctx, 6); !isFull(err) || errors.Is(err, ErrUnknown) {
+	if err := register.Raise(ctx, Published{Size: 6}); !isFull(err) || errors.Is(err, ErrUnknown) {
 		t.Errorf("Raise: %v", err)
 	}
 	standsAs(t, register, "first", 5)
 	room()
 	must(t, register.Swap(ctx, "first", long))
-	must(t, register.Raise(ctx, 6))
+	must(t, register.Raise(ctx, Published{Size: 6}))
 	standsAs(t, register, long, 6)
 }
 

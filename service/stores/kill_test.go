@@ -77,7 +77,7 @@ func registerWriter(ctx context.Context, name, place string) (writer, error) {
 		if err := store.Swap(ctx, old, fmt.Sprintf("text %d", i)); err != nil {
 			return err
 		}
-		return store.Raise(ctx, uint64(i))
+		return store.Raise(ctx, Published{uint64(i), uint64(2 * i)})
 	}, err
 }
 
@@ -155,8 +155,8 @@ func TestRegisterOutlivesKills(t *testing.T) {
 				t.Fatalf("%q stands, %v, and %d was acknowledged", text, err, last)
 			}
 			published, err := register.Published(ctx)
-			if err != nil || published != uint64(last) && published != uint64(last)+1 {
-				t.Fatalf("%d is published, %v, and %d was acknowledged", published, err, last)
+			if n := published.Size; err != nil || n != uint64(last) && n != uint64(last)+1 || published.Moment != 2*n {
+				t.Fatalf("%v is published, %v, and %d was acknowledged", published, err, last)
 			}
 		}
 		t.Logf("%s: %d swaps and raises, %d kills", at.name, last, kills)

@@ -18,9 +18,14 @@ type Postgres struct {
 // mostConnections is how many connections to a database one store opens.
 const mostConnections = 4
 
-// tables are made where they aren't there. Two who make them at once would fail on one another, but for the lock.
+// tables are made where they aren't there, and so is the column that versions before it don't know. Two who make them at once would fail on one another, but for the lock.
 const tables = `select pg_advisory_xact_lock(4957128866342178);
 create table if not exists ct_register (log text primary key, text bytea not null, published bigint not null);
+do $$ begin
+	if not exists (select from pg_attribute where attrelid = 'ct_register'::regclass and attname = 'moment' and not attisdropped) then
+		alter table ct_register add column moment bigint not null default 0;
+	end if;
+end $$;
 create table if not exists ct_places (log text, identity bytea, index bigint not null, timestamp bigint not null, primary key (log, identity));
 create table if not exists ct_leaves (like ct_places including all)`
 
@@ -139,7 +144,7 @@ func (p *inPostgres) Create(ctx context.Context, text string) error {
 	if err := checkText(text); err != nil {
 		return err
 	}
-	done, err := p.changed(ctx, "create", "insert into ct_register values ($1, $2, 0) on conflict do nothing", p.log, []byte(text))
+	done, err := p.changed(ctx, "create", "insert into ct_register (log, text, published) values ($1, $2, 0) on conflict do nothing", p.log, []byte(text))
 	if err == nil && !done {
 		return ErrExists
 	}
@@ -149,14 +154,14 @@ func (p *inPostgres) Create(ctx context.Context, text string) error {
 // row is the register's.
 type row struct {
 	text      []byte
-	published uint64
+	published Published
 }
 
 // read reads the row. That what it reads stays is the server's: a row is seen once its transaction is on the disk.
 func (p *inPostgres) read(ctx context.Context) (row, error) {
 	read, err := within(ctx, func() (read row, err error) {
-		const one = "select text, published from ct_register where log = $1"
-		err = p.db.QueryRowContext(ctx, one, p.log).Scan(&read.text, &read.published)
+		const one = "select text, published, moment from ct_register where log = $1"
+		err = p.db.QueryRowContext(ctx, one, p.log).Scan(&read.text, &read.published.Size, &read.published.Moment)
 		return read, err
 	})
 	if errors.Is(err, sql.ErrNoRows) {
@@ -191,16 +196,17 @@ func (p *inPostgres) Swap(ctx context.Context, old, new string) error {
 	return ErrLost
 }
 
-func (p *inPostgres) Published(ctx context.Context) (uint64, error) {
+func (p *inPostgres) Published(ctx context.Context) (Published, error) {
 	read, err := p.read(ctx)
 	return read.published, err
 }
 
-func (p *inPostgres) Raise(ctx context.Context, published uint64) error {
-	if err := checkNumbers(published); err != nil {
+func (p *inPostgres) Raise(ctx context.Context, published Published) error {
+	if err := checkNumbers(published.Size, published.Moment); err != nil {
 		return err
 	}
-	done, err := p.changed(ctx, "raise", "update ct_register set published = $2 where log = $1 and published < $2", p.log, int64(published))
+	const raise = "update ct_register set published = $2, moment = $3 where log = $1 and (published, moment) < ($2, $3)"
+	done, err := p.changed(ctx, "raise", raise, p.log, int64(published.Size), int64(published.Moment))
 	if err != nil || done {
 		return err
 	}

@@ -28,8 +28,14 @@ func standsAs(t *testing.T, register Register, text string, published uint64) {
 	if got, err := register.Read(limited(t)); err != nil || got != text {
 		t.Errorf("%.40q stands, %v, and %.40q should", got, err, text)
 	}
+	isPublished(t, register, Published{Size: published})
+}
+
+// isPublished fails the test unless this is published.
+func isPublished(t *testing.T, register Register, published Published) {
+	t.Helper()
 	if got, err := register.Published(limited(t)); err != nil || got != published {
-		t.Errorf("%d is published, %v, and %d should be", got, err, published)
+		t.Errorf("%v is published, %v, and %v should be", got, err, published)
 	}
 }
 
@@ -38,7 +44,7 @@ func TestRegisterIsCreatedOnce(t *testing.T) {
 		register, ctx := at.opened(t), limited(t)
 		_, reading := register.Read(ctx)
 		_, asking := register.Published(ctx)
-		for what, err := range map[string]error{"Read": reading, "Published": asking, "Swap": register.Swap(ctx, "a", "b"), "Raise": register.Raise(ctx, 1)} {
+		for what, err := range map[string]error{"Read": reading, "Published": asking, "Swap": register.Swap(ctx, "a", "b"), "Raise": register.Raise(ctx, Published{Size: 1})} {
 			if !errors.Is(err, ErrAbsent) {
 				t.Errorf("%s before Create: %v", what, err)
 			}
@@ -55,7 +61,7 @@ func TestRegisterIsCreatedOnce(t *testing.T) {
 			t.Errorf("%d of 16 created it", won)
 		}
 		standsAs(t, register, "first", 0)
-		must(t, register.Raise(ctx, 7))
+		must(t, register.Raise(ctx, Published{Size: 7}))
 		if err := register.Create(ctx, "again"); !errors.Is(err, ErrExists) {
 			t.Errorf("Create once more: %v", err)
 		}
@@ -69,7 +75,7 @@ func TestFileWhoseTextIsLost(t *testing.T) {
 	register, err := OpenFile(root)
 	must(t, err)
 	must(t, register.Create(ctx, "a"))
-	must(t, register.Raise(ctx, 5))
+	must(t, register.Raise(ctx, Published{Size: 5}))
 	must(t, os.Remove(filepath.Join(root, textFile)))
 	if err := register.Create(ctx, "b"); !errors.Is(err, ErrExists) {
 		t.Errorf("Create: %v", err)
@@ -85,8 +91,73 @@ func TestFileWhoseTextIsLost(t *testing.T) {
 	}
 	must(t, os.WriteFile(filepath.Join(root, textFile), []byte("a"), 0o644))
 	must(t, os.WriteFile(filepath.Join(root, publishedFile), []byte("-5"), 0o644))
-	if err := register.Raise(ctx, 6); err == nil {
-		t.Error("Raise over what is no number")
+	isPublished(t, register, Published{Size: 5})
+	must(t, os.Remove(filepath.Join(root, headFile)))
+	for what, bend := range map[string]func() error{
+		"a number below 0": func() error { return nil },
+		"nothing":          func() error { return os.WriteFile(filepath.Join(root, publishedFile), nil, 0o644) },
+		"no file":          func() error { return os.Remove(filepath.Join(root, publishedFile)) },
+	} {
+		must(t, bend())
+		err := register.Raise(ctx, Published{Size: 6})
+		if err == nil || errors.Is(err, ErrAbsent) || !strings.Contains(err.Error(), filepath.Join(root, publishedFile)) {
+			t.Errorf("Raise over %s: %v", what, err)
+		}
+	}
+	must(t, os.WriteFile(filepath.Join(root, headFile), []byte("6"), 0o644))
+	if _, err := register.Published(ctx); err == nil || !strings.Contains(err.Error(), filepath.Join(root, headFile)) {
+		t.Errorf("what is published is of a file that is bent: %v", err)
+	}
+}
+
+// TestFileOfAVersionBefore: one that knows the published size alone is read, and goes on.
+func TestFileOfAVersionBefore(t *testing.T) {
+	root, ctx := t.TempDir(), limited(t)
+	register, err := OpenFile(root)
+	must(t, err)
+	before := func(size string) {
+		t.Helper()
+		must(t, os.WriteFile(filepath.Join(root, publishedFile), []byte(size), 0o644))
+	}
+	must(t, os.WriteFile(filepath.Join(root, textFile), []byte("a"), 0o644))
+	before("26")
+	isPublished(t, register, Published{Size: 26})
+	must(t, register.Raise(ctx, Published{26, 1700000000001}))
+	isPublished(t, register, Published{26, 1700000000001})
+	must(t, register.Raise(ctx, Published{30, 1700000000002}))
+	if text, err := os.ReadFile(filepath.Join(root, publishedFile)); err != nil || string(text) != "30" {
+		t.Errorf("who reads the size alone reads %q, %v", text, err)
+	}
+	before("31")
+	isPublished(t, register, Published{Size: 31})
+	must(t, register.Raise(ctx, Published{30, 1700000000003}))
+	isPublished(t, register, Published{Size: 31})
+}
+
+// TestReadingWaitsForNobody: who has the register locked, or a file system that isn't written, keeps no reader waiting; and nobody else of
+// the machine may have it locked.
+func TestReadingWaitsForNobody(t *testing.T) {
+	root, ctx := t.TempDir(), limited(t)
+	register, err := OpenFile(root)
+	must(t, err)
+	must(t, register.Create(ctx, "text"))
+	must(t, register.Raise(ctx, Published{Size: 5}))
+	path := filepath.Join(root, lockFile)
+	info, err := os.Stat(path)
+	must(t, err)
+	if info.Mode().Perm() != 0o600 {
+		t.Errorf("the lock's mode is %o", info.Mode().Perm())
+	}
+	lock, err := os.Open(path)
+	must(t, err)
+	defer lock.Close()
+	must(t, syscall.Flock(int(lock.Fd()), syscall.LOCK_EX))
+	defer func() { fsync = (*os.File).Sync }()
+	fsync = func(*os.File) error { return syscall.EROFS }
+	standsAs(t, register, "text", 5)
+	fsync = func(*os.File) error { return syscall.EIO }
+	if _, err := register.Read(ctx); !errors.Is(err, syscall.EIO) {
+		t.Errorf("a disk that fails: %v", err)
 	}
 }
 
@@ -211,7 +282,7 @@ func TestPublishedNeverFalls(t *testing.T) {
 		must(t, register.Create(ctx, "a"))
 		const many, raises = 15, 8
 		watching := make(chan struct{})
-		largest := make([]uint64, many)
+		largest := make([]Published, many)
 		errs := each(many+1, func(i int) error {
 			if i == many {
 				return watch(ctx, other, watching)
@@ -219,15 +290,17 @@ func TestPublishedNeverFalls(t *testing.T) {
 			numbers := rand.New(rand.NewSource(int64(i)))
 			for done := 0; done < raises; done++ {
 				// By the number of digits, so that an order of texts would be seen.
-				number := uint64(numbers.Int63n(int64(1) << numbers.Intn(60)))
-				if err := register.Raise(ctx, number); err != nil {
+				number := func(digits int) uint64 { return uint64(numbers.Int63n(int64(1) << digits)) }
+				// (of some sizes there are many)
+				head := Published{number(2) << (20 * numbers.Intn(3)), number(numbers.Intn(60))}
+				if err := register.Raise(ctx, head); err != nil {
 					return err
 				}
-				if number > largest[i] {
-					largest[i] = number
+				if largest[i].Before(head) {
+					largest[i] = head
 				}
-				if now, err := other.Published(ctx); err != nil || now < largest[i] {
-					return fmt.Errorf("%d is published, %v, behind %d that was acknowledged", now, err, largest[i])
+				if now, err := other.Published(ctx); err != nil || now.Before(largest[i]) {
+					return fmt.Errorf("%v is published, %v, behind %v that was acknowledged", now, err, largest[i])
 				}
 			}
 			if i == 0 {
@@ -235,31 +308,34 @@ func TestPublishedNeverFalls(t *testing.T) {
 			}
 			return nil
 		})
-		most := uint64(0)
+		most := Published{}
 		for i, err := range errs {
 			if err != nil {
 				t.Error(err)
 			}
-			if i < many && largest[i] > most {
+			if i < many && most.Before(largest[i]) {
 				most = largest[i]
 			}
 		}
-		standsAs(t, register, "a", most)
-		must(t, register.Raise(ctx, MostNumber))
-		must(t, register.Raise(ctx, 3))
-		if err := register.Raise(ctx, MostNumber+1); !errors.Is(err, ErrNumber) {
-			t.Errorf("Raise to more than may be: %v", err)
+		isPublished(t, register, most)
+		must(t, register.Raise(ctx, Published{MostNumber, 3}))
+		must(t, register.Raise(ctx, Published{MostNumber, MostNumber}))
+		must(t, register.Raise(ctx, Published{3, MostNumber}))
+		for _, head := range []Published{{MostNumber + 1, 0}, {0, MostNumber + 1}} {
+			if err := register.Raise(ctx, head); !errors.Is(err, ErrNumber) {
+				t.Errorf("Raise to more than may be: %v", err)
+			}
 		}
-		standsAs(t, at.opened(t), "a", MostNumber)
+		isPublished(t, at.opened(t), Published{MostNumber, MostNumber})
 	})
 }
 
 // watch reads the published number until it is told to end, and fails where it falls.
 func watch(ctx context.Context, register Register, until chan struct{}) error {
-	for last := uint64(0); ; {
+	for last := (Published{}); ; {
 		now, err := register.Published(ctx)
-		if err != nil || now < last {
-			return fmt.Errorf("published fell from %d to %d, %v", last, now, err)
+		if err != nil || now.Before(last) {
+			return fmt.Errorf("published fell from %v to %v, %v", last, now, err)
 		}
 		last = now
 		select {
@@ -318,7 +394,7 @@ func TestRegisterEndsWithItsContext(t *testing.T) {
 		cancel()
 		_, reading := register.Read(ended)
 		_, asking := register.Published(ended)
-		calls := map[string]error{"Read": reading, "Published": asking, "Raise": register.Raise(ended, 1), "Swap": register.Swap(ended, "text", "other")}
+		calls := map[string]error{"Read": reading, "Published": asking, "Raise": register.Raise(ended, Published{Size: 1}), "Swap": register.Swap(ended, "text", "other")}
 		for what, err := range calls {
 			if err == nil || errors.Is(err, ErrLost) || errors.Is(err, ErrAbsent) {
 				t.Errorf("%s: %v", what, err)

@@ -52,7 +52,7 @@ func TestSilentEngines(t *testing.T) {
 	inTurn(t, registers, func(t *testing.T, at trial[Register]) {
 		register := at.opened(t)
 		must(t, register.Create(limited(t), "text"))
-		whilePaused(t, at.name, func(ctx context.Context) error { return register.Raise(ctx, 5) })
+		whilePaused(t, at.name, func(ctx context.Context) error { return register.Raise(ctx, Published{Size: 5}) })
 		whilePaused(t, at.name, func(ctx context.Context) error { return register.Swap(ctx, "text", "other text") })
 		whilePaused(t, at.name, func(ctx context.Context) error { _, err := register.Read(ctx); return err })
 	})

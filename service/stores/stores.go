@@ -84,7 +84,7 @@ type Objects interface {
 // its return (linearizable), and what was acknowledged or read stays, also after processes were killed and power failed. It
 // is never set back: a register that comes from an older copy lets a log fork.
 type Register interface {
-	// Create sets the first text, and published to 0; ErrExists where the register was created before, whatever its text.
+	// Create sets the first text, and published to zero; ErrExists where the register was created before, whatever its text.
 	Create(ctx context.Context, text string) error
 	// Read gives the text that stands; ErrAbsent where the register wasn't created, or was lost.
 	Read(ctx context.Context) (string, error)
@@ -92,12 +92,21 @@ type Register interface {
 	// that a call may be repeated. Where another stands it says ErrLost, and ErrAbsent where none does. ErrUnknown: the swap
 	// may have happened or may yet, but only as long as old stands.
 	Swap(ctx context.Context, old, new string) error
-	// Published gives the largest number that Raise was given and acknowledged; 0 after Create.
-	Published(ctx context.Context) (uint64, error)
-	// Raise sets published to the number where it is smaller, and leaves it as it is elsewhere: it never falls. It may be
+	// Published gives the latest that Raise was given and acknowledged; the zero one after Create.
+	Published(ctx context.Context) (Published, error)
+	// Raise sets published to this where it stands before it, and leaves it as it is elsewhere: it never falls. It may be
 	// repeated. ErrAbsent where the register wasn't created.
-	Raise(ctx context.Context, published uint64) error
+	Raise(ctx context.Context, published Published) error
 	Close() error
+}
+
+// Published is how far a log is published: by a head of so many entries, of a moment in milliseconds since 1970. The moment is at most the
+// head's where a version set it that kept the size alone: such a one knows none, or leaves that of an earlier head.
+type Published struct{ Size, Moment uint64 }
+
+// Before says whether p is before another one: of fewer entries, or of as many and an earlier moment.
+func (p Published) Before(other Published) bool {
+	return p.Size < other.Size || p.Size == other.Size && p.Moment < other.Moment
 }
 
 // Identity is by what a submission is known when it comes again: SHA-256 over what of it goes into the log.

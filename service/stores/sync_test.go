@@ -80,8 +80,10 @@ func TestFileSyncs(t *testing.T) {
 	swap := func() error { return register.Swap(ctx, "a", "b") }
 	// (it reads, and so syncs, first)
 	syncedAs(t, "Swap", syncs(t, root, "none", swap), []string{".", "file", "."})
-	raise := func() error { return register.Raise(ctx, 5) }
-	syncedAs(t, "Raise", syncs(t, root, "none", raise), []string{".", ".", "file", "."})
+	raise := func() error { return register.Raise(ctx, Published{Size: 5}) }
+	syncedAs(t, "Raise", syncs(t, root, "none", raise), []string{".", "file", ".", "file", "."})
+	same := func() error { return register.Raise(ctx, Published{5, 1}) }
+	syncedAs(t, "Raise of one size", syncs(t, root, "none", same), []string{".", "file", "."})
 }
 
 // TestFailedSyncs: where the disk doesn't take it, nothing is acknowledged; a swap is unknown once the text has its name.

@@ -1,0 +1,211 @@
+package sequencer
+
+import (
+	"context"
+	"os"
+	"path/filepath"
+	"strings"
+	"sync"
+	"testing"
+	"time"
+
+	"wagtenib/service/log"
+	"wagtenib/service/stores"
+)
+
+// readingNode reads the heads of a log whose steps another node makes.
+func readingNode(of *Sequencer) *Sequencer {
+	return &Sequencer{config: of.config, logID: of.logID, clock: of.clock}
+}
+
+// goesBack says whether a head is before another one.
+func goesBack(head, than log.Head) bool { return publishedOf(head).Before(publishedOf(than)) }
+
+// TestHeadOfOneSize has a node that saw a head of a size be asked for the newest one, once another node published a later head of this size
+// and has decided on a larger one that isn't out yet.
+func TestHeadOfOneSize(t *testing.T) {
+	t.Parallel()
+	p, ctx, got := newPlace(t), limited(t), &answers{}
+	config := p.config(t)
+	config.Refresh = 300 * time.Millisecond
+	var mu sync.Mutex
+	holds := false
+	held, release := make(chan struct{}), make(chan struct{})
+	here := started(t, config, hooks{phase: func(name string) {
+		mu.Lock()
+		stands := holds && name == "swapped"
+		holds = holds && !stands
+		mu.Unlock()
+		if stands {
+			close(held)
+			<-release
+		}
+	}})
+	must(t, got.submitAll(ctx, here, 0, 5, 5))
+	there := readingNode(here)
+	first, err := there.Checkpoint(ctx)
+	must(t, err)
+	newest := first
+	eventually(t, "a later head of this size", func() bool {
+		newest, err = here.Checkpoint(ctx)
+		must(t, err)
+		return newest.Timestamp > first.Timestamp
+	})
+	mu.Lock()
+	holds = true
+	mu.Unlock()
+	done := make(chan error, 1)
+	go func() { done <- got.submitAll(ctx, here, 5, 6, 1) }()
+	<-held
+	if newest, err = here.Checkpoint(ctx); err != nil {
+		t.Fatal(err)
+	}
+	if second, err := there.Checkpoint(ctx); err != nil || goesBack(second, newest) {
+		t.Errorf("one node gave the head of %d at %d ms, and then another one that of %d at %d ms, %v", newest.TreeSize, newest.Timestamp, second.TreeSize, second.Timestamp, err)
+	}
+	close(release)
+	must(t, <-done)
+}
+
+// TestHeadsByTurns has a reader ask nodes by turns for the newest head, while one of them makes heads with and without entries: it never goes
+// back, and each is of the register's history.
+func TestHeadsByTurns(t *testing.T) {
+	t.Parallel()
+	p, ctx, got := newPlace(t), limited(t), &answers{}
+	config := p.config(t)
+	config.Refresh, config.Interval = time.Millisecond, time.Millisecond
+	s := started(t, config, hooks{})
+	must(t, got.submitAll(ctx, s, 0, 1, 1))
+	nodes := []*Sequencer{s, readingNode(s), readingNode(s), readingNode(s)}
+	done := make(chan error, 1)
+	go func() { done <- got.submitAll(ctx, s, 1, 60, 1) }()
+	var last log.Head
+	for turn := 0; ; turn++ {
+		head, err := nodes[turn%len(nodes)].Checkpoint(ctx)
+		if err != nil || goesBack(head, last) {
+			t.Fatalf("turn %d: the head of %d at %d ms, and then that of %d at %d ms, %v", turn, last.TreeSize, last.Timestamp, head.TreeSize, head.Timestamp, err)
+		}
+		last = head
+		select {
+		case err := <-done:
+			must(t, err)
+			if head, err := nodes[1].Checkpoint(ctx); err != nil || head.TreeSize != 60 {
+				t.Fatalf("%d entries, %v, behind an answer for the 60th", head.TreeSize, err)
+			}
+			p.right(t, got)
+			return
+		default:
+		}
+	}
+}
+
+// TestOlderHeadInItsPlace starts a node where an older head's file stands under the newest one's name, or the published size is that of an
+// older head: nothing older is ever given.
+func TestOlderHeadInItsPlace(t *testing.T) {
+	t.Parallel()
+	for what, setBack := range map[string]func(t *testing.T, p place, heads []string){
+		"another head's file": func(t *testing.T, p place, heads []string) {
+			content, err := os.ReadFile(filepath.Join(p.objects(), heads[0]))
+			must(t, err)
+			newest := filepath.Join(p.objects(), heads[len(heads)-1])
+			must(t, os.Remove(newest))
+			must(t, os.WriteFile(newest, content, 0o644))
+		},
+		"an older size": func(t *testing.T, p place, _ []string) {
+			must(t, os.Remove(filepath.Join(string(p), "register", "head")))
+			must(t, os.WriteFile(filepath.Join(string(p), "register", "published"), []byte("6"), 0o644))
+		},
+		"an older size and moment": func(t *testing.T, p place, heads []string) {
+			text := strings.ReplaceAll(strings.TrimLeft(strings.TrimPrefix(heads[1], headsPrefix), "0"), "-0000000", " ")
+			must(t, os.WriteFile(filepath.Join(string(p), "register", "head"), []byte(text), 0o644))
+			must(t, os.WriteFile(filepath.Join(string(p), "register", "published"), []byte("6"), 0o644))
+		},
+	} {
+		what, setBack := what, setBack
+		t.Run(what, func(t *testing.T) {
+			t.Parallel()
+			p, ctx, got := newPlace(t), limited(t), &answers{}
+			s := started(t, p.config(t), hooks{})
+			must(t, got.submitAll(ctx, s, 0, 6, 6))
+			must(t, got.submitAll(ctx, s, 6, 26, 20))
+			newest, err := s.Checkpoint(ctx)
+			must(t, err)
+			must(t, s.End(ctx))
+			setBack(t, p, headsOf(t, p))
+			config := p.config(t)
+			s = started(t, config, hooks{})
+			for i := 0; i < 50; i++ {
+				if head, err := s.Checkpoint(ctx); err == nil && goesBack(head, newest) {
+					t.Fatalf("%d entries were published, and the head of %d is given", newest.TreeSize, head.TreeSize)
+				}
+				time.Sleep(time.Millisecond)
+			}
+		})
+	}
+}
+
+// TestHeadWithoutARegister has the register not be read, refuse, or be away: the newest head that is known is given.
+func TestHeadWithoutARegister(t *testing.T) {
+	t.Parallel()
+	p, ctx, got := newPlace(t), limited(t), &answers{}
+	s := started(t, p.config(t), hooks{})
+	must(t, got.submitAll(ctx, s, 0, 10, 10))
+	newest, err := s.Checkpoint(ctx)
+	must(t, err)
+	for what, fails := range map[string]func(context.Context) error{
+		"refuses": func(context.Context) error { return errTried },
+		"is gone": func(context.Context) error { return stores.ErrAbsent },
+		"hangs":   func(ctx context.Context) error { return wait(ctx, longest) },
+	} {
+		reader := readingNode(s)
+		reader.config.Register = unreadRegister{s.config.Register, fails}
+		_, err := reader.Checkpoint(briefly(ctx, t))
+		if err == nil {
+			t.Errorf("%s: a head is given by who knows none", what)
+		}
+		reader.see(newest)
+		head, err := reader.Checkpoint(ctx)
+		if err != nil || goesBack(head, newest) {
+			t.Errorf("%s: %+v, %v", what, head, err)
+		}
+	}
+}
+
+func briefly(ctx context.Context, t *testing.T) context.Context {
+	brief, cancel := context.WithTimeout(ctx, 100*time.Millisecond)
+	t.Cleanup(cancel)
+	return brief
+}
+
+// unreadRegister is a register that isn't read.
+type unreadRegister struct {
+	stores.Register
+	fails func(context.Context) error
+}
+
+func (r unreadRegister) Published(ctx context.Context) (stores.Published, error) {
+	return stores.Published{}, r.fails(ctx)
+}
+
+// TestHeadOfAVersionBefore starts a node over a register that has the published size alone.
+func TestHeadOfAVersionBefore(t *testing.T) {
+	t.Parallel()
+	p, ctx, got := newPlace(t), limited(t), &answers{}
+	s := started(t, p.config(t), hooks{})
+	must(t, got.submitAll(ctx, s, 0, 10, 10))
+	newest, err := s.Checkpoint(ctx)
+	must(t, err)
+	must(t, s.End(ctx))
+	must(t, os.Remove(filepath.Join(string(p), "register", "head")))
+	reader := readingNode(s)
+	if head, err := reader.Checkpoint(ctx); err != nil || head.TreeSize != newest.TreeSize || head.Timestamp != newest.Timestamp {
+		t.Errorf("%+v, %v", head, err)
+	}
+	must(t, os.Remove(filepath.Join(string(p), "register", "head")))
+	s = started(t, p.config(t), hooks{})
+	if head, err := s.Checkpoint(ctx); err != nil || head.TreeSize != newest.TreeSize || head.Timestamp != newest.Timestamp {
+		t.Errorf("%+v, %v", head, err)
+	}
+	must(t, got.submitAll(ctx, s, 10, 20, 10))
+	p.right(t, got)
+}
