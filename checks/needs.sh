@@ -1,5 +1,6 @@
 #!/usr/bin/env bash
-# Says what a target of the Makefile lacks here, and how long it takes on so many processors: needs.sh demo|serve|serve-ctlogd|test|check|link|service|service-test.
+# Says what a target of the Makefile lacks here, and how long it takes on so many processors: needs.sh demo|serve|serve-ctlogd|test|check|link|service|service-test,
+# and of the service's part of serve: needs.sh service-for-serve.
 # `needs.sh figures` prints the times on four processors, with which tests/scripts.py compares README.md, and `needs.sh write` writes them there.
 set -u
 cd "$(dirname "$0")/.."
@@ -44,22 +45,31 @@ if [ "$what" = write ]; then
 fi
 
 lacks() {
-  echo "make $what lacks $1" >&2
+  echo "make ${what#service-for-} lacks $1" >&2
   missing=1
 }
 
-# The Go part stands on Debian's packages, and on nothing of the kit.
-if [ "$what" = service ] || [ "$what" = service-test ]; then
+# The Go part stands on Debian's packages, and on nothing of the kit. Those that lack are offered by one line, which SETUP=yes runs.
+if [ "$what" = service ] || [ "$what" = service-test ] || [ "$what" = service-for-serve ]; then
   tools="go:golang-go gcc:gcc"
-  [ "$what" = service ] || tools+=" gofmt:golang-go openssl:openssl python3:python3"
+  [ "$what" = service ] || tools+=" openssl:openssl python3:python3"
+  [ "$what" != service-test ] || tools+=" gofmt:golang-go"
+  packages=
   for pair in $tools; do
-    command -v "${pair%:*}" >/dev/null || lacks "${pair%:*} (Debian: ${pair#*:})"
+    command -v "${pair%:*}" >/dev/null || { lacks "${pair%:*} (Debian: ${pair#*:})" && packages+=" ${pair#*:}"; }
   done
   for package in libsqlite3-dev golang-github-mattn-go-sqlite3-dev golang-github-lib-pq-dev golang-etcd-server-dev \
     golang-github-minio-minio-go-v7-dev golang-github-prometheus-client-golang-dev golang-golang-x-crypto-dev golang-golang-x-mod-dev; do
-    [ "$(dpkg-query -W -f '${db:Status-Status}' "$package" 2>/dev/null)" = installed ] || lacks "Debian's $package"
+    [ "$(dpkg-query -W -f '${db:Status-Status}' "$package" 2>/dev/null)" = installed ] || { lacks "Debian's $package" && packages+=" $package"; }
   done
-  exit "$missing"
+  [ "$missing" = 1 ] || exit 0
+  setup="apt-get install --yes --no-install-recommends$packages"
+  [ "$(id -u)" = 0 ] || setup="sudo $setup"
+  if [ "${SETUP:-}" = yes ]; then
+    exec $setup
+  fi
+  echo "$setup    installs these, and SETUP=yes make .. does so" >&2
+  exit 1
 fi
 
 command -v rt >/dev/null || lacks "rt, the command of the Rattle kit: put the kit's folder bin on the PATH (README.md, 'The kit')"

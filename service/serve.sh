@@ -3,7 +3,7 @@
 # The first start makes the log in FOLDER: its key (log.key, log.pem), a root of its own to try it with (root.key, root.pem) and a chain that
 # leads there (chain.json); later ones go on with it. ROOTS is a file with the roots besides, in PEM; by default the system's.
 # STEP and GUARD are the log's programs, READER the one that makes readers' proofs; by default cttile, ctguard and ctproof, which are proved and
-# built where they aren't. ORIGIN=ct-log.example is the log's name in checkpoints.
+# built where they aren't. Where the kit isn't there either, programs in Python stand in for those that lack. ORIGIN=ct-log.example is the log's name in checkpoints.
 set -eu
 here=$(cd "$(dirname "$0")" && pwd)
 folder=${1:-ct-log} port=${2:-8618}
@@ -13,13 +13,22 @@ missing=
 [ -n "${STEP:-}" ] || [ -x "$crates/cttile/out/cttile" ] || missing+=" cttile"
 [ -n "${GUARD:-}" ] || [ -x "$crates/ctguard/out/ctguard" ] || missing+=" ctguard"
 [ -n "${READER:-}" ] || [ -x "$crates/ctproof/out/ctproof" ] || missing+=" ctproof"
-"$here/../checks/needs.sh" service
+if [ -n "$missing" ] && ! command -v rt >/dev/null; then
+  echo "In place of${missing} programs in Python serve this log: they are tested, and not proved. The Rattle kit isn't here (README.md, 'The kit')."
+  tests=$(cd "$here/../tests" && pwd)
+  [[ $missing != *cttile* ]] || STEP="python3 $tests/tiles/step.py"
+  [[ $missing != *ctproof* ]] || READER="python3 $tests/tiles/step.py"
+  [[ $missing != *ctguard* ]] || GUARD="python3 $tests/guard/model.py"
+  missing=
+fi
+"$here/../checks/needs.sh" service-for-serve
 if [ -n "$missing" ]; then
   "$here/../checks/needs.sh" serve
   # (each word is a crate)
   # shellcheck disable=SC2086
   "$here/../examples/build.py" $missing
 fi
+[ -x "$here/out/ctserve" ] || echo "Building ctserve, a minute and a half of one processor."
 "$here/build.sh" build
 export PYTHONDONTWRITEBYTECODE=1
 mkdir -p "$folder"
@@ -41,7 +50,7 @@ make() {
   cp root.pem roots.pem
   "$here/out/ctserve" "${settings[@]}" --create 2>create.log &
   log=$!
-  until grep -q '"event":"serving"' create.log; do
+  until grep -qs '"event":"serving"' create.log; do
     kill -0 "$log" 2>/dev/null || { cat create.log >&2; return 1; }
     sleep 0.1
   done

@@ -1,6 +1,6 @@
 #!/usr/bin/env python3
 """Tries the scripts of examples/ and of this folder: bad_lines.py, pem_lines.py, expected.py, check.py, guard/model.py and those of tiles/ on
-stored input, tiles/step.py on random histories, those of checks/ on a made-up repository, and monitor/watch.sh on logs of its own. It runs no ctlog.
+stored input, tiles/step.py on random histories, those of checks/ on a made-up repository, README.md's commands, and monitor/watch.sh on logs of its own.
 
 It prints one line where all is as expected; else it says what isn't, and ends with status 1.
 """
@@ -284,6 +284,10 @@ def main():
     checks = run("checks.py")
     if checks.returncode:
         fail(checks.stdout.decode() + checks.stderr.decode())
+    page = run("readme.py")
+    if page.returncode:
+        fail(page.stderr.decode())
+    sys.stdout.write(page.stdout.decode())
     watched = run("monitor/watch_check.py")
     if watched.returncode:
         fail(f"monitor/watch_check.py: {watched.stderr.decode()}")
