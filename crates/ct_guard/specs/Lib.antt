@@ -1,2 +1,3 @@
 pub mod Guarded
 pub mod History
+pub mod NewestHead

@@ -1,6 +1,7 @@
 //! What follows of the definitions, each a clause of a function that does nothing.
 
 ghost use Rattle.ct_guard.specs.History.{PassedHeadsAgree, PassedReceiptsStand};
+ghost use Rattle.ct_guard.specs.NewestHead.{HeadsGoBack};
 
 /// However many heads are let through, in however many runs, each of which begins with the head that the one before ended with:
 /// where each of them is the head of some list of leaves, these lists are beginnings of one list, or two different strings with one
@@ -8,6 +9,14 @@ ghost use Rattle.ct_guard.specs.History.{PassedHeadsAgree, PassedReceiptsStand};
 #[tactic(auto, using(crate::proofs::History::passed_heads_agree))]
 pub fn heads()
     ensures { PassedHeadsAgree }
+{}
+
+/// However many heads are let through, in however many runs, each of which begins with the head that the one before ended with:
+/// where the newest is the head of a list of leaves, each of them that has leaves is the head of a beginning of that list, or two
+/// different strings with one digest are given. Nothing is asked of the others' roots.
+#[tactic(auto, using(crate::proofs::NewestHead::heads_go_back))]
+pub fn heads_go_back()
+    ensures { HeadsGoBack }
 {}
 
 /// Where the last head is that of a list of leaves, the leaf of a receipt that is let through stands in that list at its index, or

@@ -49,6 +49,7 @@ head 8 8 MTH_8 L6,L7,N45 Err(Inconsistent(PathTooShort))
 head 8 8 MTH_6 L6,L7,N45,N0123 Err(Inconsistent(RootMismatch))
 head 8 8 MTH_8 L6,L7,N45,N0123 Ok(())";
     laws::heads();
+    laws::heads_go_back();
     assert!(rt; right_rows(rt.alloc(), &mut Guard::new(), rows) == 12);
 }
 
