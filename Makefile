@@ -1,4 +1,4 @@
-.PHONY: help demo test check service service-test service-engines service-faults service-clients cluster cluster-status cluster-stop link install install-library install-ctlog install-ctlogd install-ctmonitor install-ctguard install-cttile install-ctproof fuzz load sweep wrong sources serve serve-ctlogd tiles interop
+.PHONY: help demo test check service service-test service-engines service-faults service-clients cluster cluster-status cluster-stop link install install-library install-ctlog install-ctlogd install-ctmonitor install-ctguard install-cttile install-ctproof fuzz load sweep wrong sources serve serve-ctlogd tiles interop release reproduce
 
 SECONDS ?= 60
 RUNS ?= 20
@@ -10,7 +10,7 @@ FOLDER ?= ct-log
 
 PROGRAMS := ctlog ctlogd ctmonitor ctguard cttile ctproof
 LIBRARY = $(BUILT)/wagtenib/out/link/libwagtenib
-VERSION = $(shell sed -n 's/^Version: //p' include/wagtenib.pc.in)
+VERSION = $(shell cat VERSION)
 # (a shell expands no ~ in quotes)
 TO = $(DESTDIR)$(PREFIX:~/%=$(HOME)/%)
 
@@ -88,9 +88,16 @@ install-library:
 	  install -m 755 "$(LIBRARY).so" "$(TO)/lib/libwagtenib.so.$(VERSION)" && \
 	  ln -sf libwagtenib.so.$(VERSION) "$(TO)/lib/libwagtenib.so.0" && \
 	  ln -sf libwagtenib.so.0 "$(TO)/lib/libwagtenib.so" && \
-	  sed 's|@PREFIX@|$(PREFIX)|' include/wagtenib.pc.in > "$(TO)/lib/pkgconfig/wagtenib.pc" && \
+	  sed 's|@PREFIX@|$(PREFIX)|; s|@VERSION@|$(VERSION)|' include/wagtenib.pc.in > "$(TO)/lib/pkgconfig/wagtenib.pc" && \
 	  echo "$(PREFIX)/lib/libwagtenib.so.$(VERSION), libwagtenib.a, wagtenib.h and wagtenib.pc"; \
 	else echo "libwagtenib isn't built: make link builds it"; fi
+
+# After make demo, make serve, make serve-ctlogd, make link and make service, which build what it takes.
+release: ## puts what is built into release/out: a tarball, Debian packages, SHA256SUMS and what they are made of
+	@PYTHONDONTWRITEBYTECODE=1 release/release.py --built "$(BUILT)"
+
+reproduce: ## builds the programs of the Go part, and those of the crates that are proved here, twice in folders of other names, and compares their bytes
+	@release/reproduce.sh
 
 # After `rt run -- --help` in crates/ctlog, which builds it.
 fuzz: ## runs ctlog on random and damaged lines for SECONDS=60, and compares it with an independent program

@@ -170,17 +170,18 @@ WRONG_IN = ["no-such-page.md leads", "#no-such-heading leads", "src/absent.rt is
 WRONG_IN += ["make nothing is", "make neither is", "not in Makefile", "on more than one line of Makefile: RUNS"]
 
 
-def version_in(path, form):
-    """The version that a file states, once."""
-    found = re.findall(form, (ROOT / path).read_text(), re.M)
-    return found[0] if len(found) == 1 else f"none that can be found in {path}"
+# How a crate states the version of its program: a text that is proved to be printed can't be read out of a file.
+STATED = re.compile(r'^const VERSION: &str = "(?:\w+ )?([^ "\\]+)(?:\\n)?";$', re.M)
 
 
 def version_faults():
-    """Where the program and the library for C say another version."""
-    program = version_in("crates/ct_command/src/command.rt", r'^const VERSION: &str = "([^"]+)";$')
-    library = version_in("include/wagtenib.pc.in", r"^Version: (\S+)$")
-    return [] if program == library else [f"the version of ctlog is {program}, that of the library for C {library}"]
+    """Where a program, or the newest entry of CHANGELOG.md, says another version than VERSION."""
+    version = (ROOT / "VERSION").read_text().strip()
+    said = {path: found for path in ROOT.glob("crates/*/src/**/*.rt") for found in STATED.findall(path.read_text())}
+    if not said:
+        return ["no crate states the version of its program"]
+    said[ROOT / "CHANGELOG.md"] = next(iter(re.findall(r"^## (\S+)$", (ROOT / "CHANGELOG.md").read_text(), re.M)), "none")
+    return [f"VERSION is {version}, and {path.relative_to(ROOT)} says {found}" for path, found in said.items() if found != version]
 
 
 def main():

@@ -1,5 +1,5 @@
 #!/usr/bin/env bash
-# Builds and tests the Go part with the packages of Debian alone: build.sh test [PACKAGE [WORD..]] | fuzz [SECONDS] | vet | build.
+# Builds and tests the Go part with the packages of Debian alone: build.sh test [PACKAGE [WORD..]] | fuzz [SECONDS] | vet | build | folders.
 # Debian's packages of Go lie below one folder, as GOPATH has it. So modules are off, and nothing is fetched; this folder is put
 # beside theirs, as the import path wagtenib/service, by a link in a folder of its own, which goes at the end. (The gate takes no
 # links in the repository.)
@@ -30,7 +30,15 @@ case $what in
     ;;
   build)
     mkdir -p out
-    go build -o out wagtenib/service/ctserve wagtenib/service/ctcheck wagtenib/service/ctload wagtenib/service/ctread
+    # (the commit, and + where files differ from it; none where git or its folder isn't there)
+    commit=$(git rev-parse --short=12 HEAD 2>/dev/null) || commit=
+    [ -z "$commit" ] || git diff --quiet HEAD -- . ../VERSION || commit+=+
+    of=wagtenib/service/version
+    go build -o out -ldflags "-X $of.number=$(cat ../VERSION) -X $of.commit=$commit" wagtenib/service/ctserve wagtenib/service/ctcheck wagtenib/service/ctload wagtenib/service/ctread
+    ;;
+  folders)
+    # the folders of all packages of Debian's that are linked into the programs
+    go list -deps -f '{{if not .Standard}}{{.Dir}}{{end}}' wagtenib/service/ctserve wagtenib/service/ctcheck wagtenib/service/ctload wagtenib/service/ctread | grep -v /wagtenib/
     ;;
   fuzz)
     for target in FuzzPoison FuzzFinalIssuer FuzzChain FuzzRoots; do
@@ -41,7 +49,7 @@ case $what in
     done
     ;;
   *)
-    echo "build.sh test [PACKAGE [WORD..]] | fuzz [SECONDS] | vet | build" >&2
+    echo "build.sh test [PACKAGE [WORD..]] | fuzz [SECONDS] | vet | build | folders" >&2
     exit 1
     ;;
 esac

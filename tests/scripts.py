@@ -1,6 +1,7 @@
 #!/usr/bin/env python3
 """Tries the scripts of examples/ and of this folder: bad_lines.py, pem_lines.py, expected.py, check.py, guard/model.py and those of tiles/ on
-stored input, tiles/step.py on random histories, those of checks/ on a made-up repository, README.md's commands, and monitor/watch.sh on logs of its own.
+stored input, tiles/step.py on random histories, those of checks/ on a made-up repository, README.md's commands, release.py on made-up builds, and
+monitor/watch.sh on logs of its own.
 
 It prints one line where all is as expected; else it says what isn't, and ends with status 1.
 """
@@ -9,6 +10,7 @@ import os
 import pathlib
 import random
 import re
+import shutil
 import subprocess
 import sys
 import tempfile
@@ -209,7 +211,7 @@ def try_install(folder):
     due.update({f"lib/libwagtenib.{end}": due["lib/libwagtenib.so.0.1.0"] for end in ("so.0", "so")})
     due.update({f"bin/ctmonitor-{name}": (EXAMPLES / "monitor" / f"{name}.sh").read_text() for name in ("watch", "mail")})
     due["include/wagtenib.h"] = (HERE.parent / "include" / "wagtenib.h").read_text()
-    due["lib/pkgconfig/wagtenib.pc"] = (HERE.parent / "include" / "wagtenib.pc.in").read_text().replace("@PREFIX@", "/opt/log")
+    due["lib/pkgconfig/wagtenib.pc"] = (HERE.parent / "include" / "wagtenib.pc.in").read_text().replace("@PREFIX@", "/opt/log").replace("@VERSION@", "0.1.0")
     to = folder / "to" / "opt" / "log"
     if ran.returncode or "ctlogd isn't built" not in ran.stdout or "ctlog isn't built" in ran.stdout:
         fail(f"make install: status {ran.returncode}: {ran.stdout}{ran.stderr}")
@@ -218,6 +220,63 @@ def try_install(folder):
     if not all(os.access(to / path, os.X_OK) for path in due if path.startswith("bin/")):
         fail("make install: a program can't be run")
     return len(due)
+
+
+def try_release(folder):
+    """A release holds what is built, byte for byte; what isn't built is named, and nothing is made; the same files give the same bytes twice. Builds
+    are made up, as for try_install. Without dpkg-deb it isn't tried, and says so."""
+    if not shutil.which("dpkg-deb") or not shutil.which("objdump"):
+        return "it isn't tried, for want of dpkg-deb or objdump"
+
+    def make(to, built="built", service="service"):
+        words = [HERE.parent / "release" / "release.py", "--built", folder / built, "--service", folder / service, "--to", folder / to]
+        return subprocess.run(words, capture_output=True, text=True)
+
+    ran = make("none", "nothing", "nothing")
+    if ran.returncode != 1 or not all(name in ran.stderr for name in ("ctlog (make demo)", "ctguard (make serve)", "ctserve (make service)", "libwagtenib.so (make link)")):
+        fail(f"release.py, with nothing built: status {ran.returncode}: {ran.stdout}{ran.stderr}")
+    if (folder / "none").exists():
+        fail("release.py makes something of nothing")
+    programs = {name: folder / "built" / name / "out" / name for name in ("ctlog", "ctlogd", "ctmonitor", "ctguard", "cttile", "ctproof", "ctwitness")}
+    programs.update({name: folder / "service" / name for name in ("ctserve", "ctcheck", "ctread", "ctload", "ctwitness-serve")})
+    library = {f"libwagtenib.{end}": folder / "built" / "wagtenib" / "out" / "link" / f"libwagtenib.{end}" for end in ("a", "so")}
+    for name, path in {**programs, **library}.items():
+        path.parent.mkdir(parents=True, exist_ok=True)
+        path.write_text(f"made up: {name}")
+    ran = make("first")
+    again = make("a-second-folder")
+    names = sorted(path.name for path in (folder / "first").iterdir())
+    due = ["SBOM.spdx.json", "SHA256SUMS", "ctmonitor_0.1.0_amd64.deb", "libwagtenib-dev_0.1.0_amd64.deb", "wagtenib-0.1.0-x86_64.tar.gz", "wagtenib_0.1.0_amd64.deb"]
+    if ran.returncode or again.returncode or names != due:
+        fail(f"release.py: status {ran.returncode}, {names}: {ran.stdout}{ran.stderr}{again.stderr}")
+    for name in names:
+        if (folder / "first" / name).read_bytes() != (folder / "a-second-folder" / name).read_bytes():
+            fail(f"release.py: {name} has other bytes at the second time")
+    if subprocess.run(["sha256sum", "--check", "--quiet", "SHA256SUMS"], cwd=folder / "first").returncode:
+        fail("release.py: SHA256SUMS isn't that of the files")
+    out = folder / "unpacked"
+    for name in names[2:]:
+        (out / name).mkdir(parents=True)
+        words = ["tar", "-xzf", folder / "first" / name, "-C", out / name] if name.endswith(".gz") else ["dpkg-deb", "-x", folder / "first" / name, out / name]
+        if subprocess.run(words).returncode:
+            fail(f"release.py: {name} can't be unpacked")
+    places = {"wagtenib-0.1.0-x86_64.tar.gz": ("wagtenib-0.1.0/bin", tuple(name for name in programs if name not in ("ctwitness", "ctwitness-serve"))),
+              "wagtenib_0.1.0_amd64.deb": ("usr/bin", ("ctserve", "cttile", "ctguard", "ctproof", "ctcheck")), "ctmonitor_0.1.0_amd64.deb": ("usr/bin", ("ctmonitor",))}
+    for name, (below, held) in places.items():
+        for program in held:
+            path = out / name / below / program
+            if not path.exists() or path.read_text() != f"made up: {program}" or not os.access(path, os.X_OK):
+                fail(f"release.py: {name} has no {program} that is as it was built and can be run")
+    unit = (out / "wagtenib_0.1.0_amd64.deb" / "lib" / "systemd" / "system" / "ctserve@.service").read_text()
+    if "ExecStart=/usr/bin/ctserve " not in unit:
+        fail("release.py: the package's unit starts another ctserve than its own")
+    if subprocess.run(["sha256sum", "--check", "--quiet", "SHA256SUMS"], cwd=out / names[4] / "wagtenib-0.1.0").returncode:
+        fail("release.py: SHA256SUMS in the tarball isn't that of its files")
+    bill = json.loads((folder / "first" / "SBOM.spdx.json").read_text())
+    named = {package["name"] for package in bill["packages"]}
+    if bill["spdxVersion"] != "SPDX-2.3" or not {"ctserve", "cttile", "sha2", "std"} <= named or len({it["SPDXID"] for it in bill["packages"]}) != len(bill["packages"]):
+        fail(f"release.py: the SBOM names {sorted(named)}")
+    return f"{len(names)} files twice the same"
 
 
 def try_figures():
@@ -271,6 +330,8 @@ def main():
         chains = try_pem(pathlib.Path(folder))
     with tempfile.TemporaryDirectory(prefix="two words ") as folder:
         files = try_install(pathlib.Path(folder))
+    with tempfile.TemporaryDirectory() as folder:
+        released = try_release(pathlib.Path(folder))
     try_figures()
     quotations = try_quotations()
     try_waits()
@@ -293,7 +354,7 @@ def main():
         fail(f"monitor/watch_check.py: {watched.stderr.decode()}")
     sys.stdout.write(watched.stdout.decode())
     stored = len(lines_of("bad-lines"))
-    rest = f"{chains} chains, {len(INPUTS)} inputs, {outputs} damaged outputs, {quotations} quotations and {files} installed files"
+    rest = f"{chains} chains, {len(INPUTS)} inputs, {outputs} damaged outputs, {quotations} quotations, {files} installed files and a release ({released})"
     print(f"tests/scripts.py: as expected, over {stored} stored lines, {DAMAGED} damaged ones, {rest}.")
 
 

@@ -14,9 +14,14 @@ import (
 
 	"wagtenib/service/check"
 	"wagtenib/service/stores"
+	"wagtenib/service/version"
 )
 
 func main() {
+	if version.Asked(os.Args[1:]) {
+		fmt.Print(version.Line("ctcheck"))
+		return
+	}
 	if len(os.Args) < 3 {
 		fmt.Fprintln(os.Stderr, "ctcheck FOLDER|s3://.. KEY.PEM [ANSWERS..]")
 		os.Exit(2)

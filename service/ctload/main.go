@@ -24,6 +24,7 @@ import (
 	"time"
 
 	"wagtenib/service/check"
+	"wagtenib/service/version"
 	"wagtenib/service/web/standin"
 )
 
@@ -58,6 +59,10 @@ const (
 )
 
 func main() {
+	if version.Asked(os.Args[1:]) {
+		fmt.Print(version.Line("ctload"))
+		return
+	}
 	if err := run(); err != nil {
 		fmt.Fprintln(os.Stderr, "ctload:", err)
 		os.Exit(1)

@@ -473,7 +473,8 @@ func (p *place) realWords(more ...string) []string {
 		p.guard = python + " " + filepath.Join(here, "../../tests/guard/model.py")
 	}
 	return append([]string{"--listen", "127.0.0.1:0", "--operator-listen", "127.0.0.1:0", "--origin", "log.example/test", "--roots", p.path("roots.pem"),
-		"--folder", p.path("log"), "--step", python + " " + filepath.Join(here, "../../tests/tiles/step.py"), "--interval", "50ms"}, more...)
+		"--folder", p.path("log"), "--step", python + " " + filepath.Join(here, "../../tests/tiles/step.py"),
+		"--reader", python + " " + filepath.Join(here, "../../tests/tiles/step.py"), "--interval", "50ms"}, more...)
 }
 
 // Over the real log, on a folder: a start makes no log unasked; what was answered is there after a kill, and a repeat has its

@@ -3,7 +3,8 @@
 // SIGHUP has it read the roots and the certificate of TLS anew. SIGTERM and SIGINT end it: it takes no more, publishes, answers
 // who waits, and ends with status 0; where that isn't done within its time, with 1. A second one ends it at once.
 //
-// The key is read by a process of its own, `ctserve signer`, which it starts, or finds at a socket.
+// The key is read by a process of its own, `ctserve signer`, which it starts, or finds at a socket. `ctserve key`, `check` and
+// `list-entry` make a key, look at settings, and write a log list's entry.
 package main
 
 import (
@@ -24,6 +25,7 @@ import (
 	"wagtenib/service/chains"
 	"wagtenib/service/log"
 	"wagtenib/service/reader"
+	"wagtenib/service/version"
 	"wagtenib/service/web"
 )
 
@@ -45,8 +47,13 @@ func main() { os.Exit(run(os.Args[1:], os.Stderr, openNode)) }
 
 // run serves until a signal ends it, and gives the status: 0 at an end in order, 1 at another, 2 where the words aren't ones.
 func run(words []string, to io.Writer, open opener) int {
-	if len(words) > 0 && words[0] == "signer" {
+	switch {
+	case version.Asked(words):
+		return runVersion(os.Stdout)
+	case len(words) > 0 && words[0] == "signer":
 		return runSigner(words[1:], os.Stdin, os.Stdout, to)
+	case len(words) > 0 && commands[words[0]] != nil:
+		return runCommand(words[0], words[1:], os.Stdout, to)
 	}
 	s, err := parse(words, to)
 	if errors.Is(err, flag.ErrHelp) {

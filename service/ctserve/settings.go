@@ -55,7 +55,7 @@ func parse(words []string, help io.Writer) (*settings, error) {
 	flags := flag.NewFlagSet("ctserve", flag.ContinueOnError)
 	flags.SetOutput(help)
 	flags.Usage = func() {
-		fmt.Fprint(help, "ctserve serves a Certificate Transparency log over HTTP. Each word may also stand as a line 'name value' in the file of --config.\n'ctserve signer --help' says what its signer takes.\n\n")
+		fmt.Fprint(help, "ctserve serves a Certificate Transparency log over HTTP. Each word may also stand as a line 'name value' in the file of --config.\n'ctserve signer --help' says what its signer takes; 'ctserve key FILE' makes a key, 'ctserve check FILE' looks at settings without starting, 'ctserve list-entry' writes a log list's entry, each with --help.\n\n")
 		flags.PrintDefaults()
 	}
 	config := flags.String("config", "", "`file` with a line 'name value' for each of these, and comments behind #")
@@ -95,7 +95,7 @@ func parse(words []string, help io.Writer) (*settings, error) {
 	flags.StringVar(&n.register, "register", "", "`address` of the register: file:PATH, etcd://HOST:PORT/PREFIX, postgres://HOST/DATABASE?log=NAME")
 	flags.StringVar(&n.places, "places", "", "`address` of the places of identities: sqlite:PATH, etcd://HOST:PORT/PREFIX, postgres://HOST/DATABASE?log=NAME")
 	flags.Func("step", "the `command` of the program that makes the steps, with its words (default \"cttile\"); it is given --origin", command(&n.step))
-	flags.Func("reader", "the `command` of the program that makes proofs for readers out of the tiles, with its words; by default that of the steps", command(&n.reader))
+	flags.Func("reader", "the `command` of the program that makes proofs for readers out of the tiles, with its words (default \"ctproof\")", command(&n.reader))
 	flags.DurationVar(&n.stepWithin, "step-within", 30*time.Second, "how long a step may take, until its program is killed")
 	flags.DurationVar(&n.interval, "interval", 500*time.Millisecond, "how far two heads are apart at least")
 	flags.DurationVar(&n.refresh, "refresh", time.Hour, "how old a head gets before one without new entries is made")
@@ -196,7 +196,7 @@ func (s *settings) settle() error {
 		n.step = []string{"cttile"}
 	}
 	if len(n.reader) == 0 {
-		n.reader = n.step
+		n.reader = []string{"ctproof"}
 	}
 	n.step = append(append([]string{}, n.step...), "--origin", n.origin)
 	for _, address := range []struct {

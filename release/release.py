@@ -1,0 +1,350 @@
+#!/usr/bin/env python3
+"""Makes a release out of what is built: a tarball, Debian packages, SHA256SUMS of both, and what they are made of (SBOM, SPDX 2.3).
+
+    release.py [--built FOLDER] [--service FOLDER] [--to FOLDER]
+
+By default the programs are taken from crates/NAME/out, the service from service/out, and all goes to release/out. Nothing is built: what lacks is named,
+with the command that builds it. The same files give the same bytes each time, whatever the folder and the hour: moments are the commit's, owners are root,
+and names are sorted.
+"""
+import argparse
+import gzip
+import hashlib
+import io
+import json
+import os
+import pathlib
+import re
+import shutil
+import subprocess
+import sys
+import tarfile
+import tempfile
+import time
+
+ROOT = pathlib.Path(__file__).resolve().parent.parent
+PROGRAMS = {"ctlog": "make demo", "ctmonitor": "make demo", "ctlogd": "make serve-ctlogd", "cttile": "make serve", "ctguard": "make serve", "ctproof": "make serve"}
+SERVICE = ("ctserve", "ctcheck", "ctread", "ctload")
+MACHINE, DEBIAN = "x86_64", "amd64"
+LIBRARY = "lib/x86_64-linux-gnu"
+HOMEPAGE = "https://wagtenib.example/"
+
+# What users and operators read, beside the README.
+PAGES = ("OPERATING", "MONITOR", "GUARD", "GROWTH", "TILES", "LINES", "LINKING", "PROMISES", "SCALE", "WITNESS")
+
+# Each package: what it is, what it needs beside libc6, and what it recommends.
+PACKAGES = {
+    "wagtenib": (
+        "Certificate Transparency log with proved steps, guard and proofs",
+        "ctserve serves a log over HTTP (RFC 6962, C2SP static-ct-api). cttile makes its steps, ctguard says\nwhat its key may sign, ctproof makes its readers' proofs: these are proved to meet their contracts,\nctserve and what judges, reads and loads a log are not. ctlog and ctlogd are a log in memory, proved.",
+        "adduser, libsqlite3-0",
+        "ca-certificates, nginx | httpd, openssl",
+    ),
+    "ctmonitor": (
+        "monitor and auditor of Certificate Transparency logs, proved",
+        "ctmonitor judges what a log answers: heads, entries and proofs. ctmonitor-watch fetches it with curl,\nfrom logs of RFC 6962 and from tiled ones.",
+        "curl, util-linux",
+        "openssl",
+    ),
+    "libwagtenib-dev": (
+        "proved checks of Certificate Transparency proofs, for C",
+        "The verifiers of RFC 9162, sections 2.1.3 and 2.1.4, as a library for C: static and shared, a header\nand what pkg-config reads.",
+        "",
+        "",
+    ),
+}
+
+
+def stop(text):
+    sys.exit(f"release.py: {text}")
+
+
+def run(*words, **how):
+    return subprocess.run(words, cwd=ROOT, capture_output=True, text=True, **how)
+
+
+def commit():
+    """The commit's hash, with + behind it where files differ from it, and its moment in seconds."""
+    said = run("git", "log", "-1", "--format=%H %ct").stdout.split()
+    if len(said) != 2:
+        stop("there is no commit here")
+    differs = run("git", "status", "--porcelain", "--untracked-files=no").stdout.strip()
+    return said[0] + ("+" if differs else ""), int(said[1])
+
+
+class Release:
+    """What goes into it."""
+
+    def __init__(self, built, service, to):
+        self.built, self.service, self.to = pathlib.Path(built), pathlib.Path(service), pathlib.Path(to)
+        self.version = (ROOT / "VERSION").read_text().strip()
+        self.commit, self.moment = commit()
+        self.logic = (run("rt", "version").stdout.split() or ["unknown"])[-1] if shutil.which("rt") else "unknown"
+        self.programs = {**{name: self.built / name / "out" / name for name in PROGRAMS}, **{name: self.service / name for name in SERVICE}}
+        self.library = self.built / "wagtenib" / "out" / "link" / "libwagtenib"
+
+    def lacking(self):
+        found = [f"{name} ({PROGRAMS.get(name, 'make service')})" for name, path in self.programs.items() if not path.is_file()]
+        return found + [f"{path.name} (make link)" for path in (self.library.with_suffix(".a"), self.library.with_suffix(".so")) if not path.is_file()]
+
+    def proved(self):
+        """What PROVED says: by which logic, of which commit, and how to see it again."""
+        return f"""{", ".join(PROGRAMS)} and libwagtenib of Wagtenib {self.version} were built by the Rattle kit, which builds no crate that isn't proved.
+commit {self.commit}
+logic {self.logic}
+{", ".join(SERVICE)} are in Go, and not proved. With a kit of this logic, `make test` proves all of it anew, and `make reproduce` builds the programs
+once more and compares their bytes with SHA256SUMS.
+"""
+
+    def documents(self):
+        """Pages by their names, without the dictionary."""
+        found = {name: ROOT / name for name in ("README.md", "CHANGELOG.md", "LICENSE")}
+        found.update({f"{page}.md": ROOT / "docs" / f"{page}.md" for page in PAGES if (ROOT / "docs" / f"{page}.md").exists()})
+        return {**found, "service.md": ROOT / "service" / "README.md"}
+
+    def watching(self):
+        monitor = ROOT / "examples" / "monitor"
+        return {"ctmonitor-watch": monitor / "watch.sh", "ctmonitor-signature": monitor / "signature.sh"}
+
+    def shared(self):
+        """What an operator puts into place: the site, the rules of alarms."""
+        return {path.name: path for path in (ROOT / "service" / name for name in ("nginx.conf", "ctserve.rules.yml")) if path.exists()}
+
+    def pkg_config(self, prefix):
+        return (ROOT / "include" / "wagtenib.pc.in").read_text().replace("@PREFIX@", prefix).replace("@VERSION@", self.version)
+
+    def library_files(self, folder):
+        """The library's files and links below a folder: bytes, or the name that a link leads to."""
+        so = f"libwagtenib.so.{self.version}"
+        return {
+            f"{folder}/libwagtenib.a": (self.library.with_suffix(".a").read_bytes(), 0o644),
+            f"{folder}/{so}": (self.library.with_suffix(".so").read_bytes(), 0o644),
+            f"{folder}/libwagtenib.so.0": so,
+            f"{folder}/libwagtenib.so": "libwagtenib.so.0",
+        }
+
+    def tree(self):
+        """The tarball's files by their paths."""
+        found = {f"bin/{name}": (path.read_bytes(), 0o755) for name, path in {**self.programs, **self.watching()}.items()}
+        found.update(self.library_files("lib"))
+        found["lib/pkgconfig/wagtenib.pc"] = (self.pkg_config("/usr/local").encode(), 0o644)
+        found["include/wagtenib.h"] = ((ROOT / "include" / "wagtenib.h").read_bytes(), 0o644)
+        found["lib/systemd/system/ctserve@.service"] = ((ROOT / "service" / "ctserve@.service").read_bytes(), 0o644)
+        found.update({f"share/wagtenib/{name}": (path.read_bytes(), 0o644) for name, path in self.shared().items()})
+        found.update({f"share/doc/wagtenib/{name}": (path.read_bytes(), 0o644) for name, path in self.documents().items()})
+        found["PROVED"] = (self.proved().encode(), 0o644)
+        found["SBOM.spdx.json"] = (sbom(self).encode(), 0o644)
+        found["SHA256SUMS"] = (sums_of({path: it[0] for path, it in found.items() if isinstance(it, tuple)}).encode(), 0o644)
+        return found
+
+    def package(self, name):
+        """A Debian package's files by their paths."""
+        doc = f"usr/share/doc/{name}"
+        found = {f"{doc}/copyright": (copyright_text().encode(), 0o644), f"{doc}/changelog.Debian.gz": (packed(self.changelog(name).encode(), self.moment), 0o644)}
+        if name == "ctmonitor":
+            found["usr/bin/ctmonitor"] = (self.programs["ctmonitor"].read_bytes(), 0o755)
+            found.update({f"usr/bin/{command}": (path.read_bytes(), 0o755) for command, path in self.watching().items()})
+            found.update({f"{doc}/MONITOR.md": (self.documents()["MONITOR.md"].read_bytes(), 0o644)})
+        elif name == "libwagtenib-dev":
+            found.update(self.library_files(f"usr/{LIBRARY}"))
+            found[f"usr/{LIBRARY}/pkgconfig/wagtenib.pc"] = (self.pkg_config("/usr").replace("${prefix}/lib", f"${{prefix}}/{LIBRARY}").encode(), 0o644)
+            found["usr/include/wagtenib.h"] = ((ROOT / "include" / "wagtenib.h").read_bytes(), 0o644)
+            found[f"{doc}/LINKING.md"] = (self.documents()["LINKING.md"].read_bytes(), 0o644)
+        else:
+            found.update({f"usr/bin/{command}": (path.read_bytes(), 0o755) for command, path in self.programs.items() if command != "ctmonitor"})
+            unit = (ROOT / "service" / "ctserve@.service").read_text().replace("/usr/local/bin/", "/usr/bin/")
+            found["lib/systemd/system/ctserve@.service"] = (unit.encode(), 0o644)
+            found.update({f"usr/share/wagtenib/{file}": (path.read_bytes(), 0o644) for file, path in self.shared().items()})
+            found.update({f"{doc}/{page}": (path.read_bytes(), 0o644) for page, path in self.documents().items() if page != "LICENSE"})
+            found[f"{doc}/PROVED"] = (self.proved().encode(), 0o644)
+            found["etc/ctserve"] = None
+        return found
+
+    def changelog(self, name):
+        date = time.strftime("%a, %d %b %Y %H:%M:%S +0000", time.gmtime(self.moment))
+        return f"{name} ({self.version}) unstable; urgency=medium\n\n  * CHANGELOG.md of the package wagtenib says what is new.\n\n -- Wagtenib maintainers <{maintainer()}>  {date}\n"
+
+    def control(self, name, size):
+        about, more, needs, recommends = PACKAGES[name]
+        lines = [f"Package: {name}", f"Version: {self.version}", f"Architecture: {DEBIAN}", f"Maintainer: Wagtenib maintainers <{maintainer()}>", f"Installed-Size: {size}"]
+        if name != "libwagtenib-dev":
+            lines.append(f"Depends: {', '.join(filter(None, [f'libc6 (>= {self.libc(name)})', needs]))}")
+        else:
+            lines.append(f"Depends: libc6 (>= {self.libc(name)})")
+        lines += [f"Recommends: {recommends}"] if recommends else []
+        lines += ["Section: " + ("libdevel" if name.endswith("-dev") else "net"), "Priority: optional", f"Homepage: {HOMEPAGE}", f"Description: {about}"]
+        return "\n".join([*lines, *(f" {line}" for line in more.split("\n"))]) + "\n"
+
+    def libc(self, name):
+        """The newest version of libc that one of the package's programs asks for, by what objdump reads."""
+        paths = {"ctmonitor": [self.programs["ctmonitor"]], "libwagtenib-dev": [self.library.with_suffix(".so")]}.get(name) or [path for it, path in self.programs.items() if it != "ctmonitor"]
+        asked = [tuple(map(int, it.split("."))) for path in paths for it in re.findall(r"GLIBC_([0-9.]+)\)", run("objdump", "-T", path).stdout)]
+        return ".".join(map(str, max(asked, default=(2, 34))))
+
+
+def maintainer():
+    return "maintainers@wagtenib.example"
+
+
+def packed(data, moment):
+    """Bytes as gzip packs them, with no name and one moment."""
+    out = io.BytesIO()
+    with gzip.GzipFile(fileobj=out, mode="wb", compresslevel=9, mtime=moment) as file:
+        file.write(data)
+    return out.getvalue()
+
+
+def sums_of(files):
+    return "".join(f"{hashlib.sha256(data).hexdigest()}  {path}\n" for path, data in sorted(files.items()))
+
+
+def copyright_text():
+    return """Format: https://www.debian.org/doc/packaging-manuals/copyright-format/1.0/
+Upstream-Name: wagtenib
+
+Files: *
+Copyright: Wagtenib maintainers
+License: Apache-2.0
+ On Debian systems the text of the Apache License, version 2.0, is in
+ /usr/share/common-licenses/Apache-2.0.
+"""
+
+
+def tarball(files, top, moment):
+    """A tarball's bytes: of these files below one folder, sorted, of root, with one moment."""
+    out = io.BytesIO()
+    with tarfile.open(fileobj=out, mode="w", format=tarfile.GNU_FORMAT) as archive:
+        for path, it in sorted(files.items()):
+            member = tarfile.TarInfo(f"{top}/{path}")
+            member.mtime, member.uname, member.gname = moment, "root", "root"
+            if isinstance(it, str):
+                member.type, member.linkname = tarfile.SYMTYPE, it
+                archive.addfile(member)
+            else:
+                data, member.mode = it
+                member.size = len(data)
+                archive.addfile(member, io.BytesIO(data))
+    return packed(out.getvalue(), moment)
+
+
+POSTINST = """#!/bin/sh
+set -e
+if [ "$1" = configure ]; then
+  adduser --quiet --system --group --no-create-home --home /var/lib/ctserve ctserve
+  install -d -m 750 -o ctserve -g ctserve /var/lib/ctserve
+  if [ -d /run/systemd/system ]; then
+    systemctl --system daemon-reload >/dev/null || true
+    # (logs that run go on in the new version once they are started again)
+    systemctl try-restart 'ctserve@*' >/dev/null || true
+  fi
+fi
+"""
+
+POSTRM = """#!/bin/sh
+set -e
+# (logs, keys and their user stay, also at a purge: a log that is gone can't be made again)
+if [ "$1" = remove ] && [ -d /run/systemd/system ]; then
+  systemctl --system daemon-reload >/dev/null || true
+fi
+"""
+
+
+def write_tree(files, folder):
+    for path, it in files.items():
+        at = folder / path
+        (at if it is None else at.parent).mkdir(parents=True, exist_ok=True)
+        if isinstance(it, str):
+            at.symlink_to(it)
+        elif it is not None:
+            at.write_bytes(it[0])
+            at.chmod(it[1])
+    for at in [folder, *(path for path in folder.rglob("*") if path.is_dir() and not path.is_symlink())]:
+        at.chmod(0o755)
+
+
+def make_package(release, name, to):
+    """Has dpkg-deb make one package."""
+    files = release.package(name)
+    size = sum(len(it[0]) for it in files.values() if isinstance(it, tuple)) // 1024 + 1
+    with tempfile.TemporaryDirectory() as work:
+        folder = pathlib.Path(work) / name
+        sums = {path: it[0] for path, it in files.items() if isinstance(it, tuple)}
+        files = {**files, "DEBIAN/control": (release.control(name, size).encode(), 0o644)}
+        files["DEBIAN/md5sums"] = ("".join(f"{hashlib.md5(data).hexdigest()}  {path}\n" for path, data in sorted(sums.items())).encode(), 0o644)
+        if name == "wagtenib":
+            files.update({"DEBIAN/postinst": (POSTINST.encode(), 0o755), "DEBIAN/postrm": (POSTRM.encode(), 0o755)})
+        write_tree(files, folder)
+        path = to / f"{name}_{release.version}_{DEBIAN}.deb"
+        environment = {**os.environ, "SOURCE_DATE_EPOCH": str(release.moment)}
+        ran = run("dpkg-deb", "--root-owner-group", "--threads-max=1", "-Zxz", "--build", folder, path, env=environment)
+        if ran.returncode:
+            stop(f"dpkg-deb: {ran.stderr.strip()}")
+    return path
+
+
+def go_packages():
+    """Debian's packages of Go that the service is built of, with their versions, and Go itself; none where they aren't installed."""
+    ran = run("service/build.sh", "folders")
+    folders = ran.stdout.split() if ran.returncode == 0 else []
+    owners = run("dpkg-query", "-S", *folders).stdout if folders else ""
+    names = sorted({owner for line in owners.splitlines() for owner in line.partition(": ")[0].split(", ")})
+    said = run("dpkg-query", "-W", "-f", "${Package} ${Version}\n", "golang-go", *names).stdout
+    return [tuple(line.split()) for line in said.splitlines()]
+
+
+def crates_of_the_kit():
+    """The kit's libraries that the crates name, and std."""
+    lines = [line.partition(":") for line in (ROOT / "crates.txt").read_text().splitlines() if line and line[0] != "#"]
+    own = {head.split()[0] for head, _, _ in lines}
+    return sorted({it for _, _, below in lines for it in below.split() if it not in own} | {"std"})
+
+
+def sbom(release):
+    """What the programs are made of, in SPDX 2.3 (JSON)."""
+    created = time.strftime("%Y-%m-%dT%H:%M:%SZ", time.gmtime(release.moment))
+
+    def package(name, version, supplier, comment):
+        of = re.sub(r"[^A-Za-z0-9.-]", "-", f"{supplier}-{name}")
+        return {"SPDXID": f"SPDXRef-{of}", "name": name, "versionInfo": version, "downloadLocation": "NOASSERTION", "filesAnalyzed": False, "comment": comment}
+
+    own = [package(name, release.version, "wagtenib", "proved" if name in PROGRAMS else "in Go, not proved") for name in release.programs]
+    own.append(package("libwagtenib", release.version, "wagtenib", "proved"))
+    kit = [package(name, release.logic, "rattle", "a library of the Rattle kit, by its logic") for name in crates_of_the_kit()]
+    go = [package(name, version, "debian", "linked into the programs in Go") for name, version in go_packages()]
+    relations = [{"spdxElementId": "SPDXRef-DOCUMENT", "relationshipType": "DESCRIBES", "relatedSpdxElement": it["SPDXID"]} for it in own]
+    for it in own:
+        below = go if it["name"] in SERVICE else kit
+        relations += [{"spdxElementId": it["SPDXID"], "relationshipType": "STATIC_LINK", "relatedSpdxElement": lib["SPDXID"]} for lib in below]
+    document = {
+        "spdxVersion": "SPDX-2.3", "dataLicense": "CC0-1.0", "SPDXID": "SPDXRef-DOCUMENT", "name": f"wagtenib-{release.version}",
+        "documentNamespace": f"{HOMEPAGE}spdx/{release.version}-{release.commit}",
+        "creationInfo": {"created": created, "creators": ["Tool: release.py"]}, "packages": [*own, *kit, *go], "relationships": relations,
+    }
+    return json.dumps(document, indent=1) + "\n"
+
+
+def main():
+    words = argparse.ArgumentParser(description="Makes a release out of what is built.")
+    words.add_argument("--built", default=ROOT / "crates", help="the folder in which the crates' builds lie")
+    words.add_argument("--service", default=ROOT / "service" / "out", help="the folder of the programs in Go")
+    words.add_argument("--to", default=ROOT / "release" / "out", help="where the release is put")
+    given = words.parse_args()
+    for tool in ("dpkg-deb", "objdump"):
+        if not shutil.which(tool):
+            stop(f"{tool} isn't on the PATH (Debian: {'dpkg' if tool == 'dpkg-deb' else 'binutils'})")
+    release = Release(given.built, given.service, given.to)
+    if lacking := release.lacking():
+        stop(f"this isn't built: {', '.join(lacking)}")
+    shutil.rmtree(release.to, ignore_errors=True)
+    release.to.mkdir(parents=True)
+    top = f"wagtenib-{release.version}"
+    (release.to / f"{top}-{MACHINE}.tar.gz").write_bytes(tarball(release.tree(), top, release.moment))
+    for name in PACKAGES:
+        make_package(release, name, release.to)
+    (release.to / "SBOM.spdx.json").write_text(sbom(release))
+    (release.to / "SHA256SUMS").write_text(sums_of({path.name: path.read_bytes() for path in release.to.iterdir()}))
+    print((release.to / "SHA256SUMS").read_text(), end="")
+
+
+if __name__ == "__main__":
+    main()

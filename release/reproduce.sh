@@ -1,0 +1,58 @@
+#!/usr/bin/env bash
+# Builds the programs twice, in folders of other names and lengths, by other numbers of processors, and compares their bytes: reproduce.sh [CRATE..].
+# Without a crate: the programs in Go, and, where the kit is on the PATH, those whose crates are proved here already (crates/NAME/out): each is linked
+# anew from what is proved. Ends with status 1 where two builds differ.
+set -eu
+cd "$(dirname "$0")/.."
+export PYTHONDONTWRITEBYTECODE=1
+work=$(mktemp -d)
+trap 'rm -rf "$work"' EXIT
+first=$work/a second=$work/another-folder-with-a-longer-name/of-a-checkout
+status=0
+
+# compare NAME FILE FILE
+compare() {
+  if cmp -s "$2" "$3"; then
+    echo "the same twice: $1 $(sha256sum <"$2" | cut -c 1-64)"
+  else
+    echo "DIFFERS: $1" >&2
+    status=1
+  fi
+}
+
+# What is checked out, but for what was built; git's folder goes along, for the commit.
+copy() {
+  mkdir -p "$1"
+  git archive --format=tar HEAD | tar -x -C "$1"
+  git clone -q --no-checkout . "$1.git" && mv "$1.git/.git" "$1" && rm -rf "$1.git"
+  git -C "$1" reset -q
+}
+
+crates=$*
+if [ $# -eq 0 ]; then
+  for name in ctlog ctlogd ctmonitor cttile ctguard ctproof ctwitness; do
+    [ ! -x "crates/$name/out/$name" ] || crates+=" $name"
+  done
+  copy "$first"
+  copy "$second"
+  PROCESSORS=1 "$first/service/build.sh" build
+  PROCESSORS=$(nproc) "$second/service/build.sh" build
+  for path in "$first"/service/out/*; do
+    compare "${path##*/}" "$path" "$second/service/out/${path##*/}"
+  done
+fi
+if [ -n "$crates" ] && ! command -v rt >/dev/null; then
+  echo "the kit isn't on the PATH: of the crates nothing is built"
+  crates=
+fi
+for name in $crates; do
+  for top in "$first" "$second"; do
+    [ -d "$top/crates" ] || copy "$top"
+    # (what is proved of the crates below, and of the program itself, goes along; rt looks whether it is of these sources)
+    (cd crates && for it in */out; do [ ! -d "$it/rlib" ] || { mkdir -p "$top/crates/$it" && cp -a "$it/rlib" "$top/crates/$it/"; }; done)
+    [ ! -d "crates/$name/out/incremental" ] || cp -a "crates/$name/out/incremental" "$top/crates/$name/out/" 2>/dev/null || { mkdir -p "$top/crates/$name/out" && cp -a "crates/$name/out/incremental" "$top/crates/$name/out/"; }
+    (cd "$top/crates/$name" && rt run -- --version </dev/null >/dev/null)
+  done
+  compare "$name" "$first/crates/$name/out/$name" "$second/crates/$name/out/$name"
+done
+exit $status

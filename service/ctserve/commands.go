@@ -1,0 +1,318 @@
+package main
+
+import (
+	"context"
+	"crypto/ecdsa"
+	"crypto/elliptic"
+	"crypto/rand"
+	"crypto/sha256"
+	"crypto/x509"
+	"encoding/base64"
+	"encoding/json"
+	"encoding/pem"
+	"errors"
+	"flag"
+	"fmt"
+	"io"
+	"os"
+	"os/exec"
+	"path/filepath"
+	"strings"
+	"time"
+
+	"wagtenib/service/chains"
+	"wagtenib/service/signer"
+	"wagtenib/service/version"
+	"wagtenib/service/web"
+)
+
+// commands are what ctserve does beside serving, by the first word.
+var commands = map[string]func(words []string, answers, faults io.Writer) error{
+	"key":        runKey,
+	"list-entry": runListEntry,
+	"check":      runCheck,
+}
+
+// runCommand does one of the commands, and gives the status: 0 where it is done, 1 where it isn't, 2 where the words aren't ones.
+func runCommand(name string, words []string, answers, faults io.Writer) int {
+	err := commands[name](words, answers, faults)
+	switch {
+	case err == nil || errors.Is(err, flag.ErrHelp):
+		return 0
+	case errors.Is(err, errUsage):
+		fmt.Fprintln(faults, err)
+		return 2
+	default:
+		fmt.Fprintln(faults, "ctserve:", err)
+		return 1
+	}
+}
+
+// commandFlags are those of one command, whose page stands before them.
+func commandFlags(name, page string, faults io.Writer) *flag.FlagSet {
+	flags := flag.NewFlagSet("ctserve "+name, flag.ContinueOnError)
+	flags.SetOutput(faults)
+	flags.Usage = func() {
+		fmt.Fprintf(faults, "%s\n\n", page)
+		flags.PrintDefaults()
+	}
+	return flags
+}
+
+// parseFlags reads words that are flags, and as many others as are given.
+func parseFlags(flags *flag.FlagSet, words []string, others int) error {
+	err := flags.Parse(words)
+	switch {
+	case errors.Is(err, flag.ErrHelp):
+		return err
+	case err != nil:
+		return fmt.Errorf("%w: %v", errUsage, err)
+	case flags.NArg() != others:
+		return fmt.Errorf("%w: %s --help says which words it takes", errUsage, flags.Name())
+	}
+	return nil
+}
+
+// runKey makes a log's key in a file that isn't there yet, or shows the one that is: the log's id (RFC 6962, section 3.2) and its public key.
+func runKey(words []string, answers, faults io.Writer) error {
+	flags := commandFlags("key", "ctserve key FILE makes a log's key, of P-256, in a FILE that isn't there yet and that its owner alone may read, and prints the log's id and public key.", faults)
+	show := flags.Bool("show", false, "show those of the key in FILE, and make none")
+	if err := parseFlags(flags, words, 1); err != nil {
+		return err
+	}
+	path := flags.Arg(0)
+	if !*show {
+		if err := makeKey(path); err != nil {
+			return err
+		}
+	}
+	key, err := signer.OpenKey(path)
+	if err != nil {
+		return err
+	}
+	public := key.Key()
+	id := sha256.Sum256(public)
+	fmt.Fprintf(answers, "log id      %s\npublic key  %s\n%s", base64.StdEncoding.EncodeToString(id[:]), base64.StdEncoding.EncodeToString(public),
+		pem.EncodeToMemory(&pem.Block{Type: "PUBLIC KEY", Bytes: public}))
+	return nil
+}
+
+// makeKey writes a new private key, so that it is there whole and on the disk, or that there is no such file.
+func makeKey(path string) error {
+	private, err := ecdsa.GenerateKey(elliptic.P256(), rand.Reader)
+	if err != nil {
+		return err
+	}
+	der, err := x509.MarshalPKCS8PrivateKey(private)
+	if err != nil {
+		return err
+	}
+	file, err := os.OpenFile(path, os.O_WRONLY|os.O_CREATE|os.O_EXCL, 0o400)
+	if err != nil {
+		return err
+	}
+	_, err = file.Write(pem.EncodeToMemory(&pem.Block{Type: "PRIVATE KEY", Bytes: der}))
+	if err == nil {
+		err = file.Sync()
+	}
+	if closed := file.Close(); err == nil {
+		err = closed
+	}
+	if err == nil {
+		err = syncFolder(filepath.Dir(path))
+	}
+	if err != nil {
+		os.Remove(path)
+	}
+	return err
+}
+
+// syncFolder has a folder's names on the disk.
+func syncFolder(path string) error {
+	folder, err := os.Open(path)
+	if err != nil {
+		return err
+	}
+	defer folder.Close()
+	return folder.Sync()
+}
+
+// listed is a tiled log as log lists have it (log list schema v3, "tiled_logs").
+type listed struct {
+	Description   string    `json:"description"`
+	LogID         string    `json:"log_id"`
+	Key           string    `json:"key"`
+	SubmissionURL string    `json:"submission_url"`
+	MonitoringURL string    `json:"monitoring_url"`
+	MMD           int       `json:"mmd"`
+	Interval      *interval `json:"temporal_interval,omitempty"`
+}
+
+type interval struct {
+	Start string `json:"start_inclusive"`
+	End   string `json:"end_exclusive"`
+}
+
+type operator struct {
+	Name      string   `json:"name"`
+	Email     []string `json:"email"`
+	Logs      []string `json:"logs"`
+	TiledLogs []listed `json:"tiled_logs"`
+}
+
+// runListEntry prints what a log list has of a log, out of the log's settings.
+func runListEntry(words []string, answers, faults io.Writer) error {
+	flags := commandFlags("list-entry", "ctserve list-entry --config FILE prints a log's entry for a log list (v3, JSON), out of its settings.", faults)
+	config := flags.String("config", "", "the log's `file` of settings")
+	name := flags.String("operator", "", "the operator's `name`")
+	email := flags.String("email", "", "the operator's `addresses` of mail, with commas between them")
+	submission := flags.String("submission-url", "", "`URL` below which submissions come in; by default https:// and the origin")
+	monitoring := flags.String("monitoring-url", "", "`URL` below which the log is read; by default the same")
+	publicAt := flags.String("key", "", "`file` with the log's public key in PEM, where the settings name no signing-key")
+	mmd := flags.Int("mmd", 60, "the maximum merge delay in seconds: a timestamp is answered once a head has its entry, so any holds")
+	if err := parseFlags(flags, words, 0); err != nil {
+		return err
+	}
+	if *config == "" || *name == "" || *email == "" || *mmd < 1 {
+		return fmt.Errorf("%w: list-entry needs --config, --operator and --email, and an --mmd above 0", errUsage)
+	}
+	s, err := parse([]string{"--config", *config}, faults)
+	if err != nil {
+		return err
+	}
+	public, err := publicKey(s, *publicAt)
+	if err != nil {
+		return err
+	}
+	id := sha256.Sum256(public)
+	one := listed{
+		Description: s.node.origin, LogID: base64.StdEncoding.EncodeToString(id[:]), Key: base64.StdEncoding.EncodeToString(public),
+		SubmissionURL: *submission, MonitoringURL: *monitoring, MMD: *mmd,
+	}
+	if one.SubmissionURL == "" {
+		one.SubmissionURL = "https://" + s.node.origin + "/"
+	}
+	if one.MonitoringURL == "" {
+		one.MonitoringURL = one.SubmissionURL
+	}
+	if from, to := s.window.From, s.window.To; !from.IsZero() && !to.IsZero() {
+		one.Interval = &interval{from.UTC().Format(time.RFC3339), to.UTC().Format(time.RFC3339)}
+	}
+	out := json.NewEncoder(answers)
+	out.SetIndent("", "  ")
+	return out.Encode(map[string][]operator{"operators": {{*name, strings.Split(*email, ","), []string{}, []listed{one}}}})
+}
+
+// publicKey is the log's, out of a file or of its signing key.
+func publicKey(s *settings, path string) ([]byte, error) {
+	if path == "" {
+		if s.node.signingKey == "" {
+			return nil, fmt.Errorf("%w: the settings name no signing-key: give --key", errUsage)
+		}
+		key, err := signer.OpenKey(s.node.signingKey)
+		if err != nil {
+			return nil, err
+		}
+		return key.Key(), nil
+	}
+	text, err := os.ReadFile(path)
+	if err != nil {
+		return nil, err
+	}
+	block, _ := pem.Decode(text)
+	if block == nil || block.Type != "PUBLIC KEY" {
+		return nil, fmt.Errorf("%s has no public key in PEM", path)
+	}
+	key, err := x509.ParsePKIXPublicKey(block.Bytes)
+	if err != nil {
+		return nil, fmt.Errorf("%s: %w", path, err)
+	}
+	if of, ok := key.(*ecdsa.PublicKey); !ok || of.Curve != elliptic.P256() {
+		return nil, fmt.Errorf("%s isn't a key of P-256", path)
+	}
+	return block.Bytes, nil
+}
+
+// answersWithin is how long a program may take to say its version.
+const answersWithin = 10 * time.Second
+
+// runCheck looks at all that a log's settings name, and starts nothing: the settings, the key, the roots, TLS, and whether the programs run.
+// Each gets a line; the first fault of each is told, and all are looked at.
+func runCheck(words []string, answers, faults io.Writer) error {
+	if len(words) == 1 && !strings.HasPrefix(words[0], "-") {
+		words = []string{"--config", words[0]}
+	}
+	s, err := parse(words, faults)
+	if err != nil {
+		return err
+	}
+	wrong := 0
+	look := func(of string, said string, err error) {
+		if err != nil {
+			wrong++
+			said = "WRONG: " + err.Error()
+		}
+		fmt.Fprintf(answers, "%-16s %s\n", of, said)
+	}
+	look("origin", s.node.origin, nil)
+	if s.node.signerAt != "" {
+		_, err := os.Stat(s.node.signerAt)
+		look("signer-at", s.node.signerAt, err)
+	} else {
+		key, err := signer.OpenKey(s.node.signingKey)
+		said := ""
+		if err == nil {
+			id := sha256.Sum256(key.Key())
+			said = "log id " + base64.StdEncoding.EncodeToString(id[:])
+		}
+		look("signing-key", said, err)
+	}
+	roots, err := chains.LoadRoots(s.roots)
+	said := ""
+	if err == nil {
+		said = fmt.Sprintf("%d roots", len(roots.Certificates()))
+	}
+	look("roots", said, err)
+	if s.certificate != "" {
+		_, err := web.LoadCertificate(s.certificate, s.key)
+		look("tls-certificate", s.certificate, err)
+	}
+	for _, program := range []struct {
+		of      string
+		command []string
+	}{{"step", s.node.step}, {"reader", s.node.reader}, {"guard", s.node.guard}} {
+		if s.node.signerAt != "" && program.of == "guard" || program.command[0] == noGuard && program.of == "guard" {
+			continue
+		}
+		said, err := versionOf(program.command)
+		look(program.of, said, err)
+	}
+	for _, address := range []struct{ of, text string }{{"store", s.node.store}, {"register", s.node.register}, {"places", s.node.places}, {"guard-state", s.node.guardState}} {
+		// (an address may have a password)
+		if kind, _, found := strings.Cut(address.text, ":"); found {
+			look(address.of, kind+", not opened", nil)
+		}
+	}
+	if wrong > 0 {
+		return fmt.Errorf("%d settings don't hold", wrong)
+	}
+	return nil
+}
+
+// versionOf runs a command with --version in the place of its words, and gives what it says.
+func versionOf(command []string) (string, error) {
+	ctx, cancel := context.WithTimeout(context.Background(), answersWithin)
+	defer cancel()
+	said, err := exec.CommandContext(ctx, command[0], "--version").Output()
+	if err != nil {
+		return "", fmt.Errorf("%s --version: %w", command[0], err)
+	}
+	line, _, _ := strings.Cut(strings.TrimSpace(string(said)), "\n")
+	return line, nil
+}
+
+// runVersion says what was built.
+func runVersion(answers io.Writer) int {
+	fmt.Fprint(answers, version.Line("ctserve"))
+	return 0
+}

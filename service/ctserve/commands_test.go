@@ -1,0 +1,199 @@
+package main
+
+import (
+	"bytes"
+	"crypto/sha256"
+	"encoding/base64"
+	"encoding/json"
+	"encoding/pem"
+	"fmt"
+	"os"
+	"os/exec"
+	"path/filepath"
+	"strings"
+	"testing"
+	"time"
+
+	"wagtenib/service/web/standin"
+)
+
+// does runs one of the commands in this process.
+func does(words ...string) (status int, answers, faults string) {
+	var out, told bytes.Buffer
+	status = runCommand(words[0], words[1:], &out, &told)
+	return status, out.String(), told.String()
+}
+
+// settingsFile writes a file of settings with a root and a key of its own, and gives the folder and the file.
+func settingsFile(t *testing.T, lines ...string) (folder, file string) {
+	t.Helper()
+	folder = t.TempDir()
+	authority, err := standin.NewAuthority("an authority")
+	if err != nil {
+		t.Fatal(err)
+	}
+	if err := os.WriteFile(filepath.Join(folder, "roots.pem"), authority.PEM(), 0o600); err != nil {
+		t.Fatal(err)
+	}
+	if status, _, told := does("key", filepath.Join(folder, "log.key")); status != 0 {
+		t.Fatalf("no key: %s", told)
+	}
+	for _, name := range []string{"cttile", "ctproof", "ctguard"} {
+		script := fmt.Sprintf("#!/bin/sh\n[ \"$*\" = --version ] && echo %s 7.7.7\n", name)
+		if err := os.WriteFile(filepath.Join(folder, name), []byte(script), 0o700); err != nil {
+			t.Fatal(err)
+		}
+	}
+	text := []string{"origin log.example/2027h1", "signing-key " + folder + "/log.key", "roots " + folder + "/roots.pem", "folder " + folder + "/log",
+		"step " + folder + "/cttile", "reader " + folder + "/ctproof", "guard " + folder + "/ctguard", "not-after-from 2027-01-01", "not-after-to 2027-07-01"}
+	file = filepath.Join(folder, "settings")
+	if err := os.WriteFile(file, []byte(strings.Join(append(text, lines...), "\n")), 0o600); err != nil {
+		t.Fatal(err)
+	}
+	return folder, file
+}
+
+// TestKey: a key is made once, none but its owner may read it, and openssl finds the public key that is printed.
+func TestKey(t *testing.T) {
+	path := filepath.Join(t.TempDir(), "log.key")
+	status, said, told := does("key", path)
+	if status != 0 {
+		t.Fatalf("status %d: %s", status, told)
+	}
+	info, err := os.Stat(path)
+	if err != nil || info.Mode().Perm() != 0o400 {
+		t.Errorf("the key's file: %v, %v", info, err)
+	}
+	public, err := exec.Command("openssl", "ec", "-in", path, "-pubout", "-outform", "DER").Output()
+	if err != nil {
+		t.Fatal(err)
+	}
+	id := sha256.Sum256(public)
+	for _, due := range []string{"log id      " + base64.StdEncoding.EncodeToString(id[:]) + "\n", "public key  " + base64.StdEncoding.EncodeToString(public) + "\n",
+		string(pem.EncodeToMemory(&pem.Block{Type: "PUBLIC KEY", Bytes: public}))} {
+		if !strings.Contains(said, due) {
+			t.Errorf("%q isn't in %q", due, said)
+		}
+	}
+	before, _ := os.ReadFile(path)
+	if status, _, _ := does("key", path); status != 1 {
+		t.Errorf("made where one is: status %d", status)
+	}
+	if after, _ := os.ReadFile(path); !bytes.Equal(before, after) {
+		t.Error("a key that was there is another one now")
+	}
+	if status, shown, _ := does("key", "--show", path); status != 0 || shown != said {
+		t.Errorf("shown: status %d, %q", status, shown)
+	}
+	if status, _, _ := does("key", "--show", path+".absent"); status != 1 {
+		t.Errorf("shown where none is: status %d", status)
+	}
+	if _, err := os.Stat(path + ".absent"); err == nil {
+		t.Error("--show made a key")
+	}
+	if status, _, _ := does("key"); status != 2 {
+		t.Errorf("no file: status %d", status)
+	}
+	if status, _, _ := does("key", filepath.Join(path, "below", "a", "file")); status != 1 {
+		t.Error("made below a file")
+	}
+}
+
+// TestListEntry compares an entry with what openssl says of the key.
+func TestListEntry(t *testing.T) {
+	folder, file := settingsFile(t)
+	status, said, told := does("list-entry", "--config", file, "--operator", "An operator", "--email", "a@log.example,b@log.example")
+	if status != 0 {
+		t.Fatalf("status %d: %s", status, told)
+	}
+	public, err := exec.Command("openssl", "ec", "-in", folder+"/log.key", "-pubout", "-outform", "DER").Output()
+	if err != nil {
+		t.Fatal(err)
+	}
+	id := sha256.Sum256(public)
+	due := map[string]any{"operators": []any{map[string]any{"name": "An operator", "email": []any{"a@log.example", "b@log.example"}, "logs": []any{}, "tiled_logs": []any{map[string]any{
+		"description": "log.example/2027h1", "log_id": base64.StdEncoding.EncodeToString(id[:]), "key": base64.StdEncoding.EncodeToString(public),
+		"submission_url": "https://log.example/2027h1/", "monitoring_url": "https://log.example/2027h1/", "mmd": 60.0,
+		"temporal_interval": map[string]any{"start_inclusive": "2027-01-01T00:00:00Z", "end_exclusive": "2027-07-01T00:00:00Z"},
+	}}}}}
+	var found any
+	if err := json.Unmarshal([]byte(said), &found); err != nil || fmt.Sprint(found) != fmt.Sprint(due) {
+		t.Errorf("%v: %s", err, said)
+	}
+	if err := os.WriteFile(folder+"/public.pem", pem.EncodeToMemory(&pem.Block{Type: "PUBLIC KEY", Bytes: public}), 0o600); err != nil {
+		t.Fatal(err)
+	}
+	more := []string{"--operator", "o", "--email", "e", "--submission-url", "https://a/", "--monitoring-url", "https://b/"}
+	if status, other, told := does(append([]string{"list-entry", "--config", file, "--key", folder + "/public.pem"}, more...)...); status != 0 ||
+		!strings.Contains(other, base64.StdEncoding.EncodeToString(id[:])) || !strings.Contains(other, `"https://a/"`) || !strings.Contains(other, `"https://b/"`) {
+		t.Errorf("by the public key: status %d, %s%s", status, other, told)
+	}
+	for _, words := range [][]string{{"--config", file}, {"--config", file, "--operator", "o", "--email", "e", "--mmd", "0"}, {"--config", file, "--operator", "o", "--email", "e", "more"}} {
+		if status, _, _ := does(append([]string{"list-entry"}, words...)...); status != 2 {
+			t.Errorf("%q: status %d", words, status)
+		}
+	}
+	if status, _, _ := does("list-entry", "--config", file, "--operator", "o", "--email", "e", "--key", folder+"/roots.pem"); status != 1 {
+		t.Errorf("a certificate for a key: status %d", status)
+	}
+}
+
+// TestCheck: each setting that doesn't hold is told, and nothing is made.
+func TestCheck(t *testing.T) {
+	folder, file := settingsFile(t)
+	status, said, told := does("check", file)
+	if status != 0 || told != "" {
+		t.Fatalf("status %d: %s%s", status, said, told)
+	}
+	for _, due := range []string{"log.example/2027h1", "1 roots", "cttile 7.7.7", "ctproof 7.7.7", "ctguard 7.7.7"} {
+		if !strings.Contains(said, due) {
+			t.Errorf("%q isn't said: %s", due, said)
+		}
+	}
+	if _, err := os.Stat(folder + "/log"); err == nil {
+		t.Error("the log's folder was made")
+	}
+	for _, c := range []struct {
+		line, due string
+		status    int
+	}{
+		{"tls-certificate " + folder + "/absent\ntls-key " + folder + "/absent", "tls-certificate  WRONG: ", 1},
+		{"roots " + folder + "/log.key", "", 2},
+		{"no-such-setting 1", "", 2},
+	} {
+		_, file := settingsFile(t, c.line)
+		status, said, _ := does("check", file)
+		if status != c.status || !strings.Contains(said, c.due) {
+			t.Errorf("%q: status %d, %s", c.line, status, said)
+		}
+	}
+	for _, name := range []string{"roots.pem", "log.key", "cttile", "ctproof", "ctguard"} {
+		folder, file := settingsFile(t)
+		if err := os.Remove(filepath.Join(folder, name)); err != nil {
+			t.Fatal(err)
+		}
+		if status, said, told := does("check", file); status != 1 || strings.Count(said, "WRONG") != 1 || !strings.Contains(told, "1 settings") {
+			t.Errorf("without %s: status %d, %s%s", name, status, said, told)
+		}
+	}
+}
+
+// TestCommandLine: the words lead to the commands, and the version is said on the standard output.
+func TestCommandLine(t *testing.T) {
+	for _, c := range []struct {
+		words  []string
+		status int
+		out    string
+	}{{[]string{"--version"}, 0, "ctserve unreleased (commit unknown)\n"}, {[]string{"key"}, 2, ""}, {[]string{"check", "--help"}, 0, ""}} {
+		command := exec.Command(os.Args[0], c.words...)
+		command.Env = append(os.Environ(), childKey+"=1")
+		var out bytes.Buffer
+		command.Stdout = &out
+		timer := time.AfterFunc(time.Minute, func() { command.Process.Kill() })
+		command.Run()
+		timer.Stop()
+		if status := command.ProcessState.ExitCode(); status != c.status || out.String() != c.out {
+			t.Errorf("%q: status %d, %q", c.words, status, out.String())
+		}
+	}
+}
