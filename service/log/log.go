@@ -74,7 +74,12 @@ type Figures struct {
 	// Damaged is how many data tiles, by what was read last, are missing, can't be read or aren't the log's, or stand below hash tiles of
 	// which one of these is so; the log goes on all the same. Damage is what was seen of one of them, in one line.
 	Damaged int
-	Damage  string
+	// DamagedIssuers is how many issuers are missing or have another content, by what was read last.
+	DamagedIssuers int
+	Damage         string
+	// Mended counts objects of the log that were missing or had another content and were made again, and LastMended says which was last.
+	Mended     uint64
+	LastMended string
 	// Fault is what keeps the log from going on, in one line; empty where nothing does.
 	Fault string
 }
@@ -87,7 +92,7 @@ type Log interface {
 	// Checkpoint is the newest published head.
 	Checkpoint(ctx context.Context) (Head, error)
 	// Object reads a published object by its name (tile/.., issuer/..); stores.ErrAbsent where there is none, stores.ErrName
-	// where none can be.
+	// where none can be. A full tile is the newest head's tree's; where it isn't, or the tree lacks one, it is ErrStore.
 	Object(ctx context.Context, name string) ([]byte, error)
 	// IndexOf gives where the leaf with this hash is said to stand; stores.ErrAbsent where that isn't known. It need not be true.
 	IndexOf(ctx context.Context, leafHash [32]byte) (uint64, error)

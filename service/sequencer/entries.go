@@ -71,6 +71,8 @@ type leaf struct {
 	// signed is the TimestampedEntry with two bytes before it: a MerkleTreeLeaf, and what is under a timestamp's signature
 	// (RFC 6962, sections 3.4 and 3.2).
 	signed []byte
+	// chain has the fingerprints of its issuers, 32 bytes each.
+	chain []byte
 }
 
 // cutter cuts a data tile.
@@ -122,7 +124,7 @@ func leavesOf(tile []byte) ([]leaf, error) {
 		if of == chains.PrecertEntry {
 			r.vector(3)
 		}
-		r.vector(2)
+		one.chain = r.vector(2)
 		if r.wrong || len(extensions) != len(extensionsOf(0)) || string(extensions[:3]) != string(extensionsOf(0)[:3]) {
 			return nil, fmt.Errorf("%w: entry %d of a data tile isn't one", ErrDamaged, len(leaves))
 		}

@@ -81,7 +81,7 @@ func TestRegisterEmptied(t *testing.T) {
 	wants(t, err, ErrDamaged)
 }
 
-// TestDamagedTiles takes away or bends what a step, a roll-out or a repeat wants. Each is refused by name, and there is no further head.
+// TestDamagedTiles takes away or bends what a step wants, and the bundle that has it. Each is refused by name, and there is no further head.
 func TestDamagedTiles(t *testing.T) {
 	t.Parallel()
 	remove := func(path string) error { return os.Remove(path) }
@@ -104,6 +104,7 @@ func TestDamagedTiles(t *testing.T) {
 				must(t, got.submitAll(ctx, s, 0, 300, 300))
 				must(t, s.End(ctx))
 				must(t, damage(filepath.Join(p.objects(), object)))
+				must(t, os.RemoveAll(filepath.Join(p.objects(), "staging")))
 				again := started(t, p.config(t), hooks{})
 				_, err := again.Submit(ctx, entryOf(1000))
 				wants(t, err, log.ErrStore, ErrDamaged)

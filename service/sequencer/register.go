@@ -19,6 +19,7 @@ const (
 	headsPrefix   = "heads/"
 	stagingPrefix = "staging/"
 	tilesPrefix   = "tile/"
+	issuersPrefix = "issuer/"
 )
 
 // known is what stood in the register. Its text is three lines: the state's line, the node that set it, and a number of chance.
@@ -131,7 +132,8 @@ func (s *Sequencer) takeUp(ctx context.Context) error {
 
 // takeUpHead publishes the newest head that is in the store, where what is published is before it: a head is put behind all that it stands for.
 func (s *Sequencer) takeUpHead(ctx context.Context, published stores.Published, k known) error {
-	newest, after := "", headName(step.State{Size: published.Size, Moment: published.Moment})
+	after := headName(step.State{Size: published.Size, Moment: published.Moment})
+	newest := after
 	for {
 		names, err := s.config.Objects.List(ctx, headsPrefix, after, stores.MostListed)
 		if err != nil {
@@ -143,18 +145,42 @@ func (s *Sequencer) takeUpHead(ctx context.Context, published stores.Published, 
 		after = names[len(names)-1]
 		newest = after
 	}
-	if newest == "" || newest > headName(k.state) {
+	if newest > headName(k.state) {
 		return nil
 	}
 	head, err := s.readHead(ctx, newest)
+	if errors.Is(err, stores.ErrAbsent) {
+		// There is none yet, or the published one is missing.
+		return nil
+	}
+	if errors.Is(err, errOtherHead) && !s.isOurs(ctx) {
+		return fmt.Errorf("%w: the store has heads, and none that was read is this log's: %v", ErrConfig, err)
+	}
 	if errors.Is(err, ErrDamaged) || err == nil && (nameOf(&head) != newest || newest == headName(k.state) && matches(head, k.state) != nil) {
-		// It isn't served; the loop says so.
+		// It isn't served; the loop makes it again, or says so.
 		return nil
 	}
 	if err != nil {
 		return err
 	}
 	return s.raise(ctx, published, head)
+}
+
+// mostOld is how many of the oldest heads are read where the newest isn't this log's.
+const mostOld = 8
+
+// isOurs says whether one of the store's oldest heads is of this origin and signed by this key.
+func (s *Sequencer) isOurs(ctx context.Context) bool {
+	names, err := s.config.Objects.List(ctx, headsPrefix, "", mostOld)
+	if err != nil {
+		return false
+	}
+	for _, name := range names {
+		if _, err := s.readHead(ctx, name); err == nil {
+			return true
+		}
+	}
+	return false
 }
 
 // publishedAt is what is published once a state is.
@@ -180,6 +206,9 @@ func (s *Sequencer) agrees(ctx context.Context, k known) (moved bool, err error)
 		text, err := s.config.Register.Read(ctx)
 		if err != nil || text != k.text {
 			return true, wrapped(err)
+		}
+		if last.Size == newest.Size && last.Moment == newest.Moment {
+			return false, fmt.Errorf("%w: the register's text, or the guard's state: of %d entries at %d ms they have two roots", ErrDamaged, last.Size, last.Moment)
 		}
 		return false, fmt.Errorf("%w: it has %d entries at %d ms, and the signer let a head of %d at %d ms through", ErrSetBack, newest.Size, newest.Moment, last.Size, last.Moment)
 	}

@@ -35,13 +35,18 @@ func (s *Sequencer) isRolledOut(ctx context.Context, k known) (bool, error) {
 		return false, nil
 	}
 	head, err := s.readHead(ctx, headName(k.state))
+	isOut := !published.Before(publishedAt(k.state))
+	if err == nil {
+		err = matches(head, k.state)
+	}
+	if isOut && (errors.Is(err, stores.ErrAbsent) || errors.Is(err, errOtherHead)) {
+		// It was published, so all of it was out.
+		head, err = s.restore(ctx, k)
+	}
 	if errors.Is(err, stores.ErrAbsent) {
 		return false, nil
 	}
 	if err != nil {
-		return false, err
-	}
-	if err := matches(head, k.state); err != nil {
 		return false, err
 	}
 	if err := s.raise(ctx, published, head); err != nil {
@@ -51,9 +56,16 @@ func (s *Sequencer) isRolledOut(ctx context.Context, k known) (bool, error) {
 	return true, nil
 }
 
+// errOtherHead: what stands under a head's name isn't that head.
+var errOtherHead = errors.New("sequencer: a head's file isn't that head")
+
+// matches says whether a head is a state's.
 func matches(head log.Head, state step.State) error {
-	if head.TreeSize != state.Size || head.Timestamp != state.Moment || head.RootHash != state.Root {
-		return fmt.Errorf("%w: %s is of another tree than the register's state", ErrDamaged, headName(state))
+	if head.TreeSize != state.Size || head.Timestamp != state.Moment {
+		return fault{errOtherHead, fmt.Errorf("%w: %s has the head of %d entries at %d ms", ErrDamaged, headName(state), head.TreeSize, head.Timestamp)}
+	}
+	if head.RootHash != state.Root {
+		return fmt.Errorf("%w: the register's text isn't the log's: it has another root than the signed head %s", ErrDamaged, headName(state))
 	}
 	return nil
 }
@@ -83,27 +95,41 @@ func (s *Sequencer) see(head log.Head) {
 	}
 }
 
-// help rolls out a state from its bundle.
-func (s *Sequencer) help(ctx context.Context, k known) error {
+// resume reads the bundle of a state; errNoBundle where there is none.
+func (s *Sequencer) resume(ctx context.Context, k known) (*step.Resumed, error) {
 	name := bundleName(step.Digest(k.line))
 	bundle, err := s.config.Objects.Get(ctx, name, stores.MostObject)
 	if errors.Is(err, stores.ErrAbsent) {
-		if newest, learned := s.learn(ctx); learned != nil || newest.text != k.text {
-			// It was rolled out, and the state is past.
-			return learned
-		}
-		return fmt.Errorf("%w: %s, the newest state's bundle, is missing", ErrDamaged, name)
+		return nil, fault{errNoBundle, fmt.Errorf("%w: %s, the newest state's bundle, is missing", ErrDamaged, name)}
 	}
 	if err != nil {
-		return fmt.Errorf("sequencer: %w", err)
+		return nil, fmt.Errorf("sequencer: %w", err)
 	}
 	resumed, err := s.config.Step.Resume(ctx, k.line, bundle)
 	var refusal step.Refusal
 	if errors.As(err, &refusal) {
-		return fmt.Errorf("%w: %s: %v", ErrDamaged, name, err)
+		return nil, fmt.Errorf("%w: %s: %v", ErrDamaged, name, err)
 	}
 	if err != nil {
-		return fmt.Errorf("sequencer: %w", err)
+		return nil, fmt.Errorf("sequencer: %w", err)
+	}
+	return resumed, nil
+}
+
+// errNoBundle: a state has no bundle.
+var errNoBundle = errors.New("sequencer: no bundle")
+
+// help rolls out a state from its bundle.
+func (s *Sequencer) help(ctx context.Context, k known) error {
+	resumed, err := s.resume(ctx, k)
+	if errors.Is(err, errNoBundle) {
+		if newest, learned := s.learn(ctx); learned != nil || newest.text != k.text {
+			// It was rolled out, and the state is past.
+			return learned
+		}
+	}
+	if err != nil {
+		return err
 	}
 	placed, err := placesIn(resumed.Objects)
 	if err != nil {
@@ -111,6 +137,59 @@ func (s *Sequencer) help(ctx context.Context, k known) error {
 	}
 	s.helped.Add(1)
 	return s.rollOut(ctx, k, resumed.Objects, resumed.Head, placed)
+}
+
+// restore makes a state that was rolled out whole again, as far as its bundle goes: objects that are missing or have another content, and
+// its head, which it gives.
+func (s *Sequencer) restore(ctx context.Context, k known) (log.Head, error) {
+	s.edge = map[string][]byte{}
+	resumed, err := s.resume(ctx, k)
+	if err != nil {
+		return log.Head{}, err
+	}
+	for _, object := range resumed.Objects {
+		if err := s.putRight(ctx, object.Name, object.Content); err != nil {
+			return log.Head{}, fmt.Errorf("sequencer: %w", err)
+		}
+	}
+	head, err := s.readHead(ctx, headName(k.state))
+	if err == nil {
+		err = matches(head, k.state)
+	}
+	if !errors.Is(err, stores.ErrAbsent) && !errors.Is(err, errOtherHead) {
+		return head, err
+	}
+	if head, err = s.signedHead(ctx, k.state, resumed.Head, freshOf(resumed.Objects)); err != nil {
+		return log.Head{}, err
+	}
+	if err := s.putRight(ctx, headName(k.state), head.Note); err != nil {
+		return log.Head{}, fmt.Errorf("sequencer: %w", err)
+	}
+	return head, nil
+}
+
+// putRight puts an object whose only content is known, over what else stands there, and counts it where something was wrong.
+func (s *Sequencer) putRight(ctx context.Context, name string, content []byte) error {
+	standing, err := s.config.Objects.Get(ctx, name, stores.MostObject)
+	if err == nil && bytes.Equal(standing, content) {
+		return nil
+	}
+	if err != nil && !errors.Is(err, stores.ErrAbsent) && !errors.Is(err, stores.ErrTooLong) {
+		return err
+	}
+	if !errors.Is(err, stores.ErrAbsent) {
+		if err := s.config.Objects.Delete(ctx, name); err != nil {
+			return err
+		}
+	}
+	if err := s.config.Objects.Put(ctx, name, content); err != nil {
+		return err
+	}
+	s.mu.Lock()
+	defer s.mu.Unlock()
+	s.mended++
+	s.lastMended = name
+	return nil
 }
 
 // rollOut publishes a state that stands, or stood, in the register: objects, places, head, published size. It may be done again.
@@ -174,7 +253,7 @@ func (s *Sequencer) putAll(ctx context.Context, objects []step.Object) error {
 // signer lets an older head than its last one through no more; then the other one's stands there, too, or it was swept, which is no fault.
 func (s *Sequencer) putHead(ctx context.Context, state step.State, head step.Head, objects fresh) (log.Head, error) {
 	name := headName(state)
-	signed, err := s.signHead(ctx, state, objects)
+	made, err := s.signedHead(ctx, state, head, objects)
 	if errors.Is(err, signer.ErrRefused) {
 		if made, absent := s.readHead(ctx, name); absent == nil {
 			return made, matches(made, state)
@@ -186,11 +265,6 @@ func (s *Sequencer) putHead(ctx context.Context, state step.State, head step.Hea
 	if err != nil {
 		return log.Head{}, err
 	}
-	made := log.Head{TreeSize: state.Size, Timestamp: state.Moment, RootHash: state.Root, Signature: signed}
-	made.Note = s.note(head.Checkpoint, made)
-	if again, err := s.parseNote(made.Note); err != nil || matches(again, state) != nil {
-		return log.Head{}, fmt.Errorf("sequencer: the step's note isn't one of %s: %w", s.config.Origin, errNote)
-	}
 	err = s.config.Objects.Put(ctx, name, made.Note)
 	if errors.Is(err, stores.ErrOther) {
 		if made, err = s.readHead(ctx, name); err == nil {
@@ -199,6 +273,20 @@ func (s *Sequencer) putHead(ctx context.Context, state step.State, head step.Hea
 	}
 	if err != nil {
 		return log.Head{}, fmt.Errorf("sequencer: %w", err)
+	}
+	return made, nil
+}
+
+// signedHead has a state's head signed.
+func (s *Sequencer) signedHead(ctx context.Context, state step.State, head step.Head, objects fresh) (log.Head, error) {
+	signed, err := s.signHead(ctx, state, objects)
+	if err != nil {
+		return log.Head{}, err
+	}
+	made := log.Head{TreeSize: state.Size, Timestamp: state.Moment, RootHash: state.Root, Signature: signed}
+	made.Note = s.note(head.Checkpoint, made)
+	if again, err := s.parseNote(made.Note); err != nil || matches(again, state) != nil {
+		return log.Head{}, fmt.Errorf("sequencer: the step's note isn't one of %s: %w", s.config.Origin, errNote)
 	}
 	return made, nil
 }
@@ -237,9 +325,25 @@ func (s *Sequencer) readHead(ctx context.Context, name string) (log.Head, error)
 	}
 	head, err := s.parseNote(note)
 	if err != nil {
-		return log.Head{}, fmt.Errorf("%w: %s: %v", ErrDamaged, name, err)
+		return log.Head{}, fault{errOtherHead, fmt.Errorf("%w: %s: %v%s", ErrDamaged, name, err, s.strange(note))}
 	}
 	return head, nil
+}
+
+// strange says of a note that isn't this log's whose it says that it is; nothing where it is none, or says that it is this log's.
+func (s *Sequencer) strange(note []byte) string {
+	lines := strings.Split(string(note), "\n")
+	if len(lines) != 6 || !strings.HasPrefix(lines[4], "— "+lines[0]+" ") {
+		return ""
+	}
+	if lines[0] != s.config.Origin {
+		return fmt.Sprintf("; it has the origin %.80q, and the settings have %q", lines[0], s.config.Origin)
+	}
+	blob, err := base64.StdEncoding.DecodeString(strings.TrimPrefix(lines[4], s.signatureLine()))
+	if err == nil && len(blob) >= 12 && !bytes.Equal(blob[:4], s.keyID()) {
+		return "; another key than the settings' signed it"
+	}
+	return ""
 }
 
 var errNote = errors.New("it isn't a signed head of this log")

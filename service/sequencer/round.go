@@ -317,35 +317,46 @@ func (s *Sequencer) answer(ctx context.Context, groups [][]*waiting, receipts []
 	return nil
 }
 
-// step asks the program, over the edge that is remembered, and where it doesn't believe that, over the store's.
+// step asks the program, over the edge that is remembered; where it doesn't believe that, over the store's; and where that one is damaged,
+// once more behind what the state's bundle has of it was put again.
 func (s *Sequencer) step(ctx context.Context, k known, batch []step.Submission, now uint64) (*step.Stepped, map[string][]byte, error) {
 	names, err := s.config.Step.Needs(ctx, k.line)
 	if err != nil {
 		return nil, nil, fmt.Errorf("sequencer: %w", err)
 	}
-	for {
-		remembered := len(s.edge) > 0
-		edge, contents := map[string][]byte{}, make([][]byte, 0, len(names))
-		for _, name := range names {
-			content, err := s.read(ctx, name)
-			if err != nil {
-				return nil, nil, err
-			}
-			edge[name] = content
-			contents = append(contents, content)
-		}
-		stepped, err := s.config.Step.Step(ctx, k.line, contents, batch, now)
-		if err == nil {
-			return stepped, edge, nil
-		}
-		if !errors.Is(err, step.Edge) && !errors.Is(err, step.Entries) {
-			return nil, nil, fmt.Errorf("sequencer: %w", err)
-		}
+	remembered := len(s.edge) > 0
+	stepped, edge, err := s.stepOver(ctx, k, names, batch, now)
+	if remembered && errors.Is(err, ErrDamaged) {
 		s.edge = map[string][]byte{}
-		if !remembered {
-			return nil, nil, fmt.Errorf("%w: %s: %v", ErrDamaged, strings.Join(names, ", "), err)
+		stepped, edge, err = s.stepOver(ctx, k, names, batch, now)
+	}
+	if errors.Is(err, ErrDamaged) {
+		if _, failed := s.restore(ctx, k); failed == nil {
+			stepped, edge, err = s.stepOver(ctx, k, names, batch, now)
 		}
 	}
+	return stepped, edge, err
+}
+
+// stepOver asks the program over an edge. One that is missing or isn't the state's is ErrDamaged.
+func (s *Sequencer) stepOver(ctx context.Context, k known, names []string, batch []step.Submission, now uint64) (*step.Stepped, map[string][]byte, error) {
+	edge, contents := map[string][]byte{}, make([][]byte, 0, len(names))
+	for _, name := range names {
+		content, err := s.read(ctx, name)
+		if err != nil {
+			return nil, nil, err
+		}
+		edge[name] = content
+		contents = append(contents, content)
+	}
+	stepped, err := s.config.Step.Step(ctx, k.line, contents, batch, now)
+	if errors.Is(err, step.Edge) || errors.Is(err, step.Entries) {
+		return nil, nil, fmt.Errorf("%w: %s: %v", ErrDamaged, strings.Join(names, ", "), err)
+	}
+	if err != nil {
+		return nil, nil, fmt.Errorf("sequencer: %w", err)
+	}
+	return stepped, edge, nil
 }
 
 // keepEdge remembers what the next step may want: the partial tiles of this one, and those from before that may have stayed.

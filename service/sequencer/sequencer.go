@@ -150,10 +150,14 @@ type Sequencer struct {
 	stopped    bool
 	// damage has data tiles, by their numbers, that the log went on without: what of them, or of the hash tiles above, was seen last.
 	damage map[uint64]error
+	// mended counts objects that were made again, and lastMended names the last.
+	mended     uint64
+	lastMended string
 	// alone is until when nothing is handed over, since a node didn't answer.
 	alone time.Time
 
 	readings readings
+	compared compared
 
 	steps, lost, unknown, repeats, helped, handed, swept, sweptHeads, scrubbed atomic.Uint64
 	// handing holds who hands over.
@@ -193,7 +197,6 @@ func start(ctx context.Context, config Config, test hooks) (*Sequencer, error) {
 		config:  config,
 		logID:   sha256.Sum256(config.Signer.Key()),
 		queue:   newQueue(config.MostQueue, config.MostQueueBytes),
-		issuers: newIssuers(config.Objects),
 		clock:   newClock(test.now),
 		ended:   make(chan struct{}),
 		tended:  make(chan struct{}),
@@ -202,6 +205,7 @@ func start(ctx context.Context, config Config, test hooks) (*Sequencer, error) {
 		handing: make(chan struct{}, mostHanding),
 		test:    test,
 	}
+	s.issuers = newIssuers(s)
 	if err := s.takeUp(ctx); err != nil {
 		return nil, err
 	}
@@ -260,18 +264,6 @@ func isNamed(err error) bool {
 	return errors.Is(err, ErrDamaged) || errors.Is(err, ErrSetBack) || errors.Is(err, log.ErrClock) || errors.Is(err, signer.ErrRefused) || errors.Is(err, signer.ErrState)
 }
 
-// Object is log.Log's.
-func (s *Sequencer) Object(ctx context.Context, name string) ([]byte, error) {
-	if !strings.HasPrefix(name, "tile/") && !strings.HasPrefix(name, "issuer/") {
-		return nil, fmt.Errorf("%w: %.80q isn't published", stores.ErrName, name)
-	}
-	content, err := s.config.Objects.Get(ctx, name, stores.MostObject)
-	if err != nil && !errors.Is(err, stores.ErrAbsent) && !errors.Is(err, stores.ErrName) {
-		return nil, fault{log.ErrStore, err}
-	}
-	return content, err
-}
-
 // IndexOf is log.Log's.
 func (s *Sequencer) IndexOf(ctx context.Context, leafHash [32]byte) (uint64, error) {
 	found, err := s.config.Places.Leaves().Find(ctx, []stores.Identity{leafHash})
@@ -319,7 +311,9 @@ func (s *Sequencer) Figures() log.Figures {
 		f.Entries = s.head.TreeSize
 		f.HeadAge = time.Duration(s.clock.wall().UnixMilli()-int64(s.head.Timestamp)) * time.Millisecond
 	}
-	if first, ok := s.damagedBehind(0); ok {
+	f.Mended, f.LastMended = s.mended, s.lastMended
+	if f.DamagedIssuers, f.Damage = s.issuers.damage(); len(s.damage) > 0 {
+		first, _ := s.damagedBehind(0)
 		f.Damage = s.damage[first].Error()
 	}
 	if s.fault != nil {

@@ -45,6 +45,8 @@ type tender struct {
 	passed []tlog.Tile
 	// again is the damaged tile to be looked at next, or the one before it.
 	again uint64
+	// looked are issuers that were read since reading began at the first tile.
+	looked map[[32]byte]bool
 	// unswept and unread are of the tiles at which sweeping and reading stands.
 	unswept, unread refusals
 }
@@ -75,6 +77,44 @@ func (s *Sequencer) tend(ctx context.Context) {
 		_ = t.sweepHeads(ctx)
 		t.readDamaged(ctx)
 		t.readNext(ctx)
+		t.readIssuers(ctx)
+	}
+}
+
+// readIssuers reads an issuer that is damaged again, and one that this node put.
+func (t *tender) readIssuers(ctx context.Context) {
+	for _, damaged := range []bool{true, false} {
+		if fingerprint, ok := t.s.issuers.next(damaged); ok {
+			_ = t.readIssuer(ctx, fingerprint)
+		}
+	}
+}
+
+func (t *tender) readIssuer(ctx context.Context, fingerprint [32]byte) error {
+	return t.s.briefly(ctx, func(ctx context.Context) error { return t.s.issuers.look(ctx, fingerprint) })
+}
+
+// mostLooked is how many issuers are remembered as read.
+const mostLooked = 4096
+
+// readIssuersOf reads the issuers of entries that weren't read yet since reading began at the first tile.
+func (t *tender) readIssuersOf(ctx context.Context, leaves []leaf) {
+	for _, l := range leaves {
+		for chain := l.chain; len(chain) >= 32; chain = chain[32:] {
+			var fingerprint [32]byte
+			copy(fingerprint[:], chain)
+			if t.looked[fingerprint] {
+				continue
+			}
+			if t.readIssuer(ctx, fingerprint) != nil {
+				// The store doesn't answer now: the next pass reads them.
+				return
+			}
+			if t.looked == nil || len(t.looked) >= mostLooked {
+				t.looked = map[[32]byte]bool{}
+			}
+			t.looked[fingerprint] = true
+		}
 	}
 }
 
@@ -271,7 +311,8 @@ func (t *tender) sweepHeads(ctx context.Context) error {
 func (t *tender) whole(ctx context.Context, tile tlog.Tile) error {
 	head := t.s.seen()
 	if tile.L < 0 {
-		return t.s.scrub(ctx, treeUnder(head), uint64(tile.N))
+		_, err := t.s.scrub(ctx, treeUnder(head), uint64(tile.N))
+		return err
 	}
 	var wanted []int64
 	for i := int64(0); i < tileWidth; i++ {
@@ -290,7 +331,7 @@ func (t *tender) readNext(ctx context.Context) {
 		return
 	}
 	if t.read >= full {
-		t.read = 0
+		t.read, t.looked = 0, nil
 	}
 	err := t.readAgain(ctx, t.read)
 	if err != nil && (t.s.isDamaged(t.read) || t.s.isOne(ctx) && t.unread.last(tlog.Tile{N: int64(t.read)})) {
@@ -324,7 +365,7 @@ func (t *tender) readAgain(ctx context.Context, tile uint64) error {
 	if head == nil || tile > fullTiles(-1, head.TreeSize) {
 		return fmt.Errorf("sequencer: no head with data tile %d was seen", tile)
 	}
-	err := s.scrub(ctx, treeUnder(head), tile)
+	leaves, err := s.scrub(ctx, treeUnder(head), tile)
 	if errors.Is(err, ErrDamaged) {
 		s.noteDamage(tile, err)
 		return nil
@@ -333,31 +374,32 @@ func (t *tender) readAgain(ctx context.Context, tile uint64) error {
 		return err
 	}
 	s.mu.Lock()
-	defer s.mu.Unlock()
 	delete(s.damage, tile)
+	s.mu.Unlock()
+	t.readIssuersOf(ctx, leaves)
 	return nil
 }
 
-// scrub compares the entries of a data tile with a tree. Each object has Patience to come.
-func (s *Sequencer) scrub(ctx context.Context, of tlog.Tree, index uint64) error {
+// scrub compares the entries of a data tile with a tree, and gives them. Each object has Patience to come.
+func (s *Sequencer) scrub(ctx context.Context, of tlog.Tree, index uint64) ([]leaf, error) {
 	width := tileWidth
 	if left := of.N - int64(index*tileWidth); left < tileWidth {
 		width = int(left)
 	}
 	if width == 0 {
-		return nil
+		return nil, nil
 	}
 	name := tileName(tlog.Tile{H: tileHeight, L: -1, N: int64(index), W: width})
 	content, err := s.readBriefly(ctx, name)
 	if err != nil {
-		return err
+		return nil, err
 	}
 	leaves, err := leavesOf(content)
 	if err != nil {
-		return fmt.Errorf("%s: %w", name, err)
+		return nil, fmt.Errorf("%s: %w", name, err)
 	}
 	if len(leaves) != width {
-		return fmt.Errorf("%w: %s has %d entries", ErrDamaged, name, len(leaves))
+		return nil, fmt.Errorf("%w: %s has %d entries", ErrDamaged, name, len(leaves))
 	}
 	var wanted []int64
 	for i := range leaves {
@@ -365,15 +407,15 @@ func (s *Sequencer) scrub(ctx context.Context, of tlog.Tree, index uint64) error
 	}
 	hashes, err := s.storedHashes(ctx, of, wanted, name)
 	if err != nil {
-		return err
+		return nil, err
 	}
 	for i, l := range leaves {
 		if l.index != index*tileWidth+uint64(i) || tlog.RecordHash(l.signed) != hashes[i] {
-			return fmt.Errorf("%w: entry %d of %s isn't the tree's", ErrDamaged, l.index, name)
+			return nil, fmt.Errorf("%w: entry %d of %s isn't the tree's", ErrDamaged, l.index, name)
 		}
 	}
 	s.scrubbed.Add(1)
-	return nil
+	return leaves, nil
 }
 
 // storedHashes reads hashes of a tree out of the store's tiles, for a tile.

@@ -41,22 +41,26 @@ func (f *Front) readyz(w http.ResponseWriter, r *http.Request) error {
 	return nil
 }
 
-// Tell looks at the log every so often until the context ends, and tells what keeps it from going on, what of it is damaged, and the end of
-// either.
+// Tell looks at the log every so often until the context ends, and tells what keeps it from going on, what of it is damaged, the end of
+// either, and what was made again.
 func (f *Front) Tell(ctx context.Context, every time.Duration) {
 	timer := time.NewTicker(every)
 	defer timer.Stop()
 	var fault, damage string
-	damaged := 0
+	var tiles, issuers int
+	var mended uint64
 	for {
 		figures := f.log.Figures()
 		if figures.Fault != fault {
 			f.tellOf("fault", fault, figures.Fault)
 		}
-		if figures.Damage != damage || figures.Damaged != damaged && damage != "" {
-			f.tellOf("damage", damage, figures.Damage, "tiles", figures.Damaged)
+		if figures.Damage != damage || damage != "" && (figures.Damaged != tiles || figures.DamagedIssuers != issuers) {
+			f.tellOf("damage", damage, figures.Damage, "tiles", figures.Damaged, "issuers", figures.DamagedIssuers)
 		}
-		fault, damage, damaged = figures.Fault, figures.Damage, figures.Damaged
+		if figures.Mended != mended {
+			f.options.Lines.Warn("made-again", "objects", figures.Mended-mended, "last", figures.LastMended)
+		}
+		fault, damage, tiles, issuers, mended = figures.Fault, figures.Damage, figures.Damaged, figures.DamagedIssuers, figures.Mended
 		select {
 		case <-timer.C:
 		case <-ctx.Done():

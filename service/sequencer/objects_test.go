@@ -1,0 +1,312 @@
+package sequencer
+
+import (
+	"bytes"
+	"context"
+	"crypto/sha256"
+	"encoding/hex"
+	"errors"
+	"os"
+	"path/filepath"
+	"strings"
+	"testing"
+	"time"
+
+	"wagtenib/service/log"
+	"wagtenib/service/step"
+	"wagtenib/service/stores"
+)
+
+// damages are ways in which a file isn't what was written.
+var damages = map[string]func(path string) error{
+	"bent": func(path string) error {
+		content, err := os.ReadFile(path)
+		if err == nil {
+			at := len(content) - 1
+			if at > 20 {
+				// (in the part of a data tile's first entry that is in the tree)
+				at = 20
+			}
+			content[at] ^= 1
+			err = os.WriteFile(path, content, 0o644)
+		}
+		return err
+	},
+	"cut":     func(path string) error { return os.Truncate(path, 7) },
+	"emptied": func(path string) error { return os.Truncate(path, 0) },
+	"removed": os.Remove,
+}
+
+// keeps gives what a file has, and what puts that back.
+func keeps(t *testing.T, path string) (content []byte, putBack func()) {
+	t.Helper()
+	content, err := os.ReadFile(path)
+	must(t, err)
+	return content, func() { must(t, os.WriteFile(path, content, 0o644)) }
+}
+
+// TestDamagedTilesAreNotGiven: a full tile of the published tree that isn't the tree's, or is missing, is a fault of the store until it is put
+// right, counts as damaged, and keeps no other one from being given.
+func TestDamagedTilesAreNotGiven(t *testing.T) {
+	t.Parallel()
+	p, ctx, got := newPlace(t), limited(t), &answers{}
+	s := started(t, p.config(t), hooks{})
+	must(t, got.submitAll(ctx, s, 0, 600, 600))
+	must(t, s.End(ctx))
+	config := p.config(t)
+	config.TendEvery = time.Hour
+	s = started(t, config, hooks{})
+	full := []string{"tile/data/000", "tile/0/000", "tile/data/001", "tile/0/001"}
+	for i, name := range full {
+		path := filepath.Join(p.objects(), name)
+		for how, damage := range damages {
+			content, putBack := keeps(t, path)
+			must(t, damage(path))
+			if _, err := s.Object(ctx, name); !errors.Is(err, log.ErrStore) || !errors.Is(err, ErrDamaged) {
+				t.Errorf("%s, %s: %v", name, how, err)
+			}
+			if f := s.Figures(); f.Damaged == 0 || i == 0 && !strings.Contains(f.Damage, name) {
+				t.Errorf("%s, %s: %d tiles are damaged, %q", name, how, f.Damaged, f.Damage)
+			}
+			other := full[(i+2)%len(full)]
+			if _, err := s.Object(ctx, other); err != nil {
+				t.Errorf("%s is %s, and %s: %v", name, how, other, err)
+			}
+			putBack()
+			if given, err := s.Object(ctx, name); err != nil || !bytes.Equal(given, content) {
+				t.Errorf("%s behind it was %s: %v", name, how, err)
+			}
+		}
+	}
+	for _, name := range []string{"tile/data/002", "tile/0/007", "tile/2/000", "tile/data/000.p/7"} {
+		if _, err := s.Object(ctx, name); !errors.Is(err, stores.ErrAbsent) || errors.Is(err, log.ErrStore) {
+			t.Errorf("%s, which the tree doesn't have: %v", name, err)
+		}
+	}
+	must(t, os.Remove(filepath.Join(p.objects(), "tile/data/002.p/88")))
+	if _, err := s.Object(ctx, "tile/data/002.p/88"); !errors.Is(err, log.ErrStore) {
+		t.Errorf("a lost partial tile of the newest head: %v", err)
+	}
+}
+
+// TestTileBelowADamagedOne: where the tile above isn't the tree's, nothing can be compared with it, and nothing is given.
+func TestTileBelowADamagedOne(t *testing.T) {
+	t.Parallel()
+	p, ctx, got := newPlace(t), limited(t), &answers{}
+	s := started(t, p.config(t), hooks{})
+	must(t, got.submitAll(ctx, s, 0, 300, 300))
+	must(t, s.End(ctx))
+	above := filepath.Join(p.objects(), "tile/1/000.p/1")
+	_, putBack := keeps(t, above)
+	must(t, damages["bent"](above))
+	must(t, os.RemoveAll(filepath.Join(p.objects(), stagingPrefix)))
+	config := p.config(t)
+	config.TendEvery = time.Hour
+	s = started(t, config, hooks{})
+	for _, name := range []string{"tile/data/000", "tile/0/000"} {
+		_, err := s.Object(ctx, name)
+		wants(t, err, log.ErrStore, ErrDamaged)
+	}
+	putBack()
+	for _, name := range []string{"tile/data/000", "tile/0/000"} {
+		if _, err := s.Object(ctx, name); err != nil {
+			t.Error(err)
+		}
+	}
+}
+
+// newestBundle gives the names of the objects in the newest state's bundle.
+func newestBundle(t *testing.T, p place) (names []string) {
+	t.Helper()
+	config := p.config(t)
+	text, err := config.Register.Read(limited(t))
+	must(t, err)
+	k, err := readText(text)
+	must(t, err)
+	bundle, err := config.Objects.Get(limited(t), bundleName(step.Digest(k.line)), stores.MostObject)
+	must(t, err)
+	objects, err := step.Objects(bundle)
+	must(t, err)
+	for _, object := range objects {
+		names = append(names, object.Name)
+	}
+	return append(names, headName(k.state))
+}
+
+// TestNewestStateIsMadeAgain damages what the newest state's bundle has, one object by one and all at once, while no node runs: the next node
+// makes it again, counts it, and goes on.
+func TestNewestStateIsMadeAgain(t *testing.T) {
+	t.Parallel()
+	for how, damage := range damages {
+		how, damage := how, damage
+		t.Run(how, func(t *testing.T) {
+			t.Parallel()
+			p, ctx, got := newPlace(t), limited(t), &answers{}
+			s := started(t, p.config(t), hooks{})
+			must(t, got.submitAll(ctx, s, 0, 250, 250))
+			at := 250
+			for part := 0; part < 6; part++ {
+				must(t, got.submitAll(ctx, s, at, at+10, 10))
+				at += 10
+				must(t, s.End(ctx))
+				names := newestBundle(t, p)
+				if part > 0 {
+					names = names[(part-1)%len(names) : (part-1)%len(names)+1]
+				}
+				for _, name := range names {
+					must(t, damage(filepath.Join(p.objects(), name)))
+				}
+				s = started(t, p.config(t), hooks{})
+				if err := got.submitAll(ctx, s, at, at+1, 1); err != nil {
+					t.Fatalf("%v: %v", names, err)
+				}
+				at++
+				if f := s.Figures(); f.Mended == 0 || f.LastMended == "" || f.Fault != "" {
+					t.Errorf("%v: %d were made again, the last %q; fault %q", names, f.Mended, f.LastMended, f.Fault)
+				}
+			}
+			p.right(t, got)
+		})
+	}
+}
+
+// TestNewestHeadIsMadeAgain damages the newest head's file below a node that runs, and starts one over it: it is made again without a
+// submission.
+func TestNewestHeadIsMadeAgain(t *testing.T) {
+	t.Parallel()
+	p, ctx, got := newPlace(t), limited(t), &answers{}
+	s := started(t, p.config(t), hooks{})
+	must(t, got.submitAll(ctx, s, 0, 5, 5))
+	must(t, got.submitAll(ctx, s, 5, 9, 4))
+	newest, err := s.Checkpoint(ctx)
+	must(t, err)
+	must(t, s.End(ctx))
+	for how, damage := range damages {
+		must(t, damage(filepath.Join(p.objects(), nameOf(&newest))))
+		s = started(t, p.config(t), hooks{})
+		eventually(t, how+": the newest head is given", func() bool {
+			head, err := readingNode(s).Checkpoint(ctx)
+			return err == nil && head.TreeSize == newest.TreeSize && head.Timestamp == newest.Timestamp
+		})
+		must(t, s.End(ctx))
+	}
+	p.right(t, got)
+}
+
+// TestIssuersAreMadeAgain damages an issuer while no node runs: the next submission with it is taken, and puts it right.
+func TestIssuersAreMadeAgain(t *testing.T) {
+	t.Parallel()
+	p, ctx, got := newPlace(t), limited(t), &answers{}
+	s := started(t, p.config(t), hooks{})
+	must(t, got.submitAll(ctx, s, 0, 300, 300))
+	must(t, s.End(ctx))
+	number := 1000
+	for how, damage := range damages {
+		issuer := entryOf(number).Issuers[0]
+		name := issuerName(sha256.Sum256(issuer))
+		must(t, damage(filepath.Join(p.objects(), name)))
+		config := p.config(t)
+		config.TendEvery = 5 * time.Millisecond
+		s = started(t, config, hooks{})
+		eventually(t, how+": it is seen", func() bool {
+			f := s.Figures()
+			return f.DamagedIssuers == 1 && strings.Contains(f.Damage, name)
+		})
+		must(t, got.submitAll(ctx, s, number, number+1, 1))
+		if content, err := s.Object(ctx, name); err != nil || !bytes.Equal(content, issuer) {
+			t.Errorf("%s: %v", how, err)
+		}
+		if f := s.Figures(); f.DamagedIssuers != 0 || f.Mended != 1 || f.LastMended != name {
+			t.Errorf("%s: %+v", how, f)
+		}
+		must(t, s.End(ctx))
+		number += 5
+	}
+	p.right(t, got)
+}
+
+// TestIssuerIsPutAgain damages an issuer below the node that put it: it is put again without a submission.
+func TestIssuerIsPutAgain(t *testing.T) {
+	t.Parallel()
+	p, ctx, got := newPlace(t), limited(t), &answers{}
+	config := p.config(t)
+	config.TendEvery = 5 * time.Millisecond
+	s := started(t, config, hooks{})
+	must(t, got.submitAll(ctx, s, 0, 5, 5))
+	issuer := entryOf(1).Issuers[0]
+	path := filepath.Join(p.objects(), issuerName(sha256.Sum256(issuer)))
+	for how, damage := range damages {
+		must(t, damage(path))
+		eventually(t, how+": it is right again", func() bool {
+			content, err := os.ReadFile(path)
+			return err == nil && bytes.Equal(content, issuer)
+		})
+	}
+	p.right(t, got)
+}
+
+// TestAnotherLogsSettings starts a node by another key, and by another origin: it says so, and touches nothing.
+func TestAnotherLogsSettings(t *testing.T) {
+	t.Parallel()
+	p, ctx, got := newPlace(t), limited(t), &answers{}
+	s := started(t, p.config(t), hooks{})
+	must(t, got.submitAll(ctx, s, 0, 5, 5))
+	must(t, s.End(ctx))
+	other := newPlace(t)
+	start := func(p place, origin string) error {
+		config := p.config(t)
+		config.Origin = origin
+		config.Step.Close()
+		made, err := step.NewClient([]string{"python3", stepsFile, "--origin", origin}, 20*time.Second)
+		must(t, err)
+		config.Step = made
+		_, err = New(ctx, config)
+		closeAll(Config{Step: made})
+		return err
+	}
+	err := start(p, "log.example/other")
+	wants(t, err, ErrConfig)
+	if !strings.Contains(err.Error(), `"log.example/other"`) || !strings.Contains(err.Error(), `"`+origin+`"`) {
+		t.Errorf("it doesn't name the origins: %v", err)
+	}
+	key, putBack := keeps(t, filepath.Join(string(p), "key.pem"))
+	another, err := os.ReadFile(filepath.Join(string(other), "key.pem"))
+	must(t, err)
+	must(t, os.WriteFile(filepath.Join(string(p), "key.pem"), another, 0o600))
+	err = start(p, origin)
+	wants(t, err, ErrConfig)
+	if !strings.Contains(err.Error(), "another key") || bytes.Equal(key, another) {
+		t.Errorf("it doesn't name the key: %v", err)
+	}
+	putBack()
+	must(t, start(p, origin))
+	p.right(t, got)
+}
+
+func inHex(hash [32]byte) string { return hex.EncodeToString(hash[:]) }
+
+// TestBentRegister changes the root in the register's text: it is said of the text, and not of tiles.
+func TestBentRegister(t *testing.T) {
+	t.Parallel()
+	p, ctx, got := newPlace(t), limited(t), &answers{}
+	s := started(t, p.config(t), hooks{})
+	must(t, got.submitAll(ctx, s, 0, 5, 5))
+	must(t, s.End(ctx))
+	k := s.newest
+	other := strings.Replace(k.text, inHex(k.state.Root), inHex(sha256.Sum256(nil)), 1)
+	if other == k.text {
+		t.Fatalf("the text has no root: %s", k.text)
+	}
+	path := filepath.Join(string(p), "register", "text")
+	must(t, os.Remove(path))
+	must(t, os.WriteFile(path, []byte(other), 0o644))
+	config := p.config(t)
+	s, err := New(ctx, config)
+	if err == nil {
+		t.Cleanup(func() { ended(t, s) })
+		_, err = s.Submit(context.Background(), entryOf(9))
+	}
+	if !errors.Is(err, ErrDamaged) && !errors.Is(err, ErrSetBack) || !strings.Contains(err.Error(), "register's text") {
+		t.Errorf("%v", err)
+	}
+}
