@@ -1,7 +1,7 @@
 #!/usr/bin/env python3
 """Tries the scripts of examples/ and of this folder: bad_lines.py, pem_lines.py, expected.py, check.py, guard/model.py and those of tiles/ on
-stored input, tiles/step.py on random histories, those of checks/ on a made-up repository, README.md's commands, release.py on made-up builds, and
-monitor/watch.sh on logs of its own.
+stored input, tiles/step.py and node/explore.py on random histories, those of checks/ on a made-up repository, README.md's commands, release.py on
+made-up builds, and monitor/watch.sh on logs of its own.
 
 It prints one line where all is as expected; else it says what isn't, and ends with status 1.
 """
@@ -322,6 +322,15 @@ def try_quotations():
     return count
 
 
+def try_nodes():
+    """node/explore.py: each history of the right machine is sound, and each wrong machine is found out by its clause."""
+    ran = run("node/explore.py")
+    if ran.returncode:
+        fail(f"node/explore.py: {ran.stderr.decode()}")
+    if "the right machine: sound in 60 of 60" not in ran.stdout.decode():
+        fail(f"node/explore.py doesn't say that the right machine is sound: {ran.stdout.decode()}")
+
+
 def main():
     try_reasons()
     try_agreement()
@@ -338,6 +347,7 @@ def main():
     try_first_session()
     try_models()
     try_tiles()
+    try_nodes()
     for name, words in INPUTS.items():
         ran = run("expected.py", *words.split(), given=(EXAMPLES / f"{name}.jsonl").read_bytes())
         if ran.stdout != (EXAMPLES / f"{name}.expected.jsonl").read_bytes():

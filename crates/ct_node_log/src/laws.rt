@@ -1,0 +1,25 @@
+//! What follows of the definitions, each a clause of a function that does nothing but call on other laws.
+
+ghost use Rattle.ct_node_log.specs.Logs.{NodesWriteOneLog};
+ghost use Rattle.ct_node_log.specs.Names.{StepsHaveOneContent};
+
+/// Whatever becomes of the commands of any number of nodes, where their steps are `take_step`'s and what they put of a state is `resume`'s of
+/// its line, and of any bytes: there is one list of entries. The line of each state that the register took is that of a beginning of it. Each
+/// state whose waiting were answered has a published head, and is of a step whose receipts, bundle and entries are that list's. Of each public
+/// name of a tile one content was ever put. Or two different strings with one digest are given.
+pub fn nodes()
+    ensures one_log { NodesWriteOneLog }
+{
+    ct_step::laws::sequencers_over_lines();
+    ct_node::laws::worlds();
+    names();
+    ct_bundles::laws::bundles();
+}
+
+/// Two objects of steps of one log that have one name have one content, whoever made them.
+pub fn names()
+    ensures one_content { StepsHaveOneContent }
+{
+    ct_tiles::laws::tiles();
+    ct_tile_names::laws::names();
+}

@@ -1,0 +1,284 @@
+#!/usr/bin/env python3
+"""Random histories of nodes that carry on one log: what crates/ct_node proves, written down once more as docs/NODE.md says it, and judged by running.
+
+    explore.py [--histories 60] [--seed 1]
+
+A history is a world in which commands come late, twice or never, nodes are killed, told twice, or go on from what they were before, and readings are
+old. Of the right machine each history has to stay sound, and at its end a node that starts has to publish the newest state; each wrong machine has to be
+found out by the clause that it breaks. It prints a line for each machine, and ends with status 1 where one isn't as it should be.
+"""
+import argparse
+import random
+import sys
+import typing
+from collections import Counter
+
+
+class State(typing.NamedTuple):
+    """What the register holds: its moment, that of the state that it was made from, and what tells it from others of that moment."""
+
+    moment: int
+    before: int
+    salt: int
+
+
+# A node, an outcome and what came are tuples: their name, and then what it is about.
+READING = ("Reading",)
+FIRST = State(1, 0, 0)
+STEPS = 150
+
+
+def count(state):
+    """How many objects a state's bundle has."""
+    return 0 if state == FIRST else (state.moment + state.salt) % 3
+
+
+class Machine:
+    """The right machine: what a node does next."""
+
+    def follows(self, seen, new):
+        return new.before == seen.moment and seen.moment < new.moment
+
+    def is_past(self, seen, staged):
+        return staged.before < seen.moment and (staged.moment, staged.salt) != (seen.moment, seen.salt)
+
+    def putting(self, state, index, objects):
+        return ("Putting", state, index, objects) if index < objects else ("Placing", state)
+
+    def looking(self, seen, objects):
+        return self.putting(seen, 0, objects)
+
+    def stepping(self, seen, new, objects):
+        return ("Staging", seen, new, objects)
+
+    def staged(self, seen, new, objects):
+        return ("Swapping", seen, new, objects)
+
+    def swapped(self, new, objects):
+        return self.putting(new, 0, objects)
+
+    def headed(self, state):
+        return ("Answering", state)
+
+    def lost(self, node):
+        return ("Stepping", node[1]) if node[0] == "Deleting" else READING
+
+    def after(self, node, outcome):
+        """The command behind what came of one."""
+        verb, told = node[0], outcome[0]
+        if told == "Lost" and verb != "Reading":
+            return self.lost(node)
+        if (verb, told) == ("Reading", "Read"):
+            return ("Looking", outcome[1])
+        if (verb, told) == ("Looking", "Published"):
+            return ("Stepping", node[1])
+        if (verb, told) == ("Looking", "Bundle"):
+            return self.looking(node[1], outcome[1])
+        if (verb, told) == ("Stepping", "Stepped") and self.follows(node[1], outcome[1]):
+            return self.stepping(node[1], *outcome[1:])
+        if (verb, told) == ("Stepping", "Listed") and self.is_past(node[1], outcome[1]):
+            return ("Deleting", node[1], outcome[1])
+        if (verb, told) == ("Swapping", "Promise"):
+            return ("Promising", *node[2:])
+        return self.behind_done(node) if told == "Done" else node
+
+    def behind_done(self, node):
+        verb = node[0]
+        if verb == "Staging":
+            return self.staged(*node[1:])
+        if verb == "Swapping":
+            return self.swapped(*node[2:])
+        if verb == "Promising":
+            return self.putting(node[1], 0, node[2])
+        if verb == "Deleting":
+            return ("Stepping", node[1])
+        if verb == "Putting":
+            return self.putting(node[1], node[2] + 1, node[3])
+        if verb == "Placing":
+            return ("Heading", node[1])
+        if verb == "Heading":
+            return self.headed(node[1])
+        return READING if verb == "Answering" else node
+
+
+def wrong(**methods):
+    """A machine with other methods."""
+    return type("Wrong", (Machine,), methods)()
+
+
+def without_places(self, state, index, objects):
+    node = Machine.putting(self, state, index, objects)
+    return ("Heading", state) if node[0] == "Placing" else node
+
+
+# Each wrong machine with the clause that has to find it out.
+WRONG = {
+    "swap before the bundle": ("bundle", wrong(stepping=lambda self, *it: ("Swapping", *it))),
+    "head before the places": ("placed", wrong(putting=without_places)),
+    "head before the tiles": ("tiles", wrong(swapped=lambda self, new, objects: ("Placing", new))),
+    "steps before the roll-out": ("rolled", wrong(looking=lambda self, seen, objects: ("Stepping", seen))),
+    "any bundle is deleted": ("bundle", wrong(is_past=lambda self, seen, staged: True)),
+    "its own bundle is deleted": ("bundle", wrong(is_past=lambda self, seen, staged: staged.before < seen.moment)),
+    "answer before the head": ("answered", wrong(swapped=lambda self, new, objects: ("Answering", new))),
+    "moment not later": ("later", wrong(follows=lambda self, seen, new: new.before == seen.moment)),
+    "step from another moment": ("order", wrong(follows=lambda self, seen, new: seen.moment < new.moment)),
+    "promise before the swap": ("promised", wrong(staged=lambda self, seen, new, objects: ("Promising", new, objects))),
+    "lost taken for done": ("objects", wrong(lost=lambda self, node: self.behind_done(node))),
+    "nothing is put": ("publishes", wrong(looking=lambda self, seen, objects: READING)),
+}
+
+
+class World:
+    """What stands, and which commands were given and came."""
+
+    def __init__(self):
+        self.held, self.past = FIRST, [FIRST]
+        self.bundles, self.heads, self.places = {FIRST}, {FIRST}, {FIRST}
+        self.answered, self.promised, self.objects = set(), set(), set()
+        self.made, self.sent, self.came = set(), [READING], set()
+
+    def comes(self, node):
+        """A command that was given takes effect; the register takes a state only in place of the one that it holds."""
+        verb = node[0]
+        if verb in ("Reading", "Looking", "Stepping") or verb == "Swapping" and self.held != node[1]:
+            return
+        self.came.add(node)
+        if verb == "Swapping":
+            self.held = node[2]
+            self.past.append(node[2])
+        elif verb == "Staging":
+            self.bundles.add(node[2])
+        elif verb == "Deleting":
+            self.bundles.discard(node[2])
+        elif verb == "Putting":
+            self.objects.add(node[1:3])
+        else:
+            {"Placing": self.places, "Heading": self.heads, "Promising": self.promised, "Answering": self.answered}[verb].add(node[1])
+
+    def steps(self, chance, seen):
+        """A step that is made of a state, with any moments."""
+        new = State(seen.moment + chance.choice((0, 1, 2)), seen.moment - (chance.random() < 0.2), chance.choice((0, 1)))
+        self.made.add((seen, new))
+        return ("Stepped", new, count(new))
+
+    def outcomes(self, chance, node):
+        """What may be told of a command."""
+        verb, told = node[0], [("Lost",)] if chance.random() < 0.1 else []
+        if node in self.came:
+            told.append(("Promise",) if verb == "Swapping" and chance.random() < 0.3 else ("Done",))
+        if verb == "Reading":
+            told.append(("Read", chance.choice(self.past)))
+        elif verb == "Looking" and node[1] in self.heads:
+            told.append(("Published",))
+        elif verb == "Looking" and node[1] in self.bundles:
+            told.append(("Bundle", count(node[1])))
+        elif verb == "Stepping":
+            told.append(self.steps(chance, node[1]))
+            if chance.random() < 0.4:
+                told.append(("Listed", chance.choice([*sorted(self.bundles), self.held])))
+        return told
+
+    def tells(self, machine, node, outcome):
+        """Who gave a command is told of it, and goes on."""
+        behind = machine.after(node, outcome)
+        if behind == READING or behind not in self.sent:
+            self.sent.append(behind)
+        return behind
+
+    def fault(self):
+        """The clause by which what stands isn't sound, or none."""
+        held, past = self.held, self.past
+        for state in past:
+            if state != held and state not in self.heads:
+                return "rolled"
+            if state != held and state.moment > held.before:
+                return "order"
+        if held.before >= held.moment:
+            return "later"
+        for state in self.heads:
+            if state not in past:
+                return "heads"
+            if any((state, index) not in self.objects for index in range(count(state))):
+                return "tiles"
+            if state not in self.places:
+                return "placed"
+        if any(state not in past for state, _ in self.objects):
+            return "objects"
+        if not self.answered <= self.heads:
+            return "answered"
+        if not self.promised <= set(past):
+            return "promised"
+        return None if held in self.bundles else "bundle"
+
+    def fault_of_all(self):
+        """The clause of the law over what is sound that doesn't hold, or none."""
+        objects = {state: all((state, index) in self.objects for index in range(count(state))) for state in self.past}
+        newest = max(state.moment for state in self.heads)
+        if not all(objects[state] for state in self.past if state.moment <= newest):
+            return "whole"
+        if any(pair not in self.made for pair in zip(self.past, self.past[1:])):
+            return "chain"
+        for node in self.sent:
+            if node[0] == "Stepping" and any(not objects[it] or it not in self.places for it in self.past if it.moment <= node[1].moment):
+                return "finds"
+        return None
+
+    def is_published_by(self, machine):
+        """Whether a node that starts publishes the newest state, where each command comes and nobody else is at work."""
+        node, held = READING, self.held
+        for _ in range(20):
+            if held in self.heads:
+                return self.held == held
+            self.comes(node)
+            known = {"Reading": ("Read", held), "Looking": ("Bundle", count(held))}
+            node = self.tells(machine, node, known.get(node[0], ("Done",)))
+        return False
+
+
+def history(chance, machine):
+    """A history: the clause that doesn't hold behind it, or none, and the world."""
+    world = World()
+    for _ in range(STEPS):
+        # (what was given last is likelier than what was given long ago)
+        node = chance.choice(world.sent[-4:] if chance.random() < 0.8 else world.sent)
+        if chance.random() < 0.45:
+            world.comes(node)
+        elif told := world.outcomes(chance, node):
+            world.tells(machine, node, chance.choice(told))
+        if fault := world.fault():
+            return fault, world
+    fault = world.fault_of_all() or (None if world.is_published_by(machine) else "publishes")
+    return fault, world
+
+
+def histories(machine, seed, number):
+    """How often each clause didn't hold, and how many histories answered somebody."""
+    found, answered = Counter(), 0
+    for at in range(number):
+        fault, world = history(random.Random(f"{seed} {at}"), machine)
+        found[fault] += 1
+        answered += bool(world.answered or world.promised)
+    return found, answered
+
+
+def main():
+    parser = argparse.ArgumentParser()
+    parser.add_argument("--histories", type=int, default=60)
+    parser.add_argument("--seed", default="1")
+    words = parser.parse_args()
+    found, answered = histories(Machine(), words.seed, words.histories)
+    print(f"the right machine: sound in {found.pop(None, 0)} of {words.histories} histories, of which {answered} answered somebody")
+    missed = [f"the right machine breaks {clause}" for clause in found] + ["no history of the right machine answered anybody"] * (not answered)
+    for name, (clause, machine) in WRONG.items():
+        found, _ = histories(machine, words.seed, words.histories)
+        sound = found.pop(None, 0)
+        print(f"{name}: {', '.join(f'{which} in {times}' for which, times in found.most_common())}, sound in {sound}")
+        if not found[clause]:
+            missed.append(f"the machine '{name}' isn't found out by the clause {clause}")
+    for fault in missed:
+        print(f"explore.py: {fault}", file=sys.stderr)
+    sys.exit(1 if missed else 0)
+
+
+if __name__ == "__main__":
+    main()

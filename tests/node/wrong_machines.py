@@ -1,0 +1,112 @@
+#!/usr/bin/env python3
+"""Wrong machines in code and definition alike, over a copy of crates/ct_node: the code keeps its contract, and the law isn't proved.
+
+    wrong_machines.py
+
+The edits of crates/ct_node/wrong-bodies change the code alone, so each is refused where the code isn't what the definition says. Here both are changed, and
+rt has to prove the four functions of src/node.rt, and to refuse the lemma of proofs/Sound.antt that is about that very transition. Each takes 20 seconds of
+a processor. It prints a line for each, and ends with status 1 where one isn't as it should be.
+"""
+import pathlib
+import re
+import shutil
+import subprocess
+import sys
+import tempfile
+
+ROOT = pathlib.Path(__file__).resolve().parent.parent.parent
+DEFINED, WRITTEN = "specs/Nodes.antt", "src/node.rt"
+FUNCTIONS = {"is_past", "may_follow", "putting", "Node::next"}
+
+# Of each machine the lemma that has to be refused, and what stands where, and what is put there: in the definition, and in the code.
+MACHINES = {
+    "swap before the bundle": (
+        "tell_stepping",
+        ("then Staging k l n else", "then Swapping k l n else"),
+        ("                    Node::Staging(seen, new, count)", "                    Node::Swapping(seen, new, count)"),
+    ),
+    "head before the places": (
+        "putting_knows",
+        ("if nat_lt i n then Putting l i n else Placing l", "if nat_lt i n then Putting l i n else Heading l"),
+        ("        Node::Placing(state)", "        Node::Heading(state)"),
+    ),
+    "head before the tiles": (
+        "tell_swapping",
+        ("on_swapping k l n Done = putting_of l 0 n", "on_swapping k l n Done = Placing l"),
+        ("(Node::Swapping(_, new, count), Outcome::Done) => putting(new, 0, count)", "(Node::Swapping(_, new, _), Outcome::Done) => Node::Placing(new)"),
+    ),
+    "steps before the roll-out": (
+        "tell_looking",
+        ("on_looking k (Bundle n) = putting_of k 0 n", "on_looking k (Bundle n) = Stepping k"),
+        ("(Node::Looking(seen), Outcome::Bundle(count)) => putting(seen, 0, count)", "(Node::Looking(seen), Outcome::Bundle(_)) => Node::Stepping(seen)"),
+    ),
+    "its own bundle is deleted": (
+        "behind_dead",
+        ("nat_lt l.before k.moment && not (l.moment == k.moment && l.salt == k.salt)", "nat_lt l.before k.moment"),
+        ("staged.before < seen.moment && !(staged.moment == seen.moment && staged.salt == seen.salt)", "staged.before < seen.moment"),
+    ),
+    "answer before the head": (
+        "tell_swapping",
+        ("on_swapping k l n Done = putting_of l 0 n", "on_swapping k l n Done = Answering l"),
+        ("(Node::Swapping(_, new, count), Outcome::Done) => putting(new, 0, count)", "(Node::Swapping(_, new, _), Outcome::Done) => Node::Answering(new)"),
+    ),
+    "moment not later": (
+        "follows_may",
+        ("l.before == k.moment && nat_lt k.moment l.moment", "l.before == k.moment"),
+        ("new.before == seen.moment && seen.moment < new.moment", "new.before == seen.moment"),
+    ),
+    "promise before the swap": (
+        "tell_staging",
+        ("on_staging k l n Done = Swapping k l n", "on_staging k l n Done = Promising l n"),
+        ("(Node::Staging(seen, new, count), Outcome::Done) => Node::Swapping(seen, new, count)", "(Node::Staging(_, new, count), Outcome::Done) => Node::Promising(new, count)"),
+    ),
+    "lost swap taken as won": (
+        "tell_swapping",
+        ("on_swapping k l n Lost = Reading", "on_swapping k l n Lost = putting_of l 0 n"),
+        ("(Node::Swapping(_, _, _), Outcome::Lost) => Node::Reading", "(Node::Swapping(_, new, count), Outcome::Lost) => putting(new, 0, count)"),
+    ),
+}
+
+
+def changed(path, old, new):
+    text = path.read_text()
+    if text.count(old) != 1:
+        sys.exit(f"wrong_machines.py: {path.name} has this {text.count(old)} times, and not once: {old}")
+    path.write_text(text.replace(old, new))
+
+
+def checked(crate):
+    """What rt says of a crate: whether it is proved, which of the machine's functions are, and the lemmas of proofs/Sound.antt that aren't."""
+    ran = subprocess.run(["rt", "check"], cwd=crate, stdout=subprocess.PIPE, stderr=subprocess.STDOUT, text=True)
+    proved = set(re.findall(r"^fn ct_node::node::(is_past|may_follow|putting|Node::next): proved$", ran.stdout, re.M))
+    refused = re.findall(r"Sound\.antt:\d+:\d+: error: `(\w+)`", ran.stdout)
+    return "logic=proved" in ran.stdout, proved, refused
+
+
+def main():
+    faults = []
+    with tempfile.TemporaryDirectory(prefix="wagtenib-") as room:
+        crate = pathlib.Path(room, "crates", "ct_node")
+        shutil.copytree(ROOT / "crates" / "ct_node", crate, ignore=lambda folder, names: [name for name in names if name.endswith(("-bodies", "-turns", "-fail"))])
+        pathlib.Path(room, "crates.txt").write_text("ct_node:\n")
+        shutil.copy(ROOT / "HANDLES", room)
+        pathlib.Path(room, ".git").mkdir()
+        right = {file: (crate / file).read_text() for file in (DEFINED, WRITTEN)}
+        if not checked(crate)[0]:
+            sys.exit("wrong_machines.py: the right machine isn't proved")
+        for name, (lemma, definition, code) in MACHINES.items():
+            changed(crate / DEFINED, *definition)
+            changed(crate / WRITTEN, *code)
+            whole, proved, refused = checked(crate)
+            for file, text in right.items():
+                (crate / file).write_text(text)
+            print(f"{name}: {len(proved)} of {len(FUNCTIONS)} functions proved, refused at {', '.join(dict.fromkeys(refused)) or 'no lemma'}", flush=True)
+            if whole or proved != FUNCTIONS or lemma not in refused:
+                faults.append(f"'{name}' should be refused at {lemma} alone, and its functions proved")
+    for fault in faults:
+        print(f"wrong_machines.py: {fault}", file=sys.stderr)
+    sys.exit(1 if faults else 0)
+
+
+if __name__ == "__main__":
+    main()
