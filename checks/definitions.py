@@ -1,5 +1,5 @@
 #!/usr/bin/env python3
-"""docs/DEFINITIONS.md is made from the comments of specs/, but for its legend, and no word is defined in two crates.
+"""docs/DEFINITIONS.md is made from the comments of specs/, but for its head, docs/CHECKING.md as checking.py has it, and no word is defined in two crates.
 
     definitions.py [--write]
 
@@ -9,6 +9,7 @@ word that two crates define, and where the page is another than it makes; it end
 """
 import sys
 
+import checking
 from source import ROOT, crates, is_for_tests
 from specs import specs
 
@@ -79,7 +80,7 @@ def main():
     if sys.argv[1:] == ["--write"]:
         PAGE.write_text(wanted)
         page = wanted
-    found = [*wordless(files), *defined_twice(files), *differences(page, wanted)]
+    found = [*wordless(files), *defined_twice(files), *differences(page, wanted), *checking.check(sys.argv[1:] == ["--write"])]
     for fault in found:
         print(fault)
     sys.exit(1 if found else 0)

@@ -6,7 +6,7 @@
 PROGRAM is ctlogd, or stand_in.py: it is started with `--fronts` and `--ring`, and answers each line as its reply is known.
 Submissions go to its fronts by turns. On a timer the operator takes what was accepted, the journal has it on disk, and a
 head is published; an add-chain is answered once a head covers it. Nothing that isn't in the journal is ever shown. signer.py,
-a process of its own, has the key, and signs what ctguard lets through. See docs/SERVICE.md, also for what a service owes that
+a process of its own, has the key, and signs what ctguard lets through. See README.md here, also for what a service owes that
 is left out here.
 
 SIGTERM and Ctrl-C publish what was accepted, and end. SIGUSR1 ends the taking of submissions for good, and goes on
