@@ -9,6 +9,10 @@ if ! missing=$(../checks/needs.sh service-test 2>&1); then
 fi
 began=$SECONDS
 ./build.sh vet
+if command -v promtool >/dev/null; then
+  promtool check rules ctserve.rules.yml >/dev/null
+  promtool test rules ctserve.rules.test.yml >/dev/null
+fi
 if [ "${1:-}" = engines ]; then
   ./engines.sh run ./build.sh test
   echo "service: the Go part is as expected, in $((SECONDS - began)) s."
