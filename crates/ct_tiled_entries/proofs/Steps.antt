@@ -1,6 +1,6 @@
 -- The leaves of a tile, one after the other.
 use Rattle.std.proofs.Common.{◌≡◌, ◌∙◌, ◌+◌, ◌-◌, ◌*◌, ◌<◌, ◌≤◌, ◌^◌, ℕ, List, [], ◌∷◌, length, take, drop, All, Option, Some, None, Result, Ok, Err, sym, ap, subst, arith}
-use Rattle.std.specs.Prelude.{IfOk, MatchOption}
+use Rattle.std.specs.Prelude.{IfOk, MatchOption, MatchResult}
 use Rattle.std.proofs.lemmas.Option.{none-some}
 use Rattle.std.specs.List.{AllByRecursion}
 use Rattle.std.proofs.lemmas.List.{drop-map, length-drop, take_all}
@@ -14,7 +14,7 @@ use Rattle.ct_tile_leaves.specs.declared.fault.DataTileFault.{DataTileFault}
 use Rattle.ct_tile_leaves.specs.declared.fault.DataTileFault.TheVariants.{AtLeaf, Memory}
 use Rattle.ct_tile_names.specs.Answers.{NotRead}
 use Rattle.ct_tile_names.specs.declared.tile.NameFault.{NameFault}
-use Rattle.ct_tile_names.specs.declared.tile.NameFault.TheVariants.{NoSuchTile}
+use Rattle.ct_tile_names.specs.declared.tile.NameFault.TheVariants.{NoSuchTile, Memory as NameMemory}
 use Rattle.ct_tile_names.specs.declared.tile.Tile.{Tile}
 use Rattle.ct_tiled_entries.specs.declared.answer.Damage.{Damage}
 use Rattle.ct_tiled_entries.specs.TileAnswers.{IsDamageOf, IsDamaged}
@@ -65,8 +65,8 @@ damaged_by next name b tile (AtLeaf place f) damage is faulty named has = subst 
 damaged_by next name b tile Memory damage is faulty named has = absurd is
 
 -- what a name stands for that isn't read
-pub unnamed : {F : Type 0} (r : Result (Option Tile) F) (fault : NameFault) (name : List ℕ) → IfOk r (λ o. (o ≡ None) × (fault ≡ NoSuchTile))
-    → NotRead name fault
+pub unnamed : {F : Type 0} (r : Result (Option Tile) F) (fault : NameFault) (name : List ℕ)
+    → MatchResult r (λ o. (o ≡ None) × (fault ≡ NoSuchTile)) (λ _. fault ≡ NameMemory) → NotRead name fault
     → IfOk r (λ o. MatchOption o ((tile : Tile) → IsDataTileName name tile → ⊥) (λ tile. IsDataTileName name tile))
 unnamed (Ok None) fault name from none = λ tile named. subst (NotRead name) from.1 none tile named.named named.text
 unnamed (Ok (Some tile)) fault name from none = absurd (none-some tile (sym from.0))

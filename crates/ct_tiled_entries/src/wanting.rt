@@ -1,8 +1,9 @@
 //! What an error of a crate below says: what it stands for here, unless a growth was refused.
 
-ghost use Rattle.std.specs.Prelude.{◌≡◌, ◌≢◌, None, IfOk};
+ghost use Rattle.std.specs.Prelude.{◌≡◌, ◌≢◌, None, MatchResult};
 ghost use Rattle.ct_codec.specs.declared.refusal.Refusal.TheVariants.{Memory};
-ghost use Rattle.ct_tile_names.specs.declared.tile.NameFault.TheVariants.{NoSuchTile};
+ghost use Rattle.ct_tile_leaves.specs.declared.fault.DataTileFault.TheVariants.{Memory as TileMemory};
+ghost use Rattle.ct_tile_names.specs.declared.tile.NameFault.TheVariants.{NoSuchTile, Memory as NameMemory};
 ghost use Rattle.ct_tiled_entries.specs.TileAnswers.{IsDamageOf};
 
 use crate::answer::Damage;
@@ -18,7 +19,7 @@ pub(crate) struct Unnamed {
 }
 
 impl From<NameFault> for Unnamed {
-    ghost from_gives = { λ fault unnamed. IfOk unnamed.tile (λ o. (o ≡ None) × (fault ≡ NoSuchTile)) };
+    ghost from_gives = { λ fault unnamed. MatchResult unnamed.tile (λ o. (o ≡ None) × (fault ≡ NoSuchTile)) (λ _. fault ≡ NameMemory) };
 
     fn from(fault: NameFault) -> Unnamed {
         let tile = match fault {
@@ -36,7 +37,7 @@ pub(crate) struct Unread {
 }
 
 impl From<DataTileFault> for Unread {
-    ghost from_gives = { λ fault unread. IfOk unread.damage (λ d. IsDamageOf fault d) };
+    ghost from_gives = { λ fault unread. MatchResult unread.damage (λ d. IsDamageOf fault d) (λ _. fault ≡ TileMemory) };
 
     fn from(fault: DataTileFault) -> Unread {
         let damage = match fault {
@@ -54,7 +55,7 @@ pub(crate) struct Unwritten {
 }
 
 impl From<Refusal> for Unwritten {
-    ghost from_gives = { λ refusal unwritten. IfOk unwritten.refusal (λ _. refusal ≢ Memory) };
+    ghost from_gives = { λ refusal unwritten. MatchResult unwritten.refusal (λ _. refusal ≢ Memory) (λ _. refusal ≡ Memory) };
 
     fn from(refusal: Refusal) -> Unwritten {
         let refusal = match refusal {
