@@ -1,11 +1,12 @@
 -- The lines of a text, and the parts that a checkpoint's text has.
-use Rattle.std.proofs.Common.{◌≡◌, ◌≢◌, ◌<◌, ◌+◌, ◌^◌, ◌∙◌, ◌==◌, ℕ, Bool, true, false, List, [], ◌∷◌, ◌++◌, length, get_or, take, Option, Some, None, All, decimal, Result, Ok, Err, sym, refl, ap, subst, arith, length-append, suc}
-use Rattle.std.specs.Prelude.{MatchOption}
+use Rattle.std.proofs.Common.{◌≡◌, ◌≢◌, ◌⊎◌, inl, inr, ◌<◌, ◌+◌, ◌^◌, ◌∙◌, ◌==◌, ℕ, Bool, true, false, List, [], ◌∷◌, ◌++◌, length, get_or, take, Option, Some, None, All, decimal, Result, Ok, Err, sym, refl, ap, subst, arith, length-append, suc}
+use Rattle.std.specs.Prelude.{MatchOption, IfNone}
 use Rattle.std.specs.Borrow.{Bor}
 use Rattle.std.specs.List.{position_or_len, before_first, after_first}
 use Rattle.std.proofs.lemmas.Bool.{eqb-true, eq-eqb}
 use Rattle.std.proofs.lemmas.List.{get_or-take, length-take}
-use Rattle.std.proofs.lemmas.List.Elements.{All-from_get_or, All-cons, All-head, All-tail}
+use Rattle.std.proofs.lemmas.Option.{none-some}
+use Rattle.std.proofs.lemmas.List.Elements.{All-from_get_or, All-nil, All-cons, All-head, All-tail}
 use Rattle.std.proofs.lemmas.List.Sums.{fails_before_first, passes_at_first, split_at_first}
 use Rattle.std.proofs.Math.Seq.{get_or-append_seam}
 use Rattle.std.specs.Str.Parse.{AllDigits, ParsesUnsigned}
@@ -17,7 +18,9 @@ use Rattle.std.specs.Bool.{MatchBool}
 use Rattle.base64.specs.GeneralPurpose.{decode_of, encode_of, IsDecodeFailure}
 use Rattle.base64.specs.declared.decode.DecodeAllocError.{DecodeAllocError}
 use Rattle.base64.specs.declared.decode.DecodeAllocError.TheVariants.{DecodeError as Failed, OutOfMemory}
-use Rattle.ct_checkpoint.specs.Checkpoint.{checkpoint_text, IsCheckpoint, IsNoBase64, IsWithinLine}
+use Rattle.ct_checkpoint.specs.Checkpoint.{checkpoint_text, of_decoding, IsCheckpoint, IsCheckpointFault, IsNumber, IsOriginOf, IsRootOfTree, HasSize, IsWithinLine}
+use Rattle.ct_checkpoint.specs.declared.fault.CheckpointFault.{CheckpointFault}
+use Rattle.ct_checkpoint.specs.declared.fault.CheckpointFault.TheVariants.{BadRoot, Memory}
 
 -- a byte is a line end
 abbrev is_end : ℕ → Bool
@@ -62,6 +65,22 @@ pub line_cut : (text : List ℕ) (r : Option (Bor (List ℕ) × Bor (List ℕ)))
 line_cut text None h = λ line rest e. no_end text line rest h e
 line_cut text (Some x) h = first_end text x.0.now x.1.now h.0 h.1 h.2
 
+-- a text with no line end is within a line
+pub uncut : (text : List ℕ) → ((line rest : List ℕ) → text ≡ line ++ 10 ∷ rest → ⊥) → IsWithinLine text
+uncut [] none = All-nil (λ b. b ≢ 10)
+uncut (b ∷ text) none =
+    All-cons (λ x. x ≢ 10) b text
+    (λ e. none [] text (ap (λ (n : ℕ). n ∷ text) e))
+    (uncut text (λ line rest e. none (b ∷ line) rest (ap (λ (xs : List ℕ). b ∷ xs) e)))
+
+-- where it isn't cut
+pub none_cut : (text : List ℕ) (r : Option (Bor (List ℕ) × Bor (List ℕ)))
+    → MatchOption r (position_or_len is_end text ≡ length text)
+    (λ x. (position_or_len is_end text < length text) × (x.0.now ≡ before_first is_end text) × (x.1.now ≡ after_first is_end text))
+    → IfNone r (IsWithinLine text)
+none_cut text None h = uncut text (λ line rest e. no_end text line rest h e)
+none_cut text (Some x) h = tt
+
 -- a text has one first line
 pub one_first : (a b r s : List ℕ) → IsWithinLine a → IsWithinLine b → a ++ 10 ∷ r ≡ b ++ 10 ∷ s → (a ≡ b) × (r ≡ s)
 one_first [] [] r s p q e = (refl, cc)
@@ -89,6 +108,14 @@ pub number_read : {E : Type 0} (text : List ℕ) (r : Result ℕ E) (o : Option 
     → MatchOption o ((n : ℕ) → n < 2 ^ 64 → text ≡ decimal n → ⊥) (λ k. (n : ℕ) → n < 2 ^ 64 → text ≡ decimal n → n ≡ k)
 number_read text r None p e = λ n h t. let is = parse-decimal 64 n text r h h t p in let none : None ≡ Some n = e ∙ ap result_ok is in cc
 number_read text r (Some k) p e = λ n h t. let is = parse-decimal 64 n text r h h t p in let some : Some k ≡ Some n = e ∙ ap result_ok is in cc
+
+-- what reading a number says of the text
+pub number_is : {E : Type 0} (text : List ℕ) (r : Result ℕ E) (o : Option ℕ) → ParsesUnsigned 64 10 text r → o ≡ result_ok r
+    → MatchOption o ((n : ℕ) → IsNumber n text → ⊥) (λ n. IsNumber n text)
+number_is text (Ok x) None p e = absurd (none-some x e)
+number_is text (Ok x) (Some k) p e = let some : Some k ≡ Some x = e in let same : k ≡ x = cc in (p.0.0, sym p.1 ∙ sym same, subst (λ (v : ℕ). v < 2 ^ 64) (sym p.1 ∙ sym same) p.0.1)
+number_is text (Err x) None p e = λ n h. p (h.0, subst (λ (v : ℕ). v < 2 ^ 64) (sym h.1) h.2)
+number_is text (Err x) (Some k) p e = absurd (none-some k (sym e))
 
 -- the parts of a checkpoint's text, as its lines are cut
 pub record HasParts (origin : List ℕ) (tree_size : ℕ) (tree_root first behind : List ℕ) : Type 0 where
@@ -120,10 +147,10 @@ never_both (Ok a) x y e f = cc
 never_both (Err b) x y e f = cc
 
 -- what isn't decoded is nothing's base64
-pub undecoded : (text root : List ℕ) (error : DecodeAllocError) → IsNoBase64 error → IsDecodeFailure standard text error
+pub undecoded : (text root : List ℕ) (error : DecodeAllocError) → of_decoding error ≢ Memory → IsDecodeFailure standard text error
     → decode_of standard text ≡ Ok root → ⊥
 undecoded text root (Failed why) is failed ok = never_both (decode_of standard text) root why ok failed
-undecoded text root OutOfMemory is failed ok = absurd is
+undecoded text root OutOfMemory is failed ok = absurd (is refl)
 
 -- a test that failed
 pub failed_test : (t : Bool) (A B : Type 0) → MatchBool t A B → t ≡ false → B
@@ -141,3 +168,24 @@ pub as_written : (origin : List ℕ) (tree_size : ℕ) (tree_root text first wri
 as_written origin n tree_root text first written root number c e f g w =
     w ∙ ap (λ (x : List ℕ). checkpoint_text x number root) (sym e) ∙ ap (λ (m : ℕ). checkpoint_text origin m root) (sym f)
     ∙ ap (λ (x : List ℕ). checkpoint_text origin n x) (sym g) ∙ sym c.text_is
+
+-- where no root's base64 follows, that is the fault, unless memory was refused
+pub root_fault : (fault : CheckpointFault) (text origin rest behind : List ℕ) (n : ℕ) → IsOriginOf text origin rest → HasSize rest n behind
+    → (fault ≡ BadRoot) ⊎ (fault ≡ Memory)
+    → (fault ≢ Memory → (root : List ℕ) (last : ℕ) → IsRootOfTree root → behind ≡ encode_of standard root ++ last ∷ [] → ⊥)
+    → IsCheckpointFault fault text
+root_fault fault text origin rest behind n o s (inl is) none =
+    let other : fault ≢ Memory = λ e. not_memory (sym is ∙ e) in
+    subst (λ (f : CheckpointFault). IsCheckpointFault f text) (sym is) (origin, rest, n, behind, o, s, none other)
+  where
+    not_memory : BadRoot ≡ Memory → ⊥
+    not_memory e = cc
+root_fault fault text origin rest behind n o s (inr is) none = subst (λ (f : CheckpointFault). IsCheckpointFault f text) (sym is) tt
+
+-- what isn't empty has bytes
+pub has_bytes : (line : List ℕ) (t : Bool) → t ≡ (length line == 0) → t ≡ false → 0 < length line
+has_bytes [] t e f = absurd (the_true (sym e ∙ f))
+  where
+    the_true : true ≡ false → ⊥
+    the_true e = cc
+has_bytes (x ∷ line) t e f = omega (arith)

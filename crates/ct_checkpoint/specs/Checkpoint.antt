@@ -1,9 +1,12 @@
 -- The text of a checkpoint (C2SP tlog-checkpoint, "Note text").
-use Rattle.std.specs.Prelude.{⊤, ◌≡◌, ◌≢◌, ◌<◌, ◌^◌, ◌++◌, ◌∷◌, [], ℕ, List, All, decimal, length}
+use Rattle.std.specs.Prelude.{⊤, ◌≡◌, ◌≢◌, ◌⊎◌, ◌<◌, ◌^◌, ◌++◌, ◌∷◌, [], ℕ, List, All, decimal, length}
+use Rattle.std.specs.Str.Parse.{IsNumeral, digits_value, without_leading_plus}
 use Rattle.base64.specs.Engines.{standard}
 use Rattle.base64.specs.GeneralPurpose.{IsBytes, encode_of}
 use Rattle.base64.specs.declared.decode.DecodeAllocError.{DecodeAllocError}
 use Rattle.base64.specs.declared.decode.DecodeAllocError.TheVariants.{DecodeError as Failed, OutOfMemory}
+use Rattle.ct_checkpoint.specs.declared.fault.CheckpointFault.{CheckpointFault}
+use Rattle.ct_checkpoint.specs.declared.fault.CheckpointFault.TheVariants.{BadOrigin, BadSize, BadRoot, NotAsWritten, Memory}
 
 -- the text of a checkpoint without extension lines: the origin, the tree's size in decimal without leading zeros, and its root as base64
 -- with padding (RFC 4648, section 4), each with its line end, the byte 0A
@@ -27,7 +30,39 @@ pub record IsCheckpoint (origin : List ℕ) (tree_size : ℕ) (tree_root text : 
   pub root : IsRootOfTree tree_root
   pub text_is : text ≡ checkpoint_text origin tree_size tree_root
 
--- a text isn't decoded since it is no base64, and not for want of memory
-abbrev pub IsNoBase64 : DecodeAllocError → Type 0
-IsNoBase64 (Failed why) = ⊤
-IsNoBase64 OutOfMemory = ⊥
+-- the fault that a failure to decode is: the text is no base64, or a growth was refused
+abbrev pub of_decoding : DecodeAllocError → CheckpointFault
+of_decoding (Failed why) = BadRoot
+of_decoding OutOfMemory = Memory
+
+-- the text is read as this number, below 2^64: digits, and a plus may stand before them
+abbrev pub IsNumber : ℕ → List ℕ → Type 0
+IsNumber n text = IsNumeral 10 (without_leading_plus text) × (digits_value 10 (without_leading_plus text) ≡ n) × (n < 2 ^ 64)
+
+-- the text's first line, which has bytes, and what follows its end
+abbrev pub IsOriginOf : List ℕ → List ℕ → List ℕ → Type 0
+IsOriginOf text origin rest = (0 < length origin) × IsWithinLine origin × (text ≡ origin ++ (10 ∷ rest))
+
+-- behind the origin there is no line that is a number: no line end, or a line that is none
+abbrev pub HasNoSize : List ℕ → Type 0
+HasNoSize rest =
+    IsWithinLine rest ⊎ ((line : List ℕ) × (behind : List ℕ) × IsWithinLine line × (rest ≡ line ++ (10 ∷ behind)) × ((n : ℕ) → IsNumber n line → ⊥))
+
+-- behind the origin there is a line that is this number, and this behind its end
+abbrev pub HasSize : List ℕ → ℕ → List ℕ → Type 0
+HasSize rest n behind = (line : List ℕ) × IsWithinLine line × (rest ≡ line ++ (10 ∷ behind)) × IsNumber n line
+
+-- Why a text is no checkpoint's, the first fault from the left. BadOrigin: it has no line end, or begins with one. BadSize: behind an origin
+-- there is no line that is a number. BadRoot: behind both stands no root's base64 with one byte behind it. NotAsWritten: there stands one, and the
+-- text isn't what is written for the three, so its size begins with a plus or a zero too many, or its last byte is no line end. Nothing is said
+-- of a text at which a growth was refused.
+abbrev pub IsCheckpointFault : CheckpointFault → List ℕ → Type 0
+IsCheckpointFault BadOrigin text = IsWithinLine text ⊎ ((rest : List ℕ) × (text ≡ 10 ∷ rest))
+IsCheckpointFault BadSize text = (origin : List ℕ) × (rest : List ℕ) × IsOriginOf text origin rest × HasNoSize rest
+IsCheckpointFault BadRoot text =
+    (origin : List ℕ) × (rest : List ℕ) × (n : ℕ) × (behind : List ℕ) × IsOriginOf text origin rest × HasSize rest n behind
+    × ((root : List ℕ) (last : ℕ) → IsRootOfTree root → behind ≡ encode_of standard root ++ (last ∷ []) → ⊥)
+IsCheckpointFault NotAsWritten text =
+    (origin : List ℕ) × (rest : List ℕ) × (n : ℕ) × (behind : List ℕ) × IsOriginOf text origin rest × HasSize rest n behind
+    × (root : List ℕ) × (last : ℕ) × IsRootOfTree root × (behind ≡ encode_of standard root ++ (last ∷ [])) × (text ≢ checkpoint_text origin n root)
+IsCheckpointFault Memory text = ⊤

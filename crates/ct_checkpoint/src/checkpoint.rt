@@ -1,11 +1,11 @@
 //! Checkpoints and their texts.
 
-ghost use Rattle.std.specs.Prelude.{◌≡◌, ◌≢◌, ◌<◌, ◌^◌, ◌++◌, ◌∷◌, [], ℕ, List, length, decimal, IfOk, IfErr, MatchOption, string_bytes};
+ghost use Rattle.std.specs.Prelude.{◌≡◌, ◌≢◌, ◌⊎◌, ◌<◌, ◌^◌, ◌++◌, ◌∷◌, [], ℕ, List, length, decimal, IfOk, IfErr, IfNone, MatchOption, string_bytes};
 ghost use Rattle.std.specs.Bool.{MatchBool};
 ghost use Rattle.base64.specs.Engines.{standard};
 ghost use Rattle.base64.specs.GeneralPurpose.{encode_of};
-ghost use Rattle.ct_checkpoint.specs.Checkpoint.{checkpoint_text, IsCheckpoint, IsNoBase64, IsRootOfTree, IsWithinLine};
-ghost use Rattle.ct_checkpoint.specs.declared.fault.CheckpointFault.TheVariants.{Memory};
+ghost use Rattle.ct_checkpoint.specs.Checkpoint.{checkpoint_text, of_decoding, IsCheckpoint, IsCheckpointFault, IsNumber, IsRootOfTree, IsWithinLine};
+ghost use Rattle.ct_checkpoint.specs.declared.fault.CheckpointFault.TheVariants.{BadRoot, Memory};
 
 use crate::fault::CheckpointFault;
 use base64::DecodeAllocError;
@@ -44,22 +44,24 @@ fn is_root(root: [u8; 32])
 
 // A text's first line, and what follows its end.
 fn first_line(text: &str) -> Option<(&str, &str)>
-    ensures { MatchOption result ((line rest : List ℕ) → text.now ≡ line ++ 10 ∷ rest → ⊥)
+    ensures cut { MatchOption result ((line rest : List ℕ) → text.now ≡ line ++ 10 ∷ rest → ⊥)
         (λ r. (text.now ≡ r.0.now ++ 10 ∷ r.1.now) × IsWithinLine r.0.now) }
+    ensures uncut { IfNone result (IsWithinLine text.now) }
 {
     text.split_once('\n')
 }
 
 // The number that a text is, where it is one as it is written.
 fn number_of(text: &str) -> Option<u64>
-    ensures { MatchOption result ((n : ℕ) → n < 2 ^ 64 → text.now ≡ decimal n → ⊥) (λ r. (n : ℕ) → n < 2 ^ 64 → text.now ≡ decimal n → n ≡ r) }
+    ensures written { MatchOption result ((n : ℕ) → n < 2 ^ 64 → text.now ≡ decimal n → ⊥) (λ r. (n : ℕ) → n < 2 ^ 64 → text.now ≡ decimal n → n ≡ r) }
+    ensures number { MatchOption result ((n : ℕ) → IsNumber n text.now → ⊥) (λ n. IsNumber n text.now) }
 {
     text.parse::<u64>().ok()
 }
 
 // The fault that a failure to decode is.
 fn fault_of(error: DecodeAllocError) -> CheckpointFault
-    ensures { result ≢ Memory → IsNoBase64 error }
+    ensures { result ≡ of_decoding error }
 {
     CheckpointFault::from(error)
 }
@@ -67,7 +69,9 @@ fn fault_of(error: DecodeAllocError) -> CheckpointFault
 // The 32 bytes whose base64 the bytes are.
 fn root_of(alloc: Global, text: &[u8]) -> Result<[u8; 32], CheckpointFault>
     ensures found { IfOk result (λ r. (root : List ℕ) → IsRootOfTree root → text.now ≡ encode_of standard root → root ≡ r) }
+    ensures written { IfOk result (λ r. text.now ≡ encode_of standard r) }
     ensures refused { IfErr result (λ f. f ≢ Memory → (root : List ℕ) → IsRootOfTree root → text.now ≡ encode_of standard root → ⊥) }
+    ensures fault { IfErr result (λ f. (f ≡ BadRoot) ⊎ (f ≡ Memory)) }
 {
     let bytes = match STANDARD.decode(alloc, text) {
         Ok(bytes) => bytes,
@@ -89,7 +93,9 @@ fn is_same(written: &str, text: &str) -> bool
 // The 32 bytes whose base64 the bytes are, with a line end behind it.
 fn root_of_line(alloc: Global, line: &[u8]) -> Result<[u8; 32], CheckpointFault>
     ensures found { IfOk result (λ r. (root : List ℕ) → IsRootOfTree root → line.now ≡ encode_of standard root ++ 10 ∷ [] → root ≡ r) }
-    ensures refused { IfErr result (λ f. f ≢ Memory → (root : List ℕ) → IsRootOfTree root → line.now ≡ encode_of standard root ++ 10 ∷ [] → ⊥) }
+    ensures refused { IfErr result (λ f. f ≢ Memory → (root : List ℕ) (last : ℕ) → IsRootOfTree root → line.now ≡ encode_of standard root ++ last ∷ [] → ⊥) }
+    ensures written { IfOk result (λ r. (last : ℕ) × (line.now ≡ encode_of standard r ++ last ∷ [])) }
+    ensures fault { IfErr result (λ f. (f ≡ BadRoot) ⊎ (f ≡ Memory)) }
 {
     match line.split_last() {
         Some((_, text)) => root_of(alloc, text),
@@ -97,10 +103,15 @@ fn root_of_line(alloc: Global, line: &[u8]) -> Result<[u8; 32], CheckpointFault>
     }
 }
 
-/// The checkpoint of which this is the text: the fault `Memory` alone may stand against a text that is one's.
+/// The checkpoint of which this is the text (C2SP tlog-checkpoint, "Note text").
+///
+/// # Errors
+/// The first fault from the left, as [`CheckpointFault`] has them: BadOrigin, BadSize, BadRoot, NotAsWritten. Memory, where a growth was refused,
+/// alone may stand against a text that is one's.
 pub fn read_checkpoint(alloc: Global, text: &str) -> Result<Checkpoint<'_>, CheckpointFault>
     ensures found { IfOk result (λ c. IsCheckpoint c.origin.now c.size c.root text.now) }
     ensures refused { IfErr result (λ f. f ≢ Memory → (origin : List ℕ) (size : ℕ) (root : List ℕ) → IsCheckpoint origin size root text.now → ⊥) }
+    ensures fault { IfErr result (λ f. IsCheckpointFault f text.now) }
 {
     let Some((origin, behind_origin)) = first_line(text) else {
         return Err(CheckpointFault::BadOrigin);

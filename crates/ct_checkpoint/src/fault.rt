@@ -1,7 +1,7 @@
 //! Why there is no checkpoint.
 
-ghost use Rattle.std.specs.Prelude.{◌≡◌, ◌≢◌};
-ghost use Rattle.ct_checkpoint.specs.Checkpoint.{IsNoBase64};
+ghost use Rattle.std.specs.Prelude.{◌≡◌};
+ghost use Rattle.ct_checkpoint.specs.Checkpoint.{of_decoding};
 ghost use Rattle.ct_checkpoint.specs.declared.fault.CheckpointFault.TheVariants.{Memory};
 
 use base64::DecodeAllocError;
@@ -17,13 +17,14 @@ pub enum CheckpointFault {
     /// There is no second line, or it is no number below 2^64.
     #[error("BadSize")]
     BadSize,
-    /// What follows the second line is not the base64 of 32 bytes and one line end: an extension line is none.
+    /// What follows the second line is not the base64 of 32 bytes and one byte more: an extension line is none.
     #[error("BadRoot")]
     BadRoot,
-    /// The text is not the one that is written for this origin, size and root: the size has a leading zero or a plus.
+    /// The text is not the one that is written for this origin, size and root: the size has a leading zero or a plus, or the last byte is no
+    /// line end.
     #[error("NotAsWritten")]
     NotAsWritten,
-    /// A growth was refused. The text has no fault.
+    /// A growth was refused.
     #[error("Memory")]
     Memory,
 }
@@ -37,7 +38,7 @@ impl From<AllocError> for CheckpointFault {
 }
 
 impl From<DecodeAllocError> for CheckpointFault {
-    ghost from_gives = { λ error fault. fault ≢ Memory → IsNoBase64 error };
+    ghost from_gives = { λ error fault. fault ≡ of_decoding error };
 
     fn from(error: DecodeAllocError) -> CheckpointFault {
         match error {
