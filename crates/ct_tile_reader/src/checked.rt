@@ -3,6 +3,7 @@ ghost use Rattle.std.specs.Prelude.{◌≡◌, ◌<◌, ◌≤◌, ℕ, List, []
 ghost use Rattle.ct_tree.specs.Tree.{mth};
 ghost use Rattle.ct_verify.specs.Verdict.{AcceptsInclusion, AcceptsConsistency};
 ghost use Rattle.ct_tile_reader.specs.Given.{GivesTilesOf};
+ghost use Rattle.ct_tile_reader.specs.Refused.{RefusesPath, RefusesProof};
 ghost use Rattle.ct_verify.specs.declared.evidence.EvidenceFault.TheVariants.{ProofRefused, Memory};
 
 use crate::source::TileSource;
@@ -27,6 +28,7 @@ pub fn checked_path<H: NodeHash, T: TileSource>(
     ensures accepted { IfOk result (λ path. AcceptsInclusion H.digest leaf_hash.now m n path.items root.now) }
     ensures never_refused { IfErr result (λ fault. (D : List (List ℕ)) → GivesTilesOf H.digest (T.given tiles.now) D → n ≤ length D → m < n
         → leaf_hash.now ≡ get_or (take n D) m [] → root.now ≡ mth H.digest (take n D) → fault ≡ Memory) }
+    ensures refused { IfErr result (λ fault. RefusesPath H.digest (T.given tiles.now) leaf_hash.now m n root.now fault) }
 {
     if m >= n {
         return Err(EvidenceFault::ProofRefused(ProofFault::IndexOutOfRange));
@@ -54,6 +56,7 @@ pub fn checked_proof<H: NodeHash, T: TileSource>(
     ensures accepted { IfOk result (λ proof. AcceptsConsistency H.digest m n first_root.now second_root.now proof.items) }
     ensures never_refused { IfErr result (λ fault. (D : List (List ℕ)) → GivesTilesOf H.digest (T.given tiles.now) D → n ≤ length D → 0 < m → m < n
         → first_root.now ≡ mth H.digest (take m D) → second_root.now ≡ mth H.digest (take n D) → fault ≡ Memory) }
+    ensures refused { IfErr result (λ fault. RefusesProof H.digest (T.given tiles.now) m n first_root.now second_root.now fault) }
 {
     if m == 0 || m >= n {
         return Err(EvidenceFault::ProofRefused(ProofFault::SizesOutOfRange));

@@ -318,3 +318,26 @@ fn a_path_within_a_full_tile_is_made(rt: HostRuntime) -> Result<(), HandedFault>
     assert!(rt; verify_inclusion(&Sha256Hash, &leaf, 10, 300, &path, &SMALL_ROOT) == Ok(()));
     Ok(())
 }
+
+// Why no path of the leaf behind the last one is answered, and why no proof from a tree to itself.
+fn faults_out_of_range(
+    alloc: Global,
+    tiles: &HandedTiles<'_>,
+) -> (Option<EvidenceFault>, Option<EvidenceFault>) {
+    let leaf = leaf_hash(&Sha256Hash, &SIZE.to_be_bytes());
+    let path = checked_path(alloc, &Sha256Hash, tiles, &leaf, SIZE, SIZE, &ROOT);
+    let proof = checked_proof(alloc, &Sha256Hash, tiles, SIZE, SIZE, &ROOT, &ROOT);
+    (path.err(), proof.err())
+}
+
+#[test]
+fn what_is_out_of_range_is_refused_as_the_verifier_does(
+    rt: HostRuntime,
+) -> Result<(), HandedFault> {
+    let right = contents(rt.alloc(), &TILES)?;
+    let tiles = HandedTiles::new(&NEEDED, &right)?;
+    let of_leaf = Some(EvidenceFault::ProofRefused(ProofFault::IndexOutOfRange));
+    let of_sizes = Some(EvidenceFault::ProofRefused(ProofFault::SizesOutOfRange));
+    assert!(rt; faults_out_of_range(rt.alloc(), &tiles) == (of_leaf, of_sizes));
+    Ok(())
+}

@@ -6,3 +6,6 @@ pub returns-in-Err-clause-never_refused : goal.returns-in-Err-clause-never_refus
 returns-in-Err-clause-never_refused g c = λ D tiles inside z below f s.
     absurd (proof_never_of_tiles g.H.NodeHash.digest (g.T.TileSource.given c.args.tiles.now) D c.args.m c.args.n c.deref.result.now c.args.first_root.now
     c.args.second_root.now c.in-Err.fault (λ E t i. c.deref.ensures.value ∙ c.in_ok-proof.ensures.all E t i) c.in-Err.ensures tiles inside z below f s)
+
+pub returns-in-Err-clause-refused : goal.returns-in-Err-clause-refused
+returns-in-Err-clause-refused g c = (c.deref.result.now, (λ _ _ D t i. c.deref.ensures.value ∙ c.in_ok-proof.ensures.all D t i), c.in-Err.ensures)
