@@ -1,6 +1,6 @@
 """How many places a growth asks for, where the source shows that it is no more than there may be need of: a sum of lengths, of parameters, and of
 literals below 2^20, or less or a part of one. What is named by a `let` of the function or by a constant is judged by what it names, and what a
-parameter is given at each call of the function is judged in the same way."""
+parameter is given at each call of the function is judged in the same way. A field is no such number, but for those that a command line gives."""
 import re
 
 from source import closing
@@ -19,6 +19,8 @@ LITERAL = re.compile(r"(\d[\d_]*?)(?:_?(?:u|i)(?:8|16|32|64|128|size))?$")
 LENGTH = re.compile(r"(?:\w+(?:\.\w+)*)\.len\(\)$")
 SUM = re.compile(r"(.+)\.saturating_add\((.+)\)$")
 CAST = re.compile(r"(?:usize|u64)::from\((.+)\)$|(.+) as (?:usize|u64)$")
+# Fields that may be asked for: a command line gives them, in a range of their own.
+FIELDS = ("options.fronts", "options.ring")
 # A comparison as a number, 0 or 1.
 FLAG = re.compile(r"usize::from\(\w+ (?:>|<|==) \w+\)$")
 # Functions whose contracts say that they answer at most the digits of a number of 64 bits, or how many leaves bytes are.
@@ -93,11 +95,10 @@ def is_bounded(expression, signature, body, known, given=None):
 
 
 def is_named(expression, signature, body, known, given):
-    """Whether an expression is a parameter or a field of one, or a name whose each `let` before is such a sum; and what is put in it later, too."""
-    found = re.match(r"(\w+)(?:\.\w+)*$", expression)
-    if not found:
+    """Whether an expression is a parameter, or a name whose each `let` before is such a sum; and what is put in it later, too."""
+    if expression not in FIELDS and not re.fullmatch(r"\w+", expression):
         return False
-    name = found.group(1)
+    name = expression.split(".")[0]
     lets = list(re.finditer(rf"\blet (?:mut )?{name}\b(?:: [^=;]+)?\s*=([^;]*);", body))
     for let in re.finditer(rf"(?<![\w.]){name}\s*([-+*/%<>|&^]*)=(?!=)([^;]*);", body):
         is_let = any(other.start() < let.start() < other.end() for other in lets)

@@ -4,19 +4,21 @@ in time. So where the sources of a crate (but those of tests) tell such a fault,
 failed, behind the last turn of a bounded loop, or where another's fault is handed on. Conversions (`impl From`) may tell them, and patterns, types
 and imports may name them. Such faults too are an error of std's input and output and its kind, what tells of one (a call that failed, a value that
 was handed back), and a call of std that may fail by itself. What is told behind the last turn over lines or calls stands right behind a loop of
-2^50 turns, which nothing breaks off, or a test whether there were 2^50. And since std's contracts don't say what a process's status is, the `main`
+2^50 turns, which nothing breaks off, or a test whether there were 2^50; no other constant hides that number. Where a program tells a fault by its text,
+that is a fault's that it was handed or that a pattern took, and the status 1 stands behind it alone. And since std's contracts don't say what a process's status is, the `main`
 of a program ends with the one status that it was answered, and makes none up; and how long a line waits are the numbers of this table. The script
 prints each file in which a fault is told more or less often than this table says, or in which such a loop, a test, an end or a number is another, or
 which isn't there, and ends with status 1 where there is one."""
 import re
 import sys
 
+from capacity import parts
 from source import CRATES, blanked, closing, crates, is_for_tests, line_of, sources, without_clauses
 from want_of_memory import BEHIND, asked, blocks, declared
 
 FAULT = re.compile(
-    r"\b(?:\w*Fault|Refusal)::(Read|Write|Threads|Closed|Late|Stopped|Endless)\b|\b(?:io::)?(Error)::(?:from|new|other)\b|\b(ErrorKind)::\w+"
-    r"|\b(NotAppended|ReadFailed|Stopped|Unwritten|WriteFailed)\b|\.(read_exact|read_to_end|read_to_string|read_until|write_all|write_fmt)\s*\("
+    r"\b(?:\w*Fault|Refusal)::(Read|Write|Threads|Closed|Late|Stopped|Endless)\b|\b(?:io::)?(Error)::(?:from|new|other)\b|\b(ErrorKind::\w+)"
+    r"|\b(NotAppended|ReadFailed|Stopped|Unwritten|WriteFailed)\b|(?:\.|::)(read_exact|read_to_end|read_to_string|read_until|write_all|write_fmt)\s*\("
 )
 # A loop behind whose last turn a fault is told, and how many turns it makes.
 LOOP = re.compile(r"\bfor turn in 0\.\.([A-Z]+) \{")
@@ -25,7 +27,10 @@ LIMIT = re.compile(r"\bif self\.\w+ == ([A-Z]+) \{\s*return Err\((?:io::Error::f
 TURNS = "1 << 50"
 # How a program ends. No number stands in the file, since a status that is made up is one, but the 1 behind a fault that is told.
 END = re.compile(r"\bExitCode::from\(status\)\s*\}\s*$")
-TELLS = re.compile(r"\btell\([^;]*\);\s*1\s*\}")
+TELLS = re.compile(r"\btell\([^;]*\b(?:fault_text|line_of)\(fault\)[^;]*\);\s*1\s*\}")
+# What is told among the faults: a text of a fault, which came by a pattern or was handed over; or a text that no status 1 stands behind.
+TOLD_TEXT = re.compile(r"(?:[A-Z]+|text|(?:\w+_text|(?:\w+\.)?line_of)\(fault\))(?:\.as_bytes\(\))?$")
+STATUS = re.compile(r"\bfn\s+\w[^;{]*->\s*u8\b[^;{]*\{")
 # How long a line waits.
 WAITS = {
     "ct_live/src/live.rt": {"TURNS": "50_000_000"},
@@ -42,10 +47,11 @@ TOLD = {
     "ct_guard_lines/src/program.rt": {"Read": (1, "behind the last turn over the lines")},
     "ct_lines/src/lines.rt": {
         "Error": (2, "behind the last turn over a line's pieces, and the last line's number"),
-        "ErrorKind": (3, "of these, and of a call that was interrupted"),
+        "ErrorKind::Other": (2, "of these"),
+        "ErrorKind::Interrupted": (1, "of a call that was interrupted"),
     },
     "ct_lines/src/sending.rt": {
-        **dict.fromkeys(("Error", "ErrorKind"), (1, "the writer took no bytes")),
+        **dict.fromkeys(("Error", "ErrorKind::WriteZero"), (1, "the writer took no bytes")),
         "Unwritten": (2, "the output couldn't be written, or handed on"),
     },
     "ct_lines/src/serving.rt": {
@@ -63,12 +69,13 @@ TOLD = {
     "ct_live/src/threads.rt": {"Threads": (1, "the reader's thread didn't start")},
     "ct_live/src/pipes/ahead.rt": {
         "Error": (2, "there was no memory to read into; all are to end"),
-        "ErrorKind": (2, "a call that was interrupted; all are to end"),
+        "ErrorKind::Interrupted": (1, "a call that was interrupted"),
+        "ErrorKind::BrokenPipe": (1, "all are to end"),
     },
     "ct_live/src/pipes/answering.rt": {"Stopped": (1, "all are to end")},
     "ct_live/src/pipes/post.rt": {"Stopped": (1, "all are to end")},
     "ct_live/src/pipes/workers.rt": {"Threads": (1, "a party's thread didn't start"), **dict.fromkeys(("Read", "Stopped"), (1, "a thread's own is handed on"))},
-    "ct_command/src/command.rt": {"ErrorKind": (2, "clap's kinds of a refusal, which clauses pin")},
+    "ct_command/src/command.rt": dict.fromkeys(("ErrorKind::ValueValidation", "ErrorKind::InvalidValue"), (1, "clap's kind of a refusal, which a clause pins")),
     "ct_parties/src/front_work.rt": {"Late": (1, "behind the last turn of a line that waits")},
     "ct_parties/src/operator_work.rt": {"Late": (1, "behind the last turn of a line that waits")},
     "ct_tasks/src/reading.rt": {"Read": (1, "behind the last turn over the lines")},
@@ -97,6 +104,9 @@ def is_whole(text, name):
     """Whether a constant is so many turns: ct_lines' own, which the source is or imports."""
     own = re.search(rf"\bconst {name}: u64 = {TURNS};", text)
     imported = re.search(rf"\buse (?:crate::lines|ct_lines)::{{[^}}]*\b{name}\b", text)
+    # (another of this name would hide it)
+    if len(re.findall(rf"\b(?:const|static|let(?: mut)?|as)\s+{name}\b|\b{name}\s*:", text)) != (1 if own else 0):
+        return False
     return bool(own or imported and re.search(rf"\bpub const {name}: u64 = {TURNS};", (CRATES / "ct_lines/src/lines.rt").read_text()))
 
 
@@ -113,6 +123,57 @@ def loops(text):
             yield text.index("Err(", found.start()) + len("Err(")
 
 
+def texts_told(text):
+    """The places at which another text than a fault's, or one of no fault, is told, and those of a status 1 that isn't right behind a fault's text."""
+    text = without_clauses(blanked(text))
+    for found in re.finditer(r"(?<!fn )\btell\(", text):
+        told_text = parts(text[found.end() : closing(text, found.end() - 1) - 1], ",")[-1]
+        if not TOLD_TEXT.match(told_text):
+            yield found.start()
+    for found in STATUS.finditer(text) if re.search(r"\btell\(", text) else []:
+        body = text[found.end() : closing(text, found.end() - 1)]
+        rest = TELLS.sub(lambda told_fault: re.sub(r"[^\n]", " ", told_fault.group()), body)
+        yield from (found.end() + one.start() for one in re.finditer(r"(?<![\w.])1(?![\w.])", rest))
+    for found in re.finditer(r"\blet (?:mut )?fault\b", text) if re.search(r"\btell\(", text) else []:
+        yield found.start()
+
+
+# Sources of which each tells a fault at will, and sources that may stand: the faults that are told in each, its loops, and its texts.
+LINES = "use ct_lines::{READS, tell};"
+LOOPS = "for turn in 0..READS { next(turn)?; } Err(Fault::Read)"
+RUN = "match run(words) { Ok(status) => status, Err(fault) => { tell(faults, fault_text(fault).as_bytes()); 1 } }"
+WRONG = f"""{LINES} fn f() -> Answer {{ const READS: u64 = 1 << 20; {LOOPS} }}
+{LINES} fn f() -> Answer {{ let READS = 1 << 20; {LOOPS} }}
+{LINES} fn f(READS: u64) -> Answer {{ {LOOPS} }}
+use ct_lines::tell; use crate::few::FEW as READS; fn f() -> Answer {{ {LOOPS} }}
+{LINES} fn f(output: &mut W) -> Answer {{ Write::write_all(output, bytes)?; }}
+{LINES} fn f(output: &mut W) -> Answer {{ <W as Write>::write_all (output, bytes)?; }}
+{LINES} fn f(words: &[String]) -> u8 {{ if words.len() > 8 {{ tell(faults, b"ctguard: read"); return 1; }} {RUN} }}
+{LINES} fn f(words: &[String]) -> u8 {{ if words.len() > 8 {{ tell(faults, "ctguard: read".as_bytes()); return 1; }} {RUN} }}
+{LINES} fn f(words: &[String]) -> u8 {{ if words.len() > 8 {{ tell(faults, USAGE.as_bytes()); return 1; }} {RUN} }}
+{LINES} fn f(words: &[String]) -> u8 {{ if words.len() > 8 {{ return 1; }} {RUN} }}
+{LINES} fn f(words: &[String]) -> u8 {{ match run(words) {{ Ok(status) => status, Err(_) => {{ tell(faults, READ.as_bytes()); 1 }} }} }}
+{LINES} fn f(words: &[String]) -> u8 {{ let fault = made(words); tell(faults, fault_text(fault).as_bytes()); 1 }}
+fn f(error: io::Error) -> Answer {{ Err(io::ErrorKind::UnexpectedEof) }}"""
+RIGHT = f"""{LINES} fn f() -> Answer {{ for turn in 0..READS {{ next(turn)?; }} Err(fault) }}
+{LINES} fn f(words: &[String]) -> u8 {{ {RUN} }}
+{LINES} fn f(words: &[String]) -> Result<u8, Fault> {{ tell(faults, USAGE.as_bytes()); Ok(2) }}
+{LINES} fn f(fault: Fault) -> u8 {{ tell(faults, program.line_of(fault).as_bytes()); 1 }}
+{LINES} fn f(text: &[u8]) -> u8 {{ tell(faults, text); 2 }}
+fn f(fault: Fault) -> Answer {{ match fault {{ Fault::Read => true, _ => false }} }}"""
+
+
+def try_itself():
+    """Judges the lines above, each as a source of its own."""
+
+    def is_wrong(line):
+        return bool([name for _, name in told(line) if name != "Read"] or None in set(loops(line)) or list(texts_told(line)))
+
+    missed = [line for line in WRONG.splitlines() if not is_wrong(line)] + [line for line in RIGHT.splitlines() if is_wrong(line)]
+    if missed:
+        sys.exit("checks/told_faults.py judges lines of its own wrongly:\n" + "\n".join(missed))
+
+
 def ends_and_waits(text, name):
     """What is wrong with how a program ends, and how long a line waits there."""
     text = without_clauses(blanked(text))
@@ -125,6 +186,7 @@ def ends_and_waits(text, name):
 
 
 def main():
+    try_itself()
     differ, seen = [], set()
     for crate in crates():
         for path in [] if is_for_tests(crate) else sources(crate):
@@ -132,6 +194,7 @@ def main():
             seen.add(name)
             places, ends = list(told(text)), set(loops(text))
             differ += ends_and_waits(text, name)
+            differ += [f"{name}:{line_of(text, at)} tells a fault that it wasn't handed, or ends with 1 behind none" for at in texts_told(text)]
             if None in ends:
                 differ.append(f"{name} has a loop over turns that isn't of {TURNS}, or is broken off, or has no error behind it")
             for fault in sorted({fault for _, fault in places} | set(TOLD.get(name, {}))):

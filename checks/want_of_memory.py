@@ -40,14 +40,46 @@ def is_pattern(text, found):
     return BEHIND.match(text[found.end() : text.find("\n", found.end())]) is not None
 
 
-def tells_of_a_refusal(text, start, end):
-    """Whether a conversion is from a refused growth: from std's errors for it, from a struct that holds one, from what left_right's `append` hands back, or where the error tells it."""
+# Another name for it: an import's, or a type's beside those of traits.
+RENAMED = re.compile(rf"{NAMES.pattern}\s+as\s+\w|^(?:pub(?:\(\w+\))? )?type (?!{NAMES.pattern})\w+\s*=\s*(?:\w+::)*{NAMES.pattern}\s*;", re.M)
+# What a test before an expression that names it says, and nothing else.
+TEST = re.compile(rf"\w+(?:\.\w+)*(?:\.is_memory\(\)| == (?:\w+::)*{NAMES.pattern})")
+
+
+def is_of_a_refusal(text, start, end):
+    """Whether a conversion is from a refused growth alone: from std's errors for it, from a struct that holds one, or from what left_right's `append` hands back."""
     source = re.search(r"From<(.*)> for", text[start:end]).group(1)
-    if re.match(r"(?:AllocError|AllocFailed|TryReserveError|NotAppended)\b", source):
-        return True
-    held = re.search(rf"\bstruct {re.escape(source)} \{{[^}}]*\bAllocError\b", text)
-    told = any(is_pattern(text, found) or "==" in text[found.start() - 24 : found.start()] for found in NAMES.finditer(text, start, end))
-    return bool(held or told or ".is_memory()" in text[start:end])
+    return bool(
+        re.match(r"(?:AllocError|AllocFailed|TryReserveError|NotAppended)\b", source)
+        or re.search(rf"\bstruct {re.escape(source)} \{{[^}}]*\bAllocError\b", text)
+    )
+
+
+def pattern_before(text, end):
+    """The pattern of an arm, which ends at a place."""
+    depth, at = 0, end
+    while at > 0 and (depth or text[at - 1] not in ",({["):
+        at -= 1
+        depth += (text[at] in ")]}") - (text[at] in "({[")
+    pattern = text[at:end]
+    return pattern.rpartition("}")[2] if "=>" in pattern else pattern
+
+
+def is_passed_on(text, start, at):
+    """Whether what stands at a place of a conversion that begins at `start` is behind a pattern, or a test, that names the refusal."""
+    for arm in reversed(list(re.finditer(r"=>\s*", text[start:at]))):
+        begun = start + arm.end()
+        end = begun
+        while end < len(text) and text[end] not in ",)}]":
+            end = closing(text, end) if text[end] in "({[" else end + 1
+        if begun <= at < end:
+            if all(NAMES.search(part) for part in pattern_before(text, start + arm.start()).split("|")):
+                return True
+            break
+    for test in re.finditer(r"\bif\b([^{};]*)\{", text[start:at]):
+        if start + test.end() <= at < closing(text, start + test.end() - 1) and TEST.fullmatch(test.group(1).strip()):
+            return True
+    return False
 
 
 def declared(text):
@@ -70,11 +102,13 @@ def asked(text):
 
 def named_in_expressions(text):
     """The places of expressions that name want of memory."""
-    conversions = blocks(text, r"\bimpl(?:<[^{]*?>)? From<")
-    allowed = [block for block in conversions if tells_of_a_refusal(text, *block)] + list(declared(text)) + list(asked(text))
+    conversions = list(blocks(text, r"\bimpl(?:<[^{]*?>)? From<"))
+    allowed = [block for block in conversions if is_of_a_refusal(text, *block)] + list(declared(text)) + list(asked(text))
     allowed += [found.span() for found in re.finditer(r"\buse [^;]*;", text)]
     for found in NAMES.finditer(text):
         if any(start <= found.start() < end for start, end in allowed):
+            continue
+        if any(start <= found.start() < end and is_passed_on(text, start, found.start()) for start, end in conversions):
             continue
         line_start = text.rfind("\n", 0, found.start()) + 1
         line_end = text.find("\n", found.end())
@@ -96,7 +130,7 @@ def made_up(text, crate, path, known, given=None):
     """The places of a source at which want of memory is made up, or a value is kept from being let go; with the constants of its crate. The
     parameters that say how many places a growth asks for join `given`."""
     text = without_clauses(blanked(text))
-    found = set(named_in_expressions(text)) | {hit.start() for hit in KEPT.finditer(text)}
+    found = set(named_in_expressions(text)) | {hit.start() for sort in (KEPT, RENAMED) for hit in sort.finditer(text)}
     if crate == NUMBERED:
         found |= set(numbers(text))
     if not path.endswith(COUNT):
@@ -142,9 +176,26 @@ Err(_) => 8,
 Err(_) => 8_u32,
 return 8;
 const MEMORY: u32 = 8;
-impl From<ReadFault> for Fault { fn from(fault: ReadFault) -> Fault { Fault::Memory } }"""
+impl From<ReadFault> for Fault { fn from(fault: ReadFault) -> Fault { Fault::Memory } }
+impl From<Held> for Fault { fn from(held: Held) -> Fault { match held { Held::Memory => Fault::Memory, Held::Read => Fault::Memory } } }
+impl From<Held> for Fault { fn from(held: Held) -> Fault { match held { Held::Memory => Fault::Memory, Held::Read(n) => if n < 9 { Fault::Read } else { Fault::Memory } } } }
+impl From<Held> for Fault { fn from(held: Held) -> Fault { match held { Held::Memory | Held::Read => Fault::Memory, Held::Write => Fault::Read } } }
+impl From<Held> for Fault { fn from(held: Held) -> Fault { if held.is_memory() { Fault::Memory } else { Fault::from(AllocError) } } }
+impl From<Held> for Fault { fn from(held: Held) -> Fault { if !held.is_memory() { Fault::Memory } else { Fault::Memory } } }
+impl From<Held> for Fault { fn from(held: Held) -> Fault { if held == Held::Memory || held.is_long() { Fault::Memory } else { Fault::Read } } }
+use std::alloc::AllocError as Refused;
+use crate::fault::Fault::{Memory as Refused, Read};
+type Refused = std::alloc::AllocError;
+fn f(alloc: Global, head: &Head) -> Answer { let room: Vec<u8> = Vec::with_capacity(alloc, head.tree_size)?; }
+fn f(alloc: Global, head: &Head) -> Answer { let room: Vec<u8> = Vec::with_capacity(alloc, head.tree_size as usize + 1)?; }
+fn f(alloc: Global, head: &Head) -> Answer { let size = head.tree_size; let room: Vec<u8> = Vec::with_capacity(alloc, size)?; }
+fn f(items: &mut Vec<u8>, log: Log) -> Answer { items.reserve(log.state.size)?; }"""
 RIGHT = """impl From<AllocError> for Fault { fn from(_e: AllocError) -> Fault { Fault::Memory } }
 impl From<Held> for Fault { fn from(held: Held) -> Fault { match held { Held::Memory => Fault::Memory, Held::Read => Fault::Read } } }
+impl From<Held> for Fault { fn from(held: Held) -> Fault { let fault = match held { Held::Memory(_) => Fault::Memory, _ => Fault::Read }; fault } }
+impl From<Held> for Told { fn from(held: Held) -> Told { match held { Held::Inner(Fault::Memory) => Told { answer: Err(AllocError) }, _ => Told { answer: Ok(()) } } } }
+impl From<Held> for Fault { fn from(held: Held) -> Fault { if held.is_memory() { Fault::Memory } else { Fault::Read } } }
+impl From<Held> for Fault { fn from(held: Held) -> Fault { if held.inner == Held::Memory { Fault::Memory } else { Fault::Read } } }
 struct Refused { count: u64, error: AllocError }
 struct Refused(AllocError);
 enum Fault { Read, Memory }
