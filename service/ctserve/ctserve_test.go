@@ -52,6 +52,8 @@ func TestMain(m *testing.M) {
 
 // program is a ctserve that runs.
 type program struct {
+	// serving is the line of that event.
+	serving           map[string]any
 	t                 *testing.T
 	command           *exec.Cmd
 	lines             chan map[string]any
@@ -91,6 +93,7 @@ func started(t *testing.T, every string, words ...string) *program {
 		case line["event"] == "listening" && line["for"] == "operator":
 			p.operator = line["address"].(string)
 		case line["event"] == "serving":
+			p.serving = line
 			return p
 		case line["event"] == "end":
 			t.Fatalf("it ends: %v", line)
@@ -488,6 +491,9 @@ func TestRealLog(t *testing.T) {
 		t.Errorf("a log is made unasked: status %d", status)
 	}
 	p := started(t, "", append(words, "--create")...)
+	if p.serving["level"] != "info" || p.serving["entries"] != 0.0 {
+		t.Errorf("it serves before a head is published: %v", p.serving)
+	}
 	first := at.submission()
 	status, answer := post(p.clients, first)
 	if status != 200 {

@@ -25,6 +25,7 @@ import (
 	"wagtenib/service/chains"
 	"wagtenib/service/log"
 	"wagtenib/service/reader"
+	"wagtenib/service/stores"
 	"wagtenib/service/version"
 	"wagtenib/service/web"
 )
@@ -105,6 +106,7 @@ func serve(s *settings, lines *web.Lines, signals <-chan os.Signal, open opener)
 	}
 	defer of.close()
 	checker := chains.NewChecker(roots, s.window)
+	awaitHead(s, of.log)
 	front := web.New(of.log, of.proofs, checker, web.Options{Limits: s.limits, Proxies: s.proxies, Lines: lines, LogRequests: s.logRequests})
 
 	servers := []*served{{of: "clients", address: s.listen, over: over, handler: front}}
@@ -144,6 +146,22 @@ func serve(s *settings, lines *web.Lines, signals <-chan os.Signal, open opener)
 	// From here on another signal ends the process.
 	signal.Reset(syscall.SIGTERM, syscall.SIGINT)
 	return ended(s, front, of.log, servers, err)
+}
+
+// awaitHead waits for the first head of a log, for as long as a reading may take.
+func awaitHead(s *settings, of log.Log) {
+	ctx, cancel := context.WithTimeout(context.Background(), s.limits.Reading)
+	defer cancel()
+	for {
+		if _, err := of.Checkpoint(ctx); !errors.Is(err, stores.ErrAbsent) {
+			return
+		}
+		select {
+		case <-time.After(10 * time.Millisecond):
+		case <-ctx.Done():
+			return
+		}
+	}
 }
 
 // tellHead tells what is served, from where it goes on.

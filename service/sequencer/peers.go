@@ -99,10 +99,14 @@ func (s *Sequencer) handOver(k known) bool {
 	go func() {
 		defer func() { <-s.handing }()
 		defer s.queue.giveBack(batch)
-		if err := s.hand(k.node, batch); err != nil {
-			s.mu.Lock()
+		err := s.hand(k.node, batch)
+		s.mu.Lock()
+		defer s.mu.Unlock()
+		if err != nil {
 			s.alone = time.Now().Add(aloneFor)
-			s.mu.Unlock()
+		} else if !s.stopped {
+			// Who submits here is answered.
+			s.fault = nil
 		}
 	}()
 	return true

@@ -85,7 +85,8 @@ func (s *Sequencer) Checkpoint(ctx context.Context) (log.Head, error) {
 	select {
 	case <-shared.done:
 	case <-ctx.Done():
-		return log.Head{}, fault{log.ErrStore, fmt.Errorf("sequencer: %w", ctx.Err())}
+		// (that who asked doesn't wait any more is no fault of the store)
+		return log.Head{}, fmt.Errorf("sequencer: %w", ctx.Err())
 	}
 	if shared.err != nil {
 		return log.Head{}, fault{log.ErrStore, shared.err}

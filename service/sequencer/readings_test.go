@@ -2,6 +2,7 @@ package sequencer
 
 import (
 	"context"
+	"errors"
 	"sync"
 	"sync/atomic"
 	"testing"
@@ -56,7 +57,10 @@ func TestSharedReadings(t *testing.T) {
 	brief, cancel := context.WithTimeout(ctx, 10*time.Millisecond)
 	_, err := reader.Checkpoint(brief)
 	cancel()
-	wants(t, err, log.ErrStore, context.DeadlineExceeded)
+	wants(t, err, context.DeadlineExceeded)
+	if errors.Is(err, log.ErrStore) {
+		t.Errorf("the store's fault: %v", err)
+	}
 	var all, asking sync.WaitGroup
 	for i := 0; i < many; i++ {
 		all.Add(1)
@@ -131,5 +135,7 @@ func TestHungReading(t *testing.T) {
 		cancel()
 	}
 	cancel()
-	wants(t, <-first, log.ErrStore, context.Canceled)
+	if err := <-first; !errors.Is(err, context.Canceled) || errors.Is(err, log.ErrStore) {
+		t.Errorf("who goes away is told %v", err)
+	}
 }

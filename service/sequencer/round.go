@@ -102,11 +102,14 @@ func (s *Sequencer) idle(ctx context.Context) {
 	}
 }
 
-// settle keeps what a round failed by. Where waiting a little longer doesn't help, all who wait are told.
+// settle keeps what a round failed by, until one had a step decided: a round that has nothing to write says nothing of what isn't written.
+// Where waiting a little longer doesn't help, all who wait are told.
 func (s *Sequencer) settle(err error) {
 	s.mu.Lock()
 	if err == nil {
-		s.fault = nil
+		if s.wrote {
+			s.fault = nil
+		}
 		s.mu.Unlock()
 		return
 	}
@@ -126,7 +129,7 @@ func (s *Sequencer) settle(err error) {
 
 // round learns the newest state, has it rolled out, and takes who waits one step further.
 func (s *Sequencer) round(ctx context.Context) error {
-	s.later = false
+	s.later, s.wrote = false, false
 	s.mu.Lock()
 	stopped, why := s.stopped, s.fault
 	s.mu.Unlock()
@@ -155,10 +158,10 @@ func (s *Sequencer) round(ctx context.Context) error {
 	if batch, err = s.answerRepeats(ctx, k, batch); err != nil {
 		return err
 	}
-	if len(batch) == 0 && !s.isStale(k) && !errors.Is(why, ErrDamaged) {
+	if len(batch) == 0 && !s.isStale(k) && why == nil {
 		return nil
 	}
-	// (Behind damage a step without entries says whether the edge is right again.)
+	// (Behind a fault a step without entries says whether it is mended.)
 	return s.advance(ctx, k, batch)
 }
 
@@ -238,6 +241,7 @@ func (s *Sequencer) advance(ctx context.Context, k known, batch []*waiting) erro
 	if err != nil {
 		return err
 	}
+	s.wrote = true
 	if !won {
 		s.lost.Add(1)
 		return s.lose(ctx, stepped.Line, name)

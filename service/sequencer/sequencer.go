@@ -137,6 +137,8 @@ type Sequencer struct {
 	// edge has tiles of the newest state that need not be read, and rolled is the line of the last state that is rolled out.
 	edge   map[string][]byte
 	rolled string
+	// wrote says that this round had a step decided, by this node or another: all that was to be written before was.
+	wrote bool
 	// later says that somebody was left for a later round, since a tile couldn't be read.
 	later bool
 

@@ -17,6 +17,16 @@ func (f *Front) healthz(w http.ResponseWriter, r *http.Request) error {
 // readyz says whether submissions would be taken now: the log doesn't end, nothing keeps it from going on, its queue has room,
 // and its head is read within two seconds. An old tile that is damaged keeps it from nothing.
 func (f *Front) readyz(w http.ResponseWriter, r *http.Request) error {
+	if err := f.unready(r.Context()); err != nil {
+		return err
+	}
+	w.Header().Set("Cache-Control", "no-store")
+	write(w, http.StatusOK, "text/plain; charset=utf-8", []byte("ready\n"))
+	return nil
+}
+
+// unready gives what /readyz refuses by, or nil.
+func (f *Front) unready(ctx context.Context) error {
 	unready := func(name string, why error) error {
 		return refusal{status: http.StatusServiceUnavailable, name: name, after: 1, why: why}
 	}
@@ -29,15 +39,13 @@ func (f *Front) readyz(w http.ResponseWriter, r *http.Request) error {
 	case figures.MostQueue > 0 && figures.Queue >= figures.MostQueue:
 		return unready("busy", nil)
 	}
-	ctx, cancel := context.WithTimeout(r.Context(), 2*time.Second)
+	ctx, cancel := context.WithTimeout(ctx, 2*time.Second)
 	defer cancel()
 	if _, err := f.log.Checkpoint(ctx); err != nil {
 		refused := refusalOf(err)
 		refused.status, refused.after = http.StatusServiceUnavailable, 1
 		return refused
 	}
-	w.Header().Set("Cache-Control", "no-store")
-	write(w, http.StatusOK, "text/plain; charset=utf-8", []byte("ready\n"))
 	return nil
 }
 

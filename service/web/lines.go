@@ -5,22 +5,24 @@ import (
 	"encoding/json"
 	"fmt"
 	"io"
+	"sort"
 	"strings"
 	"sync"
 	"time"
 )
 
-// mostLines is how many lines are written in a second. Those above are counted, and told by one line.
-const mostLines = 200
+// mostLines is how many lines of one event are written in a second. Those above are counted, and told by one line: many of one event hide
+// none of another.
+const mostLines = 50
 
 // Lines writes what is told, one JSON object a line: time, level, event, and what belongs to it. A nil one writes nothing.
 type Lines struct {
-	mutex   sync.Mutex
-	to      io.Writer
-	now     func() time.Time
-	second  int64
-	written int
-	dropped int
+	mutex  sync.Mutex
+	to     io.Writer
+	now    func() time.Time
+	second int64
+	// written are how many of an event were to be told in this second. Events are a few words of the programs that tell them.
+	written map[string]int
 }
 
 // NewLines writes lines to w.
@@ -43,17 +45,24 @@ func (l *Lines) tell(level, event string, words []any) {
 	defer l.mutex.Unlock()
 	now := l.now().UTC()
 	if second := now.Unix(); second != l.second {
-		dropped := l.dropped
-		l.second, l.written, l.dropped = second, 0, 0
-		if dropped > 0 {
-			l.to.Write(line(now, "warn", "dropped", []any{"lines", dropped}))
+		written := l.written
+		l.second, l.written = second, map[string]int{}
+		var above []string
+		for event, many := range written {
+			if many > mostLines {
+				above = append(above, event)
+			}
+		}
+		sort.Strings(above)
+		for _, event := range above {
+			l.to.Write(line(now, "warn", "dropped", []any{"of", event, "lines", written[event] - mostLines}))
 		}
 	}
-	if l.written >= mostLines && level != "error" {
-		l.dropped++
-		return
+	if level != "error" {
+		if l.written[event]++; l.written[event] > mostLines {
+			return
+		}
 	}
-	l.written++
 	l.to.Write(line(now, level, event, words))
 }
 

@@ -1,6 +1,7 @@
 package web
 
 import (
+	"context"
 	"net/http"
 	"strconv"
 	"time"
@@ -18,6 +19,8 @@ type metrics struct {
 	refusals *prometheus.CounterVec
 	refused  *prometheus.CounterVec
 	reloads  *prometheus.CounterVec
+	// handshakes are those of TLS that failed.
+	handshakes prometheus.Counter
 }
 
 func newMetrics(f *Front) *metrics {
@@ -35,10 +38,11 @@ func newMetrics(f *Front) *metrics {
 		refused:  counter("ctserve_connections_refused_total", "Connections that were closed at once: there were too many, altogether or of an address.", "bound"),
 		reloads:  counter("ctserve_reloads_total", "Reloads of the roots and of the certificate of TLS.", "of", "outcome"),
 	}
+	m.handshakes = prometheus.NewCounter(prometheus.CounterOpts{Name: "ctserve_tls_handshakes_failed_total", Help: "Handshakes of TLS that failed."})
 	for _, bound := range []string{"all", "address"} {
 		m.refused.WithLabelValues(bound)
 	}
-	m.registry.MustRegister(m.requests, m.seconds, m.refusals, m.refused, m.reloads, figures{f},
+	m.registry.MustRegister(m.requests, m.seconds, m.refusals, m.refused, m.reloads, m.handshakes, figures{f},
 		collectors.NewGoCollector(), collectors.NewProcessCollector(collectors.ProcessCollectorOpts{}))
 	return m
 }
@@ -73,6 +77,7 @@ var (
 	descQueue      = described("ctserve_queue", "Submissions that wait.")
 	descMostQueue  = described("ctserve_queue_most", "At how many that wait no more is taken.")
 	descFault      = described("ctserve_fault", "1 where something keeps the log from going on.")
+	descReady      = described("ctserve_ready", "1 where a submission would be taken now, as /readyz says.")
 	descSteps      = described("ctserve_steps_total", "Swaps of the register that were won.")
 	descLost       = described("ctserve_lost_swaps_total", "Swaps of the register that another node was faster with.")
 	descUnknown    = described("ctserve_unknown_swaps_total", "Swaps whose outcome was settled by reading the register.")
@@ -112,6 +117,11 @@ func (c figures) Collect(to chan<- prometheus.Metric) {
 	gauge(descQueue, float64(f.Queue))
 	gauge(descMostQueue, float64(f.MostQueue))
 	gauge(descFault, fault)
+	ready := 1.0
+	if c.front.unready(context.Background()) != nil {
+		ready = 0
+	}
+	gauge(descReady, ready)
 	count(descSteps, f.Steps)
 	count(descLost, f.LostSwaps)
 	count(descUnknown, f.Unknown)

@@ -52,8 +52,6 @@ func refusalOf(err error) refusal {
 		r.name, r.after = "store", 5
 	case errors.Is(err, context.DeadlineExceeded):
 		r.name, r.after = "late", 5
-	case errors.Is(err, context.Canceled):
-		r.name, r.after = "gone", 1
 	case errors.Is(err, stores.ErrAbsent):
 		r.status, r.name = http.StatusNotFound, "absent"
 	case errors.Is(err, stores.ErrName):
@@ -63,6 +61,12 @@ func refusalOf(err error) refusal {
 	}
 	return r
 }
+
+// statusGone is what is counted where a client goes before it is answered: no fault of the log, and nobody gets it.
+const statusGone = 499
+
+// gone is of a client that doesn't wait any more, by whatever of the log's side its request failed then.
+var gone = refusal{status: statusGone, name: "gone"}
 
 // refuse answers a refusal, where nothing was answered yet.
 func (f *Front) refuse(a *answer, r refusal) {

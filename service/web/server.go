@@ -1,6 +1,7 @@
 package web
 
 import (
+	"bytes"
 	"context"
 	"crypto/tls"
 	stdlog "log"
@@ -46,10 +47,21 @@ func (f *Front) Serve(handler http.Handler) *Server {
 		MaxHeaderBytes: MostHeader,
 		// HTTP/2 would have many requests on one connection, which counts as one.
 		TLSNextProto: map[string]func(*http.Server, *tls.Conn, http.Handler){},
-		ErrorLog:     stdlog.New(f.options.Lines, "", 0),
+		ErrorLog:     stdlog.New(httpLines{f}, "", 0),
 		ConnState:    s.remember,
 	}
 	return s
+}
+
+// httpLines takes what net/http tells. A handshake that fails is the client's affair, and is counted.
+type httpLines struct{ front *Front }
+
+func (h httpLines) Write(text []byte) (int, error) {
+	if bytes.HasPrefix(text, []byte("http: TLS handshake error")) {
+		h.front.metrics.handshakes.Inc()
+		return len(text), nil
+	}
+	return h.front.options.Lines.Write(text)
 }
 
 func (s *Server) remember(connection net.Conn, state http.ConnState) {

@@ -11,6 +11,7 @@ import (
 	"io"
 	"net"
 	"net/http"
+	"net/http/httptest"
 	"net/netip"
 	"strings"
 	"syscall"
@@ -362,6 +363,39 @@ func TestClientsThatGo(t *testing.T) {
 	}
 }
 
+// A client that goes before it is answered rings no alarm: it is counted by a status of its own, and not told.
+func TestClientsThatGoRingNoAlarm(t *testing.T) {
+	f := newFixture(t, 0, nil)
+	f.fill(1)
+	f.log.Slow = time.Hour
+	address, _ := f.listening(nil)
+	counts := func(line string) bool {
+		w := httptest.NewRecorder()
+		f.front.Operator().ServeHTTP(w, httptest.NewRequest("GET", "/metrics", nil))
+		return strings.Contains(w.Body.String(), "\n"+line+"\n")
+	}
+	for _, path := range []string{"/checkpoint", "/tile/0/000.p/1"} {
+		connection := dial(t, address)
+		fmt.Fprintf(connection, "GET %s HTTP/1.1\r\nHost: log\r\n\r\n", path)
+		for f.front.connections.open.Load() != 1 {
+			time.Sleep(time.Millisecond)
+		}
+		connection.Close()
+		for f.front.connections.open.Load() != 0 {
+			time.Sleep(time.Millisecond)
+		}
+	}
+	f.log.Slow = 0
+	for call, path := range map[string]string{"checkpoint": "/checkpoint", "tile": "/tile/0/000.p/1"} {
+		if !counts(`ctserve_requests_total{call="` + call + `",status="499"} 1`) {
+			t.Errorf("%s: who went isn't counted as gone", path)
+		}
+	}
+	if lines := f.lines.String(); strings.Contains(lines, `"event":"request"`) {
+		t.Errorf("it is told: %s", lines)
+	}
+}
+
 // writeKeyPair writes a new certificate and its key into a folder, and gives the certificate.
 func writeKeyPair(t testing.TB, folder string, authority *standin.Authority) []byte {
 	t.Helper()
@@ -409,6 +443,11 @@ func TestTLS(t *testing.T) {
 	}
 	silent := dial(t, address)
 	closed(t, "a handshake that doesn't come", silent)
+	measured := httptest.NewRecorder()
+	f.front.Operator().ServeHTTP(measured, httptest.NewRequest("GET", "/metrics", nil))
+	if !strings.Contains(measured.Body.String(), "\nctserve_tls_handshakes_failed_total 2\n") || strings.Contains(f.lines.String(), "handshake") {
+		t.Errorf("handshakes that failed are to be counted, and not told: %s", f.lines)
+	}
 	// A reload takes the new pair, and keeps the old one where that isn't one.
 	certificate = writeKeyPair(t, folder, f.authority)
 	if err := kept.Reload(); err != nil {

@@ -199,7 +199,11 @@ func (f *Front) ServeHTTP(w http.ResponseWriter, r *http.Request) {
 	own := &held{of: &f.answers, ofClient: &f.answersOf, client: client}
 	defer own.giveAll()
 	if err := f.serve(c, a, r.WithContext(context.WithValue(r.Context(), heldKey{}, own))); err != nil {
-		f.refuse(a, refusalOf(err))
+		refused := refusalOf(err)
+		if refused.status >= http.StatusInternalServerError && r.Context().Err() == context.Canceled {
+			refused = gone
+		}
+		f.refuse(a, refused)
 	}
 }
 

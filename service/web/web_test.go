@@ -347,7 +347,7 @@ func TestSubmissionsThatWait(t *testing.T) {
 	cancel()
 	w = httptest.NewRecorder()
 	f.front.ServeHTTP(w, r)
-	refused(t, "gone", w, 503, "gone")
+	refused(t, "gone", w, statusGone, "gone")
 	if used := f.front.waiting.used.Load(); used != 0 {
 		t.Errorf("%d bytes are still counted", used)
 	}
@@ -444,7 +444,7 @@ func TestMetricsAndHealth(t *testing.T) {
 		`ctserve_requests_total{call="none",status="404"} 1`,
 		`ctserve_refusals_total{call="add-chain",refusal="empty-chain"} 1`,
 		`ctserve_request_seconds_count{call="checkpoint"} 1`,
-		"ctserve_entries 5", "ctserve_queue 0", "ctserve_queue_most 1024", "ctserve_lost_swaps_total 3", "ctserve_fault 0", "ctserve_roots 1",
+		"ctserve_entries 5", "ctserve_queue 0", "ctserve_queue_most 1024", "ctserve_lost_swaps_total 3", "ctserve_fault 0", "ctserve_ready 1", "ctserve_roots 1",
 		"ctserve_swept_tiles_total 4", "ctserve_swept_heads_total 8", "ctserve_scrubbed_tiles_total 5", "ctserve_damaged_tiles 6", "ctserve_damaged_issuers 9", "ctserve_mended_objects_total 10", "ctserve_signer_starts_total 7", "ctserve_waiting_bytes 0", "ctserve_answer_bytes 0", `ctserve_connections_refused_total{bound="address"} 0`,
 	} {
 		if !strings.Contains(w.Body.String(), line+"\n") {
@@ -508,6 +508,7 @@ func TestFaultsAndDamageAreTold(t *testing.T) {
 	tells(`"level":"error","event":"fault","detail":"no disk"}`)
 	refused(t, "/readyz", f.get("/readyz"), 503, "fault")
 	measures("ctserve_fault 1")
+	measures("ctserve_ready 0")
 	f.log.Break(nil)
 	f.log.Bend("")
 	tells(`"event":"mended","detail":"no disk"}`)
@@ -539,11 +540,14 @@ func TestLinesAreBounded(t *testing.T) {
 	for i := 0; i < mostLines+7; i++ {
 		l.Info("x", "quoted \"\n", errors.New("\"\n"), "number", 7, "nothing", "", "none")
 	}
-	l.Error("y")
+	l.Warn("another event")
+	for i := 0; i < 2*mostLines; i++ {
+		l.Error("y")
+	}
 	now = now.Add(time.Second)
 	l.Info("z")
 	lines := strings.Split(strings.TrimSpace(told.String()), "\n")
-	if len(lines) != mostLines+3 || !strings.Contains(lines[mostLines+1], `"lines":7`) {
+	if len(lines) != 3*mostLines+3 || !strings.Contains(lines[mostLines], "another event") || !strings.HasSuffix(lines[3*mostLines+1], `"event":"dropped","of":"x","lines":7}`) {
 		t.Errorf("%d lines, at their end %s", len(lines), lines[len(lines)-2:])
 	}
 	for _, line := range lines {
