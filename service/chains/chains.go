@@ -80,13 +80,14 @@ func NewChecker(roots *Roots, window Window) *Checker {
 // Roots are those that chains are checked against.
 func (c *Checker) Roots() *Roots { return c.roots.Load() }
 
-// Reload reads the roots anew from a file. At an error those from before stay.
-func (c *Checker) Reload(path string) error {
-	roots, err := LoadRoots(path)
-	if err == nil {
-		c.roots.Store(roots)
+// Reload reads the roots anew, and says how many are new and how many are gone. At an error those from before stay.
+func (c *Checker) Reload(files RootFiles) (added, removed int, err error) {
+	roots, err := files.Load()
+	if err != nil {
+		return 0, 0, err
 	}
-	return err
+	added, removed = roots.changed(c.roots.Swap(roots))
+	return added, removed, nil
 }
 
 // Certificate checks a chain in DER whose first is a certificate (add-chain), and gives its entry. An error wraps a Refusal.

@@ -339,14 +339,14 @@ func TestReload(t *testing.T) {
 		t.Errorf("before: %v", err)
 	}
 	write(a.pem(t, "root"))
-	if err := c.Reload(file); err != nil {
-		t.Error(err)
+	if added, removed, err := c.Reload(RootFiles{Paths: []string{file}}); added != 1 || removed != 1 || err != nil {
+		t.Errorf("%d are new and %d gone: %v", added, removed, err)
 	}
 	write([]byte("damaged"))
-	if err := c.Reload(file); err == nil {
+	if _, _, err := c.Reload(RootFiles{Paths: []string{file}}); err == nil {
 		t.Error("a damaged file is read")
 	}
-	if err := c.Reload(file + ".absent"); err == nil {
+	if _, _, err := c.Reload(RootFiles{Paths: []string{file + ".absent"}}); err == nil {
 		t.Error("an absent file is read")
 	}
 	if _, err := c.Certificate(chain); err != nil {

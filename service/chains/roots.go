@@ -4,17 +4,22 @@ import (
 	"bytes"
 	"crypto/sha256"
 	"crypto/x509"
+	"encoding/csv"
+	"encoding/hex"
 	"encoding/pem"
+	"errors"
 	"fmt"
 	"io"
 	"os"
+	"path/filepath"
+	"strings"
 )
 
-// The bounds of a file of roots.
+// The bounds of roots.
 const (
 	// MostRoots is how many roots a log has.
 	MostRoots = 4096
-	// MostRootBytes is how many bytes their file has.
+	// MostRootBytes is how many bytes a file of them has.
 	MostRootBytes = 16 << 20
 )
 
@@ -23,10 +28,114 @@ type Roots struct {
 	certificates []*x509.Certificate
 	byHash       map[[32]byte]bool
 	bySubject    map[string][]*x509.Certificate
+	leftOut      []LeftOut
 }
 
-// LoadRoots reads roots from a file in PEM.
-func LoadRoots(path string) (*Roots, error) {
+// LeftOut is a root that isn't taken, and why.
+type LeftOut struct {
+	// From is the file that has it, Number its place among the file's certificates, from 1, and Name what the file calls it, if it does.
+	From   string
+	Number int
+	Name   string
+	// Fingerprint is SHA-256 over its bytes.
+	Fingerprint [32]byte
+	Why         error
+}
+
+func (l LeftOut) String() string {
+	return fmt.Sprintf("%s, certificate %d (%ssha256 %x): %v", l.From, l.Number, l.Name, l.Fingerprint, l.Why)
+}
+
+// errRemoved is why a root that the list of RootFiles.Without names isn't taken.
+var errRemoved = errors.New("it is taken out by its fingerprint")
+
+// RootFiles say where a log's roots are.
+type RootFiles struct {
+	// Paths are files in PEM, files of CCADB (.csv, with a column of certificates in PEM), and folders with such files (.pem, .crt and
+	// .csv). What they have together are the roots.
+	Paths []string
+	// Without is a file with a SHA-256 fingerprint of a root a line, in hexadecimal, with comments behind #: these aren't taken. None
+	// where it is empty.
+	Without string
+}
+
+// Load reads the roots of all files. A certificate that crypto/x509 doesn't read is left out, and named by LeftOut; a file that can't be
+// read, that is cut off, that has anything but certificates or has none that is read is an error: a log would quietly lose some.
+func (f RootFiles) Load() (*Roots, error) {
+	removed, err := f.removed()
+	if err != nil {
+		return nil, err
+	}
+	roots := &Roots{byHash: map[[32]byte]bool{}, bySubject: map[string][]*x509.Certificate{}}
+	for _, path := range f.Paths {
+		files, err := filesAt(path)
+		if err != nil {
+			return nil, err
+		}
+		for _, file := range files {
+			if err := roots.read(file, removed); err != nil {
+				return nil, err
+			}
+		}
+	}
+	if len(roots.certificates) == 0 {
+		return nil, fmt.Errorf("chains: roots: none")
+	}
+	return roots, nil
+}
+
+// removed are the fingerprints of the roots that aren't to be taken.
+func (f RootFiles) removed() (map[[32]byte]bool, error) {
+	if f.Without == "" {
+		return nil, nil
+	}
+	text, err := readBounded(f.Without)
+	if err != nil {
+		return nil, err
+	}
+	found := map[[32]byte]bool{}
+	for number, line := range strings.Split(string(text), "\n") {
+		line, _, _ = strings.Cut(line, "#")
+		line = strings.ToLower(strings.ReplaceAll(strings.TrimSpace(line), ":", ""))
+		if line == "" {
+			continue
+		}
+		hash, err := hex.DecodeString(line)
+		if err != nil || len(hash) != 32 {
+			return nil, fmt.Errorf("chains: roots: %s, line %d: it is no SHA-256 in hexadecimal", f.Without, number+1)
+		}
+		found[*(*[32]byte)(hash)] = true
+	}
+	return found, nil
+}
+
+// filesAt are the files that a path leads to: itself, or those of a folder that may have roots, by their names.
+func filesAt(path string) ([]string, error) {
+	info, err := os.Stat(path)
+	if err != nil {
+		return nil, fmt.Errorf("chains: roots: %w", err)
+	}
+	if !info.IsDir() {
+		return []string{path}, nil
+	}
+	entries, err := os.ReadDir(path)
+	if err != nil {
+		return nil, fmt.Errorf("chains: roots: %w", err)
+	}
+	var files []string
+	for _, entry := range entries {
+		switch filepath.Ext(entry.Name()) {
+		case ".pem", ".crt", ".csv":
+			files = append(files, filepath.Join(path, entry.Name()))
+		}
+	}
+	if len(files) == 0 {
+		return nil, fmt.Errorf("chains: roots: the folder %s has no file .pem, .crt or .csv", path)
+	}
+	return files, nil
+}
+
+func readBounded(path string) ([]byte, error) {
 	file, err := os.Open(path)
 	if err != nil {
 		return nil, fmt.Errorf("chains: roots: %w", err)
@@ -36,16 +145,112 @@ func LoadRoots(path string) (*Roots, error) {
 	if err != nil {
 		return nil, fmt.Errorf("chains: roots: %w", err)
 	}
-	return ParseRoots(text)
+	if len(text) > MostRootBytes {
+		return nil, fmt.Errorf("chains: roots: %s has more than %d bytes", path, MostRootBytes)
+	}
+	return text, nil
 }
 
-// ParseRoots reads roots in PEM: one CERTIFICATE or more, each counted once, and whatever text between them. A block of another
-// kind, or that isn't a certificate, is an error, and so is a file without roots: a log would quietly lose some.
-func ParseRoots(text []byte) (*Roots, error) {
-	if len(text) > MostRootBytes {
-		return nil, fmt.Errorf("chains: roots: more than %d bytes", MostRootBytes)
+// read adds the roots of one file.
+func (r *Roots) read(path string, removed map[[32]byte]bool) error {
+	text, err := readBounded(path)
+	if err != nil {
+		return err
 	}
-	roots := &Roots{byHash: map[[32]byte]bool{}, bySubject: map[string][]*x509.Certificate{}}
+	parts := []rootText{{text: text}}
+	if filepath.Ext(path) == ".csv" {
+		if parts, err = partsOfCSV(text); err != nil {
+			return fmt.Errorf("chains: roots: %s: %w", path, err)
+		}
+	}
+	number := 0
+	for _, part := range parts {
+		blocks, err := certificatesIn(part.text)
+		if err != nil {
+			return fmt.Errorf("chains: roots: %s: %w", path, err)
+		}
+		for _, der := range blocks {
+			number++
+			if err := r.take(der, removed, LeftOut{From: path, Number: number, Name: part.name}); err != nil {
+				return err
+			}
+		}
+	}
+	if number == 0 {
+		return fmt.Errorf("chains: roots: %s has none", path)
+	}
+	return nil
+}
+
+// take adds one root, or says of it why it is left out.
+func (r *Roots) take(der []byte, removed map[[32]byte]bool, of LeftOut) error {
+	of.Fingerprint = sha256.Sum256(der)
+	if removed[of.Fingerprint] {
+		of.Why = errRemoved
+		r.leftOut = append(r.leftOut, of)
+		return nil
+	}
+	certificate, err := x509.ParseCertificate(der)
+	if err != nil {
+		of.Why = err
+		r.leftOut = append(r.leftOut, of)
+		return nil
+	}
+	r.add(certificate)
+	if len(r.certificates) > MostRoots {
+		return fmt.Errorf("chains: roots: more than %d", MostRoots)
+	}
+	return nil
+}
+
+// rootText is PEM, and what its file calls the certificate.
+type rootText struct {
+	name string
+	text []byte
+}
+
+// partsOfCSV reads a file of CCADB: its first line names the columns, and that of a certificate in PEM has PEM in its name. The text may
+// stand between apostrophes.
+func partsOfCSV(text []byte) ([]rootText, error) {
+	lines := csv.NewReader(bytes.NewReader(text))
+	lines.LazyQuotes = true
+	header, err := lines.Read()
+	if err != nil {
+		return nil, err
+	}
+	pemAt, nameAt := -1, -1
+	for at, column := range header {
+		switch {
+		case pemAt < 0 && strings.Contains(column, "PEM"):
+			pemAt = at
+		case nameAt < 0 && strings.Contains(column, "Certificate Name"):
+			nameAt = at
+		}
+	}
+	if pemAt < 0 {
+		return nil, errors.New("no column has PEM in its name")
+	}
+	var parts []rootText
+	for {
+		row, err := lines.Read()
+		if err == io.EOF {
+			return parts, nil
+		}
+		if err != nil {
+			return nil, err
+		}
+		part := rootText{text: []byte(strings.Trim(row[pemAt], "' \n"))}
+		if nameAt >= 0 {
+			part.name = fmt.Sprintf("%.80q, ", row[nameAt])
+		}
+		parts = append(parts, part)
+	}
+}
+
+// certificatesIn are the bytes of the certificates in PEM, with whatever text between them. A block of another kind, or one that is cut
+// off, is an error.
+func certificatesIn(text []byte) ([][]byte, error) {
+	var found [][]byte
 	rest, number := text, 1
 	for ; ; number++ {
 		var block *pem.Block
@@ -53,25 +258,58 @@ func ParseRoots(text []byte) (*Roots, error) {
 			break
 		}
 		if block.Type != "CERTIFICATE" {
-			return nil, fmt.Errorf("chains: roots: block %d is a %.40q", number, block.Type)
+			return nil, fmt.Errorf("block %d is a %.40q", number, block.Type)
 		}
-		certificate, err := x509.ParseCertificate(block.Bytes)
-		if err != nil {
-			return nil, fmt.Errorf("chains: roots: block %d: %w", number, err)
-		}
-		roots.add(certificate)
-		if len(roots.certificates) > MostRoots {
-			return nil, fmt.Errorf("chains: roots: more than %d", MostRoots)
-		}
+		found = append(found, block.Bytes)
 	}
 	// What pem.Decode can't read it passes over.
 	if begun := bytes.Count(text, []byte("-----BEGIN ")); begun != number-1 {
-		return nil, fmt.Errorf("chains: roots: %d blocks begin, and %d are read", begun, number-1)
+		return nil, fmt.Errorf("%d blocks begin, and %d are read", begun, number-1)
+	}
+	return found, nil
+}
+
+// ParseRoots reads roots in PEM: one CERTIFICATE or more, each counted once, and whatever text between them. A block of another kind, or
+// that isn't a certificate, is an error, and so is a text without roots.
+func ParseRoots(text []byte) (*Roots, error) {
+	if len(text) > MostRootBytes {
+		return nil, fmt.Errorf("chains: roots: more than %d bytes", MostRootBytes)
+	}
+	blocks, err := certificatesIn(text)
+	if err != nil {
+		return nil, fmt.Errorf("chains: roots: %w", err)
+	}
+	roots := &Roots{byHash: map[[32]byte]bool{}, bySubject: map[string][]*x509.Certificate{}}
+	for at, der := range blocks {
+		if err := roots.take(der, nil, LeftOut{Number: at + 1}); err != nil {
+			return nil, err
+		}
+	}
+	if len(roots.leftOut) > 0 {
+		return nil, fmt.Errorf("chains: roots: block %d: %w", roots.leftOut[0].Number, roots.leftOut[0].Why)
 	}
 	if len(roots.certificates) == 0 {
 		return nil, fmt.Errorf("chains: roots: none")
 	}
 	return roots, nil
+}
+
+// LeftOut are the certificates of the files that aren't among the roots, in the files' order.
+func (r *Roots) LeftOut() []LeftOut { return append([]LeftOut{}, r.leftOut...) }
+
+// changed counts the roots that others lack, and the other way round.
+func (r *Roots) changed(before *Roots) (added, removed int) {
+	for hash := range r.byHash {
+		if !before.byHash[hash] {
+			added++
+		}
+	}
+	for hash := range before.byHash {
+		if !r.byHash[hash] {
+			removed++
+		}
+	}
+	return added, removed
 }
 
 func (r *Roots) add(certificate *x509.Certificate) {

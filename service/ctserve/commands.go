@@ -20,7 +20,6 @@ import (
 	"strings"
 	"time"
 
-	"wagtenib/service/chains"
 	"wagtenib/service/signer"
 	"wagtenib/service/version"
 	"wagtenib/service/web"
@@ -267,12 +266,17 @@ func runCheck(words []string, answers, faults io.Writer) error {
 		}
 		look("signing-key", said, err)
 	}
-	roots, err := chains.LoadRoots(s.roots)
+	roots, err := s.roots.Load()
 	said := ""
 	if err == nil {
 		said = fmt.Sprintf("%d roots", len(roots.Certificates()))
 	}
 	look("roots", said, err)
+	if err == nil {
+		for _, each := range roots.LeftOut() {
+			look("roots", "left out: "+each.String(), nil)
+		}
+	}
 	if s.certificate != "" {
 		_, err := web.LoadCertificate(s.certificate, s.key)
 		look("tls-certificate", s.certificate, err)

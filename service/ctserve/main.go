@@ -86,10 +86,11 @@ type served struct {
 }
 
 func serve(s *settings, lines *web.Lines, signals <-chan os.Signal, open opener) (err error) {
-	roots, err := chains.LoadRoots(s.roots)
+	roots, err := s.roots.Load()
 	if err != nil {
 		return err
 	}
+	tellLeftOut(roots, lines)
 	var certificate *web.Certificate
 	var over *tls.Config
 	if s.certificate != "" {
@@ -164,6 +165,13 @@ func awaitHead(s *settings, of log.Log) {
 	}
 }
 
+// tellLeftOut tells which certificates of the files of roots aren't roots of the log.
+func tellLeftOut(roots *chains.Roots, lines *web.Lines) {
+	for _, each := range roots.LeftOut() {
+		lines.Warn("root-left-out", "root", each)
+	}
+}
+
 // tellHead tells what is served, from where it goes on.
 func tellHead(s *settings, of log.Log, lines *web.Lines) {
 	ctx, cancel := context.WithTimeout(context.Background(), s.limits.Reading)
@@ -187,15 +195,19 @@ func wait(s *settings, front *web.Front, checker *chains.Checker, certificate *w
 				lines.Info("ending", "signal", came)
 				return nil
 			}
-			reloaded := func(of string, err error) {
+			reloaded := func(of string, err error, more ...any) {
 				front.Reloaded(of, err)
 				if err != nil {
 					lines.Error("reload", "of", of, "fault", err)
 					return
 				}
-				lines.Info("reload", "of", of)
+				lines.Info("reload", append([]any{"of", of}, more...)...)
 			}
-			reloaded("roots", checker.Reload(s.roots))
+			added, removed, err := checker.Reload(s.roots)
+			reloaded("roots", err, "roots", len(checker.Roots().Certificates()), "added", added, "removed", removed)
+			if err == nil {
+				tellLeftOut(checker.Roots(), lines)
+			}
 			if certificate != nil {
 				reloaded("certificate", certificate.Reload())
 			}

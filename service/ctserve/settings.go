@@ -23,7 +23,7 @@ type settings struct {
 	listen, operator           string
 	certificate, key           string
 	proxies                    []netip.Prefix
-	roots                      string
+	roots                      chains.RootFiles
 	window                     chains.Window
 	limits                     web.Limits
 	endWithin                  time.Duration
@@ -67,7 +67,11 @@ func parse(words []string, help io.Writer) (*settings, error) {
 		s.proxies, err = prefixes(text)
 		return err
 	})
-	flags.StringVar(&s.roots, "roots", "", "`file` with the log's roots in PEM, read again at SIGHUP")
+	flags.Func("roots", "`files` with the log's roots, with commas between them, read again at SIGHUP: in PEM, CCADB's .csv, or folders with such", func(text string) error {
+		s.roots.Paths = strings.Split(text, ",")
+		return nil
+	})
+	flags.StringVar(&s.roots.Without, "roots-without", "", "`file` with the SHA-256 fingerprint of a root a line: these aren't taken")
 	flags.Func("not-after-from", "certificates that end before this `moment` are refused (2026-07-01 or 2026-07-01T00:00:00Z)", moment(&s.window.From))
 	flags.Func("not-after-to", "certificates that end at this `moment` or later are refused", moment(&s.window.To))
 	flags.DurationVar(&s.endWithin, "end-within", 30*time.Second, "how long an end by SIGTERM may take, until who waits isn't answered")
@@ -167,7 +171,7 @@ func readSettings(flags *flag.FlagSet, path string) error {
 // settle looks at what has to go together, and fills in what follows from the rest.
 func (s *settings) settle() error {
 	n, l := &s.node, s.limits
-	for _, needed := range []struct{ name, value string }{{"roots", s.roots}, {"origin", n.origin}, {"signing-key or --signer-at", n.signingKey + n.signerAt}} {
+	for _, needed := range []struct{ name, value string }{{"roots", strings.Join(s.roots.Paths, "")}, {"origin", n.origin}, {"signing-key or --signer-at", n.signingKey + n.signerAt}} {
 		if needed.value == "" {
 			return fmt.Errorf("--%s is needed", needed.name)
 		}

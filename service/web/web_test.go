@@ -372,7 +372,7 @@ func TestRoots(t *testing.T) {
 		}
 		path := t.TempDir() + "/roots.pem"
 		writeFile(t, path, append(f.authority.PEM(), other.PEM()...))
-		if err := f.checker.Reload(path); err != nil {
+		if _, _, err := f.checker.Reload(chains.RootFiles{Paths: []string{path}}); err != nil {
 			t.Fatal(err)
 		}
 	}
