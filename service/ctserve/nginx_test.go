@@ -40,7 +40,7 @@ func nginxBefore(t *testing.T, clients string) string {
 	site := string(text)
 	for _, change := range [][2]string{
 		{"listen 443 ssl http2;", "listen " + address + ";"}, {"ssl_certificate /etc/ssl/log.example.pem;", ""}, {"ssl_certificate_key /etc/ssl/log.example.key;", ""},
-		{"server 127.0.0.1:8618;", "server " + clients + ";"}, {"/var/cache/nginx/ctserve", folder + "/cache"},
+		{"server 127.0.0.1:8618;", "server " + clients + ";"}, {"/var/lib/nginx/ctserve", folder + "/cache"},
 	} {
 		if strings.Count(site, change[0]) != 1 {
 			t.Fatalf("nginx.conf has %q %d times", change[0], strings.Count(site, change[0]))
@@ -138,6 +138,22 @@ func TestBehindNginx(t *testing.T) {
 		}
 		if status, _ := get(address, "/tile/data/009"); status != 404 {
 			t.Errorf("no tile: %d", status)
+		}
+	}
+	// Whatever stands behind a question mark, and whatever a client takes, it is the same tile.
+	plain := http.Client{Transport: &http.Transport{DisableCompression: true}}
+	for i, takes := range []string{"", "gzip", "br", "gzip, br", "identity"} {
+		request, _ := http.NewRequest("GET", fmt.Sprintf("http://%s/tile/data/000.p/2?%d", address, i), nil)
+		if takes != "" {
+			request.Header.Set("Accept-Encoding", takes)
+		}
+		answer, err := plain.Do(request)
+		if err != nil {
+			t.Fatal(err)
+		}
+		answer.Body.Close()
+		if packed := answer.Header.Get("Content-Encoding") == "gzip"; answer.StatusCode != 200 || packed != strings.Contains(takes, "gzip") {
+			t.Errorf("to who takes %q: %d %v", takes, answer.StatusCode, answer.Header)
 		}
 	}
 	if count := tiles(); count != 1 {

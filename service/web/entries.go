@@ -4,6 +4,7 @@ import (
 	"context"
 	"crypto/sha256"
 	"encoding/hex"
+	"encoding/json"
 	"errors"
 	"fmt"
 	"net/http"
@@ -58,10 +59,14 @@ func (f *Front) getEntries(w http.ResponseWriter, r *http.Request) error {
 	if err != nil {
 		return err
 	}
-	w.Header().Set("Cache-Control", forASecond)
-	writeJSON(w, http.StatusOK, struct {
+	text, err := json.Marshal(struct {
 		Entries []entryOf `json:"entries"`
 	}{entries})
+	if err != nil {
+		return err
+	}
+	w.Header().Set("Cache-Control", forASecond)
+	f.writePacked(w, r, "application/json", append(text, '\n'))
 	return nil
 }
 
@@ -70,12 +75,16 @@ func badParameter(detail string) error {
 }
 
 func parameter(query url.Values, name string) (uint64, error) {
-	if len(query[name]) != 1 {
-		return 0, badParameter(name + " stands there once")
+	switch len(query[name]) {
+	case 0:
+		return 0, badParameter(name + " is missing")
+	case 1:
+	default:
+		return 0, badParameter(name + " stands there more than once")
 	}
 	value, ok := number(query[name][0], stores.MostNumber)
 	if !ok {
-		return 0, badParameter(name + " is a number from 0")
+		return 0, badParameter(fmt.Sprintf("%s is a number from 0 to %d", name, uint64(stores.MostNumber)))
 	}
 	return value, nil
 }

@@ -74,8 +74,29 @@ func (f *Front) checkpoint(w http.ResponseWriter, r *http.Request) error {
 	if err != nil {
 		return err
 	}
-	f.object(w, forASecond, "text/plain; charset=utf-8", head.Note)
+	hash := sha256.Sum256(head.Note)
+	tag := `"` + hex.EncodeToString(hash[:]) + `"`
+	w.Header().Set("ETag", tag)
+	if r.Header.Get("If-None-Match") != "" && hasTag(r.Header.Values("If-None-Match"), tag) {
+		w.Header().Set("Cache-Control", forASecond)
+		w.WriteHeader(http.StatusNotModified)
+		return nil
+	}
+	w.Header().Set("Cache-Control", forASecond)
+	write(w, http.StatusOK, "text/plain; charset=utf-8", head.Note)
 	return nil
+}
+
+// hasTag says whether a list of tags has one, or any (RFC 9110, section 13.1.2). One that a proxy made weak is the same.
+func hasTag(lists []string, tag string) bool {
+	for _, list := range lists {
+		for _, one := range strings.Split(list, ",") {
+			if one = strings.TrimSpace(one); one == "*" || strings.TrimPrefix(one, "W/") == tag {
+				return true
+			}
+		}
+	}
+	return false
 }
 
 // tile answers a tile of hashes or of entries, which has as many as its name says: what a cache takes it keeps for ever. A partial one has its
@@ -98,7 +119,12 @@ func (f *Front) tile(w http.ResponseWriter, r *http.Request) error {
 	if name.width != fullWidth {
 		keep = forAWhile
 	}
-	f.object(w, keep, "application/octet-stream", content)
+	w.Header().Set("Cache-Control", keep)
+	if name.data {
+		f.writePacked(w, r, "application/octet-stream", content)
+		return nil
+	}
+	write(w, http.StatusOK, "application/octet-stream", content)
 	return nil
 }
 
@@ -117,12 +143,7 @@ func (f *Front) issuer(w http.ResponseWriter, r *http.Request) error {
 	if hash := sha256.Sum256(content); hex.EncodeToString(hash[:]) != fingerprint {
 		return fmt.Errorf("%w: issuer/%s has another content", log.ErrStore, fingerprint)
 	}
-	f.object(w, forEver, "application/pkix-cert", content)
+	w.Header().Set("Cache-Control", forEver)
+	write(w, http.StatusOK, "application/pkix-cert", content)
 	return nil
-}
-
-func (f *Front) object(w http.ResponseWriter, keep, kind string, content []byte) {
-	w.Header().Set("Cache-Control", keep)
-	w.Header().Set("Access-Control-Allow-Origin", anybodyElse)
-	write(w, http.StatusOK, kind, content)
 }

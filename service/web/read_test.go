@@ -2,10 +2,12 @@ package web
 
 import (
 	"bytes"
+	"compress/gzip"
 	"context"
 	"encoding/base64"
 	"encoding/json"
 	"fmt"
+	"io"
 	"net/http/httptest"
 	"net/netip"
 	"net/url"
@@ -347,6 +349,113 @@ func TestEntriesAreBoundedByBytes(t *testing.T) {
 		if entries := f.entries(start, 2); len(entries) != 1 {
 			t.Errorf("%d entries from %d on", len(entries), start)
 		}
+	}
+}
+
+// Of a list of tags one, in any form that a cache gives it, says that the checkpoint is the same; another doesn't.
+func TestCheckpointByItsTag(t *testing.T) {
+	f := newFixture(t, 0, nil)
+	f.fill(3)
+	asked := func(tags ...string) *httptest.ResponseRecorder {
+		w, r := httptest.NewRecorder(), httptest.NewRequest("GET", "/checkpoint", nil)
+		for _, tag := range tags {
+			r.Header.Add("If-None-Match", tag)
+		}
+		f.front.ServeHTTP(w, r)
+		return w
+	}
+	first := asked()
+	tag := first.Header().Get("ETag")
+	if first.Code != 200 || len(tag) < 3 || tag[0] != '"' {
+		t.Fatalf("%d, ETag %q", first.Code, tag)
+	}
+	for _, tags := range [][]string{{tag}, {"W/" + tag}, {`"x", ` + tag}, {`"x"`, tag}, {"*"}} {
+		w := asked(tags...)
+		if w.Code != 304 || w.Body.Len() != 0 || w.Header().Get("ETag") != tag || w.Header().Get("Cache-Control") != "public, max-age=1" {
+			t.Errorf("%q: %d, %d bytes, %v", tags, w.Code, w.Body.Len(), w.Header())
+		}
+	}
+	for _, tags := range [][]string{{}, {""}, {`"x"`}, {strings.Trim(tag, `"`)}} {
+		if w := asked(tags...); w.Code != 200 || !bytes.Equal(w.Body.Bytes(), first.Body.Bytes()) {
+			t.Errorf("%q: %d", tags, w.Code)
+		}
+	}
+	f.fill(1)
+	if w := asked(tag); w.Code != 200 || w.Header().Get("ETag") == tag {
+		t.Errorf("the next head: %d, %v", w.Code, w.Header())
+	}
+}
+
+// Data tiles and entries come in gzip to who takes it, and are the same; what doesn't get smaller isn't packed, and no refusal is.
+func TestAnswersInGzip(t *testing.T) {
+	f := newFixture(t, 0, nil)
+	f.fill(260)
+	asked := func(path, takes string) *httptest.ResponseRecorder {
+		w, r := httptest.NewRecorder(), httptest.NewRequest("GET", path, nil)
+		if takes != "" {
+			r.Header.Set("Accept-Encoding", takes)
+		}
+		f.front.ServeHTTP(w, r)
+		return w
+	}
+	for _, path := range []string{"/tile/data/000", "/tile/data/001.p/4", "/ct/v1/get-entries?start=0&end=255"} {
+		plain := asked(path, "")
+		for takes, packs := range map[string]bool{"": false, "gzip": true, "br, gzip;q=0.5": true, "GZIP": true, "gzip;q=0": false, "gzip; q=0.0": false, "identity": false, "gzip;q=x": false} {
+			w := asked(path, takes)
+			content := w.Body.Bytes()
+			if packed := w.Header().Get("Content-Encoding") == "gzip"; packed != packs {
+				t.Errorf("%s to who takes %q: in gzip %v", path, takes, packed)
+				continue
+			}
+			if w.Header().Get("Vary") != "Accept-Encoding" || w.Header().Get("Content-Length") != fmt.Sprint(len(content)) {
+				t.Errorf("%s: %v", path, w.Header())
+			}
+			if packs {
+				unpacker, err := gzip.NewReader(bytes.NewReader(content))
+				if err != nil {
+					t.Fatal(err)
+				}
+				if content, err = io.ReadAll(unpacker); err != nil || w.Body.Len() >= plain.Body.Len() {
+					t.Errorf("%s: %d bytes of %d, %v", path, w.Body.Len(), plain.Body.Len(), err)
+				}
+			}
+			if !bytes.Equal(content, plain.Body.Bytes()) {
+				t.Errorf("%s to who takes %q is another", path, takes)
+			}
+		}
+	}
+	for _, path := range []string{"/tile/0/000", "/checkpoint", "/tile/data/009", "/ct/v1/get-entries"} {
+		if w := asked(path, "gzip"); w.Header().Get("Content-Encoding") != "" {
+			t.Errorf("%s is in gzip", path)
+		}
+	}
+	if used := f.front.answers.used.Load(); used != 0 {
+		t.Errorf("%d bytes are still counted", used)
+	}
+}
+
+// A page of elsewhere may read each answer of a call that reads, also a refusal, and may ask whether it may; of a submission it may not.
+func TestPagesOfElsewhere(t *testing.T) {
+	f := newFixture(t, 0, nil)
+	f.fill(3)
+	for path, status := range map[string]int{
+		"/checkpoint": 200, "/ct/v1/get-sth": 200, "/ct/v1/get-entries?start=0&end=1": 200, "/ct/v1/get-entries": 400, "/tile/0/000.p/3": 200, "/tile/0/009": 404,
+		"/tile/x": 404, "/issuer/x": 404, "/ct/v1/get-roots": 200, "/ct/v1/get-proof-by-hash": 400,
+	} {
+		if w := f.get(path); w.Code != status || w.Header().Get("Access-Control-Allow-Origin") != "*" {
+			t.Errorf("%s: %d %v", path, w.Code, w.Header())
+		}
+		w := f.do("OPTIONS", path, nil)
+		header := w.Header()
+		if w.Code != 204 || w.Body.Len() != 0 || header.Get("Access-Control-Allow-Origin") != "*" || header.Get("Access-Control-Allow-Methods") != "GET, HEAD, OPTIONS" || header.Get("Allow") != "GET, HEAD, OPTIONS" {
+			t.Errorf("OPTIONS %s: %d %v", path, w.Code, header)
+		}
+	}
+	refused(t, "OPTIONS with a body", f.do("OPTIONS", "/checkpoint", []byte("x")), 405, "method")
+	w := f.do("OPTIONS", "/ct/v1/add-chain", nil)
+	refused(t, "OPTIONS add-chain", w, 405, "method")
+	if w.Header().Get("Access-Control-Allow-Origin") != "" {
+		t.Errorf("add-chain: %v", w.Header())
 	}
 }
 

@@ -78,7 +78,7 @@ func (f *Front) refuse(a *answer, r refusal) {
 		return
 	}
 	header := a.Header()
-	for _, name := range []string{"ETag", "Content-Length", "Content-Security-Policy"} {
+	for _, name := range []string{"ETag", "Content-Length", "Content-Encoding", "Vary", "Content-Security-Policy"} {
 		header.Del(name)
 	}
 	header.Set("Cache-Control", "no-store")

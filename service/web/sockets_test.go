@@ -111,7 +111,10 @@ func TestUnclearRequests(t *testing.T) {
 	}{
 		{"two requests one behind the other", get + "\r\n" + get + "\r\n", []int{200, 200}},
 		{"a GET with a body", get + fmt.Sprintf("Content-Length: %d\r\n\r\n", len(hidden)) + hidden, []int{400}},
-		{"a GET with a body in chunks", get + "Transfer-Encoding: chunked\r\n\r\n0\r\n\r\n" + hidden, []int{400}},
+		{"a GET with a body in chunks", get + "Transfer-Encoding: chunked\r\n\r\n0\r\n\r\n" + hidden, []int{411}},
+		{"a length and chunks at nobody's path", fmt.Sprintf("POST /nothing HTTP/1.1\r\nHost: log\r\nContent-Length: %d\r\nTransfer-Encoding: chunked\r\n\r\n0\r\n\r\n", 5+len(hidden)) + hidden, []int{411}},
+		{"a length and chunks where one reads", fmt.Sprintf("POST /checkpoint HTTP/1.1\r\nHost: log\r\nContent-Length: %d\r\nTransfer-Encoding: chunked\r\n\r\n0\r\n\r\n", 5+len(hidden)) + hidden, []int{411}},
+		{"a length and chunks, and a question before", fmt.Sprintf("OPTIONS /checkpoint HTTP/1.1\r\nHost: log\r\nContent-Length: %d\r\nTransfer-Encoding: chunked\r\n\r\n0\r\n\r\n", 5+len(hidden)) + hidden, []int{411}},
 		{"a GET with an announced body", get + "Content-Length: 100\r\n\r\n", []int{400}},
 		{"two lengths", post + fmt.Sprintf("Content-Length: 2\r\nContent-Length: %d\r\n\r\n{}", len(hidden)+2) + hidden, []int{400}},
 		{"two lengths in one", post + "Content-Length: 2, 3\r\n\r\n{}" + hidden, []int{400}},

@@ -62,9 +62,9 @@ func timestampOf(place log.Place) signedTimestamp {
 }
 
 // body reads a submission, and says how many bytes of the budget it took. A body whose length isn't said is refused: no client
-// of logs sends one, and where two programs on the way disagree about where it ends, one takes its rest for a request.
+// of logs sends one.
 func (f *Front) body(r *http.Request, client netip.Addr) (body []byte, taken int64, err error) {
-	if r.ContentLength < 0 || len(r.TransferEncoding) > 0 {
+	if r.ContentLength < 0 {
 		return nil, 0, refusal{status: http.StatusLengthRequired, name: "length-required", closes: true}
 	}
 	if r.ContentLength > MostBody {

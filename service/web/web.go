@@ -97,6 +97,7 @@ type Front struct {
 	metrics     *metrics
 	ending      atomic.Bool
 	checks      chan struct{}
+	packs       chan struct{}
 	waiting     budget
 	waitingOf   counts
 	answers     budget
@@ -116,6 +117,7 @@ func New(of log.Log, proofs *reader.Reader, checker *chains.Checker, options Opt
 	f := &Front{
 		log: of, reader: proofs, checker: checker, options: options, limits: limits,
 		checks:    make(chan struct{}, limits.Checks),
+		packs:     make(chan struct{}, limits.Checks),
 		waiting:   budget{most: limits.WaitingBytes},
 		waitingOf: counts{most: byAddress(limits.WaitingBytes, MostBody)},
 		answers:   budget{most: limits.AnswerBytes},
@@ -190,6 +192,15 @@ func (f *Front) ServeHTTP(w http.ResponseWriter, r *http.Request) {
 		f.told(c, a, r, time.Since(began))
 	}()
 	a.Header().Set("X-Content-Type-Options", "nosniff")
+	if len(r.TransferEncoding) > 0 {
+		// Where two programs on the way disagree about where a body ends, one takes its rest for a request (RFC 9112, section 6.1).
+		f.refuse(a, refusal{status: http.StatusLengthRequired, name: "length-required", closes: true})
+		return
+	}
+	if c.method == http.MethodGet {
+		a.Header().Set("Access-Control-Allow-Origin", anybodyElse)
+		a.Header().Set("Access-Control-Expose-Headers", "ETag, Retry-After")
+	}
 	client := f.clientOf(r)
 	if !f.requests.take(client) {
 		f.refuse(a, refusal{status: http.StatusTooManyRequests, name: "too-many-requests", after: 1})
@@ -211,6 +222,15 @@ func (f *Front) serve(c call, w http.ResponseWriter, r *http.Request) error {
 	if c.serve == nil {
 		return refusal{status: http.StatusNotFound, name: "no-such-path"}
 	}
+	if r.Method == http.MethodOptions && c.method == http.MethodGet && r.ContentLength == 0 {
+		// A browser asks so before a page of elsewhere may ask (the Fetch standard, section 3.2).
+		w.Header().Set("Allow", allowed(c))
+		w.Header().Set("Access-Control-Allow-Methods", allowed(c))
+		w.Header().Set("Access-Control-Allow-Headers", "If-None-Match")
+		w.Header().Set("Access-Control-Max-Age", "86400")
+		w.WriteHeader(http.StatusNoContent)
+		return nil
+	}
 	if r.Method != c.method && !(r.Method == http.MethodHead && c.method == http.MethodGet) {
 		w.Header().Set("Allow", allowed(c))
 		return refusal{status: http.StatusMethodNotAllowed, name: "method"}
@@ -223,7 +243,7 @@ func (f *Front) serve(c call, w http.ResponseWriter, r *http.Request) error {
 
 func allowed(c call) string {
 	if c.method == http.MethodGet {
-		return "GET, HEAD"
+		return "GET, HEAD, OPTIONS"
 	}
 	return c.method
 }
