@@ -1,0 +1,28 @@
+-- Laws of elements.
+use Rattle.std.specs.Prelude.{◌≡◌, ◌<◌, ◌++◌, ℕ, List, length, Ok, Err}
+use Rattle.std.specs.Prelude.{get_or}
+use Rattle.ct_der.specs.declared.fault.DerFault.TheVariants.{Truncated}
+use Rattle.ct_der.specs.Element.{IsTlv}
+use Rattle.ct_der.specs.Reading.{element_at}
+
+-- each number is a byte, or stands behind the end
+abbrev pub IsBytes : List ℕ → Type 0
+IsBytes bytes = (i : ℕ) → get_or bytes i 0 < 256
+
+-- What is read is what the bytes begin with.
+abbrev pub ReadElementsAreThere : Type 0
+ReadElementsAreThere =
+    (b c r : List ℕ) (tag : ℕ) → IsBytes b → element_at b ≡ Ok (tag, c, r) → (x : List ℕ) × IsTlv tag c x × (b ≡ x ++ r)
+
+-- An element is read, whatever follows it.
+abbrev pub ElementsAreRead : Type 0
+ElementsAreRead = (tag : ℕ) (c x r : List ℕ) → IsTlv tag c x → element_at (x ++ r) ≡ Ok (tag, c, r)
+
+-- No bytes begin with two elements.
+abbrev pub ElementsStandApart : Type 0
+ElementsStandApart =
+    (t u : ℕ) (c d x y r s : List ℕ) → IsTlv t c x → IsTlv u d y → x ++ r ≡ y ++ s → (t ≡ u) × (c ≡ d) × (r ≡ s)
+
+-- Each proper beginning of an element is refused, as truncated.
+abbrev pub BeginningsAreTruncated : Type 0
+BeginningsAreTruncated = (t : ℕ) (c x y s : List ℕ) → IsTlv t c x → 0 < length s → x ≡ y ++ s → element_at y ≡ Err Truncated

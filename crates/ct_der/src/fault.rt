@@ -1,0 +1,29 @@
+//! Why bytes begin with no element.
+
+use thiserror::Error;
+
+/// Why bytes begin with no element: the first fault from the left (X.690, sections 8.1 and 10.1). A fault's text is its name.
+#[derive(Clone, Copy, Debug, PartialEq, Eq, Error)]
+pub enum DerFault {
+    /// The bytes end before the element is whole.
+    #[error("truncated")]
+    Truncated,
+    /// The tag has more than one byte: its low five bits are 31 (X.690, section 8.1.2.4).
+    #[error("long-tag")]
+    LongTag,
+    /// The length is indefinite, which BER allows (X.690, sections 8.1.3.6 and 10.1).
+    #[error("indefinite-length")]
+    IndefiniteLength,
+    /// The length has more than four bytes behind the first.
+    #[error("long-length")]
+    LongLength,
+    /// The length has more bytes than it needs, which BER allows (X.690, section 10.1).
+    #[error("padded-length")]
+    PaddedLength,
+    /// The element has another tag than it must have.
+    #[error("other-tag")]
+    OtherTag,
+    /// Bytes follow the last element.
+    #[error("trailing")]
+    Trailing,
+}

@@ -1,0 +1,27 @@
+//! Laws of elements (X.690, sections 8.1 and 10.1), each the contract of a function that does nothing.
+
+ghost use Rattle.ct_der.specs.Laws.{ReadElementsAreThere, ElementsAreRead, ElementsStandApart, BeginningsAreTruncated};
+
+/// What `element` reads is what the bytes begin with.
+#[tactic(auto, using(crate::proofs::Elements::read_elements_are_there))]
+pub fn read_elements_are_there()
+    ensures { ReadElementsAreThere }
+{}
+
+/// An element is read, whatever follows it.
+#[tactic(auto, using(crate::proofs::Elements::elements_are_read))]
+pub fn elements_are_read()
+    ensures { ElementsAreRead }
+{}
+
+/// No bytes have two readings: those that begin with two elements begin with one, and the same follows.
+#[tactic(auto, using(crate::proofs::Elements::elements_stand_apart))]
+pub fn elements_stand_apart()
+    ensures { ElementsStandApart }
+{}
+
+/// Each proper beginning of an element is refused as truncated.
+#[tactic(auto, using(crate::proofs::Prefixes::beginnings_are_truncated))]
+pub fn beginnings_are_truncated()
+    ensures { BeginningsAreTruncated }
+{}

@@ -1,0 +1,36 @@
+-- Laws of certificates' names.
+use Rattle.std.specs.Prelude.{◌≡◌, ◌<◌, ◌++◌, ℕ, List, length, Ok, Err}
+use Rattle.ct_der.specs.declared.fault.DerFault.TheVariants.{Truncated}
+use Rattle.ct_names.specs.declared.fault.Place.TheVariants as at
+use Rattle.ct_names.specs.Names.{Named}
+use Rattle.ct_names.specs.Reading.{certificate_names, bare_names}
+use Rattle.ct_der.specs.Laws.{IsBytes}
+use Rattle.std.specs.Bool.{Decides}
+use Rattle.ct_names.specs.Covers.{covered, Covers}
+use Rattle.ct_names.specs.Certificate.{NamesOf, BareNamesOf}
+
+-- The names of each certificate of the grammar are read.
+abbrev pub CertificatesAreRead : Type 0
+CertificatesAreRead = (ns : List Named) (b : List ℕ) → NamesOf ns b → certificate_names b ≡ Ok ns
+
+-- .. and those of each TBSCertificate are read
+abbrev pub BareCertificatesAreRead : Type 0
+BareCertificatesAreRead = (ns : List Named) (b : List ℕ) → BareNamesOf ns b → bare_names b ≡ Ok ns
+
+-- No bytes have two readings.
+abbrev pub CertificatesHaveOneReading : Type 0
+CertificatesHaveOneReading = (ns ms : List Named) (b : List ℕ) → NamesOf ns b → NamesOf ms b → ns ≡ ms
+
+-- Each proper beginning of a certificate is refused, as truncated.
+abbrev pub BeginningsAreRefused : Type 0
+BeginningsAreRefused =
+    (ns : List Named) (b y s : List ℕ) → NamesOf ns b → 0 < length s → b ≡ y ++ s
+    → certificate_names y ≡ Err (record { place = at.Certificate; fault = Truncated })
+
+-- A name covers a watched one exactly where it is that name or below it, or a wildcard over it, by labels.
+abbrev pub CoveringIsByLabels : Type 0
+CoveringIsByLabels = (name watched : List ℕ) → Decides (covered name watched) (Covers name watched)
+
+-- What is read as a certificate is one of the grammar, with these names.
+abbrev pub ReadCertificatesAreThere : Type 0
+ReadCertificatesAreThere = (ns : List Named) (b : List ℕ) → IsBytes b → certificate_names b ≡ Ok ns → NamesOf ns b

@@ -1,0 +1,33 @@
+//! Laws of names, each the contract of a function that does nothing.
+
+ghost use Rattle.ct_names.specs.Laws.{CertificatesAreRead, BareCertificatesAreRead, CertificatesHaveOneReading, BeginningsAreRefused, CoveringIsByLabels, ReadCertificatesAreThere};
+
+/// The names of each certificate of the grammar are read (RFC 5280, section 4.1).
+pub fn certificates_are_read()
+    ensures { CertificatesAreRead }
+{}
+
+/// The names of each TBSCertificate of the grammar are read.
+pub fn bare_certificates_are_read()
+    ensures { BareCertificatesAreRead }
+{}
+
+/// No bytes have two readings.
+pub fn certificates_have_one_reading()
+    ensures { CertificatesHaveOneReading }
+{}
+
+/// Each proper beginning of a certificate is refused, as `truncated in certificate`.
+pub fn beginnings_are_refused()
+    ensures { BeginningsAreRefused }
+{}
+
+/// A name covers a watched one exactly where it is that name or below it, or a wildcard over it, by labels (RFC 9525, section 6.3).
+pub fn covering_is_by_labels()
+    ensures { CoveringIsByLabels }
+{}
+
+/// What is read as a certificate is one of the grammar, with these names.
+pub fn read_certificates_are_there()
+    ensures { ReadCertificatesAreThere }
+{}
