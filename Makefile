@@ -1,4 +1,4 @@
-.PHONY: help demo test check service service-test service-engines service-faults service-clients cluster cluster-status cluster-stop link install install-library install-ctlog install-ctlogd install-ctmonitor install-ctguard install-cttile install-ctproof fuzz load sweep wrong sources serve serve-ctlogd tiles interop release reproduce
+.PHONY: help demo test check service service-test service-engines service-faults service-clients cluster cluster-status cluster-stop link install install-library install-ctlog install-ctlogd install-ctmonitor install-ctguard install-cttile install-ctproof fuzz load sweep wrong sources serve serve-ctlogd tiles interop release reproduce bare
 
 SECONDS ?= 60
 RUNS ?= 20
@@ -95,6 +95,10 @@ install-library:
 # After make demo, make serve, make serve-ctlogd, make link and make service, which build what it takes.
 release: ## puts what is built into release/out: a tarball, Debian packages, SHA256SUMS and what they are made of
 	@PYTHONDONTWRITEBYTECODE=1 release/release.py --built "$(BUILT)"
+
+# As root, with mmdebstrap, after make release.
+bare: ## installs the release's packages on a bare Debian, and runs the lines of docs/OPERATING.md there as they stand
+	@PYTHONDONTWRITEBYTECODE=1 tests/bare/bare.py
 
 reproduce: ## builds the programs of the Go part, and those of the crates that are proved here, twice in folders of other names, and compares their bytes
 	@release/reproduce.sh
