@@ -82,6 +82,7 @@ reader           ${READER:-$(command_of ctproof tiles/step.py)}
 register         $register
 places           $register
 store            $bucket
+latest-head      $folder/node-$i.latest-head
 most-connections-by-address  500
 END_OF_CONF
   chmod 600 "$folder/node-$i.conf"

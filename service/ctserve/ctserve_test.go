@@ -441,7 +441,7 @@ func TestSettings(t *testing.T) {
 	}
 	if s.node.origin != "z" || s.limits.Idle != 5*time.Second || fmt.Sprint(s.proxies) != "[127.0.0.1/32 10.0.0.0/8]" || !s.node.create ||
 		s.window.From.Year() != 2027 || s.node.secret != "sixteen bytes or more" || strings.Join(s.node.step, " ") != "a b --origin z" ||
-		s.node.guardState != "file:ct-log/guard" || strings.Join(s.node.guard, " ") != "ctguard" || s.node.store != "folder:ct-log/objects" || s.node.register != "file:ct-log/register" || s.node.places != "sqlite:ct-log/places" {
+		s.node.guardState != "file:ct-log.guard" || s.node.latestHead != "ct-log.latest-head" || strings.Join(s.node.guard, " ") != "ctguard" || s.node.store != "folder:ct-log/objects" || s.node.register != "file:ct-log/register" || s.node.places != "sqlite:ct-log/places" {
 		t.Errorf("%+v", s)
 	}
 	for _, test := range []struct {
@@ -487,7 +487,7 @@ func TestRealLog(t *testing.T) {
 	at := newPlace(t)
 	words := at.realWords("--signing-key", at.path("log.pem"))
 	words = append(words, "--guard", at.guard)
-	if status := run(words, io.Discard, openNode); status != 1 {
+	if status := run(words, io.Discard, openNode); status != statusSetBack {
 		t.Errorf("a log is made unasked: status %d", status)
 	}
 	p := started(t, "", append(words, "--create")...)
@@ -563,6 +563,64 @@ func TestRealLog(t *testing.T) {
 	p.signal(syscall.SIGTERM)
 	if status := p.ends(); status != 0 {
 		t.Errorf("it ended with status %d", status)
+	}
+}
+
+// The plainest backup of a log, a copy of its folder while it is stopped, is put back: the start is refused by a status of its own, for the
+// guard's state and the latest head lie beside the folder. One that has its guard's state in the folder goes on with it there.
+func TestFolderPutBack(t *testing.T) {
+	t.Parallel()
+	at := newPlace(t)
+	words := append(at.realWords("--signing-key", at.path("log.pem")), "--guard", at.guard)
+	runs := func(more ...string) {
+		t.Helper()
+		p := started(t, "", append(words, more...)...)
+		if status, text := post(p.clients, at.submission()); status != 200 {
+			t.Fatalf("%d %s", status, text)
+		}
+		p.signal(syscall.SIGTERM)
+		if status := p.ends(); status != 0 {
+			t.Fatalf("it ended with status %d", status)
+		}
+	}
+	refused := func() {
+		t.Helper()
+		if status := run(words, io.Discard, openNode); status != statusSetBack {
+			t.Errorf("status %d", status)
+		}
+	}
+	move := func(from, to string) {
+		t.Helper()
+		if err := os.Rename(at.path(from), at.path(to)); err != nil {
+			t.Fatal(err)
+		}
+	}
+	runs("--create")
+	if said, err := exec.Command("cp", "-a", at.path("log"), at.path("copy")).CombinedOutput(); err != nil {
+		t.Fatalf("%v: %s", err, said)
+	}
+	runs()
+	move("log", "newest")
+	move("copy", "log")
+	refused()
+	move("log.latest-head", "latest-head")
+	refused()
+	move("log", "copy")
+	move("newest", "log")
+	// As an earlier version left it.
+	move("log.guard", "log/guard")
+	runs()
+	if isThere(at.path("log.guard")) || !isThere(at.path("log.latest-head")) {
+		t.Error("it doesn't go on with the guard's state where it was")
+	}
+	// The latest head alone says so, too.
+	move("log.latest-head", "latest-head")
+	if err := os.RemoveAll(at.path("log")); err != nil {
+		t.Fatal(err)
+	}
+	move("latest-head", "log.latest-head")
+	if status := run(append(words, "--create"), io.Discard, openNode); status != statusSetBack {
+		t.Errorf("all is gone, and a new log is begun: status %d", status)
 	}
 }
 

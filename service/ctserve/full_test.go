@@ -45,7 +45,7 @@ func fill(t *testing.T, folder string, but int64) (room func()) {
 	}
 }
 
-// A disk that is full below a whole log (objects, register, places, the guard's state), up to a few bytes: submissions are refused by name,
+// A disk that is full below a whole log (objects, register, places, the guard's state, the latest head), up to a few bytes: submissions are refused by name,
 // reads go on, and with room again so do submissions. What was answered is in its place.
 func TestFullDisk(t *testing.T) {
 	t.Parallel()
@@ -62,7 +62,7 @@ func TestFullDisk(t *testing.T) {
 			t.Error(err)
 		}
 	})
-	words := at.realWords("--signing-key", at.path("log.pem"))
+	words := at.realWords("--signing-key", at.path("log.pem"), "--guard-state", "file:"+at.path("log/guard"), "--latest-head", at.path("log/latest-head"))
 	p := started(t, "", append(words, "--guard", at.guard, "--create")...)
 	var answers []check.Answer
 	submit := func() (int, string) {

@@ -25,6 +25,8 @@ import (
 	"wagtenib/service/chains"
 	"wagtenib/service/log"
 	"wagtenib/service/reader"
+	"wagtenib/service/sequencer"
+	"wagtenib/service/signer"
 	"wagtenib/service/stores"
 	"wagtenib/service/version"
 	"wagtenib/service/web"
@@ -46,7 +48,11 @@ const looksEvery = time.Second
 
 func main() { os.Exit(run(os.Args[1:], os.Stderr, openNode)) }
 
-// run serves until a signal ends it, and gives the status: 0 at an end in order, 1 at another, 2 where the words aren't ones.
+// statusSetBack is the status of a start that is refused, and will be until an operator has looked at the log's stores.
+const statusSetBack = 3
+
+// run serves until a signal ends it, and gives the status: 0 at an end in order, 1 at another, 2 where the words aren't ones, statusSetBack
+// where the log, or its guard's state, is gone or older than it was.
 func run(words []string, to io.Writer, open opener) int {
 	switch {
 	case version.Asked(words):
@@ -69,6 +75,9 @@ func run(words []string, to io.Writer, open opener) int {
 	lines := web.NewLines(to)
 	if err := serve(s, lines, signals, open); err != nil {
 		lines.Error("end", "fault", err)
+		if errors.Is(err, sequencer.ErrSetBack) || errors.Is(err, signer.ErrState) {
+			return statusSetBack
+		}
 		return 1
 	}
 	lines.Info("end")

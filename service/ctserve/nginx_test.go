@@ -82,11 +82,6 @@ func nginxBefore(t *testing.T, clients string) string {
 	}
 }
 
-func isThere(path string) bool {
-	_, err := os.Stat(path)
-	return err == nil
-}
-
 // By the file for operators nginx leaves idle connections before ctserve closes them.
 func TestNginxLeavesFirst(t *testing.T) {
 	text, err := os.ReadFile("../nginx.conf")

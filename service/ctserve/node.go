@@ -2,6 +2,7 @@ package main
 
 import (
 	"context"
+	"path/filepath"
 
 	"wagtenib/service/reader"
 	"wagtenib/service/sequencer"
@@ -25,11 +26,15 @@ func openNode(ctx context.Context, n node) (of *opened, err error) {
 	config := sequencer.Config{
 		Origin: n.origin, Create: n.create, Interval: n.interval, Refresh: n.refresh, MostQueue: n.mostQueue, MostBatch: n.mostBatch,
 		SweepAfter: n.sweepAfter, TendEvery: n.readEvery, BehindSwap: n.behindSwap, Address: n.address, Secret: n.secret,
+		LatestHead: n.latestHead,
 	}
 	if n.makesFolder {
 		if err := stores.MakeFolder(n.folder); err != nil {
 			return nil, err
 		}
+	}
+	if err := stores.MakeFolder(filepath.Dir(n.latestHead)); err != nil {
+		return nil, err
 	}
 	asked, err := askSigner(ctx, n)
 	if err != nil {

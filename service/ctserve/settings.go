@@ -38,6 +38,7 @@ type node struct {
 	guard                                     []string
 	guardState, signerAt                      string
 	folder, store, register, places           string
+	latestHead                                string
 	step, reader                              []string
 	stepWithin, interval, refresh, openWithin time.Duration
 	sweepAfter, readEvery                     time.Duration
@@ -92,12 +93,13 @@ func parse(words []string, help io.Writer) (*settings, error) {
 	flags.StringVar(&n.origin, "origin", "", "the log's `name` in checkpoints, as log.example/2027h1")
 	flags.StringVar(&n.signingKey, "signing-key", "", "`file` with the log's key in PEM, of P-256, that none but its owner may read")
 	flags.Func("guard", "the `command` of the guard between the key and all else, with its words (default \"ctguard\"); none signs without one", command(&n.guard))
-	flags.StringVar(&n.guardState, "guard-state", "", "`address` of the register with the guard's state: file:PATH, etcd://HOST:PORT/PREFIX, postgres://HOST/DATABASE?log=NAME; by default in the folder")
+	flags.StringVar(&n.guardState, "guard-state", "", "`address` of the register with the guard's state: file:PATH, etcd://HOST:PORT/PREFIX, postgres://HOST/DATABASE?log=NAME; by default FOLDER.guard, beside the folder")
 	flags.StringVar(&n.signerAt, "signer-at", "", "`socket` of a signer that runs (ctserve signer --help), in the place of the three above")
 	flags.StringVar(&n.folder, "folder", "ct-log", "`folder` of the objects, the register and the places, where no other address is given")
 	flags.StringVar(&n.store, "store", "", "`address` of the objects: folder:PATH, s3://HOST/BUCKET")
 	flags.StringVar(&n.register, "register", "", "`address` of the register: file:PATH, etcd://HOST:PORT/PREFIX, postgres://HOST/DATABASE?log=NAME")
 	flags.StringVar(&n.places, "places", "", "`address` of the places of identities: sqlite:PATH, etcd://HOST:PORT/PREFIX, postgres://HOST/DATABASE?log=NAME")
+	flags.StringVar(&n.latestHead, "latest-head", "", "`file` of this machine's own, apart from all stores and their backups, with the latest tree head that this node saw: a log that is older is refused (default FOLDER.latest-head, beside the folder)")
 	flags.Func("step", "the `command` of the program that makes the steps, with its words (default \"cttile\"); it is given --origin", command(&n.step))
 	flags.Func("reader", "the `command` of the program that makes proofs for readers out of the tiles, with its words (default \"ctproof\")", command(&n.reader))
 	flags.DurationVar(&n.stepWithin, "step-within", 30*time.Second, "how long a step may take, until its program is killed")
@@ -212,7 +214,10 @@ func (s *settings) settle() error {
 		}
 	}
 	if n.guardState == "" && n.signerAt == "" {
-		n.guardState, n.makesFolder = "file:"+filepath.Join(n.folder, "guard"), true
+		n.guardState = "file:" + guardBeside(n.folder)
+	}
+	if n.latestHead == "" {
+		n.latestHead = beside(n.folder, ".latest-head")
 	}
 	if (s.listenNodes == "") != (n.address == "") || (n.address == "") != (s.nodesSecretAt == "") {
 		return errors.New("--nodes-listen, --nodes-address and --nodes-secret go together")
@@ -225,6 +230,29 @@ func (s *settings) settle() error {
 		n.secret = secret
 	}
 	return nil
+}
+
+// beside names what belongs to a log's folder and doesn't lie in it: a copy of the folder doesn't have it, nor does an older one put it back.
+func beside(folder, kind string) string {
+	if whole, err := filepath.Abs(folder); err == nil && filepath.Base(filepath.Clean(folder)) != filepath.Base(whole) {
+		// (. and .. have no name of their own)
+		folder = whole
+	}
+	return filepath.Clean(folder) + kind
+}
+
+// guardBeside is where the guard's state is: beside the folder, or in it, where an earlier version made it and there is none beside it.
+func guardBeside(folder string) string {
+	outside, inside := beside(folder, ".guard"), filepath.Join(folder, "guard")
+	if !isThere(outside) && isThere(inside) {
+		return inside
+	}
+	return outside
+}
+
+func isThere(path string) bool {
+	_, err := os.Stat(path)
+	return err == nil
 }
 
 // mostSecret is how many bytes of the nodes' secret are read.

@@ -95,6 +95,11 @@ func serveSigner(keyAt string, guard []string, stateAt string, receipts signer.R
 		}
 		defer state.Close()
 		guarded, err := signer.Behind(ctx, key, signer.Guard{Command: guard, State: state, Create: create, Receipts: receipts})
+		if errors.Is(err, signer.ErrState) && listen == "" {
+			if told := signer.ServeState(err, from, answers); told != nil {
+				return told
+			}
+		}
 		if err != nil {
 			return err
 		}

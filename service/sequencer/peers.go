@@ -104,7 +104,7 @@ func (s *Sequencer) handOver(k known) bool {
 		defer s.mu.Unlock()
 		if err != nil {
 			s.alone = time.Now().Add(aloneFor)
-		} else if !s.stopped {
+		} else if !errors.Is(s.fault, ErrSetBack) {
 			// Who submits here is answered.
 			s.fault = nil
 		}

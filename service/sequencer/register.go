@@ -97,6 +97,9 @@ func (s *Sequencer) takeUp(ctx context.Context) error {
 		if err != nil {
 			return err
 		}
+		if s.isBehind(k) {
+			return s.behindSaw(k)
+		}
 		published, err := s.config.Register.Published(ctx)
 		if err != nil {
 			return fmt.Errorf("sequencer: %w", err)
@@ -116,6 +119,7 @@ func (s *Sequencer) takeUp(ctx context.Context) error {
 			s.mu.Lock()
 			s.newest = k
 			s.mu.Unlock()
+			s.heard = time.Now()
 			return s.takeUpHead(ctx, published, k)
 		}
 		// Another node may have set it meanwhile.
@@ -234,6 +238,9 @@ func (s *Sequencer) create(ctx context.Context) error {
 	if !s.config.Create {
 		return fmt.Errorf("%w: there is none, and none is to be created", ErrSetBack)
 	}
+	if s.saw.state.Moment > 0 {
+		return fmt.Errorf("%w: there is none, and this node saw %d entries at %d ms", ErrSetBack, s.saw.state.Size, s.saw.state.Moment)
+	}
 	for _, prefix := range []string{headsPrefix, tilesPrefix, stagingPrefix} {
 		names, err := s.config.Objects.List(ctx, prefix, "", 1)
 		if err != nil {
@@ -269,31 +276,41 @@ func (s *Sequencer) create(ctx context.Context) error {
 	return nil
 }
 
-// learn reads the register. A text that isn't a later state's than the one before is never taken up again.
+// learn reads the register. A text that isn't a later state's than the one before isn't taken up: where it comes back, the log goes on.
 func (s *Sequencer) learn(ctx context.Context) (known, error) {
+	before := s.newestKnown()
 	text, err := s.config.Register.Read(ctx)
-	s.mu.Lock()
-	defer s.mu.Unlock()
 	if errors.Is(err, stores.ErrAbsent) {
-		s.stopped = true
-		return known{}, fmt.Errorf("%w: it is gone, and had %d entries at %d ms", ErrSetBack, s.newest.state.Size, s.newest.state.Moment)
+		return known{}, fmt.Errorf("%w: it is gone, and had %d entries at %d ms", ErrSetBack, before.state.Size, before.state.Moment)
 	}
 	if err != nil {
 		return known{}, fmt.Errorf("sequencer: %w", err)
 	}
-	if text == s.newest.text {
-		return s.newest, nil
+	k := before
+	if text != before.text {
+		if k, err = readText(text); err != nil {
+			return known{}, err
+		}
+		if headOf(k.state) != headOf(before.state) && !later(k.state, before.state) {
+			return known{}, fmt.Errorf("%w: it had %d entries at %d ms, and has %d at %d ms", ErrSetBack, before.state.Size, before.state.Moment, k.state.Size, k.state.Moment)
+		}
 	}
-	k, err := readText(text)
-	if err != nil {
-		return known{}, err
+	if time.Since(s.heard) > mostUnheard {
+		if err := s.lookAfter(ctx, k); err != nil {
+			return known{}, err
+		}
 	}
-	if !later(k.state, s.newest.state) {
-		s.stopped = true
-		return known{}, fmt.Errorf("%w: it had %d entries at %d ms, and has %d at %d ms", ErrSetBack, s.newest.state.Size, s.newest.state.Moment, k.state.Size, k.state.Moment)
-	}
+	s.heard = time.Now()
+	s.mu.Lock()
+	defer s.mu.Unlock()
 	s.newest = k
 	return k, nil
+}
+
+func (s *Sequencer) newestKnown() known {
+	s.mu.Lock()
+	defer s.mu.Unlock()
+	return s.newest
 }
 
 // swap has the register decide on a step. Where the outcome is unknown it is tried again, which settles it; where it stays so,

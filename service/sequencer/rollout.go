@@ -49,6 +49,9 @@ func (s *Sequencer) isRolledOut(ctx context.Context, k known) (bool, error) {
 	if err != nil {
 		return false, err
 	}
+	if err := s.believe(ctx, k, nil); err != nil {
+		return false, err
+	}
 	if err := s.raise(ctx, published, head); err != nil {
 		return false, err
 	}
@@ -135,6 +138,9 @@ func (s *Sequencer) help(ctx context.Context, k known) error {
 	if err != nil {
 		return err
 	}
+	if err := s.believe(ctx, k, freshOf(resumed.Objects)); err != nil {
+		return err
+	}
 	s.helped.Add(1)
 	return s.rollOut(ctx, k, resumed.Objects, resumed.Head, placed)
 }
@@ -145,6 +151,9 @@ func (s *Sequencer) restore(ctx context.Context, k known) (log.Head, error) {
 	s.edge = map[string][]byte{}
 	resumed, err := s.resume(ctx, k)
 	if err != nil {
+		return log.Head{}, err
+	}
+	if err := s.believe(ctx, k, freshOf(resumed.Objects)); err != nil {
 		return log.Head{}, err
 	}
 	for _, object := range resumed.Objects {

@@ -67,6 +67,9 @@ func (s *Sequencer) loop(ctx context.Context) {
 		round, cancel := context.WithTimeout(ctx, mostRound)
 		err := s.round(round)
 		cancel()
+		if errors.Is(err, errMoves) {
+			err = nil
+		}
 		s.settle(err)
 		// What was answered behind a swap is published before the end, unless that can't be: by this node, or by another one that goes on.
 		owes = s.config.BehindSwap && !isNamed(err) && (err != nil || !s.isOut())
@@ -131,17 +134,13 @@ func (s *Sequencer) settle(err error) {
 func (s *Sequencer) round(ctx context.Context) error {
 	s.later, s.wrote = false, false
 	s.mu.Lock()
-	stopped, why := s.stopped, s.fault
+	why := s.fault
 	s.mu.Unlock()
-	if stopped && why != nil {
-		var f fault
-		if errors.As(why, &f) {
-			return f.why
-		}
-		return why
-	}
 	k, err := s.learn(ctx)
 	if err != nil {
+		return err
+	}
+	if err := s.lookBack(ctx, k); err != nil {
 		return err
 	}
 	if s.handOver(k) {
@@ -271,6 +270,9 @@ func (s *Sequencer) lose(ctx context.Context, line, name string) error {
 
 // publish rolls out a step that was just decided, and answers.
 func (s *Sequencer) publish(ctx context.Context, k known, stepped *step.Stepped, objects []step.Object, groups [][]*waiting) error {
+	if err := s.believe(ctx, k, freshOf(objects)); err != nil {
+		return err
+	}
 	var placed places
 	for i, g := range groups {
 		r := stepped.Receipts[i]

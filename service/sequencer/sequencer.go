@@ -90,6 +90,9 @@ type Config struct {
 	Address, Secret string
 	// Peers asks other nodes; one with time limits where it is nil.
 	Peers *http.Client
+	// LatestHead is a file of this machine's own, apart from all stores, with the newest head that this node saw: a log that is older is
+	// refused. None is kept where it is empty.
+	LatestHead string
 }
 
 func (c *Config) settle() error {
@@ -139,6 +142,10 @@ type Sequencer struct {
 	rolled string
 	// wrote says that this round had a step decided, by this node or another: all that was to be written before was.
 	wrote bool
+	// saw is the newest state that this node saw and went on from; its line and text are empty where only the file has it. heard is when the
+	// register was read last, and lookedBack when a node that hands over looked at the newest state last.
+	saw               known
+	heard, lookedBack time.Time
 	// later says that somebody was left for a later round, since a tile couldn't be read.
 	later bool
 
@@ -146,10 +153,9 @@ type Sequencer struct {
 	// newest is what the register had when it was read last, and head the newest published one of those that were seen.
 	newest known
 	head   *log.Head
-	// fault is what keeps the log from going on, and since when; stopped one that stays.
+	// fault is what keeps the log from going on, and since when.
 	fault      error
 	faultSince time.Time
-	stopped    bool
 	// damage has data tiles, by their numbers, that the log went on without: what of them, or of the hash tiles above, was seen last.
 	damage map[uint64]error
 	// mended counts objects that were made again, and lastMended names the last.
@@ -208,6 +214,9 @@ func start(ctx context.Context, config Config, test hooks) (*Sequencer, error) {
 		test:    test,
 	}
 	s.issuers = newIssuers(s)
+	if err := s.readLatest(); err != nil {
+		return nil, err
+	}
 	if err := s.takeUp(ctx); err != nil {
 		return nil, err
 	}
@@ -255,7 +264,7 @@ func (s *Sequencer) submit(ctx context.Context, w *waiting) (log.Place, error) {
 func (s *Sequencer) standing() error {
 	s.mu.Lock()
 	defer s.mu.Unlock()
-	if s.fault != nil && (s.stopped || time.Since(s.faultSince) > s.config.Patience || isNamed(s.fault)) {
+	if s.fault != nil && (time.Since(s.faultSince) > s.config.Patience || isNamed(s.fault)) {
 		return s.fault
 	}
 	return nil

@@ -113,7 +113,7 @@ func (p place) open(ctx context.Context) (config Config, err error) {
 }
 
 func (p place) openOnce(ctx context.Context) (config Config, err error) {
-	config = Config{Origin: origin, Create: true, Interval: quick, Patience: time.Second}
+	config = Config{Origin: origin, Create: true, Interval: quick, Patience: time.Second, LatestHead: p.latestHead()}
 	if p.onEngines() {
 		config.Patience = longest
 	}
@@ -169,6 +169,9 @@ func guardedOver(ctx context.Context, key *signer.Key, state stores.Register, re
 	}
 	return signer.Behind(ctx, key, signer.Guard{Command: guard, State: state, Create: true, Receipts: receipts})
 }
+
+// latestHead is the file of this machine's own. (Nodes of one place have it together.)
+func (p place) latestHead() string { return filepath.Join(string(p), "latest-head") }
 
 func (p place) guardState() string { return filepath.Join(string(p), "guard") }
 

@@ -179,6 +179,9 @@ func (g *Guarded) begin(ctx context.Context) error {
 	if err != nil {
 		return err
 	}
+	if g.last != nil && !g.last.mayBeBefore(last) {
+		return fmt.Errorf("%w: it was set back: it had a head of %d entries at %d ms", ErrState, g.last.Size, g.last.Moment)
+	}
 	end, err := pipe.Start(append(append([]string{}, g.of.Command...), "--receipts", string(g.of.Receipts)), mostReply)
 	if err != nil {
 		return fmt.Errorf("signer: the guard: %w", err)
@@ -278,6 +281,11 @@ func (g *Guarded) keep(ctx context.Context, head Head) (err error) {
 		return ErrMoved
 	}
 	return fmt.Errorf("signer: the guard's state: %w", err)
+}
+
+// mayBeBefore says whether another head is this one, or may come behind it.
+func (h Head) mayBeBefore(other *Head) bool {
+	return other != nil && (*other == h || other.Size >= h.Size && other.Moment > h.Moment)
 }
 
 // Key is Signer's.

@@ -329,6 +329,38 @@ func TestStates(t *testing.T) {
 	wants(t, err, exec.ErrNotFound)
 }
 
+// TestStateSetBack puts a guard's state back below a signer that runs: nothing is signed until it comes back.
+func TestStateSetBack(t *testing.T) {
+	t.Parallel()
+	for name, command := range guards() {
+		folder, l, ctx := t.TempDir(), listOf(t, 8, 8), limited(t)
+		text := filepath.Join(folder, "guard", "text")
+		g, err := Behind(ctx, newKey(t), Guard{Command: command, State: register(t, folder), Create: true, Receipts: InHead})
+		must(t, err)
+		defer g.Close()
+		_, err = g.SignHead(ctx, l.head(t, 3, 30), nil)
+		must(t, err)
+		old, err := os.ReadFile(text)
+		must(t, err)
+		_, err = g.SignHead(ctx, l.head(t, 5, 50), l.proof(t, 3, 5))
+		must(t, err)
+		newest, err := os.ReadFile(text)
+		must(t, err)
+		for _, state := range []string{string(old), none, stateOf(&Head{5, 50, [32]byte{1}}), stateOf(&Head{4, 60, [32]byte{}})} {
+			must(t, stores.KeepFile(text, []byte(state)))
+			if _, err := g.Last(ctx); !errors.Is(err, ErrState) {
+				t.Errorf("%s: %s: %v", name, state, err)
+			}
+			if _, err := g.SignHead(ctx, l.head(t, 8, 80), l.proof(t, 3, 8)); !errors.Is(err, ErrState) {
+				t.Errorf("%s: %s: signed, %v", name, state, err)
+			}
+		}
+		must(t, stores.KeepFile(text, newest))
+		_, err = g.SignHead(ctx, l.head(t, 8, 80), l.proof(t, 5, 8))
+		must(t, err)
+	}
+}
+
 // TestTwoSigners has two with one state. Who is behind is told, and goes on from the other's head; of two forks at once one is signed.
 func TestTwoSigners(t *testing.T) {
 	t.Parallel()

@@ -133,6 +133,21 @@ func Serve(ctx context.Context, s Signer, from io.Reader, to io.Writer) error {
 	}
 }
 
+// ServeState answers the first line with why there is no signer, a fault of the guard's state, so that who started it knows.
+func ServeState(why error, from io.Reader, to io.Writer) error {
+	if _, err := pipe.ReadLine(bufio.NewReader(from), MostLine); err != nil {
+		return fmt.Errorf("signer: %w", err)
+	}
+	text, err := json.Marshal(reply{Failed: why.Error(), Bad: true})
+	if err == nil {
+		_, err = to.Write(append(text, '\n'))
+	}
+	if err != nil {
+		return fmt.Errorf("signer: %w", err)
+	}
+	return nil
+}
+
 // listenAt listens at a Unix socket, for this user and its group; it takes the place of one that stands there. (It is bound in a folder of
 // its own, so that nobody comes to it before its mode is set.)
 func listenAt(path string) (net.Listener, error) {
@@ -328,7 +343,12 @@ func Ask(ctx context.Context, open func(context.Context) (*pipe.End, error), wit
 			return nil, fmt.Errorf("signer: %w", err)
 		}
 		var opened reply
-		if err := json.Unmarshal(came[0], &opened); err != nil || len(opened.Key) == 0 {
+		err = json.Unmarshal(came[0], &opened)
+		if opened.Bad {
+			end.Close()
+			return nil, fmt.Errorf("%w: %s", ErrState, opened.Failed)
+		}
+		if err != nil || len(opened.Key) == 0 {
 			end.Close()
 			return nil, fmt.Errorf("%w: the signer gives no key: %.200q", ErrReply, came[0])
 		}

@@ -7,6 +7,7 @@ import (
 	"reflect"
 	"strings"
 	"testing"
+	"time"
 )
 
 // syncs are the paths that are written to the disk while a call is made, below a root, in their order. A file that isn't named
@@ -128,4 +129,48 @@ func TestFailedSyncs(t *testing.T) {
 	}
 	fsync = (*os.File).Sync
 	standsAs(t, register, "b", 0)
+}
+
+// TestKeptFile: a file that is kept has its content, or the one before; it is on the disk before it has its name, and the folder before
+// KeepFile returns. What a killed writer left goes.
+func TestKeptFile(t *testing.T) {
+	root := t.TempDir()
+	path := filepath.Join(root, "kept")
+	has := func(want string) {
+		t.Helper()
+		if content, err := KeptFile(path); err != nil || string(content) != want {
+			t.Errorf("%q, %v", content, err)
+		}
+	}
+	if _, err := KeptFile(path); !errors.Is(err, ErrAbsent) {
+		t.Errorf("none: %v", err)
+	}
+	left, writes := path+halfKept+"1", path+halfKept+"2"
+	must(t, os.WriteFile(left, nil, 0o600))
+	must(t, os.WriteFile(writes, nil, 0o600))
+	must(t, os.Chtimes(left, time.Now(), time.Now().Add(-2*abandoned)))
+	var isNamed []bool
+	fsync = func(file *os.File) error {
+		_, err := os.Stat(path)
+		isNamed = append(isNamed, err == nil)
+		return file.Sync()
+	}
+	defer func() { fsync = (*os.File).Sync }()
+	must(t, KeepFile(path, []byte("a")))
+	if !reflect.DeepEqual(isNamed, []bool{false, true}) {
+		t.Errorf("synced with the name there: %v", isNamed)
+	}
+	has("a")
+	fault := errors.New("the disk is broken")
+	fsync = func(*os.File) error { return fault }
+	if err := KeepFile(path, []byte("b")); !errors.Is(err, fault) {
+		t.Errorf("%v", err)
+	}
+	has("a")
+	if err := KeepFile(path, make([]byte, MostKept+1)); !errors.Is(err, ErrTooLong) {
+		t.Errorf("%v", err)
+	}
+	if names, err := filepath.Glob(path + "*"); err != nil || !reflect.DeepEqual(names, []string{path, writes}) {
+		t.Errorf("%v, %v", names, err)
+	}
 }

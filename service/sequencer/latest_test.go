@@ -1,0 +1,330 @@
+package sequencer
+
+import (
+	"context"
+	"errors"
+	"fmt"
+	"os"
+	"os/exec"
+	"path/filepath"
+	"strings"
+	"sync"
+	"sync/atomic"
+	"testing"
+	"time"
+
+	"wagtenib/service/log"
+	"wagtenib/service/signer"
+	"wagtenib/service/stores"
+)
+
+// parted is a register that a node can't reach while that is on.
+type parted struct {
+	stores.Register
+	on atomic.Bool
+}
+
+func (p *parted) Read(ctx context.Context) (string, error) {
+	if p.on.Load() {
+		return "", errTried
+	}
+	return p.Register.Read(ctx)
+}
+
+// putBack puts the texts of a place's register and of its guard's state back to those of another one, as one that restores them does.
+func (p place) putBack(t testing.TB, from place, folders ...string) {
+	t.Helper()
+	for _, folder := range folders {
+		for _, name := range []string{"published", "text"} {
+			content, err := os.ReadFile(filepath.Join(string(from), folder, name))
+			must(t, err)
+			must(t, stores.KeepFile(filepath.Join(string(p), folder, name), content))
+		}
+	}
+}
+
+// notHere gives a place's configuration to a node of another machine: the file of the newest head is its own.
+func (p place) notHere(t testing.TB) Config {
+	config := p.config(t)
+	config.LatestHead = filepath.Join(t.TempDir(), "latest-head")
+	return config
+}
+
+// comesBack waits until a node takes a number.
+func comesBack(t testing.TB, s *Sequencer, got *answers, number int) {
+	t.Helper()
+	for until := time.Now().Add(longest); ; time.Sleep(quick) {
+		err := got.submitAll(limited(t), s, number, number+1, 1)
+		if err == nil {
+			return
+		}
+		if time.Now().After(until) {
+			t.Fatal(err)
+		}
+	}
+}
+
+// TestPartedNode has one of two nodes not reach the register while the other one goes on, and the register with the guard's state put back
+// to what the first one knows: it signs no second history. Where the register comes back, it goes on.
+func TestPartedNode(t *testing.T) {
+	t.Parallel()
+	p, ctx, got := newPlace(t), limited(t), &answers{}
+	here, config := started(t, p.notHere(t), hooks{}), p.notHere(t)
+	register := &parted{Register: config.Register}
+	config.Register = register
+	there := started(t, config, hooks{})
+	must(t, got.submitAll(ctx, here, 0, 10, 4))
+	must(t, got.submitAll(ctx, there, 10, 20, 4))
+	register.on.Store(true)
+	old := p.copied(t, "register", "guard")
+	must(t, got.submitAll(ctx, here, 20, 40, 4))
+	must(t, here.End(ctx))
+	newest := p.copied(t, "register", "guard")
+	_, err := there.Submit(ctx, entryOf(100))
+	wants(t, err, log.ErrStore)
+	// (so long, that it isn't the register's own word that nothing was decided meanwhile)
+	time.Sleep(mostUnheard)
+	p.putBack(t, old, "register", "guard")
+	register.on.Store(false)
+	eventually(t, "it sees that it was set back", func() bool { return strings.Contains(there.Figures().Fault, ErrSetBack.Error()) })
+	_, err = there.Submit(ctx, entryOf(100))
+	wants(t, err, log.ErrStore, ErrSetBack)
+	if report := p.right(t, got); report.Leaves != 40 {
+		t.Fatalf("%+v", report)
+	}
+	p.putBack(t, newest, "register", "guard")
+	comesBack(t, there, got, 41)
+	if report := p.right(t, got); report.Leaves != 41 {
+		t.Fatalf("%+v", report)
+	}
+}
+
+// TestPausedNode stops a node between its reading the register and its swap, while another one goes on and the register is put back: what it
+// decides is published and signed by nobody. No clock says so: the machine may have slept. Where the register comes back, it goes on.
+func TestPausedNode(t *testing.T) {
+	t.Parallel()
+	p, ctx, got := newPlace(t), limited(t), &answers{}
+	here := started(t, p.notHere(t), hooks{})
+	must(t, got.submitAll(ctx, here, 0, 10, 4))
+	stopped, goes := make(chan struct{}), make(chan struct{})
+	var stops atomic.Bool
+	var once sync.Once
+	there := started(t, p.notHere(t), hooks{phase: func(name string) {
+		if name == "bundle put" && stops.Load() {
+			once.Do(func() { close(stopped); <-goes })
+		}
+	}})
+	must(t, got.submitAll(ctx, there, 10, 20, 4))
+	old := p.copied(t, "register", "guard")
+	stops.Store(true)
+	told := make(chan error, 1)
+	go func() {
+		_, err := there.Submit(ctx, entryOf(100))
+		told <- err
+	}()
+	<-stopped
+	must(t, got.submitAll(ctx, here, 20, 40, 4))
+	must(t, here.End(ctx))
+	newest := p.copied(t, "register", "guard")
+	before := headsOf(t, p)
+	p.putBack(t, old, "register", "guard")
+	close(goes)
+	wants(t, <-told, log.ErrStore, ErrSetBack)
+	if after := headsOf(t, p); strings.Join(after, " ") != strings.Join(before, " ") {
+		t.Errorf("heads %v, and before %v", after, before)
+	}
+	p.putBack(t, newest, "register", "guard")
+	comesBack(t, there, got, 41)
+	if report := p.right(t, got); report.Leaves != 41 {
+		t.Fatalf("%+v", report)
+	}
+}
+
+// TestOutgrown has a second history, of a node that knew nothing of the first one, outgrow it in all stores: a node that saw the first one
+// doesn't go on from the second, whether it runs or starts anew; nor does one that saw nothing, where the store has the first one's heads.
+func TestOutgrown(t *testing.T) {
+	t.Parallel()
+	p, ctx, got := newPlace(t), limited(t), &answers{}
+	config := p.config(t)
+	register := &parted{Register: config.Register}
+	config.Register = register
+	here := started(t, config, hooks{})
+	must(t, got.submitAll(ctx, here, 0, 20, 4))
+	other := p.copied(t, "objects", "register", "places.db", "guard")
+	must(t, got.submitAll(ctx, here, 20, 40, 4))
+	register.on.Store(true)
+	second := started(t, other.config(t), hooks{})
+	must(t, (&answers{}).submitAll(ctx, second, 200, 260, 4))
+	must(t, second.End(ctx))
+	if said, err := exec.Command("cp", "-an", other.objects()+"/.", p.objects()).CombinedOutput(); err != nil {
+		t.Fatalf("%v: %s", err, said)
+	}
+	heads := headsOf(t, p)
+	p.putBack(t, other, "register", "guard")
+	register.on.Store(false)
+	eventually(t, "it sees that it was set back", func() bool { return strings.Contains(here.Figures().Fault, ErrSetBack.Error()) })
+	_, err := here.Submit(ctx, entryOf(100))
+	wants(t, err, log.ErrStore, ErrSetBack)
+	must(t, here.End(ctx))
+	for what, config := range map[string]Config{"its file": p.config(t), "no file": p.notHere(t)} {
+		again := started(t, config, hooks{})
+		if _, err = again.Submit(ctx, entryOf(100)); !errors.Is(err, ErrSetBack) {
+			t.Errorf("with %s: %v", what, err)
+		}
+		must(t, again.End(ctx))
+	}
+	if after := headsOf(t, p); strings.Join(after, " ") != strings.Join(heads, " ") {
+		t.Errorf("heads %v, and before %v", after, heads)
+	}
+}
+
+// TestLatestHead has the file be another log's, be bent, and not be writable.
+func TestLatestHead(t *testing.T) {
+	t.Parallel()
+	p, other, ctx, got := newPlace(t), newPlace(t), limited(t), &answers{}
+	for _, place := range []place{p, other} {
+		s := started(t, place.config(t), hooks{})
+		must(t, got.submitAll(ctx, s, 0, 5, 5))
+		must(t, s.End(ctx))
+	}
+	content, err := stores.KeptFile(other.latestHead())
+	must(t, err)
+	must(t, stores.KeepFile(p.latestHead(), content))
+	_, err = New(ctx, p.config(t))
+	wants(t, err, ErrConfig)
+	must(t, stores.KeepFile(p.latestHead(), content[:20]))
+	_, err = New(ctx, p.config(t))
+	wants(t, err, ErrDamaged)
+	config := p.config(t)
+	config.LatestHead = filepath.Join(string(p), "nowhere", "latest-head")
+	s := started(t, config, hooks{})
+	_, err = s.Submit(ctx, entryOf(7))
+	wants(t, err, log.ErrStore)
+	must(t, os.Mkdir(filepath.Dir(config.LatestHead), 0o755))
+	comesBack(t, s, got, 8)
+}
+
+// Three states in which one of a log's stores may be put back.
+const (
+	now  = "now"
+	old  = "old"
+	gone = "gone"
+)
+
+// What becomes of a start.
+const (
+	goesOn  = "goes on"
+	refused = "refused: the register is older than the log"
+	noState = "refused: no state of the guard"
+	stands  = "takes nothing: an object isn't the log's"
+	notSeen = "not seen: a second history"
+	another = "not seen: another log under the old key"
+)
+
+// atStart says what becomes of a log whose register, objects and guard's state are put back, with the file of the newest head there, and not.
+var atStart = map[[3]string][2]string{
+	{now, now, now}:    {goesOn, goesOn},
+	{now, now, old}:    {noState, noState},
+	{now, now, gone}:   {noState, noState},
+	{now, old, now}:    {stands, stands},
+	{now, old, old}:    {stands, stands},
+	{now, old, gone}:   {noState, noState},
+	{now, gone, now}:   {stands, stands},
+	{now, gone, old}:   {stands, stands},
+	{now, gone, gone}:  {stands, stands},
+	{old, now, now}:    {refused, refused},
+	{old, now, old}:    {refused, noState},
+	{old, now, gone}:   {refused, noState},
+	{old, old, now}:    {refused, refused},
+	{old, old, old}:    {refused, notSeen},
+	{old, old, gone}:   {refused, noState},
+	{old, gone, now}:   {refused, refused},
+	{old, gone, old}:   {refused, stands},
+	{old, gone, gone}:  {refused, stands},
+	{gone, now, now}:   {refused, refused},
+	{gone, now, old}:   {refused, refused},
+	{gone, now, gone}:  {refused, refused},
+	{gone, old, now}:   {refused, refused},
+	{gone, old, old}:   {refused, refused},
+	{gone, old, gone}:  {refused, refused},
+	{gone, gone, now}:  {refused, refused},
+	{gone, gone, old}:  {refused, refused},
+	{gone, gone, gone}: {refused, another},
+}
+
+// becomes starts a node that may make a log, has it take an entry, and says what came of that.
+func (p place) becomes(t *testing.T, earlier *answers) string {
+	t.Helper()
+	ctx := limited(t)
+	config, err := p.open(ctx)
+	var s *Sequencer
+	if err == nil {
+		defer closeAll(config)
+		s, err = start(ctx, config, hooks{})
+	}
+	if err == nil {
+		_, err = s.Submit(ctx, entryOf(300))
+		if ending := s.End(ctx); err == nil {
+			err = ending
+		}
+	}
+	switch {
+	case errors.Is(err, ErrSetBack):
+		return refused
+	case errors.Is(err, signer.ErrState):
+		return noState
+	case errors.Is(err, ErrDamaged):
+		return stands
+	case err != nil:
+		return err.Error()
+	}
+	if report, err := p.judged(earlier.all); err == nil && report.Answers == len(earlier.all) {
+		return goesOn
+	}
+	if report, err := p.judged(nil); err == nil && report.Leaves == 1 {
+		return another
+	}
+	return notSeen
+}
+
+// TestPutBack starts a log all of whose stores are as they were last, or as an older copy has them, or gone, in each of the 27 ways, with the
+// file of the newest head there, and not.
+func TestPutBack(t *testing.T) {
+	t.Parallel()
+	p, ctx, got := newPlace(t), limited(t), &answers{}
+	s := started(t, p.config(t), hooks{})
+	must(t, got.submitAll(ctx, s, 0, 20, 8))
+	must(t, s.End(ctx))
+	parts := [3]string{"register", "objects", "guard"}
+	before := p.copied(t, append(parts[:], "places.db")...)
+	s = started(t, p.config(t), hooks{})
+	must(t, got.submitAll(ctx, s, 20, 40, 8))
+	must(t, s.End(ctx))
+	for states, expected := range atStart {
+		for i, isThere := range []bool{true, false} {
+			states, expected, isThere := states, expected[i], isThere
+			t.Run(fmt.Sprintf("%v, file there %v", states, isThere), func(t *testing.T) {
+				t.Parallel()
+				to := p.copied(t, "places.db", "latest-head")
+				for at, part := range parts {
+					from := map[string]place{now: p, old: before}[states[at]]
+					if states[at] == gone {
+						continue
+					}
+					if said, err := exec.Command("cp", "-a", filepath.Join(string(from), part), string(to)).CombinedOutput(); err != nil {
+						t.Fatalf("%v: %s", err, said)
+					}
+				}
+				if !isThere {
+					must(t, os.Remove(to.latestHead()))
+				}
+				if became := to.becomes(t, got); became != expected {
+					t.Errorf("%s, and expected was: %s", became, expected)
+				}
+			})
+		}
+	}
+	if len(atStart) != 27 {
+		t.Errorf("%d ways", len(atStart))
+	}
+}

@@ -1,0 +1,64 @@
+package stores
+
+import (
+	"errors"
+	"fmt"
+	"io/fs"
+	"os"
+	"path/filepath"
+	"time"
+)
+
+// MostKept is how many bytes a file has at most that KeepFile writes.
+const MostKept = 4 << 10
+
+// KeepFile gives a file of this machine's own another content: all of it, or what stood there before. It is on the disk once this returns. The
+// folder has to be there.
+func KeepFile(path string, content []byte) (err error) {
+	if len(content) > MostKept {
+		return fmt.Errorf("%w: %d bytes for %s", ErrTooLong, len(content), path)
+	}
+	file, err := os.CreateTemp(filepath.Dir(path), filepath.Base(path)+halfKept+"*")
+	if err != nil {
+		return fmt.Errorf("stores: keep: %w", err)
+	}
+	_, err = file.Write(content)
+	if err == nil {
+		err = fsync(file)
+	}
+	if closing := file.Close(); err == nil {
+		err = closing
+	}
+	if err == nil {
+		err = os.Rename(file.Name(), path)
+	}
+	if err != nil {
+		os.Remove(file.Name())
+		return fmt.Errorf("stores: keep: %w", err)
+	}
+	return syncFolder(filepath.Dir(path))
+}
+
+// halfKept stands in the names of files that KeepFile hasn't given their own yet.
+const halfKept = ".writing-"
+
+// KeptFile reads what KeepFile wrote; ErrAbsent where there is no such file. It takes away what killed writers left beside it.
+func KeptFile(path string) ([]byte, error) {
+	left, err := filepath.Glob(path + halfKept + "*")
+	for _, half := range left {
+		if info, err := os.Stat(half); err == nil && time.Since(info.ModTime()) > abandoned {
+			os.Remove(half)
+		}
+	}
+	if err != nil {
+		return nil, fmt.Errorf("stores: keep: %w", err)
+	}
+	content, err := os.ReadFile(path)
+	if errors.Is(err, fs.ErrNotExist) {
+		return nil, fmt.Errorf("%w: %s", ErrAbsent, path)
+	}
+	if err != nil {
+		return nil, fmt.Errorf("stores: keep: %w", err)
+	}
+	return content, nil
+}
