@@ -14,7 +14,9 @@ missing=
 [ -n "${GUARD:-}" ] || [ -x "$crates/ctguard/out/ctguard" ] || missing+=" ctguard"
 [ -n "${READER:-}" ] || [ -x "$crates/ctproof/out/ctproof" ] || missing+=" ctproof"
 if [ -n "$missing" ] && ! command -v rt >/dev/null; then
-  echo "In place of${missing} programs in Python serve this log: they are tested, and not proved. The Rattle kit isn't here (README.md, 'The kit')."
+  notice="In place of${missing} programs in Python serve this log: they are tested, and not proved."
+  echo "$notice The Rattle kit isn't here (README.md, 'With the kit')."
+  set -- --notice "$notice" "$@"
   tests=$(cd "$here/../tests" && pwd)
   [[ $missing != *cttile* ]] || STEP="python3 $tests/tiles/step.py"
   [[ $missing != *ctproof* ]] || READER="python3 $tests/tiles/step.py"

@@ -5,6 +5,7 @@
 else that of expected.py. A command of README.md that this script doesn't know is a fault. It prints one line, and ends with status 1 at the first thing
 that isn't as README.md has it. Where Go or one of its packages isn't installed, it says so, and runs none that needs them.
 """
+import json
 import os
 import pathlib
 import re
@@ -14,6 +15,7 @@ import socket
 import subprocess
 import sys
 import tempfile
+import urllib.request
 
 ROOT = pathlib.Path(__file__).resolve().parent.parent
 sys.path.append(str(ROOT / "checks"))
@@ -73,8 +75,16 @@ class Page:
                 break
         else:
             fail(f"{command} ended with status {self.log.wait()}: {''.join(said)}")
-        if not re.match(r"In place of cttile ctguard ctproof programs in Python .* not proved", said[0]) or "  a page " not in "".join(said):
+        notice = "In place of cttile ctguard ctproof programs in Python serve this log: they are tested, and not proved."
+        if not said[0].startswith(notice) or "  a page " not in "".join(said):
             fail(f"{command} says {''.join(said)}")
+        if json.loads(self.answer("log.v3.json"))["notice"] != notice or self.answer("key") != (self.copy / "ct-log" / "log.pem").read_bytes():
+            fail(f"{command}: the log answers {self.answer('log.v3.json')} and {self.answer('key')}")
+
+    def answer(self, path):
+        direct = urllib.request.build_opener(urllib.request.ProxyHandler({}))
+        with direct.open(f"http://127.0.0.1:{self.port}/{path}") as answer:
+            return answer.read()
 
     def run(self, command, status, form):
         """Runs it, and sees that it ends with that status and prints text of this form."""

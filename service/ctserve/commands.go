@@ -168,7 +168,7 @@ func runListEntry(words []string, answers, faults io.Writer) error {
 	submission := flags.String("submission-url", "", "`URL` below which submissions come in; by default https:// and the origin")
 	monitoring := flags.String("monitoring-url", "", "`URL` below which the log is read; by default the same")
 	publicAt := flags.String("key", "", "`file` with the log's public key in PEM, where the settings name no signing-key")
-	mmd := flags.Int("mmd", 60, "the maximum merge delay in seconds: a timestamp is answered once a head has its entry, so any holds")
+	mmd := flags.Int("mmd", usualMMD, "the maximum merge delay in seconds: a timestamp is answered once a head has its entry, so any holds")
 	if err := parseFlags(flags, words, 0); err != nil {
 		return err
 	}
@@ -183,23 +183,47 @@ func runListEntry(words []string, answers, faults io.Writer) error {
 	if err != nil {
 		return err
 	}
-	id := sha256.Sum256(public)
-	one := listed{
-		Description: s.node.origin, LogID: base64.StdEncoding.EncodeToString(id[:]), Key: base64.StdEncoding.EncodeToString(public),
-		SubmissionURL: *submission, MonitoringURL: *monitoring, MMD: *mmd,
+	one := entryOf(s, public)
+	one.MMD = *mmd
+	if *submission != "" {
+		one.SubmissionURL, one.MonitoringURL = *submission, *submission
 	}
-	if one.SubmissionURL == "" {
-		one.SubmissionURL = "https://" + s.node.origin + "/"
-	}
-	if one.MonitoringURL == "" {
-		one.MonitoringURL = one.SubmissionURL
-	}
-	if from, to := s.window.From, s.window.To; !from.IsZero() && !to.IsZero() {
-		one.Interval = &interval{from.UTC().Format(time.RFC3339), to.UTC().Format(time.RFC3339)}
+	if *monitoring != "" {
+		one.MonitoringURL = *monitoring
 	}
 	out := json.NewEncoder(answers)
 	out.SetIndent("", "  ")
 	return out.Encode(map[string][]operator{"operators": {{*name, strings.Split(*email, ","), []string{}, []listed{one}}}})
+}
+
+// usualMMD is the merge delay that is told where none is given, in seconds.
+const usualMMD = 60
+
+// entryOf is what a log list has of a log that is asked below its origin.
+func entryOf(s *settings, public []byte) listed {
+	id := sha256.Sum256(public)
+	address := "https://" + s.node.origin + "/"
+	one := listed{
+		Description: s.node.origin, LogID: base64.StdEncoding.EncodeToString(id[:]), Key: base64.StdEncoding.EncodeToString(public),
+		SubmissionURL: address, MonitoringURL: address, MMD: usualMMD,
+	}
+	if from, to := s.window.From, s.window.To; !from.IsZero() && !to.IsZero() {
+		one.Interval = &interval{from.UTC().Format(time.RFC3339), to.UTC().Format(time.RFC3339)}
+	}
+	return one
+}
+
+// aboutOf is what a log answers of itself: nothing where its key isn't known.
+func aboutOf(s *settings, public []byte) (web.About, error) {
+	if public == nil {
+		return web.About{}, nil
+	}
+	entry, err := json.MarshalIndent(struct {
+		listed
+		Version string `json:"version"`
+		Notice  string `json:"notice,omitempty"`
+	}{entryOf(s, public), version.Number() + " (commit " + version.Commit() + ")", s.notice}, "", "  ")
+	return web.About{Key: public, Entry: append(entry, '\n')}, err
 }
 
 // publicKey is the log's, out of a file or of its signing key.

@@ -7,6 +7,7 @@ import (
 	"encoding/json"
 	"encoding/pem"
 	"fmt"
+	"io"
 	"os"
 	"os/exec"
 	"path/filepath"
@@ -119,6 +120,19 @@ func TestListEntry(t *testing.T) {
 	var found any
 	if err := json.Unmarshal([]byte(said), &found); err != nil || fmt.Sprint(found) != fmt.Sprint(due) {
 		t.Errorf("%v: %s", err, said)
+	}
+	s, err := parse([]string{"--config", file, "--notice", "a \"notice\""}, io.Discard)
+	if err != nil {
+		t.Fatal(err)
+	}
+	about, err := aboutOf(s, public)
+	one := due["operators"].([]any)[0].(map[string]any)["tiled_logs"].([]any)[0].(map[string]any)
+	one["version"], one["notice"] = "unreleased (commit unknown)", "a \"notice\""
+	if json.Unmarshal(about.Entry, &found) != nil || err != nil || fmt.Sprint(found) != fmt.Sprint(one) || string(about.Key) != string(public) {
+		t.Errorf("the log says of itself: %v, %s", err, about.Entry)
+	}
+	if about, err := aboutOf(s, nil); err != nil || about.Key != nil || about.Entry != nil {
+		t.Errorf("a log without a key says of itself: %v, %v", about, err)
 	}
 	if err := os.WriteFile(folder+"/public.pem", pem.EncodeToMemory(&pem.Block{Type: "PUBLIC KEY", Bytes: public}), 0o600); err != nil {
 		t.Fatal(err)

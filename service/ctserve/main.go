@@ -32,12 +32,13 @@ import (
 	"wagtenib/service/web"
 )
 
-// opened is a log that was opened, what makes proofs of its tiles, the handler of what other nodes ask it, and what closes what it
-// stands on.
+// opened is a log that was opened, what makes proofs of its tiles, the handler of what other nodes ask it, its public key, and what closes
+// what it stands on.
 type opened struct {
 	log    log.Log
 	proofs *reader.Reader
 	nodes  http.Handler
+	key    []byte
 	close  func()
 }
 
@@ -117,7 +118,11 @@ func serve(s *settings, lines *web.Lines, signals <-chan os.Signal, open opener)
 	defer of.close()
 	checker := chains.NewChecker(roots, s.window)
 	awaitHead(s, of.log)
-	front := web.New(of.log, of.proofs, checker, web.Options{Limits: s.limits, Proxies: s.proxies, Lines: lines, LogRequests: s.logRequests})
+	about, err := aboutOf(s, of.key)
+	if err != nil {
+		return err
+	}
+	front := web.New(of.log, of.proofs, checker, web.Options{Limits: s.limits, Proxies: s.proxies, Lines: lines, LogRequests: s.logRequests, About: about})
 
 	servers := []*served{{of: "clients", address: s.listen, over: over, handler: front}}
 	if s.listenNodes != "" {

@@ -68,5 +68,5 @@ func openNode(ctx context.Context, n node) (of *opened, err error) {
 	if err != nil {
 		return nil, err
 	}
-	return &opened{log: s, proofs: reader.New(reading, s.Object, n.mostProofs), nodes: s.Handler(), close: closeAll}, nil
+	return &opened{log: s, proofs: reader.New(reading, s.Object, n.mostProofs), nodes: s.Handler(), key: asked.Key(), close: closeAll}, nil
 }

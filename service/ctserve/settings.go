@@ -20,7 +20,7 @@ import (
 
 // settings are what the command line and the file of settings say.
 type settings struct {
-	listen, operator           string
+	listen, operator, notice   string
 	certificate, key           string
 	proxies                    []netip.Prefix
 	roots                      chains.RootFiles
@@ -62,6 +62,7 @@ func parse(words []string, help io.Writer) (*settings, error) {
 	config := flags.String("config", "", "`file` with a line 'name value' for each of these, and comments behind #")
 	flags.StringVar(&s.listen, "listen", "127.0.0.1:8618", "`address` for clients")
 	flags.StringVar(&s.operator, "operator-listen", "127.0.0.1:8619", "`address` for /metrics, /healthz and /readyz; none where it is empty")
+	flags.StringVar(&s.notice, "notice", "", "`text` that the log's page and /log.v3.json show")
 	flags.StringVar(&s.certificate, "tls-certificate", "", "`file` with the certificate chain of TLS in PEM, read again at SIGHUP; without it clients are answered in the clear")
 	flags.StringVar(&s.key, "tls-key", "", "`file` with its key in PEM")
 	flags.Func("proxies", "`prefixes` with commas between them, of proxies whose X-Forwarded-For is believed", func(text string) (err error) {

@@ -85,6 +85,8 @@ type Options struct {
 	Lines *Lines
 	// LogRequests tells every request, and not only those that fail at the log's side.
 	LogRequests bool
+	// About is what the log says of itself.
+	About About
 }
 
 // Front answers the calls of one log. It is an http.Handler, for clients; Operator is the one for operators.
@@ -143,6 +145,8 @@ var (
 	calls = map[string]call{
 		"/":                          {"page", http.MethodGet, (*Front).page},
 		"/checkpoint":                {"checkpoint", http.MethodGet, (*Front).checkpoint},
+		"/key":                       {"key", http.MethodGet, (*Front).key},
+		"/log.v3.json":               {"entry", http.MethodGet, (*Front).entry},
 		"/healthz":                   {"healthz", http.MethodGet, (*Front).healthz},
 		"/readyz":                    {"readyz", http.MethodGet, (*Front).readyz},
 		"/ct/v1/add-chain":           {"add-chain", http.MethodPost, (*Front).addChain},

@@ -8,6 +8,7 @@ import (
 	"encoding/base64"
 	"encoding/hex"
 	"encoding/json"
+	"encoding/pem"
 	"errors"
 	"fmt"
 	"net/http"
@@ -424,6 +425,24 @@ func TestPage(t *testing.T) {
 	hash := sha256.Sum256([]byte(script))
 	if policy := w.Header().Get("Content-Security-Policy"); script == "" || !strings.Contains(policy, base64.StdEncoding.EncodeToString(hash[:])) {
 		t.Errorf("the page's script may not run: %s", policy)
+	}
+}
+
+// The log's key and its entry for a list are answered as they were given, to anybody; without them there is no such path.
+func TestAbout(t *testing.T) {
+	of := About{Key: []byte("a key"), Entry: []byte(`{"log_id":"an id"}`)}
+	f := newFixture(t, 0, func(o *Options) { o.About = of })
+	block, rest := pem.Decode(f.get("/key").Body.Bytes())
+	if block == nil || block.Type != "PUBLIC KEY" || string(block.Bytes) != "a key" || len(rest) != 0 {
+		t.Errorf("/key: %q", f.get("/key").Body)
+	}
+	w := f.get("/log.v3.json")
+	if w.Code != 200 || w.Header().Get("Content-Type") != "application/json" || w.Body.String() != string(of.Entry) || w.Header().Get("Access-Control-Allow-Origin") != "*" {
+		t.Errorf("/log.v3.json: %d %v %s", w.Code, w.Header(), w.Body)
+	}
+	none := newFixture(t, 0, nil)
+	for _, path := range []string{"/key", "/log.v3.json"} {
+		refused(t, path, none.get(path), 404, "no-such-path")
 	}
 }
 
