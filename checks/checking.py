@@ -6,7 +6,7 @@
 Between the lines MADE and END of the page stand the claims of CLAIMS: of each its sentence, its premises, the public contract as it stands in
 the source, and the text of all definitions that the contract reaches by its imports, leaves first, each once on the page. Between COUNTED and END
 stand how many lines there are of what. The rest of the page is written by hand. The script prints where the page is another than it makes, of the
-counts where one is more than a tenth off; then it ends with status 1. With --write it writes these. checks/definitions.py runs it too.
+counts where one is more than a fifth off; then it ends with status 1. With --write it writes these. checks/definitions.py runs it too.
 """
 import functools
 import re
@@ -300,10 +300,10 @@ def between(page, begin):
 
 
 def near(stands, belongs):
-    """Whether two tables of counts have the same rows, and no count is more than a tenth off."""
+    """Whether two tables of counts have the same rows, and no count is more than a fifth off."""
     rows = [re.findall(r"^\| (.*) \| ([\d,]+) \|$", text, re.M) for text in (stands, belongs)]
     numbers = [[int(number.replace(",", "")) for _, number in table] for table in rows]
-    return [what for what, _ in rows[0]] == [what for what, _ in rows[1]] and all(abs(a - b) * 10 <= b for a, b in zip(*numbers))
+    return [what for what, _ in rows[0]] == [what for what, _ in rows[1]] and all(abs(a - b) * 5 <= b for a, b in zip(*numbers))
 
 
 def first_difference(stands, belongs):
