@@ -92,7 +92,7 @@ func parse(words []string, help io.Writer) (*settings, error) {
 
 	n := &s.node
 	flags.StringVar(&n.origin, "origin", "", "the log's `name` in checkpoints, as log.example/2027h1")
-	flags.StringVar(&n.signingKey, "signing-key", "", "`file` with the log's key in PEM, of P-256, that none but its owner may read")
+	flags.StringVar(&n.signingKey, "signing-key", "", "`file` with the log's key in PEM, of P-256, that none but its owner may read; or a URI of PKCS#11, pkcs11:token=LABEL;object=LABEL?module-path=PATH&pin-source=file:PATH")
 	flags.Func("guard", "the `command` of the guard between the key and all else, with its words (default \"ctguard\"); none signs without one", command(&n.guard))
 	flags.StringVar(&n.guardState, "guard-state", "", "`address` of the register with the guard's state: file:PATH, etcd://HOST:PORT/PREFIX, postgres://HOST/DATABASE?log=NAME; by default FOLDER.guard, beside the folder")
 	flags.StringVar(&n.signerAt, "signer-at", "", "`socket` of a signer that runs (ctserve signer --help), in the place of the three above")

@@ -59,7 +59,7 @@ func runSigner(given []string, from io.Reader, answers, to io.Writer) int {
 		fmt.Fprint(to, "ctserve signer has a log's key, and signs what the guard lets through. It is asked by nodes of ctserve, over two pipes or at a socket.\n\n")
 		flags.PrintDefaults()
 	}
-	key := flags.String("signing-key", "", "`file` with the log's key in PEM, of P-256, that none but its owner may read")
+	key := flags.String("signing-key", "", "`file` with the log's key in PEM, of P-256, that none but its owner may read; or a URI of PKCS#11, pkcs11:token=LABEL;object=LABEL?module-path=PATH&pin-source=file:PATH")
 	guard := []string{"ctguard"}
 	flags.Func("guard", "the `command` of the guard, with its words (default \"ctguard\"); none signs without one", command(&guard))
 	state := flags.String("guard-state", os.Getenv(guardStateKey), "`address` of the register with the guard's state: file:PATH, etcd://.. or postgres://..")

@@ -2,6 +2,7 @@ package signer
 
 import (
 	"context"
+	"crypto"
 	"crypto/ecdsa"
 	"crypto/elliptic"
 	"crypto/rand"
@@ -11,6 +12,7 @@ import (
 	"fmt"
 	"io"
 	"os"
+	"strings"
 )
 
 // mostFile is how many bytes a key's file may have.
@@ -19,14 +21,31 @@ const mostFile = 64 << 10
 // algorithms are the two bytes before a signature: sha256 and ecdsa (RFC 5246, section 7.4.1.4.1).
 var algorithms = [2]byte{4, 3}
 
-// Key is a log's private key. As a Signer it is unguarded: it signs whatever it is asked for.
+// Key is a log's private key, out of a file or in a token. As a Signer it is unguarded: it signs whatever it is asked for.
 type Key struct {
-	private *ecdsa.PrivateKey
+	private crypto.Signer
 	public  []byte
 }
 
-// OpenKey reads a private key of P-256 in PEM (EC PRIVATE KEY or PRIVATE KEY) from a file that none but its owner may read.
+// OpenKey reads a private key of P-256 in PEM (EC PRIVATE KEY or PRIVATE KEY) from a file that none but its owner may read; or, where
+// the path is a URI of PKCS#11 (RFC 7512), finds it in a token, which it never leaves.
 func OpenKey(path string) (*Key, error) {
+	if strings.HasPrefix(path, tokenScheme) {
+		return openToken(path)
+	}
+	content, err := readPrivate(path)
+	if err != nil {
+		return nil, err
+	}
+	private, err := parse(content)
+	if err != nil {
+		return nil, fmt.Errorf("%w: %s", err, path)
+	}
+	return FromKey(private)
+}
+
+// readPrivate reads a file that none but its owner may read or write.
+func readPrivate(path string) ([]byte, error) {
 	opened, err := os.Open(path)
 	if err != nil {
 		return nil, fmt.Errorf("signer: %w", err)
@@ -43,19 +62,16 @@ func OpenKey(path string) (*Key, error) {
 	if err != nil {
 		return nil, fmt.Errorf("signer: %w", err)
 	}
-	private, err := parse(content)
-	if err != nil {
-		return nil, fmt.Errorf("%w: %s", err, path)
-	}
-	return FromKey(private)
+	return content, nil
 }
 
 // FromKey takes a private key of P-256.
-func FromKey(private *ecdsa.PrivateKey) (*Key, error) {
-	if private.Curve != elliptic.P256() {
+func FromKey(private crypto.Signer) (*Key, error) {
+	of, ok := private.Public().(*ecdsa.PublicKey)
+	if !ok || of.Curve != elliptic.P256() {
 		return nil, fmt.Errorf("%w: it isn't of P-256", ErrKey)
 	}
-	public, err := x509.MarshalPKIXPublicKey(&private.PublicKey)
+	public, err := x509.MarshalPKIXPublicKey(of)
 	if err != nil {
 		return nil, fmt.Errorf("%w: %v", ErrKey, err)
 	}
@@ -93,7 +109,7 @@ func parse(content []byte) (*ecdsa.PrivateKey, error) {
 // sign gives the DigitallySigned over bytes.
 func (k *Key) sign(message []byte) ([]byte, error) {
 	hash := sha256.Sum256(message)
-	signature, err := ecdsa.SignASN1(rand.Reader, k.private, hash[:])
+	signature, err := k.private.Sign(rand.Reader, hash[:], crypto.SHA256)
 	if err != nil {
 		return nil, fmt.Errorf("signer: %w", err)
 	}

@@ -1,6 +1,7 @@
 package signer
 
 import (
+	"crypto/ecdsa"
 	"crypto/x509"
 	"encoding/pem"
 	"errors"
@@ -74,7 +75,7 @@ func TestKeys(t *testing.T) {
 
 // pem is the key as a file has it.
 func (k *Key) pem(t testing.TB) []byte {
-	der, err := x509.MarshalECPrivateKey(k.private)
+	der, err := x509.MarshalECPrivateKey(k.private.(*ecdsa.PrivateKey))
 	must(t, err)
 	return pem.EncodeToMemory(&pem.Block{Type: "EC PRIVATE KEY", Bytes: der})
 }
