@@ -435,11 +435,11 @@ func TestSettings(t *testing.T) {
 		}
 	}
 	s, err := parse(append(file(needed+"# a comment\n  idle-within   5s # behind\nproxies 127.0.0.1, 10.1.2.3/8\nnot-after-from 2027-01-01\ncreate true\n"+
-		"nodes-listen 127.0.0.1:1\nnodes-address http://x/\nnodes-secret "+at.path("secret")), "--origin", "z", "--step", "a b"), io.Discard)
+		"nodes-listen 127.0.0.1:1\nnodes-address http://x/\nnodes-secret "+at.path("secret")+"\nmost-clock-skew 3s\nclock-synchronized true"), "--origin", "z", "--step", "a b"), io.Discard)
 	if err != nil {
 		t.Fatal(err)
 	}
-	if s.node.origin != "z" || s.limits.Idle != 5*time.Second || fmt.Sprint(s.proxies) != "[127.0.0.1/32 10.0.0.0/8]" || !s.node.create ||
+	if s.node.origin != "z" || s.node.mostSkew != 3*time.Second || !s.node.synchronized || s.limits.Idle != 5*time.Second || fmt.Sprint(s.proxies) != "[127.0.0.1/32 10.0.0.0/8]" || !s.node.create ||
 		s.window.From.Year() != 2027 || s.node.secret != "sixteen bytes or more" || strings.Join(s.node.step, " ") != "a b --origin z" ||
 		s.node.guardState != "file:ct-log.guard" || s.node.latestHead != "ct-log.latest-head" || strings.Join(s.node.guard, " ") != "ctguard" || s.node.store != "folder:ct-log/objects" || s.node.register != "file:ct-log/register" || s.node.places != "sqlite:ct-log/places" {
 		t.Errorf("%+v", s)

@@ -39,6 +39,8 @@ type node struct {
 	guardState, signerAt                      string
 	folder, store, register, places           string
 	latestHead                                string
+	mostSkew                                  time.Duration
+	synchronized                              bool
 	step, reader                              []string
 	stepWithin, interval, refresh, openWithin time.Duration
 	sweepAfter, readEvery                     time.Duration
@@ -100,6 +102,8 @@ func parse(words []string, help io.Writer) (*settings, error) {
 	flags.StringVar(&n.store, "store", "", "`address` of the objects: folder:PATH, s3://HOST/BUCKET")
 	flags.StringVar(&n.register, "register", "", "`address` of the register: file:PATH, etcd://HOST:PORT/PREFIX, postgres://HOST/DATABASE?log=NAME")
 	flags.StringVar(&n.places, "places", "", "`address` of the places of identities: sqlite:PATH, etcd://HOST:PORT/PREFIX, postgres://HOST/DATABASE?log=NAME")
+	flags.DurationVar(&n.mostSkew, "most-clock-skew", 10*time.Second, "how far the machine's clock may be off, by the newest head, the stores' machines, another node or what elapsed, until nothing is taken")
+	flags.BoolVar(&n.synchronized, "clock-synchronized", false, "take nothing as long as the kernel doesn't say that its clock is synchronized (timedatectl)")
 	flags.StringVar(&n.latestHead, "latest-head", "", "`file` of this machine's own, apart from all stores and their backups, with the latest tree head that this node saw: a log that is older is refused (default FOLDER.latest-head, beside the folder)")
 	flags.Func("step", "the `command` of the program that makes the steps, with its words (default \"cttile\"); it is given --origin", command(&n.step))
 	flags.Func("reader", "the `command` of the program that makes proofs for readers out of the tiles, with its words (default \"ctproof\")", command(&n.reader))
@@ -191,7 +195,7 @@ func (s *settings) settle() error {
 	if !s.window.From.IsZero() && !s.window.To.IsZero() && !s.window.From.Before(s.window.To) {
 		return errors.New("--not-after-from isn't before --not-after-to")
 	}
-	for _, time := range []time.Duration{s.endWithin, l.Headers, l.Request, l.Submission, l.Answer, l.Idle, n.stepWithin, n.interval, n.refresh, n.openWithin, n.sweepAfter, n.readEvery} {
+	for _, time := range []time.Duration{s.endWithin, l.Headers, l.Request, l.Submission, l.Answer, l.Idle, n.stepWithin, n.interval, n.refresh, n.openWithin, n.sweepAfter, n.readEvery, n.mostSkew} {
 		if time <= 0 {
 			return errors.New("a time is above 0")
 		}

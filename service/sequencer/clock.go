@@ -1,43 +1,243 @@
 package sequencer
 
 import (
+	"context"
 	"fmt"
+	"sync"
 	"time"
 
+	"golang.org/x/sys/unix"
+
 	"wagtenib/service/log"
+	"wagtenib/service/stores"
 )
 
-// clock gives the moments of steps.
+// Clock is what a machine says of the time.
+type Clock interface {
+	// Now is the time of day. It may be set, ahead and back.
+	Now() time.Time
+	// Elapsed is for how long the machine runs, its sleep included. Nobody sets it.
+	Elapsed() time.Duration
+	// Synchronized says whether something keeps the time of day right, by the kernel's word; not known where it doesn't say.
+	Synchronized() (is, known bool)
+}
+
+// machine is the clock of this machine.
+type machine struct{ began time.Time }
+
+func newMachine() machine { return machine{time.Now()} }
+
+// Now leaves out the monotonic clock's: the two are compared.
+func (m machine) Now() time.Time { return time.Now().Round(0) }
+
+func (m machine) Elapsed() time.Duration {
+	var at unix.Timespec
+	if err := unix.ClockGettime(unix.CLOCK_BOOTTIME, &at); err != nil {
+		return time.Since(m.began)
+	}
+	return time.Duration(at.Nano())
+}
+
+// unsynchronized is STA_UNSYNC of linux/timex.h.
+const unsynchronized = 0x40
+
+func (m machine) Synchronized() (is, known bool) {
+	var status unix.Timex
+	state, err := unix.Adjtimex(&status)
+	return state != unix.TIME_ERROR && status.Status&unsynchronized == 0, err == nil
+}
+
+const (
+	// asksEvery is how far two questions are apart, at most, which time other machines' clocks have, and asksWithin how long an answer may take.
+	asksEvery  = 10 * time.Second
+	asksWithin = 3 * time.Second
+	// forgets is for how long an answer counts.
+	forgets = 10 * time.Minute
+)
+
+// teller is another machine that says what time it is.
+type teller struct {
+	name string
+	stores.Timed
+}
+
+// heard is what one said: the time of day, and how far off that is by how it came.
+type heard struct {
+	at     time.Time
+	within time.Duration
+	when   time.Duration
+}
+
+// clock gives the moments of steps. A moment that is in a log never goes back, and one of the future stops it until then: so the time of day is
+// compared with all else that is known, and where it is off by more than a bound, there is no moment until it isn't.
+//
+// The newest head's moment says how early it can't be, and nothing of how late it is: a log may have stood for long. The clocks of the stores'
+// machines, and of the node that makes the steps, say both. The machine's own count of time that elapsed says whether the time of day was set
+// since it was believed; then those clocks, or the kernel, have to say that it is right.
 type clock struct {
-	now func() time.Time
-	// began is the wall clock's time at the start, and since the moment that the monotonic clock counts from.
-	began, since time.Time
+	of           Clock
+	most         time.Duration
+	synchronized bool
+	tellers      []teller
+	// soon has the tellers be asked at once.
+	soon chan struct{}
+
+	mu sync.Mutex
+	// said is what tellers said last, by their names, and node what the node with that address did.
+	said map[string]heard
+	node map[string]heard
+	// believed is the time of day that was believed, and since how much had elapsed then.
+	believed time.Time
+	since    time.Duration
 }
 
-func newClock(now func() time.Time) *clock {
-	if now == nil {
-		now = time.Now
+func newClock(config Config) *clock {
+	c := &clock{of: config.Clock, most: config.MostSkew, synchronized: config.Synchronized, soon: make(chan struct{}, 1), said: map[string]heard{}, node: map[string]heard{}}
+	for _, of := range []struct {
+		name  string
+		store any
+	}{{"the objects' store", config.Objects}, {"the register's store", config.Register}, {"the places' store", config.Places}} {
+		if timed, ok := of.store.(stores.Timed); ok {
+			c.tellers = append(c.tellers, teller{of.name, timed})
+		}
 	}
-	// Round(0) takes the monotonic clock away: the two are compared.
-	return &clock{now: now, began: now().Round(0), since: time.Now()}
+	return c
 }
 
-func (c *clock) wall() time.Time { return c.now().Round(0) }
+func (c *clock) now() time.Time { return c.of.Now() }
 
-// moment gives the moment of a step behind a state's: the wall clock's, or the next millisecond where that isn't later. One that
-// is further ahead of the monotonic clock than Ahead is refused: a moment that is in a log never goes back.
-func (c *clock) moment(last uint64) (uint64, error) {
-	wall := c.wall().UnixMilli()
-	if wall < 0 {
-		wall = 0
+// ask asks all tellers at once. Who doesn't say is asked later.
+func (c *clock) ask(ctx context.Context) {
+	ctx, cancel := context.WithTimeout(ctx, asksWithin)
+	defer cancel()
+	var all sync.WaitGroup
+	for _, one := range c.tellers {
+		all.Add(1)
+		go func(one teller) {
+			defer all.Done()
+			before := c.of.Elapsed()
+			at, within, err := one.Time(ctx)
+			if err == nil {
+				c.hear(c.said, one.name, at, within, before)
+			}
+		}(one)
 	}
-	moment := uint64(wall)
+	all.Wait()
+}
+
+// hear keeps what another machine said to a question that was asked before.
+func (c *clock) hear(into map[string]heard, name string, at time.Time, within, before time.Duration) {
+	took := c.of.Elapsed() - before
+	c.mu.Lock()
+	defer c.mu.Unlock()
+	into[name] = heard{at, within + took/2, before + took/2}
+}
+
+// hearNode keeps what a node said; of one alone, the one that makes the steps.
+func (c *clock) hearNode(address string, at time.Time, before time.Duration) {
+	c.mu.Lock()
+	for other := range c.node {
+		if other != address {
+			delete(c.node, other)
+		}
+	}
+	c.mu.Unlock()
+	c.hear(c.node, address, at, time.Second, before)
+}
+
+// keep asks the tellers, and another one, every so often until the context ends.
+func (c *clock) keep(ctx context.Context, another func(context.Context)) {
+	for ctx.Err() == nil {
+		timer := time.NewTimer(asksEvery)
+		select {
+		case <-ctx.Done():
+		case <-timer.C:
+		case <-c.soon:
+		}
+		timer.Stop()
+		c.ask(ctx)
+		another(ctx)
+	}
+}
+
+// check says by how much, and by whose word, the time of day is off. The newest moment of the log is last, and node who set it, if another one did.
+func (c *clock) check(last uint64, node string) error {
+	c.mu.Lock()
+	defer c.mu.Unlock()
+	now, elapsed := c.of.Now(), c.of.Elapsed()
+	isSynchronized, isKnown := c.of.Synchronized()
+	isSynchronized = isSynchronized && isKnown
+	if c.synchronized && !isSynchronized {
+		return fmt.Errorf("%w: by the kernel's word it isn't synchronized", log.ErrClock)
+	}
+	vouched := isSynchronized
+	compared := func(name string, of heard) error {
+		if elapsed-of.when > forgets {
+			return nil
+		}
+		vouched = true
+		return c.off(now.Sub(of.at.Add(elapsed-of.when)), of.within, name)
+	}
+	for _, one := range c.tellers {
+		if of, ok := c.said[one.name]; ok {
+			if err := compared(one.name, of); err != nil {
+				return err
+			}
+		}
+	}
+	if of, ok := c.node[node]; ok {
+		if err := compared("the node that makes the steps", of); err != nil {
+			return err
+		}
+	}
+	newest := "the log's newest head"
+	if vouched {
+		newest += ", which is in the future by another clock, too"
+	}
+	if ahead := time.UnixMilli(int64(last)).Sub(now); ahead > c.most {
+		return c.off(-ahead, 0, newest)
+	}
+	if !c.believed.IsZero() && !vouched {
+		if err := c.off(now.Sub(c.believed.Add(elapsed-c.since)), 0, "what elapsed since it was believed"); err != nil {
+			return err
+		}
+	}
+	if c.believed.IsZero() || vouched {
+		c.believed, c.since = now, elapsed
+	}
+	return nil
+}
+
+// off is the refusal of a clock that is ahead of another one by more than the bound, or behind it.
+func (c *clock) off(ahead, within time.Duration, of string) error {
+	switch {
+	case ahead > c.most+within:
+		return fmt.Errorf("%w: it is ahead of %s by %v", log.ErrClock, of, ahead.Round(time.Millisecond))
+	case -ahead > c.most+within:
+		return fmt.Errorf("%w: it is behind %s by %v", log.ErrClock, of, (-ahead).Round(time.Millisecond))
+	}
+	return nil
+}
+
+// hurry has the tellers be asked soon.
+func (c *clock) hurry() {
+	select {
+	case c.soon <- struct{}{}:
+	default:
+	}
+}
+
+// moment gives the moment of a step behind the newest one: the time of day's, or the next millisecond where that isn't later.
+func (c *clock) moment(last uint64, node string) (uint64, error) {
+	if err := c.check(last, node); err != nil {
+		return 0, err
+	}
+	moment := uint64(0)
+	if now := c.now().UnixMilli(); now > 0 {
+		moment = uint64(now)
+	}
 	if moment <= last {
 		moment = last + 1
-	}
-	expected := c.began.Add(time.Since(c.since))
-	if limit := expected.Add(Ahead).UnixMilli(); limit < 0 || moment > uint64(limit) {
-		return 0, fmt.Errorf("%w: a step at %d ms would be %d ms ahead of what the monotonic clock leads to expect", log.ErrClock, moment, int64(moment)-expected.UnixMilli())
 	}
 	return moment, nil
 }

@@ -403,37 +403,6 @@ func TestGivenUp(t *testing.T) {
 	p.right(t, got)
 }
 
-// TestClock sets a node's clock two hours ahead while it runs, and back.
-func TestClock(t *testing.T) {
-	t.Parallel()
-	p, ctx, got := newPlace(t), limited(t), &answers{}
-	var mu sync.Mutex
-	var ahead time.Duration
-	set := func(to time.Duration) {
-		mu.Lock()
-		defer mu.Unlock()
-		ahead = to
-	}
-	s := started(t, p.config(t), hooks{now: func() time.Time {
-		mu.Lock()
-		defer mu.Unlock()
-		return time.Now().Add(ahead)
-	}})
-	must(t, got.submitAll(ctx, s, 0, 5, 1))
-	set(2 * time.Hour)
-	_, err := s.Submit(ctx, entryOf(7))
-	wants(t, err, log.ErrClock)
-	set(-2 * time.Hour)
-	// A clock that is behind takes nothing back: moments go on by a millisecond.
-	for deadline := time.Now().Add(20 * time.Second); s.Figures().Fault != "" && time.Now().Before(deadline); {
-		time.Sleep(quick)
-	}
-	must(t, got.submitAll(ctx, s, 10, 15, 1))
-	if report := p.right(t, got); report.Leaves != 10 {
-		t.Fatalf("%+v", report)
-	}
-}
-
 // unsure is a register that says of some swaps that it doesn't know: of those that it did, and of those that it didn't.
 type unsure struct {
 	stores.Register
@@ -612,8 +581,13 @@ func TestHandedBackWrong(t *testing.T) {
 					reply := httptest.NewRecorder()
 					right.ServeHTTP(reply, r)
 					var back handedBack
-					if err := json.Unmarshal(reply.Body.Bytes(), &back); err != nil || len(back.Places) == 0 {
+					if err := json.Unmarshal(reply.Body.Bytes(), &back); err != nil {
 						t.Errorf("%d %s", reply.Code, reply.Body)
+						return
+					}
+					if len(back.Places) == 0 {
+						// It asks what time it is.
+						json.NewEncoder(w).Encode(back)
 						return
 					}
 					first, _ := other.Load().(handedPlace)

@@ -27,7 +27,7 @@ type faultsWanted struct {
 const (
 	nodesAtATime = 4
 	// apart is how far the clocks of two nodes are.
-	apart = 60 * time.Second
+	apart = 2 * time.Second
 	// pauseFor is how long a node is stopped, and chunk how many submissions one gets.
 	pauseFor = 10 * time.Second
 	chunk    = 60
@@ -38,7 +38,7 @@ const (
 	mostAgain = 8
 )
 
-// TestFaults has four processes carry one log, whose clocks are a minute apart. They are killed (-9) and replaced, and stopped for
+// TestFaults has four processes carry one log, whose clocks are two seconds apart. They are killed (-9) and replaced, and stopped for
 // ten seconds across their swaps; a third of them has stores of which one call in ten fails, and half hand over to each other.
 // Meanwhile members of etcd and the gateway of S3 are killed. The verdict is the checker's, from the bucket alone: every number that
 // was ever submitted stands in the log once, and what was answered is in its place.

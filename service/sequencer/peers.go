@@ -39,6 +39,8 @@ const (
 	LeastSecret = 16
 	// logHeader names the log that a batch is for: its ID in hexadecimal digits.
 	logHeader = "Log-Id"
+	// dateHeader has a node's clock when it replies (RFC 9110, section 6.6.1).
+	dateHeader = "Date"
 )
 
 func (c *Config) settlePeers() error {
@@ -114,8 +116,35 @@ func (s *Sequencer) handOver(k known) bool {
 
 var errNode = errors.New("sequencer: another node doesn't answer")
 
-// isSigned says whether a place that was handed back is a submission's: the log's key signed the timestamp of its entry there.
+// another is the address of the node that set a state, where that is another one.
+func (s *Sequencer) another(k known) string {
+	if s.config.Address == "" || k.node == s.config.Address {
+		return ""
+	}
+	return k.node
+}
+
+// askNode asks the node that makes the steps, if another one does, what time it has. Who doesn't say is asked later.
+func (s *Sequencer) askNode(ctx context.Context) {
+	if node := s.another(s.newestKnown()); node != "" {
+		ctx, cancel := context.WithTimeout(ctx, asksWithin)
+		defer cancel()
+		_, _ = s.post(ctx, node, handedOver{})
+	}
+}
+
+// keepTime has other machines say what time it is, until the context ends.
+func (s *Sequencer) keepTime(ctx context.Context) {
+	defer close(s.told)
+	s.clock.keep(ctx, s.askNode)
+}
+
+// isSigned says whether a place that was handed back is a submission's: the log's key signed the timestamp of its entry there, and it isn't
+// of the future.
 func (s *Sequencer) isSigned(of step.Submission, place handedPlace) error {
+	if ahead := time.UnixMilli(int64(place.Timestamp)).Sub(s.clock.now()); ahead > s.config.MostSkew {
+		return fmt.Errorf("%w: it gives a timestamp that is %v ahead", errNode, ahead)
+	}
 	if place.LeafIndex >= step.MostLeaves {
 		return fmt.Errorf("%w: it gives the index %d", errNode, place.LeafIndex)
 	}
@@ -138,6 +167,34 @@ func messageOf(of step.Submission, index, moment uint64) []byte {
 	return append(append(message, eight(uint64(len(extensions)))[6:]...), extensions...)
 }
 
+// post asks another node to take submissions, and keeps what time it has.
+func (s *Sequencer) post(ctx context.Context, node string, over handedOver) (back handedBack, err error) {
+	body, err := json.Marshal(over)
+	if err != nil {
+		return back, err
+	}
+	request, err := http.NewRequestWithContext(ctx, http.MethodPost, node, bytes.NewReader(body))
+	if err != nil {
+		return back, err
+	}
+	request.Header.Set("Authorization", "Bearer "+s.config.Secret)
+	request.Header.Set(logHeader, hex.EncodeToString(s.logID[:]))
+	request.Header.Set("Content-Type", "application/json")
+	asked := s.config.Clock.Elapsed()
+	reply, err := s.config.Peers.Do(request)
+	if err != nil {
+		return back, err
+	}
+	defer reply.Body.Close()
+	if reply.StatusCode != http.StatusOK {
+		return back, fmt.Errorf("%w: %s", errNode, reply.Status)
+	}
+	if at, err := http.ParseTime(reply.Header.Get(dateHeader)); err == nil {
+		s.clock.hearNode(node, at, asked)
+	}
+	return back, json.NewDecoder(io.LimitReader(reply.Body, mostBody)).Decode(&back)
+}
+
 // hand has another node take a batch, and answers those whom it answers by what the log signed. Who isn't among them waits on.
 func (s *Sequencer) hand(node string, batch []*waiting) error {
 	ctx, cancel := context.WithTimeout(context.Background(), mostHanded)
@@ -146,27 +203,8 @@ func (s *Sequencer) hand(node string, batch []*waiting) error {
 	for _, w := range batch {
 		over.Submissions = append(over.Submissions, w.submission)
 	}
-	body, err := json.Marshal(over)
+	back, err := s.post(ctx, node, over)
 	if err != nil {
-		return err
-	}
-	request, err := http.NewRequestWithContext(ctx, http.MethodPost, node, bytes.NewReader(body))
-	if err != nil {
-		return err
-	}
-	request.Header.Set("Authorization", "Bearer "+s.config.Secret)
-	request.Header.Set(logHeader, hex.EncodeToString(s.logID[:]))
-	request.Header.Set("Content-Type", "application/json")
-	reply, err := s.config.Peers.Do(request)
-	if err != nil {
-		return err
-	}
-	defer reply.Body.Close()
-	var back handedBack
-	if reply.StatusCode != http.StatusOK {
-		return fmt.Errorf("%w: %s", errNode, reply.Status)
-	}
-	if err := json.NewDecoder(io.LimitReader(reply.Body, mostBody)).Decode(&back); err != nil {
 		return err
 	}
 	if len(back.Places) != len(batch) {
@@ -213,6 +251,7 @@ func (s *Sequencer) Handler() http.Handler {
 			return
 		}
 		back := s.takeHanded(r.Context(), over.Submissions)
+		w.Header().Set(dateHeader, s.clock.now().UTC().Format(http.TimeFormat))
 		w.Header().Set("Content-Type", "application/json")
 		// Who doesn't read it asks again.
 		_ = json.NewEncoder(w).Encode(back)

@@ -143,14 +143,24 @@ func (s *Sequencer) round(ctx context.Context) error {
 	if err := s.lookBack(ctx, k); err != nil {
 		return err
 	}
-	if s.handOver(k) {
+	// What is decided is rolled out by any clock; with one that is off nothing is taken.
+	skewed := s.clock.check(k.state.Moment, s.another(k))
+	if skewed != nil {
+		s.clock.hurry()
+	} else if s.handOver(k) {
 		return nil
 	}
 	if s.test.plant != noWait {
 		ready, err := s.haveRolledOut(ctx, k)
-		if err != nil || !ready {
+		if err != nil {
 			return err
 		}
+		if !ready {
+			return skewed
+		}
+	}
+	if skewed != nil {
+		return skewed
 	}
 	batch := s.queue.take(s.config.MostBatch, MostBatchBytes)
 	defer func() { s.queue.giveBack(batch) }()
@@ -166,7 +176,7 @@ func (s *Sequencer) round(ctx context.Context) error {
 
 // isStale says whether a head without new entries is due: none was ever published, or the newest is too old.
 func (s *Sequencer) isStale(k known) bool {
-	return k.state.IsBegin() || s.clock.wall().UnixMilli()-int64(k.state.Moment) > s.config.Refresh.Milliseconds()
+	return k.state.IsBegin() || s.clock.now().UnixMilli()-int64(k.state.Moment) > s.config.Refresh.Milliseconds()
 }
 
 // haveRolledOut sees to it that a state is rolled out: its own node does it, or this one. It says no where the next round is to
@@ -211,7 +221,7 @@ func (s *Sequencer) advance(ctx context.Context, k known, batch []*waiting) erro
 	for _, g := range groups {
 		submissions = append(submissions, g[0].submission)
 	}
-	now, err := s.clock.moment(k.state.Moment)
+	now, err := s.clock.moment(k.state.Moment, s.another(k))
 	if err != nil {
 		return err
 	}

@@ -41,8 +41,6 @@ const (
 	MostBatchBytes = 12 << 20
 	// MostBatch is how many entries one step takes in, at most.
 	MostBatch = 1024
-	// Ahead is how far a step's moment may be ahead of what the monotonic clock leads one to expect.
-	Ahead = time.Hour
 )
 
 // What keeps a log from going on, beside what package log names. Each is found by errors.Is, beside log.ErrStore.
@@ -93,6 +91,11 @@ type Config struct {
 	// LatestHead is a file of this machine's own, apart from all stores, with the newest head that this node saw: a log that is older is
 	// refused. None is kept where it is empty.
 	LatestHead string
+	// Clock is this machine's where it is nil. MostSkew is how far it may be off by what else is known, 10 s where it is 0; beyond it nothing is
+	// taken. Synchronized says that nothing is taken either where the kernel doesn't say that something keeps the clock right.
+	Clock        Clock
+	MostSkew     time.Duration
+	Synchronized bool
 }
 
 func (c *Config) settle() error {
@@ -101,7 +104,7 @@ func (c *Config) settle() error {
 		return fmt.Errorf("%w: a store, the step or the signer isn't there", ErrConfig)
 	case c.Origin == "" || strings.ContainsAny(c.Origin, " +\n\r\t"):
 		return fmt.Errorf("%w: an origin has neither spaces nor a plus sign", ErrConfig)
-	case c.Interval < 0 || c.Refresh < 0 || c.Patience < 0 || c.SweepAfter < 0 || c.TendEvery < 0 || c.MostQueue < 0 || c.MostQueueBytes < 0 || c.MostBatch < 0 || c.MostBatch > MostBatch:
+	case c.Interval < 0 || c.Refresh < 0 || c.Patience < 0 || c.SweepAfter < 0 || c.TendEvery < 0 || c.MostSkew < 0 || c.MostQueue < 0 || c.MostQueueBytes < 0 || c.MostBatch < 0 || c.MostBatch > MostBatch:
 		return fmt.Errorf("%w: a bound is below 0, or a batch above %d", ErrConfig, MostBatch)
 	}
 	if c.BehindSwap && c.Signer.Receipts() == signer.InHead {
@@ -112,6 +115,10 @@ func (c *Config) settle() error {
 	orElse(&c.Patience, 5*time.Second)
 	orElse(&c.SweepAfter, time.Hour)
 	orElse(&c.TendEvery, time.Second)
+	orElse(&c.MostSkew, 10*time.Second)
+	if c.Clock == nil {
+		c.Clock = newMachine()
+	}
 	orElse(&c.MostQueue, 4096)
 	orElse(&c.MostQueueBytes, 64<<20)
 	orElse(&c.MostBatch, MostBatch)
@@ -132,9 +139,9 @@ type Sequencer struct {
 	queue   *queue
 	issuers *issuers
 	clock   *clock
-	// cancel ends all that the loop and the tender do; ended is closed behind the one, and tended behind the other.
-	cancel        context.CancelFunc
-	ended, tended chan struct{}
+	// cancel ends all that the loop, the tender and who asks for the time do; ended is closed behind the first, tended and told behind the others.
+	cancel              context.CancelFunc
+	ended, tended, told chan struct{}
 
 	// The loop's own.
 	// edge has tiles of the newest state that need not be read, and rolled is the line of the last state that is rolled out.
@@ -178,7 +185,6 @@ type Sequencer struct {
 type hooks struct {
 	phase func(string)
 	plant string
-	now   func() time.Time
 }
 
 func (s *Sequencer) phase(name string) {
@@ -205,9 +211,10 @@ func start(ctx context.Context, config Config, test hooks) (*Sequencer, error) {
 		config:  config,
 		logID:   sha256.Sum256(config.Signer.Key()),
 		queue:   newQueue(config.MostQueue, config.MostQueueBytes),
-		clock:   newClock(test.now),
+		clock:   newClock(config),
 		ended:   make(chan struct{}),
 		tended:  make(chan struct{}),
+		told:    make(chan struct{}),
 		edge:    map[string][]byte{},
 		damage:  map[uint64]error{},
 		handing: make(chan struct{}, mostHanding),
@@ -217,13 +224,16 @@ func start(ctx context.Context, config Config, test hooks) (*Sequencer, error) {
 	if err := s.readLatest(); err != nil {
 		return nil, err
 	}
+	s.clock.ask(ctx)
 	if err := s.takeUp(ctx); err != nil {
 		return nil, err
 	}
+	s.askNode(ctx)
 	running, cancel := context.WithCancel(context.Background())
 	s.cancel = cancel
 	go s.loop(running)
 	go s.tend(running)
+	go s.keepTime(running)
 	return s, nil
 }
 
@@ -299,6 +309,7 @@ func (s *Sequencer) End(ctx context.Context) error {
 	}
 	s.cancel()
 	<-s.tended
+	<-s.told
 	if left := s.queue.answerAll(log.ErrEnded); left > 0 {
 		return fmt.Errorf("sequencer: %d who waited were told so at the end: %w", left, ctx.Err())
 	}
@@ -320,7 +331,7 @@ func (s *Sequencer) Figures() log.Figures {
 	}
 	if s.head != nil {
 		f.Entries = s.head.TreeSize
-		f.HeadAge = time.Duration(s.clock.wall().UnixMilli()-int64(s.head.Timestamp)) * time.Millisecond
+		f.HeadAge = time.Duration(s.clock.now().UnixMilli()-int64(s.head.Timestamp)) * time.Millisecond
 	}
 	f.Mended, f.LastMended = s.mended, s.lastMended
 	if f.DamagedIssuers, f.Damage = s.issuers.damage(); len(s.damage) > 0 {

@@ -457,7 +457,8 @@ func beNode(words string) error {
 		return err
 	}
 	defer end()
-	s, err := start(ctx, config, hooks{plant: c.Plant, phase: c.phases(), now: func() time.Time { return time.Now().Add(c.Ahead) }})
+	config.Clock = newAhead(c.Ahead)
+	s, err := start(ctx, config, hooks{plant: c.Plant, phase: c.phases()})
 	if err != nil {
 		return err
 	}

@@ -6,6 +6,7 @@ import (
 	"database/sql/driver"
 	"errors"
 	"fmt"
+	"time"
 
 	"github.com/lib/pq"
 )
@@ -102,6 +103,28 @@ func OpenPostgres(ctx context.Context, at Postgres) (Register, error) {
 		return nil, err
 	}
 	return &inPostgres{db, at.Log}, nil
+}
+
+// timeOf asks a server what time it is.
+func timeOf(ctx context.Context, db *sql.DB) (time.Time, time.Duration, error) {
+	at, err := within(ctx, func() (at time.Time, err error) {
+		err = db.QueryRowContext(ctx, "select clock_timestamp()").Scan(&at)
+		return at, err
+	})
+	if err != nil {
+		return time.Time{}, 0, fmt.Errorf("stores: PostgreSQL: time: %w", err)
+	}
+	return at, time.Millisecond, nil
+}
+
+// Time is Timed's.
+func (p *inPostgres) Time(ctx context.Context) (time.Time, time.Duration, error) {
+	return timeOf(ctx, p.db)
+}
+
+// Time is Timed's.
+func (p *placesInPostgres) Time(ctx context.Context) (time.Time, time.Duration, error) {
+	return timeOf(ctx, p.db)
 }
 
 // written wraps the error of a write: unless the server says that it refused it, it may have been done.

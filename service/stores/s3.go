@@ -9,6 +9,7 @@ import (
 	"fmt"
 	"io"
 	"net/http"
+	"time"
 
 	"github.com/minio/minio-go/v7"
 	"github.com/minio/minio-go/v7/pkg/credentials"
@@ -50,7 +51,27 @@ func (c condition) RoundTrip(request *http.Request) (*http.Response, error) {
 		request = request.Clone(request.Context())
 		request.Header.Set("If-None-Match", "*")
 	}
-	return c.RoundTripper.RoundTrip(request)
+	response, err := c.RoundTripper.RoundTrip(request)
+	if said, ok := request.Context().Value(date{}).(*string); ok && err == nil {
+		*said = response.Header.Get("Date")
+	}
+	return response, err
+}
+
+// date marks the context of a request whose answer's Date is wanted.
+type date struct{}
+
+// Time is Timed's: by the Date of an answer (RFC 9110, section 6.6.1), also of one that refuses a request whose own date is far off.
+func (b *bucket) Time(ctx context.Context) (time.Time, time.Duration, error) {
+	said := ""
+	_, err := b.core.BucketExists(context.WithValue(ctx, date{}, &said), b.name)
+	if at, unread := http.ParseTime(said); unread == nil {
+		return at, time.Second, nil
+	}
+	if err == nil {
+		err = errors.New("an answer has no Date")
+	}
+	return time.Time{}, 0, fmt.Errorf("stores: S3: time: %w", err)
 }
 
 // OpenS3 opens the objects in a bucket; ErrAbsent where there is no such bucket, ErrUnsafe where conditional puts are said to

@@ -189,6 +189,58 @@ func TestS3SaysNoLength(t *testing.T) {
 	}
 }
 
+// TestS3SaysTheTime: a bucket's time is the Date of an answer, also of a refusal; without one there is none.
+func TestS3SaysTheTime(t *testing.T) {
+	const said = "Sun, 06 Nov 1994 08:49:37 GMT"
+	var date string
+	status := http.StatusOK
+	server := httptest.NewServer(http.HandlerFunc(func(w http.ResponseWriter, r *http.Request) {
+		w.Header()["Date"] = nil
+		if date != "" {
+			w.Header().Set("Date", date)
+		}
+		w.WriteHeader(status)
+	}))
+	defer server.Close()
+	store, err := OpenS3(limited(t), S3{Endpoint: strings.TrimPrefix(server.URL, "http://"), Bucket: fakeBucket, Key: "key", Secret: "secret", Region: "us-east-1"})
+	must(t, err)
+	date = said
+	for _, status = range []int{http.StatusOK, http.StatusForbidden} {
+		if at, within, err := store.(Timed).Time(limited(t)); err != nil || within != time.Second || at.UTC().Format(http.TimeFormat) != said {
+			t.Errorf("status %d: %v, %v, %v", status, at, within, err)
+		}
+	}
+	for _, date = range []string{"", "today"} {
+		if at, _, err := store.(Timed).Time(limited(t)); err == nil {
+			t.Errorf("Date %q: %v", date, at)
+		}
+	}
+	server.Close()
+	if at, _, err := store.(Timed).Time(limited(t)); err == nil {
+		t.Errorf("from nowhere: %v", at)
+	}
+}
+
+// TestPostgresSaysTheTime: the server's time is about this machine's, on which it runs.
+func TestPostgresSaysTheTime(t *testing.T) {
+	if postgresURL == "" {
+		t.Skip(wants(postgresURL, "postgresql"))
+	}
+	register, err := OpenPostgres(limited(t), Postgres{postgresURL, "time"})
+	must(t, err)
+	defer register.Close()
+	places, err := OpenPostgresPlaces(limited(t), Postgres{postgresURL, "time"})
+	must(t, err)
+	defer places.Close()
+	for _, store := range []Timed{register.(Timed), places.(Timed)} {
+		before := time.Now()
+		at, within, err := store.Time(limited(t))
+		if err != nil || at.Before(before.Add(-within)) || at.After(time.Now().Add(within)) {
+			t.Errorf("%v, %v, %v; here it is %v", at, within, err, time.Now())
+		}
+	}
+}
+
 func TestPostgresThatKeepsNothing(t *testing.T) {
 	if why := wants(postgresURL, "postgresql"); why != "" {
 		t.Skip(why)

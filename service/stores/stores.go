@@ -9,6 +9,7 @@ package stores
 import (
 	"context"
 	"errors"
+	"time"
 )
 
 // The bounds.
@@ -138,4 +139,10 @@ type Places interface {
 	// these.
 	Leaves() Places
 	Close() error
+}
+
+// Timed is a store on another machine that says what time it is there.
+type Timed interface {
+	// Time gives the time of day, and how far it is off at most by how it is said.
+	Time(ctx context.Context) (at time.Time, within time.Duration, err error)
 }

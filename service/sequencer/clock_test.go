@@ -1,0 +1,288 @@
+package sequencer
+
+import (
+	"context"
+	"fmt"
+	"net/http/httptest"
+	"strings"
+	"sync"
+	"testing"
+	"time"
+
+	"wagtenib/service/log"
+	"wagtenib/service/stores"
+)
+
+// bent is this machine's clock, ahead by so much. The kernel says that something keeps it right, or that nothing does.
+type bent struct {
+	Clock
+	mu           sync.Mutex
+	by           time.Duration
+	synchronized bool
+}
+
+func newAhead(by time.Duration) *bent { return &bent{Clock: newMachine(), by: by} }
+
+func (b *bent) set(by time.Duration, synchronized bool) {
+	b.mu.Lock()
+	defer b.mu.Unlock()
+	b.by, b.synchronized = by, synchronized
+}
+
+func (b *bent) Now() time.Time {
+	b.mu.Lock()
+	defer b.mu.Unlock()
+	return b.Clock.Now().Add(b.by)
+}
+
+func (b *bent) Synchronized() (is, known bool) {
+	b.mu.Lock()
+	defer b.mu.Unlock()
+	return b.synchronized, true
+}
+
+// timed is a store of objects on another machine, whose clock is ahead by so much.
+type timed struct {
+	stores.Objects
+	by time.Duration
+}
+
+func (o timed) Time(context.Context) (time.Time, time.Duration, error) {
+	return time.Now().Add(o.by), time.Second, nil
+}
+
+// skews are how far a clock may be off, and whether that is within the bound.
+var skews = []struct {
+	by     time.Duration
+	within bool
+}{{time.Second, true}, {59 * time.Minute, false}, {24 * time.Hour, false}, {365 * 24 * time.Hour, false}, {-time.Second, true}, {-59 * time.Minute, false}, {-24 * time.Hour, false}, {-365 * 24 * time.Hour, false}}
+
+// isSaid sees that a refusal says which way a clock is off, beside what, and by about how much.
+func isSaid(t *testing.T, err error, by time.Duration, beside string) {
+	t.Helper()
+	wants(t, err, log.ErrClock)
+	way := "ahead of "
+	if by < 0 {
+		way, by = "behind ", -by
+	}
+	text := err.Error()
+	at := strings.LastIndex(text, " by ")
+	said, unread := time.ParseDuration(text[at+4:])
+	if !strings.Contains(text, way+beside) || unread != nil || said < by-longest || said > by+longest {
+		t.Errorf("%v doesn't say %s%s by %v", err, way, beside, by)
+	}
+}
+
+// timely sees that what was answered is of no moment that is further off than the bound.
+func timely(t *testing.T, got *answers) {
+	t.Helper()
+	for _, one := range got.all {
+		if ahead := time.Until(time.UnixMilli(int64(one.Timestamp))); ahead > 10*time.Second {
+			t.Errorf("a timestamp is %v ahead", ahead)
+		}
+	}
+}
+
+// TestClockAtStart starts a log's node with a clock that is off: by more than the bound it takes nothing, and says by how much, whoever knows the
+// time; once the clock is right it goes on by itself.
+func TestClockAtStart(t *testing.T) {
+	t.Parallel()
+	for _, skew := range skews {
+		skew := skew
+		t.Run(fmt.Sprint(skew.by), func(t *testing.T) {
+			t.Parallel()
+			p, ctx, got := newPlace(t), limited(t), &answers{}
+			s := started(t, p.config(t), hooks{})
+			must(t, got.submitAll(ctx, s, 0, 5, 5))
+			must(t, s.End(ctx))
+			for i, beside := range []string{"the objects' store", "the log's newest head"} {
+				config, clock := p.config(t), newAhead(skew.by)
+				config.Clock = clock
+				if i == 0 {
+					config.Objects = timed{config.Objects, 0}
+				} else if skew.by > 0 {
+					// (of how late it is the newest head says nothing)
+					continue
+				}
+				s := started(t, config, hooks{})
+				_, err := s.Submit(ctx, entryOf(10+i))
+				if skew.within {
+					must(t, err)
+				} else {
+					isSaid(t, err, skew.by, beside)
+					if fault := s.Figures().Fault; !strings.Contains(fault, beside) {
+						t.Errorf("its fault is %q", fault)
+					}
+				}
+				clock.set(0, false)
+				comesBack(t, s, got, 20+i)
+				must(t, s.End(ctx))
+			}
+			timely(t, got)
+			p.right(t, &answers{})
+		})
+	}
+}
+
+// TestClockSet sets a node's clock while it runs, with nothing beside it that knows the time but what elapsed; with a store that does; and where
+// the kernel says that it is right now.
+func TestClockSet(t *testing.T) {
+	t.Parallel()
+	for _, skew := range skews {
+		skew := skew
+		t.Run(fmt.Sprint(skew.by), func(t *testing.T) {
+			t.Parallel()
+			p, ctx, got := newPlace(t), limited(t), &answers{}
+			for i, beside := range []string{"what elapsed since it was believed", "the objects' store"} {
+				config, clock := p.config(t), newAhead(0)
+				config.Clock = clock
+				if i == 1 {
+					config.Objects = timed{config.Objects, 0}
+				} else if skew.by < 0 {
+					beside = "the log's newest head"
+				}
+				s := started(t, config, hooks{})
+				must(t, got.submitAll(ctx, s, 10*i, 10*i+2, 1))
+				clock.set(skew.by, false)
+				_, err := s.Submit(ctx, entryOf(10*i+5))
+				if skew.within {
+					must(t, err)
+				} else {
+					isSaid(t, err, skew.by, beside)
+				}
+				clock.set(0, false)
+				comesBack(t, s, got, 10*i+6)
+				must(t, s.End(ctx))
+			}
+			timely(t, got)
+			p.right(t, &answers{})
+		})
+	}
+}
+
+// TestClockPutRight has a machine begin with a clock that is behind, as one without a battery does, and has it put right: by the kernel's word it
+// goes on. Without that word it doesn't begin, where it is told not to.
+func TestClockPutRight(t *testing.T) {
+	t.Parallel()
+	p, ctx, got := newPlace(t), limited(t), &answers{}
+	config, clock := p.config(t), newAhead(-30*time.Hour)
+	config.Clock = clock
+	s := started(t, config, hooks{})
+	must(t, got.submitAll(ctx, s, 0, 5, 5))
+	clock.set(0, false)
+	_, err := s.Submit(ctx, entryOf(7))
+	isSaid(t, err, 30*time.Hour, "what elapsed since it was believed")
+	clock.set(0, true)
+	comesBack(t, s, got, 8)
+	must(t, s.End(ctx))
+	config = p.config(t)
+	config.Synchronized, config.Clock = true, clock
+	clock.set(365*24*time.Hour, false)
+	s = started(t, config, hooks{})
+	if _, err := s.Submit(ctx, entryOf(9)); !strings.Contains(fmt.Sprint(err), "by the kernel's word") {
+		t.Errorf("%v", err)
+	}
+	clock.set(0, true)
+	comesBack(t, s, got, 9)
+	timely(t, got)
+	must(t, s.End(ctx))
+	// No log is made by such a clock either.
+	config = newPlace(t).config(t)
+	config.Objects, config.Clock = timed{config.Objects, 0}, newAhead(24*time.Hour)
+	_, err = New(ctx, config)
+	isSaid(t, err, 24*time.Hour, "the objects' store")
+}
+
+// TestOldLog starts a log that stood still for days: its newest head says nothing of how late it is.
+func TestOldLog(t *testing.T) {
+	t.Parallel()
+	p, ctx, got := newPlace(t), limited(t), &answers{}
+	config := p.config(t)
+	config.Clock = newAhead(-72 * time.Hour)
+	s := started(t, config, hooks{})
+	must(t, got.submitAll(ctx, s, 0, 5, 5))
+	must(t, s.End(ctx))
+	s = started(t, p.config(t), hooks{})
+	must(t, got.submitAll(ctx, s, 5, 10, 5))
+	p.right(t, got)
+}
+
+// TestRanAhead has a log that ran ahead, since nothing knew the time: with the clock right it says so without being asked, and signs nothing more
+// of the future.
+func TestRanAhead(t *testing.T) {
+	t.Parallel()
+	p, ctx, got := newPlace(t), limited(t), &answers{}
+	config := p.config(t)
+	config.Clock = newAhead(24 * time.Hour)
+	s := started(t, config, hooks{})
+	must(t, got.submitAll(ctx, s, 0, 5, 5))
+	must(t, s.End(ctx))
+	heads := headsOf(t, p)
+	config = p.config(t)
+	config.Objects = timed{config.Objects, 0}
+	s = started(t, config, hooks{})
+	const why = "the log's newest head, which is in the future by another clock, too"
+	eventually(t, "it says so", func() bool { return strings.Contains(s.Figures().Fault, why) })
+	_, err := s.Submit(ctx, entryOf(7))
+	isSaid(t, err, -24*time.Hour, why)
+	if f := s.Figures(); f.HeadAge > -23*time.Hour {
+		t.Errorf("the head's age is %v", f.HeadAge)
+	}
+	if after := headsOf(t, p); len(after) != len(heads) {
+		t.Errorf("heads %v, and before %v", after, heads)
+	}
+}
+
+// TestClockOfOneNode has one of two nodes start with a clock that is off, beside one that makes the steps: it takes nothing, the other one goes
+// on in its own time, and so do both once the clock is right.
+func TestClockOfOneNode(t *testing.T) {
+	t.Parallel()
+	for _, skew := range skews {
+		skew := skew
+		t.Run(fmt.Sprint(skew.by), func(t *testing.T) {
+			t.Parallel()
+			p, ctx, got := newPlace(t), limited(t), &answers{}
+			clocks, nodes := [2]*bent{newAhead(0), newAhead(skew.by)}, [2]*Sequencer{}
+			for i := range nodes {
+				config, server := p.notHere(t), httptest.NewUnstartedServer(nil)
+				config.Clock = clocks[i]
+				config.Address, config.Secret = "http://"+server.Listener.Addr().String()+"/sequence", "the secret of these nodes"
+				nodes[i] = started(t, config, hooks{})
+				server.Config.Handler = nodes[i].Handler()
+				server.Start()
+				t.Cleanup(server.Close)
+				if i == 0 {
+					must(t, got.submitAll(ctx, nodes[0], 0, 5, 5))
+				}
+			}
+			_, err := nodes[1].Submit(ctx, entryOf(10))
+			if skew.within {
+				must(t, err)
+			} else {
+				isSaid(t, err, skew.by, "the node that makes the steps")
+			}
+			must(t, got.submitAll(ctx, nodes[0], 20, 25, 5))
+			clocks[1].set(0, false)
+			comesBack(t, nodes[1], got, 30)
+			timely(t, got)
+			p.right(t, &answers{})
+		})
+	}
+}
+
+// TestHandedBackAhead has a node be handed back timestamps of the future: nobody is answered by them.
+func TestHandedBackAhead(t *testing.T) {
+	t.Parallel()
+	p, ctx := newPlace(t), limited(t)
+	config, clock := p.config(t), newAhead(0)
+	config.Clock = clock
+	s := started(t, config, hooks{})
+	place, err := s.Submit(ctx, entryOf(1))
+	must(t, err)
+	submission, err := submissionOf(entryOf(1))
+	must(t, err)
+	back := handedPlace{place.LeafIndex, place.Timestamp, place.Signature}
+	must(t, s.isSigned(submission, back))
+	clock.set(-time.Hour, false)
+	wants(t, s.isSigned(submission, back), errNode)
+}
