@@ -102,6 +102,8 @@ def main():
     parser.add_argument("--sizes", type=lambda text: [int(number) for number in text.split(",")], default=[1_000, 100_000, 1_000_000])
     parser.add_argument("--runs", type=int, default=5)
     options = parser.parse_args()
+    if not os.access(options.program, os.X_OK):
+        sys.exit(f"tiles.py: {options.program} isn't built: rt run in crates/bench_work builds bench_work")
     load = " ".join(f"{average:.1f}" for average in os.getloadavg())
     print(f"{os.cpu_count()} processors, load {load}; {options.runs} runs of each, in turns\n")
     leaves(os.path.realpath(options.program), options.leaves, options.runs)

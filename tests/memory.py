@@ -101,6 +101,8 @@ def main():
     parser.add_argument("--from", type=int, default=1, dest="first")
     parser.add_argument("--test")
     options = parser.parse_args()
+    if not os.access(options.program, os.X_OK):
+        sys.exit(f"memory.py: {options.program} isn't built: rt test in crates/memory_tests builds it")
     with tempfile.TemporaryDirectory() as folder:
         sweep = Sweep(options.program, pathlib.Path(folder))
         total = 0
