@@ -81,11 +81,11 @@ class Release:
         self.commit, self.moment = commit()
         self.logic = (run("rt", "version").stdout.split() or ["unknown"])[-1] if shutil.which("rt") else "unknown"
         self.programs = {**{name: self.built / name / "out" / name for name in PROGRAMS}, **{name: self.service / name for name in SERVICE}}
-        self.library = self.built / "wagtenib" / "out" / "link" / "libwagtenib"
+        self.linked = self.built / "wagtenib" / "out" / "link" / "libwagtenib"
 
     def lacking(self):
         found = [f"{name} ({PROGRAMS.get(name, 'make service')})" for name, path in self.programs.items() if not path.is_file()]
-        return found + [f"{path.name} (make link)" for path in (self.library.with_suffix(".a"), self.library.with_suffix(".so")) if not path.is_file()]
+        return found + [f"{path.name} (make link)" for path in (self.linked.with_suffix(".a"), self.linked.with_suffix(".so")) if not path.is_file()]
 
     def proved(self):
         """What PROVED says: by which logic, of which commit, and how to see it again."""
@@ -117,8 +117,8 @@ once more and compares their bytes with SHA256SUMS.
         """The library's files and links below a folder: bytes, or the name that a link leads to."""
         so = f"libwagtenib.so.{self.version}"
         return {
-            f"{folder}/libwagtenib.a": (self.library.with_suffix(".a").read_bytes(), 0o644),
-            f"{folder}/{so}": (self.library.with_suffix(".so").read_bytes(), 0o644),
+            f"{folder}/libwagtenib.a": (self.linked.with_suffix(".a").read_bytes(), 0o644),
+            f"{folder}/{so}": (self.linked.with_suffix(".so").read_bytes(), 0o644),
             f"{folder}/libwagtenib.so.0": so,
             f"{folder}/libwagtenib.so": "libwagtenib.so.0",
         }
@@ -177,7 +177,7 @@ once more and compares their bytes with SHA256SUMS.
 
     def libc(self, name):
         """The newest version of libc that one of the package's programs asks for, by what objdump reads."""
-        paths = {"ctmonitor": [self.programs["ctmonitor"]], "libwagtenib-dev": [self.library.with_suffix(".so")]}.get(name) or [path for it, path in self.programs.items() if it != "ctmonitor"]
+        paths = {"ctmonitor": [self.programs["ctmonitor"]], "libwagtenib-dev": [self.linked.with_suffix(".so")]}.get(name) or [path for it, path in self.programs.items() if it != "ctmonitor"]
         asked = [tuple(map(int, it.split("."))) for path in paths for it in re.findall(r"GLIBC_([0-9.]+)\)", run("objdump", "-T", path).stdout)]
         return ".".join(map(str, max(asked, default=(2, 34))))
 
