@@ -91,9 +91,9 @@ type Log interface {
 	Submit(ctx context.Context, entry Entry) (Place, error)
 	// Checkpoint is the newest published head.
 	Checkpoint(ctx context.Context) (Head, error)
-	// Object reads a published object by its name (tile/.., issuer/..); stores.ErrAbsent where there is none, stores.ErrName
+	// Object reads a published object by its name (tile/.., issuer/..); stores.TooLong where it has more than most bytes, of which none is read; stores.ErrAbsent where there is none, stores.ErrName
 	// where none can be. A full tile is the newest head's tree's; where it isn't, or the tree lacks one, it is ErrStore.
-	Object(ctx context.Context, name string) ([]byte, error)
+	Object(ctx context.Context, name string, most int64) ([]byte, error)
 	// IndexOf gives where the leaf with this hash is said to stand; stores.ErrAbsent where that isn't known. It need not be true.
 	IndexOf(ctx context.Context, leafHash [32]byte) (uint64, error)
 	// End takes no more, publishes, and answers who waits, within the context.

@@ -26,7 +26,7 @@ var (
 // Reader asks one program for one thing after another.
 type Reader struct {
 	program *step.Client
-	object  step.Tiles
+	object  Objects
 	// waits has a place for each thing that is being made.
 	waits chan struct{}
 }
@@ -34,8 +34,11 @@ type Reader struct {
 // mostReading bounds how long one thing is made, the reading of its tiles and waiting for the program included.
 const mostReading = 20 * time.Second
 
+// Objects reads a published object of at most so many bytes.
+type Objects func(ctx context.Context, name string, most int64) ([]byte, error)
+
 // New takes the program, what reads a published object, and how many things are made at once, or wait to be.
-func New(program *step.Client, object step.Tiles, most int) *Reader {
+func New(program *step.Client, object Objects, most int) *Reader {
 	return &Reader{program, object, make(chan struct{}, most)}
 }
 
@@ -88,7 +91,7 @@ func (r *Reader) tiles(of uint64) step.Tiles {
 		if hashes-before < 256 {
 			tile.W = int(hashes - before)
 		}
-		content, err := r.object(ctx, "tile/"+strings.TrimPrefix(tile.Path(), "tile/8/"))
+		content, err := r.object(ctx, "tile/"+strings.TrimPrefix(tile.Path(), "tile/8/"), 32*256)
 		if err != nil {
 			return nil, err
 		}

@@ -57,22 +57,38 @@ func identityOf(s step.Submission) stores.Identity {
 	if len(s.LeafCertificate) > 0 {
 		return identity(chains.X509Entry, s.LeafCertificate)
 	}
-	return identity(chains.PrecertEntry, append(append([]byte{}, s.IssuerKeyHash...), s.TBSCertificate...))
+	return identity(chains.PrecertEntry, s.IssuerKeyHash, s.TBSCertificate)
 }
 
-func identity(of chains.EntryType, what []byte) stores.Identity {
-	return sha256.Sum256(append([]byte{byte(of >> 8), byte(of)}, what...))
+func identity(of chains.EntryType, what ...[]byte) (id stores.Identity) {
+	hash := sha256.New()
+	hash.Write([]byte{byte(of >> 8), byte(of)})
+	for _, part := range what {
+		hash.Write(part)
+	}
+	hash.Sum(id[:0])
+	return id
 }
 
 // leaf is an entry of a data tile.
 type leaf struct {
 	index, timestamp uint64
 	identity         stores.Identity
-	// signed is the TimestampedEntry with two bytes before it: a MerkleTreeLeaf, and what is under a timestamp's signature
+	// entry is the TimestampedEntry, a part of the tile: with two bytes before it a MerkleTreeLeaf, and what is under a timestamp's signature
 	// (RFC 6962, sections 3.4 and 3.2).
-	signed []byte
+	entry []byte
 	// chain has the fingerprints of its issuers, 32 bytes each.
 	chain []byte
+}
+
+// hash is the leaf's (RFC 6962, section 2.1).
+func (l *leaf) hash() (hash tlog.Hash) {
+	// (a byte before each leaf, and version v1 and the type timestamped_entry, which are two of zero)
+	of := sha256.New()
+	of.Write([]byte{0, 0, 0})
+	of.Write(l.entry)
+	of.Sum(hash[:0])
+	return hash
 }
 
 // cutter cuts a data tile.
@@ -115,7 +131,7 @@ func leavesOf(tile []byte) ([]leaf, error) {
 			one.identity = identity(of, r.vector(3))
 		case chains.PrecertEntry:
 			keyHash := r.take(32)
-			one.identity = identity(of, append(append([]byte{}, keyHash...), r.vector(3)...))
+			one.identity = identity(of, keyHash, r.vector(3))
 		default:
 			r.wrong = true
 		}
@@ -129,7 +145,7 @@ func leavesOf(tile []byte) ([]leaf, error) {
 			return nil, fmt.Errorf("%w: entry %d of a data tile isn't one", ErrDamaged, len(leaves))
 		}
 		one.index = binary.BigEndian.Uint64(append([]byte{0, 0, 0}, extensions[3:]...))
-		one.signed = append([]byte{0, 0}, before[:end]...)
+		one.entry = before[:end]
 		leaves = append(leaves, one)
 	}
 	return leaves, nil
@@ -143,9 +159,9 @@ func extensionsOf(index uint64) []byte {
 // places are those of a step's entries: by their identities, and by their leaves' hashes.
 type places struct{ identities, leaves []stores.Placed }
 
-func (p *places) add(identity stores.Identity, signed []byte, place stores.Place) {
+func (p *places) add(identity, leaf stores.Identity, place stores.Place) {
 	p.identities = append(p.identities, stores.Placed{Identity: identity, Place: place})
-	p.leaves = append(p.leaves, stores.Placed{Identity: stores.Identity(tlog.RecordHash(signed)), Place: place})
+	p.leaves = append(p.leaves, stores.Placed{Identity: leaf, Place: place})
 }
 
 // placesIn gives the places of all entries in a step's objects. Of a partial tile that grew, it gives those from before as well.
@@ -159,7 +175,7 @@ func placesIn(objects []step.Object) (placed places, err error) {
 			return places{}, fmt.Errorf("%s: %w", object.Name, err)
 		}
 		for _, l := range leaves {
-			placed.add(l.identity, l.signed, stores.Place{Index: l.index, Timestamp: l.timestamp})
+			placed.add(l.identity, stores.Identity(l.hash()), stores.Place{Index: l.index, Timestamp: l.timestamp})
 		}
 	}
 	return placed, nil

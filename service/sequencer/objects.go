@@ -16,12 +16,13 @@ import (
 // Object is log.Log's. A full tile is the newest published head's tree's: it is compared, each time, with the tile above it, which was compared
 // up to the head's root. One that isn't the tree's, or is missing from it, is a fault of the store, and counts as damaged. A partial tile is
 // compared where the log knows that something at its edge is damaged.
-func (s *Sequencer) Object(ctx context.Context, name string) ([]byte, error) {
+func (s *Sequencer) Object(ctx context.Context, name string, most int64) ([]byte, error) {
 	if !strings.HasPrefix(name, tilesPrefix) && !strings.HasPrefix(name, issuersPrefix) {
 		return nil, fmt.Errorf("%w: %.80q isn't published", stores.ErrName, name)
 	}
-	content, err := s.config.Objects.Get(ctx, name, stores.MostObject)
-	if errors.Is(err, stores.ErrName) {
+	content, err := s.config.Objects.Get(ctx, name, most)
+	var long stores.TooLong
+	if errors.Is(err, stores.ErrName) || errors.As(err, &long) && long.Length <= stores.MostObject {
 		return nil, err
 	}
 	isMissing := errors.Is(err, stores.ErrAbsent)
@@ -137,8 +138,8 @@ func hashesOf(tile tlog.Tile, content []byte) (hashes []tlog.Hash, err error) {
 		if err != nil {
 			return nil, fmt.Errorf("%s: %w", tileName(tile), err)
 		}
-		for _, l := range leaves {
-			hashes = append(hashes, tlog.RecordHash(l.signed))
+		for i := range leaves {
+			hashes = append(hashes, leaves[i].hash())
 		}
 	} else if len(content)%tlog.HashSize == 0 {
 		hashes = make([]tlog.Hash, len(content)/tlog.HashSize)

@@ -62,29 +62,29 @@ func TestDamagedTilesAreNotGiven(t *testing.T) {
 		for how, damage := range damages {
 			content, putBack := keeps(t, path)
 			must(t, damage(path))
-			if _, err := s.Object(ctx, name); !errors.Is(err, log.ErrStore) || !errors.Is(err, ErrDamaged) {
+			if _, err := s.Object(ctx, name, stores.MostObject); !errors.Is(err, log.ErrStore) || !errors.Is(err, ErrDamaged) {
 				t.Errorf("%s, %s: %v", name, how, err)
 			}
 			if f := s.Figures(); f.Damaged == 0 || i == 0 && !strings.Contains(f.Damage, name) {
 				t.Errorf("%s, %s: %d tiles are damaged, %q", name, how, f.Damaged, f.Damage)
 			}
 			other := full[(i+2)%len(full)]
-			if _, err := s.Object(ctx, other); err != nil {
+			if _, err := s.Object(ctx, other, stores.MostObject); err != nil {
 				t.Errorf("%s is %s, and %s: %v", name, how, other, err)
 			}
 			putBack()
-			if given, err := s.Object(ctx, name); err != nil || !bytes.Equal(given, content) {
+			if given, err := s.Object(ctx, name, stores.MostObject); err != nil || !bytes.Equal(given, content) {
 				t.Errorf("%s behind it was %s: %v", name, how, err)
 			}
 		}
 	}
 	for _, name := range []string{"tile/data/002", "tile/0/007", "tile/2/000", "tile/data/000.p/7"} {
-		if _, err := s.Object(ctx, name); !errors.Is(err, stores.ErrAbsent) || errors.Is(err, log.ErrStore) {
+		if _, err := s.Object(ctx, name, stores.MostObject); !errors.Is(err, stores.ErrAbsent) || errors.Is(err, log.ErrStore) {
 			t.Errorf("%s, which the tree doesn't have: %v", name, err)
 		}
 	}
 	must(t, os.Remove(filepath.Join(p.objects(), "tile/data/002.p/88")))
-	if _, err := s.Object(ctx, "tile/data/002.p/88"); !errors.Is(err, log.ErrStore) {
+	if _, err := s.Object(ctx, "tile/data/002.p/88", stores.MostObject); !errors.Is(err, log.ErrStore) {
 		t.Errorf("a lost partial tile of the newest head: %v", err)
 	}
 }
@@ -104,12 +104,12 @@ func TestTileBelowADamagedOne(t *testing.T) {
 	config.TendEvery = time.Hour
 	s = started(t, config, hooks{})
 	for _, name := range []string{"tile/data/000", "tile/0/000"} {
-		_, err := s.Object(ctx, name)
+		_, err := s.Object(ctx, name, stores.MostObject)
 		wants(t, err, log.ErrStore, ErrDamaged)
 	}
 	putBack()
 	for _, name := range []string{"tile/data/000", "tile/0/000"} {
-		if _, err := s.Object(ctx, name); err != nil {
+		if _, err := s.Object(ctx, name, stores.MostObject); err != nil {
 			t.Error(err)
 		}
 	}
@@ -213,7 +213,7 @@ func TestIssuersAreMadeAgain(t *testing.T) {
 			return f.DamagedIssuers == 1 && strings.Contains(f.Damage, name)
 		})
 		must(t, got.submitAll(ctx, s, number, number+1, 1))
-		if content, err := s.Object(ctx, name); err != nil || !bytes.Equal(content, issuer) {
+		if content, err := s.Object(ctx, name, stores.MostObject); err != nil || !bytes.Equal(content, issuer) {
 			t.Errorf("%s: %v", how, err)
 		}
 		if f := s.Figures(); f.DamagedIssuers != 0 || f.Mended != 1 || f.LastMended != name {

@@ -238,7 +238,7 @@ func (t *tree) leafAt(index uint64) (*leaf, error) {
 	if err != nil {
 		return nil, fmt.Errorf("%w: the hash tiles above entry %d: %v", ErrDamaged, index, err)
 	}
-	if l.index != index || tlog.RecordHash(l.signed) != hashes[0] {
+	if l.index != index || l.hash() != hashes[0] {
 		return nil, fmt.Errorf("%w: entry %d of %s isn't the tree's", ErrDamaged, index, name)
 	}
 	return l, nil

@@ -8,6 +8,8 @@ import (
 	"strings"
 	"time"
 
+	"golang.org/x/mod/sumdb/tlog"
+
 	"wagtenib/service/log"
 	"wagtenib/service/step"
 	"wagtenib/service/stores"
@@ -286,7 +288,7 @@ func (s *Sequencer) publish(ctx context.Context, k known, stepped *step.Stepped,
 	var placed places
 	for i, g := range groups {
 		r := stepped.Receipts[i]
-		placed.add(g[0].identity, r.Sign, stores.Place{Index: r.LeafIndex, Timestamp: r.Timestamp})
+		placed.add(g[0].identity, stores.Identity(tlog.RecordHash(r.Sign)), stores.Place{Index: r.LeafIndex, Timestamp: r.Timestamp})
 	}
 	if s.config.BehindSwap {
 		if err := s.answer(ctx, groups, stepped.Receipts, freshOf(objects)); err != nil {

@@ -34,7 +34,7 @@ func TestOneNode(t *testing.T) {
 	}
 	leavesAreKnown(t, again, 700)
 	for _, name := range []string{"tile/0/000", "tile/1/000.p/2", "tile/data/001", "tile/data/002.p/188"} {
-		if content, err := again.Object(ctx, name); err != nil || len(content) == 0 {
+		if content, err := again.Object(ctx, name, stores.MostObject); err != nil || len(content) == 0 {
 			t.Errorf("%s: %v", name, err)
 		}
 	}

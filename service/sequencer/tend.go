@@ -409,8 +409,9 @@ func (s *Sequencer) scrub(ctx context.Context, of tlog.Tree, index uint64) ([]le
 	if err != nil {
 		return nil, err
 	}
-	for i, l := range leaves {
-		if l.index != index*tileWidth+uint64(i) || tlog.RecordHash(l.signed) != hashes[i] {
+	for i := range leaves {
+		l := &leaves[i]
+		if l.index != index*tileWidth+uint64(i) || l.hash() != hashes[i] {
 			return nil, fmt.Errorf("%w: entry %d of %s isn't the tree's", ErrDamaged, l.index, name)
 		}
 	}

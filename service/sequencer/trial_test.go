@@ -369,12 +369,12 @@ func leavesAreKnown(t testing.TB, s *Sequencer, size uint64) {
 		if size-index < tileWidth {
 			name += fmt.Sprintf(".p/%d", size-index)
 		}
-		tile, err := s.Object(limited(t), name)
+		tile, err := s.Object(limited(t), name, stores.MostObject)
 		must(t, err)
 		leaves, err := leavesOf(tile)
 		must(t, err)
 		for _, l := range leaves {
-			if found, err := s.IndexOf(limited(t), tlog.RecordHash(l.signed)); err != nil || found != index {
+			if found, err := s.IndexOf(limited(t), l.hash()); err != nil || found != index {
 				t.Fatalf("leaf %d is known at %d, %v", index, found, err)
 			}
 			index++

@@ -110,7 +110,7 @@ func (f *folder) read(name string, most int64) ([]byte, error) {
 		return nil, ErrAbsent
 	}
 	if info.Size() > most {
-		return nil, fmt.Errorf("%w: %d bytes", ErrTooLong, info.Size())
+		return nil, TooLong{info.Size()}
 	}
 	content := make([]byte, info.Size())
 	if _, err := io.ReadFull(file, content); err != nil {

@@ -190,7 +190,7 @@ func (b *bucket) get(ctx context.Context, name string, most int64) ([]byte, erro
 	}
 	defer body.Close()
 	if info.Size > most {
-		return nil, fmt.Errorf("%w: %d bytes", ErrTooLong, info.Size)
+		return nil, TooLong{info.Size}
 	}
 	if info.Size < 0 {
 		return nil, errNoLength

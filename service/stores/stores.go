@@ -9,6 +9,7 @@ package stores
 import (
 	"context"
 	"errors"
+	"fmt"
 	"time"
 )
 
@@ -50,6 +51,14 @@ var (
 	ErrUnsafe = errors.New("stores: the engine's settings don't keep what it acknowledges")
 )
 
+// TooLong is ErrTooLong of an object: it has so many bytes.
+type TooLong struct{ Length int64 }
+
+func (e TooLong) Error() string { return fmt.Sprintf("%v: %d bytes", ErrTooLong, e.Length) }
+
+// Is says that it is ErrTooLong.
+func (e TooLong) Is(target error) bool { return target == ErrTooLong }
+
 // Objects keeps bytes under names, each of which has one content for ever.
 //
 // A name is of parts with a slash between them, at most 16 and together at most 200 bytes. A part has letters of ASCII, digits,
@@ -66,7 +75,7 @@ type Objects interface {
 	// may come to stand, so that callers who need more give two contents two names. At any other error the object is there or
 	// it isn't, and the call may be made again.
 	Put(ctx context.Context, name string, content []byte) error
-	// Get gives the content; ErrAbsent where there is none, ErrTooLong where it has more than most bytes.
+	// Get gives the content; ErrAbsent where there is none. Where it has more than most bytes, nothing of it is read: TooLong.
 	Get(ctx context.Context, name string, most int64) ([]byte, error)
 	// List gives the first names that begin with the prefix (the parts of a name with a slash behind them, or none) and come
 	// after a name (or a beginning of one, or none), in the order of their bytes, at most so many and at most MostListed.

@@ -1,6 +1,7 @@
 package web
 
 import (
+	"container/list"
 	"context"
 	"fmt"
 	"net"
@@ -123,10 +124,63 @@ func addressOf(text string) netip.Addr {
 	return pair.Addr().Unmap().WithZone("")
 }
 
-// connections counts those that are open.
+// connections counts those that are open, and has those on which nothing is asked.
 type connections struct {
 	open      atomic.Int64
 	byAddress counts
+	mutex     sync.Mutex
+	// idle has them in the order in which they came to be so, and at where each stands there.
+	idle list.List
+	at   map[*open]*list.Element
+}
+
+// isIdle notes whether nothing is asked on a connection.
+func (c *connections) isIdle(connection *open, idle bool) {
+	c.mutex.Lock()
+	defer c.mutex.Unlock()
+	c.remove(connection)
+	if !idle || connection.isClosed {
+		return
+	}
+	if c.at == nil {
+		c.at = map[*open]*list.Element{}
+	}
+	c.at[connection] = c.idle.PushBack(connection)
+}
+
+// leave notes that a connection is closed.
+func (c *connections) leave(connection *open) {
+	c.mutex.Lock()
+	defer c.mutex.Unlock()
+	c.remove(connection)
+	connection.isClosed = true
+}
+
+// remove is called with the lock.
+func (c *connections) remove(connection *open) {
+	if at, there := c.at[connection]; there {
+		c.idle.Remove(at)
+		delete(c.at, connection)
+	}
+}
+
+// waiting is on how many connections nothing is asked.
+func (c *connections) waiting() int {
+	c.mutex.Lock()
+	defer c.mutex.Unlock()
+	return c.idle.Len()
+}
+
+// closeIdle closes the connection on which nothing was asked for the longest, and says whether there was one.
+func (c *connections) closeIdle() bool {
+	c.mutex.Lock()
+	first := c.idle.Front()
+	c.mutex.Unlock()
+	if first == nil {
+		return false
+	}
+	first.Value.(*open).Close()
+	return true
 }
 
 // bounded is a listener that closes what comes above the bounds of a front. Those of a proxy count altogether alone.
@@ -149,24 +203,33 @@ func (l bounded) Accept() (net.Conn, error) {
 }
 
 func (f *Front) takeConnection(connection net.Conn) net.Conn {
-	if f.connections.open.Add(1) > int64(f.limits.Connections) {
-		f.connections.open.Add(-1)
-		f.metrics.refused.WithLabelValues("all").Inc()
-		return nil
-	}
 	address := addressOf(connection.RemoteAddr().String())
 	counted := !f.isProxy(address)
 	if counted && !f.connections.byAddress.take(address) {
-		f.connections.open.Add(-1)
 		f.metrics.refused.WithLabelValues("address").Inc()
 		return nil
 	}
-	return &open{Conn: connection, closed: func() {
+	for f.connections.open.Add(1) > int64(f.limits.Connections) {
+		f.connections.open.Add(-1)
+		if !f.connections.closeIdle() {
+			if counted {
+				f.connections.byAddress.give(address)
+			}
+			f.metrics.refused.WithLabelValues("all").Inc()
+			return nil
+		}
+		f.metrics.closedIdle.Inc()
+	}
+	taken := &open{Conn: connection, isClient: true}
+	taken.closed = func() {
+		f.connections.leave(taken)
 		f.connections.open.Add(-1)
 		if counted {
 			f.connections.byAddress.give(address)
 		}
-	}}
+	}
+	f.connections.isIdle(taken, true)
+	return taken
 }
 
 // open is a connection that counts.
@@ -174,6 +237,8 @@ type open struct {
 	net.Conn
 	once   sync.Once
 	closed func()
+	// isClient says that it is closed where there are too many and nothing is asked on it, and isClosed that it was.
+	isClient, isClosed bool
 }
 
 func (o *open) Close() error {

@@ -14,6 +14,7 @@ import (
 	"testing"
 	"time"
 
+	"wagtenib/service/stores"
 	"wagtenib/service/web/standin"
 )
 
@@ -57,7 +58,7 @@ func FuzzHandlers(f *testing.F) {
 		if _, isCall := calls[path]; isCall {
 			return
 		}
-		content, err := x.log.Object(context.Background(), path[1:])
+		content, err := x.log.Object(context.Background(), path[1:], stores.MostObject)
 		if err != nil || !bytes.Equal(content, w.Body.Bytes()) {
 			t.Fatalf("%q is served, and stands there as %v", path, err)
 		}
@@ -118,7 +119,7 @@ func FuzzConnections(f *testing.F) {
 func FuzzDataTile(f *testing.F) {
 	x := newFixture(f, 0, nil)
 	x.fill(3)
-	tile, err := x.log.Object(context.Background(), "tile/data/000.p/3")
+	tile, err := x.log.Object(context.Background(), "tile/data/000.p/3", stores.MostObject)
 	if err != nil {
 		f.Fatal(err)
 	}

@@ -19,8 +19,8 @@ type metrics struct {
 	refusals *prometheus.CounterVec
 	refused  *prometheus.CounterVec
 	reloads  *prometheus.CounterVec
-	// handshakes are those of TLS that failed.
-	handshakes prometheus.Counter
+	// closedIdle are connections that were closed for others, and handshakes those of TLS that failed.
+	closedIdle, handshakes prometheus.Counter
 }
 
 func newMetrics(f *Front) *metrics {
@@ -38,11 +38,12 @@ func newMetrics(f *Front) *metrics {
 		refused:  counter("ctserve_connections_refused_total", "Connections that were closed at once: there were too many, altogether or of an address.", "bound"),
 		reloads:  counter("ctserve_reloads_total", "Reloads of the roots and of the certificate of TLS.", "of", "outcome"),
 	}
+	m.closedIdle = prometheus.NewCounter(prometheus.CounterOpts{Name: "ctserve_idle_connections_closed_total", Help: "Connections on which nothing was asked, and that were closed for new ones."})
 	m.handshakes = prometheus.NewCounter(prometheus.CounterOpts{Name: "ctserve_tls_handshakes_failed_total", Help: "Handshakes of TLS that failed."})
 	for _, bound := range []string{"all", "address"} {
 		m.refused.WithLabelValues(bound)
 	}
-	m.registry.MustRegister(m.requests, m.seconds, m.refusals, m.refused, m.reloads, m.handshakes, figures{f},
+	m.registry.MustRegister(m.requests, m.seconds, m.refusals, m.refused, m.reloads, m.closedIdle, m.handshakes, figures{f},
 		collectors.NewGoCollector(), collectors.NewProcessCollector(collectors.ProcessCollectorOpts{}))
 	return m
 }

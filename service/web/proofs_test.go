@@ -191,7 +191,7 @@ func TestProofsThatAreRefused(t *testing.T) {
 			refused(t, what+": "+call, f.get("/ct/v1/"+call), status, name)
 		}
 	}
-	tile, err := f.log.Object(context.Background(), "tile/0/000.p/5")
+	tile, err := f.log.Object(context.Background(), "tile/0/000.p/5", stores.MostObject)
 	if err != nil {
 		t.Fatal(err)
 	}
@@ -234,9 +234,9 @@ func TestProofsThatAreRefused(t *testing.T) {
 func TestProofsThatAreLate(t *testing.T) {
 	f := newFixture(t, 0, func(o *Options) { o.Limits.Reading = 20 * time.Millisecond })
 	f.fill(3)
-	f.front.reader = reader.New(f.program, func(ctx context.Context, name string) ([]byte, error) {
+	f.front.reader = reader.New(f.program, func(ctx context.Context, name string, most int64) ([]byte, error) {
 		time.Sleep(300 * time.Millisecond)
-		return f.log.Object(ctx, name)
+		return f.log.Object(ctx, name, most)
 	}, 1)
 	refused(t, "late", f.get("/ct/v1/get-sth-consistency?first=1&second=2"), 503, "late")
 	refused(t, "beside it", f.get("/ct/v1/get-sth-consistency?first=1&second=2"), 503, "busy")

@@ -25,13 +25,13 @@ func (f *Front) reading(r *http.Request) (context.Context, context.CancelFunc) {
 	return context.WithTimeout(r.Context(), f.limits.Reading)
 }
 
-// How many bytes an object counts as until it is read: a data tile, or another one.
+// How many bytes an object counts as until its length is known: a data tile, or another one.
 const (
 	likelyEntries = 1 << 20
 	likelyOther   = 8 << 10
 )
 
-// read reads an object of the log, whose bytes count until the request is answered. What isn't for want of the object, of time or of room is
+// read reads an object of the log, whose bytes count from before they are read until the request is answered. What isn't for want of the object, of time or of room is
 // the store's fault.
 func (f *Front) read(ctx context.Context, name string) ([]byte, error) {
 	held, likely := heldIn(ctx), int64(likelyOther)
@@ -41,7 +41,16 @@ func (f *Front) read(ctx context.Context, name string) ([]byte, error) {
 	if err := held.change(likely); err != nil {
 		return nil, err
 	}
-	content, err := f.log.Object(ctx, name)
+	content, err := f.log.Object(ctx, name, likely)
+	var long stores.TooLong
+	if errors.As(err, &long) && long.Length > likely {
+		// It has more, which are taken before they are read.
+		if err := held.change(long.Length - likely); err != nil {
+			return nil, err
+		}
+		likely = long.Length
+		content, err = f.log.Object(ctx, name, likely)
+	}
 	if err == nil {
 		if err := held.change(int64(len(content)) - likely); err != nil {
 			return nil, err

@@ -12,6 +12,7 @@ import (
 	"net/netip"
 	"net/url"
 	"strings"
+	"sync/atomic"
 	"testing"
 	"time"
 
@@ -136,6 +137,64 @@ func TestAnswersAreBounded(t *testing.T) {
 	// One that has more bytes than it was taken to have.
 	f.log.Change("tile/data/001.p/4", dataTileOf(700000, 700000, 700000, 700000))
 	refused(t, "a large tile", f.get("/tile/data/001.p/4"), 503, "busy")
+	if used := f.front.answers.used.Load(); used != 0 {
+		t.Errorf("%d bytes are still counted", used)
+	}
+}
+
+// readsLong is a log that notes how many bytes of long objects are read at once, and keeps each reading until it is let go.
+type readsLong struct {
+	log.Log
+	now, most atomic.Int64
+	let       chan struct{}
+}
+
+func (l *readsLong) Object(ctx context.Context, name string, most int64) ([]byte, error) {
+	content, err := l.Log.Object(ctx, name, most)
+	if err == nil && len(content) > likelyEntries {
+		if now := l.now.Add(int64(len(content))); now > l.most.Load() {
+			l.most.Store(now)
+		}
+		<-l.let
+		l.now.Add(-int64(len(content)))
+	}
+	return content, err
+}
+
+// A long object is read once its bytes are taken: of many who ask for it at once, those for whom there is no room are refused, and read nothing
+// of it.
+func TestLongObjectsAreTakenFirst(t *testing.T) {
+	f := newFixture(t, 0, func(o *Options) { o.Limits.AnswerBytes = 40 << 20 })
+	f.fill(3)
+	f.log.Change("tile/data/000.p/3", dataTileOf(2<<20, 2<<20, 2<<20))
+	const length = 3 * (2 << 20)
+	long := &readsLong{Log: f.log, let: make(chan struct{})}
+	f.front.log = long
+	const many, room = 20, 6
+	codes := make(chan int, many)
+	for i := 0; i < many; i++ {
+		go func(i int) {
+			w, r := httptest.NewRecorder(), httptest.NewRequest("GET", "/tile/data/000.p/3", nil)
+			r.RemoteAddr = fmt.Sprintf("192.0.2.%d:7", i)
+			f.front.ServeHTTP(w, r)
+			codes <- w.Code
+		}(i)
+	}
+	refused := 0
+	for ; refused < many-room; refused++ {
+		if code := <-codes; code != 503 {
+			t.Errorf("one for whom there is no room: %d", code)
+		}
+	}
+	close(long.let)
+	for ; refused < many; refused++ {
+		if code := <-codes; code != 200 && code != 503 {
+			t.Errorf("another one: %d", code)
+		}
+	}
+	if most := long.most.Load(); most < length || most > 40<<20 {
+		t.Errorf("%d bytes were read at once, of tiles of %d", most, length)
+	}
 	if used := f.front.answers.used.Load(); used != 0 {
 		t.Errorf("%d bytes are still counted", used)
 	}

@@ -65,6 +65,11 @@ func (h httpLines) Write(text []byte) (int, error) {
 }
 
 func (s *Server) remember(connection net.Conn, state http.ConnState) {
+	if state == http.StateActive || state == http.StateIdle {
+		if counted, ok := openIn(connection); ok {
+			s.front.connections.isIdle(counted, state == http.StateIdle)
+		}
+	}
 	s.mutex.Lock()
 	defer s.mutex.Unlock()
 	if state != http.StateNew {
@@ -76,6 +81,15 @@ func (s *Server) remember(connection net.Conn, state http.ConnState) {
 		return
 	}
 	s.fresh[connection] = true
+}
+
+// openIn is the connection that counts as a client's, below TLS or as it is.
+func openIn(connection net.Conn) (*open, bool) {
+	if over, ok := connection.(*tls.Conn); ok {
+		connection = over.NetConn()
+	}
+	counted, ok := connection.(*open)
+	return counted, ok && counted.isClient
 }
 
 // Listen answers what comes to a listener, over TLS where there is a configuration of it. It returns nil once the server ends.

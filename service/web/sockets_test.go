@@ -13,6 +13,7 @@ import (
 	"net/http"
 	"net/http/httptest"
 	"net/netip"
+	"os"
 	"strings"
 	"syscall"
 	"testing"
@@ -243,21 +244,20 @@ func TestConnectionsAreBounded(t *testing.T) {
 		{"of a proxy", 5, 1, 5, true},
 	} {
 		f := newFixture(t, 0, func(o *Options) {
-			o.Limits.Connections, o.Limits.ConnectionsByAddress = test.all, test.by
+			o.Limits.Connections, o.Limits.ConnectionsByAddress, o.Limits.Reading = test.all, test.by, time.Hour
 			if test.proxy {
 				o.Proxies = []netip.Prefix{netip.MustParsePrefix("127.0.0.1/32")}
 			}
 		})
+		f.log.Slow = time.Hour
 		address, _ := f.listening(nil)
 		var open []net.Conn
 		for i := 0; i < test.most; i++ {
 			connection := dial(t, address)
-			fmt.Fprintf(connection, "GET /healthz HTTP/1.1\r\nHost: log\r\n\r\n")
-			if answer, err := http.ReadResponse(bufio.NewReader(connection), nil); err != nil || answer.StatusCode != 200 {
-				t.Fatalf("%s: connection %d: %v", test.what, i, err)
-			}
+			fmt.Fprintf(connection, "GET /checkpoint HTTP/1.1\r\nHost: log\r\nX-Forwarded-For: 192.0.2.%d\r\n\r\n", i)
 			open = append(open, connection)
 		}
+		isAsked(f, int64(test.most))
 		above := dial(t, address)
 		closed(t, test.what+", one above the bound", above)
 		open[0].Close()
@@ -270,6 +270,80 @@ func TestConnectionsAreBounded(t *testing.T) {
 			if time.Now().After(until) {
 				t.Fatalf("%s: where one went, none is taken", test.what)
 			}
+		}
+	}
+}
+
+// isAsked waits until something is asked on so many connections, and on all of them.
+func isAsked(f *fixture, many int64) {
+	for f.front.connections.open.Load() != many || f.front.connections.waiting() != 0 {
+		time.Sleep(time.Millisecond)
+	}
+}
+
+// Where there are too many connections, the one goes on which nothing was asked for the longest, also over TLS; none goes on which something is.
+func TestIdleConnectionsGo(t *testing.T) {
+	for _, over := range []bool{false, true} {
+		f := newFixture(t, 0, func(o *Options) { o.Limits.Connections, o.Limits.Reading = 3, time.Hour })
+		var config *tls.Config
+		if over {
+			folder := t.TempDir()
+			writeKeyPair(t, folder, f.authority)
+			kept, err := LoadCertificate(folder+"/cert.pem", folder+"/key.pem")
+			if err != nil {
+				t.Fatal(err)
+			}
+			config = kept.Config()
+		}
+		address, _ := f.listening(config)
+		dialed := func() net.Conn {
+			if !over {
+				return dial(t, address)
+			}
+			connection, err := tls.Dial("tcp", address, &tls.Config{InsecureSkipVerify: true})
+			if err != nil {
+				t.Fatal(err)
+			}
+			t.Cleanup(func() { connection.Close() })
+			return connection
+		}
+		answered := func(connection net.Conn) error {
+			fmt.Fprintf(connection, "GET /healthz HTTP/1.1\r\nHost: log\r\n\r\n")
+			answer, err := http.ReadResponse(bufio.NewReader(connection), nil)
+			if err == nil {
+				io.Copy(io.Discard, answer.Body)
+			}
+			return err
+		}
+		first, second := dialed(), dialed()
+		for _, connection := range []net.Conn{first, second} {
+			if err := answered(connection); err != nil {
+				t.Fatal(err)
+			}
+		}
+		f.log.Slow = time.Hour
+		busy := dialed()
+		fmt.Fprintf(busy, "GET /checkpoint HTTP/1.1\r\nHost: log\r\n\r\n")
+		for f.front.connections.waiting() != 2 {
+			time.Sleep(time.Millisecond)
+		}
+		// Something is asked on the first again: the second one is idle for longer.
+		if err := answered(first); err != nil {
+			t.Fatal(err)
+		}
+		for f.front.connections.waiting() != 2 {
+			time.Sleep(time.Millisecond)
+		}
+		if err := answered(dialed()); err != nil {
+			t.Errorf("over TLS %v: none is taken, though two are idle: %v", over, err)
+		}
+		closed(t, "the one that was idle for the longest", second)
+		if err := answered(first); err != nil {
+			t.Errorf("over TLS %v: another one went: %v", over, err)
+		}
+		busy.SetReadDeadline(time.Now().Add(50 * time.Millisecond))
+		if _, err := busy.Read(make([]byte, 1)); !errors.Is(err, os.ErrDeadlineExceeded) {
+			t.Errorf("over TLS %v: the one on which something is asked went: %v", over, err)
 		}
 	}
 }

@@ -234,7 +234,7 @@ func (l *Log) Checkpoint(ctx context.Context) (log.Head, error) {
 }
 
 // Object is log.Log's.
-func (l *Log) Object(ctx context.Context, name string) ([]byte, error) {
+func (l *Log) Object(ctx context.Context, name string, most int64) ([]byte, error) {
 	if err := l.slowly(ctx); err != nil {
 		return nil, err
 	}
@@ -246,6 +246,9 @@ func (l *Log) Object(ctx context.Context, name string) ([]byte, error) {
 	content, there := l.objects[name]
 	if !there {
 		return nil, stores.ErrAbsent
+	}
+	if int64(len(content)) > most {
+		return nil, stores.TooLong{Length: int64(len(content))}
 	}
 	return content, nil
 }
