@@ -105,10 +105,19 @@ func (l *list) ReadHashes(indexes []int64) (found []tlog.Hash, err error) {
 	return found, nil
 }
 
-func (l *list) add(t testing.TB, text string) {
-	more, err := tlog.StoredHashes(int64(len(l.leaves)), leaf(text), l)
+func (l *list) add(t testing.TB, text string) { l.put(t, leaf(text)) }
+
+// put adds a leaf by its bytes.
+func (l *list) put(t testing.TB, leaf []byte) {
+	more, err := tlog.StoredHashes(int64(len(l.leaves)), leaf, l)
 	must(t, err)
-	l.leaves, l.hashes = append(l.leaves, leaf(text)), append(l.hashes, more...)
+	l.leaves, l.hashes = append(l.leaves, leaf), append(l.hashes, more...)
+}
+
+// naming is a leaf whose one extension names an index (leaf_index, C2SP static-ct-api).
+func naming(text string, index byte) []byte {
+	bytes := leaf(text)
+	return append(bytes[:len(bytes)-2], 0, 8, 0, 0, 5, 0, 0, 0, 0, index)
 }
 
 // listOf has leaves 0, 1, .. to size, and behind the first so many those of a fork.
@@ -282,6 +291,32 @@ func TestTimestamps(t *testing.T) {
 			if refused(t, wrong.name, err); len(signatures) != 0 {
 				t.Errorf("%s: %d were signed", what, len(signatures))
 			}
+		}
+	})
+}
+
+// TestPlaces asks for the timestamps of leaves that are in the last head's tree: not of one that is later than that head, and not of
+// one whose extension names another leaf's place.
+func TestPlaces(t *testing.T) {
+	t.Parallel()
+	through(t, InHead, func(t *testing.T, s Signer, key *Key) {
+		ctx, l, later := limited(t), &list{}, leaf("later")
+		later[9] = 11
+		for _, leaf := range [][]byte{leaf("first"), later, naming("third", 3), naming("fourth", 3)} {
+			l.put(t, leaf)
+		}
+		_, err := s.SignHead(ctx, l.head(t, 4, 10), nil)
+		must(t, err)
+		for i, name := range []string{"", "later-leaf", "other-index", ""} {
+			signatures, err := s.SignTimestamps(ctx, []Receipt{l.receipt(t, i, 4)})
+			if name != "" {
+				if refused(t, name, err); len(signatures) != 0 {
+					t.Errorf("%s: %d were signed", name, len(signatures))
+				}
+				continue
+			}
+			must(t, err)
+			must(t, Check(key.Key(), l.leaves[i], signatures[0]))
 		}
 	})
 }

@@ -60,6 +60,17 @@ def leaf_fault(leaf):
     return "trailing" if at + 2 + extensions < len(leaf) else None
 
 
+def extensions_of(leaf):
+    """The extensions of a leaf's bytes."""
+    at = 12 + 32 * int.from_bytes(leaf[10:12], "big")
+    return leaf[at + 3 + int.from_bytes(leaf[at : at + 3], "big") + 2 :]
+
+
+def index_extension(index):
+    """The one extension that names an index in a log (leaf_index, C2SP static-ct-api), or None where 40 bits have no room for it."""
+    return b"\0\0\5" + index.to_bytes(5, "big") if index < 1 << 40 else None
+
+
 class Guard:
     """What is known behind a line."""
 
@@ -92,6 +103,10 @@ class Guard:
             fault = fault_of_path(leaf, index, self.last[0], path, self.last[2])
             if fault:
                 raise Refused("not-there", fault)
+            if int.from_bytes(leaf[2:10], "big") > self.last[1]:
+                raise Refused("later-leaf")
+            if extensions_of(leaf) not in (b"", index_extension(index)):
+                raise Refused("other-index")
 
     def head_reply(self, value):
         head = (value["tree_size"], value["timestamp"], base64.b64decode(value["sha256_root_hash"]))

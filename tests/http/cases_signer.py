@@ -117,11 +117,12 @@ def flipped(hashes, place):
 
 
 def forgeries():
-    """What isn't signed behind the head of the first five of these leaves, with the name of each refusal. The fourth leaf is what
-    stands under the signature of another log's head."""
+    """What isn't signed behind the head of the first five of these leaves, with the name of each refusal. The second leaf is later than that
+    head, the third names another index, and the fourth is what stands under the signature of another log's head."""
     other = [leaf(100 + k) for k in range(9)]
     dressed = head_text(head_of(other, 5000))
-    leaves = [leaf(0), leaf(1), leaf(2), dressed, leaf(4), leaf(5), leaf(6)]
+    elsewhere = leaf(2)[:-2] + b"\0\x08\0\0\5" + (3).to_bytes(5, "big")
+    leaves = [leaf(0), leaf(1001), elsewhere, dressed, leaf(4), leaf(5), leaf(6)]
     five, proof = leaves[:5], merkle.proof(5, leaves)
     false = [asked_head(leaves, 3000, proof=flipped(proof, k)) for k in range(len(proof))]
     rows = [
@@ -137,6 +138,8 @@ def forgeries():
         (asked_head(other[:5], 2000), "moment-not-later"),
         (asked_head(leaves[:3], 1000), "size-falls"),
         (asked_head(leaves[:3], 3000), "size-falls"),
+        (asked_receipt(1, five), "later-leaf"),
+        (asked_receipt(2, five), "other-index"),
         (asked_receipt(3, five), "no-leaf bad-leaf-type"),
         (asked_receipt(4, five, five[4] + b"\0"), "no-leaf trailing"),
         (asked_receipt(4, five, other[4]), "not-there root-mismatch"),

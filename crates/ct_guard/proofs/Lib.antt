@@ -1,2 +1,3 @@
 pub mod History
 pub mod NewestHead
+pub mod Register

@@ -1,7 +1,7 @@
 -- What a guard lets through, and why it refuses. H is any hash function on byte lists.
-use Rattle.std.specs.Prelude.{◌≡◌, ◌⊎◌, ◌<◌, ◌≤◌, ⊤, ℕ, List, Some, None}
+use Rattle.std.specs.Prelude.{◌≡◌, ◌⊎◌, ◌<◌, ◌≤◌, ◌^◌, ⊤, ℕ, List, [], Some, None}
 use Rattle.std.specs.declared.option.Option.{Option}
-use Rattle.ct_codec.specs.Leaf.{LeafText, SignedEntry}
+use Rattle.ct_codec.specs.Leaf.{LeafText, SignedEntry, index_extension}
 use Rattle.ct_codec.specs.Faults.{LeafFaulty}
 use Rattle.ct_tree.specs.Tree.{hash_leaf}
 use Rattle.ct_tree.specs.declared.head.Head.{Head}
@@ -9,7 +9,7 @@ use Rattle.ct_verify.specs.Verdict.{AcceptsInclusion, RefusesInclusion, AcceptsC
 use Rattle.ct_guard.specs.declared.refusal.HeadRefusal.{HeadRefusal}
 use Rattle.ct_guard.specs.declared.refusal.HeadRefusal.TheVariants.{SizeFalls, MomentNotLater, Fork, Inconsistent}
 use Rattle.ct_guard.specs.declared.refusal.ReceiptRefusal.{ReceiptRefusal}
-use Rattle.ct_guard.specs.declared.refusal.ReceiptRefusal.TheVariants.{NoHead, NoLeaf, NotThere}
+use Rattle.ct_guard.specs.declared.refusal.ReceiptRefusal.TheVariants.{NoHead, NoLeaf, NotThere, LaterLeaf, OtherIndex}
 
 -- the tree of the head goes on that of the last one by the proof p: both have one size and one root; or the last has no leaves, and
 -- this one has some; or the consistency proof is accepted
@@ -48,17 +48,35 @@ StopsHead H (Some last) head p (Inconsistent fault) = (last.timestamp < head.tim
 abbrev pub IsLeafBytes : List ℕ → Type 0
 IsLeafBytes b = (t : ℕ) × (e : SignedEntry) × (x : List ℕ) × LeafText t e x b
 
--- a receipt over these bytes is let through: they are a leaf, and the path p leads from it at index m to the last head's root
+-- the extensions of a leaf name no other index in its log than m: there are none (RFC 6962), or they are the index m and nothing else
+-- (leaf_index, C2SP static-ct-api)
+abbrev pub IsOwnIndex : ℕ → List ℕ → Type 0
+IsOwnIndex m x = (x ≡ []) ⊎ ((m < 2 ^ 40) × (x ≡ index_extension m))
+
+-- the bytes are those of a leaf that isn't later than the head, and that names no other index than m
+abbrev pub IsLeafOf : Head → List ℕ → ℕ → Type 0
+IsLeafOf last b m = (t : ℕ) × (e : SignedEntry) × (x : List ℕ) × LeafText t e x b × (t ≤ last.timestamp) × IsOwnIndex m x
+
+-- a receipt over these bytes is let through: they are a leaf, which isn't later than the last head (RFC 6962, section 3.5) and names no other
+-- index than m, and the path p leads from it at index m to that head's root
 abbrev pub PassesReceipt : (List ℕ → List ℕ) → Option Head → List ℕ → ℕ → List (List ℕ) → Type 0
 PassesReceipt H None b m p = ⊥
-PassesReceipt H (Some last) b m p = IsLeafBytes b × AcceptsInclusion H (hash_leaf H b) m last.tree_size p last.root
+PassesReceipt H (Some last) b m p = IsLeafOf last b m × AcceptsInclusion H (hash_leaf H b) m last.tree_size p last.root
 
 -- why a receipt is refused: there is no head yet (NoHead); the bytes are no leaf, with the first fault (NoLeaf); they are one, and the
--- path is refused (NotThere)
+-- path is refused (NotThere); the path is accepted, and the leaf is later than the head (LaterLeaf); it isn't, and its extensions are some, and not the
+-- index alone (OtherIndex)
 abbrev pub StopsReceipt : (List ℕ → List ℕ) → Option Head → List ℕ → ℕ → List (List ℕ) → ReceiptRefusal → Type 0
 StopsReceipt H None b m p NoHead = ⊤
 StopsReceipt H None b m p (NoLeaf fault) = ⊥
 StopsReceipt H None b m p (NotThere fault) = ⊥
+StopsReceipt H None b m p LaterLeaf = ⊥
+StopsReceipt H None b m p OtherIndex = ⊥
 StopsReceipt H (Some last) b m p NoHead = ⊥
 StopsReceipt H (Some last) b m p (NoLeaf fault) = LeafFaulty fault b
 StopsReceipt H (Some last) b m p (NotThere fault) = IsLeafBytes b × RefusesInclusion H (hash_leaf H b) m last.tree_size p last.root fault
+StopsReceipt H (Some last) b m p LaterLeaf =
+    (t : ℕ) × (e : SignedEntry) × (x : List ℕ) × LeafText t e x b × (last.timestamp < t) × AcceptsInclusion H (hash_leaf H b) m last.tree_size p last.root
+StopsReceipt H (Some last) b m p OtherIndex =
+    (t : ℕ) × (e : SignedEntry) × (x : List ℕ) × LeafText t e x b × (t ≤ last.timestamp) × (¬ IsOwnIndex m x)
+    × AcceptsInclusion H (hash_leaf H b) m last.tree_size p last.root

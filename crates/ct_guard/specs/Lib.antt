@@ -1,3 +1,4 @@
 pub mod Guarded
 pub mod History
 pub mod NewestHead
+pub mod Register

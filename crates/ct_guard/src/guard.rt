@@ -1,9 +1,10 @@
 //! What may be signed.
 ghost use Rattle.std.specs.Prelude.{◌≡◌, ◌≤◌, Some, None, MatchResult, OnOk, OnErr};
-ghost use Rattle.ct_guard.specs.Guarded.{PassesHead, PassesReceipt, StopsHead, StopsLater, StopsReceipt, IsLater};
+ghost use Rattle.std.specs.Bool.{MatchBool};
+ghost use Rattle.ct_guard.specs.Guarded.{PassesHead, PassesReceipt, StopsHead, StopsLater, StopsReceipt, IsLater, IsOwnIndex};
 
 use crate::refusal::{HeadRefusal, ReceiptRefusal};
-use ct_codec::lend_leaf;
+use ct_codec::{index_extension, lend_leaf};
 use ct_tree::{Head, NodeHash, is_same_digest, leaf_hash};
 use ct_verify::{verify_consistency, verify_inclusion};
 
@@ -89,12 +90,26 @@ impl Guard {
     }
 }
 
-/// Lets a receipt through, or refuses it: the bytes are a leaf (MerkleTreeLeaf, RFC 6962, section 3.4), and the audit path leads
-/// from it at this leaf index to the root of the last head. What may be signed then is the leaf's own bytes, which are those of its
+// Whether the extensions of a leaf name no other index in its log than this one: there are none, or they are the index and nothing else.
+fn is_own_index(index: u64, extensions: &[u8]) -> bool
+    ensures { MatchBool result (IsOwnIndex index extensions.now) (IsOwnIndex index extensions.now → ⊥) }
+{
+    if extensions.is_empty() {
+        return true;
+    }
+    if index >= 1 << 40 {
+        return false;
+    }
+    extensions == index_extension(index).as_slice()
+}
+
+/// Lets a receipt through, or refuses it: the bytes are a leaf (MerkleTreeLeaf, RFC 6962, section 3.4), the audit path leads
+/// from it at this leaf index to the root of the last head, its moment isn't later than that head's (RFC 6962, section 3.5), and it has no
+/// extensions, or its index alone (leaf_index, C2SP static-ct-api). What may be signed then is the leaf's own bytes, which are those of its
 /// signed certificate timestamp ([`ct_codec::laws::signed_timestamps_are_leaves`]).
 ///
 /// # Errors
-/// In this order: `NoHead`, `NoLeaf`, `NotThere`.
+/// In this order: `NoHead`, `NoLeaf`, `NotThere`, `LaterLeaf`, `OtherIndex`.
 pub fn pass_receipt<H: NodeHash>(
     h: &H,
     guard: &Guard,
@@ -108,13 +123,20 @@ pub fn pass_receipt<H: NodeHash>(
     let Some(last) = guard.last else {
         return Err(ReceiptRefusal::NoHead);
     };
-    match lend_leaf(leaf) {
-        Ok(_) => {}
+    let read = match lend_leaf(leaf) {
+        Ok(read) => read,
         Err(fault) => return Err(ReceiptRefusal::NoLeaf(fault)),
-    }
+    };
     let hash = leaf_hash(h, leaf);
     match verify_inclusion(h, &hash, index, last.tree_size, path, &last.root) {
-        Ok(()) => Ok(()),
-        Err(fault) => Err(ReceiptRefusal::NotThere(fault)),
+        Ok(()) => {}
+        Err(fault) => return Err(ReceiptRefusal::NotThere(fault)),
     }
+    if read.timestamp > last.timestamp {
+        return Err(ReceiptRefusal::LaterLeaf);
+    }
+    if !is_own_index(index, read.extensions) {
+        return Err(ReceiptRefusal::OtherIndex);
+    }
+    Ok(())
 }

@@ -2,6 +2,7 @@
 
 ghost use Rattle.ct_guard.specs.History.{PassedHeadsAgree, PassedReceiptsStand};
 ghost use Rattle.ct_guard.specs.NewestHead.{HeadsGoBack};
+ghost use Rattle.ct_guard.specs.Register.{GuardsAgree};
 
 /// However many heads are let through, in however many runs, each of which begins with the head that the one before ended with:
 /// where each of them is the head of some list of leaves, these lists are beginnings of one list, or two different strings with one
@@ -24,4 +25,12 @@ pub fn heads_go_back()
 #[tactic(auto, using(crate::proofs::History::passed_receipts_stand))]
 pub fn receipts()
     ensures { PassedReceiptsStand }
+{}
+
+/// However many guards stand before one key, each begun with the head that one register holds, and wherever they are killed: where a
+/// head is signed only once the register took it in place of the one that its guard had, and each is the head of some list of leaves, the
+/// lists are beginnings of one list, or two different strings with one digest are given.
+#[tactic(auto, using(crate::proofs::Register::guards_agree))]
+pub fn guards_over_a_register()
+    ensures { GuardsAgree }
 {}

@@ -33,4 +33,10 @@ pub enum ReceiptRefusal {
     /// No audit path leads from the leaf to the last head's root: the path is refused for this reason.
     #[error("the audit path is refused: {0}")]
     NotThere(ProofFault),
+    /// The leaf's moment is later than the last head's.
+    #[error("the leaf is later than the last head")]
+    LaterLeaf,
+    /// The leaf has extensions, and they aren't its index alone.
+    #[error("the leaf's extensions are not its index alone")]
+    OtherIndex,
 }

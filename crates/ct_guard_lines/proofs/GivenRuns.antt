@@ -11,7 +11,7 @@ use Rattle.sha2.specs.Sha256.{sha256}
 use Rattle.sha2.proofs.Facts256.{length-sha256}
 use Rattle.ct_guard.specs.Guarded.{PassesHead}
 use Rattle.ct_guard.specs.History.{Passed, ArePassed}
-use Rattle.ct_guard.specs.declared.refusal.ReceiptRefusal.TheVariants.{NoHead, NoLeaf, NotThere}
+use Rattle.ct_guard.specs.declared.refusal.ReceiptRefusal.TheVariants.{NoHead, NoLeaf, NotThere, LaterLeaf, OtherIndex}
 use Rattle.ct_guard.proofs.History.{passed_heads_agree}
 use Rattle.ct_lines.specs.Fields.{hash_of, hash_in, bytes_in, each_item, hashes_of_items, hashes_at}
 use Rattle.ct_lines.specs.Values.{value_of_line}
@@ -166,6 +166,8 @@ one_ask last next (for_promise b) (HeadRefused r) given comes hashes rest = absu
 one_ask last next (for_promise b) (ReceiptRefused NoHead) given comes hashes rest = absurd comes
 one_ask last next (for_promise b) (ReceiptRefused (NoLeaf f)) given comes hashes rest = from_same last next given comes.1 rest
 one_ask last next (for_promise b) (ReceiptRefused (NotThere f)) given comes hashes rest = absurd comes
+one_ask last next (for_promise b) (ReceiptRefused LaterLeaf) given comes hashes rest = absurd comes
+one_ask last next (for_promise b) (ReceiptRefused OtherIndex) given comes hashes rest = absurd comes
 one_ask last next (for_promise b) BadLine given comes hashes rest = absurd comes
 one_ask last next for_nothing LetThrough given comes hashes rest = absurd comes
 one_ask last next for_nothing (HeadRefused r) given comes hashes rest = absurd comes

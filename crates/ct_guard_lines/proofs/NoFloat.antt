@@ -5,7 +5,7 @@ use Rattle.serde_json.specs.Data.{Data}
 use Rattle.serde_json.specs.Written.{has_float, compact_text}
 use Rattle.ct_tree.specs.declared.head.Head.{Head}
 use Rattle.ct_guard.specs.declared.refusal.HeadRefusal.TheVariants.{SizeFalls, MomentNotLater, Fork, Inconsistent}
-use Rattle.ct_guard.specs.declared.refusal.ReceiptRefusal.TheVariants.{NoHead, NoLeaf, NotThere}
+use Rattle.ct_guard.specs.declared.refusal.ReceiptRefusal.TheVariants.{NoHead, NoLeaf, NotThere, LaterLeaf, OtherIndex}
 use Rattle.ct_guard_lines.specs.Asks.{Ask, for_head, for_receipt, for_promise, for_nothing}
 use Rattle.ct_guard_lines.specs.Given.{guard_reply_data}
 use Rattle.ct_guard_lines.specs.GuardState.{guard_state_data}
@@ -29,6 +29,8 @@ reply_no_float origin a (HeadRefused (Inconsistent f)) = refl
 reply_no_float origin a (ReceiptRefused NoHead) = refl
 reply_no_float origin a (ReceiptRefused (NoLeaf f)) = refl
 reply_no_float origin a (ReceiptRefused (NotThere f)) = refl
+reply_no_float origin a (ReceiptRefused LaterLeaf) = refl
+reply_no_float origin a (ReceiptRefused OtherIndex) = refl
 reply_no_float origin a BadLine = refl
 
 -- the text of a value that has no float

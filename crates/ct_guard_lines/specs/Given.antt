@@ -13,7 +13,7 @@ use Rattle.ct_guard.specs.Guarded.{PassesHead, StopsHead, PassesReceipt, StopsRe
 use Rattle.ct_guard.specs.declared.refusal.HeadRefusal.{HeadRefusal}
 use Rattle.ct_guard.specs.declared.refusal.HeadRefusal.TheVariants.{SizeFalls, MomentNotLater, Fork, Inconsistent}
 use Rattle.ct_guard.specs.declared.refusal.ReceiptRefusal.{ReceiptRefusal}
-use Rattle.ct_guard.specs.declared.refusal.ReceiptRefusal.TheVariants.{NoHead, NoLeaf, NotThere}
+use Rattle.ct_guard.specs.declared.refusal.ReceiptRefusal.TheVariants.{NoHead, NoLeaf, NotThere, LaterLeaf, OtherIndex}
 use Rattle.ct_lines.specs.ReplyText.{bytes_data}
 use Rattle.ct_tree.specs.declared.head.Head.{Head}
 use Rattle.ct_verify.specs.declared.fault.ProofFault.{ProofFault}
@@ -82,6 +82,8 @@ abbrev pub receipt_refused_data : ReceiptRefusal → Data
 receipt_refused_data NoHead = refused_data (codes "no-head")
 receipt_refused_data (NoLeaf f) = refused_fault_data (codes "no-leaf") (leaf_refusal_name f)
 receipt_refused_data (NotThere f) = refused_fault_data (codes "not-there") (proof_refusal_name f)
+receipt_refused_data LaterLeaf = refused_data (codes "later-leaf")
+receipt_refused_data OtherIndex = refused_data (codes "other-index")
 
 -- that of a line that is none
 abbrev pub bad_line_data : Data

@@ -1,6 +1,6 @@
 //! What an error of a crate below says of a run.
 
-ghost use Rattle.std.specs.Prelude.{◌≡◌, ◌≢◌, OnOk};
+ghost use Rattle.std.specs.Prelude.{◌≡◌, ◌≢◌, MatchResult};
 ghost use Rattle.ct_codec.specs.declared.refusal.Refusal.TheVariants.{Memory as Refused};
 
 use ct_codec::Refusal;
@@ -13,7 +13,7 @@ pub(crate) struct NotMade {
 }
 
 impl From<Refusal> for NotMade {
-    ghost from_gives = { λ refusal made. OnOk made.told (refusal ≢ Refused) };
+    ghost from_gives = { λ refusal made. MatchResult made.told (λ _. refusal ≢ Refused) (λ _. refusal ≡ Refused) };
 
     fn from(refusal: Refusal) -> NotMade {
         let told = match refusal {

@@ -97,6 +97,8 @@ fn receipt_refused_value(alloc: Global, refusal: ReceiptRefusal) -> Result<Value
         ReceiptRefusal::NotThere(fault) => {
             refused_fault_value(alloc, "not-there", proof_fault(fault))
         }
+        ReceiptRefusal::LaterLeaf => refused_value(alloc, "later-leaf"),
+        ReceiptRefusal::OtherIndex => refused_value(alloc, "other-index"),
     }
 }
 
