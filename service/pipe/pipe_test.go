@@ -7,8 +7,11 @@ import (
 	"errors"
 	"io"
 	"net"
+	"os"
 	"path/filepath"
+	"strconv"
 	"strings"
+	"syscall"
 	"testing"
 	"time"
 )
@@ -78,5 +81,33 @@ func TestSocket(t *testing.T) {
 		if _, err := c.Exchange(ctx, []byte("three\n"), 1); !errors.Is(err, ErrGone) {
 			t.Error(err)
 		}
+	}
+}
+
+// TestEndIsClosed: what gave no reply in time doesn't go on.
+func TestEndIsClosed(t *testing.T) {
+	file := filepath.Join(t.TempDir(), "pid")
+	e, err := Start([]string{"sh", "-c", "echo $$ >" + file + "; echo; exec sleep 60"}, 1000)
+	if err != nil {
+		t.Fatal(err)
+	}
+	// (one line it gives: by then it runs, and has written its number)
+	if _, err := e.Exchange(context.Background(), time.Minute, []byte("x\n"), 1); err != nil {
+		t.Fatal(err)
+	}
+	if _, err := e.Exchange(context.Background(), 10*time.Millisecond, []byte("x\n"), 1); !errors.Is(err, ErrGone) {
+		t.Fatal(err)
+	}
+	text, err := os.ReadFile(file)
+	if err != nil {
+		t.Fatal(err)
+	}
+	pid, err := strconv.Atoi(strings.TrimSpace(string(text)))
+	if err != nil {
+		t.Fatal(err)
+	}
+	if err := syscall.Kill(pid, 0); !errors.Is(err, syscall.ESRCH) {
+		_ = syscall.Kill(pid, syscall.SIGKILL)
+		t.Errorf("process %d goes on: %v", pid, err)
 	}
 }

@@ -43,6 +43,14 @@ func (p place) putBack(t testing.TB, from place, folders ...string) {
 	}
 }
 
+// registerText is what the register of a place has.
+func (p place) registerText(t testing.TB) string {
+	t.Helper()
+	content, err := os.ReadFile(filepath.Join(string(p), "register", "text"))
+	must(t, err)
+	return string(content)
+}
+
 // notHere gives a place's configuration to a node of another machine: the file of the newest head is its own.
 func (p place) notHere(t testing.TB) Config {
 	config := p.config(t)
@@ -89,6 +97,10 @@ func TestPartedNode(t *testing.T) {
 	eventually(t, "it sees that it was set back", func() bool { return strings.Contains(there.Figures().Fault, ErrSetBack.Error()) })
 	_, err = there.Submit(ctx, entryOf(100))
 	wants(t, err, log.ErrStore, ErrSetBack)
+	// Nothing was decided over it.
+	if p.registerText(t) != old.registerText(t) {
+		t.Error("the register was swapped")
+	}
 	if report := p.right(t, got); report.Leaves != 40 {
 		t.Fatalf("%+v", report)
 	}

@@ -859,6 +859,33 @@ func TestClients(t *testing.T) {
 	wants(t, <-done, net.ErrClosed)
 }
 
+// TestHalfLines has as many as are served at once begin a line and never end it: each has its time, and who comes behind them is answered.
+func TestHalfLines(t *testing.T) {
+	t.Parallel()
+	key, path := newKey(t), filepath.Join(t.TempDir(), "socket")
+	ctx, cancel := context.WithCancel(limited(t))
+	listener, err := net.Listen("unix", path)
+	must(t, err)
+	all, done := newClients(), make(chan error, 1)
+	all.within = 50 * time.Millisecond
+	go func() { done <- all.serve(ctx, key, listener) }()
+	for i := 0; i < mostClients; i++ {
+		connection, err := net.Dial("unix", path)
+		must(t, err)
+		t.Cleanup(func() { connection.Close() })
+		_, err = connection.Write([]byte(`{"last":`))
+		must(t, err)
+	}
+	c, err := Ask(ctx, func(ctx context.Context) (*pipe.End, error) { return pipe.Dial(ctx, path, MostLine) }, 30*time.Second)
+	must(t, err)
+	t.Cleanup(func() { c.Close() })
+	_, err = c.Last(ctx)
+	must(t, err)
+	cancel()
+	listener.Close()
+	wants(t, <-done, net.ErrClosed)
+}
+
 // TestLines sends a signer lines that ask for nothing, or for what can't be: each is replied to, and nothing is signed.
 func TestLines(t *testing.T) {
 	t.Parallel()

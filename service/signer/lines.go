@@ -197,10 +197,12 @@ type clients struct {
 	room  chan struct{}
 	mu    sync.Mutex
 	there map[*client]bool
+	// within is how long a line may take to come, and a reply to go.
+	within time.Duration
 }
 
 func newClients() *clients {
-	return &clients{room: make(chan struct{}, mostClients), there: map[*client]bool{}}
+	return &clients{room: make(chan struct{}, mostClients), there: map[*client]bool{}, within: answersWithin}
 }
 
 // serve serves who comes to a listener, until that is closed. What else it fails by passes: files may be wanting for a moment.
@@ -214,7 +216,7 @@ func (c *clients) serve(ctx context.Context, s Signer, listener net.Listener) er
 			time.Sleep(looksAgain)
 			continue
 		}
-		one := &client{Conn: connection, since: time.Now()}
+		one := &client{Conn: connection, since: time.Now(), within: c.within}
 		if !c.take(ctx, one) {
 			connection.Close()
 			continue
@@ -282,6 +284,8 @@ type client struct {
 	// asks says that a line was begun that isn't replied to, and since is when the last one was.
 	asks  bool
 	since time.Time
+	// within is its clients'.
+	within time.Duration
 }
 
 // idle says since when nothing is asked.
@@ -300,7 +304,7 @@ func (c *client) Read(into []byte) (int, error) {
 	defer c.mu.Unlock()
 	if n > 0 && !c.asks {
 		c.asks = true
-		if late := c.Conn.SetReadDeadline(time.Now().Add(answersWithin)); err == nil {
+		if late := c.Conn.SetReadDeadline(time.Now().Add(c.within)); err == nil {
 			err = late
 		}
 	}
@@ -309,7 +313,7 @@ func (c *client) Read(into []byte) (int, error) {
 
 // Write sends a reply: each is one write.
 func (c *client) Write(from []byte) (int, error) {
-	if err := c.Conn.SetWriteDeadline(time.Now().Add(answersWithin)); err != nil {
+	if err := c.Conn.SetWriteDeadline(time.Now().Add(c.within)); err != nil {
 		return 0, err
 	}
 	n, err := c.Conn.Write(from)

@@ -4,6 +4,7 @@ import (
 	"bytes"
 	"context"
 	"crypto/sha256"
+	"encoding/json"
 	"errors"
 	"os"
 	"path/filepath"
@@ -147,6 +148,39 @@ func TestWrongPrograms(t *testing.T) {
 	}
 	if _, err := NewClient(nil, time.Second); !errors.Is(err, ErrProcess) {
 		t.Error(err)
+	}
+}
+
+// TestWrongStates has a program reply a step's state that has one thing of it wrong: what it says must follow from the request.
+func TestWrongStates(t *testing.T) {
+	c, ctx := client(t, 20*time.Second, program...), within(t)
+	line, err := c.Begin(ctx, 5)
+	must(t, err)
+	batch := []Submission{{LeafCertificate: []byte("one")}}
+	right, err := c.Step(ctx, line, nil, batch, 7)
+	must(t, err)
+	asked := func(state string) error {
+		reply := *right
+		reply.Line = state
+		text, err := json.Marshal(reply)
+		must(t, err)
+		path := filepath.Join(t.TempDir(), "reply")
+		must(t, os.WriteFile(path, append(text, '\n'), 0o600))
+		liar := client(t, 20*time.Second, script(t, "read x; cat "+path)...)
+		_, err = liar.Step(ctx, line, nil, batch, 7)
+		return err
+	}
+	must(t, asked(right.Line))
+	// Where the numbers and hashes stand in the line, in bytes.
+	for what, at := range map[string]int{"the size": 7, "the moment": 15, "the root": 16, "the bundle's digest": 48, "the digest of the line before": 112} {
+		digits := []byte(right.Line)
+		digit := &digits[len(growth)+2*at]
+		if *digit++; *digit > '9' {
+			*digit = '0'
+		}
+		if err := asked(string(digits)); !errors.Is(err, ErrReply) {
+			t.Errorf("%s is another: %v", what, err)
+		}
 	}
 }
 

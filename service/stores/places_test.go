@@ -185,3 +185,20 @@ func TestSQLiteEndsWithItsContext(t *testing.T) {
 	must(t, holding.Rollback())
 	must(t, other.Add(limited(t), []Placed{placed(1)}))
 }
+
+// TestSQLiteSyncs: each commit goes to the disk, in the mode in which it has to be asked for (PRAGMA synchronous is 2, FULL).
+func TestSQLiteSyncs(t *testing.T) {
+	places, err := OpenSQLite(limited(t), filepath.Join(t.TempDir(), "places"))
+	must(t, err)
+	defer places.Close()
+	for _, of := range []Places{places, places.Leaves()} {
+		var synchronous int
+		var journal string
+		db := of.(*inSQLite).db
+		must(t, db.QueryRowContext(limited(t), "pragma synchronous").Scan(&synchronous))
+		must(t, db.QueryRowContext(limited(t), "pragma journal_mode").Scan(&journal))
+		if synchronous != 2 || journal != "wal" {
+			t.Errorf("synchronous is %d, and the journal's mode %s", synchronous, journal)
+		}
+	}
+}

@@ -254,3 +254,26 @@ func TestProofOverAPartialTileThatWent(t *testing.T) {
 	f.front.log = &late{f.log, head, 2}
 	refused(t, "a partial tile that went twice", f.get("/ct/v1/get-sth-consistency?first=1&second=3"), 503, "store")
 }
+
+// TestPlaceForAProofIsGivenBack: who goes away while a proof is made, over a tile that doesn't come, gives its place back once it is made.
+func TestPlaceForAProofIsGivenBack(t *testing.T) {
+	f := newFixture(t, 0, func(o *Options) { o.Limits.Reading = 100 * time.Millisecond })
+	f.fill(3)
+	comes := make(chan struct{})
+	f.front.reader = reader.New(f.program, func(ctx context.Context, name string, most int64) ([]byte, error) {
+		<-comes
+		return f.log.Object(ctx, name, most)
+	}, 1)
+	refused(t, "late", f.get("/ct/v1/get-sth-consistency?first=1&second=2"), 503, "late")
+	refused(t, "busy", f.get("/ct/v1/get-sth-consistency?first=1&second=2"), 503, "busy")
+	close(comes)
+	for until := time.Now().Add(time.Minute); ; time.Sleep(10 * time.Millisecond) {
+		w := f.get("/ct/v1/get-sth-consistency?first=1&second=2")
+		if w.Code == 200 {
+			return
+		}
+		if time.Now().After(until) {
+			t.Fatalf("%d %s", w.Code, w.Body)
+		}
+	}
+}
