@@ -1,4 +1,4 @@
-.PHONY: help demo test check service service-test service-engines service-faults service-clients cluster cluster-status cluster-stop link install install-library install-ctlog install-ctlogd install-ctmonitor install-ctguard install-cttile install-ctproof fuzz load sweep wrong sources serve serve-ctlogd tiles interop release reproduce bare
+.PHONY: help demo test check service service-test service-engines service-faults service-clients cluster cluster-status cluster-stop link install install-library install-ctlog install-ctlogd install-ctmonitor install-ctguard install-cttile install-ctproof install-ctwitness fuzz load sweep wrong sources serve serve-ctlogd tiles interop release reproduce bare
 
 SECONDS ?= 60
 RUNS ?= 20
@@ -8,7 +8,7 @@ BUILT ?= crates
 CLUSTER ?= ct-cluster
 FOLDER ?= ct-log
 
-PROGRAMS := ctlog ctlogd ctmonitor ctguard cttile ctproof
+PROGRAMS := ctlog ctlogd ctmonitor ctguard cttile ctproof ctwitness
 LIBRARY = $(BUILT)/wagtenib/out/link/libwagtenib
 VERSION = $(shell cat VERSION)
 # (a shell expands no ~ in quotes)
@@ -71,7 +71,7 @@ link: ## builds libwagtenib, the proof checkers for C, and runs programs in C, R
 	@examples/link/link.sh
 
 # BUILT is the folder in which the crates' builds lie.
-install: $(PROGRAMS:%=install-%) install-library ## installs what is built, below PREFIX=/usr/local: ctlog, ctlogd, ctmonitor, ctguard, cttile, ctproof, watch.sh as ctmonitor-watch, mail.sh as ctmonitor-mail, and libwagtenib
+install: $(PROGRAMS:%=install-%) install-library ## installs what is built, below PREFIX=/usr/local: ctlog, ctlogd, ctmonitor, ctguard, cttile, ctproof, ctwitness, watch.sh as ctmonitor-watch, mail.sh as ctmonitor-mail, and libwagtenib
 	@for program in $(PROGRAMS); do [ ! -e "$(BUILT)/$$program/out/$$program" ] || exit 0; done; \
 	[ -e "$(LIBRARY).a" ] || { echo "make install: nothing is built" >&2; exit 1; }
 

@@ -84,6 +84,7 @@ TOLD = {
     "ct_tiled_entries/src/entries.rt": {"Unwritten": (1, "of a leaf's bytes that weren't made, a conversion of its own")},
     "ct_reader_lines/src/program.rt": {"Read": (1, "behind the last turn over the lines")},
     "ct_step_lines/src/program.rt": {"Read": (1, "behind the last turn over the lines")},
+    "ct_witness_lines/src/program.rt": {"Read": (1, "behind the last turn over the lines")},
     "ct_versions/src/shelf.rt": {"NotAppended": (2, "`append` handed it back")},
     "ct_versions/src/viewer.rt": {"Closed": (3, "nothing is shown, or what is shown is behind what was learnt")},
 }

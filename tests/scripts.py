@@ -134,13 +134,18 @@ def make_install(folder, built):
 
 def try_models():
     """guard/model.py writes the stored output of ctguard over its words and input, and ends with its status; so does tiles/step.py for cttile
-    and ctproof."""
-    for script, program in (("guard/model.py", "ctguard"), ("tiles/step.py", "cttile"), ("tiles/step.py", "ctproof")):
+    and ctproof, and witness/model.py for ctwitness. Where ctwitness is built, witness/fuzz.py compares the two."""
+    for script, program in (("guard/model.py", "ctguard"), ("tiles/step.py", "cttile"), ("tiles/step.py", "ctproof"), ("witness/model.py", "ctwitness")):
         crate = HERE.parent / "crates" / program
         words = (crate / "args").read_text().split("\n")[:-1] if (crate / "args").exists() else []
         ran = run(script, *words, given=(crate / "stdin").read_bytes())
         if ran.stdout != (crate / "stdout").read_bytes() or ran.returncode != int((crate / "status").read_text()):
             fail(f"{script} writes another output than crates/{program}/stdout, with status {ran.returncode}: {ran.stderr.decode()}")
+    witness = HERE.parent / "crates" / "ctwitness" / "out" / "ctwitness"
+    if witness.exists():
+        ran = run("witness/fuzz.py", witness, 2000)
+        if ran.returncode:
+            fail(f"witness/fuzz.py: {ran.stderr.decode()}")
 
 
 def try_tiles():

@@ -1,0 +1,5 @@
+pub mod NoFloat
+pub mod CosignKept
+pub mod CosignRuns
+pub mod CosignBroken
+pub mod CosignHistory

@@ -1,0 +1,191 @@
+//! The program over the words of a command line, a reader of lines and a writer of replies.
+
+ghost use Rattle.std.specs.Prelude.{◌≡◌, ◌≢◌, IfOk, OnOk, OnErr, map, string_bytes, codes};
+ghost use Rattle.std.specs.Io.KnownBytes.{Appends};
+ghost use Rattle.ct_lines.specs.Faults.{run_fault_line};
+ghost use Rattle.ct_lines.specs.Sends.{SendsSome};
+ghost use Rattle.ct_witness_lines.specs.CosignBroken.{OneCosignBroken, IsCosignRunBroken, IsCosignCallBroken};
+ghost use Rattle.ct_witness_lines.specs.CosignOptions.{cosign_asked_of_words, IsCosignCalled};
+ghost use Rattle.ct_witness_lines.specs.CosignSession.{GivesCosigningText, GetsCosignLine, OneCosigned, AllCosigned, IsCosignRun, IsCosignStatus};
+ghost use Rattle.ct_lines.specs.declared.fault.RunFault.{RunFault as FaultOf};
+
+use crate::command::{Command, command_of};
+use crate::deciding::decide;
+use crate::replies::{no_request_line, reply_line};
+use crate::request::read_request;
+use ct_lines::{READS, REQUEST_KEPT, RunFault, next_line, send, tell};
+use std::alloc::{AllocError, Global};
+use std::io::{BufRead, BufReader, Read, Write};
+
+// How the program is called.
+const USAGE: &str = "usage: ctwitness < lines > replies\n";
+
+// The version of the programs (include/wagtenib.pc.in).
+const VERSION: &str = "ctwitness 0.1.0\n";
+
+// Reads the next line into `line`, without its end, in place of what stood there, and answers whether there was one. Of a line that
+// is longer than a line may be a beginning is kept that is so too.
+fn read_next<B: BufRead>(input: &mut B, line: &mut Vec<u8>) -> Result<bool, RunFault>
+    ensures { IfOk result (λ some. GetsCosignLine some (B.remaining input.old) (B.remaining input.new) line.new.items) }
+{
+    let some = next_line(input, REQUEST_KEPT, line)?;
+    Ok(some)
+}
+
+// Takes a line without its end: notes whether it is refused as none, and answers what is written of it. An empty line is passed over.
+fn take_line(alloc: Global, bad: &mut bool, line: &[u8]) -> Result<Vec<u8>, AllocError>
+    ensures { IfOk result (λ t. GivesCosigningText bad.old line.now t.items bad.new) }
+{
+    if line.is_empty() {
+        return Ok(Vec::new(alloc));
+    }
+    let asked = read_request(alloc, line)?;
+    match asked {
+        Some(request) => {
+            let outcome = decide(alloc, &request)?;
+            reply_line(alloc, &request, &outcome)
+        }
+        None => {
+            *bad = true;
+            no_request_line(alloc)
+        }
+    }
+}
+
+// Takes the next line, and answers whether none was left.
+fn take_next<B: BufRead, W: Write>(
+    alloc: Global,
+    bad: &mut bool,
+    input: &mut B,
+    line: &mut Vec<u8>,
+    writer: &mut W,
+) -> Result<bool, RunFault>
+    ensures read { IfOk result (λ done. OneCosigned bad.old bad.new
+        (B.remaining input.old) (B.remaining input.new) (W.contents writer.old) (W.contents writer.new) done) }
+    ensures broken { OnErr result (OneCosignBroken (B.remaining input.old) (W.contents writer.old) (W.contents writer.new)) }
+{
+    let some = read_next(input, line)?;
+    if some {
+        let text = take_line(alloc, bad, line)?;
+        send(writer, &text)?;
+        return Ok(false);
+    }
+    Ok(true)
+}
+
+// Takes all lines.
+fn take_lines<B: BufRead, W: Write>(
+    alloc: Global,
+    bad: &mut bool,
+    input: &mut B,
+    writer: &mut W,
+) -> Result<(), RunFault>
+    ensures read { OnOk result (AllCosigned bad.old bad.new (B.remaining input.old) (W.contents writer.old) (W.contents writer.new)) }
+    ensures broken { OnErr result (IsCosignRunBroken (B.remaining input.old) (W.contents writer.old) (W.contents writer.new)) }
+{
+    let mut line = Vec::new(alloc);
+    for turn in 0..READS {
+        let done = take_next(alloc, bad, input, &mut line, writer)?;
+        if done {
+            return Ok(());
+        }
+    }
+    Err(RunFault::Read)
+}
+
+/// Reads the lines of an input, and writes a reply to each, which is handed on before the next line is read. Nothing is kept between
+/// lines. Answers the exit status: 4 where a line was refused as none, else 0.
+///
+/// # Errors
+///
+/// `Memory`, where a growth is refused; `Read`, where the input can't be read, or has 2^50 lines; `Write`, where the output can't be
+/// written.
+pub fn run<B: BufRead + Drop, W: Write>(
+    alloc: Global,
+    input: B,
+    writer: &mut W,
+) -> Result<u8, RunFault>
+    ensures written { IfOk result (λ status. IsCosignRun (B.remaining input) (W.contents writer.old) (W.contents writer.new) status) }
+    ensures status { IfOk result (λ status. IsCosignStatus status) }
+    ensures broken { OnErr result (IsCosignRunBroken (B.remaining input) (W.contents writer.old) (W.contents writer.new)) }
+{
+    let mut input = input;
+    let mut bad = false;
+    take_lines(alloc, &mut bad, &mut input, writer)?;
+    Ok(if bad { 4 } else { 0 })
+}
+
+// Does what the words ask for, and answers the exit status.
+fn do_asked<R: Read + Drop, W: Write, E: Write>(
+    alloc: Global,
+    words: &[String],
+    input: R,
+    output: &mut W,
+    faults: &mut E,
+) -> Result<u8, RunFault>
+    ensures answered { IfOk result (λ status. IsCosignCalled (cosign_asked_of_words (map string_bytes words.now)) (R.remaining input)
+        (W.contents output.old) (W.contents output.new) (E.contents faults.old) (E.contents faults.new) status) }
+    ensures status { IfOk result (λ status. status ≢ 1) }
+    ensures broken { OnErr result (IsCosignCallBroken (cosign_asked_of_words (map string_bytes words.now)) (R.remaining input)
+        (W.contents output.old) (W.contents output.new)) }
+    ensures quiet { OnErr result (E.contents faults.new ≡ E.contents faults.old) }
+{
+    match command_of(words) {
+        Command::Answer => {
+            let reader = BufReader::new(alloc, input)?;
+            run(alloc, reader, output)
+        }
+        Command::Help => {
+            send(output, USAGE.as_bytes())?;
+            Ok(0)
+        }
+        Command::Version => {
+            send(output, VERSION.as_bytes())?;
+            Ok(0)
+        }
+        Command::Refused => {
+            tell(faults, USAGE.as_bytes());
+            Ok(2)
+        }
+    }
+}
+
+/// What is written of a fault, with the end of the line.
+pub fn fault_text(fault: RunFault) -> &'static str
+    ensures { result.now ≡ run_fault_line (codes "ctwitness") fault }
+{
+    match fault {
+        RunFault::Memory => "ctwitness: memory\n",
+        RunFault::Read => "ctwitness: read\n",
+        RunFault::Write => "ctwitness: write\n",
+    }
+}
+
+/// Does what the words of a command line ask for, the program's name left out, and answers the exit status.
+///
+/// - 0, 4: `run` read the input and wrote its replies, with that status; or, for 0, the words ask for help or the version, which was
+///   written on the output.
+/// - 1: a fault broke it off, and its line was written among the faults, as far as it could be.
+/// - 2: the words ask for nothing that there is. How the program is called was written among the faults, as far as it could be.
+pub fn answer_words<R: Read + Drop, W: Write, E: Write>(
+    alloc: Global,
+    words: &[String],
+    input: R,
+    output: &mut W,
+    faults: &mut E,
+) -> u8
+    ensures answered { result ≢ 1 → IsCosignCalled (cosign_asked_of_words (map string_bytes words.now)) (R.remaining input)
+        (W.contents output.old) (W.contents output.new) (E.contents faults.old) (E.contents faults.new) result }
+    ensures fault { result ≡ 1 → (f : FaultOf)
+        × SendsSome (E.contents faults.old) (E.contents faults.new) (run_fault_line (codes "ctwitness") f) }
+    ensures broken { result ≡ 1 → IsCosignCallBroken (cosign_asked_of_words (map string_bytes words.now)) (R.remaining input)
+        (W.contents output.old) (W.contents output.new) }
+{
+    match do_asked(alloc, words, input, output, faults) {
+        Ok(status) => status,
+        Err(fault) => {
+            tell(faults, fault_text(fault).as_bytes());
+            1
+        }
+    }
+}
