@@ -6,3 +6,4 @@ pub mod Kept
 pub mod GuardLines
 pub mod GivenRuns
 pub mod WordsRead
+pub mod BrokenOff

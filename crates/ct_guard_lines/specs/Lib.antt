@@ -4,3 +4,4 @@ pub mod Given
 pub mod GuardSession
 pub mod GuardHistory
 pub mod GuardWords
+pub mod BrokenOff

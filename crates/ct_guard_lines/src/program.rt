@@ -1,8 +1,9 @@
 //! The program over the words of a command line, a reader of lines and a writer of replies.
 
-ghost use Rattle.std.specs.Prelude.{◌≡◌, ◌≢◌, ◌++◌, ◌∷◌, [], IfOk, OnOk, OnErr, map, string_bytes, codes};
+ghost use Rattle.std.specs.Prelude.{◌≡◌, ◌≢◌, ◌++◌, ◌∷◌, [], None, false, IfOk, OnOk, OnErr, map, string_bytes, codes};
 ghost use Rattle.std.specs.Io.KnownBytes.{Appends};
 ghost use Rattle.ct_lines.specs.Sends.{SendsSome};
+ghost use Rattle.ct_guard_lines.specs.BrokenOff.{OneGuardBroken, AreGuardsBroken, BeginsState, IsGuardRunBroken, IsGuardCallBroken};
 ghost use Rattle.ct_guard_lines.specs.GuardWords.{guard_asked, IsGuardAnswered};
 ghost use Rattle.ct_lines.specs.Faults.{run_fault_line};
 ghost use Rattle.ct_lines.specs.declared.fault.RunFault.{RunFault as FaultOf};
@@ -46,8 +47,10 @@ fn take_next<B: BufRead + Drop, W: Write>(
     line: &mut Vec<u8>,
     writer: &mut W,
 ) -> Result<bool, RunFault>
-    ensures { IfOk result (λ done. OneGuarded (GuardsLine (options_of settings.now)) guarding.old guarding.new
+    ensures taken { IfOk result (λ done. OneGuarded (GuardsLine (options_of settings.now)) guarding.old guarding.new
         (B.remaining lines.old.input) (B.remaining lines.new.input) (W.contents writer.old) (W.contents writer.new) done) }
+    ensures broken { OnErr result (OneGuardBroken (GuardsLine (options_of settings.now)) guarding.old
+        (B.remaining lines.old.input) (W.contents writer.old) (W.contents writer.new)) }
 {
     let some = next_line(lines, line)?;
     if some {
@@ -67,8 +70,10 @@ fn take_start<B: BufRead + Drop, W: Write>(
     line: &mut Vec<u8>,
     writer: &mut W,
 ) -> Result<bool, RunFault>
-    ensures { IfOk result (λ done. OneGuarded (GuardsFirst (options_of settings.now)) guarding.old guarding.new
+    ensures taken { IfOk result (λ done. OneGuarded (GuardsFirst (options_of settings.now)) guarding.old guarding.new
         (B.remaining lines.old.input) (B.remaining lines.new.input) (W.contents writer.old) (W.contents writer.new) done) }
+    ensures broken { OnErr result (OneGuardBroken (GuardsFirst (options_of settings.now)) guarding.old
+        (B.remaining lines.old.input) (W.contents writer.old) (W.contents writer.new)) }
 {
     let some = next_line(lines, line)?;
     if some {
@@ -88,7 +93,9 @@ fn take_lines<B: BufRead + Drop, W: Write>(
     line: &mut Vec<u8>,
     writer: &mut W,
 ) -> Result<(), RunFault>
-    ensures { OnOk result (IsGuarded (options_of settings.now) guarding.old guarding.new
+    ensures taken { OnOk result (IsGuarded (options_of settings.now) guarding.old guarding.new
+        (B.remaining lines.old.input) (W.contents writer.old) (W.contents writer.new)) }
+    ensures broken { OnErr result (AreGuardsBroken (options_of settings.now) guarding.old
         (B.remaining lines.old.input) (W.contents writer.old) (W.contents writer.new)) }
 {
     for turn in 0..READS {
@@ -108,8 +115,10 @@ fn take_all<B: BufRead + Drop, W: Write>(
     input: B,
     writer: &mut W,
 ) -> Result<(), RunFault>
-    ensures { OnOk result (IsAllGuarded (options_of settings.now) guarding.old guarding.new
+    ensures taken { OnOk result (IsAllGuarded (options_of settings.now) guarding.old guarding.new
         (B.remaining input) (W.contents writer.old) (W.contents writer.new)) }
+    ensures broken { OnErr result (last_head guarding.old ≡ None → guarding.old.bad ≡ false
+        → IsGuardRunBroken (options_of settings.now) (B.remaining input) (W.contents writer.old) (W.contents writer.new)) }
 {
     let mut lines = NumberedLines::new(input);
     let mut line = Vec::new(alloc);
@@ -126,6 +135,7 @@ fn finish<W: Write>(alloc: Global, guarding: &Guarding, writer: &mut W) -> Resul
     ensures status { IfOk result (λ status. status ≡ guard_status guarding.now) }
     ensures written { OnOk result (Appends (W.contents writer.old) (W.contents writer.new) (guard_state_text (last_head guarding.now) ++ 10 ∷ [])) }
     ensures kept { OnOk result (IsLastValue (last_head guarding.now)) }
+    ensures broken { OnErr result (BeginsState guarding.now (W.contents writer.old) (W.contents writer.new)) }
 {
     let text = guarding.last_line(alloc)?;
     send(writer, &text)?;
@@ -138,7 +148,8 @@ fn finish<W: Write>(alloc: Global, guarding: &Guarding, writer: &mut W) -> Resul
 /// # Errors
 ///
 /// `Memory`, where a growth is refused; `Read`, where the input can't be read, or has 2^50 lines; `Write`, where the output can't be
-/// written. No state is written then, unless the last write alone failed.
+/// written. The replies to the first lines are written then, whole and in their order, and at most a beginning of the reply to the next line;
+/// of the state's line a beginning, where no line is left, and else nothing.
 pub fn run<B: BufRead + Drop, W: Write>(
     alloc: Global,
     settings: &Settings,
@@ -147,6 +158,7 @@ pub fn run<B: BufRead + Drop, W: Write>(
 ) -> Result<u8, RunFault>
     ensures written { IfOk result (λ status. IsGuardRun (options_of settings.now) (B.remaining input) (W.contents writer.old) (W.contents writer.new) status) }
     ensures status { IfOk result (λ status. IsGuardStatus status) }
+    ensures broken { OnErr result (IsGuardRunBroken (options_of settings.now) (B.remaining input) (W.contents writer.old) (W.contents writer.new)) }
 {
     let mut guarding = Guarding::new();
     take_all(alloc, settings, &mut guarding, input, writer)?;
@@ -164,6 +176,8 @@ fn do_asked<R: Read + Drop, W: Write, E: Write>(
     ensures answered { IfOk result (λ status. IsGuardAnswered (guard_asked (map string_bytes words.now)) (R.remaining input)
         (W.contents output.old) (W.contents output.new) (E.contents faults.old) (E.contents faults.new) status) }
     ensures status { IfOk result (λ status. status ≢ 1) }
+    ensures broken { OnErr result (IsGuardCallBroken (guard_asked (map string_bytes words.now)) (R.remaining input)
+        (W.contents output.old) (W.contents output.new)) }
     ensures quiet { OnErr result (E.contents faults.new ≡ E.contents faults.old) }
 {
     match command_of(alloc, words)? {
@@ -201,7 +215,8 @@ pub fn fault_text(fault: RunFault) -> &'static str
 ///
 /// - 0, 4: `run` read the input and wrote its replies, with that status; or, for 0, the words ask for help or the version, which was
 ///   written on the output.
-/// - 1: a fault broke it off, and its line was written among the faults, as far as it could be.
+/// - 1: a fault broke it off, and its line was written among the faults, as far as it could be. On the output stands what `run` wrote until
+///   then, or a beginning of the text that was asked for.
 /// - 2: the words ask for nothing that there is. How the program is called was written among the faults, as far as it could be.
 pub fn answer_words<R: Read + Drop, W: Write, E: Write>(
     alloc: Global,
@@ -214,6 +229,8 @@ pub fn answer_words<R: Read + Drop, W: Write, E: Write>(
         (W.contents output.old) (W.contents output.new) (E.contents faults.old) (E.contents faults.new) result }
     ensures fault { result ≡ 1 → (f : FaultOf)
         × SendsSome (E.contents faults.old) (E.contents faults.new) (run_fault_line (codes "ctguard") f) }
+    ensures broken { result ≡ 1 → IsGuardCallBroken (guard_asked (map string_bytes words.now)) (R.remaining input)
+        (W.contents output.old) (W.contents output.new) }
 {
     match do_asked(alloc, words, input, output, faults) {
         Ok(status) => status,
