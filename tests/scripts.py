@@ -284,6 +284,26 @@ def try_release(folder):
     return f"{len(names)} files twice the same"
 
 
+def try_needs(folder):
+    """needs.sh offers the packages that lack by one line, and with SETUP=yes that is run. Where others lack too it isn't tried."""
+    needs = [HERE.parent / "checks" / "needs.sh", "service-for-serve"]
+    if subprocess.run(needs, capture_output=True).returncode:
+        return
+    lacking, line = "golang-github-lib-pq-dev", "apt-get install --yes --no-install-recommends golang-github-lib-pq-dev"
+    stubs = {"dpkg-query": f'case "$*" in *{lacking}) ;; *) echo installed ;; esac', "apt-get": 'echo "apt-get $*"', "sudo": 'exec "$@"'}
+    for name, script in stubs.items():
+        (folder / name).write_text(f"#!/bin/sh\n{script}\n")
+        (folder / name).chmod(0o755)
+    for setup, status in (("", 1), ("yes", 0)):
+        environment = {**os.environ, "PATH": f"{folder}:{os.environ['PATH']}", "SETUP": setup}
+        ran = subprocess.run(needs, env=environment, capture_output=True, text=True)
+        told = ran.stderr.splitlines()
+        if ran.returncode != status or told[0] != f"make serve lacks Debian's {lacking}" or ran.stdout != (f"{line}\n" if setup else ""):
+            fail(f"needs.sh with SETUP={setup} ends with status {ran.returncode}: {ran.stdout}{ran.stderr}")
+        if not setup and f"{line}    installs these" not in told[1]:
+            fail(f"needs.sh offers {told}")
+
+
 def try_figures():
     """README.md has the times of checks/needs.sh and its sentence on them, and docs/GATE.md no others in that form."""
     *figures, whose = subprocess.run([HERE.parent / "checks" / "needs.sh", "figures"], capture_output=True, text=True).stdout.splitlines()
@@ -346,6 +366,8 @@ def main():
         files = try_install(pathlib.Path(folder))
     with tempfile.TemporaryDirectory() as folder:
         released = try_release(pathlib.Path(folder))
+    with tempfile.TemporaryDirectory() as folder:
+        try_needs(pathlib.Path(folder))
     try_figures()
     quotations = try_quotations()
     try_waits()
