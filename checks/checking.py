@@ -64,9 +64,9 @@ CLAIMS = [
     ),
     Claim(
         "The guard",
-        "Where the newest head that a guard let through, in whatever runs, is that of a list of leaves, each before it that has leaves is that of a beginning of this list, or two strings with one hash are given.",
-        "each run begins with the head that the one before ended with.",
-        [("ct_guard/src/guard.rt", "pass_head", []), ("ct_guard/src/laws.rt", "heads_go_back", [])],
+        "Where the newest head that a guard let through is that of a list of leaves, each before it that has leaves is that of a beginning of this list; and of the heads that many guards had signed over one register the earlier one's list begins the later one's, wherever they were killed; or two strings with one hash are given.",
+        "each run begins with the head that the one before ended with. Over a register: a head is signed only once the register took it in place of the one that its guard had, and each is that of some list.",
+        [("ct_guard/src/guard.rt", "pass_head", []), ("ct_guard/src/laws.rt", "heads_go_back", []), ("ct_guard/src/laws.rt", "guards_over_a_register", [])],
     ),
     Claim(
         "Many sequencers over one register, and repeats",
