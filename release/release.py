@@ -104,7 +104,7 @@ once more and compares their bytes with SHA256SUMS.
 
     def watching(self):
         monitor = ROOT / "examples" / "monitor"
-        return {"ctmonitor-watch": monitor / "watch.sh", "ctmonitor-signature": monitor / "signature.sh", "ctmonitor-mail": monitor / "mail.sh"}
+        return {"ctmonitor-watch": monitor / "watch.sh", "ctmonitor-signature": monitor / "signature.sh", "ctmonitor-mail": monitor / "mail.sh", "ctmonitor-from-end": monitor / "from_end.py"}
 
     def shared(self):
         """What an operator puts into place: the site, the rules of alarms."""

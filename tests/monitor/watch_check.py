@@ -11,6 +11,7 @@ import http.server
 import json
 import os
 import pathlib
+import re
 import shutil
 import signal
 import socket
@@ -119,7 +120,17 @@ class Tiles(Log):
             return b"".join(self.texts[256 * names[path] :][:256])
         if path == answers.tile_name(self.size // 256, self.size % 256):
             return b"".join(self.texts[self.size // 256 * 256 : self.size])
-        return None
+        return self.hash_tile(path)
+
+    def hash_tile(self, path):
+        """A tile of hashes (C2SP tlog-tiles) of the first `published` leaves, or of all; partial ones only of those that are shown."""
+        found = re.fullmatch(r"tile/([0-5])/([0-9]{3})(?:\.p/([0-9]+))?", path)
+        if not found:
+            return None
+        span, index, width = 256 ** int(found[1]), int(found[2]), int(found[3] or 256)
+        if (index * 256 + width) * span > ((self.published or self.size) if width == 256 else self.size):
+            return None
+        return b"".join(answers.merkle.root(self.leaves[at * span :][:span]) for at in range(index * 256, index * 256 + width))
 
 
 def closed_port():
@@ -681,6 +692,46 @@ def try_names_of_a_file(watch):
     watch.ends("a word without its value", 2, log.url, "--name", "a", "--tell", says="watch.sh [--folder DIR]")
 
 
+def from_end(log):
+    words = [sys.executable, MONITOR / "from_end.py", log.url]
+    return subprocess.run(words, capture_output=True, text=True, env={**os.environ, "no_proxy": "127.0.0.1"})
+
+
+def try_from_end(watch):
+    """from_end.py makes the state that a run over all entries leaves, byte for byte, of the tiles at the edge; and watch.sh goes on behind it."""
+    for size in (1, 2, 255, 256, 257, 300, 530, len(MANY)):
+        log, other = Tiles(), Tiles()
+        log.size = other.size = size
+        watch.ends(f"all of {size} entries", 0, log.url, says=f"accepted {size} leaves")
+        ran = from_end(other)
+        if ran.returncode or ran.stdout.encode() != watch.path(log).read_bytes():
+            fail(f"from_end.py behind {size} entries: {ran.stdout}{ran.stderr} where the state is {watch.path(log).read_text()}")
+    begun = Tiles()
+    begun.size, begun.published, begun.instead = 300, 530, {"tile/0/001.p/44": {"status": 404}}
+    watch.path(begun, "").mkdir()
+    watch.path(begun).write_text(from_end(begun).stdout)
+    begun.asked.clear()
+    begun.size, begun.now = 530, begun.now + 1
+    watch.ends("behind a log's end", 8, begun.url, "--name", "ficate 301", "--name", "ficate 29", says="FOUND ficate 301: entry 301")
+    tiles_asked("behind a log's end", begun, "001", "002.p/18")
+    for what, status, instead in [
+        ("a changed tile", 1, {"tile/0/001.p/44": bytes(32 * 44)}),
+        ("a tile that is cut short", 1, {"tile/0/001.p/44": bytes(32 * 44 - 1)}),
+        ("a page", 1, {"checkpoint": PAGE}),
+        ("no moment", 1, {"checkpoint": BARE + "\n"}),
+        ("no tile", 5, {"tile/0/001.p/44": {"status": 404}, "tile/0/001": {"status": 404}}),
+        ("a store that fails", 5, {"checkpoint": {"status": 503}}),
+    ]:
+        log = Tiles()
+        log.size, log.instead = 300, instead
+        ran = from_end(log)
+        if ran.returncode != status or ran.stdout or not ran.stderr.startswith("from_end.py: "):
+            fail(f"from_end.py over {what}: status {ran.returncode} where {status} is due: {ran.stdout}{ran.stderr}")
+    ran = subprocess.run([sys.executable, MONITOR / "from_end.py"], capture_output=True, text=True)
+    if ran.returncode != 1 or "from_end.py ADDRESS > state" not in ran.stderr:
+        fail(f"from_end.py without words: {ran.returncode}, {ran.stderr}")
+
+
 def try_mail(watch):
     """mail.sh hands a message to sendmail, of which a script stands in the place."""
     log, sent, sendmail = named_log(2), watch.folder / "sent", watch.folder / "sendmail"
@@ -817,6 +868,7 @@ def main():
         try_health(watch)
         try_names_of_a_file(watch)
         try_mail(watch)
+        try_from_end(watch)
         try_slashes(watch)
         try_several(watch, followed, forked)
         try_judges(watch, followed, judge)
