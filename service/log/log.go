@@ -71,6 +71,11 @@ type Figures struct {
 	// Swept counts partial tiles that were deleted behind their full one, SweptHeads heads that were behind a later one, and Scrubbed data
 	// tiles that were read again and were right.
 	Swept, SweptHeads, Scrubbed uint64
+	// SweptBundles counts bundles of steps that were deleted since nobody needs them, and Staged is how many there were when they were listed last.
+	SweptBundles, Staged uint64
+	// TendFailures counts what failed of sweeping, which is tried again, and TendFailure is the last of it, in one line.
+	TendFailures uint64
+	TendFailure  string
 	// Damaged is how many data tiles, by what was read last, are missing, can't be read or aren't the log's, or stand below hash tiles of
 	// which one of these is so; the log goes on all the same. Damage is what was seen of one of them, in one line.
 	Damaged int

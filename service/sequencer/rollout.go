@@ -224,8 +224,8 @@ func (s *Sequencer) rollOut(ctx context.Context, k known, objects []step.Object,
 	}
 	s.phase("published")
 	s.rolled = k.line
-	// The bundle before isn't needed any more. What stays of it where this fails is in nobody's way.
-	_ = s.config.Objects.Delete(ctx, bundleName(k.state.Before))
+	// The bundle before isn't needed any more. Where it stays, it is swept.
+	s.failed("a bundle isn't deleted", s.config.Objects.Delete(ctx, bundleName(k.state.Before)))
 	return nil
 }
 

@@ -275,7 +275,7 @@ func (s *Sequencer) lose(ctx context.Context, line, name string) error {
 	k, err := s.learn(ctx)
 	if err == nil && k.line != line {
 		// Two nodes may have made the same step. Behind the state that stands, it isn't needed by either.
-		_ = s.config.Objects.Delete(ctx, name)
+		s.failed("a bundle isn't deleted", s.config.Objects.Delete(ctx, name))
 	}
 	return err
 }

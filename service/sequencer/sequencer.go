@@ -168,13 +168,16 @@ type Sequencer struct {
 	// mended counts objects that were made again, and lastMended names the last.
 	mended     uint64
 	lastMended string
+	// tendFailures counts what tending failed by, and tendFailure is the last of it.
+	tendFailures uint64
+	tendFailure  string
 	// alone is until when nothing is handed over, since a node didn't answer.
 	alone time.Time
 
 	readings readings
 	compared compared
 
-	steps, lost, unknown, repeats, helped, handed, swept, sweptHeads, scrubbed atomic.Uint64
+	steps, lost, unknown, repeats, helped, handed, swept, sweptHeads, scrubbed, sweptBundles, staged atomic.Uint64
 	// handing holds who hands over.
 	handing chan struct{}
 
@@ -334,6 +337,8 @@ func (s *Sequencer) Figures() log.Figures {
 		f.HeadAge = time.Duration(s.clock.now().UnixMilli()-int64(s.head.Timestamp)) * time.Millisecond
 	}
 	f.Mended, f.LastMended = s.mended, s.lastMended
+	f.SweptBundles, f.Staged = s.sweptBundles.Load(), s.staged.Load()
+	f.TendFailures, f.TendFailure = s.tendFailures, s.tendFailure
 	if f.DamagedIssuers, f.Damage = s.issuers.damage(); len(s.damage) > 0 {
 		first, _ := s.damagedBehind(0)
 		f.Damage = s.damage[first].Error()

@@ -4,6 +4,7 @@ import (
 	"context"
 	"errors"
 	"fmt"
+	"math/rand"
 	"sort"
 	"time"
 
@@ -29,9 +30,15 @@ const (
 // errUnread: an object of the log may be there, and can't be read.
 var errUnread = errors.New("sequencer: an object can't be read")
 
-// tender takes partial tiles and heads away that nobody needs any more, and reads old tiles again.
+// tender takes partial tiles, heads and bundles away that nobody needs any more, and reads old tiles again.
 type tender struct {
 	s *Sequencer
+	// staged are bundles that were there when staging/ was listed last, at listed, and text what the register had behind that.
+	staged map[string]bool
+	text   string
+	listed time.Time
+	// begun says that reading began: at a tile of chance, so that a log that is started often is read all the same.
+	begun bool
 	// settled is a head that has stood for SweepAfter, young the one that settles next, and since when it was seen.
 	settled, young *log.Head
 	since          time.Time
@@ -73,12 +80,71 @@ func (s *Sequencer) tend(ctx context.Context) {
 	for wait(ctx, s.config.TendEvery) == nil {
 		t.settle()
 		// What fails is tried again in the next turn: the log doesn't wait for it.
-		_ = t.sweep(ctx)
-		_ = t.sweepHeads(ctx)
+		s.failed("partial tiles aren't swept", t.sweep(ctx))
+		s.failed("old heads aren't swept", t.sweepHeads(ctx))
+		s.failed("bundles aren't swept", t.sweepBundles(ctx))
 		t.readDamaged(ctx)
 		t.readNext(ctx)
 		t.readIssuers(ctx)
 	}
+}
+
+// failed keeps what tending failed by; nil is nothing, and so is the end.
+func (s *Sequencer) failed(what string, err error) {
+	if err == nil || errors.Is(err, context.Canceled) {
+		return
+	}
+	s.mu.Lock()
+	defer s.mu.Unlock()
+	s.tendFailures++
+	s.tendFailure = what + ": " + err.Error()
+}
+
+// mostBundles is how many bundles one turn deletes.
+const mostBundles = 64
+
+// sweepBundles lists staging/ every SweepAfter, and deletes what was there at the listing before, but for the newest state's, where the register
+// has moved since: a step is decided only as long as the text stands that it was made from, and that was there before its bundle.
+func (t *tender) sweepBundles(ctx context.Context) error {
+	if !t.listed.IsZero() && time.Since(t.listed) < t.s.config.SweepAfter {
+		return nil
+	}
+	var names []string
+	err := t.s.briefly(ctx, func(ctx context.Context) (err error) {
+		names, err = t.s.config.Objects.List(ctx, stagingPrefix, "", stores.MostListed)
+		return err
+	})
+	if err != nil {
+		return err
+	}
+	var text string
+	if err = t.s.briefly(ctx, func(ctx context.Context) (err error) { text, err = t.s.config.Register.Read(ctx); return err }); err != nil {
+		return err
+	}
+	newest, err := readText(text)
+	if err != nil {
+		return err
+	}
+	staged, left := map[string]bool{}, mostBundles
+	for _, name := range names {
+		if !t.staged[name] || text == t.text || name == bundleName(step.Digest(newest.line)) || left == 0 {
+			staged[name] = true
+			continue
+		}
+		left--
+		name := name
+		if err := t.s.briefly(ctx, func(ctx context.Context) error { return t.s.config.Objects.Delete(ctx, name) }); err != nil {
+			return err
+		}
+		t.s.sweptBundles.Add(1)
+	}
+	t.s.staged.Store(uint64(len(staged)))
+	if left == 0 {
+		// There are more: the next turn goes on.
+		return nil
+	}
+	t.staged, t.text, t.listed = staged, text, time.Now()
+	return nil
 }
 
 // readIssuers reads an issuer that is damaged again, and one that this node put.
@@ -329,6 +395,9 @@ func (t *tender) readNext(ctx context.Context) {
 	full := fullTiles(-1, sizeOf(t.s.seen()))
 	if full == 0 {
 		return
+	}
+	if !t.begun {
+		t.begun, t.read = true, uint64(rand.Int63n(int64(full)))
 	}
 	if t.read >= full {
 		t.read, t.looked = 0, nil

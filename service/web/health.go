@@ -56,7 +56,7 @@ func (f *Front) Tell(ctx context.Context, every time.Duration) {
 	defer timer.Stop()
 	var fault, damage string
 	var tiles, issuers int
-	var mended uint64
+	var mended, failures uint64
 	for {
 		figures := f.log.Figures()
 		if figures.Fault != fault {
@@ -64,6 +64,10 @@ func (f *Front) Tell(ctx context.Context, every time.Duration) {
 		}
 		if figures.Damage != damage || damage != "" && (figures.Damaged != tiles || figures.DamagedIssuers != issuers) {
 			f.tellOf("damage", damage, figures.Damage, "tiles", figures.Damaged, "issuers", figures.DamagedIssuers)
+		}
+		if figures.TendFailures != failures {
+			f.options.Lines.Warn("tend", "failures", figures.TendFailures-failures, "detail", figures.TendFailure)
+			failures = figures.TendFailures
 		}
 		if figures.Mended != mended {
 			f.options.Lines.Warn("made-again", "objects", figures.Mended-mended, "last", figures.LastMended)
