@@ -200,6 +200,10 @@ func (s *settings) settle() error {
 			return errors.New("a time is above 0")
 		}
 	}
+	// A quarter of all proofs is one address's.
+	if l.ProofsByAddress = n.mostProofs / 4; l.ProofsByAddress < 1 {
+		l.ProofsByAddress = 1
+	}
 	if l.Connections < 1 || l.ConnectionsByAddress < 1 || l.Checks < 1 || l.WaitingBytes < web.MostBody || l.AnswerBytes < stores.MostObject || n.mostQueue < 1 || n.mostBatch < 1 || n.mostProofs < 1 {
 		return fmt.Errorf("a bound is above 0, --most-waiting-bytes at least %d, and --most-answer-bytes at least %d", web.MostBody, stores.MostObject)
 	}

@@ -5,8 +5,10 @@ import (
 	"crypto/sha256"
 	"errors"
 	"fmt"
+	"os"
 	"path/filepath"
 	"reflect"
+	"strings"
 	"testing"
 	"time"
 )
@@ -200,5 +202,14 @@ func TestSQLiteSyncs(t *testing.T) {
 		if synchronous != 2 || journal != "wal" {
 			t.Errorf("synchronous is %d, and the journal's mode %s", synchronous, journal)
 		}
+	}
+}
+
+// TestSQLiteThatIsBent: what isn't a database is named.
+func TestSQLiteThatIsBent(t *testing.T) {
+	path := filepath.Join(t.TempDir(), "places.db")
+	must(t, os.WriteFile(path, []byte(strings.Repeat("no database ", 1000)), 0o644))
+	if _, err := OpenSQLite(limited(t), path); err == nil || !strings.Contains(err.Error(), path) {
+		t.Errorf("%v", err)
 	}
 }

@@ -52,7 +52,7 @@ func OpenSQLite(ctx context.Context, path string) (Places, error) {
 	})
 	if err != nil {
 		db.Close()
-		return nil, err
+		return nil, fmt.Errorf("%w: the places in %s", err, path)
 	}
 	if err := syncFolder(filepath.Dir(path)); err != nil {
 		db.Close()

@@ -153,7 +153,10 @@ func (c figures) Collect(to chan<- prometheus.Metric) {
 func (f *Front) Operator() http.Handler {
 	mux := http.NewServeMux()
 	mux.Handle("/metrics", promhttp.HandlerFor(f.metrics.registry, promhttp.HandlerOpts{MaxRequestsInFlight: 4, Timeout: 10 * time.Second}))
-	mux.Handle("/healthz", f)
-	mux.Handle("/readyz", f)
+	own := http.HandlerFunc(func(w http.ResponseWriter, r *http.Request) {
+		f.ServeHTTP(w, r.WithContext(context.WithValue(r.Context(), operatorKey{}, true)))
+	})
+	mux.Handle("/healthz", own)
+	mux.Handle("/readyz", own)
 	return mux
 }

@@ -133,6 +133,11 @@ func numbersOf(r *http.Request, names ...string) (query url.Values, numbers []ui
 // underHead has something made of the tiles of the newest head, of which a tree of size leaves is a beginning. A partial tile may go
 // meanwhile, where the full one came to stand: then it is made anew.
 func (f *Front) underHead(r *http.Request, size uint64, ask func(context.Context, log.Head) error) error {
+	client := f.clientOf(r)
+	if !f.proofsOf.take(client) {
+		return tooMany
+	}
+	defer f.proofsOf.give(client)
 	ctx, cancel := f.reading(r)
 	defer cancel()
 	for again := false; ; again = true {

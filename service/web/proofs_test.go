@@ -8,6 +8,7 @@ import (
 	"errors"
 	"fmt"
 	"net/http/httptest"
+	"net/netip"
 	"net/url"
 	"reflect"
 	"strings"
@@ -227,6 +228,48 @@ func TestProofsThatAreRefused(t *testing.T) {
 	f.log.Break(errors.New("the disk"))
 	if w := f.get("/ct/v1/" + calls[0]); w.Code < 500 || strings.Contains(w.Body.String(), "disk") {
 		t.Errorf("a log that fails: %d %s", w.Code, w.Body)
+	}
+}
+
+// TestProofsByAddress: one address has some of the proofs that are made at once, and keeps no other one waiting.
+func TestProofsByAddress(t *testing.T) {
+	f := newFixture(t, 0, func(o *Options) { o.Limits.ProofsByAddress = 2 })
+	f.fill(3)
+	const call = "/ct/v1/get-sth-consistency?first=1&second=2"
+	from := func(peer string) *httptest.ResponseRecorder {
+		w, r := httptest.NewRecorder(), httptest.NewRequest("GET", call, nil)
+		r.RemoteAddr = peer
+		f.front.ServeHTTP(w, r)
+		return w
+	}
+	let := make(chan struct{})
+	f.front.reader = reader.New(f.program, func(ctx context.Context, name string, most int64) ([]byte, error) {
+		<-let
+		return f.log.Object(ctx, name, most)
+	}, 64)
+	answers := make(chan int, 3)
+	ask := func(peer string) { answers <- from(peer).Code }
+	for i := 0; i < 2; i++ {
+		go ask("192.0.2.1:7")
+	}
+	asked := func(peer string) int {
+		f.front.proofsOf.mutex.Lock()
+		defer f.front.proofsOf.mutex.Unlock()
+		return f.front.proofsOf.of[netip.MustParseAddr(peer)]
+	}
+	for asked("192.0.2.1") != 2 {
+		time.Sleep(time.Millisecond)
+	}
+	refused(t, "one more", from("192.0.2.1:8"), 429, "too-many-requests")
+	go ask("192.0.2.2:7")
+	for asked("192.0.2.2") != 1 {
+		time.Sleep(time.Millisecond)
+	}
+	close(let)
+	for i := 0; i < 3; i++ {
+		if code := <-answers; code != 200 {
+			t.Errorf("a proof within the bound: %d", code)
+		}
 	}
 }
 

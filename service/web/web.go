@@ -48,6 +48,8 @@ type Limits struct {
 	// Connections is how many there are at once, and ConnectionsByAddress how many of one address (of IPv6, of one /64), or
 	// requests at once where a proxy says for whom it asks.
 	Connections, ConnectionsByAddress int
+	// ProofsByAddress is how many proofs are made at once for one address.
+	ProofsByAddress int
 	// Checks is how many chains are checked at once.
 	Checks int
 	// WaitingBytes is how many bytes the bodies of all submissions have that are read, checked or wait. Those of one address have an eighth
@@ -71,7 +73,7 @@ func DefaultLimits() Limits {
 	return Limits{
 		Headers: 10 * time.Second, Request: 20 * time.Second, Submission: 30 * time.Second, Reading: 10 * time.Second,
 		Answer: 60 * time.Second, Idle: 60 * time.Second,
-		Connections: 4096, ConnectionsByAddress: 64,
+		Connections: 4096, ConnectionsByAddress: 64, ProofsByAddress: 16,
 		Checks: 2 * runtime.GOMAXPROCS(0), WaitingBytes: 64 << 20, AnswerBytes: 512 << 20,
 	}
 }
@@ -105,6 +107,7 @@ type Front struct {
 	answers     budget
 	answersOf   counts
 	requests    counts
+	proofsOf    counts
 	connections connections
 	roots       atomic.Pointer[encodedRoots]
 	issuers     issuers
@@ -125,6 +128,7 @@ func New(of log.Log, proofs *reader.Reader, checker *chains.Checker, options Opt
 		answers:   budget{most: limits.AnswerBytes},
 		answersOf: counts{most: byAddress(limits.AnswerBytes, stores.MostObject+likelyEntries)},
 		requests:  counts{most: limits.ConnectionsByAddress},
+		proofsOf:  counts{most: limits.ProofsByAddress},
 	}
 	f.connections.byAddress.most = limits.ConnectionsByAddress
 	f.metrics = newMetrics(f)
@@ -206,11 +210,13 @@ func (f *Front) ServeHTTP(w http.ResponseWriter, r *http.Request) {
 		a.Header().Set("Access-Control-Expose-Headers", "ETag, Retry-After")
 	}
 	client := f.clientOf(r)
-	if !f.requests.take(client) {
-		f.refuse(a, refusal{status: http.StatusTooManyRequests, name: "too-many-requests", after: 1})
-		return
+	if r.Context().Value(operatorKey{}) == nil {
+		if !f.requests.take(client) {
+			f.refuse(a, tooMany)
+			return
+		}
+		defer f.requests.give(client)
 	}
-	defer f.requests.give(client)
 	own := &held{of: &f.answers, ofClient: &f.answersOf, client: client}
 	defer own.giveAll()
 	if err := f.serve(c, a, r.WithContext(context.WithValue(r.Context(), heldKey{}, own))); err != nil {
@@ -221,6 +227,12 @@ func (f *Front) ServeHTTP(w http.ResponseWriter, r *http.Request) {
 		f.refuse(a, refused)
 	}
 }
+
+// tooMany is what a client asks at once above its bound.
+var tooMany = refusal{status: http.StatusTooManyRequests, name: "too-many-requests", after: 1}
+
+// operatorKey is in the context of an operator's request, which counts as no client's.
+type operatorKey struct{}
 
 func (f *Front) serve(c call, w http.ResponseWriter, r *http.Request) error {
 	if c.serve == nil {

@@ -478,6 +478,13 @@ func TestMetricsAndHealth(t *testing.T) {
 			t.Errorf("%s: %d %s", path, w.Code, w.Body)
 		}
 	}
+	// An operator counts as no client.
+	f.front.requests.most = 0
+	refused(t, "a client above its bound", f.get("/healthz"), 429, "too-many-requests")
+	if w := ask("/healthz"); w.Code != 200 {
+		t.Errorf("an operator at an address that is above its bound as a client: %d", w.Code)
+	}
+	f.front.requests.most = 64
 	f.front.Refuse()
 	refused(t, "/readyz", ask("/readyz"), 503, "ended")
 	refused(t, "add-chain", f.do("POST", "/ct/v1/add-chain", standin.Submission(f.issue(false))), 503, "ended")
