@@ -17,6 +17,7 @@ sys.path += [str(TESTS / "monitor"), str(TESTS)]
 
 import answers  # noqa: E402
 import merkle  # noqa: E402
+import certificate_names  # noqa: E402
 
 # The longest line, in bytes, without its end; of a longer one no more than two bytes over it are held.
 LONGEST = 16_777_216
@@ -186,16 +187,13 @@ class Watcher:
         return self.settle()
 
     def found(self, index, leaf):
-        """The lines of the names that stand in a leaf's certificate, and of the waiting head where it is older; or of what the leaf lacks."""
+        """The lines of the watched names of a leaf's certificate, and of the waiting head where it is older; or of what the leaf lacks."""
         if fault := fault_of(leaf):
             yield {"entry": index, "fault": fault}
             return
         timestamp, precert = int.from_bytes(leaf[2:10], "big"), leaf[10:12] == b"\0\1"
         size = int.from_bytes(leaf[12 + 32 * precert : 15 + 32 * precert], "big")
-        certificate = leaf[15 + 32 * precert :][:size].lower()
-        for name in self.names:
-            if name.encode() in certificate:
-                yield {"entry": index, "name": name, "timestamp": timestamp, "type": "precert" if precert else "x509"}
+        yield from certificate_names.lines(index, timestamp, leaf[15 + 32 * precert :][:size], precert, self.names)
         if self.waiting["timestamp"] < timestamp:
             yield {"entry": index, "head_timestamp": self.waiting["timestamp"], "timestamp": timestamp, "verdict": "older-than-entry"}
 

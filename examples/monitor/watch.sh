@@ -194,7 +194,8 @@ hand() {
     again=false WATCH_EVENT=$1 WATCH_AGAIN=$2 WATCH_SAYS="$log: $3" WATCH_LOG=$log
     [ "$2" = no ] || again=true
     WATCH_ENTRY=$(field entry "$4") WATCH_TIMESTAMP=$(field timestamp "$4") WATCH_TYPE=$(field type "$4") WATCH_NAME=$(field name "$4")
-    export WATCH_EVENT WATCH_AGAIN WATCH_SAYS WATCH_LOG WATCH_ENTRY WATCH_TIMESTAMP WATCH_TYPE WATCH_NAME
+    WATCH_WHERE=$(field where "$4")
+    export WATCH_EVENT WATCH_AGAIN WATCH_SAYS WATCH_LOG WATCH_ENTRY WATCH_TIMESTAMP WATCH_TYPE WATCH_NAME WATCH_WHERE
     cd "$here" && printf '{"again":%s,"event":"%s","log":"%s",%s\n' $again "$1" "$log" "${4#\{}" | timeout -k 5 $PATIENCE sh -c "$tell" 3<&- 9>&-
   )
 }
@@ -236,6 +237,7 @@ tell_line() {
   moment=$(field timestamp "$line") kind=certificate
   [ "$(field type "$line")" != precert ] || kind=precertificate
   says="FOUND $(field name "$line"): entry $(field entry "$line"), a $kind, $(date -u -d "@$((moment / 1000))" +%Y-%m-%dT%H:%M:%SZ 2>fault)"
+  [ "$(field where "$line")" != bytes ] || says="$says, among its bytes alone"
   [ $again = no ] || says="$says, told again"
   printf '%s\n' "$log: $says" && hand found $again "$says" "$line"
 }

@@ -10,11 +10,13 @@ import struct
 import sys
 from pathlib import Path
 
-sys.path.insert(0, str(Path(__file__).resolve().parent.parent))
+HERE = Path(__file__).resolve().parent
+sys.path += [str(HERE), str(HERE.parent)]
 
+import certificate_names  # noqa: E402
 import merkle  # noqa: E402
 
-NAMES = ["microsoft.com", "debian"]
+NAMES = ["microsoft.com", "globalsign", ".cryptography.io", "debian"]
 
 
 def text(data):
@@ -126,11 +128,18 @@ REWRITTEN = LONG[:5] + tile_leaf(MOMENT, b"another one", None, 5)[:1] + LONG[6:]
 
 
 def found(start, end):
-    """The lines of the entries from start up to end in which a watched name stands."""
+    """The lines of the entries from start up to end: of those whose names can't be read, and of watched names that are found."""
     for i, (certificate, key_hash) in list(enumerate(CERTIFICATES))[start:end]:
-        for name in NAMES:
-            if name.encode() in certificate.lower():
-                yield {"entry": i, "name": name, "timestamp": MOMENT + i, "type": "precert" if key_hash else "x509"}
+        yield from certificate_names.lines(i, MOMENT + i, certificate, key_hash is not None, NAMES)
+
+
+def watched(leaves, start, end):
+    """The lines of the watched names of these leaves of the tree."""
+    for i, one in list(enumerate(leaves))[start:end]:
+        bare = one[10:12] == b"\0\1"
+        place = 15 + 32 * bare
+        certificate = one[place : place + int.from_bytes(one[place - 3 : place], "big")]
+        yield from certificate_names.lines(i, int.from_bytes(one[2:10], "big"), certificate, bare, NAMES)
 
 
 def older(moment, start, end):
@@ -198,14 +207,15 @@ def tiled_runs():
     yield "tiled-mixed", 0, [one, entries(TILED, 0, 3), tile(TEXTS[:8]), second, entries(TILED, 8, 12), tile(TEXTS)], [
         pending(0, 8), *found(0, 3), pending(3, 8), *found(3, 8), accepted(8), pending(8, 20), *found(8, 12), pending(12, 20), *found(12, 20), accepted(20), state(two, None, TILED, TILED)]
     yield "tiled-full", 0, [third, tile(LONG_TEXTS, 1), tile(LONG_TEXTS), tile(LONG_TEXTS), tile(LONG_TEXTS, 1), tile(LONG_TEXTS, 2)], [
-        pending(0, 600), gap(0), pending(256, 600), known(256), pending(512, 600), accepted(600), state(long, None, LONG, LONG)]
+        pending(0, 600), gap(0), *watched(LONG, 0, 256), pending(256, 600), known(256), *watched(LONG, 256, 512), pending(512, 600), *watched(LONG, 512, 600), accepted(600),
+        state(long, None, LONG, LONG)]
     yield "tiled-beyond-head", 0, [first, tile(TEXTS)], [pending(0, 8), *found(0, 8), accepted(8), after_one]
     yield "tiled-no-head", 0, [tile(TEXTS)], [gap(0), nothing]
     yield "tiled-fork", 3, [after_one, checkpoint(LOG[:8], MOMENT + 1500)], [
         {"verdict": "fork", "known_root_hash": one["sha256_root_hash"], "known_timestamp": one["timestamp"], "tree_size": 8}, after_one]
     yield "tiled-shrunk", 3, [after_one, checkpoint(TILED[:5], MOMENT + 1500)], [{"verdict": "shrunk"}, after_one]
     yield "tiled-rewritten", 3, [state(None, None, [], []), checkpoint(REWRITTEN, MOMENT + 3000), tile(LONG_TEXTS), tile(LONG_TEXTS, 1), tile(LONG_TEXTS, 2)], [
-        pending(0, 600), pending(256, 600), pending(512, 600), mismatch(LONG), nothing]
+        pending(0, 600), *watched(LONG, 0, 256), pending(256, 600), *watched(LONG, 256, 512), pending(512, 600), *watched(LONG, 512, 600), mismatch(LONG), nothing]
     yield "tiled-wrong-index", 3, [checkpoint(ASTRAY, MOMENT + 2000), tile(ASTRAY_TEXTS)], [
         pending(0, 20), {"entry": 10, "verdict": "wrong-index"}, *found(0, 20), accepted(20), state(head(ASTRAY, MOMENT + 2000), None, ASTRAY, ASTRAY)]
     yield "tiled-no-index", 3, [head(LOG, MOMENT + 2000), tile([tile_text(x) for x in LOG])], [

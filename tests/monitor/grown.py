@@ -9,7 +9,7 @@ by hashlib alone. The files are those that answers.py writes.
 import sys
 from pathlib import Path
 
-from answers import checkpoint, head, line, merkle, state, text, tile, tile_text, write_runs
+from answers import checkpoint, head, line, merkle, state, text, tile, tile_text, watched, write_runs
 
 # The entry that a forked or rewritten log has another of, and one that names another index.
 CHANGED, ASTRAY = 5, 258
@@ -42,22 +42,22 @@ def runs(heads, leaves):
     known = {"verdict": "known", "want": most}
     tiles_of = lambda leaves: [tile([tile_text(x) for x in leaves], index) for index in (0, 1)]
     tiles, moment = tiles_of(leaves), third["timestamp"]
-    yield "first", 0, [first, tile([tile_text(x) for x in leaves[:few]])], [pending(0, few), accepted(few), after_first]
+    yield "first", 0, [first, tile([tile_text(x) for x in leaves[:few]])], [pending(0, few), *watched(leaves, 0, few), accepted(few), after_first]
     yield "grown", 0, [after_first, unchanged, second, tiles[0], third, tiles[1]], [
-        {"verdict": "again"}, pending(few, most), accepted(most), pending(most, size), accepted(size), after_third]
+        {"verdict": "again"}, pending(few, most), *watched(leaves, few, most), accepted(most), pending(most, size), *watched(leaves, most, size), accepted(size), after_third]
     other = with_entry(leaves, CHANGED, lambda leaf: leaf.replace(CHANGED.to_bytes(8, "big"), b"another!"))
     yield "forked", 3, [after_third, checkpoint(other, moment + 1)], [
         {"verdict": "fork", "known_root_hash": text(merkle.root(leaves)), "known_timestamp": moment, "tree_size": size}, after_third]
     yield "rewritten", 3, [after_second, checkpoint(other, moment), *tiles], [
-        pending(most, size), known, {"verdict": "root-mismatch", "computed_root_hash": text(merkle.root(leaves))}, after_second]
+        pending(most, size), known, *watched(leaves, most, size), {"verdict": "root-mismatch", "computed_root_hash": text(merkle.root(leaves))}, after_second]
     yield "shrunk", 3, [after_third, checkpoint(leaves[:most], moment + 1)], [{"verdict": "shrunk"}, after_third]
     astray = with_entry(leaves, ASTRAY, lambda leaf: leaf[:-5] + (7).to_bytes(5, "big"))
     yield "wrong-index", 3, [after_second, checkpoint(astray, moment), *tiles_of(astray)], [
-        pending(most, size), known, {"entry": ASTRAY, "verdict": "wrong-index"}, accepted(size), after(astray, third)]
+        pending(most, size), known, {"entry": ASTRAY, "verdict": "wrong-index"}, *watched(astray, most, size), accepted(size), after(astray, third)]
     cut = lambda count: dict(tiles[1], data=text(b"".join(map(tile_text, leaves[most:]))[:count]))
     bad = lambda fault, **more: {"error": "bad-answer", "fault": fault, **more}
     yield "cut-short", 4, [after_second, third, tiles[0], cut(-1), cut(-len(tile_text(leaves[-1]))), tiles[1]], [
-        pending(most, size), known, bad("truncated", place=size - most - 1), bad("other-count", count=size - most - 1), accepted(size), after_third]
+        pending(most, size), known, bad("truncated", place=size - most - 1), bad("other-count", count=size - most - 1), *watched(leaves, most, size), accepted(size), after_third]
 
 
 if __name__ == "__main__":

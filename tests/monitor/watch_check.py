@@ -523,7 +523,7 @@ def try_signatures(folder):
 ODD = 'od"d\\name'
 NAMED = [answers.leaf(answers.MOMENT + 1000 * i, (b"of example.org %d" if i % 3 else b"of another %d") % i, None) for i in range(9)]
 NAMED += [answers.leaf(answers.MOMENT + 9000, f"of {ODD} and EXAMPLE.ORG".encode(), bytes(32))]
-TOLD = {"entry", "name", "timestamp", "type"}
+TOLD = {"entry", "name", "timestamp", "type", "where"}
 
 
 class Command:
@@ -546,7 +546,7 @@ def due_of(log, entries, name="example.org", again=()):
     """What a command is to be given of these entries."""
     kinds = {i: "precert" if i == 9 else "x509" for i in entries}
     moments = {i: answers.MOMENT + 1000 * i for i in entries}
-    due = ({"again": i in again, "entry": i, "event": "found", "log": log.url, "name": name, "timestamp": moments[i], "type": kinds[i]} for i in entries)
+    due = ({"again": i in again, "entry": i, "event": "found", "log": log.url, "name": name, "timestamp": moments[i], "type": kinds[i], "where": "bytes"} for i in entries)
     return list(due)
 
 
@@ -572,7 +572,7 @@ def try_telling(watch):
     output = watch.ends("four entries of a name", 8, log.url, *words, says="accepted 6 leaves")
     lines = [line for line in output.splitlines() if "FOUND" in line]
     moment = time.strftime("%Y-%m-%dT%H:%M:%SZ", time.gmtime(answers.MOMENT // 1000 + 4))
-    if len(lines) != 4 or lines[2] != f"{log.url}: FOUND example.org: entry 4, a certificate, {moment}":
+    if len(lines) != 4 or lines[2] != f"{log.url}: FOUND example.org: entry 4, a certificate, {moment}, among its bytes alone":
         fail(f"four entries of a name: the lines {lines}")
     is_told("four entries of a name", command, due_of(log, [1, 2, 4, 5]))
     if "FOUND" in watch.ends("the same", 0, log.url, *words) or command.told():
@@ -581,7 +581,7 @@ def try_telling(watch):
     output = watch.ends("two names, the words in another order", 8, log.url, "--name", ODD, *words[2:], *words[:2], says="entry 9, a precertificate")
     around = command.around.read_text()
     is_told("two names", command, sorted(due_of(log, OF_EXAMPLE[4:]) + due_of(log, [9], ODD), key=lambda line: (line["entry"], line["name"] != ODD)))
-    due = {"EVENT": "found", "LOG": log.url, "ENTRY": "9", "NAME": ODD, "TIMESTAMP": str(answers.MOMENT + 9000), "TYPE": "precert", "AGAIN": "no"}
+    due = {"EVENT": "found", "LOG": log.url, "ENTRY": "9", "NAME": ODD, "TIMESTAMP": str(answers.MOMENT + 9000), "TYPE": "precert", "WHERE": "bytes", "AGAIN": "no"}
     if any(f"WATCH_{name}={value}\n" not in around for name, value in due.items()) or f"WATCH_SAYS={log.url}: FOUND {ODD}: entry 9" not in around:
         fail(f"two names: the command's environment has {around}")
     tiled = Tiles()

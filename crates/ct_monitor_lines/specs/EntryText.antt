@@ -2,14 +2,14 @@
 use Rattle.std.specs.Prelude.{◌≡◌, ◌⊎◌, ◌+◌, ℕ, Bool, false, ◌||◌, List, [], ◌∷◌, ◌++◌, if◌then◌else◌, nat_lt, codes, is_some, Some, None}
 use Rattle.std.specs.declared.option.Option.{Option}
 use Rattle.serde_json.specs.Data.{Data, string, object, member, no_members}
-use Rattle.ct_codec.specs.Leaf.{SignedEntry, certificate, precertificate, signed_of, LeafText}
+use Rattle.ct_codec.specs.Leaf.{SignedEntry, certificate, precertificate, LeafText}
 use Rattle.ct_codec.specs.Faults.{LeafFaulty}
 use Rattle.ct_codec.specs.declared.fault.DecodeFault.{DecodeFault}
 use Rattle.ct_codec.specs.declared.fault.DecodeFault.TheVariants.{Truncated, BadVersion, BadLeafType, BadEntryType, EmptyVector, Trailing, Memory}
 use Rattle.ct_lines.specs.ReplyText.{number_data}
 use Rattle.ct_monitor.specs.declared.verdict.Verdict.{Verdict}
 use Rattle.ct_monitor.specs.declared.verdict.Verdict.TheVariants.{Gap}
-use Rattle.ct_monitor_lines.specs.Names.{is_in, lower}
+use Rattle.ct_monitor_lines.specs.WatchedText.{watched_lines}
 use Rattle.ct_monitor_lines.specs.Texts.{line_of}
 
 -- the name of why bytes are no leaf
@@ -26,24 +26,10 @@ leaf_fault_name Memory = codes "memory"
 abbrev pub leaf_fault_data : ℕ → DecodeFault → Data
 leaf_fault_data index f = object (member (codes "entry") (number_data index) (member (codes "fault") (string (leaf_fault_name f)) no_members))
 
--- the object of a name that stands in an entry
-abbrev pub found_data : ℕ → List ℕ → ℕ → List ℕ → Data
-found_data index name timestamp kind = object (member (codes "entry") (number_data index) (member (codes "name") (string name)
-    (member (codes "timestamp") (number_data timestamp) (member (codes "type") (string kind) no_members))))
-
 -- the word of an entry's type
 abbrev pub kind_word : SignedEntry → List ℕ
 kind_word (certificate c) = codes "x509"
 kind_word (precertificate k c) = codes "precert"
-
--- the line of a name, where it stands in the lowered bytes
-abbrev pub found_line : ℕ → ℕ → List ℕ → List ℕ → List ℕ → List ℕ
-found_line index timestamp kind low name = if is_in low name then line_of (found_data index name timestamp kind) else []
-
--- a line for each of the names that stands in the lowered bytes
-abbrev pub found_lines : ℕ → ℕ → List ℕ → List ℕ → List (List ℕ) → List ℕ
-found_lines index timestamp kind low [] = []
-found_lines index timestamp kind low (name ∷ names) = found_line index timestamp kind low name ++ found_lines index timestamp kind low names
 
 -- the object of an entry of that timestamp whose tree head is older than it, of that moment (both in milliseconds)
 abbrev pub newer_data : ℕ → ℕ → ℕ → Data
@@ -54,13 +40,12 @@ newer_data index moment timestamp = object (member (codes "entry") (number_data 
 abbrev pub newer_line : ℕ → ℕ → ℕ → List ℕ
 newer_line index moment timestamp = if nat_lt moment timestamp then line_of (newer_data index moment timestamp) else []
 
--- The lines of an entry of the tree whose head has that moment, and whether the head is older than it: a line for each watched name
--- that stands in its lowered certificate or TBSCertificate, and one where the head is older; or one line that it is no leaf, with its
--- first fault.
+-- The lines of an entry of the tree whose head has that moment, and whether the head is older than it: those of the watched names, and one
+-- where the head is older; or one line that it is no leaf, with its first fault.
 abbrev pub IsEntryText : List (List ℕ) → ℕ → ℕ → List ℕ → Bool → List ℕ → Type 0
 IsEntryText names moment index leaf older text =
     ((timestamp : ℕ) × (e : SignedEntry) × (x : List ℕ) × LeafText timestamp e x leaf × (older ≡ nat_lt moment timestamp)
-    × (text ≡ found_lines index timestamp (kind_word e) (lower (signed_of e)) names ++ newer_line index moment timestamp))
+    × (text ≡ watched_lines index timestamp (kind_word e) e names ++ newer_line index moment timestamp))
     ⊎ ((f : DecodeFault) × LeafFaulty f leaf × (older ≡ false) × (text ≡ line_of (leaf_fault_data index f)))
 
 -- the lines of entries from an index on, and whether the head is older than one of them

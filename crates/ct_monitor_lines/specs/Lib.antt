@@ -3,6 +3,7 @@ pub mod Seen
 pub mod Names
 pub mod Texts
 pub mod VerdictText
+pub mod WatchedText
 pub mod EntryText
 pub mod StateText
 pub mod Session

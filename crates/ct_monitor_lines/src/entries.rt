@@ -1,14 +1,12 @@
-//! What is written of an entry: a line for each watched name that stands in its certificate, or one where it is no leaf.
+//! What is written of an entry: the lines of the watched names, or one where it is no leaf.
 
 ghost use Rattle.std.specs.Prelude.{◌≡◌, ◌+◌, ◌<◌, ◌^◌, ◌++◌, ℕ, ◌||◌, List, IfOk, OnOk, is_some, length, map, nat_lt, string_bytes};
 ghost use Rattle.serde_json.specs.View.{view};
-ghost use Rattle.ct_codec.specs.Decoded.{entry_lent};
-ghost use Rattle.ct_codec.specs.Leaf.{signed_of};
-ghost use Rattle.ct_monitor_lines.specs.EntryText.{leaf_fault_name, leaf_fault_data, found_data, found_line, found_lines, kind_word, newer_data, newer_line, wrong_index_data, wrong_index_line, IsEntryText, AreEntryTexts, AreTileTexts, ReadTexts};
+ghost use Rattle.ct_monitor_lines.specs.EntryText.{leaf_fault_name, leaf_fault_data, newer_data, newer_line, wrong_index_data, wrong_index_line, IsEntryText, AreEntryTexts, AreTileTexts, ReadTexts};
 
-use crate::names::{is_named, lowered};
 use crate::text::push_line;
-use ct_codec::{DecodeFault, LentEntry, lend_leaf};
+use crate::watching::push_watched;
+use ct_codec::{DecodeFault, lend_leaf};
 use ct_monitor::Verdict;
 use serde_json::{Value, json};
 use std::alloc::{AllocError, Global};
@@ -32,66 +30,6 @@ fn fault_value(alloc: Global, index: u64, fault: DecodeFault) -> Result<Value, A
     ensures { IfOk result (λ v. view v ≡ leaf_fault_data index fault) }
 {
     json!(in alloc; {"entry": index, "fault": name_of(fault)})
-}
-
-fn found_value(
-    alloc: Global,
-    index: u64,
-    name: &str,
-    timestamp: u64,
-    kind: &str,
-) -> Result<Value, AllocError>
-    ensures { IfOk result (λ v. view v ≡ found_data index name.now timestamp kind.now) }
-{
-    json!(in alloc; {"entry": index, "name": name, "timestamp": timestamp, "type": kind})
-}
-
-// The word of an entry's type, and its certificate or TBSCertificate.
-fn kind_and_certificate<'a>(entry: &LentEntry<'a>) -> (&'static str, &'a [u8])
-    ensures kind { result.0.now ≡ kind_word (entry_lent entry.now) }
-    ensures certificate { result.1.now ≡ signed_of (entry_lent entry.now) }
-{
-    match entry {
-        LentEntry::X509(certificate) => ("x509", *certificate),
-        LentEntry::Precert(_, certificate) => ("precert", *certificate),
-    }
-}
-
-// Adds a line of a name, where it stands in the lowered certificate.
-fn push_if_found(
-    alloc: Global,
-    text: &mut Vec<u8>,
-    name: &str,
-    index: u64,
-    timestamp: u64,
-    kind: &str,
-    low: &[u8],
-) -> Result<(), AllocError>
-    ensures { OnOk result (text.new.items ≡ text.old.items ++ found_line index timestamp kind.now low.now name.now) }
-{
-    if is_named(low, name.as_bytes()) {
-        let value = found_value(alloc, index, name, timestamp, kind)?;
-        push_line(alloc, text, &value)?;
-    }
-    Ok(())
-}
-
-// Adds a line for each watched name that stands in the lowered certificate.
-fn push_found(
-    alloc: Global,
-    text: &mut Vec<u8>,
-    names: &[String],
-    index: u64,
-    timestamp: u64,
-    kind: &str,
-    low: &[u8],
-) -> Result<(), AllocError>
-    ensures { OnOk result (text.new.items ≡ text.old.items ++ found_lines index timestamp kind.now low.now (map string_bytes names.now)) }
-{
-    for name in names {
-        push_if_found(alloc, text, name.as_str(), index, timestamp, kind, low)?;
-    }
-    Ok(())
 }
 
 fn newer_value(alloc: Global, index: u64, moment: u64, timestamp: u64) -> Result<Value, AllocError>
@@ -141,9 +79,7 @@ fn push_entry(
 {
     match lend_leaf(leaf_input) {
         Ok(leaf) => {
-            let (kind, certificate) = kind_and_certificate(&leaf.entry);
-            let low = lowered(alloc, certificate)?;
-            push_found(alloc, text, names, index, leaf.timestamp, kind, &low)?;
+            push_watched(alloc, text, names, index, leaf.timestamp, &leaf.entry)?;
             push_if_newer(alloc, text, moment, index, leaf.timestamp)
         }
         Err(fault) => {

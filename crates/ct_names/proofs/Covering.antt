@@ -12,7 +12,7 @@ use Rattle.std.proofs.lemmas.List.{take-append-drop, length-append, length-map, 
 use Rattle.ct_names.specs.Covers.{behind_first, ends_label, plain_of, at_or_below, star_parent, one_parent, wildcard_over, covered, Same, EndsLabel, AtOrBelow, IsLabel, IsWildcardOver}
 use Rattle.ct_names.specs.Laws.{CoveringIsByLabels}
 
-and_true : (a b : Bool) → (a && b) ≡ true → (a ≡ true) × (b ≡ true)
+pub and_true : (a b : Bool) → (a && b) ≡ true → (a ≡ true) × (b ≡ true)
 and_true true b e = (refl, e)
 and_true false b e = absurd cc
 
@@ -55,7 +55,7 @@ label_end (x ∷ p) =
 
 -- ---- the watched name or below it
 
-same_tells : (a b : List ℕ) → Decides (str_eq_ignore_ascii_case a b) (Same a b)
+pub same_tells : (a b : List ℕ) → Decides (str_eq_ignore_ascii_case a b) (Same a b)
 same_tells a b = bytes_eq-Decides (str_to_ascii_lowercase a) (str_to_ascii_lowercase b)
 
 same_size : (a b : List ℕ) → Same a b → length a ≡ length b
@@ -138,7 +138,7 @@ parents n w None r s c e = absurd cc
 parents n w (Some t) None s c e = absurd cc
 parents n w (Some t) (Some r) s (l, is, text) e = (t, l, r, s, is, text, (same_tells r t).0 e)
 
-wildcard_tells : (n w : List ℕ) → Decides (wildcard_over n w) (IsWildcardOver n w)
+pub wildcard_tells : (n w : List ℕ) → Decides (wildcard_over n w) (IsWildcardOver n w)
 unfolding wildcard_over
 wildcard_tells n w = (
   λ e. parents n w (star_parent n) (behind_first 46 w) (star_tells n) (cut_tells w) e,
@@ -149,10 +149,10 @@ wildcard_tells n w = (
 
 -- ---- both
 
-no_truth : false ≡ true → ⊥
+pub no_truth : false ≡ true → ⊥
 no_truth e = cc
 
-either_tells : {P Q : Type 0} (a b : Bool) → Decides a P → Decides b Q → Decides (a || b) (P ⊎ Q)
+pub either_tells : {P Q : Type 0} (a b : Bool) → Decides a P → Decides b Q → Decides (a || b) (P ⊎ Q)
 either_tells true b p q = (λ e. inl (p.0 refl), λ e. refl)
 either_tells false b p q = (λ e. inr (q.0 e), λ e. elim e [ inl h ↦ absurd (no_truth (p.1 h)) | inr h ↦ q.1 h ])
 

@@ -4,6 +4,8 @@
 //!   that reading meets, with its field. They are exact: what is read is of the grammar in `specs/Certificate.antt`, with these names, and
 //!   what is of the grammar is read.
 //! - [`covers`] says whether a name is a watched one, is below it, or is a wildcard that stands for it, by labels.
+//! - [`find_watched`] says in which of a certificate's names a watched one is found, alone (`www.example.org`) or with what is below it
+//!   (`.example.org`).
 //! - [`laws`] shows that no bytes have two readings, and that each proper beginning of a certificate is refused.
 //!
 //! Moments, keys, signatures, the order of a SET and the characters of strings aren't looked at: more is read than DER allows.
@@ -14,8 +16,10 @@ pub mod laws;
 mod matching;
 mod name;
 mod reading;
+mod watched;
 
 pub use fault::{NamesError, Place, Unread};
-pub use matching::{covers, narrowed};
+pub use matching::{covers, narrowed, without_dot};
 pub use name::{Name, NameKind};
 pub use reading::{names_of_certificate, names_of_tbs};
+pub use watched::{FoundIn, find_watched, is_told_for};

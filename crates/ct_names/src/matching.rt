@@ -31,9 +31,9 @@ fn is_label_end(front: &[u8]) -> bool
     }
 }
 
-// The name without one dot at its end.
+/// The name without one dot at its end.
 #[tactic(auto, unfolding(crate::specs::Covers::plain_of))]
-fn without_dot(name: &[u8]) -> &[u8]
+pub fn without_dot(name: &[u8]) -> &[u8]
     ensures { result.now ≡ plain_of name.now }
 {
     match name {
@@ -79,7 +79,7 @@ fn parent_of_star(name: &[u8]) -> Option<&[u8]>
 
 // Whether the name is a wildcard that stands for the watched name.
 #[tactic(auto, unfolding(crate::specs::Covers::wildcard_over))]
-fn is_wildcard_over(name: &[u8], watched: &[u8]) -> bool
+pub(crate) fn is_wildcard_over(name: &[u8], watched: &[u8]) -> bool
     ensures { result ≡ wildcard_over name.now watched.now }
 {
     match parent_of_star(name) {

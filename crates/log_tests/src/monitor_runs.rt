@@ -13,9 +13,12 @@ const TO_THE_FIRST_HEAD: &str =
 ";
 
 const TO_THE_FIRST_HEAD_TEXT: &str = "{\"have\":0,\"tree_size\":3,\"verdict\":\"pending\"}
-{\"entry\":0,\"name\":\"example.org\",\"timestamp\":7,\"type\":\"x509\"}
+{\"entry\":0,\"field\":\"certificate\",\"timestamp\":7,\"type\":\"x509\",\"unread\":\"truncated\"}
+{\"entry\":0,\"name\":\"example.org\",\"timestamp\":7,\"type\":\"x509\",\"where\":\"bytes\"}
+{\"entry\":1,\"field\":\"certificate\",\"timestamp\":8,\"type\":\"x509\",\"unread\":\"truncated\"}
 {\"have\":2,\"tree_size\":3,\"verdict\":\"pending\"}
-{\"entry\":2,\"name\":\"example.org\",\"timestamp\":9,\"type\":\"precert\"}
+{\"entry\":2,\"field\":\"tbs\",\"timestamp\":9,\"type\":\"precert\",\"unread\":\"truncated\"}
+{\"entry\":2,\"name\":\"example.org\",\"timestamp\":9,\"type\":\"precert\",\"where\":\"bytes\"}
 {\"tree_size\":3,\"verdict\":\"accepted\"}
 {\"accepted\":{\"sha256_root_hash\":\"dv3rKEarhKJfwvErnuGj1blcq4uE2dJxDJA464QuXLE=\",\"timestamp\":1000,\"tree_size\":3},\"all\":{\"size\":3,\"subtrees\":[\"Py/NFubB2mUOAIpXnoymxA6HZtecDWMEQ8n6bwOq56k=\",\"oFjqfYAK/lGj6hkUnsapTE3hV3XTYaK2y1tWfH0XeDI=\"]},\"check\":\"KEr+k3cXzfILQGFzGwR2US4VmzfDVUBq8tk7ekcgvSs=\",\"state\":1,\"sure\":{\"size\":3,\"subtrees\":[\"Py/NFubB2mUOAIpXnoymxA6HZtecDWMEQ8n6bwOq56k=\",\"oFjqfYAK/lGj6hkUnsapTE3hV3XTYaK2y1tWfH0XeDI=\"]},\"waiting\":null}
 ";
@@ -31,7 +34,8 @@ const TO_THE_MIDDLE_OF_A_HEAD: &str =
 const TO_THE_MIDDLE_OF_A_HEAD_TEXT: &str = "{\"verdict\":\"again\"}
 {\"have\":3,\"tree_size\":5,\"verdict\":\"pending\"}
 {\"verdict\":\"consistent\"}
-{\"entry\":3,\"name\":\"example.org\",\"timestamp\":10,\"type\":\"x509\"}
+{\"entry\":3,\"field\":\"certificate\",\"timestamp\":10,\"type\":\"x509\",\"unread\":\"truncated\"}
+{\"entry\":3,\"name\":\"example.org\",\"timestamp\":10,\"type\":\"x509\",\"where\":\"bytes\"}
 {\"have\":4,\"tree_size\":5,\"verdict\":\"pending\"}
 {\"accepted\":{\"sha256_root_hash\":\"dv3rKEarhKJfwvErnuGj1blcq4uE2dJxDJA464QuXLE=\",\"timestamp\":1000,\"tree_size\":3},\"all\":{\"size\":4,\"subtrees\":[\"b7l4V5nBv4VKFsKuS+YeOAPW9P9FzSD5jU5sR2NRCRM=\"]},\"check\":\"wtL7Arlp84rlChJ8ALj5Y8VlceffGyfSQ6dHCxSK5sk=\",\"state\":1,\"sure\":{\"size\":3,\"subtrees\":[\"Py/NFubB2mUOAIpXnoymxA6HZtecDWMEQ8n6bwOq56k=\",\"oFjqfYAK/lGj6hkUnsapTE3hV3XTYaK2y1tWfH0XeDI=\"]},\"waiting\":{\"sha256_root_hash\":\"+JuScP/25evggmYa6kRhKnhGJQ7QT0noqh2FNn1GF1o=\",\"timestamp\":2000,\"tree_size\":5}}
 ";
@@ -44,6 +48,7 @@ const TO_ITS_END: &str =
 ";
 
 const TO_ITS_END_TEXT: &str = "{\"verdict\":\"again\"}
+{\"entry\":4,\"field\":\"certificate\",\"timestamp\":11,\"type\":\"x509\",\"unread\":\"truncated\"}
 {\"tree_size\":5,\"verdict\":\"accepted\"}
 {\"verdict\":\"stale\"}
 {\"accepted\":{\"sha256_root_hash\":\"+JuScP/25evggmYa6kRhKnhGJQ7QT0noqh2FNn1GF1o=\",\"timestamp\":2000,\"tree_size\":5},\"all\":{\"size\":5,\"subtrees\":[\"b7l4V5nBv4VKFsKuS+YeOAPW9P9FzSD5jU5sR2NRCRM=\",\"m1J/WKiMoW2JG7xG+WBd88lY8LgdHwfLUjfNVr6727Q=\"]},\"check\":\"ti+Zgh6DYeXnBEg7bTFGxuvsdgSFoVh2To4IZLX4kgk=\",\"state\":1,\"sure\":{\"size\":5,\"subtrees\":[\"b7l4V5nBv4VKFsKuS+YeOAPW9P9FzSD5jU5sR2NRCRM=\",\"m1J/WKiMoW2JG7xG+WBd88lY8LgdHwfLUjfNVr6727Q=\"]},\"waiting\":null}
@@ -81,7 +86,9 @@ const REWRITTEN: &str =
 
 const REWRITTEN_TEXT: &str = "{\"have\":3,\"tree_size\":5,\"verdict\":\"pending\"}
 {\"fault\":\"first-mismatch\",\"verdict\":\"inconsistent\"}
-{\"entry\":3,\"name\":\"example.org\",\"timestamp\":10,\"type\":\"x509\"}
+{\"entry\":3,\"field\":\"certificate\",\"timestamp\":10,\"type\":\"x509\",\"unread\":\"truncated\"}
+{\"entry\":3,\"name\":\"example.org\",\"timestamp\":10,\"type\":\"x509\",\"where\":\"bytes\"}
+{\"entry\":4,\"field\":\"certificate\",\"timestamp\":11,\"type\":\"x509\",\"unread\":\"truncated\"}
 {\"computed_root_hash\":\"+JuScP/25evggmYa6kRhKnhGJQ7QT0noqh2FNn1GF1o=\",\"verdict\":\"root-mismatch\"}
 {\"accepted\":{\"sha256_root_hash\":\"dv3rKEarhKJfwvErnuGj1blcq4uE2dJxDJA464QuXLE=\",\"timestamp\":1000,\"tree_size\":3},\"all\":{\"size\":3,\"subtrees\":[\"Py/NFubB2mUOAIpXnoymxA6HZtecDWMEQ8n6bwOq56k=\",\"oFjqfYAK/lGj6hkUnsapTE3hV3XTYaK2y1tWfH0XeDI=\"]},\"check\":\"KEr+k3cXzfILQGFzGwR2US4VmzfDVUBq8tk7ekcgvSs=\",\"state\":1,\"sure\":{\"size\":3,\"subtrees\":[\"Py/NFubB2mUOAIpXnoymxA6HZtecDWMEQ8n6bwOq56k=\",\"oFjqfYAK/lGj6hkUnsapTE3hV3XTYaK2y1tWfH0XeDI=\"]},\"waiting\":null}
 ";
@@ -156,8 +163,11 @@ const OLDER: &str =
 ";
 
 const OLDER_TEXT: &str = "{\"have\":0,\"tree_size\":3,\"verdict\":\"pending\"}
-{\"entry\":0,\"name\":\"example.org\",\"timestamp\":7,\"type\":\"x509\"}
-{\"entry\":2,\"name\":\"example.org\",\"timestamp\":9,\"type\":\"precert\"}
+{\"entry\":0,\"field\":\"certificate\",\"timestamp\":7,\"type\":\"x509\",\"unread\":\"truncated\"}
+{\"entry\":0,\"name\":\"example.org\",\"timestamp\":7,\"type\":\"x509\",\"where\":\"bytes\"}
+{\"entry\":1,\"field\":\"certificate\",\"timestamp\":8,\"type\":\"x509\",\"unread\":\"truncated\"}
+{\"entry\":2,\"field\":\"tbs\",\"timestamp\":9,\"type\":\"precert\",\"unread\":\"truncated\"}
+{\"entry\":2,\"name\":\"example.org\",\"timestamp\":9,\"type\":\"precert\",\"where\":\"bytes\"}
 {\"entry\":2,\"head_timestamp\":8,\"timestamp\":9,\"verdict\":\"older-than-entry\"}
 {\"tree_size\":3,\"verdict\":\"accepted\"}
 {\"accepted\":{\"sha256_root_hash\":\"dv3rKEarhKJfwvErnuGj1blcq4uE2dJxDJA464QuXLE=\",\"timestamp\":8,\"tree_size\":3},\"all\":{\"size\":3,\"subtrees\":[\"Py/NFubB2mUOAIpXnoymxA6HZtecDWMEQ8n6bwOq56k=\",\"oFjqfYAK/lGj6hkUnsapTE3hV3XTYaK2y1tWfH0XeDI=\"]},\"check\":\"Mu/VBKq+RkmzAf0lPe7YuuBG0w54kbCl5Hu0Pq+15Gc=\",\"state\":1,\"sure\":{\"size\":3,\"subtrees\":[\"Py/NFubB2mUOAIpXnoymxA6HZtecDWMEQ8n6bwOq56k=\",\"oFjqfYAK/lGj6hkUnsapTE3hV3XTYaK2y1tWfH0XeDI=\"]},\"waiting\":null}
@@ -169,8 +179,11 @@ const AS_OLD: &str =
 ";
 
 const AS_OLD_TEXT: &str = "{\"have\":0,\"tree_size\":3,\"verdict\":\"pending\"}
-{\"entry\":0,\"name\":\"example.org\",\"timestamp\":7,\"type\":\"x509\"}
-{\"entry\":2,\"name\":\"example.org\",\"timestamp\":9,\"type\":\"precert\"}
+{\"entry\":0,\"field\":\"certificate\",\"timestamp\":7,\"type\":\"x509\",\"unread\":\"truncated\"}
+{\"entry\":0,\"name\":\"example.org\",\"timestamp\":7,\"type\":\"x509\",\"where\":\"bytes\"}
+{\"entry\":1,\"field\":\"certificate\",\"timestamp\":8,\"type\":\"x509\",\"unread\":\"truncated\"}
+{\"entry\":2,\"field\":\"tbs\",\"timestamp\":9,\"type\":\"precert\",\"unread\":\"truncated\"}
+{\"entry\":2,\"name\":\"example.org\",\"timestamp\":9,\"type\":\"precert\",\"where\":\"bytes\"}
 {\"tree_size\":3,\"verdict\":\"accepted\"}
 {\"accepted\":{\"sha256_root_hash\":\"dv3rKEarhKJfwvErnuGj1blcq4uE2dJxDJA464QuXLE=\",\"timestamp\":9,\"tree_size\":3},\"all\":{\"size\":3,\"subtrees\":[\"Py/NFubB2mUOAIpXnoymxA6HZtecDWMEQ8n6bwOq56k=\",\"oFjqfYAK/lGj6hkUnsapTE3hV3XTYaK2y1tWfH0XeDI=\"]},\"check\":\"pldDovNNTefQR+F8PGpZYFhkzuyS0PvrhwZury91qMk=\",\"state\":1,\"sure\":{\"size\":3,\"subtrees\":[\"Py/NFubB2mUOAIpXnoymxA6HZtecDWMEQ8n6bwOq56k=\",\"oFjqfYAK/lGj6hkUnsapTE3hV3XTYaK2y1tWfH0XeDI=\"]},\"waiting\":null}
 ";
@@ -183,6 +196,7 @@ const LONG: &str =
 ";
 
 const LONG_TEXT: &str = "{\"have\":1048575,\"tree_size\":1048576,\"verdict\":\"pending\"}
+{\"entry\":1048575,\"field\":\"certificate\",\"timestamp\":11,\"type\":\"x509\",\"unread\":\"truncated\"}
 {\"tree_size\":1048576,\"verdict\":\"accepted\"}
 {\"accepted\":{\"sha256_root_hash\":\"yDW98btgoYkTTBnSHq2cJrfhkIlfrTvg1ZvJd8SPBSA=\",\"timestamp\":2000,\"tree_size\":1048576},\"all\":{\"size\":1048576,\"subtrees\":[\"yDW98btgoYkTTBnSHq2cJrfhkIlfrTvg1ZvJd8SPBSA=\"]},\"check\":\"0TiqabaWvj5qaNC9tMv2m5BIK+yB6Zg1D27ySIvz5qk=\",\"state\":1,\"sure\":{\"size\":1048576,\"subtrees\":[\"yDW98btgoYkTTBnSHq2cJrfhkIlfrTvg1ZvJd8SPBSA=\"]},\"waiting\":null}
 ";

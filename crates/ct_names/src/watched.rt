@@ -1,0 +1,169 @@
+//! Which watched names a certificate is told for.
+
+ghost use Rattle.std.specs.Prelude.{◌≡◌, IfOk};
+ghost use Rattle.ct_names.specs.Covers.{plain_of};
+ghost use Rattle.ct_names.specs.Names.{standing, named_all};
+ghost use Rattle.ct_names.specs.Watched.{held, told_for, narrow_wide, kind_told, is_alt_kind, is_sought, some_told, found_in, IsFound};
+
+use crate::matching::{covers, is_wildcard_over, narrowed, without_dot};
+use crate::name::{Name, NameKind};
+use std::alloc::{AllocError, Global};
+
+/// Which of a certificate's names a watched one is found in.
+#[derive(Clone, Copy, Debug, PartialEq, Eq)]
+pub enum FoundIn {
+    /// A name of subjectAltName.
+    AltName,
+    /// A common name of the subject.
+    CommonName,
+}
+
+// Whether a name is the watched one, or a wildcard that stands for it.
+#[tactic(auto, unfolding(crate::specs::Watched::held))]
+fn holds_for(name: &[u8], watched: &[u8]) -> bool
+    ensures { result ≡ held name.now watched.now }
+{
+    let name = without_dot(name);
+    name.eq_ignore_ascii_case(watched) || is_wildcard_over(name, watched)
+}
+
+/// Whether a host's name of a certificate is told for a watched one (RFC 9525, section 6.3). A watched name that begins with a dot is watched
+/// with what is below it: what [`covers`] says of the name behind the dot. Any other is watched alone: the name is that very name, or a
+/// wildcard that stands for it. The case of ASCII's letters makes no difference, and one dot at the end of the certificate's name is left out.
+#[tactic(auto, unfolding(crate::specs::Watched::told_for))]
+pub fn is_told_for(name: &[u8], watched: &[u8]) -> bool
+    ensures { result ≡ told_for name.now watched.now }
+{
+    match watched {
+        [] => holds_for(name, watched),
+        [first, behind @ ..] => {
+            if *first == 46 {
+                return covers(name, behind);
+            }
+            holds_for(name, watched)
+        }
+    }
+}
+
+// The characters of a UniversalString (X.690, section 8.23), a byte each: 255 for those that are above 255.
+fn narrowed_wide(alloc: Global, bytes: &[u8]) -> Result<Vec<u8>, AllocError>
+    ensures { IfOk result (λ v. v.items ≡ narrow_wide bytes.now) }
+{
+    let mut out = Vec::new(alloc);
+    let mut rest = bytes;
+    'rest: while let [first, second, third, low, after @ ..] = rest {
+        out.push(if *first == 0 && *second == 0 && *third == 0 {
+            *low
+        } else {
+            255
+        })?;
+        rest = after;
+    }
+    Ok(out)
+}
+
+// Whether a name is told for a watched one.
+#[tactic(auto, unfolding(crate::specs::Watched::kind_told))]
+fn is_kind_told(
+    alloc: Global,
+    kind: NameKind,
+    bytes: &[u8],
+    watched: &[u8],
+) -> Result<bool, AllocError>
+    ensures { IfOk result (λ told. told ≡ kind_told kind bytes.now watched.now) }
+{
+    match kind {
+        NameKind::Common | NameKind::Dns => Ok(is_told_for(bytes, watched)),
+        NameKind::WideCommon => {
+            let text = narrowed(alloc, bytes)?;
+            Ok(is_told_for(&text, watched))
+        }
+        NameKind::WidestCommon => {
+            let text = narrowed_wide(alloc, bytes)?;
+            Ok(is_told_for(&text, watched))
+        }
+        NameKind::Mail | NameKind::Uri | NameKind::Address => Ok(false),
+    }
+}
+
+// Whether a kind is one of subjectAltName.
+fn is_of_alt_names(kind: NameKind) -> bool
+    ensures { result ≡ is_alt_kind kind }
+{
+    match kind {
+        NameKind::Common | NameKind::WideCommon | NameKind::WidestCommon => false,
+        NameKind::Dns | NameKind::Mail | NameKind::Uri | NameKind::Address => true,
+    }
+}
+
+// Whether a kind is one of subjectAltName, where that is asked, or else one of a common name.
+fn is_sought(alt: bool, kind: NameKind) -> bool
+    ensures { result ≡ is_sought alt kind }
+{
+    if alt {
+        is_of_alt_names(kind)
+    } else {
+        !is_of_alt_names(kind)
+    }
+}
+
+// Whether some name is told for the watched one: of those of subjectAltName, or of the common names.
+#[tactic(auto, unfolding(crate::specs::Watched::some_told))]
+fn is_some_told(
+    alloc: Global,
+    names: &[Name<'_>],
+    alt: bool,
+    watched: &[u8],
+) -> Result<bool, AllocError>
+    ensures { IfOk result (λ told. told ≡ some_told alt (named_all names.now) watched.now) }
+{
+    let mut rest = names;
+    'rest: while let [name, after @ ..] = rest {
+        if is_sought(alt, name.kind) {
+            let told = is_kind_told(alloc, name.kind, name.bytes, watched)?;
+            if told {
+                return Ok(true);
+            }
+        }
+        rest = after;
+    }
+    Ok(false)
+}
+
+// In which of a certificate's names a watched one is found.
+#[tactic(auto, unfolding(crate::specs::Watched::found_in))]
+fn found_among(
+    alloc: Global,
+    names: &[Name<'_>],
+    watched: &[u8],
+) -> Result<Option<FoundIn>, AllocError>
+    ensures { IfOk result (λ found. found ≡ found_in (named_all names.now) watched.now) }
+{
+    let watched = without_dot(watched);
+    if is_some_told(alloc, names, true, watched)? {
+        Ok(Some(FoundIn::AltName))
+    } else if is_some_told(alloc, names, false, watched)? {
+        Ok(Some(FoundIn::CommonName))
+    } else {
+        Ok(None)
+    }
+}
+
+/// In which of a certificate's names a watched one is found, as [`is_told_for`] says: in a dNSName, else in a common name, in whatever string
+/// that is, or in none. One dot at the watched name's end is left out. Mail addresses, URIs and addresses aren't compared.
+///
+/// # Errors
+///
+/// Where a growth is refused.
+
+pub fn find_watched(
+    alloc: Global,
+    names: &[Name<'_>],
+    watched: &[u8],
+) -> Result<Option<FoundIn>, AllocError>
+    ensures found { IfOk result (λ found. found ≡ found_in (named_all names.now) watched.now) }
+    // .. which is by labels, and exact.
+    ensures named { IfOk result (λ found. IsFound found (named_all names.now) (plain_of watched.now)) }
+{
+    found_among(alloc, names, watched)
+}
