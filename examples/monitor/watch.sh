@@ -16,8 +16,12 @@ TILES=16
 PATIENCE=60 DAY=86400
 folder=ct-watch pieces=5000 here=$PWD older='' tell='' name_file=''
 
+page() {
+  sed -n '2,11s/^# \{0,1\}//p' "$0"
+}
+
 usage() {
-  sed -n '2,11s/^# \{0,1\}//p' "$0" >&2
+  page >&2
   exit 2
 }
 
@@ -25,6 +29,7 @@ usage() {
 left=$#
 while [ $left -gt 0 ]; do
   case $1 in
+    -h | --help) page && exit 0 || exit 1 ;;
     --folder | --pieces | --older-than | --tell | --name | --name-file) [ $left -gt 1 ] || usage ;;
     *) set -- "$@" "$1" && shift && left=$((left - 1)) && continue ;;
   esac

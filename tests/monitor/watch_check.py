@@ -764,6 +764,9 @@ def try_judges(watch, log, judge):
         watch.leaves_unchanged(f"ctmonitor {what}", status, log)
     watch.put_judge(f'exec {judge} "$@"')
     watch.ends("a word that ctmonitor doesn't know", 2, log.url, "--nome", "a")
+    for word in ("-h", "--help"):
+        watch.ends(f"{word} with a log", 0, log.url, word, says="watch.sh [--folder DIR]")
+        watch.ends(f"{word} without a log", 0, "", word, says="watch.sh [--folder DIR]")
     watch.ends("no number", 2, log.url, "--pieces", "many", says="watch.sh [--folder DIR]")
     for logs in ("", " \t\n"):
         watch.ends("no log", 2, logs, says="watch.sh [--folder DIR]")
