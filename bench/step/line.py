@@ -36,7 +36,7 @@ def main():
     last = line
     for step in range(steps):
         batch = [submission(step * count + place) for place in range(count)]
-        _, _, after = stepped(line, edge, MOMENT + step, batch)
+        _, _, after = stepped(line, edge, MOMENT + 1 + step, batch)
         last = written(after)
     print(last)
 

@@ -156,7 +156,7 @@ fn push_tiles(bundle: &mut Vec<u8>, size: u64, tiles: &mut [Vec<Hash>], leaves: 
 
 fn take_step(line: &Line, edge: &[Vec<u8>], entries: &[u8], batch: &[Submission], now: u64) -> Option<Step> {
     let mut tiles = believed(line, edge)?;
-    if hash_of(&[entries]) != line.data_tile || now < line.timestamp {
+    if hash_of(&[entries]) != line.data_tile || now <= line.timestamp {
         return None;
     }
     let size = line.tree_size;
@@ -234,8 +234,8 @@ fn main() {
     let mut text = line.text();
     for step in 0..steps {
         let batch: Vec<Submission> = (step * count..).take(count as usize).map(submission).collect();
-        let made = take_step(&line, &edge, &entries, &batch, MOMENT + step).expect("a step");
-        assert!(made.receipts.iter().all(|r| r.timestamp == MOMENT + step && r.leaf_index >= size && !r.signed.is_empty()));
+        let made = take_step(&line, &edge, &entries, &batch, MOMENT + 1 + step).expect("a step");
+        assert!(made.receipts.iter().all(|r| r.timestamp == MOMENT + 1 + step && r.leaf_index >= size && !r.signed.is_empty()));
         assert!(made.signed.len() == 50 && (count == 0 || !made.bundle.is_empty()));
         text = made.line.text();
     }

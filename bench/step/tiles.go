@@ -160,7 +160,7 @@ func takeStep(l line, edge [][]byte, entries []byte, batch []submission, now uin
 	if err != nil {
 		return s, err
 	}
-	if sha256.Sum256(entries) != l.dataTile || now < l.timestamp {
+	if sha256.Sum256(entries) != l.dataTile || now <= l.timestamp {
 		return s, errors.New("another partial data tile, or moment")
 	}
 	var full [][]byte
@@ -286,7 +286,7 @@ func main() {
 		for place := range batch {
 			batch[place] = submissionOf(at*numbers[1] + uint64(place))
 		}
-		made, err := takeStep(l, edge, entries, batch, moment+at)
+		made, err := takeStep(l, edge, entries, batch, moment+1+at)
 		if err != nil {
 			fmt.Fprintln(os.Stderr, err)
 			os.Exit(1)

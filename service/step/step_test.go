@@ -87,7 +87,7 @@ func TestSteps(t *testing.T) {
 	refusals := map[Refusal]func() error{
 		Edge:      func() error { _, err := c.Step(ctx, one.Line, [][]byte{bent, edge[1]}, nil, 8); return err },
 		Entries:   func() error { _, err := c.Step(ctx, one.Line, [][]byte{edge[0], {1}}, nil, 8); return err },
-		ClockBack: func() error { _, err := c.Step(ctx, one.Line, edge, nil, 6); return err },
+		ClockBack: func() error { _, err := c.Step(ctx, one.Line, edge, nil, 7); return err },
 		BadState:  func() error { _, err := c.Needs(ctx, "growth"); return err },
 		Bundle:    func() error { _, err := c.Resume(ctx, two.Line, one.Bundle); return err },
 		NoClaim:   func() error { _, err := c.Claim(ctx, two.Line, 1, 7, path, entry); return err },

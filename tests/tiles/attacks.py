@@ -148,14 +148,12 @@ def refused(chance, judge, request, reply, older):
     if chance.random() < 0.1:
         many = [{"chain": [], "leaf_certificate": "AA=="}] * 4097
         yield "too-many", {**request, "batch": many, "state": chance.choice([request["state"], ""])}
-    if judge.moment:
-        yield "clock-back", {**request, "now": judge.moment - 1}
-        yield "clock-back", {**request, "now": 0}
+    for moment in (judge.moment, max(judge.moment, 1) - 1, 0):
+        yield "clock-back", {**request, "now": moment}
     if judge.size + 300 > MOST:
         small = [{"chain": [], "leaf_certificate": text(number.to_bytes(2, "big"))} for number in range(MOST - judge.size + 1)]
         yield "full", {**request, "batch": small}
-        if judge.moment:
-            yield "clock-back", {**request, "batch": small, "now": judge.moment - 1}
+        yield "clock-back", {**request, "batch": small, "now": judge.moment}
 
 
 def no_requests():

@@ -54,7 +54,7 @@ def main():
             print(f"{words}: the bundle is not that of the state")
         for title in edge_names(len(hashes)):
             print("needed", title)
-        print("a moment before: the moment is before that of the last head")
+        print("a moment before: the moment is not later than that of the last head")
         print("bent:", WORDS["root"])
         print("seven levels:", WORDS["widths"])
         print("believed at", len(hashes))

@@ -5,7 +5,7 @@ judged from the leaves by judge.py.
     histories.py [--histories 20] [--seed 1] [--lengths] [PROGRAM WORD ..]
 
 Some histories begin without leaves, others behind a made-up edge of any size, up to the largest. Between the steps stand claims about entries
-that are there, each with its audit path, and attacks: claims that aren't true, bent, cut and exchanged tiles and bundles, older lines, lines with other digests or sizes, moments before the last, a log that is full, two of these at
+that are there, each with its audit path, and attacks: claims that aren't true, bent, cut and exchanged tiles and bundles, older lines, lines with other digests or sizes, moments not later than the last, a log that is full, two of these at
 once, and lines that are no request; with --lengths lines and certificates of the largest length, too. The program is started with and
 without --origin, and has to hand on each reply before it is given the next line. Without PROGRAM step.py itself is judged. It prints one
 line, and ends with status 1 at the first thing that isn't so.
@@ -170,7 +170,7 @@ class History:
 
     def request(self):
         """The next step, as it should be asked for."""
-        moment = self.judge.moment + self.chance.choice([0, 1, 1000, 1 << self.chance.randrange(50)])
+        moment = self.judge.moment + self.chance.choice([1, 2, 1000, 1 << self.chance.randrange(50)])
         edge = [text(self.store[called]) for called in self.needs()]
         return {"batch": self.batch(), "edge": edge, "now": min(moment, (1 << 64) - 1), "state": self.judge.line}
 

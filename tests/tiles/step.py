@@ -111,7 +111,7 @@ def stepped(line, edge, now, batch):
     if state is None:
         raise Refused("bad-state")
     rows, data = believed(state, edge)
-    if now < state.timestamp:
+    if now <= state.timestamp:
         raise Refused("clock-back")
     size = state.tree_size
     if size + len(batch) > MOST:

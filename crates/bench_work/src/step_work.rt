@@ -123,7 +123,7 @@ fn line_of(heap: Global, log: &Log, step: u64, count: u64) -> anyhow::Result<Sta
         &log.edge,
         &log.entries,
         &batch,
-        MOMENT.wrapping_add(step),
+        MOMENT.wrapping_add(1).wrapping_add(step),
     )?;
     Ok(made.line)
 }

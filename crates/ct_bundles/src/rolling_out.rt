@@ -36,7 +36,7 @@ impl From<AllocError> for ResumeFault {
 /// Takes memory for the list alone.
 ///
 /// # Errors
-/// `Bundle` where the digest of the bytes isn't the line's, or they are no bundle; `Memory` where a growth was refused.
+/// `Bundle` where the digest of the bytes isn't the line's, or they are no bundle; `Memory` where it is the line's, and a growth was refused.
 pub fn resume<'a, H: NodeHash>(
     alloc: Global,
     h: &H,

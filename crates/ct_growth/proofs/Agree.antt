@@ -1,5 +1,5 @@
 -- All steps whose states the register took are of one list.
-use Rattle.std.proofs.Common.{◌≡◌, ◌∙◌, ℕ, ◌+◌, ◌*◌, ◌/◌, ◌≤◌, cond, List, [], ◌∷◌, ◌++◌, length, take, drop, get_or, map, All, sym, refl, ap, subst, arith, inl, inr}
+use Rattle.std.proofs.Common.{◌≡◌, ◌∙◌, ℕ, ◌+◌, ◌*◌, ◌/◌, ◌<◌, ◌≤◌, cond, List, [], ◌∷◌, ◌++◌, length, take, drop, get_or, map, All, sym, refl, ap, subst, arith, inl, inr}
 use Rattle.std.proofs.Common.{append_assoc, length-append}
 use Rattle.std.proofs.lemmas.List.{length-map, take_at, drop_at, drop-append-le, map-append}
 use Rattle.std.proofs.lemmas.List.Elements.{All-cons, All-nil}
@@ -64,14 +64,14 @@ pub carried_none : (H : List ℕ → List ℕ) (since from : ℕ) (D : List (Lis
 carried_none H since from D = record {
   carry = record {
     all = All-nil (IsOfList H D);
-    later = All-nil (λ a. since ≤ a.growth.head.timestamp);
+    later = All-nil (λ a. since < a.growth.head.timestamp);
     order = λ i j d less within. absurd (omega (arith, less, within));
   };
   behind = All-nil (λ a. from ≤ a.growth.first);
 }
 
 -- one step before those that carry on from its state
-pub carried_more : (H : List ℕ → List ℕ) (since : ℕ) (known Z : List (List ℕ)) (a : Attempt) (steps : List Attempt) → since ≤ a.now
+pub carried_more : (H : List ℕ → List ℕ) (since : ℕ) (known Z : List (List ℕ)) (a : Attempt) (steps : List Attempt) → since < a.now
     → IsGrowth H known (map entry_of a.batch) a.now a.growth
     → Carried H a.growth.state.timestamp (length (known ++ new_leaves known a)) ((known ++ new_leaves known a) ++ Z) steps
     → Carried H since (length known) ((known ++ new_leaves known a) ++ Z) (a ∷ steps)
@@ -81,7 +81,7 @@ carried_more H since known Z a steps later g rest =
     record {
       carry = record {
         all = All-cons (IsOfList H D) a steps (is_of H known Z a g) rest.carry.all;
-        later = All-cons (λ b. since ≤ b.growth.head.timestamp) a steps (omega (arith, later, g.timestamp))
+        later = All-cons (λ b. since < b.growth.head.timestamp) a steps (omega (arith, later, g.timestamp))
             (λ k d h. omega (arith, later, g.moment, rest.carry.later k d h));
         order = AllPairs-cons ComesBehind a steps
             (λ k d h. record {
@@ -103,7 +103,7 @@ agree_from H held known (a ∷ rest) s (made, inl (took, seen, more)) =
     let N = new_leaves known a in
     let behind = agree_from H a.growth.state (known ++ N) rest g.state more in
     let e : (known ++ N) ++ behind.0 ≡ known ++ (N ++ behind.0) = append_assoc known N behind.0 in
-    let since : held.timestamp ≤ a.now = omega (arith, made.0.0, ap (λ (x : State). x.timestamp) seen) in
+    let since : held.timestamp < a.now = omega (arith, made.0.0, ap (λ (x : State). x.timestamp) seen) in
     let kept : taken (a ∷ rest) ≡ a ∷ taken rest = ap (λ b. cond b (a ∷ taken rest) (taken rest)) took in (
       N ++ behind.0,
       subst (λ (D : List (List ℕ)). Carried H held.timestamp (length known) D (taken (a ∷ rest))) e

@@ -1,5 +1,5 @@
 -- All steps whose heads the register took are of one list, or two different strings have one hash.
-use Rattle.std.proofs.Common.{◌≡◌, ◌⊎◌, ◌∙◌, ℕ, ◌≤◌, true, cond, List, [], ◌∷◌, ◌++◌, length, map, sym, refl, ap, subst, arith, inl, inr, ⊎_elim}
+use Rattle.std.proofs.Common.{◌≡◌, ◌⊎◌, ◌∙◌, ℕ, ◌<◌, ◌≤◌, true, cond, List, [], ◌∷◌, ◌++◌, length, map, sym, refl, ap, subst, arith, inl, inr, ⊎_elim}
 use Rattle.std.proofs.Common.{append_assoc, length-append}
 use Rattle.std.proofs.lemmas.List.{length-map, take_at}
 use Rattle.ct_codec.specs.Submitted.{entry_of}
@@ -39,7 +39,7 @@ module _ (H : List ℕ → List ℕ) (long : (x : List ℕ) → length (H x) ≡
       (g.size, g.root, omega (arith, n, size, made.0.1, length-append known (new_leaves known a)))
 
   -- one step before those that follow
-  step_before : (held : Head) (known : List (List ℕ)) (b : HandedAttempt) (rest : List HandedAttempt) → b.attempt.took ≡ true → held.timestamp ≤ b.attempt.now
+  step_before : (held : Head) (known : List (List ℕ)) (b : HandedAttempt) (rest : List HandedAttempt) → b.attempt.took ≡ true → held.timestamp < b.attempt.now
       → IsGrowth H known (map entry_of b.attempt.batch) b.attempt.now b.attempt.growth
       → Agreed b.attempt.growth.head (known ++ new_leaves known b.attempt) rest → Agreed held known (b ∷ rest)
   step_before held known b rest took since g (inr found) = inr found
@@ -64,7 +64,7 @@ module _ (H : List ℕ → List ℕ) (long : (x : List ℕ) → length (H x) ≡
   agree_from held known [] over made = inl ([], carried_none H held.timestamp (length known) (known ++ []))
   agree_from held known (b ∷ rest) over (made, inl (took, seen, more)) =
       let a = b.attempt in
-      let since : held.timestamp ≤ a.now = omega (arith, made.1.0.0, made.0.moment, ap (λ (x : Head). x.timestamp) seen) in
+      let since : held.timestamp < a.now = omega (arith, made.1.0.0, made.0.moment, ap (λ (x : Head). x.timestamp) seen) in
       ⊎_elim
       (λ (s : IsState H a.seen known).
       let g = made.1.1 known s in

@@ -15,15 +15,15 @@ use Rattle.ct_growth.specs.declared.growth.State.{State}
 abbrev pub IsState : (List ℕ → List ℕ) → State → List (List ℕ) → Type 0
 IsState H state D = IsEdge H state.edge (map (hash_leaf H) D)
 
--- so many submissions may be taken in at the moment `now`: it isn't before the state's, and a leaf's index has 40 bits
+-- so many submissions may be taken in at the moment `now`: it is later than the state's (RFC 6962, section 3.5), and a leaf's index has 40 bits
 abbrev pub MayGrow : State → ℕ → ℕ → Type 0
-MayGrow state count now = (state.timestamp ≤ now) × (state.edge.0 + count ≤ 2 ^ 40)
+MayGrow state count now = (state.timestamp < now) × (state.edge.0 + count ≤ 2 ^ 40)
 
--- Why so many submissions aren't taken in at the moment `now`. ClockBack: it is before the state's. Full: it isn't, and the log would have
+-- Why so many submissions aren't taken in at the moment `now`. ClockBack: it isn't later than the state's. Full: it is, and the log would have
 -- more than 2^40 leaves. Refused: they may be taken in, and the refusal is for want of memory
 abbrev pub StopsGrowth : State → ℕ → ℕ → GrowthFault → Type 0
-StopsGrowth state count now ClockBack = now < state.timestamp
-StopsGrowth state count now Full = (state.timestamp ≤ now) × (2 ^ 40 < state.edge.0 + count)
+StopsGrowth state count now ClockBack = now ≤ state.timestamp
+StopsGrowth state count now Full = (state.timestamp < now) × (2 ^ 40 < state.edge.0 + count)
 StopsGrowth state count now (Refused refusal) = MayGrow state count now × (refusal ≡ refused.Memory)
 
 -- What a step of a state is, whatever leaves the log has. The first new leaf's index is the state's size (first); each entry has its

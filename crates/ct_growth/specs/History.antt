@@ -48,16 +48,16 @@ pub record IsOfList (H : List ℕ → List ℕ) (D : List (List ℕ)) (a : Attem
   pub rows : (level : ℕ) → level < 8
       → IsRowOf H (map (hash_leaf H) D) level (slice_index_or (map (λ r. (r.first, r.hashes.items)) a.growth.rows.items) level (0, []))
 
--- the attempt b came behind the attempt a: its moment isn't earlier, and its leaves begin at or behind the end of those of a's head
+-- the attempt b came behind the attempt a: its moment is later, and its leaves begin at or behind the end of those of a's head
 pub record ComesBehind (a b : Attempt) : Type 0 where
-  pub moment : a.growth.head.timestamp ≤ b.growth.head.timestamp
+  pub moment : a.growth.head.timestamp < b.growth.head.timestamp
   pub leaves : a.growth.head.tree_size ≤ b.growth.first
 
 -- Steps, in the order in which they were taken, carry on one log with the leaves D, from a state held at the moment `since` on: all that
--- each wrote and promised is of D (all), no moment is before `since` (later), and of each two the second came behind the first (order).
+-- each wrote and promised is of D (all), each moment is later than `since` (later), and of each two the second came behind the first (order).
 pub record CarryOn (H : List ℕ → List ℕ) (since : ℕ) (D : List (List ℕ)) (steps : List Attempt) : Type 0 where
   pub all : All (IsOfList H D) steps
-  pub later : All (λ a. since ≤ a.growth.head.timestamp) steps
+  pub later : All (λ a. since < a.growth.head.timestamp) steps
   pub order : AllPairs ComesBehind steps
 
 -- There is one list of leaves that all the steps whose states the register took carry on. It begins with the leaves that were known.

@@ -41,8 +41,8 @@ pub struct Growth {
 /// Why there is no step.
 #[derive(Clone, Copy, PartialEq, Eq, Debug, Error)]
 pub enum GrowthFault {
-    /// The moment is before that of the last head.
-    #[error("the moment is before that of the last head")]
+    /// The moment isn't later than that of the last head.
+    #[error("the moment is not later than that of the last head")]
     ClockBack,
     /// The log would have more than 2^40 leaves, and a leaf's index has 40 bits.
     #[error("the log is full")]
@@ -74,7 +74,7 @@ impl From<AllocError> for GrowthFault {
 /// Takes memory for the receipts and for the tiles that change or are new.
 ///
 /// # Errors
-/// In this order: `ClockBack` where the moment is before the state's; `Full` where the log would have more than 2^40 leaves;
+/// In this order: `ClockBack` where the moment isn't later than the state's (RFC 6962, section 3.5); `Full` where the log would have more than 2^40 leaves;
 /// `Refused(Memory)` where a growth was refused.
 pub fn grow<H: NodeHash>(
     alloc: Global,
@@ -87,7 +87,7 @@ pub fn grow<H: NodeHash>(
     ensures grown { IfOk result (λ g. IsGrownFrom state.now (map entry_of batch.now) now g) }
     ensures growth { IfOk result (λ g. (D : List (List ℕ)) → IsState H.digest state.now D → IsGrowth H.digest D (map entry_of batch.now) now g) }
 {
-    if now < state.timestamp {
+    if now <= state.timestamp {
         return Err(GrowthFault::ClockBack);
     }
     let first = state.edge.size();

@@ -6,7 +6,7 @@ ghost use Rattle.ct_growth.specs.Leaves.{ReceiptsAreLeaves};
 ghost use Rattle.ct_growth.specs.History.{SequencersAgree};
 
 /// However many sequencers carry on a log over one register, and wherever they stop: all that was written and promised by the steps
-/// whose states the register took is of one list of leaves, and neither their moments nor their sizes fall.
+/// whose states the register took is of one list of leaves, their moments rise, and their sizes don't fall.
 #[tactic(auto, using(crate::proofs::Agree::sequencers_agree))]
 pub fn sequencers()
     ensures { SequencersAgree }

@@ -1,5 +1,5 @@
 -- The list of leaves that all steps carry on has at most one leaf to an identity behind those that were known.
-use Rattle.std.proofs.Common.{◌≡◌, ◌∙◌, ℕ, suc, ◌-◌, ◌≤◌, Bool, true, false, cond, List, [], ◌∷◌, ◌++◌, length, take, get_or, map, flat_map, All, AllPairs, Contains, sym, refl, ap, subst, arith, inl, inr, append_assoc, length-append}
+use Rattle.std.proofs.Common.{◌≡◌, ◌∙◌, ℕ, suc, ◌-◌, ◌<◌, ◌≤◌, Bool, true, false, cond, List, [], ◌∷◌, ◌++◌, length, take, get_or, map, flat_map, All, AllPairs, Contains, sym, refl, ap, subst, arith, inl, inr, append_assoc, length-append}
 use Rattle.std.proofs.lemmas.List.{take_at, drop_at, map-append, length-map}
 use Rattle.std.proofs.lemmas.List.Elements.{All-nil, All-head, All-tail, All-append, All-map, All-weaker}
 use Rattle.ct_codec.specs.Bytes.{num, vec}
@@ -55,7 +55,7 @@ extends_from H held known (a ∷ rest) s (made, inl (took, seen, more)) =
     let behind = extends_from H a.growth.state (known ++ N) rest g.state more in
     let Z = behind.0 in
     let e : (known ++ N) ++ Z ≡ known ++ (N ++ Z) = append_assoc known N Z in
-    let since : held.timestamp ≤ a.now = omega (arith, made.0.0, ap (λ (x : State). x.timestamp) seen) in
+    let since : held.timestamp < a.now = omega (arith, made.0.0, ap (λ (x : State). x.timestamp) seen) in
     let kept : taken (a ∷ rest) ≡ a ∷ taken rest = ap (λ b. cond b (a ∷ taken rest) (taken rest)) took in
     let steps : Extends H held.timestamp known (N ++ Z) (a ∷ taken rest) = record {
       carried = subst (λ (D : List (List ℕ)). Carried H held.timestamp (length known) D (a ∷ taken rest)) e

@@ -5,3 +5,4 @@ mod Handed
 mod Fitting
 mod Made
 mod LinesAgree
+pub mod RollingOut

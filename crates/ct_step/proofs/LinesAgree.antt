@@ -1,5 +1,5 @@
 -- All steps whose lines the register took are of one list of entries, or two different strings have one hash.
-use Rattle.std.proofs.Common.{◌≡◌, ◌⊎◌, ◌∙◌, ℕ, suc, ◌+◌, ◌≤◌, cond, List, [], ◌∷◌, ◌++◌, length, take, drop, sym, refl, ap, subst, arith, inl, inr, ⊎_elim, append_assoc, length-append}
+use Rattle.std.proofs.Common.{◌≡◌, ◌⊎◌, ◌∙◌, ℕ, suc, ◌+◌, ◌<◌, ◌≤◌, cond, List, [], ◌∷◌, ◌++◌, length, take, drop, sym, refl, ap, subst, arith, inl, inr, ⊎_elim, append_assoc, length-append}
 use Rattle.std.proofs.lemmas.List.{take_at, drop_at}
 use Rattle.std.proofs.lemmas.List.Elements.{All-cons, All-nil}
 use Rattle.std.proofs.lemmas.List.Kept.{AllPairs-cons}
@@ -49,14 +49,14 @@ carried_none : (H : List ℕ → List ℕ) (since from : ℕ) (E : List Tiled) �
 carried_none H since from E = record {
   carry = record {
     all = All-nil (IsStepOf H E);
-    later = All-nil (λ a. since ≤ a.step.line.timestamp);
+    later = All-nil (λ a. since < a.step.line.timestamp);
     order = λ i j d less within. absurd (omega (arith, less, within));
   };
   behind = All-nil (λ a. from ≤ a.seen.tree_size);
 }
 
 -- one step before those that carry on from its line
-carried_more : (H : List ℕ → List ℕ) (since : ℕ) (known Z : List Tiled) (a : LineAttempt) (steps : List LineAttempt) → since ≤ a.now
+carried_more : (H : List ℕ → List ℕ) (since : ℕ) (known Z : List Tiled) (a : LineAttempt) (steps : List LineAttempt) → since < a.now
     → a.seen.tree_size ≡ length known → IsTiledStep H a.seen known a.batch a.now a.step
     → CarriedLines H a.step.line.timestamp (length (known ++ of_attempt known a)) ((known ++ of_attempt known a) ++ Z) steps
     → CarriedLines H since (length known) ((known ++ of_attempt known a) ++ Z) (a ∷ steps)
@@ -66,7 +66,7 @@ carried_more H since known Z a steps later size p rest =
     record {
       carry = record {
         all = All-cons (IsStepOf H E) a steps (is_of H known Z a size p) rest.carry.all;
-        later = All-cons (λ b. since ≤ b.step.line.timestamp) a steps (omega (arith, later, p.moment))
+        later = All-cons (λ b. since < b.step.line.timestamp) a steps (omega (arith, later, p.moment))
             (λ k d h. omega (arith, later, p.moment, rest.carry.later k d h));
         order = AllPairs-cons ComesBehindLine a steps
             (λ k d h. record {
@@ -88,7 +88,7 @@ unfolding AreLineAttempts
 agree_from H held known [] s made = inl ([], carried_none H held.timestamp (length known) (known ++ []))
 agree_from H held known (a ∷ rest) s (made, inl (took, seen, more)) =
     let log : IsLog H known a.seen = subst (IsLog H known) (sym seen) s in
-    let since : held.timestamp ≤ a.now = omega (arith, made.0, ap (λ (x : StateLine). x.timestamp) seen) in
+    let since : held.timestamp < a.now = omega (arith, made.0, ap (λ (x : StateLine). x.timestamp) seen) in
     let kept : taken_lines (a ∷ rest) ≡ a ∷ taken_lines rest = ap (λ b. cond b (a ∷ taken_lines rest) (taken_lines rest)) took in
     ⊎_elim
     (λ (p : IsTiledStep H a.seen known a.batch a.now a.step).
@@ -134,7 +134,7 @@ agree_truly H held known (b ∷ rest) s (made, inl (took, seen, is, more)) =
     let N = of_attempt known a in
     let log : IsLog H known a.seen = subst (IsLog H known) (sym seen) s in
     let size : a.seen.tree_size ≡ held.tree_size = ap (λ (x : StateLine). x.tree_size) seen in
-    let since : held.timestamp ≤ a.now = omega (arith, made.may.later, ap (λ (x : StateLine). x.timestamp) seen) in
+    let since : held.timestamp < a.now = omega (arith, made.may.later, ap (λ (x : StateLine). x.timestamp) seen) in
     let p : IsTiledStep H a.seen known a.batch a.now a.step =
     made.step known (subst (λ (n : ℕ). IsEdgeOf H known n b.edge b.entries) (sym size) is) in
     let kept : taken_lines (a ∷ handed_line_attempts rest) ≡ a ∷ steps = ap (λ c. cond c (a ∷ steps) steps) took in

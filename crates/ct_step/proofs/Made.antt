@@ -1,5 +1,5 @@
 -- What a step makes of a batch.
-use Rattle.std.proofs.Common.{◌≡◌, ◌⊎◌, ◌∙◌, ℕ, suc, ◌-◌, ◌/◌, ◌≤◌, ◌+◌, ◌^◌, true, false, List, [], ◌∷◌, ◌++◌, length, map, sym, refl, ap, subst, arith, inl, inr, ⊎_elim, Vec, Global, All}
+use Rattle.std.proofs.Common.{◌≡◌, ◌⊎◌, ◌∙◌, ℕ, suc, ◌-◌, ◌/◌, ◌<◌, ◌≤◌, ◌+◌, ◌^◌, true, false, List, [], ◌∷◌, ◌++◌, length, map, sym, refl, ap, subst, arith, inl, inr, ⊎_elim, Vec, Global, All}
 use Rattle.std.specs.Str.{bytes_eq}
 use Rattle.std.proofs.lemmas.Bool.{cases_Bool, both_ways}
 use Rattle.std.proofs.lemmas.Slice.Eq.{bytes_eq-Decides}
@@ -135,7 +135,7 @@ module _ (H : List ℕ → List ℕ) (long : (x : List ℕ) → length (H x) ≡
   named : IsNamed H line edge entries
   named = record { tiles = (T, bytes, b.believed); digest = d }
 
-  pub may_step : state.timestamp ≤ now → state.edge.0 + length B ≤ 2 ^ 40 → MayStep H line edge entries B now
+  pub may_step : state.timestamp < now → state.edge.0 + length B ≤ 2 ^ 40 → MayStep H line edge entries B now
   may_step later fits = record {
     named = named;
     later = omega (arith, b.moment, later);

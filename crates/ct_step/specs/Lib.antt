@@ -2,3 +2,4 @@ pub mod Objects
 pub mod Entries
 pub mod Steps
 pub mod Lines
+pub mod RollingOut

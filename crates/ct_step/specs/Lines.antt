@@ -1,6 +1,6 @@
 -- Many sequencers over one register that holds the log's line, each of them handed the edge and the partial data tile by whoever keeps
 -- them. H is any hash function on byte lists.
-use Rattle.std.specs.Prelude.{◌≡◌, ◌⊎◌, ⊤, Bool, true, false, ℕ, ◌≤◌, List, [], ◌∷◌, ◌++◌, length, map, take, drop, filter, All, AllPairs}
+use Rattle.std.specs.Prelude.{◌≡◌, ◌⊎◌, ⊤, Bool, true, false, ℕ, ◌<◌, ◌≤◌, List, [], ◌∷◌, ◌++◌, length, map, take, drop, filter, All, AllPairs}
 use Rattle.ct_codec.specs.Submitted.{Submitted}
 use Rattle.ct_tile_leaves.specs.TileLeaf.{Tiled}
 use Rattle.ct_state_line.specs.declared.line.StateLine.{StateLine}
@@ -20,7 +20,7 @@ pub record LineAttempt : Type 0 where
 
 -- the attempt's step is what `take_step` answers of its line, its batch and its moment, whatever edge and data tile were handed in
 abbrev pub IsMadeOfLine : (List ℕ → List ℕ) → LineAttempt → Type 0
-IsMadeOfLine H a = (a.seen.timestamp ≤ a.now) × ((E : List Tiled) → IsLog H E a.seen → IsTiledStep H a.seen E a.batch a.now a.step ⊎ SomeCollide H)
+IsMadeOfLine H a = (a.seen.timestamp < a.now) × ((E : List Tiled) → IsLog H E a.seen → IsTiledStep H a.seen E a.batch a.now a.step ⊎ SomeCollide H)
 
 -- Attempts in the order in which the register answered, from the line that it held on: it took a line only in place of the one that it held.
 -- Who made an attempt, and what became of them afterwards, isn't said.
@@ -42,16 +42,16 @@ pub record IsStepOf (H : List ℕ → List ℕ) (E : List Tiled) (a : LineAttemp
   pub step : IsTiledStep H a.seen (take a.seen.tree_size E) a.batch a.now a.step
   pub entries : tiled_leaves a.now a.seen.tree_size a.batch ≡ take (length a.batch) (drop a.seen.tree_size E)
 
--- the attempt b came behind the attempt a: its moment isn't earlier, and its entries begin at or behind the end of those of a's line
+-- the attempt b came behind the attempt a: its moment is later, and its entries begin at or behind the end of those of a's line
 pub record ComesBehindLine (a b : LineAttempt) : Type 0 where
-  pub moment : a.step.line.timestamp ≤ b.step.line.timestamp
+  pub moment : a.step.line.timestamp < b.step.line.timestamp
   pub entries : a.step.line.tree_size ≤ b.seen.tree_size
 
 -- Steps, in the order in which they were taken, carry on one log with the entries E, from a line of the moment `since` on: all that each wrote
--- and promised is of E (all), no moment is before `since` (later), and of each two the second came behind the first (order).
+-- and promised is of E (all), each moment is later than `since` (later), and of each two the second came behind the first (order).
 pub record CarryOnLines (H : List ℕ → List ℕ) (since : ℕ) (E : List Tiled) (steps : List LineAttempt) : Type 0 where
   pub all : All (IsStepOf H E) steps
-  pub later : All (λ a. since ≤ a.step.line.timestamp) steps
+  pub later : All (λ a. since < a.step.line.timestamp) steps
   pub order : AllPairs ComesBehindLine steps
 
 -- There is one list of entries that all the steps whose lines the register took carry on, and it begins with the entries that were known; or

@@ -151,24 +151,24 @@ last_tiles L N =
 abbrev pub GetsLong : List Tiled → List (Submitted × List (List ℕ)) → ℕ → Type 0
 GetsLong E batch now = All FitsInBundle (last_tiles (texts_of E) (texts_of (new_entries E batch now))) → ⊥
 
--- a batch may be taken in at the moment `now`: what was handed in is what the line names (named), the moment isn't before the line's (later),
+-- a batch may be taken in at the moment `now`: what was handed in is what the line names (named), the moment is later than the line's (later; RFC 6962, section 3.5),
 -- and a leaf's index has 40 bits (fits)
 pub record MayStep (H : List ℕ → List ℕ) (line : StateLine) (edge : List (List ℕ)) (entries : List ℕ) (batch : List (Submitted × List (List ℕ))) (now : ℕ) : Type 0 where
   pub named : IsNamed H line edge entries
-  pub later : line.timestamp ≤ now
+  pub later : line.timestamp < now
   pub fits : line.tree_size + length batch ≤ 2 ^ 40
 
 -- Why there is no step. Edge: the partial tiles aren't believed. Entries: they are, and the partial data tile isn't the line's. ClockBack: both
--- are, and the moment is before the line's. Full: it isn't, and the log would have more than 2^40 leaves. TooLong: it wouldn't, and of every
+-- are, and the moment isn't later than the line's. Full: it is, and the log would have more than 2^40 leaves. TooLong: it wouldn't, and of every
 -- log that has this edge a data tile would have 2^32 bytes or more. Refused: the
 -- refusal is for want of memory.
 abbrev pub StopsStep : (List ℕ → List ℕ) → StateLine → List (List ℕ) → List ℕ → List (Submitted × List (List ℕ)) → ℕ → StepFault → Type 0
 StopsStep H line edge entries batch now Edge = NotBelieved H line edge
 StopsStep H line edge entries batch now Entries =
     ((T : List (List (List ℕ))) × AreBytesOf T edge × AreBelieved H (line_head line) T) × (H entries ≡ line.data_tile → ⊥)
-StopsStep H line edge entries batch now (Growth ClockBack) = IsNamed H line edge entries × (now < line.timestamp)
+StopsStep H line edge entries batch now (Growth ClockBack) = IsNamed H line edge entries × (now ≤ line.timestamp)
 StopsStep H line edge entries batch now (Growth Full) =
-    IsNamed H line edge entries × (line.timestamp ≤ now) × (2 ^ 40 < line.tree_size + length batch)
+    IsNamed H line edge entries × (line.timestamp < now) × (2 ^ 40 < line.tree_size + length batch)
 StopsStep H line edge entries batch now (Growth (Refused refusal)) = refusal ≡ refused.Memory
 StopsStep H line edge entries batch now TooLong =
     MayStep H line edge entries batch now × ((E : List Tiled) → IsEdgeOf H E line.tree_size edge entries → GetsLong E batch now)

@@ -1,6 +1,7 @@
 //! What follows of the definitions, each a clause of a function that does nothing.
 
 ghost use Rattle.ct_step.specs.Lines.{HandedAttemptsAreAttempts, LineSequencersAgree, TrueEdgesAgree};
+ghost use Rattle.ct_step.specs.RollingOut.{StepsAreRolledOut};
 ghost use Rattle.ct_step.specs.Steps.{EdgesAreNamed, NamedEdgesTell};
 
 /// However many sequencers carry on a log over one register, each handed its edge and its partial data tile by whoever keeps them, and
@@ -27,4 +28,10 @@ pub fn attempts()
 pub fn edges()
     ensures tell { NamedEdgesTell }
     ensures named { EdgesAreNamed }
+{}
+
+/// What is rolled out of the bundle of a step is what the step writes, whoever rolls it out, or two different strings with one digest are given.
+#[tactic(auto, using(crate::proofs::RollingOut::steps_are_rolled_out))]
+pub fn rolled_out()
+    ensures { StepsAreRolledOut }
 {}

@@ -236,7 +236,7 @@ fn step_of<H: NodeHash>(
 ///
 /// # Errors
 /// In this order: `Edge` where the partial tiles aren't as wide as those of the line's size, or its root doesn't come of them; `Entries`
-/// where the digest of the partial data tile isn't the line's; of `Growth` `ClockBack` where the moment is before the line's, and `Full`
+/// where the digest of the partial data tile isn't the line's; of `Growth` `ClockBack` where the moment isn't later than the line's, and `Full`
 /// where the log would have more than 2^40 leaves; `TooLong`. `Growth(Refused(Memory))` where a growth was refused.
 pub fn take_step<H: NodeHash>(
     alloc: Global,

@@ -177,7 +177,11 @@ fn offer_of(
 
 // The step of a batch from the line of an offer. The clocks of sequencers differ.
 fn step_of(alloc: Global, before: &Offer, (who, batch): (u8, u8)) -> Result<Step, Stop> {
-    let now = before.line.timestamp.saturating_add(u64::from(who % 3));
+    let now = before
+        .line
+        .timestamp
+        .saturating_add(1)
+        .saturating_add(u64::from(who % 3));
     let submissions = batch_of(alloc, who, batch)?;
     let step = take_step(
         alloc,
