@@ -11,8 +11,10 @@ use Rattle.sha2.specs.Sha256.{sha256}
 use Rattle.sha2.proofs.Facts256.{length-sha256}
 use Rattle.ct_guard.specs.Guarded.{PassesHead}
 use Rattle.ct_guard.specs.History.{Passed, ArePassed}
+use Rattle.ct_guard.specs.NewestHead.{HeadStep, AreHeadSteps}
 use Rattle.ct_guard.specs.declared.refusal.ReceiptRefusal.TheVariants.{NoHead, NoLeaf, NotThere, LaterLeaf, OtherIndex}
 use Rattle.ct_guard.proofs.History.{passed_heads_agree}
+use Rattle.ct_guard.proofs.NewestHead.{heads_go_back}
 use Rattle.ct_lines.specs.Fields.{hash_of, hash_in, bytes_in, each_item, hashes_of_items, hashes_at}
 use Rattle.ct_lines.specs.Values.{value_of_line}
 use Rattle.ct_monitor.specs.Heads.{IsHeadOfAll}
@@ -21,7 +23,7 @@ use Rattle.ct_verify.specs.Laws.{AreHashes}
 use Rattle.ct_guard_lines.specs.Asks.{Ask, for_head, for_receipt, for_promise, for_nothing, head_ask, leaf_ask, ask_or_nothing, ask_or, no_state_or, ask_in, Requests}
 use Rattle.ct_guard_lines.specs.Given.{AskComes}
 use Rattle.ct_guard_lines.specs.GuardSession.{GuardOptions, GuardStep, StepsLine, GuardsLines, StartsAt, GuardRun, IsGuardState, last_head}
-use Rattle.ct_guard_lines.specs.GuardHistory.{RunMade, TakeUp, given_head, given_heads, all_given, GivenHeadsAgree}
+use Rattle.ct_guard_lines.specs.GuardHistory.{RunMade, TakeUp, given_head, given_heads, all_given, head_step, GivenHeadsAgree, GivenHeadsGoBack}
 use Rattle.ct_guard_lines.specs.GuardState.{guard_state_text, IsLastValue, head_fields}
 use Rattle.ct_guard_lines.specs.declared.guarding.Guarding.{Guarding}
 use Rattle.ct_guard_lines.specs.declared.replies.Outcome.{Outcome}
@@ -114,38 +116,14 @@ line_hashes r line a is = subst ProofHashes (sym is) (go (value_of_line 1048576 
 
 -- ---- heads that were given are heads that were let through
 
-abbrev pair_of : Passed → Head × List (List ℕ)
-pair_of p = (p.head, p.proof)
-
-abbrev IsItsHead : Passed → Type 0
-IsItsHead p = IsHeadOfAll sha256 p.leaves p.head
-
--- whatever lists these heads are of, they were let through one after the other behind this head
+-- these heads were let through one after the other behind this head
 abbrev Through : Option Head → List (Head × List (List ℕ)) → Type 0
-Through last given = (passed : List Passed) → map pair_of passed ≡ given → All IsItsHead passed → ArePassed sha256 last passed
-
-abbrev front : {A : Type 0} → A → List A → A
-front a [] = a
-front a (x ∷ xs) = x
-
-abbrev behind : {A : Type 0} → List A → List A
-behind [] = []
-behind (x ∷ xs) = xs
+Through last given = AreHeadSteps sha256 last (map head_step given)
 
 one_through : (last : Option Head) (head : Head) (p : List (List ℕ)) (given : List (Head × List (List ℕ))) → PassesHead sha256 last head p → AreHashes p
     → Through (Some head) given → Through last ((head, p) ∷ given)
-unfolding ArePassed
-one_through last head p given passes hashes rest [] e heads = absurd (cc)
-one_through last head p given passes hashes rest (q ∷ passed) e heads =
-    let pair : (q.head, q.proof) ≡ (head, p) = ap (front (head, p)) e in
-    let same : q.head ≡ head = ap (λ x. x.0) pair in
-    let proof : q.proof ≡ p = ap (λ x. x.1) pair in
-    let here : PassesHead sha256 last q.head q.proof = rw (same, proof) passes in (
-      here,
-      subst AreHashes (sym proof) hashes,
-      All-head IsItsHead q passed heads,
-      subst (λ (h : Head). ArePassed sha256 (Some h) passed) (sym same) (rest passed (ap behind e) (All-tail IsItsHead q passed heads)),
-    )
+unfolding AreHeadSteps
+one_through last head p given passes hashes rest = (passes, hashes, rest)
 
 from_same : (last next : Option Head) (given : List (Head × List (List ℕ))) → next ≡ last → Through next given → Through last given
 from_same last next given same rest = subst (λ (o : Option Head). Through o given) same rest
@@ -193,9 +171,8 @@ all_lines s before (step ∷ steps) input text last given t rest =
     (one_line s before (first_piece 10 input) step (given_heads steps ++ given) t.1 more)
 
 none_left : (last : Option Head) → Through last []
-unfolding ArePassed
-none_left last [] e heads = tt
-none_left last (q ∷ passed) e heads = absurd (cc)
+unfolding AreHeadSteps
+none_left last = tt
 
 -- a run that begins with the line of this state begins with its head
 start_is : (input left : List ℕ) (start last : Option Head) → StartsAt input start left → IsGuardState (first_piece 10 input) last → start ≡ last
@@ -210,11 +187,34 @@ all_runs last (r ∷ runs) kept f =
     from_same last (last_head run.start) (given_heads run.steps ++ all_given runs) same
     (all_lines r.options run.start run.steps run.left run.told run.last (all_given runs) run.lines (all_runs (last_head run.last) runs run.kept f.1))
 
--- ---- the law
+all_through : (first : RunMade) (runs : List RunMade) → TakeUp (guard_state_text (last_head first.did.last)) runs
+    → Through (last_head first.did.start) (all_given (first ∷ runs))
+all_through first runs f =
+    let run : GuardRun first.options first.input first.text first.status = first.did in
+    all_lines first.options run.start run.steps run.left run.told run.last (all_given runs) run.lines (all_runs (last_head run.last) runs run.kept f)
+
+-- ---- the laws
+
+abbrev pair_of : Passed → Head × List (List ℕ)
+pair_of p = (p.head, p.proof)
+
+abbrev IsItsHead : Passed → Type 0
+IsItsHead p = IsHeadOfAll sha256 p.leaves p.head
+
+-- heads that were let through, each with a list whose head it is
+with_lists : (last : Option Head) (passed : List Passed) → Through last (map pair_of passed) → All IsItsHead passed → ArePassed sha256 last passed
+unfolding AreHeadSteps ArePassed
+with_lists last [] a heads = tt
+with_lists last (q ∷ passed) a heads =
+    (a.0, a.1, All-head IsItsHead q passed heads, with_lists (Some q.head) passed a.2 (All-tail IsItsHead q passed heads))
 
 pub given_agree : GivenHeadsAgree
 given_agree first runs f passed e heads =
-    let run : GuardRun first.options first.input first.text first.status = first.did in
-    let through : Through (last_head run.start) (given_heads run.steps ++ all_given runs) =
-    all_lines first.options run.start run.steps run.left run.told run.last (all_given runs) run.lines (all_runs (last_head run.last) runs run.kept f) in
-    passed_heads_agree sha256 length-sha256 (last_head run.start) passed (through passed e heads)
+    let last : Option Head = last_head first.did.start in
+    let through : Through last (map pair_of passed) =
+    subst (λ (given : List (Head × List (List ℕ))). Through last given) (sym e) (all_through first runs f) in
+    passed_heads_agree sha256 length-sha256 last passed (with_lists last passed through heads)
+
+pub given_go_back : GivenHeadsGoBack
+given_go_back first runs f D newest =
+    heads_go_back sha256 length-sha256 (last_head first.did.start) (map head_step (all_given (first ∷ runs))) D (all_through first runs f) newest

@@ -3,6 +3,7 @@ use Rattle.std.specs.Prelude.{◌≡◌, ◌⊎◌, ⊤, ℕ, List, [], ◌∷�
 use Rattle.std.specs.Io.BufRead.{first_piece}
 use Rattle.sha2.specs.Sha256.{sha256}
 use Rattle.ct_guard.specs.History.{Passed, AreBeginnings}
+use Rattle.ct_guard.specs.NewestHead.{HeadStep, NewestIsOf, IsHeadOfFirst}
 use Rattle.ct_monitor.specs.Heads.{IsHeadOfAll}
 use Rattle.ct_tree.specs.declared.head.Head.{Head}
 use Rattle.ct_verify.specs.Laws.{SomeCollide}
@@ -50,3 +51,15 @@ GivenHeadsAgree =
     (first : RunMade) (runs : List RunMade) → TakeUp (guard_state_text (last_head first.did.last)) runs
     → (passed : List Passed) → map (λ (p : Passed). (p.head, p.proof)) passed ≡ all_given (first ∷ runs)
     → All (λ (p : Passed). IsHeadOfAll sha256 p.leaves p.head) passed → AreBeginnings passed ⊎ SomeCollide sha256
+
+-- a head whose bytes were given, and its proof, as ct_guard's law speaks of them
+abbrev pub head_step : Head × List (List ℕ) → HeadStep
+head_step given = record { head = given.0; proof = given.1 }
+
+-- Take any such runs: where the newest of the heads whose bytes were given is that of a list of leaves, each of them that has leaves is that
+-- of a beginning of it, or two different strings with one SHA-256 are given. Nothing is asked of the others' roots.
+abbrev pub GivenHeadsGoBack : Type 0
+GivenHeadsGoBack =
+    (first : RunMade) (runs : List RunMade) → TakeUp (guard_state_text (last_head first.did.last)) runs
+    → (D : List (List ℕ)) → NewestIsOf sha256 D (map head_step (all_given (first ∷ runs)))
+    → All (λ (s : HeadStep). IsHeadOfFirst sha256 D s.head) (map head_step (all_given (first ∷ runs))) ⊎ SomeCollide sha256
