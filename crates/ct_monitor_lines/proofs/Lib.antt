@@ -8,3 +8,4 @@ pub mod Words
 pub mod StateTexts
 pub mod PlainTexts
 pub mod TextRuns
+pub mod BrokenOff

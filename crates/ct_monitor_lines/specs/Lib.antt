@@ -9,3 +9,4 @@ pub mod StateText
 pub mod Session
 pub mod History
 pub mod CommandWords
+pub mod BrokenOff

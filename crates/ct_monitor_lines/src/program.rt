@@ -1,8 +1,12 @@
 //! The program over the words of a command line, a reader of lines and a writer of verdicts.
 
-ghost use Rattle.std.specs.Prelude.{◌≡◌, ◌≢◌, ◌⊎◌, ◌++◌, ◌∷◌, [], IfOk, OnOk, OnErr, map, string_bytes, codes};
+ghost use Rattle.std.specs.Prelude.{◌≡◌, ◌≢◌, ◌⊎◌, ◌++◌, ◌∷◌, [], false, IfOk, OnOk, OnErr, map, string_bytes, codes};
 ghost use Rattle.std.specs.Io.KnownBytes.{Appends};
 ghost use Rattle.ct_lines.specs.Sends.{SendsSome};
+ghost use Rattle.sha2.specs.Sha256.{sha256};
+ghost use Rattle.ct_monitor.specs.Watched.{nothing_seen};
+ghost use Rattle.ct_monitor.specs.WatcherState.{Keeps};
+ghost use Rattle.ct_monitor_lines.specs.BrokenOff.{OneTakenBroken, AreTakenBroken, BeginsLastLine, IsRunBroken, IsCallBroken};
 ghost use Rattle.ct_monitor_lines.specs.CommandWords.{monitor_call, refusal_text, unreadable_text, IsAnswered};
 ghost use Rattle.ct_lines.specs.Faults.{run_fault_line};
 ghost use Rattle.ct_lines.specs.declared.fault.RunFault.{RunFault as FaultOf};
@@ -97,8 +101,10 @@ fn take_next<B: BufRead, W: Write>(
     reader: &mut B,
     writer: &mut W,
 ) -> Result<bool, RunFault>
-    ensures { IfOk result (λ done. OneTaken (LineGives (map string_bytes names.now)) session.old session.new
+    ensures taken { IfOk result (λ done. OneTaken (LineGives (map string_bytes names.now)) session.old session.new
         (B.remaining reader.old) (B.remaining reader.new) (W.contents writer.old) (W.contents writer.new) done) }
+    ensures broken { OnErr result (OneTakenBroken (LineGives (map string_bytes names.now)) session.old
+        (B.remaining reader.old) (W.contents writer.old) (W.contents writer.new)) }
 {
     let mut line = Vec::new(alloc);
     let is_line = next_line(reader, KEPT, &mut line)?;
@@ -118,8 +124,10 @@ fn take_start<B: BufRead, W: Write>(
     reader: &mut B,
     writer: &mut W,
 ) -> Result<bool, RunFault>
-    ensures { IfOk result (λ done. OneTaken (FirstGives (map string_bytes names.now)) session.old session.new
+    ensures taken { IfOk result (λ done. OneTaken (FirstGives (map string_bytes names.now)) session.old session.new
         (B.remaining reader.old) (B.remaining reader.new) (W.contents writer.old) (W.contents writer.new) done) }
+    ensures broken { OnErr result (OneTakenBroken (FirstGives (map string_bytes names.now)) session.old
+        (B.remaining reader.old) (W.contents writer.old) (W.contents writer.new)) }
 {
     let mut line = Vec::new(alloc);
     let is_line = next_line(reader, KEPT, &mut line)?;
@@ -139,8 +147,10 @@ fn take_lines<B: BufRead, W: Write>(
     reader: &mut B,
     writer: &mut W,
 ) -> Result<(), RunFault>
-    ensures { OnOk result (IsTaken (map string_bytes names.now) session.old session.new
+    ensures taken { OnOk result (IsTaken (map string_bytes names.now) session.old session.new
         (B.remaining reader.old) (B.remaining reader.new) (W.contents writer.old) (W.contents writer.new)) }
+    ensures broken { OnErr result (AreTakenBroken (map string_bytes names.now) session.old
+        (B.remaining reader.old) (W.contents writer.old) (W.contents writer.new)) }
 {
     for turn in 0..READS {
         let done = take_next(alloc, names, session, reader, writer)?;
@@ -159,8 +169,10 @@ fn take_all<B: BufRead, W: Write>(
     reader: &mut B,
     writer: &mut W,
 ) -> Result<(), RunFault>
-    ensures { OnOk result (IsAllTaken (map string_bytes names.now) session.old session.new
+    ensures taken { OnOk result (IsAllTaken (map string_bytes names.now) session.old session.new
         (B.remaining reader.old) (B.remaining reader.new) (W.contents writer.old) (W.contents writer.new)) }
+    ensures broken { OnErr result (Keeps sha256 session.old.watcher nothing_seen → session.old.alarm ≡ false → session.old.bad ≡ false
+        → IsRunBroken (map string_bytes names.now) (B.remaining reader.old) (W.contents writer.old) (W.contents writer.new)) }
 {
     let done = take_start(alloc, names, session, reader, writer)?;
     if done {
@@ -175,6 +187,7 @@ fn finish<W: Write>(alloc: Global, session: &Session, writer: &mut W) -> Result<
     ensures status { IfOk result (λ status. status ≡ status_of session.now) }
     ensures of_bytes { IsOfBytes session.now.watcher }
     ensures written { OnOk result (Appends (W.contents writer.old) (W.contents writer.new) (state_text session.now.watcher ++ 10 ∷ [])) }
+    ensures broken { OnErr result (BeginsLastLine session.now (W.contents writer.old) (W.contents writer.new)) }
 {
     let text = session.last_line(alloc)?;
     send(writer, &text)?;
@@ -184,6 +197,12 @@ fn finish<W: Write>(alloc: Global, session: &Session, writer: &mut W) -> Result<
 /// Reads a log's answers, or its checkpoints and data tiles, a line each, and writes the verdicts, and the state as the last line. Answers the exit status: 3
 /// where a verdict speaks against the log, a head is older than an entry of its tree (RFC 6962, section 3.5), or an entry of a data
 /// tile doesn't name its index, else 4 where a line was none or was refused, else 0.
+///
+/// # Errors
+///
+/// `Memory`, where a growth is refused; `Read`, where the input can't be read, or has 2^50 lines; `Write`, where the output can't be
+/// written. What the first lines have to tell is written then, whole and in their order, and at most a beginning of what the next line has;
+/// of the state's line a beginning, where no line is left, and else nothing.
 pub fn run<B: BufRead, W: Write>(
     alloc: Global,
     names: &[String],
@@ -193,6 +212,7 @@ pub fn run<B: BufRead, W: Write>(
     ensures written { IfOk result (λ status. IsRun (map string_bytes names.now) (B.remaining reader.old) (B.remaining reader.new)
         (W.contents writer.old) (W.contents writer.new) status) }
     ensures status { IfOk result (λ status. IsRunStatus status) }
+    ensures broken { OnErr result (IsRunBroken (map string_bytes names.now) (B.remaining reader.old) (W.contents writer.old) (W.contents writer.new)) }
 {
     let mut session = Session::new(Watcher::new(alloc, Sha256Hash));
     take_all(alloc, names, &mut session, reader, writer)?;
@@ -201,7 +221,8 @@ pub fn run<B: BufRead, W: Write>(
 
 // Writes a text that was asked for, and answers the exit status 0.
 fn notice<W: Write>(text: &str, output: &mut W) -> Result<u8, RunFault>
-    ensures { IfOk result (λ status. (status ≡ 0) × Appends (W.contents output.old) (W.contents output.new) text.now) }
+    ensures written { IfOk result (λ status. (status ≡ 0) × Appends (W.contents output.old) (W.contents output.new) text.now) }
+    ensures broken { OnErr result (SendsSome (W.contents output.old) (W.contents output.new) text.now) }
 {
     send(output, text.as_bytes())?;
     Ok(0)
@@ -236,6 +257,8 @@ fn do_asked<R: Read + Drop, W: Write, E: Write>(
     ensures answered { IfOk result (λ status. IsAnswered (monitor_call (map string_bytes words.now)) (R.remaining input)
         (W.contents output.old) (W.contents output.new) (E.contents faults.old) (E.contents faults.new) status) }
     ensures status { IfOk result (λ status. status ≢ 1) }
+    ensures broken { OnErr result (IsCallBroken (monitor_call (map string_bytes words.now)) (R.remaining input)
+        (W.contents output.old) (W.contents output.new)) }
     ensures quiet { OnErr result (E.contents faults.new ≡ E.contents faults.old) }
 {
     match command_of(alloc, words)? {
@@ -265,7 +288,8 @@ fn fault_text(fault: RunFault) -> &'static str
 ///
 /// - 0, 3, 4: `run` read the input and wrote its verdicts, with that status; or, for 0, the words ask for help or the version, which
 ///   was written on the output.
-/// - 1: a fault broke it off, and its line was written among the faults, as far as it could be.
+/// - 1: a fault broke it off, and its line was written among the faults, as far as it could be. On the output stands what `run` wrote until
+///   then, or a beginning of the text that was asked for.
 /// - 2: the words ask for nothing that there is. Which word is none that there is was written among the faults, as far as it could be.
 pub fn answer_words<R: Read + Drop, W: Write, E: Write>(
     alloc: Global,
@@ -278,6 +302,8 @@ pub fn answer_words<R: Read + Drop, W: Write, E: Write>(
         (W.contents output.old) (W.contents output.new) (E.contents faults.old) (E.contents faults.new) result }
     ensures fault { result ≡ 1 → (f : FaultOf)
         × SendsSome (E.contents faults.old) (E.contents faults.new) (run_fault_line (codes "ctmonitor") f) }
+    ensures broken { result ≡ 1 → IsCallBroken (monitor_call (map string_bytes words.now)) (R.remaining input)
+        (W.contents output.old) (W.contents output.new) }
 {
     match do_asked(alloc, words, input, output, faults) {
         Ok(status) => status,
