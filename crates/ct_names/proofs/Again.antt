@@ -12,7 +12,7 @@ use Rattle.ct_names.specs.declared.fault.Unread.{Unread}
 use Rattle.ct_names.specs.Names.{Named, is_alt}
 use Rattle.ct_names.specs.Reading.{placed, each, all_of, alt_at, attribute_at, rdn_at, extension_at, extensions_at, front_at, behind_at, parts_at, tbs_at, tbs_names, certificate_names, bare_names}
 use Rattle.ct_names.specs.Certificate.{names_in_all, text_of_all, Each, Many, IsOptional, IsField, IsAltName, IsAttribute, IsRdn, IsValue, IsExtension, AreExtensions, IsTbs}
-use Rattle.ct_names.specs.Laws.{CertificatesAreRead, BareCertificatesAreRead, CertificatesHaveOneReading, BeginningsAreRefused}
+use Rattle.ct_names.specs.Laws.{CertificatesAreRead, BareCertificatesAreRead, CertificatesHaveOneReading, BeginningsAreRefused, BareBeginningsAreRefused}
 use Rattle.ct_names.proofs.Loops.{Item, next}
 
 same_tag : (n : ℕ) → eqb n n ≡ true
@@ -213,3 +213,7 @@ pub beginnings_are_refused : BeginningsAreRefused
 unfolding certificate_names tbs_at
 beginnings_are_refused ns b y s (content, tbs, algorithm, signature, is, inner, a, g, outer) some e =
     rw (cut_whole y (beginnings_are_truncated 48 (tbs ++ (algorithm ++ signature)) b y s outer some e)) refl
+
+pub bare_beginnings_are_refused : BareBeginningsAreRefused
+unfolding bare_names
+bare_beginnings_are_refused ns b y s (content, is, outer) some e = rw (cut_whole y (beginnings_are_truncated 48 content b y s outer some e)) refl

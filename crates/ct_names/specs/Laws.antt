@@ -27,6 +27,12 @@ BeginningsAreRefused =
     (ns : List Named) (b y s : List ℕ) → NamesOf ns b → 0 < length s → b ≡ y ++ s
     → certificate_names y ≡ Err (record { place = at.Certificate; fault = Truncated })
 
+-- Each proper beginning of a TBSCertificate is refused, as truncated.
+abbrev pub BareBeginningsAreRefused : Type 0
+BareBeginningsAreRefused =
+    (ns : List Named) (b y s : List ℕ) → BareNamesOf ns b → 0 < length s → b ≡ y ++ s
+    → bare_names y ≡ Err (record { place = at.Tbs; fault = Truncated })
+
 -- A name covers a watched one exactly where it is that name or below it, or a wildcard over it, by labels.
 abbrev pub CoveringIsByLabels : Type 0
 CoveringIsByLabels = (name watched : List ℕ) → Decides (covered name watched) (Covers name watched)

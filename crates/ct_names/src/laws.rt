@@ -1,6 +1,6 @@
 //! Laws of names, each the contract of a function that does nothing.
 
-ghost use Rattle.ct_names.specs.Laws.{CertificatesAreRead, BareCertificatesAreRead, CertificatesHaveOneReading, BeginningsAreRefused, CoveringIsByLabels, ReadCertificatesAreThere};
+ghost use Rattle.ct_names.specs.Laws.{CertificatesAreRead, BareCertificatesAreRead, CertificatesHaveOneReading, BeginningsAreRefused, BareBeginningsAreRefused, CoveringIsByLabels, ReadCertificatesAreThere};
 
 /// The names of each certificate of the grammar are read (RFC 5280, section 4.1).
 pub fn certificates_are_read()
@@ -20,6 +20,11 @@ pub fn certificates_have_one_reading()
 /// Each proper beginning of a certificate is refused, as `truncated in certificate`.
 pub fn beginnings_are_refused()
     ensures { BeginningsAreRefused }
+{}
+
+/// Each proper beginning of a TBSCertificate is refused, as `truncated in tbs`.
+pub fn bare_beginnings_are_refused()
+    ensures { BareBeginningsAreRefused }
 {}
 
 /// A name covers a watched one exactly where it is that name or below it, or a wildcard over it, by labels (RFC 9525, section 6.3).
