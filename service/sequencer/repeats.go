@@ -107,6 +107,8 @@ func (s *Sequencer) answerRepeats(ctx context.Context, k known, batch []*waiting
 	// In the order of places, so that each tile is read once.
 	sort.SliceStable(repeats, func(i, j int) bool { return found[repeats[i].identity].Index < found[repeats[j].identity].Index })
 	tree := s.treeOf(ctx, k.state)
+	tree.readAhead(repeats, found)
+	defer tree.ahead.end()
 	var known, later []*waiting
 	defer func() {
 		s.queue.putOff(later)
@@ -164,6 +166,8 @@ type tree struct {
 	tiles  *tiles
 	hashes tlog.HashReader
 	ctx    context.Context
+	// ahead reads tiles before they are wanted.
+	ahead *ahead
 	// left is for how long it begins to read entries yet, and damaged says that what it reads is known to be.
 	left    time.Duration
 	damaged bool
@@ -174,10 +178,47 @@ type tree struct {
 
 func (s *Sequencer) treeOf(ctx context.Context, state step.State) *tree {
 	root := tlog.Tree{N: int64(state.Size), Hash: tlog.Hash(state.Root)}
-	t := &tree{s: s, state: state, ctx: ctx, left: s.config.Patience}
+	t := &tree{s: s, state: state, ctx: ctx, left: mostRepeating}
 	t.tiles = &tiles{ctx: ctx, read: t.read, seen: map[string][]byte{}}
 	t.hashes = tlog.TileHashReader(root, t.tiles)
 	return t
+}
+
+// mostRepeating is for how long a round begins to read for repeats: new entries wait behind them.
+const mostRepeating = 250 * time.Millisecond
+
+// readAhead begins to read the tiles of repeats, which are in the order of their places: each data tile, and the hash tile of its leaves. One that
+// is known to be damaged, or is at hand, isn't among them.
+func (t *tree) readAhead(repeats []*waiting, found map[stores.Identity]stores.Place) {
+	var names []string
+	last := ""
+	for _, w := range repeats {
+		index := found[w.identity].Index
+		if index >= t.state.Size || t.s.isDamaged(index/tileWidth) {
+			continue
+		}
+		data := t.dataTile(index)
+		if name := tileName(data); name != last {
+			last = name
+			for _, level := range []int{-1, 0} {
+				data.L = level
+				name := tileName(data)
+				if _, ok := t.s.edge[name]; !ok {
+					names = append(names, name)
+				}
+			}
+		}
+	}
+	t.ahead = readAhead(t.ctx, names, t.s.readBriefly)
+}
+
+// dataTile is the data tile of an entry.
+func (t *tree) dataTile(index uint64) tlog.Tile {
+	tile := tlog.Tile{H: tileHeight, L: -1, N: int64(index / tileWidth), W: tileWidth}
+	if tile.N == int64(t.state.Size/tileWidth) {
+		tile.W = int(t.state.Size % tileWidth)
+	}
+	return tile
 }
 
 // errNotYet: it isn't read in this round any more.
@@ -188,21 +229,25 @@ func (t *tree) read(ctx context.Context, name string) ([]byte, error) {
 	if content, ok := t.s.edge[name]; ok {
 		return content, nil
 	}
+	began := time.Now()
+	if done, ok := t.ahead.take(name); ok {
+		t.left -= time.Since(began)
+		return done.content, done.err
+	}
 	most := t.s.config.Patience
 	if t.damaged {
 		most /= 10
 	}
 	ctx, cancel := context.WithTimeout(ctx, most)
 	defer cancel()
-	began := time.Now()
 	content, err := t.s.readStore(ctx, name)
 	t.left -= time.Since(began)
 	return content, err
 }
 
 // leafAt gives the entry at an index, whose leaf hash is the tree's; none where the tree has no such index. A data tile that is
-// missing, or isn't the tree's, is ErrDamaged, and one that can't be read errUnread. Where reading took Patience already in this round, none is
-// begun.
+// missing, or isn't the tree's, is ErrDamaged, and one that can't be read errUnread. Where reading took mostRepeating already in this round, none
+// is begun.
 func (t *tree) leafAt(index uint64) (*leaf, error) {
 	if index >= t.state.Size {
 		return nil, nil
@@ -211,10 +256,7 @@ func (t *tree) leafAt(index uint64) (*leaf, error) {
 		return nil, errNotYet
 	}
 	t.tiles.failed, t.damaged = nil, t.s.isDamaged(index/tileWidth)
-	tile := tlog.Tile{H: tileHeight, L: -1, N: int64(index / tileWidth), W: tileWidth}
-	if tile.N == int64(t.state.Size/tileWidth) {
-		tile.W = int(t.state.Size % tileWidth)
-	}
+	tile := t.dataTile(index)
 	name := tileName(tile)
 	if name != t.name {
 		content, err := t.read(t.ctx, name)
