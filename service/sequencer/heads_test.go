@@ -10,6 +10,7 @@ import (
 	"time"
 
 	"wagtenib/service/log"
+	"wagtenib/service/step"
 	"wagtenib/service/stores"
 )
 
@@ -208,4 +209,29 @@ func TestHeadOfAVersionBefore(t *testing.T) {
 	}
 	must(t, got.submitAll(ctx, s, 10, 20, 10))
 	p.right(t, got)
+}
+
+// TestPastState asks whether a state is rolled out that another node went on from, and whose head and bundle were swept: it is past, and nothing
+// of it is damaged or made again.
+func TestPastState(t *testing.T) {
+	t.Parallel()
+	p, ctx, got := newPlace(t), limited(t), &answers{}
+	s := started(t, p.config(t), hooks{})
+	must(t, got.submitAll(ctx, s, 0, 5, 5))
+	past := s.newestKnown()
+	must(t, got.submitAll(ctx, s, 5, 9, 4))
+	must(t, os.Remove(filepath.Join(p.objects(), headName(past.state))))
+	for _, withBundle := range []bool{false, true} {
+		if withBundle {
+			must(t, os.WriteFile(filepath.Join(p.objects(), bundleName(step.Digest(past.line))), []byte("left"), 0o644))
+		}
+		other := readingNode(s)
+		other.newest, other.heard = past, time.Now()
+		if done, err := other.isRolledOut(ctx, past); done || err != nil {
+			t.Errorf("a past state, its bundle there %v: %v, %v", withBundle, done, err)
+		}
+		if other.mended != 0 {
+			t.Errorf("%s was made again", other.lastMended)
+		}
+	}
 }

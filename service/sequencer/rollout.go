@@ -41,7 +41,13 @@ func (s *Sequencer) isRolledOut(ctx context.Context, k known) (bool, error) {
 	}
 	if isOut && (errors.Is(err, stores.ErrAbsent) || errors.Is(err, errOtherHead)) {
 		// It was published, so all of it was out.
-		head, err = s.restore(ctx, k)
+		restored, failed := s.restore(ctx, k)
+		if errors.Is(failed, errPast) {
+			return false, nil
+		}
+		if !errors.Is(failed, errNoBundle) {
+			head, err = restored, failed
+		}
 	}
 	if errors.Is(err, stores.ErrAbsent) {
 		return false, nil
@@ -145,9 +151,20 @@ func (s *Sequencer) help(ctx context.Context, k known) error {
 	return s.rollOut(ctx, k, resumed.Objects, resumed.Head, placed)
 }
 
-// restore makes a state that was rolled out whole again, as far as its bundle goes: objects that are missing or have another content, and
-// its head, which it gives.
+// errPast: a later state stands.
+var errPast = errors.New("sequencer: the state is past")
+
+// restore makes the newest state, which was rolled out, whole again, as far as its bundle goes: objects that are missing or have another
+// content, and its head, which it gives.
 func (s *Sequencer) restore(ctx context.Context, k known) (log.Head, error) {
+	newest, err := s.learn(ctx)
+	if err != nil {
+		return log.Head{}, err
+	}
+	if newest.text != k.text {
+		// (what nobody needs of a past state is swept)
+		return log.Head{}, errPast
+	}
 	s.edge = map[string][]byte{}
 	resumed, err := s.resume(ctx, k)
 	if err != nil {
