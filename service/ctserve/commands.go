@@ -20,7 +20,9 @@ import (
 	"strings"
 	"time"
 
+	"wagtenib/service/sequencer"
 	"wagtenib/service/signer"
+	"wagtenib/service/stores"
 	"wagtenib/service/version"
 	"wagtenib/service/web"
 )
@@ -30,6 +32,7 @@ var commands = map[string]func(words []string, answers, faults io.Writer) error{
 	"key":        runKey,
 	"list-entry": runListEntry,
 	"check":      runCheck,
+	"places":     runPlaces,
 }
 
 // runCommand does one of the commands, and gives the status: 0 where it is done, 1 where it isn't, 2 where the words aren't ones.
@@ -343,4 +346,33 @@ func versionOf(command []string) (string, error) {
 func runVersion(answers io.Writer) int {
 	fmt.Fprint(answers, version.Line("ctserve"))
 	return 0
+}
+
+// runPlaces builds a log's places anew out of its tiles. The log may run meanwhile.
+func runPlaces(words []string, answers, faults io.Writer) (err error) {
+	if len(words) == 1 && !strings.HasPrefix(words[0], "-") {
+		words = []string{"--config", words[0]}
+	}
+	s, err := parse(words, faults)
+	if err != nil {
+		return err
+	}
+	opening, cancel := context.WithTimeout(context.Background(), s.node.openWithin)
+	defer cancel()
+	config := sequencer.Config{}
+	if config.Objects, err = stores.ObjectsAt(opening, s.node.store); err != nil {
+		return err
+	}
+	defer config.Objects.Close()
+	if config.Register, err = stores.RegisterAt(opening, s.node.register); err != nil {
+		return err
+	}
+	defer config.Register.Close()
+	if config.Places, err = stores.PlacesAt(opening, s.node.places); err != nil {
+		return err
+	}
+	defer config.Places.Close()
+	return sequencer.RebuildPlaces(context.Background(), config, func(left uint64) {
+		fmt.Fprintf(answers, "%d entries are left\n", left)
+	})
 }

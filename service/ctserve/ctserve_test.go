@@ -425,6 +425,7 @@ func TestSettings(t *testing.T) {
 		{file(needed + "not-after-from soon"), "not-after-from"},
 		{file(needed + "proxies 1.2.3"), "proxies"},
 		{file(needed + "nodes-listen 127.0.0.1:1"), "go together"},
+		{file(needed + "register etcd://127.0.0.1:2379/log\nnodes-listen 127.0.0.1:1\nnodes-address http://x/\nnodes-secret " + at.path("secret")), "one store of places"},
 		{file(needed + "nodes-listen 127.0.0.1:1\nnodes-address http://x/\nnodes-secret " + at.path("none")), "no such file"},
 		{file(needed + "nodes-listen 127.0.0.1:1\nnodes-address http://x/\nnodes-secret " + at.path("empty")), "has 0 bytes"},
 		{file(needed + "nodes-listen 127.0.0.1:1\nnodes-address http://x/\nnodes-secret " + at.path("short")), "has 15 bytes"},
@@ -621,6 +622,45 @@ func TestFolderPutBack(t *testing.T) {
 	move("latest-head", "log.latest-head")
 	if status := run(append(words, "--create"), io.Discard, openNode); status != statusSetBack {
 		t.Errorf("all is gone, and a new log is begun: status %d", status)
+	}
+}
+
+// TestPlacesAnew: where a log's places are lost the start is refused by a status of its own; built anew, they have a repeat's first place.
+func TestPlacesAnew(t *testing.T) {
+	t.Parallel()
+	at := newPlace(t)
+	words := append(at.realWords("--signing-key", at.path("log.pem")), "--guard", at.guard)
+	body := at.submission()
+	p := started(t, "", append(words, "--create")...)
+	status, answer := post(p.clients, body)
+	if status != 200 {
+		t.Fatalf("%d %s", status, answer)
+	}
+	p.signal(syscall.SIGTERM)
+	p.ends()
+	left, err := filepath.Glob(at.path("log/places*"))
+	if err != nil || len(left) == 0 {
+		t.Fatal(left, err)
+	}
+	for _, path := range left {
+		if err := os.Remove(path); err != nil {
+			t.Fatal(err)
+		}
+	}
+	if status := run(words, io.Discard, openNode); status != statusSetBack {
+		t.Errorf("status %d", status)
+	}
+	if status, told, faults := does(append([]string{"places"}, words...)...); status != 0 || told != "0 entries are left\n" {
+		t.Errorf("%d, %q, %q", status, told, faults)
+	}
+	p = started(t, "", words...)
+	var first, again struct {
+		Timestamp  uint64 `json:"timestamp"`
+		Extensions []byte `json:"extensions"`
+	}
+	status, text := post(p.clients, body)
+	if status != 200 || json.Unmarshal([]byte(text), &again) != nil || json.Unmarshal([]byte(answer), &first) != nil || fmt.Sprint(first) != fmt.Sprint(again) {
+		t.Errorf("%d %s, and first %s", status, text, answer)
 	}
 }
 

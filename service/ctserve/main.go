@@ -4,7 +4,7 @@
 // who waits, and ends with status 0; where that isn't done within its time, with 1. A second one ends it at once.
 //
 // The key is read by a process of its own, `ctserve signer`, which it starts, or finds at a socket. `ctserve key`, `check` and
-// `list-entry` make a key, look at settings, and write a log list's entry.
+// `list-entry` make a key, look at settings, and write a log list's entry; `places` builds a log's places anew out of its tiles.
 package main
 
 import (
@@ -53,7 +53,7 @@ func main() { os.Exit(run(os.Args[1:], os.Stderr, openNode)) }
 const statusSetBack = 3
 
 // run serves until a signal ends it, and gives the status: 0 at an end in order, 1 at another, 2 where the words aren't ones, statusSetBack
-// where the log, or its guard's state, is gone or older than it was.
+// where the log, or its guard's state, is gone or older than it was, or the places aren't its.
 func run(words []string, to io.Writer, open opener) int {
 	switch {
 	case version.Asked(words):
@@ -76,7 +76,7 @@ func run(words []string, to io.Writer, open opener) int {
 	lines := web.NewLines(to)
 	if err := serve(s, lines, signals, open); err != nil {
 		lines.Error("end", "fault", err)
-		if errors.Is(err, sequencer.ErrSetBack) || errors.Is(err, signer.ErrState) {
+		if errors.Is(err, sequencer.ErrSetBack) || errors.Is(err, signer.ErrState) || errors.Is(err, sequencer.ErrPlaces) {
 			return statusSetBack
 		}
 		return 1

@@ -58,7 +58,7 @@ func parse(words []string, help io.Writer) (*settings, error) {
 	flags := flag.NewFlagSet("ctserve", flag.ContinueOnError)
 	flags.SetOutput(help)
 	flags.Usage = func() {
-		fmt.Fprint(help, "ctserve serves a Certificate Transparency log over HTTP. Each word may also stand as a line 'name value' in the file of --config.\n'ctserve signer --help' says what its signer takes; 'ctserve key FILE' makes a key, 'ctserve check FILE' looks at settings without starting, 'ctserve list-entry' writes a log list's entry, each with --help.\n\n")
+		fmt.Fprint(help, "ctserve serves a Certificate Transparency log over HTTP. Each word may also stand as a line 'name value' in the file of --config.\n'ctserve signer --help' says what its signer takes; 'ctserve key FILE' makes a key, 'ctserve check FILE' looks at settings without starting, 'ctserve list-entry' writes a log list's entry, 'ctserve places FILE' builds the places anew, each with --help.\n\n")
 		flags.PrintDefaults()
 	}
 	config := flags.String("config", "", "`file` with a line 'name value' for each of these, and comments behind #")
@@ -230,6 +230,9 @@ func (s *settings) settle() error {
 	}
 	if (s.listenNodes == "") != (n.address == "") || (n.address == "") != (s.nodesSecretAt == "") {
 		return errors.New("--nodes-listen, --nodes-address and --nodes-secret go together")
+	}
+	if n.address != "" && strings.HasPrefix(n.places, "sqlite:") && !strings.HasPrefix(n.register, "file:") {
+		return errors.New("--nodes-address: nodes on several machines have one store of places, of etcd or PostgreSQL (--places), and no file of each's own")
 	}
 	if s.nodesSecretAt != "" {
 		secret, err := readSecret(s.nodesSecretAt)

@@ -156,8 +156,8 @@ func extensionsOf(index uint64) []byte {
 	return append([]byte{0, 0, 5}, eight(index)[3:]...)
 }
 
-// places are those of a step's entries: by their identities, and by their leaves' hashes.
-type places struct{ identities, leaves []stores.Placed }
+// places are those of a step's entries: by their identities, and by their leaves' hashes. Of the identities some have a wrong place yet.
+type places struct{ identities, leaves, wrong []stores.Placed }
 
 func (p *places) add(identity, leaf stores.Identity, place stores.Place) {
 	p.identities = append(p.identities, stores.Placed{Identity: identity, Place: place})

@@ -296,6 +296,11 @@ func TestWrongPlaces(t *testing.T) {
 	if report := p.right(t, got); report.Leaves != 13 {
 		t.Fatalf("%+v", report)
 	}
+	// Their true places are known now.
+	must(t, got.submitAll(ctx, s, 100, 103, 3))
+	if report := p.right(t, got); report.Leaves != 13 || s.Figures().Repeats != 3 {
+		t.Fatalf("%+v, %d repeats", report, s.Figures().Repeats)
+	}
 }
 
 // TestFullQueue stops a node in a step, and fills its queue.

@@ -18,7 +18,10 @@ func (p place) copied(t testing.TB, parts ...string) place {
 	t.Helper()
 	to := t.TempDir()
 	for _, part := range append(parts, "key.pem") {
-		if said, err := exec.Command("cp", "-a", filepath.Join(string(p), part), to).CombinedOutput(); err != nil {
+		// (and SQLite's log beside a database that somebody has open)
+		from, err := filepath.Glob(filepath.Join(string(p), part) + "*")
+		must(t, err)
+		if said, err := exec.Command("cp", append(append([]string{"-a"}, from...), to)...).CombinedOutput(); err != nil {
 			t.Fatalf("%v: %s", err, said)
 		}
 	}

@@ -179,6 +179,8 @@ func TestOutgrown(t *testing.T) {
 	wants(t, err, log.ErrStore, ErrSetBack)
 	must(t, here.End(ctx))
 	for what, config := range map[string]Config{"its file": p.config(t), "no file": p.notHere(t)} {
+		// (those have the second one's places)
+		config.Places = other.config(t).Places
 		again := started(t, config, hooks{})
 		if _, err = again.Submit(ctx, entryOf(100)); !errors.Is(err, ErrSetBack) {
 			t.Errorf("with %s: %v", what, err)

@@ -25,8 +25,9 @@ type waiting struct {
 	at *list.Element
 	// seated says that it is counted.
 	seated bool
-	// unread is since when the tile that it wants can't be read: the loop's own.
-	unread time.Time
+	// unread is since when the tile that it wants can't be read, and misplaced says that its place isn't an entry of its: the loop's own.
+	unread    time.Time
+	misplaced bool
 }
 
 type answer struct {

@@ -142,7 +142,8 @@ func (s *Sequencer) answerRepeats(ctx context.Context, k known, batch []*waiting
 			return append(append(repeats[i:], known...), rest...), err
 		}
 		if receipt == nil {
-			// The places are wrong: it is a new entry.
+			// The places are wrong: it is a new entry, and gets its place there.
+			w.misplaced = true
 			rest = append(rest, w)
 			continue
 		}

@@ -58,6 +58,9 @@ func (s *Sequencer) isRolledOut(ctx context.Context, k known) (bool, error) {
 	if err := s.believe(ctx, k, nil); err != nil {
 		return false, err
 	}
+	if err := s.knowsPlaces(ctx, k); err != nil {
+		return false, err
+	}
 	if err := s.raise(ctx, published, head); err != nil {
 		return false, err
 	}
@@ -229,6 +232,11 @@ func (s *Sequencer) rollOut(ctx context.Context, k known, objects []step.Object,
 	}
 	if err := addPlaces(ctx, s.config.Places.Leaves(), placed.leaves); err != nil {
 		return err
+	}
+	if len(placed.wrong) > 0 {
+		if err := s.config.Places.Replace(ctx, placed.wrong); err != nil {
+			return fmt.Errorf("sequencer: %w", err)
+		}
 	}
 	s.phase("places added")
 	published, err := s.putHead(ctx, k.state, head, freshOf(objects))

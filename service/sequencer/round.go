@@ -289,6 +289,9 @@ func (s *Sequencer) publish(ctx context.Context, k known, stepped *step.Stepped,
 	for i, g := range groups {
 		r := stepped.Receipts[i]
 		placed.add(g[0].identity, stores.Identity(tlog.RecordHash(r.Sign)), stores.Place{Index: r.LeafIndex, Timestamp: r.Timestamp})
+		if g[0].misplaced {
+			placed.wrong = append(placed.wrong, placed.identities[i])
+		}
 	}
 	if s.config.BehindSwap {
 		if err := s.answer(ctx, groups, stepped.Receipts, freshOf(objects)); err != nil {

@@ -153,6 +153,9 @@ type Sequencer struct {
 	// register was read last, and lookedBack when a node that hands over looked at the newest state last.
 	saw               known
 	heard, lookedBack time.Time
+	// placed is the line of the last state whose newest entry the places are known to have, and placedAt when that was seen.
+	placed   string
+	placedAt time.Time
 	// later says that somebody was left for a later round, since a tile couldn't be read.
 	later bool
 
@@ -232,6 +235,9 @@ func start(ctx context.Context, config Config, test hooks) (*Sequencer, error) {
 		return nil, err
 	}
 	s.askNode(ctx)
+	if err := s.startsWithPlaces(ctx); err != nil {
+		return nil, err
+	}
 	running, cancel := context.WithCancel(context.Background())
 	s.cancel = cancel
 	go s.loop(running)
@@ -285,7 +291,7 @@ func (s *Sequencer) standing() error {
 
 // isNamed says whether a fault is one that waiting a little doesn't mend.
 func isNamed(err error) bool {
-	return errors.Is(err, ErrDamaged) || errors.Is(err, ErrSetBack) || errors.Is(err, log.ErrClock) || errors.Is(err, signer.ErrRefused) || errors.Is(err, signer.ErrState)
+	return errors.Is(err, ErrDamaged) || errors.Is(err, ErrSetBack) || errors.Is(err, ErrPlaces) || errors.Is(err, log.ErrClock) || errors.Is(err, signer.ErrRefused) || errors.Is(err, signer.ErrState)
 }
 
 // IndexOf is log.Log's.

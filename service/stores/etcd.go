@@ -271,6 +271,23 @@ func (e *placesInEtcd) Add(ctx context.Context, placed []Placed) error {
 	})
 }
 
+func (e *placesInEtcd) Replace(ctx context.Context, placed []Placed) error {
+	placed, err := firsts(placed)
+	if err != nil {
+		return err
+	}
+	return parts(len(placed), mostOperations, func(from, to int) error {
+		var puts []clientv3.Op
+		for _, p := range placed[from:to] {
+			puts = append(puts, clientv3.OpPut(e.key(p.Identity), placeBytes(p.Place)))
+		}
+		if _, err := e.client.Txn(ctx).Then(puts...).Commit(); err != nil {
+			return fmt.Errorf("stores: etcd: replace: %w", err)
+		}
+		return nil
+	})
+}
+
 func (e *placesInEtcd) Leaves() Places {
 	return &placesInEtcd{e.client, e.below, e.below + "/leaf/"}
 }

@@ -72,6 +72,30 @@ func TestPlacesKeepTheFirst(t *testing.T) {
 	})
 }
 
+// TestPlacesAreReplaced: a place is set whatever stood there, of a list's the first, and no other is touched.
+func TestPlacesAreReplaced(t *testing.T) {
+	eachOf(t, placeStores, func(t *testing.T, at trial[Places]) {
+		store, ctx := at.opened(t), limited(t)
+		must(t, store.Add(ctx, []Placed{placed(0), placed(1)}))
+		must(t, store.Replace(ctx, nil))
+		right, later := Placed{identity(0), Place{9, 90}}, Placed{identity(0), Place{7, 70}}
+		must(t, store.Replace(ctx, []Placed{right, placed(2), later}))
+		must(t, store.Replace(ctx, []Placed{right}))
+		want := map[Identity]Place{identity(0): right.Place, identity(1): placed(1).Place, identity(2): placed(2).Place}
+		finds(t, at.opened(t), []Identity{identity(0), identity(1), identity(2)}, want)
+		must(t, store.Replace(ctx, []Placed{placed(0)}))
+		want[identity(0)] = placed(0).Place
+		finds(t, store, []Identity{identity(0), identity(1), identity(2)}, want)
+		_, all, _ := someOf(0, MostPlaces+1)
+		if err := store.Replace(ctx, all); !errors.Is(err, ErrTooLong) {
+			t.Errorf("too many: %v", err)
+		}
+		if err := store.Replace(ctx, []Placed{{identity(1), Place{MostNumber + 1, 0}}}); !errors.Is(err, ErrNumber) {
+			t.Errorf("too large: %v", err)
+		}
+	})
+}
+
 func TestPlacesHaveBounds(t *testing.T) {
 	eachOf(t, placeStores, func(t *testing.T, at trial[Places]) {
 		store, ctx := at.opened(t), limited(t)

@@ -298,6 +298,15 @@ func scanPlaces(rows *sql.Rows) (map[Identity]Place, error) {
 }
 
 func (p *placesInPostgres) Add(ctx context.Context, placed []Placed) error {
+	return p.add(ctx, placed, "add", "nothing")
+}
+
+func (p *placesInPostgres) Replace(ctx context.Context, placed []Placed) error {
+	return p.add(ctx, placed, "replace", "update set index = excluded.index, timestamp = excluded.timestamp")
+}
+
+// add adds rows. Where there is one of an identity it does something else.
+func (p *placesInPostgres) add(ctx context.Context, placed []Placed, what, otherwise string) error {
 	placed, err := firsts(placed)
 	if err != nil || len(placed) == 0 {
 		return err
@@ -308,9 +317,9 @@ func (p *placesInPostgres) Add(ctx context.Context, placed []Placed) error {
 		indexes[i], timestamps[i] = int64(placed[i].Place.Index), int64(placed[i].Place.Timestamp)
 	}
 	// In the order of identities, so that of two such calls neither waits for the other.
-	add := "insert into " + p.table + ` select $1, i, n, t from unnest($2::bytea[], $3::bigint[], $4::bigint[]) as u(i, n, t) order by i on conflict do nothing`
+	add := "insert into " + p.table + ` select $1, i, n, t from unnest($2::bytea[], $3::bigint[], $4::bigint[]) as u(i, n, t) order by i on conflict (log, identity) do ` + otherwise
 	if _, err = uncancelled(ctx, p.db, add, p.log, identities, indexes, timestamps); err != nil {
-		return fmt.Errorf("stores: PostgreSQL: add: %w", err)
+		return fmt.Errorf("stores: PostgreSQL: %s: %w", what, err)
 	}
 	return nil
 }

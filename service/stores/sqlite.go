@@ -114,16 +114,26 @@ func (s *inSQLite) Add(ctx context.Context, placed []Placed) error {
 	if err != nil || len(placed) == 0 {
 		return err
 	}
-	return unlessBusy(ctx, "add", func() error { return s.add(ctx, placed) })
+	return unlessBusy(ctx, "add", func() error { return s.add(ctx, placed, "nothing") })
 }
 
-func (s *inSQLite) add(ctx context.Context, placed []Placed) error {
+func (s *inSQLite) Replace(ctx context.Context, placed []Placed) error {
+	placed, err := firsts(placed)
+	if err != nil || len(placed) == 0 {
+		return err
+	}
+	set := `update set "index" = excluded."index", timestamp = excluded.timestamp`
+	return unlessBusy(ctx, "replace", func() error { return s.add(ctx, placed, set) })
+}
+
+// add adds rows. Where there is one of an identity it does something else.
+func (s *inSQLite) add(ctx context.Context, placed []Placed, otherwise string) error {
 	tx, err := s.db.BeginTx(ctx, nil)
 	if err != nil {
 		return err
 	}
 	defer tx.Rollback()
-	add, err := tx.PrepareContext(ctx, "insert into "+s.table+" values (?, ?, ?) on conflict do nothing")
+	add, err := tx.PrepareContext(ctx, "insert into "+s.table+" values (?, ?, ?) on conflict (identity) do "+otherwise)
 	if err != nil {
 		return err
 	}

@@ -144,6 +144,9 @@ type Places interface {
 	// Add adds identities, at most MostPlaces. One that has a place, or stands earlier in the list, keeps the first one. At an
 	// error some may have been added, and the call may be made again.
 	Add(ctx context.Context, placed []Placed) error
+	// Replace sets the places of identities, at most MostPlaces, whatever stood there; of one that stands twice in the list the first. At an
+	// error some may have been set, and the call may be made again.
+	Replace(ctx context.Context, placed []Placed) error
 	// Leaves are the places of leaves by their hashes (RFC 6962, section 2.1), apart from those of identities. They close with
 	// these.
 	Leaves() Places
