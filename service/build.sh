@@ -20,8 +20,13 @@ case $what in
   test)
     package=${1:-}
     shift || true
-    if [ -n "$package" ]; then set -- "$@" "wagtenib/service/$package"; else set -- $(sed 's|^|wagtenib/service/|' <<<"$folders"); fi
-    go test -count=1 "$@"
+    if [ -n "$package" ]; then
+      go test -count=1 "$@" "wagtenib/service/$package"
+    else
+      go test -count=1 $(sed 's|^|wagtenib/service/|' <<<"$folders")
+      # (with orders that no log may have, for which nothing else is built)
+      go test -count=1 -tags=libsqlite3,wrong_order -run WrongOrder wagtenib/service/sequencer
+    fi
     ;;
   vet)
     unformatted=$(gofmt -l .)

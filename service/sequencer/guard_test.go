@@ -125,15 +125,6 @@ func TestUnreadGuardState(t *testing.T) {
 	}
 }
 
-// TestGuardedOrder plants answers before the swap: behind the guard none is given, since the entry is in no head.
-func TestGuardedOrder(t *testing.T) {
-	t.Parallel()
-	p, ctx := newPlace(t), limited(t)
-	s := started(t, p.config(t), hooks{plant: answerFirst})
-	_, err := s.Submit(ctx, entryOf(1))
-	wants(t, err, signer.ErrRefused)
-}
-
 // TestSignerGone ends the guard under a node that goes on, and has its state not be there for a while.
 func TestSignerGone(t *testing.T) {
 	t.Parallel()

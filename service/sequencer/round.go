@@ -152,16 +152,11 @@ func (s *Sequencer) round(ctx context.Context) error {
 	} else if s.handOver(k) {
 		return nil
 	}
-	if s.test.plant != noWait {
-		ready, err := s.haveRolledOut(ctx, k)
-		if err != nil {
-			return err
-		}
-		if !ready {
-			return skewed
-		}
+	ready, err := s.mayStep(ctx, k)
+	if err != nil {
+		return err
 	}
-	if skewed != nil {
+	if !ready || skewed != nil {
 		return skewed
 	}
 	batch := s.queue.take(s.config.MostBatch, MostBatchBytes)
@@ -240,11 +235,8 @@ func (s *Sequencer) advance(ctx context.Context, k known, batch []*waiting) erro
 		return err
 	}
 	s.phase("stepped")
-	if err := s.planted(ctx, objects, groups, stepped.Receipts); err != nil {
-		return err
-	}
 	name := bundleName(step.Digest(stepped.Line))
-	if err := s.config.Objects.Put(ctx, name, stepped.Bundle); err != nil {
+	if err := s.putBundle(ctx, name, stepped, groups); err != nil {
 		return fmt.Errorf("sequencer: %w", err)
 	}
 	s.phase("bundle put")
@@ -298,17 +290,7 @@ func (s *Sequencer) publish(ctx context.Context, k known, stepped *step.Stepped,
 			return err
 		}
 	}
-	if s.skips(k) {
-		return nil
-	}
-	if err := s.rollOut(ctx, k, objects, stepped.Head, placed); err != nil {
-		return err
-	}
-	if err := s.answer(ctx, groups, stepped.Receipts, freshOf(objects)); err != nil {
-		return err
-	}
-	s.phase("answered")
-	return nil
+	return s.finish(ctx, k, stepped, objects, placed, groups)
 }
 
 // answer has the timestamps of a step signed, and answers who still waits for them.
@@ -400,25 +382,3 @@ func (s *Sequencer) keepEdge(edge map[string][]byte, objects []step.Object) {
 
 // partial stands in the names of partial tiles.
 const partial = ".p/"
-
-// The orders that a log must not have, which the tests plant.
-const (
-	tilesFirst  = "tiles first"
-	answerFirst = "answer first"
-	noWait      = "no wait for the roll-out"
-)
-
-func (s *Sequencer) planted(ctx context.Context, objects []step.Object, groups [][]*waiting, receipts []step.Receipt) error {
-	switch s.test.plant {
-	case tilesFirst:
-		return s.putAll(ctx, objects)
-	case answerFirst:
-		return s.answer(ctx, groups, receipts, freshOf(objects))
-	}
-	return nil
-}
-
-// skips says whether a test has this node end its round here.
-func (s *Sequencer) skips(k known) bool {
-	return s.test.plant == noWait && k.state.Size%2 == 1
-}

@@ -187,10 +187,9 @@ type Sequencer struct {
 	test hooks
 }
 
-// hooks are the tests': phase is called between what is done, and plant names what is done in another order.
+// hooks are the tests': phase is called between what is done.
 type hooks struct {
 	phase func(string)
-	plant string
 }
 
 func (s *Sequencer) phase(name string) {

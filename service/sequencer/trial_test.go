@@ -390,7 +390,7 @@ const nodeWords = "SEQUENCER_NODE"
 // child is a node in a process of its own: it submits numbers from one to another, or those of a list, and writes each answer as a
 // line. At the phase KillAt, the KillOn-th time, it is killed (-9), and so it is after KillAfter. What isn't said isn't done.
 type child struct {
-	Place, KillAt, Plant string
+	Place, KillAt, Order string
 	KillOn               int
 	From, To             int
 	Numbers              []int
@@ -431,6 +431,7 @@ func beNode(words string) error {
 	}
 	orElse(&c.Within, longest)
 	orElse(&c.AtOnce, 8)
+	setOrder(c.Order)
 	if c.KillAfter > 0 {
 		time.AfterFunc(c.KillAfter, killSelf)
 	}
@@ -441,7 +442,7 @@ func beNode(words string) error {
 		return err
 	}
 	defer closeAll(config)
-	if c.Plant != "" {
+	if c.Order != "" {
 		// (that the checker sees what a guard wouldn't let through)
 		if config.Signer, err = place(c.Place).guarded(ctx, signer.Unguarded); err != nil {
 			return err
@@ -458,7 +459,7 @@ func beNode(words string) error {
 	}
 	defer end()
 	config.Clock = newAhead(c.Ahead)
-	s, err := start(ctx, config, hooks{plant: c.Plant, phase: c.phases()})
+	s, err := start(ctx, config, hooks{phase: c.phases()})
 	if err != nil {
 		return err
 	}
