@@ -308,6 +308,7 @@ judge() {
     [ $status != 0 ] || return 1
   fi
   [ $status = 0 ] || return $status
+  unread=$((unread + $(grep -c '^{"entry":.*"unread":' told)))
   keep_head || { say "the head can't be kept; the state is left as it was"; return 1; }
   replace || { say "the state can't be written, and is left as it was"; return 1; }
 }
@@ -381,7 +382,9 @@ say_how_far() {
     echo '{"error":"old"}' >>verdicts
     return 6
   fi
-  say "accepted ${size:-no} leaves${waiting:+, has read $(leaves) of $waiting}"
+  rest=
+  [ $unread = 0 ] || rest="; the names of $unread couldn't be read, which verdicts has"
+  say "accepted ${size:-no} leaves${waiting:+, has read $(leaves) of $waiting}$rest"
 }
 
 # The name of a log's folder, made of its address.
@@ -426,7 +429,7 @@ for log in $LOG; do
     tiled+*) kind=tiles ;;
     *) kind=calls ;;
   esac
-  address=${log#tiled+} address=${address%/} count=1
+  address=${log#tiled+} address=${address%/} count=1 unread=0
   # (with a slash behind its address a log has the same folder: the one that is there, by whichever name; where there are two, each goes on)
   for name in "$(name_of "$log")" "$(name_of "$address")" "$(name_of "$address/")" "$(name_of "$address")"; do
     [ ! -d "$folder/$name" ] || break

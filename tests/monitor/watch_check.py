@@ -569,13 +569,13 @@ def try_telling(watch):
     """Each entry with a watched name is a line and status 8, and is given to the command, once."""
     command, log = Command(watch.folder), named_log(6)
     words = ("--tell", command.line, "--name", "example.org")
-    output = watch.ends("four entries of a name", 8, log.url, *words, says="accepted 6 leaves")
+    output = watch.ends("four entries of a name", 8, log.url, *words, says="accepted 6 leaves; the names of 6 couldn't be read, which verdicts has\n")
     lines = [line for line in output.splitlines() if "FOUND" in line]
     moment = time.strftime("%Y-%m-%dT%H:%M:%SZ", time.gmtime(answers.MOMENT // 1000 + 4))
     if len(lines) != 4 or lines[2] != f"{log.url}: FOUND example.org: entry 4, a certificate, {moment}, among its bytes alone":
         fail(f"four entries of a name: the lines {lines}")
     is_told("four entries of a name", command, due_of(log, [1, 2, 4, 5]))
-    if "FOUND" in watch.ends("the same", 0, log.url, *words) or command.told():
+    if "FOUND" in watch.ends("the same", 0, log.url, *words, says="accepted 6 leaves\n") or command.told():
         fail("the same head: an entry is told once more")
     log.size, log.now = 10, log.now + 1
     output = watch.ends("two names, the words in another order", 8, log.url, "--name", ODD, *words[2:], *words[:2], says="entry 9, a precertificate")
