@@ -51,6 +51,9 @@ func (a *ahead) begin(until int) {
 // take gives what reading an object gave, once, and goes on with the next ones; none where it isn't being read. What stands before it in the
 // order isn't wanted any more.
 func (a *ahead) take(name string) (done fetched, ok bool) {
+	if a == nil {
+		return done, false
+	}
 	at, known := a.at[name]
 	came := a.came[at]
 	if !known || came == nil {
