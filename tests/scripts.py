@@ -349,7 +349,11 @@ def try_quotations():
 
 
 def try_nodes():
-    """node/explore.py: each history of the right machine is sound, and each wrong machine is found out by its clause."""
+    """node/explore.py: each history of the right machine is sound, and each wrong machine is found out by its clause. node/lines.py writes the stored
+    run of ctnode."""
+    for word, stored in (("asked", "stdin"), ("replied", "stdout")):
+        if run("node/lines.py", word).stdout != (HERE.parent / "crates" / "ctnode" / stored).read_bytes():
+            fail(f"node/lines.py writes another text than crates/ctnode/{stored}")
     ran = run("node/explore.py")
     if ran.returncode:
         fail(f"node/explore.py: {ran.stderr.decode()}")

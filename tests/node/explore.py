@@ -1,14 +1,16 @@
 #!/usr/bin/env python3
 """Random histories of nodes that carry on one log: what crates/ct_node proves, written down once more as docs/NODE.md says it, and judged by running.
 
-    explore.py [--histories 60] [--seed 1]
+    explore.py [--histories 60] [--seed 1] [--program crates/ctnode/out/ctnode]
 
 A history is a world in which commands come late, twice or never, nodes are killed, told twice, or go on from what they were before, and readings are
 old. Of the right machine each history has to stay sound, and at its end a node that starts has to publish the newest state; each wrong machine has to be
-found out by the clause that it breaks. It prints a line for each machine, and ends with status 1 where one isn't as it should be.
+found out by the clause that it breaks. With a program, the right machine is that program, asked by lines (lines.py). It prints a line for each
+machine, and ends with status 1 where one isn't as it should be.
 """
 import argparse
 import random
+import subprocess
 import sys
 import typing
 from collections import Counter
@@ -99,6 +101,23 @@ class Machine:
         if verb == "Heading":
             return self.headed(node[1])
         return READING if verb == "Answering" else node
+
+
+class Program(Machine):
+    """The machine that a program is, which answers a line with a line."""
+
+    def __init__(self, path):
+        self.process = subprocess.Popen([path], stdin=subprocess.PIPE, stdout=subprocess.PIPE, text=True)
+
+    def after(self, node, outcome):
+        from lines import asked, node_in
+
+        self.process.stdin.write(f"{asked(node, outcome)}\n")
+        self.process.stdin.flush()
+        behind = node_in(self.process.stdout.readline())
+        if behind != Machine.after(self, node, outcome):
+            sys.exit(f"explore.py: behind {outcome} of {node} the program has {behind}")
+        return behind
 
 
 def wrong(**methods):
@@ -265,8 +284,10 @@ def main():
     parser = argparse.ArgumentParser()
     parser.add_argument("--histories", type=int, default=60)
     parser.add_argument("--seed", default="1")
+    parser.add_argument("--program")
     words = parser.parse_args()
-    found, answered = histories(Machine(), words.seed, words.histories)
+    machine = Program(words.program) if words.program else Machine()
+    found, answered = histories(machine, words.seed, words.histories)
     print(f"the right machine: sound in {found.pop(None, 0)} of {words.histories} histories, of which {answered} answered somebody")
     missed = [f"the right machine breaks {clause}" for clause in found] + ["no history of the right machine answered anybody"] * (not answered)
     for name, (clause, machine) in WRONG.items():

@@ -1,0 +1,4 @@
+pub mod WrittenNodes
+pub mod NodeKept
+pub mod NodeRuns
+pub mod NodeBroken

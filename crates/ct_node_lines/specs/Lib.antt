@@ -1,0 +1,5 @@
+pub mod NodeAsks
+pub mod NodeWords
+pub mod NodeSession
+pub mod NodeOptions
+pub mod NodeBroken

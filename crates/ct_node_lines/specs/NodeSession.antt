@@ -1,0 +1,85 @@
+-- What a run writes, line by line.
+use Rattle.std.specs.Prelude.{◌≡◌, ◌<◌, ◌⊎◌, ◌||◌, ℕ, Bool, true, false, List, [], ◌∷◌, ◌++◌, length, Option, Some, None, IfSome, if◌then◌else◌}
+use Rattle.std.specs.Io.BufRead.{first_piece, drop_through}
+use Rattle.std.specs.Io.KnownBytes.{Appends}
+use Rattle.ct_node.specs.declared.node.Node.{Node}
+use Rattle.ct_node_lines.specs.NodeAsks.{node_asked}
+use Rattle.ct_node_lines.specs.NodeWords.{node_replied, node_reply_text, is_no_node}
+
+-- What one line gave: what was replied, unless it was empty, and the reply's text.
+pub record NodeGiven : Type 0 where
+  pub gave : Option (Option Node)
+  pub text : List ℕ
+
+-- A line that isn't empty: the reply to it is the next command of the node that it says (noted), and its text this (text).
+pub record IsNodeAnswered (line : List ℕ) (given : NodeGiven) : Type 0 where
+  pub noted : given.gave ≡ Some (node_replied (node_asked line))
+  pub text : given.text ≡ node_reply_text line
+
+-- what any line gives: an empty one is passed over
+abbrev pub GivesNode : List ℕ → NodeGiven → Type 0
+GivesNode [] given = (given.gave ≡ None) × (given.text ≡ [])
+GivesNode (b ∷ bs) given = IsNodeAnswered (b ∷ bs) given
+
+-- what each line of the input gives, in order, and the text of all replies
+abbrev pub GiveNodes : List NodeGiven → List ℕ → List ℕ → Type 0
+GiveNodes [] input text = (input ≡ []) × (text ≡ [])
+GiveNodes (g ∷ given) input text = (0 < length input) × GivesNode (first_piece 10 input) g
+    × ((rest : List ℕ) × GiveNodes given (drop_through 10 input) rest × (text ≡ g.text ++ rest))
+
+-- whether a line was refused as none
+abbrev pub was_no_node : Option (Option Node) → Bool
+was_no_node None = false
+was_no_node (Some reply) = is_no_node reply
+
+-- whether one of the lines was refused as none
+abbrev pub some_no_node : List NodeGiven → Bool
+some_no_node [] = false
+some_no_node (g ∷ given) = was_no_node g.gave || some_no_node given
+
+-- the exit status: 4 where a line was refused as none, else 0
+abbrev pub node_status : Bool → ℕ
+node_status bad = if bad then 4 else 0
+
+-- the status is one of 0 and 4
+abbrev pub IsNodeStatus : ℕ → Type 0
+IsNodeStatus status = (status ≡ 0) ⊎ (status ≡ 4)
+
+-- A run over the input: its text is the replies to its lines, and its exit status is this.
+pub record NodeRun (input text : List ℕ) (status : ℕ) : Type 0 where
+  pub given : List NodeGiven
+  pub lines : GiveNodes given input text
+  pub ends : status ≡ node_status (some_no_node given)
+
+-- a run was written, where the bytes are known: all were read
+abbrev pub IsNodeRun : Option (List ℕ) → Option (List ℕ) → Option (List ℕ) → ℕ → Type 0
+IsNodeRun source sink sink_next status =
+    IfSome source (λ input. (text : List ℕ) × NodeRun input text status × Appends sink sink_next text)
+
+-- what is kept of a line is the line, or both are longer than a line may be
+abbrev pub KeepsNodeLine : List ℕ → List ℕ → Type 0
+KeepsNodeLine kept line = (kept ≡ line) ⊎ ((4096 < length kept) × (4096 < length line))
+
+-- a line was read, of which this is kept (true), where the bytes are known; or none is left (false)
+abbrev pub GetsNodeLine : Bool → Option (List ℕ) → Option (List ℕ) → List ℕ → Type 0
+GetsNodeLine true source source_next kept =
+    IfSome source (λ xs. (0 < length xs) × KeepsNodeLine kept (first_piece 10 xs) × (source_next ≡ Some (drop_through 10 xs)))
+GetsNodeLine false source source_next kept = IfSome source (λ xs. xs ≡ [])
+
+-- what a line gives, with its text, and whether a line was refused as none so far, before it and behind it
+abbrev pub GivesNodeText : Bool → List ℕ → List ℕ → Bool → Type 0
+GivesNodeText before line text after =
+    (given : NodeGiven) × GivesNode line given × (given.text ≡ text) × (after ≡ before || was_no_node given.gave)
+
+-- a line was taken, and its reply written; or none is left (true), and nothing has changed
+abbrev pub OneNode : Bool → Bool → Option (List ℕ) → Option (List ℕ) → Option (List ℕ) → Option (List ℕ) → Bool → Type 0
+OneNode before after source source_next sink sink_next true = IfSome source (λ xs. xs ≡ []) × (after ≡ before) × Appends sink sink_next []
+OneNode before after source source_next sink sink_next false =
+    IfSome source (λ xs. (0 < length xs) × (source_next ≡ Some (drop_through 10 xs))
+    × ((text : List ℕ) × GivesNodeText before (first_piece 10 xs) text after × Appends sink sink_next text))
+
+-- all lines that are left were taken
+abbrev pub AllNodes : Bool → Bool → Option (List ℕ) → Option (List ℕ) → Option (List ℕ) → Type 0
+AllNodes before after source sink_first sink =
+    IfSome source (λ input. (given : List NodeGiven) × (text : List ℕ) × GiveNodes given input text
+    × (after ≡ before || some_no_node given) × Appends sink_first sink text)

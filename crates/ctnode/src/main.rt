@@ -1,0 +1,30 @@
+//! The program `ctnode`: what a node of a log does next, for a line on standard input each. What it does is `answer_words` of `ct_node_lines`, over the
+//! process's words, standard input, output and error.
+#![tactic(auto)]
+
+use ct_lines::{RunFault, tell};
+use ct_node_lines::{answer_words, fault_text};
+use std::io;
+use std::process::ExitCode;
+
+// The words of the command line. Std's contracts don't say which these are.
+fn collected(rt: &HostRuntime) -> Result<Vec<String>, RunFault> {
+    let words = std::env::args(rt)?.collect(rt.alloc())?;
+    Ok(words)
+}
+
+fn main(rt: HostRuntime) -> ExitCode {
+    let mut output = io::writer(&rt);
+    let mut faults = rt.stderr();
+    let status = match collected(&rt) {
+        Ok(words) => {
+            let (_, words) = words.split_at(usize::from(!words.is_empty()));
+            answer_words(rt.alloc(), words, rt.reader(), &mut output, &mut faults)
+        }
+        Err(fault) => {
+            tell(&mut faults, fault_text(fault).as_bytes());
+            1
+        }
+    };
+    ExitCode::from(status)
+}
