@@ -57,3 +57,19 @@ func TestFaultStandsUntilAWrite(t *testing.T) {
 		})
 	}
 }
+
+// TestFaultBehindARoundThatWroteNothing: it stands behind a round that hands over, or waits for another node, and goes behind one in which a step
+// was decided.
+func TestFaultBehindARoundThatWroteNothing(t *testing.T) {
+	s := &Sequencer{queue: newQueue(1, 1), config: Config{Patience: longest}}
+	s.settle(errTried)
+	s.settle(nil)
+	if s.fault == nil {
+		t.Error("it went by a round that wrote nothing")
+	}
+	s.wrote = true
+	s.settle(nil)
+	if s.fault != nil {
+		t.Errorf("a step was decided, and it stands: %v", s.fault)
+	}
+}

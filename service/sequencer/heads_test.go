@@ -133,6 +133,11 @@ func TestOlderHeadInItsPlace(t *testing.T) {
 			must(t, err)
 			must(t, s.End(ctx))
 			setBack(t, p, headsOf(t, p))
+			if what == "another head's file" {
+				// (where no node makes it again)
+				_, err := readingNode(s).Checkpoint(ctx)
+				wants(t, err, log.ErrStore, ErrDamaged)
+			}
 			config := p.config(t)
 			s = started(t, config, hooks{})
 			for i := 0; i < 50; i++ {
