@@ -111,6 +111,45 @@ func TestPartedNode(t *testing.T) {
 	}
 }
 
+// TestPartedOnEach is the same on each ground that is there, with the register's text alone put back beside the guard's state: what is
+// published stays, as a number that only rises does.
+func TestPartedOnEach(t *testing.T) {
+	t.Parallel()
+	onEach(t, func(t *testing.T, on ground) {
+		p, ctx, got := newPlaceOn(t, on), limited(t), &answers{}
+		here, config := started(t, p.notHere(t), hooks{}), p.notHere(t)
+		register := &parted{Register: config.Register}
+		config.Register, config.Patience = register, time.Second
+		there := started(t, config, hooks{})
+		must(t, got.submitAll(ctx, here, 0, 10, 4))
+		must(t, got.submitAll(ctx, there, 10, 20, 4))
+		register.on.Store(true)
+		text := func() string {
+			t.Helper()
+			text, err := register.Register.Read(ctx)
+			must(t, err)
+			return text
+		}
+		old, oldGuard := text(), p.copied(t, "guard")
+		must(t, got.submitAll(ctx, here, 20, 40, 4))
+		must(t, here.End(ctx))
+		newest, newestGuard := text(), p.copied(t, "guard")
+		time.Sleep(mostUnheard)
+		must(t, register.Register.Swap(ctx, newest, old))
+		p.putBack(t, oldGuard, "guard")
+		register.on.Store(false)
+		eventually(t, "it sees that it was set back", func() bool { return strings.Contains(there.Figures().Fault, ErrSetBack.Error()) })
+		_, err := there.Submit(ctx, entryOf(100))
+		wants(t, err, log.ErrStore, ErrSetBack)
+		must(t, register.Register.Swap(ctx, old, newest))
+		p.putBack(t, newestGuard, "guard")
+		comesBack(t, there, got, 41)
+		if report := p.right(t, got); report.Leaves != 41 {
+			t.Fatalf("%+v", report)
+		}
+	})
+}
+
 // TestPausedNode stops a node between its reading the register and its swap, while another one goes on and the register is put back: what it
 // decides is published and signed by nobody. No clock says so: the machine may have slept. Where the register comes back, it goes on.
 func TestPausedNode(t *testing.T) {
