@@ -16,3 +16,4 @@ pub mod Receipts
 pub mod FirstIndexes
 pub mod Splits
 pub mod AddedOnce
+pub mod BrokenOff

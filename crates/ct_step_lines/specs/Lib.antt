@@ -5,3 +5,4 @@ pub mod StepAnswers
 pub mod StepSession
 pub mod StepOptions
 pub mod StepLaws
+pub mod BrokenOff

@@ -5,6 +5,7 @@ ghost use Rattle.std.specs.Io.KnownBytes.{Appends};
 ghost use Rattle.ct_lines.specs.Sends.{SendsSome};
 ghost use Rattle.ct_step_lines.specs.StepAsks.{step_ask_of};
 ghost use Rattle.ct_lines.specs.Faults.{run_fault_line};
+ghost use Rattle.ct_step_lines.specs.BrokenOff.{OneReplyBroken, IsStepRunBroken, IsStepCallBroken};
 ghost use Rattle.ct_step_lines.specs.StepOptions.{step_asked_of_words, IsStepAnswered};
 ghost use Rattle.ct_step_lines.specs.StepSession.{GivesText, GetsStepLine, OneReplied, IsReplied, IsStepRun, IsStepStatus, is_no_step};
 ghost use Rattle.ct_lines.specs.declared.fault.RunFault.{RunFault as FaultOf};
@@ -71,8 +72,10 @@ fn take_next<B: BufRead, W: Write>(
     line: &mut Vec<u8>,
     writer: &mut W,
 ) -> Result<bool, RunFault>
-    ensures { IfOk result (λ done. OneReplied (option_map string_bytes origin.now) bad.old bad.new
+    ensures replied { IfOk result (λ done. OneReplied (option_map string_bytes origin.now) bad.old bad.new
         (B.remaining input.old) (B.remaining input.new) (W.contents writer.old) (W.contents writer.new) done) }
+    ensures broken { OnErr result (OneReplyBroken (option_map string_bytes origin.now)
+        (B.remaining input.old) (W.contents writer.old) (W.contents writer.new)) }
 {
     let some = read_next(input, line)?;
     if some {
@@ -91,7 +94,9 @@ fn take_lines<B: BufRead, W: Write>(
     input: &mut B,
     writer: &mut W,
 ) -> Result<(), RunFault>
-    ensures { OnOk result (IsReplied (option_map string_bytes origin.now) bad.old bad.new
+    ensures replied { OnOk result (IsReplied (option_map string_bytes origin.now) bad.old bad.new
+        (B.remaining input.old) (W.contents writer.old) (W.contents writer.new)) }
+    ensures broken { OnErr result (IsStepRunBroken (option_map string_bytes origin.now)
         (B.remaining input.old) (W.contents writer.old) (W.contents writer.new)) }
 {
     let mut line = Vec::new(alloc);
@@ -111,7 +116,7 @@ fn take_lines<B: BufRead, W: Write>(
 /// # Errors
 ///
 /// `Memory`, where a growth is refused; `Read`, where the input can't be read, or has 2^50 lines; `Write`, where the output can't be
-/// written.
+/// written. The replies to the first lines are written then, whole and in their order, and at most a beginning of the reply to the next line.
 pub fn run<B: BufRead + Drop, W: Write>(
     alloc: Global,
     origin: &Option<String>,
@@ -120,6 +125,7 @@ pub fn run<B: BufRead + Drop, W: Write>(
 ) -> Result<u8, RunFault>
     ensures written { IfOk result (λ status. IsStepRun (option_map string_bytes origin.now) (B.remaining input) (W.contents writer.old) (W.contents writer.new) status) }
     ensures status { IfOk result (λ status. IsStepStatus status) }
+    ensures broken { OnErr result (IsStepRunBroken (option_map string_bytes origin.now) (B.remaining input) (W.contents writer.old) (W.contents writer.new)) }
 {
     let mut input = input;
     let mut bad = false;
@@ -138,6 +144,8 @@ fn do_asked<R: Read + Drop, W: Write, E: Write>(
     ensures answered { IfOk result (λ status. IsStepAnswered (step_asked_of_words (map string_bytes words.now)) (R.remaining input)
         (W.contents output.old) (W.contents output.new) (E.contents faults.old) (E.contents faults.new) status) }
     ensures status { IfOk result (λ status. status ≢ 1) }
+    ensures broken { OnErr result (IsStepCallBroken (step_asked_of_words (map string_bytes words.now)) (R.remaining input)
+        (W.contents output.old) (W.contents output.new)) }
     ensures quiet { OnErr result (E.contents faults.new ≡ E.contents faults.old) }
 {
     match command_of(alloc, words)? {
@@ -175,7 +183,8 @@ pub fn fault_text(fault: RunFault) -> &'static str
 ///
 /// - 0, 4: `run` read the input and wrote its replies, with that status; or, for 0, the words ask for help or the version, which was
 ///   written on the output.
-/// - 1: a fault broke it off, and its line was written among the faults, as far as it could be.
+/// - 1: a fault broke it off, and its line was written among the faults, as far as it could be. On the output stands what `run` wrote until
+///   then, or a beginning of the text that was asked for.
 /// - 2: the words ask for nothing that there is. How the program is called was written among the faults, as far as it could be.
 pub fn answer_words<R: Read + Drop, W: Write, E: Write>(
     alloc: Global,
@@ -188,6 +197,8 @@ pub fn answer_words<R: Read + Drop, W: Write, E: Write>(
         (W.contents output.old) (W.contents output.new) (E.contents faults.old) (E.contents faults.new) result }
     ensures fault { result ≡ 1 → (f : FaultOf)
         × SendsSome (E.contents faults.old) (E.contents faults.new) (run_fault_line (codes "cttile") f) }
+    ensures broken { result ≡ 1 → IsStepCallBroken (step_asked_of_words (map string_bytes words.now)) (R.remaining input)
+        (W.contents output.old) (W.contents output.new) }
 {
     match do_asked(alloc, words, input, output, faults) {
         Ok(status) => status,

@@ -14,6 +14,7 @@ returns g c =
     ] in
     record {
       written = run_done (option_map string_bytes c.args.origin.now) false bad (g.B.Read.remaining c.args.input) (g.W.Write.contents c.args.writer.now)
-          (g.W.Write.contents c.take_lines.new.writer) c.if-bad.result refl ends c.in_ok-take_lines.ensures;
+          (g.W.Write.contents c.take_lines.new.writer) c.if-bad.result refl ends c.in_ok-take_lines.ensures.replied;
       status = one_of_two bad c.if-bad.result ends;
+      broken = tt;
     }
