@@ -126,7 +126,7 @@ sweep: ## refuses each growth of ctlog, of ctlogd and of the library's calls in 
 wrong: ## has the prover refuse the wrong bodies of CRATE=ct_core that not every gate tries (crates/*/wrong-bodies, by-turns)
 	@PYTHONDONTWRITEBYTECODE=1 python3 checks/wrong_bodies.py $(or $(CRATE),ct_core)
 
-# What no contract can say of the sources, what docs/DEFINITIONS.md and docs/CHECKING.md are made from, and what the documents name.
+# What no contract can say of the sources, what docs/CHECKING.md is made from, and what the documents name.
 sources: ## looks through the sources, the documents and the scripts of examples/ and tests/, in seconds and without a proof
 	@PYTHONDONTWRITEBYTECODE=1 python3 checks/want_of_memory.py
 	@PYTHONDONTWRITEBYTECODE=1 python3 checks/told_faults.py

@@ -1,4 +1,4 @@
-"""The definitions of a crate's specs/: each with its name, its arguments, and the words and the source of its comment."""
+"""The definitions of a crate's specs/: each with its name and the words of its comment."""
 import re
 import typing
 
@@ -6,17 +6,13 @@ from source import CRATES
 
 # A definition's first line. One that stands in is one of a module's block; and `pub` alone begins a field there.
 START = re.compile(r"(?:(?:unfoldable |abbrev )*pub|^ +(?:unfoldable |abbrev )+pub) (record |data )?(?!mod\b|use\b)(\S+)")
-# The source that a comment ends with, in brackets.
-SOURCE = re.compile(r"^(.*?)\s*\(([^()]*\b(?:RFC|FIPS) \d[^()]*)\)(\.?)$")
 
 
 class Definition(typing.NamedTuple):
-    """`word` is the name, `shown` the name with its arguments where these have names, or with the cases of a data type."""
+    """A definition's name, and its comment as one line."""
 
     word: str
-    shown: str
     words: str
-    source: str
 
 
 class File(typing.NamedTuple):
@@ -43,17 +39,6 @@ def body_below(lines, at):
     return lines[at:end]
 
 
-def arguments(kind, word, body):
-    """The names of a definition's arguments: those of a record's head, or of the one equation if there is just one; else none."""
-    if kind == "record":
-        head = " ".join(body).partition(" where")[0]
-        return [name for group in re.findall(r"\(([^():]+) :", head) for name in group.split()]
-    left = re.compile(rf" *{re.escape(word)} (?!:)(.*?) ?=(?: |$)")
-    equations = [equation.group(1) for equation in map(left.match, body) if equation]
-    names = re.sub(r"\{[^}]*\}", "", equations[0]).split() if len(equations) == 1 else []
-    return names if all(re.fullmatch(r"\w+", name) for name in names) else []
-
-
 def cases(kind, body):
     """The names of a data type's cases."""
     return re.findall(r"^ +(\w+) :", "\n".join(body[1:]), re.M) if kind == "data" else []
@@ -62,14 +47,7 @@ def cases(kind, body):
 def definition(lines, at):
     """The definition that begins at a line, or none."""
     start = START.match(lines[at])
-    if not start:
-        return None
-    kind, word, body = (start.group(1) or "").strip(), start.group(2), body_below(lines, at)
-    names = [" ".join([word, *arguments(kind, word, body)]), *cases(kind, body)]
-    said = comment_above(lines, at)
-    sourced = SOURCE.match(said)
-    words, source = (sourced.group(1) + sourced.group(3), sourced.group(2)) if sourced else (said, "")
-    return Definition(word, ", ".join(f"`{name}`" for name in names), words, source)
+    return Definition(start.group(2), comment_above(lines, at)) if start else None
 
 
 def specs(crate):

@@ -3,7 +3,7 @@
 
     words.py [--quiet]
 
-A word has a letter or a digit, so the bars of tables don't count; nor does what checks/definitions.py, checks/checking.py and checks/architecture.py make, nor the columns of
+A word has a letter or a digit, so the bars of tables don't count; nor does what checks/checking.py and checks/architecture.py make, nor the columns of
 PROMISES.md that checks/promises.py makes or compares with the sources. It ends with status 1 where README.md has more than README_MOST words (blanks alone
 part them there), or all pages of docs/ together more than DOCS_MOST; with --quiet it prints that alone. What is new takes the place of what a reader needs less.
 """
@@ -11,7 +11,6 @@ import re
 import sys
 
 from architecture import TABLE
-from definitions import MADE
 from source import ROOT
 
 README_MOST, DOCS_MOST = 1300, 22000
@@ -19,8 +18,6 @@ README_MOST, DOCS_MOST = 1300, 22000
 
 def by_hand(page, text):
     """The text of a page without what is made."""
-    if page == "DEFINITIONS.md":
-        return text.partition(MADE)[0]
     if page == "CHECKING.md":
         return re.sub(r"<!-- Made by .*?<!-- Made until here. -->", "", text, flags=re.S)
     if page == "ARCHITECTURE.md":
