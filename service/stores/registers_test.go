@@ -422,3 +422,59 @@ func TestFileWaitsForItsLock(t *testing.T) {
 	must(t, register.Swap(limited(t), "text", "another"))
 	standsAs(t, register, "another", 0)
 }
+
+// TestEngineOfAVersionBefore: what a version wrote that knows the published size alone is read, in etcd and in PostgreSQL, and goes on; what that
+// version raises meanwhile counts.
+func TestEngineOfAVersionBefore(t *testing.T) {
+	goesOn := func(t *testing.T, register Register, before func(size uint64) error) {
+		t.Helper()
+		ctx := limited(t)
+		isPublished(t, register, Published{Size: 26})
+		must(t, register.Raise(ctx, Published{26, 1700000000001}))
+		isPublished(t, register, Published{26, 1700000000001})
+		must(t, before(30))
+		if now, err := register.Published(ctx); err != nil || now.Size != 30 || now.Moment > 1700000000001 {
+			t.Errorf("%v is published, %v, where 30 entries are, of an unknown moment", now, err)
+		}
+		must(t, register.Raise(ctx, Published{30, 1700000000002}))
+		isPublished(t, register, Published{30, 1700000000002})
+	}
+	t.Run("etcd", func(t *testing.T) {
+		if etcdMembers == "" {
+			t.Skip(wants("", "etcd-server"))
+		}
+		at := etcdAt("suite-" + chance())
+		client, err := at.open()
+		must(t, err)
+		defer client.Close()
+		put := func(key, value string) error {
+			_, err := client.Put(limited(t), at.Prefix+key, value)
+			return err
+		}
+		before := func(size uint64) error { return put("/published", inOrder(size)) }
+		must(t, put("/text", "a"))
+		must(t, before(26))
+		register, err := OpenEtcd(at)
+		must(t, err)
+		defer register.Close()
+		goesOn(t, register, before)
+	})
+	t.Run("postgres", func(t *testing.T) {
+		if postgresURL == "" {
+			t.Skip(wants("", "postgresql"))
+		}
+		at := Postgres{postgresURL, "suite-" + chance()}
+		db, err := at.open(limited(t))
+		must(t, err)
+		defer db.Close()
+		_, err = db.Exec("insert into ct_register values ($1, 'a', 26)", at.Log)
+		must(t, err)
+		register, err := OpenPostgres(limited(t), at)
+		must(t, err)
+		defer register.Close()
+		goesOn(t, register, func(size uint64) error {
+			_, err := db.Exec("update ct_register set published = $2 where log = $1 and published < $2", at.Log, int64(size))
+			return err
+		})
+	})
+}
