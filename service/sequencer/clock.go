@@ -165,31 +165,15 @@ func (c *clock) check(last uint64, node string) error {
 	c.mu.Lock()
 	defer c.mu.Unlock()
 	now, elapsed := c.of.Now(), c.of.Elapsed()
-	isSynchronized, isKnown := c.of.Synchronized()
-	isSynchronized = isSynchronized && isKnown
-	if c.synchronized && !isSynchronized {
+	is, known := c.of.Synchronized()
+	if c.synchronized && !(is && known) {
 		return fmt.Errorf("%w: by the kernel's word it isn't synchronized", log.ErrClock)
 	}
-	vouched := isSynchronized
-	compared := func(name string, of heard) error {
-		if elapsed-of.when > forgets {
-			return nil
-		}
-		vouched = true
-		return c.off(now.Sub(of.at.Add(elapsed-of.when)), of.within, name)
+	vouched, err := c.beside(now, elapsed, node)
+	if err != nil {
+		return err
 	}
-	for _, one := range c.tellers {
-		if of, ok := c.said[one.name]; ok {
-			if err := compared(one.name, of); err != nil {
-				return err
-			}
-		}
-	}
-	if of, ok := c.node[node]; ok {
-		if err := compared("the node that makes the steps", of); err != nil {
-			return err
-		}
-	}
+	vouched = vouched || is && known
 	newest := "the log's newest head"
 	if vouched {
 		newest += ", which is in the future by another clock, too"
@@ -198,14 +182,28 @@ func (c *clock) check(last uint64, node string) error {
 		return c.off(-ahead, 0, newest)
 	}
 	if !c.believed.IsZero() && !vouched {
-		if err := c.off(now.Sub(c.believed.Add(elapsed-c.since)), 0, "what elapsed since it was believed"); err != nil {
-			return err
-		}
+		return c.off(now.Sub(c.believed.Add(elapsed-c.since)), 0, "what elapsed since it was believed")
 	}
-	if c.believed.IsZero() || vouched {
-		c.believed, c.since = now, elapsed
-	}
+	c.believed, c.since = now, elapsed
 	return nil
+}
+
+// beside compares the time of day with what other machines said, and says whether one did. The caller has the lock.
+func (c *clock) beside(now time.Time, elapsed time.Duration, node string) (said bool, err error) {
+	compared := func(name string, of heard, ok bool) {
+		if !ok || elapsed-of.when > forgets || err != nil {
+			return
+		}
+		said = true
+		err = c.off(now.Sub(of.at.Add(elapsed-of.when)), of.within, name)
+	}
+	for _, one := range c.tellers {
+		of, ok := c.said[one.name]
+		compared(one.name, of, ok)
+	}
+	of, ok := c.node[node]
+	compared("the node that makes the steps", of, ok)
+	return said, err
 }
 
 // off is the refusal of a clock that is ahead of another one by more than the bound, or behind it.
