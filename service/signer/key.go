@@ -25,6 +25,16 @@ var algorithms = [2]byte{4, 3}
 type Key struct {
 	private crypto.Signer
 	public  []byte
+	// module leads to the key's token; nil of a key out of a file.
+	module io.Closer
+}
+
+// Close lets the key's token go.
+func (k *Key) Close() error {
+	if k.module == nil {
+		return nil
+	}
+	return k.module.Close()
 }
 
 // OpenKey reads a private key of P-256 in PEM (EC PRIVATE KEY or PRIVATE KEY) from a file that none but its owner may read; or, where
@@ -75,7 +85,7 @@ func FromKey(private crypto.Signer) (*Key, error) {
 	if err != nil {
 		return nil, fmt.Errorf("%w: %v", ErrKey, err)
 	}
-	return &Key{private, public}, nil
+	return &Key{private: private, public: public}, nil
 }
 
 // parse finds the first private key in PEM. (Files of openssl have the curve's parameters before it.)

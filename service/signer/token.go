@@ -51,7 +51,7 @@ func parseToken(uri string) (*token, error) {
 	return of, nil
 }
 
-// openToken finds the key that a URI names. The module stays loaded until the process ends.
+// openToken finds the key that a URI names. Who is logged in to a token in this process isn't asked for its PIN again.
 func openToken(uri string) (*Key, error) {
 	of, err := parseToken(uri)
 	if err != nil {
@@ -78,9 +78,14 @@ func openToken(uri string) (*Key, error) {
 	if err == nil && private == nil {
 		err = fmt.Errorf("%w: the token has none of that name", ErrKey)
 	}
+	var key *Key
+	if err == nil {
+		key, err = FromKey(private)
+	}
 	if err != nil {
 		module.Close()
 		return nil, fmt.Errorf("signer: PKCS#11: %w", err)
 	}
-	return FromKey(private)
+	key.module = module
+	return key, nil
 }

@@ -53,6 +53,23 @@ func madeToken(t *testing.T) (module, pin string) {
 func TestToken(t *testing.T) {
 	module, pin := madeToken(t)
 	behind := "?module-path=" + module + "&pin-source=file:" + pin
+	// (before any key is open: who is logged in to a token isn't asked for a PIN again)
+	wrong := filepath.Join(t.TempDir(), "pin")
+	if err := os.WriteFile(wrong, []byte("0000"), 0o600); err != nil {
+		t.Fatal(err)
+	}
+	for what, uri := range map[string]string{
+		"another key":    "pkcs11:token=log-token;object=other" + behind,
+		"another token":  "pkcs11:token=other;object=key" + behind,
+		"another module": "pkcs11:token=log-token;object=key?module-path=/nowhere.so&pin-source=" + pin,
+		"another PIN":    "pkcs11:token=log-token;object=key?module-path=" + module + "&pin-source=" + wrong,
+		"no PIN":         "pkcs11:token=log-token;object=key?module-path=" + module + "&pin-source=" + wrong + ".absent",
+		"of P-384":       "pkcs11:token=log-token;object=large" + behind,
+	} {
+		if _, err := OpenKey(uri); err == nil {
+			t.Errorf("%s: it is taken", what)
+		}
+	}
 	message := []byte("what is signed")
 	var public []byte
 	for _, of := range []string{"pkcs11:token=log-token;object=key", "pkcs11:token=log-token;id=%01", "pkcs11:token=log-token;object=key;id=%01"} {
@@ -60,6 +77,7 @@ func TestToken(t *testing.T) {
 		if err != nil {
 			t.Fatalf("%s: %v", of, err)
 		}
+		defer key.Close()
 		signed, err := key.sign(message)
 		if err != nil {
 			t.Fatal(err)
@@ -81,22 +99,6 @@ func TestToken(t *testing.T) {
 		command.Dir = folder
 		if said, err := command.CombinedOutput(); err != nil {
 			t.Errorf("%s: openssl: %s", of, said)
-		}
-	}
-	wrong := filepath.Join(t.TempDir(), "pin")
-	if err := os.WriteFile(wrong, []byte("0000"), 0o600); err != nil {
-		t.Fatal(err)
-	}
-	for what, uri := range map[string]string{
-		"another key":    "pkcs11:token=log-token;object=other" + behind,
-		"another token":  "pkcs11:token=other;object=key" + behind,
-		"another module": "pkcs11:token=log-token;object=key?module-path=/nowhere.so&pin-source=" + pin,
-		"another PIN":    "pkcs11:token=log-token;object=key?module-path=" + module + "&pin-source=" + wrong,
-		"no PIN":         "pkcs11:token=log-token;object=key?module-path=" + module + "&pin-source=" + wrong + ".absent",
-		"of P-384":       "pkcs11:token=log-token;object=large" + behind,
-	} {
-		if _, err := OpenKey(uri); err == nil {
-			t.Errorf("%s: it is taken", what)
 		}
 	}
 	if err := os.Chmod(pin, 0o644); err != nil {
