@@ -100,7 +100,7 @@ once more and compares their bytes with SHA256SUMS.
         """Pages by their names."""
         found = {name: ROOT / name for name in ("README.md", "CHANGELOG.md", "LICENSE")}
         found.update({f"{page}.md": ROOT / "docs" / f"{page}.md" for page in PAGES if (ROOT / "docs" / f"{page}.md").exists()})
-        return {**found, "service.md": ROOT / "service" / "README.md"}
+        return {**found, "service.md": ROOT / "service" / "README.md", "INCIDENTS.md": ROOT / "service" / "INCIDENTS.md"}
 
     def watching(self):
         monitor = ROOT / "examples" / "monitor"

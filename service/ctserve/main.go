@@ -122,7 +122,7 @@ func serve(s *settings, lines *web.Lines, signals <-chan os.Signal, open opener)
 	if err != nil {
 		return err
 	}
-	front := web.New(of.log, of.proofs, checker, web.Options{Limits: s.limits, Proxies: s.proxies, Lines: lines, LogRequests: s.logRequests, About: about})
+	front := web.New(of.log, of.proofs, checker, web.Options{Limits: s.limits, Proxies: s.proxies, Lines: lines, LogRequests: s.logRequests, ReadOnly: s.readOnly, About: about})
 
 	servers := []*served{{of: "clients", address: s.listen, over: over, handler: front}}
 	if s.listenNodes != "" {

@@ -27,7 +27,7 @@ type settings struct {
 	window                     chains.Window
 	limits                     web.Limits
 	endWithin                  time.Duration
-	logRequests                bool
+	logRequests, readOnly      bool
 	node                       node
 	listenNodes, nodesSecretAt string
 }
@@ -79,6 +79,7 @@ func parse(words []string, help io.Writer) (*settings, error) {
 	flags.Func("not-after-from", "certificates that end before this `moment` are refused (2026-07-01 or 2026-07-01T00:00:00Z)", moment(&s.window.From))
 	flags.Func("not-after-to", "certificates that end at this `moment` or later are refused", moment(&s.window.To))
 	flags.DurationVar(&s.endWithin, "end-within", 30*time.Second, "how long an end by SIGTERM may take, until who waits isn't answered")
+	flags.BoolVar(&s.readOnly, "read-only", false, "refuse submissions (403 read-only), for a log that takes no more; heads and reading go on")
 	flags.BoolVar(&s.logRequests, "log-requests", false, "tell each request, and not only those that fail at the log's side")
 
 	flags.IntVar(&s.limits.Connections, "most-connections", s.limits.Connections, "connections at once")

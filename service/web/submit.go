@@ -33,6 +33,9 @@ func (f *Front) add(w http.ResponseWriter, r *http.Request, check func([][]byte)
 	if f.ending.Load() {
 		return refusal{status: http.StatusServiceUnavailable, name: "ended", after: 10, closes: true}
 	}
+	if f.options.ReadOnly {
+		return refusal{status: http.StatusForbidden, name: "read-only", detail: "the log takes no more submissions", closes: true}
+	}
 	client := f.clientOf(r)
 	body, taken, err := f.body(r, client)
 	// What of it is kept, the entry, has fewer bytes than it; so they count until the answer is there.

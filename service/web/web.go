@@ -87,6 +87,8 @@ type Options struct {
 	Lines *Lines
 	// LogRequests tells every request, and not only those that fail at the log's side.
 	LogRequests bool
+	// ReadOnly refuses submissions, for a log that takes no more: what it has is read as before.
+	ReadOnly bool
 	// About is what the log says of itself.
 	About About
 }

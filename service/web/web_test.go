@@ -638,3 +638,24 @@ func fingerprintOf(der []byte) string {
 }
 
 var _ http.Handler = (*Front)(nil)
+
+// TestReadOnly: a log that takes no more refuses each submission by a name of its own, reads none of it, and is read as before.
+func TestReadOnly(t *testing.T) {
+	f := newFixture(t, 10*time.Millisecond, func(o *Options) { o.ReadOnly = true })
+	f.fill(2)
+	for _, path := range []string{"/ct/v1/add-chain", "/ct/v1/add-pre-chain"} {
+		w := f.do("POST", path, standin.Submission(f.issue(path == "/ct/v1/add-pre-chain")))
+		refused(t, path, w, 403, "read-only")
+		if w.Header().Get("Connection") != "close" {
+			t.Errorf("%s: the connection is kept, with a body that nobody read", path)
+		}
+	}
+	if queue := f.log.Figures().Queue; queue != 0 {
+		t.Errorf("%d submissions wait", queue)
+	}
+	for _, path := range []string{"/checkpoint", "/ct/v1/get-entries?start=0&end=1", "/readyz"} {
+		if w := f.get(path); w.Code != 200 {
+			t.Errorf("%s: %d", path, w.Code)
+		}
+	}
+}
