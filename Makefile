@@ -1,4 +1,4 @@
-.PHONY: help demo test check service service-test service-engines service-faults service-clients cluster cluster-status cluster-stop link install install-library install-ctlog install-ctlogd install-ctmonitor install-ctguard install-cttile install-ctproof install-ctwitness fuzz load sweep wrong sources serve serve-ctlogd tiles interop release reproduce bare
+.PHONY: help demo test check service service-test service-engines service-faults service-clients cluster cluster-status cluster-stop link install install-library install-ctlog install-ctlogd install-ctmonitor install-ctguard install-cttile install-ctproof install-ctwitness fuzz load sweep wrong sources serve serve-ctlogd serve-witness tiles interop release reproduce bare
 
 SECONDS ?= 60
 RUNS ?= 20
@@ -7,6 +7,8 @@ PORT ?= 8618
 BUILT ?= crates
 CLUSTER ?= ct-cluster
 FOLDER ?= ct-log
+WITNESS ?= ct-witness
+WITNESS_PORT ?= 8640
 
 PROGRAMS := ctlog ctlogd ctmonitor ctguard cttile ctproof ctwitness
 LIBRARY = $(BUILT)/wagtenib/out/link/libwagtenib
@@ -36,7 +38,10 @@ check: ## for daily work: proves what changed
 serve: ## serves a log over HTTP at PORT=8618 out of the folder FOLDER=ct-log, by ctserve over cttile, ctguard and ctproof; builds what isn't built
 	@service/serve.sh "$(FOLDER:~/%=$(HOME)/%)" "$(PORT)"
 
-service: ## builds service/out/ctserve, the service in Go (docs/OPERATING.md), and ctcheck, ctload and ctread
+serve-witness: ## serves a witness at WITNESS_PORT=8640 out of WITNESS=ct-witness, by ctwitness-serve over ctwitness, of the log of make serve in FOLDER=ct-log; builds what isn't built
+	@service/serve-witness.sh "$(WITNESS:~/%=$(HOME)/%)" "$(WITNESS_PORT)" "$(FOLDER:~/%=$(HOME)/%)"
+
+service: ## builds service/out/ctserve, the service in Go (docs/OPERATING.md), ctwitness-serve, and ctcheck, ctload and ctread
 	@checks/needs.sh service
 	@service/build.sh build
 
@@ -77,7 +82,7 @@ install: $(PROGRAMS:%=install-%) install-library ## installs what is built, belo
 
 $(PROGRAMS:%=install-%): install-%:
 	@if [ -x "$(BUILT)/$*/out/$*" ]; then install -d "$(TO)/bin" && install -m 755 "$(BUILT)/$*/out/$*" "$(TO)/bin" && echo "$(PREFIX)/bin/$*"; \
-	else echo "$* isn't built: make demo builds ctlog and ctmonitor, make serve cttile, ctguard and ctproof, make serve-ctlogd ctlogd, and rt run in its folder any other"; fi
+	else echo "$* isn't built: make demo builds ctlog and ctmonitor, make serve cttile, ctguard and ctproof, make serve-ctlogd ctlogd, make serve-witness ctwitness, and rt run in its folder any other"; fi
 	@if [ $* = ctmonitor ] && [ -x "$(BUILT)/$*/out/$*" ]; then install -m 755 examples/monitor/watch.sh "$(TO)/bin/ctmonitor-watch" && install -m 755 examples/monitor/mail.sh "$(TO)/bin/ctmonitor-mail" && install -m 755 examples/monitor/from_end.py "$(TO)/bin/ctmonitor-from-end" && echo "$(PREFIX)/bin/ctmonitor-watch, ctmonitor-mail and ctmonitor-from-end"; fi
 
 install-library:

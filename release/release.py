@@ -23,8 +23,9 @@ import tempfile
 import time
 
 ROOT = pathlib.Path(__file__).resolve().parent.parent
-PROGRAMS = {"ctlog": "make demo", "ctmonitor": "make demo", "ctlogd": "make serve-ctlogd", "cttile": "make serve", "ctguard": "make serve", "ctproof": "make serve"}
-SERVICE = ("ctserve", "ctcheck", "ctread", "ctload")
+PROGRAMS = {"ctlog": "make demo", "ctmonitor": "make demo", "ctlogd": "make serve-ctlogd", "cttile": "make serve", "ctguard": "make serve", "ctproof": "make serve", "ctwitness": "make serve-witness"}
+SERVICE = ("ctserve", "ctcheck", "ctread", "ctload", "ctwitness-serve")
+UNITS = ("ctserve@.service", "ctwitness-serve@.service")
 MACHINE, DEBIAN = "x86_64", "amd64"
 LIBRARY = "lib/x86_64-linux-gnu"
 HOMEPAGE = "https://wagtenib.example/"
@@ -36,7 +37,7 @@ PAGES = ("OPERATING", "MONITOR", "GUARD", "GROWTH", "TILES", "LINES", "LINKING",
 PACKAGES = {
     "wagtenib": (
         "Certificate Transparency log with proved steps, guard and proofs",
-        "ctserve serves a log over HTTP (RFC 6962, C2SP static-ct-api). cttile makes its steps, ctguard says\nwhat its key may sign, ctproof makes its readers' proofs: these are proved to meet their contracts,\nctserve and what judges, reads and loads a log are not. ctlog and ctlogd are a log in memory, proved.",
+        "ctserve serves a log over HTTP (RFC 6962, C2SP static-ct-api). cttile makes its steps, ctguard says\nwhat its key may sign, ctproof makes its readers' proofs, ctwitness what a witness cosigns: these are proved\nto meet their contracts, ctserve, ctwitness-serve and what judges, reads and loads a log are not. ctlog and ctlogd are a log in memory, proved.",
         "adduser, libsqlite3-0",
         "ca-certificates, nginx | httpd, openssl",
     ),
@@ -129,7 +130,7 @@ once more and compares their bytes with SHA256SUMS.
         found.update(self.library_files("lib"))
         found["lib/pkgconfig/wagtenib.pc"] = (self.pkg_config("/usr/local").encode(), 0o644)
         found["include/wagtenib.h"] = ((ROOT / "include" / "wagtenib.h").read_bytes(), 0o644)
-        found["lib/systemd/system/ctserve@.service"] = ((ROOT / "service" / "ctserve@.service").read_bytes(), 0o644)
+        found.update({f"lib/systemd/system/{unit}": ((ROOT / "service" / unit).read_bytes(), 0o644) for unit in UNITS})
         found.update({f"share/wagtenib/{name}": (path.read_bytes(), 0o644) for name, path in self.shared().items()})
         found.update({f"share/doc/wagtenib/{name}": (path.read_bytes(), 0o644) for name, path in self.documents().items()})
         found["PROVED"] = (self.proved().encode(), 0o644)
@@ -152,12 +153,13 @@ once more and compares their bytes with SHA256SUMS.
             found[f"{doc}/LINKING.md"] = (self.documents()["LINKING.md"].read_bytes(), 0o644)
         else:
             found.update({f"usr/bin/{command}": (path.read_bytes(), 0o755) for command, path in self.programs.items() if command != "ctmonitor"})
-            unit = (ROOT / "service" / "ctserve@.service").read_text().replace("/usr/local/bin/", "/usr/bin/")
-            found["lib/systemd/system/ctserve@.service"] = (unit.encode(), 0o644)
+            for unit in UNITS:
+                text = (ROOT / "service" / unit).read_text().replace("/usr/local/bin/", "/usr/bin/")
+                found[f"lib/systemd/system/{unit}"] = (text.encode(), 0o644)
             found.update({f"usr/share/wagtenib/{file}": (path.read_bytes(), 0o644) for file, path in self.shared().items()})
             found.update({f"{doc}/{page}": (path.read_bytes(), 0o644) for page, path in self.documents().items() if page != "LICENSE"})
             found[f"{doc}/PROVED"] = (self.proved().encode(), 0o644)
-            found["etc/ctserve"] = None
+            found.update({"etc/ctserve": None, "etc/ctwitness": None})
         return found
 
     def changelog(self, name):
@@ -232,10 +234,12 @@ set -e
 if [ "$1" = configure ]; then
   adduser --quiet --system --group --no-create-home --home /var/lib/ctserve ctserve
   install -d -m 750 -o ctserve -g ctserve /var/lib/ctserve
+  adduser --quiet --system --group --no-create-home --home /var/lib/ctwitness ctwitness
+  install -d -m 750 -o ctwitness -g ctwitness /var/lib/ctwitness
   if [ -d /run/systemd/system ]; then
     systemctl --system daemon-reload >/dev/null || true
     # (logs that run go on in the new version once they are started again)
-    systemctl try-restart 'ctserve@*' >/dev/null || true
+    systemctl try-restart 'ctserve@*' 'ctwitness-serve@*' >/dev/null || true
   fi
 fi
 """

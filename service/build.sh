@@ -39,11 +39,11 @@ case $what in
     commit=$(git rev-parse --short=12 HEAD 2>/dev/null) || commit=
     [ -z "$commit" ] || git diff --quiet HEAD -- . ../VERSION || commit+=+
     of=wagtenib/service/version
-    go build -o out -ldflags "-X $of.number=$(cat ../VERSION) -X $of.commit=$commit" wagtenib/service/ctserve wagtenib/service/ctcheck wagtenib/service/ctload wagtenib/service/ctread
+    go build -o out -ldflags "-X $of.number=$(cat ../VERSION) -X $of.commit=$commit" wagtenib/service/ctserve wagtenib/service/ctcheck wagtenib/service/ctload wagtenib/service/ctread wagtenib/service/ctwitness-serve
     ;;
   folders)
     # the folders of all packages of Debian's that are linked into the programs
-    go list -deps -f '{{if not .Standard}}{{.Dir}}{{end}}' wagtenib/service/ctserve wagtenib/service/ctcheck wagtenib/service/ctload wagtenib/service/ctread | grep -v /wagtenib/
+    go list -deps -f '{{if not .Standard}}{{.Dir}}{{end}}' wagtenib/service/ctserve wagtenib/service/ctcheck wagtenib/service/ctload wagtenib/service/ctread wagtenib/service/ctwitness-serve | grep -v /wagtenib/
     ;;
   fuzz)
     for target in FuzzPoison FuzzFinalIssuer FuzzChain FuzzRoots; do

@@ -266,8 +266,8 @@ def try_release(folder):
         words = ["tar", "-xzf", folder / "first" / name, "-C", out / name] if name.endswith(".gz") else ["dpkg-deb", "-x", folder / "first" / name, out / name]
         if subprocess.run(words).returncode:
             fail(f"release.py: {name} can't be unpacked")
-    places = {"wagtenib-0.1.0-x86_64.tar.gz": ("wagtenib-0.1.0/bin", tuple(name for name in programs if name not in ("ctwitness", "ctwitness-serve"))),
-              "wagtenib_0.1.0_amd64.deb": ("usr/bin", ("ctserve", "cttile", "ctguard", "ctproof", "ctcheck")), "ctmonitor_0.1.0_amd64.deb": ("usr/bin", ("ctmonitor",))}
+    places = {"wagtenib-0.1.0-x86_64.tar.gz": ("wagtenib-0.1.0/bin", tuple(programs)),
+              "wagtenib_0.1.0_amd64.deb": ("usr/bin", ("ctserve", "cttile", "ctguard", "ctproof", "ctcheck", "ctwitness", "ctwitness-serve")), "ctmonitor_0.1.0_amd64.deb": ("usr/bin", ("ctmonitor",))}
     for name, (below, held) in places.items():
         for program in held:
             path = out / name / below / program

@@ -1,0 +1,228 @@
+// Command ctwitness-serve is a witness over HTTP: it cosigns the heads of several logs (C2SP tlog-witness, tlog-cosignature), each where ctwitness
+// decides that it follows the one that it cosigned last (docs/WITNESS.md).
+//
+// SIGHUP has it read the logs of its settings anew. SIGTERM and SIGINT end it: it takes no more, answers who waits, and ends with status 0.
+package main
+
+import (
+	"context"
+	"errors"
+	"flag"
+	"fmt"
+	"io"
+	"net"
+	"net/http"
+	"os"
+	"os/signal"
+	"syscall"
+	"time"
+
+	"wagtenib/service/stores"
+	"wagtenib/service/version"
+	"wagtenib/service/web"
+	"wagtenib/service/witness"
+)
+
+// statusNoState is the status of a start that is refused since a log's state is missing or another's, and will be until an operator has looked.
+const statusNoState = 3
+
+// mostConnections is how many clients are connected at once, and mostHeader how many bytes a request's headers have.
+const (
+	mostConnections = 512
+	mostHeader      = 16 << 10
+)
+
+func main() {
+	signals := make(chan os.Signal, 4)
+	signal.Notify(signals, syscall.SIGHUP, syscall.SIGTERM, syscall.SIGINT)
+	os.Exit(run(os.Args[1:], os.Stdout, os.Stderr, signals))
+}
+
+// run serves until a signal ends it, and gives the status: 0 at an end in order, 1 at another, 2 where the words aren't ones, statusNoState
+// where a log has no state.
+func run(words []string, out, to io.Writer, signals <-chan os.Signal) int {
+	if version.Asked(words) {
+		fmt.Fprint(out, version.Line("ctwitness-serve"))
+		return 0
+	}
+	s, err := parse(words, to)
+	if errors.Is(err, flag.ErrHelp) {
+		return 0
+	}
+	if err != nil {
+		fmt.Fprintln(to, err)
+		return 2
+	}
+	lines := web.NewLines(to)
+	w, err := open(s, lines)
+	if err == nil {
+		defer w.close()
+		switch {
+		case s.verifierKey:
+			fmt.Fprintln(out, w.server.VerifierKey())
+			return 0
+		case len(s.create) > 0:
+			err = w.create(s, lines)
+		default:
+			err = w.serve(s, lines, signals)
+		}
+	}
+	if err != nil {
+		lines.Error("end", "fault", err)
+		if errors.Is(err, witness.ErrState) {
+			return statusNoState
+		}
+		return 1
+	}
+	lines.Info("end")
+	return 0
+}
+
+// running is a witness, with the registers that it opened.
+type running struct {
+	server    *witness.Server
+	registers map[string]stores.Register
+}
+
+func open(s *settings, lines *web.Lines) (*running, error) {
+	key, err := readKey(s.key)
+	if err != nil {
+		return nil, err
+	}
+	server, err := witness.New(witness.Options{Name: s.name, Key: key, Program: s.program, Within: s.within, Tell: lines.Error})
+	if err != nil {
+		return nil, err
+	}
+	return &running{server, map[string]stores.Register{}}, nil
+}
+
+// close ends the program, and closes the registers: behind that nothing is asked any more.
+func (w *running) close() {
+	_ = w.server.Close()
+	for _, register := range w.registers {
+		_ = register.Close()
+	}
+}
+
+// log opens a log's state. One that was opened before stays as it is.
+func (w *running) log(ctx context.Context, s *settings, of logSetting) (witness.Log, error) {
+	log := witness.Log{Origin: of.origin, Keys: of.keys, State: w.registers[of.origin]}
+	if log.State != nil {
+		return log, nil
+	}
+	register, err := stores.RegisterOf(ctx, s.state, of.origin)
+	if err != nil {
+		return log, err
+	}
+	w.registers[of.origin], log.State = register, register
+	return log, nil
+}
+
+// create makes the states of the logs that were named: of logs of which this witness never cosigned anything.
+func (w *running) create(s *settings, lines *web.Lines) error {
+	ctx, cancel := context.WithTimeout(context.Background(), s.openWithin)
+	defer cancel()
+	for _, origin := range s.create {
+		of, found := s.log(origin)
+		if !found {
+			return fmt.Errorf("ctwitness-serve: --create %s: the settings have no such log", origin)
+		}
+		log, err := w.log(ctx, s, of)
+		if err == nil {
+			err = log.Create(ctx)
+		}
+		if err != nil {
+			return err
+		}
+		lines.Info("created", "origin", origin)
+	}
+	return nil
+}
+
+// takeUp opens the logs of the settings, sees that each has its state, and witnesses them and no others.
+func (w *running) takeUp(s *settings) error {
+	ctx, cancel := context.WithTimeout(context.Background(), s.openWithin)
+	defer cancel()
+	var logs []witness.Log
+	for _, of := range s.logs {
+		log, err := w.log(ctx, s, of)
+		if err == nil {
+			err = w.server.Check(ctx, log)
+		}
+		if err != nil {
+			return err
+		}
+		logs = append(logs, log)
+	}
+	w.server.SetLogs(logs)
+	return nil
+}
+
+func (w *running) serve(s *settings, lines *web.Lines, signals <-chan os.Signal) error {
+	if err := w.takeUp(s); err != nil {
+		return err
+	}
+	clients, err := net.Listen("tcp", s.listen)
+	if err != nil {
+		return err
+	}
+	defer clients.Close()
+	servers, listeners := []*http.Server{serverOf(w.server)}, []net.Listener{bounded{clients, make(chan struct{}, mostConnections)}}
+	lines.Info("listening", "for", "clients", "address", clients.Addr())
+	if s.operator != "" {
+		operator, err := net.Listen("tcp", s.operator)
+		if err != nil {
+			return err
+		}
+		defer operator.Close()
+		servers, listeners = append(servers, serverOf(w.server.Operator())), append(listeners, operator)
+		lines.Info("listening", "for", "operator", "address", operator.Addr())
+	}
+	failed := make(chan error, len(servers))
+	for i := range servers {
+		servers[i].ErrorLog = logOf(lines)
+		go func(i int) { failed <- servers[i].Serve(listeners[i]) }(i)
+	}
+	lines.Info("serving", "name", s.name, "logs", len(s.logs), "verifier-key", w.server.VerifierKey())
+	err = w.wait(s, lines, signals, failed)
+	ctx, cancel := context.WithTimeout(context.Background(), s.endWithin)
+	defer cancel()
+	for _, server := range servers {
+		if late := server.Shutdown(ctx); err == nil && late != nil {
+			err = fmt.Errorf("ctwitness-serve: who waits isn't answered: %w", late)
+		}
+	}
+	return err
+}
+
+// wait waits for a signal that ends the witness, and reads the logs anew where one asks for that.
+func (w *running) wait(s *settings, lines *web.Lines, signals <-chan os.Signal, failed <-chan error) error {
+	for {
+		select {
+		case err := <-failed:
+			return err
+		case came := <-signals:
+			if came != syscall.SIGHUP {
+				lines.Info("ending", "signal", came)
+				return nil
+			}
+			anew, err := parse(s.words, io.Discard)
+			if err == nil {
+				err = w.takeUp(anew)
+			}
+			w.server.Reloaded(err)
+			if err != nil {
+				lines.Error("reload", "fault", err)
+				continue
+			}
+			lines.Info("reload", "logs", len(anew.logs))
+		}
+	}
+}
+
+func serverOf(handler http.Handler) *http.Server {
+	return &http.Server{
+		Handler: handler, ReadHeaderTimeout: 10 * time.Second, ReadTimeout: 20 * time.Second, WriteTimeout: time.Minute,
+		IdleTimeout: time.Minute, MaxHeaderBytes: mostHeader,
+	}
+}

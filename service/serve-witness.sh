@@ -1,0 +1,47 @@
+#!/usr/bin/env bash
+# Serves a witness on loopback, of one log: serve-witness.sh [FOLDER] [PORT] [LOG], by default ct-witness, 8640 and ct-log, the folder of serve.sh, which
+# has the log's public key, log.pem. ORIGIN=ct-log.example is the log's name in checkpoints.
+# The first start makes the witness's key, its settings and the log's state in FOLDER; later ones go on with them. PROGRAM decides, by default
+# ctwitness, which is proved and built where it isn't. Where the kit isn't there either, a program in Python stands in for it.
+set -eu
+here=$(cd "$(dirname "$0")" && pwd)
+folder=${1:-ct-witness} port=${2:-8640} log=${3:-ct-log} origin=${ORIGIN:-ct-log.example}
+built=$here/../crates/ctwitness/out/ctwitness
+if [ ! -e "$log/log.pem" ]; then
+  echo "serve-witness.sh: $log has no log.pem: make serve makes a log there" >&2
+  exit 1
+fi
+"$here/../checks/needs.sh" service
+if [ -z "${PROGRAM:-}" ] && [ ! -x "$built" ]; then
+  if command -v rt >/dev/null; then
+    "$here/../examples/build.py" ctwitness
+  else
+    echo "In place of ctwitness a program in Python decides: it is tested, and not proved. The Rattle kit isn't here (README.md, 'With the kit')."
+    PROGRAM="python3 $(cd "$here/../tests" && pwd)/witness/model.py"
+  fi
+fi
+"$here/build.sh" build
+export PYTHONDONTWRITEBYTECODE=1
+mkdir -p "$folder"
+folder=$(cd "$folder" && pwd)
+log=$(cd "$log" && pwd)
+words=(--config "$folder/settings" --listen "127.0.0.1:$port" --operator-listen "127.0.0.1:$((port + 1))" --program "${PROGRAM:-$built}")
+# (a witness is made once: one whose state isn't there knows nothing of what it cosigned)
+if [ ! -e "$folder/made" ]; then
+  (umask 077 && openssl genpkey -algorithm ed25519 -out "$folder/key.pem")
+  cat >"$folder/settings" <<END_OF_SETTINGS
+name ${NAME:-witness.example}
+key $folder/key.pem
+state file:$folder/states
+log $origin $log/log.pem
+END_OF_SETTINGS
+  "$here/out/ctwitness-serve" "${words[@]}" --create "$origin" 2>"$folder/create.log" || { cat "$folder/create.log" >&2; exit 1; }
+  touch "$folder/made"
+fi
+cat <<END_OF_TEXT
+A witness in $folder, of $origin:
+  its key       $("$here/out/ctwitness-serve" "${words[@]}" --verifier-key)
+  asked at      http://127.0.0.1:$port/add-checkpoint
+  figures       curl http://127.0.0.1:$((port + 1))/metrics
+END_OF_TEXT
+exec "$here/out/ctwitness-serve" "${words[@]}"

@@ -1,0 +1,112 @@
+package witness
+
+import (
+	"bytes"
+	"context"
+	"encoding/json"
+	"errors"
+	"fmt"
+	"net/http"
+
+	"golang.org/x/mod/sumdb/tlog"
+
+	"wagtenib/service/pipe"
+)
+
+// statuses has the status of each of the program's refusals (docs/WITNESS.md).
+var statuses = map[string]int{
+	"old-above": http.StatusBadRequest, "no-checkpoint": http.StatusBadRequest, "not-last": http.StatusConflict, "fork": http.StatusConflict,
+	"proof-not-empty": http.StatusUnprocessableEntity, "inconsistent": http.StatusUnprocessableEntity,
+}
+
+// asked is a line to the program.
+type asked struct {
+	tree
+	Checkpoint string   `json:"checkpoint"`
+	Old        uint64   `json:"old"`
+	Proof      [][]byte `json:"proof"`
+	Time       uint64   `json:"time"`
+}
+
+// reply is one of the program's: the next tree and the bytes to sign, or a refusal.
+type reply struct {
+	tree
+	Sign    []byte  `json:"sign"`
+	Refused string  `json:"refused"`
+	Fault   string  `json:"fault"`
+	Size    *uint64 `json:"size"`
+}
+
+// ask has the program decide. One that ended is started anew, once; one that gives no reply is ended.
+func (s *Server) ask(ctx context.Context, last tree, r Request, now uint64) (*reply, error) {
+	line, err := json.Marshal(asked{last, r.Text, r.Old, slices(r.Proof), now})
+	if err != nil {
+		return nil, fmt.Errorf("witness: %w", err)
+	}
+	line = append(line, '\n')
+	came, err := s.program.Exchange(ctx, line, 1)
+	if errors.Is(err, pipe.ErrGone) && ctx.Err() == nil {
+		came, err = s.program.Exchange(ctx, line, 1)
+	}
+	if err != nil {
+		return nil, fmt.Errorf("witness: %w", err)
+	}
+	said, err := readReply(came[0], last, r, now)
+	if err != nil {
+		s.program.Close()
+	}
+	return said, err
+}
+
+func slices(hashes [][32]byte) [][]byte {
+	all := make([][]byte, len(hashes))
+	for i := range hashes {
+		all[i] = hashes[i][:]
+	}
+	return all
+}
+
+// readReply reads a reply to a request. What lets a tree through is believed where it is the checkpoint's, the bytes are those under this
+// moment's cosignature of it, and x/mod's tlog finds that the proof leads to it, too.
+func readReply(line []byte, last tree, r Request, now uint64) (*reply, error) {
+	wrong := func(why string) (*reply, error) { return nil, fmt.Errorf("%w: %s: %.200q", ErrReply, why, line) }
+	said := &reply{}
+	if err := strictly(line, said); err != nil {
+		return wrong(err.Error())
+	}
+	if said.Refused != "" {
+		status := statuses[said.Refused]
+		if status == 0 || (status == http.StatusConflict) != (said.Size != nil) || said.Size != nil && *said.Size != last.Size || said.Sign != nil || said.Root != nil {
+			return wrong("no refusal")
+		}
+		return said, nil
+	}
+	size, root, err := treeOf(r.Text)
+	if err != nil || said.Size != nil || said.Fault != "" || said.tree.Size != size || !bytes.Equal(said.Root, root[:]) {
+		return wrong("another tree than the checkpoint's")
+	}
+	if !bytes.Equal(said.Sign, Message(now, r.Text)) {
+		return wrong("other bytes than a cosignature's")
+	}
+	if err := leads(last, r, size, root); err != nil {
+		return wrong(err.Error())
+	}
+	return said, nil
+}
+
+// leads sees that a request leads from the last tree to its checkpoint's.
+func leads(last tree, r Request, size uint64, root [32]byte) error {
+	switch {
+	case r.Old != last.Size || size < last.Size:
+		return errors.New("the request isn't from the last tree")
+	case size == last.Size && !bytes.Equal(last.Root, root[:]):
+		return errors.New("a fork")
+	case size == last.Size || last.Size == 0:
+		return nil
+	}
+	proof := make(tlog.TreeProof, len(r.Proof))
+	for i := range r.Proof {
+		proof[i] = r.Proof[i]
+	}
+	return tlog.CheckTree(proof, int64(size), root, int64(last.Size), *(*[32]byte)(last.Root))
+}

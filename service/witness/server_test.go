@@ -1,0 +1,730 @@
+package witness
+
+import (
+	"context"
+	"crypto/ecdsa"
+	"crypto/ed25519"
+	"crypto/elliptic"
+	"crypto/rand"
+	"encoding/base64"
+	"encoding/binary"
+	"encoding/json"
+	"errors"
+	"fmt"
+	"net/http"
+	"net/http/httptest"
+	"os"
+	"os/exec"
+	"path/filepath"
+	"strings"
+	"sync"
+	"syscall"
+	"testing"
+	"time"
+
+	"golang.org/x/mod/sumdb/note"
+	"golang.org/x/mod/sumdb/tlog"
+
+	"wagtenib/service/signer"
+	"wagtenib/service/stores"
+)
+
+// model is a second program beside the proved one, with the same lines; built is where that one is, once it is built.
+var (
+	model = []string{"python3", "../../tests/witness/model.py"}
+	built = "../../crates/ctwitness/out/ctwitness"
+)
+
+// programs are those that are there.
+func programs() map[string][]string {
+	all := map[string][]string{"model.py": model}
+	if _, err := os.Stat(built); err == nil {
+		all["ctwitness"] = []string{built}
+	}
+	return all
+}
+
+// decider is the proved program where it is built.
+func decider() []string {
+	if one, there := programs()["ctwitness"]; there {
+		return one
+	}
+	return model
+}
+
+func must(t testing.TB, err error) {
+	t.Helper()
+	if err != nil {
+		t.Fatal(err)
+	}
+}
+
+func limited(t testing.TB) context.Context {
+	ctx, cancel := context.WithTimeout(context.Background(), 2*time.Minute)
+	t.Cleanup(cancel)
+	return ctx
+}
+
+const origin = "log.example/1"
+
+// leaves are a list of leaves with its hashes, as x/mod keeps them.
+type leaves struct {
+	n      int64
+	hashes []tlog.Hash
+}
+
+func (l *leaves) ReadHashes(indexes []int64) (found []tlog.Hash, err error) {
+	for _, i := range indexes {
+		found = append(found, l.hashes[i])
+	}
+	return found, nil
+}
+
+// grown are leaves of these texts.
+func grown(t testing.TB, texts ...string) *leaves {
+	l := &leaves{}
+	for _, text := range texts {
+		hashes, err := tlog.StoredHashes(l.n, []byte(text), l)
+		must(t, err)
+		l.hashes, l.n = append(l.hashes, hashes...), l.n+1
+	}
+	return l
+}
+
+func (l *leaves) root(t testing.TB, n int64) tlog.Hash {
+	if n == 0 {
+		return emptyRoot
+	}
+	root, err := tlog.TreeHash(n, l)
+	must(t, err)
+	return root
+}
+
+func (l *leaves) proof(t testing.TB, from, to int64) (all [][32]byte) {
+	proof, err := tlog.ProveTree(to, from, l)
+	must(t, err)
+	for _, h := range proof {
+		all = append(all, h)
+	}
+	return all
+}
+
+// signing is a log's key: it signs a checkpoint's text.
+type signing struct {
+	key note.Verifier
+	// text is the verifier key, where there is one.
+	text string
+	sign func(text string) []byte
+}
+
+func checkpoint(origin string, size int64, root tlog.Hash) string {
+	return fmt.Sprintf("%s\n%d\n%s\n", origin, size, base64.StdEncoding.EncodeToString(root[:]))
+}
+
+// plainKey signs notes as x/mod does (type 1).
+func plainKey(t testing.TB, origin string) signing {
+	private, public, err := note.GenerateKey(rand.Reader, origin)
+	must(t, err)
+	by, err := note.NewSigner(private)
+	must(t, err)
+	key, err := LogKey(origin, public+"\n")
+	must(t, err)
+	return signing{key, public, func(text string) []byte {
+		signed, err := note.Sign(&note.Note{Text: text}, by)
+		must(t, err)
+		return signed
+	}}
+}
+
+// headKey signs tree heads (type 5).
+func headKey(t testing.TB, origin string) signing {
+	private, err := ecdsa.GenerateKey(elliptic.P256(), rand.Reader)
+	must(t, err)
+	key, err := signer.FromKey(private)
+	must(t, err)
+	of := OfRFC6962(origin, key.Key())
+	return signing{of, "", func(text string) []byte {
+		size, root, err := treeOf(text)
+		must(t, err)
+		const moment = 1_700_000_000_000
+		signed, err := key.SignHead(context.Background(), signer.Head{Size: size, Moment: moment, Root: root}, nil)
+		must(t, err)
+		blob := binary.BigEndian.AppendUint64(binary.BigEndian.AppendUint32(nil, of.KeyHash()), moment)
+		return []byte(text + "\n— " + origin + " " + base64.StdEncoding.EncodeToString(append(blob, signed...)) + "\n")
+	}}
+}
+
+func newKey(t testing.TB) ed25519.PrivateKey {
+	_, private, err := ed25519.GenerateKey(rand.Reader)
+	must(t, err)
+	return private
+}
+
+func stateIn(t testing.TB, folder string) stores.Register {
+	r, err := stores.OpenFile(filepath.Join(folder, "state"))
+	must(t, err)
+	t.Cleanup(func() { r.Close() })
+	return r
+}
+
+// witnessOf is a witness of one log, whose state is in a folder.
+func witnessOf(t testing.TB, folder string, key ed25519.PrivateKey, program []string, by signing) *Server {
+	s, err := New(Options{Name: "w.example", Key: key, Program: program})
+	must(t, err)
+	t.Cleanup(func() { s.Close() })
+	log := Log{Origin: origin, Keys: []note.Verifier{by.key}, State: stateIn(t, folder)}
+	if err := log.Create(limited(t)); err != nil && !errors.Is(err, stores.ErrExists) {
+		t.Fatal(err)
+	}
+	must(t, s.Check(limited(t), log))
+	s.SetLogs([]Log{log})
+	return s
+}
+
+// posted posts a body over HTTP.
+func posted(t testing.TB, s http.Handler, body []byte) *httptest.ResponseRecorder {
+	w := httptest.NewRecorder()
+	s.ServeHTTP(w, httptest.NewRequest(http.MethodPost, "/add-checkpoint", strings.NewReader(string(body))))
+	return w
+}
+
+func request(old int64, proof [][32]byte, signed []byte) []byte {
+	return Request{Old: uint64(old), Proof: proof, Note: signed}.body()
+}
+
+// cosignatureIn finds the witness's cosignature in an answer.
+func cosignatureIn(t testing.TB, s *Server, text, line string) {
+	t.Helper()
+	opened, err := note.Open([]byte(text+"\n"+line), note.VerifierList(OfCosigner(s.of.Name, s.public)))
+	if err != nil || len(opened.Sigs) != 1 || len(opened.UnverifiedSigs) != 0 || opened.Text != text {
+		t.Fatalf("%q is no cosignature of %q: %v", line, text, err)
+	}
+}
+
+// TestAddCheckpoint has each status that a witness answers, by both programs and for both types of keys.
+func TestAddCheckpoint(t *testing.T) {
+	for name, program := range programs() {
+		for kind, by := range map[string]signing{"plain": plainKey(t, origin), "head": headKey(t, origin)} {
+			program, by := program, by
+			t.Run(name+"/"+kind, func(t *testing.T) { addsCheckpoints(t, program, by) })
+		}
+	}
+}
+
+func addsCheckpoints(t *testing.T, program []string, by signing) {
+	one, other := grown(t, "a", "b", "c", "d", "e", "f", "g"), grown(t, "a", "b", "c", "x", "y", "z", "w")
+	head := func(of *leaves, n int64) string { return checkpoint(origin, n, of.root(t, n)) }
+	signed := func(of *leaves, n int64) []byte { return by.sign(head(of, n)) }
+	s := witnessOf(t, t.TempDir(), newKey(t), program, by)
+	some := one.proof(t, 3, 5)
+	many := make([][32]byte, 64)
+	damaged := signed(one, 5)
+	at := len(damaged) - 6
+	if damaged[at] == 'A' {
+		damaged[at] = 'B'
+	} else {
+		damaged[at] = 'A'
+	}
+	// Each is asked in order, and changes the state where it is 200.
+	for _, test := range []struct {
+		name   string
+		body   []byte
+		status int
+		text   string
+	}{
+		{"another size than nothing", request(2, nil, signed(one, 3)), 409, "0\n"},
+		{"a proof from nothing", request(0, some, signed(one, 3)), 422, "proof-not-empty\n"},
+		{"the first", request(0, nil, signed(one, 3)), 200, ""},
+		{"the same once more", request(3, nil, signed(one, 3)), 200, ""},
+		{"a proof between two that are one", request(3, some, signed(one, 3)), 422, "proof-not-empty\n"},
+		{"from nothing, behind the first", request(0, nil, signed(one, 5)), 409, "3\n"},
+		{"without a proof", request(3, nil, signed(one, 5)), 422, "inconsistent "},
+		{"a proof of another list", request(3, other.proof(t, 3, 6), signed(one, 5)), 422, "inconsistent "},
+		{"grown", request(3, one.proof(t, 3, 5), signed(one, 5)), 200, ""},
+		{"a fork of as many", request(5, nil, signed(other, 5)), 409, "5\n"},
+		{"a fork of more", request(5, other.proof(t, 5, 7), signed(other, 7)), 422, "inconsistent "},
+		{"an older one", request(3, nil, signed(one, 3)), 409, "5\n"},
+		{"an older one, from the newest size", request(5, nil, signed(one, 3)), 400, "old-above\n"},
+		{"no empty line", []byte("old 5\n" + string(signed(one, 5))[:30]), 400, "witness: not a request"},
+		{"no old size", []byte("new 5\n\n" + string(signed(one, 5))), 400, "witness: not a request"},
+		{"a leading zero", []byte("old 05\n\n" + string(signed(one, 5))), 400, "witness: not a request"},
+		{"no number", []byte("old 9223372036854775808\n\n" + string(signed(one, 5))), 400, "witness: not a request"},
+		{"64 hashes", request(5, many, signed(one, 5)), 400, "witness: not a request"},
+		{"a short hash", []byte("old 5\nAAAA\n\n" + string(signed(one, 5))), 400, "witness: not a request"},
+		{"no note", []byte("old 5\n\n"), 400, "witness: not a request"},
+		{"a note without signatures", []byte("old 5\n\n" + head(one, 5) + "\n"), 400, "witness: not a request"},
+		{"another origin", request(5, nil, by.sign(checkpoint("x"+origin, 5, one.root(t, 5)))), 404, "no such log\n"},
+		{"a damaged signature", request(5, nil, damaged), 403, "no signature"},
+		{"another key's", request(5, nil, plainKey(t, origin).sign(head(one, 5))), 403, "no signature"},
+		{"another root below the signature", request(5, nil, []byte(strings.Replace(string(signed(one, 5)), head(one, 5), head(other, 5), 1))), 403, "no signature"},
+		{"grown once more", request(5, one.proof(t, 5, 7), signed(one, 7)), 200, ""},
+	} {
+		w := posted(t, s, test.body)
+		kind := textPlain
+		if test.status == 409 {
+			kind = "text/x.tlog.size"
+		}
+		if w.Code != test.status || !strings.HasPrefix(w.Body.String(), test.text) || w.Header().Get("Content-Type") != kind {
+			t.Errorf("%s: %d %s %q", test.name, w.Code, w.Header().Get("Content-Type"), w.Body)
+			continue
+		}
+		if test.status == 200 {
+			r, err := ParseRequest(test.body)
+			must(t, err)
+			cosignatureIn(t, s, r.Text, w.Body.String())
+		}
+	}
+}
+
+// TestExtensionLines: below a signature of type 5 they aren't signed (403), and below one of type 1 there is no such checkpoint here (400).
+func TestExtensionLines(t *testing.T) {
+	one := grown(t, "a", "b")
+	text := checkpoint(origin, 2, one.root(t, 2))
+	head, plain := headKey(t, origin), plainKey(t, origin)
+	for _, test := range []struct {
+		status int
+		by     signing
+		signed []byte
+	}{
+		{403, head, []byte(strings.Replace(string(head.sign(text)), "\n\n", "\nmore\n\n", 1))},
+		{403, head, []byte(strings.Replace(string(head.sign(text)), "\n\n", "\n\nmore\n\n", 1))},
+		{400, plain, plain.sign(text + "more\n")},
+	} {
+		if w := posted(t, witnessOf(t, t.TempDir(), newKey(t), decider(), test.by), request(0, nil, test.signed)); w.Code != test.status {
+			t.Errorf("%d, and not %d: %s", w.Code, test.status, w.Body)
+		}
+	}
+	// Nor is the origin signed below type 5: a key is one log's.
+	other := strings.Replace(string(head.sign(text)), origin, "other.example", 1)
+	if _, err := note.Open([]byte(other), note.VerifierList(head.key)); err == nil {
+		t.Error("a head of another log is taken")
+	}
+}
+
+// TestCalls: what isn't add-checkpoint, and what is too long.
+func TestCalls(t *testing.T) {
+	s := witnessOf(t, t.TempDir(), newKey(t), decider(), plainKey(t, origin))
+	for _, test := range []struct {
+		method, path, body string
+		status             int
+	}{
+		{"GET", "/add-checkpoint", "", 405},
+		{"POST", "/", "", 404},
+		{"POST", "/add-checkpoint", "old 0\n\n" + strings.Repeat("x", MostBody), 413},
+		{"POST", "/add-checkpoint", "", 400},
+	} {
+		w := httptest.NewRecorder()
+		s.ServeHTTP(w, httptest.NewRequest(test.method, test.path, strings.NewReader(test.body)))
+		if w.Code != test.status {
+			t.Errorf("%s %s: %d, and not %d", test.method, test.path, w.Code, test.status)
+		}
+	}
+	for i := 0; i < mostAtOnce; i++ {
+		s.room <- struct{}{}
+	}
+	if w := posted(t, s, nil); w.Code != 503 || w.Header().Get("Retry-After") == "" {
+		t.Errorf("too many at once: %d", w.Code)
+	}
+}
+
+// TestOpenssl: openssl finds the cosignature right, over bytes and a key that are put together here.
+func TestOpenssl(t *testing.T) {
+	command, err := exec.LookPath("openssl")
+	if err != nil {
+		t.Skip("for want of openssl")
+	}
+	folder, by, one := t.TempDir(), headKey(t, origin), grown(t, "a", "b", "c")
+	pem := filepath.Join(folder, "key.pem")
+	run := func(words ...string) []byte {
+		t.Helper()
+		out, err := exec.Command(command, words...).Output()
+		must(t, err)
+		return out
+	}
+	run("genpkey", "-algorithm", "ed25519", "-out", pem)
+	text, err := os.ReadFile(pem)
+	must(t, err)
+	key, err := ReadKey(text)
+	must(t, err)
+	s := witnessOf(t, folder, key, decider(), by)
+	s.now = func() uint64 { return 1234567890 }
+	head := checkpoint(origin, 3, one.root(t, 3))
+	w := posted(t, s, request(0, nil, by.sign(head)))
+	words := strings.Fields(w.Body.String())
+	if w.Code != 200 || len(words) != 3 || words[0] != "—" || words[1] != "w.example" {
+		t.Fatalf("%d %q", w.Code, w.Body)
+	}
+	blob, err := base64.StdEncoding.DecodeString(words[2])
+	must(t, err)
+	// The key's four bytes, by the page of the field: SHA-256(NAME || 0x0A || 4 || key).
+	public := run("pkey", "-in", pem, "-pubout", "-outform", "DER")
+	raw := public[len(public)-32:]
+	named := filepath.Join(folder, "named")
+	must(t, os.WriteFile(named, append([]byte("w.example\n\x04"), raw...), 0o600))
+	if sum := run("dgst", "-sha256", "-binary", named); string(blob[:4]) != string(sum[:4]) || binary.BigEndian.Uint64(blob[4:12]) != 1234567890 || len(blob) != 76 {
+		t.Errorf("a blob %x", blob)
+	}
+	must(t, os.WriteFile(filepath.Join(folder, "signed"), []byte("cosignature/v1\ntime 1234567890\n"+head), 0o600))
+	must(t, os.WriteFile(filepath.Join(folder, "signature"), blob[12:], 0o600))
+	out := run("pkeyutl", "-verify", "-inkey", pem, "-rawin", "-in", filepath.Join(folder, "signed"), "-sigfile", filepath.Join(folder, "signature"))
+	if !strings.Contains(string(out), "Verified Successfully") {
+		t.Errorf("%s", out)
+	}
+}
+
+// TestRace: of two heads that fork, asked at once of two processes' worth of witnesses over one register, one is cosigned and the other never.
+func TestRace(t *testing.T) {
+	by, key := headKey(t, origin), newKey(t)
+	one, other := grown(t, "a", "b", "c", "d", "e"), grown(t, "a", "b", "c", "x", "y")
+	for round := 0; round < 10; round++ {
+		folder := t.TempDir()
+		witnesses := []*Server{witnessOf(t, folder, key, decider(), by), witnessOf(t, folder, key, decider(), by)}
+		bodies := [][]byte{}
+		for _, of := range []*leaves{one, other} {
+			bodies = append(bodies, request(0, nil, by.sign(checkpoint(origin, 5, of.root(t, 5)))))
+		}
+		var all sync.WaitGroup
+		var mu sync.Mutex
+		cosigned := [2]int{}
+		for i := 0; i < 16; i++ {
+			all.Add(1)
+			go func(i int) {
+				defer all.Done()
+				w := posted(t, witnesses[i/2%2], bodies[i%2])
+				mu.Lock()
+				defer mu.Unlock()
+				if w.Code == 200 {
+					cosigned[i%2]++
+				} else if w.Code != 409 && w.Body.String() != "busy\n" {
+					t.Errorf("%d %s", w.Code, w.Body)
+				}
+			}(i)
+		}
+		all.Wait()
+		if (cosigned[0] > 0) == (cosigned[1] > 0) {
+			t.Errorf("round %d: the one is cosigned %d times, the other %d", round, cosigned[0], cosigned[1])
+		}
+	}
+}
+
+// TestStaleReader: who decided by a state that has moved meanwhile signs nothing, also where it decided for the same tree once more.
+func TestStaleReader(t *testing.T) {
+	by, key, folder := headKey(t, origin), newKey(t), t.TempDir()
+	one := grown(t, "a", "b", "c", "d", "e")
+	signed := func(n int64) []byte { return by.sign(checkpoint(origin, n, one.root(t, n))) }
+	slow, fast := witnessOf(t, folder, key, decider(), by), witnessOf(t, folder, key, decider(), by)
+	if w := posted(t, fast, request(0, nil, signed(3))); w.Code != 200 {
+		t.Fatalf("%d %s", w.Code, w.Body)
+	}
+	slow.phase = func(string) {
+		slow.phase = func(string) {}
+		if w := posted(t, fast, request(3, one.proof(t, 3, 5), signed(5))); w.Code != 200 {
+			t.Errorf("%d %s", w.Code, w.Body)
+		}
+	}
+	if w := posted(t, slow, request(3, nil, signed(3))); w.Code != 409 || w.Body.String() != "5\n" {
+		t.Errorf("an older head is cosigned late: %d %s", w.Code, w.Body)
+	}
+}
+
+// killedAt is where a process of the tests ends itself, as TestKills has it.
+const killedAt = "WITNESS_TEST_KILLED_AT"
+
+// TestKills has a witness killed (-9) between its decision, the swap and the signature. Behind that a fork of what it kept is never cosigned, and
+// what it hadn't kept binds it to nothing.
+func TestKills(t *testing.T) {
+	by, one, other := plainKey(t, origin), grown(t, "a", "b", "c"), grown(t, "x", "y", "z")
+	body := func(of *leaves) []byte { return request(0, nil, by.sign(checkpoint(origin, 3, of.root(t, 3)))) }
+	if at := os.Getenv(killedAt); at != "" {
+		beKilled(t, at)
+		return
+	}
+	for phase, fork := range map[string]int{"decided": 200, "kept": 409} {
+		folder := t.TempDir()
+		s := witnessOf(t, folder, newKey(t), decider(), by)
+		must(t, os.WriteFile(filepath.Join(folder, "body"), body(one), 0o600))
+		must(t, os.WriteFile(filepath.Join(folder, "key"), []byte(by.text), 0o600))
+		child := exec.Command(os.Args[0], "-test.run", "^TestKills$")
+		child.Env = append(os.Environ(), killedAt+"="+phase, "WITNESS_TEST_FOLDER="+folder)
+		out, err := child.CombinedOutput()
+		var ended *exec.ExitError
+		if !errors.As(err, &ended) || ended.Sys().(syscall.WaitStatus).Signal() != syscall.SIGKILL || strings.Contains(string(out), "— ") {
+			t.Fatalf("%s: %v %s", phase, err, out)
+		}
+		if w := posted(t, s, body(other)); w.Code != fork {
+			t.Errorf("%s: a fork behind it: %d %s", phase, w.Code, w.Body)
+		}
+		if w := posted(t, s, request(3, nil, by.sign(checkpoint(origin, 3, one.root(t, 3))))); fork == 409 && w.Code != 200 {
+			t.Errorf("%s: the head itself behind it: %d %s", phase, w.Code, w.Body)
+		}
+	}
+}
+
+// beKilled answers the folder's body, and kills this process at a phase.
+func beKilled(t *testing.T, at string) {
+	folder := os.Getenv("WITNESS_TEST_FOLDER")
+	text, err := os.ReadFile(filepath.Join(folder, "key"))
+	must(t, err)
+	key, err := LogKey(origin, string(text))
+	must(t, err)
+	body, err := os.ReadFile(filepath.Join(folder, "body"))
+	must(t, err)
+	s := witnessOf(t, folder, newKey(t), decider(), signing{key: key})
+	s.phase = func(now string) {
+		if now == at {
+			_ = syscall.Kill(os.Getpid(), syscall.SIGKILL)
+			select {}
+		}
+	}
+	fmt.Println(posted(t, s, body).Body)
+}
+
+// saying is a program that replies one thing to each line.
+func saying(reply string) []string {
+	return []string{"sh", "-c", "while read -r line; do printf '%s\\n' '" + reply + "'; done"}
+}
+
+// lying lets everything through, with the right bytes.
+var lying = []string{"python3", "-c", `
+import base64, json, sys
+for line in sys.stdin:
+    asked = json.loads(line)
+    _, size, root, _ = asked["checkpoint"].split("\n")
+    sign = f"cosignature/v1\ntime {asked['time']}\n{asked['checkpoint']}"
+    print(json.dumps({"last_root": root, "last_size": int(size), "sign": base64.b64encode(sign.encode()).decode()}), flush=True)
+`}
+
+// TestLyingProgram: what lies in the program's place gets nothing signed that doesn't follow the last tree, and moves no state.
+func TestLyingProgram(t *testing.T) {
+	by, key, folder := headKey(t, origin), newKey(t), t.TempDir()
+	one, other := grown(t, "a", "b", "c", "d", "e"), grown(t, "a", "b", "x", "y", "z")
+	signed := func(of *leaves, n int64) []byte { return by.sign(checkpoint(origin, n, of.root(t, n))) }
+	right := witnessOf(t, folder, key, decider(), by)
+	if w := posted(t, right, request(0, nil, signed(one, 3))); w.Code != 200 {
+		t.Fatalf("%d %s", w.Code, w.Body)
+	}
+	before, err := stateIn(t, folder).Read(limited(t))
+	must(t, err)
+	grows := request(3, one.proof(t, 3, 5), signed(one, 5))
+	root := func(of *leaves, n int64) string {
+		h := of.root(t, n)
+		return base64.StdEncoding.EncodeToString(h[:])
+	}
+	const moment = 1 << 40
+	message := func(seconds uint64, text string) string {
+		return base64.StdEncoding.EncodeToString(Message(seconds, text))
+	}
+	text := checkpoint(origin, 5, one.root(t, 5))
+	through := func(of *leaves, size int, sign string) []string {
+		line, err := json.Marshal(map[string]any{"last_root": root(of, 5), "last_size": size, "sign": sign})
+		must(t, err)
+		return saying(string(line))
+	}
+	for name, test := range map[string]struct {
+		program []string
+		body    []byte
+	}{
+		"a fork of as many":              {lying, request(3, nil, signed(other, 3))},
+		"a fork of more":                 {lying, request(3, other.proof(t, 3, 5), signed(other, 5))},
+		"no proof":                       {lying, request(3, nil, signed(one, 5))},
+		"another size than the last":     {lying, request(2, one.proof(t, 2, 5), signed(one, 5))},
+		"an older one":                   {lying, request(3, nil, signed(one, 2))},
+		"bytes of another moment":        {through(one, 5, message(1, text)), grows},
+		"bytes of another text":          {through(one, 5, message(moment, checkpoint(origin, 5, other.root(t, 5)))), grows},
+		"a log's head in its bytes":      {through(one, 5, base64.StdEncoding.EncodeToString([]byte(text))), grows},
+		"another tree to keep":           {through(other, 5, message(moment, text)), grows},
+		"another size to keep":           {through(one, 3, message(moment, text)), grows},
+		"no JSON":                        {saying("yes"), grows},
+		"nothing in it":                  {saying("{}"), grows},
+		"an unknown key":                 {saying(`{"refused":"fork","size":3,"more":1}`), grows},
+		"two values":                     {saying(`{"refused":"inconsistent"} {}`), grows},
+		"an unknown refusal":             {saying(`{"refused":"never"}`), grows},
+		"bad-line":                       {saying(`{"refused":"bad-line"}`), grows},
+		"a refusal with bytes":           {saying(`{"refused":"inconsistent","sign":"AAAA"}`), grows},
+		"a refusal with another size":    {saying(`{"refused":"not-last","size":4}`), grows},
+		"a refusal without the size":     {saying(`{"refused":"not-last"}`), grows},
+		"a refusal with a size too many": {saying(`{"refused":"inconsistent","size":3}`), grows},
+		"it ends":                        {[]string{"sh", "-c", "read -r line"}, grows},
+		"it ends at once":                {[]string{"true"}, grows},
+	} {
+		s := witnessOf(t, folder, key, test.program, by)
+		s.now = func() uint64 { return moment }
+		var told []string
+		s.of.Tell = func(event string, words ...any) { told = append(told, event) }
+		w := posted(t, s, test.body)
+		if w.Code != 503 || strings.Contains(w.Body.String(), "—") || strings.Join(told, " ") != "program" {
+			t.Errorf("%s: %d %s", name, w.Code, w.Body)
+		}
+		if text, err := stateIn(t, folder).Read(limited(t)); err != nil || text != before {
+			t.Errorf("%s: the state moved: %s, %v", name, text, err)
+		}
+	}
+	if w := posted(t, right, grows); w.Code != 200 {
+		t.Errorf("behind all that: %d %s", w.Code, w.Body)
+	}
+}
+
+// TestProgramIsStartedAnew: where the first one of it gives no reply, ends, or replies what is none, the next one decides.
+func TestProgramIsStartedAnew(t *testing.T) {
+	for _, first := range []string{"exec sleep 600", "exit 1", "while echo {}; do read -r line || exit; done"} {
+		isStartedAnew(t, first)
+	}
+}
+
+func isStartedAnew(t *testing.T, does string) {
+	by, one, folder := headKey(t, origin), grown(t, "a", "b", "c"), t.TempDir()
+	first := request(0, nil, by.sign(checkpoint(origin, 3, one.root(t, 3))))
+	marks := filepath.Join(folder, "mark")
+	program := []string{"sh", "-c", "if mkdir " + marks + " 2>/dev/null; then read -r line; " + does + "; fi; exec " + strings.Join(decider(), " ")}
+	s, err := New(Options{Name: "w.example", Key: newKey(t), Program: program, Within: 200 * time.Millisecond})
+	must(t, err)
+	defer s.Close()
+	log := Log{Origin: origin, Keys: []note.Verifier{by.key}, State: stateIn(t, folder)}
+	must(t, log.Create(limited(t)))
+	s.SetLogs([]Log{log})
+	// (under load the one that decides may be late, too)
+	came := 503
+	for try := 0; came == 503 && try < 100; try++ {
+		came = posted(t, s, first).Code
+	}
+	if came != 200 && came != 409 {
+		t.Errorf("%s: status %d", does, came)
+	}
+	if s.program.Opens() < 2 {
+		t.Errorf("it was started %d times", s.program.Opens())
+	}
+}
+
+// TestStates: a state that is missing, another log's or no state is never taken for a new one.
+func TestStates(t *testing.T) {
+	by, one := headKey(t, origin), grown(t, "a")
+	for name, text := range map[string]string{
+		"none":           "",
+		"another log's":  `{"last_root":"47DEQpj8HBSa+/TImW+5JCeuQeRkm5NMpJWZG3hSuFU=","last_size":0,"origin":"other","salt":"","time":0}`,
+		"a short root":   `{"last_root":"47DE","last_size":0,"origin":"` + origin + `","salt":"","time":0}`,
+		"an unknown key": `{"last_root":"47DEQpj8HBSa+/TImW+5JCeuQeRkm5NMpJWZG3hSuFU=","last_size":0,"origin":"` + origin + `","salt":"","time":0,"x":1}`,
+		"no JSON":        "x",
+		"two":            `{} {}`,
+	} {
+		s, err := New(Options{Name: "w.example", Key: newKey(t), Program: decider()})
+		must(t, err)
+		defer s.Close()
+		state := stateIn(t, t.TempDir())
+		if text != "" {
+			must(t, state.Create(limited(t), text))
+		}
+		log := Log{Origin: origin, Keys: []note.Verifier{by.key}, State: state}
+		if err := s.Check(limited(t), log); !errors.Is(err, ErrState) {
+			t.Errorf("%s: %v", name, err)
+		}
+		s.SetLogs([]Log{log})
+		if w := posted(t, s, request(0, nil, by.sign(checkpoint(origin, 1, one.root(t, 1))))); w.Code != 503 || w.Body.String() != "state\n" {
+			t.Errorf("%s: %d %s", name, w.Code, w.Body)
+		}
+		if text != "" {
+			if err := log.Create(limited(t)); !errors.Is(err, stores.ErrExists) {
+				t.Errorf("%s is made anew: %v", name, err)
+			}
+		}
+	}
+}
+
+// TestClock: moments don't go back. A clock that is behind a little has the last moment, and one that is far behind cosigns nothing.
+func TestClock(t *testing.T) {
+	by, one := headKey(t, origin), grown(t, "a", "b", "c")
+	s := witnessOf(t, t.TempDir(), newKey(t), decider(), by)
+	body := request(0, nil, by.sign(checkpoint(origin, 3, one.root(t, 3))))
+	again := request(3, nil, by.sign(checkpoint(origin, 3, one.root(t, 3))))
+	for _, test := range []struct {
+		now    uint64
+		body   []byte
+		status int
+		moment uint64
+	}{{1000, body, 200, 1000}, {1000, again, 200, 1000}, {940, again, 200, 1000}, {939, again, 503, 0}, {1001, again, 200, 1001}} {
+		s.now = func() uint64 { return test.now }
+		w := posted(t, s, test.body)
+		if w.Code != test.status {
+			t.Fatalf("at %d: %d %s", test.now, w.Code, w.Body)
+		}
+		if test.status == 200 {
+			blob, err := base64.StdEncoding.DecodeString(strings.Fields(w.Body.String())[2])
+			must(t, err)
+			if moment := binary.BigEndian.Uint64(blob[4:12]); moment != test.moment {
+				t.Errorf("at %d: the moment is %d", test.now, moment)
+			}
+		}
+	}
+}
+
+// TestSeveralLogs: each has its own state, and one that isn't among the settings any more is unknown.
+func TestSeveralLogs(t *testing.T) {
+	first, second := headKey(t, "a.example"), plainKey(t, "b.example")
+	s, err := New(Options{Name: "w.example", Key: newKey(t), Program: decider()})
+	must(t, err)
+	defer s.Close()
+	logs := []Log{{"a.example", []note.Verifier{first.key}, stateIn(t, t.TempDir())}, {"b.example", []note.Verifier{second.key, headKey(t, "b.example").key}, stateIn(t, t.TempDir())}}
+	for _, log := range logs {
+		must(t, log.Create(limited(t)))
+	}
+	s.SetLogs(logs)
+	one := grown(t, "a", "b", "c")
+	a, b := first.sign(checkpoint("a.example", 3, one.root(t, 3))), second.sign(checkpoint("b.example", 2, one.root(t, 2)))
+	for _, test := range []struct {
+		body   []byte
+		status int
+	}{{request(0, nil, a), 200}, {request(0, nil, b), 200}, {request(3, nil, a), 200}, {request(2, nil, b), 200}, {request(0, nil, b), 409}} {
+		if w := posted(t, s, test.body); w.Code != test.status {
+			t.Errorf("%d, and not %d: %s", w.Code, test.status, w.Body)
+		}
+	}
+	s.SetLogs(logs[:1])
+	if w := posted(t, s, request(2, nil, b)); w.Code != 404 {
+		t.Errorf("a log that isn't witnessed any more: %d %s", w.Code, w.Body)
+	}
+	w := httptest.NewRecorder()
+	s.Operator().ServeHTTP(w, httptest.NewRequest("GET", "/metrics", nil))
+	for _, line := range []string{`ctwitness_entries{origin="a.example"} 3`, `ctwitness_cosignatures_total{origin="b.example"} 2`, `ctwitness_requests_total{status="409"} 1`,
+		`ctwitness_refusals_total{origin="b.example",refused="not-last"} 1`, "ctwitness_program_starts_total 1"} {
+		if !strings.Contains(w.Body.String(), line+"\n") {
+			t.Errorf("no %s", line)
+		}
+	}
+	if strings.Contains(w.Body.String(), `ctwitness_entries{origin="b.example"}`) {
+		t.Error("a figure of a log that isn't witnessed any more")
+	}
+}
+
+// TestKeys: texts of keys are taken as they are written, and no others.
+func TestKeys(t *testing.T) {
+	key := newKey(t)
+	text := VerifierKey("w.example", key.Public().(ed25519.PublicKey))
+	if name, public, err := ReadVerifierKey(text); err != nil || name != "w.example" || !public.Equal(key.Public()) {
+		t.Errorf("%s: %s, %v", text, name, err)
+	}
+	other := VerifierKey("v.example", key.Public().(ed25519.PublicKey))
+	_, plain, err := note.GenerateKey(rand.Reader, "w.example")
+	must(t, err)
+	for _, wrong := range []string{"", "w.example", "x" + text, text[:len(text)-4], strings.Replace(other, "v.", "w.", 1), plain, "+" + strings.SplitN(text, "+", 2)[1]} {
+		if _, _, err := ReadVerifierKey(wrong); !errors.Is(err, ErrKey) {
+			t.Errorf("%q: %v", wrong, err)
+		}
+	}
+	for _, wrong := range []string{"", "x", text, "-----BEGIN PUBLIC KEY-----\nAAAA\n-----END PUBLIC KEY-----\n"} {
+		if _, err := LogKey(origin, wrong); !errors.Is(err, ErrKey) {
+			t.Errorf("%q: %v", wrong, err)
+		}
+		if _, err := ReadKey([]byte(wrong)); !errors.Is(err, ErrKey) {
+			t.Errorf("%q: %v", wrong, err)
+		}
+	}
+	for _, name := range []string{"", "a b", "a+b", " a"} {
+		if _, err := New(Options{Name: name, Key: key, Program: decider()}); !errors.Is(err, ErrKey) {
+			t.Errorf("%q: %v", name, err)
+		}
+	}
+	for _, program := range [][]string{nil, {"/nowhere/ctwitness"}} {
+		if _, err := New(Options{Name: "w", Key: key, Program: program}); err == nil {
+			t.Errorf("%q is a program", program)
+		}
+	}
+}
