@@ -32,6 +32,7 @@ var commands = map[string]func(words []string, answers, faults io.Writer) error{
 	"key":        runKey,
 	"list-entry": runListEntry,
 	"check":      runCheck,
+	"shards":     runShards,
 	"places":     runPlaces,
 }
 

@@ -12,7 +12,6 @@ import (
 	"fmt"
 	"io"
 	"os"
-	"strings"
 )
 
 // mostFile is how many bytes a key's file may have.
@@ -40,7 +39,7 @@ func (k *Key) Close() error {
 // OpenKey reads a private key of P-256 in PEM (EC PRIVATE KEY or PRIVATE KEY) from a file that none but its owner may read; or, where
 // the path is a URI of PKCS#11 (RFC 7512), finds it in a token, which it never leaves.
 func OpenKey(path string) (*Key, error) {
-	if strings.HasPrefix(path, tokenScheme) {
+	if IsToken(path) {
 		return openToken(path)
 	}
 	content, err := readPrivate(path)

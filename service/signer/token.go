@@ -12,6 +12,9 @@ import (
 // tokenScheme is the one of URIs that name what is in a token of PKCS#11 (RFC 7512, section 2.3).
 const tokenScheme = "pkcs11:"
 
+// IsToken says whether a key is named by a URI of PKCS#11, and not by a file's path.
+func IsToken(path string) bool { return strings.HasPrefix(path, tokenScheme) }
+
 // tokenWithin is how long a signature waits for a session with the token.
 const tokenWithin = 10 * time.Second
 
