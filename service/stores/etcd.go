@@ -3,13 +3,11 @@ package stores
 import (
 	"context"
 	"encoding/binary"
-	"errors"
 	"fmt"
 	"strconv"
 	"time"
 
 	"go.etcd.io/etcd/clientv3"
-	"go.etcd.io/etcd/etcdserver/api/v3rpc/rpctypes"
 	"go.uber.org/zap"
 )
 
@@ -24,7 +22,7 @@ type Etcd struct {
 const mostOperations = 100
 
 // open connects a client. The first call of it finds out whether a member answers.
-func (at Etcd) open() (*clientv3.Client, error) {
+func (at Etcd) open() (*members, error) {
 	if at.Prefix == "" {
 		return nil, fmt.Errorf("%w: the prefix in etcd", ErrEmpty)
 	}
@@ -46,7 +44,7 @@ func (at Etcd) open() (*clientv3.Client, error) {
 	if err != nil {
 		return nil, fmt.Errorf("stores: etcd: %w", err)
 	}
-	return client, nil
+	return newMembers(client), nil
 }
 
 // inEtcd keeps the register in three keys: the text; the published size, which is all that versions before the third read; and the size and the
@@ -57,7 +55,7 @@ func (at Etcd) open() (*clientv3.Client, error) {
 // (--unsafe-no-fsync isn't given). A restore from a backup sets the register back, and isn't to be done to a log. Old revisions, which nobody
 // reads, are compacted (--auto-compaction-retention): each swap and each place leaves one, and they fill the cluster's quota.
 type inEtcd struct {
-	client                *clientv3.Client
+	client                *members
 	text, published, head string
 }
 
@@ -78,8 +76,7 @@ func inOrder(number uint64) string { return fmt.Sprintf("%020d", number) }
 
 // sent wraps the error of a write: it is unknown whether it was done, unless etcd says that it wasn't.
 func sent(what string, err error) error {
-	var said rpctypes.EtcdError
-	if errors.As(err, &said) && (said == rpctypes.ErrNoSpace || said == rpctypes.ErrRequestTooLarge || said == rpctypes.ErrTooManyOps) {
+	if isDenied(err) {
 		return fmt.Errorf("stores: etcd: %s: %w", what, err)
 	}
 	return fmt.Errorf("%w: etcd: %s: %v", ErrUnknown, what, err)
@@ -101,7 +98,7 @@ func (e *inEtcd) Create(ctx context.Context, text string) error {
 }
 
 func (e *inEtcd) get(ctx context.Context, key string) (string, error) {
-	answer, err := e.client.Get(ctx, key)
+	answer, err := atMembers(ctx, e.client, func(ctx context.Context) (*clientv3.GetResponse, error) { return e.client.Get(ctx, key) })
 	if err != nil {
 		return "", fmt.Errorf("stores: etcd: read: %w", err)
 	}
@@ -118,8 +115,9 @@ func (e *inEtcd) Swap(ctx context.Context, old, new string) error {
 		return err
 	}
 	// That no key is there is false of each comparison with a value.
-	answer, err := e.client.Txn(ctx).If(clientv3.Compare(clientv3.Value(e.text), "=", old)).
-		Then(clientv3.OpPut(e.text, new)).Else(clientv3.OpGet(e.text)).Commit()
+	answer, err := e.client.commit(ctx, func(swap clientv3.Txn) clientv3.Txn {
+		return swap.If(clientv3.Compare(clientv3.Value(e.text), "=", old)).Then(clientv3.OpPut(e.text, new)).Else(clientv3.OpGet(e.text))
+	})
 	if err != nil {
 		return sent("swap", err)
 	}
@@ -144,7 +142,9 @@ const headFormInOrder = "%020d-%020d"
 
 // Published reads both keys at once. The first alone is larger where a version raised it that doesn't know the other.
 func (e *inEtcd) Published(ctx context.Context) (Published, error) {
-	answer, err := e.client.Txn(ctx).Then(clientv3.OpGet(e.published), clientv3.OpGet(e.head)).Commit()
+	answer, err := e.client.commit(ctx, func(read clientv3.Txn) clientv3.Txn {
+		return read.Then(clientv3.OpGet(e.published), clientv3.OpGet(e.head))
+	})
 	if err != nil {
 		return Published{}, fmt.Errorf("stores: etcd: read: %w", err)
 	}
@@ -180,7 +180,9 @@ func (e *inEtcd) Raise(ctx context.Context, published Published) error {
 	head := headInOrder(published)
 	// (of a key that isn't there each comparison of values is false)
 	first := clientv3.OpTxn([]clientv3.Cmp{isAbsent(e.head)}, []clientv3.Op{clientv3.OpPut(e.head, head)}, []clientv3.Op{raise(e.head, head)})
-	answer, err := e.client.Txn(ctx).If(isAbsent(e.published)).Else(raise(e.published, inOrder(published.Size)), first).Commit()
+	answer, err := e.client.commit(ctx, func(txn clientv3.Txn) clientv3.Txn {
+		return txn.If(isAbsent(e.published)).Else(raise(e.published, inOrder(published.Size)), first)
+	})
 	if err != nil {
 		return sent("raise", err)
 	}
@@ -195,7 +197,7 @@ func (e *inEtcd) Close() error { return e.client.Close() }
 // placesInEtcd keeps a key for each identity. etcd holds all keys in memory and has a quota of 2 GB by default: this is for
 // small logs.
 type placesInEtcd struct {
-	client *clientv3.Client
+	client *members
 	// below is what the log's keys begin with, and prefix what these do.
 	below, prefix string
 }
@@ -237,7 +239,7 @@ func (e *placesInEtcd) Find(ctx context.Context, identities []Identity) (map[Ide
 		for _, identity := range identities[from:to] {
 			gets = append(gets, clientv3.OpGet(e.key(identity)))
 		}
-		answer, err := e.client.Txn(ctx).Then(gets...).Commit()
+		answer, err := e.client.commit(ctx, func(find clientv3.Txn) clientv3.Txn { return find.Then(gets...) })
 		if err != nil {
 			return fmt.Errorf("stores: etcd: find: %w", err)
 		}
@@ -264,7 +266,7 @@ func (e *placesInEtcd) Add(ctx context.Context, placed []Placed) error {
 			put := []clientv3.Op{clientv3.OpPut(key, placeBytes(p.Place))}
 			adds = append(adds, clientv3.OpTxn([]clientv3.Cmp{isAbsent(key)}, put, nil))
 		}
-		if _, err := e.client.Txn(ctx).Then(adds...).Commit(); err != nil {
+		if _, err := e.client.commit(ctx, func(add clientv3.Txn) clientv3.Txn { return add.Then(adds...) }); err != nil {
 			return fmt.Errorf("stores: etcd: add: %w", err)
 		}
 		return nil
@@ -281,7 +283,7 @@ func (e *placesInEtcd) Replace(ctx context.Context, placed []Placed) error {
 		for _, p := range placed[from:to] {
 			puts = append(puts, clientv3.OpPut(e.key(p.Identity), placeBytes(p.Place)))
 		}
-		if _, err := e.client.Txn(ctx).Then(puts...).Commit(); err != nil {
+		if _, err := e.client.commit(ctx, func(replace clientv3.Txn) clientv3.Txn { return replace.Then(puts...) }); err != nil {
 			return fmt.Errorf("stores: etcd: replace: %w", err)
 		}
 		return nil

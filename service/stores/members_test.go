@@ -1,0 +1,148 @@
+package stores
+
+import (
+	"context"
+	"errors"
+	"net"
+	"sync/atomic"
+	"testing"
+	"time"
+
+	"go.etcd.io/etcd/clientv3"
+	"go.etcd.io/etcd/etcdserver/api/v3rpc/rpctypes"
+	"go.etcd.io/etcd/etcdserver/etcdserverpb"
+	"go.etcd.io/etcd/mvcc/mvccpb"
+	"google.golang.org/grpc"
+)
+
+// member is a member of etcd as far as a register asks one: it has a text for each key, and takes each transaction. One that is parted from its
+// peers knows no leader, and takes calls that it never answers.
+type member struct {
+	etcdserverpb.KVServer
+	etcdserverpb.MaintenanceServer
+	address         string
+	parted          atomic.Bool
+	calls, statuses atomic.Uint64
+}
+
+func newMember(t *testing.T, parted bool) *member {
+	t.Helper()
+	listener, err := net.Listen("tcp", "127.0.0.1:0")
+	must(t, err)
+	m := &member{address: listener.Addr().String()}
+	m.parted.Store(parted)
+	server := grpc.NewServer()
+	etcdserverpb.RegisterKVServer(server, m)
+	etcdserverpb.RegisterMaintenanceServer(server, m)
+	go server.Serve(listener)
+	t.Cleanup(server.Stop)
+	return m
+}
+
+func (m *member) Status(context.Context, *etcdserverpb.StatusRequest) (*etcdserverpb.StatusResponse, error) {
+	m.statuses.Add(1)
+	if m.parted.Load() {
+		return &etcdserverpb.StatusResponse{Errors: []string{"etcdserver: no leader"}}, nil
+	}
+	return &etcdserverpb.StatusResponse{Leader: 1}, nil
+}
+
+// call is one that isn't answered where the member is parted.
+func (m *member) call(ctx context.Context) error {
+	m.calls.Add(1)
+	if m.parted.Load() {
+		<-ctx.Done()
+	}
+	return ctx.Err()
+}
+
+func (m *member) Range(ctx context.Context, asked *etcdserverpb.RangeRequest) (*etcdserverpb.RangeResponse, error) {
+	if err := m.call(ctx); err != nil {
+		return nil, err
+	}
+	return &etcdserverpb.RangeResponse{Kvs: []*mvccpb.KeyValue{{Key: asked.Key, Value: []byte("text")}}, Count: 1}, nil
+}
+
+func (m *member) Txn(ctx context.Context, _ *etcdserverpb.TxnRequest) (*etcdserverpb.TxnResponse, error) {
+	if err := m.call(ctx); err != nil {
+		return nil, err
+	}
+	return &etcdserverpb.TxnResponse{Succeeded: true}, nil
+}
+
+// A member that its peers can't reach holds no call up for longer than its part of it, is left out behind the first, and is asked again once it
+// knows a leader.
+func TestPartedMember(t *testing.T) {
+	whole, parted := newMember(t, false), newMember(t, true)
+	opened, err := OpenEtcd(Etcd{clientv3.Config{Endpoints: []string{parted.address, whole.address}}, "log"})
+	must(t, err)
+	defer opened.Close()
+	register := opened.(*inEtcd)
+	register.client.leftOutFor = time.Hour
+	// (connections to both are made in a while of the client's own)
+	for parted.calls.Load() == 0 {
+		if text, err := register.Read(limited(t)); err != nil || text != "text" {
+			t.Fatalf("read: %q, %v", text, err)
+		}
+	}
+	before := parted.calls.Load()
+	for i := 0; i < 10; i++ {
+		if text, err := register.Read(limited(t)); err != nil || text != "text" {
+			t.Fatalf("read: %q, %v", text, err)
+		}
+		must(t, register.Swap(limited(t), "text", "other"))
+	}
+	if calls := parted.calls.Load(); calls > before {
+		t.Errorf("a member without a leader was asked %d times more", calls-before)
+	}
+	parted.parted.Store(false)
+	register.client.mu.Lock()
+	register.client.leftOutFor = 0
+	register.client.mu.Unlock()
+	for ctx := limited(t); parted.calls.Load() == before; {
+		if _, err := register.Read(ctx); err != nil {
+			t.Fatalf("a member that knows a leader again isn't asked: %v", err)
+		}
+	}
+}
+
+// Where no member knows a leader all are asked, and the first that is whole answers.
+func TestPartedMembers(t *testing.T) {
+	one, other := newMember(t, true), newMember(t, true)
+	opened, err := OpenEtcd(Etcd{clientv3.Config{Endpoints: []string{one.address, other.address}}, "log"})
+	must(t, err)
+	defer opened.Close()
+	read := make(chan error, 1)
+	go func() {
+		_, err := opened.Read(limited(t))
+		read <- err
+	}()
+	for one.statuses.Load() == 0 || other.statuses.Load() == 0 {
+		time.Sleep(time.Millisecond)
+	}
+	one.parted.Store(false)
+	other.parted.Store(false)
+	must(t, <-read)
+	if all := len(opened.(*inEtcd).client.Endpoints()); all != 2 {
+		t.Errorf("%d of 2 members are asked", all)
+	}
+}
+
+// What etcd refuses isn't asked again; and behind a call whose outcome is unknown it isn't said that nothing was done.
+func TestDeniedByMember(t *testing.T) {
+	at := newMember(t, false)
+	opened, err := OpenEtcd(Etcd{clientv3.Config{Endpoints: []string{at.address}}, "log"})
+	must(t, err)
+	defer opened.Close()
+	lost := errors.New("the connection is lost")
+	for _, gives := range [][]error{{rpctypes.ErrNoSpace}, {lost, rpctypes.ErrNoSpace}, {lost, lost, rpctypes.ErrTooManyOps}} {
+		calls := 0
+		_, err = atMembers(limited(t), opened.(*inEtcd).client, func(context.Context) (int, error) {
+			calls++
+			return 0, gives[calls-1]
+		})
+		if err != gives[0] || calls != len(gives) {
+			t.Errorf("%v: %v behind %d calls", gives, err, calls)
+		}
+	}
+}
