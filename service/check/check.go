@@ -152,6 +152,9 @@ type head struct {
 	name         string
 }
 
+// furtherLine is a line of a signature behind the log's: a name, and a key's four bytes and more in base64.
+var furtherLine = regexp.MustCompile(`^— [^ +]+ [A-Za-z0-9+/]{7,}=*$`)
+
 var headForm = regexp.MustCompile(`^heads/(\d{20})-(\d{20})$`)
 
 // heads reads the signed notes, in the order of their names, and judges what doesn't want the leaves.
@@ -183,12 +186,19 @@ func (f *folder) heads() ([]head, error) {
 	return heads, nil
 }
 
-// note reads a checkpoint with one signature (C2SP tlog-checkpoint, static-ct-api), and checks that.
+// note reads a checkpoint whose first signature is the log's (C2SP tlog-checkpoint, static-ct-api), and checks that one. Of those behind it, of
+// witnesses, it is seen that they have the form of one.
 func (f *folder) note(text string) (head, error) {
 	body, signatures, ok := strings.Cut(text, "\n\n")
 	lines := strings.Split(body, "\n")
-	if !ok || len(lines) != 3 || strings.Count(signatures, "\n") != 1 || !strings.HasSuffix(signatures, "\n") {
+	if !ok || len(lines) != 3 || !strings.HasSuffix(signatures, "\n") {
 		return head{}, wrong("no signed note")
+	}
+	signed := strings.Split(strings.TrimSuffix(signatures, "\n"), "\n")
+	for _, line := range signed[1:] {
+		if !furtherLine.MatchString(line) {
+			return head{}, wrong("no signed note: %q", line)
+		}
 	}
 	size, err := strconv.ParseUint(lines[1], 10, 63)
 	if err != nil || strconv.FormatUint(size, 10) != lines[1] {
@@ -198,7 +208,7 @@ func (f *folder) note(text string) (head, error) {
 	if err != nil || len(root) != 32 {
 		return head{}, wrong("no root")
 	}
-	words := strings.Split(strings.TrimSuffix(signatures, "\n"), " ")
+	words := strings.Split(signed[0], " ")
 	if len(words) != 3 || words[0] != "—" || words[1] != lines[0] {
 		return head{}, wrong("the signature isn't the origin's")
 	}

@@ -51,6 +51,12 @@ func TestCheckerSees(t *testing.T) {
 		{"issuer/*", "is missing", nil},
 		{"heads/*", "", flip},
 		{"heads/*", "", func(b []byte) []byte { return []byte(strings.Replace(string(b), "300", "299", 1)) }},
+		{"heads/*", "no signed note", func(b []byte) []byte { return append(b, "more\n"...) }},
+		{"heads/*", "no signed note", func(b []byte) []byte { return append(b, "— w.example AAAA\n"...) }},
+		{"heads/*", "no signed note", func(b []byte) []byte { return append(b, "— w.example AAAAAAA="...) }},
+		{"heads/*", "the signature isn't the origin's", func(b []byte) []byte {
+			return []byte(strings.Replace(string(b), "\n\n", "\n\n— w.example AAAAAAA=\n", 1))
+		}},
 	} {
 		path := at(c.name)
 		content, err := os.ReadFile(path)

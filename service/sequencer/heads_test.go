@@ -240,3 +240,42 @@ func TestPastState(t *testing.T) {
 		}
 	}
 }
+
+// TestFurtherLines reads a head's note with lines of further signatures: the first is the log's, and what is no line of one isn't taken.
+func TestFurtherLines(t *testing.T) {
+	t.Parallel()
+	p, ctx, got := newPlace(t), limited(t), &answers{}
+	s := started(t, p.config(t), hooks{})
+	must(t, got.submitAll(ctx, s, 0, 5, 5))
+	head, err := s.Checkpoint(ctx)
+	must(t, err)
+	const one, two = "— w.example AAAAAAA=\n", "— v.example BBBBBBBB\n"
+	if read, err := s.parseNote(append(append([]byte{}, head.Note...), one+two...)); err != nil || publishedOf(read) != publishedOf(head) {
+		t.Errorf("%v, %v", read, err)
+	}
+	for _, note := range []string{
+		string(head.Note) + "more\n",
+		string(head.Note) + "\n",
+		string(head.Note) + strings.TrimSuffix(one, "\n"),
+		string(head.Note) + "— w.example AAAA\n",
+		string(head.Note) + "— w.example\n",
+		string(head.Note) + one + "\n" + two,
+		strings.Replace(string(head.Note), "\n\n", "\n\n"+one, 1),
+		strings.Replace(string(head.Note), "\n\n", "\n"+one+"\n", 1),
+	} {
+		if _, err := s.parseNote([]byte(note)); err == nil {
+			t.Errorf("it is a head's note: %q", note)
+		}
+	}
+	// The checker takes them, too.
+	must(t, s.End(ctx))
+	names, err := filepath.Glob(filepath.Join(p.objects(), headsPrefix+"*"))
+	must(t, err)
+	for _, name := range names {
+		content, err := os.ReadFile(name)
+		must(t, err)
+		must(t, os.Remove(name))
+		must(t, os.WriteFile(name, append(content, one+two...), 0o644))
+	}
+	p.right(t, got)
+}

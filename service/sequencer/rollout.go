@@ -367,7 +367,7 @@ func (s *Sequencer) readHead(ctx context.Context, name string) (log.Head, error)
 // strange says of a note that isn't this log's whose it says that it is; nothing where it is none, or says that it is this log's.
 func (s *Sequencer) strange(note []byte) string {
 	lines := strings.Split(string(note), "\n")
-	if len(lines) != 6 || !strings.HasPrefix(lines[4], "— "+lines[0]+" ") {
+	if len(lines) < 6 || !strings.HasPrefix(lines[4], "— "+lines[0]+" ") {
 		return ""
 	}
 	if lines[0] != s.config.Origin {
@@ -382,10 +382,17 @@ func (s *Sequencer) strange(note []byte) string {
 
 var errNote = errors.New("it isn't a signed head of this log")
 
+// parseNote reads a head's note: the first line of a signature is the log's, and others may stand behind it, whose cosignatures they may be.
 func (s *Sequencer) parseNote(note []byte) (log.Head, error) {
 	lines := strings.Split(string(note), "\n")
-	if len(lines) != 6 || lines[0] != s.config.Origin || lines[3] != "" || lines[5] != "" || !strings.HasPrefix(lines[4], s.signatureLine()) {
+	last := len(lines) - 1
+	if last < 5 || lines[0] != s.config.Origin || lines[3] != "" || lines[last] != "" || !strings.HasPrefix(lines[4], s.signatureLine()) {
 		return log.Head{}, errNote
+	}
+	for _, line := range lines[5:last] {
+		if !isSignature(line) {
+			return log.Head{}, errNote
+		}
 	}
 	size, err := strconv.ParseUint(lines[1], 10, 64)
 	if err != nil {
@@ -405,6 +412,13 @@ func (s *Sequencer) parseNote(note []byte) (log.Head, error) {
 		return log.Head{}, err
 	}
 	return head, nil
+}
+
+// isSignature says whether a line is one of a signature (C2SP signed-note), whosever.
+func isSignature(line string) bool {
+	name, text, _ := strings.Cut(strings.TrimPrefix(line, "— "), " ")
+	blob, err := base64.StdEncoding.DecodeString(text)
+	return strings.HasPrefix(line, "— ") && name != "" && err == nil && len(blob) > 4
 }
 
 // mostUnread is for how long a register that doesn't answer is waited for, where a published head is known.
