@@ -75,15 +75,19 @@ link: ## builds libwagtenib, the proof checkers for C, and runs programs in C, R
 	@checks/needs.sh link
 	@examples/link/link.sh
 
+# The scripts of examples/monitor that are installed beside ctmonitor: what follows ctmonitor- in their names there, and their files.
+WATCHING := from-end=from_end.py mail=mail.sh show=show.py signature=signature.sh watch=watch.sh
+
 # BUILT is the folder in which the crates' builds lie.
-install: $(PROGRAMS:%=install-%) install-library ## installs what is built, below PREFIX=/usr/local: ctlog, ctlogd, ctmonitor, ctguard, cttile, ctproof, ctwitness, watch.sh as ctmonitor-watch, mail.sh as ctmonitor-mail, from_end.py as ctmonitor-from-end, and libwagtenib
+install: $(PROGRAMS:%=install-%) install-library ## installs what is built, below PREFIX=/usr/local: ctlog, ctlogd, ctmonitor, ctguard, cttile, ctproof, ctwitness, with ctmonitor its scripts as ctmonitor-watch and so on, and libwagtenib
 	@for program in $(PROGRAMS); do [ ! -e "$(BUILT)/$$program/out/$$program" ] || exit 0; done; \
 	[ -e "$(LIBRARY).a" ] || { echo "make install: nothing is built" >&2; exit 1; }
 
 $(PROGRAMS:%=install-%): install-%:
 	@if [ -x "$(BUILT)/$*/out/$*" ]; then install -d "$(TO)/bin" && install -m 755 "$(BUILT)/$*/out/$*" "$(TO)/bin" && echo "$(PREFIX)/bin/$*"; \
 	else echo "$* isn't built: make demo builds ctlog and ctmonitor, make serve cttile, ctguard and ctproof, make serve-ctlogd ctlogd, make serve-witness ctwitness, and rt run in its folder any other"; fi
-	@if [ $* = ctmonitor ] && [ -x "$(BUILT)/$*/out/$*" ]; then install -m 755 examples/monitor/watch.sh "$(TO)/bin/ctmonitor-watch" && install -m 755 examples/monitor/mail.sh "$(TO)/bin/ctmonitor-mail" && install -m 755 examples/monitor/from_end.py "$(TO)/bin/ctmonitor-from-end" && echo "$(PREFIX)/bin/ctmonitor-watch, ctmonitor-mail and ctmonitor-from-end"; fi
+	@if [ $* = ctmonitor ] && [ -x "$(BUILT)/$*/out/$*" ]; then for script in $(WATCHING); do \
+	  install -m 755 "examples/monitor/$${script#*=}" "$(TO)/bin/ctmonitor-$${script%=*}" && echo "$(PREFIX)/bin/ctmonitor-$${script%=*}" || exit 1; done; fi
 
 install-library:
 	@if [ -f "$(LIBRARY).a" ]; then \

@@ -104,8 +104,9 @@ once more and compares their bytes with SHA256SUMS.
         return {**found, "service.md": ROOT / "service" / "README.md", "INCIDENTS.md": ROOT / "service" / "INCIDENTS.md"}
 
     def watching(self):
-        monitor = ROOT / "examples" / "monitor"
-        return {"ctmonitor-watch": monitor / "watch.sh", "ctmonitor-signature": monitor / "signature.sh", "ctmonitor-mail": monitor / "mail.sh", "ctmonitor-from-end": monitor / "from_end.py"}
+        """The scripts beside ctmonitor by their installed names, which Makefile's WATCHING has too."""
+        files = {"from-end": "from_end.py", "mail": "mail.sh", "show": "show.py", "signature": "signature.sh", "watch": "watch.sh"}
+        return {f"ctmonitor-{name}": ROOT / "examples" / "monitor" / file for name, file in files.items()}
 
     def shared(self):
         """What an operator puts into place: the site, the rules of alarms."""

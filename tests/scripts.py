@@ -214,8 +214,8 @@ def try_install(folder):
     ran = make_install(folder, folder / "built")
     due = {path: f"made up: {source}" for path, source in sources.items()}
     due.update({f"lib/libwagtenib.{end}": due["lib/libwagtenib.so.0.1.0"] for end in ("so.0", "so")})
-    due.update({f"bin/ctmonitor-{name}": (EXAMPLES / "monitor" / f"{name}.sh").read_text() for name in ("watch", "mail")})
-    due["bin/ctmonitor-from-end"] = (EXAMPLES / "monitor" / "from_end.py").read_text()
+    due.update({f"bin/ctmonitor-{name}": (EXAMPLES / "monitor" / f"{name}.sh").read_text() for name in ("watch", "mail", "signature")})
+    due.update({f"bin/ctmonitor-{name}": (EXAMPLES / "monitor" / f"{name.replace('-', '_')}.py").read_text() for name in ("from-end", "show")})
     due["include/wagtenib.h"] = (HERE.parent / "include" / "wagtenib.h").read_text()
     due["lib/pkgconfig/wagtenib.pc"] = (HERE.parent / "include" / "wagtenib.pc.in").read_text().replace("@PREFIX@", "/opt/log").replace("@VERSION@", "0.1.0")
     to = folder / "to" / "opt" / "log"
@@ -391,10 +391,11 @@ def main():
     if page.returncode:
         fail(page.stderr.decode())
     sys.stdout.write(page.stdout.decode())
-    watched = run("monitor/watch_check.py")
-    if watched.returncode:
-        fail(f"monitor/watch_check.py: {watched.stderr.decode()}")
-    sys.stdout.write(watched.stdout.decode())
+    for script in ("watch_check.py", "show_check.py"):
+        watched = run(f"monitor/{script}")
+        if watched.returncode:
+            fail(f"monitor/{script}: {watched.stderr.decode()}")
+        sys.stdout.write(watched.stdout.decode())
     named = run("names/compare.py")
     if named.returncode:
         fail(f"names/compare.py: {named.stderr.decode()}")
