@@ -1,12 +1,19 @@
 package sequencer
 
 import (
+	"bytes"
 	"context"
+	"encoding/hex"
+	"encoding/json"
+	"net/http"
+	"net/http/httptest"
 	"strings"
 	"sync/atomic"
 	"testing"
+	"time"
 
 	"wagtenib/service/log"
+	"wagtenib/service/step"
 	"wagtenib/service/stores"
 )
 
@@ -71,5 +78,59 @@ func TestFaultBehindARoundThatWroteNothing(t *testing.T) {
 	s.settle(nil)
 	if s.fault != nil {
 		t.Errorf("a step was decided, and it stands: %v", s.fault)
+	}
+}
+
+// handedTo hands a node a batch of one, and gives the reply's status and its places.
+func handedTo(t *testing.T, s *Sequencer, number int) (int, []handedPlace) {
+	t.Helper()
+	submission, err := submissionOf(entryOf(number))
+	must(t, err)
+	body, err := json.Marshal(handedOver{[]step.Submission{submission}})
+	must(t, err)
+	request := httptest.NewRequest(http.MethodPost, "/", bytes.NewReader(body)).WithContext(limited(t))
+	request.Header.Set("Authorization", "Bearer "+s.config.Secret)
+	request.Header.Set(logHeader, hex.EncodeToString(s.logID[:]))
+	reply, back := httptest.NewRecorder(), handedBack{}
+	s.Handler().ServeHTTP(reply, request)
+	if reply.Code == http.StatusOK {
+		must(t, json.NewDecoder(reply.Body).Decode(&back))
+	}
+	return reply.Code, back.Places
+}
+
+// TestFailingNodeRefusesWhatItIsHanded has a node's bundles not be put: who was handed over by another node is told so behind the first round that
+// fails, and what is handed over behind it is refused; who submits at this node waits on, and is answered once they are put.
+func TestFailingNodeRefusesWhatItIsHanded(t *testing.T) {
+	t.Parallel()
+	p, ctx, got := newPlace(t), limited(t), &answers{}
+	config := p.config(t)
+	objects := &refusing{Objects: config.Objects, prefix: stagingPrefix}
+	config.Objects, config.Patience = objects, time.Hour
+	config.Address, config.Secret = "http://127.0.0.1:1/sequence", "the secret of these nodes"
+	s := started(t, config, hooks{})
+	must(t, got.submitAll(ctx, s, 0, 5, 5))
+	objects.on.Store(true)
+	if status, places := handedTo(t, s, 7); status != http.StatusOK || len(places) != 1 || len(places[0].Signature) > 0 {
+		t.Errorf("what was handed over is answered with %d, %+v", status, places)
+	}
+	if status, _ := handedTo(t, s, 8); status != http.StatusServiceUnavailable {
+		t.Errorf("what is handed over is answered with %d", status)
+	}
+	own := make(chan error, 1)
+	go func() { own <- got.submitAll(ctx, s, 10, 11, 1) }()
+	for seen := objects.puts.Load(); objects.puts.Load() < seen+2 && ctx.Err() == nil; {
+		wait(ctx, quick)
+	}
+	select {
+	case err := <-own:
+		t.Errorf("who submits at this node is answered: %v", err)
+	default:
+	}
+	objects.on.Store(false)
+	must(t, <-own)
+	eventually(t, "the fault goes", func() bool { return !s.fails() })
+	if status, places := handedTo(t, s, 8); status != http.StatusOK || len(places) != 1 || len(places[0].Signature) == 0 {
+		t.Errorf("what is handed over is answered with %d, %+v", status, places)
 	}
 }

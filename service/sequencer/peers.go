@@ -229,7 +229,7 @@ func (s *Sequencer) hand(node string, batch []*waiting) error {
 }
 
 // Handler takes what other nodes hand over, at the address that they find in the register. Whoever knows the nodes' secret has
-// entries taken into the log whose chains were checked by no one here.
+// entries taken into the log whose chains were checked by no one here. A node whose round fails refuses what it is handed, at once.
 func (s *Sequencer) Handler() http.Handler {
 	return http.HandlerFunc(func(w http.ResponseWriter, r *http.Request) {
 		shown, wanted := []byte(r.Header.Get("Authorization")), []byte("Bearer "+s.config.Secret)
@@ -250,12 +250,23 @@ func (s *Sequencer) Handler() http.Handler {
 			http.Error(w, "no batch", http.StatusBadRequest)
 			return
 		}
+		if len(over.Submissions) > 0 && s.fails() {
+			http.Error(w, "this node's last round failed", http.StatusServiceUnavailable)
+			return
+		}
 		back := s.takeHanded(r.Context(), over.Submissions)
 		w.Header().Set(dateHeader, s.clock.now().UTC().Format(http.TimeFormat))
 		w.Header().Set("Content-Type", "application/json")
 		// Who doesn't read it asks again.
 		_ = json.NewEncoder(w).Encode(back)
 	})
+}
+
+// fails says whether something keeps the log from going on at this node.
+func (s *Sequencer) fails() bool {
+	s.mu.Lock()
+	defer s.mu.Unlock()
+	return s.fault != nil
 }
 
 // takeHanded submits what another node handed over, all at once.

@@ -193,10 +193,21 @@ func (q *queue) hasHanded() bool {
 
 // answerAll answers everybody with an error, and says how many that were.
 func (q *queue) answerAll(err error) int {
+	return q.answerThose(err, func(*waiting) bool { return true })
+}
+
+// answerHanded answers those with an error whom another node handed over.
+func (q *queue) answerHanded(err error) {
+	q.answerThose(err, func(w *waiting) bool { return w.handed })
+}
+
+func (q *queue) answerThose(err error, which func(*waiting) bool) int {
 	q.mu.Lock()
 	all := make([]*waiting, 0, len(q.everySeat))
 	for w := range q.everySeat {
-		all = append(all, w)
+		if which(w) {
+			all = append(all, w)
+		}
 	}
 	q.mu.Unlock()
 	for _, w := range all {

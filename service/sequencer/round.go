@@ -108,7 +108,7 @@ func (s *Sequencer) idle(ctx context.Context) {
 }
 
 // settle keeps what a round failed by, until one had a step decided: a round that has nothing to write says nothing of what isn't written.
-// Where waiting a little longer doesn't help, all who wait are told.
+// Where waiting a little longer doesn't help, all who wait are told; and at once who was handed over by another node, which goes on by itself.
 func (s *Sequencer) settle(err error) {
 	s.mu.Lock()
 	if err == nil {
@@ -127,6 +127,7 @@ func (s *Sequencer) settle(err error) {
 	}
 	s.fault = fault{kind, err}
 	s.mu.Unlock()
+	s.queue.answerHanded(fault{kind, err})
 	if standing := s.standing(); standing != nil {
 		s.queue.answerAll(standing)
 	}
