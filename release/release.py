@@ -31,7 +31,7 @@ LIBRARY = "lib/x86_64-linux-gnu"
 HOMEPAGE = "https://wagtenib.example/"
 
 # What users and operators read, beside the README.
-PAGES = ("OPERATING", "MONITOR", "GUARD", "GROWTH", "TILES", "LINES", "LINKING", "PROMISES", "SCALE", "WITNESS")
+PAGES = ("OPERATING", "MONITOR", "GUARD", "GROWTH", "TILES", "LINES", "PROMISES", "SCALE", "WITNESS")
 
 # Each package: what it is, what it needs beside libc6, and what it recommends.
 PACKAGES = {
@@ -101,7 +101,8 @@ once more and compares their bytes with SHA256SUMS.
         """Pages by their names."""
         found = {name: ROOT / name for name in ("README.md", "CHANGELOG.md", "LICENSE")}
         found.update({f"{page}.md": ROOT / "docs" / f"{page}.md" for page in PAGES if (ROOT / "docs" / f"{page}.md").exists()})
-        return {**found, "service.md": ROOT / "service" / "README.md", "INCIDENTS.md": ROOT / "service" / "INCIDENTS.md"}
+        pages = {"service.md": "service/README.md", "INCIDENTS.md": "service/INCIDENTS.md", "LINKING.md": "examples/link/README.md"}
+        return {**found, **{name: ROOT / path for name, path in pages.items()}}
 
     def watching(self):
         """The scripts beside ctmonitor by their installed names, which Makefile's WATCHING has too."""

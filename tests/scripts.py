@@ -306,11 +306,11 @@ def try_needs(folder):
 
 
 def try_figures():
-    """README.md has the times of checks/needs.sh and its sentence on them, and docs/GATE.md no others in that form."""
+    """README.md has the times of checks/needs.sh and its sentence on them, and checks/README.md no others in that form."""
     *figures, whose = subprocess.run([HERE.parent / "checks" / "needs.sh", "figures"], capture_output=True, text=True).stdout.splitlines()
     told = dict(re.findall(r"^make (\w+): (.+)$", "\n".join(figures), re.M))
     row = re.compile(r"^\| `make (\w+)` \|.*?(\d+ minutes \(\d+ of one processor\))", re.M)
-    pages = {page: (HERE.parent / page).read_text() for page in ("README.md", "docs/GATE.md")}
+    pages = {page: (HERE.parent / page).read_text() for page in ("README.md", "checks/README.md")}
     rows = {page: row.findall(text) for page, text in pages.items()}
     if set(told) != {"demo", "serve", "test"} or {target for target, _ in rows["README.md"]} != set(told):
         fail(f"README.md has the times of {rows['README.md']}, checks/needs.sh those of {told}")
