@@ -445,6 +445,11 @@ func TestSettings(t *testing.T) {
 		s.node.guardState != "file:ct-log.guard" || s.node.latestHead != "ct-log.latest-head" || strings.Join(s.node.guard, " ") != "ctguard" || s.node.store != "folder:ct-log/objects" || s.node.register != "file:ct-log/register" || s.node.places != "sqlite:ct-log/places" {
 		t.Errorf("%+v", s)
 	}
+	for text, rests := range map[string]bool{"": false, "store folder:x": false, "store s3://a.example/b": true, "register etcd://127.0.0.1:2379/log": true, "places etcd://127.0.0.1:2379/log": true} {
+		if s, err := parse(file(needed+text), io.Discard); err != nil || s.node.rests() != rests {
+			t.Errorf("%s: %v", text, err)
+		}
+	}
 	for _, test := range []struct {
 		words  []string
 		status int

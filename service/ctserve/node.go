@@ -25,8 +25,8 @@ func openNode(ctx context.Context, n node) (of *opened, err error) {
 	}()
 	config := sequencer.Config{
 		Origin: n.origin, Create: n.create, Interval: n.interval, Refresh: n.refresh, MostQueue: n.mostQueue, MostBatch: n.mostBatch,
-		SweepAfter: n.sweepAfter, TendEvery: n.readEvery, BehindSwap: n.behindSwap, Address: n.address, Secret: n.secret,
-		LatestHead: n.latestHead, MostSkew: n.mostSkew, Synchronized: n.synchronized,
+		SweepAfter: n.sweepAfter, SweepTilesAfter: n.sweepTilesAfter, TendEvery: n.readEvery, BehindSwap: n.behindSwap, Address: n.address, Secret: n.secret,
+		Rests: n.rests(), LatestHead: n.latestHead, MostSkew: n.mostSkew, Synchronized: n.synchronized,
 	}
 	if n.makesFolder {
 		if err := stores.MakeFolder(n.folder); err != nil {

@@ -43,10 +43,15 @@ type node struct {
 	synchronized                              bool
 	step, reader                              []string
 	stepWithin, interval, refresh, openWithin time.Duration
-	sweepAfter, readEvery                     time.Duration
+	sweepAfter, sweepTilesAfter, readEvery    time.Duration
 	mostQueue, mostBatch, mostProofs          int
 	behindSwap, create, makesFolder           bool
 	address, secret                           string
+}
+
+// rests says whether steps leave their stores half of the time: one of them isn't this machine's own folder or file.
+func (n *node) rests() bool {
+	return !strings.HasPrefix(n.store, "folder:") || !strings.HasPrefix(n.register, "file:") || !strings.HasPrefix(n.places, "sqlite:")
 }
 
 // errUsage: the command line or the file of settings isn't one.
@@ -109,9 +114,10 @@ func parse(words []string, help io.Writer) (*settings, error) {
 	flags.Func("step", "the `command` of the program that makes the steps, with its words (default \"cttile\"); it is given --origin", command(&n.step))
 	flags.Func("reader", "the `command` of the program that makes proofs for readers out of the tiles, with its words (default \"ctproof\")", command(&n.reader))
 	flags.DurationVar(&n.stepWithin, "step-within", 30*time.Second, "how long a step may take, until its program is killed")
-	flags.DurationVar(&n.interval, "interval", 500*time.Millisecond, "how far two heads are apart at least")
+	flags.DurationVar(&n.interval, "interval", 50*time.Millisecond, "how far two heads are apart at least: 50ms are twenty a second; over stores that aren't folders and files twice as long as a step takes there, up to 500ms")
 	flags.DurationVar(&n.refresh, "refresh", time.Hour, "how old a head gets before one without new entries is made")
-	flags.DurationVar(&n.sweepAfter, "sweep-after", time.Hour, "how long a full tile stands before its partial ones are deleted, and a head before older ones are")
+	flags.DurationVar(&n.sweepAfter, "sweep-after", time.Hour, "how long a head stands before older ones are deleted")
+	flags.DurationVar(&n.sweepTilesAfter, "sweep-tiles-after", 5*time.Minute, "how long a full tile stands before its partial ones are deleted, and a head before of those before it one is left each half second; at most as long as the one above")
 	flags.DurationVar(&n.readEvery, "read-again-every", time.Second, "how far two old tiles are apart that are read again")
 	flags.DurationVar(&n.openWithin, "open-within", 30*time.Second, "how long the stores may take to open")
 	flags.IntVar(&n.mostQueue, "most-queue", 4096, "submissions that wait")
@@ -196,7 +202,7 @@ func (s *settings) settle() error {
 	if !s.window.From.IsZero() && !s.window.To.IsZero() && !s.window.From.Before(s.window.To) {
 		return errors.New("--not-after-from isn't before --not-after-to")
 	}
-	for _, time := range []time.Duration{s.endWithin, l.Headers, l.Request, l.Submission, l.Answer, l.Idle, n.stepWithin, n.interval, n.refresh, n.openWithin, n.sweepAfter, n.readEvery, n.mostSkew} {
+	for _, time := range []time.Duration{s.endWithin, l.Headers, l.Request, l.Submission, l.Answer, l.Idle, n.stepWithin, n.interval, n.refresh, n.openWithin, n.sweepAfter, n.sweepTilesAfter, n.readEvery, n.mostSkew} {
 		if time <= 0 {
 			return errors.New("a time is above 0")
 		}

@@ -93,6 +93,9 @@ func handedTo(t *testing.T, s *Sequencer, number int) (int, []handedPlace) {
 	request.Header.Set(logHeader, hex.EncodeToString(s.logID[:]))
 	reply, back := httptest.NewRecorder(), handedBack{}
 	s.Handler().ServeHTTP(reply, request)
+	if request.Context().Err() != nil {
+		t.Fatal("what was handed over isn't answered as long as who handed it waits")
+	}
 	if reply.Code == http.StatusOK {
 		must(t, json.NewDecoder(reply.Body).Decode(&back))
 	}

@@ -52,7 +52,7 @@ func (s *Sequencer) achieved() achieved {
 // the one before; but not one that got something done: a store that gives some calls up isn't gone.
 func (s *Sequencer) loop(ctx context.Context) {
 	defer close(s.ended)
-	backoff, began, owes := s.config.Interval, time.Time{}, s.config.BehindSwap
+	backoff, next, owes := s.config.Interval, time.Time{}, s.config.BehindSwap
 	for ctx.Err() == nil {
 		some, ending := s.queue.state()
 		if !some && ending && !owes && s.queue.length() == 0 {
@@ -61,14 +61,14 @@ func (s *Sequencer) loop(ctx context.Context) {
 		if !some {
 			s.idle(ctx)
 		}
-		if until := s.config.Interval - time.Since(began); until > 0 && (!ending || s.later) {
+		if until := time.Until(next); until > 0 && (!ending || s.later) {
 			_ = wait(ctx, until)
 		}
-		began = time.Now()
-		before := s.achieved()
+		began, before := time.Now(), s.achieved()
 		round, cancel := context.WithTimeout(ctx, mostRound)
 		err := s.round(round)
 		cancel()
+		next = began.Add(s.config.interval(time.Since(began), s.wrote))
 		if errors.Is(err, errMoves) {
 			err = nil
 		}
@@ -86,6 +86,21 @@ func (s *Sequencer) loop(ctx context.Context) {
 			backoff = mostBackoff
 		}
 	}
+}
+
+// mostRest is how far two steps are apart at most for the sake of a rest.
+const mostRest = 500 * time.Millisecond
+
+// interval is how far a round and the next one are apart at least, where the first took so long, and had a step decided or not.
+func (c *Config) interval(took time.Duration, wrote bool) time.Duration {
+	rested := 2 * took
+	if rested > mostRest {
+		rested = mostRest
+	}
+	if c.Rests && wrote && rested > c.Interval {
+		return rested
+	}
+	return c.Interval
 }
 
 // isOut says whether this node's newest state is known to be rolled out. One that another node set stands behind it: that one rolled it out first.

@@ -65,8 +65,10 @@ type Config struct {
 	Origin string
 	// Create says that a register that was never created is to be. It isn't over a store that has anything of a log.
 	Create bool
-	// Interval is how far two steps are apart at least; 500 ms where it is 0.
+	// Interval is how far the beginnings of two steps are apart at least; 50 ms where it is 0. Rests says that a node rests behind a step as
+	// long as it took, where the next one doesn't begin later than mostRest behind it anyway: steps have half of the stores' time.
 	Interval time.Duration
+	Rests    bool
 	// Refresh is how old a head gets before one without new entries is made; an hour where it is 0.
 	Refresh time.Duration
 	// MostQueue is how many submissions wait at most, 4,096 where it is 0, and MostQueueBytes how many bytes of entries, 64 MiB.
@@ -77,9 +79,10 @@ type Config struct {
 	Patience time.Duration
 	// BehindSwap answers behind the swap, and not once the head is published: sooner, but a merge is owed until then.
 	BehindSwap bool
-	// SweepAfter is how long a full tile stands before the partial tiles below its name go, and a head before the heads of older states
-	// do, at least, and twice as long at most; an hour where it is 0.
-	SweepAfter time.Duration
+	// SweepAfter is how long a head stands before the heads of older states go, at least, and twice as long at most; an hour where it is 0.
+	// SweepTilesAfter is how long a full tile does before the partial tiles below its name go, and a head before of older ones no more than one
+	// each headsApart is left: SweepAfter, and at most 5 minutes, where it is 0.
+	SweepAfter, SweepTilesAfter time.Duration
 	// TendEvery is how far two turns are apart in each of which partial tiles and heads are swept, and one old tile is read again; 1 s where
 	// it is 0.
 	TendEvery time.Duration
@@ -104,16 +107,19 @@ func (c *Config) settle() error {
 		return fmt.Errorf("%w: a store, the step or the signer isn't there", ErrConfig)
 	case c.Origin == "" || strings.ContainsAny(c.Origin, " +\n\r\t"):
 		return fmt.Errorf("%w: an origin has neither spaces nor a plus sign", ErrConfig)
-	case c.Interval < 0 || c.Refresh < 0 || c.Patience < 0 || c.SweepAfter < 0 || c.TendEvery < 0 || c.MostSkew < 0 || c.MostQueue < 0 || c.MostQueueBytes < 0 || c.MostBatch < 0 || c.MostBatch > MostBatch:
+	case c.Interval < 0 || c.Refresh < 0 || c.Patience < 0 || c.SweepAfter < 0 || c.SweepTilesAfter < 0 || c.TendEvery < 0 || c.MostSkew < 0 || c.MostQueue < 0 || c.MostQueueBytes < 0 || c.MostBatch < 0 || c.MostBatch > MostBatch:
 		return fmt.Errorf("%w: a bound is below 0, or a batch above %d", ErrConfig, MostBatch)
 	}
 	if c.BehindSwap && c.Signer.Receipts() == signer.InHead {
 		return fmt.Errorf("%w: answers behind the swap want a signer of %s receipts", ErrConfig, signer.Promised)
 	}
-	orElse(&c.Interval, 500*time.Millisecond)
+	orElse(&c.Interval, 50*time.Millisecond)
 	orElse(&c.Refresh, time.Hour)
 	orElse(&c.Patience, 5*time.Second)
 	orElse(&c.SweepAfter, time.Hour)
+	if orElse(&c.SweepTilesAfter, 5*time.Minute); c.SweepTilesAfter > c.SweepAfter {
+		c.SweepTilesAfter = c.SweepAfter
+	}
 	orElse(&c.TendEvery, time.Second)
 	orElse(&c.MostSkew, 10*time.Second)
 	if c.Clock == nil {

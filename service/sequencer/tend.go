@@ -39,12 +39,16 @@ type tender struct {
 	listed time.Time
 	// begun says that reading began: at a tile of chance, so that a log that is started often is read all the same.
 	begun bool
-	// settled is a head that has stood for SweepAfter, young the one that settles next, and since when it was seen.
-	settled, young *log.Head
-	since          time.Time
-	// heads are names of heads before the settled one, and headsGone says that none is left.
+	// full is a head that has stood for SweepTilesAfter, and old one that has for SweepAfter.
+	full, old settling
+	// heads are names of heads before the old one, and headsGone says that none is left.
 	heads     []string
 	headsGone bool
+	// crowded are names of heads before the full one that are too many, thinned is the name behind which they are looked for, and kept the moment of
+	// the last that stays.
+	crowded []string
+	thinned string
+	kept    uint64
 	// swept has for each level, the data tiles' first, how many full tiles were looked at, and read is the next one to be read again.
 	swept [6]uint64
 	read  uint64
@@ -56,6 +60,25 @@ type tender struct {
 	looked map[[32]byte]bool
 	// unswept and unread are of the tiles at which sweeping and reading stands.
 	unswept, unread refusals
+}
+
+// settling has a head that has stood for some time, the one that settles next, and since when that was seen.
+type settling struct {
+	settled, young *log.Head
+	since          time.Time
+}
+
+// look takes up the newest head, and says whether another one has settled.
+func (s *settling) look(head *log.Head, after time.Duration) (moved bool) {
+	if s.since.IsZero() {
+		s.young, s.since = head, time.Now()
+	}
+	if time.Since(s.since) < after {
+		return false
+	}
+	moved = s.young != s.settled
+	s.settled, s.young, s.since = s.young, head, time.Now()
+	return moved
 }
 
 // refusals counts how often in a row a tile failed.
@@ -82,6 +105,7 @@ func (s *Sequencer) tend(ctx context.Context) {
 		// What fails is tried again in the next turn: the log doesn't wait for it.
 		s.failed("partial tiles aren't swept", t.sweep(ctx))
 		s.failed("old heads aren't swept", t.sweepHeads(ctx))
+		s.failed("heads aren't thinned", t.thinHeads(ctx))
 		s.failed("bundles aren't swept", t.sweepBundles(ctx))
 		t.readDamaged(ctx)
 		t.readNext(ctx)
@@ -239,15 +263,12 @@ func (s *Sequencer) damagedBehind(from uint64) (first uint64, ok bool) {
 	return first, ok
 }
 
-// settle takes up which head has stood for SweepAfter, and its full tiles: one that was seen so long ago.
+// settle takes up which head has stood for SweepAfter, and which for SweepTilesAfter, with its full tiles: one that was seen so long ago.
 func (t *tender) settle() {
 	head := t.s.seen()
-	if t.since.IsZero() {
-		t.young, t.since = head, time.Now()
-	}
-	if time.Since(t.since) >= t.s.config.SweepAfter {
-		t.headsGone = t.headsGone && t.young == t.settled
-		t.settled, t.young, t.since = t.young, head, time.Now()
+	t.full.look(head, t.s.config.SweepTilesAfter)
+	if t.old.look(head, t.s.config.SweepAfter) {
+		t.headsGone = false
 	}
 }
 
@@ -305,7 +326,7 @@ func (t *tender) sweep(ctx context.Context) (first error) {
 	left := mostSwept
 	for at := range t.swept {
 		level := at - 1
-		for ; left > 0 && t.swept[at] < fullTiles(level, sizeOf(t.settled)); left-- {
+		for ; left > 0 && t.swept[at] < fullTiles(level, sizeOf(t.full.settled)); left-- {
 			tile := tlog.Tile{H: tileHeight, L: level, N: int64(t.swept[at]), W: tileWidth}
 			err := t.sweepTile(ctx, tile)
 			if err != nil && !errors.Is(err, ErrDamaged) && !(t.s.isOne(ctx) && t.unswept.last(tile)) {
@@ -349,7 +370,7 @@ func (t *tender) sweepTile(ctx context.Context, tile tlog.Tile) error {
 // later state stands.
 func (t *tender) sweepHeads(ctx context.Context) error {
 	objects := t.s.config.Objects
-	if t.settled == nil || t.headsGone {
+	if t.old.settled == nil || t.headsGone {
 		return nil
 	}
 	if len(t.heads) == 0 {
@@ -359,13 +380,57 @@ func (t *tender) sweepHeads(ctx context.Context) error {
 		if err != nil {
 			return err
 		}
-		t.heads = names[:sort.SearchStrings(names, nameOf(t.settled))]
+		t.heads = names[:sort.SearchStrings(names, nameOf(t.old.settled))]
 		t.headsGone = len(t.heads) == 0
 	}
 	for left := mostHeads; left > 0 && len(t.heads) > 0; left-- {
 		name := t.heads[0]
 		t.heads = t.heads[1:]
 		if err := t.s.briefly(ctx, func(ctx context.Context) error { return objects.Delete(ctx, name) }); err != nil {
+			return err
+		}
+		t.s.sweptHeads.Add(1)
+	}
+	return nil
+}
+
+// headsApart is how far two heads are apart that stay until SweepAfter: what a node compares the register with isn't each of them.
+const headsApart = 500 * time.Millisecond
+
+// thinHeads deletes some heads before the full one that came less than headsApart behind one that stays, and gives the first error; what isn't
+// deleted then goes with the old ones.
+func (t *tender) thinHeads(ctx context.Context) error {
+	if t.full.settled == nil {
+		return nil
+	}
+	if until := nameOf(t.full.settled); len(t.crowded) == 0 && t.thinned < until {
+		listing, cancel := context.WithTimeout(ctx, mostListing)
+		names, err := t.s.config.Objects.List(listing, headsPrefix, t.thinned, stores.MostListed)
+		cancel()
+		if err != nil {
+			return err
+		}
+		before := names[:sort.SearchStrings(names, until)]
+		for _, name := range before {
+			t.thinned = name
+			of, err := stateOfHead(name)
+			if err != nil {
+				return err
+			}
+			if of.Moment < t.kept+uint64(headsApart.Milliseconds()) {
+				t.crowded = append(t.crowded, name)
+			} else {
+				t.kept = of.Moment
+			}
+		}
+		if len(before) < stores.MostListed {
+			t.thinned, t.kept = until, t.full.settled.Timestamp
+		}
+	}
+	for left := mostHeads; left > 0 && len(t.crowded) > 0; left-- {
+		name := t.crowded[0]
+		t.crowded = t.crowded[1:]
+		if err := t.s.briefly(ctx, func(ctx context.Context) error { return t.s.config.Objects.Delete(ctx, name) }); err != nil {
 			return err
 		}
 		t.s.sweptHeads.Add(1)

@@ -97,12 +97,12 @@ func TestSweptHeads(t *testing.T) {
 		must(t, os.WriteFile(filepath.Join(p.objects(), headName(step.State{Moment: moment})), nil, 0o644))
 	}
 	must(t, got.submitAll(ctx, s, 100, 200, 8))
-	tender, before := &tender{s: s, settled: s.seen()}, headsOf(t, p)
+	tender, before := settledAt(s), headsOf(t, p)
 	must(t, got.submitAll(ctx, s, 200, 300, 8))
 	all := headsOf(t, p)
 	stay := all[len(before)-1:]
-	if len(stay) < 2 || stay[0] != nameOf(tender.settled) {
-		t.Fatalf("%v, of which none is before %s", stay, nameOf(tender.settled))
+	if len(stay) < 2 || stay[0] != nameOf(tender.old.settled) {
+		t.Fatalf("%v, of which none is before %s", stay, nameOf(tender.old.settled))
 	}
 	// (behind a fault one more is made)
 	left := func() []string {
@@ -165,7 +165,7 @@ func TestHeadSweptMeanwhile(t *testing.T) {
 	<-stands
 	there := started(t, p.config(t), hooks{})
 	must(t, got.submitAll(ctx, there, 8, 16, 8))
-	swept := &tender{s: there, settled: there.seen()}
+	swept := settledAt(there)
 	for !swept.headsGone {
 		must(t, swept.sweepHeads(ctx))
 	}
@@ -205,7 +205,7 @@ func TestUnsweptTiles(t *testing.T) {
 				if bad := damage(append([]byte{}, content...)); bad != nil {
 					must(t, os.WriteFile(path, bad, 0o644))
 				}
-				swept := &tender{s: s, settled: s.seen()}
+				swept := settledAt(s)
 				for turn := 0; turn < 3; turn++ {
 					err := swept.sweep(limited(t))
 					wants(t, err, ErrDamaged)
@@ -338,7 +338,7 @@ func TestUnreadStore(t *testing.T) {
 	config.TendEvery = time.Hour
 	s := started(t, config, hooks{})
 	must(t, got.submitAll(limited(t), s, 0, 300, 300))
-	tender := &tender{s: s, settled: s.seen()}
+	tender := settledAt(s)
 	faults.failEvery(1)
 	for turn := 0; turn < 2*mostRefused; turn++ {
 		if err := tender.sweep(limited(t)); err == nil {
@@ -431,5 +431,88 @@ func TestFullTiles(t *testing.T) {
 		if full := fullTiles(c.level, c.size); full != c.full {
 			t.Errorf("level %d of %d entries: %d, not %d", c.level, c.size, full, c.full)
 		}
+	}
+}
+
+// settledAt is a tender for whom the newest head has stood for long.
+func settledAt(s *Sequencer) *tender {
+	stood := settling{settled: s.seen()}
+	return &tender{s: s, full: stood, old: stood}
+}
+
+// TestThinnedHeads has heads that came fast behind each other go before they are old, but for one each half second; the one that has stood, and all
+// behind it, stay.
+func TestThinnedHeads(t *testing.T) {
+	t.Parallel()
+	p, ctx, got, faults := newPlace(t), limited(t), &answers{}, &faulty{}
+	config := p.config(t)
+	faults.wrap(&config)
+	config.TendEvery, config.Patience = time.Hour, longest
+	s := started(t, config, hooks{})
+	must(t, got.submitAll(ctx, s, 0, 10, 10))
+	// (older heads, of which only the names are looked at, a tenth of a second apart)
+	const made = mostHeads + 100
+	want := map[string]bool{}
+	for i := uint64(0); i < made; i++ {
+		name := headName(step.State{Moment: 1000 + 100*i})
+		must(t, os.WriteFile(filepath.Join(p.objects(), name), nil, 0o644))
+		want[name] = i%5 == 0
+	}
+	tender, before := settledAt(s), headsOf(t, p)
+	must(t, got.submitAll(ctx, s, 10, 30, 2))
+	for _, name := range headsOf(t, p) {
+		if name >= before[len(before)-1] {
+			want[name] = true
+		}
+	}
+	faults.failEvery(1)
+	if err := tender.thinHeads(ctx); err == nil {
+		t.Error("no list is told to fail")
+	}
+	faults.failEvery(0)
+	must(t, tender.thinHeads(ctx))
+	if swept := s.Figures().SweptHeads; swept != mostHeads {
+		t.Errorf("a turn deletes %d heads", swept)
+	}
+	must(t, tender.thinHeads(ctx))
+	must(t, tender.thinHeads(ctx))
+	there := map[string]bool{}
+	for _, name := range headsOf(t, p) {
+		there[name] = true
+	}
+	for name, stays := range want {
+		if there[name] != stays {
+			t.Errorf("%s stays: %v, and not %v", name, there[name], stays)
+		}
+		if strings.HasPrefix(name, headName(step.State{})[:len(headsPrefix)+20]) && there[name] {
+			must(t, os.Remove(filepath.Join(p.objects(), name)))
+		}
+	}
+	must(t, s.End(ctx))
+	s = started(t, p.config(t), hooks{})
+	must(t, got.submitAll(ctx, s, 20, 40, 8))
+	if report := p.right(t, got); report.Leaves != 40 {
+		t.Fatalf("%+v", report)
+	}
+}
+
+// TestPartialTilesGoBeforeOldHeads: partial tiles go once the full one has stood for its own time, while no head is old yet.
+func TestPartialTilesGoBeforeOldHeads(t *testing.T) {
+	t.Parallel()
+	p, ctx, got := newPlace(t), limited(t), &answers{}
+	config := p.config(t)
+	config.TendEvery, config.SweepAfter, config.SweepTilesAfter = 5*time.Millisecond, time.Hour, 20*time.Millisecond
+	s := started(t, config, hooks{})
+	must(t, got.submitAll(ctx, s, 0, 10, 10))
+	first := headsOf(t, p)[0]
+	must(t, got.submitAll(ctx, s, 10, 300, 29))
+	eventually(t, "partial tiles go", func() bool {
+		return len(partials(t, p, "tile/data/000")) == 0 && len(partials(t, p, "tile/0/000")) == 0
+	})
+	if heads := headsOf(t, p); heads[0] != first {
+		t.Errorf("%s is gone, and %s is there", first, heads[0])
+	}
+	if report := p.right(t, got); report.Leaves != 300 {
+		t.Fatalf("%+v", report)
 	}
 }
