@@ -1,10 +1,13 @@
 #!/bin/sh
 # Looks at logs once, for cron or a timer: fetches each log's head and the entries that its state lacks, and has ctmonitor judge them.
 #
-#   LOG="https://log.example tiled+https://tiles.example .." watch.sh [--folder DIR] [--pieces N] [--older-than HOURS]
-#       [--name NAME].. [--name-file FILE] [--tell COMMAND]
+#   LOG="https://log.example tiled+https://tiles.example .." watch.sh [--logs LIST] [--at-once N] [--folder DIR] [--pieces N]
+#       [--older-than HOURS] [--name NAME].. [--name-file FILE] [--tell COMMAND]
 #
 # A log is read by the calls of RFC 6962; with tiled+ before its address, by its checkpoint and data tiles (C2SP static-ct-api).
+# LIST is a log list in JSON (version 3), a file or an address: its usable, qualified and read-only logs are watched beside those of LOG. It is read
+# anew in each run, so new logs come in by themselves; where it can't be, that is said, and the last one's logs are watched. Of its logs each head's
+# signature is checked with openssl, where that is here; a head that isn't signed with the log's key is an alarm. N logs are looked at at once (4).
 # Each has a folder of its own below DIR (ct-watch): its state, the verdicts, the heads as they came, and alarm.* with what an alarm was told of.
 # It fetches until the log's head is judged, N pieces at most (5000). It prints a line for each log, and one for each entry that has a watched name:
 # those of --name and of the lines of FILE. COMMAND gets each such entry, each alarm, and once a day a log that wasn't judged for a day.
@@ -14,10 +17,10 @@ set -u
 TILES=16
 # How long COMMAND may take, and after how long it is told that a log wasn't judged, in seconds.
 PATIENCE=60 DAY=86400
-folder=ct-watch pieces=5000 here=$PWD older='' tell='' name_file=''
+folder=ct-watch pieces=5000 here=$PWD older='' tell='' name_file='' list='' at_once=4
 
 page() {
-  sed -n '2,11s/^# \{0,1\}//p' "$0"
+  sed -n '2,14s/^# \{0,1\}//p' "$0"
 }
 
 usage() {
@@ -30,7 +33,7 @@ left=$#
 while [ $left -gt 0 ]; do
   case $1 in
     -h | --help) page && exit 0 || exit 1 ;;
-    --folder | --pieces | --older-than | --tell | --name | --name-file) [ $left -gt 1 ] || usage ;;
+    --folder | --pieces | --older-than | --tell | --name | --name-file | --logs | --at-once) [ $left -gt 1 ] || usage ;;
     *) set -- "$@" "$1" && shift && left=$((left - 1)) && continue ;;
   esac
   case $1 in
@@ -40,11 +43,14 @@ while [ $left -gt 0 ]; do
     --tell) tell=$2 ;;
     --name) set -- "$@" "$1" "$2" ;;
     --name-file) name_file=$2 ;;
+    --logs) list=$2 ;;
+    --at-once) at_once=$2 ;;
   esac
   shift 2
   left=$((left - 2))
 done
-case "${pieces:-none}$older" in *[!0-9]*) usage ;; esac
+case "${pieces:-none}$older${at_once:-none}" in *[!0-9]*) usage ;; esac
+[ "$at_once" -gt 0 ] || usage
 # A line of it is a name; what is empty or begins with # isn't.
 if [ -n "$name_file" ]; then
   if [ ! -f "$name_file" ] || [ ! -r "$name_file" ]; then
@@ -58,7 +64,7 @@ if [ -n "$name_file" ]; then
   done <"$name_file"
   [ $# -gt $had ] || { echo "watch.sh: there is no name in $name_file" >&2; exit 2; }
 fi
-case ${LOG:-} in *[![:space:]]*) ;; *) usage ;; esac
+case ${LOG:-}$list in *[![:space:]]*) ;; *) usage ;; esac
 # In the repository ctmonitor needn't be on the PATH, and where it isn't built, a program in Python stands in for it.
 own=$(cd "$(dirname "$0")" && pwd) judge=ctmonitor
 if ! command -v ctmonitor >/dev/null; then
@@ -73,6 +79,16 @@ for tool in "$judge" curl flock; do
   command -v "$tool" >/dev/null || { echo "watch.sh: $tool isn't on the PATH" >&2; exit 2; }
 done
 "$judge" "$@" </dev/null >/dev/null || exit 2
+# The other scripts stand beside this one, by the names of the repository or as installed.
+lister=$own/log_list.py signer=$own/signature.sh
+[ -f "$lister" ] || lister=$own/ctmonitor-log-list
+[ -f "$signer" ] || signer=$own/ctmonitor-signature
+if [ -n "$list" ]; then
+  for tool in "$lister" "$signer"; do
+    command -v "$tool" >/dev/null || { echo "watch.sh: $tool isn't there" >&2; exit 2; }
+  done
+  command -v openssl >/dev/null || { echo "watch.sh: openssl isn't on the PATH: no head's signature is checked" >&2; signer=; }
+fi
 
 # Says it of the log; but nothing of a piece of several tiles (`count`), which is read again one at a time.
 say() {
@@ -134,10 +150,36 @@ moment_of() {
   done | head -n 1
 }
 
+# Where the log's key is known, puts the moment of the head in the file $1 that is signed with it into `signed`; none where no head is. Answers 4
+# where the key is none.
+find_signature() {
+  signed=unknown
+  if [ -n "$key" ] && [ -n "$signer" ]; then
+    said=$("$signer" "$key" <"$1" 2>fault)
+    [ $? != 2 ] || { say "the list's key of the log is none: $(tail -n 1 fault)"; return 4; }
+    signed=$(printf '%s\n' "$said" | sed -n '1s/.*: signed at \([0-9]*\)$/\1/p')
+  fi
+}
+
+# Whether the answer is a head, whoever signed it.
+is_head_of_somebody() {
+  { echo && cat answer; } | "$judge" 2>fault | grep -qE '"verdict":"(accepted|pending|root-mismatch)"'
+}
+
+# Tells the alarm of a head that isn't signed with the log's key, which isn't shown to ctmonitor then.
+see_signature() {
+  [ -z "$signed" ] && is_head_of_somebody || return 0
+  echo "$key" >key && echo '{"error":"bad-signature"}' >>verdicts
+  alarm '{"error":"bad-signature"}' key
+  return 3
+}
+
 # Fetches the log's checkpoint as one line in the file `answer`. Without a moment that is none, which ctmonitor says.
 get_checkpoint() {
   fetch checkpoint || unreachable checkpoint || return
-  moment=$(moment_of got/1)
+  find_signature got/1 || return
+  moment=$signed
+  [ -n "${moment%unknown}" ] || moment=$(moment_of got/1)
   sed '/^$/,$d; s/[\\"]/\\&/g; s/$/\\n/' got/1 >text &&
     { printf '{"checkpoint":"' && tr -d '\n' <text && echo "\"${moment:+,\"timestamp\":$moment}}"; } >answer || disk_full
 }
@@ -176,11 +218,11 @@ replace() {
   tail -n 1 told >state.new && grep -q '^{"accepted":.*"state":1,' state.new && sync state.new verdicts && mv state.new state && sync .
 }
 
-# Tells an alarm, and where what ctmonitor read and wrote, and the answer, are kept. Where they can't be, it is told all the same.
+# Tells an alarm, the verdict $1, and where the files that follow, and the answer, are kept. Where they can't be, it is told all the same.
 alarm() {
-  kept=alarm.$(date +%s) where="which can't be kept"
-  mkdir -p "$kept" && cp lines told "$kept" && cp got/1 "$kept/answer" && where="kept in $PWD/$kept"
-  verdict=$(grep -E '"(fork|shrunk|time-not-later|root-mismatch|inconsistent|older-than-entry|wrong-index)"' told | tail -n 1)
+  verdict=$1 kept=alarm.$(date +%s) where="which can't be kept"
+  shift
+  mkdir -p "$kept" && cp "$@" "$kept" && cp got/1 "$kept/answer" && where="kept in $PWD/$kept"
   say "ALARM, $where: $verdict"
   hand alarm no "ALARM, $where: $verdict" "$verdict" || say "the alarm couldn't be told by the command"
 }
@@ -201,7 +243,7 @@ hand() {
     WATCH_ENTRY=$(field entry "$4") WATCH_TIMESTAMP=$(field timestamp "$4") WATCH_TYPE=$(field type "$4") WATCH_NAME=$(field name "$4")
     WATCH_WHERE=$(field where "$4")
     export WATCH_EVENT WATCH_AGAIN WATCH_SAYS WATCH_LOG WATCH_ENTRY WATCH_TIMESTAMP WATCH_TYPE WATCH_NAME WATCH_WHERE
-    cd "$here" && printf '{"again":%s,"event":"%s","log":"%s",%s\n' $again "$1" "$log" "${4#\{}" | timeout -k 5 $PATIENCE sh -c "$tell" 3<&- 9>&-
+    cd "$here" && printf '{"again":%s,"event":"%s","log":"%s",%s\n' $again "$1" "$log" "${4#\{}" | timeout -k 5 $PATIENCE sh -c "$tell" 3<&- 6>&- 7>&- 8<&- 9>&-
   )
 }
 
@@ -295,7 +337,7 @@ judge() {
   fi
   case $status in
     0) ;;
-    3) alarm ;;
+    3) alarm "$(grep -E '"(fork|shrunk|time-not-later|root-mismatch|inconsistent|older-than-entry|wrong-index)"' told | tail -n 1)" lines told ;;
     4) say "a line was none, or the state is damaged; the state is left as it was: $(grep '"error"' told | tail -n 1)" ;;
     *) say "ctmonitor ended with status $status"; return 1 ;;
   esac
@@ -327,10 +369,10 @@ waiting() {
 read_head() {
   is_head=yes
   case $kind in
-    calls) get get-sth || return ;;
+    calls) get get-sth && find_signature answer || return ;;
     tiles) get_checkpoint || return ;;
   esac
-  judge "$@"
+  see_signature && judge "$@"
 }
 
 # Fetches and judges the next piece. Where that brings no leaf, says so, and answers 5.
@@ -421,24 +463,98 @@ watch_and_tell() {
   return $status
 }
 
+# Answers the gravest of the statuses.
+gravest() {
+  for one in 3 4 1 2 5 6 8; do
+    case "$statuses " in *" $one "*) return $one ;; esac
+  done
+  case $statuses in *[!\ 0]*) return 1 ;; esac
+}
+
+# Says of each line of the file $1 that isn't in the file $2 what $3 is.
+say_other() {
+  grep -vxFf "$2" "$1" | while read -r log _; do echo "$log: $3"; done
+}
+
+# Puts the logs of the list, each with its key, into the file `logs`, and says which are new and which have gone. Where it can't be read, says so, and
+# leaves those of the last list there.
+read_list() {
+  logs=$folder/logs
+  timeout 120 "$lister" "$list" >"$logs.new" 2>"$logs.fault"
+  status=$?
+  case $status in
+    0 | 6) ;;
+    *)
+      echo "$list: can't be read: $(tail -n 1 "$logs.fault")"
+      [ ! -s "$logs" ] || echo "$list: the logs of the list before are watched"
+      [ $status = 4 ] || status=5
+      return $status
+      ;;
+  esac
+  while read -r fault; do echo "$list: $fault"; done <"$logs.fault"
+  [ ! -s "$logs" ] || { say_other "$logs.new" "$logs" "is new in the list" && say_other "$logs" "$logs.new" "isn't in the list any more, and isn't watched"; }
+  sync "$logs.new" && mv "$logs.new" "$logs" && sync "$folder" || { echo "$list: can't be kept, and the logs of the list before are watched" && return 1; }
+  [ $status = 0 ] || return 4
+}
+
+# The logs of LOG and of the list, a line each: address and, where the list has it, key. One that stands in both, or twice, is a line.
+all_logs() {
+  {
+    printf '%s\n' $LOG
+    [ -z "$list" ] || [ ! -e "$folder/logs" ] || cat "$folder/logs"
+  } | awk 'NF { place = $1; sub("/$", "", place); if (!(place in shown)) { shown[place] = $1; order[++count] = place }; if (NF > 1) key[place] = $2 }
+    END { for (i = 1; i <= count; i++) print shown[order[i]], key[order[i]] }'
+}
+
+# Takes the next log that is left, and its key.
+take() {
+  log=''
+  flock 7 && read -r log key <&8
+  flock -u 7
+  [ -n "$log" ]
+}
+
+# Watches a log after the other, as long as one is left, and answers the gravest status. Several such are at work at once.
+work() {
+  exec 7>"$folder/turn" || return 1
+  statuses=
+  while take; do
+    case $log in
+      tiled+*) kind=tiles ;;
+      *) kind=calls ;;
+    esac
+    address=${log#tiled+} address=${address%/} count=1 unread=0
+    # (with a slash behind its address a log has the same folder: the one that is there, by whichever name; where there are two, each goes on)
+    for name in "$(name_of "$log")" "$(name_of "$address")" "$(name_of "$address/")" "$(name_of "$address")"; do
+      [ ! -d "$folder/$name" ] || break
+    done
+    # (two addresses may have one folder, as a log's by calls and by tiles: then the one waits for the other)
+    (mkdir -p "$folder/$name" && cd "$folder/$name" && exec 6>lock && flock 6 && watch_and_tell "$@")
+    statuses="$statuses $?"
+  done
+  gravest
+}
+
 mkdir -p "$folder" && exec 9>"$folder/lock" || exit 1
 flock -n 9 || { echo "watch.sh: another run is at work in $folder"; exit 7; }
-statuses=
-for log in $LOG; do
-  case $log in
-    tiled+*) kind=tiles ;;
-    *) kind=calls ;;
-  esac
-  address=${log#tiled+} address=${address%/} count=1 unread=0
-  # (with a slash behind its address a log has the same folder: the one that is there, by whichever name; where there are two, each goes on)
-  for name in "$(name_of "$log")" "$(name_of "$address")" "$(name_of "$address/")" "$(name_of "$address")"; do
-    [ ! -d "$folder/$name" ] || break
-  done
-  (mkdir -p "$folder/$name" && cd "$folder/$name" && watch_and_tell "$@")
+statuses='' LOG=${LOG:-}
+if [ -n "$list" ]; then
+  read_list
+  statuses=" $?"
+fi
+set -f
+all_logs >"$folder/queue" && exec 8<"$folder/queue" || exit 1
+set +f
+most=$(wc -l <"$folder/queue") workers=
+while [ $at_once -gt 0 ] && [ "$most" -gt 0 ]; do
+  work "$@" &
+  workers="$workers $!" at_once=$((at_once - 1)) most=$((most - 1))
+done
+for signal in HUP INT TERM; do
+  trap "kill \$workers 2>/dev/null; trap - $signal; kill -s $signal \$\$" $signal
+done
+for worker in $workers; do
+  wait "$worker"
   statuses="$statuses $?"
 done
-for gravest in 3 4 1 2 5 6 8; do
-  case "$statuses " in *" $gravest "*) exit $gravest ;; esac
-done
-case $statuses in *[!\ 0]*) exit 1 ;; esac
-exit 0
+gravest

@@ -175,10 +175,10 @@ class Watch:
             (folder / name).symlink_to(shutil.which(name))
         return folder
 
-    def start(self, logs, *words, path=os.environ["PATH"], stdout=subprocess.PIPE):
+    def start(self, logs, *words, path=os.environ["PATH"], stdout=subprocess.PIPE, program=MONITOR / "watch.sh"):
         environment = {**os.environ, "PATH": f"{self.bin}:{path}", "LOG": logs, "no_proxy": "127.0.0.1", "PYTHONDONTWRITEBYTECODE": "1"}
         how = {"stdout": stdout, "stderr": subprocess.STDOUT, "text": True, "start_new_session": True, "env": environment}
-        return subprocess.Popen([MONITOR / "watch.sh", "--folder", self.folder, *words], **how)
+        return subprocess.Popen([program, "--folder", self.folder, *words], **how)
 
     def ends(self, what, status, logs, *words, says="", **more):
         """Runs it, and sees that it ends with that status and has those words on its output, which is answered."""
@@ -478,18 +478,33 @@ def try_several(watch, followed, forked):
         fail(f"logs of both kinds: they have no lines: {output}")
 
 
+def made_key(file):
+    """Makes a key of openssl's in a file, and answers the public one as log lists have it."""
+    subprocess.run(["openssl", "ecparam", "-name", "prime256v1", "-genkey", "-noout", "-out", file], check=True)
+    made = subprocess.run(["openssl", "ec", "-in", file, "-pubout", "-outform", "DER"], capture_output=True, check=True)
+    return answers.text(made.stdout)
+
+
+def signature(key, leaves, moment):
+    """What a log signs of a tree head (RFC 6962, section 3.5), by openssl."""
+    bare = struct.pack(">BBQQ32s", 0, 1, moment, len(leaves), answers.merkle.root(leaves))
+    return subprocess.run(["openssl", "dgst", "-sha256", "-sign", key], input=bare, capture_output=True, check=True).stdout
+
+
+def signed_answer(key, leaves, moment):
+    """A log's answer to get-sth with its signature."""
+    made = signature(key, leaves, moment)
+    return answers.line({**answers.head(leaves, moment), "tree_head_signature": answers.text(struct.pack(">BBH", 4, 3, len(made)) + made)})
+
+
 def try_signatures(folder):
     """signature.sh takes the checkpoints that a log signed, and no other, by keys that openssl made."""
-    keys, notes = [], []
-    for name in ("log", "another"):
-        subprocess.run(["openssl", "ecparam", "-name", "prime256v1", "-genkey", "-noout", "-out", folder / name], check=True)
-        made = subprocess.run(["openssl", "ec", "-in", folder / name, "-pubout", "-outform", "DER"], capture_output=True, check=True)
-        keys.append(answers.text(made.stdout))
+    keys, notes = [made_key(folder / name) for name in ("log", "another")], []
     for size in (8, 300):
-        bare = struct.pack(">BBQQ32s", 0, 1, size, size, answers.merkle.root(MANY[:size]))
-        made = subprocess.run(["openssl", "dgst", "-sha256", "-sign", folder / "log"], input=bare, capture_output=True, check=True)
-        notes.append(note(MANY[:size], size, made.stdout))
-    both, told = "\n".join(notes), [f"{ORIGIN}, {size} leaves: signed\n" for size in (8, 300)]
+        notes.append(note(MANY[:size], size, signature(folder / "log", MANY[:size], size)))
+    answer = signed_answer(folder / "log", LEAVES[:8], 7)
+    no_answer = "an answer, 8 leaves: not signed with this key\n"
+    both, told = "\n".join(notes), [f"{ORIGIN}, {size} leaves: signed at {size}\n" for size in (8, 300)]
     another = f"{ORIGIN}, 8 leaves: not signed with this key\n"
     for what, key, given, status, due in [
         ("two checkpoints", keys[0], both, 0, "".join(told)),
@@ -500,6 +515,15 @@ def try_signatures(folder):
         ("no signature", keys[0], notes[0].split("\n\n")[0] + "\n", 1, another),
         ("nothing", keys[0], "", 1, "no checkpoint\n"),
         ("no key", "AAAA", both, 2, ""),
+        ("an answer to get-sth", keys[0], answer, 0, "an answer, 8 leaves: signed at 7\n"),
+        ("two such, without an end", keys[0], f"{answer}\n\n{answer[:-1]}", 0, "an answer, 8 leaves: signed at 7\n" * 2),
+        ("such an answer and a checkpoint", keys[0], f"{answer}\n{both}", 0, "an answer, 8 leaves: signed at 7\n" + "".join(told)),
+        ("an answer with another key", keys[1], answer, 1, no_answer),
+        ("an answer at another moment", keys[0], answer.replace('"timestamp":7', '"timestamp":8'), 1, no_answer),
+        ("an answer of another size", keys[0], answer.replace('"tree_size":8', '"tree_size":9'), 1, no_answer.replace("8", "9")),
+        ("an answer with two sizes", keys[0], '{"tree_size":9,' + answer[1:], 1, "an answer, no leaves: not signed with this key\n"),
+        ("an answer with a size in other words", keys[0], '{"tree\\u005fsize":9,' + answer[1:], 1, "an answer, no leaves: not signed with this key\n"),
+        ("no answer", keys[0], "{}", 1, "an answer, no leaves: not signed with this key\n"),
     ]:
         ran = subprocess.run([MONITOR / "signature.sh", key], input=given, capture_output=True, text=True)
         if ran.returncode != status or ran.stdout != due:
@@ -517,6 +541,170 @@ def try_signatures(folder):
         ran.wait()
     if ran.returncode != 1 or os.listdir(room):
         fail(f"signature.sh, ended by a signal: status {ran.returncode}, and there is left {os.listdir(room)}")
+
+
+class Signed(Log):
+    """A log that signs its heads, by a key in a file."""
+
+    def __init__(self, key):
+        super().__init__()
+        self.key = key
+
+    def text_of(self, call, query):
+        return signed_answer(self.key, self.leaves[: self.size], self.now) if call == "get-sth" else super().text_of(call, query)
+
+
+class SignedTiles(Tiles):
+    """A tiled log that signs its checkpoints."""
+
+    def __init__(self, key):
+        super().__init__()
+        self.key = key
+
+    def text_of(self, path, query):
+        leaves = self.leaves[: self.size]
+        return note(leaves, self.now, signature(self.key, leaves, self.now)) if path == "checkpoint" else super().text_of(path, query)
+
+
+def listed(log, key, state="usable", **more):
+    """A log's entry in a log list, and the word under which it stands there."""
+    word, address = ("tiled_logs", "monitoring_url") if isinstance(log, Tiles) else ("logs", "url")
+    key_hash = answers.text(answers.merkle.sha256(answers.base64.b64decode(key)))
+    return word, {"key": key, "log_id": key_hash, address: log.url.removeprefix("tiled+") + "/", "state": {state: {"timestamp": "2026-01-01T00:00:00Z"}}, **more}
+
+
+def list_of(*entries):
+    """A log list (version 3) of these logs, of an operator each."""
+    return json.dumps({"version": "1", "operators": [{"name": "an operator", "logs": [], "tiled_logs": [], word: [log]} for word, log in entries]})
+
+
+def try_lists(watch, folder):
+    """The logs of a list are watched with their keys; new ones come in, and where it can't be read, the last one's are watched."""
+    key, other = made_key(folder / "listed"), made_key(folder / "other")
+    calls, tiles, read_only, retired = Signed(folder / "listed"), SignedTiles(folder / "listed"), Signed(folder / "listed"), Signed(folder / "listed")
+    server, plain = Tiles(), Log()
+    address = server.url.removeprefix("tiled+") + "/list.json"
+    entries = [listed(calls, key), listed(read_only, key, "readonly"), listed(retired, key, "retired")]
+    server.instead = {"list.json": list_of(*entries)}
+    accepted = [f"{log.url}: accepted 8 leaves" for log in (calls, read_only, plain)]
+    output = watch.ends("a list", 0, plain.url, "--logs", address)
+    if sorted(output.splitlines()) != sorted(accepted):
+        fail(f"a list: {output}")
+    server.instead["list.json"] = list_of(listed(tiles, key, "qualified"), *entries[:1])
+    output = watch.ends("another list", 0, "", "--logs", address)
+    due = [accepted[0], f"{tiles.url}: accepted 8 leaves", f"{tiles.url}: is new in the list", f"{read_only.url}: isn't in the list any more, and isn't watched"]
+    if sorted(output.splitlines()) != sorted(due):
+        fail(f"another list: {output}")
+    empty, forged = list_of(entries[2]), list_of(listed(calls, key, log_id="AAAA"), entries[1])
+    for what, status, instead in [
+        ("404", 5, {"status": 404}),
+        ("429", 5, {"status": 429}),
+        ("a list that is cut off", 5, {"missing": 9}),
+        ("half a list", 4, list_of(*entries)[:-20]),
+        ("a page", 4, PAGE),
+        ("a number", 4, "7"),
+        ("an empty list", 4, empty),
+    ]:
+        server.instead["list.json"] = instead
+        output = watch.ends(f"{what} for a list", status, "", "--logs", address, says=f"{address}: the logs of the list before are watched")
+        if sorted(output.splitlines()[2:]) != sorted(due[:2]):
+            fail(f"{what} for a list: {output}")
+    server.instead["list.json"] = forged
+    output = watch.ends("a list with a key that isn't the log's", 4, "", "--logs", address, says="is passed over: its key isn't the one that log_id is the hash of")
+    if accepted[1] not in output or accepted[0] in output:
+        fail(f"a list with a key that isn't the log's: {output}")
+    (folder / "list").write_text(list_of(listed(calls, key), listed(tiles, key), (listed(plain, key)[0], {**listed(plain, key)[1], "url": "https://a b/"})))
+    watch.ends("a list out of a file, with an address that is none", 4, "", "--logs", folder / "list", says="'https://a b/' is passed over: its address is none")
+    installed = folder / "installed"
+    installed.mkdir()
+    for name, file in (("watch", "watch.sh"), ("log-list", "log_list.py")):
+        shutil.copy(MONITOR / file, installed / f"ctmonitor-{name}")
+    (folder / "list").write_text(list_of(listed(calls, key)))
+    program = installed / "ctmonitor-watch"
+    watch.ends("an installed script that isn't whole", 2, "", "--logs", folder / "list", program=program, says="ctmonitor-signature isn't there")
+    shutil.copy(MONITOR / "signature.sh", installed / "ctmonitor-signature")
+    if watch.ends("the installed scripts", 0, "", "--logs", folder / "list", program=program, says=accepted[0]).count("\n") != 2:
+        fail("the installed scripts: they say something else beside")
+    for word in (("--logs",), ("--at-once", "0", "--logs", address), ("--at-once", "x", "--logs", address)):
+        watch.ends(f"the words {word}", 2, "", *word, says="watch.sh [--logs LIST]")
+    return key, other
+
+
+def try_first_list(watch, folder):
+    """Where the first list can't be read, there is no log to watch, which is told; and a kill while it is put into its place leaves the last one."""
+    log, server = Signed(folder / "listed"), Tiles()
+    address = server.url.removeprefix("tiled+") + "/list.json"
+    kept, before = watch.folder / "logs", (watch.folder / "logs").read_bytes()
+    kept.unlink()
+    output = watch.ends("no list on the first day", 5, "", "--logs", address, says=f"{address}: can't be read: ")
+    if output.count("\n") != 1:
+        fail(f"no list on the first day: {output}")
+    kept.write_bytes(before)
+    server.instead = {"list.json": list_of(listed(log, made_key(folder / "third")))}
+    with watch.instead("sync", 'case $1 in */logs.new) kill -9 0 ;; esac; PATH=${PATH#*:}; exec sync "$@"'):
+        watch.start("", "--logs", address).communicate()
+    if kept.read_bytes() != before:
+        fail("a kill before the list is in its place: the list before isn't there any more")
+
+
+def try_heads_signed(watch, folder):
+    """A head that isn't signed with the list's key is an alarm, and isn't taken; without openssl that is told; and the signed moment counts."""
+    command = Command(watch.folder)
+    for log in (Signed(folder / "listed"), SignedTiles(folder / "listed")):
+        key = subprocess.run(["openssl", "ec", "-in", folder / "listed", "-pubout", "-outform", "DER"], capture_output=True, check=True).stdout
+        (folder / "list").write_text(list_of(listed(log, answers.text(key))))
+        words = ("--logs", folder / "list", "--tell", command.line)
+        watch.ends("a signed head", 0, "", *words, says="accepted 8 leaves")
+        log.size, log.now = 7, log.now + 1
+        watch.ends("a signed head of fewer leaves", 3, "", *words, says='"verdict":"shrunk"')
+        log.size, log.key = 8, folder / "other"
+        before = watch.path(log).read_bytes()
+        command.forget()
+        watch.ends("a head of another key", 3, "", *words, says=': {"error":"bad-signature"}')
+        if watch.path(log).read_bytes() != before or [line["event"] for line in command.told()] != ["alarm"] or command.told()[0]["error"] != "bad-signature":
+            fail(f"a head of another key: the state was replaced, or the command was given {command.told()}")
+        if not any((kept / "answer").exists() for kept in watch.path(log, "").glob("alarm.*") if (kept / "key").exists()):
+            fail("a head of another key: it isn't kept")
+        watch.ends("the same without the list", 0, log.url, says="accepted 8 leaves")
+        call = "checkpoint" if isinstance(log, Tiles) else "get-sth"
+        for what, status, instead in [("a page", 4, PAGE), ("503", 5, {"status": 503}), ("entries", 5, '{"entries":[]}')][: 2 if isinstance(log, Tiles) else 3]:
+            log.instead = {call: instead}
+            watch.ends(f"{what} of a log with a key", status, "", *words, says=log.url)
+        log.instead, log.key = {}, folder / "listed"
+        bare = watch.path_without("openssl") if not (folder / "bare").exists() else None
+        if bare:
+            for tool in ("dash", "sh", "awk", "cat", "sort", "sync", "mv", "cp", "rm", "tail", "head", "wc", "date", "timeout", "touch", "dirname", "python3", "env", "base64", "od", "truncate"):
+                if not (bare / tool).exists() and shutil.which(tool):
+                    (bare / tool).symlink_to(shutil.which(tool))
+            (folder / "bare").write_text("")
+            watch.ends("no openssl", 0, "", "--logs", folder / "list", path=bare, says="openssl isn't on the PATH: no head's signature is checked")
+    tiles = SignedTiles(folder / "listed")
+    (folder / "list").write_text(list_of(listed(tiles, answers.text(key))))
+    signed = tiles.text_of("checkpoint", {})
+    forged = signed.split("\n\n")[0] + "\n\n" + note_line(ORIGIN, struct.pack(">4sQBBH", b"key9", answers.MOMENT + 9999, 4, 3, 71) + bytes(71))
+    tiles.instead = {"checkpoint": forged + signed.split("\n\n")[1]}
+    watch.ends("a signature of another before the log's", 0, "", "--logs", folder / "list", says="accepted 8 leaves")
+    if watch.state(tiles)["accepted"]["timestamp"] != tiles.now:
+        fail(f"a signature of another before the log's: the moment {watch.state(tiles)['accepted']['timestamp']} was taken")
+
+
+def try_side_by_side(watch):
+    """A slow log holds up none; a run that is ended ends its work, and two addresses of one folder are read one behind the other."""
+    slow, others = Log(), [Log() for _ in range(5)]
+    slow.hold_at = 0
+    ran = watch.start(" ".join(log.url for log in (slow, *others)), "--at-once", "2")
+    slow.held.wait()
+    lines = sorted(ran.stdout.readline() for _ in others)
+    if lines != sorted(f"{log.url}: accepted 8 leaves\n" for log in others):
+        fail(f"beside a slow log: {lines}")
+    ran.send_signal(signal.SIGTERM)
+    if ran.wait() != -signal.SIGTERM:
+        fail(f"a run that is ended: status {ran.returncode}")
+    os.killpg(ran.pid, signal.SIGKILL)
+    ran.communicate()
+    both = Tiles()
+    both.instead = {"ct/v1/get-sth": {"status": 404}}
+    watch.ends("two addresses of a folder", 5, f"{both.url} {both.url.removeprefix('tiled+')} {both.url}/", says=f"{both.url}: accepted 8 leaves")
 
 
 # What a watched name of these two characters and more becomes in JSON and comes out of it.
@@ -689,7 +877,7 @@ def try_names_of_a_file(watch):
     names.write_text("# none\n\n")
     watch.ends("a file without a name", 2, log.url, "--name-file", names, says="there is no name in")
     watch.ends("no file", 2, log.url, "--name-file", watch.folder / "none", says="none can't be read")
-    watch.ends("a word without its value", 2, log.url, "--name", "a", "--tell", says="watch.sh [--folder DIR]")
+    watch.ends("a word without its value", 2, log.url, "--name", "a", "--tell", says="watch.sh [--logs LIST]")
 
 
 def from_end(log):
@@ -765,11 +953,11 @@ def try_judges(watch, log, judge):
     watch.put_judge(f'exec {judge} "$@"')
     watch.ends("a word that ctmonitor doesn't know", 2, log.url, "--nome", "a")
     for word in ("-h", "--help"):
-        watch.ends(f"{word} with a log", 0, log.url, word, says="watch.sh [--folder DIR]")
-        watch.ends(f"{word} without a log", 0, "", word, says="watch.sh [--folder DIR]")
-    watch.ends("no number", 2, log.url, "--pieces", "many", says="watch.sh [--folder DIR]")
+        watch.ends(f"{word} with a log", 0, log.url, word, says="watch.sh [--logs LIST]")
+        watch.ends(f"{word} without a log", 0, "", word, says="watch.sh [--logs LIST]")
+    watch.ends("no number", 2, log.url, "--pieces", "many", says="watch.sh [--logs LIST]")
     for logs in ("", " \t\n"):
-        watch.ends("no log", 2, logs, says="watch.sh [--folder DIR]")
+        watch.ends("no log", 2, logs, says="watch.sh [--logs LIST]")
     for tool in ("curl", "flock"):
         watch.ends(f"no {tool}", 2, log.url, path=watch.path_without(tool), says=f"{tool} isn't on the PATH")
     held = subprocess.Popen(["flock", watch.folder / "lock", "sh", "-c", "echo held; read line"], stdin=subprocess.PIPE, stdout=subprocess.PIPE)
@@ -875,6 +1063,11 @@ def main():
         try_slashes(watch)
         try_several(watch, followed, forked)
         try_judges(watch, followed, judge)
+        try_side_by_side(watch)
+        if shutil.which("openssl"):
+            try_lists(watch, pathlib.Path(folder))
+            try_first_list(watch, pathlib.Path(folder))
+            try_heads_signed(watch, pathlib.Path(folder))
     print(f"examples/monitor: watch.sh as expected in {watch.count} runs, over {which}.")
 
 
