@@ -32,7 +32,9 @@ func tileName(tile tlog.Tile) string {
 type tiles struct {
 	ctx  context.Context
 	read func(context.Context, string) ([]byte, error)
-	seen map[string][]byte
+	// begin, where there is one, begins to read one that is wanted behind others.
+	begin func(string)
+	seen  map[string][]byte
 	// failed is why one couldn't be read, or that it isn't the tree's.
 	failed error
 }
@@ -51,6 +53,11 @@ func (t *tiles) SaveTiles(read []tlog.Tile, contents [][]byte) {
 
 func (t *tiles) ReadTiles(wanted []tlog.Tile) ([][]byte, error) {
 	var contents [][]byte
+	for _, tile := range wanted {
+		if name := tileName(tile); t.begin != nil && t.seen[name] == nil {
+			t.begin(name)
+		}
+	}
 	for _, tile := range wanted {
 		name := tileName(tile)
 		content, ok := t.seen[name]
@@ -82,8 +89,8 @@ func (s *Sequencer) read(ctx context.Context, name string) ([]byte, error) {
 // so all its places are there. A place is believed only where the entry stands in its data tile, and that one's leaf in the tree; and what is
 // signed is what the program answers, which has checked the entry's audit path against the state's root.
 //
-// Who wants a tile that is damaged is told so. Who wants one that can't be read, or isn't tried any more, is left for a later round, behind
-// all who wait, and told behind Patience. The others have nothing to do with either.
+// Tiles are read beside the rounds: who wants one that isn't there yet is left for a later round, behind all who wait, and so is who wants one
+// that can't be read, which is told behind Patience. Who wants a tile that is damaged is told so. The others have nothing to do with either.
 func (s *Sequencer) answerRepeats(ctx context.Context, k known, batch []*waiting) (rest []*waiting, err error) {
 	identities := make([]stores.Identity, 0, len(batch))
 	for _, w := range batch {
@@ -107,8 +114,7 @@ func (s *Sequencer) answerRepeats(ctx context.Context, k known, batch []*waiting
 	// In the order of places, so that each tile is read once.
 	sort.SliceStable(repeats, func(i, j int) bool { return found[repeats[i].identity].Index < found[repeats[j].identity].Index })
 	tree := s.treeOf(ctx, k.state)
-	tree.readAhead(repeats, found)
-	defer tree.ahead.end()
+	tree.fetch(repeats, found, len(rest) > 0)
 	var known, later []*waiting
 	defer func() {
 		s.queue.putOff(later)
@@ -132,6 +138,9 @@ func (s *Sequencer) answerRepeats(ctx context.Context, k known, batch []*waiting
 			isOne, asked = s.isOne(ctx), true
 		}
 		if errors.Is(err, ErrDamaged) || unread {
+			if !unread {
+				s.fetcher.forget()
+			}
 			if !unread || isOne {
 				s.noteDamage(place.Index/tileWidth, err)
 			}
@@ -167,11 +176,9 @@ type tree struct {
 	tiles  *tiles
 	hashes tlog.HashReader
 	ctx    context.Context
-	// ahead reads tiles before they are wanted.
-	ahead *ahead
-	// left is for how long it begins to read entries yet, and damaged says that what it reads is known to be.
+	// fetcher reads tiles, nil where they are read here; left is for how long they are waited for yet.
+	fetcher *fetcher
 	left    time.Duration
-	damaged bool
 	// name and leaves are the data tile's that was read last.
 	name   string
 	leaves []leaf
@@ -179,38 +186,39 @@ type tree struct {
 
 func (s *Sequencer) treeOf(ctx context.Context, state step.State) *tree {
 	root := tlog.Tree{N: int64(state.Size), Hash: tlog.Hash(state.Root)}
-	t := &tree{s: s, state: state, ctx: ctx, left: mostRepeating}
+	t := &tree{s: s, state: state, ctx: ctx}
 	t.tiles = &tiles{ctx: ctx, read: t.read, seen: map[string][]byte{}}
 	t.hashes = tlog.TileHashReader(root, t.tiles)
 	return t
 }
 
-// mostRepeating is for how long a round begins to read for repeats: new entries wait behind them.
-const mostRepeating = 250 * time.Millisecond
+const (
+	// mostRepeating is for how long a round waits for tiles of repeats, and mostBefore where new entries wait behind them.
+	mostRepeating = 250 * time.Millisecond
+	mostBefore    = 20 * time.Millisecond
+)
 
-// readAhead begins to read the tiles of repeats, which are in the order of their places: each data tile, and the hash tile of its leaves. One that
-// is known to be damaged, or is at hand, isn't among them.
-func (t *tree) readAhead(repeats []*waiting, found map[stores.Identity]stores.Place) {
-	var names []string
-	last := ""
-	for _, w := range repeats {
-		index := found[w.identity].Index
-		if index >= t.state.Size || t.s.isDamaged(index/tileWidth) {
-			continue
+// fetch has the tiles of repeats, which are in the order of their places, be read beside the round: each data tile, and the hash tile of its
+// leaves, as far as they aren't at hand.
+func (t *tree) fetch(repeats []*waiting, found map[stores.Identity]stores.Place, before bool) {
+	t.fetcher, t.left = t.s.fetcher, mostRepeating
+	if before {
+		t.left = mostBefore
+	}
+	t.tiles.begin = func(name string) {
+		if _, ok := t.s.edge[name]; !ok {
+			t.fetcher.begin(t.s.running, name)
 		}
-		data := t.dataTile(index)
-		if name := tileName(data); name != last {
-			last = name
+	}
+	for _, w := range repeats {
+		if index := found[w.identity].Index; index < t.state.Size {
+			tile := t.dataTile(index)
 			for _, level := range []int{-1, 0} {
-				data.L = level
-				name := tileName(data)
-				if _, ok := t.s.edge[name]; !ok {
-					names = append(names, name)
-				}
+				tile.L = level
+				t.tiles.begin(tileName(tile))
 			}
 		}
 	}
-	t.ahead = readAhead(t.ctx, names, t.s.readBriefly)
 }
 
 // dataTile is the data tile of an entry.
@@ -222,41 +230,30 @@ func (t *tree) dataTile(index uint64) tlog.Tile {
 	return tile
 }
 
-// errNotYet: it isn't read in this round any more.
-var errNotYet = errors.New("sequencer: reading took too long")
+// errNotYet: it is read, or is to be, and isn't there yet.
+var errNotYet = errors.New("sequencer: a tile isn't read yet")
 
-// read reads an object. Each has Patience, and where it is known to be damaged a tenth of it: one that doesn't come keeps no round for longer.
+// read reads an object, beside the round or here. Each has Patience: one that doesn't come keeps nobody for longer.
 func (t *tree) read(ctx context.Context, name string) ([]byte, error) {
 	if content, ok := t.s.edge[name]; ok {
 		return content, nil
 	}
+	if t.fetcher == nil {
+		return t.s.readBriefly(ctx, name)
+	}
 	began := time.Now()
-	if done, ok := t.ahead.take(name); ok {
-		t.left -= time.Since(began)
-		return done.content, done.err
-	}
-	most := t.s.config.Patience
-	if t.damaged {
-		most /= 10
-	}
-	ctx, cancel := context.WithTimeout(ctx, most)
-	defer cancel()
-	content, err := t.s.readStore(ctx, name)
+	content, err := t.fetcher.take(t.s.running, ctx, name, t.left)
 	t.left -= time.Since(began)
 	return content, err
 }
 
 // leafAt gives the entry at an index, whose leaf hash is the tree's; none where the tree has no such index. A data tile that is
-// missing, or isn't the tree's, is ErrDamaged, and one that can't be read errUnread. Where reading took mostRepeating already in this round, none
-// is begun.
+// missing, or isn't the tree's, is ErrDamaged, one that can't be read errUnread, and one that isn't there yet errNotYet.
 func (t *tree) leafAt(index uint64) (*leaf, error) {
 	if index >= t.state.Size {
 		return nil, nil
 	}
-	if t.left <= 0 {
-		return nil, errNotYet
-	}
-	t.tiles.failed, t.damaged = nil, t.s.isDamaged(index/tileWidth)
+	t.tiles.failed = nil
 	tile := t.dataTile(index)
 	name := tileName(tile)
 	if name != t.name {

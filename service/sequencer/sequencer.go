@@ -148,6 +148,9 @@ type Sequencer struct {
 	// cancel ends all that the loop, the tender and who asks for the time do; ended is closed behind the first, tended and told behind the others.
 	cancel              context.CancelFunc
 	ended, tended, told chan struct{}
+	// running is the context that cancel ends, and fetcher reads the tiles of repeats.
+	running context.Context
+	fetcher *fetcher
 
 	// The loop's own.
 	// edge has tiles of the newest state that need not be read, and rolled is the line of the last state that is rolled out.
@@ -232,6 +235,7 @@ func start(ctx context.Context, config Config, test hooks) (*Sequencer, error) {
 		test:    test,
 	}
 	s.issuers = newIssuers(s)
+	s.fetcher = newFetcher(s.readBriefly, mostKeptBytes, config.Patience)
 	if err := s.readLatest(); err != nil {
 		return nil, err
 	}
@@ -244,7 +248,7 @@ func start(ctx context.Context, config Config, test hooks) (*Sequencer, error) {
 		return nil, err
 	}
 	running, cancel := context.WithCancel(context.Background())
-	s.cancel = cancel
+	s.running, s.cancel = running, cancel
 	go s.loop(running)
 	go s.tend(running)
 	go s.keepTime(running)
