@@ -8,6 +8,7 @@ import (
 	"wagtenib/service/sequencer"
 	"wagtenib/service/step"
 	"wagtenib/service/stores"
+	"wagtenib/service/witness"
 )
 
 // openNode opens what a log stands on, and begins to carry it.
@@ -64,6 +65,14 @@ func openNode(ctx context.Context, n node) (of *opened, err error) {
 		return nil, err
 	}
 	closers = append(closers, reading.Close)
+	if len(n.witnesses) > 0 {
+		circle, err := witness.NewCircle(n.witnesses, n.quorums, nil)
+		if err != nil {
+			return nil, err
+		}
+		closers = append(closers, circle.Close)
+		config.Witnesses = circle
+	}
 	s, err := sequencer.New(ctx, config)
 	if err != nil {
 		return nil, err

@@ -16,6 +16,7 @@ import (
 	"wagtenib/service/sequencer"
 	"wagtenib/service/stores"
 	"wagtenib/service/web"
+	"wagtenib/service/witness"
 )
 
 // settings are what the command line and the file of settings say.
@@ -47,6 +48,8 @@ type node struct {
 	mostQueue, mostBatch, mostProofs          int
 	behindSwap, create, makesFolder           bool
 	address, secret                           string
+	witnesses                                 []witness.One
+	quorums                                   witness.Quorums
 }
 
 // rests says whether steps leave their stores half of the time: one of them isn't this machine's own folder or file.
@@ -125,6 +128,20 @@ func parse(words []string, help io.Writer) (*settings, error) {
 	flags.IntVar(&n.mostProofs, "most-proofs", 64, "proofs for readers that are made, or wait to be")
 	flags.BoolVar(&n.behindSwap, "answer-behind-swap", false, "answer once an entry is decided, and not once its head is published: a merge is owed until then")
 	flags.BoolVar(&n.create, "create", false, "make a log where there is none; without it, an empty register ends the start")
+	flags.Func("witnesses", "`witnesses` that cosign the log's heads, with spaces between them: of each its URL, a comma, and its verifier key", func(text string) error {
+		n.witnesses = nil
+		for _, word := range strings.Fields(text) {
+			one, err := witness.ReadOne(word)
+			if err != nil {
+				return err
+			}
+			n.witnesses = append(n.witnesses, one)
+		}
+		return nil
+	})
+	flags.IntVar(&n.quorums.Publish, "publish-with", 0, "how many witnesses cosign a head before it is published (default more than half of all and the faulty ones)")
+	flags.IntVar(&n.quorums.Start, "start-with", 0, "how many witnesses cosign the newest head afresh before anything is taken (default as many)")
+	flags.IntVar(&n.quorums.Faults, "witness-faults", 0, "how many witnesses may be set back, or lie: with n witnesses n + witness-faults is below publish-with + start-with")
 	flags.StringVar(&s.listenNodes, "nodes-listen", "", "`address` for the other nodes of the log; none where it is empty")
 	flags.StringVar(&n.address, "nodes-address", "", "`URL` by which other nodes find this one")
 	flags.StringVar(&s.nodesSecretAt, "nodes-secret", "", "`file` with what the nodes show each other, 16 bytes or more, that none but its owner may read")
@@ -241,6 +258,9 @@ func (s *settings) settle() error {
 	if n.address != "" && strings.HasPrefix(n.places, "sqlite:") && !strings.HasPrefix(n.register, "file:") {
 		return errors.New("--nodes-address: nodes on several machines have one store of places, of etcd or PostgreSQL (--places), and no file of each's own")
 	}
+	if err := n.settleWitnesses(); err != nil {
+		return err
+	}
 	if s.nodesSecretAt != "" {
 		secret, err := readSecret(s.nodesSecretAt)
 		if err != nil {
@@ -249,6 +269,30 @@ func (s *settings) settle() error {
 		n.secret = secret
 	}
 	return nil
+}
+
+// settleWitnesses fills the quorums in, and sees that they can be.
+func (n *node) settleWitnesses() error {
+	q := &n.quorums
+	if len(n.witnesses) == 0 {
+		if *q != (witness.Quorums{}) {
+			return errors.New("--publish-with, --start-with and --witness-faults are of --witnesses")
+		}
+		return nil
+	}
+	if n.behindSwap {
+		return errors.New("--answer-behind-swap: what is answered so stands under no head that --witnesses cosigned")
+	}
+	for _, of := range []*int{&q.Publish, &q.Start} {
+		if *of == 0 {
+			*of = (len(n.witnesses)+q.Faults)/2 + 1
+		}
+	}
+	circle, err := witness.NewCircle(n.witnesses, *q, nil)
+	if err != nil {
+		return err
+	}
+	return circle.Close()
 }
 
 // beside names what belongs to a log's folder and doesn't lie in it: a copy of the folder doesn't have it, nor does an older one put it back.

@@ -85,7 +85,20 @@ type Figures struct {
 	// Mended counts objects of the log that were missing or had another content and were made again, and LastMended says which was last.
 	Mended     uint64
 	LastMended string
+	// Witnesses are how those stand that cosign the log's heads.
+	Witnesses []Witness
 	// Fault is what keeps the log from going on, in one line; empty where nothing does.
+	Fault string
+}
+
+// Witness is how a witness stands to a log whose heads it cosigns.
+type Witness struct {
+	Name string
+	// Missed is how many heads it was asked to cosign since it last did, and Cosigned how many it cosigned.
+	Missed, Cosigned uint64
+	// SeenMore says that it cosigned a later head than it was shown last, or another one of its size.
+	SeenMore bool
+	// Fault is why it didn't cosign the last head, in one line.
 	Fault string
 }
 

@@ -284,7 +284,11 @@ func (s *Sequencer) learn(ctx context.Context) (known, error) {
 		return known{}, fmt.Errorf("%w: it is gone, and had %d entries at %d ms", ErrSetBack, before.state.Size, before.state.Moment)
 	}
 	if err != nil {
+		s.isVouched = false
 		return known{}, fmt.Errorf("sequencer: %w", err)
+	}
+	if time.Since(s.heard) > mostUnvouched {
+		s.isVouched = false
 	}
 	k := before
 	if text != before.text {

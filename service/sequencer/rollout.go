@@ -311,7 +311,7 @@ func (s *Sequencer) putHead(ctx context.Context, state step.State, head step.Hea
 	return made, nil
 }
 
-// signedHead has a state's head signed.
+// signedHead has a state's head signed, and cosigned.
 func (s *Sequencer) signedHead(ctx context.Context, state step.State, head step.Head, objects fresh) (log.Head, error) {
 	signed, err := s.signHead(ctx, state, objects)
 	if err != nil {
@@ -322,7 +322,8 @@ func (s *Sequencer) signedHead(ctx context.Context, state step.State, head step.
 	if again, err := s.parseNote(made.Note); err != nil || matches(again, state) != nil {
 		return log.Head{}, fmt.Errorf("sequencer: the step's note isn't one of %s: %w", s.config.Origin, errNote)
 	}
-	return made, nil
+	made.Note, err = s.cosigned(ctx, state, made.Note, objects)
+	return made, err
 }
 
 // keyID is what a signature's line names the key by (C2SP static-ct-api; signatures of type 5).

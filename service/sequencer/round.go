@@ -175,7 +175,15 @@ func (s *Sequencer) round(ctx context.Context) error {
 	if !ready || skewed != nil {
 		return skewed
 	}
-	batch := s.queue.take(s.config.MostBatch, MostBatchBytes)
+	if err := s.vouched(ctx, k); err != nil {
+		return err
+	}
+	most := s.config.MostBatch
+	if s.config.Witnesses != nil && k.state.IsBegin() {
+		// (the first head is one of no entries: witnesses that know this log of more say so)
+		most = 0
+	}
+	batch := s.queue.take(most, MostBatchBytes)
 	defer func() { s.queue.giveBack(batch) }()
 	if batch, err = s.answerRepeats(ctx, k, batch); err != nil {
 		return err

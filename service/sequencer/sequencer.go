@@ -61,6 +61,8 @@ type Config struct {
 	// Step is the program, which was given Origin.
 	Step   *step.Client
 	Signer signer.Signer
+	// Witnesses cosign each head before it is published, and the newest one at a start; nobody does where it is nil.
+	Witnesses Witnesses
 	// Origin is the log's name in checkpoints (C2SP tlog-checkpoint).
 	Origin string
 	// Create says that a register that was never created is to be. It isn't over a store that has anything of a log.
@@ -109,6 +111,9 @@ func (c *Config) settle() error {
 		return fmt.Errorf("%w: an origin has neither spaces nor a plus sign", ErrConfig)
 	case c.Interval < 0 || c.Refresh < 0 || c.Patience < 0 || c.SweepAfter < 0 || c.SweepTilesAfter < 0 || c.TendEvery < 0 || c.MostSkew < 0 || c.MostQueue < 0 || c.MostQueueBytes < 0 || c.MostBatch < 0 || c.MostBatch > MostBatch:
 		return fmt.Errorf("%w: a bound is below 0, or a batch above %d", ErrConfig, MostBatch)
+	}
+	if c.BehindSwap && c.Witnesses != nil {
+		return fmt.Errorf("%w: what is answered behind the swap stands under no cosigned head", ErrConfig)
 	}
 	if c.BehindSwap && c.Signer.Receipts() == signer.InHead {
 		return fmt.Errorf("%w: answers behind the swap want a signer of %s receipts", ErrConfig, signer.Promised)
@@ -165,6 +170,8 @@ type Sequencer struct {
 	// placed is the line of the last state whose newest entry the places are known to have, and placedAt when that was seen.
 	placed   string
 	placedAt time.Time
+	// isVouched says that witnesses cosigned the newest head afresh since the register couldn't be read last.
+	isVouched bool
 	// later says that somebody was left for a later round, since a tile couldn't be read.
 	later bool
 
@@ -245,6 +252,9 @@ func start(ctx context.Context, config Config, test hooks) (*Sequencer, error) {
 	}
 	s.askNode(ctx)
 	if err := s.startsWithPlaces(ctx); err != nil {
+		return nil, err
+	}
+	if err := s.startsWithWitnesses(ctx); err != nil {
 		return nil, err
 	}
 	running, cancel := context.WithCancel(context.Background())
@@ -350,6 +360,9 @@ func (s *Sequencer) Figures() log.Figures {
 	if s.head != nil {
 		f.Entries = s.head.TreeSize
 		f.HeadAge = time.Duration(s.clock.now().UnixMilli()-int64(s.head.Timestamp)) * time.Millisecond
+	}
+	if s.config.Witnesses != nil {
+		f.Witnesses = s.config.Witnesses.Standings()
 	}
 	f.Mended, f.LastMended = s.mended, s.lastMended
 	f.SweptBundles, f.Staged = s.sweptBundles.Load(), s.staged.Load()

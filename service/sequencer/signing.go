@@ -164,18 +164,23 @@ func (h *hashes) ReadHashes(indexes []int64) (found []tlog.Hash, err error) {
 // proved has proofs made of a head's tiles, each of which is read once. They are made here, and not by a program that reads tiles: the
 // guard looks at each.
 func (s *Sequencer) proved(ctx context.Context, head signer.Head, objects fresh, made func(tlog.HashReader) error) error {
+	return s.provedOver(ctx, head, func(ctx context.Context, name string) ([]byte, error) {
+		if content, ok := objects[name]; ok {
+			return content, nil
+		}
+		return s.read(ctx, name)
+	}, made)
+}
+
+// provedOver is proved, over tiles that are read so.
+func (s *Sequencer) provedOver(ctx context.Context, head signer.Head, read func(context.Context, string) ([]byte, error), made func(tlog.HashReader) error) error {
 	known := &hashes{known: map[int64]tlog.Hash{}}
 	// (what is made the first time is no proof yet)
 	if err := made(known); err != nil {
 		return fmt.Errorf("sequencer: %w", err)
 	}
-	tiles := &tiles{ctx: ctx, seen: map[string][]byte{}, read: func(ctx context.Context, name string) ([]byte, error) {
-		if content, ok := objects[name]; ok {
-			return content, nil
-		}
-		return s.read(ctx, name)
-	}}
-	read, err := tlog.TileHashReader(tlog.Tree{N: int64(head.Size), Hash: head.Root}, tiles).ReadHashes(known.wanted)
+	tiles := &tiles{ctx: ctx, seen: map[string][]byte{}, read: read}
+	found, err := tlog.TileHashReader(tlog.Tree{N: int64(head.Size), Hash: head.Root}, tiles).ReadHashes(known.wanted)
 	if tiles.failed != nil {
 		return tiles.failed
 	}
@@ -183,7 +188,7 @@ func (s *Sequencer) proved(ctx context.Context, head signer.Head, objects fresh,
 		return fmt.Errorf("%w: hash tiles of %d entries: %v", ErrDamaged, head.Size, err)
 	}
 	for i, index := range known.wanted {
-		known.known[index] = read[i]
+		known.known[index] = found[i]
 	}
 	if err := made(known); err != nil {
 		return fmt.Errorf("sequencer: %w", err)

@@ -57,8 +57,15 @@ func (f *Front) Tell(ctx context.Context, every time.Duration) {
 	var fault, damage string
 	var tiles, issuers int
 	var mended, failures uint64
+	more := map[string]bool{}
 	for {
 		figures := f.log.Figures()
+		for _, w := range figures.Witnesses {
+			if w.SeenMore && !more[w.Name] {
+				f.options.Lines.Error("witness-seen-more", "witness", w.Name, "detail", w.Fault)
+			}
+			more[w.Name] = w.SeenMore
+		}
 		if figures.Fault != fault {
 			f.tellOf("fault", fault, figures.Fault)
 		}

@@ -96,6 +96,9 @@ var (
 	descTending    = described("ctserve_tend_failures_total", "What failed of sweeping partial tiles, heads and bundles.")
 	descIssuers    = described("ctserve_damaged_issuers", "Issuers that are missing or have another content, by what was read last.")
 	descMended     = described("ctserve_mended_objects_total", "Objects that were missing or had another content, and were made again.")
+	descLag        = prometheus.NewDesc("ctserve_witness_lag", "Heads that a witness was asked to cosign since it last did.", []string{"witness"}, nil)
+	descCosigned   = prometheus.NewDesc("ctserve_witness_cosignatures_total", "Heads that a witness cosigned.", []string{"witness"}, nil)
+	descSeenMore   = prometheus.NewDesc("ctserve_witness_seen_more", "1 where a witness says that it cosigned a later head than it was shown, or another one.", []string{"witness"}, nil)
 	descOpen       = described("ctserve_connections", "Connections that are open.")
 	descWaiting    = described("ctserve_waiting_bytes", "Bytes of the submissions that are read, checked or wait.")
 	descAnswers    = described("ctserve_answer_bytes", "Bytes of the objects that are read for answers, or sent.")
@@ -143,6 +146,15 @@ func (c figures) Collect(to chan<- prometheus.Metric) {
 	count(descTending, f.TendFailures)
 	gauge(descIssuers, float64(f.DamagedIssuers))
 	count(descMended, f.Mended)
+	for _, w := range f.Witnesses {
+		more := 0.0
+		if w.SeenMore {
+			more = 1
+		}
+		to <- prometheus.MustNewConstMetric(descLag, prometheus.GaugeValue, float64(w.Missed), w.Name)
+		to <- prometheus.MustNewConstMetric(descCosigned, prometheus.CounterValue, float64(w.Cosigned), w.Name)
+		to <- prometheus.MustNewConstMetric(descSeenMore, prometheus.GaugeValue, more, w.Name)
+	}
 	gauge(descOpen, float64(c.front.connections.open.Load()))
 	gauge(descWaiting, float64(c.front.waiting.used.Load()))
 	gauge(descAnswers, float64(c.front.answers.used.Load()))

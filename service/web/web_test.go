@@ -465,6 +465,7 @@ func TestMetricsAndHealth(t *testing.T) {
 		`ctserve_request_seconds_count{call="checkpoint"} 1`,
 		"ctserve_entries 5", "ctserve_queue 0", "ctserve_queue_most 1024", "ctserve_lost_swaps_total 3", "ctserve_fault 0", "ctserve_ready 1", "ctserve_roots 1",
 		"ctserve_swept_tiles_total 4", "ctserve_swept_heads_total 8", "ctserve_scrubbed_tiles_total 5", "ctserve_damaged_tiles 6", "ctserve_swept_bundles_total 11", "ctserve_staged_bundles 12", "ctserve_tend_failures_total 13", "ctserve_damaged_issuers 9", "ctserve_mended_objects_total 10", "ctserve_signer_starts_total 7", "ctserve_waiting_bytes 0", "ctserve_answer_bytes 0", `ctserve_connections_refused_total{bound="address"} 0`,
+		`ctserve_witness_lag{witness="w.example"} 14`, `ctserve_witness_cosignatures_total{witness="w.example"} 15`, `ctserve_witness_seen_more{witness="w.example"} 1`,
 	} {
 		if !strings.Contains(w.Body.String(), line+"\n") {
 			t.Errorf("/metrics lacks %s", line)
@@ -526,6 +527,7 @@ func TestFaultsAndDamageAreTold(t *testing.T) {
 	f.log.Bend("tile/data/007 is missing")
 	tells(`"level":"error","event":"damage","detail":"tile/data/007 is missing","tiles":6,"issuers":9}`)
 	tells(`"level":"warn","event":"tend","failures":13,"detail":"nothing is deleted"}`)
+	tells(`"level":"error","event":"witness-seen-more","witness":"w.example","detail":"it has seen 7 entries"}`)
 	tells(`"level":"warn","event":"made-again","objects":10,"last":"issuer/07"}`)
 	if w := f.get("/readyz"); w.Code != 200 {
 		t.Errorf("/readyz with a damaged tile: %d %s", w.Code, w.Body)
@@ -542,7 +544,7 @@ func TestFaultsAndDamageAreTold(t *testing.T) {
 	tells(`"event":"mended","detail":"tile/data/007 is missing"}`)
 	cancel()
 	<-done
-	for _, event := range []string{"fault", "damage", "made-again", "tend"} {
+	for _, event := range []string{"fault", "damage", "made-again", "tend", "witness-seen-more"} {
 		if count := strings.Count(f.lines.String(), `"event":"`+event+`"`); count != 1 {
 			t.Errorf("%s is told %d times", event, count)
 		}

@@ -1,0 +1,162 @@
+package main
+
+import (
+	"context"
+	"crypto/ed25519"
+	"crypto/rand"
+	"errors"
+	"io"
+	"net/http/httptest"
+	"os"
+	"os/exec"
+	"path/filepath"
+	"strings"
+	"syscall"
+	"testing"
+
+	"golang.org/x/mod/sumdb/note"
+
+	"wagtenib/service/signer"
+	"wagtenib/service/stores"
+	"wagtenib/service/witness"
+)
+
+// aWitness is a witness of the place's log, over HTTP: its URL, a comma, and its verifier key.
+func (p *place) aWitness(name string) (one string, key note.Verifier) {
+	p.t.Helper()
+	must := func(err error) {
+		p.t.Helper()
+		if err != nil {
+			p.t.Fatal(err)
+		}
+	}
+	public, private, err := ed25519.GenerateKey(rand.Reader)
+	must(err)
+	program := []string{"../../crates/ctwitness/out/ctwitness"}
+	if !isThere(program[0]) {
+		program = []string{"python3", "../../tests/witness/model.py"}
+	}
+	s, err := witness.New(witness.Options{Name: name, Key: private, Program: program})
+	must(err)
+	p.t.Cleanup(func() { s.Close() })
+	state, err := stores.OpenFile(p.path(name))
+	must(err)
+	p.t.Cleanup(func() { state.Close() })
+	of, err := signer.OpenKey(p.path("log.pem"))
+	must(err)
+	log := witness.Log{Origin: "log.example/test", Keys: []note.Verifier{witness.OfRFC6962("log.example/test", of.Key())}, State: state}
+	must(log.Create(context.Background()))
+	s.SetLogs([]witness.Log{log})
+	over := httptest.NewServer(s)
+	p.t.Cleanup(over.Close)
+	return over.URL + "," + s.VerifierKey(), witness.OfCosigner(name, public)
+}
+
+// TestWitnessedLog: the log's checkpoint has cosignatures, its figures tell of its witnesses, and where all that it has is put back together the
+// start is refused.
+func TestWitnessedLog(t *testing.T) {
+	t.Parallel()
+	at := newPlace(t)
+	first, firstKey := at.aWitness("v.example")
+	second, secondKey := at.aWitness("w.example")
+	words := append(at.realWords("--signing-key", at.path("log.pem")), "--guard", at.guard)
+	words = append(words, "--witnesses", first+" "+second, "--witness-faults", "1")
+	p := started(t, "", append(words, "--create")...)
+	submitted := func() {
+		t.Helper()
+		if status, answer := post(p.clients, at.submission()); status != 200 {
+			t.Fatalf("%d %s", status, answer)
+		}
+	}
+	submitted()
+	_, checkpoint := get(p.clients, "/checkpoint")
+	if opened, err := note.Open([]byte(checkpoint), note.VerifierList(firstKey, secondKey)); err != nil || len(opened.Sigs) != 2 || len(opened.UnverifiedSigs) != 1 {
+		t.Errorf("%q: %v", checkpoint, err)
+	}
+	p.signal(syscall.SIGTERM)
+	if status := p.ends(); status != 0 {
+		t.Errorf("it ended with status %d", status)
+	}
+	parts := []string{"log", "log.guard", "log.latest-head"}
+	for _, part := range parts {
+		if said, err := exec.Command("cp", "-a", at.path(part), at.path("old-"+part)).CombinedOutput(); err != nil {
+			t.Fatalf("%v: %s", err, said)
+		}
+	}
+	p = started(t, "", words...)
+	submitted()
+	_, figures := get(p.operator, "/metrics")
+	for _, line := range []string{`ctserve_witness_lag{witness="v.example"} 0`, `ctserve_witness_seen_more{witness="w.example"} 0`, `ctserve_witness_cosignatures_total{witness="w.example"} `} {
+		if !strings.Contains(figures, line) {
+			t.Errorf("/metrics lacks %s", line)
+		}
+	}
+	p.signal(syscall.SIGTERM)
+	p.ends()
+	for _, part := range parts {
+		if err := os.RemoveAll(at.path(part)); err != nil {
+			t.Fatal(err)
+		}
+		if err := os.Rename(at.path("old-"+part), at.path(part)); err != nil {
+			t.Fatal(err)
+		}
+	}
+	var told strings.Builder
+	if status := run(words, &told, openNode); status != statusSetBack || !strings.Contains(told.String(), "has seen 2 entries, and the head has 1") {
+		t.Errorf("all of it put back: status %d: %s", status, &told)
+	}
+}
+
+// TestWitnessesSettings: witnesses and quorums that can't be are refused at the start, and what isn't said follows.
+func TestWitnessesSettings(t *testing.T) {
+	at := newPlace(t)
+	var ones []string
+	for _, name := range []string{"a", "b", "c"} {
+		public, _, err := ed25519.GenerateKey(rand.Reader)
+		if err != nil {
+			t.Fatal(err)
+		}
+		ones = append(ones, "https://"+name+".example,"+witness.VerifierKey(name, public))
+	}
+	three := strings.Join(ones, " ")
+	for _, test := range []struct {
+		words []string
+		why   string
+	}{
+		{[]string{"--witnesses", "https://a.example"}, "no verifier key"},
+		{[]string{"--witnesses", three + " x"}, "a witness is a URL"},
+		{[]string{"--witnesses", three + " " + ones[0]}, "one name, key or URL"},
+		{[]string{"--publish-with", "2"}, "are of --witnesses"},
+		{[]string{"--start-with", "2"}, "are of --witnesses"},
+		{[]string{"--witness-faults", "1"}, "are of --witnesses"},
+		{[]string{"--witnesses", three, "--publish-with", "1"}, "has to be below 2 + 1"},
+		{[]string{"--witnesses", three, "--publish-with", "2", "--start-with", "2", "--witness-faults", "1"}, "3 + 1 has to be below 2 + 2"},
+		{[]string{"--witnesses", three, "--publish-with", "4"}, "no such quorums"},
+		{[]string{"--witnesses", three, "--witness-faults", "3"}, "no such quorums"},
+		{[]string{"--witnesses", three, "--witness-faults", "-1"}, "no such quorums"},
+		{[]string{"--witnesses", three, "--answer-behind-swap"}, "--answer-behind-swap"},
+	} {
+		if _, err := parse(at.words(test.words...), io.Discard); !errors.Is(err, errUsage) || !strings.Contains(err.Error(), test.why) {
+			t.Errorf("%q: %v", test.words, err)
+		}
+	}
+	for _, test := range []struct {
+		words   []string
+		quorums witness.Quorums
+	}{
+		{[]string{"--witnesses", three}, witness.Quorums{Publish: 2, Start: 2}},
+		{[]string{"--witnesses", three, "--witness-faults", "1"}, witness.Quorums{Publish: 3, Start: 3, Faults: 1}},
+		{[]string{"--witnesses", three, "--publish-with", "3", "--witness-faults", "1", "--start-with", "2"}, witness.Quorums{Publish: 3, Start: 2, Faults: 1}},
+		{[]string{"--witnesses", ones[0]}, witness.Quorums{Publish: 1, Start: 1}},
+	} {
+		s, err := parse(at.words(test.words...), io.Discard)
+		if err != nil || s.node.quorums != test.quorums {
+			t.Errorf("%q: %v", test.words, err)
+		}
+	}
+	at.write("settings", []byte("witnesses "+three+"\nstart-with 3\n"))
+	s, err := parse(at.words("--config", filepath.Join(at.folder, "settings")), io.Discard)
+	if err != nil || len(s.node.witnesses) != 3 || s.node.quorums != (witness.Quorums{Publish: 2, Start: 3}) {
+		t.Errorf("%v", err)
+	}
+}

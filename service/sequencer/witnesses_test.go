@@ -1,0 +1,352 @@
+package sequencer
+
+import (
+	"context"
+	"crypto/ed25519"
+	"crypto/rand"
+	"errors"
+	"fmt"
+	"net/http"
+	"net/http/httptest"
+	"os"
+	"os/exec"
+	"path/filepath"
+	"strings"
+	"sync/atomic"
+	"testing"
+
+	"golang.org/x/mod/sumdb/note"
+
+	"wagtenib/service/log"
+	"wagtenib/service/signer"
+	"wagtenib/service/stores"
+	"wagtenib/service/witness"
+)
+
+// witnessed are the witnesses of a place's log, over HTTP, each with its state in a folder.
+type witnessed struct {
+	folder string
+	key    []byte
+	keys   []ed25519.PrivateKey
+	ones   []witness.One
+	// servers have the http.Handler of each, as it is now, and registers its state's.
+	servers   []atomic.Value
+	registers []stores.Register
+}
+
+// away is a witness that doesn't answer.
+var away = http.HandlerFunc(func(w http.ResponseWriter, _ *http.Request) { w.WriteHeader(http.StatusServiceUnavailable) })
+
+func newWitnessed(t testing.TB, p place, n int) *witnessed {
+	key, err := signer.OpenKey(filepath.Join(string(p), "key.pem"))
+	must(t, err)
+	w := &witnessed{folder: t.TempDir(), key: key.Key(), servers: make([]atomic.Value, n), registers: make([]stores.Register, n)}
+	for i := 0; i < n; i++ {
+		i := i
+		public, private, err := ed25519.GenerateKey(rand.Reader)
+		must(t, err)
+		over := httptest.NewServer(http.HandlerFunc(func(a http.ResponseWriter, q *http.Request) { w.servers[i].Load().(http.HandlerFunc)(a, q) }))
+		t.Cleanup(over.Close)
+		w.keys, w.ones = append(w.keys, private), append(w.ones, witness.One{URL: over.URL, Name: fmt.Sprintf("w%d.example", i), Key: public})
+		w.answers(t, i)
+	}
+	return w
+}
+
+func (w *witnessed) state(i int) string { return filepath.Join(w.folder, fmt.Sprint(i)) }
+
+// answers has a witness answer, over the state that is in its folder.
+func (w *witnessed) answers(t testing.TB, i int) {
+	t.Helper()
+	program := []string{"../../crates/ctwitness/out/ctwitness"}
+	if _, err := os.Stat(program[0]); err != nil {
+		program = []string{"python3", "../../tests/witness/model.py"}
+	}
+	s, err := witness.New(witness.Options{Name: w.ones[i].Name, Key: w.keys[i], Program: program})
+	must(t, err)
+	t.Cleanup(func() { s.Close() })
+	state, err := stores.OpenFile(w.state(i))
+	must(t, err)
+	t.Cleanup(func() { state.Close() })
+	of := witness.Log{Origin: origin, Keys: []note.Verifier{witness.OfRFC6962(origin, w.key)}, State: state}
+	if err := of.Create(limited(t)); err != nil && !errors.Is(err, stores.ErrExists) {
+		t.Fatal(err)
+	}
+	s.SetLogs([]witness.Log{of})
+	w.servers[i].Store(http.HandlerFunc(s.ServeHTTP))
+}
+
+func (w *witnessed) isAway(i int) { w.servers[i].Store(away) }
+
+// circle asks all of them; two publish, and two start.
+func (w *witnessed) circle(t testing.TB) *witness.Circle {
+	c, err := witness.NewCircle(w.ones, witness.Quorums{Publish: 2, Start: 2}, nil)
+	must(t, err)
+	t.Cleanup(func() { c.Close() })
+	return c
+}
+
+// cosignatures counts those of a note.
+func (w *witnessed) cosignatures(t testing.TB, signed []byte) int {
+	t.Helper()
+	var keys []note.Verifier
+	for _, one := range w.ones {
+		keys = append(keys, witness.OfCosigner(one.Name, one.Key))
+	}
+	opened, err := note.Open(signed, note.VerifierList(append(keys, witness.OfRFC6962(origin, w.key))...))
+	must(t, err)
+	return len(opened.Sigs) - 1
+}
+
+// copyOf copies a folder with cp -a.
+func copyOf(t testing.TB, folder string) string {
+	t.Helper()
+	to := filepath.Join(t.TempDir(), "copy")
+	out, err := exec.Command("cp", "-a", folder, to).CombinedOutput()
+	if err != nil {
+		t.Fatalf("%v: %s", err, out)
+	}
+	return to
+}
+
+// ran carries a log of a place for a while.
+func (p place) ran(t testing.TB, witnesses Witnesses, does func(s *Sequencer)) {
+	t.Helper()
+	config, err := p.open(limited(t))
+	must(t, err)
+	defer closeAll(config)
+	config.Witnesses = witnesses
+	s, err := start(limited(t), config, hooks{})
+	must(t, err)
+	does(s)
+	must(t, s.End(limited(t)))
+}
+
+// refuses sees that a place's log doesn't start.
+func (p place) refuses(t testing.TB, witnesses Witnesses, kinds ...error) {
+	t.Helper()
+	config, err := p.open(limited(t))
+	must(t, err)
+	defer closeAll(config)
+	config.Witnesses = witnesses
+	s, err := start(limited(t), config, hooks{})
+	if err == nil {
+		ended(t, s)
+	}
+	wants(t, err, kinds...)
+}
+
+// TestWitnesses: each published head has its cosignatures; with too few of them reading goes on, nothing is answered, and nothing is lost.
+func TestWitnesses(t *testing.T) {
+	t.Parallel()
+	p, ctx, got := newPlace(t), limited(t), &answers{}
+	w := newWitnessed(t, p, 3)
+	c := w.circle(t)
+	head := func(s *Sequencer) log.Head {
+		t.Helper()
+		head, err := s.Checkpoint(ctx)
+		must(t, err)
+		if n := w.cosignatures(t, head.Note); n < 2 {
+			t.Fatalf("the head of %d entries has %d cosignatures", head.TreeSize, n)
+		}
+		return head
+	}
+	p.ran(t, c, func(s *Sequencer) {
+		must(t, got.submitAll(ctx, s, 0, 20, 4))
+		head(s)
+		w.isAway(0)
+		must(t, got.submitAll(ctx, s, 20, 30, 4))
+		w.isAway(1)
+		_, err := s.Submit(ctx, entryOf(30))
+		wants(t, err, log.ErrStore, witness.ErrFew)
+		if before := head(s); before.TreeSize != 30 {
+			t.Errorf("a head of %d entries is published", before.TreeSize)
+		}
+		leavesAreKnown(t, s, 30)
+		var standing []string
+		for _, one := range s.Figures().Witnesses {
+			standing = append(standing, fmt.Sprintf("%s %t %t %t", one.Name, one.Missed > 0, one.Cosigned > 0, one.SeenMore))
+		}
+		if strings.Join(standing, " ") != "w0.example true true false w1.example true true false w2.example false true false" {
+			t.Errorf("%q", standing)
+		}
+		w.answers(t, 1)
+		// (its entry is in the log already, or comes into it now)
+		comesBack(t, s, got, 30)
+		if behind := head(s); behind.TreeSize != 31 {
+			t.Errorf("behind that the head has %d entries", behind.TreeSize)
+		}
+	})
+	p.ran(t, c, func(s *Sequencer) {
+		must(t, got.submitAll(ctx, s, 31, 40, 4))
+		head(s)
+	})
+	if report := p.right(t, got); report.Leaves != 40 {
+		t.Errorf("%+v", report)
+	}
+	// Where too few answer at a start, reading goes on, and nothing is taken until they do.
+	w.isAway(1)
+	p.ran(t, w.circle(t), func(s *Sequencer) {
+		head(s)
+		_, err := s.Submit(ctx, entryOf(0))
+		wants(t, err, log.ErrStore, witness.ErrFew)
+		w.answers(t, 1)
+		comesBack(t, s, got, 40)
+	})
+}
+
+// TestAllSetBack restores all that a log has from an older copy, and starts it: with witnesses it is refused, also where one of them was restored
+// along. Without them it goes on, and signs a second history: so docs/OPERATING.md says of it.
+func TestAllSetBack(t *testing.T) {
+	t.Parallel()
+	p, ctx := newPlace(t), limited(t)
+	w := newWitnessed(t, p, 3)
+	p.ran(t, w.circle(t), func(s *Sequencer) { must(t, (&answers{}).submitAll(ctx, s, 0, 3, 1)) })
+	old, oldWitness := copyOf(t, string(p)), copyOf(t, w.state(0))
+	var newest, forked log.Head
+	p.ran(t, w.circle(t), func(s *Sequencer) {
+		must(t, (&answers{}).submitAll(ctx, s, 3, 5, 1))
+		var err error
+		newest, err = s.Checkpoint(ctx)
+		must(t, err)
+	})
+	place(copyOf(t, old)).refuses(t, w.circle(t), ErrSetBack)
+	w.isAway(1)
+	place(copyOf(t, old)).refuses(t, w.circle(t), ErrSetBack)
+	w.answers(t, 1)
+	newestWitness := copyOf(t, w.state(0))
+	must(t, os.RemoveAll(w.state(0)))
+	must(t, os.Rename(oldWitness, w.state(0)))
+	w.answers(t, 0)
+	place(copyOf(t, old)).refuses(t, w.circle(t), ErrSetBack)
+	must(t, os.RemoveAll(w.state(0)))
+	must(t, os.Rename(newestWitness, w.state(0)))
+	w.answers(t, 0)
+
+	fork := place(copyOf(t, old))
+	fork.ran(t, nil, func(s *Sequencer) {
+		must(t, (&answers{}).submitAll(ctx, s, 5, 7, 1))
+		var err error
+		forked, err = s.Checkpoint(ctx)
+		must(t, err)
+		for _, head := range []log.Head{newest, forked} {
+			if read, err := s.parseNote(head.Note); err != nil || read.TreeSize != 5 {
+				t.Errorf("%d entries: %v", read.TreeSize, err)
+			}
+		}
+	})
+	if newest.RootHash == forked.RootHash {
+		t.Error("it didn't fork")
+	}
+	fork.refuses(t, w.circle(t), ErrSetBack)
+	fork.ran(t, nil, func(s *Sequencer) { must(t, (&answers{}).submitAll(ctx, s, 7, 9, 1)) })
+	fork.refuses(t, w.circle(t), ErrSetBack)
+	// The log itself goes on.
+	p.ran(t, w.circle(t), func(s *Sequencer) { must(t, (&answers{}).submitAll(ctx, s, 5, 6, 1)) })
+}
+
+// TestMadeAnew makes a log of the same key and origin anew: none of its heads comes out, and nothing is taken.
+func TestMadeAnew(t *testing.T) {
+	t.Parallel()
+	p, ctx := newPlace(t), limited(t)
+	w := newWitnessed(t, p, 3)
+	p.ran(t, w.circle(t), func(s *Sequencer) { must(t, (&answers{}).submitAll(ctx, s, 0, 3, 1)) })
+	for _, folder := range []string{"objects", "register", "places.db", "guard", "latest-head"} {
+		must(t, os.RemoveAll(filepath.Join(string(p), folder)))
+	}
+	p.ran(t, w.circle(t), func(s *Sequencer) {
+		_, err := s.Submit(ctx, entryOf(7))
+		wants(t, err, log.ErrStore, ErrSetBack)
+		if _, err := s.Checkpoint(ctx); !errors.Is(err, stores.ErrAbsent) {
+			t.Errorf("a head is published: %v", err)
+		}
+		if k, err := readText(p.registerText(t)); err != nil || k.state.Size != 0 {
+			t.Errorf("%d entries are decided, %v", k.state.Size, err)
+		}
+	})
+	p.refuses(t, w.circle(t), ErrSetBack)
+}
+
+// counting are witnesses of which each start is counted, and fails while that is on.
+type counting struct {
+	Witnesses
+	starts atomic.Int64
+	fails  atomic.Bool
+}
+
+func (c *counting) Start(ctx context.Context, signed []byte, size uint64, proof witness.Proof) error {
+	c.starts.Add(1)
+	if c.fails.Load() {
+		return fmt.Errorf("%w: tried", witness.ErrFew)
+	}
+	return c.Witnesses.Start(ctx, signed, size, proof)
+}
+
+// TestVouchedAnew: behind a time in which the register couldn't be read nothing is taken until the newest head is cosigned afresh.
+func TestVouchedAnew(t *testing.T) {
+	t.Parallel()
+	p, ctx, got := newPlace(t), limited(t), &answers{}
+	w := newWitnessed(t, p, 3)
+	config := p.config(t)
+	register, witnesses := &parted{Register: config.Register}, &counting{Witnesses: w.circle(t)}
+	config.Register, config.Witnesses = register, witnesses
+	s := started(t, config, hooks{})
+	must(t, got.submitAll(ctx, s, 0, 3, 1))
+	must(t, got.submitAll(ctx, s, 3, 6, 1))
+	if n := witnesses.starts.Load(); n != 1 {
+		t.Errorf("it is vouched for %d times", n)
+	}
+	witnesses.fails.Store(true)
+	register.on.Store(true)
+	eventually(t, "the register isn't read", func() bool { return strings.Contains(s.Figures().Fault, errTried.Error()) })
+	register.on.Store(false)
+	eventually(t, "it isn't vouched for", func() bool { return strings.Contains(s.Figures().Fault, "tried") && witnesses.starts.Load() > 1 })
+	_, err := s.Submit(ctx, entryOf(6))
+	wants(t, err, log.ErrStore, witness.ErrFew)
+	if head, err := s.Checkpoint(ctx); err != nil || head.TreeSize != 6 {
+		t.Errorf("%d entries, %v", head.TreeSize, err)
+	}
+	witnesses.fails.Store(false)
+	comesBack(t, s, got, 6)
+	if report := p.right(t, got); report.Leaves != 7 {
+		t.Errorf("%+v", report)
+	}
+}
+
+// TestWitnessedNodes has two nodes carry a log at once: what one of them is late with is no fault.
+func TestWitnessedNodes(t *testing.T) {
+	t.Parallel()
+	p, ctx, got := newPlace(t), limited(t), &answers{}
+	w := newWitnessed(t, p, 3)
+	nodes := make([]*Sequencer, 2)
+	for i := range nodes {
+		config := p.notHere(t)
+		config.Witnesses = w.circle(t)
+		nodes[i] = started(t, config, hooks{})
+	}
+	failed := make(chan error, len(nodes))
+	for i, s := range nodes {
+		go func(i int, s *Sequencer) { failed <- got.submitAll(ctx, s, 100*i, 100*i+40, 4) }(i, s)
+	}
+	for range nodes {
+		must(t, <-failed)
+	}
+	if report := p.right(t, got); report.Leaves != 80 {
+		t.Errorf("%+v", report)
+	}
+	head, err := nodes[0].Checkpoint(ctx)
+	must(t, err)
+	if n := w.cosignatures(t, head.Note); n < 2 {
+		t.Errorf("%d cosignatures", n)
+	}
+}
+
+// TestWitnessesAndBehindSwap: what is answered behind the swap stands under no cosigned head, so the two don't go together.
+func TestWitnessesAndBehindSwap(t *testing.T) {
+	p := newPlace(t)
+	config := p.config(t)
+	p.signedBy(t, &config, signer.Promised)
+	config.BehindSwap, config.Witnesses = true, newWitnessed(t, p, 3).circle(t)
+	_, err := start(limited(t), config, hooks{})
+	wants(t, err, ErrConfig)
+}
