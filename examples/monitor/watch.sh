@@ -2,12 +2,13 @@
 # Looks at logs once, for cron or a timer: fetches each log's head and the entries that its state lacks, and has ctmonitor judge them.
 #
 #   LOG="https://log.example tiled+https://tiles.example .." watch.sh [--logs LIST] [--at-once N] [--folder DIR] [--pieces N]
-#       [--older-than HOURS] [--name NAME].. [--name-file FILE] [--tell COMMAND]
+#       [--older-than HOURS] [--name NAME].. [--name-file FILE] [--tell COMMAND] [--keep MIRROR]
 #
 # A log is read by the calls of RFC 6962; with tiled+ before its address, by its checkpoint and data tiles (C2SP static-ct-api).
 # LIST is a log list in JSON (version 3), a file or an address: its usable, qualified and read-only logs are watched beside those of LOG. It is read
 # anew in each run, so new logs come in by themselves; where it can't be, that is said, and the last one's logs are watched. Of its logs each head's
 # signature is checked with openssl, where that is here; a head that isn't signed with the log's key is an alarm. N logs are looked at at once (4).
+# MIRROR gets of each tiled log what was accepted, in a folder of its own that can be served: data tiles, hash tiles, issuers and the checkpoint.
 # Each has a folder of its own below DIR (ct-watch): its state, the verdicts, the heads as they came, and alarm.* with what an alarm was told of.
 # It fetches until the log's head is judged, N pieces at most (5000). It prints a line for each log, and one for each entry that has a watched name:
 # those of --name and of the lines of FILE. COMMAND gets each such entry, each alarm, and once a day a log that wasn't judged for a day.
@@ -17,10 +18,10 @@ set -u
 TILES=16
 # How long COMMAND may take, and after how long it is told that a log wasn't judged, in seconds.
 PATIENCE=60 DAY=86400
-folder=ct-watch pieces=5000 here=$PWD older='' tell='' name_file='' list='' at_once=4
+folder=ct-watch pieces=5000 here=$PWD older='' tell='' name_file='' list='' at_once=4 mirror=''
 
 page() {
-  sed -n '2,14s/^# \{0,1\}//p' "$0"
+  sed -n '2,15s/^# \{0,1\}//p' "$0"
 }
 
 usage() {
@@ -33,7 +34,7 @@ left=$#
 while [ $left -gt 0 ]; do
   case $1 in
     -h | --help) page && exit 0 || exit 1 ;;
-    --folder | --pieces | --older-than | --tell | --name | --name-file | --logs | --at-once) [ $left -gt 1 ] || usage ;;
+    --folder | --pieces | --older-than | --tell | --name | --name-file | --logs | --at-once | --keep) [ $left -gt 1 ] || usage ;;
     *) set -- "$@" "$1" && shift && left=$((left - 1)) && continue ;;
   esac
   case $1 in
@@ -45,6 +46,7 @@ while [ $left -gt 0 ]; do
     --name-file) name_file=$2 ;;
     --logs) list=$2 ;;
     --at-once) at_once=$2 ;;
+    --keep) mirror=$2 ;;
   esac
   shift 2
   left=$((left - 2))
@@ -80,9 +82,10 @@ for tool in "$judge" curl flock; do
 done
 "$judge" "$@" </dev/null >/dev/null || exit 2
 # The other scripts stand beside this one, by the names of the repository or as installed.
-lister=$own/log_list.py signer=$own/signature.sh
+lister=$own/log_list.py signer=$own/signature.sh keeper=$own/keep.py
 [ -f "$lister" ] || lister=$own/ctmonitor-log-list
 [ -f "$signer" ] || signer=$own/ctmonitor-signature
+[ -f "$keeper" ] || keeper=$own/ctmonitor-keep
 if [ -n "$list" ]; then
   for tool in "$lister" "$signer"; do
     command -v "$tool" >/dev/null || { echo "watch.sh: $tool isn't there" >&2; exit 2; }
@@ -355,6 +358,28 @@ judge() {
   replace || { say "the state can't be written, and is left as it was"; return 1; }
 }
 
+# Puts the data tiles of these names, as they came, where keep.py finds them, before the state has their leaves.
+put_by() {
+  [ -n "$mirror" ] || return 0
+  place=0
+  for path; do
+    place=$((place + 1))
+    mkdir -p "new/${path%/*}" && cp "got/$place" "new/$path" && sync "new/$path" || { say "a tile can't be kept: the disk is full"; return 1; }
+  done
+}
+
+# Has keep.py keep what is accepted.
+keep_tiles() {
+  [ -n "$mirror" ] && [ $kind = tiles ] || return 0
+  said=$("$keeper" "$address" . "$mirror/${PWD##*/}" 2>fault)
+  case $? in
+    0) ;;
+    3) echo '{"error":"mirror"}' >>verdicts && alarm '{"error":"mirror"}' state && say "$said" && return 3 ;;
+    5) say "isn't kept: $said" && return 5 ;;
+    *) say "isn't kept: $said$(tail -n 1 fault)" && return 1 ;;
+  esac
+}
+
 # How many leaves the state has read.
 leaves() {
   sed -n 's/.*"all":{"size":\([0-9]*\),.*/\1/p' state
@@ -403,7 +428,7 @@ read_tiles() {
     names="$names $(tile_name $tile)" tile=$((tile + 1))
   done
   [ $count -gt 0 ] || names=$(tile_name $tile).p/$((size % 256))
-  get_tiles $names && judge "$@"
+  get_tiles $names && put_by $names && judge "$@"
   status=$?
   if [ $status != 0 ] && [ $count -gt 1 ]; then
     most=1
@@ -446,7 +471,12 @@ watch() {
     turn=$((turn + 1))
     read_piece "$@" || return
   done
+  keep_tiles
+  kept=$?
   say_how_far
+  status=$?
+  [ $kept = 0 ] || return $kept
+  return $status
 }
 
 # The same, and tells what was found. It answers the graver of the two statuses.
@@ -535,6 +565,10 @@ work() {
   gravest
 }
 
+if [ -n "$mirror" ]; then
+  mkdir -p "$mirror" && mirror=$(cd "$mirror" && pwd) || exit 1
+  command -v "$keeper" >/dev/null || { echo "watch.sh: $keeper isn't there" >&2; exit 2; }
+fi
 mkdir -p "$folder" && exec 9>"$folder/lock" || exit 1
 flock -n 9 || { echo "watch.sh: another run is at work in $folder"; exit 7; }
 statuses='' LOG=${LOG:-}

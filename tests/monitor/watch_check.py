@@ -688,6 +688,122 @@ def try_heads_signed(watch, folder):
         fail(f"a signature of another before the log's: the moment {watch.state(tiles)['accepted']['timestamp']} was taken")
 
 
+ISSUERS = {f"issuer/{answers.merkle.sha256(one).hex()}": one for one in (b"issuer", b"root")}
+
+
+class Mirrored(Tiles):
+    """A tiled log with issuers; where it holds one back, nobody gets it."""
+
+    def __init__(self):
+        super().__init__()
+        self.holds = False
+
+    def text_of(self, path, query):
+        if path not in ISSUERS:
+            return super().text_of(path, query)
+        if self.holds:
+            self.held.set()
+            threading.Event().wait()
+        return ISSUERS[path]
+
+
+def is_mirrored(what, log, folder):
+    """Sees that a folder has what the log has now, and nothing else but older partial tiles of tiles that aren't full."""
+    files = {str(path.relative_to(folder)): path.read_bytes() for path in folder.rglob("*") if path.is_file()}
+    due, count = {"checkpoint", *ISSUERS}, log.size
+    for level in range(6):
+        for index in range(-(-count // 256)):
+            name = answers.tile_name(index, min(256, count - index * 256))
+            due |= {name.replace("data", str(level)), *([name] if level == 0 else [])}
+        count //= 256
+    wrong = [path for path in due if files.get(path) != (lambda text: text.encode() if isinstance(text, str) else text)(log.text_of(path, {}))]
+    older = [path for path in files.keys() - due if ".p/" not in path or path.split(".p/")[0] in due]
+    if wrong or older:
+        fail(f"{what}: the mirror has {sorted(wrong)} not as the log, and {sorted(older)} beside")
+    log.asked.clear()
+
+
+def try_mirror(watch, folder):
+    """A log's tiles are kept as it has them, over the edges of tiles, and the folder serves as the log; a tile that was read isn't fetched once more."""
+    log, mirror = Mirrored(), folder / "mirror"
+    own, words = mirror / log.url.split("//")[1].replace(":", "_"), ("--keep", mirror)
+    for size in (8, 255, 256, 300, 530, len(MANY)):
+        log.size, log.now = size, log.now + 1
+        watch.ends(f"a mirror of {size} leaves", 0, log.url, *words, says=f"accepted {size} leaves")
+        if len(log.asked) != len(set(log.asked)) or any("data" not in path for path in log.asked):
+            fail(f"a mirror of {size} leaves: fetched were {log.asked}")
+        is_mirrored(f"a mirror of {size} leaves", log, own)
+    watch.ends("the same once more", 0, log.url, *words, says=f"accepted {log.size} leaves")
+    handler = lambda *given: QuietFolder(*given, directory=own)  # noqa: E731
+    with http.server.ThreadingHTTPServer(("127.0.0.1", 0), handler) as server:
+        threading.Thread(target=server.serve_forever, daemon=True).start()
+        address = f"tiled+http://127.0.0.1:{server.server_port}"
+        watch.ends("a mirror that is served", 8, address, "--name", "ficate 4097", says=f"accepted {log.size} leaves")
+        begun = subprocess.run([sys.executable, MONITOR / "from_end.py", address], capture_output=True, env={**os.environ, "no_proxy": "127.0.0.1"})
+        if begun.stdout != watch.path(log).read_bytes():
+            fail(f"a mirror that is served: from_end.py says {begun}")
+        server.shutdown()
+    watch.ends("a log that is called", 0, Log().url, *words)
+    watch.ends("--keep without a value", 2, log.url, "--keep", says="watch.sh [--logs LIST]")
+
+
+class QuietFolder(http.server.SimpleHTTPRequestHandler):
+    def log_message(self, *words):
+        """Writes nothing."""
+
+
+def try_mirror_faults(watch, folder):
+    """Other bytes are an alarm; an issuer that isn't to be had, a disk that is full, or a kill leave the mirror as it was, and the next run goes on."""
+    log, mirror = Mirrored(), folder / "mirror"
+    own, words = mirror / log.url.split("//")[1].replace(":", "_"), ("--keep", mirror)
+    first = next(iter(ISSUERS))
+    for what, status, answer in (("404", 5, {"status": 404}), ("429", 5, {"status": 429}), ("a page", 3, PAGE), ("less than announced", 5, {"missing": 9})):
+        log.instead = {first: answer}
+        watch.ends(f"{what} for an issuer", status, log.url, *words, says=log.url)
+        if (own / "checkpoint").exists():
+            fail(f"{what} for an issuer: the checkpoint is there")
+    log.instead, log.holds = {}, True
+    ran = watch.start(log.url, *words)
+    log.held.wait()
+    os.killpg(ran.pid, signal.SIGKILL)
+    ran.communicate()
+    log.holds = False
+    if (own / "checkpoint").exists():
+        fail("a kill before the issuers: the checkpoint is there")
+    watch.ends("the run behind a kill", 0, log.url, *words, says="accepted 8 leaves")
+    is_mirrored("the run behind a kill", log, own)
+    log.size, log.now = 300, log.now + 1
+    with watch.instead("sync", KILLING):
+        watch.start(log.url, *words).communicate()
+    with watch.instead("cp", 'PATH=${PATH#*:}; case $2 in new/*) exit 1 ;; esac; exec cp "$@"'):
+        watch.ends("a tile that can't be kept", 1, log.url, *words, says="a tile can't be kept")
+    watch.ends("the tiles", 0, log.url, says="accepted 300 leaves")
+    log.asked.clear()
+    watch.path(log, "new/tile/data").mkdir(parents=True, exist_ok=True)
+    watch.path(log, "new/tile/data/000").write_bytes(b"".join(MANY_TEXTS[:256])[:-7])
+    watch.ends("tiles that weren't kept when they were read, and one that is cut off", 0, log.url, *words, says="accepted 300 leaves")
+    is_mirrored("tiles that weren't kept when they were read", log, own)
+    kept = own / "tile/data/001.p/44"
+    right = kept.read_bytes()
+    kept.write_bytes(right[:-1] + b"x")
+    log.size, log.now = 301, log.now + 1
+    watch.ends("a tile that is kept with other bytes", 3, log.url, *words, says='{"error":"mirror"}')
+    if kept.read_bytes() != right[:-1] + b"x" or b"\n300\n" not in (own / "checkpoint").read_bytes():
+        fail("a tile that is kept with other bytes: it was replaced")
+    kept.write_bytes(right)
+    watch.ends("the right bytes again", 0, log.url, *words, says="accepted 301 leaves")
+    is_mirrored("the right bytes again", log, own)
+    log.size, log.now = 302, log.now + 1
+    (own / "tile/0/001.p/46").mkdir()
+    watch.ends("a hash tile that can't be read", 1, log.url, *words, says="isn't kept: ")
+    (own / "tile/0/001.p/46").rmdir()
+    watch.ends("the mirror once more", 0, log.url, *words, says="accepted 302 leaves")
+    changed, log.size, log.now = b"".join(MANY_TEXTS[256:303]), 303, log.now + 1
+    watch.ends("without a mirror", 0, log.url, says="accepted 303 leaves")
+    log.instead = {"tile/data/001.p/47": changed.replace(b"certificate 300", b"certificatE 300")}
+    watch.ends("a tile that doesn't lead to the accepted root", 3, log.url, *words, says="the log's data tiles don't lead to the accepted root")
+
+
 def try_side_by_side(watch):
     """A slow log holds up none; a run that is ended ends its work, and two addresses of one folder are read one behind the other."""
     slow, others = Log(), [Log() for _ in range(5)]
@@ -1064,6 +1180,8 @@ def main():
         try_several(watch, followed, forked)
         try_judges(watch, followed, judge)
         try_side_by_side(watch)
+        try_mirror(watch, pathlib.Path(folder))
+        try_mirror_faults(watch, pathlib.Path(folder))
         if shutil.which("openssl"):
             try_lists(watch, pathlib.Path(folder))
             try_first_list(watch, pathlib.Path(folder))
