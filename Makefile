@@ -24,11 +24,12 @@ demo: ## proves ctlog and ctmonitor, and shows something of each layer as soon a
 	@examples/demo.sh
 
 # TURN=0, 1 or 2 says which third of the wrong bodies in crates/*/by-turns it tries.
+# GO=no leaves the Go part out, SETUP=no installs no packages of Debian's for it. The file COUNT gets how many of its tests passed.
 test: ## the gate: proves every crate from nothing, and runs the tests and the program
 	@checks/needs.sh test
 	@$(MAKE) --silent sources
-	@$(MAKE) --silent service-test
-	@PYTHONDONTWRITEBYTECODE=1 python3 checks/gate.py
+	@COUNT="$(CURDIR)/service/out/count" $(MAKE) --silent service-test
+	@COUNT="$(CURDIR)/service/out/count" PYTHONDONTWRITEBYTECODE=1 python3 checks/gate.py
 
 check: ## for daily work: proves what changed
 	@checks/needs.sh check
@@ -45,7 +46,7 @@ service: ## builds service/out/ctserve, the service in Go (docs/OPERATING.md), c
 	@checks/needs.sh service
 	@service/build.sh build
 
-service-test: ## builds and tests the Go part, without engines; where Go isn't installed, it says so
+service-test: ## builds and tests the Go part, without engines; installs Debian's packages that it lacks, where that asks nothing
 	@service/test.sh
 
 service-engines: ## the same with engines on loopback: those of etcd, PostgreSQL and Ceph that are installed

@@ -1,6 +1,6 @@
 #!/usr/bin/env python3
 """Runs `rt ci`, the merge gate, and prints each of its lines behind the time so far. Its last line, 'N passed, M failed', is printed once
-more as it is, and the status is that of `rt ci`.
+more, with the tests of the Go part in it, of which the file COUNT in the environment has how many passed and failed; the status is that of `rt ci`.
 
 `rt ci` tells of a crate when it is done, and not how many of its functions are proved so far; while it tells nothing, a line a minute says
 how long it has been at work.
@@ -146,6 +146,15 @@ def surroundings():
     return {**jobs, **os.environ, "PYTHONUNBUFFERED": "1"}
 
 
+def with_go(last):
+    """The last line of `rt ci` with the tests of the Go part; as it is where these weren't run, or it is another line."""
+    path, found = pathlib.Path(os.environ.get("COUNT") or "no count"), re.fullmatch(r"(\d+) passed, (\d+) failed", last)
+    if not found or not path.is_file():
+        return last
+    passed, failed = (int(here) + int(there) for here, there in zip(found.groups(), path.read_text().split()))
+    return f"{passed} passed, {failed} failed"
+
+
 def run():
     """Runs `rt ci` and tells of it; the answer is its status."""
     start, said = time.monotonic(), time.monotonic()
@@ -175,7 +184,7 @@ def run():
         # (where this program is ended, what it has begun is too)
         gate.terminate()
     ended.set()
-    print(last, flush=True)
+    print(with_go(last), flush=True)
     return status if status >= 0 else 1
 
 

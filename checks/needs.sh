@@ -1,6 +1,7 @@
 #!/usr/bin/env bash
 # Says what a target of the Makefile lacks here, and how long it takes on so many processors: needs.sh demo|serve|serve-ctlogd|test|check|link|service|service-test,
-# and of the service's part of serve: needs.sh service-for-serve.
+# and of the service's part of serve and of test: needs.sh service-for-serve, service-for-test. GO=no leaves that of test out. Debian's packages that the
+# service lacks are installed where nothing is asked for that, by root or by sudo; SETUP=no says the line alone.
 # `needs.sh figures` prints the times on four processors, with which tests/scripts.py compares README.md, and `needs.sh write` writes them there.
 set -u
 cd "$(dirname "$0")/.."
@@ -49,30 +50,55 @@ lacks() {
   missing=1
 }
 
-# The Go part stands on Debian's packages, and on nothing of the kit. Those that lack are offered by one line, which SETUP=yes runs.
-if [ "$what" = service ] || [ "$what" = service-test ] || [ "$what" = service-for-serve ]; then
+# Installs packages of Debian's, $packages, by root or by a sudo that asks nothing. Where the lists of packages are old, or none are there, they are
+# fetched, and it is tried once more. Where nothing of this is allowed, or it fails, the line is said, and this ends.
+install_packages() {
+  local as="" line="apt-get install --yes --no-install-recommends$packages"
+  [ "$(id -u)" = 0 ] || as="sudo "
+  if [ "${SETUP:-}" = no ]; then
+    echo "$as$line    installs these" >&2
+    exit 1
+  fi
+  if [ -n "$as" ]; then
+    sudo -n true 2>/dev/null || { echo "$as$line    installs these; sudo asks for a password, so this doesn't" >&2; exit 1; }
+    as="sudo -n "
+  fi
+  echo "$as$line" >&2
+  # (nothing is asked, and who else installs has five minutes)
+  local run="${as}env DEBIAN_FRONTEND=noninteractive apt-get -o DPkg::Lock::Timeout=300"
+  $run install --yes --no-install-recommends $packages </dev/null >&2 && return
+  echo "apt-get update, and once more" >&2
+  if ! { $run update && $run install --yes --no-install-recommends $packages; } </dev/null >&2; then
+    echo "make ${what#service-for-}: apt-get couldn't install$packages" >&2
+    exit 1
+  fi
+}
+
+# The Go part stands on Debian's packages, and on nothing of the kit.
+if [ "$what" = service ] || [ "$what" = service-test ] || [ "$what" = service-for-serve ] || [ "$what" = service-for-test ]; then
   tools="go:golang-go gcc:gcc"
   [ "$what" = service ] || tools+=" openssl:openssl python3:python3"
-  [ "$what" != service-test ] || tools+=" gofmt:golang-go"
+  [ "$what" != service-test ] && [ "$what" != service-for-test ] || tools+=" gofmt:golang-go"
   packages=
   for pair in $tools; do
-    command -v "${pair%:*}" >/dev/null || { lacks "${pair%:*} (Debian: ${pair#*:})" && packages+=" ${pair#*:}"; }
+    command -v "${pair%:*}" >/dev/null && continue
+    lacks "${pair%:*} (Debian: ${pair#*:})"
+    [[ " $packages " == *" ${pair#*:} "* ]] || packages+=" ${pair#*:}"
   done
   for package in libsqlite3-dev golang-github-mattn-go-sqlite3-dev golang-github-lib-pq-dev golang-etcd-server-dev \
     golang-github-minio-minio-go-v7-dev golang-github-prometheus-client-golang-dev golang-github-thalesignite-crypto11-dev golang-golang-x-crypto-dev golang-golang-x-mod-dev; do
     [ "$(dpkg-query -W -f '${db:Status-Status}' "$package" 2>/dev/null)" = installed ] || { lacks "Debian's $package" && packages+=" $package"; }
   done
   [ "$missing" = 1 ] || exit 0
-  setup="apt-get install --yes --no-install-recommends$packages"
-  [ "$(id -u)" = 0 ] || setup="sudo $setup"
-  if [ "${SETUP:-}" = yes ]; then
-    exec $setup
-  fi
-  echo "$setup    installs these, and SETUP=yes make .. does so" >&2
-  exit 1
+  install_packages
+  SETUP=no exec "checks/needs.sh" "$what"
 fi
 
 command -v rt >/dev/null || lacks "rt, the command of the Rattle kit: put the kit's folder bin on the PATH (README.md, 'The kit')"
+# (this has python3 among its packages)
+if [ "$what" = test ] && [ "${GO:-}" != no ] && [ "$missing" = 0 ]; then
+  checks/needs.sh service-for-test || { echo "make test tries the Go part too; make test GO=no leaves it out" >&2; exit 1; }
+fi
 command -v python3 >/dev/null || lacks "python3, 3.8 or later"
 if command -v python3 >/dev/null && ! python3 -c 'import sys; sys.exit(sys.version_info < (3, 8))'; then
   lacks "a python3 of 3.8 or later: this one is $(python3 --version 2>&1)"

@@ -23,9 +23,9 @@ case $what in
     if [ -n "$package" ]; then
       go test -count=1 "$@" "wagtenib/service/$package"
     else
-      go test -count=1 $(sed 's|^|wagtenib/service/|' <<<"$folders")
+      go test -count=1 "$@" $(sed 's|^|wagtenib/service/|' <<<"$folders")
       # (with orders that no log may have, for which nothing else is built)
-      go test -count=1 -tags=libsqlite3,wrong_order -run WrongOrder wagtenib/service/sequencer
+      go test -count=1 -tags=libsqlite3,wrong_order -run WrongOrder "$@" wagtenib/service/sequencer
     fi
     ;;
   vet)

@@ -1,12 +1,15 @@
 #!/usr/bin/env bash
 # Looks through the Go part and tests it: test.sh, without engines, in seconds once it was built; test.sh engines, with those that are
-# installed, in some minutes. Where Go or one of its packages isn't installed, it says so in one line, and ends well.
-set -eu
+# installed, in some minutes. Where Go or one of its packages can't be had, it fails; with GO=no it says that nothing is tried, and ends well.
+# Into the file COUNT in the environment it writes how many tests passed and failed.
+set -eu -o pipefail
 cd "$(dirname "$0")"
-if ! missing=$(../checks/needs.sh service-test 2>&1); then
-  echo "service: the Go part isn't tried, for want of $(sed 's/^make service-test lacks //' <<<"$missing" | paste -sd '#' | sed 's/#/, /g')."
+[ -z "${COUNT:-}" ] || rm -f "$COUNT"
+if [ "${GO:-}" = no ]; then
+  echo "service: the Go part isn't tried, as GO=no has it."
   exit 0
 fi
+../checks/needs.sh service-test
 began=$SECONDS
 ./build.sh vet
 if command -v promtool >/dev/null; then
@@ -14,9 +17,9 @@ if command -v promtool >/dev/null; then
   promtool test rules ctserve.rules.test.yml >/dev/null
 fi
 if [ "${1:-}" = engines ]; then
-  ./engines.sh run ./build.sh test
+  ./engines.sh run ./build.sh test "" -json | ./count.py
   echo "service: the Go part is as expected, in $((SECONDS - began)) s."
 else
-  ./build.sh test
+  ./build.sh test "" -json | ./count.py
   echo "service: the Go part is as expected, in $((SECONDS - began)) s, without engines (make service-engines tries those that are installed)."
 fi

@@ -96,6 +96,17 @@ def try_gate(repository):
         hold(f"{what} leaves in must-fail", repository.texts("must-fail"), OWN)
 
 
+def try_counted(repository):
+    """The gate's last line counts the Go part's tests with the rest, where they were run."""
+    count = repository.folder / "count"
+    count.write_text("40 1\n")
+    for place, last in ((str(count), "43 passed, 1 failed"), (str(repository.folder / "no-count"), "3 passed, 0 failed"), ("", "3 passed, 0 failed")):
+        os.environ["COUNT"] = place
+        _, said = repository.run("checks/gate.py", rt="echo one; echo 3 passed, 0 failed")
+        hold(f"a gate with COUNT={place} says at last", said.splitlines()[-1], last)
+    os.environ.pop("COUNT")
+
+
 def try_left(repository):
     """What a gate that was killed has left in must-fail is taken out, whole or cut off, and no other edit; not while a gate is at work."""
     repository.put("must-fail", LEFT)
@@ -208,7 +219,7 @@ def try_sockets(folder):
 
 
 def main():
-    for case in (try_gate, try_left, try_ended, try_prove, try_build, try_order):
+    for case in (try_gate, try_counted, try_left, try_ended, try_prove, try_build, try_order):
         with tempfile.TemporaryDirectory() as folder:
             case(Repository(pathlib.Path(folder)))
     with tempfile.TemporaryDirectory() as folder:

@@ -122,7 +122,7 @@ KNOWN = [
 
 
 def main():
-    missing = subprocess.run([ROOT / "checks" / "needs.sh", "service-for-serve"], stderr=subprocess.PIPE, text=True).stderr.splitlines()
+    missing = subprocess.run([ROOT / "checks" / "needs.sh", "service-for-serve"], stderr=subprocess.PIPE, text=True, env={**os.environ, "SETUP": "no"}).stderr.splitlines()
     missing += [f"it lacks {tool}" for tool in ("curl", "flock") if not shutil.which(tool)]
     given = commands()
     unknown = [command for command in given if not any(command.startswith(beginning) for beginning, _ in KNOWN)]

@@ -286,23 +286,64 @@ def try_release(folder):
 
 
 def try_needs(folder):
-    """needs.sh offers the packages that lack by one line, and with SETUP=yes that is run. Where others lack too it isn't tried."""
-    needs = [HERE.parent / "checks" / "needs.sh", "service-for-serve"]
-    if subprocess.run(needs, capture_output=True).returncode:
+    """needs.sh says the packages that lack in one line, and runs it where nothing is asked; where it fails, behind an update once more. Then make test fails,
+    but for GO=no. Where others lack too it isn't tried."""
+    needs = [HERE.parent / "checks" / "needs.sh", "service-for-test"]
+    if subprocess.run(needs, env={**os.environ, "SETUP": "no"}, capture_output=True).returncode:
         return
     lacking, line = "golang-github-lib-pq-dev", "apt-get install --yes --no-install-recommends golang-github-lib-pq-dev"
-    stubs = {"dpkg-query": f'case "$*" in *{lacking}) ;; *) echo installed ;; esac', "apt-get": 'echo "apt-get $*"', "sudo": 'exec "$@"'}
+    log, there = folder / "log", folder / "there"
+    stubs = {
+        "dpkg-query": f'case "$*" in *{lacking}) [ ! -e {there} ] || echo installed ;; *) echo installed ;; esac',
+        "apt-get": f'echo "apt-get $*" >>{log}; [ "$DEBIAN_FRONTEND" = noninteractive ] || exit 9; case "$*" in *update) touch {folder}/lists ;; *) $FAILS && touch {there} ;; esac',
+        "sudo": f'echo "sudo $1" >>{log}; [ $1 = -n ] && $ASKS_NOTHING && shift && exec "$@"',
+        "id": "echo $USER_ID",
+    }
     for name, script in stubs.items():
         (folder / name).write_text(f"#!/bin/sh\n{script}\n")
         (folder / name).chmod(0o755)
-    for setup, status in (("", 1), ("yes", 0)):
-        environment = {**os.environ, "PATH": f"{folder}:{os.environ['PATH']}", "SETUP": setup}
-        ran = subprocess.run(needs, env=environment, capture_output=True, text=True)
-        told = ran.stderr.splitlines()
-        if ran.returncode != status or told[0] != f"make serve lacks Debian's {lacking}" or ran.stdout != (f"{line}\n" if setup else ""):
-            fail(f"needs.sh with SETUP={setup} ends with status {ran.returncode}: {ran.stdout}{ran.stderr}")
-        if not setup and f"{line}    installs these" not in told[1]:
-            fail(f"needs.sh offers {told}")
+    install = f"apt-get -o DPkg::Lock::Timeout=300 install --yes --no-install-recommends {lacking}"
+    update = "apt-get -o DPkg::Lock::Timeout=300 update"
+    lists, never, always = f"test -e {folder}/lists", "false", "true"
+    for what, user, setup, asks_nothing, fails, status, ran, says in (
+        ("SETUP=no", 0, "no", always, always, 1, [], f"{line}    installs these"),
+        ("root", 0, "", always, always, 0, [install], line),
+        ("root, where SETUP=yes", 0, "yes", always, always, 0, [install], line),
+        ("root without lists of packages", 0, "", always, lists, 0, [install, update, install], line),
+        ("root without a network", 0, "", always, never, 1, [install, update, install], f"make test: apt-get couldn't install {lacking}"),
+        ("a sudo that asks nothing", 7, "", always, always, 0, ["sudo -n", "sudo -n", install], f"sudo -n {line}"),
+        ("a sudo that asks", 7, "", never, always, 1, ["sudo -n"], f"sudo {line}    installs these; sudo asks"),
+    ):
+        for path in (log, there, folder / "lists"):
+            path.unlink(missing_ok=True)
+        environment = {**os.environ, "PATH": f"{folder}:{os.environ['PATH']}", "SETUP": setup, "USER_ID": str(user), "ASKS_NOTHING": asks_nothing, "FAILS": fails}
+        ended = subprocess.run(needs, env=environment, capture_output=True, text=True)
+        did = log.read_text().splitlines() if log.exists() else []
+        told = ended.stderr.splitlines()
+        if ended.returncode != status or did != ran or not told or told[0] != f"make test lacks Debian's {lacking}" or not any(said.startswith(says) for said in told):
+            fail(f"needs.sh, by {what}, ends with status {ended.returncode}, ran {did} and says {told}")
+    there.unlink(missing_ok=True)
+    for go, status, says in (("", 1, f"{line}    installs these"), ("no", 0, "GO=no")):
+        environment = {**os.environ, "PATH": f"{folder}:{os.environ['PATH']}", "SETUP": "no", "USER_ID": "0", "GO": go}
+        ended = subprocess.run([HERE.parent / "service" / "test.sh"], env=environment, capture_output=True, text=True)
+        if ended.returncode != status or says not in ended.stdout + ended.stderr:
+            fail(f"test.sh with GO={go} ends with status {ended.returncode}: {ended.stdout}{ended.stderr}")
+
+
+def try_count(folder):
+    """Go's tests are counted with their parts as one; a test within which the program ended failed; what failed is said."""
+    count = folder / "made" / "count"
+    for what, output, status, counted, says in (
+        ("TestGood", [("output", "TestGood/a", "part\n"), ("pass", "TestGood/a", None), ("pass", "TestGood", None), ("output", None, "ok a\n")], 0, "1 0\n", "ok a\n"),
+        ("TestBad", [("output", "TestBad", "why\n"), ("fail", "TestBad", None), ("pass", "TestGood", None), ("skip", "TestLeft", None)], 1, "1 1\n", "why\n"),
+        ("TestEnded", [("pass", "TestGood", None), ("output", "TestEnded", "panic\n")], 1, "1 1\n", "panic\n"),
+        ("no test", [("output", None, "?  a\n")], 1, "0 0\n", "?  a\n"),
+    ):
+        events = [json.dumps({"Action": action, "Package": "a", **({"Test": test} if test else {}), **({"Output": text} if text else {})}) for action, test, text in output]
+        environment = {**os.environ, "COUNT": str(count)}
+        ran = subprocess.run([HERE.parent / "service" / "count.py"], input="\n".join(["a line", *events]) + "\n", env=environment, capture_output=True, text=True)
+        if ran.returncode != status or count.read_text() != counted or not ran.stdout.startswith(f"a line\n{says}"):
+            fail(f"count.py of {what} ends with status {ran.returncode}, counts {count.read_text()} and says {ran.stdout}{ran.stderr}")
 
 
 def try_figures():
@@ -373,6 +414,7 @@ def main():
         released = try_release(pathlib.Path(folder))
     with tempfile.TemporaryDirectory() as folder:
         try_needs(pathlib.Path(folder))
+        try_count(pathlib.Path(folder))
     try_figures()
     quotations = try_quotations()
     try_waits()
