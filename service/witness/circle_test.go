@@ -226,8 +226,8 @@ func TestEnough(t *testing.T) {
 		t.Fatal(err)
 	}
 	close(release)
-	for c.standing(all[1].Name).Cosigned == 0 {
-		if limited(t).Err() != nil {
+	for until := limited(t); c.standing(all[1].Name).Cosigned == 0; {
+		if until.Err() != nil {
 			t.Fatal("the slow one isn't asked on")
 		}
 		time.Sleep(time.Millisecond)
