@@ -138,8 +138,12 @@ func (p place) openOnce(ctx context.Context) (config Config, err error) {
 	if config.Signer, err = p.guarded(ctx, signer.InHead); err != nil {
 		return config, err
 	}
-	config.Step, err = step.NewClient([]string{"python3", stepsFile, "--origin", origin}, 20*time.Second)
-	return config, err
+	steps, err := step.NewClient([]string{"python3", stepsFile, "--origin", origin}, 20*time.Second)
+	if err != nil {
+		return config, err
+	}
+	config.Step = steps
+	return config, nil
 }
 
 // The guard is the proved program where it is built, and else a second one with the same lines.
@@ -167,7 +171,11 @@ func guardedOver(ctx context.Context, key *signer.Key, state stores.Register, re
 	if _, err := os.Stat(guardBuilt); err != nil {
 		guard = []string{"python3", guardFile}
 	}
-	return signer.Behind(ctx, key, signer.Guard{Command: guard, State: state, Create: true, Receipts: receipts})
+	guarded, err := signer.Behind(ctx, key, signer.Guard{Command: guard, State: state, Create: true, Receipts: receipts})
+	if err != nil {
+		return nil, err
+	}
+	return guarded, nil
 }
 
 // latestHead is the file of this machine's own. (Nodes of one place have it together.)
