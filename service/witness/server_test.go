@@ -576,7 +576,7 @@ func isStartedAnew(t *testing.T, does string) {
 	first := request(0, nil, by.sign(checkpoint(origin, 3, one.root(t, 3))))
 	marks := filepath.Join(folder, "mark")
 	program := []string{"sh", "-c", "if mkdir " + marks + " 2>/dev/null; then read -r line; " + does + "; fi; exec " + strings.Join(decider(), " ")}
-	s, err := New(Options{Name: "w.example", Key: newKey(t), Program: program, Within: 200 * time.Millisecond})
+	s, err := New(Options{Name: "w.example", Key: newKey(t), Program: program, Within: 5 * time.Second})
 	must(t, err)
 	defer s.Close()
 	log := Log{Origin: origin, Keys: []note.Verifier{by.key}, State: stateIn(t, folder)}
