@@ -71,6 +71,14 @@ class Bare:
         subprocess.run(["mount", "-t", "proc", "proc", self.folder / "proc"], check=True)
 
     def close(self):
+        """Ends what still runs there."""
+        for path in pathlib.Path("/proc").glob("[0-9]*"):
+            try:
+                if os.readlink(path / "root") == str(self.folder):
+                    os.kill(int(path.name), signal.SIGKILL)
+            except OSError:
+                # (it has ended)
+                continue
         subprocess.run(["umount", self.folder / "proc"], stderr=subprocess.DEVNULL)
 
     def words(self, line):
@@ -146,6 +154,12 @@ def der(pem):
     return "".join(line for line in pem.splitlines() if "-----" not in line)
 
 
+def submitted(leaf, root):
+    """A submission's timestamp, without its signature: ECDSA's differ each time."""
+    answer = json.loads(get("/ct/v1/add-chain", json.dumps({"chain": [der(leaf), der(root)]}).encode()))
+    return {name: it for name, it in answer.items() if name != "signature"}
+
+
 def trial(bare):
     lines, served = commands(), None
     for line in lines:
@@ -170,13 +184,13 @@ def trial(bare):
         if time.monotonic() > last:
             fail("a reload doesn't bring the new root")
         time.sleep(0.1)
-    answer = json.loads(get("/ct/v1/add-chain", json.dumps({"chain": [der(leaf), der(root)]}).encode()))
+    answer = submitted(leaf, root)
     entries = json.loads(get("/ct/v1/get-entries?start=0&end=0"))["entries"]
     if base64.b64decode(der(leaf)) not in base64.b64decode(entries[0]["leaf_input"]):
         fail("the entry isn't what was submitted")
     end(served)
     served = bare.start(bare.unit(name))
-    if json.loads(get("/ct/v1/get-sth"))["tree_size"] != 1 or json.loads(get("/ct/v1/add-chain", json.dumps({"chain": [der(leaf), der(root)]}).encode())) != answer:
+    if json.loads(get("/ct/v1/get-sth"))["tree_size"] != 1 or submitted(leaf, root) != answer:
         fail("started again, the log answers otherwise")
     end(served)
     bare.run(f"ctserve key --show /etc/ctserve/{name}.key | sed -n '/BEGIN/,$p' >key.pem")
