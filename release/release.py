@@ -44,7 +44,7 @@ PACKAGES = {
     "ctmonitor": (
         "monitor and auditor of Certificate Transparency logs, proved",
         "ctmonitor judges what a log answers: heads, entries and proofs. ctmonitor-watch fetches it with curl,\nfrom logs of RFC 6962 and from tiled ones.",
-        "curl, util-linux",
+        "curl, python3",
         "openssl",
     ),
     "libwagtenib-dev": (
