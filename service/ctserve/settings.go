@@ -1,7 +1,6 @@
 package main
 
 import (
-	"bufio"
 	"errors"
 	"flag"
 	"fmt"
@@ -14,10 +13,14 @@ import (
 
 	"wagtenib/service/chains"
 	"wagtenib/service/sequencer"
+	"wagtenib/service/settingsfile"
 	"wagtenib/service/stores"
 	"wagtenib/service/web"
 	"wagtenib/service/witness"
 )
+
+// fileRules are those of the file of settings.
+var fileRules = settingsfile.Rules{Only: []string{"config"}}
 
 // settings are what the command line and the file of settings say.
 type settings struct {
@@ -156,7 +159,7 @@ func parse(words []string, help io.Writer) (*settings, error) {
 		return nil, fmt.Errorf("%w: %q isn't expected", errUsage, flags.Arg(0))
 	}
 	if *config != "" {
-		if err := readSettings(flags, *config); err != nil {
+		if err := fileRules.Read(flags, *config); err != nil {
 			return nil, fmt.Errorf("%w: %v", errUsage, err)
 		}
 	}
@@ -164,39 +167,6 @@ func parse(words []string, help io.Writer) (*settings, error) {
 		return nil, fmt.Errorf("%w: %v", errUsage, err)
 	}
 	return s, nil
-}
-
-// readSettings sets from a file what the command line doesn't.
-func readSettings(flags *flag.FlagSet, path string) error {
-	file, err := os.Open(path)
-	if err != nil {
-		return err
-	}
-	defer file.Close()
-	given := map[string]bool{"config": true}
-	flags.Visit(func(f *flag.Flag) { given[f.Name] = true })
-	lines, seen := bufio.NewScanner(file), map[string]int{}
-	for number := 1; lines.Scan(); number++ {
-		line, _, _ := strings.Cut(lines.Text(), "#")
-		name, value, _ := strings.Cut(strings.TrimSpace(line), " ")
-		value = strings.TrimSpace(value)
-		switch {
-		case name == "":
-			continue
-		case flags.Lookup(name) == nil || name == "config":
-			return fmt.Errorf("%s, line %d: there is no setting %q", path, number, name)
-		case seen[name] > 0:
-			return fmt.Errorf("%s, line %d: %s stands in line %d already", path, number, name, seen[name])
-		}
-		seen[name] = number
-		if given[name] {
-			continue
-		}
-		if err := flags.Set(name, value); err != nil {
-			return fmt.Errorf("%s, line %d: %s: %v", path, number, name, err)
-		}
-	}
-	return lines.Err()
 }
 
 // settle looks at what has to go together, and fills in what follows from the rest.

@@ -1,7 +1,6 @@
 package main
 
 import (
-	"bufio"
 	"crypto/ed25519"
 	"errors"
 	"flag"
@@ -14,8 +13,12 @@ import (
 
 	"golang.org/x/mod/sumdb/note"
 
+	"wagtenib/service/settingsfile"
 	"wagtenib/service/witness"
 )
+
+// fileRules are those of the file of settings.
+var fileRules = settingsfile.Rules{Only: []string{"config", "create", "verifier-key"}, Several: []string{"log"}}
 
 // settings are what the command line and the file of settings say.
 type settings struct {
@@ -81,7 +84,7 @@ func parse(words []string, help io.Writer) (*settings, error) {
 		return nil, fmt.Errorf("%w: %q isn't expected", errUsage, flags.Arg(0))
 	}
 	if *config != "" {
-		if err := readSettings(flags, *config); err != nil {
+		if err := fileRules.Read(flags, *config); err != nil {
 			return nil, fmt.Errorf("%w: %v", errUsage, err)
 		}
 	}
@@ -89,38 +92,6 @@ func parse(words []string, help io.Writer) (*settings, error) {
 		return nil, fmt.Errorf("%w: %v", errUsage, err)
 	}
 	return s, nil
-}
-
-// readSettings sets from a file what the command line doesn't, and adds its logs.
-func readSettings(flags *flag.FlagSet, path string) error {
-	file, err := os.Open(path)
-	if err != nil {
-		return err
-	}
-	defer file.Close()
-	given := map[string]bool{}
-	flags.Visit(func(f *flag.Flag) { given[f.Name] = true })
-	lines, seen := bufio.NewScanner(file), map[string]int{}
-	for number := 1; lines.Scan(); number++ {
-		line, _, _ := strings.Cut(lines.Text(), "#")
-		name, value, _ := strings.Cut(strings.TrimSpace(line), " ")
-		switch {
-		case name == "":
-			continue
-		case flags.Lookup(name) == nil || name == "config" || name == "create" || name == "verifier-key":
-			return fmt.Errorf("%s, line %d: there is no setting %q", path, number, name)
-		case seen[name] > 0 && name != "log":
-			return fmt.Errorf("%s, line %d: %s stands in line %d already", path, number, name, seen[name])
-		}
-		seen[name] = number
-		if given[name] && name != "log" {
-			continue
-		}
-		if err := flags.Set(name, strings.TrimSpace(value)); err != nil {
-			return fmt.Errorf("%s, line %d: %s: %v", path, number, name, err)
-		}
-	}
-	return lines.Err()
 }
 
 // settle looks at what is needed.

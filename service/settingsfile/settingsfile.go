@@ -1,0 +1,61 @@
+// Package settingsfile reads a program's file of settings: what its command line takes, a line each.
+package settingsfile
+
+import (
+	"bufio"
+	"flag"
+	"fmt"
+	"os"
+	"strings"
+)
+
+// Rules are those of one program's file, by the names of its flags.
+type Rules struct {
+	// Only are those that the command line alone may have.
+	Only []string
+	// Several are those that may stand in several lines, and beside the command line's.
+	Several []string
+}
+
+// Read sets from a file, with a line 'name value' a flag and comments behind #, what the command line didn't. What a line sets, its flag
+// looks at.
+func (r Rules) Read(flags *flag.FlagSet, path string) error {
+	file, err := os.Open(path)
+	if err != nil {
+		return err
+	}
+	defer file.Close()
+	given := map[string]bool{}
+	flags.Visit(func(of *flag.Flag) { given[of.Name] = true })
+	lines, seen := bufio.NewScanner(file), map[string]int{}
+	for number := 1; lines.Scan(); number++ {
+		line, _, _ := strings.Cut(lines.Text(), "#")
+		name, value, _ := strings.Cut(strings.TrimSpace(line), " ")
+		several := has(r.Several, name)
+		switch {
+		case name == "":
+			continue
+		case flags.Lookup(name) == nil || has(r.Only, name):
+			return fmt.Errorf("%s, line %d: there is no setting %q", path, number, name)
+		case seen[name] > 0 && !several:
+			return fmt.Errorf("%s, line %d: %s stands in line %d already", path, number, name, seen[name])
+		}
+		seen[name] = number
+		if given[name] && !several {
+			continue
+		}
+		if err := flags.Set(name, strings.TrimSpace(value)); err != nil {
+			return fmt.Errorf("%s, line %d: %s: %v", path, number, name, err)
+		}
+	}
+	return lines.Err()
+}
+
+func has(names []string, name string) bool {
+	for _, each := range names {
+		if each == name {
+			return true
+		}
+	}
+	return false
+}
