@@ -81,7 +81,7 @@ TOLD = {
     "ct_tasks/src/reading.rt": {"Read": (1, "behind the last turn over the lines")},
     "ct_script/src/script.rt": {"Write": (2, "a reply of the closed log couldn't be written whole, or the output handed on")},
     "ct_script/src/threads.rt": {"Threads": (1, "a front's thread didn't start")},
-    "ct_tiled_entries/src/entries.rt": {"Unwritten": (1, "of a leaf's bytes that weren't made, a conversion of its own")},
+    "ct_data_tiles/src/entries.rt": {"Unwritten": (1, "of a leaf's bytes that weren't made, a conversion of its own")},
     "ct_node_lines/src/program.rt": {"Read": (1, "behind the last turn over the lines")},
     "ct_reader_lines/src/program.rt": {"Read": (1, "behind the last turn over the lines")},
     "ct_step_lines/src/program.rt": {"Read": (1, "behind the last turn over the lines")},

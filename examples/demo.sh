@@ -200,7 +200,7 @@ END
 
 show_followed() {
   echo "== growth_lines | ctmonitor: that log's heads as checkpoints and its leaves as data tiles, and what is false of them =="
-  proved crates/ct_tiled_entries/src/entries.rt "what is told of a data tile is so by its name and bytes: that entries before it are missing, that nothing in it is new, why it is none, or its entries from the next one on, and the first of them that names another index" <<'END'
+  proved crates/ct_data_tiles/src/entries.rt "what is told of a data tile is so by its name and bytes: that entries before it are missing, that nothing in it is new, why it is none, or its entries from the next one on, and the first of them that names another index" <<'END'
 ensures { IfOk result (λ a. IsTileAnswer next name.now bytes.now a) }
 END
   crates/growth_lines/out/growth_lines >"$work/growth" || fail "growth_lines ended with status $?"

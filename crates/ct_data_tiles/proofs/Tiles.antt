@@ -1,118 +1,164 @@
--- One entry more.
-use Rattle.std.proofs.Common.{◌≡◌, ◌∙◌, ℕ, zero, suc, ◌+◌, ◌-◌, ◌*◌, ◌/◌, ◌%◌, ◌<◌, ◌≤◌, List, [], ◌∷◌, ◌++◌, length, take, drop, map, get_or, sym, refl, ap, arith, Vec, Global, add-one, length-drop, append_assoc}
-use Rattle.std.proofs.lemmas.List.{take_all, take-append-le, drop-append-le, append-nil, nil_from_length, length_push, map_push, take_more}
+-- Whole data tiles: leaves one behind the other, step by step along the bytes, and one fault for each input.
+use Rattle.std.proofs.Common.{◌≡◌, ◌<◌, ◌≤◌, ◌+◌, ℕ, zero, suc, List, [], ◌∷◌, ◌++◌, length, map, Result, Ok, Err, Vec, ◌⊎◌, inl, inr}
+use Rattle.std.proofs.Common.{refl, sym, ap, ◌∙◌, arith, length-append, append_assoc, append-nil}
+use Rattle.std.specs.Prelude.{IfOk, IfErr}
+use Rattle.std.specs.Result.{IsErrAnd}
+use Rattle.std.specs.List.{AllByRecursion}
+use Rattle.std.proofs.lemmas.Grind.{flat_map-append}
+use Rattle.std.proofs.lemmas.List.{map-append}
+use Rattle.ct_codec.specs.Bytes.{num, vec}
 use Rattle.ct_codec.specs.Parts.{joined}
-use Rattle.ct_data_tiles.specs.DataTiles.{data_tile, data_tiles_from, IsPartialTile}
+use Rattle.ct_codec.specs.Leaf.{SignedEntry, entry_text}
+use Rattle.ct_codec.proofs.Refusals.{length-num}
+use Rattle.ct_data_tiles.specs.TileLeaf.{Tiled, IsTileLeaf, BeginsWith, beside_text, tile_leaf_text}
+use Rattle.ct_data_tiles.specs.Faults.{TileLeafFaulty}
+use Rattle.ct_data_tiles.specs.DataTile.{tile_leaves_text, IsDataTile, tiled_all, DataTileFaulty, GivesTileLeaves}
+use Rattle.ct_data_tiles.specs.Laws.{AreOne, DataTilesStandApart, DataTilesHaveOneFault, DataTilesHaveNoFault}
+use Rattle.ct_data_tiles.specs.declared.leaf.TileLeaf.{TileLeaf}
+use Rattle.ct_data_tiles.specs.declared.fault.TileFault.{TileFault}
+use Rattle.ct_data_tiles.specs.declared.fault.DataTileFault.{DataTileFault}
+use Rattle.ct_data_tiles.specs.declared.fault.DataTileFault.TheVariants.{AtLeaf, Memory}
+use Rattle.ct_data_tiles.proofs.Apart.{tile_leaves_stand_apart}
+use Rattle.ct_data_tiles.proofs.Fields.{five_parts}
+use Rattle.ct_data_tiles.proofs.Verdict.{TileRead, tile_read, tile_leaf_verdict, tile_leaf_here}
 
--- the tiles of M from an index on: how many entries the last one has (count), those before it (full) and its bytes (last), and that it isn't
--- before that index (later)
-pub record AreTiles (first : ℕ) (M full : List (List ℕ)) (bytes : List ℕ) (n : ℕ) : Type 0 where
-  pub count : n ≡ length M % 256
-  pub full_ones : full ≡ data_tiles_from first (length M / 256 - first) M
-  pub last : bytes ≡ data_tile (length M / 256) M
-  pub later : first ≤ length M / 256
+-- the bytes are these leaves and the rest
+pub record PassedLeaves (L : List Tiled) (b r : List ℕ) : Type 0 where
+  pub each : AllByRecursion IsTileLeaf L
+  pub text : b ≡ tile_leaves_text L ++ r
 
-tiles-none : (first : ℕ) (L : List (List ℕ)) → data_tiles_from first 0 L ≡ []
-unfolding data_tiles_from
-tiles-none first L = refl
+one_after : (L : List Tiled) (l : Tiled) → AllByRecursion IsTileLeaf L → IsTileLeaf l → AllByRecursion IsTileLeaf (L ++ l ∷ [])
+one_after [] l all one = (one, tt)
+one_after (m ∷ L) l all one = (all.0, one_after L l all.1 one)
 
-tiles-more : (first count : ℕ) (L : List (List ℕ)) → data_tiles_from first (count + 1) L ≡ data_tiles_from first count L ++ data_tile (first + count) L ∷ []
-unfolding data_tiles_from
-tiles-more first count L = rw add-one refl
+texts_after : (L : List Tiled) (l : Tiled) → tile_leaves_text (L ++ l ∷ []) ≡ tile_leaves_text L ++ tile_leaf_text l
+texts_after L l =
+    ap joined (map-append tile_leaf_text L (l ∷ [])) ∙ flat_map-append (λ (p : List ℕ). p) (map tile_leaf_text L) (tile_leaf_text l ∷ [])
+    ∙ ap (λ x. tile_leaves_text L ++ x) (append-nil (tile_leaf_text l))
 
--- a full tile stays
-tile-stays : (index : ℕ) (M X : List (List ℕ)) → 256 * index + 256 ≤ length M → data_tile index (M ++ X) ≡ data_tile index M
-tile-stays index M X h =
-    ap (λ (d : List (List ℕ)). joined (take 256 d)) (drop-append-le (256 * index) M X (omega (arith, h)))
-    ∙ ap joined (take-append-le 256 (drop (256 * index) M) X (omega (arith, h, length-drop (256 * index) M)))
+pub one_more_leaf : (L : List Tiled) (l : Tiled) (b r s : List ℕ) → PassedLeaves L b r → BeginsWith l r s → PassedLeaves (L ++ l ∷ []) b s
+one_more_leaf L l b r s w begins = record {
+  each = one_after L l w.each begins.leaf;
+  text = w.text ∙ ap (λ x. tile_leaves_text L ++ x) begins.text ∙ sym (append_assoc (tile_leaves_text L) (tile_leaf_text l) s)
+      ∙ ap (λ x. x ++ s) (sym (texts_after L l));
+}
 
-tiles-stay : (first count : ℕ) (M X : List (List ℕ)) → 256 * (first + count) ≤ length M → data_tiles_from first count (M ++ X) ≡ data_tiles_from first count M
-unfolding data_tiles_from
-tiles-stay first zero M X h = refl
-tiles-stay first (suc count) M X h =
-    ap (λ (r : List (List ℕ)). r ++ data_tile (first + count) (M ++ X) ∷ []) (tiles-stay first count M X (omega (arith, h)))
-    ∙ ap (λ (t : List ℕ). data_tiles_from first count M ++ t ∷ []) (tile-stays (first + count) M X (omega (arith, h)))
+-- a leaf's text has some bytes
+pub some_bytes : (l : Tiled) (b s : List ℕ) → b ≡ tile_leaf_text l ++ s → length s < length b
+some_bytes l b s e =
+    let E = entry_text l.entry in
+    let X = vec 2 l.extensions in
+    let P = beside_text l.entry l.precertificate in
+    let F = vec 2 l.fingerprints in
+    let size = ap length (e ∙ five_parts (num 8 l.timestamp) E X P F s) in
+    let whole = length-append (num 8 l.timestamp) (E ++ (X ++ (P ++ (F ++ s)))) in
+    let entry = length-append E (X ++ (P ++ (F ++ s))) in
+    let extensions = length-append X (P ++ (F ++ s)) in
+    let beside = length-append P (F ++ s) in
+    let end = length-append F s in
+    let eight = length-num 8 l.timestamp in
+    omega (arith, size, whole, entry, extensions, beside, end, eight)
 
-joined-push : (E : List (List ℕ)) (x : List ℕ) → joined (E ++ x ∷ []) ≡ joined E ++ x
-joined-push [] x = append-nil x
-joined-push (y ∷ E) x = ap (λ (r : List ℕ). y ++ r) (joined-push E x) ∙ sym (append_assoc y (joined E) x)
+-- ---- one list of leaves for each input
+abbrev made : ℕ → SignedEntry → List ℕ → List ℕ → List ℕ → Tiled
+made t e x p f = record { timestamp = t; entry = e; extensions = x; precertificate = p; fingerprints = f }
 
--- the last tile has all that is behind the full ones
-last-tile : (q : ℕ) (M : List (List ℕ)) → length M ≤ 256 * q + 256 → data_tile q M ≡ joined (drop (256 * q) M)
-last-tile q M h = ap joined (take_all 256 (drop (256 * q) M) (omega (arith, h, length-drop (256 * q) M)))
+one_leaf : (l m : Tiled) → AreOne l m → l ≡ m
+one_leaf l m same =
+    ap (λ t. made t l.entry l.extensions l.precertificate l.fingerprints) same.timestamp
+    ∙ ap (λ e. made m.timestamp e l.extensions l.precertificate l.fingerprints) same.entry
+    ∙ ap (λ x. made m.timestamp m.entry x l.precertificate l.fingerprints) same.extensions
+    ∙ ap (λ p. made m.timestamp m.entry m.extensions p l.fingerprints) same.precertificate
+    ∙ ap (λ f. made m.timestamp m.entry m.extensions m.precertificate f) same.fingerprints
 
-last-more : (q : ℕ) (M : List (List ℕ)) (x : List ℕ) → 256 * q ≤ length M → length M < 256 * q + 256 → data_tile q (M ++ x ∷ []) ≡ data_tile q M ++ x
-last-more q M x low high =
-    last-tile q (M ++ x ∷ []) (omega (arith, high, length_push M x))
-    ∙ ap joined (drop-append-le (256 * q) M (x ∷ []) low)
-    ∙ joined-push (drop (256 * q) M) x
-    ∙ ap (λ (r : List ℕ). r ++ x) (sym (last-tile q M (omega (arith, high))))
+texts_apart : (L M : List Tiled) → AllByRecursion IsTileLeaf L → AllByRecursion IsTileLeaf M → tile_leaves_text L ≡ tile_leaves_text M → L ≡ M
+texts_apart [] [] p q e = refl
+texts_apart [] (m ∷ M) p q e =
+    let some = some_bytes m (tile_leaves_text (m ∷ M)) (tile_leaves_text M) refl in
+    let none = ap length e in
+    absurd (omega (arith, some, none))
+texts_apart (l ∷ L) [] p q e =
+    let some = some_bytes l (tile_leaves_text (l ∷ L)) (tile_leaves_text L) refl in
+    let none = ap length e in
+    absurd (omega (arith, some, none))
+texts_apart (l ∷ L) (m ∷ M) p q e =
+    let parts = tile_leaves_stand_apart l m (tile_leaves_text L) (tile_leaves_text M) p.0 q.0 e in
+    ap (λ x. x ∷ L) (one_leaf l m parts.0) ∙ ap (λ X. m ∷ X) (texts_apart L M p.1 q.1 parts.1)
 
-pub below : (n : ℕ) → (n + 1 ≡ 256 → ⊥) → n < 256 → n + 1 < 256
-below n other h = grind (arith)
+pub data_tiles_stand_apart : DataTilesStandApart
+data_tiles_stand_apart L M b p q = texts_apart L M p.leaves q.leaves (sym p.text ∙ q.text)
 
-pub more_open : (first : ℕ) (M full : List (List ℕ)) (bytes x : List ℕ) (n : ℕ) → (n + 1 ≡ 256 → ⊥) → AreTiles first M full bytes n
-    → AreTiles first (M ++ x ∷ []) full (bytes ++ x) (n + 1)
-more_open first M full bytes x n other t =
-    let q = length M / 256 in
-    let size : length (M ++ x ∷ []) ≡ length M + 1 = length_push M x in
-    let small : n + 1 < 256 = below n other (omega (arith, t.count)) in
-    let same : length (M ++ x ∷ []) / 256 ≡ q = omega (arith, size, small, t.count) in
-    record {
-      count = omega (arith, size, small, t.count);
-      full_ones = t.full_ones ∙ sym (tiles-stay first (q - first) M (x ∷ []) (omega (arith, t.later)))
-          ∙ ap (λ (k : ℕ). data_tiles_from first (k - first) (M ++ x ∷ [])) (sym same);
-      last = ap (λ (r : List ℕ). r ++ x) t.last ∙ sym (last-more q M x (omega arith) (omega arith))
-          ∙ ap (λ (k : ℕ). data_tile k (M ++ x ∷ [])) (sym same);
-      later = omega (arith, same, t.later);
-    }
+-- ---- one fault for each input
+-- what follows a leaf, or the fault with its index
+abbrev then_leaf : TileRead → ℕ → (List ℕ → DataTileFault) → DataTileFault
+then_leaf (Ok r) i k = k r
+then_leaf (Err f) i k = AtLeaf i f
 
-pub more_full : (first : ℕ) (M full : List (List ℕ)) (bytes x : List ℕ) (n : ℕ) → n + 1 ≡ 256 → AreTiles first M full bytes n
-    → AreTiles first (M ++ x ∷ []) (full ++ (bytes ++ x) ∷ []) [] 0
-more_full first M full bytes x n all t =
-    let q = length M / 256 in
-    let size : length (M ++ x ∷ []) ≡ length M + 1 = length_push M x in
-    let next : length (M ++ x ∷ []) / 256 ≡ q + 1 = omega (arith, size, all, t.count) in
-    let end : length (M ++ x ∷ []) ≡ 256 * (q + 1) = omega (arith, size, all, t.count) in
-    let counted : q + 1 - first ≡ (q - first) + 1 = omega (arith, t.later) in
-    let here : first + (q - first) ≡ q = omega (arith, t.later) in
-    record {
-      count = omega (arith, end);
-      full_ones = ap (λ (f : List (List ℕ)). f ++ (bytes ++ x) ∷ []) (t.full_ones ∙ sym (tiles-stay first (q - first) M (x ∷ []) (omega (arith, t.later))))
-          ∙ ap (λ (r : List ℕ). data_tiles_from first (q - first) (M ++ x ∷ []) ++ r ∷ [])
-          (ap (λ (r : List ℕ). r ++ x) t.last ∙ sym (last-more q M x (omega arith) (omega arith)) ∙ ap (λ (k : ℕ). data_tile k (M ++ x ∷ [])) (sym here))
-          ∙ sym (tiles-more first (q - first) (M ++ x ∷ []))
-          ∙ ap (λ (k : ℕ). data_tiles_from first k (M ++ x ∷ [])) (sym counted)
-          ∙ ap (λ (k : ℕ). data_tiles_from first (k - first) (M ++ x ∷ [])) (sym next);
-      last = sym (ap (λ (k : ℕ). data_tile k (M ++ x ∷ [])) next
-          ∙ last-tile (q + 1) (M ++ x ∷ []) (omega (arith, end))
-          ∙ ap joined (nil_from_length (drop (256 * (q + 1)) (M ++ x ∷ [])) (omega (arith, end, length-drop (256 * (q + 1)) (M ++ x ∷ [])))));
-      later = omega (arith, next, t.later);
-    }
+-- the fault of at most n leaves one after the other, the first with index i, to the end of the bytes, and Memory where they have none
+abbrev leaves_read : ℕ → ℕ → List ℕ → DataTileFault
+leaves_read n i [] = Memory
+leaves_read zero i (x ∷ y) = Memory
+leaves_read (suc n) i (x ∷ y) = then_leaf (tile_read (x ∷ y)) i (leaves_read n (i + 1))
 
-pub at_first : (L : List (List ℕ)) (size : ℕ) (bytes : List ℕ) (full : List (List ℕ)) → IsPartialTile L size bytes → full ≡ []
-    → AreTiles (length L / 256) (L ++ []) full bytes (size % 256)
-at_first L size bytes full p e =
-    let same : L ++ [] ≡ L = append-nil L in
-    let none : length (L ++ []) / 256 - length L / 256 ≡ 0 = omega (arith, ap length same) in
-    record {
-      count = ap (λ (n : ℕ). n % 256) (p.0 ∙ sym (ap length same));
-      full_ones = e ∙ sym (ap (λ (k : ℕ). data_tiles_from (length L / 256) k (L ++ [])) none ∙ tiles-none (length L / 256) (L ++ []));
-      last = p.1 ∙ ap (λ (M : List (List ℕ)). data_tile (length M / 256) M) (sym same);
-      later = omega (arith, ap length same);
-    }
+next_leaf : (n i : ℕ) (y : List ℕ) → 0 < length y → leaves_read (suc n) i y ≡ then_leaf (tile_read y) i (leaves_read n (i + 1))
+next_leaf n i [] h = absurd (omega arith)
+next_leaf n i (x ∷ y) h = refl
 
-abbrev pub text_in : Vec ℕ Global → List ℕ
-text_in t = t.items
+-- the leaves are read, and the rest is read with room enough
+passed_leaves : (L : List Tiled) (n i : ℕ) (y s : List ℕ) → AllByRecursion IsTileLeaf L → y ≡ tile_leaves_text L ++ s → length y ≤ n
+    → (m : ℕ) × (length s ≤ m) × (leaves_read n i y ≡ leaves_read m (i + length L) s)
+passed_leaves [] n i y s all e h =
+    let z : i ≡ i + 0 = omega arith in
+    (n, rw (← e) h, ap (leaves_read n i) e ∙ ap (λ (k : ℕ). leaves_read n k s) z)
+passed_leaves (l ∷ L) zero i y s all e h =
+    let whole : y ≡ tile_leaf_text l ++ (tile_leaves_text L ++ s) = e ∙ append_assoc (tile_leaf_text l) (tile_leaves_text L) s in
+    let some = some_bytes l y (tile_leaves_text L ++ s) whole in
+    absurd (omega (arith, some))
+passed_leaves (l ∷ L) (suc n) i y s all e h =
+    let whole : y ≡ tile_leaf_text l ++ (tile_leaves_text L ++ s) = e ∙ append_assoc (tile_leaf_text l) (tile_leaves_text L) s in
+    let some = some_bytes l y (tile_leaves_text L ++ s) whole in
+    let rest = passed_leaves L n (i + 1) (tile_leaves_text L ++ s) s all.1 refl (omega (arith, some)) in
+    let z : i + 1 + length L ≡ i + suc (length L) = omega arith in
+    let step = next_leaf n i y (omega (arith, some))
+    ∙ ap (λ x. then_leaf x i (leaves_read n (i + 1))) (tile_leaf_here l (tile_leaves_text L ++ s) y all.0 whole) in
+    (rest.0, rest.1, step ∙ rest.2 ∙ ap (λ (k : ℕ). leaves_read rest.0 k s) z)
 
--- the texts that were taken in, with one more
-pub texts-more : (L : List (List ℕ)) (i : ℕ) (E : List (Vec ℕ Global)) (t : Vec ℕ Global) → i < length E → t ≡ get_or E i t
-    → L ++ map text_in (take (i + 1) E) ≡ (L ++ map text_in (take i E)) ++ t.items ∷ []
-texts-more L i E t h is =
-    let more : take (i + 1) E ≡ take i E ++ t ∷ [] = take_more E i t h ∙ ap (λ (x : Vec ℕ Global). take i E ++ x ∷ []) (sym is) in
-    ap (λ (x : List (List ℕ)). L ++ x) (ap (map text_in) more ∙ map_push text_in (take i E) t)
-    ∙ sym (append_assoc L (map text_in (take i E)) (t.items ∷ []))
+faulty_leaf : (f : TileFault) (n i : ℕ) (s : List ℕ) → 0 < length s → length s ≤ n → TileLeafFaulty f s → leaves_read n i s ≡ AtLeaf i f
+faulty_leaf f zero i s some h v = absurd (omega arith)
+faulty_leaf f (suc n) i s some h v = next_leaf n i s some ∙ ap (λ x. then_leaf x i (leaves_read n (i + 1))) (tile_leaf_verdict f s v)
 
-pub moved : (first : ℕ) (M M' full full' : List (List ℕ)) (bytes bytes' : List ℕ) (n n' : ℕ) → M' ≡ M → full' ≡ full → bytes' ≡ bytes → n' ≡ n
-    → AreTiles first M full bytes n → AreTiles first M' full' bytes' n'
-moved first M M' full full' bytes bytes' n n' a b c d t = rw (a, b, c, d) t
+none_left : (m i : ℕ) → leaves_read m i [] ≡ Memory
+none_left zero i = refl
+none_left (suc m) i = refl
+
+tile_text_read : (L : List Tiled) (b : List ℕ) → IsDataTile L b → leaves_read (length b) 0 b ≡ Memory
+tile_text_read L b p =
+    let passed = passed_leaves L (length b) 0 b [] p.leaves (p.text ∙ sym (append-nil (tile_leaves_text L))) (omega arith) in
+    passed.2 ∙ none_left passed.0 (0 + length L)
+
+-- each fault of a data tile is the one that reading finds
+data_tile_verdict : (f : DataTileFault) (b : List ℕ) → DataTileFaulty f b → leaves_read (length b) 0 b ≡ f
+data_tile_verdict (AtLeaf i f) b v =
+    let passed = passed_leaves v.0 (length b) 0 b v.1 v.2 v.5 (omega arith) in
+    let z : 0 + length v.0 ≡ i = omega (arith, v.3) in
+    passed.2 ∙ faulty_leaf f passed.0 (0 + length v.0) v.1 v.4 passed.1 v.6 ∙ ap (λ (k : ℕ). AtLeaf k f) z
+data_tile_verdict Memory b v = tile_text_read v.0 b v.1
+
+pub data_tiles_have_one_fault : DataTilesHaveOneFault
+data_tiles_have_one_fault f g b v w = sym (data_tile_verdict f b v) ∙ data_tile_verdict g b w
+
+pub data_tiles_have_no_fault : DataTilesHaveNoFault
+data_tiles_have_no_fault L b f p v = sym (data_tile_verdict f b v) ∙ tile_text_read L b p
+
+-- ---- the answers
+pub gathered : {A : Type 0} (L : List Tiled) (b : List ℕ) (r : Result (Vec TileLeaf A) DataTileFault) → IsDataTile L b
+    → IfOk r (λ v. IsDataTile (tiled_all v.items) b) → IfErr r (λ f. (f ≡ Memory) ⊎ DataTileFaulty f b) → GivesTileLeaves L r
+gathered L b (Ok v) p ok bad = (data_tiles_stand_apart (tiled_all v.items) L b ok p, tt)
+gathered L b (Err f) p ok (inl e) = (tt, e)
+gathered L b (Err f) p ok (inr v) = (tt, data_tiles_have_no_fault L b f p v)
+
+-- the same at the exit of a `?`
+pub tile_left : {A : Type 0} (r : Result (Vec TileLeaf A) DataTileFault) (f : DataTileFault) (L : List Tiled) (b : List ℕ) → IsDataTile L b
+    → IsErrAnd r (λ g. g ≡ f) → DataTileFaulty f b → GivesTileLeaves L r
+tile_left (Ok v) f L b p met faulty = absurd met
+tile_left (Err g) f L b p met faulty = (tt, met ∙ data_tiles_have_no_fault L b f p faulty)

@@ -1,7 +1,7 @@
 //! The data tiles that more entries write.
 
 ghost use Rattle.std.specs.Prelude.{◌≡◌, ℕ, List, map, IfOk};
-ghost use Rattle.ct_data_tiles.specs.DataTiles.{IsPartialTile, IsDataRow};
+ghost use Rattle.ct_data_tiles.specs.Rows.{IsPartialTile, IsDataRow};
 
 use std::alloc::{AllocError, Global};
 

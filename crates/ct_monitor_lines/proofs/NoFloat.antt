@@ -13,7 +13,7 @@ use Rattle.ct_monitor_lines.specs.VerdictText.{outcome_data}
 use Rattle.ct_monitor_lines.specs.declared.verdicts.Outcome.{Outcome}
 use Rattle.ct_monitor_lines.specs.declared.verdicts.Outcome.TheVariants.{Said, Known, BadLine, BadState, BadAnswer}
 use Rattle.ct_monitor_lines.specs.declared.refusal.AnswerRefusal.TheVariants.{NoCheckpoint, DamagedTile}
-use Rattle.ct_tiled_entries.specs.declared.answer.Damage.TheVariants.{NoDataTile, AtLeaf, OtherCount}
+use Rattle.ct_data_tiles.specs.declared.answer.Damage.TheVariants.{NoDataTile, AtLeaf, OtherCount}
 
 pub outcome_no_float : (s : WatcherState) (o : Outcome) → has_float (outcome_data s o) ≡ false
 outcome_no_float s (Said Accepted) = refl

@@ -2,9 +2,9 @@
 use Rattle.std.specs.Prelude.{◌≡◌, ℕ, List, map, Some, None}
 use Rattle.std.specs.declared.option.Option.{Option}
 use Rattle.ct_checkpoint.specs.Checkpoint.{IsCheckpoint}
-use Rattle.ct_tiled_entries.specs.TileAnswers.{IsTileAnswer}
-use Rattle.ct_tiled_entries.specs.declared.answer.DataTileAnswer.{DataTileAnswer}
-use Rattle.ct_tiled_entries.specs.declared.answer.DataTileAnswer.TheVariants.{Gap, Known, Damaged, Entries}
+use Rattle.ct_data_tiles.specs.TileAnswers.{IsTileAnswer}
+use Rattle.ct_data_tiles.specs.declared.answer.DataTileAnswer.{DataTileAnswer}
+use Rattle.ct_data_tiles.specs.declared.answer.DataTileAnswer.TheVariants.{Gap, Known, Damaged, Entries}
 use Rattle.ct_tree.specs.declared.head.Head.{Head}
 use Rattle.ct_monitor_lines.specs.Answers.{Answered, a_head, leaves_from, a_proof, a_checkpoint, a_tile, a_state, no_answer, head_with}
 use Rattle.ct_monitor_lines.specs.declared.refusal.AnswerRefusal.{AnswerRefusal}

@@ -14,10 +14,10 @@ use Rattle.ct_monitor_lines.specs.declared.verdicts.Outcome.TheVariants.{Said, K
 use Rattle.ct_monitor_lines.specs.declared.refusal.AnswerRefusal.{AnswerRefusal}
 use Rattle.ct_monitor_lines.specs.declared.refusal.AnswerRefusal.TheVariants.{NoCheckpoint, DamagedTile}
 use Rattle.ct_monitor_lines.specs.EntryText.{leaf_fault_name}
-use Rattle.ct_tile_leaves.specs.declared.fault.TileFault.{TileFault}
-use Rattle.ct_tile_leaves.specs.declared.fault.TileFault.TheVariants.{Field, PartialFingerprint}
-use Rattle.ct_tiled_entries.specs.declared.answer.Damage.{Damage}
-use Rattle.ct_tiled_entries.specs.declared.answer.Damage.TheVariants.{NoDataTile, AtLeaf, OtherCount}
+use Rattle.ct_data_tiles.specs.declared.fault.TileFault.{TileFault}
+use Rattle.ct_data_tiles.specs.declared.fault.TileFault.TheVariants.{Field, PartialFingerprint}
+use Rattle.ct_data_tiles.specs.declared.answer.Damage.{Damage}
+use Rattle.ct_data_tiles.specs.declared.answer.Damage.TheVariants.{NoDataTile, AtLeaf, OtherCount}
 
 -- the name of why a proof is refused
 abbrev pub proof_fault_name : ProofFault → List ℕ

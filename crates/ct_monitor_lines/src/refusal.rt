@@ -1,6 +1,6 @@
 //! Why a checkpoint or a data tile is refused.
 
-use ct_tiled_entries::Damage;
+use ct_data_tiles::Damage;
 
 /// Why a checkpoint or a data tile is refused.
 #[derive(Clone, Copy, Debug)]

@@ -5,13 +5,13 @@ ghost use Rattle.ct_checkpoint.specs.declared.fault.CheckpointFault.TheVariants.
 ghost use Rattle.ct_monitor_lines.specs.Answers.{answer_read};
 ghost use Rattle.ct_monitor_lines.specs.Seen.{seen_read, seen_refused, tile_seen, SeesAnswer, SeesCheckpoint};
 ghost use Rattle.ct_monitor_lines.specs.declared.refusal.AnswerRefusal.TheVariants.{NoCheckpoint};
-ghost use Rattle.ct_tiled_entries.specs.TileAnswers.{IsTileAnswer};
-ghost use Rattle.ct_tiled_entries.specs.declared.answer.DataTileAnswer.{DataTileAnswer as TileAnswer};
+ghost use Rattle.ct_data_tiles.specs.TileAnswers.{IsTileAnswer};
+ghost use Rattle.ct_data_tiles.specs.declared.answer.DataTileAnswer.{DataTileAnswer as TileAnswer};
 
 use crate::answer::Answer;
 use crate::refusal::AnswerRefusal;
 use ct_checkpoint::{CheckpointFault, read_checkpoint};
-use ct_tiled_entries::{DataTileAnswer, entries_of_tile};
+use ct_data_tiles::{DataTileAnswer, entries_of_tile};
 use ct_tree::Head;
 use std::alloc::{AllocError, Global};
 

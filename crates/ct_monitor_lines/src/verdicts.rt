@@ -8,10 +8,9 @@ ghost use Rattle.ct_monitor_lines.specs.VerdictText.{proof_fault_name, wanted_si
 use crate::entries::name_of as leaf_fault_of;
 use crate::refusal::AnswerRefusal;
 use crate::text::push_line;
+use ct_data_tiles::{Damage, TileFault};
 use ct_lines::bytes_value;
 use ct_monitor::{Verdict, Watcher};
-use ct_tile_leaves::TileFault;
-use ct_tiled_entries::Damage;
 use ct_tree::{Head, Sha256Hash};
 use ct_verify::ProofFault;
 use serde_json::{Value, json};

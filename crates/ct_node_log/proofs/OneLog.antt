@@ -6,7 +6,7 @@ use Rattle.std.proofs.Common.{map, refl, subst, ◌⊎◌, inl, inr, ⊎_elim, �
 use Rattle.std.specs.Prelude.{Ok, ⊤, Bool, true, false, if◌then◌else◌}
 use Rattle.std.proofs.lemmas.List.Elements.{recursion_from_All}
 use Rattle.std.specs.List.{AllByRecursion}
-use Rattle.ct_tile_leaves.specs.TileLeaf.{Tiled}
+use Rattle.ct_data_tiles.specs.TileLeaf.{Tiled}
 use Rattle.ct_state_line.specs.declared.line.StateLine.{StateLine}
 use Rattle.ct_verify.specs.Laws.{SomeCollide}
 use Rattle.ct_node.specs.declared.state.State.{State}

@@ -4,7 +4,7 @@ use Rattle.std.specs.Simd.{first_chunks}
 use Rattle.std.proofs.lemmas.List.{map_push, take_more, take-append-drop, take_at, drop_at, nil_from_length, length-append}
 use Rattle.std.proofs.lemmas.List.Elements.{All-nil, All-cons, All-head, All-tail}
 use Rattle.ct_codec.specs.Parts.{joined}
-use Rattle.ct_data_tiles.proofs.Tiles.{text_in}
+use Rattle.ct_data_tiles.proofs.Rows.{text_in}
 use Rattle.ct_growth.proofs.Widths.{hashes_in}
 use Rattle.ct_growth.proofs.Roots.{has_32}
 use Rattle.ct_growth.specs.Believed.{HaveWidths, edge_root, StopsBelief}

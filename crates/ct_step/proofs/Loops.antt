@@ -13,8 +13,8 @@ use Rattle.ct_tile_names.specs.Names.{name_text}
 use Rattle.ct_tile_names.specs.declared.tile.Tile.{Tile}
 use Rattle.ct_bundles.proofs.Names.{short_name}
 use Rattle.ct_tile_names.specs.declared.tile.Content.TheVariants.{Hashes, Entries}
-use Rattle.ct_data_tiles.specs.DataTiles.{data_tile, data_tiles_from}
-use Rattle.ct_data_tiles.proofs.Tiles.{text_in}
+use Rattle.ct_data_tiles.specs.Rows.{data_tile, data_tiles_from}
+use Rattle.ct_data_tiles.proofs.Rows.{text_in}
 use Rattle.ct_step.specs.Objects.{named, hash_object, entry_object, each_from, changed, level_objects, data_objects, cut_object, cut_level}
 use Rattle.ct_step.proofs.Written.{each-same, each-more}
 

@@ -6,9 +6,9 @@ use Rattle.std.proofs.lemmas.Slice.Eq.{bytes_eq-Decides}
 use Rattle.std.proofs.lemmas.List.{length-map, map-append}
 use Rattle.ct_codec.specs.Submitted.{Submitted, entry_of}
 use Rattle.ct_tree.specs.Tree.{hash_leaf}
-use Rattle.ct_data_tiles.specs.DataTiles.{data_tile, data_tiles_from, IsPartialTile, IsDataRow}
+use Rattle.ct_data_tiles.specs.Rows.{data_tile, data_tiles_from, IsPartialTile, IsDataRow}
 use Rattle.ct_data_tiles.specs.declared.row.DataRow.{DataRow}
-use Rattle.ct_data_tiles.proofs.Tiles.{text_in}
+use Rattle.ct_data_tiles.proofs.Rows.{text_in}
 use Rattle.ct_growth.specs.Believed.{BelievesState, IsHeadOver}
 use Rattle.ct_growth.specs.Growths.{IsState}
 use Rattle.ct_growth.specs.Leaves.{indexed_leaves}
@@ -17,7 +17,7 @@ use Rattle.ct_growth.specs.declared.growth.GrowthFault.TheVariants.{ClockBack, F
 use Rattle.ct_growth.proofs.EdgesTell.{believed_edges_tell, edges_are_believed, edge_32, leaves_32}
 use Rattle.ct_state_line.specs.declared.line.StateLine.{StateLine}
 use Rattle.ct_tiles.specs.Edge.{IsEdge}
-use Rattle.ct_tile_leaves.specs.TileLeaf.{Tiled, leaf_of, tile_leaf_text}
+use Rattle.ct_data_tiles.specs.TileLeaf.{Tiled, leaf_of, tile_leaf_text}
 use Rattle.ct_verify.specs.Laws.{AreHashes, SomeCollide}
 use Rattle.ct_step.specs.Entries.{tiled_at, tiled_leaves, texts_of, tree_leaves, hashes_of}
 use Rattle.ct_step.specs.Steps.{new_entries, last_tiles, line_head, tile_hashes, AreBytesOf, IsLog, IsNamed, IsEdgeOf, NamedEdgesTell, EdgesAreNamed, MayStep, StopsStep, StopsMade}

@@ -8,7 +8,7 @@ use Rattle.ct_bundles.specs.declared.rolling_out.ResumeFault.{ResumeFault}
 use Rattle.ct_bundles.proofs.Bundles.{bundles_are_resumed, bundles_tell}
 use Rattle.ct_codec.specs.Submitted.{Submitted}
 use Rattle.ct_state_line.specs.declared.line.StateLine.{StateLine}
-use Rattle.ct_tile_leaves.specs.TileLeaf.{Tiled}
+use Rattle.ct_data_tiles.specs.TileLeaf.{Tiled}
 use Rattle.ct_verify.specs.Laws.{SomeCollide}
 use Rattle.ct_step.specs.RollingOut.{IsRolledOut, StepsAreRolledOut}
 use Rattle.ct_step.specs.Steps.{new_entries, step_objects, IsTiledStep}

@@ -4,7 +4,7 @@ use Rattle.ct_codec.specs.Leaf.{index_extension}
 use Rattle.ct_codec.specs.Submitted.{Submitted, x509, precert, entry_of, first_of}
 use Rattle.ct_codec.specs.Parts.{joined}
 use Rattle.ct_tree.specs.Tree.{hash_leaf}
-use Rattle.ct_tile_leaves.specs.TileLeaf.{Tiled, tile_leaf_text, leaf_of}
+use Rattle.ct_data_tiles.specs.TileLeaf.{Tiled, tile_leaf_text, leaf_of}
 
 -- the precertificate that was submitted, or no bytes
 abbrev pub precertificate_of : Submitted → List ℕ

@@ -9,8 +9,8 @@ use Rattle.ct_codec.specs.declared.refusal.Refusal.TheVariants as refused
 use Rattle.ct_tree.specs.Tree.{mth_of_leaves}
 use Rattle.ct_tree.specs.declared.head.Head.{Head}
 use Rattle.ct_tiles.specs.Edge.{IsEdge}
-use Rattle.ct_data_tiles.specs.DataTiles.{data_tile, data_tiles_from, IsPartialTile}
-use Rattle.ct_tile_leaves.specs.TileLeaf.{Tiled}
+use Rattle.ct_data_tiles.specs.Rows.{data_tile, data_tiles_from, IsPartialTile}
+use Rattle.ct_data_tiles.specs.TileLeaf.{Tiled}
 use Rattle.ct_state_line.specs.Lines.{state_line_text}
 use Rattle.ct_state_line.specs.declared.line.StateLine.{StateLine}
 use Rattle.ct_growth.specs.Believed.{AreBelieved}

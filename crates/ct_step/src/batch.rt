@@ -5,11 +5,11 @@ ghost use Rattle.std.specs.Bool.{MatchBool};
 ghost use Rattle.std.specs.List.{zip};
 ghost use Rattle.ct_codec.specs.Submitted.{Submitted};
 ghost use Rattle.ct_codec.specs.declared.refusal.Refusal.TheVariants as Refusal;
-ghost use Rattle.ct_tile_leaves.specs.TileLeaf.{tile_leaf_text};
+ghost use Rattle.ct_data_tiles.specs.TileLeaf.{tile_leaf_text};
 ghost use Rattle.ct_step.specs.Entries.{tiled_at, tiled_leaves, texts_of, AreShort, IsBatchOf};
 
 use ct_codec::{Refusal, Submission, index_extension};
-use ct_tile_leaves::{push_tile_leaf, tile_leaf_of};
+use ct_data_tiles::{push_tile_leaf, tile_leaf_of};
 use std::alloc::Global;
 use std::marker::Model;
 

@@ -2,7 +2,7 @@
 
 ghost use Rattle.std.specs.Prelude.{◌≡◌, ◌⊎◌, ◌+◌, ◌-◌, ◌*◌, ◌/◌, ◌<◌, ◌≤◌, ◌^◌, ◌++◌, ◌∷◌, [], ℕ, List, length, map, All, OnOk, IfOk};
 ghost use Rattle.std.specs.Bool.{MatchBool};
-ghost use Rattle.ct_data_tiles.specs.DataTiles.{data_tile, data_tiles_from, IsDataRow};
+ghost use Rattle.ct_data_tiles.specs.Rows.{data_tile, data_tiles_from, IsDataRow};
 ghost use Rattle.ct_tile_names.specs.Names.{IsTile, name_text};
 ghost use Rattle.ct_tile_names.specs.declared.tile.Content.TheVariants.{Hashes, Entries};
 ghost use Rattle.ct_tiles.specs.Tiles.{rows};

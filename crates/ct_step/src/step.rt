@@ -3,13 +3,13 @@
 ghost use Rattle.std.specs.Prelude.{◌≡◌, ◌⊎◌, ◌+◌, ◌≤◌, ◌^◌, ℕ, List, length, map, All, ◌++◌, ◌∷◌, [], ◌%◌, IfOk, MatchOption, MatchResult};
 ghost use Rattle.std.specs.Bool.{MatchBool};
 ghost use Rattle.ct_codec.specs.declared.refusal.Refusal.TheVariants as Refusal;
-ghost use Rattle.ct_data_tiles.specs.DataTiles.{IsPartialTile, IsDataRow};
+ghost use Rattle.ct_data_tiles.specs.Rows.{IsPartialTile, IsDataRow};
 ghost use Rattle.ct_growth.specs.Growths.{IsState, MayGrow};
 ghost use Rattle.ct_growth.specs.Believed.{BelievesState};
 ghost use Rattle.ct_growth.specs.declared.growth.GrowthFault.TheVariants.{Refused};
-ghost use Rattle.ct_tile_leaves.specs.TileLeaf.{Tiled};
+ghost use Rattle.ct_data_tiles.specs.TileLeaf.{Tiled};
 ghost use Rattle.ct_tiles.specs.Tiles.{rows};
-ghost use Rattle.ct_data_tiles.specs.DataTiles.{IsDataRow};
+ghost use Rattle.ct_data_tiles.specs.Rows.{IsDataRow};
 ghost use Rattle.ct_bundles.specs.Bundle.{bundle_text};
 ghost use Rattle.ct_step.specs.Objects.{level_objects, data_objects, row_tiles, FitsInBundle};
 ghost use Rattle.ct_step.specs.Entries.{tree_leaves, texts_of};

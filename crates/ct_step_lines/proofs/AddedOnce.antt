@@ -11,7 +11,7 @@ use Rattle.ct_state_line.specs.declared.line.StateLine.{StateLine}
 use Rattle.ct_step.specs.Entries.{tiled_leaves, tree_leaves}
 use Rattle.ct_step.specs.Lines.{LineAttempt, AreLineAttempts, taken_lines}
 use Rattle.ct_step.specs.Steps.{new_entries, IsLog, IsTiledStep}
-use Rattle.ct_tile_leaves.specs.TileLeaf.{Tiled, leaf_of}
+use Rattle.ct_data_tiles.specs.TileLeaf.{Tiled, leaf_of}
 use Rattle.ct_verify.specs.Laws.{SomeCollide}
 use Rattle.ct_step_lines.specs.StepLaws.{LookedUpLine, line_attempts_of, taken_of_lines, StoresEach, held_behind, logged_identities, OneEntryAnIdentityByLines}
 use Rattle.ct_step_lines.specs.StepRepeats.{BatchEntry, is_known, with_identity, first_of_each, identities_of}

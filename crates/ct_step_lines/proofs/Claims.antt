@@ -18,7 +18,7 @@ use Rattle.ct_state_line.specs.declared.line.StateLine.{StateLine}
 use Rattle.ct_state_line.proofs.Lines.{state_lines_differ}
 use Rattle.ct_step.specs.Entries.{tree_leaves}
 use Rattle.ct_step.specs.Steps.{line_head, IsLog}
-use Rattle.ct_tile_leaves.specs.TileLeaf.{Tiled, leaf_of}
+use Rattle.ct_data_tiles.specs.TileLeaf.{Tiled, leaf_of}
 use Rattle.ct_tree.specs.Tree.{hash_leaf}
 use Rattle.ct_tree.specs.declared.head.Head.{Head}
 use Rattle.ct_verify.specs.Laws.{SomeCollide}

@@ -16,7 +16,7 @@ use Rattle.ct_state_line.proofs.Lines.{state_lines_differ}
 use Rattle.ct_step.specs.Entries.{tiled_leaves, tree_leaves}
 use Rattle.ct_step.specs.Steps.{IsLog, IsStepFrom}
 use Rattle.ct_step.specs.declared.step.Step.{Step}
-use Rattle.ct_tile_leaves.specs.TileLeaf.{Tiled}
+use Rattle.ct_data_tiles.specs.TileLeaf.{Tiled}
 use Rattle.ct_step_lines.specs.StepAnswers.{edge_of, IsStepReply}
 use Rattle.ct_step_lines.specs.StepLaws.{BatchesAreSplit, ReceiptsNameEntries, receipt_of_place}
 use Rattle.ct_step_lines.specs.StepRepeats.{BatchEntry, is_known, with_identity, first_of_each, places_of_all, identities_of}

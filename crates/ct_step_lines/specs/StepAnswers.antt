@@ -15,7 +15,7 @@ use Rattle.ct_step.specs.Steps.{line_head, IsEdgeOf, IsStepFrom, IsTiledStep, Ma
 use Rattle.ct_step.specs.declared.step.Step.{Step}
 use Rattle.ct_step.specs.declared.step.StepFault.{StepFault}
 use Rattle.ct_step.specs.declared.step.StepFault.TheVariants.{Edge, Entries, Growth, TooLong}
-use Rattle.ct_tile_leaves.specs.TileLeaf.{Tiled}
+use Rattle.ct_data_tiles.specs.TileLeaf.{Tiled}
 use Rattle.ct_step_lines.specs.StepAsks.{StepAsk, for_begin, for_needs, for_step, for_too_many, for_resume, for_claim, for_no_step}
 use Rattle.ct_step_lines.specs.StepRepeats.{first_of_each, places_of_all}
 use Rattle.ct_step_lines.specs.StepWords.{IsTileName, StepReply, begins, names_edge, steps, rolls_out, stands, refuses}

@@ -11,7 +11,7 @@ use Rattle.ct_step.specs.Entries.{tree_leaves}
 use Rattle.ct_step.specs.Lines.{LineAttempt, AreLineAttempts, IsMadeOfEdge}
 use Rattle.ct_step.specs.Steps.{new_entries, IsLog}
 use Rattle.ct_step.specs.declared.step.Step.{Step}
-use Rattle.ct_tile_leaves.specs.TileLeaf.{Tiled}
+use Rattle.ct_data_tiles.specs.TileLeaf.{Tiled}
 use Rattle.ct_verify.specs.Laws.{SomeCollide}
 use Rattle.ct_step_lines.specs.StepAsks.{for_step, for_claim}
 use Rattle.ct_step_lines.specs.StepAnswers.{edge_of, first_line, IsReplyTo}

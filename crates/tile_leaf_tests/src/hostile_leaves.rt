@@ -3,7 +3,7 @@ ghost use Rattle.std.specs.Prelude.{◌<◌};
 
 use crate::expected::{CHANGED, CUT, DATA_TILE};
 use ct_codec::{DecodeFault, LentEntry};
-use ct_tile_leaves::{DataTileFault, TileFault, TileLeaf, count_tile_leaves, tile_leaves};
+use ct_data_tiles::{DataTileFault, TileFault, TileLeaf, count_tile_leaves, tile_leaves};
 use ct_tree::{Sha256Hash, leaf_hash};
 use std::alloc::{AllocError, Global};
 

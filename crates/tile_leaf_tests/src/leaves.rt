@@ -1,5 +1,5 @@
 use ct_codec::{DecodeFault, Reader, Refusal, Submission, index_extension};
-use ct_tile_leaves::{
+use ct_data_tiles::{
     TileFault, leaf_index, leaf_input, push_tile_leaf, tile_leaf_at, tile_leaf_of,
 };
 use std::alloc::Global;

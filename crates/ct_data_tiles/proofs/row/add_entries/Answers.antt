@@ -1,6 +1,6 @@
 use Rattle.std.proofs.Common.{◌≡◌, ◌∙◌, ◌+◌, ◌/◌, ℕ, List, [], ◌∷◌, ◌++◌, length, map, take, arith, sym, refl, ap, Vec, Global}
 use Rattle.std.proofs.lemmas.List.{map_push, take_all}
-use Rattle.ct_data_tiles.proofs.Tiles.{at_first, more_open, more_full, moved, below, texts-more, text_in}
+use Rattle.ct_data_tiles.proofs.Rows.{at_first, more_open, more_full, moved, below, texts-more, text_in}
 use Rattle.ct_data_tiles.proofs.row.add_entries.Goals as goal
 use Rattle.ct_data_tiles.proofs.row.add_entries.Goals.{then-count-eq256+in_ok-push, else-count-eq256}
 

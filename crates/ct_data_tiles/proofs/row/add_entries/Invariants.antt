@@ -1,6 +1,6 @@
 use Rattle.std.proofs.Common.{◌/◌, ◌<◌, ◌++◌, ℕ, List, length, map, take}
-use Rattle.ct_data_tiles.specs.DataTiles.{IsPartialTile}
-use Rattle.ct_data_tiles.proofs.Tiles.{AreTiles, text_in}
+use Rattle.ct_data_tiles.specs.Rows.{IsPartialTile}
+use Rattle.ct_data_tiles.proofs.Rows.{AreTiles, text_in}
 use Rattle.ct_data_tiles.proofs.row.add_entries.Given as goal
 
 abbrev pub invariant-loop-text : goal.invariant-loop-text

@@ -1,5 +1,5 @@
 use Rattle.std.proofs.Common.{arith}
-use Rattle.ct_data_tiles.proofs.Tiles.{text_in}
+use Rattle.ct_data_tiles.proofs.Rows.{text_in}
 use Rattle.ct_step.specs.Objects.{FitsInBundle}
 use Rattle.ct_step.proofs.Loops.{mapped-at, mapped-more, mapped-all}
 use Rattle.ct_step.proofs.objects.are_short.Goals as goal

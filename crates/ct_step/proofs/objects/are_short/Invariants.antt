@@ -1,5 +1,5 @@
 use Rattle.std.proofs.Common.{map, take, All}
-use Rattle.ct_data_tiles.proofs.Tiles.{text_in}
+use Rattle.ct_data_tiles.proofs.Rows.{text_in}
 use Rattle.ct_step.specs.Objects.{FitsInBundle}
 use Rattle.ct_step.proofs.objects.are_short.Given as goal
 

@@ -1,5 +1,5 @@
 use Rattle.std.proofs.Common.{◌∙◌, ◌+◌, ◌++◌, ℕ, List, length, arith, refl, ap}
-use Rattle.ct_data_tiles.proofs.Tiles.{text_in}
+use Rattle.ct_data_tiles.proofs.Rows.{text_in}
 use Rattle.ct_step.specs.Objects.{entry_object, FitsInBundle}
 use Rattle.ct_bundles.specs.Bundle.{bundled_text}
 use Rattle.ct_step.proofs.Loops.{mapped-at, full-object, name_of}

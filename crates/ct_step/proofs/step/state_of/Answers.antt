@@ -1,5 +1,5 @@
 use Rattle.std.proofs.Common.{ℕ, List, map, sym, subst}
-use Rattle.ct_data_tiles.proofs.Tiles.{text_in}
+use Rattle.ct_data_tiles.proofs.Rows.{text_in}
 use Rattle.ct_growth.proofs.Widths.{hashes_in}
 use Rattle.ct_verify.proofs.Extending.{answered}
 use Rattle.ct_step.specs.Steps.{AreBytesOf, StopsState, of_edge}

@@ -1,7 +1,7 @@
 use Rattle.std.proofs.Common.{◌≡◌, Bool, subst, map}
 use Rattle.std.specs.Bool.{MatchBool}
 use Rattle.std.proofs.lemmas.Result.{MatchResult-weaker, IfOk-weaker}
-use Rattle.ct_data_tiles.proofs.Tiles.{text_in}
+use Rattle.ct_data_tiles.proofs.Rows.{text_in}
 use Rattle.ct_step.proofs.Made.{edge_state, may_step, stops_step}
 use Rattle.ct_step.proofs.step.take_step.Goals as goal
 

@@ -1,7 +1,7 @@
 use Rattle.std.proofs.Common.{◌≡◌, ◌∙◌, ◌%◌, ℕ, List, length, map, arith, ap, subst, Vec, Global}
 use Rattle.std.specs.Option.{MatchOption}
 use Rattle.std.specs.declared.option.Option.{Option}
-use Rattle.ct_data_tiles.proofs.Tiles.{text_in}
+use Rattle.ct_data_tiles.proofs.Rows.{text_in}
 use Rattle.ct_step.specs.Steps.{tile_hashes}
 use Rattle.ct_step.proofs.Handed.{IsWhole, not_whole, cut-step}
 use Rattle.ct_step.proofs.Loops.{mapped-at, mapped-more}

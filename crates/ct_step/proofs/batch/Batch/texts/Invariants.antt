@@ -1,5 +1,5 @@
 use Rattle.std.proofs.Common.{◌≡◌, map, take}
-use Rattle.ct_data_tiles.proofs.Tiles.{text_in}
+use Rattle.ct_data_tiles.proofs.Rows.{text_in}
 use Rattle.ct_step.specs.Entries.{tiled_leaves, texts_of}
 use Rattle.ct_step.proofs.batch.Batch.texts.Given as goal
 

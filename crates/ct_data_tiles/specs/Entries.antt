@@ -1,0 +1,36 @@
+-- The entries of a data tile, by their indexes in the log (C2SP static-ct-api, "Log Entries").
+use Rattle.std.specs.Prelude.{◌≡◌, ◌⊎◌, ◌<◌, ◌≤◌, ◌^◌, ◌+◌, ◌-◌, ◌*◌, ℕ, List, [], ◌∷◌, drop, Some, None}
+use Rattle.std.specs.declared.option.Option.{Option}
+use Rattle.ct_codec.specs.Leaf.{index_extension}
+use Rattle.ct_data_tiles.specs.TileLeaf.{Tiled}
+use Rattle.ct_tile_names.specs.Names.{IsTile, name_text}
+use Rattle.ct_tile_names.specs.declared.tile.Content.TheVariants.{Entries}
+use Rattle.ct_tile_names.specs.declared.tile.Tile.{Tile}
+
+-- the name is that of this data tile: a tile that has a name (named), that has entries (entries), and has this one (text)
+pub record IsDataTileName (name : List ℕ) (tile : Tile) : Type 0 where
+  pub named : IsTile tile
+  pub entries : tile.content ≡ Entries
+  pub text : name_text tile ≡ name
+
+-- the index in the log of a data tile's first entry: each tile before it has 256
+abbrev pub first_entry : Tile → ℕ
+first_entry tile = 256 * tile.index
+
+-- the entry at this index in the log is one of the tile's
+abbrev pub HasEntry : Tile → ℕ → Type 0
+HasEntry tile next = (first_entry tile ≤ next) × (next < first_entry tile + tile.width)
+
+-- of the leaves of a tile those from this index in the log on
+abbrev pub entries_from : ℕ → Tile → List Tiled → List Tiled
+entries_from next tile leaves = drop (next - first_entry tile) leaves
+
+-- the extensions of a leaf are its own index in the log and nothing else; an index is below 2^40 (leaf_index)
+abbrev pub NamesOwnIndex : ℕ → Tiled → Type 0
+NamesOwnIndex index leaf = (index < 2 ^ 40) × (leaf.extensions ≡ index_extension index)
+
+-- the first index, of leaves from this one on, whose leaf doesn't name its own index; none where each does
+abbrev pub IsFirstWrong : ℕ → List Tiled → Option ℕ → Type 0
+IsFirstWrong index [] wrong = wrong ≡ None
+IsFirstWrong index (leaf ∷ leaves) wrong =
+    (NamesOwnIndex index leaf × IsFirstWrong (index + 1) leaves wrong) ⊎ ((¬ NamesOwnIndex index leaf) × (wrong ≡ Some index))

@@ -1,0 +1,42 @@
+-- What a data tile is to who has read a log's entries up to an index.
+use Rattle.std.specs.Prelude.{◌≡◌, ◌<◌, ◌≤◌, ◌+◌, ℕ, List, map, length}
+use Rattle.ct_data_tiles.specs.TileLeaf.{Tiled, leaf_of}
+use Rattle.ct_data_tiles.specs.DataTile.{IsDataTile, DataTileFaulty}
+use Rattle.ct_data_tiles.specs.declared.fault.DataTileFault.{DataTileFault}
+use Rattle.ct_data_tiles.specs.declared.fault.DataTileFault.TheVariants as tile_fault
+use Rattle.ct_tile_names.specs.declared.tile.Tile.{Tile}
+use Rattle.ct_data_tiles.specs.Entries.{IsDataTileName, first_entry, HasEntry, entries_from, IsFirstWrong}
+use Rattle.ct_data_tiles.specs.declared.answer.DataTileAnswer.{DataTileAnswer}
+use Rattle.ct_data_tiles.specs.declared.answer.DataTileAnswer.TheVariants.{Gap, Known, Damaged, Entries}
+use Rattle.ct_data_tiles.specs.declared.answer.Damage.{Damage}
+use Rattle.ct_data_tiles.specs.declared.answer.Damage.TheVariants.{NoDataTile, AtLeaf, OtherCount}
+use Rattle.ct_data_tiles.specs.declared.answer.NextEntries.{NextEntries}
+
+-- The entries of the tile with these leaves from the index `next` on: the bytes of the tree's leaves (MerkleTreeLeaf, RFC 6962, section
+-- 3.4) in order (leaves), and the first index whose leaf doesn't name it (wrong_index).
+pub record AreNext (next : ℕ) (tile : Tile) (L : List Tiled) (e : NextEntries) : Type 0 where
+  pub leaves : map (λ l. l.items) e.leaves.items ≡ map leaf_of (entries_from next tile L)
+  pub wrong_index : IsFirstWrong next (entries_from next tile L) e.wrong_index
+
+-- the damage that a first fault of a tile's bytes is: the same at the same place; want of memory is none
+abbrev pub IsDamageOf : DataTileFault → Damage → Type 0
+IsDamageOf (tile_fault.AtLeaf place f) damage = damage ≡ AtLeaf place f
+IsDamageOf tile_fault.Memory damage = ⊥
+
+-- What is damaged. NoDataTile: the name is no data tile's. AtLeaf: the tile has the entry at `next`, and its bytes have this first fault, at
+-- the leaf of that place in it. OtherCount: it has that entry, and its bytes are so many leaves, and not as many as the name says.
+abbrev pub IsDamaged : ℕ → List ℕ → List ℕ → Damage → Type 0
+IsDamaged next name b NoDataTile = (tile : Tile) → IsDataTileName name tile → ⊥
+IsDamaged next name b (AtLeaf place f) = (tile : Tile) × IsDataTileName name tile × HasEntry tile next × DataTileFaulty (tile_fault.AtLeaf place f) b
+IsDamaged next name b (OtherCount count) =
+    (tile : Tile) × (L : List Tiled) × IsDataTileName name tile × HasEntry tile next × IsDataTile L b × (length L ≡ count) × (¬ (count ≡ tile.width))
+
+-- What the data tile of this name and these bytes is to who has read the entries before the index `next`. Gap: it begins behind that index.
+-- Known: it ends before it. These two are told by the name alone. Damaged: it is no data tile of that name. Entries: it is, and has the entry
+-- at `next`, and these are the entries from that one on.
+abbrev pub IsTileAnswer : ℕ → List ℕ → List ℕ → DataTileAnswer → Type 0
+IsTileAnswer next name b Gap = (tile : Tile) × IsDataTileName name tile × (next < first_entry tile)
+IsTileAnswer next name b Known = (tile : Tile) × IsDataTileName name tile × (first_entry tile + tile.width ≤ next)
+IsTileAnswer next name b (Damaged damage) = IsDamaged next name b damage
+IsTileAnswer next name b (Entries e) =
+    (tile : Tile) × (L : List Tiled) × IsDataTileName name tile × HasEntry tile next × IsDataTile L b × (length L ≡ tile.width) × AreNext next tile L e

@@ -1,0 +1,162 @@
+//! Entries read from a data tile.
+
+ghost use Rattle.std.specs.Prelude.{◌≡◌, ◌≤◌, ◌<◌, ◌+◌, ◌^◌, ℕ, List, All, length, map, IfOk, MatchOption};
+ghost use Rattle.std.specs.Bool.{MatchBool};
+ghost use Rattle.ct_data_tiles.specs.TileLeaf.{Tiled, IsTileLeaf, leaf_of};
+ghost use Rattle.ct_data_tiles.specs.Lent.{tiled};
+ghost use Rattle.ct_data_tiles.specs.DataTile.{tiled_all};
+ghost use Rattle.ct_data_tiles.specs.Entries.{IsDataTileName, first_entry, HasEntry, NamesOwnIndex, IsFirstWrong};
+ghost use Rattle.ct_data_tiles.specs.TileAnswers.{IsDamageOf, IsTileAnswer};
+ghost use Rattle.ct_tile_names.specs.declared.tile.Tile.{Tile as TileOf};
+
+use crate::answer::{Damage, DataTileAnswer, NextEntries};
+use crate::data_tile::tile_leaves;
+use crate::fault::DataTileFault;
+use crate::leaf::TileLeaf;
+use crate::wanting::{Unnamed, Unread, Unwritten};
+use crate::writing::leaf_input;
+use ct_codec::index_extension;
+use ct_tile_names::{Content, Tile};
+use std::alloc::{AllocError, Global};
+
+// Whether the extensions of a leaf are its own index and nothing else.
+fn names_own_index(index: u64, leaf: &TileLeaf<'_>) -> bool
+    ensures { MatchBool result (NamesOwnIndex index (tiled leaf.now)) (NamesOwnIndex index (tiled leaf.now) → ⊥) }
+{
+    if index >= 1 << 40 {
+        return false;
+    }
+    leaf.extensions == index_extension(index).as_slice()
+}
+
+// The first index, of leaves from this one on, whose leaf doesn't name it.
+fn first_wrong(first: u64, leaves: &[TileLeaf<'_>]) -> Option<u64>
+    requires { first + length leaves.now ≤ 2 ^ 64 }
+    ensures { IsFirstWrong first (tiled_all leaves.now) result }
+{
+    for i in 0..leaves.len() {
+        let index = first + i as u64;
+        if !names_own_index(index, &leaves[i]) {
+            return Some(index);
+        }
+    }
+    None
+}
+
+// The bytes of the tree's leaf that a tile leaf holds.
+fn input_of(alloc: Global, leaf: &TileLeaf<'_>) -> Result<Vec<u8>, AllocError>
+    requires { IsTileLeaf (tiled leaf.now) }
+    ensures { IfOk result (λ v. v.items ≡ leaf_of (tiled leaf.now)) }
+{
+    match leaf_input(alloc, leaf) {
+        Ok(bytes) => Ok(bytes),
+        Err(refusal) => {
+            // Nothing else is refused of a leaf that was read.
+            let _ = Unwritten::from(refusal).refusal?;
+            Ok(Vec::new(alloc))
+        }
+    }
+}
+
+// Those of leaves, in order.
+fn inputs_of(alloc: Global, leaves: &[TileLeaf<'_>]) -> Result<Vec<Vec<u8>>, AllocError>
+    requires { All (λ l. IsTileLeaf (tiled l)) leaves.now }
+    ensures { IfOk result (λ v. map (λ l. l.items) v.items ≡ map leaf_of (tiled_all leaves.now)) }
+{
+    let mut inputs = Vec::with_capacity(alloc, leaves.len())?;
+    for leaf in leaves {
+        let input = input_of(alloc, leaf)?;
+        inputs.push(input)?;
+    }
+    Ok(inputs)
+}
+
+// The data tile of this name.
+fn data_tile_named(alloc: Global, name: &[u8]) -> Result<Option<Tile>, AllocError>
+    ensures { IfOk result (λ o. MatchOption o ((tile : TileOf) → IsDataTileName name.now tile → ⊥) (λ tile. IsDataTileName name.now tile)) }
+{
+    match Tile::from_name(alloc, name) {
+        Ok(tile) => match tile.content {
+            Content::Entries => Ok(Some(tile)),
+            Content::Hashes(_) => Ok(None),
+        },
+        Err(fault) => Unnamed::from(fault).tile,
+    }
+}
+
+// The place in the tile of the entry at this index in the log; none where the tile begins behind it.
+fn place_in(tile: &Tile, next: u64) -> Option<u64>
+    ensures { MatchOption result (next < first_entry tile.now) (λ place. first_entry tile.now + place ≡ next) }
+{
+    if next / 256 < tile.index {
+        return None;
+    }
+    Some(next - 256 * tile.index)
+}
+
+// The damage that a fault of a tile's bytes is.
+fn damage_of(fault: DataTileFault) -> Result<Damage, AllocError>
+    ensures { IfOk result (λ d. IsDamageOf fault d) }
+{
+    Unread::from(fault).damage
+}
+
+// What the bytes of a tile are that has the next entry, at this place.
+fn entries_of_bytes(
+    alloc: Global,
+    next: u64,
+    place: usize,
+    tile: Tile,
+    bytes: &[u8],
+) -> Result<DataTileAnswer, AllocError>
+    requires place { first_entry tile + place ≡ next }
+    requires has { HasEntry tile next }
+    requires width { tile.width ≤ 256 }
+    ensures { IfOk result (λ a. (name : List ℕ) → IsDataTileName name tile → IsTileAnswer next name bytes.now a) }
+{
+    let leaves = match tile_leaves(alloc, bytes) {
+        Ok(leaves) => leaves,
+        Err(fault) => {
+            let damage = damage_of(fault)?;
+            return Ok(DataTileAnswer::Damaged(damage));
+        }
+    };
+    let count = leaves.len();
+    if count != tile.width as usize {
+        return Ok(DataTileAnswer::Damaged(Damage::OtherCount(count)));
+    }
+    let wanted = &leaves[place..];
+    let inputs = inputs_of(alloc, wanted)?;
+    Ok(DataTileAnswer::Entries(NextEntries {
+        leaves: inputs,
+        wrong_index: first_wrong(next, wanted),
+    }))
+}
+
+/// What the data tile of this name and these bytes (C2SP static-ct-api, "Log Entries") is to who has read the
+/// entries of a log before the index `next`, and wants the one at it. A tile that begins behind it or ends before it is told by its name, and
+/// its bytes aren't read.
+///
+/// Takes memory for the entries that are handed out, and for where the tile's leaves stand in its bytes.
+///
+/// # Errors
+/// A growth was refused.
+pub fn entries_of_tile(
+    alloc: Global,
+    next: u64,
+    name: &[u8],
+    bytes: &[u8],
+) -> Result<DataTileAnswer, AllocError>
+    ensures { IfOk result (λ a. IsTileAnswer next name.now bytes.now a) }
+{
+    let Some(tile) = data_tile_named(alloc, name)? else {
+        return Ok(DataTileAnswer::Damaged(Damage::NoDataTile));
+    };
+    let Some(place) = place_in(&tile, next) else {
+        return Ok(DataTileAnswer::Gap);
+    };
+    if place >= u64::from(tile.width) {
+        return Ok(DataTileAnswer::Known);
+    }
+    entries_of_bytes(alloc, next, place as usize, tile, bytes)
+}

@@ -1,0 +1,67 @@
+//! What an error of a crate below says: what it stands for here, unless a growth was refused.
+
+ghost use Rattle.std.specs.Prelude.{◌≡◌, ◌≢◌, None, MatchResult};
+ghost use Rattle.ct_codec.specs.declared.refusal.Refusal.TheVariants.{Memory};
+ghost use Rattle.ct_data_tiles.specs.declared.fault.DataTileFault.TheVariants.{Memory as TileMemory};
+ghost use Rattle.ct_tile_names.specs.declared.tile.NameFault.TheVariants.{NoSuchTile, Memory as NameMemory};
+ghost use Rattle.ct_data_tiles.specs.TileAnswers.{IsDamageOf};
+
+use crate::answer::Damage;
+use crate::fault::DataTileFault;
+use ct_codec::Refusal;
+use ct_tile_names::{NameFault, Tile};
+use std::alloc::AllocError;
+
+// Of a name that isn't read: it is no tile's, unless a growth was refused.
+#[derive(Drop)]
+pub(crate) struct Unnamed {
+    pub(crate) tile: Result<Option<Tile>, AllocError>,
+}
+
+impl From<NameFault> for Unnamed {
+    ghost from_gives = { λ fault unnamed. MatchResult unnamed.tile (λ o. (o ≡ None) × (fault ≡ NoSuchTile)) (λ _. fault ≡ NameMemory) };
+
+    fn from(fault: NameFault) -> Unnamed {
+        let tile = match fault {
+            NameFault::NoSuchTile => Ok(None),
+            NameFault::Memory => Err(AllocError),
+        };
+        Unnamed { tile }
+    }
+}
+
+// Of a tile's bytes that aren't read: their damage, unless a growth was refused.
+#[derive(Drop)]
+pub(crate) struct Unread {
+    pub(crate) damage: Result<Damage, AllocError>,
+}
+
+impl From<DataTileFault> for Unread {
+    ghost from_gives = { λ fault unread. MatchResult unread.damage (λ d. IsDamageOf fault d) (λ _. fault ≡ TileMemory) };
+
+    fn from(fault: DataTileFault) -> Unread {
+        let damage = match fault {
+            DataTileFault::AtLeaf(place, fault) => Ok(Damage::AtLeaf(place, fault)),
+            DataTileFault::Memory => Err(AllocError),
+        };
+        Unread { damage }
+    }
+}
+
+// Of a leaf that isn't written: why, unless a growth was refused.
+#[derive(Drop)]
+pub(crate) struct Unwritten {
+    pub(crate) refusal: Result<Refusal, AllocError>,
+}
+
+impl From<Refusal> for Unwritten {
+    ghost from_gives = { λ refusal unwritten. MatchResult unwritten.refusal (λ _. refusal ≢ Memory) (λ _. refusal ≡ Memory) };
+
+    fn from(refusal: Refusal) -> Unwritten {
+        let refusal = match refusal {
+            Refusal::Memory => Err(AllocError),
+            refusal => Ok(refusal),
+        };
+        Unwritten { refusal }
+    }
+}

@@ -1,5 +1,0 @@
-pub mod Fields
-pub mod Apart
-pub mod Named
-pub mod Verdict
-pub mod Tiles

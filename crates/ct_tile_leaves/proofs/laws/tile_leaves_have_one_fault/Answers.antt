@@ -1,5 +1,0 @@
-use Rattle.ct_tile_leaves.proofs.Verdict.{tile_leaves_have_one_fault}
-use Rattle.ct_tile_leaves.proofs.laws.tile_leaves_have_one_fault.Goals as goal
-
-pub returns : goal.returns
-returns c = tile_leaves_have_one_fault

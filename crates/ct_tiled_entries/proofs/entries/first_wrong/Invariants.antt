@@ -1,5 +1,0 @@
-use Rattle.ct_tiled_entries.proofs.Steps.{LeadsTo}
-use Rattle.ct_tiled_entries.proofs.entries.first_wrong.Given as goal
-
-abbrev pub invariant-loop-i : goal.invariant-loop-i
-invariant-loop-i l = LeadsTo l.first l.i l.leaves
