@@ -2,7 +2,7 @@
 
 use anyhow::Context;
 use ct_codec::{Refusal, Submission};
-use ct_state_line::StateLine;
+use ct_log_state::StateLine;
 use ct_step::{Batch, take_step};
 use ct_tiles::Edge;
 use ct_tree::{NodeHash, Sha256Hash};

@@ -7,12 +7,12 @@ use Rattle.std.specs.Prelude.{Ok, ⊤, Bool, true, false, if◌then◌else◌}
 use Rattle.std.proofs.lemmas.List.Elements.{recursion_from_All}
 use Rattle.std.specs.List.{AllByRecursion}
 use Rattle.ct_data_tiles.specs.TileLeaf.{Tiled}
-use Rattle.ct_state_line.specs.declared.line.StateLine.{StateLine}
+use Rattle.ct_log_state.specs.declared.line.StateLine.{StateLine}
 use Rattle.ct_verify.specs.Laws.{SomeCollide}
 use Rattle.ct_node.specs.declared.state.State.{State}
 use Rattle.ct_node.specs.Worlds.{Has, Made, Object, World, IsChain, IsSoundWorld, WorldsAreSound, PastsAreChains}
-use Rattle.ct_bundles.specs.Bundle.{IsBundleOf}
-use Rattle.ct_bundles.specs.Resumed.{BundlesAreResumed, object_parts}
+use Rattle.ct_log_state.specs.Bundle.{IsBundleOf}
+use Rattle.ct_log_state.specs.Resumed.{BundlesAreResumed, object_parts}
 use Rattle.ct_step.specs.Lines.{LineAttempt, IsMadeOfLine, AreLineAttempts, LineSequencersAgree, taken_lines, IsStepOf, CarryOnLines}
 use Rattle.ct_node_log.specs.Logs.{IsAttempt, AreStepsMade, IsOf, IsResumed, NodesWriteOneLog}
 use Rattle.ct_node_log.specs.Names.{objects_of, StepsHaveOneContent}

@@ -1,13 +1,13 @@
 -- The log that any number of nodes write: what stands is of one list of entries. H is any hash function on byte lists.
 use Rattle.std.specs.Prelude.{◌≡◌, ◌⊎◌, ℕ, ◌<◌, List, map, Ok, Vec, length, take}
 use Rattle.ct_data_tiles.specs.TileLeaf.{Tiled}
-use Rattle.ct_state_line.specs.declared.line.StateLine.{StateLine}
+use Rattle.ct_log_state.specs.declared.line.StateLine.{StateLine}
 use Rattle.ct_verify.specs.Laws.{SomeCollide}
 use Rattle.ct_node.specs.declared.state.State.{State}
 use Rattle.ct_node.specs.Worlds.{Has, Made, Object, World, Happening, beginning, IsFirstState, LeadTo}
 use Rattle.std.specs.Global.{Global}
-use Rattle.ct_bundles.specs.Resumed.{AnswersResume, object_parts}
-use Rattle.ct_bundles.specs.declared.bundle.Object.{Object as Found}
+use Rattle.ct_log_state.specs.Resumed.{AnswersResume, object_parts}
+use Rattle.ct_log_state.specs.declared.bundle.Object.{Object as Found}
 use Rattle.ct_step.specs.Lines.{LineAttempt, IsMadeOfLine, IsStepOf}
 use Rattle.ct_step.specs.Steps.{IsLog}
 

@@ -13,7 +13,7 @@ pub fn nodes()
     ct_step::laws::sequencers_over_lines();
     ct_node::laws::worlds();
     names();
-    ct_bundles::laws::bundles();
+    ct_log_state::laws::bundles();
 }
 
 /// Two objects of steps of one log that have one name have one content, whoever made them.

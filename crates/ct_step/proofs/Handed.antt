@@ -10,7 +10,7 @@ use Rattle.ct_growth.proofs.Roots.{has_32}
 use Rattle.ct_growth.specs.Believed.{HaveWidths, edge_root, StopsBelief}
 use Rattle.ct_growth.specs.declared.believed.EdgeFault.{EdgeFault}
 use Rattle.ct_growth.specs.declared.believed.EdgeFault.TheVariants.{OtherWidths, OtherRoot, Memory}
-use Rattle.ct_state_line.specs.declared.line.StateLine.{StateLine}
+use Rattle.ct_log_state.specs.declared.line.StateLine.{StateLine}
 use Rattle.ct_verify.specs.Laws.{AreHashes}
 use Rattle.ct_step.specs.Steps.{tile_hashes, AreBytesOf, StopsState, line_head, of_edge}
 

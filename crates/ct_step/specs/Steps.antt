@@ -11,8 +11,8 @@ use Rattle.ct_tree.specs.declared.head.Head.{Head}
 use Rattle.ct_tiles.specs.Edge.{IsEdge}
 use Rattle.ct_data_tiles.specs.Rows.{data_tile, data_tiles_from, IsPartialTile}
 use Rattle.ct_data_tiles.specs.TileLeaf.{Tiled}
-use Rattle.ct_state_line.specs.Lines.{state_line_text}
-use Rattle.ct_state_line.specs.declared.line.StateLine.{StateLine}
+use Rattle.ct_log_state.specs.Lines.{state_line_text}
+use Rattle.ct_log_state.specs.declared.line.StateLine.{StateLine}
 use Rattle.ct_growth.specs.Believed.{AreBelieved}
 use Rattle.ct_growth.specs.Growths.{IsState, MayGrow, StopsGrowth}
 use Rattle.ct_growth.specs.Leaves.{receipts_from, receipt_parts}
@@ -21,7 +21,7 @@ use Rattle.ct_growth.specs.declared.believed.EdgeFault.TheVariants.{OtherWidths,
 use Rattle.ct_growth.specs.declared.growth.State.{State}
 use Rattle.ct_growth.specs.declared.growth.GrowthFault.TheVariants.{ClockBack, Full, Refused}
 use Rattle.ct_verify.specs.Laws.{AreHashes, SomeCollide}
-use Rattle.ct_bundles.specs.Bundle.{IsBundleOf}
+use Rattle.ct_log_state.specs.Bundle.{IsBundleOf}
 use Rattle.ct_step.specs.Entries.{tiled_leaves, texts_of, tree_leaves, hashes_of}
 use Rattle.ct_step.specs.Objects.{level_objects, data_objects, FitsInBundle}
 use Rattle.ct_step.specs.declared.step.Step.{Step}

@@ -10,7 +10,7 @@ ghost use Rattle.ct_growth.specs.declared.growth.GrowthFault.TheVariants.{Refuse
 ghost use Rattle.ct_data_tiles.specs.TileLeaf.{Tiled};
 ghost use Rattle.ct_tiles.specs.Tiles.{rows};
 ghost use Rattle.ct_data_tiles.specs.Rows.{IsDataRow};
-ghost use Rattle.ct_bundles.specs.Bundle.{bundle_text};
+ghost use Rattle.ct_log_state.specs.Bundle.{bundle_text};
 ghost use Rattle.ct_step.specs.Objects.{level_objects, data_objects, row_tiles, FitsInBundle};
 ghost use Rattle.ct_step.specs.Entries.{tree_leaves, texts_of};
 ghost use Rattle.ct_step.specs.Steps.{line_head, of_edge, line_behind, IsEdgeOf, IsStepFrom, IsTiledStep, MayStep, StopsStep, StopsMade, StopsTiles, StopsState, AreBytesOf, AreReadFrom, tile_hashes};
@@ -21,7 +21,7 @@ use crate::objects::{fits, push_entries, push_levels};
 use ct_codec::{Refusal, tree_head_signature_input};
 use ct_data_tiles::{DataRow, add_entries};
 use ct_growth::{EdgeFault, GrowthFault, Receipt, State, grow};
-use ct_state_line::StateLine;
+use ct_log_state::StateLine;
 use ct_tiles::Row;
 use ct_tree::{Head, NodeHash, is_same_digest};
 use std::alloc::{AllocError, AllocFailed, Global};

@@ -7,7 +7,7 @@ use Rattle.ct_codec.specs.Submitted.{identity_of}
 use Rattle.ct_repeats.specs.Identities.{identity_of_leaf, AreApart, AreNewFrom}
 use Rattle.ct_repeats.proofs.Lists.{AllPairs-first, AllPairs-rest, AllPairs-append, pairs_behind}
 use Rattle.ct_repeats.proofs.Once.{leaves_keep_identities}
-use Rattle.ct_state_line.specs.declared.line.StateLine.{StateLine}
+use Rattle.ct_log_state.specs.declared.line.StateLine.{StateLine}
 use Rattle.ct_step.specs.Entries.{tiled_leaves, tree_leaves}
 use Rattle.ct_step.specs.Lines.{LineAttempt, AreLineAttempts, taken_lines}
 use Rattle.ct_step.specs.Steps.{new_entries, IsLog, IsTiledStep}

@@ -2,8 +2,8 @@
 use Rattle.std.proofs.Common.{◌≡◌, ℕ, Bool, List, [], Option, Some, None, refl, sym, subst, inl, inr, arith}
 use Rattle.sha2.specs.Sha256.{sha256}
 use Rattle.ct_codec.specs.Submitted.{Submitted}
-use Rattle.ct_state_line.specs.declared.line.StateLine.{StateLine}
-use Rattle.ct_state_line.proofs.Lines.{state_lines_differ}
+use Rattle.ct_log_state.specs.declared.line.StateLine.{StateLine}
+use Rattle.ct_log_state.proofs.Lines.{state_lines_differ}
 use Rattle.ct_step.specs.Lines.{IsMadeOfEdge}
 use Rattle.ct_step.specs.declared.step.Step.{Step}
 use Rattle.ct_tree.specs.Tree.{mth, mth_within}

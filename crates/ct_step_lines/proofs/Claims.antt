@@ -14,8 +14,8 @@ use Rattle.ct_repeats.specs.declared.claim.ClaimFault.{ClaimFault}
 use Rattle.ct_repeats.specs.declared.claim.ClaimFault.TheVariants.{IndexTooLarge, ProofRefused, Refused}
 use Rattle.ct_repeats.proofs.Believing.{stands_there}
 use Rattle.ct_repeats.proofs.Once.{leaves_keep_identities}
-use Rattle.ct_state_line.specs.declared.line.StateLine.{StateLine}
-use Rattle.ct_state_line.proofs.Lines.{state_lines_differ}
+use Rattle.ct_log_state.specs.declared.line.StateLine.{StateLine}
+use Rattle.ct_log_state.proofs.Lines.{state_lines_differ}
 use Rattle.ct_step.specs.Entries.{tree_leaves}
 use Rattle.ct_step.specs.Steps.{line_head, IsLog}
 use Rattle.ct_data_tiles.specs.TileLeaf.{Tiled, leaf_of}

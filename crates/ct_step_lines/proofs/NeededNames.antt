@@ -8,7 +8,7 @@ use Rattle.ct_tile_names.specs.Names.{IsContent, IsTile, name_text}
 use Rattle.ct_tile_names.specs.declared.tile.Content.{Content}
 use Rattle.ct_tile_names.specs.declared.tile.Content.TheVariants.{Hashes, Entries}
 use Rattle.ct_tile_names.specs.declared.tile.Tile.{Tile}
-use Rattle.ct_bundles.specs.Needed.{partial_name, level_names, needed_names}
+use Rattle.ct_log_state.specs.Needed.{partial_name, level_names, needed_names}
 use Rattle.ct_step_lines.specs.StepWords.{IsTileName}
 
 one_name : (content : Content) (n : ℕ) → IsContent content → n < 2 ^ 64 → 0 < n % 256

@@ -5,13 +5,13 @@ use Rattle.std.proofs.lemmas.List.Elements.{All-nil, All-cons, All-head, All-tai
 use Rattle.std.specs.Global.{Global}
 use Rattle.std.specs.Prelude.{Vec}
 use Rattle.sha2.specs.Sha256.{sha256}
-use Rattle.ct_bundles.specs.Bundle.{IsBundleOf}
-use Rattle.ct_bundles.specs.Resumed.{object_parts, StopsResume}
-use Rattle.ct_bundles.specs.declared.bundle.Object.{Object}
-use Rattle.ct_bundles.specs.declared.rolling_out.ResumeFault.{ResumeFault}
-use Rattle.ct_bundles.specs.declared.rolling_out.ResumeFault.TheVariants.{Bundle}
-use Rattle.ct_bundles.proofs.Bundles.{bundles_are_resumed}
-use Rattle.ct_state_line.specs.declared.line.StateLine.{StateLine}
+use Rattle.ct_log_state.specs.Bundle.{IsBundleOf}
+use Rattle.ct_log_state.specs.Resumed.{object_parts, StopsResume}
+use Rattle.ct_log_state.specs.declared.bundle.Object.{Object}
+use Rattle.ct_log_state.specs.declared.rolling_out.ResumeFault.{ResumeFault}
+use Rattle.ct_log_state.specs.declared.rolling_out.ResumeFault.TheVariants.{Bundle}
+use Rattle.ct_log_state.proofs.Bundles.{bundles_are_resumed}
+use Rattle.ct_log_state.specs.declared.line.StateLine.{StateLine}
 use Rattle.ct_step_lines.specs.StepAnswers.{IsNotRolledOut}
 use Rattle.ct_step_lines.specs.StepWords.{IsTileName}
 

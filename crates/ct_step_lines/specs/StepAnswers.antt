@@ -1,16 +1,16 @@
 -- What is replied to what is asked.
 use Rattle.std.specs.Prelude.{◌≡◌, ◌⊎◌, ◌/◌, ◌%◌, ℕ, zero, suc, List, [], ◌∷◌, All, nat_lt, if◌then◌else◌, Option, Some, None, option_map, option_and_then, replicate}
 use Rattle.sha2.specs.Sha256.{sha256}
-use Rattle.ct_bundles.specs.Bundle.{IsBundleOf}
-use Rattle.ct_bundles.specs.Needed.{needed_names}
+use Rattle.ct_log_state.specs.Bundle.{IsBundleOf}
+use Rattle.ct_log_state.specs.Needed.{needed_names}
 use Rattle.ct_codec.specs.Submitted.{Submitted, entry_of}
 use Rattle.ct_growth.specs.Leaves.{receipt_parts}
 use Rattle.ct_growth.specs.declared.growth.GrowthFault.TheVariants.{ClockBack, Full, Refused}
 use Rattle.ct_growth.specs.declared.receipts.Receipt.{Receipt}
 use Rattle.ct_repeats.specs.Claims.{IsBelievedAt, IsAnsweredAt}
 use Rattle.ct_repeats.specs.declared.claim.Claim.{Claim}
-use Rattle.ct_state_line.specs.Lines.{IsStateLine, NoStateLine, state_line_text}
-use Rattle.ct_state_line.specs.declared.line.StateLine.{StateLine}
+use Rattle.ct_log_state.specs.Lines.{IsStateLine, NoStateLine, state_line_text}
+use Rattle.ct_log_state.specs.declared.line.StateLine.{StateLine}
 use Rattle.ct_step.specs.Steps.{line_head, IsEdgeOf, IsStepFrom, IsTiledStep, MayStep, StopsStep}
 use Rattle.ct_step.specs.declared.step.Step.{Step}
 use Rattle.ct_step.specs.declared.step.StepFault.{StepFault}

@@ -1,7 +1,7 @@
 //! What an error of a crate below says of a run.
 
 ghost use Rattle.std.specs.Prelude.{◌≡◌, ◌≢◌, MatchResult, MatchOption};
-ghost use Rattle.ct_bundles.specs.declared.rolling_out.ResumeFault.TheVariants.{Bundle, Memory as ResumeMemory};
+ghost use Rattle.ct_log_state.specs.declared.rolling_out.ResumeFault.TheVariants.{Bundle, Memory as ResumeMemory};
 ghost use Rattle.ct_codec.specs.declared.refusal.Refusal.{Refusal as RefusalOf};
 ghost use Rattle.ct_codec.specs.declared.refusal.Refusal.TheVariants.{Memory as Refused};
 ghost use Rattle.ct_growth.specs.declared.growth.GrowthFault.TheVariants.{Refused as GrowthRefused};
@@ -11,9 +11,9 @@ ghost use Rattle.ct_tile_names.specs.declared.tile.NameFault.TheVariants.{NoSuch
 ghost use Rattle.ct_step_lines.specs.StepAnswers.{NamesStepFault};
 
 use crate::replies::StepRefusal;
-use ct_bundles::ResumeFault;
 use ct_codec::Refusal;
 use ct_growth::GrowthFault;
+use ct_log_state::ResumeFault;
 use ct_repeats::ClaimFault;
 use ct_step::StepFault;
 use ct_tile_names::NameFault;

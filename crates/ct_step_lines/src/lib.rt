@@ -2,7 +2,7 @@
 //! step itself, the objects of a step that was decided, and the receipt at a claimed place.
 //!
 //! `run` reads lines from any reader, and writes to any writer; `answer_words` is the program `cttile` over its words. Nothing is kept
-//! between lines. What a step is, is `ct_step`'s to say, and what a bundle is `ct_bundles`'s.
+//! between lines. What a step is, is `ct_step`'s to say, and what a bundle is `ct_log_state`'s.
 //!
 //! - `request` reads what a line asks for, and `entry` is one of a batch.
 //! - `repeats` takes the repeats out of a batch.

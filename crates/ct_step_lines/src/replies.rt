@@ -6,7 +6,7 @@ ghost use Rattle.std.specs.Prelude.{◌≡◌, ◌++◌, Some, None, OnOk, IfOk,
 ghost use Rattle.serde_json.specs.Data.{string, array};
 ghost use Rattle.serde_json.specs.View.{items_of};
 ghost use Rattle.serde_json.specs.Written.{compact_text, comma_if};
-ghost use Rattle.ct_bundles.specs.Resumed.{object_parts};
+ghost use Rattle.ct_log_state.specs.Resumed.{object_parts};
 ghost use Rattle.ct_codec.specs.Signed.{tree_head_text};
 ghost use Rattle.ct_growth.specs.Leaves.{receipt_parts};
 ghost use Rattle.ct_lines.specs.ReplyText.{bytes_data, number_data};
@@ -14,11 +14,10 @@ ghost use Rattle.ct_step_lines.specs.StepWords.{IsTileName, step_refusal_name, s
 
 use crate::fault::NotMade;
 use base64::engine::general_purpose::STANDARD;
-use ct_bundles::Object;
 use ct_checkpoint::write_checkpoint;
 use ct_codec::tree_head_signature_input;
 use ct_growth::Receipt;
-use ct_state_line::StateLine;
+use ct_log_state::{Object, StateLine};
 use ct_step::Step;
 use serde_json::Value;
 use std::alloc::{AllocError, Global};

@@ -2,13 +2,13 @@
 
 ghost use Rattle.std.specs.Prelude.{◌≡◌, ℕ, List, All, IfOk, map, option_map, string_bytes};
 ghost use Rattle.std.specs.Bool.{MatchBool};
-ghost use Rattle.ct_bundles.specs.Resumed.{object_parts};
-ghost use Rattle.ct_state_line.specs.Lines.{IsStateLine};
+ghost use Rattle.ct_log_state.specs.Resumed.{object_parts};
+ghost use Rattle.ct_log_state.specs.Lines.{IsStateLine};
 ghost use Rattle.ct_step_lines.specs.StepAsks.{entry_parts, step_ask_of, for_needs, for_step, for_resume, for_claim};
 ghost use Rattle.ct_step_lines.specs.StepAnswers.{first_line, edge_of, IsStepReply, IsResumeReply, IsClaimReply, IsReplyTo};
 ghost use Rattle.ct_step_lines.specs.StepSession.{IsReplyText};
 ghost use Rattle.ct_step_lines.specs.StepWords.{IsTileName, names_edge, StepReply};
-ghost use Rattle.ct_bundles.specs.Needed.{needed_names};
+ghost use Rattle.ct_log_state.specs.Needed.{needed_names};
 ghost use Rattle.std.specs.Prelude.{Some};
 
 use crate::edge::edge_of;
@@ -19,10 +19,9 @@ use crate::replies::{
     StepRefusal, begun_line, claimed_line, names_line, refused_line, resumed_line, stepped_line,
 };
 use crate::request::Request;
-use ct_bundles::{Object, needed, resume};
 use ct_codec::Submission;
+use ct_log_state::{Object, StateLine, needed, resume};
 use ct_repeats::{Claim, answer_repeat};
-use ct_state_line::StateLine;
 use ct_step::take_step;
 use ct_tile_names::Tile;
 use ct_tree::{Head, NodeHash, Sha256Hash};

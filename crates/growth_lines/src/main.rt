@@ -9,11 +9,10 @@
 #![tactic(auto)]
 
 use anyhow::Result;
-use ct_bundles::{needed, push_object, resume};
 use ct_codec::{Refusal, Submission};
 use ct_data_tiles::{DataRow, add_entries};
 use ct_growth::{Growth, State, grow};
-use ct_state_line::StateLine;
+use ct_log_state::{StateLine, needed, push_object, resume};
 use ct_tile_names::{Content, Tile};
 use ct_tiles::{Edge, Row};
 use ct_tree::{Head, NodeHash, Sha256Hash};

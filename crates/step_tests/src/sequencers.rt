@@ -1,10 +1,9 @@
 // Sixteen sequencers in threads of their own carry on one log over a register, two batches each.
 use crate::expected::{certificate, leaf_of, root_of, sha256};
 use crate::register::{Offer, Register};
-use ct_bundles::{Object, ResumeFault, needed, resume};
 use ct_codec::{Refusal, Submission};
 use ct_growth::Receipt;
-use ct_state_line::StateLine;
+use ct_log_state::{Object, ResumeFault, StateLine, needed, resume};
 use ct_step::{Batch, Step, StepFault, take_step};
 use ct_tree::Sha256Hash;
 use std::alloc::{AllocError, AllocFailed, Global};

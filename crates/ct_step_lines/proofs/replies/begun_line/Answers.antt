@@ -3,7 +3,7 @@ use Rattle.std.specs.Prelude.{string_bytes}
 use Rattle.json.specs.Print.{escape_byte}
 use Rattle.serde_json.specs.Data.{string}
 use Rattle.serde_json.specs.Written.{compact_text}
-use Rattle.ct_state_line.specs.Lines.{state_line_text}
+use Rattle.ct_log_state.specs.Lines.{state_line_text}
 use Rattle.ct_step_lines.specs.StepWords.{begun_data}
 use Rattle.ct_step_lines.proofs.Behind.{behind, begun}
 use Rattle.ct_step_lines.proofs.replies.begun_line.Goals as goal

@@ -4,8 +4,8 @@ use Rattle.std.specs.Prelude.{string_bytes}
 use Rattle.serde_json.specs.Data.{Data, array}
 use Rattle.serde_json.specs.View.{items_of}
 use Rattle.serde_json.specs.Written.{compact_text}
-use Rattle.ct_bundles.specs.Resumed.{object_parts}
-use Rattle.ct_bundles.specs.declared.bundle.Object.{Object}
+use Rattle.ct_log_state.specs.Resumed.{object_parts}
+use Rattle.ct_log_state.specs.declared.bundle.Object.{Object}
 use Rattle.ct_step_lines.specs.StepWords.{bundled_data}
 use Rattle.ct_step_lines.proofs.Joined.{joined-at, joined-all, named-at}
 use Rattle.ct_step_lines.proofs.replies.push_objects.Goals as goal

@@ -1,7 +1,7 @@
 use Rattle.std.proofs.Common.{map, take}
 use Rattle.std.specs.Prelude.{string_bytes}
-use Rattle.ct_bundles.specs.declared.bundle.Object.{Object}
-use Rattle.ct_bundles.specs.Resumed.{object_parts}
+use Rattle.ct_log_state.specs.declared.bundle.Object.{Object}
+use Rattle.ct_log_state.specs.Resumed.{object_parts}
 use Rattle.ct_step_lines.specs.StepWords.{bundled_data}
 use Rattle.ct_step_lines.proofs.Joined.{IsJoined}
 use Rattle.ct_step_lines.proofs.replies.push_objects.Given as goal

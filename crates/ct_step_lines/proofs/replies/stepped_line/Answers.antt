@@ -3,7 +3,7 @@ use Rattle.std.specs.Prelude.{String, option_map, string_bytes, filter_map, slic
 use Rattle.serde_json.specs.Data.{string, array}
 use Rattle.serde_json.specs.View.{items_of}
 use Rattle.serde_json.specs.Written.{compact_text}
-use Rattle.ct_state_line.specs.Lines.{state_line_text}
+use Rattle.ct_log_state.specs.Lines.{state_line_text}
 use Rattle.ct_lines.specs.ReplyText.{bytes_data}
 use Rattle.ct_growth.specs.Leaves.{receipt_parts}
 use Rattle.ct_growth.specs.declared.receipts.Receipt.{Receipt}

@@ -1,5 +1,5 @@
 use Rattle.std.proofs.Common.{map, take, All}
-use Rattle.ct_bundles.specs.Resumed.{object_parts}
+use Rattle.ct_log_state.specs.Resumed.{object_parts}
 use Rattle.ct_step_lines.specs.StepWords.{IsTileName}
 use Rattle.ct_step_lines.proofs.stepping.are_tiles.Given as goal
 

@@ -1,6 +1,6 @@
 use Rattle.std.proofs.Common.{inl, inr, refl, map}
 use Rattle.std.specs.Prelude.{option_map, string_bytes}
-use Rattle.ct_bundles.specs.Resumed.{object_parts}
+use Rattle.ct_log_state.specs.Resumed.{object_parts}
 use Rattle.ct_step_lines.specs.StepAnswers.{IsResumeReply}
 use Rattle.ct_step_lines.specs.StepWords.{refuses, rolls_out}
 use Rattle.ct_step_lines.specs.declared.replies.StepRefusal.TheVariants.{Bundle}

@@ -1,3 +1,0 @@
-pub mod Bundle
-pub mod Resumed
-pub mod Needed

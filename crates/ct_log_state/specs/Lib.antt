@@ -1,0 +1,4 @@
+pub mod Lines
+pub mod Bundle
+pub mod Resumed
+pub mod Needed

@@ -1,0 +1,44 @@
+-- What a bundle is read as, and rolled out of. H is any hash function on byte lists.
+use Rattle.std.specs.Prelude.{◌≡◌, ◌≢◌, ◌⊎◌, ℕ, List, map, All, Result, Ok, Err, Vec}
+use Rattle.std.specs.Global.{Global}
+use Rattle.ct_log_state.specs.declared.line.StateLine.{StateLine}
+use Rattle.ct_verify.specs.Laws.{SomeCollide}
+use Rattle.ct_log_state.specs.Bundle.{IsObject, IsBundleOf, bundle_text}
+use Rattle.ct_log_state.specs.declared.bundle.Object.{Object}
+use Rattle.ct_log_state.specs.declared.rolling_out.ResumeFault.{ResumeFault}
+use Rattle.ct_log_state.specs.declared.rolling_out.ResumeFault.TheVariants.{Bundle, Memory}
+
+-- an object's name and its content
+abbrev pub object_parts : Object → List ℕ × List ℕ
+object_parts o = (o.name.now, o.content.now)
+
+-- the bytes are the bundle of no objects
+abbrev pub NoBundle : List ℕ → Type 0
+NoBundle bytes = (objects : List (List ℕ × List ℕ)) → IsBundleOf objects bytes → ⊥
+
+-- why no objects are rolled out. Bundle: the digest of the bytes isn't the line's, or they are the bundle of no objects. Memory: the digest is the
+-- line's
+abbrev pub StopsResume : (List ℕ → List ℕ) → StateLine → List ℕ → ResumeFault → Type 0
+StopsResume H line bytes Bundle = (H bytes ≡ line.bundle → ⊥) ⊎ NoBundle bytes
+StopsResume H line bytes Memory = H bytes ≡ line.bundle
+
+-- what `resume` answers of a line and bytes
+abbrev pub AnswersResume : (List ℕ → List ℕ) → StateLine → List ℕ → Result (Vec Object Global) ResumeFault → Type 0
+AnswersResume H line bytes (Ok objects) = (H bytes ≡ line.bundle) × IsBundleOf (map object_parts objects.items) bytes
+AnswersResume H line bytes (Err fault) = StopsResume H line bytes fault
+
+-- it gives these objects, unless memory was refused
+abbrev pub GivesObjects : List (List ℕ × List ℕ) → Result (Vec Object Global) ResumeFault → Type 0
+GivesObjects objects (Ok found) = map object_parts found.items ≡ objects
+GivesObjects objects (Err fault) = fault ≡ Memory
+
+-- Whatever `resume` answers of a bundle of objects, with a line that has its digest, gives these objects.
+abbrev pub BundlesAreResumed : Type 0
+BundlesAreResumed =
+    (H : List ℕ → List ℕ) (line : StateLine) (objects : List (List ℕ × List ℕ)) (bytes : List ℕ) (r : Result (Vec Object Global) ResumeFault)
+    → IsBundleOf objects bytes → line.bundle ≡ H bytes → AnswersResume H line bytes r → GivesObjects objects r
+
+-- Two different bundles that are rolled out for one line are two different strings with one hash.
+abbrev pub BundlesTell : Type 0
+BundlesTell =
+    (H : List ℕ → List ℕ) (line : StateLine) (a b : List ℕ) → H a ≡ line.bundle → H b ≡ line.bundle → a ≢ b → SomeCollide H
