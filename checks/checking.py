@@ -72,7 +72,7 @@ CLAIMS = [
         "Many sequencers over one register, and repeats",
         "Whoever makes the next step, and wherever they stop, all that the taken steps wrote and promised is of one list of leaves; and behind what was known that list has at most one leaf to an identity.",
         "the register swaps its state from just the one that the step saw, and the answers stand in its order. For repeats: what a look-up missed wasn't there, and the identities of a taken step were stored before the next one looked.",
-        [("ct_growth/src/laws.rt", "sequencers", []), ("ct_repeats/src/laws.rt", "one_entry_an_identity", [])],
+        [("ct_growth/src/laws.rt", "sequencers", []), ("ct_growth/src/laws.rt", "one_entry_an_identity", [])],
     ),
     Claim(
         "Witnesses",

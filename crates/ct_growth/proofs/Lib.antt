@@ -4,3 +4,7 @@ pub mod Roots
 pub mod EdgesTell
 pub mod Widths
 pub mod HandedAgree
+pub mod Lists
+pub mod Once
+pub mod Believing
+pub mod Missing

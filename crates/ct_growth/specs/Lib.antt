@@ -3,3 +3,6 @@ pub mod Growths
 pub mod History
 pub mod Believed
 pub mod Handed
+pub mod Identities
+pub mod Claims
+pub mod Misses

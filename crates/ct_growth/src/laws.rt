@@ -4,6 +4,8 @@ ghost use Rattle.ct_growth.specs.Believed.{BelievedEdgesTell, EdgesAreBelieved};
 ghost use Rattle.ct_growth.specs.Handed.{HandedSequencersAgree};
 ghost use Rattle.ct_growth.specs.Leaves.{ReceiptsAreLeaves};
 ghost use Rattle.ct_growth.specs.History.{SequencersAgree};
+ghost use Rattle.ct_growth.specs.Identities.{LeavesKeepIdentities};
+ghost use Rattle.ct_growth.specs.Misses.{MissesCanBeTrue, OneEntryAnIdentity};
 
 /// However many sequencers carry on a log over one register, and wherever they stop: all that was written and promised by the steps
 /// whose states the register took is of one list of leaves, their moments rise, and their sizes don't fall.
@@ -32,4 +34,25 @@ pub fn receipts()
 pub fn edges()
     ensures tell { BelievedEdgesTell }
     ensures believed { EdgesAreBelieved }
+{}
+
+/// A leaf that names its index has the identity of what was submitted, whatever its moment and its index are.
+#[tactic(auto, using(crate::proofs::Once::leaves_keep_identities))]
+pub fn leaves()
+    ensures { LeavesKeepIdentities }
+{}
+
+/// However many sequencers carry on a log over one register, and wherever they stop: where each miss was true when the step's state was
+/// read, and the identities of a step that was taken were in the store before the next one looked its own up, the one list of leaves has
+/// at most one leaf to an identity behind those that were known, and none of theirs.
+#[tactic(auto, using(crate::proofs::Once::one_entry_an_identity))]
+pub fn one_entry_an_identity()
+    ensures { OneEntryAnIdentity }
+{}
+
+/// Steps that add each identity once can each have missed truly: what [`one_entry_an_identity`] asks of the stores is met by every such
+/// history.
+#[tactic(auto, using(crate::proofs::Missing::misses_can_be_true))]
+pub fn misses()
+    ensures { MissesCanBeTrue }
 {}

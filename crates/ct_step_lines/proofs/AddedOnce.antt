@@ -4,9 +4,9 @@ use Rattle.std.proofs.lemmas.List.{take_at, map-append, length-map}
 use Rattle.std.proofs.lemmas.List.Elements.{All-nil, All-cons, All-head, All-tail, All-append, All-map, All-weaker}
 use Rattle.sha2.specs.Sha256.{sha256}
 use Rattle.ct_codec.specs.Submitted.{identity_of}
-use Rattle.ct_repeats.specs.Identities.{identity_of_leaf, AreApart, AreNewFrom}
-use Rattle.ct_repeats.proofs.Lists.{AllPairs-first, AllPairs-rest, AllPairs-append, pairs_behind}
-use Rattle.ct_repeats.proofs.Once.{leaves_keep_identities}
+use Rattle.ct_growth.specs.Identities.{identity_of_leaf, AreApart, AreNewFrom}
+use Rattle.ct_growth.proofs.Lists.{AllPairs-first, AllPairs-rest, AllPairs-append, pairs_behind}
+use Rattle.ct_growth.proofs.Once.{leaves_keep_identities}
 use Rattle.ct_log_state.specs.declared.line.StateLine.{StateLine}
 use Rattle.ct_step.specs.Entries.{tiled_leaves, tree_leaves}
 use Rattle.ct_step.specs.Lines.{LineAttempt, AreLineAttempts, taken_lines}

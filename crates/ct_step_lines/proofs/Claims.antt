@@ -8,12 +8,12 @@ use Rattle.ct_codec.specs.Submitted.{Submitted, entry_of}
 use Rattle.ct_codec.specs.declared.refusal.Refusal.TheVariants as refused
 use Rattle.ct_growth.specs.Believed.{IsHeadOver}
 use Rattle.ct_growth.specs.Leaves.{receipt_parts}
-use Rattle.ct_repeats.specs.Claims.{claimed_leaf, IsBelievedAt, StopsClaim}
-use Rattle.ct_repeats.specs.declared.claim.Claim.{Claim}
-use Rattle.ct_repeats.specs.declared.claim.ClaimFault.{ClaimFault}
-use Rattle.ct_repeats.specs.declared.claim.ClaimFault.TheVariants.{IndexTooLarge, ProofRefused, Refused}
-use Rattle.ct_repeats.proofs.Believing.{stands_there}
-use Rattle.ct_repeats.proofs.Once.{leaves_keep_identities}
+use Rattle.ct_growth.specs.Claims.{claimed_leaf, IsBelievedAt, StopsClaim}
+use Rattle.ct_growth.specs.declared.claim.Claim.{Claim}
+use Rattle.ct_growth.specs.declared.claim.ClaimFault.{ClaimFault}
+use Rattle.ct_growth.specs.declared.claim.ClaimFault.TheVariants.{IndexTooLarge, ProofRefused, Refused}
+use Rattle.ct_growth.proofs.Believing.{stands_there}
+use Rattle.ct_growth.proofs.Once.{leaves_keep_identities}
 use Rattle.ct_log_state.specs.declared.line.StateLine.{StateLine}
 use Rattle.ct_log_state.proofs.Lines.{state_lines_differ}
 use Rattle.ct_step.specs.Entries.{tree_leaves}

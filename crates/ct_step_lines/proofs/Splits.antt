@@ -10,7 +10,7 @@ use Rattle.std.proofs.lemmas.List.Quantifiers.{all_pairs_push}
 use Rattle.sha2.specs.Sha256.{sha256}
 use Rattle.ct_codec.specs.Submitted.{entry_of, identity_of}
 use Rattle.ct_growth.specs.Leaves.{receipts_from}
-use Rattle.ct_repeats.specs.Identities.{AreApart}
+use Rattle.ct_growth.specs.Identities.{AreApart}
 use Rattle.ct_log_state.specs.declared.line.StateLine.{StateLine}
 use Rattle.ct_log_state.proofs.Lines.{state_lines_differ}
 use Rattle.ct_step.specs.Entries.{tiled_leaves, tree_leaves}

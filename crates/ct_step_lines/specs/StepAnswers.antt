@@ -7,8 +7,8 @@ use Rattle.ct_codec.specs.Submitted.{Submitted, entry_of}
 use Rattle.ct_growth.specs.Leaves.{receipt_parts}
 use Rattle.ct_growth.specs.declared.growth.GrowthFault.TheVariants.{ClockBack, Full, Refused}
 use Rattle.ct_growth.specs.declared.receipts.Receipt.{Receipt}
-use Rattle.ct_repeats.specs.Claims.{IsBelievedAt, IsAnsweredAt}
-use Rattle.ct_repeats.specs.declared.claim.Claim.{Claim}
+use Rattle.ct_growth.specs.Claims.{IsBelievedAt, IsAnsweredAt}
+use Rattle.ct_growth.specs.declared.claim.Claim.{Claim}
 use Rattle.ct_log_state.specs.Lines.{IsStateLine, NoStateLine, state_line_text}
 use Rattle.ct_log_state.specs.declared.line.StateLine.{StateLine}
 use Rattle.ct_step.specs.Steps.{line_head, IsEdgeOf, IsStepFrom, IsTiledStep, MayStep, StopsStep}

@@ -4,9 +4,9 @@ use Rattle.sha2.specs.Sha256.{sha256}
 use Rattle.ct_codec.specs.Submitted.{Submitted, entry_of, identity_of}
 use Rattle.ct_log_state.specs.Lines.{IsStateLine, state_line_text}
 use Rattle.ct_log_state.specs.declared.line.StateLine.{StateLine}
-use Rattle.ct_repeats.specs.Claims.{claimed_leaf}
-use Rattle.ct_repeats.specs.Identities.{identity_of_leaf, AreApart, AreNewFrom}
-use Rattle.ct_repeats.specs.declared.claim.Claim.{Claim}
+use Rattle.ct_growth.specs.Claims.{claimed_leaf}
+use Rattle.ct_growth.specs.Identities.{identity_of_leaf, AreApart, AreNewFrom}
+use Rattle.ct_growth.specs.declared.claim.Claim.{Claim}
 use Rattle.ct_step.specs.Entries.{tree_leaves}
 use Rattle.ct_step.specs.Lines.{LineAttempt, AreLineAttempts, IsMadeOfEdge}
 use Rattle.ct_step.specs.Steps.{new_entries, IsLog}

@@ -5,16 +5,15 @@ ghost use Rattle.ct_log_state.specs.declared.rolling_out.ResumeFault.TheVariants
 ghost use Rattle.ct_codec.specs.declared.refusal.Refusal.{Refusal as RefusalOf};
 ghost use Rattle.ct_codec.specs.declared.refusal.Refusal.TheVariants.{Memory as Refused};
 ghost use Rattle.ct_growth.specs.declared.growth.GrowthFault.TheVariants.{Refused as GrowthRefused};
-ghost use Rattle.ct_repeats.specs.declared.claim.ClaimFault.TheVariants.{Refused as ClaimRefused};
+ghost use Rattle.ct_growth.specs.declared.claim.ClaimFault.TheVariants.{Refused as ClaimRefused};
 ghost use Rattle.ct_step.specs.declared.step.StepFault.TheVariants.{Growth};
 ghost use Rattle.ct_tile_names.specs.declared.tile.NameFault.TheVariants.{NoSuchTile, Memory as NameMemory};
 ghost use Rattle.ct_step_lines.specs.StepAnswers.{NamesStepFault};
 
 use crate::replies::StepRefusal;
 use ct_codec::Refusal;
-use ct_growth::GrowthFault;
+use ct_growth::{ClaimFault, GrowthFault};
 use ct_log_state::ResumeFault;
-use ct_repeats::ClaimFault;
 use ct_step::StepFault;
 use ct_tile_names::NameFault;
 use std::alloc::AllocError;

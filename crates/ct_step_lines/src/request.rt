@@ -9,8 +9,8 @@ ghost use Rattle.ct_step_lines.specs.StepAsks.{entry_parts, step_ask_of, chain_h
 
 use crate::entry::Entry;
 use ct_codec::Submission;
+use ct_growth::Claim;
 use ct_lines::{fields, line_value};
-use ct_repeats::Claim;
 use serde_json::Value;
 use std::alloc::{AllocError, Global};
 

@@ -20,8 +20,8 @@ use crate::replies::{
 };
 use crate::request::Request;
 use ct_codec::Submission;
+use ct_growth::{Claim, answer_repeat};
 use ct_log_state::{Object, StateLine, needed, resume};
-use ct_repeats::{Claim, answer_repeat};
 use ct_step::take_step;
 use ct_tile_names::Tile;
 use ct_tree::{Head, NodeHash, Sha256Hash};

@@ -8,9 +8,9 @@ use Rattle.ct_tree.specs.declared.head.Head.{Head}
 use Rattle.ct_verify.specs.Verdict.{AcceptsInclusion, RefusesInclusion}
 use Rattle.ct_growth.specs.Leaves.{indexed_leaf, receipt_parts}
 use Rattle.ct_growth.specs.declared.receipts.Receipt.{Receipt}
-use Rattle.ct_repeats.specs.declared.claim.Claim.{Claim}
-use Rattle.ct_repeats.specs.declared.claim.ClaimFault.{ClaimFault}
-use Rattle.ct_repeats.specs.declared.claim.ClaimFault.TheVariants.{IndexTooLarge, ProofRefused, Refused}
+use Rattle.ct_growth.specs.declared.claim.Claim.{Claim}
+use Rattle.ct_growth.specs.declared.claim.ClaimFault.{ClaimFault}
+use Rattle.ct_growth.specs.declared.claim.ClaimFault.TheVariants.{IndexTooLarge, ProofRefused, Refused}
 
 -- the leaf that stands at the claimed place where the claim is true: that of the entry, of the claimed moment, whose extension names the
 -- claimed index (leaf_index, C2SP static-ct-api)

@@ -5,8 +5,8 @@ use Rattle.std.proofs.lemmas.List.Elements.{All-nil, All-cons, Contains-get_or, 
 use Rattle.std.proofs.lemmas.List.Kept.{AllPairs-cons}
 use Rattle.ct_codec.specs.Submitted.{Submitted, identity_of}
 use Rattle.ct_growth.specs.History.{Attempt}
-use Rattle.ct_repeats.specs.Identities.{identity_of_leaf, AreApart, AreNewFrom}
-use Rattle.ct_repeats.specs.Misses.{LookedUp, looked_up_attempts, StoresAll, MissesCanBeTrue}
+use Rattle.ct_growth.specs.Identities.{identity_of_leaf, AreApart, AreNewFrom}
+use Rattle.ct_growth.specs.Misses.{LookedUp, looked_up_attempts, StoresAll, MissesCanBeTrue}
 
 abbrev batch_identities : Attempt → List (List ℕ)
 batch_identities a = map identity_of a.batch

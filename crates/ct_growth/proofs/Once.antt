@@ -11,9 +11,9 @@ use Rattle.ct_growth.specs.Growths.{IsState}
 use Rattle.ct_growth.specs.History.{Attempt, AreAttempts, taken}
 use Rattle.ct_growth.specs.declared.growth.State.{State}
 use Rattle.ct_growth.proofs.Agree.{new_leaves, Carried, carried_none, carried_more}
-use Rattle.ct_repeats.specs.Identities.{identity_of_leaf, LeavesKeepIdentities, AreApart, AreNewFrom}
-use Rattle.ct_repeats.specs.Misses.{LookedUp, looked_up_attempts, taken_looked_up, StoresAll, OneEntryAnIdentity}
-use Rattle.ct_repeats.proofs.Lists.{AllPairs-first, AllPairs-rest, AllPairs-append, pairs_behind}
+use Rattle.ct_growth.specs.Identities.{identity_of_leaf, LeavesKeepIdentities, AreApart, AreNewFrom}
+use Rattle.ct_growth.specs.Misses.{LookedUp, looked_up_attempts, taken_looked_up, StoresAll, OneEntryAnIdentity}
+use Rattle.ct_growth.proofs.Lists.{AllPairs-first, AllPairs-rest, AllPairs-append, pairs_behind}
 
 -- ---- the identity of a leaf
 pub leaves_keep_identities : LeavesKeepIdentities

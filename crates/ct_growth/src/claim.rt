@@ -6,13 +6,13 @@ ghost use Rattle.ct_codec.specs.declared.refusal.Refusal.TheVariants as Refusal;
 ghost use Rattle.ct_verify.specs.Evidence.{IsAudited};
 ghost use Rattle.ct_verify.specs.Laws.{SomeCollide};
 ghost use Rattle.ct_growth.specs.Believed.{IsHeadOver};
-ghost use Rattle.ct_repeats.specs.Claims.{claimed_leaf, IsAnsweredAt, StopsClaim};
-ghost use Rattle.ct_repeats.specs.declared.claim.ClaimFault.TheVariants.{ProofRefused, Refused};
+ghost use Rattle.ct_growth.specs.Claims.{claimed_leaf, IsAnsweredAt, StopsClaim};
+ghost use Rattle.ct_growth.specs.declared.claim.ClaimFault.TheVariants.{ProofRefused, Refused};
 
+use crate::receipts::Receipt;
 use ct_codec::{
     Refusal, Submission, certificate_timestamp_signature_input_with_extensions, index_extension,
 };
-use ct_growth::Receipt;
 use ct_tree::{Head, NodeHash, leaf_hash};
 use ct_verify::{ProofFault, verify_inclusion};
 use std::alloc::Global;

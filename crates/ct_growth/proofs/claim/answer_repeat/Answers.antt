@@ -7,10 +7,10 @@ use Rattle.ct_tree.specs.Tree.{hash_leaf}
 use Rattle.ct_verify.specs.Evidence.{IsAudited}
 use Rattle.ct_verify.specs.Verdict.{AcceptsInclusion, RefusesInclusion}
 use Rattle.ct_growth.specs.Believed.{IsHeadOver}
-use Rattle.ct_repeats.specs.Claims.{claimed_leaf}
-use Rattle.ct_repeats.specs.declared.claim.ClaimFault.TheVariants.{Refused}
-use Rattle.ct_repeats.proofs.Believing.{stands_there, never_refused}
-use Rattle.ct_repeats.proofs.claim.answer_repeat.Goals as goal
+use Rattle.ct_growth.specs.Claims.{claimed_leaf}
+use Rattle.ct_growth.specs.declared.claim.ClaimFault.TheVariants.{Refused}
+use Rattle.ct_growth.proofs.Believing.{stands_there, never_refused}
+use Rattle.ct_growth.proofs.claim.answer_repeat.Goals as goal
 
 each_err : {X E : Type 0} (P : E → Type 0) (r : Result X E) → ((e : E) → P e) → IfErr r P
 each_err P (Ok x) f = tt

@@ -5,7 +5,7 @@ use Rattle.ct_codec.specs.Submitted.{Submitted, identity_of}
 use Rattle.ct_growth.specs.Growths.{IsState}
 use Rattle.ct_growth.specs.History.{Attempt, AreAttempts, taken, CarryOn}
 use Rattle.ct_growth.specs.declared.growth.State.{State}
-use Rattle.ct_repeats.specs.Identities.{identity_of_leaf, AreApart, AreNewFrom}
+use Rattle.ct_growth.specs.Identities.{identity_of_leaf, AreApart, AreNewFrom}
 
 -- An attempt whose submissions were looked up first: the identities that the store had a place for then (stored), and the attempt with
 -- those submissions that it was said to have none for (attempt).

@@ -1,4 +1,0 @@
-pub mod Lists
-pub mod Once
-pub mod Believing
-pub mod Missing

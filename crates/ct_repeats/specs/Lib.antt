@@ -1,3 +1,0 @@
-pub mod Identities
-pub mod Claims
-pub mod Misses
