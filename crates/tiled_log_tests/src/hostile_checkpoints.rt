@@ -3,7 +3,7 @@
 ghost use Rattle.std.specs.Prelude.{◌<◌};
 
 use crate::checkpoints::fault_of;
-use crate::expected::{CHANGED_CHECKPOINT, CHECKPOINT, CUT_CHECKPOINT};
+use crate::hostile::{CHANGED_CHECKPOINT, CHECKPOINT, CUT_CHECKPOINT};
 use crate::hostile_leaves::{number_of, push_counted};
 use ct_checkpoint::{CheckpointFault, read_checkpoint};
 use std::alloc::{AllocError, Global};

@@ -1,7 +1,7 @@
 // A data tile cut off at each place, and with each byte at each place. tests/tiles/hostile.py says what is read of each, by the grammar.
 ghost use Rattle.std.specs.Prelude.{◌<◌};
 
-use crate::expected::{CHANGED, CUT, DATA_TILE};
+use crate::hostile::{CHANGED, CUT, DATA_TILE};
 use ct_codec::{DecodeFault, LentEntry};
 use ct_data_tiles::{DataTileFault, TileFault, TileLeaf, count_tile_leaves, tile_leaves};
 use ct_tree::{Sha256Hash, leaf_hash};
