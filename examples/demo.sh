@@ -17,7 +17,7 @@ if [ $# = 0 ]; then
   [ -n "$program" ] || ctlog=ctlog
   [ -n "$monitor" ] || ctmonitor=ctmonitor
   own="monitor=${ctmonitor-} log=${ctlog-} watched=${ctlog-},${ctmonitor-}"
-  [ -n "$program$monitor" ] || own="path=wagtenib $own tiles=growth_lines followed=growth_lines,ctmonitor"
+  [ -n "$program$monitor" ] || own="path=wagtenib $own tiles=print_steps followed=print_steps,ctmonitor"
   # (each word is a part)
   # shellcheck disable=SC2086
   exec examples/build.py --show examples/demo.sh $own
@@ -183,11 +183,11 @@ END
 }
 
 show_tiles() {
-  echo "== A log on tiles: steps with 3, 0, 253 and 10 certificates, by growth_lines =="
+  echo "== A log on tiles: steps with 3, 0, 253 and 10 certificates, by print_steps =="
   proved crates/ct_growth/src/growth.rt "whatever list D of leaves the state is of, the receipts, tiles, head and next state are those of D with the batch behind it" <<'END'
 ensures growth { IfOk result (λ g. (D : List (List ℕ)) → IsState H.digest state.now D → IsGrowth H.digest D (map entry_of batch.now) now g) }
 END
-  crates/growth_lines/out/growth_lines >"$work/growth" || fail "growth_lines ended with status $?"
+  crates/print_steps/out/print_steps >"$work/growth" || fail "print_steps ended with status $?"
   python3 tests/tiles/growth.py | cmp -s - "$work/growth" || fail "tests/tiles/growth.py computes other lines"
   echo "Each tile that is new or changes, with the SHA-256 of its bytes, and the line of the next state (size, moment, root, digests), cut short:"
   awk 'BEGIN { split("3 0 253 10", many); behind = 1 }
@@ -199,11 +199,11 @@ END
 }
 
 show_followed() {
-  echo "== growth_lines | ctmonitor: that log's heads as checkpoints and its leaves as data tiles, and what is false of them =="
+  echo "== print_steps | ctmonitor: that log's heads as checkpoints and its leaves as data tiles, and what is false of them =="
   proved crates/ct_data_tiles/src/entries.rt "what is told of a data tile is so by its name and bytes: that entries before it are missing, that nothing in it is new, why it is none, or its entries from the next one on, and the first of them that names another index" <<'END'
 ensures { IfOk result (λ a. IsTileAnswer next name.now bytes.now a) }
 END
-  crates/growth_lines/out/growth_lines >"$work/growth" || fail "growth_lines ended with status $?"
+  crates/print_steps/out/print_steps >"$work/growth" || fail "print_steps ended with status $?"
   python3 tests/monitor/grown.py "$work" <"$work/growth" || fail "tests/monitor/grown.py failed"
   watch_all grown.py first grown forked rewritten shrunk wrong-index cut-short
   tests/monitor/roots.sh "$work" || fail "golang.org/x/mod/sumdb/tlog computes other roots"

@@ -1,7 +1,7 @@
 #!/usr/bin/env python3
-"""A log on tiles as the program growth_lines grew it, and what of it is false, as checkpoints and data tiles, and what ctmonitor has to write.
+"""A log on tiles as the program print_steps grew it, and what of it is false, as checkpoints and data tiles, and what ctmonitor has to write.
 
-    grown.py FOLDER < lines of growth_lines
+    grown.py FOLDER < lines of print_steps
 
 Sizes, moments and roots of the heads are those of the lines, and so are the leaves. What is to be written, and the heads of what is false, are computed
 by hashlib alone. The files are those that answers.py writes.
@@ -16,7 +16,7 @@ CHANGED, ASTRAY = 5, 258
 
 
 def read(lines):
-    """The checkpoint, with the size, of each head, and the leaves, that growth_lines printed."""
+    """The checkpoint, with the size, of each head, and the leaves, that print_steps printed."""
     heads, leaves = [], []
     for words in map(str.split, lines):
         if words[0] == "receipt":

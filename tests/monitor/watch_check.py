@@ -29,8 +29,8 @@ import grown
 HERE = pathlib.Path(__file__).resolve().parent
 MONITOR = HERE.parent.parent / "examples" / "monitor"
 BUILT = HERE.parent.parent / "crates" / "ctmonitor" / "out" / "ctmonitor"
-# The stored output of growth_lines.
-GROWN = HERE.parent.parent / "crates" / "growth_lines" / "stdout"
+# The stored output of print_steps.
+GROWN = HERE.parent.parent / "crates" / "print_steps" / "stdout"
 LEAVES = [answers.leaf(answers.MOMENT + i, b"certificate %d of example.org" % i, None) for i in range(40)]
 FORKED = LEAVES[:2] + [answers.leaf(answers.MOMENT, b"another", None)] + LEAVES[3:]
 
@@ -1085,7 +1085,7 @@ def try_judges(watch, log, judge):
 
 
 def try_runs(program):
-    """A program writes what answers.py has for each run, and grown.py for a log on tiles as growth_lines grew it."""
+    """A program writes what answers.py has for each run, and grown.py for a log on tiles as print_steps grew it."""
     count = 0
     words = [word for name in answers.NAMES for word in ("--name", name)]
     for name, status, given, wanted in [*answers.runs(), *grown.runs(*grown.read(GROWN.open()))]:

@@ -1,5 +1,5 @@
 #!/usr/bin/env python3
-"""The lines of the program growth_lines, by hashlib alone: receipts, tiles and state lines of a tiled log that grows by four batches.
+"""The lines of the program print_steps, by hashlib alone: receipts, tiles and state lines of a tiled log that grows by four batches.
 
     growth.py
 
