@@ -11,7 +11,7 @@ WITNESS ?= ct-witness
 WITNESS_PORT ?= 8640
 
 PROGRAMS := ctlog ctlogd ctmonitor ctguard cttile ctproof ctwitness
-LIBRARY = $(BUILT)/wagtenib/out/link/libwagtenib
+LIBRARY = $(BUILT)/libwagtenib/out/link/libwagtenib
 VERSION = $(shell cat VERSION)
 # (a shell expands no ~ in quotes)
 TO = $(DESTDIR)$(PREFIX:~/%=$(HOME)/%)

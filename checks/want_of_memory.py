@@ -24,7 +24,7 @@ ANGLE = r"<(?:[^()=<>{};]|->|<(?:[^()=<>{};]|<[^()=<>{};]*>)*>)*"
 BEFORE = re.compile(rf"(?:\blet\b[^=]*|\b(?:const|static)\s+\w+:[^=]*|->[^{{;=]*|{ANGLE}|\btype\s[^;]*|[!=]= (?:\w+::)*)$")
 BEHIND = re.compile(r"^(?:\([^()]*\)|\{[^{}]*\})?\s*[)}]*\s*(?:if\b[^=]*)?(?:\|(?!\|)|=>)|^>")
 # The library for C, and its number.
-NUMBERED, NUMBER = "wagtenib", re.compile(r"(?<!; )\b8(?:_?[iu](?:\d+|size))?\b")
+NUMBERED, NUMBER = "libwagtenib", re.compile(r"(?<!; )\b8(?:_?[iu](?:\d+|size))?\b")
 # The one file that may ask for all places that there are.
 COUNT = "shared/src/count.rt"
 

@@ -82,7 +82,7 @@ class Release:
         self.commit, self.moment = commit()
         self.logic = (run("rt", "version").stdout.split() or ["unknown"])[-1] if shutil.which("rt") else "unknown"
         self.programs = {**{name: self.built / name / "out" / name for name in PROGRAMS}, **{name: self.service / name for name in SERVICE}}
-        self.linked = self.built / "wagtenib" / "out" / "link" / "libwagtenib"
+        self.linked = self.built / "libwagtenib" / "out" / "link" / "libwagtenib"
 
     def lacking(self):
         found = [f"{name} ({PROGRAMS.get(name, 'make service')})" for name, path in self.programs.items() if not path.is_file()]

@@ -206,7 +206,7 @@ def try_install(folder):
     if ran.returncode or not (folder / "alone" / "to" / "opt" / "log" / "bin" / "ctmonitor-watch").exists():
         fail(f"make install, with ctmonitor alone: status {ran.returncode}: {ran.stderr}")
     sources = {"bin/ctlog": "ctlog/out/ctlog", "bin/ctmonitor": "ctmonitor/out/ctmonitor"}
-    sources.update({f"lib/libwagtenib.{name}": f"wagtenib/out/link/libwagtenib.{end}" for name, end in (("a", "a"), ("so.0.1.0", "so"))})
+    sources.update({f"lib/libwagtenib.{name}": f"libwagtenib/out/link/libwagtenib.{end}" for name, end in (("a", "a"), ("so.0.1.0", "so"))})
     for path in sources.values():
         (folder / "built" / path).parent.mkdir(parents=True, exist_ok=True)
         (folder / "built" / path).write_text(f"made up: {path}")
@@ -245,7 +245,7 @@ def try_release(folder):
         fail("release.py makes something of nothing")
     programs = {name: folder / "built" / name / "out" / name for name in ("ctlog", "ctlogd", "ctmonitor", "ctguard", "cttile", "ctproof", "ctwitness")}
     programs.update({name: folder / "service" / name for name in ("ctserve", "ctcheck", "ctread", "ctload", "ctwitness-serve")})
-    library = {f"libwagtenib.{end}": folder / "built" / "wagtenib" / "out" / "link" / f"libwagtenib.{end}" for end in ("a", "so")}
+    library = {f"libwagtenib.{end}": folder / "built" / "libwagtenib" / "out" / "link" / f"libwagtenib.{end}" for end in ("a", "so")}
     for name, path in {**programs, **library}.items():
         path.parent.mkdir(parents=True, exist_ok=True)
         path.write_text(f"made up: {name}")

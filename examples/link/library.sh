@@ -1,8 +1,8 @@
 #!/usr/bin/env bash
-# Puts libwagtenib.a and libwagtenib.so together in crates/wagtenib/out/link, out of what `examples/build.py wagtenib` has built.
+# Puts libwagtenib.a and libwagtenib.so together in crates/libwagtenib/out/link, out of what `examples/build.py libwagtenib` has built.
 set -eu
 cd "$(dirname "$0")/../.."
-out=$PWD/crates/wagtenib/out/link
+out=$PWD/crates/libwagtenib/out/link
 compiler=${CC:-cc}
 for tool in "$compiler" ar; do
   command -v "$tool" >/dev/null || { echo "library.sh: $tool isn't here" >&2; exit 1; }
@@ -12,7 +12,7 @@ trap 'rm -rf "$work"' EXIT
 
 # The archive gets the kit's three functions over malloc inside, so that it needs the C library alone.
 heap=$(dirname "$(rt doc)")/c/liblibc_c.a
-proved=$PWD/crates/wagtenib/out/libwagtenib.a
+proved=$PWD/crates/libwagtenib/out/liblibwagtenib.a
 (cd "$work" && ar x "$heap" heap.pic.o && ar x "$proved")
 mkdir -p "$out"
 rm -f "$out"/libwagtenib.*

@@ -1,8 +1,8 @@
 #!/usr/bin/env bash
-# Builds libwagtenib.a and libwagtenib.so into crates/wagtenib/out/link, and runs programs in C, Rust and Python over them.
+# Builds libwagtenib.a and libwagtenib.so into crates/libwagtenib/out/link, and runs programs in C, Rust and Python over them.
 set -euo pipefail
 cd "$(dirname "$0")/../.."
-out=$PWD/crates/wagtenib/out/link
+out=$PWD/crates/libwagtenib/out/link
 compiler=${CC:-cc}
 for tool in "$compiler" nm python3; do
   command -v "$tool" >/dev/null || { echo "link: $tool isn't here" >&2; exit 1; }
@@ -11,7 +11,7 @@ work=$(mktemp -d)
 trap 'rm -rf "$work"' EXIT
 
 echo "Building libwagtenib: rt proves it and the crates below it, and says which it is at."
-examples/build.py wagtenib
+examples/build.py libwagtenib
 examples/link/library.sh
 nm "$out/libwagtenib.a" >"$work/names" 2>/dev/null
 python3 examples/link/names.py "$work/names"
@@ -49,4 +49,4 @@ if command -v valgrind >/dev/null && valgrind --quiet true 2>/dev/null; then
   valgrind --quiet --leak-check=full --error-exitcode=3 "$work/plain" <"$work/cases" | sed 's/^C:/C under valgrind:/'
 fi
 echo
-echo "libwagtenib.a and libwagtenib.so stand in crates/wagtenib/out/link; make install PREFIX=.. copies them and the header."
+echo "libwagtenib.a and libwagtenib.so stand in crates/libwagtenib/out/link; make install PREFIX=.. copies them and the header."

@@ -6,7 +6,7 @@ import sys
 
 here = os.path.dirname(os.path.abspath(__file__))
 header = open(os.path.join(here, "../../include/wagtenib.h"), encoding="utf-8").read()
-codes = open(os.path.join(here, "../../crates/wagtenib/specs/Codes.antt"), encoding="utf-8").read()
+codes = open(os.path.join(here, "../../crates/libwagtenib/specs/Codes.antt"), encoding="utf-8").read()
 
 declared = set(re.findall(r"\b(wagtenib_\w+)\(", re.sub(r"/\*.*?\*/", "", header, flags=re.S)))
 exported = {line.split()[-1] for line in open(sys.argv[1], encoding="utf-8") if " T " in line and "::" not in line}

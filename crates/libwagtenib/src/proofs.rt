@@ -3,7 +3,7 @@ ghost use Rattle.std.specs.Prelude.{◌≡◌, ◌⊎◌, ◌<◌, ◌^◌, leng
 ghost use Rattle.sha2.specs.Sha256.{sha256};
 ghost use Rattle.ct_tree.specs.Tree.{mth};
 ghost use Rattle.ct_verify.specs.Verdict.{AcceptsInclusion, RefusesInclusion, AcceptsConsistency, RefusesConsistency};
-ghost use Rattle.wagtenib.specs.Codes.{proof_code, Judges};
+ghost use Rattle.libwagtenib.specs.Codes.{proof_code, Judges};
 
 use ct_tree::{Sha256Hash, Stack};
 use ct_verify::{ProofFault, verify_consistency, verify_inclusion};

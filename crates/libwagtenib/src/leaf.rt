@@ -3,7 +3,7 @@ ghost use Rattle.std.specs.Prelude.{◌≡◌, IfOk, IfErr};
 ghost use Rattle.sha2.specs.Sha256.{sha256};
 ghost use Rattle.ct_tree.specs.Tree.{hash_leaf};
 ghost use Rattle.ct_codec.specs.Faults.{LeafFaulty};
-ghost use Rattle.wagtenib.specs.Codes.{leaf_code, DecodesLeaf};
+ghost use Rattle.libwagtenib.specs.Codes.{leaf_code, DecodesLeaf};
 
 use ct_codec::{DecodeFault, LentEntry, lend_leaf};
 use ct_tree::{Sha256Hash, leaf_hash};

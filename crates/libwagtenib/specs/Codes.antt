@@ -7,7 +7,7 @@ use Rattle.ct_codec.specs.declared.fault.DecodeFault.TheVariants.{Truncated, Bad
 use Rattle.ct_verify.specs.declared.fault.ProofFault.{ProofFault}
 use Rattle.ct_verify.specs.declared.fault.ProofFault.TheVariants.{IndexOutOfRange, PathTooLong, PathTooShort, RootMismatch, EmptyPath, FirstMismatch}
 use Rattle.ct_verify.specs.declared.fault.ProofFault.TheVariants.{SizesOutOfRange}
-use Rattle.wagtenib.specs.declared.leaf.LeafInfo.{LeafInfo}
+use Rattle.libwagtenib.specs.declared.leaf.LeafInfo.{LeafInfo}
 
 -- the number by which a proof's fault is told in C; include/wagtenib.h has the same
 abbrev pub proof_code : ProofFault → ℕ

@@ -1,7 +1,7 @@
 use Rattle.std.proofs.Common.{take}
 use Rattle.sha2.specs.Sha256.{sha256}
 use Rattle.ct_tree.specs.Stack.{Stands}
-use Rattle.wagtenib.proofs.proofs.root_of.Given as goal
+use Rattle.libwagtenib.proofs.proofs.root_of.Given as goal
 
 -- the hashes so far are pushed
 abbrev pub invariant-loop-leaf_hash : goal.invariant-loop-leaf_hash

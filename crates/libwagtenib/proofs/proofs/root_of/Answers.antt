@@ -1,6 +1,6 @@
 use Rattle.std.proofs.Common.{◌≡◌, length, take, arith, sym, ◌∙◌}
 use Rattle.std.proofs.lemmas.List.{length-take-le}
-use Rattle.wagtenib.proofs.proofs.root_of.Goals as goal
+use Rattle.libwagtenib.proofs.proofs.root_of.Goals as goal
 
 pub push-requires : goal.push-requires
 push-requires c D s =
