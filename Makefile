@@ -23,7 +23,7 @@ demo: ## proves ctlog and ctmonitor, and shows something of each layer as soon a
 	@checks/needs.sh demo
 	@examples/demo.sh
 
-# TURN=0, 1 or 2 says which third of the wrong bodies in crates/*/by-turns it tries.
+# TURN=0, 1 or 2 says of which third of the crates it tries the wrong bodies that every third gate tries.
 # GO=no leaves the Go part out, SETUP=no installs no packages of Debian's for it. The file COUNT gets how many of its tests passed.
 test: ## the gate: proves every crate from nothing, and runs the tests and the program
 	@checks/needs.sh test
@@ -132,8 +132,8 @@ sweep: ## refuses each growth of ctlog, of ctlogd and of the library's calls in 
 	@PYTHONDONTWRITEBYTECODE=1 python3 tests/growths.py
 	@PYTHONDONTWRITEBYTECODE=1 python3 tests/short_calls.py
 
-# After `make check`, over whose work it goes. The gate tries those of must-fail/ each time.
-wrong: ## has the prover refuse the wrong bodies of CRATE=ct_core that not every gate tries (crates/*/wrong-bodies, by-turns)
+# After `make check`, over whose work it goes. The first line of an edit says which gates try it.
+wrong: ## has the prover refuse the wrong bodies of CRATE=ct_core (crates/*/wrong-bodies), of which the gate tries few each time
 	@PYTHONDONTWRITEBYTECODE=1 python3 checks/wrong_bodies.py $(or $(CRATE),ct_core)
 
 # What no contract can say of the sources, what docs/CHECKING.md is made from, and what the documents name.

@@ -5,10 +5,10 @@ more, with the tests of the Go part in it, of which the file COUNT in the enviro
 `rt ci` tells of a crate when it is done, and not how many of its functions are proved so far; while it tells nothing, a line a minute says
 how long it has been at work.
 
-Beside the edits of crates/NAME/must-fail it has `rt ci` try those of crates/NAME/by-turns, of a third of the crates that have this folder: the
-commit's hash says which, or TURN=0, 1 or 2 in the environment. They stand in must-fail while it runs; what a run that was killed has left there
-wrong_bodies.py takes away. What a crate's edits cost is one more proof of the crate, and little for each; so the thirds are made of whole crates, of
-about the same size.
+It has `rt ci` try those edits of crates/NAME/wrong-bodies whose first line is 'tried: by each gate', and those where it is 'tried: by every third
+gate', of a third of the crates that have such: the commit's hash says which, or TURN=0, 1 or 2 in the environment. They stand in must-fail, which
+`rt ci` reads, while it runs; what a run that was killed has left there wrong_bodies.py takes away. What a crate's edits cost is one more proof of
+the crate, and little for each; so the thirds are made of whole crates, of about the same size.
 
 `rt ci` guesses what memory a proof needs, at two to three times what was seen, and lets a large crate wait while smaller ones have that: so ct_live, in
 the longest chain of crates, waited. Where each processor has memory for a proof, it is told to use them all, by RT_JOBS.
@@ -18,7 +18,6 @@ import fcntl
 import os
 import pathlib
 import re
-import shutil
 import signal
 import subprocess
 import sys
@@ -27,6 +26,9 @@ import time
 
 ROOT = pathlib.Path(__file__).resolve().parent.parent
 THIRDS = 3
+
+# What the first line of an edit of wrong-bodies says of when it is tried; where it is another, `make wrong` alone tries it.
+EACH, IN_TURN = "tried: by each gate", "tried: by every third gate"
 
 # About the most memory that a proof was seen to take, in bytes.
 MEMORY = 4_000_000_000
@@ -51,11 +53,23 @@ def turn():
     return int(commit or "0", 16) % THIRDS
 
 
+def edits(crate, *when):
+    """The edits of a crate that are tried then; those of by-turns are so in turn."""
+    found = [edit for edit in sorted((crate / "wrong-bodies").glob("*.edit")) if edit.read_text().partition("\n")[0] in when]
+    return found + (sorted((crate / "by-turns").glob("*.edit")) if IN_TURN in when else [])
+
+
+def for_rt(edit):
+    """The text of an edit as rt reads it: without the line that says when it is tried."""
+    first, end, rest = edit.read_text().partition("\n")
+    return rest if first in (EACH, IN_TURN) else first + end + rest
+
+
 def put_out(own=()):
-    """Takes these edits out of must-fail, and those of by-turns that a run that was killed has left there, whole or cut off; one with another text
-    stays. The answer is how many were left."""
-    pairs = [(edit, edit.parent.parent / "must-fail" / edit.name) for edit in ROOT.glob("crates/*/by-turns/*.edit")]
-    left = [there for edit, there in pairs if there.exists() and edit.read_bytes().startswith(there.read_bytes())]
+    """Takes these edits out of must-fail, and those of wrong-bodies that a run that was killed has left there, whole or cut off; one with another
+    text stays. The answer is how many were left."""
+    pairs = [(edit, crate / "must-fail" / edit.name) for crate in ROOT.glob("crates/*") for edit in edits(crate, EACH, IN_TURN)]
+    left = [there for edit, there in pairs if there.exists() and for_rt(edit).startswith(there.read_text())]
     for there in {*own, *left}:
         there.unlink(missing_ok=True)
     for folder in {there.parent for _, there in pairs}:
@@ -90,21 +104,22 @@ def size_of(crate):
 
 
 def thirds():
-    """The crates that have edits by turns, in thirds: the largest first, each goes where least is so far."""
+    """The crates that have edits in turn, in thirds: the largest first, each goes where least is so far."""
     found = [[] for _ in range(THIRDS)]
-    for crate in sorted((folder.parent for folder in ROOT.glob("crates/*/by-turns")), key=lambda it: (-size_of(it), it.name)):
+    for crate in sorted((crate for crate in ROOT.glob("crates/*") if edits(crate, IN_TURN)), key=lambda it: (-size_of(it), it.name)):
         min(found, key=lambda third: sum(map(size_of, third))).append(crate)
     return found
 
 
 def put_in():
-    """Puts the edits of this turn into must-fail, and answers where they stand there."""
+    """Puts the edits of each gate and of this turn into must-fail, and answers where they stand there."""
     put_out()
-    found = []
-    for crate in sorted(thirds()[turn()]):
-        for edit in (crate / "by-turns").glob("*.edit"):
+    found, third = [], thirds()[turn()]
+    for crate in sorted(ROOT.glob("crates/*")):
+        for edit in edits(crate, EACH, *[IN_TURN] * (crate in third)):
             (crate / "must-fail").mkdir(exist_ok=True)
-            found.append(pathlib.Path(shutil.copy(edit, crate / "must-fail")))
+            found.append(crate / "must-fail" / edit.name)
+            found[-1].write_text(for_rt(edit))
     return found
 
 
@@ -125,17 +140,17 @@ def end_in_order():
 def main():
     end_in_order()
     with at_work():
-        edits = []
+        there = []
         try:
-            edits = put_in()
-            names = sorted({edit.parent.parent.name for edit in edits})
-            print(f"Of the wrong bodies that are tried by turns, it tries those of {', '.join(names) or 'no crate'}.", flush=True)
+            there = put_in()
+            names = sorted({edit.parent.parent.name for edit in there})
+            print(f"It tries {len(there)} wrong bodies of {', '.join(names) or 'no crate'}; make wrong CRATE=.. tries all of a crate.", flush=True)
             status = run()
-            if gone := [edit.name for edit in edits if not edit.exists()]:
+            if gone := [edit.name for edit in there if not edit.exists()]:
                 sys.exit(f"gate.py: {len(gone)} edits were taken out of must-fail while it ran, {gone[0]} among them: run it once more")
             sys.exit(status)
         finally:
-            put_out(edits)
+            put_out(there)
 
 
 def surroundings():

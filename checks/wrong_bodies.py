@@ -1,14 +1,13 @@
 #!/usr/bin/env python3
-"""The wrong bodies beside those that each gate tries: each applies to its crate, and with a crate's name, the prover refuses each.
+"""The wrong bodies: each applies to its crate, and with a crate's name, the prover refuses each.
 
     wrong_bodies.py [CRATE..]
 
-crates/NAME/wrong-bodies/ has edits of the form that crates/NAME/must-fail/ has: a line 'file: PATH', and then pairs of lines 'old: TEXT' and
-'new: TEXT', of which each TEXT stands in that file exactly once. The gate tries those of must-fail each time, and those of by-turns of a third of
-the crates (gate.py), since one costs up to a minute of a processor, and a crate's first one a proof of the crate. Without a name it looks, in a
-moment, whether all edits of the three folders can be applied, and whether no name stands in two. With names it has rt try the crates' edits of
-wrong-bodies and by-turns, over a copy of the repository with what is proved there. First it takes out of must-fail what a gate that was killed has
-left there of by-turns; not while a gate is at work here.
+crates/NAME/wrong-bodies/ has edits: a line 'file: PATH', and then pairs of lines 'old: TEXT' and 'new: TEXT', of which each old TEXT stands in
+that file exactly once. The gate (gate.py) tries those whose first line is 'tried: by each gate' each time, and those where it is 'tried: by every
+third gate' of a third of the crates, since one costs up to a minute of a processor, and a crate's first one a proof of the crate. Without a name
+this script looks, in a moment, whether all edits can be applied. With names it has rt try all edits of the crates, over a copy of the repository
+with what is proved there. First it takes out of must-fail what a gate that was killed has left there; not while a gate is at work here.
 """
 import os
 import pathlib
@@ -21,13 +20,14 @@ import tempfile
 import gate
 from source import CRATES, MADE, ROOT
 
+# (must-fail is rt's own, of a gate at work; by-turns is wrong-bodies that every third gate tries)
 FOLDERS = ("must-fail", "by-turns", "wrong-bodies")
 
 
 def why_not(edit, crate):
     """Why the edit can't be applied to the crate, or None."""
     texts, path, old, pairs = {}, None, None, 0
-    for line in edit.read_text().splitlines():
+    for line in gate.for_rt(edit).splitlines():
         if line.startswith("file: "):
             path = line[len("file: "):].strip()
         elif line.startswith("old: "):
@@ -42,6 +42,8 @@ def why_not(edit, crate):
                 return f"an 'old:' text is in {path} {text.count(old)} times, and not once"
             texts[path] = text.replace(old, re.sub("^ ", "", line[len("new:"):]))
             old, pairs = None, pairs + 1
+        else:
+            return f"a line is none of 'file:', 'old:', 'new:', and not the first one, '{gate.EACH}' or '{gate.IN_TURN}': {line}"
     return None if pairs else "it has no 'old:' and 'new:' pair"
 
 
@@ -69,7 +71,7 @@ def tried(names):
     """Whether the prover refuses each edit of these crates' folders."""
     for name in names:
         if not any(edit for folder in FOLDERS[1:] for edit in (CRATES / name / folder).glob("*.edit")):
-            sys.exit(f"wrong_bodies.py: crates/{name} has no edit in wrong-bodies or by-turns")
+            sys.exit(f"wrong_bodies.py: crates/{name} has no edit in wrong-bodies")
     gate.end_in_order()
     # (the copy takes some GB: a folder of the disk, not of memory)
     disk = None if "TMPDIR" in os.environ or not os.access("/var/tmp", os.W_OK) else "/var/tmp"
@@ -82,7 +84,7 @@ def tried(names):
             shutil.rmtree(crate / "must-fail", ignore_errors=True)
             (crate / "must-fail").mkdir()
             for edit in (it for folder in FOLDERS[1:] for it in (crate / folder).glob("*.edit")):
-                shutil.copy(edit, crate / "must-fail")
+                (crate / "must-fail" / edit.name).write_text(gate.for_rt(edit))
         trial = subprocess.Popen(["rt", "must-fail", *names], cwd=copy)
         try:
             return trial.wait() == 0

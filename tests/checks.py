@@ -21,13 +21,17 @@ ROOT = pathlib.Path(__file__).resolve().parent.parent
 sys.path.insert(1, str(ROOT / "checks"))
 
 import documents  # noqa: E402
+import gate  # noqa: E402
 import wrong_bodies  # noqa: E402
 
-# Edits of the made-up crate, by their folder: one that a gate left in must-fail whole, one that it left cut off, and one of must-fail itself.
+# Edits of the made-up crate as rt reads them: one that each gate tries, two of every third gate, and one that `make wrong` alone tries. A gate has
+# left one of them whole, and one cut off; and one in must-fail is of another's.
 EDIT = "file: src/lib.rt\nold: one\nnew: {}\n"
-BY_TURNS = {name: EDIT.format(name) for name in ("whole.edit", "cut.edit")}
+EACH, IN_TURN = {"each.edit": EDIT.format("each")}, {name: EDIT.format(name) for name in ("whole.edit", "cut.edit")}
+WRONG = {"asked.edit": EDIT.format("asked")}
+WRONG.update({name: f"{gate.EACH}\n{text}" for name, text in EACH.items()} | {name: f"{gate.IN_TURN}\n{text}" for name, text in IN_TURN.items()})
 OWN = {"own.edit": EDIT.format("own")}
-LEFT = {**OWN, "whole.edit": BY_TURNS["whole.edit"], "cut.edit": BY_TURNS["cut.edit"][:20]}
+LEFT = {**OWN, "whole.edit": IN_TURN["whole.edit"], "cut.edit": IN_TURN["cut.edit"][:20]}
 
 
 def fail(why):
@@ -46,7 +50,7 @@ class Repository:
         (folder / "crates.txt").write_text("made_up:\n")
         (folder / "HANDLES").write_text("")
         self.put("src", {"lib.rt": "one\n"})
-        self.put("by-turns", BY_TURNS)
+        self.put("wrong-bodies", WRONG)
         self.bin.mkdir()
         self.room.mkdir()
 
@@ -60,11 +64,11 @@ class Repository:
         """The files of a folder of the crate; none where it isn't there."""
         return {path.name: path.read_text() if path.is_file() else None for path in (self.crate / name).glob("*")}
 
-    def run(self, script, *words, rt="exit 9", path=os.environ["PATH"]):
+    def run(self, script, *words, rt="exit 9", path=os.environ["PATH"], turn=""):
         """Runs a script, with an `rt` that does this; its status, and all that it wrote."""
         (self.bin / "rt").write_text(f"#!/bin/sh\n{rt}\n")
         (self.bin / "rt").chmod(0o755)
-        place = {**os.environ, "PATH": f"{self.bin}:{path}", "PYTHONDONTWRITEBYTECODE": "1", "TURN": "", "TMPDIR": str(self.room)}
+        place = {**os.environ, "PATH": f"{self.bin}:{path}", "PYTHONDONTWRITEBYTECODE": "1", "TURN": turn, "TMPDIR": str(self.room)}
         how = {"stdout": subprocess.PIPE, "stderr": subprocess.STDOUT, "text": True, "cwd": self.folder, "env": place}
         # (the signal may be ignored here, as behind nohup)
         how["preexec_fn"] = lambda: signal.signal(signal.SIGHUP, signal.SIG_DFL)
@@ -78,20 +82,23 @@ def hold(what, found, due):
 
 
 def try_gate(repository):
-    """The gate has the edits in must-fail while rt runs, and none behind it: where it ends, where its terminal does, and
-    where one of them goes meanwhile. Git isn't there."""
-    looks = "cmp -s crates/made_up/by-turns/whole.edit crates/made_up/must-fail/whole.edit || exit 3"
+    """The gate has the edits of each gate and of its turn in must-fail while rt runs, without the line that says when, and none behind it: where it
+    ends, where its terminal does, and where one of them goes meanwhile. Git isn't there."""
+    looks = "cat crates/made_up/must-fail/*.edit | cmp -s - due || exit 3"
     repository.put("must-fail", OWN)
     alone = repository.folder / "alone"
     alone.mkdir()
-    for tool in ("cmp", "rm"):
+    for tool in ("cat", "cmp", "rm"):
         (alone / tool).symlink_to(shutil.which(tool))
-    for what, rt, status in (
-        ("a gate", f"{looks}; echo >crates/made_up/by-turns/cut.edit; echo 1 passed, 0 failed", 0),
-        ("a gate whose terminal ends", f"{looks}; kill -HUP $PPID", 1),
-        ("a gate whose edits go meanwhile", f"{looks}; rm crates/made_up/must-fail/whole.edit; echo 1 passed, 0 failed", 1),
+    for what, turn, rt, status in (
+        ("a gate of another turn", "1", f"{looks}; echo 1 passed, 0 failed", 0),
+        ("a gate whose terminal ends", "", f"{looks}; kill -HUP $PPID", 1),
+        ("a gate whose edits go meanwhile", "", f"{looks}; rm crates/made_up/must-fail/whole.edit; echo 1 passed, 0 failed", 1),
+        ("a gate", "0", f"{looks}; echo >crates/made_up/wrong-bodies/cut.edit; echo 1 passed, 0 failed", 0),
     ):
-        ended, said = repository.run("checks/gate.py", rt=rt, path=alone)
+        there = {**OWN, **EACH, **(IN_TURN if turn != "1" else {})}
+        (repository.folder / "due").write_text("".join(there[name] for name in sorted(there)))
+        ended, said = repository.run("checks/gate.py", rt=rt, path=alone, turn=turn)
         hold(f"{what} ends with {said}", ended, status)
         hold(f"{what} leaves in must-fail", repository.texts("must-fail"), OWN)
 
@@ -122,6 +129,11 @@ def try_left(repository):
     ended, said = repository.run("checks/wrong_bodies.py")
     hold(f"wrong_bodies.py where two edits have one name says {said}", ended, 1)
     hold("it leaves in must-fail", repository.texts("must-fail"), {**OWN, **other})
+    (repository.crate / "must-fail" / "whole.edit").unlink()
+    repository.put("wrong-bodies", {"asked.edit": f"tried: at times\n{WRONG['asked.edit']}"})
+    ended, said = repository.run("checks/wrong_bodies.py")
+    hold(f"wrong_bodies.py where an edit's first line says nothing of when says {said}", ended, 1)
+    repository.put("wrong-bodies", WRONG)
 
 
 def try_ended(repository):
