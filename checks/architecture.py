@@ -1,41 +1,51 @@
 #!/usr/bin/env python3
-"""The tables of crates in docs/ARCHITECTURE.md are made of crates.txt and of the first sentences of the crates' own pages.
+"""The rooms of crates: no arrow between them goes back, and the tables and the first picture of docs/ARCHITECTURE.md are made of crates.txt and of the
+first sentences of the crates' own pages.
 
     architecture.py [--write]
 
-Each stands behind its line MADE, up to the next empty line: the crates of the log in memory alone, and all others. The script prints the first line
-that differs, and each crate whose lib.rt or main.rt doesn't begin with a page; it ends with status 1 where there is one. With --write it writes the tables.
+In crates.txt a line '# Room NAME over NAME, NAME' stands above the crates of a room, and says over which rooms, which stand before it, its crates
+may stand beside its own. What is made of each stands behind its line MADE. The script prints each crate that stands over one of another room, each that
+is in no room, each whose lib.rt or main.rt doesn't begin with a page, and the first line of what is made that differs; it ends with status 1 where there is one.
+With --write it writes the tables.
 """
 import re
 import sys
 
-from source import CRATES, ROOT, crates, is_for_tests
+from source import CRATES, ROOT, crates
 
 PAGE = ROOT / "docs" / "ARCHITECTURE.md"
-MADE = "<!-- Made by checks/architecture.py --write: the log {}. -->\n\n"
-TABLE = re.compile(MADE.format("(in memory|on tiles)") + r"((?:\|.*\n)*)")
-# The programs that are the log in memory.
-IN_MEMORY = ("ctlog", "ctlogd")
+MADE = "<!-- Made by checks/architecture.py --write: {}. -->\n\n"
+TABLE = re.compile(MADE.format("([a-z ]+)") + r"(```mermaid\n[^`]*```\n|(?:It may use .*\n\n)?(?:\|.*\n)*)")
+ROOM = re.compile(r"# Room ([a-z ]+?)(?: over ([a-z ,]+))?")
 
 
-def stands_on():
-    """The crates that each listed crate stands on, itself and those below those with them."""
-    below = {}
-    for line in (ROOT / "crates.txt").read_text().splitlines():
-        if line and not line.startswith("#"):
-            names, _, libraries = line.partition(":")
-            crate = names.split()[0]
-            below[crate] = {crate}.union(*(below.get(library, set()) for library in libraries.split()))
-    return below
+def rooms(text):
+    """The rooms of such a text, in their order: each with those over which it may stand, and its crates with what these stand on."""
+    found, faults, here = {}, [], None
+    for line in text.splitlines():
+        if room := ROOM.fullmatch(line):
+            here = room.group(1)
+            over = room.group(2).split(", ") if room.group(2) else []
+            faults += [f"crates.txt: the room {here} is over {other}, which doesn't stand before it" for other in over if other not in found]
+            found[here] = (over, {})
+        elif line and not line.startswith("#"):
+            head, _, below = line.partition(":")
+            if here is None:
+                faults.append(f"crates.txt: {head.split()[0]} is in no room")
+            else:
+                found[here][1][head.split()[0]] = below.split()
+    return found, faults
 
 
-def in_memory():
-    """The crates that the log in memory alone stands on, and those that test them."""
-    below = stands_on()
-    memory = set().union(*(below[crate] for crate in IN_MEMORY))
-    others = set().union(*(below[crate] for crate in below if crate not in memory and not is_for_tests(crate)))
-    alone = memory - others
-    return alone | {crate for crate in below if is_for_tests(crate) and below[crate] & alone}
+def arrows_back(found):
+    """What is said of each crate that stands over one of a room over which its own may not."""
+    room_of = {crate: room for room, (_, listed) in found.items() for crate in listed}
+    for room, (over, listed) in found.items():
+        for crate, below in listed.items():
+            for other in below:
+                if room_of.get(other, room) not in (room, *over):
+                    yield f"crates.txt: {crate} ({room}) stands over {other} ({room_of[other]}), which the room {room} may not"
 
 
 def about(crate):
@@ -46,27 +56,39 @@ def about(crate):
     return re.match(r"(?:.*?\.(?= [A-Z`]|$))?", paragraph).group().replace("|", "\\|")
 
 
-def table(words):
-    return "".join(["| Crate | Is |\n", "|---|---|\n", *(f"| `{crate}` | {said} |\n" for crate, said in words.items())])
+def table(over, words):
+    """What is made of a room: which others it may use, and its crates."""
+    rows = (f"| `{crate}` | {said} |\n" for crate, said in words.items())
+    return "".join([f"It may use {', '.join(over) or 'no other'}.\n\n", "| Crate | Is |\n", "|---|---|\n", *rows])
+
+
+def picture(found):
+    """The rooms, with an arrow from each to those that it may use, where no way leads there over a third."""
+    names = {room: f'{room.split()[0]}["{room}"]' if " " in room else room for room in found}
+    through = {room: {other for third in over for other in found[third][0]} for room, (over, _) in found.items()}
+    arrows = (f"    {names[room]} --> {names[other]}\n" for room, (over, _) in found.items() for other in over if other not in through[room])
+    return "".join(["```mermaid\n", "flowchart LR\n", *arrows, "```\n"])
 
 
 def main():
     words = {crate: about(crate) for crate in crates()}
-    page, memory = PAGE.read_text(), in_memory()
-    wanted = {which: table({crate: said for crate, said in words.items() if (crate in memory) == (which == "in memory")}) for which in ("in memory", "on tiles")}
-    found = [f"crates/{crate} doesn't begin with a page that says what it is" for crate, said in words.items() if not said]
+    found, faults = rooms((ROOT / "crates.txt").read_text())
+    faults += [*arrows_back(found), *(f"crates/{crate} doesn't begin with a page that says what it is" for crate, said in words.items() if not said)]
+    wanted = {room: table(over, {crate: words[crate] for crate in listed}) for room, (over, listed) in found.items()}
+    wanted["rooms"] = picture(found)
+    page = PAGE.read_text()
     stands = dict(TABLE.findall(page))
     if set(stands) != set(wanted):
-        sys.exit(f"docs/ARCHITECTURE.md has the tables {sorted(stands)}, and not one behind each line {MADE.strip()}")
+        sys.exit(f"docs/ARCHITECTURE.md has the tables {sorted(stands)}, and not one behind each line {MADE.strip()} for {sorted(wanted)}")
     if sys.argv[1:] == ["--write"]:
         PAGE.write_text(TABLE.sub(lambda one: MADE.format(one.group(1)) + wanted[one.group(1)], page))
-    for which in wanted if sys.argv[1:] != ["--write"] else ():
-        if stands[which] != wanted[which]:
-            line = next((one for one in wanted[which].splitlines() if one not in stands[which].splitlines()), "fewer or other rows")
-            found.append(f"docs/ARCHITECTURE.md: the table of the log {which} isn't as checks/architecture.py --write writes it: {line}")
-    for fault in found:
+    for room in wanted if sys.argv[1:] != ["--write"] else ():
+        if stands[room] != wanted[room]:
+            line = next((one for one in wanted[room].splitlines() if one not in stands[room].splitlines()), "fewer or other rows")
+            faults.append(f"docs/ARCHITECTURE.md: what is made of {room} isn't as checks/architecture.py --write writes it: {line}")
+    for fault in faults:
         print(fault)
-    sys.exit(1 if found else 0)
+    sys.exit(1 if faults else 0)
 
 
 if __name__ == "__main__":

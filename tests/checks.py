@@ -1,6 +1,6 @@
 #!/usr/bin/env python3
 """Tries what scripts do around proofs, over a made-up repository and an `rt` that is a script: gate.py and build.py where they are ended, and gate.py
-without git; wrong_bodies.py behind a gate that was killed, and where it is ended; prove.py where a crate is changed during its proof; which crates
+without git; wrong_bodies.py behind a gate that was killed, and where it is ended; architecture.py where a crate stands over one of a later room; prove.py where a crate is changed during its proof; which crates
 build.py begins with; documents.py beside sockets and the folder of a log.
 
 It prints nothing where all is as it has to be; else it says what isn't, and ends with status 1.
@@ -20,6 +20,7 @@ import types
 ROOT = pathlib.Path(__file__).resolve().parent.parent
 sys.path.insert(1, str(ROOT / "checks"))
 
+import architecture  # noqa: E402
 import documents  # noqa: E402
 import gate  # noqa: E402
 import wrong_bodies  # noqa: E402
@@ -136,6 +137,17 @@ def try_left(repository):
     repository.put("wrong-bodies", WRONG)
 
 
+def try_rooms(repository):
+    """A crate that stands over one of a room over which its own may not is told by both names; so is one in no room, and a room over a later one."""
+    text = "# Room base\nlow:\n{}\n# Room top over base\nfar may_wait=2: low std\n"
+    for crate, due in (("high: low", []), ("high: low far", ["crates.txt: high (base) stands over far (top), which the room base may not"])):
+        found, faults = architecture.rooms(text.format(crate))
+        hold(f"of the rooms with {crate} is told", [*faults, *architecture.arrows_back(found)], due)
+    hold("of a crate before all rooms is told", architecture.rooms("x:\n" + text.format(""))[1], ["crates.txt: x is in no room"])
+    back = architecture.rooms("# Room base over top\n# Room top\n")[1]
+    hold("of a room over a later one is told", back, ["crates.txt: the room base is over top, which doesn't stand before it"])
+
+
 def try_ended(repository):
     """Where wrong_bodies.py is ended, so is rt, which can put things in order before its copy goes."""
     beside = repository.folder / "beside"
@@ -231,7 +243,7 @@ def try_sockets(folder):
 
 
 def main():
-    for case in (try_gate, try_counted, try_left, try_ended, try_prove, try_build, try_order):
+    for case in (try_gate, try_counted, try_left, try_rooms, try_ended, try_prove, try_build, try_order):
         with tempfile.TemporaryDirectory() as folder:
             case(Repository(pathlib.Path(folder)))
     with tempfile.TemporaryDirectory() as folder:

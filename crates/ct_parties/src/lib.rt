@@ -1,4 +1,4 @@
-//! What the parties of a log do for lines of requests: the fronts, the operator, and then the closed log.
+//! The workers of a log in memory, its parties: what each front, the operator, and then the closed log do for lines of requests.
 //!
 //! - `serving` is the one loop of a party: it takes the next task from a source, does it, and hands the reply on to a sink;
 //!   `listed` has a list for a source and a buffer for a sink.

@@ -1,4 +1,5 @@
-//! Published states as readers see them: with no lock and no wait, and what a reader has seen begins all that it sees later.
+//! Snapshots of a log for its readers, the published states as each sees them: with no lock and no wait, and what a reader has seen begins all that
+//! it sees later.
 //!
 //! - `Shelf` is where a log's published states are shown, one after another. It belongs to one thread, which makes publications
 //!   (`publish`) and tokens of all that is published so far (`bulletin`).
