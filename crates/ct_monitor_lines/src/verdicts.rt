@@ -8,12 +8,12 @@ ghost use Rattle.ct_monitor_lines.specs.VerdictText.{proof_fault_name, wanted_si
 use crate::entries::name_of as leaf_fault_of;
 use crate::refusal::AnswerRefusal;
 use crate::text::push_line;
-use ct_lines::bytes_value;
 use ct_monitor::{Verdict, Watcher};
 use ct_tile_leaves::TileFault;
 use ct_tiled_entries::Damage;
 use ct_tree::{Head, Sha256Hash};
 use ct_verify::ProofFault;
+use json_lines::bytes_value;
 use serde_json::{Value, json};
 use std::alloc::{AllocError, Global};
 
