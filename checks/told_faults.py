@@ -45,12 +45,12 @@ WAITS = {
 TOLD = {
     "ct_monitor_lines/src/program.rt": {"Read": (1, "behind the last turn over the lines")},
     "ct_guard_lines/src/program.rt": {"Read": (1, "behind the last turn over the lines")},
-    "ct_lines/src/lines.rt": {
+    "json_lines/src/lines.rt": {
         "Error": (2, "behind the last turn over a line's pieces, and the last line's number"),
         "ErrorKind::Other": (2, "of these"),
         "ErrorKind::Interrupted": (1, "of a call that was interrupted"),
     },
-    "ct_lines/src/sending.rt": {
+    "json_lines/src/sending.rt": {
         **dict.fromkeys(("Error", "ErrorKind::WriteZero"), (1, "the writer took no bytes")),
         "Unwritten": (2, "the output couldn't be written, or handed on"),
     },
@@ -103,13 +103,13 @@ def told(text):
 
 
 def is_whole(text, name):
-    """Whether a constant is so many turns: ct_lines' own, which the source is or imports."""
+    """Whether a constant is so many turns: json_lines' own, which the source is or imports."""
     own = re.search(rf"\bconst {name}: u64 = {TURNS};", text)
-    imported = re.search(rf"\buse (?:crate::lines|ct_lines)::{{[^}}]*\b{name}\b", text)
+    imported = re.search(rf"\buse (?:crate::lines|json_lines)::{{[^}}]*\b{name}\b", text)
     # (another of this name would hide it)
     if len(re.findall(rf"\b(?:const|static|let(?: mut)?|as)\s+{name}\b|\b{name}\s*:", text)) != (1 if own else 0):
         return False
-    return bool(own or imported and re.search(rf"\bpub const {name}: u64 = {TURNS};", (CRATES / "ct_lines/src/lines.rt").read_text()))
+    return bool(own or imported and re.search(rf"\bpub const {name}: u64 = {TURNS};", (CRATES / "json_lines/src/lines.rt").read_text()))
 
 
 def loops(text):
@@ -141,13 +141,13 @@ def texts_told(text):
 
 
 # Sources of which each tells a fault at will, and sources that may stand: the faults that are told in each, its loops, and its texts.
-LINES = "use ct_lines::{READS, tell};"
+LINES = "use json_lines::{READS, tell};"
 LOOPS = "for turn in 0..READS { next(turn)?; } Err(Fault::Read)"
 RUN = "match run(words) { Ok(status) => status, Err(fault) => { tell(faults, fault_text(fault).as_bytes()); 1 } }"
 WRONG = f"""{LINES} fn f() -> Answer {{ const READS: u64 = 1 << 20; {LOOPS} }}
 {LINES} fn f() -> Answer {{ let READS = 1 << 20; {LOOPS} }}
 {LINES} fn f(READS: u64) -> Answer {{ {LOOPS} }}
-use ct_lines::tell; use crate::few::FEW as READS; fn f() -> Answer {{ {LOOPS} }}
+use json_lines::tell; use crate::few::FEW as READS; fn f() -> Answer {{ {LOOPS} }}
 {LINES} fn f(output: &mut W) -> Answer {{ Write::write_all(output, bytes)?; }}
 {LINES} fn f(output: &mut W) -> Answer {{ <W as Write>::write_all (output, bytes)?; }}
 {LINES} fn f(words: &[String]) -> u8 {{ if words.len() > 8 {{ tell(faults, b"ctguard: read"); return 1; }} {RUN} }}

@@ -3,11 +3,14 @@
 //
 // A chain is checked so that who misissued is known, and no more: every certificate is signed by the next one, which may sign
 // certificates, and the last one is a root of the log or signed by one. Names, dates, purposes, lengths of paths and critical
-// extensions that nobody knows don't matter, since a log shows what was issued and not what is valid; but what crypto/x509
-// doesn't read is refused. A log may take only certificates that end within a window, so that it can be closed one day.
+// extensions that nobody knows don't matter, since a log shows what was issued and not what is valid. Of the first certificate only
+// that is read which this takes, so one that crypto/x509 refuses, for a name or a key, is shown too; its issuers have to be read by
+// crypto/x509, and whatever signs it by a kind of signature that crypto/x509 checks. A log may take only certificates that end within
+// a window, so that it can be closed one day.
 package chains
 
 import (
+	"bytes"
 	"crypto/rsa"
 	"crypto/sha256"
 	"crypto/x509"
@@ -67,7 +70,7 @@ type Checker struct {
 	roots  atomic.Pointer[Roots]
 	window Window
 	// signed checks a signature; the fuzzer has another one.
-	signed func(certificate, issuer *x509.Certificate) error
+	signed func(certificate *certificate, issuer *x509.Certificate) error
 }
 
 // NewChecker makes a checker.
@@ -92,37 +95,37 @@ func (c *Checker) Reload(files RootFiles) (added, removed int, err error) {
 
 // Certificate checks a chain in DER whose first is a certificate (add-chain), and gives its entry. An error wraps a Refusal.
 func (c *Checker) Certificate(chain [][]byte) (*Entry, error) {
-	path, err := c.check(chain)
+	first, issuers, err := c.check(chain)
 	if err != nil {
 		return nil, err
 	}
-	if hasPoison(path[0]) {
+	if hasPoison(first) {
 		return nil, fmt.Errorf("%w: it has the poison extension", IsPrecertificate)
 	}
-	return &Entry{Type: X509Entry, Certificate: path[0].Raw, Issuers: issuersOf(path)}, nil
+	return &Entry{Type: X509Entry, Certificate: first.raw, Issuers: inDER(issuers)}, nil
 }
 
 // Precertificate checks a chain in DER whose first is a precertificate (add-pre-chain), and gives its entry. An error wraps a
 // Refusal.
 func (c *Checker) Precertificate(chain [][]byte) (*Entry, error) {
-	path, err := c.check(chain)
+	first, issuers, err := c.check(chain)
 	if err != nil {
 		return nil, err
 	}
-	if !hasPoison(path[0]) {
+	if !hasPoison(first) {
 		return nil, fmt.Errorf("%w: no extension of it is %s", NoPoison, oidPoison)
 	}
-	if len(path) < 2 {
+	if len(issuers) < 1 {
 		return nil, fmt.Errorf("%w: a root is no precertificate", NoFinalIssuer)
 	}
-	issuer, final := path[1], (*finalIssuer)(nil)
-	if signsPrecertificates(path[1]) {
-		if len(path) < 3 {
+	issuer, final := issuers[0], (*finalIssuer)(nil)
+	if signsPrecertificates(issuers[0]) {
+		if len(issuers) < 2 {
 			return nil, fmt.Errorf("%w: the precertificate signing certificate is a root", NoFinalIssuer)
 		}
-		issuer, final = path[2], finalIssuerBehind(path[1])
+		issuer, final = issuers[1], finalIssuerBehind(issuers[0])
 	}
-	tbs, err := withoutPoison(path[0].RawTBSCertificate, final)
+	tbs, err := withoutPoison(first.tbs, final)
 	if err != nil {
 		return nil, err
 	}
@@ -130,87 +133,92 @@ func (c *Checker) Precertificate(chain [][]byte) (*Entry, error) {
 		Type:           PrecertEntry,
 		IssuerKeyHash:  sha256.Sum256(issuer.RawSubjectPublicKeyInfo),
 		TBSCertificate: tbs,
-		Precertificate: path[0].Raw,
-		Issuers:        issuersOf(path),
+		Precertificate: first.raw,
+		Issuers:        inDER(issuers),
 	}, nil
 }
 
-func issuersOf(path []*x509.Certificate) [][]byte {
-	issuers := make([][]byte, 0, len(path)-1)
-	for _, issuer := range path[1:] {
-		issuers = append(issuers, issuer.Raw)
+func inDER(issuers []*x509.Certificate) [][]byte {
+	ders := make([][]byte, 0, len(issuers))
+	for _, issuer := range issuers {
+		ders = append(ders, issuer.Raw)
 	}
-	return issuers
+	return ders
 }
 
-// check reads a chain and gives it with a root at its end. Signatures are checked from the root down, so that no key is worked
-// with that a root doesn't stand for.
-func (c *Checker) check(chain [][]byte) ([]*x509.Certificate, error) {
-	path, err := parse(chain)
+// check reads a chain, and gives its first certificate and those that issued it, with a root of the log at their end; none where the
+// first is a root. Signatures are checked from the root down, so that no key is worked with that a root doesn't stand for.
+func (c *Checker) check(chain [][]byte) (*certificate, []*x509.Certificate, error) {
+	first, issuers, err := parse(chain)
 	if err != nil {
-		return nil, err
+		return nil, nil, err
 	}
-	if !c.window.has(path[0].NotAfter) {
-		return nil, fmt.Errorf("%w: it ends %s", OutsideWindow, path[0].NotAfter.UTC().Format(time.RFC3339))
+	if !c.window.has(first.notAfter) {
+		return nil, nil, fmt.Errorf("%w: it ends %s", OutsideWindow, first.notAfter.UTC().Format(time.RFC3339))
 	}
-	last := len(path) - 1
-	for i := range path[:last] {
-		if string(path[i].RawIssuer) != string(path[i+1].RawSubject) {
-			return nil, fmt.Errorf("%w: certificate %d", NotIssuedByNext, i)
+	below := []*certificate{first}
+	for i, issuer := range issuers {
+		if !bytes.Equal(below[i].issuer, issuer.RawSubject) {
+			return nil, nil, fmt.Errorf("%w: certificate %d", NotIssuedByNext, i)
 		}
+		below = append(below, certificateOf(issuer))
 	}
-	root, err := c.rootOf(path[last])
+	root, err := c.rootOf(below[len(issuers)])
 	if err != nil {
-		return nil, err
+		return nil, nil, err
 	}
-	for i := last - 1; i >= 0; i-- {
-		if err := c.issued(path[i], path[i+1]); err != nil {
-			return nil, fmt.Errorf("%w: of certificate %d", err, i)
+	for i := len(issuers) - 1; i >= 0; i-- {
+		if err := c.issued(below[i], issuers[i]); err != nil {
+			return nil, nil, fmt.Errorf("%w: of certificate %d", err, i)
 		}
 	}
 	if root != nil {
-		path = append(path, root)
+		issuers = append(issuers, root)
 	}
-	return path, nil
+	return first, issuers, nil
 }
 
-// parse reads the certificates of a chain, within the bounds.
-func parse(chain [][]byte) ([]*x509.Certificate, error) {
+// parse reads the certificates of a chain, within the bounds: the first as far as a log needs it, and its issuers.
+func parse(chain [][]byte) (*certificate, []*x509.Certificate, error) {
 	if len(chain) == 0 {
-		return nil, fmt.Errorf("%w: no certificate", EmptyChain)
+		return nil, nil, fmt.Errorf("%w: no certificate", EmptyChain)
 	}
 	if len(chain) > MostCertificates {
-		return nil, fmt.Errorf("%w: %d certificates", ChainTooLong, len(chain))
+		return nil, nil, fmt.Errorf("%w: %d certificates", ChainTooLong, len(chain))
 	}
-	bytes := 0
+	total := 0
 	for i, der := range chain {
 		if len(der) > LongestCertificate {
-			return nil, fmt.Errorf("%w: certificate %d of %d bytes", CertificateTooLong, i, len(der))
+			return nil, nil, fmt.Errorf("%w: certificate %d of %d bytes", CertificateTooLong, i, len(der))
 		}
-		bytes += len(der)
+		total += len(der)
 	}
-	if bytes > MostBytes {
-		return nil, fmt.Errorf("%w: %d bytes", ChainTooLong, bytes)
+	if total > MostBytes {
+		return nil, nil, fmt.Errorf("%w: %d bytes", ChainTooLong, total)
 	}
-	path := make([]*x509.Certificate, 0, len(chain)+1)
-	for i, der := range chain {
-		certificate, err := x509.ParseCertificate(der)
+	first, err := readCertificate(chain[0])
+	if err != nil {
+		return nil, nil, fmt.Errorf("%w: certificate 0", err)
+	}
+	issuers := make([]*x509.Certificate, 0, len(chain))
+	for i, der := range chain[1:] {
+		issuer, err := x509.ParseCertificate(der)
 		if err != nil {
-			return nil, fmt.Errorf("%w: certificate %d: %v", NoCertificate, i, err)
+			return nil, nil, fmt.Errorf("%w: certificate %d: %v", NoCertificate, i+1, err)
 		}
-		path = append(path, certificate)
+		issuers = append(issuers, issuer)
 	}
-	return path, nil
+	return first, issuers, nil
 }
 
 // rootOf gives the root that issued the last certificate of a chain; nil where it is a root itself.
-func (c *Checker) rootOf(last *x509.Certificate) (*x509.Certificate, error) {
+func (c *Checker) rootOf(last *certificate) (*x509.Certificate, error) {
 	roots := c.roots.Load()
-	if roots.has(last) {
+	if roots.has(last.raw) {
 		return nil, nil
 	}
 	why := fmt.Errorf("%w: none has the name of the issuer of the last certificate", UnknownRoot)
-	for _, root := range roots.issuers(last) {
+	for _, root := range roots.withSubject(last.issuer) {
 		err := c.issued(last, root)
 		if err == nil {
 			return root, nil
@@ -221,12 +229,12 @@ func (c *Checker) rootOf(last *x509.Certificate) (*x509.Certificate, error) {
 }
 
 // issued says whether a certificate is signed by an issuer who may.
-func (c *Checker) issued(certificate, issuer *x509.Certificate) error {
+func (c *Checker) issued(certificate *certificate, issuer *x509.Certificate) error {
 	// Certificates of version 1 have no extension that would say so; only a root may be one, as a chain's other issuers are
 	// taken from who submits them.
 	authority := issuer.BasicConstraintsValid && issuer.IsCA
 	if issuer.Version < 3 && !issuer.BasicConstraintsValid {
-		authority = c.roots.Load().has(issuer)
+		authority = c.roots.Load().has(issuer.Raw)
 	}
 	if !authority || issuer.KeyUsage != 0 && issuer.KeyUsage&x509.KeyUsageCertSign == 0 {
 		return fmt.Errorf("%w: the issuer", NotAnAuthority)
@@ -237,8 +245,8 @@ func (c *Checker) issued(certificate, issuer *x509.Certificate) error {
 	return c.signed(certificate, issuer)
 }
 
-func checkSignature(certificate, issuer *x509.Certificate) error {
-	if err := issuer.CheckSignature(certificate.SignatureAlgorithm, certificate.RawTBSCertificate, certificate.Signature); err != nil {
+func checkSignature(certificate *certificate, issuer *x509.Certificate) error {
+	if err := issuer.CheckSignature(certificate.algorithm, certificate.tbs, certificate.signature); err != nil {
 		return fmt.Errorf("%w: %v", BadSignature, err)
 	}
 	return nil

@@ -187,7 +187,7 @@ func FuzzChain(f *testing.F) {
 		f.Add(all[i], all[(i+1)%len(all)])
 	}
 	c := NewChecker(roots, Window{})
-	c.signed = func(_, _ *x509.Certificate) error { return nil }
+	c.signed = func(*certificate, *x509.Certificate) error { return nil }
 	f.Fuzz(func(t *testing.T, first, second []byte) {
 		for _, chain := range [][][]byte{{first}, {first, second}} {
 			entry, err := c.Certificate(chain)

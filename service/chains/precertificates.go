@@ -29,18 +29,9 @@ var (
 	tagExtensions    = tags.Tag(3).ContextSpecific().Constructed()
 )
 
-func hasPoison(certificate *x509.Certificate) bool {
-	return extensionOf(certificate, oidPoison) != nil
-}
-
-// extensionOf gives the value of an extension, or nil.
-func extensionOf(certificate *x509.Certificate, oid asn1.ObjectIdentifier) []byte {
-	for _, extension := range certificate.Extensions {
-		if extension.Id.Equal(oid) {
-			return append([]byte{}, extension.Value...)
-		}
-	}
-	return nil
+func hasPoison(certificate *certificate) bool {
+	_, has := certificate.value(oidPoison)
+	return has
 }
 
 // signsPrecertificates says whether a certificate is a precertificate signing certificate.
@@ -61,10 +52,11 @@ type finalIssuer struct {
 
 // finalIssuerBehind gives what a precertificate signing certificate says of who issued it.
 func finalIssuerBehind(signing *x509.Certificate) *finalIssuer {
-	return &finalIssuer{signing.RawIssuer, extensionOf(signing, oidAuthorityKey)}
+	value, _ := certificateOf(signing).value(oidAuthorityKey)
+	return &finalIssuer{signing.RawIssuer, value}
 }
 
-// noDER is the error where a TBSCertificate isn't one. (Of what crypto/x509 reads, all are.)
+// noDER is the error where bytes aren't what they have to be in DER.
 func noDER(what string) error {
 	return fmt.Errorf("%w: %s isn't as it has to be in DER", NoCertificate, what)
 }
@@ -144,22 +136,21 @@ func extensionsKept(extensions cryptobyte.String, final *finalIssuer) ([]byte, e
 	var kept []byte
 	poisons := 0
 	for !extensions.Empty() {
-		var element, content cryptobyte.String
-		var oid asn1.ObjectIdentifier
+		var element, content, identifier cryptobyte.String
 		if !extensions.ReadASN1Element(&element, tags.SEQUENCE) {
 			return nil, noDER("an extension")
 		}
 		whole := element
-		if !element.ReadASN1(&content, tags.SEQUENCE) || !content.ReadASN1ObjectIdentifier(&oid) {
+		if !element.ReadASN1(&content, tags.SEQUENCE) || !content.ReadASN1(&identifier, tags.OBJECT_IDENTIFIER) {
 			return nil, noDER("an extension")
 		}
 		switch {
-		case oid.Equal(oidPoison):
+		case bytes.Equal(identifier, identifierOf(oidPoison)):
 			if !bytes.Equal(whole, poison) {
 				return nil, fmt.Errorf("%w: it isn't critical, or its value isn't NULL", BadPoison)
 			}
 			poisons++
-		case final != nil && oid.Equal(oidAuthorityKey):
+		case final != nil && bytes.Equal(identifier, identifierOf(oidAuthorityKey)):
 			replaced, err := withValue(whole, final.authorityKey)
 			if err != nil {
 				return nil, err

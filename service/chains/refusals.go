@@ -15,7 +15,7 @@ const (
 	ChainTooLong Refusal = "chain-too-long"
 	// CertificateTooLong: one has more than LongestCertificate bytes.
 	CertificateTooLong Refusal = "certificate-too-long"
-	// NoCertificate: bytes aren't a certificate that crypto/x509 reads.
+	// NoCertificate: bytes aren't a certificate, or an issuer's that crypto/x509 reads.
 	NoCertificate Refusal = "no-certificate"
 	// NotIssuedByNext: a certificate's issuer isn't the subject of the next one.
 	NotIssuedByNext Refusal = "not-issued-by-next"

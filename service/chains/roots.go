@@ -323,15 +323,11 @@ func (r *Roots) add(certificate *x509.Certificate) {
 	r.bySubject[subject] = append(r.bySubject[subject], certificate)
 }
 
-// has says whether a certificate is a root, byte for byte.
-func (r *Roots) has(certificate *x509.Certificate) bool {
-	return r.byHash[sha256.Sum256(certificate.Raw)]
-}
+// has says whether a certificate in DER is a root.
+func (r *Roots) has(der []byte) bool { return r.byHash[sha256.Sum256(der)] }
 
-// issuers are the roots that a certificate may be issued by.
-func (r *Roots) issuers(certificate *x509.Certificate) []*x509.Certificate {
-	return r.bySubject[string(certificate.RawIssuer)]
-}
+// withSubject are the roots with this name, in DER.
+func (r *Roots) withSubject(name []byte) []*x509.Certificate { return r.bySubject[string(name)] }
 
 // Certificates are the roots in DER, in the file's order: the answer to get-roots.
 func (r *Roots) Certificates() [][]byte {

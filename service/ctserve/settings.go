@@ -47,7 +47,8 @@ type node struct {
 	synchronized                              bool
 	step, reader                              []string
 	stepWithin, interval, refresh, openWithin time.Duration
-	sweepAfter, sweepTilesAfter, readEvery    time.Duration
+	sweepAfter, sweepTilesAfter               time.Duration
+	readEvery, readAllWithin                  time.Duration
 	mostQueue, mostBatch, mostProofs          int
 	behindSwap, create, makesFolder           bool
 	address, secret                           string
@@ -124,7 +125,8 @@ func parse(words []string, help io.Writer) (*settings, error) {
 	flags.DurationVar(&n.refresh, "refresh", time.Hour, "how old a head gets before one without new entries is made")
 	flags.DurationVar(&n.sweepAfter, "sweep-after", time.Hour, "how long a head stands before older ones are deleted")
 	flags.DurationVar(&n.sweepTilesAfter, "sweep-tiles-after", 5*time.Minute, "how long a full tile stands before its partial ones are deleted, and a head before of those before it one is left each half second; at most as long as the one above")
-	flags.DurationVar(&n.readEvery, "read-again-every", time.Second, "how far two old tiles are apart that are read again")
+	flags.DurationVar(&n.readEvery, "read-again-every", time.Second, "how far two turns are apart in which an old tile is read again")
+	flags.DurationVar(&n.readAllWithin, "read-all-within", 7*24*time.Hour, "how long it takes at most until each old tile was read again: the larger the log, the more a turn, up to 16")
 	flags.DurationVar(&n.openWithin, "open-within", 30*time.Second, "how long the stores may take to open")
 	flags.IntVar(&n.mostQueue, "most-queue", 4096, "submissions that wait")
 	flags.IntVar(&n.mostBatch, "most-batch", 1024, "entries of one step")
@@ -189,7 +191,7 @@ func (s *settings) settle() error {
 	if !s.window.From.IsZero() && !s.window.To.IsZero() && !s.window.From.Before(s.window.To) {
 		return errors.New("--not-after-from isn't before --not-after-to")
 	}
-	for _, time := range []time.Duration{s.endWithin, l.Headers, l.Request, l.Submission, l.Answer, l.Idle, n.stepWithin, n.interval, n.refresh, n.openWithin, n.sweepAfter, n.sweepTilesAfter, n.readEvery, n.mostSkew} {
+	for _, time := range []time.Duration{s.endWithin, l.Headers, l.Request, l.Submission, l.Answer, l.Idle, n.stepWithin, n.interval, n.refresh, n.openWithin, n.sweepAfter, n.sweepTilesAfter, n.readEvery, n.readAllWithin, n.mostSkew} {
 		if time <= 0 {
 			return errors.New("a time is above 0")
 		}

@@ -89,8 +89,8 @@ func handedTo(t *testing.T, s *Sequencer, number int) (int, []handedPlace) {
 	body, err := json.Marshal(handedOver{[]step.Submission{submission}})
 	must(t, err)
 	request := httptest.NewRequest(http.MethodPost, "/", bytes.NewReader(body)).WithContext(limited(t))
-	request.Header.Set("Authorization", "Bearer "+s.config.Secret)
 	request.Header.Set(logHeader, hex.EncodeToString(s.logID[:]))
+	must(t, sealRequest(s.config.Secret, request, body))
 	reply, back := httptest.NewRecorder(), handedBack{}
 	s.Handler().ServeHTTP(reply, request)
 	if request.Context().Err() != nil {

@@ -2,10 +2,7 @@ package sequencer
 
 import (
 	"context"
-	"encoding/hex"
-	"encoding/json"
 	"fmt"
-	"net/http"
 	"net/http/httptest"
 	"os"
 	"path/filepath"
@@ -516,30 +513,6 @@ func TestHandingOver(t *testing.T) {
 	if report := p.right(t, got); report.Leaves != 80 {
 		t.Fatalf("%+v", report)
 	}
-	const shown = "Bearer the secret of these nodes"
-	this := hex.EncodeToString(nodes[1].logID[:])
-	for _, c := range []struct {
-		method, secret, log, body string
-		status                    int
-	}{
-		{"POST", "", this, "{}", 403},
-		{"POST", "Bearer the secret of those nodes", this, "{}", 403},
-		{"GET", shown, this, "", 405},
-		{"POST", shown, "", "{}", 421},
-		{"POST", shown, strings.Repeat("0", 64), "{}", 421},
-		{"POST", shown, this, "no", 400},
-		{"POST", shown, this, `{"submissions":[` + strings.Repeat("{},", MostBatch) + "{}]}", 400},
-		{"POST", shown, this, "{}", 200},
-	} {
-		request := httptest.NewRequest(c.method, "/", strings.NewReader(c.body))
-		request.Header.Set("Authorization", c.secret)
-		request.Header.Set(logHeader, c.log)
-		reply := httptest.NewRecorder()
-		nodes[1].Handler().ServeHTTP(reply, request)
-		if reply.Code != c.status {
-			t.Errorf("%.100v: %d %s", c, reply.Code, reply.Body)
-		}
-	}
 }
 
 // TestHandedBackWrong has the other node give back what the log didn't sign: nobody is answered by it, and all are answered all the same.
@@ -580,24 +553,16 @@ func TestHandedBackWrong(t *testing.T) {
 				config, server := p.config(t), httptest.NewUnstartedServer(nil)
 				config.Address, config.Secret = "http://"+server.Listener.Addr().String()+"/sequence", "the secret of these nodes"
 				nodes[i] = started(t, config, hooks{})
-				right := nodes[i].Handler()
-				server.Config.Handler = http.HandlerFunc(func(w http.ResponseWriter, r *http.Request) {
-					reply := httptest.NewRecorder()
-					right.ServeHTTP(reply, r)
-					var back handedBack
-					if err := json.Unmarshal(reply.Body.Bytes(), &back); err != nil {
-						t.Errorf("%d %s", reply.Code, reply.Body)
-						return
+				node := nodes[i]
+				server.Config.Handler = node.taking(func(ctx context.Context, submissions []step.Submission) handedBack {
+					back := node.takeHanded(ctx, submissions)
+					// (of none it is asked what time it is)
+					if len(back.Places) > 0 {
+						first, _ := other.Load().(handedPlace)
+						bend(&back, first)
+						bent.Add(1)
 					}
-					if len(back.Places) == 0 {
-						// It asks what time it is.
-						json.NewEncoder(w).Encode(back)
-						return
-					}
-					first, _ := other.Load().(handedPlace)
-					bend(&back, first)
-					bent.Add(1)
-					json.NewEncoder(w).Encode(back)
+					return back
 				})
 				server.Start()
 				t.Cleanup(server.Close)

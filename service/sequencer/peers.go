@@ -3,12 +3,10 @@ package sequencer
 import (
 	"bytes"
 	"context"
-	"crypto/subtle"
 	"encoding/hex"
 	"encoding/json"
 	"errors"
 	"fmt"
-	"io"
 	"net"
 	"net/http"
 	"net/url"
@@ -177,9 +175,11 @@ func (s *Sequencer) post(ctx context.Context, node string, over handedOver) (bac
 	if err != nil {
 		return back, err
 	}
-	request.Header.Set("Authorization", "Bearer "+s.config.Secret)
 	request.Header.Set(logHeader, hex.EncodeToString(s.logID[:]))
 	request.Header.Set("Content-Type", "application/json")
+	if err := sealRequest(s.config.Secret, request, body); err != nil {
+		return back, err
+	}
 	asked := s.config.Clock.Elapsed()
 	reply, err := s.config.Peers.Do(request)
 	if err != nil {
@@ -189,10 +189,14 @@ func (s *Sequencer) post(ctx context.Context, node string, over handedOver) (bac
 	if reply.StatusCode != http.StatusOK {
 		return back, fmt.Errorf("%w: %s", errNode, reply.Status)
 	}
+	text, err := openReply(s.config.Secret, request, reply, mostBody)
+	if err != nil {
+		return back, fmt.Errorf("%w: %v", errNode, err)
+	}
 	if at, err := http.ParseTime(reply.Header.Get(dateHeader)); err == nil {
 		s.clock.hearNode(node, at, asked)
 	}
-	return back, json.NewDecoder(io.LimitReader(reply.Body, mostBody)).Decode(&back)
+	return back, json.Unmarshal(text, &back)
 }
 
 // hand has another node take a batch, and answers those whom it answers by what the log signed. Who isn't among them waits on.
@@ -231,10 +235,14 @@ func (s *Sequencer) hand(node string, batch []*waiting) error {
 // Handler takes what other nodes hand over, at the address that they find in the register. Whoever knows the nodes' secret has
 // entries taken into the log whose chains were checked by no one here. A node whose round fails refuses what it is handed, at once.
 func (s *Sequencer) Handler() http.Handler {
+	return s.taking(s.takeHanded)
+}
+
+// taking replies to other nodes with what is made of the submissions that they hand over.
+func (s *Sequencer) taking(take func(context.Context, []step.Submission) handedBack) http.Handler {
 	return http.HandlerFunc(func(w http.ResponseWriter, r *http.Request) {
-		shown, wanted := []byte(r.Header.Get("Authorization")), []byte("Bearer "+s.config.Secret)
-		if s.config.Secret == "" || subtle.ConstantTimeCompare(shown, wanted) != 1 {
-			http.Error(w, "the nodes' secret isn't shown", http.StatusForbidden)
+		body, ok := openRequest(s.config.Secret, w, r, mostBody)
+		if !ok {
 			return
 		}
 		if r.Method != http.MethodPost {
@@ -246,7 +254,7 @@ func (s *Sequencer) Handler() http.Handler {
 			return
 		}
 		var over handedOver
-		if err := json.NewDecoder(http.MaxBytesReader(w, r.Body, mostBody)).Decode(&over); err != nil || len(over.Submissions) > MostBatch {
+		if err := json.Unmarshal(body, &over); err != nil || len(over.Submissions) > MostBatch {
 			http.Error(w, "no batch", http.StatusBadRequest)
 			return
 		}
@@ -254,11 +262,14 @@ func (s *Sequencer) Handler() http.Handler {
 			http.Error(w, "this node's last round failed", http.StatusServiceUnavailable)
 			return
 		}
-		back := s.takeHanded(r.Context(), over.Submissions)
+		reply, err := json.Marshal(take(r.Context(), over.Submissions))
+		if err != nil {
+			http.Error(w, err.Error(), http.StatusInternalServerError)
+			return
+		}
 		w.Header().Set(dateHeader, s.clock.now().UTC().Format(http.TimeFormat))
 		w.Header().Set("Content-Type", "application/json")
-		// Who doesn't read it asks again.
-		_ = json.NewEncoder(w).Encode(back)
+		sendSealed(s.config.Secret, w, r, reply)
 	})
 }
 

@@ -85,9 +85,12 @@ type Config struct {
 	// SweepTilesAfter is how long a full tile does before the partial tiles below its name go, and a head before of older ones no more than one
 	// each headsApart is left: SweepAfter, and at most 5 minutes, where it is 0.
 	SweepAfter, SweepTilesAfter time.Duration
-	// TendEvery is how far two turns are apart in each of which partial tiles and heads are swept, and one old tile is read again; 1 s where
+	// TendEvery is how far two turns are apart in each of which partial tiles and heads are swept, and an old tile is read again; 1 s where
 	// it is 0.
 	TendEvery time.Duration
+	// ReadAllWithin is how long it takes at most until each old tile was read again by this node, as long as mostReadAgain a turn do; a week
+	// where it is 0.
+	ReadAllWithin time.Duration
 	// Address is where other nodes find this one's Handler, as http://HOST:PORT/PATH; none where it is empty. Secret is what they
 	// show each other; at least 16 bytes.
 	Address, Secret string
@@ -109,7 +112,7 @@ func (c *Config) settle() error {
 		return fmt.Errorf("%w: a store, the step or the signer isn't there", ErrConfig)
 	case c.Origin == "" || strings.ContainsAny(c.Origin, " +\n\r\t"):
 		return fmt.Errorf("%w: an origin has neither spaces nor a plus sign", ErrConfig)
-	case c.Interval < 0 || c.Refresh < 0 || c.Patience < 0 || c.SweepAfter < 0 || c.SweepTilesAfter < 0 || c.TendEvery < 0 || c.MostSkew < 0 || c.MostQueue < 0 || c.MostQueueBytes < 0 || c.MostBatch < 0 || c.MostBatch > MostBatch:
+	case c.Interval < 0 || c.Refresh < 0 || c.Patience < 0 || c.SweepAfter < 0 || c.SweepTilesAfter < 0 || c.TendEvery < 0 || c.ReadAllWithin < 0 || c.MostSkew < 0 || c.MostQueue < 0 || c.MostQueueBytes < 0 || c.MostBatch < 0 || c.MostBatch > MostBatch:
 		return fmt.Errorf("%w: a bound is below 0, or a batch above %d", ErrConfig, MostBatch)
 	}
 	if c.BehindSwap && c.Witnesses != nil {
@@ -126,6 +129,7 @@ func (c *Config) settle() error {
 		c.SweepTilesAfter = c.SweepAfter
 	}
 	orElse(&c.TendEvery, time.Second)
+	orElse(&c.ReadAllWithin, 7*24*time.Hour)
 	orElse(&c.MostSkew, 10*time.Second)
 	if c.Clock == nil {
 		c.Clock = newMachine()

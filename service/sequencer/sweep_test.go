@@ -10,6 +10,7 @@ import (
 	"testing"
 	"time"
 
+	"wagtenib/service/log"
 	"wagtenib/service/stores"
 )
 
@@ -152,4 +153,68 @@ func TestTendingThatFails(t *testing.T) {
 		}
 	}
 	p.right(t, got)
+}
+
+// listed is a store of objects that notes what is listed.
+type listed struct {
+	stores.Objects
+	prefixes []string
+}
+
+func (l *listed) List(ctx context.Context, prefix, after string, most int) ([]string, error) {
+	l.prefixes = append(l.prefixes, prefix)
+	return l.Objects.List(ctx, prefix, after, most)
+}
+
+// TestSweepingBeginsAtTheEdge: what is newest is swept first, and behind many tiles without partial ones a turn looks at one of a level.
+func TestSweepingBeginsAtTheEdge(t *testing.T) {
+	t.Parallel()
+	p, ctx, got := newPlace(t), limited(t), &answers{}
+	config := p.config(t)
+	config.TendEvery = time.Hour
+	s := started(t, config, hooks{})
+	must(t, got.submitAll(ctx, s, 0, 1100, 550))
+	oldest := filepath.Join(p.objects(), "tile", "data", "000.p", "7")
+	must(t, os.MkdirAll(filepath.Dir(oldest), 0o755))
+	must(t, os.WriteFile(oldest, []byte("partial"), 0o644))
+	objects := &listed{Objects: s.config.Objects}
+	s.config.Objects = objects
+	tender := settledAt(s)
+	must(t, tender.sweep(ctx))
+	want := "tile/data/003.p/ tile/data/002.p/ tile/data/001.p/ tile/data/000.p/ tile/0/003.p/ tile/0/002.p/ tile/0/001.p/ tile/0/000.p/"
+	if told := strings.Join(objects.prefixes, " "); told != want {
+		t.Errorf("%s are listed", told)
+	}
+	if _, err := os.Stat(oldest); err == nil {
+		t.Error("a partial tile of the oldest one is left")
+	}
+	must(t, got.submitAll(ctx, s, 1100, 1300, 200))
+	tender.full.settled, objects.prefixes = s.seen(), nil
+	must(t, tender.sweep(ctx))
+	if told := strings.Join(objects.prefixes, " "); told != "tile/data/004.p/ tile/0/004.p/" {
+		t.Errorf("behind a full tile more %s are listed", told)
+	}
+	tender = settledAt(s)
+	tender.clean[0], objects.prefixes = mostClean, nil
+	must(t, tender.sweep(ctx))
+	if told := strings.Join(objects.prefixes, " "); !strings.HasPrefix(told, "tile/data/004.p/ tile/0/004.p/ tile/0/003.p/") {
+		t.Errorf("where nothing was to be swept for long %s are listed", told)
+	}
+}
+
+// TestPace: the more old tiles there are, the more are read again in a turn, up to a bound.
+func TestPace(t *testing.T) {
+	for _, test := range []struct {
+		tiles         uint64
+		every, within time.Duration
+		want          uint64
+	}{
+		{0, time.Second, time.Hour, 1}, {3600, time.Second, time.Hour, 1}, {3601, time.Second, time.Hour, 2}, {7201, time.Second, time.Hour, 3},
+		{16 * 3600, time.Second, time.Hour, 16}, {16*3600 + 1, time.Second, time.Hour, 16}, {1 << 40, time.Second, time.Hour, 16}, {5, time.Hour, time.Second, 16},
+	} {
+		s := &Sequencer{config: Config{TendEvery: test.every, ReadAllWithin: test.within}, head: &log.Head{TreeSize: test.tiles * tileWidth}}
+		if got := (&tender{s: s}).pace(); got != test.want {
+			t.Errorf("%+v: %d", test, got)
+		}
+	}
 }

@@ -18,6 +18,10 @@ import (
 const (
 	// mostSwept is how many tiles one turn looks for partial ones of.
 	mostSwept = 16
+	// mostClean is how many tiles in a row have nothing to sweep before one turn looks at no more than one of a level.
+	mostClean = 256
+	// mostReadAgain is how many old tiles one turn reads again.
+	mostReadAgain = 16
 	// mostHeads is how many old heads one turn deletes, and mostListing how long it may take to list some.
 	mostHeads   = 256
 	mostListing = time.Minute
@@ -49,9 +53,14 @@ type tender struct {
 	crowded []string
 	thinned string
 	kept    uint64
-	// swept has for each level, the data tiles' first, how many full tiles were looked at, and read is the next one to be read again.
-	swept [6]uint64
-	read  uint64
+	// ahead has for each level, the data tiles' first, the next full tile to be swept, from the newest on that there was when sweeping began,
+	// and behind how many there are before those, of which the last is the next one: so what a node left that was ended, the newest ones,
+	// goes first. clean is how many of these in a row had nothing to sweep.
+	ahead, behind [6]uint64
+	clean         [6]int
+	sweeping      bool
+	// read is the next tile to be read again.
+	read uint64
 	// passed are full tiles, at most mostDamage, that weren't whole when they were looked at: their partial ones stay until they are.
 	passed []tlog.Tile
 	// again is the damaged tile to be looked at next, or the one before it.
@@ -108,7 +117,9 @@ func (s *Sequencer) tend(ctx context.Context) {
 		s.failed("heads aren't thinned", t.thinHeads(ctx))
 		s.failed("bundles aren't swept", t.sweepBundles(ctx))
 		t.readDamaged(ctx)
-		t.readNext(ctx)
+		for left := t.pace(); left > 0; left-- {
+			t.readNext(ctx)
+		}
 		t.readIssuers(ctx)
 	}
 }
@@ -319,50 +330,79 @@ func (t *tender) sweep(ctx context.Context) (first error) {
 	if len(t.passed) > 0 {
 		tile := t.passed[0]
 		t.passed = t.passed[1:]
-		if err := t.sweepTile(ctx, tile); err != nil {
+		if _, err := t.sweepTile(ctx, tile); err != nil {
 			pass(tile, err)
 		}
 	}
-	left := mostSwept
-	for at := range t.swept {
-		level := at - 1
-		for ; left > 0 && t.swept[at] < fullTiles(level, sizeOf(t.full.settled)); left-- {
-			tile := tlog.Tile{H: tileHeight, L: level, N: int64(t.swept[at]), W: tileWidth}
-			err := t.sweepTile(ctx, tile)
-			if err != nil && !errors.Is(err, ErrDamaged) && !(t.s.isOne(ctx) && t.unswept.last(tile)) {
+	size, left := sizeOf(t.full.settled), mostSwept
+	if !t.sweeping && t.full.settled != nil {
+		t.sweeping = true
+		for at := range t.ahead {
+			t.ahead[at] = fullTiles(at-1, size)
+		}
+		t.behind = t.ahead
+	}
+	for at := range t.ahead {
+		for ; left > 0 && t.ahead[at] < fullTiles(at-1, size); left-- {
+			if err := t.sweepNext(ctx, at, t.ahead[at], pass); err != nil {
 				return err
 			}
-			if err != nil {
-				pass(tile, err)
+			t.ahead[at]++
+		}
+		for ; left > 0 && t.behind[at] > 0; left-- {
+			if err := t.sweepNext(ctx, at, t.behind[at]-1, pass); err != nil {
+				return err
 			}
-			t.swept[at]++
-			t.unswept = refusals{}
+			t.behind[at]--
+			if t.clean[at] >= mostClean {
+				// What is older was swept by whoever was there before, or waits a little longer.
+				break
+			}
 		}
 	}
 	return first
 }
 
-func (t *tender) sweepTile(ctx context.Context, tile tlog.Tile) error {
+// sweepNext takes the partial tiles of the next full one of a level away. An error says that it has to be looked at again.
+func (t *tender) sweepNext(ctx context.Context, at int, number uint64, pass func(tlog.Tile, error)) error {
+	tile := tlog.Tile{H: tileHeight, L: at - 1, N: int64(number), W: tileWidth}
+	found, err := t.sweepTile(ctx, tile)
+	if err != nil && !errors.Is(err, ErrDamaged) && !(t.s.isOne(ctx) && t.unswept.last(tile)) {
+		return err
+	}
+	if err != nil {
+		pass(tile, err)
+	}
+	t.unswept = refusals{}
+	t.clean[at]++
+	if err != nil || found {
+		t.clean[at] = 0
+	}
+	return nil
+}
+
+// sweepTile takes the partial tiles of a full one away, and says whether there were any.
+func (t *tender) sweepTile(ctx context.Context, tile tlog.Tile) (found bool, err error) {
 	objects, name := t.s.config.Objects, tileName(tile)
 	var partials []string
-	err := t.s.briefly(ctx, func(ctx context.Context) (err error) {
+	err = t.s.briefly(ctx, func(ctx context.Context) (err error) {
 		partials, err = objects.List(ctx, name+partial, "", tileWidth)
 		return err
 	})
 	if err != nil || len(partials) == 0 {
-		return err
+		return false, err
 	}
 	// As long as the full one isn't whole, they are what is left of it.
 	if err := t.whole(ctx, tile); err != nil {
-		return err
+		return true, err
 	}
 	for _, partial := range partials {
 		if err := t.s.briefly(ctx, func(ctx context.Context) error { return objects.Delete(ctx, partial) }); err != nil {
-			return err
+			return true, err
 		}
 		t.s.swept.Add(1)
 	}
-	return nil
+	return true, nil
 }
 
 // sweepHeads deletes some heads before the settled one, and gives the first error; what isn't deleted is listed again. Nobody wants them: a
@@ -451,6 +491,18 @@ func (t *tender) whole(ctx context.Context, tile tlog.Tile) error {
 	}
 	_, err := t.s.storedHashes(ctx, treeUnder(head), wanted, tileName(tile))
 	return err
+}
+
+// pace is how many tiles a turn reads again, so that all are read within ReadAllWithin.
+func (t *tender) pace() uint64 {
+	full, turns := fullTiles(-1, sizeOf(t.s.seen())), uint64(t.s.config.ReadAllWithin/t.s.config.TendEvery)
+	switch {
+	case full <= turns:
+		return 1
+	case turns == 0 || full > turns*mostReadAgain:
+		return mostReadAgain
+	}
+	return (full + turns - 1) / turns
 }
 
 // readNext reads the next full data tile, and the hash tiles from its leaves to the root of the newest head that was seen. Where they

@@ -347,7 +347,7 @@ func TestUnreadStore(t *testing.T) {
 		tender.readNext(limited(t))
 	}
 	faults.failEvery(0)
-	if f := s.Figures(); f.Damaged != 0 || tender.read != 0 || len(tender.passed) != 0 || tender.swept != [6]uint64{} {
+	if f := s.Figures(); f.Damaged != 0 || tender.read != 0 || len(tender.passed) != 0 || tender.behind != [6]uint64{1, 1} {
 		t.Errorf("%+v, %+v", f, tender)
 	}
 	tender.readNext(limited(t))

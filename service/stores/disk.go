@@ -147,6 +147,13 @@ func (d *disk) setSynced(folders []string) {
 	}
 }
 
+// forget has a folder's name be written to the disk again: it was taken away.
+func (d *disk) forget(folder string) {
+	d.mu.Lock()
+	defer d.mu.Unlock()
+	delete(d.synced, folder)
+}
+
 func syncFolder(path string) error {
 	folder, err := os.Open(path)
 	if err != nil {

@@ -35,6 +35,9 @@ func (f *folder) path(name string) string {
 	return filepath.Join(f.disk.root, filepath.FromSlash(name))
 }
 
+// mostMade is how often a folder is made for one object.
+const mostMade = 16
+
 func (f *folder) Put(ctx context.Context, name string, content []byte) error {
 	if err := checkObject(name, content); err != nil {
 		return err
@@ -49,8 +52,10 @@ func (f *folder) Put(ctx context.Context, name string, content []byte) error {
 	}
 	defer os.Remove(whole)
 	err = os.Link(whole, path)
-	if errors.Is(err, fs.ErrNotExist) {
-		if err := os.MkdirAll(filepath.Dir(path), 0o755); err != nil {
+	// (a folder that was made may be taken away again, as long as it is empty)
+	for try := 0; errors.Is(err, fs.ErrNotExist) && try < mostMade; try++ {
+		f.disk.forget(filepath.Dir(path))
+		if err := os.MkdirAll(filepath.Dir(path), 0o755); err != nil && !errors.Is(err, fs.ErrNotExist) {
 			return fmt.Errorf("stores: put %s: %w", name, err)
 		}
 		err = os.Link(whole, path)
@@ -129,7 +134,20 @@ func (f *folder) Delete(ctx context.Context, name string) error {
 	if err := syscall.Unlink(f.path(name)); err != nil && !isNoFile(err) {
 		return fmt.Errorf("stores: delete %s: %w", name, err)
 	}
+	f.removeEmpty(filepath.Dir(f.path(name)))
 	return nil
+}
+
+// removeEmpty takes a folder away that has nothing any more, but for the root and those right below it: else each tile that was partial once
+// would leave one. Who puts into it again makes it again.
+func (f *folder) removeEmpty(path string) {
+	if path == f.disk.root || filepath.Dir(path) == f.disk.root {
+		return
+	}
+	// (one that isn't empty stays)
+	if syscall.Rmdir(path) == nil {
+		f.disk.forget(path)
+	}
 }
 
 func (f *folder) Close() error { return nil }

@@ -1,12 +1,12 @@
 //! The line of a fault.
 
 ghost use Rattle.std.specs.Prelude.{◌≡◌};
-ghost use Rattle.ct_lines.specs.Sends.{SendsSome};
+ghost use Rattle.json_lines.specs.Sends.{SendsSome};
 ghost use Rattle.ct_command.specs.FaultLines.{fault_line, name_of};
 
 use crate::program::Program;
-use ct_lines::tell;
 use ct_tasks::Fault;
+use json_lines::tell;
 use std::io::Write;
 
 /// Writes the fault's line, as far as it can be written, and answers the status 1.

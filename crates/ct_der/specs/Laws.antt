@@ -1,9 +1,10 @@
 -- Laws of elements.
-use Rattle.std.specs.Prelude.{◌≡◌, ◌<◌, ◌++◌, ℕ, List, length, Ok, Err}
+use Rattle.std.specs.Prelude.{◌≡◌, ◌<◌, ◌%◌, ◌++◌, ℕ, List, length, Ok, Err}
 use Rattle.std.specs.Prelude.{get_or}
 use Rattle.ct_der.specs.declared.fault.DerFault.TheVariants.{Truncated}
 use Rattle.ct_der.specs.Element.{IsTlv}
 use Rattle.ct_der.specs.Reading.{element_at}
+use Rattle.ct_der.specs.Writing.{element_text}
 
 -- each number is a byte, or stands behind the end
 abbrev pub IsBytes : List ℕ → Type 0
@@ -26,3 +27,15 @@ ElementsStandApart =
 -- Each proper beginning of an element is refused, as truncated.
 abbrev pub BeginningsAreTruncated : Type 0
 BeginningsAreTruncated = (t : ℕ) (c x y s : List ℕ) → IsTlv t c x → 0 < length s → x ≡ y ++ s → element_at y ≡ Err Truncated
+
+-- An element has one text.
+abbrev pub ElementsHaveOneText : Type 0
+ElementsHaveOneText = (t : ℕ) (c x y : List ℕ) → IsTlv t c x → IsTlv t c y → x ≡ y
+
+-- The text of an element with a tag of one byte and fewer than 2^32 bytes of content is one ..
+abbrev pub WrittenElementsAreThere : Type 0
+WrittenElementsAreThere = (t : ℕ) (c : List ℕ) → t < 256 → t % 32 < 31 → length c < 4294967296 → IsTlv t c (element_text t c)
+
+-- .. and there is no other.
+abbrev pub ElementsAreWritten : Type 0
+ElementsAreWritten = (t : ℕ) (c x : List ℕ) → IsTlv t c x → x ≡ element_text t c

@@ -1,6 +1,6 @@
 //! Laws of elements (X.690, sections 8.1 and 10.1), each the contract of a function that does nothing.
 
-ghost use Rattle.ct_der.specs.Laws.{ReadElementsAreThere, ElementsAreRead, ElementsStandApart, BeginningsAreTruncated};
+ghost use Rattle.ct_der.specs.Laws.{ReadElementsAreThere, ElementsAreRead, ElementsStandApart, BeginningsAreTruncated, ElementsHaveOneText, WrittenElementsAreThere, ElementsAreWritten};
 
 /// What `element` reads is what the bytes begin with.
 #[tactic(auto, using(crate::proofs::Elements::read_elements_are_there))]
@@ -24,4 +24,17 @@ pub fn elements_stand_apart()
 #[tactic(auto, using(crate::proofs::Prefixes::beginnings_are_truncated))]
 pub fn beginnings_are_truncated()
     ensures { BeginningsAreTruncated }
+{}
+
+/// An element has one text.
+#[tactic(auto, using(crate::proofs::Written::elements_have_one_text))]
+pub fn elements_have_one_text()
+    ensures { ElementsHaveOneText }
+{}
+
+/// What is written of a tag of one byte and of fewer than 2^32 bytes is their element, and each element is what is written of it.
+#[tactic(auto, using(crate::proofs::Written::written_elements_are_there, crate::proofs::Written::elements_are_written))]
+pub fn elements_are_written()
+    ensures there { WrittenElementsAreThere }
+    ensures written { ElementsAreWritten }
 {}

@@ -6,7 +6,7 @@ use Rattle.std.specs.Prelude.{IfSome, OnErr, Result, Ok, Err}
 use Rattle.std.specs.Io.BufRead.{drop_through, first_piece}
 use Rattle.std.specs.Io.KnownBytes.{Appends}
 use Rattle.std.proofs.KnownBytes.{Appends-nil, Appends-trans}
-use Rattle.ct_lines.specs.Sends.{SendsSome}
+use Rattle.json_lines.specs.Sends.{SendsSome}
 use Rattle.ct_guard_lines.specs.BrokenOff.{GuardsFirstLines, BeginsReply, BeginsState, GuardBroken, IsGuardRunBroken, OneGuardBroken, AreGuardsBroken, IsGuardCallBroken}
 use Rattle.ct_guard_lines.specs.GuardSession.{GuardOptions, GuardStep, GuardsLine, GuardsFirst, GuardsLines, GetsLine, OneGuarded, IsAllGuarded, last_head}
 use Rattle.ct_guard_lines.specs.GuardWords.{GuardCall, guarding, guard_help, guard_version, no_guard_call, guard_usage, guard_version_text, guard_call_made, IsGuardAnswered}

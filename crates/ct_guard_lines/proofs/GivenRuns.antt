@@ -15,8 +15,8 @@ use Rattle.ct_guard.specs.NewestHead.{HeadStep, AreHeadSteps}
 use Rattle.ct_guard.specs.declared.refusal.ReceiptRefusal.TheVariants.{NoHead, NoLeaf, NotThere, LaterLeaf, OtherIndex}
 use Rattle.ct_guard.proofs.History.{passed_heads_agree}
 use Rattle.ct_guard.proofs.NewestHead.{heads_go_back}
-use Rattle.ct_lines.specs.Fields.{hash_of, hash_in, bytes_in, each_item, hashes_of_items, hashes_at}
-use Rattle.ct_lines.specs.Values.{value_of_line}
+use Rattle.json_lines.specs.Fields.{hash_of, hash_in, bytes_in, each_item, hashes_of_items, hashes_at}
+use Rattle.json_lines.specs.Values.{value_of_line}
 use Rattle.ct_monitor.specs.Heads.{IsHeadOfAll}
 use Rattle.ct_tree.specs.declared.head.Head.{Head}
 use Rattle.ct_verify.specs.Laws.{AreHashes}

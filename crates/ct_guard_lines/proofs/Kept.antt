@@ -3,9 +3,9 @@ use Rattle.std.proofs.Common.{◌≡◌, ◌∙◌, ◌<◌, ℕ, List, [], ◌�
 use Rattle.std.proofs.lemmas.Bool.{eqb-true}
 use Rattle.std.specs.Prelude.{◌==◌, option_map, unwrap_or}
 use Rattle.std.specs.Io.BufRead.{drop_through, first_piece}
-use Rattle.ct_lines.specs.Lines.{kept_line, IsNextLine}
-use Rattle.ct_lines.proofs.KeptLines.{whole_or_long}
-use Rattle.ct_lines.proofs.Values.{value_long}
+use Rattle.json_lines.specs.Lines.{kept_line, IsNextLine}
+use Rattle.json_lines.proofs.KeptLines.{whole_or_long}
+use Rattle.json_lines.proofs.Values.{value_long}
 use Rattle.ct_guard_lines.specs.Asks.{Ask, ask_in, for_nothing, Requests}
 use Rattle.ct_guard_lines.specs.GuardSession.{GuardOptions, GuardStep, Replies, StepsLine, GuardsLine, GuardsFirst, KeepsLine, GetsLine, IsNoState}
 use Rattle.ct_guard_lines.specs.declared.guarding.Guarding.{Guarding}

@@ -8,7 +8,7 @@ use Rattle.json.specs.Print.{quoted}
 use Rattle.json.proofs.Printed.Utf8.{IsUtf8-are_ascii, IsUtf8-quoted}
 use Rattle.serde_json.specs.Data.{Data, Members, no_members, member, object}
 use Rattle.serde_json.specs.Written.{compact_text, members_text, comma_if}
-use Rattle.ct_lines.specs.ReplyText.{base64_text, bytes_data, number_data}
+use Rattle.json_lines.specs.Values.{base64_text, bytes_data, number_data}
 use Rattle.ct_tree.specs.declared.head.Head.{Head}
 use Rattle.ct_guard_lines.specs.GuardState.{IsLastValue, last_data, guard_state_text}
 

@@ -17,25 +17,16 @@ use Rattle.serde_json.specs.Read.{of_json, read, max_depth}
 use Rattle.serde_json.specs.Written.{outline, compact_text}
 use Rattle.serde_json.proofs.Numbers.{number_of-decimal}
 use Rattle.serde_json.proofs.Texts.{print-outline}
-use Rattle.ct_lines.specs.Fields.{bytes_of}
-use Rattle.ct_lines.specs.ReplyText.{base64_text}
+use Rattle.json_lines.specs.Fields.{bytes_of}
+use Rattle.json_lines.specs.Values.{base64_text}
 use Rattle.ct_tree.specs.declared.head.Head.{Head}
-use Rattle.ct_lines.specs.Values.{value_of_line}
-use Rattle.ct_lines.proofs.Values.{value_read}
+use Rattle.json_lines.specs.Values.{value_of_line}
+use Rattle.json_lines.proofs.Texts.{text_read}
+use Rattle.json_lines.proofs.Values.{value_read}
 use Rattle.ct_guard_lines.proofs.Plain.{state_plain}
 use Rattle.ct_guard_lines.proofs.Short.{state_short}
 use Rattle.ct_guard_lines.specs.GuardSession.{IsGuardState, IsNoState}
 use Rattle.ct_guard_lines.specs.GuardState.{StateReadBack, StatesDiffer, IsHeadValue, IsLastValue, last_of_line, last_of_state, guard_state_data, guard_state_text}
-
--- ---- a text without floats is read back
-
-text_read : (d : Data) → HasNumbers (outline d) → depth (outline d) ≤ 127 → of_json (outline d) ≡ Some d → read (compact_text d) ≡ Some d
-text_read d numbers shallow back =
-    let ts = json_tokens (outline d) in
-    let same : tokens (compact_text d) ≡ ts ++ [] =
-    ap tokens (sym (print-outline d)) ∙ tokens-print ts (ArePrintable-json_tokens (outline d) numbers) ∙ sym (append-nil ts) in
-    ap (λ r. option_and_then of_json (option_and_then (λ p. json.if_last p.0 p.1) r))
-    (ap (json.value max_depth) same ∙ value-json_tokens (outline d) max_depth [] shallow) ∙ back
 
 -- ---- a state's fields
 

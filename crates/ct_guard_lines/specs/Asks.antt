@@ -3,8 +3,8 @@ use Rattle.std.specs.Prelude.{◌≡◌, ℕ, List, Option, Some, None, option_m
 use Rattle.serde_json.specs.Data.{Data}
 use Rattle.serde_json.specs.Find.{get}
 use Rattle.ct_tree.specs.declared.head.Head.{Head}
-use Rattle.ct_lines.specs.Fields.{number_at, bytes_at, hashes_at}
-use Rattle.ct_lines.specs.Values.{value_of_line}
+use Rattle.json_lines.specs.Fields.{number_at, bytes_at, hashes_at}
+use Rattle.json_lines.specs.Values.{value_of_line}
 use Rattle.ct_guard_lines.specs.GuardState.{head_fields}
 use Rattle.ct_guard_lines.specs.declared.request.Request.{Request}
 use Rattle.ct_guard_lines.specs.declared.request.Request.TheVariants as request

@@ -3,7 +3,7 @@ use Rattle.std.specs.Prelude.{◌≡◌, ◌<◌, ◌⊎◌, ℕ, false, List, [
 use Rattle.std.specs.declared.option.Option.{Option}
 use Rattle.std.specs.Io.BufRead.{first_piece, drop_through}
 use Rattle.std.specs.Io.KnownBytes.{Appends}
-use Rattle.ct_lines.specs.Sends.{SendsSome}
+use Rattle.json_lines.specs.Sends.{SendsSome}
 use Rattle.ct_guard_lines.specs.GuardSession.{GuardOptions, GuardStep, StepsLine, StartsAt, last_head}
 use Rattle.ct_guard_lines.specs.GuardState.{guard_state_text, IsLastValue}
 use Rattle.ct_guard_lines.specs.GuardWords.{GuardCall, guarding, guard_help, guard_version, no_guard_call, guard_usage, guard_version_text}

@@ -5,9 +5,9 @@ use Rattle.base64.specs.GeneralPurpose.{IsBytes}
 use Rattle.serde_json.specs.Data.{Data, null, boolean, number, string, array, object, member, no_members}
 use Rattle.serde_json.specs.Find.{get}
 use Rattle.serde_json.specs.Written.{compact_text}
-use Rattle.ct_lines.specs.Fields.{number_at, hash_at}
-use Rattle.ct_lines.specs.ReplyText.{number_data, bytes_data}
-use Rattle.ct_lines.specs.Values.{value_of_line}
+use Rattle.json_lines.specs.Fields.{number_at, hash_at}
+use Rattle.json_lines.specs.Values.{number_data, bytes_data}
+use Rattle.json_lines.specs.Values.{value_of_line}
 use Rattle.ct_tree.specs.declared.head.Head.{Head}
 
 -- the object of the last head, or null

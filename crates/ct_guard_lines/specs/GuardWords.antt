@@ -3,7 +3,7 @@
 use Rattle.std.specs.Prelude.{◌≡◌, ℕ, List, [], ◌∷◌, Bool, not, ◌&&◌, ◌==◌, nat_eq, length, Option, Some, None, if◌then◌else◌, codes, bytes_eq}
 use Rattle.std.specs.List.{list_any}
 use Rattle.std.specs.Io.KnownBytes.{Appends}
-use Rattle.ct_lines.specs.Sends.{SendsSome}
+use Rattle.json_lines.specs.Sends.{SendsSome}
 use Rattle.ct_guard_lines.specs.GuardSession.{GuardOptions, options_of, IsGuardRun, IsGuardStatus}
 use Rattle.ct_guard_lines.specs.declared.command.Command.{Command}
 use Rattle.ct_guard_lines.specs.declared.command.Command.TheVariants as command

@@ -2,18 +2,18 @@
 
 ghost use Rattle.std.specs.Prelude.{◌≡◌, ◌≢◌, ◌++◌, ◌∷◌, [], None, false, IfOk, OnOk, OnErr, map, string_bytes, codes};
 ghost use Rattle.std.specs.Io.KnownBytes.{Appends};
-ghost use Rattle.ct_lines.specs.Sends.{SendsSome};
+ghost use Rattle.json_lines.specs.Sends.{SendsSome};
 ghost use Rattle.ct_guard_lines.specs.BrokenOff.{OneGuardBroken, AreGuardsBroken, BeginsState, IsGuardRunBroken, IsGuardCallBroken};
 ghost use Rattle.ct_guard_lines.specs.GuardWords.{guard_asked, IsGuardAnswered};
-ghost use Rattle.ct_lines.specs.Faults.{run_fault_line};
-ghost use Rattle.ct_lines.specs.declared.fault.RunFault.{RunFault as FaultOf};
+ghost use Rattle.json_lines.specs.Faults.{run_fault_line};
+ghost use Rattle.json_lines.specs.declared.fault.RunFault.{RunFault as FaultOf};
 ghost use Rattle.ct_guard_lines.specs.GuardSession.{options_of, last_head, GuardsFirst, GuardsLine, OneGuarded, GetsLine, IsGuarded, IsAllGuarded, IsGuardRun, IsGuardStatus, guard_status};
 ghost use Rattle.ct_guard_lines.specs.GuardState.{guard_state_text, IsLastValue};
 
 use crate::command::{Command, command_of};
 use crate::guarding::Guarding;
 use crate::settings::Settings;
-use ct_lines::{NumberedLines, READS, RunFault, send, tell};
+use json_lines::{NumberedLines, READS, RunFault, send, tell};
 use std::alloc::Global;
 use std::io::{BufRead, BufReader, Read, Write};
 

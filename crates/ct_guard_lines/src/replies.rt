@@ -4,7 +4,7 @@ ghost use Rattle.std.specs.Prelude.{◌≡◌, false, IfOk, option_map, string_b
 ghost use Rattle.serde_json.specs.View.{view};
 ghost use Rattle.serde_json.specs.Written.{has_float};
 ghost use Rattle.ct_codec.specs.Signed.{tree_head_text};
-ghost use Rattle.ct_lines.specs.ReplyText.{bytes_data};
+ghost use Rattle.json_lines.specs.Values.{bytes_data};
 ghost use Rattle.ct_guard_lines.specs.Asks.{ask_of};
 ghost use Rattle.ct_guard_lines.specs.Given.{proof_refusal_name, leaf_refusal_name, refused_data, refused_fault_data, head_refused_data, receipt_refused_data, bad_line_data, receipt_given_data, head_given_data, given_data, guard_reply_data, guard_line};
 
@@ -14,9 +14,9 @@ use crate::state::state_value;
 use ct_checkpoint::write_checkpoint;
 use ct_codec::{DecodeFault, tree_head_signature_input};
 use ct_guard::{HeadRefusal, ReceiptRefusal};
-use ct_lines::bytes_value;
 use ct_tree::Head;
 use ct_verify::ProofFault;
+use json_lines::bytes_value;
 use serde_json::{Value, json};
 use std::alloc::{AllocError, Global};
 

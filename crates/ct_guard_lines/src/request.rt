@@ -6,8 +6,8 @@ ghost use Rattle.ct_guard_lines.specs.Asks.{ask_of, head_ask, receipt_ask, promi
 
 use crate::settings::Receipts;
 use crate::state::head;
-use ct_lines::{LONGEST_REQUEST, fields, line_value};
 use ct_tree::Head;
+use json_lines::{LONGEST_REQUEST, fields, line_value};
 use serde_json::Value;
 use std::alloc::{AllocError, Global};
 

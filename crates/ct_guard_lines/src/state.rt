@@ -6,8 +6,8 @@ ghost use Rattle.serde_json.specs.View.{view};
 ghost use Rattle.ct_guard_lines.specs.GuardSession.{IsNoState, IsGuardState};
 ghost use Rattle.ct_guard_lines.specs.GuardState.{guard_state_data, guard_state_text, head_fields, last_data, last_in, last_of_line, last_of_state, IsLastValue};
 
-use ct_lines::{LONGEST_REQUEST, bytes_value, fields, line_value};
 use ct_tree::Head;
+use json_lines::{LONGEST_REQUEST, bytes_value, fields, line_value};
 use serde_json::{Value, json};
 use std::alloc::{AllocError, Global};
 

@@ -7,7 +7,7 @@ use Rattle.std.specs.Prelude.{◌≢◌, option_and_then, IfOk, MatchResult}
 use Rattle.std.specs.declared.alloc.AllocError.{AllocError}
 use Rattle.std.proofs.lemmas.Option.{none-some}
 use Rattle.serde_json.specs.Data.{Data}
-use Rattle.ct_lines.specs.Values.{value_of_line}
+use Rattle.json_lines.specs.Values.{value_of_line}
 use Rattle.ct_lines.specs.Asked.{Asked, by_frozen, FrozenAsked, IsRequest, asked_in, request_of}
 use Rattle.ct_codec.specs.declared.refusal.Refusal.{Refusal}
 use Rattle.ct_codec.specs.declared.refusal.Refusal.TheVariants.{Memory, BadLine}
@@ -17,7 +17,7 @@ use Rattle.ct_core.specs.Replies.{Answer, refused}
 use Rattle.ct_lines.specs.ReplyText.{answered, reply_line}
 use Rattle.ct_lines.specs.Serving.{reply_if}
 use Rattle.ct_lines.specs.Frozen.{asked_answer, answer_if, frozen_answer, line_answer, Answers, frozen_reply}
-use Rattle.ct_lines.proofs.Values.{value_is, value_long}
+use Rattle.json_lines.proofs.Values.{value_is, value_long}
 
 -- a line that is too long asks nothing
 pub too_long : (line : List ℕ) → 1048576 < length line → request_of line ≡ None

@@ -3,7 +3,7 @@ use Rattle.std.proofs.Common.{◌≡◌, ℕ, List, [], ◌∷◌, ◌++◌, Boo
 use Rattle.std.specs.List.{AllByRecursion}
 use Rattle.std.specs.Prelude.{◌≢◌}
 use Rattle.ct_lines.specs.Frozen.{replies, frozen_reply}
-use Rattle.ct_lines.specs.Lines.{lines_behind, lines_of}
+use Rattle.json_lines.specs.Lines.{lines_behind, lines_of}
 use Rattle.ct_lines.specs.Laws.{RepliesByLines}
 use Rattle.ct_lines.proofs.Pieces.{line_first, not_ten}
 

@@ -4,7 +4,8 @@ use Rattle.serde_json.specs.View.{items_of}
 use Rattle.serde_json.specs.Written.{has_float, items_have_float}
 use Rattle.ct_core.specs.Replies.{EntryBytes, Answer, a_head, a_proof, an_index, some_entries, an_entry, a_receipt, a_ticket, a_reached_size, a_settled_count}
 use Rattle.ct_core.specs.Replies.{a_published_head, an_accepted_count, a_shift, proof_holds, proof_refused, a_collision, refused}
-use Rattle.ct_lines.specs.ReplyText.{bytes_data, entry_data, reply_data}
+use Rattle.json_lines.specs.Values.{bytes_data}
+use Rattle.ct_lines.specs.ReplyText.{entry_data, reply_data}
 
 hashes_no_float : (hs : List (List ℕ)) → items_have_float (items_of (map bytes_data hs)) ≡ false
 hashes_no_float [] = refl

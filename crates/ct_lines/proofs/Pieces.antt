@@ -12,8 +12,8 @@ use Rattle.ct_lines.specs.declared.fault.ServeFault.{ServeFault}
 use Rattle.ct_lines.specs.declared.fault.ServeFault.TheVariants.{Read, Write, Memory, Endless}
 use Rattle.ct_lines.specs.Frozen.{replies}
 use Rattle.ct_lines.specs.Serving.{count_in, reply_if, ended, IsShort, IsCutOff, RepliedToEnded, IsEndedBy}
-use Rattle.ct_lines.proofs.KeptLines.{all_of_none, ends_here, ends_on, kept_fits, kept_on}
-use Rattle.ct_lines.specs.Lines.{last_line, lines_behind, lines_of, IsPiece}
+use Rattle.json_lines.proofs.KeptLines.{all_of_none, ends_here, ends_on, kept_fits, kept_on}
+use Rattle.json_lines.specs.Lines.{last_line, lines_behind, lines_of, IsPiece}
 use Rattle.ct_lines.specs.Progress.{StandsFor, EndsAs, ServesPiece, StopsBefore, IsStopped, Goes, StopsWithin}
 
 -- the replies from a line on, first its own

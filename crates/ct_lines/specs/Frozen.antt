@@ -9,7 +9,7 @@ use Rattle.ct_core.specs.Settlement.{Log}
 use Rattle.ct_core.specs.Answers.{answer}
 use Rattle.ct_core.specs.Replies.{Answer, proof_holds, a_collision, refused, shown, takes_memory}
 use Rattle.ct_lines.specs.Asked.{Asked, by_front, by_operator, by_frozen, FrozenAsked, frozen_query, frozen_audit, request_of}
-use Rattle.ct_lines.specs.Lines.{lines_of}
+use Rattle.json_lines.specs.Lines.{lines_of}
 use Rattle.ct_lines.specs.ReplyText.{reply_line}
 use Rattle.ct_lines.specs.Verdicts.{audit_answer}
 

@@ -1,16 +1,9 @@
 -- Laws of the lines.
-use Rattle.std.specs.Prelude.{◌≡◌, ◌≢◌, ◌↔◌, ℕ, List, ◌∷◌, ◌++◌, Some}
+use Rattle.std.specs.Prelude.{◌≡◌, ◌≢◌, ℕ, List, ◌∷◌, ◌++◌}
 use Rattle.std.specs.List.{AllByRecursion}
-use Rattle.base64.specs.GeneralPurpose.{IsBytes}
-use Rattle.ct_lines.specs.Fields.{bytes_of}
 use Rattle.ct_core.specs.Settlement.{Log}
-use Rattle.ct_lines.specs.ReplyText.{base64_text}
 use Rattle.ct_lines.specs.Frozen.{frozen_reply, frozen_replies}
 use Rattle.ct_lines.specs.Serving.{reply_if}
-
--- A text is read as some bytes exactly where it is what is written for them.
-abbrev pub BytesReadBack : Type 0
-BytesReadBack = (text b : List ℕ) → IsBytes text → IsBytes b → (bytes_of text ≡ Some b) ↔ (text ≡ base64_text b)
 
 -- The replies to a line with its end and what stands behind are the line's own, or none where it is empty, and then those to what stands behind.
 abbrev pub RepliesByLines : Type 0

@@ -1,13 +1,8 @@
-pub mod Fields
-pub mod Values
 pub mod Asked
 pub mod Requests
 pub mod ReplyText
 pub mod Verdicts
 pub mod Frozen
 pub mod Serving
-pub mod Sends
 pub mod Progress
 pub mod Laws
-pub mod Lines
-pub mod Faults

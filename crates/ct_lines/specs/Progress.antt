@@ -6,7 +6,7 @@ use Rattle.std.specs.Io.KnownBytes.{Appends}
 use Rattle.ct_lines.specs.declared.fault.ServeFault.{ServeFault}
 use Rattle.ct_lines.specs.declared.fault.ServeFault.TheVariants.{Read, Write, Memory, Endless}
 use Rattle.ct_lines.specs.Frozen.{replies}
-use Rattle.ct_lines.specs.Lines.{lines_behind}
+use Rattle.json_lines.specs.Lines.{lines_behind}
 use Rattle.ct_lines.specs.Serving.{count_in, ended, IsShort}
 
 -- what is kept of the line that stands, of whose bytes none is its end

@@ -1,10 +1,9 @@
 -- The text of a reply: compact JSON, keys in byte order, and the end of the line.
 use Rattle.std.specs.Prelude.{ℕ, List, [], ◌∷◌, ◌++◌, map, Result, Ok, Err, codes}
-use Rattle.serde_json.specs.Data.{Data, number, unsigned, string, array, object, member, no_members}
+use Rattle.serde_json.specs.Data.{Data, string, array, object, member, no_members}
 use Rattle.serde_json.specs.View.{items_of}
 use Rattle.serde_json.specs.Written.{compact_text}
-use Rattle.base64.specs.Engines.{standard}
-use Rattle.base64.specs.GeneralPurpose.{encode_of}
+use Rattle.json_lines.specs.Values.{number_data, bytes_data, hashes_data}
 use Rattle.ct_codec.specs.declared.refusal.Refusal.{Refusal}
 use Rattle.ct_codec.specs.declared.refusal.Refusal.TheVariants.{Memory, Full, Shutdown, FrontSpent, EmptyChain, EmptyCertificate, CertificateTooLong}
 use Rattle.ct_codec.specs.declared.refusal.Refusal.TheVariants.{ChainTooLong, ClockBack, UnknownSize, BadRange, UnknownLeaf, MissingFront, BadLine, NotYet}
@@ -32,22 +31,6 @@ refusal_name BadLine = codes "bad-line"
 refusal_name NotYet = codes "not-yet"
 refusal_name Late = codes "late"
 refusal_name Closed = codes "closed"
-
--- bytes as base64 with padding (RFC 4648, section 4)
-unfoldable pub base64_text : List ℕ → List ℕ
-base64_text bytes = encode_of standard bytes
-
--- a number as a JSON value
-abbrev pub number_data : ℕ → Data
-number_data n = number (unsigned n)
-
--- bytes as a JSON string of base64 with padding (RFC 4648, section 4)
-abbrev pub bytes_data : List ℕ → Data
-bytes_data b = string (base64_text b)
-
--- hashes as a JSON array of strings of base64 (RFC 4648, section 4)
-abbrev pub hashes_data : List (List ℕ) → Data
-hashes_data hs = array (items_of (map bytes_data hs))
 
 -- an entry as a JSON object, and entries as a JSON array
 abbrev pub entry_data : EntryBytes → Data

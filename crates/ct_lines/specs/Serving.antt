@@ -5,7 +5,7 @@ use Rattle.std.specs.Global.{Global}
 use Rattle.ct_lines.specs.declared.fault.ServeFault.{ServeFault}
 use Rattle.ct_lines.specs.declared.fault.ServeFault.TheVariants.{Read, Write, Memory, Endless}
 use Rattle.ct_lines.specs.Frozen.{replies}
-use Rattle.ct_lines.specs.Lines.{lines_of}
+use Rattle.json_lines.specs.Lines.{lines_of}
 
 -- how many replies were written whole before a fault
 abbrev pub count_in : ServeFault → ℕ

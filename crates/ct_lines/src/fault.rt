@@ -1,9 +1,6 @@
-//! Why serving ends early, what ends a run, and that bytes weren't written.
+//! Why serving ends early.
 
 ghost use Rattle.std.specs.Prelude.{◌≡◌};
-ghost use Rattle.std.specs.IoError.{error_kind};
-ghost use Rattle.ct_lines.specs.Faults.{IsInputFault};
-ghost use Rattle.ct_lines.specs.declared.fault.RunFault.TheVariants.{Memory as RunMemory, Write as RunWrite};
 ghost use Rattle.ct_lines.specs.declared.fault.ServeFault.TheVariants.{Read, Write, Memory};
 
 use std::alloc::AllocError;
@@ -25,52 +22,6 @@ pub enum ServeFault {
     /// The reader was called 2^50 times, and gave bytes each time.
     #[error("the input had not ended after {0} replies and 2^50 reads")]
     Endless(u64),
-}
-
-/// The output couldn't be written.
-#[derive(Clone, Copy, Debug, PartialEq, Eq, Error)]
-#[error("the output couldn't be written")]
-pub struct Unwritten;
-
-/// What ends a run of a program over lines: its exit status is 1 then.
-#[derive(Clone, Copy, Debug, PartialEq, Eq, Error)]
-pub enum RunFault {
-    /// A growth was refused.
-    #[error("memory was refused")]
-    Memory,
-    /// The input couldn't be read.
-    #[error("the input couldn't be read")]
-    Read,
-    /// The output couldn't be written.
-    #[error("the output couldn't be written")]
-    Write,
-}
-
-impl From<AllocError> for RunFault {
-    ghost from_gives = { λ _ f. f ≡ RunMemory };
-
-    fn from(_e: AllocError) -> RunFault {
-        RunFault::Memory
-    }
-}
-
-impl From<Unwritten> for RunFault {
-    ghost from_gives = { λ _ f. f ≡ RunWrite };
-
-    fn from(_e: Unwritten) -> RunFault {
-        RunFault::Write
-    }
-}
-
-impl From<io::Error> for RunFault {
-    ghost from_gives = { λ error f. IsInputFault (error_kind error) f };
-
-    fn from(error: io::Error) -> RunFault {
-        match error.kind() {
-            io::ErrorKind::OutOfMemory => RunFault::Memory,
-            _ => RunFault::Read,
-        }
-    }
 }
 
 // The reader's error, after so many replies.

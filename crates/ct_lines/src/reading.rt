@@ -3,38 +3,14 @@
 ghost use Rattle.std.specs.Prelude.{◌≡◌, ◌⊎◌, ◌≤◌, length, IfOk, IfErr, IsErrOf, option_map};
 ghost use Rattle.serde_json.specs.View.{view};
 ghost use Rattle.ct_lines.specs.Asked.{Asked, IsRequest, asked_in, consistency_asked, proof_by_hash_asked, entries_asked, entry_and_proof_asked, receipt_asked, query_asked, chain_asked, pre_chain_asked, sequence_asked, audit_asked, front_asks, operator_asks, frozen_asks, who_at};
-ghost use Rattle.ct_lines.specs.Values.{value_of_line};
 ghost use Rattle.ct_lines.specs.Requests.{asked, front_asked, operator_asked, frozen_asked, audit_of, who};
 
-use crate::fields;
 use crate::request::{Audit, FrontRequest, FrozenRequest, OperatorRequest, Request};
-use crate::wanting::Unread;
 use ct_codec::Refusal;
 use ct_core::Query;
+use json_lines::{LONGEST_REQUEST, fields, line_value};
 use serde_json::Value;
 use std::alloc::{AllocError, Global};
-
-/// How many bytes the longest request has, without the end of its line.
-pub const LONGEST_REQUEST: usize = 1_048_576;
-
-/// The JSON value that a line is (RFC 8259), without the byte that ends it: none where it isn't UTF-8 or isn't JSON, or has more than
-/// `longest` bytes, when it takes no memory.
-///
-/// # Errors
-///
-/// Where a growth is refused.
-pub fn line_value(alloc: Global, longest: usize, line: &[u8]) -> Result<Option<Value>, AllocError>
-    ensures value { IfOk result (λ o. option_map view o ≡ value_of_line longest line.now) }
-    ensures fits { IfErr result (λ _. length line.now ≤ longest) }
-{
-    if line.len() > longest {
-        return Ok(None);
-    }
-    match Value::from_slice(alloc, line) {
-        Ok(value) => Ok(Some(value)),
-        Err(error) => Unread::from(error).value,
-    }
-}
 
 // Who makes a request.
 #[derive(Clone, Copy, Debug)]

@@ -9,10 +9,9 @@ ghost use Rattle.ct_lines.specs.Progress.{StandsFor, EndsAs, Goes, StopsBefore, 
 
 use crate::fault::{GrowthRefused, ReadFailed, ServeFault, WriteFailed};
 use crate::frozen::frozen_reply;
-use crate::lines::{READS, REQUEST_KEPT, content, cut_piece};
-use crate::sending::write_bytes;
 use ct_core::Published;
 use ct_tree::Memory;
+use json_lines::{READS, REQUEST_KEPT, content, cut_piece, write_bytes};
 use std::alloc::Global;
 use std::io::{Read, Write};
 

@@ -1,14 +1,14 @@
 //! Replies as text.
 
-ghost use Rattle.std.specs.Prelude.{◌≡◌, IfOk, map, string_bytes};
+ghost use Rattle.std.specs.Prelude.{◌≡◌, IfOk, map};
 ghost use Rattle.serde_json.specs.View.{view};
 ghost use Rattle.ct_core.specs.Replies.{a_head, a_proof, an_index, some_entries, an_entry, a_receipt, a_published_head, a_collision, refused, shown, shown_text};
-ghost use Rattle.ct_lines.specs.ReplyText.{refusal_name, base64_text, bytes_data, hashes_data, entry_data, entries_data, count_data, verdict_data, reply_data, answered, reply_line};
+ghost use Rattle.ct_lines.specs.ReplyText.{refusal_name, entry_data, entries_data, count_data, verdict_data, reply_data, answered, reply_line};
 
-use base64::engine::general_purpose::STANDARD;
 use ct_codec::Refusal;
 use ct_core::{Reply, ShownEntry};
 use ct_tree::{Head, Memory};
+use json_lines::{bytes_value, hashes_value};
 use serde_json::{Value, json};
 use std::alloc::Global;
 
@@ -35,32 +35,6 @@ fn name_of(refusal: Refusal) -> &'static str
         Refusal::Late => "late",
         Refusal::Closed => "closed",
     }
-}
-
-// The base64 of bytes.
-#[tactic(auto, unfolding(crate::specs::ReplyText::base64_text))]
-fn base64_of(alloc: Global, bytes: &[u8]) -> Result<String, Memory>
-    ensures { IfOk result (λ s. string_bytes s ≡ base64_text bytes.now) }
-{
-    STANDARD.encode(alloc, bytes)
-}
-
-/// Bytes as a JSON string.
-pub fn bytes_value(alloc: Global, bytes: &[u8]) -> Result<Value, Memory>
-    ensures { IfOk result (λ v. view v ≡ bytes_data bytes.now) }
-{
-    Ok(Value::String(base64_of(alloc, bytes)?))
-}
-
-/// Hashes as a JSON array.
-pub fn hashes_value(alloc: Global, hashes: &[[u8; 32]]) -> Result<Value, Memory>
-    ensures { IfOk result (λ v. view v ≡ hashes_data hashes.now) }
-{
-    let mut values = Vec::with_capacity(alloc, hashes.len())?;
-    for hash in hashes {
-        values.push(bytes_value(alloc, hash)?)?;
-    }
-    Ok(Value::Array(values))
 }
 
 // An entry as a JSON object.

@@ -18,7 +18,7 @@ use Rattle.rtrb.specs.declared.consumer.Consumer.{Consumer}
 use Rattle.rtrb.specs.declared.producer.Producer.{Producer}
 use Rattle.ct_live.specs.Rings.{all_received, all_sent, texts, ArePairs, ArePrefixes, AreTakenBelow}
 use Rattle.ct_live.specs.Written.{Passes, PassesSome}
-use Rattle.ct_lines.specs.Sends.{SendsSome}
+use Rattle.json_lines.specs.Sends.{SendsSome}
 use Rattle.ct_live.proofs.Merging.{get_mapped, mapped_same, put_there, put_elsewhere}
 use Rattle.ct_live.proofs.Writing.{some_behind}
 

@@ -15,7 +15,7 @@ use Rattle.ct_live.specs.Rings.{all_received, all_sent, texts_each, ArePrefixes}
 use Rattle.ct_live.specs.Written.{in_order, BeginsOn, IsBegunOf, WritesOn}
 use Rattle.ct_live.specs.declared.pipes.answering.Numbered.{Numbered}
 use Rattle.ct_live.specs.declared.pipes.fault.ThreadFault.{ThreadFault}
-use Rattle.ct_lines.specs.declared.fault.Unwritten.{Unwritten}
+use Rattle.json_lines.specs.declared.fault.Unwritten.{Unwritten}
 use Rattle.ct_live.specs.LiveEnding.{EndsLive, EndsSome, HaveDone, Rings, WritesNoMore}
 use Rattle.ct_live.specs.LiveWorkers.{FrontWorker, party_fronts, worker_fronts, WritesOut}
 use Rattle.ct_live.specs.declared.front.LiveFront.{LiveFront}

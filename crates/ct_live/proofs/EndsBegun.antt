@@ -9,7 +9,7 @@ use Rattle.ct_core.specs.Settlement.{Log}
 use Rattle.ct_house.specs.House.{FinalState, FrontView, HouseState}
 use Rattle.ct_parties.specs.ClosedLog.{Closes}
 use Rattle.ct_live.specs.Tagged.{tagged}
-use Rattle.ct_lines.specs.Sends.{SendsSome}
+use Rattle.json_lines.specs.Sends.{SendsSome}
 use Rattle.ct_live.proofs.Writing.{some_behind}
 use Rattle.ct_tree.specs.declared.head.Head.{Head}
 use Rattle.ct_live.specs.LiveEnding.{EndsLog, EndsLogSome, WritesLastHead, WritesSomeBehind, WritesSomeLastHead}

@@ -6,10 +6,10 @@ use Rattle.ct_core.specs.Replies.{Answer}
 use Rattle.ct_core.specs.Settlement.{Log}
 use Rattle.ct_lines.specs.Frozen.{answer_if, line_answer}
 use Rattle.ct_lines.proofs.Asking.{request_fits, too_long}
-use Rattle.ct_lines.proofs.Values.{value_long}
-use Rattle.ct_lines.specs.Lines.{kept_line, IsNextLine}
+use Rattle.json_lines.proofs.Values.{value_long}
+use Rattle.json_lines.specs.Lines.{kept_line, IsNextLine}
 use Rattle.ct_live.specs.Tagged.{tagged}
-use Rattle.ct_lines.proofs.KeptLines.{whole_or_long}
+use Rattle.json_lines.proofs.KeptLines.{whole_or_long}
 use Rattle.ct_live.specs.LiveLines.{AsksLive, live_asked_in, live_request_of, live_request_step, live_step_for}
 use Rattle.ct_live.specs.LiveGiven.{GivesLines}
 use Rattle.ct_live.specs.ReplyObjects.{object_text}

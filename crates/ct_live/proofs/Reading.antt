@@ -3,9 +3,9 @@ use Rattle.std.proofs.Common.{◌≡◌, ◌∙◌, ◌+◌, ℕ, List, [], ◌�
 use Rattle.std.specs.Io.BufRead.{drop_through, first_piece}
 use Rattle.std.proofs.lemmas.Option.{same_Some, none-some}
 use Rattle.rtrb.specs.Ring.{sent}
-use Rattle.ct_lines.proofs.LinesOf.{first_line_cut}
+use Rattle.json_lines.proofs.LinesOf.{first_line_cut}
 use Rattle.ct_lines.specs.declared.request.FrontRequest.{FrontRequest}
-use Rattle.ct_lines.specs.Lines.{lines_of, IsNextLine}
+use Rattle.json_lines.specs.Lines.{lines_of, IsNextLine}
 use Rattle.ct_live.specs.Rings.{all_sent}
 use Rattle.ct_live.specs.declared.pipes.answering.Numbered.{Numbered}
 use Rattle.ct_live.specs.LiveGiven.{AreRead, EndsReading, HaveGiven, ReadsOn}

@@ -13,7 +13,7 @@ use Rattle.ct_live.specs.Working.{AreJoinedOf}
 use Rattle.ct_live.specs.Written.{WritesOn}
 use Rattle.ct_live.specs.declared.pipes.answering.Numbered.{Numbered}
 use Rattle.ct_live.specs.declared.pipes.fault.ThreadFault.{ThreadFault}
-use Rattle.ct_lines.specs.declared.fault.Unwritten.{Unwritten}
+use Rattle.json_lines.specs.declared.fault.Unwritten.{Unwritten}
 use Rattle.ct_live.specs.declared.pipes.workers.JoinedParties.{JoinedParties}
 use Rattle.ct_live.specs.LiveEnding.{EndsBrokenOff, EndsLive, EndsSome, HaveDone, Rings}
 use Rattle.ct_live.specs.LiveGiven.{ReadsOn}

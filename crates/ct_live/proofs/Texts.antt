@@ -20,7 +20,7 @@ use Rattle.ct_live.specs.declared.giving.End.{End}
 use Rattle.ct_live.specs.declared.giving.End.TheVariants as end_case
 use Rattle.ct_live.proofs.Kept.{whole_line, whole_replies}
 use Rattle.ct_live.proofs.Reading.{next_named, read_both, read_end, read_line, read_none}
-use Rattle.ct_lines.specs.Lines.{IsNextLine}
+use Rattle.json_lines.specs.Lines.{IsNextLine}
 use Rattle.std.specs.Prelude.{Some, None}
 
 -- the reply to a line, and the end of its line

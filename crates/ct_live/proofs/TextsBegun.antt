@@ -6,8 +6,8 @@ use Rattle.std.proofs.KnownBytes.{Appends-nil}
 use Rattle.ct_core.specs.Replies.{a_published_head}
 use Rattle.ct_core.specs.Settlement.{Log}
 use Rattle.ct_lines.specs.Frozen.{line_answer}
-use Rattle.ct_lines.specs.Sends.{SendsSome}
-use Rattle.ct_lines.specs.Lines.{lines_of, IsNextLine}
+use Rattle.json_lines.specs.Sends.{SendsSome}
+use Rattle.json_lines.specs.Lines.{lines_of, IsNextLine}
 use Rattle.ct_live.specs.Tagged.{tagged}
 use Rattle.ct_live.proofs.Sending.{some_of_all}
 use Rattle.ct_live.proofs.Writing.{some_behind}

@@ -13,7 +13,7 @@ use Rattle.rtrb.specs.declared.consumer.Consumer.{Consumer}
 use Rattle.ct_live.specs.Merges.{IsMergeOf}
 use Rattle.ct_live.specs.Rings.{all_received, texts, texts_each}
 use Rattle.ct_live.specs.Written.{in_order, Passes, PassesSome, IsWritten, IsBegunOf}
-use Rattle.ct_lines.specs.Sends.{SendsSome}
+use Rattle.json_lines.specs.Sends.{SendsSome}
 use Rattle.ct_live.proofs.Merging.{pairs_of, merge_grows, get_mapped}
 
 -- the texts of pairs of one party

@@ -18,10 +18,10 @@ use Rattle.ct_tree.specs.declared.head.Head.{Head}
 use Rattle.ct_live.specs.Rings.{all_received, all_sent, ArePrefixes}
 use Rattle.ct_live.specs.Tagged.{tagged}
 use Rattle.ct_live.specs.Written.{BeginsOn, WritesOn}
-use Rattle.ct_lines.specs.Sends.{SendsSome}
+use Rattle.json_lines.specs.Sends.{SendsSome}
 use Rattle.ct_live.specs.declared.pipes.answering.Numbered.{Numbered}
 use Rattle.ct_live.specs.declared.pipes.fault.ThreadFault.{ThreadFault}
-use Rattle.ct_lines.specs.declared.fault.Unwritten.{Unwritten}
+use Rattle.json_lines.specs.declared.fault.Unwritten.{Unwritten}
 use Rattle.ct_live.specs.LiveReplied.{BeginsWhole, ClosesLog}
 use Rattle.ct_live.specs.ReplyObjects.{object_text}
 use Rattle.ct_live.specs.LiveWorkers.{WritesOut}

@@ -1,7 +1,7 @@
 -- What only inner functions' contracts use: the tasks that the parties of a live log were given so far, by the lines that were read.
 use Rattle.std.specs.Prelude.{◌≡◌, ◌≢◌, ℕ, List, [], ◌∷◌, ◌++◌, length, Option, Some, None, IfSome, IfOk, Result}
 use Rattle.rtrb.specs.Ring.{sent}
-use Rattle.ct_lines.specs.Lines.{lines_of, IsNextLine}
+use Rattle.json_lines.specs.Lines.{lines_of, IsNextLine}
 use Rattle.ct_live.specs.Rings.{all_sent}
 use Rattle.ct_live.specs.LiveLines.{AsksLive}
 use Rattle.ct_live.specs.LiveWorkers.{GivesOn}

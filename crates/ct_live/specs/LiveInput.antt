@@ -8,7 +8,7 @@ use Rattle.ct_lines.specs.Asked.{FrontAsked}
 use Rattle.ct_lines.specs.Frozen.{line_answer}
 use Rattle.ct_lines.specs.Requests.{front_asked}
 use Rattle.ct_lines.specs.declared.request.FrontRequest.{FrontRequest}
-use Rattle.ct_lines.specs.Lines.{lines_of}
+use Rattle.json_lines.specs.Lines.{lines_of}
 use Rattle.ct_live.specs.Merges.{IsMergeOf}
 use Rattle.ct_live.specs.Tagged.{tagged}
 use Rattle.ct_live.specs.declared.pipes.answering.Numbered.{Numbered}

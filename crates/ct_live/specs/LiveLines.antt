@@ -3,8 +3,8 @@ use Rattle.std.specs.Prelude.{◌≡◌, ◌<◌, ℕ, List, nat_lt, Option, Som
 use Rattle.std.specs.Str.{bytes_eq}
 use Rattle.serde_json.specs.Data.{Data}
 use Rattle.ct_lines.specs.Asked.{with_three}
-use Rattle.ct_lines.specs.Fields.{text_at, number_at}
-use Rattle.ct_lines.specs.Values.{value_of_line}
+use Rattle.json_lines.specs.Fields.{text_at, number_at}
+use Rattle.json_lines.specs.Values.{value_of_line}
 use Rattle.ct_tasks.specs.Tasks.{for_front, for_operator, for_frozen, Step, does, ends_shift, AsksFor}
 use Rattle.ct_tasks.specs.declared.task.OperatorTask.TheVariants.{Sequence, Publish, Shutdown, BadLine}
 use Rattle.ct_live.specs.LiveTasks.{LiveStep, gives_front, gives_operator, closes_at}

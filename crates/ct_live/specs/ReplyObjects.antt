@@ -4,7 +4,8 @@ use Rattle.serde_json.specs.Data.{Data, object, member, no_members}
 use Rattle.serde_json.specs.Written.{compact_text}
 use Rattle.ct_codec.specs.declared.refusal.Refusal.{Refusal}
 use Rattle.ct_core.specs.Replies.{Answer, refused, shown}
-use Rattle.ct_lines.specs.ReplyText.{bytes_data, reply_data}
+use Rattle.json_lines.specs.Values.{bytes_data}
+use Rattle.ct_lines.specs.ReplyText.{reply_data}
 use Rattle.ct_live.specs.declared.replying.LiveOperatorReply.{LiveOperatorReply}
 use Rattle.ct_live.specs.declared.replying.LiveOperatorReply.TheVariants as reply
 

@@ -5,8 +5,9 @@ ghost use Rattle.serde_json.specs.View.{view};
 ghost use Rattle.ct_live.specs.LiveLines.{take_asked, live_asks, live_asked_in, live_asked, live_request_of, live_request_step, AsksLive, IsForFront};
 ghost use Rattle.ct_live.specs.LiveTasks.{live_step};
 
-use ct_lines::{FrontRequest, LONGEST_REQUEST, fields, line_value};
+use ct_lines::FrontRequest;
 use ct_tasks::{Fault, OperatorTask, Task, line_task};
+use json_lines::{LONGEST_REQUEST, fields, line_value};
 use serde_json::Value;
 use std::alloc::{AllocError, Global};
 

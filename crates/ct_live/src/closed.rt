@@ -4,7 +4,7 @@ ghost use Rattle.std.specs.Prelude.{◌≡◌, ◌⊎◌, ◌∷◌, [], IfErr, 
 ghost use Rattle.std.specs.Io.KnownBytes.{Appends};
 ghost use Rattle.std.specs.List.{concat};
 ghost use Rattle.ct_lines.specs.Frozen.{line_answer};
-ghost use Rattle.ct_lines.specs.Sends.{SendsSome};
+ghost use Rattle.json_lines.specs.Sends.{SendsSome};
 ghost use Rattle.ct_live.specs.LiveEnding.{WritesBehind, WritesLastHead, WritesSomeBehind, WritesSomeLastHead};
 ghost use Rattle.ct_live.specs.ReplyObjects.{object_text};
 ghost use Rattle.ct_live.specs.LiveInput.{closed_replies};
@@ -12,8 +12,9 @@ ghost use Rattle.ct_live.specs.LiveInput.{closed_replies};
 use crate::pipes::tag;
 use crate::replying::reply_object;
 use ct_core::{Published, Reply};
-use ct_lines::{NumberedLines, READS, frozen_reply, send};
+use ct_lines::frozen_reply;
 use ct_tasks::Fault;
+use json_lines::{NumberedLines, READS, send};
 use std::alloc::{AllocError, Global};
 use std::io::{BufRead, Write};
 

@@ -9,8 +9,9 @@ ghost use Rattle.ct_live.specs.ThreadFaults.{thread_fault_of};
 
 use crate::asking::{LiveOperatorTask, LiveTask, live_task};
 use crate::pipes::{Numbered, Parkers, ThreadFault, Waiter, deliver, give};
-use ct_lines::{FrontRequest, NumberedLines};
+use ct_lines::FrontRequest;
 use ct_tasks::Fault;
+use json_lines::NumberedLines;
 use rtrb::Producer;
 use std::alloc::Global;
 use std::io::BufRead;

@@ -8,7 +8,8 @@ ghost use Rattle.ct_live.specs.ReplyObjects.{operator_said, operator_text, input
 
 use ct_codec::Refusal;
 use ct_core::Reply;
-use ct_lines::{bytes_value, reply_text};
+use ct_lines::reply_text;
+use json_lines::bytes_value;
 use serde_json::{Value, json};
 use std::alloc::{AllocError, Global};
 

@@ -17,9 +17,9 @@ use crate::pipes::{
     JoinedParties, Parkers, PartyEnd, ThreadFault, answer_all, join_workers, start_workers,
     write_answers,
 };
-use ct_lines::Unwritten;
 use ct_parties::Waiting;
 use ct_tasks::{Fault, Options};
+use json_lines::Unwritten;
 use rtrb::Consumer;
 use std::alloc::Global;
 use std::io::{BufRead, Write};

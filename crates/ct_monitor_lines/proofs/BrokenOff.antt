@@ -7,8 +7,8 @@ use Rattle.std.specs.Io.BufRead.{drop_through, first_piece}
 use Rattle.std.specs.Io.KnownBytes.{Appends}
 use Rattle.std.proofs.KnownBytes.{Appends-nil, Appends-trans}
 use Rattle.sha2.specs.Sha256.{sha256}
-use Rattle.ct_lines.specs.Lines.{IsFirstLine}
-use Rattle.ct_lines.specs.Sends.{SendsSome}
+use Rattle.json_lines.specs.Lines.{IsFirstLine}
+use Rattle.json_lines.specs.Sends.{SendsSome}
 use Rattle.ct_monitor.specs.Watched.{nothing_seen}
 use Rattle.ct_monitor.specs.WatcherState.{Keeps}
 use Rattle.ct_monitor_lines.specs.BrokenOff.{TakesFirstLines, BeginsTold, BeginsLastLine, RunBroken, IsRunBroken, OneTakenBroken, AreTakenBroken, IsCallBroken}

@@ -1,10 +1,10 @@
 -- Taking the lines of an input, one after the other.
 use Rattle.std.proofs.Common.{◌≡◌, ◌∙◌, ◌<◌, ℕ, List, [], ◌∷◌, ◌++◌, length, Bool, true, false, if◌then◌else◌, Option, Some, None, Vec, Global, sym, refl, ap, subst, inl, inr}
 use Rattle.std.proofs.Common.{◌≤◌, arith}
-use Rattle.ct_lines.specs.Lines.{kept_line, IsFirstLine}
-use Rattle.ct_lines.specs.Values.{value_of_line}
-use Rattle.ct_lines.proofs.KeptLines.{whole_or_long}
-use Rattle.ct_lines.proofs.Values.{value_long, value_none}
+use Rattle.json_lines.specs.Lines.{kept_line, IsFirstLine}
+use Rattle.json_lines.specs.Values.{value_of_line}
+use Rattle.json_lines.proofs.KeptLines.{whole_or_long}
+use Rattle.json_lines.proofs.Values.{value_long, value_none}
 use Rattle.std.proofs.lemmas.List.{append_assoc}
 use Rattle.std.proofs.lemmas.Option.{same_Some, none-some}
 use Rattle.std.specs.Prelude.{IfSome, IfOk, OnOk, Result, Ok, Err, option_map, unwrap_or}

@@ -4,7 +4,7 @@ use Rattle.std.specs.Prelude.{String, string_bytes}
 use Rattle.serde_json.specs.Data.{Data, null}
 use Rattle.serde_json.specs.View.{items_of}
 use Rattle.serde_json.specs.Written.{has_float, items_have_float, compact_text}
-use Rattle.ct_lines.specs.ReplyText.{bytes_data}
+use Rattle.json_lines.specs.Values.{bytes_data}
 use Rattle.ct_tree.specs.declared.head.Head.{Head}
 use Rattle.ct_monitor.specs.WatcherState.{WatcherState}
 use Rattle.ct_monitor.specs.declared.verdict.Verdict.TheVariants.{Accepted, Pending, Again, Stale, Shrunk, Fork, TimeNotLater, RootMismatch, Gap, Consistent, Inconsistent}

@@ -16,7 +16,7 @@ use Rattle.serde_json.specs.Data.{Data, null, boolean, number, string, array, ob
 use Rattle.serde_json.specs.View.{items_of}
 use Rattle.sha2.specs.Sha256.{sha256}
 use Rattle.serde_json.specs.Written.{number_text, comma_if, compact_text, items_text, members_text}
-use Rattle.ct_lines.specs.ReplyText.{base64_text, bytes_data}
+use Rattle.json_lines.specs.Values.{base64_text, bytes_data}
 use Rattle.ct_tree.specs.declared.head.Head.{Head}
 use Rattle.ct_monitor.specs.WatcherState.{WatcherState}
 use Rattle.ct_monitor_lines.specs.StateText.{maybe_head_data, peaks_data, state_data, check_data, state_text, IsNoneOrOfBytes, ArePeaksOfBytes, IsOfBytes}

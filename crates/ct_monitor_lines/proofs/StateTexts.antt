@@ -19,8 +19,9 @@ use Rattle.serde_json.specs.View.{items_of}
 use Rattle.serde_json.specs.Written.{outline, items_outline, members_outline, compact_text}
 use Rattle.serde_json.proofs.Numbers.{number_of-decimal}
 use Rattle.serde_json.proofs.Texts.{print-outline}
-use Rattle.ct_lines.specs.Fields.{bytes_of, hash_of, hash_in, hashes_of_items}
-use Rattle.ct_lines.specs.ReplyText.{base64_text, number_data, bytes_data, hashes_data}
+use Rattle.json_lines.proofs.Texts.{text_read}
+use Rattle.json_lines.specs.Fields.{bytes_of, hash_of, hash_in, hashes_of_items}
+use Rattle.json_lines.specs.Values.{base64_text, number_data, bytes_data, hashes_data}
 use Rattle.ct_tree.specs.declared.head.Head.{Head}
 use Rattle.ct_monitor.specs.WatcherState.{WatcherState}
 use Rattle.ct_monitor_lines.specs.Answers.{head_in, head_with}
@@ -28,17 +29,6 @@ use Rattle.ct_monitor_lines.specs.StateText.{maybe_head_data, peaks_data, state_
 use Rattle.ct_monitor_lines.specs.StateText.{peaks_in, state_in, state_with, IsLineOfState, IsNoStateLine, LinesOfStatesDiffer, StatesReadBack}
 
 -- ---- a value's text reads as the value
-
-abbrev whole : Option (json.Json × List Token) → Option Data
-whole o = option_and_then of_json (option_and_then (λ p. json.if_last p.0 p.1) o)
-
-read_text : (d : Data) → tree.HasNumbers (outline d) → tree.depth (outline d) ≤ max_depth → of_json (outline d) ≡ Some d → read (compact_text d) ≡ Some d
-read_text d numbers shallow back =
-    let ts = tree.json_tokens (outline d) in
-    let same = ap tokens (sym (print-outline d)) ∙ tokens-print ts (ArePrintable-json_tokens (outline d) numbers) ∙ sym (append-nil ts) in
-    ap whole
-    (ap (json.value max_depth) same ∙ value-json_tokens (outline d) max_depth [] shallow)
-    ∙ back
 
 member_back : (k : List ℕ) (d : Data) (ms : json.Members) (found result : Members) → of_json (outline d) ≡ Some d → of_members ms (put k d found) ≡ Some result
     → of_members (json.member k (outline d) ms) found ≡ Some result
@@ -154,7 +144,7 @@ six_depths a b e f ha hb he hf = omega arith
 pub reads_back : (s : WatcherState) → IsOfBytes s → read (state_text s) ≡ Some (state_data s (check_data s))
 unfolding state_text
 reads_back s x =
-    read_text (state_data s (check_data s)) (state_numbers s x)
+    text_read (state_data s (check_data s)) (state_numbers s x)
     (six_depths (tree.depth (outline (maybe_head_data s.accepted))) (tree.depth (outline (peaks_data s.all))) (tree.depth (outline (peaks_data s.sure)))
     (tree.depth (outline (maybe_head_data s.waiting))) (head_depth s.accepted) (peaks_depth s.all) (peaks_depth s.sure) (head_depth s.waiting))
     (six_back (maybe_head_data s.accepted) (peaks_data s.all) (check_data s) (number_data 1) (peaks_data s.sure) (maybe_head_data s.waiting)

@@ -3,8 +3,8 @@ use Rattle.std.specs.Prelude.{◌≡◌, ℕ, List, map, Option, Some, None, opt
 use Rattle.serde_json.specs.Data.{Data, Items}
 use Rattle.serde_json.specs.Find.{get, as_number, as_u64, as_array}
 use Rattle.ct_tree.specs.declared.head.Head.{Head}
-use Rattle.ct_lines.specs.Fields.{text_at, number_at, bytes_at, hash_at, hashes_at, each_item}
-use Rattle.ct_lines.specs.Values.{value_of_line}
+use Rattle.json_lines.specs.Fields.{text_at, number_at, bytes_at, hash_at, hashes_at, each_item}
+use Rattle.json_lines.specs.Values.{value_of_line}
 use Rattle.ct_monitor_lines.specs.declared.answer.Answer.{Answer}
 use Rattle.ct_monitor_lines.specs.declared.answer.Answer.TheVariants as answer_case
 

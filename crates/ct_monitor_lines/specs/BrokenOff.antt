@@ -4,7 +4,7 @@ use Rattle.std.specs.declared.option.Option.{Option}
 use Rattle.std.specs.Io.BufRead.{first_piece, drop_through}
 use Rattle.std.specs.Io.KnownBytes.{Appends}
 use Rattle.sha2.specs.Sha256.{sha256}
-use Rattle.ct_lines.specs.Sends.{SendsSome}
+use Rattle.json_lines.specs.Sends.{SendsSome}
 use Rattle.ct_monitor.specs.Watched.{nothing_seen}
 use Rattle.ct_monitor.specs.WatcherState.{Keeps}
 use Rattle.ct_monitor_lines.specs.CommandWords.{MonitorCall, watching, usage, version, no_such_word, no_name, help_text, version_text}

@@ -2,7 +2,7 @@
 use Rattle.std.specs.Prelude.{◌≡◌, ◌||◌, ◌++◌, ℕ, List, [], ◌∷◌, map, Option, Some, if◌then◌else◌, codes, string_bytes, bytes_eq}
 use Rattle.std.specs.Char.{to_ascii_lowercase}
 use Rattle.std.specs.Io.KnownBytes.{Appends}
-use Rattle.ct_lines.specs.Sends.{SendsSome}
+use Rattle.json_lines.specs.Sends.{SendsSome}
 use Rattle.ct_monitor_lines.specs.Session.{IsRun, IsRunStatus}
 use Rattle.ct_monitor_lines.specs.declared.command.Command.{Command}
 use Rattle.ct_monitor_lines.specs.declared.command.Command.TheVariants.{Watch, Help, Version, Refused, Unnamed}

@@ -6,7 +6,7 @@ use Rattle.ct_codec.specs.Leaf.{SignedEntry, certificate, precertificate, LeafTe
 use Rattle.ct_codec.specs.Faults.{LeafFaulty}
 use Rattle.ct_codec.specs.declared.fault.DecodeFault.{DecodeFault}
 use Rattle.ct_codec.specs.declared.fault.DecodeFault.TheVariants.{Truncated, BadVersion, BadLeafType, BadEntryType, EmptyVector, Trailing, Memory}
-use Rattle.ct_lines.specs.ReplyText.{number_data}
+use Rattle.json_lines.specs.Values.{number_data}
 use Rattle.ct_monitor.specs.declared.verdict.Verdict.{Verdict}
 use Rattle.ct_monitor.specs.declared.verdict.Verdict.TheVariants.{Gap}
 use Rattle.ct_monitor_lines.specs.WatchedText.{watched_lines}

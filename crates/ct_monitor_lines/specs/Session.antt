@@ -5,7 +5,7 @@ use Rattle.std.specs.declared.option.Option.{Option}
 use Rattle.std.specs.Io.BufRead.{first_piece, drop_through}
 use Rattle.std.specs.Io.KnownBytes.{Appends}
 use Rattle.sha2.specs.Sha256.{sha256}
-use Rattle.ct_lines.specs.Lines.{kept_line}
+use Rattle.json_lines.specs.Lines.{kept_line}
 use Rattle.ct_monitor.specs.Watched.{Watched, leaves_read, waiting_or, after_verdict, nothing_seen}
 use Rattle.ct_monitor.specs.Verdicts.{accuses, HeadSays, EntriesSay, ProofSays, after_entries}
 use Rattle.ct_monitor.specs.WatcherState.{WatcherState, Keeps}

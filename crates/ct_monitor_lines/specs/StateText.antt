@@ -6,8 +6,8 @@ use Rattle.serde_json.specs.Data.{Data, null, object, member, no_members}
 use Rattle.serde_json.specs.Find.{get}
 use Rattle.serde_json.specs.Written.{compact_text}
 use Rattle.sha2.specs.Sha256.{sha256}
-use Rattle.ct_lines.specs.Fields.{number_at, hashes_at}
-use Rattle.ct_lines.specs.ReplyText.{number_data, bytes_data, hashes_data}
+use Rattle.json_lines.specs.Fields.{number_at, hashes_at}
+use Rattle.json_lines.specs.Values.{number_data, bytes_data, hashes_data}
 use Rattle.ct_tree.specs.declared.head.Head.{Head}
 use Rattle.ct_monitor.specs.WatcherState.{WatcherState}
 use Rattle.ct_monitor_lines.specs.Answers.{head_in}

@@ -13,7 +13,7 @@ use Rattle.ct_names.specs.Covers.{plain_of}
 use Rattle.ct_names.specs.Names.{Named}
 use Rattle.ct_names.specs.Reading.{certificate_names, bare_names}
 use Rattle.ct_names.specs.Watched.{found_in}
-use Rattle.ct_lines.specs.ReplyText.{number_data}
+use Rattle.json_lines.specs.Values.{number_data}
 use Rattle.ct_monitor_lines.specs.Names.{is_in, lower}
 use Rattle.ct_monitor_lines.specs.Texts.{line_of}
 use Rattle.ct_monitor_lines.specs.declared.watching.Where.{Where}

@@ -4,8 +4,8 @@ ghost use Rattle.std.specs.Prelude.{◌≡◌, IfOk, map, option_map};
 ghost use Rattle.serde_json.specs.View.{view, items_view};
 ghost use Rattle.ct_monitor_lines.specs.Answers.{answer_in, answer_read, checkpoint_in, entries_in, head_in, leaves_in, leaves_of_items, start_in, tile_in, tiled_in, Reads};
 
-use ct_lines::{fields, line_value};
 use ct_tree::Head;
+use json_lines::{fields, line_value};
 use serde_json::Value;
 use std::alloc::{AllocError, Global};
 

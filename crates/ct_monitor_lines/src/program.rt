@@ -2,24 +2,24 @@
 
 ghost use Rattle.std.specs.Prelude.{◌≡◌, ◌≢◌, ◌⊎◌, ◌++◌, ◌∷◌, [], false, IfOk, OnOk, OnErr, map, string_bytes, codes};
 ghost use Rattle.std.specs.Io.KnownBytes.{Appends};
-ghost use Rattle.ct_lines.specs.Sends.{SendsSome};
+ghost use Rattle.json_lines.specs.Sends.{SendsSome};
 ghost use Rattle.sha2.specs.Sha256.{sha256};
 ghost use Rattle.ct_monitor.specs.Watched.{nothing_seen};
 ghost use Rattle.ct_monitor.specs.WatcherState.{Keeps};
 ghost use Rattle.ct_monitor_lines.specs.BrokenOff.{OneTakenBroken, AreTakenBroken, BeginsLastLine, IsRunBroken, IsCallBroken};
 ghost use Rattle.ct_monitor_lines.specs.CommandWords.{monitor_call, refusal_text, unreadable_text, IsAnswered};
-ghost use Rattle.ct_lines.specs.Faults.{run_fault_line};
-ghost use Rattle.ct_lines.specs.declared.fault.RunFault.{RunFault as FaultOf};
-ghost use Rattle.ct_lines.specs.declared.fault.RunFault.TheVariants.{Read as ReadFault};
+ghost use Rattle.json_lines.specs.Faults.{run_fault_line};
+ghost use Rattle.json_lines.specs.declared.fault.RunFault.{RunFault as FaultOf};
+ghost use Rattle.json_lines.specs.declared.fault.RunFault.TheVariants.{Read as ReadFault};
 ghost use Rattle.ct_monitor_lines.specs.Session.{FirstGives, KeptGives, LineGives, OneTaken, IsTaken, IsAllTaken, IsRun, IsRunStatus, status_of};
 ghost use Rattle.ct_monitor_lines.specs.StateText.{state_text, IsOfBytes};
 
 use crate::answer::LONGEST;
 use crate::command::{Command, command_of, refusal};
 use crate::session::Session;
-use ct_lines::{READS, RunFault, next_line, send, tell};
 use ct_monitor::Watcher;
 use ct_tree::Sha256Hash;
+use json_lines::{READS, RunFault, next_line, send, tell};
 use std::alloc::{AllocError, Global};
 use std::io::{BufRead, BufReader, Read, Write};
 

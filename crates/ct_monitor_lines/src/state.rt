@@ -10,9 +10,9 @@ ghost use Rattle.sha2.specs.Sha256.{sha256};
 ghost use Rattle.ct_monitor_lines.specs.StateText.{maybe_head_data, peaks_data, state_data, check_data, state_text, IsRootHash, ArePeaksOfBytes, IsNoneOrOfBytes, IsOfBytes, peaks_in, peaks_at, head_at, state_in, ReadsState};
 
 use crate::answer::LONGEST;
-use ct_lines::{bytes_value, fields, hashes_value, line_value};
 use ct_monitor::{Peaks, Watcher};
 use ct_tree::{Head, Sha256Hash};
+use json_lines::{bytes_value, fields, hashes_value, line_value};
 use serde_json::{Value, json};
 use sha2::{Digest, Sha256};
 use std::alloc::{AllocError, Global};

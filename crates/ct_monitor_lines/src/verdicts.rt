@@ -9,10 +9,10 @@ use crate::entries::name_of as leaf_fault_of;
 use crate::refusal::AnswerRefusal;
 use crate::text::push_line;
 use ct_data_tiles::{Damage, TileFault};
-use ct_lines::bytes_value;
 use ct_monitor::{Verdict, Watcher};
 use ct_tree::{Head, Sha256Hash};
 use ct_verify::ProofFault;
+use json_lines::bytes_value;
 use serde_json::{Value, json};
 use std::alloc::{AllocError, Global};
 

@@ -6,7 +6,7 @@ use Rattle.std.specs.Prelude.{IfSome, OnErr, Result, Ok, Err}
 use Rattle.std.specs.Io.BufRead.{drop_through, first_piece}
 use Rattle.std.specs.Io.KnownBytes.{Appends}
 use Rattle.std.proofs.KnownBytes.{Appends-nil, Appends-trans}
-use Rattle.ct_lines.specs.Sends.{SendsSome}
+use Rattle.json_lines.specs.Sends.{SendsSome}
 use Rattle.ct_node_lines.specs.NodeBroken.{GiveFirstNodes, OneNodeBroken, IsNodeRunBroken, IsNodeCallBroken}
 use Rattle.ct_node_lines.specs.NodeOptions.{node_usage, node_version_text}
 use Rattle.ct_node_lines.specs.declared.command.Command.{Command}

@@ -4,9 +4,9 @@ use Rattle.std.proofs.lemmas.Bool.{eqb-true}
 use Rattle.std.specs.Prelude.{◌==◌, Result, Ok, Err, Vec, IfOk, option_and_then}
 use Rattle.std.specs.Global.{Global}
 use Rattle.std.specs.Io.BufRead.{first_piece}
-use Rattle.ct_lines.specs.Lines.{kept_line, TakesNext}
-use Rattle.ct_lines.proofs.KeptLines.{whole_or_long}
-use Rattle.ct_lines.proofs.Values.{value_long}
+use Rattle.json_lines.specs.Lines.{kept_line, TakesNext}
+use Rattle.json_lines.proofs.KeptLines.{whole_or_long}
+use Rattle.json_lines.proofs.Values.{value_long}
 use Rattle.ct_node.specs.declared.node.Node.{Node}
 use Rattle.ct_node.specs.declared.node.Outcome.{Outcome}
 use Rattle.ct_node_lines.specs.NodeAsks.{node_asked_in, node_asked}

@@ -2,8 +2,8 @@
 use Rattle.std.specs.Prelude.{ℕ, List, Option, Some, None, option_map, option_and_then, codes, bytes_eq, if◌then◌else◌}
 use Rattle.serde_json.specs.Data.{Data}
 use Rattle.serde_json.specs.Find.{get}
-use Rattle.ct_lines.specs.Fields.{text_at, number_at}
-use Rattle.ct_lines.specs.Values.{value_of_line}
+use Rattle.json_lines.specs.Fields.{text_at, number_at}
+use Rattle.json_lines.specs.Values.{value_of_line}
 use Rattle.ct_node.specs.declared.state.State.{State}
 use Rattle.ct_node.specs.declared.node.Node.{Node}
 use Rattle.ct_node.specs.declared.node.Node.TheVariants.{Reading, Looking, Stepping, Staging, Swapping, Promising, Deleting, Putting, Placing, Heading, Answering}

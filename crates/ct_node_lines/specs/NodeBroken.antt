@@ -2,7 +2,7 @@
 use Rattle.std.specs.Prelude.{◌≡◌, ◌<◌, ◌⊎◌, ℕ, List, [], ◌∷◌, ◌++◌, length, Option, IfSome}
 use Rattle.std.specs.Io.BufRead.{first_piece, drop_through}
 use Rattle.std.specs.Io.KnownBytes.{Appends}
-use Rattle.ct_lines.specs.Sends.{SendsSome}
+use Rattle.json_lines.specs.Sends.{SendsSome}
 use Rattle.ct_node_lines.specs.NodeSession.{NodeGiven, GivesNode}
 use Rattle.ct_node_lines.specs.NodeOptions.{node_usage, node_version_text}
 use Rattle.ct_node_lines.specs.declared.command.Command.{Command}

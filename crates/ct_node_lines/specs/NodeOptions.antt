@@ -1,7 +1,7 @@
 -- What the words of ctnode's command line ask for, the program's name left out: nothing, or help, or the version.
 use Rattle.std.specs.Prelude.{◌≡◌, ℕ, List, [], ◌∷◌, Option, if◌then◌else◌, codes, bytes_eq}
 use Rattle.std.specs.Io.KnownBytes.{Appends}
-use Rattle.ct_lines.specs.Sends.{SendsSome}
+use Rattle.json_lines.specs.Sends.{SendsSome}
 use Rattle.ct_node_lines.specs.NodeSession.{IsNodeRun, IsNodeStatus}
 use Rattle.ct_node_lines.specs.declared.command.Command.{Command}
 use Rattle.ct_node_lines.specs.declared.command.Command.TheVariants.{Answer, Help, Version, Refused}

@@ -2,9 +2,9 @@
 
 ghost use Rattle.std.specs.Prelude.{◌≡◌, ◌≢◌, IfOk, OnOk, OnErr, map, string_bytes, codes};
 ghost use Rattle.std.specs.Io.KnownBytes.{Appends};
-ghost use Rattle.ct_lines.specs.Faults.{run_fault_line};
-ghost use Rattle.ct_lines.specs.Sends.{SendsSome};
-ghost use Rattle.ct_lines.specs.declared.fault.RunFault.{RunFault as FaultOf};
+ghost use Rattle.json_lines.specs.Faults.{run_fault_line};
+ghost use Rattle.json_lines.specs.Sends.{SendsSome};
+ghost use Rattle.json_lines.specs.declared.fault.RunFault.{RunFault as FaultOf};
 ghost use Rattle.ct_node_lines.specs.NodeBroken.{OneNodeBroken, IsNodeRunBroken, IsNodeCallBroken};
 ghost use Rattle.ct_node_lines.specs.NodeOptions.{node_asked_of_words, IsNodeCall};
 ghost use Rattle.ct_node_lines.specs.NodeSession.{GivesNodeText, GetsNodeLine, OneNode, AllNodes, IsNodeRun, IsNodeStatus};
@@ -12,7 +12,7 @@ ghost use Rattle.ct_node_lines.specs.NodeSession.{GivesNodeText, GetsNodeLine, O
 use crate::command::{Command, command_of};
 use crate::replies::{is_bad, reply_line, reply_to};
 use crate::request::{LONGEST, read_asked};
-use ct_lines::{READS, RunFault, next_line, send, tell};
+use json_lines::{READS, RunFault, next_line, send, tell};
 use std::alloc::{AllocError, Global};
 use std::io::{BufRead, BufReader, Read, Write};
 

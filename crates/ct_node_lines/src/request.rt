@@ -6,8 +6,8 @@ ghost use Rattle.ct_node.specs.declared.node.Node.TheVariants.{Looking, Stepping
 ghost use Rattle.ct_node.specs.declared.node.Outcome.TheVariants.{Read, Bundle, Stepped, Listed};
 ghost use Rattle.ct_node_lines.specs.NodeAsks.{node_state_in, node_state_at, of_state, of_step, promising_in, deleting_in, putting_in, node_of_state, node_of_word, node_in, node_at, bundle_in, stepped_in, outcome_of_word, outcome_in, outcome_at, node_asked_in, node_asked};
 
-use ct_lines::{fields, line_value};
 use ct_node::{Node, Outcome, State};
+use json_lines::{fields, line_value};
 use serde_json::Value;
 use std::alloc::{AllocError, Global};
 

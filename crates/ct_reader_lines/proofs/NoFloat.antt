@@ -3,7 +3,7 @@ use Rattle.std.proofs.Common.{◌≡◌, ℕ, List, [], ◌∷◌, map, false, r
 use Rattle.serde_json.specs.Data.{string}
 use Rattle.serde_json.specs.View.{items_of}
 use Rattle.serde_json.specs.Written.{has_float, items_have_float}
-use Rattle.ct_lines.specs.ReplyText.{bytes_data}
+use Rattle.json_lines.specs.Values.{bytes_data}
 use Rattle.ct_reader_lines.specs.ReaderWords.{ReaderReply, shows_tiles, shows_root, shows_path, shows_proof, refuses_line, hash_tile_name, reader_reply_data}
 use Rattle.ct_reader_lines.specs.declared.answering.Refusal.TheVariants.{BadLine, MissingTile, BadTile}
 

@@ -4,9 +4,9 @@ use Rattle.std.proofs.lemmas.Bool.{eqb-true}
 use Rattle.std.specs.Prelude.{◌==◌, Result, Ok, Err, Vec, IfOk, option_map, unwrap_or}
 use Rattle.std.specs.Global.{Global}
 use Rattle.std.specs.Io.BufRead.{first_piece}
-use Rattle.ct_lines.specs.Lines.{kept_line, TakesNext}
-use Rattle.ct_lines.proofs.KeptLines.{whole_or_long}
-use Rattle.ct_lines.proofs.Values.{value_long}
+use Rattle.json_lines.specs.Lines.{kept_line, TakesNext}
+use Rattle.json_lines.proofs.KeptLines.{whole_or_long}
+use Rattle.json_lines.proofs.Values.{value_long}
 use Rattle.ct_reader_lines.specs.ReaderAsks.{ReaderAsk, for_no_reading, reader_asked_in, AsksReader}
 use Rattle.ct_reader_lines.specs.ReaderAnswers.{IsReaderReply}
 use Rattle.ct_reader_lines.specs.ReaderWords.{ReaderReply, reader_reply_data, reader_line, is_bad_reply}

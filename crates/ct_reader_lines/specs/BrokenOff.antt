@@ -2,7 +2,7 @@
 use Rattle.std.specs.Prelude.{◌≡◌, ◌<◌, ◌⊎◌, ℕ, List, [], ◌∷◌, ◌++◌, length, Option, Some, None, IfSome}
 use Rattle.std.specs.Io.BufRead.{first_piece, drop_through}
 use Rattle.std.specs.Io.KnownBytes.{Appends}
-use Rattle.ct_lines.specs.Sends.{SendsSome}
+use Rattle.json_lines.specs.Sends.{SendsSome}
 use Rattle.ct_reader_lines.specs.ReaderSession.{ReadingGiven, GivesReading}
 use Rattle.ct_reader_lines.specs.ReaderOptions.{reader_usage, reader_version_text}
 use Rattle.ct_reader_lines.specs.declared.command.Command.{Command}

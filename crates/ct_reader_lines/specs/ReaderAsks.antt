@@ -1,8 +1,8 @@
 -- What a line asks of a reader of a log's tiles.
 use Rattle.std.specs.Prelude.{◌≡◌, ℕ, List, map, Option, Some, None, option_map, option_and_then, codes, unwrap_or}
 use Rattle.serde_json.specs.Data.{Data}
-use Rattle.ct_lines.specs.Fields.{number_at, bytes_list_at}
-use Rattle.ct_lines.specs.Values.{value_of_line}
+use Rattle.json_lines.specs.Fields.{number_at, bytes_list_at}
+use Rattle.json_lines.specs.Values.{value_of_line}
 use Rattle.ct_reader_lines.specs.declared.request.Reading.{Reading}
 use Rattle.ct_reader_lines.specs.declared.request.Reading.TheVariants.{Root, Path, Proof}
 use Rattle.ct_reader_lines.specs.declared.request.Request.{Request}

@@ -3,7 +3,7 @@ use Rattle.std.specs.Prelude.{◌++◌, ◌∷◌, [], ℕ, List, Bool, true, fa
 use Rattle.serde_json.specs.Data.{Data, string, array, object, member, no_members}
 use Rattle.serde_json.specs.View.{items_of}
 use Rattle.serde_json.specs.Written.{compact_text}
-use Rattle.ct_lines.specs.ReplyText.{bytes_data, hashes_data}
+use Rattle.json_lines.specs.Values.{bytes_data, hashes_data}
 use Rattle.ct_tile_names.specs.Names.{IsTile, name_text}
 use Rattle.ct_tile_names.specs.declared.tile.Content.TheVariants.{Hashes}
 use Rattle.ct_tile_names.specs.declared.tile.Tile.{Tile}

@@ -2,18 +2,18 @@
 
 ghost use Rattle.std.specs.Prelude.{◌≡◌, ◌≢◌, IfOk, OnOk, OnErr, map, string_bytes, codes};
 ghost use Rattle.std.specs.Io.KnownBytes.{Appends};
-ghost use Rattle.ct_lines.specs.Faults.{run_fault_line};
-ghost use Rattle.ct_lines.specs.Sends.{SendsSome};
+ghost use Rattle.json_lines.specs.Faults.{run_fault_line};
+ghost use Rattle.json_lines.specs.Sends.{SendsSome};
 ghost use Rattle.ct_reader_lines.specs.BrokenOff.{OneReadBroken, IsReaderRunBroken, IsReaderCallBroken};
 ghost use Rattle.ct_reader_lines.specs.ReaderOptions.{reader_asked_of_words, IsReaderAnswered};
 ghost use Rattle.ct_reader_lines.specs.ReaderSession.{GivesReadingText, GetsReaderLine, OneRead, AllRead, IsReaderRun, IsReaderStatus};
-ghost use Rattle.ct_lines.specs.declared.fault.RunFault.{RunFault as FaultOf};
+ghost use Rattle.json_lines.specs.declared.fault.RunFault.{RunFault as FaultOf};
 
 use crate::answering::answer;
 use crate::command::{Command, command_of};
 use crate::replies::{is_bad, reply_line};
 use crate::request::{LONGEST, read_request};
-use ct_lines::{READS, RunFault, next_line, send, tell};
+use json_lines::{READS, RunFault, next_line, send, tell};
 use std::alloc::{AllocError, Global};
 use std::io::{BufRead, BufReader, Read, Write};
 

@@ -3,12 +3,12 @@
 ghost use Rattle.std.specs.Prelude.{◌≡◌, ◌||◌, All, IfOk, string_bytes};
 ghost use Rattle.serde_json.specs.View.{view};
 ghost use Rattle.ct_reader_lines.specs.ReaderWords.{hash_tile, hash_tile_name, IsHashTile, RefusesHashTile, tile_names_data, one_value_data, tile_refused_data, reader_refused_data, reader_reply_of, reader_reply_data, reader_line, is_bad_reply, NamesHashTiles};
-ghost use Rattle.ct_lines.specs.ReplyText.{bytes_data, hashes_data};
+ghost use Rattle.json_lines.specs.Values.{bytes_data, hashes_data};
 
 use crate::answering::{Refusal, Reply};
-use ct_lines::{bytes_value, hashes_value};
 use ct_tile_names::{Content, Tile};
 use ct_tile_reader::NeededTile;
+use json_lines::{bytes_value, hashes_value};
 use serde_json::{Value, json};
 use std::alloc::{AllocError, Global};
 

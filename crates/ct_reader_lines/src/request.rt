@@ -4,7 +4,7 @@ ghost use Rattle.std.specs.Prelude.{◌≡◌, IfOk, option_map};
 ghost use Rattle.serde_json.specs.View.{view};
 ghost use Rattle.ct_reader_lines.specs.ReaderAsks.{reader_ask_of, root_under, path_under, proof_under, hashes_ask, reader_asked_in, AsksReader};
 
-use ct_lines::{fields, line_value};
+use json_lines::{fields, line_value};
 use serde_json::Value;
 use std::alloc::{AllocError, Global};
 

@@ -21,7 +21,7 @@ use Rattle.ct_tasks.specs.Plans.{AreShiftsOf}
 use Rattle.ct_tasks.specs.Tasks.{IsFrozenLine}
 use Rattle.ct_script.specs.Parties.{Parties, IsPartyFault, all_replies, fronts_of}
 use Rattle.ct_script.specs.Shifts.{IsShiftFault, PartiesServe}
-use Rattle.ct_lines.specs.Sends.{SendsSome}
+use Rattle.json_lines.specs.Sends.{SendsSome}
 
 -- the parties of a new house with so many fronts, each with so many places, opened at this moment: nobody has replied to anything
 pub record AreNewParties (n places open_at : ℕ) (start : Parties) : Type 0 where

@@ -6,7 +6,7 @@ use Rattle.std.specs.Prelude.{IfSome, OnErr, Result, Ok, Err}
 use Rattle.std.specs.Io.BufRead.{drop_through, first_piece}
 use Rattle.std.specs.Io.KnownBytes.{Appends}
 use Rattle.std.proofs.KnownBytes.{Appends-nil, Appends-trans}
-use Rattle.ct_lines.specs.Sends.{SendsSome}
+use Rattle.json_lines.specs.Sends.{SendsSome}
 use Rattle.ct_step_lines.specs.BrokenOff.{GiveFirstReplies, BeginsStepReply, OneReplyBroken, IsStepRunBroken, IsStepCallBroken}
 use Rattle.ct_step_lines.specs.StepOptions.{StepCall, answering, step_help, step_version, no_step_call, step_usage, step_version_text, step_call_made, IsStepAnswered}
 use Rattle.ct_step_lines.specs.declared.command.Command.{Command}

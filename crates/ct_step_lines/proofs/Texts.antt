@@ -6,7 +6,7 @@ use Rattle.serde_json.specs.View.{items_of}
 use Rattle.serde_json.specs.Written.{comma_if, compact_text, members_text}
 use Rattle.ct_checkpoint.specs.Checkpoint.{checkpoint_text}
 use Rattle.ct_codec.specs.Signed.{tree_head_text}
-use Rattle.ct_lines.specs.ReplyText.{bytes_data}
+use Rattle.json_lines.specs.Values.{bytes_data}
 use Rattle.ct_log_state.specs.Lines.{state_line_text}
 use Rattle.ct_log_state.specs.declared.line.StateLine.{StateLine}
 use Rattle.ct_step.specs.declared.step.Step.{Step}

@@ -4,8 +4,8 @@ use Rattle.std.specs.Result.{result_ok}
 use Rattle.serde_json.specs.Data.{Data, Items, no_items, item}
 use Rattle.serde_json.specs.Find.{get, as_array}
 use Rattle.ct_codec.specs.Submitted.{Submitted, x509, precert, refusal_of, admitted}
-use Rattle.ct_lines.specs.Fields.{text_at, number_at, bytes_at, bytes_list_at, hash_at, hashes_at}
-use Rattle.ct_lines.specs.Values.{value_of_line}
+use Rattle.json_lines.specs.Fields.{text_at, number_at, bytes_at, bytes_list_at, hash_at, hashes_at}
+use Rattle.json_lines.specs.Values.{value_of_line}
 use Rattle.ct_growth.specs.declared.claim.Claim.{Claim}
 use Rattle.ct_step_lines.specs.declared.entry.Entry.{Entry}
 use Rattle.ct_step_lines.specs.declared.request.Request.{Request}

@@ -2,7 +2,7 @@
 use Rattle.std.specs.Prelude.{◌≡◌, ℕ, List, [], ◌∷◌, Bool, not, ◌&&◌, ◌==◌, nat_eq, length, Option, Some, None, if◌then◌else◌, option_map, string_bytes, codes, bytes_eq}
 use Rattle.std.specs.List.{list_any}
 use Rattle.std.specs.Io.KnownBytes.{Appends}
-use Rattle.ct_lines.specs.Sends.{SendsSome}
+use Rattle.json_lines.specs.Sends.{SendsSome}
 use Rattle.ct_step_lines.specs.StepSession.{IsStepRun, IsStepStatus}
 use Rattle.ct_step_lines.specs.declared.command.Command.{Command}
 use Rattle.ct_step_lines.specs.declared.command.Command.TheVariants as command

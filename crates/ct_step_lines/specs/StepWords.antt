@@ -6,7 +6,7 @@ use Rattle.serde_json.specs.Written.{compact_text}
 use Rattle.ct_checkpoint.specs.Checkpoint.{checkpoint_text}
 use Rattle.ct_codec.specs.Signed.{tree_head_text}
 use Rattle.ct_growth.specs.Leaves.{receipt_parts}
-use Rattle.ct_lines.specs.ReplyText.{bytes_data, number_data}
+use Rattle.json_lines.specs.Values.{bytes_data, number_data}
 use Rattle.ct_log_state.specs.Lines.{state_line_text}
 use Rattle.ct_log_state.specs.declared.line.StateLine.{StateLine}
 use Rattle.ct_step.specs.declared.step.Step.{Step}

@@ -2,19 +2,19 @@
 
 ghost use Rattle.std.specs.Prelude.{◌≡◌, ◌≢◌, ◌||◌, IfOk, OnOk, OnErr, map, option_map, string_bytes, codes};
 ghost use Rattle.std.specs.Io.KnownBytes.{Appends};
-ghost use Rattle.ct_lines.specs.Sends.{SendsSome};
+ghost use Rattle.json_lines.specs.Sends.{SendsSome};
 ghost use Rattle.ct_step_lines.specs.StepAsks.{step_ask_of};
-ghost use Rattle.ct_lines.specs.Faults.{run_fault_line};
+ghost use Rattle.json_lines.specs.Faults.{run_fault_line};
 ghost use Rattle.ct_step_lines.specs.BrokenOff.{OneReplyBroken, IsStepRunBroken, IsStepCallBroken};
 ghost use Rattle.ct_step_lines.specs.StepOptions.{step_asked_of_words, IsStepAnswered};
 ghost use Rattle.ct_step_lines.specs.StepSession.{GivesText, GetsStepLine, OneReplied, IsReplied, IsStepRun, IsStepStatus, is_no_step};
-ghost use Rattle.ct_lines.specs.declared.fault.RunFault.{RunFault as FaultOf};
+ghost use Rattle.json_lines.specs.declared.fault.RunFault.{RunFault as FaultOf};
 
 use crate::command::{Command, command_of};
 use crate::replies::StepRefusal;
 use crate::request::{LONGEST, Request, read_request};
 use crate::stepping::reply_line;
-use ct_lines::{READS, RunFault, next_line, send, tell};
+use json_lines::{READS, RunFault, next_line, send, tell};
 use std::alloc::{AllocError, Global};
 use std::io::{BufRead, BufReader, Read, Write};
 

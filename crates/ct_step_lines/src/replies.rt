@@ -9,7 +9,7 @@ ghost use Rattle.serde_json.specs.Written.{compact_text, comma_if};
 ghost use Rattle.ct_log_state.specs.Resumed.{object_parts};
 ghost use Rattle.ct_codec.specs.Signed.{tree_head_text};
 ghost use Rattle.ct_growth.specs.Leaves.{receipt_parts};
-ghost use Rattle.ct_lines.specs.ReplyText.{bytes_data, number_data};
+ghost use Rattle.json_lines.specs.Values.{bytes_data, number_data};
 ghost use Rattle.ct_step_lines.specs.StepWords.{IsTileName, step_refusal_name, step_refused_data, begun_data, names_data, line_head_data, receipt_data, claimed_data, bundled_data, stepped_data, resumed_data, step_line, head_text};
 
 use crate::fault::NotMade;

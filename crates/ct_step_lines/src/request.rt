@@ -3,14 +3,14 @@
 ghost use Rattle.std.specs.Prelude.{◌≡◌, ◌++◌, ℕ, List, Option, Some, IfOk, IfSome, option_map, map, length};
 ghost use Rattle.serde_json.specs.View.{view, items_view};
 ghost use Rattle.ct_codec.specs.Submitted.{Submitted};
-ghost use Rattle.ct_lines.specs.Fields.{text_at};
+ghost use Rattle.json_lines.specs.Fields.{text_at};
 ghost use Rattle.ct_step.specs.Entries.{AreShort};
 ghost use Rattle.ct_step_lines.specs.StepAsks.{entry_parts, step_ask_of, chain_hashes_at, certificate_at, precertificate_at, first_or, submitted_in, submission_in, batch_of_items, batch_at, step_of_batch, begin_ask, needs_ask, step_ask, resume_ask, claim_in, claim_at, submitted_at, claim_ask, step_asked_in, AsksStep};
 
 use crate::entry::Entry;
 use ct_codec::Submission;
 use ct_growth::Claim;
-use ct_lines::{fields, line_value};
+use json_lines::{fields, line_value};
 use serde_json::Value;
 use std::alloc::{AllocError, Global};
 

@@ -6,15 +6,15 @@ use Rattle.std.specs.Prelude.{nat_lt, IfSome}
 use Rattle.std.specs.List.{AllByRecursion, filter_map}
 use Rattle.std.specs.Io.BufRead.{drop_through, first_piece}
 use Rattle.ct_lines.specs.Asked.{Asked, by_front, by_frozen, by_operator, publish, sequence, shift, shutdown}
-use Rattle.ct_lines.specs.Lines.{kept_line, lines_of, IsFirstLine, TakesNext}
+use Rattle.json_lines.specs.Lines.{kept_line, lines_of, IsFirstLine, TakesNext}
 use Rattle.ct_lines.proofs.Asking.{request_fits}
-use Rattle.ct_lines.proofs.KeptLines.{whole_or_long}
+use Rattle.json_lines.proofs.KeptLines.{whole_or_long}
 use Rattle.ct_tasks.specs.Plans.{GivesOut, IsPlanOf, LineTaken}
 use Rattle.ct_tasks.specs.Tasks.{Step, does, for_front, for_operator, step_of, AsksFor}
 use Rattle.ct_tasks.specs.Steps.{frozen_line, AllAskFor, AreStepsOf, AreWhole, IsWholeLine}
 use Rattle.ct_tasks.specs.declared.task.OperatorTask.TheVariants.{Sequence, BadLine}
 use Rattle.ct_tasks.specs.declared.plan.Plan.{Plan}
-use Rattle.ct_lines.proofs.LinesOf.{first_line_cut}
+use Rattle.json_lines.proofs.LinesOf.{first_line_cut}
 
 -- the tasks so far, and what is left, are the input's
 abbrev pub LeadsTo : ℕ → List ℕ → List Step → List ℕ → Type 0

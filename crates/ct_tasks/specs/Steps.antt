@@ -2,7 +2,7 @@
 use Rattle.std.specs.Prelude.{◌≢◌, ◌<◌, ℕ, List, [], ◌∷◌, ◌++◌, length, Option, Some, None, IfSome, nat_eq, if◌then◌else◌}
 use Rattle.std.specs.List.{AllByRecursion, filter_map, flat_map}
 use Rattle.ct_lines.specs.Asked.{FrontAsked}
-use Rattle.ct_lines.specs.Lines.{lines_of}
+use Rattle.json_lines.specs.Lines.{lines_of}
 use Rattle.ct_tasks.specs.Tasks.{PartyTask, for_front, for_operator, for_frozen, Step, does, ends_shift, AsksFor}
 use Rattle.ct_tasks.specs.declared.task.OperatorTask.{OperatorTask}
 

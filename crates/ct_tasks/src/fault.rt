@@ -5,7 +5,7 @@ ghost use Rattle.ct_tasks.specs.declared.fault.Fault.TheVariants.{Memory, Write}
 ghost use Rattle.ct_tasks.specs.Faults.{fault_name, IsReadingFault, IsRefusalFault};
 
 use ct_codec::Refusal;
-use ct_lines::Unwritten;
+use json_lines::Unwritten;
 use std::alloc::{AllocError, AllocFailed};
 use std::io;
 use thiserror::Error;

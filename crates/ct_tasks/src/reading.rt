@@ -7,7 +7,7 @@ ghost use Rattle.ct_tasks.specs.Steps.{AreStepsOf, AreWhole};
 
 use crate::fault::Fault;
 use crate::plan::Plan;
-use ct_lines::{READS, REQUEST_KEPT, next_line};
+use json_lines::{READS, REQUEST_KEPT, next_line};
 use std::alloc::Global;
 use std::io::{BufRead, BufReader, Read};
 

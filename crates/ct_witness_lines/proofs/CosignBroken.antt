@@ -6,7 +6,7 @@ use Rattle.std.specs.Prelude.{IfSome, OnErr, Result, Ok, Err}
 use Rattle.std.specs.Io.BufRead.{drop_through, first_piece}
 use Rattle.std.specs.Io.KnownBytes.{Appends}
 use Rattle.std.proofs.KnownBytes.{Appends-nil, Appends-trans}
-use Rattle.ct_lines.specs.Sends.{SendsSome}
+use Rattle.json_lines.specs.Sends.{SendsSome}
 use Rattle.ct_witness_lines.specs.CosignBroken.{GiveFirstCosignings, OneCosignBroken, IsCosignRunBroken, IsCosignCallBroken}
 use Rattle.ct_witness_lines.specs.CosignOptions.{cosign_usage, cosign_version_text, IsCosignCalled}
 use Rattle.ct_witness_lines.specs.declared.command.Command.{Command}

@@ -8,8 +8,8 @@ use Rattle.serde_json.specs.Data.{Data, Items, no_items, item}
 use Rattle.serde_json.specs.Find.{get, as_array}
 use Rattle.sha2.specs.Sha256.{sha256}
 use Rattle.sha2.proofs.Facts256.{length-sha256}
-use Rattle.ct_lines.specs.Fields.{text_at, number_at, hash_of, hash_in, bytes_in, each_item, hashes_of_items, hashes_at}
-use Rattle.ct_lines.specs.Values.{value_of_line}
+use Rattle.json_lines.specs.Fields.{text_at, number_at, hash_of, hash_in, bytes_in, each_item, hashes_of_items, hashes_at}
+use Rattle.json_lines.specs.Values.{value_of_line}
 use Rattle.ct_verify.specs.Laws.{AreHashes, SomeCollide}
 use Rattle.ct_witness.proofs.Runs.{cosigned_go_back}
 use Rattle.ct_witness.specs.declared.tree.Tree.{Tree}

@@ -4,9 +4,9 @@ use Rattle.std.proofs.lemmas.Bool.{eqb-true}
 use Rattle.std.specs.Prelude.{◌==◌, Result, Ok, Err, Vec, IfOk, option_and_then}
 use Rattle.std.specs.Global.{Global}
 use Rattle.std.specs.Io.BufRead.{first_piece}
-use Rattle.ct_lines.specs.Lines.{kept_line, TakesNext}
-use Rattle.ct_lines.proofs.KeptLines.{whole_or_long}
-use Rattle.ct_lines.proofs.Values.{value_long}
+use Rattle.json_lines.specs.Lines.{kept_line, TakesNext}
+use Rattle.json_lines.proofs.KeptLines.{whole_or_long}
+use Rattle.json_lines.proofs.Values.{value_long}
 use Rattle.ct_witness_lines.specs.CosignAsks.{CosignAsk, cosign_asked_in, AsksCosigning}
 use Rattle.ct_witness_lines.specs.Cosigned.{CosignGave, gave_nothing, gave_outcome, LineComesTo, is_no_cosign_request, cosign_gave_data, cosign_line}
 use Rattle.ct_witness_lines.specs.CosignSession.{CosignGiven, IsCosigningAnswered, GivesCosigning, GivesCosigningText, KeepsCosignLine, GetsCosignLine}

@@ -1,8 +1,8 @@
 -- What a line asks of a witness.
 use Rattle.std.specs.Prelude.{◌≡◌, ℕ, List, Option, option_map, option_and_then, codes, string_bytes}
 use Rattle.serde_json.specs.Data.{Data}
-use Rattle.ct_lines.specs.Fields.{text_at, number_at, hash_at, hashes_at}
-use Rattle.ct_lines.specs.Values.{value_of_line}
+use Rattle.json_lines.specs.Fields.{text_at, number_at, hash_at, hashes_at}
+use Rattle.json_lines.specs.Values.{value_of_line}
 use Rattle.ct_witness.specs.declared.tree.Tree.{Tree}
 use Rattle.ct_witness_lines.specs.declared.request.Request.{Request}
 

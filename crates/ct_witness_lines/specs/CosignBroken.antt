@@ -2,7 +2,7 @@
 use Rattle.std.specs.Prelude.{◌≡◌, ◌<◌, ◌⊎◌, ℕ, List, [], ◌∷◌, ◌++◌, length, Option, IfSome}
 use Rattle.std.specs.Io.BufRead.{first_piece, drop_through}
 use Rattle.std.specs.Io.KnownBytes.{Appends}
-use Rattle.ct_lines.specs.Sends.{SendsSome}
+use Rattle.json_lines.specs.Sends.{SendsSome}
 use Rattle.ct_witness_lines.specs.CosignSession.{CosignGiven, GivesCosigning}
 use Rattle.ct_witness_lines.specs.CosignOptions.{cosign_usage, cosign_version_text}
 use Rattle.ct_witness_lines.specs.declared.command.Command.{Command}

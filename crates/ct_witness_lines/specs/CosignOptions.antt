@@ -1,7 +1,7 @@
 -- What the words of ctwitness's command line ask for, the program's name left out: nothing, or help, or the version.
 use Rattle.std.specs.Prelude.{◌≡◌, ℕ, List, [], ◌∷◌, Option, if◌then◌else◌, codes, bytes_eq}
 use Rattle.std.specs.Io.KnownBytes.{Appends}
-use Rattle.ct_lines.specs.Sends.{SendsSome}
+use Rattle.json_lines.specs.Sends.{SendsSome}
 use Rattle.ct_witness_lines.specs.CosignSession.{IsCosignRun, IsCosignStatus}
 use Rattle.ct_witness_lines.specs.declared.command.Command.{Command}
 use Rattle.ct_witness_lines.specs.declared.command.Command.TheVariants.{Answer, Help, Version, Refused}

@@ -2,18 +2,18 @@
 
 ghost use Rattle.std.specs.Prelude.{◌≡◌, ◌≢◌, IfOk, OnOk, OnErr, map, string_bytes, codes};
 ghost use Rattle.std.specs.Io.KnownBytes.{Appends};
-ghost use Rattle.ct_lines.specs.Faults.{run_fault_line};
-ghost use Rattle.ct_lines.specs.Sends.{SendsSome};
+ghost use Rattle.json_lines.specs.Faults.{run_fault_line};
+ghost use Rattle.json_lines.specs.Sends.{SendsSome};
 ghost use Rattle.ct_witness_lines.specs.CosignBroken.{OneCosignBroken, IsCosignRunBroken, IsCosignCallBroken};
 ghost use Rattle.ct_witness_lines.specs.CosignOptions.{cosign_asked_of_words, IsCosignCalled};
 ghost use Rattle.ct_witness_lines.specs.CosignSession.{GivesCosigningText, GetsCosignLine, OneCosigned, AllCosigned, IsCosignRun, IsCosignStatus};
-ghost use Rattle.ct_lines.specs.declared.fault.RunFault.{RunFault as FaultOf};
+ghost use Rattle.json_lines.specs.declared.fault.RunFault.{RunFault as FaultOf};
 
 use crate::command::{Command, command_of};
 use crate::deciding::decide;
 use crate::replies::{no_request_line, reply_line};
 use crate::request::read_request;
-use ct_lines::{READS, REQUEST_KEPT, RunFault, next_line, send, tell};
+use json_lines::{READS, REQUEST_KEPT, RunFault, next_line, send, tell};
 use std::alloc::{AllocError, Global};
 use std::io::{BufRead, BufReader, Read, Write};
 

@@ -4,8 +4,8 @@ ghost use Rattle.std.specs.Prelude.{◌≡◌, IfOk, option_map};
 ghost use Rattle.serde_json.specs.View.{view};
 ghost use Rattle.ct_witness_lines.specs.CosignAsks.{last_tree_in, cosign_ask_of, cosign_asked_in, AsksCosigning};
 
-use ct_lines::{LONGEST_REQUEST, fields, line_value};
 use ct_witness::Tree;
+use json_lines::{LONGEST_REQUEST, fields, line_value};
 use serde_json::Value;
 use std::alloc::{AllocError, Global};
 

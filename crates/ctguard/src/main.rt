@@ -3,7 +3,7 @@
 #![tactic(auto)]
 
 use ct_guard_lines::{answer_words, fault_text};
-use ct_lines::{RunFault, tell};
+use json_lines::{RunFault, tell};
 use std::io;
 use std::process::ExitCode;
 

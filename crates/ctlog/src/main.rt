@@ -15,7 +15,7 @@ ghost use Rattle.ct_tasks.specs.declared.fault.Fault.{Fault as FaultOf};
 ghost use Rattle.ct_command.specs.CommandLine.{asked_of, help, version, nothing};
 ghost use Rattle.ct_command.specs.FaultLines.{fault_line, name_of};
 ghost use Rattle.ctlog.specs.Runs.{IsDone, IsBrokenOff};
-ghost use Rattle.ct_lines.specs.Sends.{SendsSome};
+ghost use Rattle.json_lines.specs.Sends.{SendsSome};
 
 mod program;
 #[cfg(test)]

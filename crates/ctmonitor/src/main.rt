@@ -2,8 +2,8 @@
 //! does is `answer_words` of `ct_monitor_lines`, over the process's words, standard input, output and error.
 #![tactic(auto)]
 
-use ct_lines::RunFault;
 use ct_monitor_lines::{answer_words, refuse_words};
+use json_lines::RunFault;
 use std::io;
 use std::process::ExitCode;
 

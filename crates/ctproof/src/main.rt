@@ -2,8 +2,8 @@
 //! does is `answer_words` of `ct_reader_lines`, over the process's words, standard input, output and error.
 #![tactic(auto)]
 
-use ct_lines::{RunFault, tell};
 use ct_reader_lines::{answer_words, fault_text};
+use json_lines::{RunFault, tell};
 use std::io;
 use std::process::ExitCode;
 

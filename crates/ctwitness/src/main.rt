@@ -2,8 +2,8 @@
 //! `ct_witness_lines`, over the process's words, standard input, output and error.
 #![tactic(auto)]
 
-use ct_lines::{RunFault, tell};
 use ct_witness_lines::{answer_words, fault_text};
+use json_lines::{RunFault, tell};
 use std::io;
 use std::process::ExitCode;
 

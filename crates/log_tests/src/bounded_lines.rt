@@ -1,5 +1,5 @@
 // Lines of which no more than 6 bytes are kept, their ends among them. What is read was worked out by hand.
-use ct_lines::next_line;
+use json_lines::next_line;
 use std::alloc::Global;
 use std::io::BufReader;
 use std::test::Fail;

@@ -1,7 +1,7 @@
 // What is expected was computed by another program: tests/guard/runs.py, with hashlib alone.
 use crate::programs::{NoInput, Room, words_of};
 use ct_guard_lines::{Receipts, Settings, answer_words, run};
-use ct_lines::RunFault;
+use json_lines::RunFault;
 use std::alloc::{AllocError, Global};
 use std::io::{BufReader, ErrorKind, Read};
 use std::test::Fail;

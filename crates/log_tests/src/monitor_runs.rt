@@ -1,7 +1,7 @@
 // What is expected was computed by another program: tests/monitor/answers.py, with hashlib alone, over short leaves.
 use crate::programs::{NoInput, Room, words_of};
-use ct_lines::RunFault;
 use ct_monitor_lines::{answer_words, refuse_words, run};
+use json_lines::RunFault;
 use std::alloc::{AllocError, Global};
 use std::io::{BufRead, BufReader, ErrorKind, Read};
 use std::test::Fail;

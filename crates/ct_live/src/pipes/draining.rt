@@ -6,7 +6,7 @@ ghost use mathlib.Core.List.{IsPrefix};
 ghost use Rattle.ct_live.specs.Rings.{all_received, all_sent, ArePairs, ArePrefixes, AreTakenBelow};
 ghost use Rattle.ct_live.specs.Written.{Passes, PassesSome, WritesOn, BeginsOn};
 
-use ct_lines::{Unwritten, send};
+use json_lines::{Unwritten, send};
 use rtrb::{Consumer, Producer};
 use std::io::Write;
 

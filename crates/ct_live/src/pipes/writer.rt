@@ -6,7 +6,7 @@ ghost use Rattle.ct_live.specs.Rings.{AreSeenEmpty, EmptiedAt, SameConsumers};
 ghost use Rattle.ct_live.specs.Written.{Passes, PassesSome, WritesOn, BeginsOn};
 
 use crate::pipes::parkers::{Parkers, Waiter};
-use ct_lines::{Unwritten, send};
+use json_lines::{Unwritten, send};
 use rtrb::Consumer;
 use std::io::Write;
 use std::sync::Wait;

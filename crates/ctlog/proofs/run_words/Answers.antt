@@ -6,7 +6,7 @@ use Rattle.ct_command.specs.CommandLine.{CommandLine, asked_for, asked_of, comma
 use Rattle.ct_command.specs.FaultLines.{fault_line, name_of}
 use Rattle.ct_command.specs.declared.program.Program.TheVariants.{Ctlog}
 use Rattle.ctlog.specs.Runs.{IsDone, IsBrokenOff}
-use Rattle.ct_lines.specs.Sends.{SendsSome}
+use Rattle.json_lines.specs.Sends.{SendsSome}
 use Rattle.ct_tasks.specs.declared.fault.Fault.{Fault}
 use Rattle.ctlog.proofs.RunLemmas.{none_written}
 use Rattle.ctlog.proofs.run_words.Goals as goal

@@ -6,7 +6,7 @@ use Rattle.ct_command.specs.CommandLine.{CommandLine, asked_for, asked_of, comma
 use Rattle.ct_command.specs.FaultLines.{fault_line, name_of}
 use Rattle.ct_command.specs.declared.program.Program.TheVariants.{Ctlogd}
 use Rattle.ctlogd.specs.LiveRuns.{IsLiveDone, IsLiveBrokenOff}
-use Rattle.ct_lines.specs.Sends.{SendsSome}
+use Rattle.json_lines.specs.Sends.{SendsSome}
 use Rattle.ct_tasks.specs.declared.fault.Fault.{Fault}
 use Rattle.ctlogd.proofs.LiveRunLemmas.{none_written}
 use Rattle.ctlogd.proofs.run_words.Goals as goal

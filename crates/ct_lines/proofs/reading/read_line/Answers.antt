@@ -3,7 +3,7 @@ use Rattle.std.specs.Prelude.{option_map, Result, Ok, Err, IfErr}
 use Rattle.serde_json.specs.View.{view}
 use Rattle.ct_codec.specs.declared.refusal.Refusal.{Refusal}
 use Rattle.ct_codec.specs.declared.refusal.Refusal.TheVariants.{Memory}
-use Rattle.ct_lines.proofs.Values.{value_is}
+use Rattle.json_lines.proofs.Values.{value_is}
 use Rattle.ct_lines.proofs.reading.read_line.Goals as goal
 
 err_fits : {A : Type 0} (r : Result A Refusal) (n m : ℕ) → n ≤ m → IfErr r (λ e. e ≡ Memory → n ≤ m)

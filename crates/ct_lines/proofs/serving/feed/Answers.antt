@@ -1,7 +1,7 @@
 use Rattle.std.proofs.Common.{◌++◌, [], Bool, length-append, length-take-le, take, refl, subst, arith}
-use Rattle.ct_lines.specs.Lines.{IsPiece}
+use Rattle.json_lines.specs.Lines.{IsPiece}
 use Rattle.ct_lines.specs.Frozen.{frozen_reply}
-use Rattle.ct_lines.proofs.KeptLines.{kept_fits}
+use Rattle.json_lines.proofs.KeptLines.{kept_fits}
 use Rattle.ct_lines.proofs.Pieces.{done_more, goes_none, goes_bytes_at, goes_end_at, stops_end_at, stops_between_at}
 use Rattle.ct_lines.proofs.serving.feed.Goals.{then-is_ended+in-Ok-end_line, else-is_ended}
 use Rattle.ct_lines.proofs.serving.feed.Goals as goal

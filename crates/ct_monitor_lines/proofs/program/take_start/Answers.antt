@@ -1,6 +1,6 @@
 use Rattle.std.proofs.Common.{◌≡◌, Bool, true, map, subst, rules}
 use Rattle.std.specs.Prelude.{string_bytes}
-use Rattle.ct_lines.specs.Lines.{TakesNext}
+use Rattle.json_lines.specs.Lines.{TakesNext}
 use Rattle.ct_monitor_lines.specs.Session.{FirstGives}
 use Rattle.ct_monitor_lines.proofs.BrokenOff.{at_err, line_broken}
 use Rattle.ct_monitor_lines.proofs.Lines.{one_taken}

@@ -1,7 +1,7 @@
 use Rattle.std.proofs.Common.{◌∙◌, sym, ap}
 use Rattle.std.specs.Prelude.{option_map}
 use Rattle.serde_json.specs.View.{view}
-use Rattle.ct_lines.proofs.Values.{value_is}
+use Rattle.json_lines.proofs.Values.{value_is}
 use Rattle.ct_monitor_lines.proofs.Lines.{none_state}
 use Rattle.ct_monitor_lines.proofs.state.read_state.Goals as goal
 

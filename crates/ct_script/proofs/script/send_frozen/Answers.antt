@@ -1,5 +1,5 @@
 use Rattle.std.proofs.KnownBytes.{Appends-nil}
-use Rattle.ct_lines.proofs.KeptLines.{of_error}
+use Rattle.json_lines.proofs.KeptLines.{of_error}
 use Rattle.ct_script.proofs.OutputLemmas.{frozen_all, frozen_whole, replies_cut, replies_more}
 use Rattle.ct_script.proofs.script.send_frozen.Goals as goal
 

@@ -6,7 +6,7 @@ use Rattle.ct_lines.specs.Frozen.{frozen_text}
 use Rattle.ct_script.specs.Output.{IsFrozenFault}
 use Rattle.ct_script.specs.Shifts.{start_of}
 use Rattle.ct_script.specs.Output.{IsClosed, SomeReplies, parties_begun, parties_done}
-use Rattle.ct_lines.specs.Sends.{SendsSome}
+use Rattle.json_lines.specs.Sends.{SendsSome}
 use Rattle.ct_parties.proofs.FrontLemmas.{if_err_is}
 use Rattle.ct_script.proofs.OutputLemmas.{if_err_both, writes_all, writes_last}
 use Rattle.ct_script.proofs.script.serve_parties_and_log.Goals as goal

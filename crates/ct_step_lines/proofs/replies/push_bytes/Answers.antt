@@ -2,7 +2,7 @@ use Rattle.std.proofs.Common.{◌≡◌, ◌∙◌, ℕ, List, [], ◌∷◌, �
 use Rattle.std.specs.Prelude.{string_bytes}
 use Rattle.base64.specs.Engines.{standard}
 use Rattle.base64.specs.GeneralPurpose.{IsBytes, encode_of}
-use Rattle.ct_lines.specs.ReplyText.{base64_text}
+use Rattle.json_lines.specs.Values.{base64_text}
 use Rattle.ct_step_lines.proofs.Behind.{behind}
 use Rattle.ct_step_lines.proofs.PlainText.{base64-plain}
 use Rattle.ct_step_lines.proofs.replies.push_bytes.Goals as goal

@@ -2,7 +2,7 @@ use Rattle.std.proofs.Common.{◌≡◌, ℕ, List, ◌++◌, codes}
 use Rattle.std.specs.Prelude.{string_bytes}
 use Rattle.json.specs.Print.{escape_byte}
 use Rattle.serde_json.specs.Written.{compact_text}
-use Rattle.ct_lines.specs.ReplyText.{bytes_data, number_data}
+use Rattle.json_lines.specs.Values.{bytes_data, number_data}
 use Rattle.ct_step_lines.proofs.Behind.{behind}
 use Rattle.ct_step_lines.proofs.replies.push_line_head.Goals as goal
 

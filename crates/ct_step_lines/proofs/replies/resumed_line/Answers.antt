@@ -3,7 +3,7 @@ use Rattle.std.specs.Prelude.{String, option_map, string_bytes}
 use Rattle.serde_json.specs.Data.{array}
 use Rattle.serde_json.specs.View.{items_of}
 use Rattle.serde_json.specs.Written.{compact_text}
-use Rattle.ct_lines.specs.ReplyText.{bytes_data}
+use Rattle.json_lines.specs.Values.{bytes_data}
 use Rattle.ct_log_state.specs.Resumed.{object_parts}
 use Rattle.ct_codec.specs.Signed.{tree_head_text}
 use Rattle.ct_step_lines.specs.StepWords.{bundled_data, resumed_data, head_text}

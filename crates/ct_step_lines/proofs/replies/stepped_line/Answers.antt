@@ -4,7 +4,7 @@ use Rattle.serde_json.specs.Data.{string, array}
 use Rattle.serde_json.specs.View.{items_of}
 use Rattle.serde_json.specs.Written.{compact_text}
 use Rattle.ct_log_state.specs.Lines.{state_line_text}
-use Rattle.ct_lines.specs.ReplyText.{bytes_data}
+use Rattle.json_lines.specs.Values.{bytes_data}
 use Rattle.ct_growth.specs.Leaves.{receipt_parts}
 use Rattle.ct_growth.specs.declared.receipts.Receipt.{Receipt}
 use Rattle.ct_step_lines.specs.StepWords.{receipt_data, receipts_at, stepped_data, head_text}

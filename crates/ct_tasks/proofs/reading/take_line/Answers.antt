@@ -1,5 +1,5 @@
 use Rattle.std.proofs.Common.{◌≡◌, Bool, true, false, subst, rules}
-use Rattle.ct_lines.specs.Lines.{TakesNext}
+use Rattle.json_lines.specs.Lines.{TakesNext}
 use Rattle.ct_tasks.proofs.ReadingLemmas.{line_taken, none_taken}
 use Rattle.ct_tasks.proofs.reading.take_line.Goals as goal
 

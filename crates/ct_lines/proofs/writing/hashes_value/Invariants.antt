@@ -1,7 +1,0 @@
-use Rattle.std.proofs.Common.{◌≡◌, map, take}
-use Rattle.serde_json.specs.View.{view}
-use Rattle.ct_lines.specs.ReplyText.{bytes_data}
-use Rattle.ct_lines.proofs.writing.hashes_value.Given as goal
-
-abbrev pub invariant-loop-hash : goal.invariant-loop-hash
-invariant-loop-hash l = map view l.values.items ≡ map bytes_data (take l.hash-index l.hashes)

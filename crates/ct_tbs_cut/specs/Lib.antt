@@ -1,0 +1,4 @@
+pub mod Tbs
+pub mod Reading
+pub mod Laws
+pub mod Cuts

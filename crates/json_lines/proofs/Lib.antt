@@ -1,0 +1,7 @@
+pub mod Items
+pub mod OneText
+pub mod Sent
+pub mod Values
+pub mod Texts
+pub mod KeptLines
+pub mod LinesOf

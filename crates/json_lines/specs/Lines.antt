@@ -1,0 +1,68 @@
+-- The lines of an input, and the next of them.
+use Rattle.std.specs.Prelude.{◌≡◌, ◌≢◌, ◌<◌, ◌≤◌, ◌+◌, ◌-◌, ℕ, Bool, true, false, List, [], ◌∷◌, ◌++◌, ◌==◌, if◌then◌else◌, All, length, slice_index, take, Option, Some, None, Result, Ok, IfSome, OnSome}
+use Rattle.std.specs.Io.{StopsAt, IsEmptyOrEndsWith}
+use Rattle.std.specs.Io.KnownBytes.{Consumes, IsAtEnd}
+use Rattle.std.specs.Io.BufRead.{drop_through, strip_last, take_through}
+
+-- the last line, which ends with the input: there is none behind an end of line
+abbrev pub last_line : List ℕ → List (List ℕ)
+last_line [] = []
+last_line (b ∷ bs) = (b ∷ bs) ∷ []
+
+-- the lines of an input, where `line` stands before it
+abbrev pub lines_behind : List ℕ → List ℕ → List (List ℕ)
+lines_behind line [] = last_line line
+lines_behind line (b ∷ bs) = if b == 10 then line ∷ lines_behind [] bs else lines_behind (line ++ b ∷ []) bs
+
+-- the lines of an input: each ends at the byte 0A, and the last may end with the input
+abbrev pub lines_of : List ℕ → List (List ℕ)
+lines_of input = lines_behind [] input
+
+-- What is kept of the first line of xs, without its end: all of it, but of a line that has more than `most` bytes with its end the
+-- first `most`.
+abbrev pub kept_line : ℕ → List ℕ → List ℕ
+kept_line most xs = strip_last 10 (take most (take_through 10 xs))
+
+-- The line is what is kept, `most` bytes of it, of the first of what was left, up to the byte 0A or the end, and what is left then is
+-- behind it, left_next.
+abbrev pub IsFirstLine : ℕ → Option (List ℕ) → Option (List ℕ) → List ℕ → Type 0
+IsFirstLine most left left_next line =
+    IfSome left (λ xs. (0 < length xs) × (line ≡ kept_line most xs) × (left_next ≡ Some (drop_through 10 xs)))
+
+-- the next line was taken (true), or none was left
+abbrev pub TakesNext : ℕ → Option (List ℕ) → Option (List ℕ) → List ℕ → Bool → Type 0
+TakesNext most left left_then line true = IsFirstLine most left left_then line
+TakesNext most left left_then line false = IfSome left (λ xs. (xs ≡ []) × (left_then ≡ Some []))
+
+-- The line with the number n was read, which is the next, and the number after it is the next then; or none was left. Of a line of more
+-- than 1,048,577 bytes the first 1,048,578 are kept: so it is a request just where the whole line is one, which has at most 1,048,576.
+abbrev pub IsNextLine : ℕ → ℕ → Option (List ℕ) → Option (List ℕ) → List ℕ → Option ℕ → Type 0
+IsNextLine next next_then left left_then line (Some n) = (n ≡ next) × (next_then ≡ next + 1) × IsFirstLine 1048578 left left_then line
+IsNextLine next next_then left left_then line None = (next_then ≡ next) × IfSome left (λ xs. xs ≡ [])
+
+-- some bytes of a line that didn't end were taken, from left to left_then, and of these the first `most` are kept
+abbrev pub IsKeptOf : ℕ → Option (List ℕ) → Option (List ℕ) → List ℕ → Type 0
+IsKeptOf most left left_then kept = (bs : List ℕ) × Consumes left left_then bs × All (λ x. x ≢ 10) bs × (kept ≡ take most bs)
+
+-- Some bytes are cut behind `end` of them, but for none at all: behind the first byte 0A where the line ends, and else where none was.
+pub record IsPiece (bytes : List ℕ) (end : ℕ) (is_ended : Bool) : Type 0 where
+  pub within : end ≤ length bytes
+  pub some : 0 < length bytes → 0 < end
+  pub before : All (λ x. x ≢ 10) (take (end - 1) bytes)
+  pub ends : is_ended ≡ true → (0 < end) × (slice_index bytes (end - 1) ≡ 10)
+  pub goes_on : is_ended ≡ false → All (λ x. x ≢ 10) (take end bytes)
+
+-- Some bytes were taken, from left to left_then, which have the byte 0A at their end or nowhere. These are kept behind what was kept
+-- before (line), as far as there is room for `most` bytes (line_then). Where the line is done (r) they end at that byte, or none was left.
+pub record TakesPiece {E : Type 0} (most : ℕ) (left left_then : Option (List ℕ)) (line line_then : List ℕ) (r : Result Bool E) : Type 0 where
+  pub bytes : List ℕ
+  pub taken : Consumes left left_then bytes
+  pub kept : line_then ≡ take most (line ++ bytes)
+  pub stops : StopsAt bytes 10
+  pub goes_on : r ≢ Ok true → All (λ x. x ≢ 10) bytes
+  pub ends : r ≡ Ok true → IsEmptyOrEndsWith bytes 10
+  pub at_end : r ≡ Ok true → length bytes ≡ 0 → OnSome left (IsAtEnd left_then)
+
+-- the first line was taken with its end, from left to left_then, and of these bytes the first `most` are kept
+abbrev pub TakesFirstLine : ℕ → Option (List ℕ) → Option (List ℕ) → List ℕ → Type 0
+TakesFirstLine most left left_then kept = IfSome left (λ xs. (kept ≡ take most (take_through 10 xs)) × (left_then ≡ Some (drop_through 10 xs)))

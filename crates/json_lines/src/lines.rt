@@ -1,0 +1,163 @@
+//! An input cut into lines, as it comes, of each of which no more is held than is asked for.
+
+ghost use Rattle.std.specs.Prelude.{◌≡◌, ◌≢◌, ◌<◌, ◌≤◌, ◌-◌, ◌++◌, ◌^◌, [], All, take, length, IfOk, OnOk, OnErr};
+ghost use Rattle.std.specs.Io.BufRead.{strip_last};
+ghost use Rattle.json_lines.specs.Lines.{IsPiece, IsKeptOf, IsNextLine, TakesNext, TakesPiece, TakesFirstLine};
+
+use std::alloc::AllocError;
+use std::io;
+use std::io::{BufRead, ErrorKind};
+
+/// How many lines of an input are read at most, and how many pieces: so they can be counted, and each loop over them ends.
+pub const READS: u64 = 1 << 50;
+
+/// How many bytes of a request line are kept, its end among them: two more than the longest request has.
+pub const REQUEST_KEPT: usize = 1_048_578;
+
+/// The line without its end, the byte 0A.
+pub fn content(line: &[u8]) -> &[u8]
+    ensures { result.now ≡ strip_last 10 line.now }
+{
+    match line.split_last() {
+        Some((last, front)) if *last == b'\n' => front,
+        _ => line,
+    }
+}
+
+// The length up to and including the first byte 0A, or the whole length.
+fn through(bytes: &[u8]) -> usize
+    ensures bound { result ≤ length bytes.now }
+    ensures some { 0 < length bytes.now → 0 < result }
+    ensures before { All (λ x. x ≢ 10) (take (result - 1) bytes.now) }
+{
+    let mut i = 0;
+    while i < bytes.len() {
+        if bytes[i] == b'\n' {
+            return i + 1;
+        }
+        i += 1;
+    }
+    i
+}
+
+/// Cuts some bytes behind the first 0A, or at their end, and keeps of what is before the cut what there is room for, `most` bytes
+/// of a line in all. It answers where the cut is, and whether the line ended there.
+///
+/// # Errors
+///
+/// Where a growth is refused.
+pub fn cut_piece(bytes: &[u8], most: usize, line: &mut Vec<u8>) -> Result<(usize, bool), AllocError>
+    requires { length line.old.items ≤ most }
+    ensures piece { IfOk result (λ p. IsPiece bytes.now p.0 p.1) }
+    ensures kept { IfOk result (λ p. line.new.items ≡ take most (line.old.items ++ take p.0 bytes.now)) }
+    ensures same { OnErr result (line.new.items ≡ line.old.items) }
+{
+    let end = through(bytes);
+    let kept = end.min(most - line.len());
+    line.extend_from_slice(&bytes[..kept])?;
+    let is_ended = end > 0 && bytes[end - 1] == b'\n';
+    Ok((end, is_ended))
+}
+
+// Takes what stands in the reader's buffer, up to and including the first byte 0A, and keeps of it what there is room for. It
+// answers whether the line ended, at that byte or at the end of the input.
+fn take_piece<R: BufRead>(input: &mut R, most: usize, line: &mut Vec<u8>) -> io::Result<bool>
+    requires { length line.old.items ≤ most }
+    ensures { TakesPiece most (R.remaining input.old) (R.remaining input.new) line.old.items line.new.items result }
+{
+    let available = match input.fill_buf() {
+        Ok(available) => available,
+        Err(error) => {
+            return if error.kind() == ErrorKind::Interrupted {
+                Ok(false)
+            } else {
+                Err(error)
+            };
+        }
+    };
+    let (end, is_ended) = cut_piece(available, most, line)?;
+    input.consume(end);
+    Ok(end == 0 || is_ended)
+}
+
+// Takes the next line with its end, and keeps of it what there is room for in an empty vector.
+fn take_line<R: BufRead>(input: &mut R, most: usize, line: &mut Vec<u8>) -> io::Result<()>
+    requires { line.old.items ≡ [] }
+    ensures line { OnOk result (TakesFirstLine most (R.remaining input.old) (R.remaining input.new) line.new.items) }
+    ensures one { OnOk result (All (λ x. x ≢ 10) (strip_last 10 line.new.items)) }
+    ensures none_lost { OnErr result (IsKeptOf most (R.remaining input.old) (R.remaining input.new) line.new.items) }
+{
+    for turn in 0..READS {
+        if take_piece(input, most, line)? {
+            return Ok(());
+        }
+    }
+    Err(io::Error::from(ErrorKind::Other))
+}
+
+/// Reads the next line into `line`, without its end, the byte 0A, and in place of what stood there. It answers whether there was
+/// one, or the input had ended. An empty line is one, and so is a last line that the input ends. A byte 0D is part of its line,
+/// and a byte 0A of none.
+/// Of a line that has more than `most` bytes with its end the first `most` are kept, so that no line takes more memory.
+///
+/// # Errors
+///
+/// The reader's, where it fails; `OutOfMemory` where a growth is refused; and another one where there are more than 2^50 pieces of
+/// a line. `line` has what was read of the line, as far as it is kept; its end was not read.
+pub fn next_line<R: BufRead>(input: &mut R, most: usize, line: &mut Vec<u8>) -> io::Result<bool>
+    requires { 0 < most }
+    ensures line { IfOk result (λ is_line. TakesNext most (R.remaining input.old) (R.remaining input.new) line.new.items is_line) }
+    ensures one { OnOk result (All (λ x. x ≢ 10) line.new.items) }
+    ensures none_lost { OnErr result (IsKeptOf most (R.remaining input.old) (R.remaining input.new) line.new.items) }
+{
+    line.clear();
+    take_line(input, most, line)?;
+    if line.is_empty() {
+        return Ok(false);
+    }
+    let end = content(line).len();
+    line.truncate(end);
+    Ok(true)
+}
+
+/// An input of request lines, of which the next one has this number. The first line has the number 0.
+#[derive(Drop)]
+pub struct NumberedLines<R: BufRead + Drop> {
+    pub input: R,
+    pub next: u64,
+    ghost few: { next ≤ 2 ^ 50 },
+}
+
+impl<R: BufRead + Drop> NumberedLines<R> {
+    /// The lines of an input, from its first one on.
+    pub fn new(input: R) -> NumberedLines<R>
+        ensures { (result.input ≡ input) × (result.next ≡ 0) }
+    {
+        NumberedLines { input, next: 0 }
+    }
+
+    /// Reads the next line into `line`, as `next_line` does, and answers the line's number, or none at the end of the input. Of
+    /// a line of more than 1,048,577 bytes the first 1,048,578 are kept.
+    ///
+    /// # Errors
+    ///
+    /// Those of `next_line`, and another one where there are more than 2^50 lines. The next line's number stays. `line` has what
+    /// was read of the line, as far as it is kept.
+    pub fn read(&mut self, line: &mut Vec<u8>) -> io::Result<Option<u64>>
+        ensures line { IfOk result (λ n. IsNextLine self.old.next self.new.next
+            (R.remaining self.old.input) (R.remaining self.new.input) line.new.items n) }
+        ensures same { OnErr result (self.new.next ≡ self.old.next) }
+        ensures none_lost { OnErr result (self.old.next < 2 ^ 50
+            → IsKeptOf 1048578 (R.remaining self.old.input) (R.remaining self.new.input) line.new.items) }
+    {
+        if self.next == READS {
+            return Err(io::Error::from(ErrorKind::Other));
+        }
+        if !next_line(&mut self.input, REQUEST_KEPT, line)? {
+            return Ok(None);
+        }
+        let number = self.next;
+        self.next = number + 1;
+        Ok(Some(number))
+    }
+}

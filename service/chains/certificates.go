@@ -1,0 +1,191 @@
+package chains
+
+import (
+	"bytes"
+	"crypto/ed25519"
+	"crypto/x509"
+	"encoding/asn1"
+	"errors"
+	"fmt"
+	"time"
+
+	"golang.org/x/crypto/cryptobyte"
+	tags "golang.org/x/crypto/cryptobyte/asn1"
+)
+
+// certificate is what a log needs of a certificate that is to be shown (RFC 5280, section 4.1): who issued it, when it ends, its
+// extensions, and what is signed by what. Of what else stands in it nothing is asked, so that one is shown that was issued with a name, an
+// address, a key or an extension that crypto/x509 refuses.
+type certificate struct {
+	raw    []byte
+	tbs    []byte
+	issuer []byte
+	// notAfter is the end of its validity.
+	notAfter   time.Time
+	extensions []extension
+	// algorithm and signature are as crypto/x509 reads them.
+	algorithm x509.SignatureAlgorithm
+	signature []byte
+}
+
+// extension is one of a certificate's: the content of its OBJECT IDENTIFIER and of its OCTET STRING.
+type extension struct {
+	identifier, value []byte
+}
+
+// identifierOf is the content of an OBJECT IDENTIFIER in DER.
+func identifierOf(oid asn1.ObjectIdentifier) []byte {
+	var b cryptobyte.Builder
+	b.AddASN1ObjectIdentifier(oid)
+	element := cryptobyte.String(b.BytesOrPanic())
+	var content cryptobyte.String
+	if !element.ReadASN1(&content, tags.OBJECT_IDENTIFIER) {
+		panic("chains: an object identifier isn't read as it is written")
+	}
+	return content
+}
+
+// certificateOf gives of an issuer's certificate what is read of the first one of a chain.
+func certificateOf(issuer *x509.Certificate) *certificate {
+	c := &certificate{
+		raw: issuer.Raw, tbs: issuer.RawTBSCertificate, issuer: issuer.RawIssuer, notAfter: issuer.NotAfter,
+		algorithm: issuer.SignatureAlgorithm, signature: issuer.Signature,
+	}
+	for _, of := range issuer.Extensions {
+		c.extensions = append(c.extensions, extension{identifierOf(of.Id), of.Value})
+	}
+	return c
+}
+
+// value gives the value of the first extension with this identifier, and whether there is one.
+func (c *certificate) value(oid asn1.ObjectIdentifier) ([]byte, bool) {
+	identifier := identifierOf(oid)
+	for _, extension := range c.extensions {
+		if bytes.Equal(extension.identifier, identifier) {
+			return extension.value, true
+		}
+	}
+	return nil, false
+}
+
+// readCertificate reads a certificate in DER as far as a log needs it.
+func readCertificate(der []byte) (*certificate, error) {
+	c := &certificate{raw: der}
+	input := cryptobyte.String(der)
+	var fields, tbs, algorithm, signature cryptobyte.String
+	if !input.ReadASN1(&fields, tags.SEQUENCE) || !input.Empty() {
+		return nil, noDER("a certificate")
+	}
+	if !fields.ReadASN1Element(&tbs, tags.SEQUENCE) || !fields.ReadASN1Element(&algorithm, tags.SEQUENCE) ||
+		!fields.ReadASN1Element(&signature, tags.BIT_STRING) || !fields.Empty() {
+		return nil, noDER("a certificate's field")
+	}
+	c.tbs = tbs
+	if err := c.readTBS(tbs, algorithm); err != nil {
+		return nil, err
+	}
+	if err := c.readSignature(algorithm, signature); err != nil {
+		return nil, err
+	}
+	return c, nil
+}
+
+// readTBS reads the fields of a TBSCertificate; its algorithm has to be the one beside it (RFC 5280, section 4.1.1.2), which no signature
+// covers: else one certificate could be submitted in many forms.
+func (c *certificate) readTBS(tbs, algorithm cryptobyte.String) error {
+	var fields, inner, issuer, validity, ignored, explicit, extensions cryptobyte.String
+	var has bool
+	if !tbs.ReadASN1(&fields, tags.SEQUENCE) || !fields.SkipOptionalASN1(tagVersion) || !fields.SkipASN1(tags.INTEGER) ||
+		!fields.ReadASN1Element(&inner, tags.SEQUENCE) || !fields.ReadASN1Element(&issuer, tags.SEQUENCE) ||
+		!fields.ReadASN1(&validity, tags.SEQUENCE) || !fields.SkipASN1(tags.SEQUENCE) || !fields.SkipASN1(tags.SEQUENCE) ||
+		!fields.ReadOptionalASN1(&ignored, &has, tagIssuerUnique) || !fields.ReadOptionalASN1(&ignored, &has, tagSubjectUnique) ||
+		!fields.ReadOptionalASN1(&explicit, &has, tagExtensions) || !fields.Empty() {
+		return noDER("a TBSCertificate's field")
+	}
+	if !bytes.Equal(inner, algorithm) {
+		return fmt.Errorf("%w: the signature's algorithm isn't the TBSCertificate's", NoCertificate)
+	}
+	c.issuer = issuer
+	var err error
+	if c.notAfter, err = endOf(validity); err != nil {
+		return err
+	}
+	if !has {
+		return nil
+	}
+	if !explicit.ReadASN1(&extensions, tags.SEQUENCE) || !explicit.Empty() {
+		return noDER("a list of extensions")
+	}
+	return c.readExtensions(extensions)
+}
+
+// endOf gives the end of a validity.
+func endOf(validity cryptobyte.String) (time.Time, error) {
+	var moments [2]time.Time
+	for i := range moments {
+		read := validity.ReadASN1GeneralizedTime
+		if validity.PeekASN1Tag(tags.UTCTime) {
+			read = validity.ReadASN1UTCTime
+		}
+		if !read(&moments[i]) {
+			return time.Time{}, noDER("a moment of the validity")
+		}
+	}
+	if !validity.Empty() {
+		return time.Time{}, noDER("a validity")
+	}
+	return moments[1], nil
+}
+
+func (c *certificate) readExtensions(extensions cryptobyte.String) error {
+	for !extensions.Empty() {
+		var content, identifier, value cryptobyte.String
+		if !extensions.ReadASN1(&content, tags.SEQUENCE) || !content.ReadASN1(&identifier, tags.OBJECT_IDENTIFIER) ||
+			!content.SkipOptionalASN1(tags.BOOLEAN) || !content.ReadASN1(&value, tags.OCTET_STRING) || !content.Empty() {
+			return noDER("an extension")
+		}
+		c.extensions = append(c.extensions, extension{identifier, value})
+	}
+	return nil
+}
+
+// anyKey is the SubjectPublicKeyInfo of some key of Ed25519 (RFC 8410, section 4).
+var anyKey = append([]byte("\x30\x2a\x30\x05\x06\x03\x2b\x65\x70\x03\x21\x00"), make([]byte, ed25519.PublicKeySize)...)
+
+// readSignature has crypto/x509 read the algorithm and the signature, out of a certificate that has nothing else of this one. A signature
+// whose last byte isn't whole is refused: it would be one more form of the same.
+func (c *certificate) readSignature(algorithm, signature cryptobyte.String) error {
+	name, moment := []byte{0x30, 0}, []byte("\x17\x0d700101000000Z")
+	var b cryptobyte.Builder
+	b.AddASN1(tags.SEQUENCE, func(b *cryptobyte.Builder) {
+		b.AddASN1(tags.SEQUENCE, func(b *cryptobyte.Builder) {
+			b.AddASN1Int64(1)
+			b.AddBytes(algorithm)
+			b.AddBytes(name)
+			b.AddASN1(tags.SEQUENCE, func(b *cryptobyte.Builder) {
+				b.AddBytes(moment)
+				b.AddBytes(moment)
+			})
+			b.AddBytes(name)
+			b.AddBytes(anyKey)
+		})
+		b.AddBytes(algorithm)
+		b.AddBytes(signature)
+	})
+	made, err := b.Bytes()
+	if err != nil {
+		return fmt.Errorf("%w: %v", NoCertificate, err)
+	}
+	read, err := x509.ParseCertificate(made)
+	if err != nil {
+		return fmt.Errorf("%w: its signature: %v", NoCertificate, err)
+	}
+	var content []byte
+	if !signature.ReadASN1BitStringAsBytes(&content) {
+		return fmt.Errorf("%w: %v", NoCertificate, errUnusedBits)
+	}
+	c.algorithm, c.signature = read.SignatureAlgorithm, read.Signature
+	return nil
+}
+
+var errUnusedBits = errors.New("its signature isn't of whole bytes")
