@@ -30,6 +30,10 @@ THIRDS = 3
 # What the first line of an edit of wrong-bodies says of when it is tried; where it is another, `make wrong` alone tries it.
 EACH, IN_TURN = "tried: by each gate", "tried: by every third gate"
 
+# What it says of what it doesn't try.
+SKIPPED = """It leaves out {} others (make wrong CRATE=..), the service over engines, kills and other programs (make service-engines,
+service-faults, service-clients, interop), and what runs longer (make fuzz, load, sweep, link, tiles)."""
+
 # About the most memory that a proof was seen to take, in bytes.
 MEMORY = 4_000_000_000
 
@@ -144,7 +148,8 @@ def main():
         try:
             there = put_in()
             names = sorted({edit.parent.parent.name for edit in there})
-            print(f"It tries {len(there)} wrong bodies of {', '.join(names) or 'no crate'}; make wrong CRATE=.. tries all of a crate.", flush=True)
+            every = sum(1 for _ in ROOT.glob("crates/*/wrong-bodies/*.edit"))
+            print(f"It tries {len(there)} wrong bodies, of {', '.join(names) or 'no crate'}. {SKIPPED.format(every - len(there))}", flush=True)
             status = run()
             if gone := [edit.name for edit in there if not edit.exists()]:
                 sys.exit(f"gate.py: {len(gone)} edits were taken out of must-fail while it ran, {gone[0]} among them: run it once more")

@@ -88,7 +88,7 @@ def main():
         check.reads.pop(name, None)
         kept.write_text(sum_now or "")
         proved += 1
-    print(f"{len(names)} crates proved, {proved} of them now, in {int(time.monotonic() - start)} s. Tests and wrong bodies are tried by make test.")
+    print(f"{len(names)} crates proved, {proved} of them now, in {int(time.monotonic() - start)} s. Left out are tests and wrong bodies (make test), and the Go part (make service-test).")
 
 
 if __name__ == "__main__":

@@ -102,6 +102,7 @@ def try_gate(repository):
         ended, said = repository.run("checks/gate.py", rt=rt, path=alone, turn=turn)
         hold(f"{what} ends with {said}", ended, status)
         hold(f"{what} leaves in must-fail", repository.texts("must-fail"), OWN)
+        hold(f"{what} says what it leaves out", f"leaves out {len(WRONG) - len(there) + len(OWN)} others" in said, True)
 
 
 def try_counted(repository):
