@@ -1,1 +1,2 @@
 pub mod Checkpoint
+pub mod Message

@@ -4,7 +4,7 @@ use Rattle.serde_json.specs.Data.{Data, string, object, member, no_members}
 use Rattle.serde_json.specs.Written.{compact_text}
 use Rattle.sha2.specs.Sha256.{sha256}
 use Rattle.ct_checkpoint.specs.Checkpoint.{IsCheckpoint}
-use Rattle.ct_cosignature.specs.Message.{cosignature_message}
+use Rattle.ct_checkpoint.specs.Message.{cosignature_message}
 use Rattle.json_lines.specs.Values.{bytes_data, number_data}
 use Rattle.ct_verify.specs.declared.fault.ProofFault.{ProofFault}
 use Rattle.ct_verify.specs.declared.fault.ProofFault.TheVariants as fault

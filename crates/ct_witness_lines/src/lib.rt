@@ -3,7 +3,7 @@
 //!
 //! `run` reads lines from any reader, and writes to any writer; `answer_words` is the program `ctwitness` over its words. Nothing is kept
 //! between lines: each has the tree that was cosigned last of its log. Who asks swaps that tree for the reply's where it is kept, and signs
-//! behind that. What is let through is `ct_witness`'s to say, and what is signed `ct_cosignature`'s.
+//! behind that. What is let through is `ct_witness`'s to say, and what is signed `ct_checkpoint`'s.
 //!
 //! - `request` reads what a line asks for, `deciding` says what that comes to, and `replies` writes it.
 //! - `command` reads the words of a command line.

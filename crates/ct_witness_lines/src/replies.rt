@@ -3,13 +3,13 @@
 ghost use Rattle.std.specs.Prelude.{◌≡◌, IfOk};
 ghost use Rattle.serde_json.specs.View.{view};
 ghost use Rattle.json_lines.specs.Values.{bytes_data};
-ghost use Rattle.ct_cosignature.specs.Message.{cosignature_message as message_of};
+ghost use Rattle.ct_checkpoint.specs.Message.{cosignature_message as message_of};
 ghost use Rattle.ct_witness_lines.specs.CosignAsks.{cosign_ask_of};
 ghost use Rattle.ct_witness_lines.specs.Cosigned.{cosign_fault_name, cosign_refused_data, cosign_refused_size_data, cosign_refused_fault_data, witness_refusal_data, cosigned_data, cosign_reply_data, no_request_data, cosign_line};
 
 use crate::deciding::Outcome;
 use crate::request::Request;
-use ct_cosignature::cosignature_message;
+use ct_checkpoint::cosignature_message;
 use ct_verify::ProofFault;
 use ct_witness::{Tree, WitnessRefusal};
 use json_lines::bytes_value;

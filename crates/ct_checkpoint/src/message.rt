@@ -1,6 +1,6 @@
 //! What a cosignature is over.
 ghost use Rattle.std.specs.Prelude.{◌≡◌, IfOk, string_bytes};
-ghost use Rattle.ct_cosignature.specs.Message.{cosignature_message};
+ghost use Rattle.ct_checkpoint.specs.Message.{cosignature_message};
 
 use std::alloc::{AllocError, Global};
 

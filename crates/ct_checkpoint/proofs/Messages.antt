@@ -10,7 +10,7 @@ use Rattle.base64.specs.GeneralPurpose.{encode_of, decode_of}
 use Rattle.base64.proofs.EngineFacts.{decode_of-encode_of}
 use Rattle.ct_checkpoint.proofs.Lines.{one_first}
 use Rattle.ct_checkpoint.specs.Checkpoint.{checkpoint_text, IsWithinLine}
-use Rattle.ct_cosignature.specs.Message.{cosignature_message, MessagesDiffer, CheckpointsDiffer, MessageIsNoCheckpoint}
+use Rattle.ct_checkpoint.specs.Message.{cosignature_message, MessagesDiffer, CheckpointsDiffer, MessageIsNoCheckpoint}
 
 -- what stands behind one beginning
 behind_one : (a s t : List ℕ) → a ++ s ≡ a ++ t → s ≡ t

@@ -1,6 +1,6 @@
 //! What follows of the definition, each a clause of a function that does nothing.
 
-ghost use Rattle.ct_cosignature.specs.Message.{MessagesDiffer, MessageIsNoCheckpoint, CheckpointsDiffer};
+ghost use Rattle.ct_checkpoint.specs.Message.{MessagesDiffer, MessageIsNoCheckpoint, CheckpointsDiffer};
 
 /// A message says its moment and its text; a checkpoint's text says its origin, size and root; and no message is the text of a checkpoint
 /// without extension lines.
