@@ -50,6 +50,7 @@ type node struct {
 	sweepAfter, sweepTilesAfter               time.Duration
 	readEvery, readAllWithin                  time.Duration
 	mostQueue, mostBatch, mostProofs          int
+	mostWritten                               int
 	behindSwap, create, makesFolder           bool
 	address, secret                           string
 	witnesses                                 []witness.One
@@ -129,6 +130,7 @@ func parse(words []string, help io.Writer) (*settings, error) {
 	flags.DurationVar(&n.readAllWithin, "read-all-within", 7*24*time.Hour, "how long it takes at most until each old tile was read again: the larger the log, the more a turn, up to 16")
 	flags.DurationVar(&n.openWithin, "open-within", 30*time.Second, "how long the stores may take to open")
 	flags.IntVar(&n.mostQueue, "most-queue", 4096, "submissions that wait")
+	flags.IntVar(&n.mostWritten, "most-written", 16<<20, "bytes a second that steps write at most, over a while: where they have large certificates to write again, heads are farther apart")
 	flags.IntVar(&n.mostBatch, "most-batch", 1024, "entries of one step")
 	flags.IntVar(&n.mostProofs, "most-proofs", 64, "proofs for readers that are made, or wait to be")
 	flags.BoolVar(&n.behindSwap, "answer-behind-swap", false, "answer once an entry is decided, and not once its head is published: a merge is owed until then")
@@ -200,7 +202,7 @@ func (s *settings) settle() error {
 	if l.ProofsByAddress = n.mostProofs / 4; l.ProofsByAddress < 1 {
 		l.ProofsByAddress = 1
 	}
-	if l.Connections < 1 || l.ConnectionsByAddress < 1 || l.Checks < 1 || l.WaitingBytes < web.MostBody || l.AnswerBytes < stores.MostObject || n.mostQueue < 1 || n.mostBatch < 1 || n.mostProofs < 1 {
+	if l.Connections < 1 || l.ConnectionsByAddress < 1 || l.Checks < 1 || l.WaitingBytes < web.MostBody || l.AnswerBytes < stores.MostObject || n.mostQueue < 1 || n.mostBatch < 1 || n.mostWritten < 1 || n.mostProofs < 1 {
 		return fmt.Errorf("a bound is above 0, --most-waiting-bytes at least %d, and --most-answer-bytes at least %d", web.MostBody, stores.MostObject)
 	}
 	if len(n.step) == 0 {

@@ -71,6 +71,8 @@ type Figures struct {
 	// Swept counts partial tiles that were deleted behind their full one, SweptHeads heads that were behind a later one, and Scrubbed data
 	// tiles that were read again and were right.
 	Swept, SweptHeads, Scrubbed uint64
+	// Written counts the bytes that steps put, in their bundles and as objects.
+	Written uint64
 	// SweptBundles counts bundles of steps that were deleted since nobody needs them, and Staged is how many there were when they were listed last.
 	SweptBundles, Staged uint64
 	// TendFailures counts what failed of sweeping, which is tried again, and TendFailure is the last of it, in one line.

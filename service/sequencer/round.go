@@ -68,7 +68,7 @@ func (s *Sequencer) loop(ctx context.Context) {
 		round, cancel := context.WithTimeout(ctx, mostRound)
 		err := s.round(round)
 		cancel()
-		next = began.Add(s.config.interval(time.Since(began), s.wrote))
+		next = began.Add(s.config.interval(time.Since(began), s.wrote, s.written))
 		if errors.Is(err, errMoves) {
 			err = nil
 		}
@@ -91,16 +91,26 @@ func (s *Sequencer) loop(ctx context.Context) {
 // mostRest is how far two steps are apart at most for the sake of a rest.
 const mostRest = 500 * time.Millisecond
 
-// interval is how far a round and the next one are apart at least, where the first took so long, and had a step decided or not.
-func (c *Config) interval(took time.Duration, wrote bool) time.Duration {
-	rested := 2 * took
-	if rested > mostRest {
-		rested = mostRest
+// interval is how far a round and the next one are apart at least, where the first took so long, had a step decided or not, and put so many bytes.
+func (c *Config) interval(took time.Duration, wrote bool, written int) time.Duration {
+	far := c.Interval
+	if rested := 2 * took; c.Rests && wrote {
+		if rested > mostRest {
+			rested = mostRest
+		}
+		far = longer(far, rested)
 	}
-	if c.Rests && wrote && rested > c.Interval {
-		return rested
+	if c.MostWritten > 0 {
+		far = longer(far, time.Duration(float64(written)/float64(c.MostWritten)*float64(time.Second)))
 	}
-	return c.Interval
+	return far
+}
+
+func longer(one, other time.Duration) time.Duration {
+	if one > other {
+		return one
+	}
+	return other
 }
 
 // isOut says whether this node's newest state is known to be rolled out. One that another node set stands behind it: that one rolled it out first.
@@ -150,7 +160,7 @@ func (s *Sequencer) settle(err error) {
 
 // round learns the newest state, has it rolled out, and takes who waits one step further.
 func (s *Sequencer) round(ctx context.Context) error {
-	s.later, s.wrote = false, false
+	s.later, s.wrote, s.written = false, false, 0
 	s.mu.Lock()
 	why := s.fault
 	s.mu.Unlock()
@@ -260,6 +270,9 @@ func (s *Sequencer) advance(ctx context.Context, k known, batch []*waiting) erro
 	}
 	s.phase("stepped")
 	name := bundleName(step.Digest(stepped.Line))
+	// (what is in the bundle is put once more, as objects)
+	s.written = 2 * len(stepped.Bundle)
+	s.putBytes.Add(uint64(s.written))
 	if err := s.putBundle(ctx, name, stepped, groups); err != nil {
 		return fmt.Errorf("sequencer: %w", err)
 	}

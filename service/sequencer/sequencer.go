@@ -71,6 +71,9 @@ type Config struct {
 	// long as it took, where the next one doesn't begin later than mostRest behind it anyway: steps have half of the stores' time.
 	Interval time.Duration
 	Rests    bool
+	// MostWritten is how many bytes a second the steps put at most, over a while: behind a step that put more, the next one comes later. 16 MiB
+	// where it is 0. A tile that isn't full is put whole with each step, so a few large certificates would else have it put again and again.
+	MostWritten int
 	// Refresh is how old a head gets before one without new entries is made; an hour where it is 0.
 	Refresh time.Duration
 	// MostQueue is how many submissions wait at most, 4,096 where it is 0, and MostQueueBytes how many bytes of entries, 64 MiB.
@@ -112,7 +115,7 @@ func (c *Config) settle() error {
 		return fmt.Errorf("%w: a store, the step or the signer isn't there", ErrConfig)
 	case c.Origin == "" || strings.ContainsAny(c.Origin, " +\n\r\t"):
 		return fmt.Errorf("%w: an origin has neither spaces nor a plus sign", ErrConfig)
-	case c.Interval < 0 || c.Refresh < 0 || c.Patience < 0 || c.SweepAfter < 0 || c.SweepTilesAfter < 0 || c.TendEvery < 0 || c.ReadAllWithin < 0 || c.MostSkew < 0 || c.MostQueue < 0 || c.MostQueueBytes < 0 || c.MostBatch < 0 || c.MostBatch > MostBatch:
+	case c.Interval < 0 || c.Refresh < 0 || c.Patience < 0 || c.SweepAfter < 0 || c.SweepTilesAfter < 0 || c.TendEvery < 0 || c.ReadAllWithin < 0 || c.MostWritten < 0 || c.MostSkew < 0 || c.MostQueue < 0 || c.MostQueueBytes < 0 || c.MostBatch < 0 || c.MostBatch > MostBatch:
 		return fmt.Errorf("%w: a bound is below 0, or a batch above %d", ErrConfig, MostBatch)
 	}
 	if c.BehindSwap && c.Witnesses != nil {
@@ -122,6 +125,7 @@ func (c *Config) settle() error {
 		return fmt.Errorf("%w: answers behind the swap want a signer of %s receipts", ErrConfig, signer.Promised)
 	}
 	orElse(&c.Interval, 50*time.Millisecond)
+	orElse(&c.MostWritten, 16<<20)
 	orElse(&c.Refresh, time.Hour)
 	orElse(&c.Patience, 5*time.Second)
 	orElse(&c.SweepAfter, time.Hour)
@@ -167,6 +171,8 @@ type Sequencer struct {
 	rolled string
 	// wrote says that this round had a step decided, by this node or another: all that was to be written before was.
 	wrote bool
+	// written is how many bytes this round's step put, in its bundle and as objects.
+	written int
 	// saw is the newest state that this node saw and went on from; its line and text are empty where only the file has it. heard is when the
 	// register was read last, and lookedBack when a node that hands over looked at the newest state last.
 	saw               known
@@ -200,7 +206,7 @@ type Sequencer struct {
 	readings readings
 	compared compared
 
-	steps, lost, unknown, repeats, helped, handed, swept, sweptHeads, scrubbed, sweptBundles, staged atomic.Uint64
+	steps, lost, unknown, repeats, helped, handed, swept, sweptHeads, scrubbed, sweptBundles, staged, putBytes atomic.Uint64
 	// handing holds who hands over.
 	handing chan struct{}
 
@@ -369,6 +375,7 @@ func (s *Sequencer) Figures() log.Figures {
 		f.Witnesses = s.config.Witnesses.Standings()
 	}
 	f.Mended, f.LastMended = s.mended, s.lastMended
+	f.Written = s.putBytes.Load()
 	f.SweptBundles, f.Staged = s.sweptBundles.Load(), s.staged.Load()
 	f.TendFailures, f.TendFailure = s.tendFailures, s.tendFailure
 	if f.DamagedIssuers, f.Damage = s.issuers.damage(); len(s.damage) > 0 {
