@@ -44,11 +44,8 @@ class Machine:
     def is_past(self, seen, staged):
         return staged.before < seen.moment and (staged.moment, staged.salt) != (seen.moment, seen.salt)
 
-    def putting(self, state, index, objects):
-        return ("Putting", state, index, objects) if index < objects else ("Placing", state)
-
     def looking(self, seen, objects):
-        return self.putting(seen, 0, objects)
+        return ("Putting", seen, objects)
 
     def stepping(self, seen, new, objects):
         return ("Staging", seen, new, objects)
@@ -57,7 +54,10 @@ class Machine:
         return ("Swapping", seen, new, objects)
 
     def swapped(self, new, objects):
-        return self.putting(new, 0, objects)
+        return ("Putting", new, objects)
+
+    def put(self, state):
+        return ("Placing", state)
 
     def headed(self, state):
         return ("Answering", state)
@@ -91,11 +91,11 @@ class Machine:
         if verb == "Swapping":
             return self.swapped(*node[2:])
         if verb == "Promising":
-            return self.putting(node[1], 0, node[2])
+            return ("Putting", *node[1:])
         if verb == "Deleting":
             return ("Stepping", node[1])
         if verb == "Putting":
-            return self.putting(node[1], node[2] + 1, node[3])
+            return self.put(node[1])
         if verb == "Placing":
             return ("Heading", node[1])
         if verb == "Heading":
@@ -110,8 +110,10 @@ class Program(Machine):
         self.process = subprocess.Popen([path], stdin=subprocess.PIPE, stdout=subprocess.PIPE, text=True)
 
     def after(self, node, outcome):
-        from lines import asked, node_in
+        from lines import asked, is_said, node_in
 
+        if not is_said(node, outcome):
+            return Machine.after(self, node, outcome)
         self.process.stdin.write(f"{asked(node, outcome)}\n")
         self.process.stdin.flush()
         behind = node_in(self.process.stdout.readline())
@@ -125,15 +127,10 @@ def wrong(**methods):
     return type("Wrong", (Machine,), methods)()
 
 
-def without_places(self, state, index, objects):
-    node = Machine.putting(self, state, index, objects)
-    return ("Heading", state) if node[0] == "Placing" else node
-
-
 # Each wrong machine with the clause that has to find it out.
 WRONG = {
     "swap before the bundle": ("bundle", wrong(stepping=lambda self, *it: ("Swapping", *it))),
-    "head before the places": ("placed", wrong(putting=without_places)),
+    "head before the places": ("placed", wrong(put=lambda self, state: ("Heading", state))),
     "head before the tiles": ("tiles", wrong(swapped=lambda self, new, objects: ("Placing", new))),
     "steps before the roll-out": ("rolled", wrong(looking=lambda self, seen, objects: ("Stepping", seen))),
     "any bundle is deleted": ("bundle", wrong(is_past=lambda self, seen, staged: True)),
@@ -157,9 +154,11 @@ class World:
         self.made, self.sent, self.came = set(), [READING], set()
 
     def comes(self, node):
-        """A command that was given takes effect; the register takes a state only in place of the one that it holds."""
+        """A command that was given takes effect; the register takes a state only in place of the one that it holds, and objects are put once all stand."""
         verb = node[0]
         if verb in ("Reading", "Looking", "Stepping") or verb == "Swapping" and self.held != node[1]:
+            return
+        if verb == "Putting" and self.lacking(node):
             return
         self.came.add(node)
         if verb == "Swapping":
@@ -169,10 +168,17 @@ class World:
             self.bundles.add(node[2])
         elif verb == "Deleting":
             self.bundles.discard(node[2])
-        elif verb == "Putting":
-            self.objects.add(node[1:3])
-        else:
+        elif verb != "Putting":
             {"Placing": self.places, "Heading": self.heads, "Promising": self.promised, "Answering": self.answered}[verb].add(node[1])
+
+    def lacking(self, node):
+        """What of a command's objects doesn't stand."""
+        return [(node[1], index) for index in range(node[2]) if (node[1], index) not in self.objects]
+
+    def puts(self, chance, node):
+        """One object of a command stands, whichever."""
+        if node[0] == "Putting" and node[2]:
+            self.objects.add((node[1], chance.randrange(node[2])))
 
     def steps(self, chance, seen):
         """A step that is made of a state, with any moments."""
@@ -248,6 +254,8 @@ class World:
         for _ in range(20):
             if held in self.heads:
                 return self.held == held
+            if node[0] == "Putting":
+                self.objects.update(self.lacking(node))
             self.comes(node)
             known = {"Reading": ("Read", held), "Looking": ("Bundle", count(held))}
             node = self.tells(machine, node, known.get(node[0], ("Done",)))
@@ -261,6 +269,7 @@ def history(chance, machine):
         # (what was given last is likelier than what was given long ago)
         node = chance.choice(world.sent[-4:] if chance.random() < 0.8 else world.sent)
         if chance.random() < 0.45:
+            world.puts(chance, node)
             world.comes(node)
         elif told := world.outcomes(chance, node):
             world.tells(machine, node, chance.choice(told))

@@ -4,59 +4,70 @@
     lines.py asked > crates/ctnode/stdin
     lines.py replied > crates/ctnode/stdout
 
-Keys, words and numbers are those of docs/NODE.md. Nothing is read of the program.
+Keys, words and numbers are those of docs/NODE.md. The replies are those of ctnode.py, which isn't the program.
 """
 import json
 import sys
 
+from ctnode import COMMANDS, LONGEST, MOST, REFUSED, name_of, node_in as read_node, reply
 from explore import READING, Machine, State
 
-WORDS = {
-    "Reading": "read", "Looking": "look", "Stepping": "step", "Staging": "stage", "Swapping": "swap", "Promising": "promise",
-    "Deleting": "delete", "Putting": "put", "Placing": "place", "Heading": "head", "Answering": "answer",
-}
-# The keys of what a command and an outcome are about, in order.
-KEYS = {
-    "Reading": (), "Staging": ("seen", "new", "count"), "Swapping": ("seen", "new", "count"), "Promising": ("state", "count"),
-    "Deleting": ("seen", "staged"), "Putting": ("state", "index", "count"), "Bundle": ("count",), "Stepped": ("state", "count"),
-    "Done": (), "Promise": (), "Lost": (), "Published": (),
-}
-REFUSED = {"refused": "bad-line"}
-MOST = 2**64 - 1
-LONGEST = 4096
+WHERE = "http://node.example/ü"
+HASHES = "0123456789abcdef" * 16
 
 
-def said(one):
-    """What a command or an outcome is about, by its keys."""
-    keys = KEYS.get(one[0], ("state",))
-    return {key: it._asdict() if isinstance(it, tuple) else it for key, it in zip(keys, one[1:])}
+def line_of_state(state):
+    """A state's line, of a log of three entries more than its moment."""
+    return f"growth {(state.moment + 3) % 2**64:016x}{state.moment:016x}{HASHES}"
+
+
+def text_of(state):
+    return f"{line_of_state(state)}\nnode {WHERE}\nsalt {state.before:016x}{state.salt:016x}\n"
+
+
+def objects_of(count):
+    return [f"tile/0/{index:03d} {index:064x}" for index in range(count)]
+
+
+def is_said(node, outcome):
+    """Whether a line can say it: a step is of a state that is made from the one before, and moments before are before."""
+    return outcome[0] != "Stepped" or node[0] != "Stepping" or outcome[1].before == node[1].moment
 
 
 def node_of(node):
-    return {"do": WORDS[node[0]], **said(node)}
+    """A node as an object: its command's word and texts."""
+    word, keys = COMMANDS[node[0]]
+    said = {"do": word}
+    for key, it in zip(keys, node[1:]):
+        said[key] = objects_of(it) if key == "objects" else name_of(it) if key == "bundle" else {"text": text_of(it)}
+    return said
 
 
 def outcome_of(outcome):
-    return {"came": outcome[0].lower(), **said(outcome)}
+    """What came as an object."""
+    said, about = {"came": outcome[0].lower()}, outcome[1:]
+    if outcome[0] == "Read":
+        said["text"] = text_of(*about)
+    elif outcome[0] == "Listed":
+        said["bundle"] = name_of(*about)
+    elif outcome[0] in ("Bundle", "Stepped"):
+        said["objects"] = objects_of(about[-1])
+    if outcome[0] == "Stepped":
+        said.update(line=line_of_state(about[0]), node=WHERE, salt=about[0].salt)
+    return said
 
 
 def line_of(value):
-    return json.dumps(value, sort_keys=True, separators=(",", ":"))
+    return json.dumps(value, sort_keys=True, separators=(",", ":"), ensure_ascii=False)
 
 
 def asked(node, outcome):
     return line_of({"node": node_of(node), "told": outcome_of(outcome)})
 
 
-def replied(node):
-    return line_of({"node": node_of(node)})
-
-
 def node_in(line):
     """The node that a reply says."""
-    said = json.loads(line)["node"]
-    verb = next(verb for verb, word in WORDS.items() if word == said["do"])
-    return (verb, *(State(**it) if isinstance(it, dict) else it for it in (said[key] for key in KEYS.get(verb, ("state",)))))
+    return read_node(json.loads(line)["node"])[0]
 
 
 def commands():
@@ -67,13 +78,13 @@ def commands():
     yield from ((verb, seen, new, 2) for verb in ("Staging", "Swapping"))
     yield ("Promising", new, 0)
     yield ("Deleting", seen, State(6, 5, 1))
-    yield from (("Putting", new, index, count) for index, count in ((0, 2), (1, 2), (2, 2), (MOST - 1, MOST), (MOST, MOST)))
+    yield from (("Putting", new, count) for count in (0, 2))
 
 
 def outcomes():
     """Each thing that may come of a command, and states at the limits of what may follow and of what is past."""
-    yield from (("Done",), ("Promise",), ("Lost",), ("Published",), ("Bundle", 0), ("Bundle", MOST), ("Read", State(MOST, 0, 3)))
-    yield from (("Stepped", State(moment, before, 4), 1) for moment, before in ((8, 7), (7, 7), (8, 6), (8, 8)))
+    yield from (("Done",), ("Promise",), ("Lost",), ("Published",), ("Bundle", 0), ("Bundle", 3), ("Read", State(MOST, 8, 3)), ("Read", State(4, 4, 3)))
+    yield from (("Stepped", State(moment, 7, 4), 1) for moment in (8, 7, 6))
     yield from (("Listed", State(moment, before, salt)) for moment, before, salt in ((6, 6, 0), (7, 6, 1), (7, 6, 0), (8, 7, 0)))
 
 
@@ -81,32 +92,44 @@ def wrong_lines():
     """Lines that are none."""
     right = asked(("Looking", State(7, 5, 0)), ("Bundle", 2))
     yield from ("hello", "{}", "[]", "null", '{"node":{"do":"read"}}', '{"told":{"came":"done"}}', right[:-1], right + right)
-    yield from (right.replace('"look"', word) for word in ('"Look"', '"looks"', '""', "7", "null"))
-    yield from (right.replace('"bundle"', word) for word in ('"bundles"', '"stepped"', "null"))
-    yield from (right.replace('"moment":7', word) for word in ('"moment":-7', '"moment":7.0', '"moment":7e0', '"moment":"7"', f'"moment":{MOST + 1}', '"time":7'))
-    yield right.replace('"count":2', '"count":-0')
-    yield right + " " * (LONGEST + 1 - len(right))
+    yield from (right.replace('"look"', word) for word in ('"Look"', '"looks"', '"nothing"', "7", "null", '"put"', '"swap"', '"delete"'))
+    yield from (right.replace('"bundle"', word) for word in ('"bundles"', '"stepped"', '"listed"', '"read"', "null"))
+    yield from (right.replace(part, other) for part, other in (
+        ("growth ", "Growth "), ("growth 0", "growth g"), ("growth ", "growth"), ("\\nnode ", "\\nnodes"), ("\\nsalt ", "\\nSalt "), ("\\nsalt 0", "\\nsalt  "),
+        ("0\\n\"", "0\""), ('"text"', '"texts"'), ('"seen"', '"new"'), ("tile/0/001 ", '","'.join(("", ""))[:0] + '",7,"'), ("[", "{\"a\":["),
+    ))
+    step = asked(("Stepping", State(7, 5, 0)), ("Stepped", State(8, 7, 4), 1))
+    yield from (step.replace('"salt":4', word) for word in ('"salt":-4', '"salt":4.0', '"salt":"4"', f'"salt":{MOST + 1}', '"salts":4'))
+    yield from (step.replace(part, other) for part, other in (('"line":"growth', '"line":"grow'), ('"line"', '"lines"'), ('"node":"http', '"node":7,"at":"http'), ('"objects"', '"object"')))
+    listed = asked(("Stepping", State(7, 5, 0)), ("Listed", State(6, 5, 4)))
+    yield from (listed.replace("staging/", word) for word in ("staging/0", "stagings/", "Staging/", "staging/g"))
+    yield right + " " * (LONGEST + 1 - len(right.encode()))
 
 
 def runs():
-    """Each line with its reply; an empty line has none."""
-    machine = Machine()
+    """All lines; an empty one has no reply."""
     for node in commands():
         for outcome in outcomes():
-            yield asked(node, outcome), replied(machine.after(node, outcome))
-    for line in wrong_lines():
-        yield line, line_of(REFUSED)
+            if is_said(node, outcome):
+                yield asked(node, outcome)
+    yield from wrong_lines()
     right = asked(("Looking", State(7, 5, 0)), ("Bundle", 2))
-    yield "", None
-    for line in (right + " " * (LONGEST - len(right)), f" {right}\r", right.replace("{", '{"more":[1.5,{"a":null}],', 1)):
-        yield line, replied(machine.after(("Looking", State(7, 5, 0)), ("Bundle", 2)))
+    yield ""
+    yield from (right + " " * (LONGEST - len(right.encode())), f" {right}\r", right.replace("{", '{"more":[1.5,{"a":null}],', 1))
+    # Digits in upper case are the same number; 32 digits of chance are no moment before.
+    yield asked(READING, ("Read", State(11, 7, 11))).replace("000b", "000B")
+    yield asked(READING, ("Read", State(11, MOST, 11)))
 
 
 def main():
     if sys.argv[1:] not in (["asked"], ["replied"]):
         sys.exit(__doc__)
-    at = sys.argv[1] == "replied"
-    sys.stdout.write("".join(f"{pair[at]}\n" for pair in runs() if pair[at] is not None))
+    machine = Machine()
+    for line in runs():
+        if sys.argv[1] == "asked":
+            sys.stdout.write(f"{line}\n")
+        elif line:
+            sys.stdout.write(f"{line_of(reply(line.encode(), machine))}\n")
 
 
 if __name__ == "__main__":

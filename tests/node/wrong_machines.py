@@ -16,7 +16,7 @@ import tempfile
 
 ROOT = pathlib.Path(__file__).resolve().parent.parent.parent
 DEFINED, WRITTEN = "specs/Nodes.antt", "src/node.rt"
-FUNCTIONS = {"is_past", "may_follow", "putting", "Node::next"}
+FUNCTIONS = {"is_past", "may_follow", "Node::next"}
 
 # Of each machine the lemma that has to be refused, and what stands where, and what is put there: in the definition, and in the code.
 MACHINES = {
@@ -26,19 +26,19 @@ MACHINES = {
         ("                    Node::Staging(seen, new, count)", "                    Node::Swapping(seen, new, count)"),
     ),
     "head before the places": (
-        "putting_knows",
-        ("if nat_lt i n then Putting l i n else Placing l", "if nat_lt i n then Putting l i n else Heading l"),
-        ("        Node::Placing(state)", "        Node::Heading(state)"),
+        "tell_putting",
+        ("on_putting l n Done = Placing l", "on_putting l n Done = Heading l"),
+        ("(Node::Putting(taken, _), Outcome::Done) => Node::Placing(taken)", "(Node::Putting(taken, _), Outcome::Done) => Node::Heading(taken)"),
     ),
     "head before the tiles": (
         "tell_swapping",
-        ("on_swapping k l n Done = putting_of l 0 n", "on_swapping k l n Done = Placing l"),
-        ("(Node::Swapping(_, new, count), Outcome::Done) => putting(new, 0, count)", "(Node::Swapping(_, new, _), Outcome::Done) => Node::Placing(new)"),
+        ("on_swapping k l n Done = Putting l n", "on_swapping k l n Done = Placing l"),
+        ("(Node::Swapping(_, new, count), Outcome::Done) => Node::Putting(new, count)", "(Node::Swapping(_, new, _), Outcome::Done) => Node::Placing(new)"),
     ),
     "steps before the roll-out": (
         "tell_looking",
-        ("on_looking k (Bundle n) = putting_of k 0 n", "on_looking k (Bundle n) = Stepping k"),
-        ("(Node::Looking(seen), Outcome::Bundle(count)) => putting(seen, 0, count)", "(Node::Looking(seen), Outcome::Bundle(_)) => Node::Stepping(seen)"),
+        ("on_looking k (Bundle n) = Putting k n", "on_looking k (Bundle n) = Stepping k"),
+        ("(Node::Looking(seen), Outcome::Bundle(count)) => Node::Putting(seen, count)", "(Node::Looking(seen), Outcome::Bundle(_)) => Node::Stepping(seen)"),
     ),
     "its own bundle is deleted": (
         "behind_dead",
@@ -47,8 +47,8 @@ MACHINES = {
     ),
     "answer before the head": (
         "tell_swapping",
-        ("on_swapping k l n Done = putting_of l 0 n", "on_swapping k l n Done = Answering l"),
-        ("(Node::Swapping(_, new, count), Outcome::Done) => putting(new, 0, count)", "(Node::Swapping(_, new, _), Outcome::Done) => Node::Answering(new)"),
+        ("on_swapping k l n Done = Putting l n", "on_swapping k l n Done = Answering l"),
+        ("(Node::Swapping(_, new, count), Outcome::Done) => Node::Putting(new, count)", "(Node::Swapping(_, new, _), Outcome::Done) => Node::Answering(new)"),
     ),
     "moment not later": (
         "follows_may",
@@ -62,8 +62,8 @@ MACHINES = {
     ),
     "lost swap taken as won": (
         "tell_swapping",
-        ("on_swapping k l n Lost = Reading", "on_swapping k l n Lost = putting_of l 0 n"),
-        ("(Node::Swapping(_, _, _), Outcome::Lost) => Node::Reading", "(Node::Swapping(_, new, count), Outcome::Lost) => putting(new, 0, count)"),
+        ("on_swapping k l n Lost = Reading", "on_swapping k l n Lost = Putting l n"),
+        ("(Node::Swapping(_, _, _), Outcome::Lost) => Node::Reading", "(Node::Swapping(_, new, count), Outcome::Lost) => Node::Putting(new, count)"),
     ),
 }
 

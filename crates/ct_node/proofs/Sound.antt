@@ -6,8 +6,8 @@ use Rattle.ct_node.specs.declared.node.Node.{Node}
 use Rattle.ct_node.specs.declared.node.Node.TheVariants.{Reading, Looking, Stepping, Staging, Swapping, Promising, Deleting, Putting, Placing, Heading, Answering}
 use Rattle.ct_node.specs.declared.node.Outcome.{Outcome}
 use Rattle.ct_node.specs.declared.node.Outcome.TheVariants.{Done, Promise, Lost, Read, Published, Bundle, Stepped, Listed}
-use Rattle.ct_node.specs.Nodes.{after, putting_of, follows, is_behind, on_reading, on_looking, on_stepping, on_staging, on_swapping, on_promising, on_deleting, on_putting, on_placing, on_heading, on_answering}
-use Rattle.ct_node.specs.Worlds.{Has, Object, Made, World, beginning, Happening, Comes, Makes, Goes, Told, IsChain, PastsAreChains, StepsFindAll, CanBePublished, comes, happens, MayCome, MayBeTold, MayHappen, LeadTo, IsSoundWorld, IsFirstState, WorldsAreSound, HeadsAreWhole, NamesHaveOneContent}
+use Rattle.ct_node.specs.Nodes.{after, follows, is_behind, on_reading, on_looking, on_stepping, on_staging, on_swapping, on_promising, on_deleting, on_putting, on_placing, on_heading, on_answering}
+use Rattle.ct_node.specs.Worlds.{Has, Object, Made, World, beginning, Happening, Comes, Makes, Puts, Goes, Told, IsChain, PastsAreChains, StepsFindAll, CanBePublished, comes, happens, MayCome, MayBeTold, MayHappen, LeadTo, IsSoundWorld, IsFirstState, WorldsAreSound, HeadsAreWhole, NamesHaveOneContent}
 
 -- the object at a place of a state's bundle
 abbrev at : State → ℕ → Object
@@ -100,7 +100,7 @@ module _ (count : State → ℕ) (b : State) where
   Knows w (Swapping k l n) = Rolled w k × May k l × (n ≡ count l) × Stands w l × Has (step k l) w.made
   Knows w (Promising l n) = Has l w.past × (n ≡ count l)
   Knows w (Deleting k l) = Rolled w k × Dead w l
-  Knows w (Putting l i n) = Has l w.past × (n ≡ count l) × Out w l i × (i < n)
+  Knows w (Putting l n) = Has l w.past × (n ≡ count l)
   Knows w (Placing l) = Has l w.past × Out w l (count l)
   Knows w (Heading l) = Has l w.past × Out w l (count l) × Has l w.places
   Knows w (Answering l) = Has l w.heads
@@ -109,7 +109,7 @@ module _ (count : State → ℕ) (b : State) where
   abbrev Did : World → Node → Type 0
   Did w (Staging k l n) = Stands w l
   Did w (Swapping k l n) = Has l w.past
-  Did w (Putting l i n) = Has (at l i) w.objects
+  Did w (Putting l n) = Out w l n
   Did w (Placing l) = Has l w.places
   Did w (Heading l) = Has l w.heads
   Did w s = ⊤
@@ -132,7 +132,7 @@ module _ (count : State → ℕ) (b : State) where
   knows_on w v (Swapping m l n) g k = ((g.past m k.0.0, g.heads m k.0.1), k.1, k.2, g.stands l k.3, g.made (step m l) k.4)
   knows_on w v (Promising l n) g k = (g.past l k.0, k.1)
   knows_on w v (Deleting m l) g k = ((g.past m k.0.0, g.heads m k.0.1), g.dead l k.1)
-  knows_on w v (Putting l i n) g k = (g.past l k.0, k.1, (λ j b. g.objects (at l j) (k.2 j b)), k.3)
+  knows_on w v (Putting l n) g k = (g.past l k.0, k.1)
   knows_on w v (Placing l) g k = (g.past l k.0, λ j b. g.objects (at l j) (k.1 j b))
   knows_on w v (Heading l) g k = (g.past l k.0, (λ j b. g.objects (at l j) (k.1 j b)), g.places l k.2)
   knows_on w v (Answering l) g k = g.heads l k
@@ -145,7 +145,7 @@ module _ (count : State → ℕ) (b : State) where
   did_on w v (Swapping m l n) g k = g.past l k
   did_on w v (Promising l n) g k = tt
   did_on w v (Deleting m l) g k = tt
-  did_on w v (Putting l i n) g k = g.objects (at l i) k
+  did_on w v (Putting l n) g k = λ j b. g.objects (at l j) (k j b)
   did_on w v (Placing l) g k = g.places l k
   did_on w v (Heading l) g k = g.heads l k
   did_on w v (Answering l) g k = tt
@@ -161,27 +161,13 @@ module _ (count : State → ℕ) (b : State) where
     came : (s : Node) → Has s w.came → Did w s
 
   -- ---- a node goes on
-  putting_knows : (w : World) (l : State) (i n : ℕ) → Has l w.past → n ≡ count l → Out w l i → Knows w (putting_of l i n)
-  putting_knows w l i n past e out =
-      elim (nat_lt i n) as (λ t. nat_lt i n ≡ t → Knows w (if t then Putting l i n else Placing l)) [
-        | true ↦ λ q. (past, e, out, ltb-true i n q)
-        | false ↦ λ q. (past, λ j c. out j (omega (arith, ltb-false i n q, c, e)))
-      ] refl
-
-  more_out : (w : World) (l : State) (i : ℕ) → Out w l i → Has (at l i) w.objects → Out w l (i + 1)
-  more_out w l i out h j b =
-      ⊎_elim
-      (λ (c : j < i). out j c)
-      (λ (e : j ≡ i). subst (λ z. Has (at l z) w.objects) (sym e) h)
-      (lt_or_same j i b)
-
   tell_reading : (w : World) (o : Outcome) → Kept w → MayBeTold count w Reading o → Knows w (on_reading o)
   tell_reading w (Read k) a m = m
   tell_reading w o a m = tt
 
   tell_looking : (w : World) (k : State) (o : Outcome) → Knows w (Looking k) → MayBeTold count w (Looking k) o → Knows w (on_looking k o)
   tell_looking w k Published a m = (a, m)
-  tell_looking w k (Bundle n) a m = putting_knows w k 0 n a m.0 (λ i b. absurd (omega (arith, b)))
+  tell_looking w k (Bundle n) a m = (a, m.0)
   tell_looking w k Lost a m = tt
   tell_looking w k o a m = a
 
@@ -225,13 +211,13 @@ module _ (count : State → ℕ) (b : State) where
 
   tell_swapping : (w : World) (k l : State) (n : ℕ) (o : Outcome) → Kept w → Knows w (Swapping k l n) → MayBeTold count w (Swapping k l n) o
       → Knows w (on_swapping k l n o)
-  tell_swapping w k l n Done a r m = putting_knows w l 0 n (a.came (Swapping k l n) m) r.2 (λ i b. absurd (omega (arith, b)))
+  tell_swapping w k l n Done a r m = (a.came (Swapping k l n) m, r.2)
   tell_swapping w k l n Promise a r m = (a.came (Swapping k l n) m, r.2)
   tell_swapping w k l n Lost a r m = tt
   tell_swapping w k l n o a r m = r
 
   tell_promising : (w : World) (l : State) (n : ℕ) (o : Outcome) → Knows w (Promising l n) → Knows w (on_promising l n o)
-  tell_promising w l n Done r = putting_knows w l 0 n r.0 r.1 (λ i b. absurd (omega (arith, b)))
+  tell_promising w l n Done r = r
   tell_promising w l n Lost r = tt
   tell_promising w l n o r = r
 
@@ -240,15 +226,11 @@ module _ (count : State → ℕ) (b : State) where
   tell_deleting w k l Lost r = r.0
   tell_deleting w k l o r = r
 
-  tell_putting : (w : World) (l : State) (i n : ℕ) (o : Outcome) → Kept w → Knows w (Putting l i n) → MayBeTold count w (Putting l i n) o
-      → Knows w (on_putting l i n o)
-  tell_putting w l i n Done a r m =
-      elim (nat_lt i n) as (λ t. nat_lt i n ≡ t → Knows w (if t then putting_of l (i + 1) n else Placing l)) [
-        | true ↦ λ q. putting_knows w l (i + 1) n r.0 r.1 (more_out w l i r.2 (a.came (Putting l i n) m))
-        | false ↦ λ q. (r.0, λ j c. r.2 j (omega (arith, ltb-false i n q, c, r.1)))
-      ] refl
-  tell_putting w l i n Lost a r m = tt
-  tell_putting w l i n o a r m = r
+  tell_putting : (w : World) (l : State) (n : ℕ) (o : Outcome) → Kept w → Knows w (Putting l n) → MayBeTold count w (Putting l n) o
+      → Knows w (on_putting l n o)
+  tell_putting w l n Done a r m = (r.0, subst (Out w l) r.1 (a.came (Putting l n) m))
+  tell_putting w l n Lost a r m = tt
+  tell_putting w l n o a r m = r
 
   tell_placing : (w : World) (l : State) (o : Outcome) → Kept w → Knows w (Placing l) → MayBeTold count w (Placing l) o → Knows w (on_placing l o)
   tell_placing w l Done a r m = (r.0, r.1, a.came (Placing l) m)
@@ -273,7 +255,7 @@ module _ (count : State → ℕ) (b : State) where
   tell w (Swapping k l n) o a r m = tell_swapping w k l n o a r m
   tell w (Promising l n) o a r m = tell_promising w l n o r
   tell w (Deleting k l) o a r m = tell_deleting w k l o r
-  tell w (Putting l i n) o a r m = tell_putting w l i n o a r m
+  tell w (Putting l n) o a r m = tell_putting w l n o a r m
   tell w (Placing l) o a r m = tell_placing w l o a r m
   tell w (Heading l) o a r m = tell_heading w l o a r m
   tell w (Answering l) o a r m = tell_answering w l o r
@@ -404,14 +386,14 @@ module _ (count : State → ℕ) (b : State) where
         came = came_on w v (Swapping k l n) g a (inl refl) (λ x h. h);
       }
 
-  comes_putting : (w : World) (l : State) (i n : ℕ) → Kept w → Knows w (Putting l i n) → Kept (comes w (Putting l i n))
-  comes_putting w l i n a r =
-      let v : World = comes w (Putting l i n) in
+  comes_putting : (w : World) (l : State) (n : ℕ) → Kept w → Out w l n → Kept (comes w (Putting l n))
+  comes_putting w l n a m =
+      let v : World = comes w (Putting l n) in
       let g : Grows w v = record {
         past = λ x h. h;
         heads = λ x h. h;
         places = λ x h. h;
-        objects = λ x h. inr h;
+        objects = λ x h. h;
         made = λ x h. h;
         dead = λ x h. h;
         stands = λ x h. h;
@@ -423,14 +405,9 @@ module _ (count : State → ℕ) (b : State) where
               order = a.sound.order;
               later = a.sound.later;
               heads = a.sound.heads;
-              tiles = λ x h j b. inr (a.sound.tiles x h j b);
+              tiles = a.sound.tiles;
               placed = a.sound.placed;
-              objects =
-                  λ o h.
-                  ⊎_elim
-                  (λ (e : o ≡ at l i). subst (λ (z : Object). Has z.state w.past × (z.index < count z.state)) (sym e) (r.0, omega (arith, r.3, r.1)))
-                  (λ (j : Has o w.objects). a.sound.objects o j)
-                  h;
+              objects = a.sound.objects;
               answered = a.sound.answered;
               promised = a.sound.promised;
               bundle = a.sound.bundle;
@@ -440,7 +417,7 @@ module _ (count : State → ℕ) (b : State) where
         reads = a.reads;
         chain = a.chain;
         sent = λ x h. knows_on w v x g (a.sent x h);
-        came = came_on w v (Putting l i n) g a (inl refl) (λ x h. h);
+        came = came_on w v (Putting l n) g a m (λ x h. h);
       }
 
   comes_placing : (w : World) (l : State) → Kept w → Kept (comes w (Placing l))
@@ -582,7 +559,7 @@ module _ (count : State → ℕ) (b : State) where
   come : (w : World) (s : Node) → Kept w → Knows w s → MayCome w s → Kept (comes w s)
   come w (Staging k l n) a r m = comes_staging w k l n a
   come w (Swapping k l n) a r m = comes_swapping w k l n a r m
-  come w (Putting l i n) a r m = comes_putting w l i n a r
+  come w (Putting l n) a r m = comes_putting w l n a m
   come w (Placing l) a r m = comes_placing w l a
   come w (Heading l) a r m = comes_heading w l a r
   come w (Promising l n) a r m = comes_promising w l n a r
@@ -633,6 +610,47 @@ module _ (count : State → ℕ) (b : State) where
         came = came_on w v (Deleting k l) g a tt (λ x h. h);
       }
 
+  -- ---- an object is put
+  puts : (w : World) (l : State) (n i : ℕ) → Kept w → MayHappen count w (Puts l n i) → Kept (happens w (Puts l n i))
+  puts w l n i a m =
+      let v : World = happens w (Puts l n i) in
+      let r : Knows w (Putting l n) = a.sent (Putting l n) m.0 in
+      let g : Grows w v = record {
+        past = λ x h. h;
+        heads = λ x h. h;
+        places = λ x h. h;
+        objects = λ x h. inr h;
+        made = λ x h. h;
+        dead = λ x h. h;
+        stands = λ x h. h;
+      } in
+      record {
+        sound =
+            record {
+              rolled = a.sound.rolled;
+              order = a.sound.order;
+              later = a.sound.later;
+              heads = a.sound.heads;
+              tiles = λ x h j b. inr (a.sound.tiles x h j b);
+              placed = a.sound.placed;
+              objects =
+                  λ o h.
+                  ⊎_elim
+                  (λ (e : o ≡ at l i). subst (λ (z : Object). Has z.state w.past × (z.index < count z.state)) (sym e) (r.0, omega (arith, m.1, r.1)))
+                  (λ (j : Has o w.objects). a.sound.objects o j)
+                  h;
+              answered = a.sound.answered;
+              promised = a.sound.promised;
+              bundle = a.sound.bundle;
+            };
+        newest = a.newest;
+        top = a.top;
+        reads = a.reads;
+        chain = a.chain;
+        sent = λ x h. knows_on w v x g (a.sent x h);
+        came = λ x h. did_on w v x g (a.came x h);
+      }
+
   -- ---- a step is made
   makes : (w : World) (k l : State) → Kept w → Kept (happens w (Makes k l))
   makes w k l a =
@@ -672,6 +690,7 @@ module _ (count : State → ℕ) (b : State) where
   keep : (w : World) (h : Happening) → Kept w → MayHappen count w h → Kept (happens w h)
   keep w (Comes s) a m = come w s a (a.sent s m.0) m.1
   keep w (Makes k l) a m = makes w k l a
+  keep w (Puts l n i) a m = puts w l n i a m
   keep w (Goes k l left) a m = goes w k l left a m
   keep w (Told s o) a m = told w s o a m
 
@@ -725,36 +744,26 @@ module _ (count : State → ℕ) where
       first w (Comes (Placing l)) l (h, tt) refl
       (first w1 (Told (Placing l) Done) l (h, inl refl) refl (first w2 (Comes (Heading l)) l (inl refl, tt) refl (at_once w3 l (inl refl))))
 
-  no_put : (l : State) (i n : ℕ) → n ≤ i → putting_of l i n ≡ Placing l
-  no_put l i n b =
-      elim (nat_lt i n) as (λ t. nat_lt i n ≡ t → (if t then Putting l i n else Placing l) ≡ Placing l) [
-        | true ↦ λ q. absurd (omega (arith, ltb-true i n q, b))
-        | false ↦ λ q. refl
-      ] refl
+  -- the first objects of the state stand
+  abbrev Standing : World → State → ℕ → Type 0
+  Standing w l n = (i : ℕ) → i < n → Has (at l i) w.objects
 
-  some_put : (l : State) (i n : ℕ) → i < n → putting_of l i n ≡ Putting l i n
-  some_put l i n b =
-      elim (nat_lt i n) as (λ t. nat_lt i n ≡ t → (if t then Putting l i n else Placing l) ≡ Putting l i n) [
-        | true ↦ λ q. refl
-        | false ↦ λ q. absurd (omega (arith, ltb-false i n q, b))
-      ] refl
+  put_one : (w : World) (l : State) (n j : ℕ) → Standing w l j → Standing (happens w (Puts l n j)) l (j + 1)
+  put_one w l n j out i c =
+      ⊎_elim
+      (λ (b : i < j). inr (out i b))
+      (λ (e : i ≡ j). inl (ap (λ z. at l z) e))
+      (lt_or_same i j c)
 
-  next_put : (l : State) (i n : ℕ) → i < n → putting_of l (i + 1) n ≡ on_putting l i n Done
-  next_put l i n b =
-      elim (nat_lt i n) as (λ t. nat_lt i n ≡ t → putting_of l (i + 1) n ≡ (if t then putting_of l (i + 1) n else Placing l)) [
-        | true ↦ λ q. refl
-        | false ↦ λ q. absurd (omega (arith, ltb-false i n q, b))
-      ] refl
-
-  put_all : (j i n : ℕ) (w : World) (l : State) → i + j ≡ n → Has (putting_of l i n) w.sent → Leads w l
-  put_all zero i n w l e h = finish w l (subst (λ z. Has z w.sent) (no_put l i n (omega (arith, e))) h)
-  put_all (suc j) i n w l e h =
-      let b : i < n = omega (arith, e) in
-      let p : Has (Putting l i n) w.sent = subst (λ z. Has z w.sent) (some_put l i n b) h in
-      let w1 : World = happens w (Comes (Putting l i n)) in
-      let w2 : World = happens w1 (Told (Putting l i n) Done) in
-      first w (Comes (Putting l i n)) l (p, tt) refl
-      (first w1 (Told (Putting l i n) Done) l (p, inl refl) refl (put_all j (i + 1) n w2 l (omega (arith, e)) (inl (next_put l i n b))))
+  put_all : (j i n : ℕ) (w : World) (l : State) → i + j ≡ n → Has (Putting l n) w.sent → Standing w l i → Leads w l
+  put_all zero i n w l e h out =
+      let w1 : World = happens w (Comes (Putting l n)) in
+      let w2 : World = happens w1 (Told (Putting l n) Done) in
+      first w (Comes (Putting l n)) l (h, λ x c. out x (omega (arith, e, c))) refl
+      (first w1 (Told (Putting l n) Done) l (h, inl refl) refl (finish w2 l (inl refl)))
+  put_all (suc j) i n w l e h out =
+      let w1 : World = happens w (Puts l n i) in
+      first w (Puts l n i) l (h, omega (arith, e)) refl (put_all j (i + 1) n w1 l (omega (arith, e)) h (put_one w l n i out))
 
 pub can_be_published : CanBePublished
 can_be_published count b hs w i m =
@@ -764,7 +773,7 @@ can_be_published count b hs w i m =
     let w2 : World = happens w1 (Told (Looking k) (Bundle (count k))) in
     first count w (Told Reading (Read k)) k (a.reads, a.newest) refl
     (first count w1 (Told (Looking k) (Bundle (count k))) k (inl refl, (refl, inl a.sound.bundle)) refl
-    (put_all count (count k) 0 (count k) w2 k (omega arith) (inl refl)))
+    (put_all count (count k) 0 (count k) w2 k (omega arith) (inl refl) (λ i c. absurd (omega (arith, c)))))
 
 pub worlds_are_sound : WorldsAreSound
 worlds_are_sound count b hs w i m = (led count b (beginning b) hs w (begin count b i) m).sound

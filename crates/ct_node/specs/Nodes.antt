@@ -1,5 +1,5 @@
 -- What a node does next: the command behind what came of one.
-use Rattle.std.specs.Prelude.{ℕ, ◌+◌, Bool, not, ◌&&◌, ◌==◌, nat_lt, if◌then◌else◌}
+use Rattle.std.specs.Prelude.{ℕ, Bool, not, ◌&&◌, ◌==◌, nat_lt, if◌then◌else◌}
 use Rattle.ct_node.specs.declared.state.State.{State}
 use Rattle.ct_node.specs.declared.node.Node.{Node}
 use Rattle.ct_node.specs.declared.node.Node.TheVariants.{Reading, Looking, Stepping, Staging, Swapping, Promising, Deleting, Putting, Placing, Heading, Answering}
@@ -14,10 +14,6 @@ follows k l = l.before == k.moment && nat_lt k.moment l.moment
 abbrev pub is_behind : State → State → Bool
 is_behind k l = nat_lt l.before k.moment && not (l.moment == k.moment && l.salt == k.salt)
 
--- the object at an index, of so many; behind the last one the places
-abbrev pub putting_of : State → ℕ → ℕ → Node
-putting_of l i n = if nat_lt i n then Putting l i n else Placing l
-
 -- reading: the state that was read is looked at
 abbrev pub on_reading : Outcome → Node
 on_reading (Read k) = Looking k
@@ -26,7 +22,7 @@ on_reading o = Reading
 -- looking at k: where its head stands, a step may be made from it; else its bundle's objects are put first
 abbrev pub on_looking : State → Outcome → Node
 on_looking k Published = Stepping k
-on_looking k (Bundle n) = putting_of k 0 n
+on_looking k (Bundle n) = Putting k n
 on_looking k Lost = Reading
 on_looking k o = Looking k
 
@@ -45,14 +41,14 @@ on_staging k l n o = Staging k l n
 
 -- swapping k for l: once the register took it, its objects are put, or who waits is answered first, by a promise
 abbrev pub on_swapping : State → State → ℕ → Outcome → Node
-on_swapping k l n Done = putting_of l 0 n
+on_swapping k l n Done = Putting l n
 on_swapping k l n Promise = Promising l n
 on_swapping k l n Lost = Reading
 on_swapping k l n o = Swapping k l n
 
 -- promising what the register took: behind it l's objects are put
 abbrev pub on_promising : State → ℕ → Outcome → Node
-on_promising l n Done = putting_of l 0 n
+on_promising l n Done = Putting l n
 on_promising l n Lost = Reading
 on_promising l n o = Promising l n
 
@@ -62,11 +58,11 @@ on_deleting k l Done = Stepping k
 on_deleting k l Lost = Stepping k
 on_deleting k l o = Deleting k l
 
--- putting the object at an index: behind it the next one, behind the last one the places
-abbrev pub on_putting : State → ℕ → ℕ → Outcome → Node
-on_putting l i n Done = if nat_lt i n then putting_of l (i + 1) n else Placing l
-on_putting l i n Lost = Reading
-on_putting l i n o = Putting l i n
+-- putting the objects: behind them the places
+abbrev pub on_putting : State → ℕ → Outcome → Node
+on_putting l n Done = Placing l
+on_putting l n Lost = Reading
+on_putting l n o = Putting l n
 
 -- adding the places: behind them the head
 abbrev pub on_placing : State → Outcome → Node
@@ -95,7 +91,7 @@ after (Staging k l n) o = on_staging k l n o
 after (Swapping k l n) o = on_swapping k l n o
 after (Promising l n) o = on_promising l n o
 after (Deleting k l) o = on_deleting k l o
-after (Putting l i n) o = on_putting l i n o
+after (Putting l n) o = on_putting l n o
 after (Placing l) o = on_placing l o
 after (Heading l) o = on_heading l o
 after (Answering l) o = on_answering l o

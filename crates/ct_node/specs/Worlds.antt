@@ -57,12 +57,13 @@ beginning b =
     }
 
 -- What may happen. Comes: a command that was given, by whomever and however long ago, takes effect; one may come never, or again and again. Makes:
--- a step is made, which is nobody's command. Goes: a command to delete the bundle of the state l, from k, takes effect, and these bundles are left.
+-- a step is made, which is nobody's command. Puts: of the objects that a command puts one stands, whichever, before the command came, or behind. Goes: a command to delete the bundle of the state l, from k, takes effect, and these bundles are left.
 -- Told: who gave a command is told of it, and goes on. That may happen to each command that was ever given, so a node that was killed, that is told
 -- twice, or that goes on from what it was before is among what may happen.
 pub data Happening : Type 0 where
   Comes : Node → Happening
   Makes : State → State → Happening
+  Puts : State → ℕ → ℕ → Happening
   Goes : State → State → List State → Happening
   Told : Node → Outcome → Happening
 
@@ -70,7 +71,7 @@ pub data Happening : Type 0 where
 abbrev pub comes : World → Node → World
 comes w (Staging k l n) = record w { bundles = l ∷ w.bundles; came = Staging k l n ∷ w.came }
 comes w (Swapping k l n) = record w { held = l; past = l ∷ w.past; came = Swapping k l n ∷ w.came }
-comes w (Putting l i n) = record w { objects = record { state = l; index = i } ∷ w.objects; came = Putting l i n ∷ w.came }
+comes w (Putting l n) = record w { came = Putting l n ∷ w.came }
 comes w (Placing l) = record w { places = l ∷ w.places; came = Placing l ∷ w.came }
 comes w (Heading l) = record w { heads = l ∷ w.heads; came = Heading l ∷ w.came }
 comes w (Promising l n) = record w { promised = l ∷ w.promised; came = Promising l n ∷ w.came }
@@ -84,12 +85,14 @@ comes w (Deleting k l) = w
 abbrev pub happens : World → Happening → World
 happens w (Comes s) = comes w s
 happens w (Makes k l) = record w { made = record { seen = k; new = l } ∷ w.made }
+happens w (Puts l n i) = record w { objects = record { state = l; index = i } ∷ w.objects }
 happens w (Goes k l left) = record w { bundles = left; came = Deleting k l ∷ w.came }
 happens w (Told s o) = record w { sent = after s o ∷ w.sent }
 
--- the register takes a state only in place of the one that it holds
+-- the register takes a state only in place of the one that it holds; a command to put objects came once each of them stands
 abbrev pub MayCome : World → Node → Type 0
 MayCome w (Swapping k l n) = w.held ≡ k
+MayCome w (Putting l n) = (i : ℕ) → i < n → Has (record { state = l; index = i }) w.objects
 MayCome w s = ⊤
 
 -- that the head of the state stands is said only where it does
@@ -120,10 +123,11 @@ MayBeTold count w s (Stepped l n) = (n ≡ count l) × IsMadeOfSeen w s l
 MayBeTold count w s (Listed l) = ⊤
 
 -- What an honest register and store owe. A command comes only if it was given; the register takes a state only in place of the one that it holds;
--- what is deleted is that bundle and no other; and nobody is told what isn't so. count says how many objects a state's bundle has.
+-- an object is put only where a command says so; what is deleted is that bundle and no other; and nobody is told what isn't so. count says how many objects a state's bundle has.
 abbrev pub MayHappen : (State → ℕ) → World → Happening → Type 0
 MayHappen count w (Comes s) = Has s w.sent × MayCome w s
 MayHappen count w (Makes k l) = ⊤
+MayHappen count w (Puts l n i) = Has (Putting l n) w.sent × (i < n)
 MayHappen count w (Goes k l left) = Has (Deleting k l) w.sent × ((x : State) → Has x w.bundles → Has x left ⊎ (x ≡ l))
 MayHappen count w (Told s o) = Has s w.sent × MayBeTold count w s o
 

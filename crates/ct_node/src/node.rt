@@ -1,12 +1,12 @@
 //! What comes behind what.
 ghost use Rattle.std.specs.Prelude.{◌≡◌};
-ghost use Rattle.ct_node.specs.Nodes.{after, putting_of, follows, is_behind};
+ghost use Rattle.ct_node.specs.Nodes.{after, follows, is_behind};
 
 use crate::state::State;
 
 /// A node: the command that it has out. One that starts, or starts again, reads.
 ///
-/// A count is that of the objects of a state's bundle, an index an object's place in it.
+/// A count is that of the objects of a state's bundle.
 #[derive(Clone, Copy, Debug, PartialEq, Eq)]
 pub enum Node {
     /// Read the register.
@@ -23,8 +23,8 @@ pub enum Node {
     Promising(State, u64),
     /// The first state is rolled out: delete the bundle of the second one.
     Deleting(State, State),
-    /// Put the object at this index of the state's bundle, of so many.
-    Putting(State, u64, u64),
+    /// Put all objects of the state's bundle, of which there are so many, in any order, or some at once.
+    Putting(State, u64),
     /// Add the places of the state's entries.
     Placing(State),
     /// Have the state's head signed, and put it.
@@ -68,17 +68,6 @@ fn is_past(seen: &State, staged: &State) -> bool
     staged.before < seen.moment && !(staged.moment == seen.moment && staged.salt == seen.salt)
 }
 
-// The object to be put next; where there is none, the places.
-fn putting(state: State, index: u64, count: u64) -> Node
-    ensures { result ≡ putting_of state index count }
-{
-    if index < count {
-        Node::Putting(state, index, count)
-    } else {
-        Node::Placing(state)
-    }
-}
-
 impl Node {
     /// The command behind what came of this one. What comes of another command changes nothing.
     pub fn next(self, outcome: Outcome) -> Node
@@ -87,7 +76,7 @@ impl Node {
         match (self, outcome) {
             (Node::Reading, Outcome::Read(held)) => Node::Looking(held),
             (Node::Looking(seen), Outcome::Published) => Node::Stepping(seen),
-            (Node::Looking(seen), Outcome::Bundle(count)) => putting(seen, 0, count),
+            (Node::Looking(seen), Outcome::Bundle(count)) => Node::Putting(seen, count),
             (Node::Looking(_), Outcome::Lost) => Node::Reading,
             (Node::Stepping(seen), Outcome::Stepped(new, count)) => {
                 if may_follow(&seen, &new) {
@@ -106,20 +95,14 @@ impl Node {
             (Node::Stepping(_), Outcome::Lost) => Node::Reading,
             (Node::Staging(seen, new, count), Outcome::Done) => Node::Swapping(seen, new, count),
             (Node::Staging(_, _, _), Outcome::Lost) => Node::Reading,
-            (Node::Swapping(_, new, count), Outcome::Done) => putting(new, 0, count),
+            (Node::Swapping(_, new, count), Outcome::Done) => Node::Putting(new, count),
             (Node::Swapping(_, new, count), Outcome::Promise) => Node::Promising(new, count),
             (Node::Swapping(_, _, _), Outcome::Lost) => Node::Reading,
-            (Node::Promising(taken, count), Outcome::Done) => putting(taken, 0, count),
+            (Node::Promising(taken, count), Outcome::Done) => Node::Putting(taken, count),
             (Node::Promising(_, _), Outcome::Lost) => Node::Reading,
             (Node::Deleting(seen, _), Outcome::Done | Outcome::Lost) => Node::Stepping(seen),
-            (Node::Putting(taken, index, count), Outcome::Done) => {
-                if index < count {
-                    putting(taken, index + 1, count)
-                } else {
-                    Node::Placing(taken)
-                }
-            }
-            (Node::Putting(_, _, _), Outcome::Lost) => Node::Reading,
+            (Node::Putting(taken, _), Outcome::Done) => Node::Placing(taken),
+            (Node::Putting(_, _), Outcome::Lost) => Node::Reading,
             (Node::Placing(taken), Outcome::Done) => Node::Heading(taken),
             (Node::Placing(_), Outcome::Lost) => Node::Reading,
             (Node::Heading(taken), Outcome::Done) => Node::Answering(taken),

@@ -7,20 +7,19 @@ use Rattle.std.specs.Io.BufRead.{first_piece}
 use Rattle.json_lines.specs.Lines.{kept_line, TakesNext}
 use Rattle.json_lines.proofs.KeptLines.{whole_or_long}
 use Rattle.json_lines.proofs.Values.{value_long}
-use Rattle.ct_node.specs.declared.node.Node.{Node}
-use Rattle.ct_node.specs.declared.node.Outcome.{Outcome}
-use Rattle.ct_node_lines.specs.NodeAsks.{node_asked_in, node_asked}
+use Rattle.ct_node_lines.specs.NodeDoings.{NodeDoing}
+use Rattle.ct_node_lines.specs.NodeAsks.{NodeAsked, node_asked_in, node_asked}
 use Rattle.ct_node_lines.specs.NodeWords.{node_replied, node_line, is_no_node}
 use Rattle.ct_node_lines.specs.NodeSession.{NodeGiven, IsNodeAnswered, GivesNode, GivesNodeText, KeepsNodeLine, GetsNodeLine}
 
 -- ---- what is kept of a line
 
-pub got_line : (source source_next : Option (List ℕ)) (line : List ℕ) (some : Bool) → TakesNext 4098 source source_next line some
+pub got_line : (source source_next : Option (List ℕ)) (line : List ℕ) (some : Bool) → TakesNext 65538 source source_next line some
     → GetsNodeLine some source source_next line
 got_line None source_next line true is = tt
 got_line None source_next line false is = tt
 got_line (Some xs) source_next line true is =
-    let kept : KeepsNodeLine (kept_line 4098 xs) (first_piece 10 xs) = whole_or_long 4096 xs in
+    let kept : KeepsNodeLine (kept_line 65538 xs) (first_piece 10 xs) = whole_or_long 65536 xs in
     (is.0, subst (λ (l : List ℕ). KeepsNodeLine l (first_piece 10 xs)) (sym is.1) kept, is.2)
 got_line (Some xs) source_next line false is = is.0
 
@@ -35,14 +34,14 @@ answers_some : (line : List ℕ) (given : NodeGiven) → (length line == 0) ≡ 
 answers_some [] given some t = cc
 answers_some (b ∷ bs) given some t = t
 
-pub gives_some : (before after : Bool) (line text : List ℕ) (asked : Option (Node × Outcome)) (reply : Option Node) (e : Bool) → e ≡ (length line == 0)
+pub gives_some : (before after : Bool) (line text : List ℕ) (asked : Option NodeAsked) (reply : Option NodeDoing) (e : Bool) → e ≡ (length line == 0)
     → e ≡ false → asked ≡ node_asked line → reply ≡ node_replied asked → text ≡ node_line reply → after ≡ before || is_no_node reply
     → GivesNodeText before line text after
 gives_some before after line text asked reply e is not asks replies written noted =
     let same : reply ≡ node_replied (node_asked line) = replies ∙ ap node_replied asks in
     let given : NodeGiven = record { gave = Some (node_replied (node_asked line)); text = text } in
     let answered : IsNodeAnswered line given = record { noted = refl; text = written ∙ ap node_line same } in
-    (given, answers_some line given (sym is ∙ not) answered, refl, noted ∙ ap (λ (r : Option Node). before || is_no_node r) same)
+    (given, answers_some line given (sym is ∙ not) answered, refl, noted ∙ ap (λ (r : Option NodeDoing). before || is_no_node r) same)
 
 pub gives_none : (before : Bool) (line text : List ℕ) (e : Bool) → e ≡ (length line == 0) → e ≡ true → text ≡ []
     → GivesNodeText before line text before
@@ -52,17 +51,17 @@ gives_none before (b ∷ bs) text e is empty nil =
 
 -- ---- a line that is too long
 
-long_asks : (a b : List ℕ) → 4096 < length a → 4096 < length b → node_asked a ≡ node_asked b
-long_asks a b long_a long_b = ap (λ o. option_and_then node_asked_in o) (sym (value_long 4096 a long_a) ∙ value_long 4096 b long_b)
+long_asks : (a b : List ℕ) → 65536 < length a → 65536 < length b → node_asked a ≡ node_asked b
+long_asks a b long_a long_b = ap (λ o. option_and_then node_asked_in o) (sym (value_long 65536 a long_a) ∙ value_long 65536 b long_b)
 
-long_gives : (a b : List ℕ) (given : NodeGiven) → 4096 < length a → 4096 < length b → GivesNode a given → GivesNode b given
+long_gives : (a b : List ℕ) (given : NodeGiven) → 65536 < length a → 65536 < length b → GivesNode a given → GivesNode b given
 long_gives [] b given long_a long_b t = absurd (omega (arith, long_a))
 long_gives (x ∷ a) [] given long_a long_b t = absurd (omega (arith, long_b))
 long_gives (x ∷ a) (y ∷ b) given long_a long_b t =
     let same = long_asks (x ∷ a) (y ∷ b) long_a long_b in
     record {
-      noted = t.noted ∙ ap (λ (p : Option (Node × Outcome)). Some (node_replied p)) same;
-      text = t.text ∙ ap (λ (p : Option (Node × Outcome)). node_line (node_replied p)) same;
+      noted = t.noted ∙ ap (λ (p : Option NodeAsked). Some (node_replied p)) same;
+      text = t.text ∙ ap (λ (p : Option NodeAsked). node_line (node_replied p)) same;
     }
 
 pub line_kept : (before : Bool) (kept line text : List ℕ) (after : Bool) → KeepsNodeLine kept line
@@ -73,7 +72,7 @@ line_kept before kept line text after (inr long) g = (g.0, long_gives kept line 
 -- ---- a reply that is written
 
 -- what a line gives that isn't empty, where its reply is written
-pub gives_reply : {F : Type 0} (r : Result (Vec ℕ Global) F) (before after : Bool) (line : List ℕ) (asked : Option (Node × Outcome)) (reply : Option Node)
+pub gives_reply : {F : Type 0} (r : Result (Vec ℕ Global) F) (before after : Bool) (line : List ℕ) (asked : Option NodeAsked) (reply : Option NodeDoing)
     (e : Bool) → e ≡ (length line == 0) → e ≡ false → asked ≡ node_asked line → reply ≡ node_replied asked → after ≡ before || is_no_node reply
     → IfOk r (λ t. t.items ≡ node_line reply) → IfOk r (λ t. GivesNodeText before line t.items after)
 gives_reply (Ok t) before after line asked reply e is not asks replies noted written =

@@ -1,5 +1,9 @@
+pub mod NodeTexts
+pub mod NodeDoings
 pub mod NodeAsks
+pub mod NodeAskedView
 pub mod NodeWords
+pub mod NodeLaws
 pub mod NodeSession
 pub mod NodeOptions
 pub mod NodeBroken

@@ -2,13 +2,13 @@
 use Rattle.std.specs.Prelude.{◌≡◌, ◌<◌, ◌⊎◌, ◌||◌, ℕ, Bool, true, false, List, [], ◌∷◌, ◌++◌, length, Option, Some, None, IfSome, if◌then◌else◌}
 use Rattle.std.specs.Io.BufRead.{first_piece, drop_through}
 use Rattle.std.specs.Io.KnownBytes.{Appends}
-use Rattle.ct_node.specs.declared.node.Node.{Node}
+use Rattle.ct_node_lines.specs.NodeDoings.{NodeDoing}
 use Rattle.ct_node_lines.specs.NodeAsks.{node_asked}
 use Rattle.ct_node_lines.specs.NodeWords.{node_replied, node_reply_text, is_no_node}
 
 -- What one line gave: what was replied, unless it was empty, and the reply's text.
 pub record NodeGiven : Type 0 where
-  pub gave : Option (Option Node)
+  pub gave : Option (Option NodeDoing)
   pub text : List ℕ
 
 -- A line that isn't empty: the reply to it is the next command of the node that it says (noted), and its text this (text).
@@ -28,7 +28,7 @@ GiveNodes (g ∷ given) input text = (0 < length input) × GivesNode (first_piec
     × ((rest : List ℕ) × GiveNodes given (drop_through 10 input) rest × (text ≡ g.text ++ rest))
 
 -- whether a line was refused as none
-abbrev pub was_no_node : Option (Option Node) → Bool
+abbrev pub was_no_node : Option (Option NodeDoing) → Bool
 was_no_node None = false
 was_no_node (Some reply) = is_no_node reply
 
@@ -58,7 +58,7 @@ IsNodeRun source sink sink_next status =
 
 -- what is kept of a line is the line, or both are longer than a line may be
 abbrev pub KeepsNodeLine : List ℕ → List ℕ → Type 0
-KeepsNodeLine kept line = (kept ≡ line) ⊎ ((4096 < length kept) × (4096 < length line))
+KeepsNodeLine kept line = (kept ≡ line) ⊎ ((65536 < length kept) × (65536 < length line))
 
 -- a line was read, of which this is kept (true), where the bytes are known; or none is left (false)
 abbrev pub GetsNodeLine : Bool → Option (List ℕ) → Option (List ℕ) → List ℕ → Type 0

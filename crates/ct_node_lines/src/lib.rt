@@ -11,9 +11,11 @@
 #![tactic(auto)]
 
 mod command;
+mod doing;
 pub mod laws;
 mod program;
 mod replies;
 mod request;
+mod texts;
 
 pub use program::{answer_words, fault_text, run};

@@ -42,7 +42,7 @@ fn take_line(alloc: Global, bad: &mut bool, line: &[u8]) -> Result<Vec<u8>, Allo
         return Ok(Vec::new(alloc));
     }
     let asked = read_asked(alloc, line)?;
-    let reply = reply_to(asked);
+    let reply = reply_to(asked)?;
     *bad = is_bad(*bad, &reply);
     reply_line(alloc, &reply)
 }

@@ -1,10 +1,14 @@
+use Rattle.std.specs.Prelude.{option_map}
+use Rattle.ct_node_lines.specs.NodeDoings.{doing_view}
+use Rattle.ct_node_lines.specs.NodeAskedView.{asked_view}
 use Rattle.ct_node_lines.proofs.NodeKept.{gives_reply, gives_none}
 use Rattle.ct_node_lines.proofs.program.take_line.Goals as goal
 
 pub returns : goal.returns
 returns c =
-    gives_reply c.reply_line.result c.args.bad.now c.is_bad.result c.args.line.now c.in_ok-asked.asked c.reply_to-reply.result c.is_empty.result
-    c.is_empty.ensures c.if-is_empty.false c.in_ok-asked.ensures c.reply_to-reply.ensures c.is_bad.ensures c.reply_line.ensures
+    gives_reply c.reply_line.result c.args.bad.now c.is_bad.result c.args.line.now (option_map asked_view c.in_ok-asked.asked)
+    (option_map doing_view c.in_ok-reply.reply) c.is_empty.result c.is_empty.ensures c.if-is_empty.false c.in_ok-asked.ensures c.in_ok-reply.ensures
+    c.is_bad.ensures c.reply_line.ensures
 
 pub returns-then-is_empty : goal.returns-then-is_empty
 returns-then-is_empty c =
