@@ -27,7 +27,7 @@ LIMIT = re.compile(r"\bif self\.\w+ == ([A-Z]+) \{\s*return Err\((?:io::Error::f
 TURNS = "1 << 50"
 # How a program ends. No number stands in the file, since a status that is made up is one, but the 1 behind a fault that is told.
 END = re.compile(r"\bExitCode::from\(status\)\s*\}\s*$")
-TELLS = re.compile(r"\btell\([^;]*\b(?:fault_text|line_of)\(fault\)[^;]*\);\s*1\s*\}")
+TELLS = re.compile(r"\b(?:tell\([^;]*\b(?:fault_text|line_of)\(fault\)[^;]*\)|tell_fault\([^,;]*, fault, [&\w ]+\));\s*1\s*\}")
 # What is told among the faults: a text of a fault, which came by a pattern or was handed over; or a text that no status 1 stands behind.
 TOLD_TEXT = re.compile(r"(?:[A-Z]+|text|(?:\w+_text|(?:\w+\.)?line_of)\(fault\))(?:\.as_bytes\(\))?$")
 STATUS = re.compile(r"\bfn\s+\w[^;{]*->\s*u8\b[^;{]*\{")
@@ -83,7 +83,7 @@ TOLD = {
     "ct_script/src/threads.rt": {"Threads": (1, "a front's thread didn't start")},
     "ct_data_tiles/src/entries.rt": {"Unwritten": (1, "of a leaf's bytes that weren't made, a conversion of its own")},
     "ct_node_lines/src/program.rt": {"Read": (1, "behind the last turn over the lines")},
-    "ct_reader_lines/src/program.rt": {"Read": (1, "behind the last turn over the lines")},
+    "line_program/src/replying.rt": {"Read": (1, "behind the last turn over the lines")},
     "ct_step_lines/src/program.rt": {"Read": (1, "behind the last turn over the lines")},
     "ct_witness_lines/src/program.rt": {"Read": (1, "behind the last turn over the lines")},
     "ct_versions/src/shelf.rt": {"NotAppended": (2, "`append` handed it back")},

@@ -2,4 +2,3 @@ pub mod NoFloat
 pub mod HashTiles
 pub mod ReaderKept
 pub mod ReaderRuns
-pub mod BrokenOff

@@ -4,24 +4,14 @@ use Rattle.std.proofs.lemmas.Bool.{eqb-true}
 use Rattle.std.specs.Prelude.{◌==◌, Result, Ok, Err, Vec, IfOk, option_map, unwrap_or}
 use Rattle.std.specs.Global.{Global}
 use Rattle.std.specs.Io.BufRead.{first_piece}
-use Rattle.json_lines.specs.Lines.{kept_line, TakesNext}
+use Rattle.json_lines.specs.Lines.{kept_line}
 use Rattle.json_lines.proofs.KeptLines.{whole_or_long}
 use Rattle.json_lines.proofs.Values.{value_long}
 use Rattle.ct_reader_lines.specs.ReaderAsks.{ReaderAsk, for_no_reading, reader_asked_in, AsksReader}
 use Rattle.ct_reader_lines.specs.ReaderAnswers.{IsReaderReply}
 use Rattle.ct_reader_lines.specs.ReaderWords.{ReaderReply, reader_reply_data, reader_line, is_bad_reply}
-use Rattle.ct_reader_lines.specs.ReaderSession.{ReadingGiven, IsReadingAnswered, GivesReading, GivesReadingText, KeepsReaderLine, GetsReaderLine}
-
--- ---- what is kept of a line
-
-pub got_line : (source source_next : Option (List ℕ)) (line : List ℕ) (some : Bool) → TakesNext 67108866 source source_next line some
-    → GetsReaderLine some source source_next line
-got_line None source_next line true is = tt
-got_line None source_next line false is = tt
-got_line (Some xs) source_next line true is =
-    let kept : KeepsReaderLine (kept_line 67108866 xs) (first_piece 10 xs) = whole_or_long 67108864 xs in
-    (is.0, subst (λ (l : List ℕ). KeepsReaderLine l (first_piece 10 xs)) (sym is.1) kept, is.2)
-got_line (Some xs) source_next line false is = is.0
+use Rattle.ct_reader_lines.specs.ReaderSession.{ReadingGiven, IsReadingAnswered, GivesReading, GivesReadingText, KeepsReaderLine, reader_gives}
+use Rattle.ct_reader_lines.specs.declared.noted.Noted.{Noted}
 
 -- ---- one line
 
@@ -88,3 +78,12 @@ pub gives_reply : {F : Type 0} (r : Result (Vec ℕ Global) F) (before after : B
 gives_reply (Ok t) before after line ask reply e is not asks replies noted written =
     gives_some before after line t.items ask reply e is not asks replies written noted
 gives_reply (Err f) before after line ask reply e is not asks replies noted written = tt
+
+-- what is kept of a line gives what the whole line gives
+pub gives_whole : {F : Type 0} (r : Result (Vec ℕ Global) F) (first : Bool) (before after : Noted) (kept : List ℕ)
+    → IfOk r (λ t. GivesReadingText before.bad kept t.items after.bad)
+    → IfOk r (λ t. (xs : List ℕ) → kept ≡ kept_line 67108866 xs → reader_gives first before (first_piece 10 xs) t.items after)
+gives_whole (Ok t) first before after kept g = λ xs is.
+    let keeps : KeepsReaderLine (kept_line 67108866 xs) (first_piece 10 xs) = whole_or_long 67108864 xs in
+    line_kept before.bad kept (first_piece 10 xs) t.items after.bad (subst (λ (l : List ℕ). KeepsReaderLine l (first_piece 10 xs)) (sym is) keeps) g
+gives_whole (Err f) first before after kept g = tt

@@ -1,13 +1,20 @@
--- Taking the lines of an input, one after the other.
-use Rattle.std.proofs.Common.{◌≡◌, ◌∙◌, ◌<◌, ◌++◌, ◌||◌, ℕ, List, [], ◌∷◌, length, Bool, true, false, Option, Some, None, sym, refl, ap, subst, inl, inr}
-use Rattle.std.proofs.lemmas.List.{append_assoc}
-use Rattle.std.proofs.lemmas.Option.{same_Some, none-some}
-use Rattle.std.specs.Prelude.{IfSome}
+-- What the replies to the lines of an input are.
+use Rattle.std.proofs.Common.{◌≡◌, ◌∙◌, ◌++◌, ◌||◌, ℕ, List, [], ◌∷◌, length, Bool, true, false, Option, Some, None, sym, refl, ap, subst, inl, inr}
+use Rattle.std.proofs.lemmas.List.{append-nil}
+use Rattle.std.specs.Prelude.{IfSome, OnErr, Result, Ok, Err}
+use Rattle.std.specs.List.{concat}
 use Rattle.std.specs.Io.BufRead.{drop_through, first_piece}
 use Rattle.std.specs.Io.KnownBytes.{Appends}
-use Rattle.std.proofs.KnownBytes.{Appends-nil, Appends-trans}
-use Rattle.ct_reader_lines.specs.ReaderSession.{ReadingGiven, GiveReadings, GivesReadingText, GetsReaderLine, OneRead, AllRead, IsReaderRun, IsReaderStatus, reader_status, some_bad_reply, was_bad_reply}
-use Rattle.ct_reader_lines.proofs.ReaderKept.{line_kept}
+use Rattle.std.proofs.KnownBytes.{Appends-nil}
+use Rattle.line_program.specs.Replied.{FirstReplies, nothing_behind, IsRunReplied}
+use Rattle.line_program.proofs.Replies.{run_not_begun}
+use Rattle.ct_reader_lines.specs.ReaderBroken.{IsReaderRunBroken, IsReaderCallBroken}
+use Rattle.ct_reader_lines.specs.ReaderOptions.{reader_usage, reader_version_text, IsReaderAnswered}
+use Rattle.ct_reader_lines.specs.ReaderSession.{ReadingGiven, GiveReadings, GivesReadingText, IsReaderRun, IsReaderStatus, reader_status, some_bad_reply, was_bad_reply}
+use Rattle.ct_reader_lines.specs.ReaderSession.{reader_gives, no_reading}
+use Rattle.ct_reader_lines.specs.declared.command.Command.{Command}
+use Rattle.ct_reader_lines.specs.declared.command.Command.TheVariants.{Answer, Help, Version, Refused}
+use Rattle.ct_reader_lines.specs.declared.noted.Noted.{Noted}
 
 or_assoc : (a b c : Bool) → (a || b) || c ≡ a || (b || c)
 or_assoc true b c = refl
@@ -17,88 +24,65 @@ or_none : (b : Bool) → b ≡ b || false
 or_none true = refl
 or_none false = refl
 
--- ---- one line is taken
+-- what all lines give, by the replies to them
+readings : (first : Bool) (before now : Noted) (replies : List (List ℕ)) (input left : List ℕ) → left ≡ []
+    → FirstReplies reader_gives first before replies input left now
+    → (given : List ReadingGiven) × GiveReadings given input (concat replies) × (now.bad ≡ before.bad || some_bad_reply given)
+readings first before now [] input left nil f = ([], (sym f.0 ∙ nil, refl), ap (λ (n : Noted). n.bad) f.1 ∙ or_none before.bad)
+readings first before now (r ∷ rs) input left nil f =
+    let line : GivesReadingText before.bad (first_piece 10 input) r f.1.0.bad = f.1.1 in
+    let g : ReadingGiven = line.0 in
+    let rest = readings false f.1.0 now rs (drop_through 10 input) left nil f.1.2 in (
+      g ∷ rest.0,
+      (f.0, line.1, (concat rs, rest.1, ap (λ (t : List ℕ). t ++ concat rs) (sym line.2))),
+      rest.2 ∙ ap (λ (b : Bool). b || some_bad_reply rest.0) line.3 ∙ or_assoc before.bad (was_bad_reply g.gave) (some_bad_reply rest.0),
+    )
 
-pub line_replied : (before after : Bool) (kept text : List ℕ) (source source_next sink sink_next : Option (List ℕ))
-    → GetsReaderLine true source source_next kept → GivesReadingText before kept text after → Appends sink sink_next text
-    → OneRead before after source source_next sink sink_next false
-line_replied before after kept text None source_next sink sink_next got g w = tt
-line_replied before after kept text (Some xs) source_next sink sink_next got g w =
-    (got.0, got.2, (text, line_kept before kept (first_piece 10 xs) text after got.1 g, w))
+pub run_done : (last : Noted) (source source_next sink sink_next : Option (List ℕ)) (status : ℕ) → status ≡ reader_status last.bad
+    → IsRunReplied reader_gives nothing_behind no_reading last source source_next sink sink_next → IsReaderRun source sink sink_next status
+run_done last None source_next sink sink_next status ends t = tt
+run_done last (Some input) source_next sink sink_next status ends t =
+    let all = readings true no_reading last t.0 input [] refl t.2 in
+    let text = concat t.0 in (
+      text,
+      record { given = all.0; lines = all.1; ends = ends ∙ ap reader_status all.2 },
+      subst (λ (l : List ℕ). Appends sink sink_next l) (ap (λ (e : List ℕ). text ++ e) t.3 ∙ append-nil text) t.4,
+    )
 
--- ---- all lines
-
--- with this text written and these bytes left, lines that are replied to from here are replied to from the beginning
-pub record StandsAt (first now : Bool) (input left : List ℕ) (sink_first sink : Option (List ℕ)) : Type 0 where
-  pub told : List ℕ
-  pub written : Appends sink_first sink told
-  pub from_here : (given : List ReadingGiven) (rest : List ℕ) (last : Bool) → GiveReadings given left rest → last ≡ now || some_bad_reply given
-      → (all : List ReadingGiven) × GiveReadings all input (told ++ rest) × (last ≡ first || some_bad_reply all)
-
--- the same of a reader whose bytes may be unknown
-abbrev pub RepliesOn : Bool → Bool → Option (List ℕ) → Option (List ℕ) → Option (List ℕ) → Option (List ℕ) → Type 0
-RepliesOn first now source_first source sink_first sink =
-    IfSome source_first (λ input. (left : List ℕ) × (source ≡ Some left) × StandsAt first now input left sink_first sink)
-
-pub replies_first : (first : Bool) (source sink : Option (List ℕ)) → RepliesOn first first source source sink sink
-replies_first first None sink = tt
-replies_first first (Some input) sink =
-    (input, refl, record { told = []; written = Appends-nil sink; from_here = λ given rest last t e. (given, t, e) })
-
-one_more : (first now next : Bool) (input left text : List ℕ) (sink_first sink sink_next : Option (List ℕ))
-    → StandsAt first now input left sink_first sink
-    → 0 < length left → GivesReadingText now (first_piece 10 left) text next → Appends sink sink_next text
-    → StandsAt first next input (drop_through 10 left) sink_first sink_next
-one_more first now next input left text sink_first sink sink_next h some line written = record {
-  told = h.told ++ text;
-  written = Appends-trans sink_first sink sink_next h.told text h.written written;
-  from_here = λ given rest last t e.
-      let g : ReadingGiven = line.0 in
-      let same : text ++ rest ≡ g.text ++ rest = ap (λ (x : List ℕ). x ++ rest) (sym line.2) in
-      let noted : last ≡ now || (was_bad_reply g.gave || some_bad_reply given) =
-      e ∙ ap (λ (b : Bool). b || some_bad_reply given) line.3 ∙ or_assoc now (was_bad_reply g.gave) (some_bad_reply given) in
-      let all = h.from_here (g ∷ given) (text ++ rest) last (some, line.1, (rest, t, same)) noted in
-      (all.0, subst (λ (x : List ℕ). GiveReadings all.0 input x) (sym (append_assoc h.told text rest)) all.1, all.2);
-}
-
-pub replies_further : (first now next : Bool) (source_first source source_next sink_first sink sink_next : Option (List ℕ))
-    → RepliesOn first now source_first source sink_first sink
-    → OneRead now next source source_next sink sink_next false
-    → RepliesOn first next source_first source_next sink_first sink_next
-replies_further first now next None source source_next sink_first sink sink_next g o = tt
-replies_further first now next (Some input) None source_next sink_first sink sink_next g o = absurd (none-some g.0 g.1)
-replies_further first now next (Some input) (Some xs) source_next sink_first sink sink_next g o =
-    let h = subst (λ (l : List ℕ). StandsAt first now input l sink_first sink) (sym (same_Some xs g.0 g.1)) g.2 in
-    (drop_through 10 xs, o.1, one_more first now next input xs o.2.0 sink_first sink sink_next h o.0 o.2.1 o.2.2)
-
-ended : (first now last : Bool) (input left : List ℕ) (sink_first sink sink_next : Option (List ℕ))
-    → StandsAt first now input left sink_first sink
-    → left ≡ [] → last ≡ now → Appends sink sink_next []
-    → (given : List ReadingGiven) × (text : List ℕ) × GiveReadings given input text × (last ≡ first || some_bad_reply given)
-    × Appends sink_first sink_next text
-ended first now last input left sink_first sink sink_next h nil same kept =
-    let all = h.from_here [] [] last (nil, refl) (same ∙ or_none now) in
-    (all.0, h.told ++ [], all.1, all.2, Appends-trans sink_first sink sink_next h.told [] h.written kept)
-
-pub replies_to_end : (first now last : Bool) (source_first source source_next sink_first sink sink_next : Option (List ℕ))
-    → RepliesOn first now source_first source sink_first sink
-    → OneRead now last source source_next sink sink_next true
-    → AllRead first last source_first sink_first sink_next
-replies_to_end first now last None source source_next sink_first sink sink_next g o = tt
-replies_to_end first now last (Some input) None source_next sink_first sink sink_next g o = absurd (none-some g.0 g.1)
-replies_to_end first now last (Some input) (Some xs) source_next sink_first sink sink_next g o =
-    let h = subst (λ (l : List ℕ). StandsAt first now input l sink_first sink) (sym (same_Some xs g.0 g.1)) g.2 in
-    ended first now last input xs sink_first sink sink_next h o.0 o.1 o.2
-
--- ---- the run
-
-pub run_done : (first last : Bool) (source sink sink_next : Option (List ℕ)) (status : ℕ) → first ≡ false
-    → status ≡ reader_status last → AllRead first last source sink sink_next → IsReaderRun source sink sink_next status
-run_done first last None sink sink_next status none ends t = tt
-run_done first last (Some input) sink sink_next status none ends t =
-    let noted : last ≡ some_bad_reply t.0 = t.3 ∙ ap (λ (b : Bool). b || some_bad_reply t.0) none in
-    (t.1, record { given = t.0; lines = t.2; ends = ends ∙ ap reader_status noted }, t.4)
+pub all_read : (last : Noted) (source source_next sink sink_next : Option (List ℕ))
+    → IsRunReplied reader_gives nothing_behind no_reading last source source_next sink sink_next → IfSome source (λ _. source_next ≡ Some [])
+all_read last None source_next sink sink_next t = tt
+all_read last (Some input) source_next sink sink_next t = t.5
 
 pub one_of_two : (bad : Bool) (status : ℕ) → status ≡ reader_status bad → IsReaderStatus status
 one_of_two true status e = inr e
 one_of_two false status e = inl e
+
+-- ---- what the words ask for
+
+-- what holds in any case holds where a result is an error
+pub at_err : {T F P : Type 0} (r : Result T F) → P → OnErr r P
+at_err (Ok t) p = tt
+at_err (Err f) p = p
+
+pub not_begun : (c : Command) (source sink : Option (List ℕ)) → IsReaderCallBroken c source sink sink
+not_begun Answer source sink = (source, run_not_begun reader_gives nothing_behind no_reading source sink)
+not_begun Help source sink = ([], (reader_usage, refl), Appends-nil sink)
+not_begun Version source sink = ([], (reader_version_text, refl), Appends-nil sink)
+not_begun Refused source sink = refl
+
+pub run_broken : {T F : Type 0} (r : Result T F) (c made : Command) (source source_next sink sink_next : Option (List ℕ)) → made ≡ c → made ≡ Answer
+    → OnErr r (IsReaderRunBroken source source_next sink sink_next) → OnErr r (IsReaderCallBroken c source sink sink_next)
+run_broken (Ok t) c made source source_next sink sink_next is run b = tt
+run_broken (Err f) c made source source_next sink sink_next is run b =
+    subst (λ (k : Command). IsReaderCallBroken k source sink sink_next) (sym run ∙ is) (source_next, b)
+
+pub help_answered : (c made : Command) (source sink sink_next faults : Option (List ℕ)) → made ≡ c → made ≡ Help
+    → Appends sink sink_next reader_usage → IsReaderAnswered c source sink sink_next faults faults 0
+help_answered c made source sink sink_next faults is help written =
+    subst (λ (k : Command). IsReaderAnswered k source sink sink_next faults faults 0) (sym help ∙ is) (refl, written, refl)
+
+pub version_answered : (c made : Command) (source sink sink_next faults : Option (List ℕ)) → made ≡ c → made ≡ Version
+    → Appends sink sink_next reader_version_text → IsReaderAnswered c source sink sink_next faults faults 0
+version_answered c made source sink sink_next faults is version written =
+    subst (λ (k : Command). IsReaderAnswered k source sink sink_next faults faults 0) (sym version ∙ is) (refl, written, refl)

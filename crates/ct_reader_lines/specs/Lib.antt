@@ -3,4 +3,4 @@ pub mod ReaderWords
 pub mod ReaderAnswers
 pub mod ReaderSession
 pub mod ReaderOptions
-pub mod BrokenOff
+pub mod ReaderBroken

@@ -1,5 +1,5 @@
 -- What the words of ctproof's command line ask for, the program's name left out: nothing, or help, or the version.
-use Rattle.std.specs.Prelude.{◌≡◌, ℕ, List, [], ◌∷◌, Option, if◌then◌else◌, codes, bytes_eq}
+use Rattle.std.specs.Prelude.{◌≡◌, ℕ, List, [], ◌∷◌, ◌++◌, Option, if◌then◌else◌, codes, bytes_eq}
 use Rattle.std.specs.Io.KnownBytes.{Appends}
 use Rattle.json_lines.specs.Sends.{SendsSome}
 use Rattle.ct_reader_lines.specs.ReaderSession.{IsReaderRun, IsReaderStatus}
@@ -17,9 +17,17 @@ abbrev pub reader_asked_of_words : List (List ℕ) → Command
 reader_asked_of_words [] = Answer
 reader_asked_of_words (word ∷ words) = reader_word word
 
--- how the program is called
+-- how the program is called, the page with its lines, and its exit statuses
 abbrev pub reader_usage : List ℕ
 reader_usage = codes "usage: ctproof < lines > replies\n"
+    ++ codes "\n"
+    ++ codes "docs/TILES.md has the form of the lines.\n"
+    ++ codes "\n"
+    ++ codes "Exit status:\n"
+    ++ codes "  0  each line was a request\n"
+    ++ codes "  1  memory was refused, or reading or writing failed\n"
+    ++ codes "  2  the words are refused\n"
+    ++ codes "  4  a line was no request\n"
 
 -- its version
 abbrev pub reader_version_text : List ℕ

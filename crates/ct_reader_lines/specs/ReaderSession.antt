@@ -2,6 +2,7 @@
 use Rattle.std.specs.Prelude.{◌≡◌, ◌<◌, ◌⊎◌, ◌||◌, ℕ, Bool, true, false, List, [], ◌∷◌, ◌++◌, length, Option, Some, None, IfSome, if◌then◌else◌}
 use Rattle.std.specs.Io.BufRead.{first_piece, drop_through}
 use Rattle.std.specs.Io.KnownBytes.{Appends}
+use Rattle.ct_reader_lines.specs.declared.noted.Noted.{Noted}
 use Rattle.ct_reader_lines.specs.ReaderAsks.{ReaderAsk, AsksReader}
 use Rattle.ct_reader_lines.specs.ReaderAnswers.{IsReaderReply}
 use Rattle.ct_reader_lines.specs.ReaderWords.{ReaderReply, reader_reply_data, reader_line, is_bad_reply}
@@ -64,26 +65,15 @@ IsReaderRun source sink sink_next status =
 abbrev pub KeepsReaderLine : List ℕ → List ℕ → Type 0
 KeepsReaderLine kept line = (kept ≡ line) ⊎ ((67108864 < length kept) × (67108864 < length line))
 
--- a line was read, of which this is kept (true), where the bytes are known; or none is left (false)
-abbrev pub GetsReaderLine : Bool → Option (List ℕ) → Option (List ℕ) → List ℕ → Type 0
-GetsReaderLine true source source_next kept =
-    IfSome source (λ xs. (0 < length xs) × KeepsReaderLine kept (first_piece 10 xs) × (source_next ≡ Some (drop_through 10 xs)))
-GetsReaderLine false source source_next kept = IfSome source (λ xs. xs ≡ [])
-
 -- what a line gives, with its text, and whether a line was refused as none so far, before it and behind it
 abbrev pub GivesReadingText : Bool → List ℕ → List ℕ → Bool → Type 0
 GivesReadingText before line text after =
     (given : ReadingGiven) × GivesReading line given × (given.text ≡ text) × (after ≡ before || was_bad_reply given.gave)
 
--- a line was taken, and its reply written; or none is left (true), and nothing has changed
-abbrev pub OneRead : Bool → Bool → Option (List ℕ) → Option (List ℕ) → Option (List ℕ) → Option (List ℕ) → Bool → Type 0
-OneRead before after source source_next sink sink_next true = IfSome source (λ xs. xs ≡ []) × (after ≡ before) × Appends sink sink_next []
-OneRead before after source source_next sink sink_next false =
-    IfSome source (λ xs. (0 < length xs) × (source_next ≡ Some (drop_through 10 xs))
-    × ((text : List ℕ) × GivesReadingText before (first_piece 10 xs) text after × Appends sink sink_next text))
+-- the same as the loop over lines has it
+abbrev pub reader_gives : Bool → Noted → List ℕ → List ℕ → Noted → Type 0
+reader_gives first before line text after = GivesReadingText before.bad line text after.bad
 
--- all lines that are left were taken
-abbrev pub AllRead : Bool → Bool → Option (List ℕ) → Option (List ℕ) → Option (List ℕ) → Type 0
-AllRead before after source sink_first sink =
-    IfSome source (λ input. (given : List ReadingGiven) × (text : List ℕ) × GiveReadings given input text
-    × (after ≡ before || some_bad_reply given) × Appends sink_first sink text)
+-- before the first line none was refused
+abbrev pub no_reading : Noted
+no_reading = record { bad = false }

@@ -7,14 +7,17 @@
 //! - `request` reads what a line asks for.
 //! - `answering` answers a request, and `replies` writes what is answered.
 //! - `command` reads the words of a command line, and `fault` has what an error of a crate below says of a run.
-//! - `program` has `run`, `answer_words`, which does what the words of a command line ask for, and the text of a fault.
+//! - `program` has `run`, over the loop of `line_program`, and `answer_words`, which does what the words of a command line ask for; behind a
+//!   line `Noted` is kept.
 #![tactic(auto)]
 
 mod answering;
 mod command;
 mod fault;
+mod noted;
 mod program;
 mod replies;
 mod request;
 
-pub use program::{answer_words, fault_text, run};
+pub use noted::Noted;
+pub use program::{answer_words, run};

@@ -1,39 +1,42 @@
 //! The program over the words of a command line, a reader of lines and a writer of replies.
 
-ghost use Rattle.std.specs.Prelude.{◌≡◌, ◌≢◌, IfOk, OnOk, OnErr, map, string_bytes, codes};
+ghost use Rattle.std.specs.Prelude.{◌≡◌, ◌≢◌, [], IfOk, OnOk, OnErr, IfSome, Some, map, string_bytes, codes};
 ghost use Rattle.std.specs.Io.KnownBytes.{Appends};
 ghost use Rattle.json_lines.specs.Faults.{run_fault_line};
 ghost use Rattle.json_lines.specs.Sends.{SendsSome};
-ghost use Rattle.ct_reader_lines.specs.BrokenOff.{OneReadBroken, IsReaderRunBroken, IsReaderCallBroken};
+ghost use Rattle.line_program.specs.Replied.{nothing_behind};
+ghost use Rattle.ct_reader_lines.specs.ReaderBroken.{IsReaderRunBroken, IsReaderCallBroken};
 ghost use Rattle.ct_reader_lines.specs.ReaderOptions.{reader_asked_of_words, IsReaderAnswered};
-ghost use Rattle.ct_reader_lines.specs.ReaderSession.{GivesReadingText, GetsReaderLine, OneRead, AllRead, IsReaderRun, IsReaderStatus};
+ghost use Rattle.ct_reader_lines.specs.ReaderSession.{GivesReadingText, reader_gives, reader_status, IsReaderRun, IsReaderStatus};
 ghost use Rattle.json_lines.specs.declared.fault.RunFault.{RunFault as FaultOf};
 
 use crate::answering::answer;
 use crate::command::{Command, command_of};
+use crate::noted::Noted;
 use crate::replies::{is_bad, reply_line};
 use crate::request::{LONGEST, read_request};
-use json_lines::{READS, RunFault, next_line, send, tell};
+use json_lines::{RunFault, send, tell};
+use line_program::{Answerer, tell_fault};
 use std::alloc::{AllocError, Global};
 use std::io::{BufRead, BufReader, Read, Write};
 
-// How the program is called.
-const USAGE: &str = "usage: ctproof < lines > replies\n";
+// How the program is called, and what it does.
+const USAGE: &str = "usage: ctproof < lines > replies
+
+docs/TILES.md has the form of the lines.
+
+Exit status:
+  0  each line was a request
+  1  memory was refused, or reading or writing failed
+  2  the words are refused
+  4  a line was no request
+";
 
 // The version of the programs (include/wagtenib.pc.in).
 const VERSION: &str = "ctproof 0.1.0\n";
 
 // How many bytes of a line are kept, its end among them: two more than the longest has.
 const KEPT: usize = LONGEST + 2;
-
-// Reads the next line into `line`, without its end, in place of what stood there, and answers whether there was one. Of a line that
-// is longer than a line may be a beginning is kept that is so too.
-fn read_next<B: BufRead>(input: &mut B, line: &mut Vec<u8>) -> Result<bool, RunFault>
-    ensures { IfOk result (λ some. GetsReaderLine some (B.remaining input.old) (B.remaining input.new) line.new.items) }
-{
-    let some = next_line(input, KEPT, line)?;
-    Ok(some)
-}
 
 // Takes a line without its end: notes whether it is refused as none, and answers what is written of it. An empty line is passed over.
 fn take_line(alloc: Global, bad: &mut bool, line: &[u8]) -> Result<Vec<u8>, AllocError>
@@ -48,45 +51,27 @@ fn take_line(alloc: Global, bad: &mut bool, line: &[u8]) -> Result<Vec<u8>, Allo
     reply_line(alloc, &reply)
 }
 
-// Takes the next line, and answers whether none was left.
-fn take_next<B: BufRead, W: Write>(
-    alloc: Global,
-    bad: &mut bool,
-    input: &mut B,
-    line: &mut Vec<u8>,
-    writer: &mut W,
-) -> Result<bool, RunFault>
-    ensures read { IfOk result (λ done. OneRead bad.old bad.new
-        (B.remaining input.old) (B.remaining input.new) (W.contents writer.old) (W.contents writer.new) done) }
-    ensures broken { OnErr result (OneReadBroken (B.remaining input.old) (W.contents writer.old) (W.contents writer.new)) }
-{
-    let some = read_next(input, line)?;
-    if some {
-        let text = take_line(alloc, bad, line)?;
-        send(writer, &text)?;
-        return Ok(false);
+impl Answerer for Noted {
+    ghost kept = { 67108866 };
+
+    ghost gives = { reader_gives };
+
+    ghost ends = { nothing_behind };
+
+    fn take(&mut self, alloc: Global, _is_first: bool, line: &[u8]) -> Result<Vec<u8>, AllocError> {
+        take_line(alloc, &mut self.bad, line)
     }
-    Ok(true)
+
+    fn end(&self, alloc: Global) -> Result<Vec<u8>, AllocError> {
+        Ok(Vec::new(alloc))
+    }
 }
 
-// Takes all lines.
-fn take_lines<B: BufRead, W: Write>(
-    alloc: Global,
-    bad: &mut bool,
-    input: &mut B,
-    writer: &mut W,
-) -> Result<(), RunFault>
-    ensures read { OnOk result (AllRead bad.old bad.new (B.remaining input.old) (W.contents writer.old) (W.contents writer.new)) }
-    ensures broken { OnErr result (IsReaderRunBroken (B.remaining input.old) (W.contents writer.old) (W.contents writer.new)) }
+// The exit status: 4 where a line was refused as none, else 0.
+fn status_of(bad: bool) -> u8
+    ensures { result ≡ reader_status bad }
 {
-    let mut line = Vec::new(alloc);
-    for turn in 0..READS {
-        let done = take_next(alloc, bad, input, &mut line, writer)?;
-        if done {
-            return Ok(());
-        }
-    }
-    Err(RunFault::Read)
+    if bad { 4 } else { 0 }
 }
 
 /// Reads the lines of an input, and writes a reply to each, which is handed on before the next line is read. Nothing is kept between
@@ -95,20 +80,21 @@ fn take_lines<B: BufRead, W: Write>(
 /// # Errors
 ///
 /// `Memory`, where a growth is refused; `Read`, where the input can't be read, or has 2^50 lines; `Write`, where the output can't be
-/// written. The replies to the first lines are written then, whole and in their order, and at most a beginning of the reply to the next line.
-pub fn run<B: BufRead + Drop, W: Write>(
+/// written. The replies to the first lines are written then, whole and in their order; of the input these lines were read, and at most one
+/// line more: where it was read whole, at most a beginning of its reply is written, and else nothing.
+pub fn run<B: BufRead, W: Write>(
     alloc: Global,
-    input: B,
+    input: &mut B,
     writer: &mut W,
 ) -> Result<u8, RunFault>
-    ensures written { IfOk result (λ status. IsReaderRun (B.remaining input) (W.contents writer.old) (W.contents writer.new) status) }
+    ensures written { IfOk result (λ status. IsReaderRun (B.remaining input.old) (W.contents writer.old) (W.contents writer.new) status) }
+    ensures read { OnOk result (IfSome (B.remaining input.old) (λ _. B.remaining input.new ≡ Some [])) }
     ensures status { IfOk result (λ status. IsReaderStatus status) }
-    ensures broken { OnErr result (IsReaderRunBroken (B.remaining input) (W.contents writer.old) (W.contents writer.new)) }
+    ensures broken { OnErr result (IsReaderRunBroken (B.remaining input.old) (B.remaining input.new) (W.contents writer.old) (W.contents writer.new)) }
 {
-    let mut input = input;
-    let mut bad = false;
-    take_lines(alloc, &mut bad, &mut input, writer)?;
-    Ok(if bad { 4 } else { 0 })
+    let mut noted = Noted { bad: false };
+    line_program::run(alloc, KEPT, &mut noted, input, writer)?;
+    Ok(status_of(noted.bad))
 }
 
 // Does what the words ask for, and answers the exit status.
@@ -128,8 +114,8 @@ fn do_asked<R: Read + Drop, W: Write, E: Write>(
 {
     match command_of(words) {
         Command::Answer => {
-            let reader = BufReader::new(alloc, input)?;
-            run(alloc, reader, output)
+            let mut reader = BufReader::new(alloc, input)?;
+            run(alloc, &mut reader, output)
         }
         Command::Help => {
             send(output, USAGE.as_bytes())?;
@@ -143,17 +129,6 @@ fn do_asked<R: Read + Drop, W: Write, E: Write>(
             tell(faults, USAGE.as_bytes());
             Ok(2)
         }
-    }
-}
-
-/// What is written of a fault, with the end of the line.
-pub fn fault_text(fault: RunFault) -> &'static str
-    ensures { result.now ≡ run_fault_line (codes "ctproof") fault }
-{
-    match fault {
-        RunFault::Memory => "ctproof: memory\n",
-        RunFault::Read => "ctproof: read\n",
-        RunFault::Write => "ctproof: write\n",
     }
 }
 
@@ -181,7 +156,7 @@ pub fn answer_words<R: Read + Drop, W: Write, E: Write>(
     match do_asked(alloc, words, input, output, faults) {
         Ok(status) => status,
         Err(fault) => {
-            tell(faults, fault_text(fault).as_bytes());
+            tell_fault("ctproof", fault, faults);
             1
         }
     }

@@ -2,8 +2,9 @@
 //! does is `answer_words` of `ct_reader_lines`, over the process's words, standard input, output and error.
 #![tactic(auto)]
 
-use ct_reader_lines::{answer_words, fault_text};
-use json_lines::{RunFault, tell};
+use ct_reader_lines::answer_words;
+use json_lines::RunFault;
+use line_program::tell_fault;
 use std::io;
 use std::process::ExitCode;
 
@@ -22,7 +23,7 @@ fn main(rt: HostRuntime) -> ExitCode {
             answer_words(rt.alloc(), words, rt.reader(), &mut output, &mut faults)
         }
         Err(fault) => {
-            tell(&mut faults, fault_text(fault).as_bytes());
+            tell_fault("ctproof", fault, &mut faults);
             1
         }
     };

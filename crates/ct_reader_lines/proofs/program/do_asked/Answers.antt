@@ -1,7 +1,7 @@
 use Rattle.std.proofs.Common.{map}
 use Rattle.std.specs.Prelude.{string_bytes}
 use Rattle.ct_reader_lines.specs.ReaderOptions.{reader_asked_of_words}
-use Rattle.ct_reader_lines.proofs.BrokenOff.{at_err, not_begun, help_answered, version_answered}
+use Rattle.ct_reader_lines.proofs.ReaderRuns.{at_err, not_begun, help_answered, version_answered}
 use Rattle.ct_reader_lines.proofs.program.do_asked.Goals as goal
 
 pub returns-in_err-reader-in-Answer-clause-broken : goal.returns-in_err-reader-in-Answer-clause-broken
