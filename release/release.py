@@ -106,7 +106,10 @@ once more and compares their bytes with SHA256SUMS.
 
     def watching(self):
         """The scripts beside ctmonitor by their installed names, which Makefile's WATCHING has too."""
-        files = {"from-end": "from_end.py", "keep": "keep.py", "log-list": "log_list.py", "mail": "mail.sh", "show": "show.py", "signature": "signature.sh", "watch": "watch.sh"}
+        files = {
+            "cosign": "cosign.py", "cosignatures": "cosignatures.sh", "from-end": "from_end.py", "keep": "keep.py", "log-list": "log_list.py", "mail": "mail.sh",
+            "show": "show.py", "signature": "signature.sh", "watch": "watch.sh",
+        }  # fmt: skip
         return {f"ctmonitor-{name}": ROOT / "examples" / "monitor" / file for name, file in files.items()}
 
     def shared(self):

@@ -2,12 +2,14 @@
 # Looks at logs once, for cron or a timer: fetches each log's head and the entries that its state lacks, and has ctmonitor judge them.
 #
 #   LOG="https://log.example tiled+https://tiles.example .." watch.sh [--logs LIST] [--at-once N] [--folder DIR] [--pieces N]
-#       [--older-than HOURS] [--name NAME].. [--name-file FILE] [--tell COMMAND] [--keep MIRROR]
+#       [--older-than HOURS] [--name NAME].. [--name-file FILE] [--tell COMMAND] [--keep MIRROR] [--witnesses KEYS --quorum K] [--cosign WITNESS]
 #
 # A log is read by the calls of RFC 6962; with tiled+ before its address, by its checkpoint and data tiles (C2SP static-ct-api).
 # LIST is a log list in JSON (version 3), a file or an address: its usable, qualified and read-only logs are watched beside those of LOG. It is read
 # anew in each run, so new logs come in by themselves; where it can't be, that is said, and the last one's logs are watched. Of its logs each head's
 # signature is checked with openssl, where that is here; a head that isn't signed with the log's key is an alarm. N logs are looked at at once (4).
+# A line of the file KEYS is a witness's verifier key: a tiled log's head that fewer than K of them cosigned (C2SP tlog-cosignature) is an alarm.
+# WITNESS, its URL, a comma and its verifier key, is asked to cosign the head that was accepted, once all its entries are read (docs/WITNESS.md).
 # MIRROR gets of each tiled log what was accepted, in a folder of its own that can be served: data tiles, hash tiles, issuers and the checkpoint.
 # Each has a folder of its own below DIR (ct-watch): its state, the verdicts, the heads as they came, and alarm.* with what an alarm was told of.
 # It fetches until the log's head is judged, N pieces at most (5000). It prints a line for each log, and one for each entry that has a watched name:
@@ -18,10 +20,10 @@ set -u
 TILES=16
 # How long COMMAND may take, and after how long it is told that a log wasn't judged, in seconds.
 PATIENCE=60 DAY=86400
-folder=ct-watch pieces=5000 here=$PWD older='' tell='' name_file='' list='' at_once=4 mirror=''
+folder=ct-watch pieces=5000 here=$PWD older='' tell='' name_file='' list='' at_once=4 mirror='' witnesses='' quorum='' cosigner=''
 
 page() {
-  sed -n '2,15s/^# \{0,1\}//p' "$0"
+  sed -n '2,17s/^# \{0,1\}//p' "$0"
 }
 
 usage() {
@@ -34,7 +36,7 @@ left=$#
 while [ $left -gt 0 ]; do
   case $1 in
     -h | --help) page && exit 0 || exit 1 ;;
-    --folder | --pieces | --older-than | --tell | --name | --name-file | --logs | --at-once | --keep) [ $left -gt 1 ] || usage ;;
+    --folder | --pieces | --older-than | --tell | --name | --name-file | --logs | --at-once | --keep | --witnesses | --quorum | --cosign) [ $left -gt 1 ] || usage ;;
     *) set -- "$@" "$1" && shift && left=$((left - 1)) && continue ;;
   esac
   case $1 in
@@ -47,6 +49,9 @@ while [ $left -gt 0 ]; do
     --logs) list=$2 ;;
     --at-once) at_once=$2 ;;
     --keep) mirror=$2 ;;
+    --witnesses) witnesses=$2 ;;
+    --quorum) quorum=$2 ;;
+    --cosign) cosigner=$2 ;;
   esac
   shift 2
   left=$((left - 2))
@@ -82,15 +87,38 @@ for tool in "$judge" curl flock; do
 done
 "$judge" "$@" </dev/null >/dev/null || exit 2
 # The other scripts stand beside this one, by the names of the repository or as installed.
-lister=$own/log_list.py signer=$own/signature.sh keeper=$own/keep.py
+lister=$own/log_list.py signer=$own/signature.sh keeper=$own/keep.py counter=$own/cosignatures.sh asker=$own/cosign.py
 [ -f "$lister" ] || lister=$own/ctmonitor-log-list
 [ -f "$signer" ] || signer=$own/ctmonitor-signature
 [ -f "$keeper" ] || keeper=$own/ctmonitor-keep
+[ -f "$counter" ] || counter=$own/ctmonitor-cosignatures
+[ -f "$asker" ] || asker=$own/ctmonitor-cosign
 if [ -n "$list" ]; then
   for tool in "$lister" "$signer"; do
     command -v "$tool" >/dev/null || { echo "watch.sh: $tool isn't there" >&2; exit 2; }
   done
   command -v openssl >/dev/null || { echo "watch.sh: openssl isn't on the PATH: no head's signature is checked" >&2; signer=; }
+fi
+
+# Cosignatures stand under a tiled log's checkpoint alone. Without a log the last of these ends with 1, and at wrong witnesses with 2.
+if [ -n "$witnesses$quorum" ]; then
+  set -f
+  for log in ${LOG:-} $list; do
+    case $log in tiled+*) ;; *) echo "watch.sh: $log isn't a tiled log's address: --witnesses is for those of LOG" >&2 && exit 2 ;; esac
+  done
+  set +f
+  for tool in "$counter" openssl; do
+    command -v "$tool" >/dev/null || { echo "watch.sh: $tool isn't there" >&2; exit 2; }
+  done
+  "$counter" "$witnesses" "$quorum" </dev/null >/dev/null
+  [ $? = 1 ] || exit 2
+  witnesses=$(cd "$(dirname "$witnesses")" && pwd)/${witnesses##*/}
+fi
+if [ -n "$cosigner" ]; then
+  for tool in "$asker" "$counter" openssl; do
+    command -v "$tool" >/dev/null || { echo "watch.sh: $tool isn't there" >&2; exit 2; }
+  done
+  "$asker" --check "$cosigner" || exit 2
 fi
 
 # Says it of the log; but nothing of a piece of several tiles (`count`), which is read again one at a time.
@@ -174,6 +202,17 @@ see_signature() {
   [ -z "$signed" ] && is_head_of_somebody || return 0
   echo "$key" >key && echo '{"error":"bad-signature"}' >>verdicts
   alarm '{"error":"bad-signature"}' key
+  return 3
+}
+
+# Tells the alarm of a checkpoint that fewer than the quorum cosigned, which isn't shown to ctmonitor then; nor is what is none.
+see_cosignatures() {
+  [ -z "$witnesses" ] || said=$("$counter" "$witnesses" "$quorum" <got/1 2>fault) && return 0
+  is_head_of_somebody || { say "answers with no checkpoint"; return 4; }
+  few=$(printf '%s\n' "$said" | sed -n '1s/.*: cosigned by \([0-9]*\) of .*/\1/p')
+  few="{\"cosigned\":${few:-0},\"error\":\"few-cosignatures\",\"quorum\":$quorum}"
+  echo "$few" >>verdicts
+  alarm "$few" "$witnesses"
   return 3
 }
 
@@ -380,6 +419,18 @@ keep_tiles() {
   esac
 }
 
+# Has cosign.py ask the witness for the head that is accepted, and keep what it answers.
+ask_witness() {
+  [ -n "$cosigner" ] && [ $kind = tiles ] || return 0
+  said=$("$asker" "$address" . "$cosigner" 2>fault)
+  case $? in
+    0) say "$said" ;;
+    3) echo '{"error":"witness"}' >>verdicts && alarm '{"error":"witness"}' state && say "$said" && return 3 ;;
+    5) say "isn't cosigned: $said" && return 5 ;;
+    *) say "isn't cosigned: $said$(tail -n 1 fault)" && return 1 ;;
+  esac
+}
+
 # How many leaves the state has read.
 leaves() {
   sed -n 's/.*"all":{"size":\([0-9]*\),.*/\1/p' state
@@ -397,7 +448,7 @@ read_head() {
     calls) get get-sth && find_signature answer || return ;;
     tiles) get_checkpoint || return ;;
   esac
-  see_signature && judge "$@"
+  see_signature && see_cosignatures && judge "$@"
 }
 
 # Fetches and judges the next piece. Where that brings no leaf, says so, and answers 5.
@@ -473,10 +524,11 @@ watch() {
   done
   keep_tiles
   kept=$?
+  ask_witness
+  asked=$?
   say_how_far
-  status=$?
-  [ $kept = 0 ] || return $kept
-  return $status
+  statuses=" $kept $asked $?"
+  gravest
 }
 
 # The same, and tells what was found. It answers the graver of the two statuses.

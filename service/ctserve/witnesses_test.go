@@ -5,6 +5,7 @@ import (
 	"crypto/ed25519"
 	"crypto/rand"
 	"errors"
+	"fmt"
 	"io"
 	"net/http/httptest"
 	"os"
@@ -22,7 +23,7 @@ import (
 )
 
 // aWitness is a witness of the place's log, over HTTP: its URL, a comma, and its verifier key.
-func (p *place) aWitness(name string) (one string, key note.Verifier) {
+func (p *place) aWitness(name string, with ...func(log *witness.Log)) (one string, key note.Verifier) {
 	p.t.Helper()
 	must := func(err error) {
 		p.t.Helper()
@@ -46,6 +47,9 @@ func (p *place) aWitness(name string) (one string, key note.Verifier) {
 	must(err)
 	log := witness.Log{Origin: "log.example/test", Keys: []note.Verifier{witness.OfRFC6962("log.example/test", of.Key())}, State: state}
 	must(log.Create(context.Background()))
+	for _, more := range with {
+		more(&log)
+	}
 	s.SetLogs([]witness.Log{log})
 	over := httptest.NewServer(s)
 	p.t.Cleanup(over.Close)
@@ -105,6 +109,59 @@ func TestWitnessedLog(t *testing.T) {
 	if status := run(words, &told, openNode); status != statusSetBack || !strings.Contains(told.String(), "has seen 2 entries, and the head has 1") {
 		t.Errorf("all of it put back: status %d: %s", status, &told)
 	}
+}
+
+// TestWatchedWitness: ctmonitor-watch finds the log's head cosigned by a quorum, reads its entries, and has a third witness cosign it that cosigns
+// nothing but what this monitor accepted.
+func TestWatchedWitness(t *testing.T) {
+	t.Parallel()
+	for _, tool := range []string{"curl", "flock", "openssl"} {
+		if _, err := exec.LookPath(tool); err != nil {
+			t.Skipf("for want of %s", tool)
+		}
+	}
+	at := newPlace(t)
+	first, _ := at.aWitness("v.example")
+	second, _ := at.aWitness("w.example")
+	var state string
+	third, thirdKey := at.aWitness("x.example", func(log *witness.Log) {
+		log.Accepted = func() (uint64, [32]byte, error) { return witness.AcceptedBy(state) }
+	})
+	words := append(at.realWords("--signing-key", at.path("log.pem")), "--guard", at.guard, "--witnesses", first+" "+second, "--create")
+	p := started(t, "", words...)
+	folder := at.path("watched")
+	log := filepath.Join(folder, strings.ReplaceAll(p.clients, ":", "_"))
+	state = filepath.Join(log, "state")
+	_, one, _ := strings.Cut(first, ",")
+	_, two, _ := strings.Cut(second, ",")
+	_, three, _ := strings.Cut(third, ",")
+	watches := func(keys string, least string, says string, status int) {
+		t.Helper()
+		at.write("witnesses", []byte(keys))
+		// (by PWD a shell would look for the script where the packages' folder is linked from)
+		watch := exec.Command("env", "-u", "PWD", "../../examples/monitor/watch.sh", "--folder", folder, "--witnesses", at.path("witnesses"), "--quorum", least, "--cosign", third)
+		watch.Env = append(os.Environ(), "LOG=tiled+http://"+p.clients)
+		said, _ := watch.CombinedOutput()
+		if came := watch.ProcessState.ExitCode(); came != status || !strings.Contains(string(said), says) {
+			t.Fatalf("status %d, and not %d: %s", came, status, said)
+		}
+	}
+	for entries := 1; entries < 4; entries++ {
+		if status, answer := post(p.clients, at.submission()); status != 200 {
+			t.Fatalf("%d %s", status, answer)
+		}
+		watches(one+"\n"+two+"\n", "2", fmt.Sprintf("%d leaves are cosigned by x.example", entries), 0)
+		kept, err := os.ReadFile(filepath.Join(log, "cosigned"))
+		if err != nil {
+			t.Fatal(err)
+		}
+		if opened, err := note.Open(kept, note.VerifierList(thirdKey)); err != nil || len(opened.Sigs) != 1 || len(opened.UnverifiedSigs) != 3 {
+			t.Errorf("%q: %v", kept, err)
+		}
+	}
+	watches(one+"\n"+three+"\n", "2", `"cosigned":1,"error":"few-cosignatures","quorum":2`, 3)
+	p.signal(syscall.SIGTERM)
+	p.ends()
 }
 
 // TestWitnessesSettings: witnesses and quorums that can't be are refused at the start, and what isn't said follows.

@@ -107,6 +107,9 @@ func (w *running) close() {
 // log opens a log's state. One that was opened before stays as it is.
 func (w *running) log(ctx context.Context, s *settings, of logSetting) (witness.Log, error) {
 	log := witness.Log{Origin: of.origin, Keys: of.keys, State: w.registers[of.origin]}
+	if path := s.accepted[of.origin]; path != "" {
+		log.Accepted = func() (uint64, [32]byte, error) { return witness.AcceptedBy(path) }
+	}
 	if log.State != nil {
 		return log, nil
 	}

@@ -222,6 +222,41 @@ func TestServes(t *testing.T) {
 	}
 }
 
+// TestAcceptedBy: of a log with a monitor's state nothing is cosigned but what that accepted; the others are as they were.
+func TestAcceptedBy(t *testing.T) {
+	p := newPlace(t)
+	a, ofA := p.log("a.example")
+	b, ofB := p.log("b.example")
+	p.settings(a, b, "accepted-by a.example   "+p.path("monitor"))
+	if status := run(p.words("--create", "a.example", "--create", "b.example"), io.Discard, io.Discard, nil); status != 0 {
+		t.Fatalf("--create: status %d", status)
+	}
+	// (states that accepted a head of the log's one root, whose check is their own)
+	root := sha256.Sum256([]byte("a.example"))
+	accept := func(size int) {
+		line := func(check string) string {
+			return fmt.Sprintf(`{"accepted":{"sha256_root_hash":"%s","timestamp":7,"tree_size":%d},"all":{},"check":%s,"state":1}`, base64.StdEncoding.EncodeToString(root[:]), size, check)
+		}
+		sum := sha256.Sum256([]byte(line("null")))
+		p.write("monitor", line(`"`+base64.StdEncoding.EncodeToString(sum[:])+`"`)+"\n")
+	}
+	accept(2)
+	one := p.started(p.words()...)
+	one.wants(503, ofA(3))
+	one.wants(200, ofB(3))
+	accept(3)
+	one.wants(503, ofA(4))
+	one.wants(200, ofA(3))
+	p.settings(a, b)
+	if line := one.reloaded(); line["level"] != "info" {
+		t.Errorf("%v", line)
+	}
+	one.wants(409, ofA(4))
+	if status := one.ends(); status != 0 {
+		t.Errorf("the end: status %d", status)
+	}
+}
+
 // TestVerifierKey: it is what logs read, and --version says the version.
 func TestVerifierKey(t *testing.T) {
 	p := newPlace(t)
@@ -267,6 +302,9 @@ func TestWords(t *testing.T) {
 		{"log a.example " + p.path("no-key"), nil, 2, "no such key"},
 		{a + "\n" + a, nil, 2, "stands twice"},
 		{a + " " + key, nil, 2, "two keys of one hash"},
+		{a + "\naccepted-by a.example", nil, 2, "a file behind it"},
+		{a + "\naccepted-by b.example /state", nil, 2, "there is no such log"},
+		{a + "\naccepted-by a.example /state\naccepted-by a.example /other", nil, 2, "stands twice"},
 		{"", []string{"--config", p.path("missing")}, 2, "no such file"},
 		{"", []string{"--program", "/nowhere/ctwitness"}, 1, "no such file"},
 		{"", []string{"--key", p.path("none")}, 1, "no such file"},

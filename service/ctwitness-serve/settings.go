@@ -18,7 +18,7 @@ import (
 )
 
 // fileRules are those of the file of settings.
-var fileRules = settingsfile.Rules{Only: []string{"config", "create", "verifier-key"}, Several: []string{"log"}}
+var fileRules = settingsfile.Rules{Only: []string{"config", "create", "verifier-key"}, Several: []string{"log", "accepted-by"}}
 
 // settings are what the command line and the file of settings say.
 type settings struct {
@@ -28,11 +28,12 @@ type settings struct {
 	program                       []string
 	within, openWithin, endWithin time.Duration
 	logs                          []logSetting
+	accepted                      map[string]string
 	create                        []string
 	verifierKey                   bool
 }
 
-// logSetting is a log: its origin, and the keys that it signs its notes by.
+// logSetting is a log: its origin, and the keys that it signs its notes by. Of those that a monitor has to have accepted, `accepted` has its state's file.
 type logSetting struct {
 	origin string
 	keys   []note.Verifier
@@ -46,7 +47,7 @@ const mostKey = 64 << 10
 
 // parse reads the command line, and the file that it names. What stands on the command line counts, and its logs are added.
 func parse(words []string, help io.Writer) (*settings, error) {
-	s := &settings{words: words, program: []string{"ctwitness"}}
+	s := &settings{words: words, program: []string{"ctwitness"}, accepted: map[string]string{}}
 	flags := flag.NewFlagSet("ctwitness-serve", flag.ContinueOnError)
 	flags.SetOutput(help)
 	flags.Usage = func() {
@@ -66,6 +67,7 @@ func parse(words []string, help io.Writer) (*settings, error) {
 		return nil
 	})
 	flags.Func("log", "a log's `origin`, and each of its keys behind a space: a file in PEM (P-256 or Ed25519), or a verifier key of Ed25519; may stand several times", s.addLog)
+	flags.Func("accepted-by", "a log's `origin`, and behind a space the file in which a monitor keeps its state of it (ctmonitor-watch: FOLDER/LOG/state): no head of it is cosigned but the one that the monitor accepted last, all of whose entries it read; may stand once a log", s.addAccepted)
 	flags.DurationVar(&s.within, "program-within", 10*time.Second, "how long a decision may take, until its program is killed")
 	flags.DurationVar(&s.openWithin, "open-within", 30*time.Second, "how long the states may take to open")
 	flags.DurationVar(&s.endWithin, "end-within", 30*time.Second, "how long an end by SIGTERM may take")
@@ -104,11 +106,29 @@ func (s *settings) settle() error {
 	if s.state == "" && !s.verifierKey {
 		return errors.New("--state is needed")
 	}
+	for origin := range s.accepted {
+		if _, found := s.log(origin); !found {
+			return fmt.Errorf("accepted-by %s: there is no such log", origin)
+		}
+	}
 	for _, time := range []time.Duration{s.within, s.openWithin, s.endWithin} {
 		if time <= 0 {
 			return errors.New("a time is above 0")
 		}
 	}
+	return nil
+}
+
+// addAccepted reads a log's origin and the file of a monitor's state.
+func (s *settings) addAccepted(text string) error {
+	origin, path, _ := strings.Cut(strings.TrimSpace(text), " ")
+	if path = strings.TrimSpace(path); path == "" {
+		return errors.New("accepted-by has an origin, and a file behind it")
+	}
+	if s.accepted[origin] != "" {
+		return fmt.Errorf("%s stands twice", origin)
+	}
+	s.accepted[origin] = path
 	return nil
 }
 

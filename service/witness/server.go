@@ -95,11 +95,13 @@ func strictly(text []byte, into any) error {
 	return nil
 }
 
-// Log is one that is witnessed: by which keys it signs its notes, and where its state is kept.
+// Log is one that is witnessed: by which keys it signs its notes, and where its state is kept. Where Accepted isn't nil, no tree is cosigned but the
+// one that it gives then: the one that a monitor accepted last.
 type Log struct {
-	Origin string
-	Keys   []note.Verifier
-	State  stores.Register
+	Origin   string
+	Keys     []note.Verifier
+	State    stores.Register
+	Accepted func() (size uint64, root [32]byte, err error)
 }
 
 // Create makes the state of a log that this witness never saw; stores.ErrExists where there is one.
@@ -276,6 +278,9 @@ func (s *Server) decide(ctx context.Context, log *Log, text string, r Request) (
 	s.phase("decided")
 	if said.Refused != "" {
 		return s.refusal(log.Origin, said), false
+	}
+	if came, isUnread := s.unread(log, said.tree); isUnread {
+		return came, false
 	}
 	next := state{tree: said.tree, Origin: log.Origin, Time: now}
 	switch err := swap(ctx, log.State, text, next); {

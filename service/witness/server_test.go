@@ -17,8 +17,6 @@ import (
 	"os/exec"
 	"path/filepath"
 	"strings"
-	"sync"
-	"syscall"
 	"testing"
 	"time"
 
@@ -169,10 +167,15 @@ func stateIn(t testing.TB, folder string) stores.Register {
 
 // witnessOf is a witness of one log, whose state is in a folder.
 func witnessOf(t testing.TB, folder string, key ed25519.PrivateKey, program []string, by signing) *Server {
+	return witnessOver(t, stateIn(t, folder), key, program, by)
+}
+
+// witnessOver is one whose state is in this register.
+func witnessOver(t testing.TB, state stores.Register, key ed25519.PrivateKey, program []string, by signing) *Server {
 	s, err := New(Options{Name: "w.example", Key: key, Program: program})
 	must(t, err)
 	t.Cleanup(func() { s.Close() })
-	log := Log{Origin: origin, Keys: []note.Verifier{by.key}, State: stateIn(t, folder)}
+	log := Log{Origin: origin, Keys: []note.Verifier{by.key}, State: state}
 	if err := log.Create(limited(t)); err != nil && !errors.Is(err, stores.ErrExists) {
 		t.Fatal(err)
 	}
@@ -372,41 +375,6 @@ func TestOpenssl(t *testing.T) {
 	}
 }
 
-// TestRace: of two heads that fork, asked at once of two processes' worth of witnesses over one register, one is cosigned and the other never.
-func TestRace(t *testing.T) {
-	by, key := headKey(t, origin), newKey(t)
-	one, other := grown(t, "a", "b", "c", "d", "e"), grown(t, "a", "b", "c", "x", "y")
-	for round := 0; round < 10; round++ {
-		folder := t.TempDir()
-		witnesses := []*Server{witnessOf(t, folder, key, decider(), by), witnessOf(t, folder, key, decider(), by)}
-		bodies := [][]byte{}
-		for _, of := range []*leaves{one, other} {
-			bodies = append(bodies, request(0, nil, by.sign(checkpoint(origin, 5, of.root(t, 5)))))
-		}
-		var all sync.WaitGroup
-		var mu sync.Mutex
-		cosigned := [2]int{}
-		for i := 0; i < 16; i++ {
-			all.Add(1)
-			go func(i int) {
-				defer all.Done()
-				w := posted(t, witnesses[i/2%2], bodies[i%2])
-				mu.Lock()
-				defer mu.Unlock()
-				if w.Code == 200 {
-					cosigned[i%2]++
-				} else if w.Code != 409 && w.Body.String() != "busy\n" {
-					t.Errorf("%d %s", w.Code, w.Body)
-				}
-			}(i)
-		}
-		all.Wait()
-		if (cosigned[0] > 0) == (cosigned[1] > 0) {
-			t.Errorf("round %d: the one is cosigned %d times, the other %d", round, cosigned[0], cosigned[1])
-		}
-	}
-}
-
 // TestStaleReader: who decided by a state that has moved meanwhile signs nothing, also where it decided for the same tree once more.
 func TestStaleReader(t *testing.T) {
 	by, key, folder := headKey(t, origin), newKey(t), t.TempDir()
@@ -425,58 +393,6 @@ func TestStaleReader(t *testing.T) {
 	if w := posted(t, slow, request(3, nil, signed(3))); w.Code != 409 || w.Body.String() != "5\n" {
 		t.Errorf("an older head is cosigned late: %d %s", w.Code, w.Body)
 	}
-}
-
-// killedAt is where a process of the tests ends itself, as TestKills has it.
-const killedAt = "WITNESS_TEST_KILLED_AT"
-
-// TestKills has a witness killed (-9) between its decision, the swap and the signature. Behind that a fork of what it kept is never cosigned, and
-// what it hadn't kept binds it to nothing.
-func TestKills(t *testing.T) {
-	by, one, other := plainKey(t, origin), grown(t, "a", "b", "c"), grown(t, "x", "y", "z")
-	body := func(of *leaves) []byte { return request(0, nil, by.sign(checkpoint(origin, 3, of.root(t, 3)))) }
-	if at := os.Getenv(killedAt); at != "" {
-		beKilled(t, at)
-		return
-	}
-	for phase, fork := range map[string]int{"decided": 200, "kept": 409} {
-		folder := t.TempDir()
-		s := witnessOf(t, folder, newKey(t), decider(), by)
-		must(t, os.WriteFile(filepath.Join(folder, "body"), body(one), 0o600))
-		must(t, os.WriteFile(filepath.Join(folder, "key"), []byte(by.text), 0o600))
-		child := exec.Command(os.Args[0], "-test.run", "^TestKills$")
-		child.Env = append(os.Environ(), killedAt+"="+phase, "WITNESS_TEST_FOLDER="+folder)
-		out, err := child.CombinedOutput()
-		var ended *exec.ExitError
-		if !errors.As(err, &ended) || ended.Sys().(syscall.WaitStatus).Signal() != syscall.SIGKILL || strings.Contains(string(out), "— ") {
-			t.Fatalf("%s: %v %s", phase, err, out)
-		}
-		if w := posted(t, s, body(other)); w.Code != fork {
-			t.Errorf("%s: a fork behind it: %d %s", phase, w.Code, w.Body)
-		}
-		if w := posted(t, s, request(3, nil, by.sign(checkpoint(origin, 3, one.root(t, 3))))); fork == 409 && w.Code != 200 {
-			t.Errorf("%s: the head itself behind it: %d %s", phase, w.Code, w.Body)
-		}
-	}
-}
-
-// beKilled answers the folder's body, and kills this process at a phase.
-func beKilled(t *testing.T, at string) {
-	folder := os.Getenv("WITNESS_TEST_FOLDER")
-	text, err := os.ReadFile(filepath.Join(folder, "key"))
-	must(t, err)
-	key, err := LogKey(origin, string(text))
-	must(t, err)
-	body, err := os.ReadFile(filepath.Join(folder, "body"))
-	must(t, err)
-	s := witnessOf(t, folder, newKey(t), decider(), signing{key: key})
-	s.phase = func(now string) {
-		if now == at {
-			_ = syscall.Kill(os.Getpid(), syscall.SIGKILL)
-			select {}
-		}
-	}
-	fmt.Println(posted(t, s, body).Body)
 }
 
 // saying is a program that replies one thing to each line.
@@ -662,7 +578,10 @@ func TestSeveralLogs(t *testing.T) {
 	s, err := New(Options{Name: "w.example", Key: newKey(t), Program: decider()})
 	must(t, err)
 	defer s.Close()
-	logs := []Log{{"a.example", []note.Verifier{first.key}, stateIn(t, t.TempDir())}, {"b.example", []note.Verifier{second.key, headKey(t, "b.example").key}, stateIn(t, t.TempDir())}}
+	logs := []Log{
+		{Origin: "a.example", Keys: []note.Verifier{first.key}, State: stateIn(t, t.TempDir())},
+		{Origin: "b.example", Keys: []note.Verifier{second.key, headKey(t, "b.example").key}, State: stateIn(t, t.TempDir())},
+	}
 	for _, log := range logs {
 		must(t, log.Create(limited(t)))
 	}

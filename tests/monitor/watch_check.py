@@ -27,6 +27,10 @@ import answers
 import grown
 
 HERE = pathlib.Path(__file__).resolve().parent
+sys.path.append(str(HERE.parent / "witness"))
+
+import model  # noqa: E402
+
 MONITOR = HERE.parent.parent / "examples" / "monitor"
 BUILT = HERE.parent.parent / "crates" / "ctmonitor" / "out" / "ctmonitor"
 # The stored output of print_steps.
@@ -171,7 +175,7 @@ class Watch:
         """A PATH that has what watch.sh calls first, but for this."""
         folder = self.bin.parent / f"without-{tool}"
         folder.mkdir()
-        for name in {"curl", "flock", "grep", "mkdir", "sed", "tr"} - {tool}:
+        for name in {"curl", "dirname", "flock", "grep", "mkdir", "sed", "tr"} - {tool}:
             (folder / name).symlink_to(shutil.which(name))
         return folder
 
@@ -365,6 +369,12 @@ def try_tiles_alarms(watch):
 
 # What a tiled log publishes in place of a checkpoint, and in place of its second tile, with the status that is due.
 BARE = answers.checkpoint(answers.LONG[:8], 1)["checkpoint"]
+
+
+def bare_of(size):
+    return answers.checkpoint(MANY[:size], 1)["checkpoint"]
+
+
 SIGNED = note(answers.LONG[:8], answers.MOMENT)
 NO_CHECKPOINTS = [
     ("a page", 4, PAGE),
@@ -564,6 +574,225 @@ class SignedTiles(Tiles):
     def text_of(self, path, query):
         leaves = self.leaves[: self.size]
         return note(leaves, self.now, signature(self.key, leaves, self.now)) if path == "checkpoint" else super().text_of(path, query)
+
+
+class Cosigner:
+    """A witness of openssl's, over HTTP: its key is in a file, and its decisions are those of tests/witness/model.py. `instead` is answered in their place:
+    a status and a text."""
+
+    def __init__(self, folder, name):
+        self.name, self.file, self.last, self.instead, self.asked = name, folder / name, (0, answers.merkle.root([])), None, []
+        subprocess.run(["openssl", "genpkey", "-algorithm", "ed25519", "-out", self.file], check=True)
+        made = subprocess.run(["openssl", "pkey", "-in", self.file, "-pubout", "-outform", "DER"], capture_output=True, check=True).stdout
+        named = b"\4" + made[-32:]
+        self.id = answers.merkle.sha256(name.encode() + b"\n" + named)[:4]
+        self.key = f"{name}+{self.id.hex()}+{answers.text(named)}"
+        witness = self
+
+        class Handler(http.server.BaseHTTPRequestHandler):
+            def do_POST(self):
+                status, text = witness.answer(self.path, self.rfile.read(int(self.headers["Content-Length"])).decode())
+                self.send_response(status)
+                self.send_header("Content-Length", str(len(text.encode())))
+                self.end_headers()
+                self.wfile.write(text.encode())
+
+            def log_message(self, *words):
+                """Writes nothing."""
+
+        self.server = http.server.ThreadingHTTPServer(("127.0.0.1", 0), Handler)
+        self.server.daemon_threads = True
+        self.word = f"http://127.0.0.1:{self.server.server_port},{self.key}"
+        threading.Thread(target=self.server.serve_forever, daemon=True).start()
+
+    def line(self, text, moment, of=None):
+        """Its cosignature of a text, or of another one in its place (C2SP tlog-cosignature)."""
+        message = self.file.with_suffix(".message")
+        message.write_bytes(f"cosignature/v1\ntime {moment}\n{of or text}".encode())
+        words = ["openssl", "pkeyutl", "-sign", "-inkey", self.file, "-rawin", "-in", message]
+        made = subprocess.run(words, capture_output=True, check=True).stdout
+        return note_line(self.name, self.id + struct.pack(">Q", moment) + made)
+
+    def answer(self, path, body):
+        head, _, signed = body.partition("\n\n")
+        old, *proof = head.split("\n")
+        text = signed.partition("\n\n")[0] + "\n"
+        self.asked.append(int(old.removeprefix("old ")))
+        if path != "/add-checkpoint" or self.instead:
+            return self.instead or (404, "")
+        line = {"checkpoint": text, "last_root": answers.text(self.last[1]), "last_size": self.last[0], "old": self.asked[-1], "proof": proof, "time": 1700000000}
+        reply = model.reply(json.dumps(line).encode())
+        if "refused" in reply:
+            return {"not-last": 409, "fork": 409, "old-above": 400}.get(reply["refused"], 422), f"{reply.get('size', reply['refused'])}\n"
+        self.last = (reply["last_size"], answers.base64.b64decode(reply["last_root"]))
+        return 200, self.line(text, 1700000000)
+
+
+class Cosigned(Tiles):
+    """A tiled log under whose checkpoints stand cosignatures: `lines` makes them of the text."""
+
+    def __init__(self, lines):
+        super().__init__()
+        self.lines = lines
+
+    def text_of(self, path, query):
+        text = super().text_of(path, query)
+        return text + self.lines(text.partition("\n\n")[0] + "\n") if path == "checkpoint" else text
+
+
+def try_cosignatures(folder):
+    """cosignatures.sh counts the witnesses that openssl finds to have cosigned, each once, and takes no keys that aren't ones."""
+    v, w, x = (Cosigner(folder, f"{name}.example") for name in "vwx")
+    keys = folder / "witnesses"
+    text = BARE
+    bare = text + "\n" + note_line(ORIGIN, b"key1" + bytes(64))
+    by_v, by_w = v.line(text, 1234567890), w.line(text, 7)
+    late = Cosigner.line(v, text, (1 << 63) - 1)
+    other = text.replace("\n8\n", "\n9\n")
+
+    def bent(line, place):
+        data = bytearray(answers.base64.b64decode(line.split()[2]))
+        data[place] ^= 1
+        return note_line(line.split()[1], bytes(data))
+
+    said = f"{ORIGIN}, 8 leaves: cosigned by "
+    for what, least, given, status, due in [
+        ("two of three", 2, bare + by_v + by_w, 0, said + "2 of 3: v.example w.example\n"),
+        ("two checkpoints, as the file heads has them", 1, f"{bare}{by_v}\n{bare}{by_w}\n", 0, f"{said}1 of 3: v.example\n{said}1 of 3: w.example\n"),
+        ("the second one has too few", 2, f"{bare}{by_v}{by_w}\n{bare}{by_w}\n", 1, f"{said}2 of 3: v.example w.example\n{said}1 of 3, and 2 are due: w.example\n"),
+        ("the latest moment", 1, bare + late, 0, said + "1 of 3: v.example\n"),
+        ("one twice, at two moments", 2, bare + by_v + v.line(text, 8), 1, said + "1 of 3, and 2 are due: v.example\n"),
+        ("none", 1, bare, 1, said + "0 of 3, and 1 are due:\n"),
+        ("of another text", 1, bare + v.line(text, 7, other), 1, said + "0 of 3, and 1 are due:\n"),
+        ("of the text without its moment", 1, bare + bent(by_v, 11), 1, said + "0 of 3, and 1 are due:\n"),
+        ("another id", 1, bare + bent(by_v, 0), 1, said + "0 of 3, and 1 are due:\n"),
+        ("another signature", 1, bare + bent(by_v, 75), 1, said + "0 of 3, and 1 are due:\n"),
+        ("in another witness's name", 1, bare + by_v.replace("v.example", "w.example"), 1, said + "0 of 3, and 1 are due:\n"),
+        ("in nobody's name", 1, bare + by_v.replace("v.example", "y.example"), 1, said + "0 of 3, and 1 are due:\n"),
+        ("with a hyphen before it", 1, bare + by_v.replace("\u2014", "-"), 1, said + "0 of 3, and 1 are due:\n"),
+        ("a byte too many", 1, bare + note_line("v.example", answers.base64.b64decode(by_v.split()[2]) + b"x"), 1, said + "0 of 3, and 1 are due:\n"),
+        ("behind a hundred others", 1, bare + note_line("y.example", bytes(76)) * 99 + by_v, 1, said + "0 of 3, and 1 are due:\n"),
+        ("an extension line below the signatures of the text", 1, text + "more\n\n" + by_v, 1, said + "0 of 3, and 1 are due:\n"),
+        ("a cosigned extension line", 1, text + "more\n\n" + v.line(text + "more\n", 7), 0, said + "1 of 3: v.example\n"),
+        ("no line's end", 1, (bare + by_v)[:-1], 0, said + "1 of 3: v.example\n"),
+        ("a byte of 0", 1, (bare + by_v).replace("\n8\n", "\n8\0\n"), 1, "no checkpoint\n"),
+        ("a page", 1, "<html>\n", 1, "no checkpoint, no leaves: cosigned by 0 of 3, and 1 are due:\n"),
+        ("nothing", 1, "", 1, "no checkpoint\n"),
+    ]:
+        keys.write_text(f"# three\n\n{v.key}\n{w.key}\n{x.key}")
+        ran = subprocess.run([MONITOR / "cosignatures.sh", keys, str(least)], input=given, capture_output=True, text=True)
+        if ran.returncode != status or ran.stdout != due:
+            fail(f"cosignatures.sh on {what}: status {ran.returncode} where {status} is due: {ran.stdout}{ran.stderr}")
+    for what, wrong, least in [
+        ("no witness", "# none\n", 1),
+        ("more than there are", v.key, 2),
+        ("one twice", f"{v.key}\n{v.key}", 1),
+        ("two of one name", f"{v.key}\n{Cosigner(folder, 'v.example').key}", 1),
+        ("another id", v.key.replace(v.key[10], "0" if v.key[10] != "0" else "1", 1), 1),
+        ("a log's key", f"log.example+{'0' * 8}+{answers.text(bytes([1]) + bytes(32))}", 1),
+        ("a short key", v.key[:-4], 1),
+        ("a page", "<html>", 1),
+        ("none wanted", v.key, 0),
+        ("no number", v.key, "many"),
+    ]:
+        keys.write_text(wrong)
+        ran = subprocess.run([MONITOR / "cosignatures.sh", keys, str(least)], input=bare + by_v, capture_output=True, text=True)
+        if ran.returncode != 2 or ran.stdout:
+            fail(f"cosignatures.sh with {what}: status {ran.returncode} where 2 is due: {ran.stdout}{ran.stderr}")
+
+
+def try_quorum(watch, folder):
+    """A tiled log's head that fewer than the quorum cosigned is an alarm, and isn't shown to ctmonitor; the words are looked at first."""
+    v, w, x = (Cosigner(folder, f"{name}.quorum") for name in "vwx")
+    keys = folder / "quorum"
+    keys.write_text(f"{v.key}\n{w.key}\n{x.key}\n")
+    words = ("--witnesses", keys, "--quorum", "2")
+    log = Cosigned(lambda text: v.line(text, 7) + x.line(text, 8))
+    watch.ends("a quorum", 0, log.url, *words, says="accepted 8 leaves")
+    log.size, log.now, log.lines = 20, log.now + 1, lambda text: v.line(text, 7) + v.line(text, 8)
+    command = Command(watch.folder)
+    watch.leaves_unchanged("too few", 3, log, *words, "--tell", command.line, says='{"cosigned":1,"error":"few-cosignatures","quorum":2}')
+    if [line["error"] for line in command.told()] != ["few-cosignatures"] or '"few-cosignatures"' not in watch.path(log, "verdicts").read_text():
+        fail(f"too few cosignatures: the command was given {command.told()}")
+    kept = [path.parent for path in watch.path(log, "").glob("alarm.*/quorum")]
+    if not kept or (kept[0] / "answer").read_text() != log.text_of("checkpoint", None):
+        fail("too few cosignatures: the checkpoint isn't kept as it came")
+    log.lines = lambda text: v.line(text, 7) + w.line(text, 7, text.replace("\n20\n", "\n21\n"))
+    watch.leaves_unchanged("one of another text", 3, log, *words, says='"cosigned":1,')
+    log.instead = {"checkpoint": PAGE}
+    watch.leaves_unchanged("a page in place of a checkpoint", 4, log, *words, says="answers with no checkpoint")
+    log.instead, log.lines = {}, lambda text: w.line(text, 7) + x.line(text, 8)
+    with watch.instead("openssl", "exit 1"):
+        watch.leaves_unchanged("openssl that fails", 2, log, *words, says="no verifier key")
+    watch.ends("another quorum", 0, log.url, *words, says="accepted 20 leaves")
+    calls = Log()
+    for what, logs, wrong in [
+        ("a log by calls", calls.url, words),
+        ("a list", log.url, (*words, "--logs", "list")),
+        ("no quorum", log.url, words[:2]),
+        ("no witnesses", log.url, words[2:]),
+        ("a quorum of 4", log.url, (*words[:3], "4")),
+        ("no file of witnesses", log.url, ("--witnesses", folder / "nowhere", *words[2:])),
+    ]:
+        watch.ends(what, 2, logs, *wrong)
+    watch.ends("without openssl", 2, log.url, *words, path=watch.path_without("openssl"), says="openssl isn't there")
+
+
+def try_cosign(watch, folder):
+    """The accepted head is cosigned by a witness, once its entries are read; what it refuses is told, and what shows a fork is an alarm."""
+    w, log = Cosigner(folder, "w.cosign"), Tiles()
+    kept = watch.path(log, "cosigned")
+    watch.ends("a head that is cosigned", 0, log.url, "--cosign", w.word, says="8 leaves are cosigned by w.cosign")
+    if kept.read_text() != note(MANY[:8], log.now) + w.line(bare_of(8), 1700000000):
+        fail(f"there is kept {kept.read_text()}")
+    watch.ends("the same", 0, log.url, "--cosign", w.word, says="8 leaves are cosigned by w.cosign")
+    for size in (9, 256, 300, 530, len(MANY)):
+        log.size, log.now, w.asked = size, log.now + 1, []
+        watch.ends(f"{size} leaves", 0, log.url, "--cosign", w.word, says=f"{size} leaves are cosigned by w.cosign")
+        if w.last != (size, answers.merkle.root(MANY[:size])) or w.asked[:1] != [0] or len(w.asked) != 2:
+            fail(f"the witness was asked from {w.asked}, and has {w.last}")
+    kept.unlink()
+    watch.ends("a cosignature that was lost", 0, log.url, "--cosign", w.word, says=f"{len(MANY)} leaves are cosigned")
+    due = kept.read_text()
+    for what, status, instead, says in [
+        ("is away", 5, (503, "unread\n"), "w.cosign can't cosign now: unread"),
+        ("knows no such log", 1, (404, "no such log\n"), "answers 404: no such log"),
+        ("has seen more", 1, (409, "9000\n"), "has cosigned 9000 entries"),
+        ("names no size", 1, (409, "x\n"), "answers 409: x"),
+        ("names sizes for ever", 5, (409, "7\n"), "names another size each time"),
+        ("answers no line", 1, (200, ""), "no cosignature of its key"),
+        ("answers another's line", 1, (200, Cosigner(folder, "v.cosign").line(bare_of(len(MANY)), 1)), "no cosignature of its key"),
+        ("answers a line of another text", 1, (200, w.line(bare_of(8), 1)), "no cosignature of its key"),
+        ("refuses the proof", 3, (422, "inconsistent\n"), "ALARM"),
+        ("has another root", 3, (409, f"{len(MANY)}\n"), "ALARM"),
+    ]:
+        kept.unlink(missing_ok=True)
+        w.instead = instead
+        watch.leaves_unchanged(f"a witness that {what}", status, log, "--cosign", w.word, says=says)
+        if kept.exists():
+            fail(f"a witness that {what}: there is kept {kept.read_text()}")
+    w.instead, w.last = None, (5, answers.merkle.root(FORKED[:5]))
+    watch.leaves_unchanged("a witness of a fork", 3, log, "--cosign", w.word, says="cosigned another tree of 5 entries than the accepted one began with")
+    w.last, log.instead = (5, answers.merkle.root(MANY[:5])), {"tile/0/017.p/3": bytes(96), "tile/0/017": {"status": 404}}
+    watch.leaves_unchanged("tiles that don't lead to the head", 3, log, "--cosign", w.word, says="tiles don't lead to the accepted root")
+    log.instead = {"tile/0/017.p/3": {"status": 503}}
+    watch.leaves_unchanged("a tile that doesn't come", 5, log, "--cosign", w.word, says="isn't cosigned")
+    log.instead = {"tile/0/017.p/3": b"short"}
+    watch.leaves_unchanged("a tile that is cut short", 5, log, "--cosign", w.word, says="where 96 are due")
+    log.instead = {}
+    watch.ends("the witness after all", 0, log.url, "--cosign", w.word, says="are cosigned by w.cosign")
+    if kept.read_text() != due:
+        fail(f"there is kept {kept.read_text()}")
+    w.server.shutdown()
+    w.server.server_close()
+    kept.unlink()
+    watch.leaves_unchanged("a witness that is gone", 5, log, "--cosign", w.word, says="isn't cosigned")
+    empty = Tiles()
+    empty.instead = {"tile/data/000.p/8": {"status": 503}, "tile/data/000": {"status": 503}}
+    watch.ends("a head whose entries don't come", 5, empty.url, "--cosign", w.word)
+    watch.ends("logs by calls aren't cosigned", 0, Log().url, "--cosign", w.word, says="accepted 8 leaves")
+    for wrong in ("http://127.0.0.1:1", w.key, f"ftp://w.example,{w.key}", f"http://127.0.0.1:1,{w.key}x"):
+        watch.ends(f"--cosign {wrong}", 2, log.url, "--cosign", wrong, says="a witness is a URL")
 
 
 def listed(log, key, state="usable", **more):
@@ -1147,8 +1376,9 @@ def main():
         roots = try_roots(pathlib.Path(folder))
         if shutil.which("openssl"):
             try_signatures(pathlib.Path(folder))
+            try_cosignatures(pathlib.Path(folder))
         else:
-            print("examples/monitor: signature.sh wasn't tried: openssl isn't here.")
+            print("examples/monitor: signature.sh and cosignatures.sh weren't tried: openssl isn't here.")
     judge, which = " ".join(stand_in), "its stand-in, since ctmonitor isn't built"
     if os.access(BUILT, os.X_OK):
         try_runs([str(BUILT)])
@@ -1186,6 +1416,8 @@ def main():
             try_lists(watch, pathlib.Path(folder))
             try_first_list(watch, pathlib.Path(folder))
             try_heads_signed(watch, pathlib.Path(folder))
+            try_quorum(watch, pathlib.Path(folder))
+            try_cosign(watch, pathlib.Path(folder))
     print(f"examples/monitor: watch.sh as expected in {watch.count} runs, over {which}.")
 
 
