@@ -1,12 +1,13 @@
 #!/usr/bin/env bash
 # A log on engines, on loopback and in a folder: three members of etcd with its register and places, Ceph's S3 with its objects, NODES=3
-# nodes of ctserve over them, a loader and a reader.
+# nodes of ctserve over them, WITNESSES=3 witnesses of its heads (0 for none), a loader and a reader.
 #   cluster.sh start FOLDER [PORT]   starts it, or goes on with the one that was stopped there, and says where to look
 #   cluster.sh status FOLDER         says what runs and what it said last
-#   cluster.sh stop FOLDER           ends it; ctcheck judges what it published and answered
+#   cluster.sh stop FOLDER           ends it; ctcheck judges what it published and answered, and openssl who cosigned its last head
 # RATE=20 is how many submissions the loader sends a second, 0 as many as are answered; LOAD=no starts neither it nor the reader.
 # STEP is the program that makes the steps, cttile where it is built, and else a second program with its lines; READER the one that makes
-# readers' proofs, likewise for ctproof, and GUARD the one before the key, likewise for ctguard. One signer has the key, for all nodes.
+# readers' proofs, likewise for ctproof, GUARD the one before the key, likewise for ctguard, and WITNESS the one that decides what is cosigned, likewise for
+# ctwitness. One signer has the key, for all nodes.
 set -eu
 here=$(cd "$(dirname "$0")" && pwd)
 what=${1:-} folder=${2:-}
@@ -64,7 +65,12 @@ command_of() {
   echo "$built"
 }
 
-nodes() { find "$folder" -maxdepth 1 -name 'node-*.conf' | sed 's/^.*node-\([0-9]*\)\.conf$/\1/' | sort -n; }
+# numbers KIND: those of the nodes, or of the witnesses.
+numbers() { find "$folder" -maxdepth 1 -name "$1-*.conf" | sed "s/^.*$1-\([0-9]*\)\.conf\$/\1/" | sort -n; }
+
+nodes() { numbers node; }
+
+witnesses() { numbers witness; }
 
 node_conf() {
   local i=$1 port=$2
@@ -84,12 +90,51 @@ places           $register
 store            $bucket
 latest-head      $folder/node-$i.latest-head
 most-connections-by-address  500
+${words:+witnesses        $words}
 END_OF_CONF
   chmod 600 "$folder/node-$i.conf"
 }
 
+# made_witness NUMBER PORT: makes a witness, and the log's state with it.
+made_witness() {
+  local name=$folder/witness-$1
+  (umask 077 && openssl genpkey -algorithm ed25519 -out "$name.key")
+  cat >"$name.conf" <<END_OF_CONF
+name             w$1.cluster.example
+key              $name.key
+state            file:$name
+log              $origin $folder/log.pem
+program          ${WITNESS:-$(command_of ctwitness witness/model.py)}
+listen           127.0.0.1:$(($2 + 7 + $1))
+operator-listen  127.0.0.1:$(($2 + 17 + $1))
+END_OF_CONF
+  "$programs/ctwitness-serve" --config "$name.conf" --create "$origin" 2>>"$name.log"
+  "$programs/ctwitness-serve" --config "$name.conf" --verifier-key >>"$folder/witnesses"
+}
+
+# judge: says who cosigned the last head that is published, and which trees the witnesses cosigned last. It fails where fewer than the half and one of them
+# cosigned it, or stand at it, or one stands elsewhere at its size or above it.
+judge() {
+  local i head size root at=0 due=$(($(wc -l <"$folder/witnesses") / 2 + 1)) last status=0
+  head=$folder/checkpoint
+  "$here/../examples/monitor/cosignatures.sh" "$folder/witnesses" "$due" <"$head" || status=1
+  size=$(sed -n 2p "$head") root=$(sed -n 3p "$head")
+  for i in $(witnesses); do
+    last=$(cat "$folder/witness-$i"/*/text | sed -n 's/^.*"last_root":"\([^"]*\)","last_size":\([0-9]*\),.*$/\2 \1/p')
+    echo "witness-$i cosigned ${last% *} entries last"
+    if [ "$last" = "$size $root" ]; then
+      at=$((at + 1))
+    elif [ "${last% *}" -ge "$size" ]; then
+      echo "cluster.sh: witness-$i stands at $last, and the log at $size $root" >&2
+      status=1
+    fi
+  done
+  [ "$at" -ge "$due" ] || { echo "cluster.sh: $at witnesses stand at the log's last head, and $due are due" >&2 && status=1; }
+  return "$status"
+}
+
 start() {
-  local port=${1:-8618} i all="" create="" who nothing roots loaded id
+  local port=${1:-8618} i all="" create="" who nothing roots loaded id words=""
   "$here/build.sh" build
   mkdir -p "$folder/engines"
   ENGINES="members s3" PORT=$((port + 30)) "$here/engines.sh" start "$folder/engines"
@@ -105,6 +150,10 @@ start() {
     openssl ec -in "$folder/log.key" -pubout -out "$folder/log.pem" 2>/dev/null
     who=${STORES_S3#http://} nothing=$(sha256sum </dev/null | cut -d ' ' -f 1)
     curl -sS --fail -X PUT --user "${who%@*}" --aws-sigv4 aws:amz:us-east-1:s3 -H "x-amz-content-sha256: $nothing" "http://${who#*@}/log"
+    for i in $(seq 0 $((${WITNESSES:-3} - 1))); do
+      made_witness "$i" "$port"
+      words+=" http://127.0.0.1:$((port + 7 + i)),$(tail -n 1 "$folder/witnesses")"
+    done
     for i in $(seq 0 $((${NODES:-3} - 1))); do node_conf "$i" "$port"; done
   fi
   for i in $(nodes); do all+=${all:+,}http://$(sed -n 's/^listen *//p' "$folder/node-$i.conf"); done
@@ -122,6 +171,7 @@ start() {
     [ ! -S "$folder/signer" ] || break
     sleep 0.1
   done
+  for i in $(witnesses); do launch "witness-$i" "$programs/ctwitness-serve" --config "$folder/witness-$i.conf"; done
   for i in $(nodes); do
     # (the first one makes the log)
     launch "node-$i" "$programs/ctserve" --config "$folder/node-$i.conf" ${create:+"$create"}
@@ -141,6 +191,7 @@ A log of ${all//,/, } runs:
   figures       curl http://$(sed -n 's/^operator-listen *//p' "$folder/node-0.conf")/metrics
   who loads it  $folder/loader.log; what was answered: $folder/answers
   who reads it  tail -f $folder/reader.log
+  who cosigns   $(cut -d + -f 1 "$folder/witnesses" 2>/dev/null | paste -sd ' ')
   the bucket    $bucket
   etcd          $STORES_MEMBERS
   a death       kill -9 \$(cut -d ' ' -f 1 $folder/node-0.id); '$0 start $folder' starts what is gone
@@ -151,7 +202,7 @@ END_OF_TEXT
 # each NAME..: a line for each process.
 status() {
   local name state names
-  for name in $(nodes | sed 's/^/node-/') signer loader reader; do
+  for name in $(nodes | sed 's/^/node-/') $(witnesses | sed 's/^/witness-/') signer loader reader; do
     state=gone
     ! process "$name" >/dev/null || state=runs
     echo "$name $state: $(tail -n 1 "$folder/$name.log" 2>/dev/null)"
@@ -165,8 +216,14 @@ status() {
 }
 
 stop() {
-  local name status=0
-  for name in loader reader $(nodes | sed 's/^/node-/') signer; do end "$name"; done
+  local name status=0 i
+  for name in loader reader; do end "$name"; done
+  rm -f "$folder/checkpoint"
+  for i in $(nodes); do
+    curl -sf -o "$folder/checkpoint.new" "http://$(sed -n 's/^listen *//p' "$folder/node-$i.conf")/checkpoint" && mv "$folder/checkpoint.new" "$folder/checkpoint" && break
+  done
+  for name in $(nodes | sed 's/^/node-/') signer $(witnesses | sed 's/^/witness-/'); do end "$name"; done
+  [ ! -s "$folder/witnesses" ] || [ ! -e "$folder/checkpoint" ] || judge || status=1
   tail -qn 1 "$folder/loader.log" "$folder/reader.log" 2>/dev/null || true
   addresses
   touch "$folder/answers"
