@@ -746,7 +746,7 @@ def try_cosign(watch, folder):
     if kept.read_text() != note(MANY[:8], log.now) + w.line(bare_of(8), 1700000000):
         fail(f"there is kept {kept.read_text()}")
     watch.ends("the same", 0, log.url, "--cosign", w.word, says="8 leaves are cosigned by w.cosign")
-    for size in (9, 256, 300, 530, len(MANY)):
+    for size in (256, 530, len(MANY)):
         log.size, log.now, w.asked = size, log.now + 1, []
         watch.ends(f"{size} leaves", 0, log.url, "--cosign", w.word, says=f"{size} leaves are cosigned by w.cosign")
         if w.last != (size, answers.merkle.root(MANY[:size])) or w.asked[:1] != [0] or len(w.asked) != 2:
