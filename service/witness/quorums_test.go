@@ -61,8 +61,16 @@ func (h *held) begins(call string) error {
 }
 
 func (h *held) Create(_ context.Context, text string) error {
+	if err := h.begins("create"); err != nil {
+		return err
+	}
+	h.mu.Lock()
+	defer h.mu.Unlock()
+	if h.text != "" {
+		return stores.ErrExists
+	}
 	h.text = text
-	return h.begins("create")
+	return nil
 }
 
 func (h *held) Read(context.Context) (string, error) {

@@ -1,0 +1,497 @@
+package witness
+
+import (
+	"context"
+	"crypto/ecdsa"
+	"crypto/ed25519"
+	"crypto/elliptic"
+	"crypto/rand"
+	"crypto/rsa"
+	"crypto/x509"
+	"encoding/base64"
+	"encoding/binary"
+	"encoding/pem"
+	"errors"
+	"fmt"
+	"io"
+	"net/http"
+	"net/http/httptest"
+	"strings"
+	"sync"
+	"testing"
+	"testing/iotest"
+	"time"
+
+	"golang.org/x/mod/sumdb/note"
+
+	"wagtenib/service/stores"
+)
+
+var errTried = errors.New("tried")
+
+// TestFaultyRegister: whatever a register does in place of a call, nothing is signed whose state isn't kept; what is lost is decided anew, and what is unknown
+// is settled by swapping again.
+func TestFaultyRegister(t *testing.T) {
+	by, one := headKey(t, origin), grown(t, "a", "b", "c")
+	body := request(0, nil, by.sign(checkpoint(origin, 3, one.root(t, 3))))
+	for name, test := range map[string]struct {
+		call        string
+		err         error
+		times       int
+		status      int
+		text, tells string
+		calls, lost int
+	}{
+		"it can't be read":               {"read", errTried, 1, 503, "state\n", "state", 1, 0},
+		"it can't be swapped":            {"swap", errTried, 1, 503, "state\n", "state", 1, 0},
+		"another stands once":            {"swap", stores.ErrLost, 1, 200, "— w.example ", "", 2, 1},
+		"another stands four times":      {"swap", stores.ErrLost, 4, 200, "— w.example ", "", 5, 4},
+		"another stands each time":       {"swap", stores.ErrLost, 99, 503, "busy\n", "", 5, 5},
+		"it isn't known once":            {"swap", stores.ErrUnknown, 1, 200, "— w.example ", "", 2, 0},
+		"it isn't known four times":      {"swap", stores.ErrUnknown, 4, 200, "— w.example ", "", 5, 0},
+		"it is never known":              {"swap", stores.ErrUnknown, 99, 503, "state\n", "state", 5, 0},
+		"it is gone where it is swapped": {"swap", stores.ErrAbsent, 1, 503, "state\n", "state", 1, 0},
+	} {
+		state, calls, told := &held{}, 0, []string{}
+		s := witnessOver(t, state, newKey(t), decider(), by)
+		s.of.Tell = func(event string, _ ...any) { told = append(told, event) }
+		before := state.text
+		test := test
+		state.does = func(call string) error {
+			if call != test.call {
+				return nil
+			}
+			if calls++; calls <= test.times {
+				return fmt.Errorf("%w, again", test.err)
+			}
+			return nil
+		}
+		w := posted(t, s, body)
+		if w.Code != test.status || !strings.HasPrefix(w.Body.String(), test.text) || strings.Join(told, " ") != test.tells || calls != test.calls {
+			t.Errorf("%s: %d %q behind %d calls, and %q is told", name, w.Code, w.Body, calls, told)
+		}
+		if (state.text == before) != (test.status != 200) {
+			t.Errorf("%s: the state moved, or not: %s", name, state.text)
+		}
+		if line := fmt.Sprintf("ctwitness_lost_swaps_total %d\n", test.lost); !strings.Contains(figures(s), line) {
+			t.Errorf("%s: no %s", name, line)
+		}
+	}
+	// What a start finds.
+	s := witnessOver(t, &held{}, newKey(t), decider(), by)
+	for _, test := range []struct{ err, kind error }{{stores.ErrAbsent, ErrState}, {errTried, errTried}} {
+		of := Log{Origin: origin, Keys: []note.Verifier{by.key}, State: &held{does: func(string) error { return test.err }}}
+		if err := s.Check(limited(t), of); !errors.Is(err, test.kind) || errors.Is(test.kind, errTried) && errors.Is(err, ErrState) {
+			t.Errorf("%v: %v", test.err, err)
+		}
+		if err := of.Create(limited(t)); !errors.Is(err, test.err) {
+			t.Errorf("%v: created: %v", test.err, err)
+		}
+	}
+}
+
+// figures are what Prometheus reads.
+func figures(s *Server) string {
+	w := httptest.NewRecorder()
+	s.Operator().ServeHTTP(w, httptest.NewRequest("GET", "/metrics", nil))
+	return w.Body.String()
+}
+
+// TestKept: what is kept is the tree, the origin and the moment; no two swaps have one text, also of one tree in one second. The figures say so.
+func TestKept(t *testing.T) {
+	by, one, state := headKey(t, origin), grown(t, "a", "b", "c"), &held{}
+	s := witnessOver(t, state, newKey(t), decider(), by)
+	s.now = func() uint64 { return 1234567 }
+	signed := by.sign(checkpoint(origin, 3, one.root(t, 3)))
+	texts := map[string]bool{state.text: true}
+	for _, old := range []int64{0, 3, 3} {
+		if w := posted(t, s, request(old, nil, signed)); w.Code != 200 {
+			t.Fatalf("%d %s", w.Code, w.Body)
+		}
+		if texts[state.text] {
+			t.Error("two swaps have one text")
+		}
+		texts[state.text] = true
+		kept, err := readState(state.text, origin)
+		root := one.root(t, 3)
+		if err != nil || kept.Time != 1234567 || kept.Size != 3 || string(kept.Root) != string(root[:]) || len(kept.Salt) != 16 || string(kept.Salt) == string(make([]byte, 16)) {
+			t.Errorf("%s: %v", state.text, err)
+		}
+	}
+	for _, line := range []string{`ctwitness_entries{origin="` + origin + `"} 3`, `ctwitness_last_cosignature_seconds{origin="` + origin + `"} 1.234567e+06`,
+		`ctwitness_cosignatures_total{origin="` + origin + `"} 3`, `ctwitness_requests_total{status="200"} 3`} {
+		if !strings.Contains(figures(s), line+"\n") {
+			t.Errorf("no %s", line)
+		}
+	}
+	// Another process knows it from its start on, and forgets it with the log.
+	other := witnessOver(t, state, newKey(t), decider(), by)
+	for _, line := range []string{`ctwitness_entries{origin="` + origin + `"} 3`, `ctwitness_last_cosignature_seconds{origin="` + origin + `"} 1.234567e+06`} {
+		if !strings.Contains(figures(other), line+"\n") {
+			t.Errorf("at a start no %s", line)
+		}
+	}
+	other.SetLogs(nil)
+	if text := figures(other); strings.Contains(text, "ctwitness_entries{") || strings.Contains(text, "ctwitness_last_cosignature_seconds{") {
+		t.Error("a log that isn't witnessed any more has figures")
+	}
+}
+
+// TestAnswers: no answer is kept by caches or taken for a page, each request leaves its room, and a body that breaks off is none.
+func TestAnswers(t *testing.T) {
+	s := witnessOver(t, &held{}, newKey(t), decider(), plainKey(t, origin))
+	for _, body := range []io.Reader{strings.NewReader("x"), iotest.ErrReader(errTried)} {
+		w := httptest.NewRecorder()
+		s.ServeHTTP(w, httptest.NewRequest("POST", "/add-checkpoint", body))
+		if w.Code != 400 || w.Header().Get("Cache-Control") != "no-store" || w.Header().Get("X-Content-Type-Options") != "nosniff" || w.Header().Get("Retry-After") != "" {
+			t.Errorf("%d %q %s", w.Code, w.Header(), w.Body)
+		}
+		if len(s.room) != 0 {
+			t.Error("a request is over, and its room isn't free")
+		}
+	}
+	w := httptest.NewRecorder()
+	s.ServeHTTP(w, httptest.NewRequest("POST", "/add-checkpoint", iotest.ErrReader(errTried)))
+	if w.Body.String() != "the body breaks off\n" {
+		t.Errorf("%s", w.Body)
+	}
+	w = httptest.NewRecorder()
+	s.ServeHTTP(w, httptest.NewRequest("PUT", "/add-checkpoint", nil))
+	if w.Code != 405 || w.Header().Get("Allow") != "POST" {
+		t.Errorf("%d %q", w.Code, w.Header())
+	}
+	w = httptest.NewRecorder()
+	s.Operator().ServeHTTP(w, httptest.NewRequest("GET", "/healthz", nil))
+	if w.Code != 200 || w.Body.String() != "ok\n" {
+		t.Errorf("/healthz: %d %s", w.Code, w.Body)
+	}
+	if at := s.now(); at < uint64(time.Now().Add(-time.Hour).Unix()) || at > uint64(time.Now().Add(time.Hour).Unix()) {
+		t.Errorf("its clock says %d", at)
+	}
+	// Exactly as many bytes and hashes as may be are read.
+	if _, err := ParseRequest([]byte("old 0\n\n" + strings.Repeat("x", MostBody-7))); !errors.Is(err, ErrRequest) || strings.Contains(err.Error(), "more than") {
+		t.Errorf("the longest body: %v", err)
+	}
+	if _, err := ParseRequest([]byte("old 0\n\n" + strings.Repeat("x", MostBody-6))); !errors.Is(err, ErrRequest) || !strings.Contains(err.Error(), "more than") {
+		t.Errorf("a byte more: %v", err)
+	}
+	signed := plainKey(t, origin).sign(checkpoint(origin, 9, [32]byte{}))
+	if r, err := ParseRequest(request(3, make([][32]byte, MostProof), signed)); err != nil || len(r.Proof) != MostProof || r.Old != 3 || r.Origin() != origin {
+		t.Errorf("the longest proof: %v", err)
+	}
+	if _, err := ParseRequest(request(3, make([][32]byte, MostProof+1), signed)); !errors.Is(err, ErrRequest) {
+		t.Errorf("a hash more: %v", err)
+	}
+}
+
+// TestTexts: numbers, hashes and checkpoints are taken in their one text.
+func TestTexts(t *testing.T) {
+	for _, wrong := range []string{"", "+5", "-1", " 5", "5 ", "05", "00", "5\n", "0x5", "1e3", "9223372036854775808", "18446744073709551616"} {
+		if n, err := number(wrong); !errors.Is(err, ErrRequest) {
+			t.Errorf("%q is %d", wrong, n)
+		}
+	}
+	for text, n := range map[string]uint64{"0": 0, "5": 5, "9223372036854775807": 1<<63 - 1} {
+		if read, err := number(text); err != nil || read != n {
+			t.Errorf("%q: %d, %v", text, read, err)
+		}
+	}
+	right := base64.StdEncoding.EncodeToString(make([]byte, 32))
+	if h, err := hash(right); err != nil || h != [32]byte{} {
+		t.Error(err)
+	}
+	for _, wrong := range []string{"", right[:43], right[:42] + "B=", right + "\n", strings.TrimRight(right, "="), base64.StdEncoding.EncodeToString(make([]byte, 31)),
+		base64.StdEncoding.EncodeToString(make([]byte, 33)), "-" + right[1:]} {
+		if _, err := hash(wrong); !errors.Is(err, ErrRequest) {
+			t.Errorf("%q is a hash", wrong)
+		}
+	}
+	if size, _, err := treeOf("o\n5\n" + right + "\n"); err != nil || size != 5 {
+		t.Error(err)
+	}
+	for _, wrong := range []string{"", "\n5\n" + right + "\n", "o\n5\n" + right, "o\n5\n" + right + "\nmore\n", "o\n05\n" + right + "\n", "o\n5\n\n", "o\n5\n" + right + "\n\n", "o\n\n" + right + "\n"} {
+		if _, _, err := treeOf(wrong); !errors.Is(err, ErrRequest) {
+			t.Errorf("%q is a checkpoint", wrong)
+		}
+	}
+}
+
+// TestOtherKeys: keys of another kind, or under another's name, are none, and no signature of any length is one of nothing.
+func TestOtherKeys(t *testing.T) {
+	inPEM := func(kind string, der []byte, err error) string {
+		must(t, err)
+		return string(pem.EncodeToMemory(&pem.Block{Type: kind, Bytes: der}))
+	}
+	wide, err := ecdsa.GenerateKey(elliptic.P384(), rand.Reader)
+	must(t, err)
+	old, err := rsa.GenerateKey(rand.Reader, 2048)
+	must(t, err)
+	key := newKey(t)
+	publicOf := func(key any) ([]byte, error) { return x509.MarshalPKIXPublicKey(key) }
+	for _, public := range []any{&wide.PublicKey, &old.PublicKey} {
+		der, err := publicOf(public)
+		if _, err := LogKey(origin, inPEM("PUBLIC KEY", der, err)); !errors.Is(err, ErrKey) {
+			t.Errorf("%T is a log's key: %v", public, err)
+		}
+	}
+	der, err := publicOf(key.Public())
+	if read, err := LogKey(origin, inPEM("PUBLIC KEY", der, err)); err != nil || read.Name() != origin {
+		t.Errorf("a key of Ed25519 in PEM: %v", err)
+	}
+	secret, err := x509.MarshalPKCS8PrivateKey(key)
+	if read, err := ReadKey([]byte(inPEM("PRIVATE KEY", secret, err))); err != nil || !read.Equal(key) {
+		t.Errorf("its own key: %v", err)
+	}
+	if _, err := ReadKey([]byte(inPEM("ED25519 KEY", secret, nil))); !errors.Is(err, ErrKey) {
+		t.Errorf("a private key under another name: %v", err)
+	}
+	der, err = x509.MarshalPKCS8PrivateKey(wide)
+	if _, err := ReadKey([]byte(inPEM("PRIVATE KEY", der, err))); !errors.Is(err, ErrKey) {
+		t.Errorf("a private key of P-384: %v", err)
+	}
+	public := key.Public().(ed25519.PublicKey)
+	id := idOf("w.example", algCosignature, public)
+	written := func(name string, kind byte) string {
+		return fmt.Sprintf("%s+%08x+%s", name, id, base64.StdEncoding.EncodeToString(append([]byte{kind}, public...)))
+	}
+	if name, read, err := ReadVerifierKey(written("w.example", algCosignature)); err != nil || name != "w.example" || !read.Equal(public) {
+		t.Error(err)
+	}
+	for what, wrong := range map[string]string{"of type 1": written("w.example", 1), "of another name": written("v.example", algCosignature), "with a space": VerifierKey("w example", public)} {
+		if _, _, err := ReadVerifierKey(wrong); !errors.Is(err, ErrKey) {
+			t.Errorf("a verifier key %s: %v", what, err)
+		}
+	}
+	text := []byte(checkpoint(origin, 3, [32]byte{}))
+	der, err = publicOf(&wide.PublicKey)
+	must(t, err)
+	for length := 0; length < 80; length++ {
+		for _, of := range []note.Verifier{OfCosigner("w.example", public), OfRFC6962(origin, der), headKey(t, origin).key} {
+			if of.Verify(text, make([]byte, length)) {
+				t.Errorf("%d bytes of 0 are a signature", length)
+			}
+		}
+	}
+	// A moment is what a cosignature says, and the text is all of it.
+	signed := ed25519.Sign(key, Message(7, string(text)))
+	blob := append(binary.BigEndian.AppendUint64(nil, 7), signed...)
+	of := OfCosigner("w.example", public)
+	if !of.Verify(text, blob) || of.Verify(text, append(binary.BigEndian.AppendUint64(nil, 8), signed...)) || of.Verify(text[:len(text)-1], blob) || of.Verify(text, append(blob, 0)) {
+		t.Error("a cosignature is taken for another one")
+	}
+}
+
+// TestPrograms: replies that say too much are none.
+func TestPrograms(t *testing.T) {
+	by, one := headKey(t, origin), grown(t, "a", "b", "c", "d", "e")
+	text := checkpoint(origin, 5, one.root(t, 5))
+	root := one.root(t, 5)
+	sign := base64.StdEncoding.EncodeToString(Message(9, text))
+	r, err := ParseRequest(request(0, nil, by.sign(text)))
+	must(t, err)
+	last := tree{Root: emptyRoot[:]}
+	line := func(more string) []byte {
+		return []byte(fmt.Sprintf(`{"last_root":"%s","last_size":5,"sign":"%s"%s}`, base64.StdEncoding.EncodeToString(root[:]), sign, more))
+	}
+	if said, err := readReply(line(""), last, r, 9); err != nil || said.tree.Size != 5 {
+		t.Error(err)
+	}
+	for _, wrong := range [][]byte{line(`,"fault":"path-too-long"`), line(`,"size":5`), line(`,"size":0`), []byte(`{"refused":"inconsistent","last_root":"AAAA"}`), []byte(`{"refused":"not-last"}`)} {
+		if _, err := readReply(wrong, last, r, 9); !errors.Is(err, ErrReply) {
+			t.Errorf("%s: %v", wrong, err)
+		}
+	}
+	if _, err := readReply(line(""), last, r, 8); !errors.Is(err, ErrReply) {
+		t.Errorf("another moment: %v", err)
+	}
+	older := one.root(t, 3)
+	for old, right := range map[uint64]bool{3: true, 2: false, 4: false} {
+		r.Old, r.Proof = old, one.proof(t, 3, 5)
+		if err := leads(tree{Root: older[:], Size: 3}, r, 5, root); (err == nil) != right {
+			t.Errorf("from %d: %v", old, err)
+		}
+	}
+	if err := leads(tree{Root: older[:], Size: 3}, Request{Old: 3}, 4, one.root(t, 4)); err == nil {
+		t.Error("one more entry needs no proof")
+	}
+	if err := leads(tree{Root: root[:], Size: 5}, Request{Old: 5}, 4, one.root(t, 4)); err == nil {
+		t.Error("a smaller tree follows")
+	}
+}
+
+// TestAsked: a witness is asked once for each head, from what it is known to have seen; where that isn't so any more, it says so, and is asked from there.
+func TestAsked(t *testing.T) {
+	a := asking{headKey(t, origin), grown(t, "a", "b", "c", "d", "e", "f")}
+	s := serving(t, 1, a.by)
+	c, err := NewCircle([]One{s.One}, Quorums{Publish: 1, Start: 1}, nil)
+	must(t, err)
+	defer c.Close()
+	var mu sync.Mutex
+	var asked []uint64
+	instead := []string{}
+	s.before.Store(before(func(w http.ResponseWriter, q *http.Request) bool {
+		body, err := io.ReadAll(q.Body)
+		if err != nil {
+			t.Error(err)
+		}
+		r, err := ParseRequest(body)
+		if err != nil {
+			t.Error(err)
+		}
+		mu.Lock()
+		defer mu.Unlock()
+		asked = append(asked, r.Old)
+		if len(instead) > 0 {
+			w.WriteHeader(409)
+			_, _ = io.WriteString(w, instead[0])
+			instead = instead[1:]
+			return true
+		}
+		q.Body = io.NopCloser(strings.NewReader(string(body)))
+		return false
+	}))
+	cosigns := func(n int64, want error, from ...uint64) {
+		t.Helper()
+		asked = nil
+		signed, size, proof := a.head(t, n)
+		if _, err := c.Cosign(limited(t), signed, size, proof); !errors.Is(err, want) {
+			t.Errorf("%d entries: %v, and not %v", n, err, want)
+		}
+		if fmt.Sprint(asked) != fmt.Sprint(from) {
+			t.Errorf("%d entries: it is asked from %d, and not %d", n, asked, from)
+		}
+	}
+	cosigns(2, nil, 0)
+	cosigns(3, nil, 2)
+	cosigns(4, nil, 3)
+	cosigns(4, nil, 4)
+	cosigns(3, ErrBehind, 3)
+	instead = []string{"1\n"}
+	cosigns(5, nil, 4, 1, 4)
+	instead = []string{"1\n", "2\n", "3\n"}
+	cosigns(6, ErrFew, 5, 1, 2)
+	instead = []string{"7\n"}
+	cosigns(6, ErrBehind, 5)
+	if one := c.standing(s.Name); !one.SeenMore || one.Missed != 2 {
+		t.Errorf("%+v", one)
+	}
+	// (one that can't be asked has seen no less than before)
+	s.answers(503, "")
+	missed := c.standing(s.Name).Missed
+	cosigned := func() error {
+		signed, size, proof := a.head(t, 6)
+		_, err := c.Cosign(limited(t), signed, size, proof)
+		return err
+	}
+	for i := uint64(1); i < 3; i++ {
+		if err := cosigned(); !errors.Is(err, ErrFew) {
+			t.Error(err)
+		}
+		if one := c.standing(s.Name); !one.SeenMore || uint64(one.Missed) != uint64(missed)+i {
+			t.Errorf("%+v", one)
+		}
+	}
+	s.answersItself()
+	if err := cosigned(); err != nil {
+		t.Error(err)
+	}
+	if one := c.standing(s.Name); one.SeenMore || one.Missed != 0 || one.Fault != "" {
+		t.Errorf("%+v", one)
+	}
+}
+
+// TestLongAnswers: of an answer only its beginning is read; a cosignature of more than the text that was asked for is none.
+func TestLongAnswers(t *testing.T) {
+	a := asking{headKey(t, origin), grown(t, "a", "b", "c")}
+	s := serving(t, 1, a.by)
+	c, err := NewCircle([]One{s.One}, Quorums{Publish: 1, Start: 1}, nil)
+	must(t, err)
+	defer c.Close()
+	signed, size, proof := a.head(t, 3)
+	text, err := TextOf(signed)
+	must(t, err)
+	key := s.witness.of.Key
+	of := func(text string) string {
+		return cosignatureLine(s.Name, s.Key, 7, ed25519.Sign(key, Message(7, text)))
+	}
+	other := "— other.example " + base64.StdEncoding.EncodeToString(make([]byte, 300)) + "\n"
+	for what, test := range map[string]struct {
+		answer string
+		right  bool
+	}{
+		"its line":                       {of(text), true},
+		"behind another's":               {other + of(text), true},
+		"before many others":             {of(text) + strings.Repeat(other, 90), false},
+		"twice":                          {of(text) + of(text), true},
+		"of a text that goes on":         {"more\n\n" + of(text+"\nmore\n"), false},
+		"of the text without its end":    {of(text[:len(text)-1]), false},
+		"without its line's end":         {strings.TrimSuffix(of(text), "\n"), false},
+		"of a name that begins with its": {strings.Replace(of(text), s.Name, s.Name+"x", 1), false},
+	} {
+		s.answers(200, test.answer)
+		lines, err := c.Cosign(limited(t), signed, size, proof)
+		if test.right != (err == nil) || err != nil && !errors.Is(err, ErrFew) || err == nil && string(lines) != of(text) {
+			t.Errorf("%s: %q, %v", what, lines, err)
+		}
+	}
+}
+
+// TestSilent: a witness that doesn't answer is given up; who waits for its turn goes once enough others have cosigned, or it was given up, and a circle that is
+// closed has no one asked any more.
+func TestSilent(t *testing.T) {
+	a := asking{headKey(t, origin), grown(t, "a", "b", "c", "d")}
+	all, c := three(t, a.by, Quorums{Publish: 2, Start: 2})
+	silent := before(func(_ http.ResponseWriter, q *http.Request) bool {
+		// (before its body is read no server sees that a client goes)
+		_, _ = io.Copy(io.Discard, q.Body)
+		<-q.Context().Done()
+		return true
+	})
+	all[1].before.Store(silent)
+	for n := int64(2); n <= 3; n++ {
+		signed, size, proof := a.head(t, n)
+		lines, err := c.Cosign(limited(t), signed, size, proof)
+		if err != nil || cosignedBy(t, signed, lines, []*server{all[0], all[2]}) != 2 {
+			t.Fatal(err)
+		}
+	}
+	eventually := func(what string, is func() bool) {
+		t.Helper()
+		for until := limited(t); !is(); {
+			if until.Err() != nil {
+				t.Fatal(what)
+			}
+			time.Sleep(time.Millisecond)
+		}
+	}
+	// (the second head's question went as the first one's was asked still, or behind its end)
+	eventually("nobody goes", func() bool { return c.standing(all[1].Name).Missed > 0 })
+	if fault := c.standing(all[1].Name).Fault; !strings.Contains(fault, "isn't done with the head before") || strings.Contains(fault, "deadline") {
+		t.Errorf("it went for %s", fault)
+	}
+	// All are silent: they are given up, and the context isn't over.
+	for _, s := range all {
+		s.before.Store(silent)
+	}
+	signed, size, proof := a.head(t, 4)
+	ctx := limited(t)
+	if _, err := c.Cosign(ctx, signed, size, proof); !errors.Is(err, ErrFew) || ctx.Err() != nil {
+		t.Error(err)
+	}
+	before := c.standing(all[0].Name).Missed
+	ctx, cancel := context.WithCancel(context.Background())
+	ended := make(chan error, 1)
+	go func() {
+		_, err := c.Cosign(ctx, signed, size, proof)
+		ended <- err
+	}()
+	eventually("it isn't asked", func() bool { return len(c.members[0].turn) == 1 })
+	cancel()
+	if err := <-ended; !errors.Is(err, ErrFew) {
+		t.Error(err)
+	}
+	must(t, c.Close())
+	if c.standing(all[0].Name).Missed == before {
+		t.Error("it is closed, and somebody is asked")
+	}
+}
