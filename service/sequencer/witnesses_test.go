@@ -80,7 +80,11 @@ func (w *witnessed) isAway(i int) { w.servers[i].Store(away) }
 
 // circle asks all of them; two publish, and two start.
 func (w *witnessed) circle(t testing.TB) *witness.Circle {
-	c, err := witness.NewCircle(w.ones, witness.Quorums{Publish: 2, Start: 2}, nil)
+	return w.circleOf(t, witness.Quorums{Publish: 2, Start: 2})
+}
+
+func (w *witnessed) circleOf(t testing.TB, quorums witness.Quorums) *witness.Circle {
+	c, err := witness.NewCircle(w.ones, quorums, nil)
 	must(t, err)
 	t.Cleanup(func() { c.Close() })
 	return c
@@ -243,6 +247,47 @@ func TestAllSetBack(t *testing.T) {
 	fork.refuses(t, w.circle(t), ErrSetBack)
 	// The log itself goes on.
 	p.ran(t, w.circle(t), func(s *Sequencer) { must(t, (&answers{}).submitAll(ctx, s, 5, 6, 1)) })
+}
+
+// TestOneFaultyWitness: where one of three may be faulty, a log that is restored as a whole, with one witness set back along, doesn't go on, whichever of the
+// others answer: where one of these does it is refused, and else it takes nothing.
+func TestOneFaultyWitness(t *testing.T) {
+	t.Parallel()
+	for _, quorums := range []witness.Quorums{{Publish: 3, Start: 2, Faults: 1}, {Publish: 2, Start: 3, Faults: 1}, {Publish: 3, Start: 3, Faults: 2}} {
+		quorums := quorums
+		t.Run(fmt.Sprint(quorums), func(t *testing.T) {
+			t.Parallel()
+			oneFaultyWitness(t, quorums)
+		})
+	}
+}
+
+func oneFaultyWitness(t *testing.T, quorums witness.Quorums) {
+	p, ctx := newPlace(t), limited(t)
+	w := newWitnessed(t, p, 3)
+	p.ran(t, w.circleOf(t, quorums), func(s *Sequencer) { must(t, (&answers{}).submitAll(ctx, s, 0, 3, 1)) })
+	old, oldWitness := copyOf(t, string(p)), copyOf(t, w.state(0))
+	p.ran(t, w.circleOf(t, quorums), func(s *Sequencer) { must(t, (&answers{}).submitAll(ctx, s, 3, 5, 1)) })
+	// (who publishes a head need not be all: here all know the newest one, as a start has them do)
+	p.ran(t, w.circleOf(t, quorums), func(*Sequencer) {})
+	must(t, os.RemoveAll(w.state(0)))
+	must(t, os.Rename(oldWitness, w.state(0)))
+	w.answers(t, 0)
+	for _, away := range [][]int{nil, {1}, {2}} {
+		for _, i := range away {
+			w.isAway(i)
+		}
+		place(copyOf(t, old)).refuses(t, w.circleOf(t, quorums), ErrSetBack)
+		for _, i := range away {
+			w.answers(t, i)
+		}
+	}
+	w.isAway(1)
+	w.isAway(2)
+	place(copyOf(t, old)).ran(t, w.circleOf(t, quorums), func(s *Sequencer) {
+		_, err := s.Submit(ctx, entryOf(7))
+		wants(t, err, log.ErrStore, witness.ErrFew)
+	})
 }
 
 // TestMadeAnew makes a log of the same key and origin anew: none of its heads comes out, and nothing is taken.
