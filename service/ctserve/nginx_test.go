@@ -175,3 +175,74 @@ func TestBehindNginx(t *testing.T) {
 		}
 	}
 }
+
+// A full tile that was bent on the disk is 503 behind nginx, too, which keeps neither that nor the bent one: once it is put right it is the tree's, and what
+// nginx has then stays, whatever becomes of the disk.
+func TestBentTileBehindNginx(t *testing.T) {
+	t.Parallel()
+	at := newPlace(t)
+	words := at.realWords("--signing-key", at.path("log.pem"), "--proxies", "127.0.0.1", "--read-again-every", "1h", "--interval", "500ms", "--most-connections-by-address", "500")
+	p := started(t, "", append(words, "--guard", at.guard, "--create")...)
+	address := nginxBefore(t, p.clients)
+	const atOnce = 257
+	bodies, failed := [][]byte{}, make(chan string, atOnce)
+	for i := 0; i < atOnce; i++ {
+		bodies = append(bodies, at.submission())
+	}
+	for _, body := range bodies {
+		go func(body []byte) {
+			status, text := 503, ""
+			for until := time.Now().Add(2 * time.Minute); status == 503 && time.Now().Before(until); time.Sleep(100 * time.Millisecond) {
+				status, text = post(p.clients, body)
+			}
+			if status != 200 {
+				text = fmt.Sprint(status, text)
+			} else {
+				text = ""
+			}
+			failed <- text
+		}(body)
+	}
+	for range bodies {
+		if text := <-failed; text != "" {
+			t.Fatal(text)
+		}
+	}
+	refused := func() (count int) {
+		_, text := get(p.operator, "/metrics")
+		for _, line := range strings.Split(text, "\n") {
+			fmt.Sscanf(line, `ctserve_requests_total{call="tile",status="503"} %d`, &count)
+		}
+		return count
+	}
+	asked := 0
+	for _, name := range []string{"tile/data/000", "tile/0/000"} {
+		right, err := os.ReadFile(at.path("log/objects/" + name))
+		if err != nil {
+			t.Fatal(err)
+		}
+		bent := append([]byte{}, right...)
+		bent[20] ^= 1
+		at.write("log/objects/"+name, bent)
+		for try := 0; try < 3; try++ {
+			if status, text := get(address, "/"+name); status != 503 || !strings.Contains(text, `"store"`) {
+				t.Errorf("%s, bent: %d %.80q", name, status, text)
+			}
+		}
+		if asked += 3; refused() != asked {
+			t.Errorf("%s: the log refused %d times, and was asked %d times", name, refused(), asked)
+		}
+		at.write("log/objects/"+name, right)
+		for _, now := range [][]byte{right, bent} {
+			at.write("log/objects/"+name, now)
+			if status, text := get(address, "/"+name); status != 200 || text != string(right) {
+				t.Errorf("%s, put right: %d", name, status)
+			}
+		}
+		if status, _ := get(p.clients, "/"+name); status != 503 {
+			t.Errorf("%s, bent once more, from the log itself: %d", name, status)
+		}
+		asked++
+		at.write("log/objects/"+name, right)
+	}
+}

@@ -174,6 +174,8 @@ class Watch:
     def path_without(self, tool):
         """A PATH that has what watch.sh calls first, but for this."""
         folder = self.bin.parent / f"without-{tool}"
+        if folder.exists():
+            return folder
         folder.mkdir()
         for name in {"curl", "dirname", "flock", "grep", "mkdir", "sed", "tr"} - {tool}:
             (folder / name).symlink_to(shutil.which(name))
