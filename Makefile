@@ -62,7 +62,7 @@ service-clients: ## has certspotter, Google's client library, x/mod's tlog and c
 	@service/clients.sh
 
 # LOAD=no leaves the loader and the reader out.
-cluster: ## runs three nodes of ctserve on engines of their own in CLUSTER=ct-cluster (etcd, Ceph's S3; from PORT=8618 on), with a loader and a reader
+cluster: ## runs three nodes of ctserve on engines of their own in CLUSTER=ct-cluster (etcd, Ceph's S3; from PORT=8618 on), with three witnesses, a loader and a reader
 	@checks/needs.sh service
 	@service/cluster.sh start "$(CLUSTER:~/%=$(HOME)/%)" "$(PORT)"
 

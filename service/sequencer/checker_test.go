@@ -2,6 +2,7 @@ package sequencer
 
 import (
 	"os"
+	"os/exec"
 	"path/filepath"
 	"strings"
 	"testing"
@@ -101,4 +102,34 @@ func TestCheckerSees(t *testing.T) {
 		}
 	}
 	p.right(t, got)
+}
+
+// TestSecondJudgeSees bends what a log published in one place at a time: the judge in Python finds that, too, where it is of the tree or of a head's name.
+func TestSecondJudgeSees(t *testing.T) {
+	t.Parallel()
+	p, got := newPlace(t), &answers{}
+	s := started(t, p.config(t), hooks{})
+	must(t, got.submitAll(limited(t), s, 0, 100, 100))
+	must(t, got.submitAll(limited(t), s, 100, 300, 200))
+	must(t, s.End(limited(t)))
+	p.rightTwice(t, got)
+	for name, bend := range map[string]func(path string, content []byte) error{
+		"tile/data/000":     func(path string, content []byte) error { content[16] ^= 1; return os.WriteFile(path, content, 0o600) },
+		"tile/data/001.p/*": func(path string, _ []byte) error { return os.Remove(path) },
+		"heads/*": func(path string, content []byte) error {
+			return os.WriteFile(path, []byte(strings.Replace(string(content), "300", "299", 1)), 0o600)
+		},
+	} {
+		found, err := filepath.Glob(filepath.Join(p.objects(), name))
+		must(t, err)
+		last := found[len(found)-1]
+		right, err := os.ReadFile(last)
+		must(t, err)
+		must(t, bend(last, append([]byte{}, right...)))
+		if said, err := exec.Command("python3", "../../tests/tiles/heads.py", p.objects()).CombinedOutput(); err == nil {
+			t.Errorf("%s bent: %s", name, said)
+		}
+		must(t, os.WriteFile(last, right, 0o600))
+	}
+	p.rightTwice(t, got)
 }

@@ -101,12 +101,12 @@ func TestPartedNode(t *testing.T) {
 	if p.registerText(t) != old.registerText(t) {
 		t.Error("the register was swapped")
 	}
-	if report := p.right(t, got); report.Leaves != 40 {
+	if report := p.rightTwice(t, got); report.Leaves != 40 {
 		t.Fatalf("%+v", report)
 	}
 	p.putBack(t, newest, "register", "guard")
 	comesBack(t, there, got, 41)
-	if report := p.right(t, got); report.Leaves != 41 {
+	if report := p.rightTwice(t, got); report.Leaves != 41 {
 		t.Fatalf("%+v", report)
 	}
 }
@@ -144,7 +144,7 @@ func TestPartedOnEach(t *testing.T) {
 		must(t, register.Register.Swap(ctx, old, newest))
 		p.putBack(t, newestGuard, "guard")
 		comesBack(t, there, got, 41)
-		if report := p.right(t, got); report.Leaves != 41 {
+		if report := p.rightTwice(t, got); report.Leaves != 41 {
 			t.Fatalf("%+v", report)
 		}
 	})
@@ -186,7 +186,7 @@ func TestPausedNode(t *testing.T) {
 	}
 	p.putBack(t, newest, "register", "guard")
 	comesBack(t, there, got, 41)
-	if report := p.right(t, got); report.Leaves != 41 {
+	if report := p.rightTwice(t, got); report.Leaves != 41 {
 		t.Fatalf("%+v", report)
 	}
 }

@@ -58,7 +58,7 @@ func (p *process) starts(ready []string, name string, words ...string) {
 	p.command = exec.Command(name, words...)
 	p.command.Stdout, p.command.Stderr, p.command.Dir = said, said, p.folder
 	must(p.t, p.command.Start())
-	for until := time.Now().Add(longest); ; time.Sleep(100 * time.Millisecond) {
+	for until := time.Now().Add(5 * time.Minute); ; time.Sleep(100 * time.Millisecond) {
 		asks := exec.Command(ready[0], ready[1:]...)
 		asks.Env = append(os.Environ(), "ETCDCTL_API=3")
 		if asks.Run() == nil {
@@ -247,7 +247,7 @@ func restoredEngine(t *testing.T, of engine) {
 	of.forth()
 	p.putBack(t, newest, "guard")
 	comesBack(t, there, got, 41)
-	if report := p.right(t, got); report.Leaves != 41 {
+	if report := p.rightTwice(t, got); report.Leaves != 41 {
 		t.Fatalf("%+v", report)
 	}
 }

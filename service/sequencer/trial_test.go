@@ -336,27 +336,35 @@ func (p place) judged(answers []check.Answer) (check.Report, error) {
 	if err != nil {
 		return check.Report{}, err
 	}
-	at, err := p.addresses()
+	folder, err := p.published()
 	if err != nil {
 		return check.Report{}, err
 	}
-	folder := strings.TrimPrefix(at.Objects, "folder:")
-	if folder == at.Objects {
-		if folder, err = os.MkdirTemp(string(p), "copy"); err != nil {
-			return check.Report{}, err
-		}
-		ctx, cancel := context.WithTimeout(context.Background(), longest)
-		defer cancel()
-		objects, err := stores.ObjectsAt(ctx, at.Objects)
-		if err != nil {
-			return check.Report{}, err
-		}
-		defer objects.Close()
-		if _, err := stores.Copy(ctx, objects, folder, stagingPrefix, "conditional-put/"); err != nil {
-			return check.Report{}, err
-		}
-	}
 	return check.Folder(folder, s.Key(), answers)
+}
+
+// published is the folder of what was published, or a copy of the bucket.
+func (p place) published() (string, error) {
+	at, err := p.addresses()
+	if err != nil {
+		return "", err
+	}
+	folder := strings.TrimPrefix(at.Objects, "folder:")
+	if folder != at.Objects {
+		return folder, nil
+	}
+	if folder, err = os.MkdirTemp(string(p), "copy"); err != nil {
+		return "", err
+	}
+	ctx, cancel := context.WithTimeout(context.Background(), longest)
+	defer cancel()
+	objects, err := stores.ObjectsAt(ctx, at.Objects)
+	if err != nil {
+		return "", err
+	}
+	defer objects.Close()
+	_, err = stores.Copy(ctx, objects, folder, stagingPrefix, "conditional-put/")
+	return folder, err
 }
 
 func (p place) right(t testing.TB, a *answers) check.Report {
@@ -365,6 +373,19 @@ func (p place) right(t testing.TB, a *answers) check.Report {
 	must(t, err)
 	if report.Repeats != 0 {
 		t.Fatalf("%d entries stand in the log twice", report.Repeats)
+	}
+	return report
+}
+
+// rightTwice has a second judge look at the heads, too, which is in Python and shares no code with the first one.
+func (p place) rightTwice(t testing.TB, a *answers) check.Report {
+	t.Helper()
+	report := p.right(t, a)
+	folder, err := p.published()
+	must(t, err)
+	said, err := exec.Command("python3", "../../tests/tiles/heads.py", folder).CombinedOutput()
+	if err != nil || !strings.HasSuffix(string(said), fmt.Sprintf(" %d leaves\n", report.Leaves)) {
+		t.Fatalf("heads.py: %v: %s", err, said)
 	}
 	return report
 }
