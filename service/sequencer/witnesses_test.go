@@ -16,6 +16,7 @@ import (
 	"testing"
 
 	"golang.org/x/mod/sumdb/note"
+	"golang.org/x/mod/sumdb/tlog"
 
 	"wagtenib/service/log"
 	"wagtenib/service/signer"
@@ -394,4 +395,80 @@ func TestWitnessesAndBehindSwap(t *testing.T) {
 	config.BehindSwap, config.Witnesses = true, newWitnessed(t, p, 3).circle(t)
 	_, err := start(limited(t), config, hooks{})
 	wants(t, err, ErrConfig)
+}
+
+// counted are objects of which each reading is counted.
+type counted struct {
+	stores.Objects
+	gets atomic.Int64
+}
+
+func (c *counted) Get(ctx context.Context, name string, most int64) ([]byte, error) {
+	c.gets.Add(1)
+	return c.Objects.Get(ctx, name, most)
+}
+
+// TestProofs: the proofs that witnesses ask for are those of the tree, each made once, of what a round has in hand, the edge, and the store.
+func TestProofs(t *testing.T) {
+	t.Parallel()
+	p, ctx, got := newPlace(t), limited(t), &answers{}
+	config := p.config(t)
+	objects := &counted{Objects: config.Objects}
+	config.Objects = objects
+	s := started(t, config, hooks{})
+	must(t, got.submitAll(ctx, s, 0, 300, 300))
+	head, err := s.Checkpoint(ctx)
+	must(t, err)
+	must(t, s.End(ctx))
+	state := s.newestKnown().state
+	heads := map[uint64]log.Head{head.TreeSize: head}
+	for _, from := range []uint64{1, 44, 256, 299} {
+		proof := s.proofsTo(state, nil)
+		before := objects.gets.Load()
+		first, err := proof(ctx, from)
+		must(t, err)
+		once := objects.gets.Load()
+		again, err := proof(ctx, from)
+		must(t, err)
+		if fmt.Sprint(first) != fmt.Sprint(again) || objects.gets.Load() != once || from == 1 && once == before {
+			t.Errorf("from %d: read %d times, and %d times more", from, once-before, objects.gets.Load()-once)
+		}
+		var path tlog.TreeProof
+		for _, one := range first {
+			path = append(path, one)
+		}
+		root, err := tlog.TreeHash(int64(from), readerOf(t, p, 300))
+		must(t, err)
+		if err := tlog.CheckTree(path, 300, tlog.Hash(heads[300].RootHash), int64(from), root); err != nil {
+			t.Errorf("from %d: %v", from, err)
+		}
+	}
+}
+
+// readerOf has the hashes of a place's log, by its data tiles alone.
+func readerOf(t testing.TB, p place, size int) tlog.HashReader {
+	t.Helper()
+	var hashes []tlog.Hash
+	reader := tlog.HashReaderFunc(func(indexes []int64) (found []tlog.Hash, err error) {
+		for _, i := range indexes {
+			found = append(found, hashes[i])
+		}
+		return found, nil
+	})
+	for n := 0; n < size; {
+		name := fmt.Sprintf("tile/data/%03d", n/tileWidth)
+		if size-n < tileWidth {
+			name += fmt.Sprintf(".p/%d", size-n)
+		}
+		tile, err := os.ReadFile(filepath.Join(p.objects(), name))
+		must(t, err)
+		leaves, err := leavesOf(tile)
+		must(t, err)
+		for _, one := range leaves {
+			stored, err := tlog.StoredHashesForRecordHash(int64(n), tlog.Hash(one.hash()), reader)
+			must(t, err)
+			hashes, n = append(hashes, stored...), n+1
+		}
+	}
+	return reader
 }
