@@ -1,4 +1,4 @@
-.PHONY: help demo test check service service-test service-engines service-faults service-clients cluster cluster-status cluster-stop link install install-library install-ctlog install-ctlogd install-ctmonitor install-ctguard install-cttile install-ctproof install-ctwitness fuzz load sweep wrong sources serve serve-ctlogd serve-witness tiles interop release reproduce bare
+.PHONY: help demo test check service service-test service-engines service-faults service-clients cluster cluster-status cluster-stop link install install-library install-ctlog install-ctlogd install-ctmonitor install-ctguard install-cttile install-ctproof install-ctwitness fuzz load sweep wrong sources serve serve-ctlogd serve-witness tiles interop release reproduce bare container
 
 SECONDS ?= 60
 RUNS ?= 20
@@ -106,9 +106,15 @@ install-library:
 release: ## puts what is built into release/out: a tarball, Debian packages, SHA256SUMS and what they are made of
 	@PYTHONDONTWRITEBYTECODE=1 release/release.py --built "$(BUILT)"
 
-# As root, with mmdebstrap, after make release.
-bare: ## installs the release's packages on a bare Debian, and runs the lines of docs/OPERATING.md there as they stand
-	@PYTHONDONTWRITEBYTECODE=1 tests/bare/bare.py
+# As root, with mmdebstrap. Where a program of the crates isn't built, one in Python stands in for it.
+bare: ## makes a release's packages, installs them on a bare Debian, and runs the lines of docs/OPERATING.md there as they stand
+	@checks/needs.sh service
+	@PYTHONDONTWRITEBYTECODE=1 tests/bare/bare.py --built "$(BUILT)"
+
+# As root, with buildah, podman and mmdebstrap.
+container: ## builds the image of service/Containerfile out of a release's package, and runs a log in it
+	@checks/needs.sh service
+	@PYTHONDONTWRITEBYTECODE=1 tests/bare/container.py --built "$(BUILT)"
 
 reproduce: ## builds the programs of the Go part, and those of the crates that are proved here, twice in folders of other names, and compares their bytes
 	@release/reproduce.sh

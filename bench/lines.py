@@ -36,6 +36,8 @@ def report(what, lines, size, seconds):
 
 
 def main():
+    if len(sys.argv) < 2:
+        sys.exit(__doc__)
     program = sys.argv[1]
     count = int(sys.argv[2]) if len(sys.argv) > 2 else 100_000
     lines = [add_chain(0, number) for number in range(count)]

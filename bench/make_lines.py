@@ -49,6 +49,8 @@ def write_block(block, published, now, write):
 
 
 def main():
+    if len(sys.argv) < 2:
+        sys.exit(__doc__)
     count = int(sys.argv[1])
     fronts = int(sys.argv[2]) if len(sys.argv) > 2 else 1
     most = int(sys.argv[3]) if len(sys.argv) > 3 else BLOCK

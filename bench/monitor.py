@@ -13,6 +13,7 @@ import os
 import statistics
 import struct
 import subprocess
+import sys
 import threading
 import time
 from pathlib import Path
@@ -107,6 +108,8 @@ def main():
     parser.add_argument("--blocks", type=int, default=23, help="how many times 64 bytes a certificate has")
     parser.add_argument("--program", default=str(ROOT / "crates/ctmonitor/out/ctmonitor"))
     args = parser.parse_args()
+    if not Path(args.program).exists():
+        sys.exit(f"monitor.py: {args.program} isn't there: make demo builds ctmonitor")
     print(f"load {os.getloadavg()[0]:.1f} at the start, {args.turns} turns")
     for size in args.sizes:
         top = text(root(hashlib.sha256(b"\0" + leaf(i, args.blocks)).digest() for i in range(size)))

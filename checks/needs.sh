@@ -94,7 +94,7 @@ if [ "$what" = service ] || [ "$what" = service-test ] || [ "$what" = service-fo
   SETUP=no exec "checks/needs.sh" "$what"
 fi
 
-command -v rt >/dev/null || lacks "rt, the command of the Rattle kit: put the kit's folder bin on the PATH (README.md, 'The kit')"
+command -v rt >/dev/null || lacks "rt, the command of the Rattle kit: put the kit's folder bin on the PATH (README.md, 'With the kit')"
 # (this has python3 among its packages)
 if [ "$what" = test ] && [ "${GO:-}" != no ] && [ "$missing" = 0 ]; then
   checks/needs.sh service-for-test || { echo "make test tries the Go part too; make test GO=no leaves it out" >&2; exit 1; }

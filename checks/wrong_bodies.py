@@ -74,6 +74,8 @@ def tried(names):
             sys.exit(f"wrong_bodies.py: crates/{name} has no edit in wrong-bodies")
     gate.end_in_order()
     # (the copy takes some GB: a folder of the disk, not of memory)
+    if not shutil.which("rt"):
+        sys.exit("checks/wrong_bodies.py lacks rt, the command of the Rattle kit: put the kit's folder bin on the PATH (README.md, 'With the kit')")
     disk = None if "TMPDIR" in os.environ or not os.access("/var/tmp", os.W_OK) else "/var/tmp"
     with tempfile.TemporaryDirectory(prefix="wagtenib-", dir=disk) as room:
         copy = pathlib.Path(room, "copy")

@@ -63,7 +63,10 @@ def submissions_of(lines):
 
 
 def main():
-    chains, (precert, precert_again) = submissions_of(sys.stdin)
+    chains, precertificates = submissions_of(sys.stdin)
+    if len(precertificates) != 2:
+        sys.exit(__doc__)
+    precert, precert_again = precertificates
     signers, roots = chains[:5], chains[5:9] + chains[11:20]
     isrg_x1, isrg_x2 = roots[:2]
     website = chains[-1]

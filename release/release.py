@@ -26,12 +26,15 @@ ROOT = pathlib.Path(__file__).resolve().parent.parent
 PROGRAMS = {"ctlog": "make demo", "ctmonitor": "make demo", "ctlogd": "make serve-ctlogd", "cttile": "make serve", "ctguard": "make serve", "ctproof": "make serve", "ctwitness": "make serve-witness"}
 SERVICE = ("ctserve", "ctcheck", "ctread", "ctload", "ctwitness-serve")
 UNITS = ("ctserve@.service", "ctwitness-serve@.service")
+# Those of ctmonitor's package, and the file by which what it keeps is turned over.
+WATCHING_UNITS = ("ctmonitor-watch.service", "ctmonitor-watch.timer")
+LOGROTATE = "ctmonitor-watch.logrotate"
 MACHINE, DEBIAN = "x86_64", "amd64"
 LIBRARY = "lib/x86_64-linux-gnu"
 HOMEPAGE = "https://wagtenib.example/"
 
 # What users and operators read, beside the README.
-PAGES = ("OPERATING", "MONITOR", "GUARD", "GROWTH", "TILES", "LINES", "PROMISES", "SCALE", "WITNESS")
+PAGES = ("OPERATING", "MONITOR", "GUARD", "GROWTH", "TILES", "LINES", "PROMISES", "WITNESS")
 
 # Each package: what it is, what it needs beside libc6, and what it recommends.
 PACKAGES = {
@@ -44,8 +47,8 @@ PACKAGES = {
     "ctmonitor": (
         "monitor and auditor of Certificate Transparency logs, proved",
         "ctmonitor judges what a log answers: heads, entries and proofs. ctmonitor-watch fetches it with curl,\nfrom logs of RFC 6962 and from tiled ones.",
-        "curl, python3",
-        "openssl",
+        "adduser, curl, python3",
+        "logrotate, openssl",
     ),
     "libwagtenib-dev": (
         "proved checks of Certificate Transparency proofs, for C",
@@ -53,6 +56,16 @@ PACKAGES = {
         "",
         "",
     ),
+}
+
+
+# What lintian says of the packages that is so on purpose, with the reason.
+UNSTRIPPED = "the bytes are those of the build, which make reproduce compares"
+NO_PAGES = "each program says at --help what it takes; the pages are in /usr/share/doc"
+OVERRIDES = {
+    "wagtenib": {"unstripped-binary-or-object": UNSTRIPPED, "no-manual-page": NO_PAGES},
+    "ctmonitor": {"unstripped-binary-or-object": UNSTRIPPED, "no-manual-page": NO_PAGES},
+    "libwagtenib-dev": {"unstripped-binary-or-object": UNSTRIPPED},
 }
 
 
@@ -113,8 +126,8 @@ once more and compares their bytes with SHA256SUMS.
         return {f"ctmonitor-{name}": ROOT / "examples" / "monitor" / file for name, file in files.items()}
 
     def shared(self):
-        """What an operator puts into place: the site, the rules of alarms."""
-        return {path.name: path for path in (ROOT / "service" / name for name in ("nginx.conf", "ctserve.rules.yml")) if path.exists()}
+        """What an operator puts into place: Prometheus' settings, the rules of alarms, the dashboard, and what makes an image of a container."""
+        return {path.name: path for path in (ROOT / "service" / name for name in ("prometheus.yml", "ctserve.rules.yml", "ctserve.dashboard.json", "Containerfile"))}
 
     def pkg_config(self, prefix):
         return (ROOT / "include" / "wagtenib.pc.in").read_text().replace("@PREFIX@", prefix).replace("@VERSION@", self.version)
@@ -151,6 +164,8 @@ once more and compares their bytes with SHA256SUMS.
             found["usr/bin/ctmonitor"] = (self.programs["ctmonitor"].read_bytes(), 0o755)
             found.update({f"usr/bin/{command}": (path.read_bytes(), 0o755) for command, path in self.watching().items()})
             found.update({f"{doc}/MONITOR.md": (self.documents()["MONITOR.md"].read_bytes(), 0o644)})
+            found.update(installed_units("examples/monitor", WATCHING_UNITS))
+            found["etc/logrotate.d/ctmonitor-watch"] = ((ROOT / "examples" / "monitor" / LOGROTATE).read_bytes(), 0o644)
         elif name == "libwagtenib-dev":
             found.update(self.library_files(f"usr/{LIBRARY}"))
             found[f"usr/{LIBRARY}/pkgconfig/wagtenib.pc"] = (self.pkg_config("/usr").replace("${prefix}/lib", f"${{prefix}}/{LIBRARY}").encode(), 0o644)
@@ -158,13 +173,13 @@ once more and compares their bytes with SHA256SUMS.
             found[f"{doc}/LINKING.md"] = (self.documents()["LINKING.md"].read_bytes(), 0o644)
         else:
             found.update({f"usr/bin/{command}": (path.read_bytes(), 0o755) for command, path in self.programs.items() if command != "ctmonitor"})
-            for unit in UNITS:
-                text = (ROOT / "service" / unit).read_text().replace("/usr/local/bin/", "/usr/bin/")
-                found[f"lib/systemd/system/{unit}"] = (text.encode(), 0o644)
+            found.update(installed_units("service", UNITS))
             found.update({f"usr/share/wagtenib/{file}": (path.read_bytes(), 0o644) for file, path in self.shared().items()})
             found.update({f"{doc}/{page}": (path.read_bytes(), 0o644) for page, path in self.documents().items() if page != "LICENSE"})
             found[f"{doc}/PROVED"] = (self.proved().encode(), 0o644)
             found.update({"etc/ctserve": None, "etc/ctwitness": None})
+        overrides = "".join(f"# {why}\n{name}: {tag}\n" for tag, why in OVERRIDES[name].items())
+        found[f"usr/share/lintian/overrides/{name}"] = (overrides.encode(), 0o644)
         return found
 
     def changelog(self, name):
@@ -187,6 +202,12 @@ once more and compares their bytes with SHA256SUMS.
         paths = {"ctmonitor": [self.programs["ctmonitor"]], "libwagtenib-dev": [self.linked.with_suffix(".so")]}.get(name) or [path for it, path in self.programs.items() if it != "ctmonitor"]
         asked = [tuple(map(int, it.split("."))) for path in paths for it in re.findall(r"GLIBC_([0-9.]+)\)", run("objdump", "-T", path).stdout)]
         return ".".join(map(str, max(asked, default=(2, 34))))
+
+
+def installed_units(folder, names):
+    """Units as a package has them: of the programs that it installs."""
+    texts = {name: (ROOT / folder / name).read_text().replace("/usr/local/bin/", "/usr/bin/") for name in names}
+    return {f"lib/systemd/system/{name}": (text.encode(), 0o644) for name, text in texts.items()}
 
 
 def maintainer():
@@ -258,6 +279,19 @@ fi
 """
 
 
+WATCHING_POSTINST = """#!/bin/sh
+set -e
+if [ "$1" = configure ]; then
+  adduser --quiet --system --group --no-create-home --home /var/lib/ctmonitor-watch ctmonitor-watch
+  if [ -d /run/systemd/system ]; then
+    systemctl --system daemon-reload >/dev/null || true
+  fi
+fi
+"""
+
+SCRIPTS = {"wagtenib": {"postinst": POSTINST, "postrm": POSTRM}, "ctmonitor": {"postinst": WATCHING_POSTINST, "postrm": POSTRM}}
+
+
 def write_tree(files, folder):
     for path, it in files.items():
         at = folder / path
@@ -280,8 +314,10 @@ def make_package(release, name, to):
         sums = {path: it[0] for path, it in files.items() if isinstance(it, tuple)}
         files = {**files, "DEBIAN/control": (release.control(name, size).encode(), 0o644)}
         files["DEBIAN/md5sums"] = ("".join(f"{hashlib.md5(data).hexdigest()}  {path}\n" for path, data in sorted(sums.items())).encode(), 0o644)
-        if name == "wagtenib":
-            files.update({"DEBIAN/postinst": (POSTINST.encode(), 0o755), "DEBIAN/postrm": (POSTRM.encode(), 0o755)})
+        if scripts := SCRIPTS.get(name):
+            files.update({f"DEBIAN/{script}": (text.encode(), 0o755) for script, text in scripts.items()})
+        if kept := [f"/{path}" for path, it in sorted(files.items()) if path.startswith("etc/") and it]:
+            files["DEBIAN/conffiles"] = ("".join(f"{path}\n" for path in kept).encode(), 0o644)
         write_tree(files, folder)
         path = to / f"{name}_{release.version}_{DEBIAN}.deb"
         environment = {**os.environ, "SOURCE_DATE_EPOCH": str(release.moment)}
@@ -332,6 +368,13 @@ def sbom(release):
     return json.dumps(document, indent=1) + "\n"
 
 
+def tagging(release):
+    """What is typed to tag the commit of a release: a signed tag, whose text has the sums."""
+    if release.commit.endswith("+"):
+        return "No tag: files differ from the commit. A release is made of a commit, with a logic that is known."
+    return f"To tag it, once these sums are another machine's, too:\ngit tag --sign v{release.version} --file release/out/SHA256SUMS {release.commit} && git push origin v{release.version}"
+
+
 def main():
     words = argparse.ArgumentParser(description="Makes a release out of what is built.")
     words.add_argument("--built", default=ROOT / "crates", help="the folder in which the crates' builds lie")
@@ -353,6 +396,7 @@ def main():
     (release.to / "SBOM.spdx.json").write_text(sbom(release))
     (release.to / "SHA256SUMS").write_text(sums_of({path.name: path.read_bytes() for path in release.to.iterdir()}))
     print((release.to / "SHA256SUMS").read_text(), end="")
+    print(tagging(release))
 
 
 if __name__ == "__main__":

@@ -199,9 +199,15 @@ A log of ${all//,/, } runs:
 END_OF_TEXT
 }
 
+# A cluster that was never started can't be looked at, nor stopped.
+is_there() {
+  [ -e "$folder/engines/addresses" ] || { echo "cluster.sh: no cluster is in $folder: make cluster starts one" >&2; exit 1; }
+}
+
 # each NAME..: a line for each process.
 status() {
   local name state names
+  is_there
   for name in $(nodes | sed 's/^/node-/') $(witnesses | sed 's/^/witness-/') signer loader reader; do
     state=gone
     ! process "$name" >/dev/null || state=runs
@@ -217,6 +223,7 @@ status() {
 
 stop() {
   local name status=0 i
+  is_there
   for name in loader reader; do end "$name"; done
   rm -f "$folder/checkpoint"
   for i in $(nodes); do

@@ -169,6 +169,8 @@ def main():
     words.add_argument("program", nargs="?", default=PROGRAM)
     words.add_argument("--step", type=int, default=1)
     given = words.parse_args()
+    if not os.path.exists(given.program):
+        sys.exit(f"live_break.py: {given.program} isn't there: build it by 'rt run -- --help' in crates/ctlogd")
     waiting = [line(1, "await-size", tree_size=9), line("operator", "sequence", **{"from": 1}, count=1, now=3)]
     try:
         broken_output(given.program, "the first line", [], 0, [QUESTION])

@@ -218,6 +218,8 @@ def check(program, seed):
 
 
 def main():
+    if len(sys.argv) < 2:
+        sys.exit(__doc__)
     inputs = int(sys.argv[2]) if len(sys.argv) > 2 else 200
     replies = sum(check(sys.argv[1], seed) for seed in range(inputs))
     print(f"{inputs} inputs, {replies} replies: the same as expected.py's")

@@ -1,9 +1,13 @@
 #!/usr/bin/env python3
-"""Runs the commands of README.md in the order of the page, in a copy of the repository in which nothing is built, without the kit.
+"""Runs the commands of README.md in the order of the page, in a copy of the repository in which nothing is built, without the kit; and says of each
+command of the other pages what runs it.
 
 `make serve` stays until the end, at a port that is free. What each command prints is looked at. Where ctlog is built, its first session is run, and
 else that of expected.py. A command of README.md that this script doesn't know is a fault. It prints one line, and ends with status 1 at the first thing
 that isn't as README.md has it. Where Go or one of its packages isn't installed, it says so, and runs none that needs them.
+
+A command of another page stands in ELSEWHERE, with what runs it: this script, in that copy; bare/bare.py, on a bare Debian with the packages of a release;
+or nothing here, with the reason. One that doesn't is a fault, and so is one that stands there and on no page.
 """
 import json
 import os
@@ -20,17 +24,28 @@ import urllib.request
 ROOT = pathlib.Path(__file__).resolve().parent.parent
 sys.path.append(str(ROOT / "checks"))
 
-from documents import BLOCK, files  # noqa: E402
+from documents import BLOCK, files, pages  # noqa: E402
 
 
 def fail(why):
     sys.exit(f"readme.py: {why}")
 
 
-def commands():
-    """The commands of README.md, in order."""
-    blocks = BLOCK.findall((ROOT / "README.md").read_text())
-    return [command for block in blocks for command in re.findall(r"^    \$ (.*)$", block, re.M)]
+def commands(page=ROOT / "README.md"):
+    """The commands of a page, in order, each with what a << takes."""
+    blocks = BLOCK.findall(re.sub(r"<!-- Made by .*?<!-- Made until here. -->", "", page.read_text(), flags=re.S))
+    found, end = [], None
+    for line in "\n".join(blocks).splitlines():
+        if end:
+            found[-1] += "\n" + line[4:]
+            end = None if line[4:] == end else end
+        elif line.startswith("    $ "):
+            found.append(line[6:])
+            here = re.search(r"<<(\w+)$", line)
+            end = here and here[1]
+    if end:
+        fail(f"{page.name}: a command lacks the end {end}")
+    return found
 
 
 def free_port():
@@ -108,6 +123,61 @@ class Page:
             self.log.communicate()
 
 
+HERE, BARE, KIT, GATE, ENGINES, NET = "this script", "make bare", "the kit, for an hour", "make test", "engines", "the net"
+# The commands of the other pages, each by how it begins, and what runs it.
+ELSEWHERE = {
+    "docs/OPERATING.md": {"": BARE},
+    "docs/MONITOR.md": {"apt-get": BARE, "LOG=tiled+": BARE, "ctmonitor-watch --logs https://": NET, "cat > /etc/ctmonitor-watch.conf": BARE, "systemctl": BARE, "mkdir -p ct-watch": BARE},
+    "examples/README.md": {"examples/pem_lines.py": HERE, "examples/bad_lines.py": HERE},
+    "release/README.md": {"make demo": KIT, "cd release/out && sha256sum": GATE, "apt-get install": BARE},
+    "service/README.md": {"make service-engines": ENGINES, "make service-test": GATE, "make service": HERE, "openssl genpkey": BARE, "cp 2027h1.pem": BARE, "cat > /etc/ctwitness/a.conf": BARE,
+                          "runuser -u ctwitness": BARE, "systemctl": BARE},
+}
+
+
+def run_by(page, command):
+    """What runs a command of another page."""
+    known = ELSEWHERE.get(str(page.relative_to(ROOT)), {})
+    return next((runs for beginning, runs in known.items() if command.startswith(beginning)), None)
+
+
+def elsewhere():
+    """Each command of the other pages with its page, in order. All of them are known, and nothing else is."""
+    found = {page: commands(page) for page in pages() if page != ROOT / "README.md"}
+    unknown = [f"{page.name}: {command}" for page, given in found.items() for command in given if run_by(page, command) is None]
+    beginnings = [(name, beginning) for name, known in ELSEWHERE.items() for beginning in known]
+    gone = [f"{name}: {beginning}" for name, beginning in beginnings if not any(command.startswith(beginning) for command in found.get(ROOT / name, []))]
+    if unknown or gone:
+        fail(f"commands of pages that ELSEWHERE hasn't, or that no page has: {unknown + gone}")
+    return found
+
+
+def bare_commands():
+    """Those that bare.py runs, in the order of the pages below."""
+    found = elsewhere()
+    pages_in_order = ("docs/OPERATING.md", "docs/MONITOR.md", "service/README.md")
+    return [command for name in pages_in_order for command in found[ROOT / name] if run_by(ROOT / name, command) == BARE]
+
+
+def pem_lines(page):
+    """The commands of examples/README.md, over chains of files of their own, print what the page has."""
+    chain = (page.copy / "ct-log" / "root.pem").read_text()
+    for name, many in (("chain.pem", 2), ("other.pem", 1)):
+        (page.copy / name).write_text(chain * many)
+    text = (ROOT / "examples" / "README.md").read_text()
+    first, second = commands(ROOT / "examples" / "README.md")
+    said = subprocess.run(["sh", "-c", first], stderr=subprocess.PIPE, **page.how)
+    due = re.search(r"^    (pem_lines\.py: .*)$", text, re.M)[1]
+    lines = (page.copy / "lines.jsonl").read_text()
+    if said.returncode or said.stderr.strip() != due or len(lines.splitlines()) != 2:
+        fail(f"{first}: status {said.returncode}: {said.stderr}")
+    (page.copy / "lines.jsonl").write_text(lines + '{"who":0,"op":"get-stx"}\n')
+    said = subprocess.run(["sh", "-c", second], stdout=subprocess.PIPE, **page.how)
+    due = re.search(r"^    (line 3: .*), \.\.$", text, re.M)[1]
+    if said.returncode != 1 or not said.stdout.startswith(due):
+        fail(f"{second}: status {said.returncode}: {said.stdout}")
+
+
 SIGNED = r'\{"sct_version":0,.*"signature":"[A-Za-z0-9+/=]+"\}\s*'
 CHECKPOINT = "ct-log.example\n1\n[A-Za-z0-9+/=]{44}\n\n\u2014 ct-log.example [A-Za-z0-9+/=]+\n"
 FOUND = r".*: accepted 1 leaves\n.*: FOUND www\.example\.org: entry 0, a certificate, .*\n"
@@ -124,7 +194,7 @@ KNOWN = [
 def main():
     missing = subprocess.run([ROOT / "checks" / "needs.sh", "service-for-serve"], stderr=subprocess.PIPE, text=True, env={**os.environ, "SETUP": "no"}).stderr.splitlines()
     missing += [f"it lacks {tool}" for tool in ("curl", "flock") if not shutil.which(tool)]
-    given = commands()
+    given, others = commands(), elsewhere()
     unknown = [command for command in given if not any(command.startswith(beginning) for beginning, _ in KNOWN)]
     if unknown or len(given) < len(KNOWN):
         fail(f"README.md has commands that aren't run here, or lacks some: {unknown}")
@@ -136,10 +206,20 @@ def main():
                 if not missing or beginning == "crates/ctlog/out/ctlog":
                     does(page, command)
                     page.count += 1
+            if not missing:
+                # (README's make serve built it, in this copy)
+                page.run("make service", 0, "")
+                pem_lines(page)
         finally:
             page.end()
     left_out = f"; what needs Go isn't tried: {missing[0]}" if missing else ""
+    by = {}
+    for name, known in others.items():
+        for command in known:
+            by.setdefault(run_by(name, command), []).append(command)
     print(f"README.md: {page.count} commands do what it says, in its order, where nothing is built{left_out}.")
+    print(f"The other pages have {sum(map(len, by.values()))} commands: " + ", ".join(f"{len(given)} by {runs}" for runs, given in by.items() if runs not in (KIT, ENGINES, NET))
+          + "; not run here: " + "; ".join(f"{command} (wants {runs})" for runs in (KIT, ENGINES, NET) for command in by.get(runs, [])) + ".")
 
 
 if __name__ == "__main__":

@@ -119,6 +119,8 @@ class Sweep:
 
     def __init__(self, program, folder):
         self.program, self.folder = program or CRATES / self.NAME / "out" / self.NAME, folder
+        if not pathlib.Path(self.program).exists():
+            sys.exit(f"sweep.py: {self.program} isn't there: build it by 'rt run -- --help' in crates/{self.NAME}")
         self.words, self.given = self.asked()
         self.input = folder / "input"
         self.input.write_bytes(self.given)

@@ -33,6 +33,8 @@ def leaf(certificate):
 
 
 def main():
+    if len(sys.argv) < 2:
+        sys.exit(__doc__)
     verify = ctypes.CDLL(sys.argv[1]).wagtenib_verify_inclusion
     verify.argtypes = [ctypes.c_char_p, ctypes.c_uint64, ctypes.c_uint64, ctypes.c_char_p, ctypes.c_size_t, ctypes.c_char_p]
     verify.restype = ctypes.c_uint32

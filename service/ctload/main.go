@@ -1,5 +1,5 @@
 // Command ctload submits certificates and precertificates of an authority of its own to the nodes of a log, and measures how long
-// they take. It adds its root to a file of roots before it begins, and waits until each node has that. Each timestamp is written as a
+// they take. It adds its root to a file of roots before it begins, has a command tell the nodes, and waits until each has that. Each timestamp is written as a
 // line that ctcheck judges (check.Answer). A submission that isn't answered is sent again, to the next node, until it is.
 //
 // It ends after its time or at a signal, with status 1 where a submission was refused as wrong.
@@ -16,6 +16,7 @@ import (
 	"math/rand"
 	"net/http"
 	"os"
+	"os/exec"
 	"os/signal"
 	"sort"
 	"strings"
@@ -31,6 +32,7 @@ import (
 type load struct {
 	nodes     []string
 	authority *standin.Authority
+	ends      time.Time
 	repeats   int
 	client    *http.Client
 	answers   *json.Encoder
@@ -72,6 +74,8 @@ func main() {
 func run() error {
 	nodes := flag.String("nodes", "http://127.0.0.1:8618", "`addresses` of the log's nodes, with commas between them")
 	roots := flag.String("roots", "", "`file` of roots in PEM, to which its own is added")
+	reload := flag.String("reload", "", "`command` of the shell, once the root is there, that has the nodes read their roots anew")
+	notAfter := flag.String("not-after", "", "`day` on which the certificates end, as 2027-03-01; in half a year where none is given")
 	answers := flag.String("answers", "", "`file` to which what was answered is added")
 	clients := flag.Int("clients", 8, "submissions at once")
 	rate := flag.Float64("rate", 0, "submissions a second, altogether; as fast as they are answered where it is 0")
@@ -79,6 +83,13 @@ func run() error {
 	repeats := flag.Int("repeats", 5, "of 100 submissions so many are sent again")
 	tell := flag.Duration("tell", time.Minute, "how far two lines with figures are apart")
 	flag.Parse()
+	ends := time.Now().AddDate(0, 6, 0)
+	if *notAfter != "" {
+		var err error
+		if ends, err = time.Parse("2006-01-02", *notAfter); err != nil {
+			return err
+		}
+	}
 	authority, err := standin.NewAuthority(fmt.Sprintf("An authority of %d", os.Getpid()))
 	if err != nil {
 		return err
@@ -86,12 +97,19 @@ func run() error {
 	if err := add(*roots, authority.PEM()); err != nil {
 		return err
 	}
+	if *reload != "" {
+		command := exec.Command("sh", "-c", *reload)
+		command.Stdout, command.Stderr = os.Stderr, os.Stderr
+		if err := command.Run(); err != nil {
+			return fmt.Errorf("%s: %w", *reload, err)
+		}
+	}
 	file, err := os.OpenFile(*answers, os.O_CREATE|os.O_APPEND|os.O_WRONLY, 0o644)
 	if err != nil {
 		return err
 	}
 	defer file.Close()
-	l := &load{nodes: strings.Split(*nodes, ","), authority: authority, repeats: *repeats, answers: json.NewEncoder(file), again: map[string]int{},
+	l := &load{nodes: strings.Split(*nodes, ","), authority: authority, ends: ends, repeats: *repeats, answers: json.NewEncoder(file), again: map[string]int{},
 		client: &http.Client{Timeout: answersWithin, Transport: &http.Transport{MaxIdleConnsPerHost: *clients}}}
 	ctx, stop := signal.NotifyContext(context.Background(), syscall.SIGTERM, syscall.SIGINT)
 	defer stop()
@@ -209,12 +227,11 @@ func (l *load) next(chance *rand.Rand) (submission, error) {
 		return l.past[chance.Intn(len(l.past))], nil
 	}
 	l.mu.Unlock()
-	notAfter := time.Now().AddDate(0, 6, 0)
 	if chance.Intn(3) > 0 {
-		der, err := l.authority.Issue(false, notAfter)
+		der, err := l.authority.Issue(false, l.ends)
 		return submission{"add-chain", standin.Submission(der), check.Answer{Certificate: der}}, err
 	}
-	der, tbs, err := l.authority.IssuePair(notAfter)
+	der, tbs, err := l.authority.IssuePair(l.ends)
 	issuer := sha256.Sum256(l.authority.Root.RawSubjectPublicKeyInfo)
 	return submission{"add-pre-chain", standin.Submission(der), check.Answer{IssuerKeyHash: issuer[:], TBSCertificate: tbs}}, err
 }

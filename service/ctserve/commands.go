@@ -33,6 +33,7 @@ var commands = map[string]func(words []string, answers, faults io.Writer) error{
 	"list-entry": runListEntry,
 	"check":      runCheck,
 	"shards":     runShards,
+	"nginx":      runNginx,
 	"places":     runPlaces,
 }
 

@@ -7,6 +7,7 @@ import (
 	"crypto/tls"
 	"crypto/x509"
 	"encoding/json"
+	"encoding/pem"
 	"errors"
 	"fmt"
 	"io"
@@ -22,6 +23,7 @@ import (
 
 	"wagtenib/service/check"
 	"wagtenib/service/signer"
+	"wagtenib/service/softhsm"
 	"wagtenib/service/web/standin"
 )
 
@@ -424,6 +426,11 @@ func TestSettings(t *testing.T) {
 		{file(needed + "not-after-from 2027-01-01\nnot-after-to 2027-01-01"), "isn't before"},
 		{file(needed + "not-after-from soon"), "not-after-from"},
 		{file(needed + "proxies 1.2.3"), "proxies"},
+		{file(needed + "submitters 203.0.113.0/24"), "no bound above 0"},
+		{file(needed + "submitters 203.0.113.0/24=0"), "no bound above 0"},
+		{file(needed + "submitters 203.0.113.0/24=many"), "no bound above 0"},
+		{file(needed + "submitters 203.0.113/24=9"), "submitters"},
+		{file(needed + "submitters 203.0.113.1/24=9,203.0.113.2/24=8"), "203.0.113.0/24 stands there twice"},
 		{file(needed + "nodes-listen 127.0.0.1:1"), "go together"},
 		{file(needed + "register etcd://127.0.0.1:2379/log\nnodes-listen 127.0.0.1:1\nnodes-address http://x/\nnodes-secret " + at.path("secret")), "one store of places"},
 		{file(needed + "nodes-listen 127.0.0.1:1\nnodes-address http://x/\nnodes-secret " + at.path("none")), "no such file"},
@@ -444,6 +451,9 @@ func TestSettings(t *testing.T) {
 		s.window.From.Year() != 2027 || s.node.secret != "sixteen bytes or more" || strings.Join(s.node.step, " ") != "a b --origin z" ||
 		s.node.guardState != "file:ct-log.guard" || s.node.latestHead != "ct-log.latest-head" || strings.Join(s.node.guard, " ") != "ctguard" || s.node.store != "folder:ct-log/objects" || s.node.register != "file:ct-log/register" || s.node.places != "sqlite:ct-log/places" {
 		t.Errorf("%+v", s)
+	}
+	if s, err := parse(file(needed+"submitters 203.0.113.9/24=512, 2001:db8::7=9"), io.Discard); err != nil || fmt.Sprint(s.limits.Submitters) != "[{203.0.113.0/24 512} {2001:db8::7/128 9}]" {
+		t.Errorf("submitters: %v, %+v", err, s)
 	}
 	for text, rests := range map[string]bool{"": false, "store folder:x": false, "store s3://a.example/b": true, "register etcd://127.0.0.1:2379/log": true, "places etcd://127.0.0.1:2379/log": true} {
 		if s, err := parse(file(needed+text), io.Discard); err != nil || s.node.rests() != rests {
@@ -569,6 +579,50 @@ func TestRealLog(t *testing.T) {
 	p.signal(syscall.SIGTERM)
 	if status := p.ends(); status != 0 {
 		t.Errorf("it ended with status %d", status)
+	}
+}
+
+// TestKeyInAToken: a log whose key is in a token of PKCS#11, over the whole of it: a signer of its own logs in, and what is answered and published is
+// signed by the token's key, also behind another start.
+func TestKeyInAToken(t *testing.T) {
+	module, pin := softhsm.Token(t)
+	at := newPlace(t)
+	uri := "pkcs11:token=log-token;object=key?module-path=" + module + "&pin-source=file:" + pin
+	words := append(at.realWords("--signing-key", uri), "--guard", at.guard)
+	status, said, told := does("key", "--show", uri)
+	if status != 0 {
+		t.Fatalf("its key isn't shown: %s", told)
+	}
+	_, public, _ := strings.Cut(said, "-----BEGIN")
+	block, _ := pem.Decode([]byte("-----BEGIN" + public))
+	if block == nil {
+		t.Fatalf("no key: %s", said)
+	}
+	var answers []check.Answer
+	for i, create := range []string{"true", "false"} {
+		p := started(t, "", append(words, "--create="+create)...)
+		der, err := at.authority.Issue(false, time.Date(2027, 1, 1, 0, 0, 0, 0, time.UTC))
+		if err != nil {
+			t.Fatal(err)
+		}
+		status, text := post(p.clients, standin.Submission(der))
+		var read struct {
+			ID         []byte `json:"id"`
+			Timestamp  uint64 `json:"timestamp"`
+			Extensions []byte `json:"extensions"`
+			Signature  []byte `json:"signature"`
+		}
+		if err := json.Unmarshal([]byte(text), &read); err != nil || status != 200 {
+			t.Fatalf("start %d: %d %s", i, status, text)
+		}
+		answers = append(answers, check.Answer{Certificate: der, LogID: read.ID, Timestamp: read.Timestamp, Extensions: read.Extensions, Signature: read.Signature})
+		p.signal(syscall.SIGTERM)
+		if status := p.ends(); status != 0 {
+			t.Fatalf("it ended with status %d", status)
+		}
+	}
+	if report, err := check.Folder(filepath.Join(at.path("log"), "objects"), block.Bytes, answers); err != nil || report.Leaves != 2 {
+		t.Errorf("%+v, %v", report, err)
 	}
 }
 

@@ -2,6 +2,8 @@ package main
 
 import (
 	"bytes"
+	"crypto/tls"
+	"encoding/json"
 	"fmt"
 	"io"
 	"net"
@@ -9,16 +11,18 @@ import (
 	"os"
 	"os/exec"
 	"path/filepath"
+	"regexp"
 	"strings"
 	"syscall"
 	"testing"
 	"time"
 
 	"wagtenib/service/web"
+	"wagtenib/service/web/standin"
 )
 
-// nginxBefore starts nginx by the file for operators, at a port of loopback without TLS, and gives its address.
-func nginxBefore(t *testing.T, clients string) string {
+// nginxFound is the program, without which nothing of this is tried.
+func nginxFound(t *testing.T) string {
 	t.Helper()
 	nginx, err := exec.LookPath("nginx")
 	if err != nil {
@@ -26,27 +30,50 @@ func nginxBefore(t *testing.T, clients string) string {
 			t.Skip("nginx isn't installed")
 		}
 	}
+	return nginx
+}
+
+// siteOf is the site that ctserve nginx makes of a log at an address, of the settings that these lines add to, and of the other words; with what
+// it has of TLS, or without.
+func siteOf(t *testing.T, inClear bool, words ...string) string {
+	t.Helper()
+	status, site, told := does(append([]string{"nginx"}, words...)...)
+	if status != 0 {
+		t.Fatalf("no site: %s", told)
+	}
+	if !inClear {
+		return site
+	}
+	site = strings.ReplaceAll(site, " ssl http2;", ";")
+	return regexp.MustCompile(`(?m)^ +ssl_certificate.*\n`).ReplaceAllString(site, "")
+}
+
+// settingsAt writes a shard's settings, by which nginx's site is made, and gives their file.
+func settingsAt(t *testing.T, folder, name string, lines ...string) string {
+	t.Helper()
+	file := filepath.Join(folder, name+".conf")
+	text := append([]string{"roots /roots.pem", "signing-key /" + name + ".key", "folder /" + name}, lines...)
+	if err := os.WriteFile(file, []byte(strings.Join(text, "\n")), 0o600); err != nil {
+		t.Fatal(err)
+	}
+	return file
+}
+
+// freeAddress is one of loopback at which nobody listens.
+func freeAddress(t *testing.T) string {
+	t.Helper()
 	listener, err := net.Listen("tcp", "127.0.0.1:0")
 	if err != nil {
 		t.Fatal(err)
 	}
-	address := listener.Addr().String()
-	listener.Close()
-	text, err := os.ReadFile("../nginx.conf")
-	if err != nil {
-		t.Fatal(err)
-	}
-	folder := t.TempDir()
-	site := string(text)
-	for _, change := range [][2]string{
-		{"listen 443 ssl http2;", "listen " + address + ";"}, {"ssl_certificate /etc/ssl/log.example.pem;", ""}, {"ssl_certificate_key /etc/ssl/log.example.key;", ""},
-		{"server 127.0.0.1:8618;", "server " + clients + ";"}, {"/var/lib/nginx/ctserve", folder + "/cache"},
-	} {
-		if strings.Count(site, change[0]) != 1 {
-			t.Fatalf("nginx.conf has %q %d times", change[0], strings.Count(site, change[0]))
-		}
-		site = strings.Replace(site, change[0], change[1], 1)
-	}
+	defer listener.Close()
+	return listener.Addr().String()
+}
+
+// nginxWith starts nginx with a site, and waits until it answers at an address, whatever it does.
+func nginxWith(t *testing.T, site, address string) {
+	t.Helper()
+	nginx, folder := nginxFound(t), t.TempDir()
 	paths := ""
 	for _, kind := range []string{"client_body", "proxy", "fastcgi", "uwsgi", "scgi"} {
 		paths += fmt.Sprintf("%s_temp_path %s/%s;\n", kind, folder, kind)
@@ -62,6 +89,9 @@ func nginxBefore(t *testing.T, clients string) string {
 			t.Fatal(err)
 		}
 	}
+	if said, err := exec.Command(nginx, "-t", "-p", folder, "-c", conf).CombinedOutput(); err != nil {
+		t.Fatalf("nginx -t: %s", said)
+	}
 	var said bytes.Buffer
 	command := exec.Command(nginx, "-p", folder, "-c", conf)
 	command.Stderr = &said
@@ -72,9 +102,10 @@ func nginxBefore(t *testing.T, clients string) string {
 		command.Process.Signal(syscall.SIGTERM)
 		command.Wait()
 	})
-	for until := time.Now().Add(10 * time.Second); ; time.Sleep(20 * time.Millisecond) {
-		if status, _ := get(address, "/healthz"); status == 200 {
-			return address
+	for until := time.Now().Add(time.Minute); ; time.Sleep(20 * time.Millisecond) {
+		if connection, err := net.Dial("tcp", address); err == nil {
+			connection.Close()
+			return
 		}
 		if time.Now().After(until) {
 			t.Fatalf("nginx doesn't answer: %s", said.String())
@@ -82,18 +113,197 @@ func nginxBefore(t *testing.T, clients string) string {
 	}
 }
 
-// By the file for operators nginx leaves idle connections before ctserve closes them.
+// nginxBefore starts nginx before a log, in the clear, by the site that is made of its settings, and gives its address.
+func nginxBefore(t *testing.T, clients string, lines ...string) string {
+	t.Helper()
+	nginxFound(t)
+	address, folder := freeAddress(t), t.TempDir()
+	settings := settingsAt(t, folder, "one", append([]string{"origin log.example", "proxies 127.0.0.1", "listen " + clients}, lines...)...)
+	nginxWith(t, siteOf(t, true, "--listen", address, "--cache", filepath.Join(folder, "cache"), settings), address)
+	return address
+}
+
+// By its site nginx leaves idle connections before ctserve closes them.
 func TestNginxLeavesFirst(t *testing.T) {
-	text, err := os.ReadFile("../nginx.conf")
+	for _, idle := range []time.Duration{web.DefaultLimits().Idle, 5 * time.Minute, 21 * time.Second, 20 * time.Second, 3 * time.Second} {
+		settings := settingsAt(t, t.TempDir(), "one", "origin log.example", "proxies 127.0.0.1", "idle-within "+idle.String())
+		_, upstream, _ := strings.Cut(siteOf(t, false, settings), "upstream ctserve_one {")
+		upstream, _, _ = strings.Cut(upstream, "}")
+		_, after, _ := strings.Cut(upstream, "keepalive_timeout ")
+		after, _, _ = strings.Cut(after, ";")
+		if leaves, err := time.ParseDuration(after); err != nil || leaves > idle-time.Second || leaves < idle/2 {
+			t.Errorf("it leaves after %q, %v, where %v are waited", after, err, idle)
+		}
+	}
+}
+
+// TestSite: what a site has of several logs, of which two share a name; and what no site can be made of.
+func TestSite(t *testing.T) {
+	folder := t.TempDir()
+	a := settingsAt(t, folder, "2027h1", "origin log.example/2027h1", "proxies 127.0.0.1", "listen 127.0.0.1:9001", "not-after-from 2027-01-01", "not-after-to 2027-07-01",
+		"most-connections-by-address 70", "submitters 203.0.113.0/24=256,2001:db8::7=9")
+	b := settingsAt(t, folder, "2027h2", "origin log.example/2027h2", "proxies 127.0.0.1", "listen 127.0.0.1:9002", "not-after-from 2027-07-01", "not-after-to 2028-01-01",
+		"submitters 203.0.113.0/24=256")
+	other := settingsAt(t, folder, "other-log", "origin other.example", "proxies 10.0.0.1", "listen 10.0.0.2:9003")
+	frozen := settingsAt(t, folder, "2026", "origin log.example/2026", "proxies 127.0.0.1", "listen 127.0.0.1:9004", "read-only true")
+	site := siteOf(t, false, "--submissions", "submit.example", b, a, frozen)
+	for text, many := range map[string]int{
+		"server_name log.example;": 1, "server_name submit.example;": 1, "ssl_certificate_key /etc/ssl/submit.example.key;": 1, "listen 443 ssl http2;": 2,
+		"server 127.0.0.1:9001;": 1, "server 127.0.0.1:9004;": 1, "location /2027h1/ {": 1, "location ~ ^/2027h2/tile/data/ {": 1, "limit_conn ctserve_2027h1 70;": 3,
+		"limit_conn ctserve_all 70;": 1, "203.0.113.0/24 0;": 3, "2001:db8::7/128 0;": 2, "location @whole_1 {": 1, "location @whole_2 {": 0, "location @away_1 {": 1,
+		"proxy_pass http://ctserve_2026;": 2, "error_page 421 = @whole_1;": 1,
+	} {
+		if count := strings.Count(site, text); count != many {
+			t.Errorf("%q stands there %d times, and not %d: %s", text, count, many, site)
+		}
+	}
+	if first := strings.Index(site, "location @whole_0 {"); !strings.Contains(site[first:strings.Index(site, "location @whole_1 {")], "http://ctserve_2027h1;") {
+		t.Error("the earlier shard isn't asked first")
+	}
+	if site := siteOf(t, false, "--listen", "8443", "--certificates", "/tls", other); !strings.Contains(site, "listen 8443 ssl http2;") || !strings.Contains(site, "/tls/other.example.pem;") ||
+		!strings.Contains(site, "upstream ctserve_other_log {") {
+		t.Errorf("words are lost: %s", site)
+	}
+	of := func(lines ...string) string { return settingsAt(t, t.TempDir(), "x", lines...) }
+	overlaps := of("origin o.example", "proxies 127.0.0.1", "listen 127.0.0.1:9009", "not-after-from 2027-06-01", "not-after-to 2027-08-01")
+	for what, words := range map[string][]string{
+		"no file":                     {},
+		"a word that isn't one":       {"--no-such-word", a},
+		"no such file":                {filepath.Join(folder, "absent.conf")},
+		"no proxy":                    {of("origin log.example")},
+		"another proxy":               {of("origin log.example", "proxies 10.0.0.1")},
+		"no proxy of another machine": {of("origin log.example", "listen 10.0.0.2:9003")},
+		"TLS":                         {of("origin log.example", "proxies 127.0.0.1", "tls-certificate /a", "tls-key /b")},
+		"an origin that is no name":   {of("origin log_example", "proxies 127.0.0.1")},
+		"an origin with a port":       {of("origin log.example:8443", "proxies 127.0.0.1")},
+		"the same twice":              {a, a},
+		"one address twice":           {a, of("origin b.example", "proxies 127.0.0.1", "listen 127.0.0.1:9001")},
+		"one origin twice":            {a, of("origin log.example/2027h1", "proxies 127.0.0.1", "listen 127.0.0.1:9005")},
+		"windows that overlap":        {"--submissions", "submit.example", a, overlaps},
+		"no window":                   {"--submissions", "submit.example", other},
+		"read-only logs alone":        {"--submissions", "submit.example", frozen},
+		"a name that is a log's":      {"--submissions", "log.example", a},
+		"a folder with a semicolon":   {"--certificates", "/etc;", a},
+		"a port with a brace":         {"--listen", "443{", a},
+	} {
+		if status, said, told := does(append([]string{"nginx"}, words...)...); status == 0 || said != "" || told == "" {
+			t.Errorf("%s: status %d: %s%s", what, status, said, told)
+		}
+	}
+	var many []string
+	for i := 0; i <= mostShards; i++ {
+		year := 2030 + i
+		many = append(many, settingsAt(t, folder, fmt.Sprint(year), fmt.Sprintf("origin log.example/%d", year), "proxies 127.0.0.1", fmt.Sprintf("listen 127.0.0.1:%d", 9100+i),
+			fmt.Sprintf("not-after-from %d-01-01", year), fmt.Sprintf("not-after-to %d-01-01", year+1)))
+	}
+	siteOf(t, false, append([]string{"--submissions", "submit.example"}, many[1:]...)...)
+	if status, _, _ := does(append([]string{"nginx", "--submissions", "submit.example"}, many...)...); status != 2 {
+		t.Errorf("%d shards: status %d", len(many), status)
+	}
+}
+
+// TestRoutedSubmissions: submissions to one name come to the shard in whose window their certificates end, through nginx over TLS, and a shard that
+// doesn't answer keeps no other from taking.
+func TestRoutedSubmissions(t *testing.T) {
+	nginxFound(t)
+	at, folder, address := newPlace(t), t.TempDir(), freeAddress(t)
+	years, files, shards := []int{2027, 2028, 2029}, []string{}, map[int]*program{}
+	for _, year := range years {
+		window := []string{"--not-after-from", fmt.Sprintf("%d-01-01", year), "--not-after-to", fmt.Sprintf("%d-01-01", year+1)}
+		p := started(t, "20ms", at.words(append(window, "--proxies", "127.0.0.1", "--origin", fmt.Sprintf("log.example/%d", year), "--log-requests")...)...)
+		shards[year] = p
+		files = append(files, settingsAt(t, folder, fmt.Sprint(year), fmt.Sprintf("origin log.example/%d", year), "proxies 127.0.0.1", "listen "+p.clients,
+			"not-after-from "+window[1], "not-after-to "+window[3]))
+	}
+	certificate, key, err := at.authority.KeyPair()
 	if err != nil {
 		t.Fatal(err)
 	}
-	_, upstream, _ := strings.Cut(string(text), "upstream ctserve {")
-	upstream, _, _ = strings.Cut(upstream, "}")
-	_, after, _ := strings.Cut(upstream, "keepalive_timeout ")
-	after, _, _ = strings.Cut(after, ";")
-	if idle, err := time.ParseDuration(after); err != nil || idle > web.DefaultLimits().Idle-5*time.Second {
-		t.Errorf("it leaves after %q, %v, where %v are waited", after, err, web.DefaultLimits().Idle)
+	for _, name := range []string{"log.example", "submit.example"} {
+		at.write(name+".pem", certificate)
+		at.write(name+".key", key)
+	}
+	words := []string{"--submissions", "submit.example", "--listen", address, "--cache", filepath.Join(folder, "cache"), "--certificates", at.folder}
+	nginxWith(t, siteOf(t, false, append(words, files...)...), address)
+	client := &http.Client{Transport: &http.Transport{TLSClientConfig: &tls.Config{InsecureSkipVerify: true}, ForceAttemptHTTP2: true}}
+	ask := func(host, path string, body []byte) (int, string) {
+		t.Helper()
+		method := "GET"
+		if body != nil {
+			method = "POST"
+		}
+		request, _ := http.NewRequest(method, "https://"+address+path, bytes.NewReader(body))
+		request.Host = host
+		answer, err := client.Do(request)
+		if err != nil {
+			t.Fatal(err)
+		}
+		defer answer.Body.Close()
+		text, err := io.ReadAll(answer.Body)
+		if err != nil || answer.ProtoMajor != 2 {
+			t.Fatalf("HTTP/%d: %v", answer.ProtoMajor, err)
+		}
+		return answer.StatusCode, string(text)
+	}
+	submission := func(year int) []byte {
+		der, err := at.authority.Issue(false, time.Date(year, 5, 1, 0, 0, 0, 0, time.UTC))
+		if err != nil {
+			t.Fatal(err)
+		}
+		return standin.Submission(der)
+	}
+	entries := func(year int) (size int) {
+		_, text := ask("log.example", fmt.Sprintf("/%d/ct/v1/get-sth", year), nil)
+		var head struct {
+			Size int `json:"tree_size"`
+		}
+		if err := json.Unmarshal([]byte(text), &head); err != nil {
+			t.Fatalf("%d: %s", year, text)
+		}
+		return head.Size
+	}
+	for _, year := range []int{2029, 2027, 2028, 2029} {
+		before := entries(year)
+		if status, text := ask("submit.example", "/ct/v1/add-chain", submission(year)); status != 200 {
+			t.Fatalf("%d: %d %s", year, status, text)
+		}
+		if after := entries(year); after != before+1 {
+			t.Errorf("%d: %d entries, and then %d", year, before, after)
+		}
+	}
+	if _, direct := ask("log.example", "/2028/tile/data/000.p/1", nil); direct == "" {
+		t.Error("a tile of one of three logs isn't read")
+	}
+	for _, path := range []string{"/2027/checkpoint", "/2028/", "/2029/ct/v1/get-roots"} {
+		if status, text := ask("log.example", path, nil); status != 200 {
+			t.Errorf("%s: %d %s", path, status, text)
+		}
+	}
+	for what, test := range map[string]struct {
+		path   string
+		body   []byte
+		status int
+		name   string
+	}{
+		"of no shard":     {"/ct/v1/add-chain", submission(2031), 400, "outside-window"},
+		"a bad chain":     {"/ct/v1/add-chain", []byte(`{"chain":["AAAA"]}`), 400, "no-certificate"},
+		"another call":    {"/checkpoint", nil, 404, ""},
+		"one of get-sth":  {"/ct/v1/get-sth", nil, 404, ""},
+		"the roots":       {"/ct/v1/get-roots", nil, 200, "certificates"},
+		"another's call":  {"/ct/v1/add-pre-chain", submission(2028), 400, "no-poison"},
+		"reads of a post": {"/ct/v1/add-chain", nil, 405, "method"},
+	} {
+		if status, text := ask("submit.example", test.path, test.body); status != test.status || !strings.Contains(text, test.name) {
+			t.Errorf("%s: %d %s", what, status, text)
+		}
+	}
+	// The middle one goes: the others take, and what would be its own is a passing refusal.
+	shards[2028].command.Process.Kill()
+	shards[2028].ends()
+	for year, due := range map[int]int{2027: 200, 2028: 503, 2029: 200} {
+		if status, text := ask("submit.example", "/ct/v1/add-chain", submission(year)); status != due {
+			t.Errorf("%d, without that of 2028: %d %s", year, status, text)
+		}
 	}
 }
 

@@ -8,6 +8,7 @@ import (
 	"net/netip"
 	"os"
 	"path/filepath"
+	"strconv"
 	"strings"
 	"time"
 
@@ -71,7 +72,7 @@ func parse(words []string, help io.Writer) (*settings, error) {
 	flags := flag.NewFlagSet("ctserve", flag.ContinueOnError)
 	flags.SetOutput(help)
 	flags.Usage = func() {
-		fmt.Fprint(help, "ctserve serves a Certificate Transparency log over HTTP. Each word may also stand as a line 'name value' in the file of --config.\n'ctserve signer --help' says what its signer takes; 'ctserve key FILE' makes a key, 'ctserve check FILE' looks at settings without starting, 'ctserve list-entry' writes a log list's entry, 'ctserve places FILE' builds the places anew, each with --help.\n\n")
+		fmt.Fprint(help, "ctserve serves a Certificate Transparency log over HTTP. Each word may also stand as a line 'name value' in the file of --config.\n'ctserve signer --help' says what its signer takes; 'ctserve key FILE' makes a key, 'ctserve check FILE' looks at settings without starting, 'ctserve list-entry' writes a log list's entry, 'ctserve shards' a year's settings, 'ctserve nginx' a site of nginx, 'ctserve places FILE' builds the places anew, each with --help.\n\n")
 		flags.PrintDefaults()
 	}
 	config := flags.String("config", "", "`file` with a line 'name value' for each of these, and comments behind #")
@@ -97,6 +98,10 @@ func parse(words []string, help io.Writer) (*settings, error) {
 
 	flags.IntVar(&s.limits.Connections, "most-connections", s.limits.Connections, "connections at once")
 	flags.IntVar(&s.limits.ConnectionsByAddress, "most-connections-by-address", s.limits.ConnectionsByAddress, "connections at once of one address, or one /64; of a client behind a proxy requests at once")
+	flags.Func("submitters", "`prefixes` with commas between them, each with how many connections, or requests behind a proxy, all its addresses have at once in the place of most-connections-by-address: 203.0.113.0/24=512,2001:db8::/32=512", func(text string) (err error) {
+		s.limits.Submitters, err = submitters(text)
+		return err
+	})
 	flags.IntVar(&s.limits.Checks, "most-checks", s.limits.Checks, "chains that are checked at once")
 	flags.Int64Var(&s.limits.WaitingBytes, "most-waiting-bytes", s.limits.WaitingBytes, "bytes of all submissions that are read or wait; of one address an eighth, at least 1 MiB")
 	flags.Int64Var(&s.limits.AnswerBytes, "most-answer-bytes", s.limits.AnswerBytes, "bytes of all objects that are read for answers or sent; of one address an eighth, at least 65 MiB")
@@ -322,14 +327,43 @@ func readSecret(path string) (string, error) {
 
 func prefixes(text string) (found []netip.Prefix, err error) {
 	for _, part := range strings.Split(text, ",") {
-		prefix, err := netip.ParsePrefix(strings.TrimSpace(part))
-		if address, fault := netip.ParseAddr(strings.TrimSpace(part)); fault == nil {
-			prefix, err = address.Prefix(address.BitLen())
-		}
+		prefix, err := prefixOf(part)
 		if err != nil {
 			return nil, err
 		}
-		found = append(found, prefix.Masked())
+		found = append(found, prefix)
+	}
+	return found, nil
+}
+
+// prefixOf reads a prefix, or an address as the prefix that has it alone.
+func prefixOf(text string) (netip.Prefix, error) {
+	text = strings.TrimSpace(text)
+	if address, err := netip.ParseAddr(text); err == nil {
+		return address.Prefix(address.BitLen())
+	}
+	prefix, err := netip.ParsePrefix(text)
+	return prefix.Masked(), err
+}
+
+// submitters reads prefixes with a bound behind each, of which each stands there once.
+func submitters(text string) (found []web.Submitter, err error) {
+	for _, part := range strings.Split(text, ",") {
+		of, bound, _ := strings.Cut(part, "=")
+		prefix, err := prefixOf(of)
+		if err != nil {
+			return nil, err
+		}
+		most, err := strconv.Atoi(strings.TrimSpace(bound))
+		if err != nil || most < 1 {
+			return nil, fmt.Errorf("%s has no bound above 0: PREFIX=NUMBER", strings.TrimSpace(part))
+		}
+		for _, other := range found {
+			if other.Prefix == prefix {
+				return nil, fmt.Errorf("%s stands there twice", prefix)
+			}
+		}
+		found = append(found, web.Submitter{Prefix: prefix, Most: most})
 	}
 	return found, nil
 }

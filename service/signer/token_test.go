@@ -6,52 +6,14 @@ import (
 	"os"
 	"os/exec"
 	"path/filepath"
-	"strings"
 	"testing"
-)
 
-// madeToken makes a token of softhsm with a key of P-256 and one of P-384, and gives the module and the PIN's file. Without softhsm it
-// isn't tried.
-func madeToken(t *testing.T) (module, pin string) {
-	t.Helper()
-	found, _ := filepath.Glob("/usr/lib/*/softhsm/libsofthsm2.so")
-	found = append(found, "/usr/lib/softhsm/libsofthsm2.so")
-	for _, path := range found {
-		if _, err := os.Stat(path); err == nil {
-			module = path
-		}
-	}
-	for _, tool := range []string{"softhsm2-util", "pkcs11-tool"} {
-		if _, err := exec.LookPath(tool); err != nil || module == "" {
-			t.Skip("softhsm2 and opensc aren't installed")
-		}
-	}
-	folder := t.TempDir()
-	conf := filepath.Join(folder, "conf")
-	if err := os.WriteFile(conf, []byte("directories.tokendir = "+folder+"\n"), 0o600); err != nil {
-		t.Fatal(err)
-	}
-	t.Setenv("SOFTHSM2_CONF", conf)
-	pin = filepath.Join(folder, "pin")
-	if err := os.WriteFile(pin, []byte("8765\n"), 0o600); err != nil {
-		t.Fatal(err)
-	}
-	for _, words := range []string{
-		"softhsm2-util --init-token --free --label log-token --so-pin 12345678 --pin 8765",
-		"pkcs11-tool --module " + module + " --login --pin 8765 --keypairgen --key-type EC:prime256v1 --label key --id 01",
-		"pkcs11-tool --module " + module + " --login --pin 8765 --keypairgen --key-type EC:secp384r1 --label large --id 02",
-	} {
-		parts := strings.Fields(words)
-		if said, err := exec.Command(parts[0], parts[1:]...).CombinedOutput(); err != nil {
-			t.Fatalf("%s: %v: %s", words, err, said)
-		}
-	}
-	return module, pin
-}
+	"wagtenib/service/softhsm"
+)
 
 // TestToken: a key in a token signs, openssl finds its signatures right, and what isn't there is named.
 func TestToken(t *testing.T) {
-	module, pin := madeToken(t)
+	module, pin := softhsm.Token(t)
 	behind := "?module-path=" + module + "&pin-source=file:" + pin
 	// (before any key is open: who is logged in to a token isn't asked for a PIN again)
 	wrong := filepath.Join(t.TempDir(), "pin")

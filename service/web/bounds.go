@@ -67,26 +67,34 @@ func (h *held) change(bytes int64) error {
 // giveAll gives back all that it took.
 func (h *held) giveAll() { _ = h.change(-h.bytes) }
 
-// counts counts by address, up to a bound for each. An address of IPv6 counts with its /64, which one customer has.
+// Submitter is who has a bound of its own: all addresses of a prefix together have so many connections, or requests behind a proxy, at once.
+type Submitter struct {
+	Prefix netip.Prefix
+	Most   int
+}
+
+// counts counts by address, up to a bound for each. An address of IPv6 counts with its /64, which one customer has, and one of a submitter with
+// all of the submitter's.
 type counts struct {
-	most  int
-	mutex sync.Mutex
-	of    map[netip.Addr]int
+	most       int
+	submitters []Submitter
+	mutex      sync.Mutex
+	of         map[netip.Prefix]int
 }
 
 func (c *counts) take(address netip.Addr) bool { return c.takeSome(address, 1) }
 
 func (c *counts) takeSome(address netip.Addr, some int) bool {
-	address = groupOf(address)
+	group, most := c.groupOf(address)
 	c.mutex.Lock()
 	defer c.mutex.Unlock()
-	if c.of[address]+some > c.most {
+	if c.of[group]+some > most {
 		return false
 	}
 	if c.of == nil {
-		c.of = map[netip.Addr]int{}
+		c.of = map[netip.Prefix]int{}
 	}
-	c.of[address] += some
+	c.of[group] += some
 	return true
 }
 
@@ -96,23 +104,29 @@ func (c *counts) giveSome(address netip.Addr, some int) {
 	if some == 0 {
 		return
 	}
-	address = groupOf(address)
+	group, _ := c.groupOf(address)
 	c.mutex.Lock()
 	defer c.mutex.Unlock()
-	if c.of[address] -= some; c.of[address] <= 0 {
-		delete(c.of, address)
+	if c.of[group] -= some; c.of[group] <= 0 {
+		delete(c.of, group)
 	}
 }
 
-func groupOf(address netip.Addr) netip.Addr {
-	if !address.Is6() {
-		return address
+// groupOf gives what an address counts with, and the bound of that: the smallest prefix of a submitter that has it, or its own. What is no
+// address is a group of its own, too.
+func (c *counts) groupOf(address netip.Addr) (group netip.Prefix, most int) {
+	bits := address.BitLen()
+	if address.Is6() {
+		bits = 64
 	}
-	prefix, err := address.Prefix(64)
-	if err != nil {
-		return address
+	group, most = netip.PrefixFrom(address.WithZone(""), bits).Masked(), c.most
+	found := -1
+	for _, of := range c.submitters {
+		if of.Prefix.Contains(address) && of.Prefix.Bits() > found {
+			group, most, found = of.Prefix, of.Most, of.Prefix.Bits()
+		}
 	}
-	return prefix.Addr()
+	return group, most
 }
 
 // addressOf reads an address and port. What isn't one is the zero address.

@@ -9,6 +9,8 @@ import (
 	"github.com/prometheus/client_golang/prometheus"
 	"github.com/prometheus/client_golang/prometheus/collectors"
 	"github.com/prometheus/client_golang/prometheus/promhttp"
+
+	"wagtenib/service/version"
 )
 
 // metrics are what Prometheus reads. Labels have the names of calls, statuses and refusals, and nothing that a client says.
@@ -40,10 +42,12 @@ func newMetrics(f *Front) *metrics {
 	}
 	m.closedIdle = prometheus.NewCounter(prometheus.CounterOpts{Name: "ctserve_idle_connections_closed_total", Help: "Connections on which nothing was asked, and that were closed for new ones."})
 	m.handshakes = prometheus.NewCounter(prometheus.CounterOpts{Name: "ctserve_tls_handshakes_failed_total", Help: "Handshakes of TLS that failed."})
+	build := prometheus.NewGaugeVec(prometheus.GaugeOpts{Name: "ctserve_build_info", Help: "1: which version runs, of which commit."}, []string{"version", "commit"})
+	build.WithLabelValues(version.Number(), version.Commit()).Set(1)
 	for _, bound := range []string{"all", "address"} {
 		m.refused.WithLabelValues(bound)
 	}
-	m.registry.MustRegister(m.requests, m.seconds, m.refusals, m.refused, m.reloads, m.closedIdle, m.handshakes, figures{f},
+	m.registry.MustRegister(m.requests, m.seconds, m.refusals, m.refused, m.reloads, m.closedIdle, m.handshakes, build, figures{f},
 		collectors.NewGoCollector(), collectors.NewProcessCollector(collectors.ProcessCollectorOpts{}))
 	return m
 }

@@ -255,7 +255,7 @@ func TestProofsByAddress(t *testing.T) {
 	asked := func(peer string) int {
 		f.front.proofsOf.mutex.Lock()
 		defer f.front.proofsOf.mutex.Unlock()
-		return f.front.proofsOf.of[netip.MustParseAddr(peer)]
+		return f.front.proofsOf.of[netip.MustParsePrefix(peer+"/32")]
 	}
 	for asked("192.0.2.1") != 2 {
 		time.Sleep(time.Millisecond)

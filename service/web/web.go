@@ -48,6 +48,8 @@ type Limits struct {
 	// Connections is how many there are at once, and ConnectionsByAddress how many of one address (of IPv6, of one /64), or
 	// requests at once where a proxy says for whom it asks.
 	Connections, ConnectionsByAddress int
+	// Submitters have a bound of their own in its place.
+	Submitters []Submitter
 	// ProofsByAddress is how many proofs are made at once for one address.
 	ProofsByAddress int
 	// Checks is how many chains are checked at once.
@@ -129,10 +131,10 @@ func New(of log.Log, proofs *reader.Reader, checker *chains.Checker, options Opt
 		waitingOf: counts{most: byAddress(limits.WaitingBytes, MostBody)},
 		answers:   budget{most: limits.AnswerBytes},
 		answersOf: counts{most: byAddress(limits.AnswerBytes, stores.MostObject+likelyEntries)},
-		requests:  counts{most: limits.ConnectionsByAddress},
+		requests:  counts{most: limits.ConnectionsByAddress, submitters: limits.Submitters},
 		proofsOf:  counts{most: limits.ProofsByAddress},
 	}
-	f.connections.byAddress.most = limits.ConnectionsByAddress
+	f.connections.byAddress.most, f.connections.byAddress.submitters = limits.ConnectionsByAddress, limits.Submitters
 	f.metrics = newMetrics(f)
 	return f
 }

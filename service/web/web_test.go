@@ -463,7 +463,7 @@ func TestMetricsAndHealth(t *testing.T) {
 		`ctserve_requests_total{call="none",status="404"} 1`,
 		`ctserve_refusals_total{call="add-chain",refusal="empty-chain"} 1`,
 		`ctserve_request_seconds_count{call="checkpoint"} 1`,
-		"ctserve_entries 5", "ctserve_queue 0", "ctserve_queue_most 1024", "ctserve_lost_swaps_total 3", "ctserve_fault 0", "ctserve_ready 1", "ctserve_roots 1",
+		"ctserve_entries 5", "ctserve_queue 0", `ctserve_build_info{commit="unknown",version="unreleased"} 1`, "ctserve_queue_most 1024", "ctserve_lost_swaps_total 3", "ctserve_fault 0", "ctserve_ready 1", "ctserve_roots 1",
 		"ctserve_swept_tiles_total 4", "ctserve_swept_heads_total 8", "ctserve_scrubbed_tiles_total 5", "ctserve_damaged_tiles 6", "ctserve_written_bytes_total 16", "ctserve_swept_bundles_total 11", "ctserve_staged_bundles 12", "ctserve_tend_failures_total 13", "ctserve_damaged_issuers 9", "ctserve_mended_objects_total 10", "ctserve_signer_starts_total 7", "ctserve_waiting_bytes 0", "ctserve_answer_bytes 0", `ctserve_connections_refused_total{bound="address"} 0`,
 		`ctserve_witness_lag{witness="w.example"} 14`, `ctserve_witness_cosignatures_total{witness="w.example"} 15`, `ctserve_witness_seen_more{witness="w.example"} 1`,
 	} {
@@ -631,6 +631,81 @@ func TestClientsBehindProxies(t *testing.T) {
 	f.front.requests.give(other)
 	if len(f.front.requests.of) != 0 {
 		t.Error("addresses stay behind")
+	}
+}
+
+// TestSubmitters: all addresses of a submitter's prefix count together, up to its own bound, by the smallest prefix that has one; others count as before.
+func TestSubmitters(t *testing.T) {
+	submitters := []Submitter{{netip.MustParsePrefix("198.51.100.0/24"), 3}, {netip.MustParsePrefix("198.51.100.128/25"), 1}, {netip.MustParsePrefix("2001:db8::/32"), 2}}
+	f := newFixture(t, 0, func(o *Options) {
+		o.Limits.ConnectionsByAddress, o.Limits.Submitters = 1, submitters
+		o.Proxies = []netip.Prefix{netip.MustParsePrefix("127.0.0.1/32")}
+	})
+	for what, counted := range map[string]*counts{"requests": &f.front.requests, "connections": &f.front.connections.byAddress} {
+		var taken []netip.Addr
+		for _, test := range []struct {
+			address string
+			is      bool
+		}{
+			{"198.51.100.1", true}, {"198.51.100.2", true}, {"198.51.100.2", true}, {"198.51.100.3", false},
+			{"198.51.100.200", true}, {"198.51.100.201", false},
+			{"2001:db8:1::1", true}, {"2001:db8:2::1", true}, {"2001:db8:3::1", false},
+			{"198.51.101.1", true}, {"198.51.101.1", false}, {"198.51.101.2", true},
+		} {
+			address := netip.MustParseAddr(test.address)
+			if is := counted.take(address); is != test.is {
+				t.Errorf("%s of %s: %v", what, address, is)
+			} else if is {
+				taken = append(taken, address)
+			}
+		}
+		for _, address := range taken {
+			counted.give(address)
+		}
+		if len(counted.of) != 0 {
+			t.Errorf("%s stay behind: %v", what, counted.of)
+		}
+	}
+	if counted := &f.front.waitingOf; len(counted.submitters) != 0 {
+		t.Error("bytes count by submitter")
+	}
+}
+
+// TestShardsBehind: a certificate that ends outside of the window is answered 421 where the proxy says that other shards will be asked, and 400
+// otherwise, whatever a client says. All else is answered as ever.
+func TestShardsBehind(t *testing.T) {
+	f := newFixture(t, 10*time.Millisecond, func(o *Options) { o.Proxies = []netip.Prefix{netip.MustParsePrefix("127.0.0.1/32")} })
+	outside, err := f.authority.Issue(false, ends.AddDate(2, 0, 0))
+	if err != nil {
+		t.Fatal(err)
+	}
+	for _, test := range []struct {
+		peer, header string
+		body         []byte
+		status       int
+		name         string
+	}{
+		{"127.0.0.1:7", "1", standin.Submission(outside), 421, "outside-window"},
+		{"127.0.0.1:7", "", standin.Submission(outside), 400, "outside-window"},
+		{"192.0.2.1:7", "1", standin.Submission(outside), 400, "outside-window"},
+		{"127.0.0.1:7", "1", standin.Submission(f.issue(true)), 400, "is-precertificate"},
+		{"127.0.0.1:7", "1", standin.Submission(), 400, "empty-chain"},
+	} {
+		r := httptest.NewRequest("POST", "/ct/v1/add-chain", bytes.NewReader(test.body))
+		r.RemoteAddr = test.peer
+		if test.header != "" {
+			r.Header.Set("X-Shards-Behind", test.header)
+		}
+		w := httptest.NewRecorder()
+		f.front.ServeHTTP(w, r)
+		refused(t, fmt.Sprint(test.peer, " ", test.header), w, test.status, test.name)
+	}
+	r := httptest.NewRequest("POST", "/ct/v1/add-chain", bytes.NewReader(standin.Submission(f.issue(false))))
+	r.RemoteAddr = "127.0.0.1:7"
+	r.Header.Set("X-Shards-Behind", "1")
+	w := httptest.NewRecorder()
+	if f.front.ServeHTTP(w, r); w.Code != 200 {
+		t.Errorf("within the window: %d %s", w.Code, w.Body)
 	}
 }
 

@@ -1,20 +1,31 @@
 #!/usr/bin/env python3
-"""Runs the lines of docs/OPERATING.md, 'From nothing to a running log', on a bare Debian: a folder with Debian's base alone, into which change-root leads,
-and the packages of a release. Neither the kit nor this checkout is in it.
+"""Runs the lines of docs/OPERATING.md, in the order of the page and as they stand there, on a bare Debian: a folder with Debian's base alone, into which
+change-root leads, and the packages of a release. Neither the kit nor this checkout is in it. Then those of docs/MONITOR.md and of service/README.md that
+tests/readme.py leaves to it: the log is watched, and has a witness.
 
-    bare.py [--debs FOLDER] [--keep]
+    bare.py [--built FOLDER] [--keep]
 
-As root, with mmdebstrap (Debian's package of that name). The packages are taken from release/out by default. No systemd runs there, so for
-`systemctl enable --now ctserve@NAME` the unit's ExecStart is run as its User. Then a certificate under a root of its own is submitted, the log is
-reloaded, read, ended, started again, and judged by the package's ctcheck. It prints what it saw, and ends with status 1 where a line fails.
+As root, with mmdebstrap (Debian's package of that name). The release is made here, out of what is built (crates/NAME/out, service/out); where a program of
+the crates isn't, one in Python stands in for it, and that is said. The release that the page upgrades to is this one with another VERSION.
+
+Debian's packages come from its mirror; all else goes on in a network of its own, which has loopback alone. No systemd runs there: tests/bare/systemctl does
+what the units' files say, and systemd-analyze looks at these. Beside the page's lines the log is read by certspotter, by tlog (x/mod, in ctread) and by
+curl, through nginx over TLS; Prometheus has its figures and rules; an older copy of the log is put back, and refused; and ctcheck judges it from its folder,
+with all that was answered. It prints what it saw, and ends with status 1 where something isn't as the page has it.
 """
 import argparse
 import base64
+import ctypes
+import fcntl
+import hashlib
 import json
 import os
 import pathlib
 import re
+import shutil
 import signal
+import socket
+import struct
 import subprocess
 import sys
 import tempfile
@@ -22,52 +33,100 @@ import time
 import urllib.request
 
 ROOT = pathlib.Path(__file__).resolve().parent.parent.parent
+sys.path += [str(ROOT / "release"), str(ROOT / "tests")]
+
+from readme import bare_commands, commands, files  # noqa: E402
+from release import PROGRAMS  # noqa: E402
+
 PAGE = ROOT / "docs" / "OPERATING.md"
-HEADING = "## From nothing to a running log"
-LOG = "http://127.0.0.1:8618"
-# How long one line, or a start, may take, in seconds.
-WITHIN = 600
+NAME, HOST = "2027h1", "2027h1.log.example"
+LOG, SITE = "http://127.0.0.1:8618", f"https://{HOST}"
+# How long one line, or a wait, may take, in seconds.
+WITHIN = 900
 MADE = "# Ctrl-C once it says serving"
-UNIT = re.compile(r"systemctl enable --now (ctserve)@(\w+)")
+# The programs that stand in where one isn't built: Python's, of tests/.
+MODELS = {"cttile": "tiles/step.py", "ctproof": "tiles/step.py", "ctguard": "guard/model.py", "ctwitness": "witness/model.py", "ctlog": "expected.py", "ctlogd": "expected.py", "ctmonitor": "../examples/monitor/stand_in.py"}
+NEW_NETWORK = 0x40000000
 
 
 def fail(why):
     sys.exit(f"bare.py: {why}")
 
 
-def commands():
-    """The page's lines behind $, with what a << takes."""
-    section = PAGE.read_text().split(HEADING)[1].split("\n## ")[0]
-    lines = [line[4:] for line in section.splitlines() if line.startswith("    ")]
-    found, end = [], None
-    for line in lines:
-        if end:
-            found[-1] += "\n" + line
-            end = None if line == end else end
-        elif line.startswith("$ "):
-            found.append(line[2:])
-            here = re.search(r"<<(\w+)$", line)
-            end = here and here[1]
-    if end or not found:
-        fail(f"{PAGE.name} has no lines to type, or one without its end")
-    return found
+class Network:
+    """A network of this process and of what it starts, with loopback alone; and the one from before."""
+
+    def __init__(self):
+        self.libc = ctypes.CDLL(None, use_errno=True)
+        self.outside = os.open("/proc/self/ns/net", os.O_RDONLY)
+        if self.libc.unshare(NEW_NETWORK):
+            fail(f"no network of its own: {os.strerror(ctypes.get_errno())} (it wants root)")
+        with socket.socket() as one:
+            fcntl.ioctl(one, 0x8914, struct.pack("16sh14x", b"lo", 1))
+
+    def leave(self):
+        """In a process that is started: back to the one from before."""
+        self.libc.setns(self.outside, NEW_NETWORK)
+
+
+class Releases:
+    """The release of this checkout, and the one behind it."""
+
+    def __init__(self, work, built):
+        self.work, self.built, self.lacking = work, work / "built", []
+        for name in PROGRAMS:
+            to = self.built / name / "out" / name
+            to.parent.mkdir(parents=True)
+            if (built / name / "out" / name).exists():
+                shutil.copy(built / name / "out" / name, to)
+            else:
+                self.lacking.append(name)
+                # (a model has no --version, by which ctserve check asks whether a program runs)
+                to.write_text(f'#!/bin/sh\n[ "$*" = --version ] && echo "{name}: a model in Python" && exit\nexec python3 /opt/tests/{MODELS[name]} "$@"\n')
+            to.chmod(0o755)
+        linked = self.built / "wagtenib" / "out" / "link"
+        linked.mkdir(parents=True)
+        for end in (".a", ".so"):
+            made = built / "wagtenib" / "out" / "link" / f"libwagtenib{end}"
+            (linked / made.name).write_bytes(made.read_bytes() if made.exists() else b"made up\n")
+
+    def make(self, to, version=None):
+        """A release's packages; those of another version out of a copy in which VERSION is another."""
+        top = ROOT
+        if version:
+            top = self.work / "copy"
+            subprocess.run(["git", "clone", "--quiet", "--no-checkout", ROOT, top], check=True)
+            for file in files():
+                (top / file).parent.mkdir(parents=True, exist_ok=True)
+                shutil.copy(ROOT / file, top / file)
+            (top / "VERSION").write_text(f"{version}\n")
+        for words in ([top / "service" / "build.sh", "build"], [top / "release" / "release.py", "--built", self.built, "--to", to]):
+            ran = subprocess.run(words, capture_output=True, text=True)
+            if ran.returncode:
+                fail(f"{words[0]}: {ran.stdout}{ran.stderr}")
+        return sorted(to.glob("*.deb"))
 
 
 class Bare:
     """A bare Debian below a folder."""
 
-    def __init__(self, folder):
-        self.folder = folder
+    def __init__(self, folder, network):
+        self.folder, self.network = folder, network
 
-    def make(self, debs):
-        words = ["mmdebstrap", "--variant=apt", "--quiet", "bookworm", self.folder]
-        if subprocess.run(words, stdout=subprocess.DEVNULL).returncode:
+    def make(self, debs, models):
+        more = "systemd" + (",python3" if models else "")
+        words = ["mmdebstrap", "--variant=apt", "--quiet", f"--include={more}", "bookworm", self.folder]
+        if subprocess.run(words, stdout=subprocess.DEVNULL, preexec_fn=self.network.leave).returncode:
             fail("mmdebstrap makes no Debian")
-        (self.folder / "usr/sbin/policy-rc.d").write_text("#!/bin/sh\nexit 101\n")
-        (self.folder / "usr/sbin/policy-rc.d").chmod(0o755)
+        for name, text in (("usr/sbin/policy-rc.d", "#!/bin/sh\nexit 101\n"), ("usr/local/sbin/systemctl", (ROOT / "tests/bare/systemctl").read_text())):
+            (self.folder / name).write_text(text)
+            (self.folder / name).chmod(0o755)
         for path in debs:
             (self.folder / "root" / path.name).write_bytes(path.read_bytes())
-        (self.folder / "etc/resolv.conf").write_text(pathlib.Path("/etc/resolv.conf").read_text())
+        if models:
+            shutil.copytree(ROOT / "tests", self.folder / "opt" / "tests")
+            shutil.copytree(ROOT / "examples" / "monitor", self.folder / "opt" / "examples" / "monitor")
+        shutil.copy("/etc/resolv.conf", self.folder / "etc/resolv.conf")
         subprocess.run(["mount", "-t", "proc", "proc", self.folder / "proc"], check=True)
 
     def close(self):
@@ -85,137 +144,273 @@ class Bare:
         return ["chroot", self.folder, "/usr/bin/env", "-i", "HOME=/root", "PATH=/usr/local/sbin:/usr/local/bin:/usr/sbin:/usr/bin:/sbin:/bin",
                 "DEBIAN_FRONTEND=noninteractive", "bash", "-c", f"cd /root && {line}"]
 
-    def run(self, line):
-        ran = subprocess.run(self.words(line), stdin=subprocess.DEVNULL, capture_output=True, text=True, timeout=WITHIN)
-        print(f"$ {line.splitlines()[0]}", flush=True)
-        if ran.returncode:
-            fail(f"status {ran.returncode}: {ran.stdout[-2000:]}{ran.stderr[-2000:]}")
-        return ran.stdout
+    def run(self, line, status=0, quiet=False):
+        """Runs a line, where that is one of apt's in the network outside, and gives what it prints."""
+        if not quiet:
+            print(f"$ {line.splitlines()[0]}", flush=True)
+        leave = self.network.leave if "apt-get" in line else None
+        with tempfile.TemporaryFile("w+") as out, tempfile.TemporaryFile("w+") as told:
+            # (files, and no pipes: what a line leaves running would keep these open)
+            ended = subprocess.run(self.words(line), stdin=subprocess.DEVNULL, stdout=out, stderr=told, timeout=WITHIN, preexec_fn=leave).returncode
+            out.seek(0)
+            told.seek(0)
+            said, faults = out.read(), told.read()
+        if ended != status:
+            fail(f"status {ended} of {line.splitlines()[0]}: {said[-3000:]}{faults[-3000:]}")
+        return said + ("" if status == 0 else faults)
 
-    def start(self, line):
-        """Starts what serves, and answers it once it says so."""
+    def start_once(self, line):
+        """Starts what serves, sees that it says so without a warning, and interrupts it."""
         print(f"$ {line}", flush=True)
         told = self.folder / "root" / "told"
         with open(told, "w") as to:
             process = subprocess.Popen(self.words(f"exec {line}"), stdin=subprocess.DEVNULL, stderr=to)
-        last = time.monotonic() + WITHIN
-        while '"event":"serving"' not in told.read_text():
-            if process.poll() is not None or time.monotonic() > last:
-                fail(f"it doesn't serve: {told.read_text()}")
-            time.sleep(0.1)
-        if '"level":"warn","event":"serving"' in told.read_text():
-            fail(f"a first start warns: {told.read_text()}")
-        return process
+        until(lambda: '"event":"serving"' in told.read_text() or process.poll() is not None, "it doesn't serve")
+        if process.poll() is not None or '"level":"warn"' in told.read_text().replace('"event":"root-left-out"', ""):
+            fail(f"a first start ends, or warns: {told.read_text()}")
+        for path in pathlib.Path("/proc").glob("[0-9]*"):
+            if is_serving(path):
+                os.kill(int(path.name), signal.SIGINT)
+        if status := process.wait(WITHIN):
+            fail(f"it ends with status {status}: {told.read_text()}")
 
-    def unit(self, name):
-        """What the unit runs, as its user."""
-        text = (self.folder / "lib/systemd/system/ctserve@.service").read_text()
-        words, user = re.search(r"^ExecStart=(.*)$", text, re.M)[1], re.search(r"^User=(.*)$", text, re.M)[1]
-        return f"runuser -u {user} -- {words.replace('%i', name)}"
+    def log_runs(self):
+        return self.run(f"kill -0 $(cat /run/units/ctserve@{NAME}.pid) && echo yes || echo no", quiet=True).strip() == "yes"
 
 
-def end(process, number=signal.SIGTERM):
-    """Ends what serves, in order."""
-    for pid in [int(path.name) for path in pathlib.Path("/proc").glob("[0-9]*") if is_serving(path, process.pid)]:
-        os.kill(pid, number)
-    status = process.wait(WITHIN)
-    if status:
-        fail(f"it ends with status {status}")
-
-
-def is_serving(path, parent):
+def is_serving(path):
     """Whether a process is the log itself: not who runs it as another user, and not its signer."""
     try:
         words = (path / "cmdline").read_bytes().split(b"\0")
     except OSError:
         # (it has ended)
         return False
-    return words[0].endswith(b"ctserve") and words[1:2] != [b"signer"] and b"--config" in words
+    return words[0].endswith(b"ctserve") and words[1:2] != [b"signer"] and b"--config" in words and b"--create" in words
 
 
-def get(path, body=None):
-    with urllib.request.urlopen(urllib.request.Request(LOG + path, data=body), timeout=60) as answer:
+def until(holds, otherwise):
+    last = time.monotonic() + WITHIN
+    while not holds():
+        if time.monotonic() > last:
+            fail(otherwise)
+        time.sleep(0.2)
+
+
+def get(url):
+    with urllib.request.urlopen(url, timeout=60) as answer:
         return answer.read()
 
 
-def authority(folder):
-    """A root, and a certificate under it that ends within the page's window, both in PEM."""
-    script = """set -e; cd "$1"; for n in root leaf; do openssl ecparam -name prime256v1 -genkey -noout -out $n.key; done
-openssl req -x509 -key root.key -subj "/CN=A root of a trial" -days 3650 -out root.pem
-openssl req -new -key leaf.key -subj /CN=www.example.org -out leaf.csr
-openssl x509 -req -in leaf.csr -CA root.pem -CAkey root.key -set_serial 1 -days "$2" -out leaf.pem"""
-    window = re.search(r"not-after-from\s+(\S+)", PAGE.read_text())[1]
-    days = int((time.mktime(time.strptime(window, "%Y-%m-%d")) - time.time()) // 86400) + 60
-    subprocess.run(["bash", "-c", script, "bash", folder, str(days)], check=True, capture_output=True)
-    return [(pathlib.Path(folder) / f"{name}.pem").read_text() for name in ("root", "leaf")]
+def head():
+    """The size and the root of the newest head."""
+    told = json.loads(get(f"{LOG}/ct/v1/get-sth"))
+    return told["tree_size"], told["sha256_root_hash"]
 
 
-def der(pem):
-    return "".join(line for line in pem.splitlines() if "-----" not in line)
+def prometheus(query):
+    return json.loads(get(f"http://127.0.0.1:9090/api/v1/{query}"))["data"]
 
 
-def submitted(leaf, root):
-    """A submission's timestamp, without its signature: ECDSA's differ each time."""
-    answer = json.loads(get("/ct/v1/add-chain", json.dumps({"chain": [der(leaf), der(root)]}).encode()))
-    return {name: it for name, it in answer.items() if name != "signature"}
+class Trial:
+    """The page's lines, and what is to be seen between and behind them."""
 
+    def __init__(self, bare):
+        self.bare, self.seen = bare, {}
+        # What is done before a line, and what is seen behind it, by how the line begins.
+        self.before = {"cp -an /root/backup": self.lose_an_issuer}
+        self.behind = {
+            "nginx -t": lambda said: bare.run(f"echo 127.0.0.1 {HOST} >> /etc/hosts", quiet=True), "promtool": self.figures, "ctload": self.submitted, "rm /etc/ctserve/roots": self.root_went,
+            "curl -s --cacert": self.checkpoint, "systemctl stop": self.goes_on, "cp -an /root/backup": self.issuer_is_back, "apt-get install --yes ./wagtenib_0.1.1": self.upgraded,
+            "ctread": self.mirrored, "LOG=tiled+": self.watched, "systemctl enable --now ctmonitor": self.watched_by_units, "mkdir -p ct-watch": self.from_end,
+            "systemctl enable --now ctwitness": self.witnessed,
+        }
 
-def trial(bare):
-    lines, served = commands(), None
-    for line in lines:
-        if line.endswith(MADE):
-            end(bare.start(line.removesuffix(MADE).strip()), signal.SIGINT)
-        elif unit := UNIT.fullmatch(line):
-            name = unit[2]
-            served = bare.start(bare.unit(name))
-        else:
-            bare.run(line)
-    if served is None:
-        fail(f"{PAGE.name} has no line that has systemd start the log")
-    with tempfile.TemporaryDirectory() as work:
-        root, leaf = authority(work)
-    roots = bare.folder / "etc/ctserve/roots.pem"
-    roots.write_text(roots.read_text() + root)
-    for path in pathlib.Path("/proc").glob("[0-9]*"):
-        if is_serving(path, served.pid):
-            os.kill(int(path.name), signal.SIGHUP)
-    last = time.monotonic() + WITHIN
-    while der(root) not in get("/ct/v1/get-roots").decode():
-        if time.monotonic() > last:
-            fail("a reload doesn't bring the new root")
-        time.sleep(0.1)
-    answer = submitted(leaf, root)
-    entries = json.loads(get("/ct/v1/get-entries?start=0&end=0"))["entries"]
-    if base64.b64decode(der(leaf)) not in base64.b64decode(entries[0]["leaf_input"]):
-        fail("the entry isn't what was submitted")
-    end(served)
-    served = bare.start(bare.unit(name))
-    if json.loads(get("/ct/v1/get-sth"))["tree_size"] != 1 or submitted(leaf, root) != answer:
-        fail("started again, the log answers otherwise")
-    end(served)
-    bare.run(f"ctserve key --show /etc/ctserve/{name}.key | sed -n '/BEGIN/,$p' >key.pem")
-    print(bare.run(f"ctcheck /var/lib/ctserve/{name}/objects key.pem"), end="")
-    bare.run(f"ctserve list-entry --config /etc/ctserve/{name}.conf --operator An-operator --email mail@log.example")
-    print(f"bare.py: {len(lines)} lines of {PAGE.name}, as typed: the log serves, reloads, starts again, and is as it has to be.")
+    def run(self, lines):
+        for line in lines:
+            if line.endswith(MADE):
+                self.bare.start_once(line.removesuffix(MADE).strip())
+                continue
+            for beginning, does in self.before.items():
+                if line.startswith(beginning):
+                    does()
+            said = self.bare.run(line)
+            for beginning, does in self.behind.items():
+                if line.startswith(beginning):
+                    does(said)
+                    self.seen[beginning] = True
+
+    def all_seen(self):
+        if missing := [beginning for beginning in self.behind if beginning not in self.seen]:
+            fail(f"no page has a line that begins with {missing[0]}")
+
+    def watched(self, said):
+        if f": accepted {self.size} leaves" not in said:
+            fail(f"ctmonitor-watch says {said}")
+
+    def watched_by_units(self, said):
+        kept = self.bare.folder / "var/lib/ctmonitor-watch" / HOST
+        if not (kept / "state").exists() or f'"tree_size":{self.size}' not in (kept / "state").read_text():
+            fail(f"the timer's unit has {list(kept.glob('*'))}: {said}")
+        self.bare.run("apt-get install --yes --no-install-recommends logrotate && logrotate --force /etc/logrotate.d/ctmonitor-watch", quiet=True)
+        if not (kept / "verdicts.1").exists():
+            fail(f"logrotate leaves {list(kept.glob('*'))}")
+        self.bare.run("systemctl start ctmonitor-watch.timer", quiet=True)
+
+    def from_end(self, said):
+        until(lambda: HOST in self.bare.run("ls ct-watch", quiet=True), "ctmonitor-from-end writes nothing")
+        self.watched(self.bare.run(f"LOG=tiled+{SITE} ctmonitor-watch --name example.org"))
+
+    def witnessed(self, said):
+        until(lambda: get("http://127.0.0.1:8641/healthz"), "the witness doesn't answer")
+
+    def figures(self, said):
+        until(lambda: prometheus("query?query=ctserve_ready")["result"], "Prometheus has no figures of the log")
+        rules = [rule["name"] for group in prometheus("rules")["groups"] for rule in group["rules"]]
+        due = re.findall(r"alert: (\w+)", (ROOT / "service" / "ctserve.rules.yml").read_text())
+        if rules != due or prometheus("query?query=up")["result"][0]["value"][1] != "1":
+            fail(f"Prometheus has the rules {rules}")
+
+    def submitted(self, said):
+        self.size, _ = head()
+        if not self.size or f"{self.size}" not in said and " answered in " not in said:
+            fail(f"{self.size} entries are there, and ctload says {said}")
+        self.trial_roots = len(json.loads(get(f"{LOG}/ct/v1/get-roots"))["certificates"])
+
+    def root_went(self, said):
+        until(lambda: len(json.loads(get(f"{LOG}/ct/v1/get-roots"))["certificates"]) == self.trial_roots - 1, "the trial's root stays")
+
+    def checkpoint(self, said):
+        if said.encode() != get(f"{LOG}/checkpoint") or not said.startswith(f"{HOST}\n{self.size}\n"):
+            fail(f"nginx answers the checkpoint {said}")
+
+    def goes_on(self, said):
+        if not self.bare.log_runs() or head()[0] != self.size:
+            fail("behind a backup the log doesn't run, or is another one")
+
+    def lose_an_issuer(self):
+        issuers = self.bare.folder / f"var/lib/ctserve/{NAME}/objects/issuer"
+        self.lost = next(issuers.iterdir())
+        self.content = self.lost.read_bytes()
+        self.lost.unlink()
+
+    def issuer_is_back(self, said):
+        if get(f"{LOG}/issuer/{self.lost.name}") != self.content or hashlib.sha256(self.content).hexdigest() != self.lost.name:
+            fail("an issuer that was lost isn't put back")
+
+    def upgraded(self, said):
+        said = self.bare.run("ctserve --version", quiet=True)
+        figures = get("http://127.0.0.1:8619/metrics").decode()
+        if "0.1.1" not in said or 'version="0.1.1"' not in figures or head()[0] != self.size:
+            fail(f"behind an upgrade it is {said}, with {head()}")
+
+    def mirrored(self, said):
+        own, mirror = self.bare.folder / f"var/lib/ctserve/{NAME}/objects", self.bare.folder / "root/mirror"
+        kept = [path.relative_to(mirror) for path in mirror.rglob("*") if path.is_file()]
+        tiles = [path for path in kept if path.parts[0] in ("tile", "issuer")]
+        if f"{self.size} entries" not in said or (mirror / "checkpoint").read_bytes() != get(f"{LOG}/checkpoint") or len(tiles) < 3:
+            fail(f"the mirror has {len(tiles)} tiles and issuers: {said}")
+        for path in tiles:
+            if (mirror / path).read_bytes() != (own / path).read_bytes():
+                fail(f"the mirror's {path} is another one than the log's")
+
+    def certspotter(self):
+        """certspotter follows the log by RFC 6962's calls, through nginx over TLS, to a verified head."""
+        run = self.bare.run
+        run("apt-get install --yes --no-install-recommends certspotter", quiet=True)
+        run(f"cp /etc/ssl/{HOST}.pem /usr/local/share/ca-certificates/trial.crt && update-ca-certificates", quiet=True)
+        key = "".join(line for line in run(f"ctserve key --show /etc/ctserve/{NAME}.key", quiet=True).splitlines() if re.fullmatch("[A-Za-z0-9+/=]{40,}", line))
+        one = {"key": key, "log_id": base64.b64encode(hashlib.sha256(base64.b64decode(key)).digest()).decode(), "description": "a log", "mmd": 86400, "url": f"{SITE}/",
+               "state": {"usable": {"timestamp": "2026-01-01T00:00:00Z"}}}
+        listed = {"version": "1.0.0", "log_list_timestamp": "2026-01-01T00:00:00Z", "operators": [{"name": "an operator", "email": [], "logs": [one]}]}
+        (self.bare.folder / "root/logs.json").write_text(json.dumps(listed))
+        (self.bare.folder / "root/watched").write_text(".example\n")
+        print("$ certspotter, until it has verified the newest head", flush=True)
+        line = "exec certspotter -verbose -stdout -no_save -logs logs.json -state_dir spotted -watchlist watched > spotted.told 2>&1"
+        watcher = subprocess.Popen(self.bare.words(line), stdin=subprocess.DEVNULL)
+        told = self.bare.folder / "root/spotted.told"
+
+        def verified():
+            if watcher.poll() is not None:
+                fail(f"certspotter ended: {told.read_text()[-2000:]}")
+            words = [sys.executable, ROOT / "tests/http/verified.py", self.bare.folder / "root/spotted", f"{LOG}/", str(self.size)]
+            return subprocess.run(words, capture_output=True).returncode == 0
+
+        until(verified, "certspotter verifies no head")
+        watcher.terminate()
+        watcher.wait()
+        names = set(re.findall(r"DNS Name = (host-\d+\.example)", told.read_text()))
+        # (each of ctload's entries has a name of its own)
+        if len(names) != self.size:
+            fail(f"certspotter tells of {len(names)} names of {self.size}")
+
+    def readers(self):
+        """tlog of x/mod, in ctread, and curl read the log through nginx over TLS."""
+        said = self.bare.run(f"ctread --nodes {SITE} --origin {HOST} --key 2027h1.pem --once")
+        if f"{self.size} entries, root" not in said or "all was right" not in said:
+            fail(f"ctread says {said}")
+        entries = json.loads(self.bare.run(f"curl -s --fail '{SITE}/ct/v1/get-entries?start=0&end=0'"))["entries"]
+        version = self.bare.run(f"curl -s --fail -o tile -w '%{{http_version}} %{{http_code}}' {SITE}/tile/data/000{'' if self.size >= 256 else f'.p/{self.size}'}")
+        if len(entries) != 1 or version != "2 200":
+            fail(f"curl gets {len(entries)} entries, and a tile by {version}")
+
+    def put_back(self):
+        """The backup, behind which the log went on, is refused by a status of its own; what was there goes on."""
+        run = self.bare.run
+        run(f'ctload --roots /etc/ctserve/roots/trial.pem --reload "systemctl reload ctserve@{NAME}" --not-after 2027-03-01 --answers answers --for 1s', quiet=True)
+        size, root = head()
+        run(f"systemctl stop ctserve@{NAME} && mv /var/lib/ctserve/{NAME} /var/lib/ctserve/{NAME}.guard /root && cp -a /root/backup/{NAME} /root/backup/{NAME}.guard /var/lib/ctserve")
+        said = run(f"systemctl start ctserve@{NAME}", status=3)
+        if "older" not in said:
+            fail(f"an older copy is refused by {said}")
+        run(f"rm -rf /var/lib/ctserve/{NAME} /var/lib/ctserve/{NAME}.guard && mv /root/{NAME} /root/{NAME}.guard /var/lib/ctserve && systemctl start ctserve@{NAME}")
+        if head() != (size, root):
+            fail(f"put back, the log has {head()}")
+        self.size = size
+
+    def judge(self):
+        """The units, the log's folder with all that was answered, and its entry for a list."""
+        for unit in ("ctserve@.service", "ctwitness-serve@.service", "ctmonitor-watch.service", "ctmonitor-watch.timer"):
+            said = self.bare.run(f"systemd-analyze verify /lib/systemd/system/{unit} 2>&1", quiet=True)
+            if unit in said:
+                fail(f"systemd-analyze says {said}")
+        self.bare.run(f"systemctl stop ctserve@{NAME}")
+        print(self.bare.run(f"ctcheck /var/lib/ctserve/{NAME}/objects 2027h1.pem answers"), end="")
+        listed = json.loads(self.bare.run(f"ctserve list-entry --config /etc/ctserve/{NAME}.conf --operator An-operator --email mail@log.example"))
+        if listed["operators"][0]["tiled_logs"][0]["submission_url"] != f"{SITE}/":
+            fail(f"the list's entry is {listed}")
 
 
 def main():
-    words = argparse.ArgumentParser()
-    words.add_argument("--debs", type=pathlib.Path, default=ROOT / "release" / "out")
+    words = argparse.ArgumentParser(description="Runs the lines of docs/OPERATING.md on a bare Debian.")
+    words.add_argument("--built", type=pathlib.Path, default=ROOT / "crates", help="the folder in which the crates' builds lie")
     words.add_argument("--keep", action="store_true", help="leave the folder")
     given = words.parse_args()
-    debs = sorted(given.debs.glob("*.deb"))
-    if not debs:
-        fail(f"{given.debs} has no packages: make release")
-    folder = pathlib.Path(tempfile.mkdtemp(prefix="bare-"))
-    bare = Bare(folder)
+    if os.geteuid() or not shutil.which("mmdebstrap"):
+        fail("it wants root, and mmdebstrap (Debian's package of that name)")
+    own, lines, network = commands(PAGE), bare_commands(), Network()
+    work = pathlib.Path(tempfile.mkdtemp(prefix="bare-"))
+    bare = Bare(work / "debian", network)
     try:
-        bare.make(debs)
-        trial(bare)
+        releases = Releases(work, given.built)
+        if releases.lacking:
+            print(f"In place of {', '.join(releases.lacking)}, which {'is' if len(releases.lacking) == 1 else 'are'}n't built here, programs in Python stand.", flush=True)
+        bare.make(releases.make(work / "first") + releases.make(work / "second", "0.1.1"), releases.lacking)
+        trial = Trial(bare)
+        trial.run(own)
+        trial.certspotter()
+        trial.readers()
+        trial.run(lines[len(own) :])
+        trial.all_seen()
+        trial.put_back()
+        trial.judge()
+        print(f"bare.py: {len(lines)} lines, {len(own)} of them of {PAGE.name}, as typed: the log serves through nginx to certspotter, tlog and curl, is watched by Prometheus, reloads,"
+              " is backed up, put back where that may be, and upgraded.")
     finally:
         bare.close()
-        if not given.keep:
-            subprocess.run(["rm", "-rf", "--one-file-system", folder])
+        if given.keep:
+            print(f"It is left in {work}.")
+        else:
+            subprocess.run(["rm", "-rf", "--one-file-system", work])
 
 
 if __name__ == "__main__":

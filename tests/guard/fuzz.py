@@ -155,6 +155,8 @@ def replies_at_once(program):
 
 
 def main():
+    if len(sys.argv) < 3:
+        sys.exit(__doc__)
     program, count = sys.argv[1], int(sys.argv[2])
     seed = int(sys.argv[3]) if len(sys.argv) > 3 else 1
     replies_at_once(program)

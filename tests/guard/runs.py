@@ -97,6 +97,8 @@ def run_of(name):
 
 
 def main():
+    if len(sys.argv) < 2:
+        sys.exit(__doc__)
     folder = pathlib.Path(sys.argv[1])
     for name in RUNS:
         words, text, out, status = run_of(name)

@@ -13,6 +13,7 @@ import base64
 import json
 import os
 import pathlib
+import re
 import shutil
 import signal
 import subprocess
@@ -51,6 +52,18 @@ class Served:
             if '"event":"serving"' in line:
                 return
         sys.exit(f"served_page.py: serve.sh ended with status {self.log.wait()}")
+
+    def size(self):
+        """How many entries the log has, once no more come: what ctload left unanswered still does."""
+        found = None
+        while (now := json.load(urllib.request.urlopen(self.base + "ct/v1/get-sth"))["tree_size"]) != found:
+            found = now
+            time.sleep(3)
+        return found
+
+    def roots(self):
+        """How many roots the log has."""
+        return len(json.load(urllib.request.urlopen(self.base + "ct/v1/get-roots"))["certificates"])
 
     def submit(self, number, name):
         """A certificate of the log's own root for a name."""
@@ -113,6 +126,18 @@ class Look:
         self.run("document.getElementById('grow').click()")
         self.until("document.querySelector('#curve polyline').getAttribute('points')", "no growth is shown")
 
+    def rate(self, size):
+        """The rate is of the newest entries."""
+        rate = self.run("[...document.querySelectorAll('#head dt')].find((e) => e.textContent === 'rate').nextSibling.textContent")
+        hold(re.fullmatch(rf"\d+(\.\d)? entries a (second|minute|hour), by the newest {min(size, 256)}" if size <= 64 else r"\d+(\.\d)? entries a second, by the newest \d+", rate), f"the rate is told as {rate}")
+
+    def roots(self, names):
+        """Each root is told by its name."""
+        self.run("document.getElementById('name').click()")
+        told = self.until("document.querySelectorAll('#roots li').length && document.getElementById('roots').innerText", "no root is named")
+        hold("a root to try a log with, until 20" in told and "not read" not in told and "without a name" not in told, f"the roots are told as {told}")
+        hold(self.run("document.getElementById('named').textContent") == f"{names} root{'s' * (names > 1)}" and len(told.splitlines()) == names, f"other roots are named than {names}")
+
     def find(self, number, name):
         """The entry with this number, by its number, has that name."""
         self.run(f"(() => {{ const s = document.getElementById('search'); s.value = '#{number}'; s.oninput(); s.onchange(); }})()")
@@ -163,14 +188,17 @@ def main():
             size = len(NAMES)
             look.size(size)
             look.entries(size)
+            look.rate(size)
+            look.roots(served.roots())
             look.find(1, NAMES[1])
             look.picture("three")
             look.phone("three")
             if options.more:
                 served.load(options.more)
-                size = json.load(urllib.request.urlopen(served.base + "ct/v1/get-sth"))["tree_size"]
+                size = served.size()
                 look.size(size)
                 look.entries(size)
+                look.rate(size)
                 look.find(0, NAMES[0])
                 look.picture("many")
                 look.phone("many")

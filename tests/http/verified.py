@@ -18,6 +18,8 @@ import merkle  # noqa: E402
 
 
 def main():
+    if len(sys.argv) < 4:
+        sys.exit(__doc__)
     folder, address, size = sys.argv[1], sys.argv[2], int(sys.argv[3])
     files = glob.glob(f"{folder}/logs/*/state.json")
     if len(files) != 1:

@@ -14,6 +14,8 @@ ENDS = (b'"op":"publish"', b'"op":"shutdown"')
 
 
 def main():
+    if len(sys.argv) < 3:
+        sys.exit(__doc__)
     journal, words = pathlib.Path(sys.argv[1]), sys.argv[2:]
     program = subprocess.Popen(words, stdin=subprocess.PIPE)
     status = 0

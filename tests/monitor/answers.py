@@ -242,4 +242,6 @@ def write_runs(folder, runs):
 
 
 if __name__ == "__main__":
+    if len(sys.argv) < 2:
+        sys.exit(__doc__)
     write_runs(Path(sys.argv[1]), runs())

@@ -61,4 +61,6 @@ def runs(heads, leaves):
 
 
 if __name__ == "__main__":
+    if len(sys.argv) < 2:
+        sys.exit(__doc__)
     write_runs(Path(sys.argv[1]), runs(*read(sys.stdin)))

@@ -13,6 +13,8 @@ NAME = re.compile(r"tile/\d+(?:/x\d{3})*/\d{3}(?:\.p/\d+)?")
 
 
 def main():
+    if len(sys.argv) < 2:
+        sys.exit(__doc__)
     folder, head = pathlib.Path(sys.argv[1]), None
     for line in sys.stdin:
         name, *words = line.split()

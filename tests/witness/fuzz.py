@@ -87,6 +87,8 @@ def replies_at_once(program, asked):
 
 
 def main():
+    if len(sys.argv) < 3:
+        sys.exit(__doc__)
     program, count, seed = sys.argv[1], int(sys.argv[2]), int((sys.argv[3:] + ["1"])[0])
     chance = random.Random(seed)
     if not replies_at_once(program, json.dumps(request(chance)).encode()):

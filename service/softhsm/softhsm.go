@@ -1,0 +1,49 @@
+// Package softhsm makes tokens of PKCS#11 for tests, where softhsm2 and opensc are installed.
+package softhsm
+
+import (
+	"os"
+	"os/exec"
+	"path/filepath"
+	"strings"
+	"testing"
+)
+
+// Token makes a token log-token with a key of P-256 (key, 01) and one of P-384 (large, 02), and gives the module and the PIN's file. The
+// processes that the test starts find it, too. Without softhsm the test is left out.
+func Token(t *testing.T) (module, pin string) {
+	t.Helper()
+	found, _ := filepath.Glob("/usr/lib/*/softhsm/libsofthsm2.so")
+	found = append(found, "/usr/lib/softhsm/libsofthsm2.so")
+	for _, path := range found {
+		if _, err := os.Stat(path); err == nil {
+			module = path
+		}
+	}
+	for _, tool := range []string{"softhsm2-util", "pkcs11-tool"} {
+		if _, err := exec.LookPath(tool); err != nil || module == "" {
+			t.Skip("softhsm2 and opensc aren't installed")
+		}
+	}
+	folder := t.TempDir()
+	conf := filepath.Join(folder, "conf")
+	if err := os.WriteFile(conf, []byte("directories.tokendir = "+folder+"\n"), 0o600); err != nil {
+		t.Fatal(err)
+	}
+	t.Setenv("SOFTHSM2_CONF", conf)
+	pin = filepath.Join(folder, "pin")
+	if err := os.WriteFile(pin, []byte("8765\n"), 0o600); err != nil {
+		t.Fatal(err)
+	}
+	for _, words := range []string{
+		"softhsm2-util --init-token --free --label log-token --so-pin 12345678 --pin 8765",
+		"pkcs11-tool --module " + module + " --login --pin 8765 --keypairgen --key-type EC:prime256v1 --label key --id 01",
+		"pkcs11-tool --module " + module + " --login --pin 8765 --keypairgen --key-type EC:secp384r1 --label large --id 02",
+	} {
+		parts := strings.Fields(words)
+		if said, err := exec.Command(parts[0], parts[1:]...).CombinedOutput(); err != nil {
+			t.Fatalf("%s: %v: %s", words, err, said)
+		}
+	}
+	return module, pin
+}
