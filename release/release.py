@@ -1,10 +1,10 @@
 #!/usr/bin/env python3
 """Makes a release out of what is built: a tarball, Debian packages, SHA256SUMS of both, and what they are made of (SBOM, SPDX 2.3).
 
-    release.py [--built FOLDER] [--service FOLDER] [--to FOLDER]
+    release.py [--built FOLDER] [--service FOLDER] [--to FOLDER] [--quickly]
 
 By default the programs are taken from crates/NAME/out, the service from service/out, and all goes to release/out. Nothing is built: what lacks is named,
-with the command that builds it. The same files give the same bytes each time, whatever the folder and the hour: moments are the commit's, owners are root,
+with the command that builds it. --quickly packs less tightly, for trials. The same files give the same bytes each time, whatever the folder and the hour: moments are the commit's, owners are root,
 and names are sorted.
 """
 import argparse
@@ -20,6 +20,7 @@ import subprocess
 import sys
 import tarfile
 import tempfile
+import textwrap
 import time
 
 ROOT = pathlib.Path(__file__).resolve().parent.parent
@@ -40,19 +41,19 @@ PAGES = ("OPERATING", "MONITOR", "GUARD", "GROWTH", "TILES", "LINES", "PROMISES"
 PACKAGES = {
     "wagtenib": (
         "Certificate Transparency log with proved steps, guard and proofs",
-        "ctserve serves a log over HTTP (RFC 6962, C2SP static-ct-api). cttile makes its steps, ctguard says\nwhat its key may sign, ctproof makes its readers' proofs, ctwitness what a witness cosigns: these are proved\nto meet their contracts, ctserve, ctwitness-serve and what judges, reads and loads a log are not. ctlog and ctlogd are a log in memory, proved.",
-        "adduser, libsqlite3-0",
+        "ctserve serves a log over HTTP (RFC 6962, C2SP static-ct-api). cttile makes its steps, ctguard says what its key may sign, ctproof makes its readers' proofs, ctwitness what a witness cosigns: these are proved to meet their contracts, ctserve, ctwitness-serve and what judges, reads and loads a log are not. ctlog and ctlogd are a log in memory, proved.",
+        "adduser, libsqlite3-0, procps",
         "ca-certificates, nginx | httpd, openssl",
     ),
     "ctmonitor": (
         "monitor and auditor of Certificate Transparency logs, proved",
-        "ctmonitor judges what a log answers: heads, entries and proofs. ctmonitor-watch fetches it with curl,\nfrom logs of RFC 6962 and from tiled ones.",
+        "ctmonitor judges what a log answers: heads, entries and proofs. ctmonitor-watch fetches it with curl, from logs of RFC 6962 and from tiled ones.",
         "adduser, curl, python3",
         "logrotate, openssl",
     ),
     "libwagtenib-dev": (
         "proved checks of Certificate Transparency proofs, for C",
-        "The verifiers of RFC 9162, sections 2.1.3 and 2.1.4, as a library for C: static and shared, a header\nand what pkg-config reads.",
+        "The verifiers of RFC 9162, sections 2.1.3 and 2.1.4, as a library for C: static and shared, a header and what pkg-config reads.",
         "",
         "",
     ),
@@ -63,7 +64,11 @@ PACKAGES = {
 UNSTRIPPED = "the bytes are those of the build, which make reproduce compares"
 NO_PAGES = "each program says at --help what it takes; the pages are in /usr/share/doc"
 OVERRIDES = {
-    "wagtenib": {"unstripped-binary-or-object": UNSTRIPPED, "no-manual-page": NO_PAGES},
+    "wagtenib": {
+        "unstripped-binary-or-object": UNSTRIPPED, "no-manual-page": NO_PAGES,
+        "hardening-no-pie": "the programs in Go are linked at fixed addresses, as Go does where nothing else is said",
+        "maintainer-script-calls-systemctl": "logs and witnesses are instances of templates, which deb-systemd-invoke doesn't start anew by a pattern",
+    },
     "ctmonitor": {"unstripped-binary-or-object": UNSTRIPPED, "no-manual-page": NO_PAGES},
     "libwagtenib-dev": {"unstripped-binary-or-object": UNSTRIPPED},
 }
@@ -89,7 +94,8 @@ def commit():
 class Release:
     """What goes into it."""
 
-    def __init__(self, built, service, to):
+    def __init__(self, built, service, to, quickly=False):
+        self.quickly = quickly
         self.built, self.service, self.to = pathlib.Path(built), pathlib.Path(service), pathlib.Path(to)
         self.version = (ROOT / "VERSION").read_text().strip()
         self.commit, self.moment = commit()
@@ -159,7 +165,7 @@ once more and compares their bytes with SHA256SUMS.
     def package(self, name):
         """A Debian package's files by their paths."""
         doc = f"usr/share/doc/{name}"
-        found = {f"{doc}/copyright": (copyright_text().encode(), 0o644), f"{doc}/changelog.Debian.gz": (packed(self.changelog(name).encode(), self.moment), 0o644)}
+        found = {f"{doc}/copyright": (copyright_text().encode(), 0o644), f"{doc}/changelog.gz": (packed(self.changelog(name).encode(), self.moment), 0o644)}
         if name == "ctmonitor":
             found["usr/bin/ctmonitor"] = (self.programs["ctmonitor"].read_bytes(), 0o755)
             found.update({f"usr/bin/{command}": (path.read_bytes(), 0o755) for command, path in self.watching().items()})
@@ -195,7 +201,7 @@ once more and compares their bytes with SHA256SUMS.
             lines.append(f"Depends: libc6 (>= {self.libc(name)})")
         lines += [f"Recommends: {recommends}"] if recommends else []
         lines += ["Section: " + ("libdevel" if name.endswith("-dev") else "net"), "Priority: optional", f"Homepage: {HOMEPAGE}", f"Description: {about}"]
-        return "\n".join([*lines, *(f" {line}" for line in more.split("\n"))]) + "\n"
+        return "\n".join([*lines, *(f" {line}" for line in textwrap.wrap(more, 76))]) + "\n"
 
     def libc(self, name):
         """The newest version of libc that one of the package's programs asks for, by what objdump reads."""
@@ -214,10 +220,10 @@ def maintainer():
     return "maintainers@wagtenib.example"
 
 
-def packed(data, moment):
+def packed(data, moment, level=9):
     """Bytes as gzip packs them, with no name and one moment."""
     out = io.BytesIO()
-    with gzip.GzipFile(fileobj=out, mode="wb", compresslevel=9, mtime=moment) as file:
+    with gzip.GzipFile(fileobj=out, mode="wb", compresslevel=level, mtime=moment) as file:
         file.write(data)
     return out.getvalue()
 
@@ -231,14 +237,14 @@ def copyright_text():
 Upstream-Name: wagtenib
 
 Files: *
-Copyright: Wagtenib maintainers
+Copyright: 2026 Wagtenib maintainers
 License: Apache-2.0
  On Debian systems the text of the Apache License, version 2.0, is in
  /usr/share/common-licenses/Apache-2.0.
 """
 
 
-def tarball(files, top, moment):
+def tarball(files, top, moment, level):
     """A tarball's bytes: of these files below one folder, sorted, of root, with one moment."""
     out = io.BytesIO()
     with tarfile.open(fileobj=out, mode="w", format=tarfile.GNU_FORMAT) as archive:
@@ -252,7 +258,7 @@ def tarball(files, top, moment):
                 data, member.mode = it
                 member.size = len(data)
                 archive.addfile(member, io.BytesIO(data))
-    return packed(out.getvalue(), moment)
+    return packed(out.getvalue(), moment, level)
 
 
 POSTINST = """#!/bin/sh
@@ -321,7 +327,8 @@ def make_package(release, name, to):
         write_tree(files, folder)
         path = to / f"{name}_{release.version}_{DEBIAN}.deb"
         environment = {**os.environ, "SOURCE_DATE_EPOCH": str(release.moment)}
-        ran = run("dpkg-deb", "--root-owner-group", "--threads-max=1", "-Zxz", "--build", folder, path, env=environment)
+        packing = ["-Zgzip", "-z1"] if release.quickly else ["-Zxz"]
+        ran = run("dpkg-deb", "--root-owner-group", "--threads-max=1", *packing, "--build", folder, path, env=environment)
         if ran.returncode:
             stop(f"dpkg-deb: {ran.stderr.strip()}")
     return path
@@ -380,17 +387,18 @@ def main():
     words.add_argument("--built", default=ROOT / "crates", help="the folder in which the crates' builds lie")
     words.add_argument("--service", default=ROOT / "service" / "out", help="the folder of the programs in Go")
     words.add_argument("--to", default=ROOT / "release" / "out", help="where the release is put")
+    words.add_argument("--quickly", action="store_true", help="pack less tightly, for trials")
     given = words.parse_args()
     for tool in ("dpkg-deb", "objdump"):
         if not shutil.which(tool):
             stop(f"{tool} isn't on the PATH (Debian: {'dpkg' if tool == 'dpkg-deb' else 'binutils'})")
-    release = Release(given.built, given.service, given.to)
+    release = Release(given.built, given.service, given.to, given.quickly)
     if lacking := release.lacking():
         stop(f"this isn't built: {', '.join(lacking)}")
     shutil.rmtree(release.to, ignore_errors=True)
     release.to.mkdir(parents=True)
     top = f"wagtenib-{release.version}"
-    (release.to / f"{top}-{MACHINE}.tar.gz").write_bytes(tarball(release.tree(), top, release.moment))
+    (release.to / f"{top}-{MACHINE}.tar.gz").write_bytes(tarball(release.tree(), top, release.moment, 1 if release.quickly else 9))
     for name in PACKAGES:
         make_package(release, name, release.to)
     (release.to / "SBOM.spdx.json").write_text(sbom(release))

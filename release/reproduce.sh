@@ -1,7 +1,8 @@
 #!/usr/bin/env bash
 # Builds the programs twice, in folders of other names and lengths, by other numbers of processors, and compares their bytes: reproduce.sh [CRATE..].
 # Without a crate: the programs in Go, and, where the kit is on the PATH, those whose crates are proved here already (crates/NAME/out): each is linked
-# anew from what is proved. Ends with status 1 where two builds differ.
+# anew from what is proved, and so is libwagtenib. Where all of them are, two releases are made of them, whose SHA256SUMS have to be one. Ends with status 1
+# where two builds differ.
 set -eu
 cd "$(dirname "$0")/.."
 export PYTHONDONTWRITEBYTECODE=1
@@ -28,10 +29,11 @@ copy() {
   git -C "$1" reset -q
 }
 
+programs="ctlog ctlogd ctmonitor cttile ctguard ctproof ctwitness"
 crates=$*
 if [ $# -eq 0 ]; then
-  for name in ctlog ctlogd ctmonitor cttile ctguard ctproof ctwitness; do
-    [ ! -x "crates/$name/out/$name" ] || crates+=" $name"
+  for name in $programs libwagtenib; do
+    [ ! -d "crates/$name/out" ] || crates+=" $name"
   done
   copy "$first"
   copy "$second"
@@ -45,14 +47,44 @@ if [ -n "$crates" ] && ! command -v rt >/dev/null; then
   echo "the kit isn't on the PATH: of the crates nothing is built"
   crates=
 fi
-for name in $crates; do
+
+# build CRATE: in both folders. What is proved of the crates below, and of the program itself, goes along; rt looks whether it is of these sources.
+build() {
+  local top it
   for top in "$first" "$second"; do
     [ -d "$top/crates" ] || copy "$top"
-    # (what is proved of the crates below, and of the program itself, goes along; rt looks whether it is of these sources)
     (cd crates && for it in */out; do [ ! -d "$it/rlib" ] || { mkdir -p "$top/crates/$it" && cp -a "$it/rlib" "$top/crates/$it/"; }; done)
-    [ ! -d "crates/$name/out/incremental" ] || cp -a "crates/$name/out/incremental" "$top/crates/$name/out/" 2>/dev/null || { mkdir -p "$top/crates/$name/out" && cp -a "crates/$name/out/incremental" "$top/crates/$name/out/"; }
-    (cd "$top/crates/$name" && rt run -- --version </dev/null >/dev/null)
+    mkdir -p "$top/crates/$1/out"
+    [ ! -d "crates/$1/out/incremental" ] || cp -a "crates/$1/out/incremental" "$top/crates/$1/out/"
+    if [ "$1" = libwagtenib ]; then
+      (cd "$top" && examples/build.py libwagtenib >/dev/null && examples/link/library.sh)
+    else
+      (cd "$top/crates/$1" && rt run -- --version </dev/null >/dev/null)
+    fi
   done
-  compare "$name" "$first/crates/$name/out/$name" "$second/crates/$name/out/$name"
+}
+
+for name in $crates; do
+  build "$name"
+  if [ "$name" = libwagtenib ]; then
+    for end in a so; do
+      compare "libwagtenib.$end" "$first/crates/$name/out/link/$name.$end" "$second/crates/$name/out/link/$name.$end"
+    done
+  else
+    compare "$name" "$first/crates/$name/out/$name" "$second/crates/$name/out/$name"
+  fi
 done
+lacking=
+for name in $programs libwagtenib; do
+  [[ " $crates " == *" $name "* ]] || lacking+=" $name"
+done
+if [ $# -gt 0 ]; then
+  exit $status
+elif [ -n "$lacking" ]; then
+  echo "no release is made, since these aren't proved here:$lacking"
+else
+  "$first/release/release.py" >/dev/null
+  "$second/release/release.py" >/dev/null
+  compare SHA256SUMS "$first/release/out/SHA256SUMS" "$second/release/out/SHA256SUMS"
+fi
 exit $status

@@ -123,7 +123,8 @@ class Page:
             self.log.communicate()
 
 
-HERE, BARE, KIT, GATE, ENGINES, NET = "this script", "make bare", "the kit, for an hour", "make test", "engines", "the net"
+HERE, BARE, KIT, GATE, ENGINES, NET, KEY = "this script", "make bare", "the kit, for an hour", "make test", "engines", "the net", "a key of somebody's witness"
+NOT_RUN = (KIT, ENGINES, NET, KEY)
 # The commands of the other pages, each by how it begins, and what runs it.
 ELSEWHERE = {
     "docs/OPERATING.md": {"": BARE},
@@ -131,7 +132,7 @@ ELSEWHERE = {
     "examples/README.md": {"examples/pem_lines.py": HERE, "examples/bad_lines.py": HERE},
     "release/README.md": {"make demo": KIT, "cd release/out && sha256sum": GATE, "apt-get install": BARE},
     "service/README.md": {"make service-engines": ENGINES, "make service-test": GATE, "make service": HERE, "openssl genpkey": BARE, "cp 2027h1.pem": BARE, "cat > /etc/ctwitness/a.conf": BARE,
-                          "runuser -u ctwitness": BARE, "systemctl": BARE},
+                          "runuser -u ctwitness": BARE, "systemctl": BARE, "LOG=tiled+https://log.example ctmonitor-watch --cosign": KEY},
 }
 
 
@@ -218,8 +219,8 @@ def main():
         for command in known:
             by.setdefault(run_by(name, command), []).append(command)
     print(f"README.md: {page.count} commands do what it says, in its order, where nothing is built{left_out}.")
-    print(f"The other pages have {sum(map(len, by.values()))} commands: " + ", ".join(f"{len(given)} by {runs}" for runs, given in by.items() if runs not in (KIT, ENGINES, NET))
-          + "; not run here: " + "; ".join(f"{command} (wants {runs})" for runs in (KIT, ENGINES, NET) for command in by.get(runs, [])) + ".")
+    print(f"The other pages have {sum(map(len, by.values()))} commands: " + ", ".join(f"{len(given)} by {runs}" for runs, given in by.items() if runs not in NOT_RUN)
+          + "; not run here: " + "; ".join(f"{command} (wants {runs})" for runs in NOT_RUN for command in by.get(runs, [])) + ".")
 
 
 if __name__ == "__main__":

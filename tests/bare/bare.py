@@ -84,10 +84,10 @@ class Releases:
                 # (a model has no --version, by which ctserve check asks whether a program runs)
                 to.write_text(f'#!/bin/sh\n[ "$*" = --version ] && echo "{name}: a model in Python" && exit\nexec python3 /opt/tests/{MODELS[name]} "$@"\n')
             to.chmod(0o755)
-        linked = self.built / "wagtenib" / "out" / "link"
+        linked = self.built / "libwagtenib" / "out" / "link"
         linked.mkdir(parents=True)
         for end in (".a", ".so"):
-            made = built / "wagtenib" / "out" / "link" / f"libwagtenib{end}"
+            made = built / "libwagtenib" / "out" / "link" / f"libwagtenib{end}"
             (linked / made.name).write_bytes(made.read_bytes() if made.exists() else b"made up\n")
 
     def make(self, to, version=None):
@@ -100,7 +100,7 @@ class Releases:
                 (top / file).parent.mkdir(parents=True, exist_ok=True)
                 shutil.copy(ROOT / file, top / file)
             (top / "VERSION").write_text(f"{version}\n")
-        for words in ([top / "service" / "build.sh", "build"], [top / "release" / "release.py", "--built", self.built, "--to", to]):
+        for words in ([top / "service" / "build.sh", "build"], [top / "release" / "release.py", "--quickly", "--built", self.built, "--to", to]):
             ran = subprocess.run(words, capture_output=True, text=True)
             if ran.returncode:
                 fail(f"{words[0]}: {ran.stdout}{ran.stderr}")
@@ -176,6 +176,16 @@ class Bare:
 
     def log_runs(self):
         return self.run(f"kill -0 $(cat /run/units/ctserve@{NAME}.pid) && echo yes || echo no", quiet=True).strip() == "yes"
+
+
+def lintian(debs):
+    """What lintian says of the packages but that of the library, which may be made up: nothing that they don't override with a reason."""
+    if not shutil.which("lintian"):
+        print("lintian isn't installed, and wasn't asked.")
+        return
+    ran = subprocess.run(["lintian", "--allow-root", "--fail-on", "error,warning", *(path for path in debs if not path.name.startswith("lib"))], capture_output=True, text=True)
+    if ran.returncode or ran.stdout.strip():
+        fail(f"lintian: {ran.stdout}{ran.stderr}")
 
 
 def is_serving(path):
@@ -394,7 +404,9 @@ def main():
         releases = Releases(work, given.built)
         if releases.lacking:
             print(f"In place of {', '.join(releases.lacking)}, which {'is' if len(releases.lacking) == 1 else 'are'}n't built here, programs in Python stand.", flush=True)
-        bare.make(releases.make(work / "first") + releases.make(work / "second", "0.1.1"), releases.lacking)
+        debs = releases.make(work / "first")
+        lintian(debs)
+        bare.make(debs + releases.make(work / "second", "0.1.1"), releases.lacking)
         trial = Trial(bare)
         trial.run(own)
         trial.certspotter()
