@@ -32,6 +32,12 @@ case $what in
     unformatted=$(gofmt -l .)
     [ -z "$unformatted" ] || { echo "gofmt would change $unformatted" >&2; exit 1; }
     sed 's|^|wagtenib/service/|' <<<"$folders" | xargs go vet
+    # (Debian's name of staticcheck)
+    if command -v go-staticcheck >/dev/null; then
+      sed 's|^|wagtenib/service/|' <<<"$folders" | xargs go-staticcheck -tags=libsqlite3
+    else
+      echo "build.sh: staticcheck isn't run, which isn't here (go-staticcheck)."
+    fi
     ;;
   build)
     mkdir -p out
@@ -49,9 +55,10 @@ case $what in
     for target in FuzzPoison FuzzFinalIssuer FuzzChain FuzzRoots; do
       go test wagtenib/service/chains -run '^$' -fuzz "^$target\$" -fuzztime "${1:-60}s" -fuzzminimizetime 1s -parallel "${PROCESSORS:-2}"
     done
-    for target in FuzzHandlers FuzzConnections FuzzDataTile; do
+    for target in FuzzHandlers FuzzConnections; do
       go test wagtenib/service/web -run '^$' -fuzz "^$target\$" -fuzztime "${1:-60}s" -fuzzminimizetime 1s -parallel "${PROCESSORS:-2}"
     done
+    go test wagtenib/service/datatile -run '^$' -fuzz '^FuzzRead$' -fuzztime "${1:-60}s" -fuzzminimizetime 1s -parallel "${PROCESSORS:-2}"
     ;;
   *)
     echo "build.sh test [PACKAGE [WORD..]] | fuzz [SECONDS] | vet | build | folders" >&2

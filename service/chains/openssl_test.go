@@ -291,6 +291,7 @@ func (a *authorities) chain(t testing.TB, names ...string) (chain [][]byte) {
 		block, _ := pem.Decode(a.pem(t, name))
 		if block == nil {
 			t.Fatalf("openssl made no PEM of %s", name)
+			return nil
 		}
 		chain = append(chain, block.Bytes)
 	}

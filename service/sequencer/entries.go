@@ -3,13 +3,13 @@ package sequencer
 import (
 	"context"
 	"crypto/sha256"
-	"encoding/binary"
 	"fmt"
 	"strings"
 
 	"golang.org/x/mod/sumdb/tlog"
 
 	"wagtenib/service/chains"
+	"wagtenib/service/datatile"
 	"wagtenib/service/log"
 	"wagtenib/service/step"
 	"wagtenib/service/stores"
@@ -70,90 +70,31 @@ func identity(of chains.EntryType, what ...[]byte) (id stores.Identity) {
 	return id
 }
 
-// leaf is an entry of a data tile.
+// leaf is an entry of a data tile, with its index and its identity.
 type leaf struct {
-	index, timestamp uint64
-	identity         stores.Identity
-	// entry is the TimestampedEntry, a part of the tile: with two bytes before it a MerkleTreeLeaf, and what is under a timestamp's signature
-	// (RFC 6962, sections 3.4 and 3.2).
-	entry []byte
-	// chain has the fingerprints of its issuers, 32 bytes each.
-	chain []byte
+	datatile.Leaf
+	index    uint64
+	identity stores.Identity
 }
 
-// hash is the leaf's (RFC 6962, section 2.1).
-func (l *leaf) hash() (hash tlog.Hash) {
-	// (a byte before each leaf, and version v1 and the type timestamped_entry, which are two of zero)
-	of := sha256.New()
-	of.Write([]byte{0, 0, 0})
-	of.Write(l.entry)
-	of.Sum(hash[:0])
-	return hash
-}
+// hash is the leaf's, as tlog has it.
+func (l *leaf) hash() tlog.Hash { return tlog.Hash(l.Hash()) }
 
-// cutter cuts a data tile.
-type cutter struct {
-	rest  []byte
-	wrong bool
-}
-
-func (r *cutter) take(length int) []byte {
-	if r.wrong || length > len(r.rest) {
-		r.wrong = true
-		return nil
-	}
-	taken := r.rest[:length:length]
-	r.rest = r.rest[length:]
-	return taken
-}
-
-func (r *cutter) number(length int) (number uint64) {
-	for _, b := range r.take(length) {
-		number = number<<8 | uint64(b)
-	}
-	return number
-}
-
-func (r *cutter) vector(lengthBytes int) []byte { return r.take(int(r.number(lengthBytes))) }
-
-// leavesOf reads the tile leaves of a data tile (C2SP static-ct-api), at most 256.
+// leavesOf reads the leaves of a data tile, each of which names its index.
 func leavesOf(tile []byte) ([]leaf, error) {
-	var leaves []leaf
-	for r := (&cutter{rest: tile}); len(r.rest) > 0; {
-		if len(leaves) == tileWidth {
-			return nil, fmt.Errorf("%w: a data tile of more than %d entries", ErrDamaged, tileWidth)
+	read, err := datatile.Read(tile)
+	if err != nil {
+		return nil, fmt.Errorf("%w: %v", ErrDamaged, err)
+	}
+	leaves := make([]leaf, len(read))
+	for i, one := range read {
+		index, ok := one.Index()
+		if !ok {
+			return nil, fmt.Errorf("%w: entry %d of a data tile doesn't name its index", ErrDamaged, i)
 		}
-		one, before := leaf{}, r.rest
-		one.timestamp = r.number(8)
-		of := chains.EntryType(r.number(2))
-		switch of {
-		case chains.X509Entry:
-			one.identity = identity(of, r.vector(3))
-		case chains.PrecertEntry:
-			keyHash := r.take(32)
-			one.identity = identity(of, keyHash, r.vector(3))
-		default:
-			r.wrong = true
-		}
-		extensions := r.vector(2)
-		end := len(before) - len(r.rest)
-		if of == chains.PrecertEntry {
-			r.vector(3)
-		}
-		one.chain = r.vector(2)
-		if r.wrong || len(extensions) != len(extensionsOf(0)) || string(extensions[:3]) != string(extensionsOf(0)[:3]) {
-			return nil, fmt.Errorf("%w: entry %d of a data tile isn't one", ErrDamaged, len(leaves))
-		}
-		one.index = binary.BigEndian.Uint64(append([]byte{0, 0, 0}, extensions[3:]...))
-		one.entry = before[:end]
-		leaves = append(leaves, one)
+		leaves[i] = leaf{one, index, identity(one.Type, one.IssuerKeyHash, one.Certificate)}
 	}
 	return leaves, nil
-}
-
-// extensionsOf are a timestamp's: leaf_index, type 0, two bytes of length and five of the index (C2SP static-ct-api).
-func extensionsOf(index uint64) []byte {
-	return append([]byte{0, 0, 5}, eight(index)[3:]...)
 }
 
 // places are those of a step's entries: by their identities, and by their leaves' hashes. Of the identities some have a wrong place yet.
@@ -175,7 +116,7 @@ func placesIn(objects []step.Object) (placed places, err error) {
 			return places{}, fmt.Errorf("%s: %w", object.Name, err)
 		}
 		for _, l := range leaves {
-			placed.add(l.identity, stores.Identity(l.hash()), stores.Place{Index: l.index, Timestamp: l.timestamp})
+			placed.add(l.identity, stores.Identity(l.hash()), stores.Place{Index: l.index, Timestamp: l.Timestamp})
 		}
 	}
 	return placed, nil

@@ -14,6 +14,7 @@ import (
 	"time"
 
 	"wagtenib/service/chains"
+	"wagtenib/service/datatile"
 	"wagtenib/service/log"
 	"wagtenib/service/signer"
 	"wagtenib/service/step"
@@ -161,7 +162,7 @@ func messageOf(of step.Submission, index, moment uint64) []byte {
 	message := append([]byte{0, 0}, eight(moment)...)
 	message = append(append(message, byte(kind>>8), byte(kind)), of.IssuerKeyHash...)
 	message = append(append(message, eight(uint64(len(content)))[5:]...), content...)
-	extensions := extensionsOf(index)
+	extensions := datatile.Extensions(index)
 	return append(append(message, eight(uint64(len(extensions)))[6:]...), extensions...)
 }
 
@@ -224,7 +225,7 @@ func (s *Sequencer) hand(node string, batch []*waiting) error {
 			return err
 		}
 		s.handed.Add(1)
-		s.queue.answer(batch[i], answer{place: log.Place{LeafIndex: place.LeafIndex, Timestamp: place.Timestamp, Extensions: extensionsOf(place.LeafIndex), Signature: place.Signature, LogID: s.logID}})
+		s.queue.answer(batch[i], answer{place: log.Place{LeafIndex: place.LeafIndex, Timestamp: place.Timestamp, Extensions: datatile.Extensions(place.LeafIndex), Signature: place.Signature, LogID: s.logID}})
 	}
 	if missing > 0 {
 		return fmt.Errorf("%w: to %d of %d", errNode, missing, len(batch))

@@ -87,7 +87,7 @@ func RebuildPlaces(ctx context.Context, config Config, told func(left uint64)) e
 		}
 		var placed places
 		for i := range leaves {
-			placed.add(leaves[i].identity, stores.Identity(leaves[i].hash()), stores.Place{Index: leaves[i].index, Timestamp: leaves[i].timestamp})
+			placed.add(leaves[i].identity, stores.Identity(leaves[i].hash()), stores.Place{Index: leaves[i].index, Timestamp: leaves[i].Timestamp})
 		}
 		if err := config.Places.Replace(ctx, placed.identities); err != nil {
 			return fmt.Errorf("sequencer: %w", err)

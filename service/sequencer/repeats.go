@@ -9,6 +9,7 @@ import (
 
 	"golang.org/x/mod/sumdb/tlog"
 
+	"wagtenib/service/datatile"
 	"wagtenib/service/hashtiles"
 	"wagtenib/service/log"
 	"wagtenib/service/step"
@@ -17,7 +18,7 @@ import (
 
 const (
 	// tileWidth is how many hashes, or entries, a full tile has, and tileHeight their logarithm.
-	tileWidth, tileHeight = 256, 8
+	tileWidth, tileHeight = datatile.Width, 8
 	dataPrefix            = "tile/data/"
 )
 
@@ -288,7 +289,7 @@ func (t *tree) leafAt(index uint64) (*leaf, error) {
 // doesn't stand there.
 func (t *tree) receiptAt(place stores.Place, line string, w *waiting) (*step.Receipt, error) {
 	l, err := t.leafAt(place.Index)
-	if err != nil || l == nil || l.identity != w.identity || l.timestamp != place.Timestamp {
+	if err != nil || l == nil || l.identity != w.identity || l.Timestamp != place.Timestamp {
 		return nil, err
 	}
 	proof, err := tlog.ProveRecord(int64(t.state.Size), int64(place.Index), t.hashes)

@@ -7,6 +7,7 @@ import (
 
 	"golang.org/x/mod/sumdb/tlog"
 
+	"wagtenib/service/datatile"
 	"wagtenib/service/log"
 	"wagtenib/service/signer"
 	"wagtenib/service/step"
@@ -114,7 +115,7 @@ func (s *Sequencer) signTimestamps(ctx context.Context, all []timestamp, objects
 		return nil, fmt.Errorf("sequencer: timestamps: %w", err)
 	}
 	for i, one := range all {
-		places = append(places, log.Place{LeafIndex: one.index, Timestamp: one.moment, Extensions: extensionsOf(one.index), Signature: signatures[i], LogID: s.logID})
+		places = append(places, log.Place{LeafIndex: one.index, Timestamp: one.moment, Extensions: datatile.Extensions(one.index), Signature: signatures[i], LogID: s.logID})
 	}
 	return places, nil
 }

@@ -201,7 +201,7 @@ const mostLooked = 4096
 // readIssuersOf reads the issuers of entries that weren't read yet since reading began at the first tile.
 func (t *tender) readIssuersOf(ctx context.Context, leaves []leaf) {
 	for _, l := range leaves {
-		for chain := l.chain; len(chain) >= 32; chain = chain[32:] {
+		for chain := l.Chain; len(chain) >= 32; chain = chain[32:] {
 			var fingerprint [32]byte
 			copy(fingerprint[:], chain)
 			if t.looked[fingerprint] {

@@ -27,6 +27,7 @@ import (
 
 	"wagtenib/service/chains"
 	"wagtenib/service/check"
+	"wagtenib/service/datatile"
 	"wagtenib/service/log"
 	"wagtenib/service/signer"
 	"wagtenib/service/step"
@@ -284,7 +285,7 @@ func (a *answers) numberAt(t testing.TB, index uint64) int {
 	a.mu.Lock()
 	defer a.mu.Unlock()
 	for _, one := range a.all {
-		for n := 0; n < 2000 && string(one.Extensions) == string(extensionsOf(index)); n++ {
+		for n := 0; n < 2000 && string(one.Extensions) == string(datatile.Extensions(index)); n++ {
 			of := answerOf(entryOf(n), log.Place{})
 			if string(of.Certificate) == string(one.Certificate) && string(of.TBSCertificate) == string(one.TBSCertificate) {
 				return n

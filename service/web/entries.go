@@ -14,6 +14,7 @@ import (
 	"golang.org/x/crypto/cryptobyte"
 
 	"wagtenib/service/chains"
+	"wagtenib/service/datatile"
 	"wagtenib/service/log"
 	"wagtenib/service/stores"
 )
@@ -97,7 +98,7 @@ func (f *Front) entries(ctx context.Context, start, end uint64) ([]entryOf, erro
 	var entries []entryOf
 	bytes := 0
 	for at := start % fullWidth; at < uint64(len(leaves)) && len(entries) < MostEntries && start+uint64(len(entries)) <= end; at++ {
-		entry, err := f.entryOf(ctx, leaves[at])
+		entry, err := f.entryOf(ctx, &leaves[at])
 		if err != nil {
 			return nil, err
 		}
@@ -112,7 +113,7 @@ func (f *Front) entries(ctx context.Context, start, end uint64) ([]entryOf, erro
 
 // dataTile reads the tile of an entry as the newest head has it. A partial tile may go between the head and the read, where the
 // full one came to stand.
-func (f *Front) dataTile(ctx context.Context, index uint64) ([]tileLeaf, error) {
+func (f *Front) dataTile(ctx context.Context, index uint64) ([]datatile.Leaf, error) {
 	for again := false; ; again = true {
 		head, err := f.log.Checkpoint(ctx)
 		if err != nil {
@@ -132,76 +133,24 @@ func (f *Front) dataTile(ctx context.Context, index uint64) ([]tileLeaf, error) 
 		if err != nil {
 			return nil, missing(err)
 		}
-		leaves, ok := readDataTile(content)
-		if !ok || uint64(len(leaves)) != name.width {
+		leaves, err := datatile.Read(content)
+		if err != nil || uint64(len(leaves)) != name.width {
 			return nil, fmt.Errorf("%w: %s isn't a tile of %d entries", log.ErrStore, name, name.width)
 		}
 		return leaves, nil
 	}
 }
 
-// tileLeaf is an entry of a data tile (C2SP static-ct-api, TileLeaf), cut out of it.
-type tileLeaf struct {
-	timestampedEntry []byte
-	kind             chains.EntryType
-	precertificate   []byte
-	// issuers are the fingerprints of the chain, 32 bytes each.
-	issuers []byte
-}
-
-// readDataTile reads a data tile: all of it, or none. It has at most as many entries as a full one.
-func readDataTile(content []byte) (leaves []tileLeaf, ok bool) {
-	for tile := cryptobyte.String(content); !tile.Empty(); {
-		leaf, ok := readTileLeaf(&tile)
-		if !ok || len(leaves) == fullWidth {
-			return nil, false
-		}
-		leaves = append(leaves, leaf)
-	}
-	return leaves, true
-}
-
-func readTileLeaf(tile *cryptobyte.String) (leaf tileLeaf, ok bool) {
-	whole := *tile
-	var timestamp, kind, certificate, extensions, precertificate, issuers cryptobyte.String
-	var number uint16
-	if !tile.ReadBytes((*[]byte)(&timestamp), 8) || !tile.ReadBytes((*[]byte)(&kind), 2) || !kind.ReadUint16(&number) {
-		return leaf, false
-	}
-	leaf.kind = chains.EntryType(number)
-	switch leaf.kind {
-	case chains.X509Entry:
-	case chains.PrecertEntry:
-		if !tile.Skip(sha256.Size) {
-			return leaf, false
-		}
-	default:
-		return leaf, false
-	}
-	if !tile.ReadUint24LengthPrefixed(&certificate) || !tile.ReadUint16LengthPrefixed(&extensions) {
-		return leaf, false
-	}
-	leaf.timestampedEntry = whole[:len(whole)-len(*tile)]
-	if leaf.kind == chains.PrecertEntry && !tile.ReadUint24LengthPrefixed(&precertificate) {
-		return leaf, false
-	}
-	if !tile.ReadUint16LengthPrefixed(&issuers) || len(issuers)%sha256.Size != 0 {
-		return leaf, false
-	}
-	leaf.precertificate, leaf.issuers = precertificate, issuers
-	return leaf, true
-}
-
 // entryOf makes of a leaf what RFC 6962 answers: a MerkleTreeLeaf (section 3.4), and the chain (section 4.6: of a precertificate
 // a PrecertChainEntry, of a certificate its certificate_chain alone).
-func (f *Front) entryOf(ctx context.Context, leaf tileLeaf) (entryOf, error) {
+func (f *Front) entryOf(ctx context.Context, leaf *datatile.Leaf) (entryOf, error) {
 	var extra cryptobyte.Builder
-	if leaf.kind == chains.PrecertEntry {
-		extra.AddUint24LengthPrefixed(func(b *cryptobyte.Builder) { b.AddBytes(leaf.precertificate) })
+	if leaf.Type == chains.PrecertEntry {
+		extra.AddUint24LengthPrefixed(func(b *cryptobyte.Builder) { b.AddBytes(leaf.Precertificate) })
 	}
 	var fault error
 	extra.AddUint24LengthPrefixed(func(chain *cryptobyte.Builder) {
-		for rest := leaf.issuers; len(rest) > 0 && fault == nil; rest = rest[sha256.Size:] {
+		for rest := leaf.Chain; len(rest) > 0 && fault == nil; rest = rest[sha256.Size:] {
 			var certificate []byte
 			if certificate, fault = f.issuerOf(ctx, *(*[32]byte)(rest)); fault == nil {
 				chain.AddUint24LengthPrefixed(func(b *cryptobyte.Builder) { b.AddBytes(certificate) })
@@ -215,8 +164,7 @@ func (f *Front) entryOf(ctx context.Context, leaf tileLeaf) (entryOf, error) {
 	if err != nil {
 		return entryOf{}, fmt.Errorf("%w: a chain that is too long: %v", log.ErrStore, err)
 	}
-	// Version v1 and the type timestamped_entry are two bytes of zero.
-	return entryOf{append([]byte{0, 0}, leaf.timestampedEntry...), data}, nil
+	return entryOf{leaf.Input(), data}, nil
 }
 
 // mostIssuerBytes is how many bytes of issuers are kept at hand.

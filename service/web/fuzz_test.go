@@ -115,40 +115,6 @@ func FuzzConnections(f *testing.F) {
 	})
 }
 
-// A data tile is read whole or not at all, and its entries are its bytes.
-func FuzzDataTile(f *testing.F) {
-	x := newFixture(f, 0, nil)
-	x.fill(3)
-	tile, err := x.log.Object(context.Background(), "tile/data/000.p/3", stores.MostObject)
-	if err != nil {
-		f.Fatal(err)
-	}
-	f.Add(tile)
-	f.Add(tile[:len(tile)-1])
-	f.Add([]byte{0, 0, 0, 0, 0, 0, 0, 1, 0, 1})
-	f.Fuzz(func(t *testing.T, content []byte) {
-		leaves, ok := readDataTile(content)
-		if !ok {
-			if leaves != nil {
-				t.Fatal("entries of no tile")
-			}
-			return
-		}
-		var again []byte
-		for _, leaf := range leaves {
-			again = append(again, leaf.timestampedEntry...)
-			if leaf.kind == 1 {
-				n := len(leaf.precertificate)
-				again = append(append(again, byte(n>>16), byte(n>>8), byte(n)), leaf.precertificate...)
-			}
-			again = append(append(again, byte(len(leaf.issuers)>>8), byte(len(leaf.issuers))), leaf.issuers...)
-		}
-		if !bytes.Equal(again, content) {
-			t.Fatalf("%x is read as %x", content, again)
-		}
-	})
-}
-
 func writeFile(t testing.TB, path string, content []byte) {
 	t.Helper()
 	if err := os.WriteFile(path, content, 0o600); err != nil {

@@ -3,6 +3,8 @@ package web
 import (
 	"strconv"
 	"strings"
+
+	"wagtenib/service/datatile"
 )
 
 // tileName is a tile's name, read (C2SP tlog-tiles and static-ct-api): its level, or the data tiles', its index, and its width,
@@ -19,7 +21,7 @@ const (
 	mostLevel = 5
 	// mostGroups is how many groups of three digits an index has: it is below 2^32.
 	mostGroups = 4
-	fullWidth  = 256
+	fullWidth  = datatile.Width
 )
 
 // readTileName reads what stands behind "tile/"; each tile has one name.
@@ -90,8 +92,8 @@ func (n tileName) isOf(content []byte) bool {
 	if !n.data {
 		return uint64(len(content)) == 32*n.width
 	}
-	leaves, ok := readDataTile(content)
-	return ok && uint64(len(leaves)) == n.width
+	leaves, err := datatile.Read(content)
+	return err == nil && uint64(len(leaves)) == n.width
 }
 
 // isFingerprint says whether a text is 32 bytes in hexadecimal digits of lower case.

@@ -75,10 +75,12 @@ func newFixture(t testing.TB, every time.Duration, change func(*Options)) *fixtu
 	window := chains.Window{From: ends.AddDate(-1, 0, 0), To: ends.AddDate(1, 0, 0)}
 	f := &fixture{t: t, log: of, authority: authority, checker: chains.NewChecker(roots, window), lines: &text{}}
 	options := Options{Limits: DefaultLimits(), Lines: NewLines(f.lines)}
+	// (as long as a busy machine takes)
+	options.Limits.Reading = 5 * time.Minute
 	if change != nil {
 		change(&options)
 	}
-	program, err := step.NewClient([]string{"python3", "../../tests/tiles/step.py"}, 20*time.Second)
+	program, err := step.NewClient([]string{"python3", "../../tests/tiles/step.py"}, 5*time.Minute)
 	if err != nil {
 		t.Fatal(err)
 	}
