@@ -15,7 +15,10 @@ ln -s "$PWD" "$path/src/wagtenib/service"
 [ -n "${HOME:-}" ] || export GOCACHE="${GOCACHE:-$path/cache}"
 export GO111MODULE=off GOPATH=$path:$packages GOPROXY=off CGO_ENABLED=1
 folders=$(find . -name '*.go' -printf '%h\n' | sort -u | sed 's|^\./||')
-export GOFLAGS="-trimpath -tags=libsqlite3 -p=${PROCESSORS:-$(nproc)}"
+tags=libsqlite3
+# (the tests stop nodes between what they do, for which no program is built: sequencer/phases_hooked.go)
+case $what in test | vet) tags+=,phases ;; esac
+export GOFLAGS="-trimpath -tags=$tags -p=${PROCESSORS:-$(nproc)}"
 case $what in
   test)
     package=${1:-}
@@ -25,7 +28,7 @@ case $what in
     else
       go test -count=1 "$@" $(sed 's|^|wagtenib/service/|' <<<"$folders")
       # (with orders that no log may have, for which nothing else is built)
-      go test -count=1 -tags=libsqlite3,wrong_order -run WrongOrder "$@" wagtenib/service/sequencer
+      go test -count=1 -tags=$tags,wrong_order -run WrongOrder "$@" wagtenib/service/sequencer
     fi
     ;;
   vet)
@@ -34,7 +37,7 @@ case $what in
     sed 's|^|wagtenib/service/|' <<<"$folders" | xargs go vet
     # (Debian's name of staticcheck)
     if command -v go-staticcheck >/dev/null; then
-      sed 's|^|wagtenib/service/|' <<<"$folders" | xargs go-staticcheck -tags=libsqlite3
+      sed 's|^|wagtenib/service/|' <<<"$folders" | xargs go-staticcheck -tags=$tags
     else
       echo "build.sh: staticcheck isn't run, which isn't here (go-staticcheck)."
     fi

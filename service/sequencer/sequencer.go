@@ -213,17 +213,6 @@ type Sequencer struct {
 	test hooks
 }
 
-// hooks are the tests': phase is called between what is done.
-type hooks struct {
-	phase func(string)
-}
-
-func (s *Sequencer) phase(name string) {
-	if s.test.phase != nil {
-		s.test.phase(name)
-	}
-}
-
 // fault is a failure of a kind that package log names.
 type fault struct{ kind, why error }
 
