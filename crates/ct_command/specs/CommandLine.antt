@@ -1,5 +1,5 @@
 -- The command line of a program that runs a log: what its words ask for.
-use Rattle.std.specs.Prelude.{◌≡◌, ◌≢◌, ◌⊎◌, ℕ, Bool, true, false, List, [], ◌∷◌, map, Option, Some, option_map, unwrap_or, pos, codes, String, string_bytes, nat_le, if◌then◌else◌}
+use Rattle.std.specs.Prelude.{◌≡◌, ◌≢◌, ◌⊎◌, ℕ, Bool, true, false, List, [], ◌∷◌, map, Option, Some, option_map, unwrap_or, pos, codes, String, string_bytes}
 use Rattle.std.specs.Borrow.{Bor}
 use Rattle.std.specs.Global.{Global}
 use Rattle.std.specs.Str.Parse.{digits_value, without_leading_plus}
@@ -74,31 +74,17 @@ abbrev pub by_fault : Kinds → CommandLine → CommandLine
 by_fault [] ok = ok
 by_fault (k ∷ ks) ok = by_kind k
 
--- what the words ask for of the program with this name, whatever the moments are; the first word is the name by which it was called
-abbrev pub numbers_line : Text → List Text → CommandLine
-numbers_line program words = by_fault (fault_of (app_named program) words) (log_with (unwrap_or (number_given program words (codes "fronts")) 0)
+-- What the words ask for of the program with this name; the first word is the name by which it was called. Of the moments nothing is asked
+-- but that each is in its range: a log that opens behind its closing is asked for like any other.
+abbrev pub command_line : Text → List Text → CommandLine
+command_line program words = by_fault (fault_of (app_named program) words) (log_with (unwrap_or (number_given program words (codes "fronts")) 0)
     (unwrap_or (number_given program words (codes "ring")) 0)
     (unwrap_or (number_given program words (codes "open-at")) 0)
     (unwrap_or (number_given program words (codes "close-at")) latest_moment))
 
--- the same where a log would open behind its closing: nothing
-abbrev pub opened_in_time : CommandLine → CommandLine
-opened_in_time (log_with fronts places open_at close_at) = if nat_le open_at close_at then log_with fronts places open_at close_at else nothing
-opened_in_time help = help
-opened_in_time version = version
-opened_in_time nothing = nothing
-
--- what the words ask for of the program with this name; the first word is the name by which it was called
-abbrev pub command_line : Text → List Text → CommandLine
-command_line program words = opened_in_time (numbers_line program words)
-
 -- what these words ask for of the program with this name, by clap's own words for what they mean, as the program has them
 abbrev pub asked_for : Text → List (Bor Text) → CommandLine
 asked_for program words = command_line program (map (λ (w : Bor Text). w.now) words)
-
--- the same, whatever the moments are
-abbrev pub numbers_asked : Text → List (Bor Text) → CommandLine
-numbers_asked program words = numbers_line program (map (λ (w : Bor Text). w.now) words)
 
 -- the same, of words that the program owns
 abbrev pub asked_of : Text → List (String Global) → CommandLine

@@ -2,7 +2,7 @@
 
 ghost use Rattle.std.specs.Prelude.{◌≡◌, ◌<◌, ◌≤◌, ◌⊎◌, IfOk, IfErr, IfSome, Some, None, MatchResult, false, ℕ};
 ghost use Rattle.clap.specs.Words.{app_of, rule_of, kind_of};
-ghost use Rattle.ct_command.specs.CommandLine.{asked_for, numbers_asked, app_named, options_named, versioned, log_with, IsRefusalOf};
+ghost use Rattle.ct_command.specs.CommandLine.{asked_for, app_named, options_named, versioned, log_with, IsRefusalOf};
 ghost use Rattle.ct_command.specs.CommandLine.{fronts_rule, ring_rule, open_at_rule, close_at_rule};
 ghost use Rattle.ct_command.specs.FaultLines.{name_of};
 ghost use Rattle.ct_command.specs.NoOptions.{IsNoOptions};
@@ -15,9 +15,6 @@ use std::alloc::Global;
 
 // The last moment that the command line takes, 2^53 - 1, in milliseconds.
 const LAST_MOMENT: u64 = 9_007_199_254_740_991;
-
-// Why moments are refused of which the first is behind the second.
-const OPENS_LATE: &str = "the moment of '--open-at' is behind that of '--close-at'";
 
 // The version of the programs and of the library for C (include/wagtenib.pc.in).
 const VERSION: &str = "0.1.0";
@@ -59,7 +56,7 @@ fn open_at_option<'a>(alloc: Global) -> Arg<'a>
         .long("open-at")
         .value_name("T")
         .help(
-            "The moment at which the log opens, in milliseconds, at most 9007199254740991 [default: 0]",
+            "The moment at which the log opens, in milliseconds, at most 9007199254740991; a log that closes then or before ends with clock-back [default: 0]",
         )
         .action(ArgAction::Set)
         .value_parser(value_parser!(u64).range(0..=9_007_199_254_740_991))
@@ -125,11 +122,22 @@ fn in_range(fronts: Option<u16>, ring: Option<usize>) -> Option<(u16, usize)>
     }
 }
 
-// The numbers that the words give, whatever the moments are.
-fn read_numbers<'a>(alloc: Global, program: Program, words: &'a [&'a str]) -> Result<Options, Error>
+/// The numbers that the words ask for of this program. The first word is the name by which it was called.
+///
+/// Of the moments nothing is asked but that each is in its range: a log may open behind its closing, which its clock then refuses.
+///
+/// # Errors
+///
+/// Clap's error: of the kind `OutOfMemory`; of the kind `DisplayHelp` or `DisplayVersion`, where the words ask for help or
+/// for the version; or of another, where they ask for nothing that there is.
+pub fn read_options<'a>(
+    alloc: Global,
+    program: Program,
+    words: &'a [&'a str],
+) -> Result<Options, Error>
     ensures { MatchResult result
-        (λ o. numbers_asked (name_of program) words.now ≡ log_with o.fronts o.ring o.open_at o.close_at)
-        (λ e. IsRefusalOf (numbers_asked (name_of program) words.now) (kind_of e)) }
+        (λ o. asked_for (name_of program) words.now ≡ log_with o.fronts o.ring o.open_at o.close_at)
+        (λ e. IsRefusalOf (asked_for (name_of program) words.now) (kind_of e)) }
 {
     let mut command = command(alloc, program)?;
     let matches = command.try_get_matches_from_mut(words)?;
@@ -166,29 +174,6 @@ fn refusal(alloc: Global, program: Program, message: &str) -> Error
     match refused(alloc, program, message) {
         Ok(error) => error,
         Err(error) => error,
-    }
-}
-
-/// The numbers that the words ask for of this program. The first word is the name by which it was called.
-///
-/// # Errors
-///
-/// Clap's error: of the kind `OutOfMemory`; of the kind `DisplayHelp` or `DisplayVersion`, where the words ask for help or
-/// for the version; or of another, where they ask for nothing that there is: a log that opens behind its closing, too.
-pub fn read_options<'a>(
-    alloc: Global,
-    program: Program,
-    words: &'a [&'a str],
-) -> Result<Options, Error>
-    ensures { MatchResult result
-        (λ o. asked_for (name_of program) words.now ≡ log_with o.fronts o.ring o.open_at o.close_at)
-        (λ e. IsRefusalOf (asked_for (name_of program) words.now) (kind_of e)) }
-{
-    let options = read_numbers(alloc, program, words)?;
-    if options.open_at <= options.close_at {
-        Ok(options)
-    } else {
-        Err(refusal(alloc, program, OPENS_LATE))
     }
 }
 

@@ -6,11 +6,11 @@ use Rattle.clap.specs.Lexer.{without_minus}
 use Rattle.clap.specs.Kinds.{IsAmong, Kinds}
 use Rattle.clap.specs.declared.error.Error.{Error}
 use Rattle.clap.specs.Words.{App, Text, fault_of, found_of, is_simple, is_simple_and_free, kind_of, matches_of, rows_of}
-use Rattle.ct_command.specs.CommandLine.{CommandLine, IsRefusalOf, numbers_line, app_named, by_fault, latest_moment, log_with, number_given}
+use Rattle.ct_command.specs.CommandLine.{CommandLine, IsRefusalOf, command_line, app_named, by_fault, latest_moment, log_with, number_given}
 use Rattle.ct_command.specs.FaultLines.{name_of}
 use Rattle.ct_command.proofs.OptionLemmas.{close_at_text, fronts_text, given_is, number, open_at_text, ring_text, signed_read, unsigned_read}
 use Rattle.ct_command.proofs.FaultKinds.{error_says}
-use Rattle.ct_command.proofs.command.read_numbers.Goals as goal
+use Rattle.ct_command.proofs.command.read_options.Goals as goal
 
 is_simple_command : (program : Text) → is_simple (app_named program) ≡ true
 is_simple_command program = refl
@@ -93,8 +93,8 @@ returns-in_err-matches c =
     let words : List Text = map (λ w. w.now) c.args.words.now in
     let e : Error = c.in_err-matches.field-0.0 in
     let kinds = c.in_err-matches.ensures.kinds (ap is_simple_and_free app ∙ is_free_command named) in
-    let says : IsRefusalOf (numbers_line named words) (kind_of e) = elim kinds [
+    let says : IsRefusalOf (command_line named words) (kind_of e) = elim kinds [
       | inl memory ↦ inl memory
       | inr among ↦ inr (error_says named words (kind_of e) _ (subst (λ (a : App). IsAmong (kind_of e) (fault_of a words)) app among))
     ] in
-    err_says _ c.from_residual-in_err-matches.result e (numbers_line named words) c.from_residual-in_err-matches.ensures.1 says
+    err_says _ c.from_residual-in_err-matches.result e (command_line named words) c.from_residual-in_err-matches.ensures.1 says
