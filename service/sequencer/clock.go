@@ -9,6 +9,7 @@ import (
 	"golang.org/x/sys/unix"
 
 	"wagtenib/service/log"
+	"wagtenib/service/step"
 	"wagtenib/service/stores"
 )
 
@@ -225,17 +226,21 @@ func (c *clock) hurry() {
 	}
 }
 
-// moment gives the moment of a step behind the newest one: the time of day's, or the next millisecond where that isn't later.
-func (c *clock) moment(last uint64, node string) (uint64, error) {
+// moment gives the moment of a step behind the newest one: the time of day's, or the next millisecond where that isn't later; and how far the
+// program is to let it be beyond that one: an hour, as heads are younger while a log runs, or for how long the log stood still, which this clock
+// vouches for.
+func (c *clock) moment(last uint64, node string) (moment, most uint64, err error) {
 	if err := c.check(last, node); err != nil {
-		return 0, err
+		return 0, 0, err
 	}
-	moment := uint64(0)
 	if now := c.now().UnixMilli(); now > 0 {
 		moment = uint64(now)
 	}
 	if moment <= last {
 		moment = last + 1
 	}
-	return moment, nil
+	if most = step.MostAhead; moment-last > most {
+		most = moment - last
+	}
+	return moment, most, nil
 }

@@ -4,12 +4,15 @@ import (
 	"context"
 	"fmt"
 	"net/http/httptest"
+	"path/filepath"
 	"strings"
 	"sync"
 	"testing"
 	"time"
 
 	"wagtenib/service/log"
+	"wagtenib/service/signer"
+	"wagtenib/service/step"
 	"wagtenib/service/stores"
 )
 
@@ -202,6 +205,51 @@ func TestOldLog(t *testing.T) {
 	s := started(t, config, hooks{})
 	must(t, got.submitAll(ctx, s, 0, 5, 5))
 	must(t, s.End(ctx))
+	s = started(t, p.config(t), hooks{})
+	must(t, got.submitAll(ctx, s, 5, 10, 5))
+	p.right(t, got)
+}
+
+// TestMomentTooFar has a step's program, and then a guard, that are told to let no moment be beyond the newest head's: each refuses, and who waits is
+// told by how much.
+func TestMomentTooFar(t *testing.T) {
+	t.Parallel()
+	strict := func(edit string, command ...string) []string {
+		return append([]string{"sh", "-c", `sed -u "$0" | exec "$@"`, edit}, command...)
+	}
+	p, ctx, got := newPlace(t), limited(t), &answers{}
+	s := started(t, p.config(t), hooks{})
+	must(t, got.submitAll(ctx, s, 0, 5, 5))
+	must(t, s.End(ctx))
+	refuses := func(config Config, beside string) {
+		t.Helper()
+		s := started(t, config, hooks{})
+		_, err := s.Submit(ctx, entryOf(7))
+		wants(t, err, log.ErrClock)
+		if text := err.Error(); !strings.Contains(text, "which is beyond "+beside+" by ") {
+			t.Errorf("%v", err)
+		}
+		must(t, s.End(ctx))
+	}
+	config := p.config(t)
+	steps, err := step.NewClient(strict(`s/"most_ahead":[0-9]*/"most_ahead":0/`, "python3", stepsFile, "--origin", origin), 20*time.Second)
+	must(t, err)
+	t.Cleanup(func() { steps.Close() })
+	closeAll(Config{Step: config.Step})
+	config.Step = steps
+	refuses(config, "the log's newest head")
+	config = p.config(t)
+	closeAll(Config{Signer: config.Signer})
+	key, err := signer.OpenKey(filepath.Join(string(p), "key.pem"))
+	must(t, err)
+	state, err := stores.OpenFile(p.guardState())
+	must(t, err)
+	guard := strict(`s/^{"sha256_root_hash"/{"most_ahead":0,"sha256_root_hash"/`, "python3", guardFile)
+	config.Signer, err = signer.Behind(ctx, key, signer.Guard{Command: guard, State: state, Receipts: signer.InHead})
+	must(t, err)
+	t.Cleanup(func() { closeAll(Config{Signer: config.Signer}) })
+	refuses(config, "the signer's last head")
+	// The step was decided, and its head is signed once the guard lets it through.
 	s = started(t, p.config(t), hooks{})
 	must(t, got.submitAll(ctx, s, 5, 10, 5))
 	p.right(t, got)

@@ -250,7 +250,7 @@ func (s *Sequencer) create(ctx context.Context) error {
 			return fmt.Errorf("%w: there is none, and the store has %s", ErrSetBack, names[0])
 		}
 	}
-	moment, err := s.clock.moment(0, "")
+	moment, _, err := s.clock.moment(0, "")
 	if err != nil {
 		return err
 	}

@@ -246,17 +246,17 @@ func group(batch []*waiting) [][]*waiting {
 }
 
 // advance makes a step from a state that is rolled out, and has it decided and published.
-func (s *Sequencer) advance(ctx context.Context, k known, batch []*waiting) error {
+func (s *Sequencer) advance(ctx context.Context, k known, batch []*waiting) (err error) {
 	groups := group(batch)
 	submissions := make([]step.Submission, 0, len(groups))
 	for _, g := range groups {
 		submissions = append(submissions, g[0].submission)
 	}
-	now, err := s.clock.moment(k.state.Moment, s.another(k))
-	if err != nil {
+	at := moment{}
+	if at.now, at.most, err = s.clock.moment(k.state.Moment, s.another(k)); err != nil {
 		return err
 	}
-	stepped, edge, err := s.step(ctx, k, submissions, now)
+	stepped, edge, err := s.step(ctx, k, submissions, at)
 	if err != nil {
 		return err
 	}
@@ -357,29 +357,37 @@ func (s *Sequencer) answer(ctx context.Context, groups [][]*waiting, receipts []
 	return nil
 }
 
+// moment is that of a step, and how far it may be beyond the newest head's, in milliseconds.
+type moment struct{ now, most uint64 }
+
+// tooFar is the refusal of a moment that is too far beyond another one, by cttile or by the guard.
+func tooFar(now, last uint64, of string) error {
+	return fmt.Errorf("%w: a moment of %d ms is refused, which is beyond %s by %v", log.ErrClock, now, of, time.Duration(now-last)*time.Millisecond)
+}
+
 // step asks the program, over the edge that is remembered; where it doesn't believe that, over the store's; and where that one is damaged,
 // once more behind what the state's bundle has of it was put again.
-func (s *Sequencer) step(ctx context.Context, k known, batch []step.Submission, now uint64) (*step.Stepped, map[string][]byte, error) {
+func (s *Sequencer) step(ctx context.Context, k known, batch []step.Submission, at moment) (*step.Stepped, map[string][]byte, error) {
 	names, err := s.config.Step.Needs(ctx, k.line)
 	if err != nil {
 		return nil, nil, fmt.Errorf("sequencer: %w", err)
 	}
 	remembered := len(s.edge) > 0
-	stepped, edge, err := s.stepOver(ctx, k, names, batch, now)
+	stepped, edge, err := s.stepOver(ctx, k, names, batch, at)
 	if remembered && errors.Is(err, ErrDamaged) {
 		s.edge = map[string][]byte{}
-		stepped, edge, err = s.stepOver(ctx, k, names, batch, now)
+		stepped, edge, err = s.stepOver(ctx, k, names, batch, at)
 	}
 	if errors.Is(err, ErrDamaged) {
 		if _, failed := s.restore(ctx, k); failed == nil {
-			stepped, edge, err = s.stepOver(ctx, k, names, batch, now)
+			stepped, edge, err = s.stepOver(ctx, k, names, batch, at)
 		}
 	}
 	return stepped, edge, err
 }
 
 // stepOver asks the program over an edge. One that is missing or isn't the state's is ErrDamaged.
-func (s *Sequencer) stepOver(ctx context.Context, k known, names []string, batch []step.Submission, now uint64) (*step.Stepped, map[string][]byte, error) {
+func (s *Sequencer) stepOver(ctx context.Context, k known, names []string, batch []step.Submission, at moment) (*step.Stepped, map[string][]byte, error) {
 	edge, contents := map[string][]byte{}, make([][]byte, 0, len(names))
 	for _, name := range names {
 		content, err := s.read(ctx, name)
@@ -389,7 +397,10 @@ func (s *Sequencer) stepOver(ctx context.Context, k known, names []string, batch
 		edge[name] = content
 		contents = append(contents, content)
 	}
-	stepped, err := s.config.Step.Step(ctx, k.line, contents, batch, now)
+	stepped, err := s.config.Step.Step(ctx, k.line, contents, batch, at.now, at.most)
+	if errors.Is(err, step.TooFar) {
+		return nil, nil, tooFar(at.now, k.state.Moment, "the log's newest head")
+	}
 	if errors.Is(err, step.Edge) || errors.Is(err, step.Entries) {
 		return nil, nil, fmt.Errorf("%w: %s: %v", ErrDamaged, strings.Join(names, ", "), err)
 	}

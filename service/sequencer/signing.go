@@ -34,11 +34,11 @@ func freshOf(objects []step.Object) fresh {
 // signHead has a state's head signed. Its tiles are out; the proof from the signer's last head is made of them.
 func (s *Sequencer) signHead(ctx context.Context, state step.State, objects fresh) (signed []byte, err error) {
 	head := headOf(state)
+	var last *signer.Head
 	for try := 0; try < mostAsked; try++ {
 		var proof [][32]byte
-		last, lastErr := s.config.Signer.Last(ctx)
-		if lastErr != nil {
-			return nil, fmt.Errorf("sequencer: %w", lastErr)
+		if last, err = s.config.Signer.Last(ctx); err != nil {
+			return nil, fmt.Errorf("sequencer: %w", err)
 		}
 		if last != nil && last.Size < head.Size {
 			if proof, err = s.proof(ctx, last.Size, head, objects); err != nil {
@@ -48,6 +48,9 @@ func (s *Sequencer) signHead(ctx context.Context, state step.State, objects fres
 		if signed, err = s.config.Signer.SignHead(ctx, head, proof); err == nil || !s.moved(ctx, last, err) {
 			break
 		}
+	}
+	if last != nil && errors.Is(err, signer.TooFar) {
+		return nil, tooFar(head.Moment, last.Moment, "the signer's last head")
 	}
 	if err != nil {
 		return nil, fmt.Errorf("sequencer: a head of %d entries at %d ms: %w", head.Size, head.Moment, err)

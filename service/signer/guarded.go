@@ -18,6 +18,9 @@ const (
 	// mostReply is how much of one of the guard's replies is read, and mostSwaps how often a swap of unknown outcome is made.
 	mostReply = 4 << 20
 	mostSwaps = 5
+	// ownBound is the guard's own bound of a head's moment beyond the last one's, in milliseconds, and mostSkew how far two clocks may be apart.
+	ownBound = 3_600_000
+	mostSkew = time.Minute
 	// none is the state of a guard that has let nothing through.
 	none = `{"guard":1,"last":null}`
 )
@@ -241,12 +244,25 @@ func hashesOf(hashes [][32]byte) [][]byte {
 	return texts
 }
 
+// mostAhead says how far the guard is to let a head's moment be beyond the last one's, in milliseconds: its own bound (0), or for how long the log
+// stood still, where the head isn't ahead of this machine's time of day. So of a signer apart another clock has to agree.
+func (g *Guarded) mostAhead(head Head) uint64 {
+	if g.last == nil || head.Moment <= g.last.Moment || head.Moment-g.last.Moment <= ownBound {
+		return 0
+	}
+	if now := time.Now().Add(mostSkew).UnixMilli(); now < 0 || head.Moment > uint64(now) {
+		return 0
+	}
+	return head.Moment - g.last.Moment
+}
+
 // askHead has the guard let a head through, and gives the bytes to be signed: then its state is the head's, and nobody else knows.
 func (g *Guarded) askHead(ctx context.Context, head Head, consistency [][32]byte, before string) ([]byte, error) {
 	replies, err := g.ask(ctx, before, []any{struct {
 		*headLine
 		Consistency [][]byte `json:"consistency"`
-	}{lineOf(&head), hashesOf(consistency)}})
+		MostAhead   uint64   `json:"most_ahead,omitempty"`
+	}{lineOf(&head), hashesOf(consistency), g.mostAhead(head)}})
 	if err != nil {
 		return nil, err
 	}

@@ -250,6 +250,39 @@ func TestHeads(t *testing.T) {
 	})
 }
 
+// TestMomentTooFar has a log that stood still for long go on in its own time, and no head pass that is more than an hour beyond the last one and ahead
+// of this machine's time of day, whatever else it is.
+func TestMomentTooFar(t *testing.T) {
+	t.Parallel()
+	through(t, InHead, func(t *testing.T, s Signer, key *Key) {
+		ctx, right, fork := limited(t), listOf(t, 20, 20), listOf(t, 20, 3)
+		const hour = 3_600_000
+		now := uint64(time.Now().UnixMilli())
+		for _, one := range []struct {
+			size   int
+			moment uint64
+		}{{5, 100}, {7, now}, {9, now + hour}} {
+			last, err := s.Last(ctx)
+			must(t, err)
+			before := 0
+			if last != nil {
+				before = int(last.Size)
+			}
+			head := right.head(t, one.size, one.moment)
+			signed, err := s.SignHead(ctx, head, right.proof(t, before, one.size))
+			must(t, err)
+			must(t, CheckHead(key.Key(), head, signed))
+		}
+		for _, head := range []Head{right.head(t, 20, now+2*hour+1), right.head(t, 9, now+2*hour+1), right.head(t, 8, 1<<63), fork.head(t, 9, now+3*hour)} {
+			_, err := s.SignHead(ctx, head, right.proof(t, 9, 20))
+			refused(t, "moment-too-far", err)
+			wants(t, err, TooFar)
+		}
+		_, err := s.SignHead(ctx, right.head(t, 20, now+2*hour), right.proof(t, 9, 20))
+		must(t, err)
+	})
+}
+
 // TestTimestamps asks for those of leaves that are in the last head's tree, and of others.
 func TestTimestamps(t *testing.T) {
 	t.Parallel()

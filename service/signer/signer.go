@@ -82,6 +82,9 @@ func (r Refusal) Error() string {
 // Is says that every refusal is ErrRefused.
 func (r Refusal) Is(target error) bool { return target == ErrRefused }
 
+// TooFar is the refusal of a head whose moment is too far beyond the last one's.
+var TooFar = Refusal{Name: "moment-too-far"}
+
 // What signing fails by. Each is found by errors.Is.
 var (
 	// ErrRefused: the guard lets it not through.

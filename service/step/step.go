@@ -22,6 +22,9 @@ const (
 	MostReply = 160 << 20
 )
 
+// MostAhead is how far a step's moment may be beyond its line's where a request doesn't say, in milliseconds: the program's own bound.
+const MostAhead = 3_600_000
+
 // What requests fail by, beside a Refusal. Each is found by errors.Is.
 var (
 	// ErrTooLong: a request is longer than MostRequest. It wasn't sent.
@@ -41,6 +44,7 @@ func (r Refusal) Error() string { return "step: refused: " + string(r) }
 const (
 	BadLine   Refusal = "bad-line"
 	BadState  Refusal = "bad-state"
+	TooFar    Refusal = "moment-too-far"
 	Edge      Refusal = "edge"
 	Entries   Refusal = "entries"
 	ClockBack Refusal = "clock-back"
@@ -172,8 +176,8 @@ type Stepped struct {
 }
 
 // Step gives the state behind a batch, with the objects that it publishes. The edge are the contents of the names that Needs
-// gives, in that order.
-func (c *Client) Step(ctx context.Context, line string, edge [][]byte, batch []Submission, now uint64) (*Stepped, error) {
+// gives, in that order. The moment is at most so many milliseconds beyond the line's (most), or it is TooFar.
+func (c *Client) Step(ctx context.Context, line string, edge [][]byte, batch []Submission, now, most uint64) (*Stepped, error) {
 	if edge == nil {
 		edge = [][]byte{}
 	}
@@ -186,7 +190,7 @@ func (c *Client) Step(ctx context.Context, line string, edge [][]byte, batch []S
 		}
 	}
 	reply := &Stepped{}
-	if err := c.ask(ctx, map[string]any{"state": line, "edge": edge, "batch": batch, "now": now}, reply); err != nil {
+	if err := c.ask(ctx, map[string]any{"state": line, "edge": edge, "batch": batch, "now": now, "most_ahead": most}, reply); err != nil {
 		return nil, err
 	}
 	before, err := ParseState(line)

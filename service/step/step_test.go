@@ -46,7 +46,7 @@ func TestSteps(t *testing.T) {
 	if err != nil || len(names) != 0 {
 		t.Fatalf("%v, %v", names, err)
 	}
-	one, err := c.Step(ctx, line, nil, []Submission{{LeafCertificate: []byte("one")}}, 7)
+	one, err := c.Step(ctx, line, nil, []Submission{{LeafCertificate: []byte("one")}}, 7, MostAhead)
 	must(t, err)
 	// The root of one leaf is the leaf's hash: by hand, from RFC 6962, sections 2.1 and 3.4, and static-ct-api's extension.
 	leaf := "\x00\x00\x00" + "\x00\x00\x00\x00\x00\x00\x00\x07" + "\x00\x00" + "\x00\x00\x03one" + "\x00\x08\x00\x00\x05\x00\x00\x00\x00\x00"
@@ -60,7 +60,7 @@ func TestSteps(t *testing.T) {
 	objects, err := Objects(one.Bundle)
 	must(t, err)
 	edge := [][]byte{objects[0].Content, objects[1].Content}
-	two, err := c.Step(ctx, one.Line, edge, []Submission{{IssuerKeyHash: make([]byte, 32), PreCertificate: []byte("p"), TBSCertificate: []byte("t")}}, 8)
+	two, err := c.Step(ctx, one.Line, edge, []Submission{{IssuerKeyHash: make([]byte, 32), PreCertificate: []byte("p"), TBSCertificate: []byte("t")}}, 8, MostAhead)
 	must(t, err)
 	resumed, err := c.Resume(ctx, two.Line, two.Bundle)
 	must(t, err)
@@ -85,13 +85,14 @@ func TestSteps(t *testing.T) {
 	bent := append([]byte{}, edge[0]...)
 	bent[3] ^= 1
 	refusals := map[Refusal]func() error{
-		Edge:      func() error { _, err := c.Step(ctx, one.Line, [][]byte{bent, edge[1]}, nil, 8); return err },
-		Entries:   func() error { _, err := c.Step(ctx, one.Line, [][]byte{edge[0], {1}}, nil, 8); return err },
-		ClockBack: func() error { _, err := c.Step(ctx, one.Line, edge, nil, 7); return err },
+		Edge:      func() error { _, err := c.Step(ctx, one.Line, [][]byte{bent, edge[1]}, nil, 8, MostAhead); return err },
+		Entries:   func() error { _, err := c.Step(ctx, one.Line, [][]byte{edge[0], {1}}, nil, 8, MostAhead); return err },
+		TooFar:    func() error { _, err := c.Step(ctx, one.Line, edge, nil, 11, 3); return err },
+		ClockBack: func() error { _, err := c.Step(ctx, one.Line, edge, nil, 7, MostAhead); return err },
 		BadState:  func() error { _, err := c.Needs(ctx, "growth"); return err },
 		Bundle:    func() error { _, err := c.Resume(ctx, two.Line, one.Bundle); return err },
 		NoClaim:   func() error { _, err := c.Claim(ctx, two.Line, 1, 7, path, entry); return err },
-		BadLine:   func() error { _, err := c.Step(ctx, one.Line, edge, []Submission{{}}, 8); return err },
+		BadLine:   func() error { _, err := c.Step(ctx, one.Line, edge, []Submission{{}}, 8, MostAhead); return err },
 	}
 	for want, ask := range refusals {
 		if err := ask(); !errors.Is(err, want) {
@@ -157,7 +158,7 @@ func TestWrongStates(t *testing.T) {
 	line, err := c.Begin(ctx, 5)
 	must(t, err)
 	batch := []Submission{{LeafCertificate: []byte("one")}}
-	right, err := c.Step(ctx, line, nil, batch, 7)
+	right, err := c.Step(ctx, line, nil, batch, 7, MostAhead)
 	must(t, err)
 	asked := func(state string) error {
 		reply := *right
@@ -167,7 +168,7 @@ func TestWrongStates(t *testing.T) {
 		path := filepath.Join(t.TempDir(), "reply")
 		must(t, os.WriteFile(path, append(text, '\n'), 0o600))
 		liar := client(t, 20*time.Second, script(t, "read x; cat "+path)...)
-		_, err = liar.Step(ctx, line, nil, batch, 7)
+		_, err = liar.Step(ctx, line, nil, batch, 7, MostAhead)
 		return err
 	}
 	must(t, asked(right.Line))

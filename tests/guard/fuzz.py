@@ -62,6 +62,8 @@ class History:
         last = self.guard.last[1] if self.guard.last else 1 << 40
         moment = last + (chance.choice([0, 0, -1, -5, 5, 1000, 1 << chance.randrange(56)]) if chance.random() < 0.3 else 1)
         value = log.head(size, wanted, min(max(moment, 0), (1 << 64) - 1))
+        if abs(moment - last) > 3_600_000 or chance.random() < 0.1:
+            value["most_ahead"] = chance.choice([max(moment - last, 0), max(moment - last, 0), max(moment - last - 1, 0), 0, -1, 3_600_000, "5"])
         if chance.random() < 0.15:
             value["consistency"] = damaged_proof(chance, value["consistency"])
         if chance.random() < 0.03:

@@ -20,6 +20,10 @@ from json_lines import is_bytes, is_hash, is_list_of, is_number, json_line, json
 from merkle import fault_of_path, fault_of_proof  # noqa: E402
 
 
+# How far a head's moment may be beyond the last one's where a line doesn't say, in milliseconds.
+HOUR = 3_600_000
+
+
 class Refused(Exception):
     """Why nothing is let through: the name, and the fault of a proof or of a leaf where there is one."""
 
@@ -77,7 +81,9 @@ class Guard:
     def __init__(self, origin=None, promised=False):
         self.origin, self.promised, self.last, self.bad = origin, promised, None, False
 
-    def pass_head(self, head, proof):
+    def pass_head(self, head, proof, most):
+        if self.last and head[1] > self.last[1] + most:
+            raise Refused("moment-too-far")
         if self.last and head != self.last:
             last = self.last
             if head[0] < last[0]:
@@ -110,7 +116,7 @@ class Guard:
 
     def head_reply(self, value):
         head = (value["tree_size"], value["timestamp"], base64.b64decode(value["sha256_root_hash"]))
-        self.pass_head(head, [base64.b64decode(one) for one in value["consistency"]])
+        self.pass_head(head, [base64.b64decode(one) for one in value["consistency"]], value.get("most_ahead", HOUR))
         size, moment, root = head
         reply = {"sign": text(b"\0\1" + struct.pack(">QQ", moment, size) + root), "state": state_of(head)}
         if self.origin is None:
@@ -125,7 +131,7 @@ class Guard:
 
     def is_head(self, value):
         keys = {"sha256_root_hash": is_hash, "tree_size": is_number, "timestamp": is_number, "consistency": is_list_of(is_hash)}
-        return all(key in value and is_right(value[key]) for key, is_right in keys.items())
+        return is_number(value.get("most_ahead", HOUR)) and all(key in value and is_right(value[key]) for key, is_right in keys.items())
 
     def is_receipt(self, value):
         keys = {"leaf_input": is_bytes}

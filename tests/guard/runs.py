@@ -65,12 +65,15 @@ REFUSALS = [
 ]
 BAD_LINES = [
     *[b"hello", b"[]", b"{}", none_of(head(0, 3, 1000), "consistency"), none_of(receipt(0, 3), "leaf_index"), {"guard": 1, "last": None}],
-    *[head(0, 3, 1000, guard=1), head(0, 3, -1), head(0, 3, 1 << 64), head(0, 3, 1000, sha256_root_hash="QQ=="), head(0, 3, 1000, tree_head_signature="BAMAAA==")],
+    *[head(0, 3, 1000, guard=1), head(0, 3, -1), head(0, 3, 1 << 64), head(0, 3, 1000, sha256_root_hash="QQ=="), head(0, 3, 1000, most_ahead=-1), head(0, 3, 1000, most_ahead="5"), head(0, 3, 1000, tree_head_signature="BAMAAA==")],
 ]
+# Each is too far beyond a head of 3 leaves at 1000, whatever else it is: a fork, a smaller tree, no proof, the largest moment.
+FAR = [head(3, 5, 3601001, OTHER), head(0, 2, 3601001), head(3, 5, (1 << 64) - 1, consistency=[]), head(3, 5, 1001, most_ahead=0)]
 RUNS = {
     "session": (["--origin", ORIGIN], [state(LOG, 2, 900), head(2, 3, 1000), *GROWS[1:], head(9, 5, 3000), receipt(8, 9)]),
     "grows": ([], GROWS),
-    "first-moment": ([], [head(0, 0, 0), head(0, 0, 1), head(0, 4, 2, consistency=[]), head(4, 9, (1 << 64) - 1)]),
+    "first-moment": ([], [head(0, 0, 0), head(0, 0, 1), head(0, 4, 2, consistency=[]), head(4, 9, (1 << 64) - 1, most_ahead=(1 << 64) - 3)]),
+    "too-far": ([], [head(0, 3, 1000), *FAR, head(3, 5, 3601001), head(3, 5, 3601000), head(5, 9, 3601000 + 9, most_ahead=8), head(5, 9, 3601000 + 9, most_ahead=9)]),
     "refusals": ([], REFUSALS),
     "bad-lines": (["--receipts", "in-head"], BAD_LINES),
     "taken-up": (["--origin", ORIGIN], [state(LOG, 5, 1002), head(5, 5, 1002), receipt(4, 5), head(5, 9, 2000), head(9, 9, 1500)]),

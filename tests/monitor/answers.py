@@ -233,6 +233,22 @@ def tiled_runs():
     yield "tiled-checkpoints", 4, [*notes, {"checkpoint": first["checkpoint"]}, dict(first, timestamp="1")], [*[bad("no-checkpoint")] * len(notes), *[{"error": "bad-line"}] * 2, nothing]
 
 
+def short_tiled_run():
+    """A run over a tiled log of short leaves, which the gate makes (log_tests), where no name is watched: its exit status, its lines, and what is to be written."""
+    leaves = [leaf(index, b"%d" % index, None)[:-2] + b"\0\10\0\0\5" + index.to_bytes(5, "big") for index in range(130)]
+    texts, whole = [one[2:] + b"\0\0" for one in leaves], checkpoint(leaves, 1000)
+    pending = lambda have: {"verdict": "pending", "have": have, "tree_size": 130}
+    bad = lambda fault, **more: {"error": "bad-answer", "fault": fault, **more}
+    changed = lambda old, new: dict(whole, checkpoint=whole["checkpoint"].replace(old, new))
+    notes = [changed("\n130\n", "\n0130\n"), changed("\n130\n", "\n+130\n"), changed("\n130\n", "\n 130\n"), changed("=\n", "A=\n"), changed("=\n", "\n"), changed("=\n", "=\nmore\n"), dict(whole, checkpoint="")]
+    damaged = lambda text: dict(tile(texts), data=globals()["text"](text))
+    data = b"".join(texts)
+    named = lambda name: dict(tile(texts[:1]), tile=name)
+    given = [*notes, dict(whole, timestamp="1"), whole, damaged(data[:-1]), damaged(b"".join(texts[:128])), named("tile/data/000.p/0130"), named("tile/data/001.p/1"), tile(texts[:128]), tile(texts[:1]), tile(texts)]
+    return 4, given, [*[bad("no-checkpoint")] * len(notes), {"error": "bad-line"}, pending(0), bad("truncated", place=129), bad("other-count", count=128), bad("no-data-tile"), {"verdict": "gap", "want": 0},
+        pending(128), {"verdict": "known", "want": 128}, {"verdict": "accepted", "tree_size": 130}, state(head(leaves, 1000), None, leaves, leaves)]
+
+
 def write_runs(folder, runs):
     """Writes NAME.in, NAME.out and NAME.status for each run."""
     for name, status, given, wanted in runs:
@@ -244,4 +260,4 @@ def write_runs(folder, runs):
 if __name__ == "__main__":
     if len(sys.argv) < 2:
         sys.exit(__doc__)
-    write_runs(Path(sys.argv[1]), runs())
+    write_runs(Path(sys.argv[1]), [*runs(), ("tiled-short", *short_tiled_run())])

@@ -150,6 +150,17 @@ def refused(chance, judge, request, reply, older):
         yield "too-many", {**request, "batch": many, "state": chance.choice([request["state"], ""])}
     for moment in (judge.moment, max(judge.moment, 1) - 1, 0):
         yield "clock-back", {**request, "now": moment}
+    # One beyond the bound, which is looked at before the edge is: an hour, or what the line says.
+    bound = chance.choice([0, 1, 3_600_000, chance.getrandbits(50)])
+    far, near = ({"most_ahead": most, "now": judge.moment + bound + over} for most, over in ((bound, 1), (bound + 1, 1)))
+    if far["now"] < 1 << 64:
+        yield "moment-too-far", {**request, **far}
+        yield "moment-too-far", {**request, **far, "edge": [*request["edge"], ""]}
+        yield "edge", {**request, **near, "edge": [*request["edge"], ""]}
+    if judge.moment + 3_600_001 < 1 << 64:
+        hourly = {key: value for key, value in request.items() if key != "most_ahead"}
+        yield "moment-too-far", {**hourly, "now": judge.moment + 3_600_001}
+        yield "edge", {**hourly, "now": judge.moment + 3_600_000, "edge": [*request["edge"], ""]}
     if judge.size + 300 > MOST:
         small = [{"chain": [], "leaf_certificate": text(number.to_bytes(2, "big"))} for number in range(MOST - judge.size + 1)]
         yield "full", {**request, "batch": small}
@@ -167,6 +178,7 @@ def no_requests():
         yield {**asked, key: None}
     for now in (-1, 1 << 64, 5.0, "5", True, [5]):
         yield {**asked, "now": now}
+        yield {**asked, "most_ahead": now}
         yield {"begin": now}
     for edge in ("", [""] + [5], ["A"], ["AA"], ["AB=="], ["AA==\n"], ["_w=="], {}):
         yield {**asked, "edge": edge}

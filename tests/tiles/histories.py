@@ -172,7 +172,9 @@ class History:
         """The next step, as it should be asked for."""
         moment = self.judge.moment + self.chance.choice([1, 2, 1000, 1 << self.chance.randrange(50)])
         edge = [text(self.store[called]) for called in self.needs()]
-        return {"batch": self.batch(), "edge": edge, "now": min(moment, (1 << 64) - 1), "state": self.judge.line}
+        ahead = min(moment, (1 << 64) - 1) - self.judge.moment
+        bound = {"most_ahead": ahead + self.chance.choice([0, 0, 1])} if ahead > 3_600_000 or self.chance.random() < 0.3 else {}
+        return {"batch": self.batch(), "edge": edge, "now": self.judge.moment + ahead, "state": self.judge.line, **bound}
 
     def step(self, request):
         """Asks for a step, which is done, and has its objects told again."""
@@ -206,7 +208,7 @@ class History:
 
     def attack(self, request, reply):
         """Asks what has to be refused, and what must not be."""
-        request = {**request, "batch": request["batch"][:2]}
+        request = {**request, "batch": request["batch"][:2], "most_ahead": (1 << 64) - 1}
         for name, value in attacks.refused(self.chance, self.judge, request, reply, [line.line for line, _ in self.before]):
             answer = self.ask(value)
             hold(answer == {"refused": name}, "instead of", name, "comes", str(answer)[:300], "to", str(value)[:2000])

@@ -38,6 +38,8 @@ FAULTS = (
         '            objects.append((name("data", index // 256, 256), data))',
         '            objects += [(name("data", index // 256, 256), data)] if index + 1 < size + len(leaves) else []',
     ),
+    ("moment too far ahead", "step.py", "if now > state.timestamp + most:", "if now > state.timestamp + most + 1:"),
+    ("bound of a line passed over", "step.py", "value = {\"most_ahead\": HOUR, **value} if", "value = {**value, \"most_ahead\": HOUR} if"),
     ("moment of the head falls", "step.py", "if now <= state.timestamp:", "if now + 2 < state.timestamp:"),
     ("edge of another root believed", "step.py", "if edge_root(rows) != state.root:", "if not rows:"),
     ("widths not compared", "step.py", "if len(content) != 32 * width:", "if len(content) % 32:"),

@@ -4,8 +4,8 @@ slow and proved nowhere.
 
     step.py [--origin TEXT] < lines > replies
 
-A request is told apart by its keys: begin (a moment); needs (a state's line); batch, edge, now and state; bundle and resume (a state's
-line); claim, path, state and submission; and those of a reader of the log's tiles, which reading.py lists. Each reply is handed on before the next line is read, and nothing is
+A request is told apart by its keys: begin (a moment); needs (a state's line); batch, edge, now and state, most_ahead beside them or not; bundle and
+resume (a state's line); claim, path, state and submission; and those of a reader of the log's tiles, which reading.py lists. Each reply is handed on before the next line is read, and nothing is
 kept between lines. TEXT is the log's origin in checkpoints (C2SP tlog-checkpoint).
 
 It ends with status 0; 1 where memory was refused, or reading or writing failed; 2 for its command line; 4 where a line was no request.
@@ -29,6 +29,8 @@ from states import State, state_of, written  # noqa: E402
 LONGEST = 1 << 26
 # How many leaves a log has at most: an index is of 40 bits.
 MOST = 1 << 40
+# How far a step's moment may be beyond the state's where a line doesn't say, in milliseconds.
+HOUR = 3_600_000
 # How many submissions a batch has at most.
 MOST_SUBMISSIONS = 4096
 LEVELS = range(8)
@@ -105,11 +107,13 @@ def data_tiles(data, size, leaves):
     return data, objects + ([(name("data", end // 256, end % 256), data)] if leaves and end % 256 else [])
 
 
-def stepped(line, edge, now, batch):
+def stepped(line, edge, now, most, batch):
     """The bytes to be signed for each submission, the step's objects, and the next state."""
     state = state_of(line)
     if state is None:
         raise Refused("bad-state")
+    if now > state.timestamp + most:
+        raise Refused("moment-too-far")
     rows, data = believed(state, edge)
     if now <= state.timestamp:
         raise Refused("clock-back")
@@ -240,12 +244,12 @@ def split(batch):
     return [batch[found.index(place)] for place in range(len(places))], found
 
 
-def step(batch, edge, now, line, origin):
+def step(batch, edge, now, line, most, origin):
     """A step: a receipt for each submission, its objects as a bundle, its head, and the state behind it."""
     if len(batch) > MOST_SUBMISSIONS:
         raise Refused("too-many")
     entries, places = split(list(map(submission_of, batch)))
-    signed, objects, after = stepped(line, map(base64.b64decode, edge), now, entries)
+    signed, objects, after = stepped(line, map(base64.b64decode, edge), now, most, entries)
     first = after.tree_size - len(signed)
     receipts = [{"leaf_index": first + place, "sign": text(signed[place]), "timestamp": now} for place in places]
     return {"bundle": text(bundle_of(objects)), "receipts": receipts, "state": written(after), **head_reply(after, origin)}
@@ -326,7 +330,7 @@ def root(size, contents, origin):
 REQUESTS = (
     (begin, {"begin": is_number}),
     (needs, {"needs": is_text}),
-    (step, {"batch": is_list_of(is_submission), "edge": is_list_of(is_bytes), "now": is_number, "state": is_text}),
+    (step, {"batch": is_list_of(is_submission), "edge": is_list_of(is_bytes), "now": is_number, "state": is_text, "most_ahead": is_number}),
     (resume, {"bundle": is_bytes, "resume": is_text}),
     (claim, {"claim": is_claim, "path": is_list_of(is_hash), "state": is_text, "submission": is_entry}),
     (needs_path, {"needs_path": is_number, "tree_size": is_number}),
@@ -342,6 +346,7 @@ def reply_to(line, origin):
     """The reply to a line that isn't empty. The first request whose keys are all there and right is the line's."""
     try:
         value = json_of(line, LONGEST)
+        value = {"most_ahead": HOUR, **value} if isinstance(value, dict) else value
         for answer, keys in REQUESTS if isinstance(value, dict) else ():
             if has(value, keys):
                 return answer(*(value[key] for key in keys), origin)

@@ -6,8 +6,9 @@ use Rattle.std.specs.Io.BufRead.{drop_through, first_piece}
 use Rattle.json_lines.specs.Lines.{kept_line, IsNextLine}
 use Rattle.json_lines.proofs.KeptLines.{whole_or_long}
 use Rattle.json_lines.proofs.Values.{value_long}
+use Rattle.sha2.specs.Sha256.{sha256}
 use Rattle.ct_guard_lines.specs.Asks.{Ask, ask_in, for_nothing, Requests}
-use Rattle.ct_guard_lines.specs.GuardSession.{GuardOptions, GuardStep, Replies, StepsLine, GuardsLine, GuardsFirst, KeepsLine, GetsLine, IsNoState}
+use Rattle.ct_guard_lines.specs.GuardSession.{GuardOptions, GuardStep, RepliesBy, StepsLine, GuardsLine, GuardsFirst, KeepsLine, GetsLine, IsNoState}
 use Rattle.ct_guard_lines.specs.declared.guarding.Guarding.{Guarding}
 use Rattle.ct_guard_lines.specs.declared.settings.Receipts.{Receipts}
 use Rattle.ct_guard_lines.proofs.Short.{state_short}
@@ -29,13 +30,13 @@ got_none n m (Some xs) source_next line is = is.1
 
 -- ---- one line
 
-takes_some : (s : GuardOptions) (before : Guarding) (line : List ℕ) (step : GuardStep) → (length line == 0) ≡ false → Replies s before line step
+takes_some : (s : GuardOptions) (before : Guarding) (line : List ℕ) (step : GuardStep) → (length line == 0) ≡ false → RepliesBy sha256 s before line step
     → StepsLine s before line step
 takes_some s before [] step some t = cc
 takes_some s before (b ∷ bs) step some t = t
 
 pub gives_some : (s : GuardOptions) (before : Guarding) (line : List ℕ) (step : GuardStep) (e : Bool) → e ≡ (length line == 0) → e ≡ false
-    → Replies s before line step → GuardsLine s before line step.text step.after
+    → RepliesBy sha256 s before line step → GuardsLine s before line step.text step.after
 gives_some s before line step e is not t = (step, takes_some s before line step (sym is ∙ not) t, refl, refl)
 
 pub gives_none : (s : GuardOptions) (before : Guarding) (line text : List ℕ) (e : Bool) → e ≡ (length line == 0) → e ≡ true → text ≡ []

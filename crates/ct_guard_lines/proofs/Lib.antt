@@ -5,5 +5,6 @@ pub mod NoFloat
 pub mod Kept
 pub mod GuardLines
 pub mod GivenRuns
+pub mod CutRuns
 pub mod WordsRead
 pub mod BrokenOff

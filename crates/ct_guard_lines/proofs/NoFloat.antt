@@ -10,18 +10,19 @@ use Rattle.ct_guard_lines.specs.Asks.{Ask, for_head, for_receipt, for_promise, f
 use Rattle.ct_guard_lines.specs.Given.{guard_reply_data}
 use Rattle.ct_guard_lines.specs.GuardState.{guard_state_data}
 use Rattle.ct_guard_lines.specs.declared.replies.Outcome.{Outcome}
-use Rattle.ct_guard_lines.specs.declared.replies.Outcome.TheVariants.{LetThrough, HeadRefused, ReceiptRefused, BadLine}
+use Rattle.ct_guard_lines.specs.declared.replies.Outcome.TheVariants.{LetThrough, TooFar, HeadRefused, ReceiptRefused, BadLine}
 
 pub state_no_float : (last : Option Head) → has_float (guard_state_data last) ≡ false
 state_no_float None = refl
 state_no_float (Some head) = refl
 
 pub reply_no_float : (origin : Option (List ℕ)) (a : Ask) (o : Outcome) → has_float (guard_reply_data origin a o) ≡ false
-reply_no_float None (for_head head p) LetThrough = refl
-reply_no_float (Some origin) (for_head head p) LetThrough = refl
+reply_no_float None (for_head head p most) LetThrough = refl
+reply_no_float (Some origin) (for_head head p most) LetThrough = refl
 reply_no_float origin (for_receipt b i p) LetThrough = refl
 reply_no_float origin (for_promise b) LetThrough = refl
 reply_no_float origin for_nothing LetThrough = refl
+reply_no_float origin a TooFar = refl
 reply_no_float origin a (HeadRefused SizeFalls) = refl
 reply_no_float origin a (HeadRefused MomentNotLater) = refl
 reply_no_float origin a (HeadRefused Fork) = refl

@@ -11,24 +11,36 @@ use Rattle.ct_guard_lines.specs.declared.request.Request.TheVariants as request
 use Rattle.ct_guard_lines.specs.declared.settings.Receipts.{Receipts}
 use Rattle.ct_guard_lines.specs.declared.settings.Receipts.TheVariants.{InHead, Promised}
 
--- What a line asks for: the bytes of a tree head, with a consistency proof from the last one; those of a receipt, by its leaf's bytes, its
+-- What a line asks for: the bytes of a tree head, with a consistency proof from the last one, where its moment is at most so many milliseconds beyond
+-- that one's; those of a receipt, by its leaf's bytes, its
 -- leaf index and an audit path in the last head's tree; those of a receipt by its leaf's bytes alone; or nothing that there is.
 pub data Ask : Type 0 where
-  for_head : Head → List (List ℕ) → Ask
+  for_head : Head → List (List ℕ) → ℕ → Ask
   for_receipt : List ℕ → ℕ → List (List ℕ) → Ask
   for_promise : List ℕ → Ask
   for_nothing : Ask
 
 -- what the code's request asks for
 abbrev pub ask_of : Request → Ask
-ask_of (request.Head head proof) = for_head head proof.items
+ask_of (request.Head head proof most) = for_head head proof.items most
 ask_of (request.Receipt leaf index path) = for_receipt leaf.items index path.items
 ask_of (request.Promise leaf) = for_promise leaf.items
 ask_of request.Other = for_nothing
 
--- a tree head and the consistency proof from the last one (RFC 6962, sections 4.3 and 4.4)
+-- the bound where an object has none under its key: an hour, in milliseconds
+abbrev pub head_bound_or : Option Data → Option ℕ → Option ℕ
+head_bound_or None bound = Some 3600000
+head_bound_or (Some d) bound = bound
+
+-- how far a head's moment may be beyond the last one's, in milliseconds, by its object
+abbrev pub head_bound_at : Data → Option ℕ
+head_bound_at d = head_bound_or (get (codes "most_ahead") d) (number_at (codes "most_ahead") d)
+
+-- a tree head, the consistency proof from the last one (RFC 6962, sections 4.3 and 4.4), and how far it may be beyond that one
 abbrev pub head_ask : Data → Option Ask
-head_ask d = option_and_then (λ head. option_map (λ proof. for_head head proof) (hashes_at (codes "consistency") d)) (head_fields d)
+head_ask d = option_and_then
+    (λ head. option_and_then (λ proof. option_map (λ most. for_head head proof most)
+    (head_bound_at d)) (hashes_at (codes "consistency") d)) (head_fields d)
 
 -- a leaf, its leaf index and an audit path (RFC 6962, sections 4.5 and 4.6)
 abbrev pub receipt_ask : Data → Option Ask

@@ -1,5 +1,5 @@
 -- What an ask comes to, and what is replied.
-use Rattle.std.specs.Prelude.{◌≡◌, ◌++◌, ◌∷◌, [], ℕ, List, Bool, true, false, Some, None, codes}
+use Rattle.std.specs.Prelude.{◌≡◌, ◌+◌, ◌<◌, ◌≤◌, ◌++◌, ◌∷◌, [], ⊤, ℕ, List, Bool, true, false, Some, None, codes}
 use Rattle.std.specs.declared.option.Option.{Option}
 use Rattle.serde_json.specs.Data.{Data, string, object, member, no_members}
 use Rattle.serde_json.specs.Written.{compact_text}
@@ -21,23 +21,40 @@ use Rattle.ct_verify.specs.declared.fault.ProofFault.TheVariants as fault
 use Rattle.ct_guard_lines.specs.Asks.{Ask, for_head, for_receipt, for_promise, for_nothing}
 use Rattle.ct_guard_lines.specs.GuardState.{guard_state_data}
 use Rattle.ct_guard_lines.specs.declared.replies.Outcome.{Outcome}
-use Rattle.ct_guard_lines.specs.declared.replies.Outcome.TheVariants.{LetThrough, HeadRefused, ReceiptRefused, BadLine}
+use Rattle.ct_guard_lines.specs.declared.replies.Outcome.TheVariants.{LetThrough, TooFar, HeadRefused, ReceiptRefused, BadLine}
 
--- What an ask comes to behind the last head, and the last head then: a head or a receipt is let through or refused as ct_guard's
--- definitions say, of a promise the bytes have to be a leaf, and nothing changes but by a head that is let through.
+-- a head's moment is at most so many milliseconds beyond the last one's, if there is one
+abbrev pub IsNear : Option Head → Head → ℕ → Type 0
+IsNear None head most = ⊤
+IsNear (Some last) head most = head.timestamp ≤ last.timestamp + most
+
+-- a head's moment is further beyond the last one's
+abbrev pub IsTooFar : Option Head → Head → ℕ → Type 0
+IsTooFar None head most = ⊥
+IsTooFar (Some last) head most = last.timestamp + most < head.timestamp
+
+-- What an ask comes to behind the last head, and the last head then: a head whose moment is too far beyond that one's is refused, whatever else it
+-- is; else a head or a receipt is let through or refused as ct_guard's definitions say, of a promise the bytes have to be a leaf, and
+-- nothing changes but by a head that is let through. H is any hash function on byte lists, here and below.
+abbrev pub AskComesBy : (List ℕ → List ℕ) → Option Head → Ask → Outcome → Option Head → Type 0
+AskComesBy H last (for_head head p most) LetThrough next = IsNear last head most × PassesHead H last head p × (next ≡ Some head)
+AskComesBy H last (for_head head p most) TooFar next = IsTooFar last head most × (next ≡ last)
+AskComesBy H last (for_head head p most) (HeadRefused r) next = IsNear last head most × StopsHead H last head p r × (next ≡ last)
+AskComesBy H last (for_receipt b i p) LetThrough next = PassesReceipt H last b i p × (next ≡ last)
+AskComesBy H last (for_receipt b i p) (ReceiptRefused r) next = StopsReceipt H last b i p r × (next ≡ last)
+AskComesBy H last (for_promise b) LetThrough next = IsLeafBytes b × (next ≡ last)
+AskComesBy H last (for_promise b) (ReceiptRefused (NoLeaf f)) next = LeafFaulty f b × (next ≡ last)
+AskComesBy H last for_nothing BadLine next = next ≡ last
+AskComesBy H last a o next = ⊥
+
+-- the same by SHA-256, as the program has it
 abbrev pub AskComes : Option Head → Ask → Outcome → Option Head → Type 0
-AskComes last (for_head head p) LetThrough next = PassesHead sha256 last head p × (next ≡ Some head)
-AskComes last (for_head head p) (HeadRefused r) next = StopsHead sha256 last head p r × (next ≡ last)
-AskComes last (for_receipt b i p) LetThrough next = PassesReceipt sha256 last b i p × (next ≡ last)
-AskComes last (for_receipt b i p) (ReceiptRefused r) next = StopsReceipt sha256 last b i p r × (next ≡ last)
-AskComes last (for_promise b) LetThrough next = IsLeafBytes b × (next ≡ last)
-AskComes last (for_promise b) (ReceiptRefused (NoLeaf f)) next = LeafFaulty f b × (next ≡ last)
-AskComes last for_nothing BadLine next = next ≡ last
-AskComes last a o next = ⊥
+AskComes last a o next = AskComesBy sha256 last a o next
 
 -- whether a line was none
 abbrev pub is_bad_line : Outcome → Bool
 is_bad_line LetThrough = false
+is_bad_line TooFar = false
 is_bad_line (HeadRefused r) = false
 is_bad_line (ReceiptRefused r) = false
 is_bad_line BadLine = true
@@ -70,7 +87,11 @@ refused_data name = object (member (codes "refused") (string name) no_members)
 abbrev pub refused_fault_data : List ℕ → List ℕ → Data
 refused_fault_data name f = object (member (codes "fault") (string f) (member (codes "refused") (string name) no_members))
 
--- that of a head that is refused
+-- that of a head that is too far beyond the last one
+abbrev pub too_far_data : Data
+too_far_data = refused_data (codes "moment-too-far")
+
+-- that of a head that is refused for another reason
 abbrev pub head_refused_data : HeadRefusal → Data
 head_refused_data SizeFalls = refused_data (codes "size-falls")
 head_refused_data MomentNotLater = refused_data (codes "moment-not-later")
@@ -104,7 +125,7 @@ head_given_data (Some origin) head = object (member (codes "checkpoint") (string
 
 -- the object of what is asked for and let through
 abbrev pub given_data : Option (List ℕ) → Ask → Data
-given_data origin (for_head head p) = head_given_data origin head
+given_data origin (for_head head p most) = head_given_data origin head
 given_data origin (for_receipt b i p) = receipt_given_data b
 given_data origin (for_promise b) = receipt_given_data b
 given_data origin for_nothing = bad_line_data
@@ -112,6 +133,7 @@ given_data origin for_nothing = bad_line_data
 -- the object of the reply to an ask
 abbrev pub guard_reply_data : Option (List ℕ) → Ask → Outcome → Data
 guard_reply_data origin a LetThrough = given_data origin a
+guard_reply_data origin a TooFar = too_far_data
 guard_reply_data origin a (HeadRefused r) = head_refused_data r
 guard_reply_data origin a (ReceiptRefused r) = receipt_refused_data r
 guard_reply_data origin a BadLine = bad_line_data

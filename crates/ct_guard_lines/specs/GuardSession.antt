@@ -1,12 +1,13 @@
--- What a run writes, line by line.
+-- What a run writes, line by line. H is any hash function on byte lists, and the program's is SHA-256.
 use Rattle.std.specs.Prelude.{◌≡◌, ◌<◌, ℕ, Bool, true, false, ◌||◌, List, [], ◌∷◌, ◌++◌, length, ◌⊎◌, Some, None, IfSome, if◌then◌else◌}
 use Rattle.std.specs.Prelude.{option_map, string_bytes}
 use Rattle.std.specs.declared.option.Option.{Option}
 use Rattle.std.specs.Io.BufRead.{first_piece, drop_through}
 use Rattle.std.specs.Io.KnownBytes.{Appends}
+use Rattle.sha2.specs.Sha256.{sha256}
 use Rattle.ct_tree.specs.declared.head.Head.{Head}
 use Rattle.ct_guard_lines.specs.Asks.{Ask, Requests}
-use Rattle.ct_guard_lines.specs.Given.{AskComes, is_bad_line, guard_reply_data, guard_line}
+use Rattle.ct_guard_lines.specs.Given.{AskComesBy, is_bad_line, guard_reply_data, guard_line}
 use Rattle.ct_guard_lines.specs.GuardState.{guard_state_text, IsLastValue}
 use Rattle.ct_guard_lines.specs.declared.guarding.Guarding.{Guarding}
 use Rattle.ct_guard_lines.specs.declared.replies.Outcome.{Outcome}
@@ -34,29 +35,37 @@ pub record GuardStep : Type 0 where
 
 -- A line that isn't empty: what it asks for and what that comes to, what is replied, the last head then, and whether a line was none so
 -- far.
-pub record Replies (s : GuardOptions) (before : Guarding) (line : List ℕ) (step : GuardStep) : Type 0 where
+pub record RepliesBy (H : List ℕ → List ℕ) (s : GuardOptions) (before : Guarding) (line : List ℕ) (step : GuardStep) : Type 0 where
   pub ask : Ask
   pub outcome : Outcome
   pub noted : step.gave ≡ Some (ask, outcome)
   pub requests : Requests s.receipts line ask
-  pub comes : AskComes (last_head before) ask outcome (last_head step.after)
+  pub comes : AskComesBy H (last_head before) ask outcome (last_head step.after)
   pub replied : step.text ≡ guard_line (guard_reply_data s.origin ask outcome)
   pub bad : step.after.bad ≡ before.bad || is_bad_line outcome
 
 -- what any line gives: an empty one is passed over
+abbrev pub StepsLineBy : (List ℕ → List ℕ) → GuardOptions → Guarding → List ℕ → GuardStep → Type 0
+StepsLineBy H s before [] step = (step.gave ≡ None) × (step.text ≡ []) × (step.after ≡ before)
+StepsLineBy H s before (b ∷ bs) step = RepliesBy H s before (b ∷ bs) step
+
+-- the same by SHA-256
 abbrev pub StepsLine : GuardOptions → Guarding → List ℕ → GuardStep → Type 0
-StepsLine s before [] step = (step.gave ≡ None) × (step.text ≡ []) × (step.after ≡ before)
-StepsLine s before (b ∷ bs) step = Replies s before (b ∷ bs) step
+StepsLine s before line step = StepsLineBy sha256 s before line step
 
 -- the same, by the text and what is known then
 abbrev pub GuardsLine : GuardOptions → Guarding → List ℕ → List ℕ → Guarding → Type 0
 GuardsLine s before line text after = (step : GuardStep) × StepsLine s before line step × (step.text ≡ text) × (step.after ≡ after)
 
 -- the lines of the input, one step for each, give this text and lead to `last`
+abbrev pub GuardsLinesBy : (List ℕ → List ℕ) → GuardOptions → Guarding → List GuardStep → List ℕ → List ℕ → Guarding → Type 0
+GuardsLinesBy H s before [] input text last = (input ≡ []) × (text ≡ []) × (last ≡ before)
+GuardsLinesBy H s before (t ∷ steps) input text last = (0 < length input) × StepsLineBy H s before (first_piece 10 input) t
+    × ((rest : List ℕ) × GuardsLinesBy H s t.after steps (drop_through 10 input) rest last × (text ≡ t.text ++ rest))
+
+-- the same by SHA-256
 abbrev pub GuardsLines : GuardOptions → Guarding → List GuardStep → List ℕ → List ℕ → Guarding → Type 0
-GuardsLines s before [] input text last = (input ≡ []) × (text ≡ []) × (last ≡ before)
-GuardsLines s before (t ∷ steps) input text last = (0 < length input) × StepsLine s before (first_piece 10 input) t
-    × ((rest : List ℕ) × GuardsLines s t.after steps (drop_through 10 input) rest last × (text ≡ t.text ++ rest))
+GuardsLines s before steps input text last = GuardsLinesBy sha256 s before steps input text last
 
 -- the line is that of this state
 abbrev pub IsGuardState : List ℕ → Option Head → Type 0
@@ -88,7 +97,7 @@ IsGuardStatus status = (status ≡ 0) ⊎ (status ≡ 4)
 -- A run over the input: its text is the replies to its lines, and behind them the line of the state that it ends in; and its exit status.
 -- `start` is what was known before the first line that is no state, and `left` the input from there on; `steps` are its lines, `last` is
 -- what is known behind them, and `told` their replies.
-pub record GuardRun (s : GuardOptions) (input text : List ℕ) (status : ℕ) : Type 0 where
+pub record GuardRunBy (H : List ℕ → List ℕ) (s : GuardOptions) (input text : List ℕ) (status : ℕ) : Type 0 where
   pub start : Guarding
   pub last : Guarding
   pub left : List ℕ
@@ -96,10 +105,14 @@ pub record GuardRun (s : GuardOptions) (input text : List ℕ) (status : ℕ) : 
   pub steps : List GuardStep
   pub starts : StartsAt input (last_head start) left
   pub none_bad : start.bad ≡ false
-  pub lines : GuardsLines s start steps left told last
+  pub lines : GuardsLinesBy H s start steps left told last
   pub kept : IsLastValue (last_head last)
   pub written : text ≡ told ++ (guard_state_text (last_head last) ++ 10 ∷ [])
   pub ends : status ≡ guard_status last
+
+-- the same by SHA-256, as the program runs
+abbrev pub GuardRun : GuardOptions → List ℕ → List ℕ → ℕ → Type 0
+GuardRun s input text status = GuardRunBy sha256 s input text status
 
 -- what is kept of a line is the line, or both are longer than a line may be
 abbrev pub KeepsLine : List ℕ → List ℕ → Type 0

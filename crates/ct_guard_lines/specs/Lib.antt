@@ -5,3 +5,4 @@ pub mod GuardSession
 pub mod GuardHistory
 pub mod GuardWords
 pub mod BrokenOff
+pub mod CutRuns

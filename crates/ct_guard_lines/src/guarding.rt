@@ -1,8 +1,9 @@
 //! Who takes the lines, one after the other.
 
 ghost use Rattle.std.specs.Prelude.{◌≡◌, ◌++◌, ◌∷◌, ◌||◌, [], IfOk, None, false};
-ghost use Rattle.ct_guard_lines.specs.Asks.{ask_of};
-ghost use Rattle.ct_guard_lines.specs.Given.{AskComes, is_bad_line};
+ghost use Rattle.std.specs.Bool.{MatchBool};
+ghost use Rattle.ct_guard_lines.specs.Asks.{ask_of, for_head};
+ghost use Rattle.ct_guard_lines.specs.Given.{AskComes, IsNear, IsTooFar, is_bad_line};
 ghost use Rattle.ct_guard_lines.specs.GuardSession.{options_of, last_head, GuardsLine, GuardsFirst, guard_status};
 ghost use Rattle.ct_guard_lines.specs.GuardState.{guard_state_text, IsLastValue};
 
@@ -12,7 +13,7 @@ use crate::settings::Settings;
 use crate::state::{last_has_value, read_state, state_line};
 use ct_codec::lend_leaf;
 use ct_guard::{Guard, ReceiptRefusal, pass_receipt};
-use ct_tree::Sha256Hash;
+use ct_tree::{Head, Sha256Hash};
 use std::alloc::{AllocError, Global};
 
 /// What is known behind a line.
@@ -22,6 +23,29 @@ pub struct Guarding {
     pub guard: Guard,
     /// Whether a line was none.
     pub bad: bool,
+}
+
+// Whether a head's moment is more than so many milliseconds beyond that of the head that was let through last.
+fn is_too_far(guard: &Guard, head: &Head, most: u64) -> bool
+    ensures { MatchBool result (IsTooFar guard.now.last head.now most) (IsNear guard.now.last head.now most) }
+{
+    match guard.last {
+        Some(last) => head.timestamp > last.timestamp && head.timestamp - last.timestamp > most,
+        None => false,
+    }
+}
+
+// What a guard answers to a head.
+fn take_head(guard: &mut Guard, head: &Head, proof: &[[u8; 32]], most: u64) -> Outcome
+    ensures { AskComes guard.old.last (for_head head.now proof.now most) result guard.new.last }
+{
+    if is_too_far(guard, head, most) {
+        return Outcome::TooFar;
+    }
+    match guard.pass_head(&Sha256Hash, head, proof) {
+        Ok(()) => Outcome::LetThrough,
+        Err(refusal) => Outcome::HeadRefused(refusal),
+    }
 }
 
 impl Guarding {
@@ -42,10 +66,7 @@ impl Guarding {
         ensures bad { self.new.bad ≡ self.old.bad }
     {
         match request {
-            Request::Head(head, proof) => match self.guard.pass_head(&Sha256Hash, head, proof) {
-                Ok(()) => Outcome::LetThrough,
-                Err(refusal) => Outcome::HeadRefused(refusal),
-            },
+            Request::Head(head, proof, most) => take_head(&mut self.guard, head, proof, *most),
             Request::Receipt(leaf, index, path) => {
                 match pass_receipt(&Sha256Hash, &self.guard, leaf, *index, path) {
                     Ok(()) => Outcome::LetThrough,

@@ -6,7 +6,7 @@ ghost use Rattle.serde_json.specs.Written.{has_float};
 ghost use Rattle.ct_codec.specs.Signed.{tree_head_text};
 ghost use Rattle.json_lines.specs.Values.{bytes_data};
 ghost use Rattle.ct_guard_lines.specs.Asks.{ask_of};
-ghost use Rattle.ct_guard_lines.specs.Given.{proof_refusal_name, leaf_refusal_name, refused_data, refused_fault_data, head_refused_data, receipt_refused_data, bad_line_data, receipt_given_data, head_given_data, given_data, guard_reply_data, guard_line};
+ghost use Rattle.ct_guard_lines.specs.Given.{proof_refusal_name, leaf_refusal_name, refused_data, refused_fault_data, too_far_data, head_refused_data, receipt_refused_data, bad_line_data, receipt_given_data, head_given_data, given_data, guard_reply_data, guard_line};
 
 use crate::fault::NotMade;
 use crate::request::Request;
@@ -25,7 +25,9 @@ use std::alloc::{AllocError, Global};
 pub enum Outcome {
     /// What it asks for is let through.
     LetThrough,
-    /// The head is refused.
+    /// The head's moment is too far beyond the last one's.
+    TooFar,
+    /// The head is refused for another reason.
     HeadRefused(HeadRefusal),
     /// The receipt is refused.
     ReceiptRefused(ReceiptRefusal),
@@ -73,6 +75,12 @@ fn refused_fault_value(alloc: Global, name: &str, fault: &str) -> Result<Value, 
     ensures { IfOk result (λ v. view v ≡ refused_fault_data name.now fault.now) }
 {
     json!(in alloc; {"fault": fault, "refused": name})
+}
+
+fn too_far_value(alloc: Global) -> Result<Value, AllocError>
+    ensures { IfOk result (λ v. view v ≡ too_far_data) }
+{
+    refused_value(alloc, "moment-too-far")
 }
 
 fn head_refused_value(alloc: Global, refusal: HeadRefusal) -> Result<Value, AllocError>
@@ -165,7 +173,7 @@ fn given_value(
     ensures { IfOk result (λ v. view v ≡ given_data (option_map string_bytes origin.now) (ask_of request.now)) }
 {
     match request {
-        Request::Head(head, _) => head_given_value(alloc, origin, head),
+        Request::Head(head, _, _) => head_given_value(alloc, origin, head),
         Request::Receipt(leaf, _, _) => receipt_given_value(alloc, leaf),
         Request::Promise(leaf) => receipt_given_value(alloc, leaf),
         Request::Other => bad_line_value(alloc),
@@ -182,6 +190,7 @@ fn reply_value(
 {
     match outcome {
         Outcome::LetThrough => given_value(alloc, origin, request),
+        Outcome::TooFar => too_far_value(alloc),
         Outcome::HeadRefused(refusal) => head_refused_value(alloc, *refusal),
         Outcome::ReceiptRefused(refusal) => receipt_refused_value(alloc, *refusal),
         Outcome::BadLine => bad_line_value(alloc),

@@ -2,7 +2,7 @@
 
 ghost use Rattle.std.specs.Prelude.{◌≡◌, IfOk, option_map, Some};
 ghost use Rattle.serde_json.specs.View.{view};
-ghost use Rattle.ct_guard_lines.specs.Asks.{ask_of, head_ask, receipt_ask, promise_ask, leaf_ask, ask_in, Requests};
+ghost use Rattle.ct_guard_lines.specs.Asks.{ask_of, head_bound_at, head_ask, receipt_ask, promise_ask, leaf_ask, ask_in, Requests};
 
 use crate::settings::Receipts;
 use crate::state::head;
@@ -14,14 +14,27 @@ use std::alloc::{AllocError, Global};
 // What a line asks for.
 #[derive(Drop)]
 pub enum Request {
-    // The bytes of a tree head, with a consistency proof from the last one.
-    Head(Head, Vec<[u8; 32]>),
+    // The bytes of a tree head, with a consistency proof from the last one, and how far it may be beyond that one, in milliseconds.
+    Head(Head, Vec<[u8; 32]>, u64),
     // Those of a receipt: its leaf's bytes, its leaf index, and an audit path in the last head's tree.
     Receipt(Vec<u8>, u64, Vec<[u8; 32]>),
     // Those of a receipt, by its leaf's bytes alone.
     Promise(Vec<u8>),
     // Nothing that there is.
     Other,
+}
+
+// How far a head may be beyond the last one where a line doesn't say: an hour, in milliseconds.
+const HOUR: u64 = 3_600_000;
+
+// How far a head may be beyond the last one.
+fn most_ahead(value: &Value) -> Option<u64>
+    ensures { result ≡ head_bound_at (view value.now) }
+{
+    match value.get("most_ahead") {
+        Some(_) => fields::number(value, "most_ahead"),
+        None => Some(HOUR),
+    }
 }
 
 // A tree head and a consistency proof.
@@ -34,7 +47,10 @@ fn head_request(alloc: Global, value: &Value) -> Result<Option<Request>, AllocEr
     let Some(proof) = fields::hashes(alloc, value, "consistency")? else {
         return Ok(None);
     };
-    Ok(Some(Request::Head(head, proof)))
+    let Some(most) = most_ahead(value) else {
+        return Ok(None);
+    };
+    Ok(Some(Request::Head(head, proof, most)))
 }
 
 // A leaf, its leaf index and an audit path.

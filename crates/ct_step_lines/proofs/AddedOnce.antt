@@ -2,7 +2,6 @@
 use Rattle.std.proofs.Common.{◌≡◌, ◌⊎◌, ◌∙◌, ℕ, suc, Bool, true, false, cond, List, [], ◌∷◌, ◌++◌, length, get_or, map, flat_map, All, AllPairs, Contains, sym, refl, ap, subst, arith, inl, inr, ⊎_elim, append_assoc, append-nil}
 use Rattle.std.proofs.lemmas.List.{take_at, map-append, length-map}
 use Rattle.std.proofs.lemmas.List.Elements.{All-nil, All-cons, All-head, All-tail, All-append, All-map, All-weaker}
-use Rattle.sha2.specs.Sha256.{sha256}
 use Rattle.ct_codec.specs.Submitted.{identity_of}
 use Rattle.ct_growth.specs.Identities.{identity_of_leaf, AreApart, AreNewFrom}
 use Rattle.ct_growth.proofs.Lists.{AllPairs-first, AllPairs-rest, AllPairs-append, pairs_behind}
@@ -31,49 +30,49 @@ logged-append E N = ap (map identity_of_leaf) (map-append leaf_of E N) ∙ map-a
 abbrev step_identities : LineAttempt → List (List ℕ)
 step_identities a = identities_of a.batch
 
-abbrev Grown : StateLine → List Tiled → List LineAttempt → Type 0
-Grown held known attempts =
-    ((Z : List Tiled) × IsLog sha256 (known ++ Z) (held_behind held attempts)
-    × (logged_identities Z ≡ flat_map step_identities (taken_lines attempts))) ⊎ SomeCollide sha256
+abbrev Grown : (List ℕ → List ℕ) → StateLine → List Tiled → List LineAttempt → Type 0
+Grown H held known attempts =
+    ((Z : List Tiled) × IsLog H (known ++ Z) (held_behind held attempts)
+    × (logged_identities Z ≡ flat_map step_identities (taken_lines attempts))) ⊎ SomeCollide H
 
-grown_from : (held : StateLine) (known : List Tiled) (attempts : List LineAttempt) → IsLog sha256 known held → AreLineAttempts sha256 held attempts
-    → Grown held known attempts
+grown_from : (H : List ℕ → List ℕ) (held : StateLine) (known : List Tiled) (attempts : List LineAttempt) → IsLog H known held → AreLineAttempts H held attempts
+    → Grown H held known attempts
 unfolding AreLineAttempts
-grown_from held known [] log made = inl ([], subst (λ (E : List Tiled). IsLog sha256 E held) (sym (append-nil known)) log, refl)
-grown_from held known (a ∷ rest) log (made, inl (took, seen, more)) =
-    let here : IsLog sha256 known a.seen = subst (IsLog sha256 known) (sym seen) log in
+grown_from H held known [] log made = inl ([], subst (λ (E : List Tiled). IsLog H E held) (sym (append-nil known)) log, refl)
+grown_from H held known (a ∷ rest) log (made, inl (took, seen, more)) =
+    let here : IsLog H known a.seen = subst (IsLog H known) (sym seen) log in
     let N = new_entries known a.batch a.now in
     let kept : taken_lines (a ∷ rest) ≡ a ∷ taken_lines rest = ap (λ b. cond b (a ∷ taken_lines rest) (taken_lines rest)) took in
     let held_now : a.step.line ≡ cond a.took a.step.line held = ap (λ b. cond b a.step.line held) (sym took) in
     ⊎_elim
-    (λ (p : IsTiledStep sha256 a.seen known a.batch a.now a.step).
+    (λ (p : IsTiledStep H a.seen known a.batch a.now a.step).
     ⊎_elim
-    (λ (behind : (Z : List Tiled) × IsLog sha256 ((known ++ N) ++ Z) (held_behind a.step.line rest)
+    (λ (behind : (Z : List Tiled) × IsLog H ((known ++ N) ++ Z) (held_behind a.step.line rest)
     × (logged_identities Z ≡ flat_map step_identities (taken_lines rest))).
     inl (
       N ++ behind.0,
-      subst (λ (E : List Tiled). IsLog sha256 E (held_behind held (a ∷ rest))) (append_assoc known N behind.0)
-          (subst (λ (h : StateLine). IsLog sha256 ((known ++ N) ++ behind.0) (held_behind h rest)) held_now behind.1),
+      subst (λ (E : List Tiled). IsLog H E (held_behind held (a ∷ rest))) (append_assoc known N behind.0)
+          (subst (λ (h : StateLine). IsLog H ((known ++ N) ++ behind.0) (held_behind h rest)) held_now behind.1),
       logged-append N behind.0 ∙ ap (λ x. x ++ logged_identities behind.0) (new_identities a.now (length known) a.batch)
           ∙ ap (λ x. step_identities a ++ x) behind.2 ∙ ap (flat_map step_identities) (sym kept),
     ))
-    (λ (found : SomeCollide sha256). inr found)
-    (grown_from a.step.line (known ++ N) rest p.log more))
-    (λ (found : SomeCollide sha256). inr found)
+    (λ (found : SomeCollide H). inr found)
+    (grown_from H a.step.line (known ++ N) rest p.log more))
+    (λ (found : SomeCollide H). inr found)
     (made.1 known here)
-grown_from held known (a ∷ rest) log (made, inr (left, more)) =
+grown_from H held known (a ∷ rest) log (made, inr (left, more)) =
     let kept : taken_lines (a ∷ rest) ≡ taken_lines rest = ap (λ b. cond b (a ∷ taken_lines rest) (taken_lines rest)) left in
     let held_now : held ≡ cond a.took a.step.line held = ap (λ b. cond b a.step.line held) (sym left) in
     ⊎_elim
-    (λ (behind : (Z : List Tiled) × IsLog sha256 (known ++ Z) (held_behind held rest)
+    (λ (behind : (Z : List Tiled) × IsLog H (known ++ Z) (held_behind held rest)
     × (logged_identities Z ≡ flat_map step_identities (taken_lines rest))).
     inl (
       behind.0,
-      subst (λ (h : StateLine). IsLog sha256 (known ++ behind.0) (held_behind h rest)) held_now behind.1,
+      subst (λ (h : StateLine). IsLog H (known ++ behind.0) (held_behind h rest)) held_now behind.1,
       behind.2 ∙ ap (flat_map step_identities) (sym kept),
     ))
-    (λ (found : SomeCollide sha256). inr found)
-    (grown_from held known rest log more)
+    (λ (found : SomeCollide H). inr found)
+    (grown_from H held known rest log more)
 
 -- ---- the taken ones of those that were looked up
 kept_of : (took : Bool) (b : LookedUpLine) (x : List LineAttempt) (y : List LookedUpLine) → x ≡ line_attempts_of y
@@ -150,12 +149,12 @@ added_apart (b ∷ steps) miss written =
     (stored_too b steps (AllPairs-first Written b steps written)) behind)
 
 pub one_entry_an_identity_by_lines : OneEntryAnIdentityByLines
-one_entry_an_identity_by_lines held known asked log made true_misses =
+one_entry_an_identity_by_lines H held known asked log made true_misses =
     let steps = taken_of_lines asked in
     let K = logged_identities known in
     let I = added steps in
     ⊎_elim
-    (λ (all : (Z : List Tiled) × IsLog sha256 (known ++ Z) (held_behind held (line_attempts_of asked))
+    (λ (all : (Z : List Tiled) × IsLog H (known ++ Z) (held_behind held (line_attempts_of asked))
     × (logged_identities Z ≡ flat_map step_identities (taken_lines (line_attempts_of asked)))).
     let Z = all.0 in
     let new : logged_identities Z ≡ I = all.2 ∙ ap (flat_map step_identities) (taken_attempts asked) in
@@ -170,5 +169,5 @@ one_entry_an_identity_by_lines held known asked log made true_misses =
       subst (AreNewFrom (length known)) (sym ids)
           (λ i j d l n h. pairs_behind Differ K I apart across i j d l (omega (arith, n, count)) h),
     ))
-    (λ (found : SomeCollide sha256). inr found)
-    (grown_from held known (line_attempts_of asked) log made)
+    (λ (found : SomeCollide H). inr found)
+    (grown_from H held known (line_attempts_of asked) log made)

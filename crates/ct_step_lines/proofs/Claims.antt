@@ -2,7 +2,6 @@
 use Rattle.std.proofs.Common.{◌≡◌, ◌≢◌, ◌⊎◌, ◌∙◌, ◌<◌, ℕ, List, [], length, get_or, refl, sym, ap, subst, inl, inr, arith}
 use Rattle.std.proofs.lemmas.List.{length-map}
 use Rattle.sha2.specs.Sha256.{sha256}
-use Rattle.sha2.proofs.Facts256.{length-sha256}
 use Rattle.ct_codec.specs.Leaf.{SignedEntry}
 use Rattle.ct_codec.specs.Submitted.{Submitted, entry_of}
 use Rattle.ct_codec.specs.declared.refusal.Refusal.TheVariants as refused
@@ -23,7 +22,7 @@ use Rattle.ct_tree.specs.Tree.{hash_leaf}
 use Rattle.ct_tree.specs.declared.head.Head.{Head}
 use Rattle.ct_verify.specs.Laws.{SomeCollide}
 use Rattle.ct_verify.proofs.Defined.{accepted_not_refused}
-use Rattle.ct_step_lines.specs.StepAnswers.{IsClaimReply}
+use Rattle.ct_step_lines.specs.StepAnswers.{IsClaimReplyBy}
 use Rattle.ct_step_lines.specs.StepLaws.{StandsAsClaimed, ClaimsStandThere}
 use Rattle.ct_step_lines.specs.StepWords.{stands, refuses}
 use Rattle.ct_step_lines.specs.declared.replies.StepRefusal.{StepRefusal}
@@ -42,37 +41,37 @@ no_refusal p r e = cc
 same_receipt : (p q : ℕ × ℕ × List ℕ) → stands p ≡ stands q → p ≡ q
 same_receipt p q e = cc
 
-within : (E : List Tiled) (i : ℕ) (leaf : List ℕ)
-    → ((i < length (tree_leaves E)) × (leaf ≡ get_or (tree_leaves E) i [])) ⊎ SomeCollide sha256
-    → ((i < length E) × (leaf ≡ get_or (tree_leaves E) i [])) ⊎ SomeCollide sha256
-within E i leaf (inl there) = inl (omega (arith, there.0, length-map E leaf_of), there.1)
-within E i leaf (inr found) = inr found
+within : (H : List ℕ → List ℕ) (E : List Tiled) (i : ℕ) (leaf : List ℕ)
+    → ((i < length (tree_leaves E)) × (leaf ≡ get_or (tree_leaves E) i [])) ⊎ SomeCollide H
+    → ((i < length E) × (leaf ≡ get_or (tree_leaves E) i [])) ⊎ SomeCollide H
+within H E i leaf (inl there) = inl (omega (arith, there.0, length-map E leaf_of), there.1)
+within H E i leaf (inr found) = inr found
 
-told : (line : StateLine) (claim : Claim) (path : List (List ℕ)) (s : Submitted) (r : ℕ × ℕ × List ℕ) (E : List Tiled)
-    → IsClaimReply line claim path s (stands r) → IsLog sha256 E line → StandsAsClaimed E claim s r
-told line claim path s r E (inl tells) log =
+told : (H : List ℕ → List ℕ) → ((x : List ℕ) → length (H x) ≡ 32) → (line : StateLine) (claim : Claim) (path : List (List ℕ)) (s : Submitted) (r : ℕ × ℕ × List ℕ) (E : List Tiled)
+    → IsClaimReplyBy H line claim path s (stands r) → IsLog H E line → StandsAsClaimed H E claim s r
+told H sized line claim path s r E (inl tells) log =
     let e = entry_of s in
     let q : ℕ × ℕ × List ℕ = (claim.leaf_index, claim.timestamp, claimed_leaf e claim) in
     let same : r ≡ q = same_receipt r (receipt_parts tells.0) tells.1 ∙ tells.2.receipt in
-    let over : IsHeadOver sha256 (tree_leaves E) (line_head line) = (
+    let over : IsHeadOver H (tree_leaves E) (line_head line) = (
       log.size ∙ sym (length-map E leaf_of),
       log.root,
       omega (arith, log.few, length-map E leaf_of),
     ) in
-    subst (λ (x : ℕ × ℕ × List ℕ). StandsAsClaimed E claim s x) (sym same)
+    subst (λ (x : ℕ × ℕ × List ℕ). StandsAsClaimed H E claim s x) (sym same)
     (record {
       index = refl;
       moment = refl;
       signed = refl;
       identity = leaves_keep_identities claim.timestamp claim.leaf_index s;
-      there = within E claim.leaf_index (claimed_leaf e claim)
-          (stands_there sha256 length-sha256 (line_head line) (tree_leaves E) (claimed_leaf e claim) (claimed_leaf e claim) claim.leaf_index path over
+      there = within H E claim.leaf_index (claimed_leaf e claim)
+          (stands_there H sized (line_head line) (tree_leaves E) (claimed_leaf e claim) (claimed_leaf e claim) claim.leaf_index path over
           tells.2.believed.included refl);
     })
-told line claim path s r E (inr none) log = absurd (no_refusal r _ none.0)
+told H sized line claim path s r E (inr none) log = absurd (no_refusal r _ none.0)
 
 pub claims_stand_there : ClaimsStandThere
-claims_stand_there line claim path s r E known (inl of) log =
+claims_stand_there H sized line claim path s r E known (inl of) log =
     let same : of.0 ≡ line = state_lines_differ of.0 line of.1 known of.2 in
-    told line claim path s r E (subst (λ (l : StateLine). IsClaimReply l claim path s (stands r)) same of.3) log
-claims_stand_there line claim path s r E known (inr none) log = absurd (no_refusal r _ none.1)
+    told H sized line claim path s r E (subst (λ (l : StateLine). IsClaimReplyBy H l claim path s (stands r)) same of.3) log
+claims_stand_there H sized line claim path s r E known (inr none) log = absurd (no_refusal r _ none.1)

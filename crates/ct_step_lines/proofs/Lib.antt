@@ -17,3 +17,5 @@ pub mod FirstIndexes
 pub mod Splits
 pub mod AddedOnce
 pub mod BrokenOff
+pub mod CutRuns
+pub mod RolledOut

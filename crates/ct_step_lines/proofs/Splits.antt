@@ -7,7 +7,6 @@ use Rattle.std.specs.Cmp.Lexicographic.{bytes_decides}
 use Rattle.std.proofs.lemmas.List.{length-map, get_or_append_left}
 use Rattle.std.proofs.lemmas.List.Elements.{All-nil, All-cons, All-head, All-tail}
 use Rattle.std.proofs.lemmas.List.Quantifiers.{all_pairs_push}
-use Rattle.sha2.specs.Sha256.{sha256}
 use Rattle.ct_codec.specs.Submitted.{entry_of, identity_of}
 use Rattle.ct_growth.specs.Leaves.{receipts_from}
 use Rattle.ct_growth.specs.Identities.{AreApart}
@@ -17,7 +16,7 @@ use Rattle.ct_step.specs.Entries.{tiled_leaves, tree_leaves}
 use Rattle.ct_step.specs.Steps.{IsLog, IsStepFrom}
 use Rattle.ct_step.specs.declared.step.Step.{Step}
 use Rattle.ct_data_tiles.specs.TileLeaf.{Tiled}
-use Rattle.ct_step_lines.specs.StepAnswers.{edge_of, IsStepReply}
+use Rattle.ct_step_lines.specs.StepAnswers.{edge_of, IsStepReplyBy, IsBoundedReplyBy}
 use Rattle.ct_step_lines.specs.StepLaws.{BatchesAreSplit, ReceiptsNameEntries, receipt_of_place}
 use Rattle.ct_step_lines.specs.StepRepeats.{BatchEntry, is_known, with_identity, first_of_each, places_of_all, identities_of}
 use Rattle.ct_step_lines.specs.StepWords.{steps, refuses, receipts_at}
@@ -154,28 +153,34 @@ same_step s t p q e = (cc, cc)
 abbrev Named : StateLine → List BatchEntry → ℕ → List Tiled → Step → List ℕ → Type 0
 Named line batch now E step places = receipts_at step places ≡ map (receipt_of_place E (first_of_each [] batch) now) (places_of_all [] batch)
 
-named : (line : StateLine) (batch : List BatchEntry) (now : ℕ) (E : List Tiled) (step : Step)
-    → IsStepFrom sha256 line (first_of_each [] batch) now step → line.tree_size ≡ length E → Named line batch now E step (places_of_all [] batch)
-named line batch now E step is size =
+named : (H : List ℕ → List ℕ) (line : StateLine) (batch : List BatchEntry) (now : ℕ) (E : List Tiled) (step : Step)
+    → IsStepFrom H line (first_of_each [] batch) now step → line.tree_size ≡ length E → Named line batch now E step (places_of_all [] batch)
+named H line batch now E step is size =
     let F = first_of_each [] batch in
     let P = places_of_all [] batch in
     ap (λ x. filter_map (slice_get x) P) (is.receipts ∙ ap (λ (n : ℕ). receipts_from now n (map (λ e. entry_of e.0) F)) size)
     ∙ all_there (slice_get (receipts_from now (length E) (map (λ e. entry_of e.0) F))) (receipt_of_place E F now) (length F) P
     (receipt_there now (length E) F) (places_within batch)
 
-told : (line : StateLine) (batch : List BatchEntry) (now : ℕ) (step : Step) (places : List ℕ) (E : List Tiled) (edge : Option (List (List ℕ) × List ℕ))
-    → IsStepReply line edge batch now (steps step places) → IsLog sha256 E line → Named line batch now E step places
-told line batch now step places E None is log = absurd (no_refusal step places _ is)
-told line batch now step places E (Some edge) (inl tells) log =
+told : (H : List ℕ → List ℕ) (line : StateLine) (batch : List BatchEntry) (now : ℕ) (step : Step) (places : List ℕ) (E : List Tiled) (edge : Option (List (List ℕ) × List ℕ))
+    → IsStepReplyBy H line edge batch now (steps step places) → IsLog H E line → Named line batch now E step places
+told H line batch now step places E None is log = absurd (no_refusal step places _ is)
+told H line batch now step places E (Some edge) (inl tells) log =
     let same = same_step step tells.0 places (places_of_all [] batch) tells.1 in
     subst (λ (p : List ℕ). Named line batch now E step p) (sym same.1)
     (subst (λ (s : Step). Named line batch now E s (places_of_all [] batch)) (sym same.0)
-    (named line batch now E tells.0 tells.3 log.size))
-told line batch now step places E (Some edge) (inr none) log = absurd (no_refusal step places none.1 none.2)
+    (named H line batch now E tells.0 tells.3 log.size))
+told H line batch now step places E (Some edge) (inr none) log = absurd (no_refusal step places none.1 none.2)
+
+told_near : (H : List ℕ → List ℕ) (line : StateLine) (batch : List BatchEntry) (now most : ℕ) (step : Step) (places : List ℕ) (E : List Tiled)
+    (edge : Option (List (List ℕ) × List ℕ)) → IsBoundedReplyBy H line edge batch now most (steps step places) → IsLog H E line
+    → Named line batch now E step places
+told_near H line batch now most step places E edge (inl far) log = absurd (no_refusal step places _ far.1)
+told_near H line batch now most step places E edge (inr near) log = told H line batch now step places E edge near.1 log
 
 pub receipts_name_entries : ReceiptsNameEntries
-receipts_name_entries line batch contents now step places E known (inl of) log =
+receipts_name_entries H line batch contents now most step places E known (inl of) log =
     let same : of.0 ≡ line = state_lines_differ of.0 line of.1 known of.2 in
-    told line batch now step places E (edge_of line.tree_size contents)
-    (subst (λ (l : StateLine). IsStepReply l (edge_of l.tree_size contents) batch now (steps step places)) same of.3) log
-receipts_name_entries line batch contents now step places E known (inr none) log = absurd (no_refusal step places _ none.1)
+    told_near H line batch now most step places E (edge_of line.tree_size contents)
+    (subst (λ (l : StateLine). IsBoundedReplyBy H l (edge_of l.tree_size contents) batch now most (steps step places)) same of.3) log
+receipts_name_entries H line batch contents now most step places E known (inr none) log = absurd (no_refusal step places _ none.1)

@@ -6,3 +6,5 @@ pub mod StepSession
 pub mod StepOptions
 pub mod StepLaws
 pub mod BrokenOff
+pub mod CutRuns
+pub mod RolledOut

@@ -1,5 +1,5 @@
--- What is replied to what is asked.
-use Rattle.std.specs.Prelude.{◌≡◌, ◌⊎◌, ◌/◌, ◌%◌, ℕ, zero, suc, List, [], ◌∷◌, All, nat_lt, if◌then◌else◌, Option, Some, None, option_map, option_and_then, replicate}
+-- What is replied to what is asked. H is any hash function on byte lists, and the program's is SHA-256.
+use Rattle.std.specs.Prelude.{◌≡◌, ◌⊎◌, ◌+◌, ◌<◌, ◌≤◌, ◌/◌, ◌%◌, ℕ, zero, suc, List, [], ◌∷◌, All, nat_lt, if◌then◌else◌, Option, Some, None, option_map, option_and_then, replicate}
 use Rattle.sha2.specs.Sha256.{sha256}
 use Rattle.ct_log_state.specs.Bundle.{IsBundleOf}
 use Rattle.ct_log_state.specs.Needed.{needed_names}
@@ -27,15 +27,19 @@ abbrev pub no_digest : List ℕ
 no_digest = replicate 32 0
 
 -- the line of a log without leaves at a moment: no step made it, and no line stands before it
-abbrev pub first_line : ℕ → StateLine
-first_line moment = record {
+abbrev pub first_line_by : (List ℕ → List ℕ) → ℕ → StateLine
+first_line_by H moment = record {
   tree_size = 0;
   timestamp = moment;
-  root = sha256 [];
+  root = H [];
   bundle = no_digest;
-  data_tile = sha256 [];
+  data_tile = H [];
   before = no_digest;
 }
+
+-- the same by SHA-256
+abbrev pub first_line : ℕ → StateLine
+first_line moment = first_line_by sha256 moment
 
 -- the first of some contents, and those behind it
 abbrev pub first_content : List (List ℕ) → Option (List ℕ × List (List ℕ))
@@ -81,57 +85,87 @@ NamesStepFault TooLong r = r ≡ name.TooLong
 -- The reply tells a step from a line with these partial tiles and this partial data tile, a batch and a moment: the first entry of each
 -- identity in it may be taken in, it is a step of these from the line, and of every log whose edge was handed in the step of that log. Each
 -- submission of the batch has the receipt at the place of its identity.
-abbrev pub TellsStep : StateLine → List (List ℕ) × List ℕ → List (Submitted × List (List ℕ)) → ℕ → StepReply → Type 0
-TellsStep line edge batch now reply =
-    (s : Step) × (reply ≡ steps s (places_of_all [] batch)) × MayStep sha256 line edge.0 edge.1 (first_of_each [] batch) now
-    × IsStepFrom sha256 line (first_of_each [] batch) now s
-    × ((E : List Tiled) → IsEdgeOf sha256 E line.tree_size edge.0 edge.1 → IsTiledStep sha256 line E (first_of_each [] batch) now s)
+abbrev pub TellsStepBy : (List ℕ → List ℕ) → StateLine → List (List ℕ) × List ℕ → List (Submitted × List (List ℕ)) → ℕ → StepReply → Type 0
+TellsStepBy H line edge batch now reply =
+    (s : Step) × (reply ≡ steps s (places_of_all [] batch)) × MayStep H line edge.0 edge.1 (first_of_each [] batch) now
+    × IsStepFrom H line (first_of_each [] batch) now s
+    × ((E : List Tiled) → IsEdgeOf H E line.tree_size edge.0 edge.1 → IsTiledStep H line E (first_of_each [] batch) now s)
 
 -- the reply tells by its name why there is no such step
-abbrev pub TellsNoStep : StateLine → List (List ℕ) × List ℕ → List (Submitted × List (List ℕ)) → ℕ → StepReply → Type 0
-TellsNoStep line edge batch now reply =
+abbrev pub TellsNoStepBy : (List ℕ → List ℕ) → StateLine → List (List ℕ) × List ℕ → List (Submitted × List (List ℕ)) → ℕ → StepReply → Type 0
+TellsNoStepBy H line edge batch now reply =
     (fault : StepFault) × (r : StepRefusal) × (reply ≡ refuses r) × NamesStepFault fault r
-    × StopsStep sha256 line edge.0 edge.1 (first_of_each [] batch) now fault
+    × StopsStep H line edge.0 edge.1 (first_of_each [] batch) now fault
 
 -- what is replied to a step from a line: of an edge with more or fewer contents than are needed, that it isn't the line's
+abbrev pub IsStepReplyBy : (List ℕ → List ℕ) → StateLine → Option (List (List ℕ) × List ℕ) → List (Submitted × List (List ℕ)) → ℕ → StepReply → Type 0
+IsStepReplyBy H line None batch now reply = reply ≡ refuses name.Edge
+IsStepReplyBy H line (Some edge) batch now reply = TellsStepBy H line edge batch now reply ⊎ TellsNoStepBy H line edge batch now reply
+
+-- the same by SHA-256
 abbrev pub IsStepReply : StateLine → Option (List (List ℕ) × List ℕ) → List (Submitted × List (List ℕ)) → ℕ → StepReply → Type 0
-IsStepReply line None batch now reply = reply ≡ refuses name.Edge
-IsStepReply line (Some edge) batch now reply = TellsStep line edge batch now reply ⊎ TellsNoStep line edge batch now reply
+IsStepReply line edge batch now reply = IsStepReplyBy sha256 line edge batch now reply
+
+-- what is replied to a step from a line whose moment may be so many milliseconds beyond the line's: where it is further beyond, that alone
+abbrev pub IsBoundedReplyBy : (List ℕ → List ℕ) → StateLine → Option (List (List ℕ) × List ℕ) → List (Submitted × List (List ℕ)) → ℕ → ℕ → StepReply → Type 0
+IsBoundedReplyBy H line edge batch now most reply =
+    ((line.timestamp + most < now) × (reply ≡ refuses name.TooFar)) ⊎ ((now ≤ line.timestamp + most) × IsStepReplyBy H line edge batch now reply)
+
+-- the same by SHA-256
+abbrev pub IsBoundedReply : StateLine → Option (List (List ℕ) × List ℕ) → List (Submitted × List (List ℕ)) → ℕ → ℕ → StepReply → Type 0
+IsBoundedReply line edge batch now most reply = IsBoundedReplyBy sha256 line edge batch now most reply
 
 -- the bytes are the bundle of these objects, each of them under the name of a tile
 abbrev pub IsBundleOfTiles : List (List ℕ × List ℕ) → List ℕ → Type 0
 IsBundleOfTiles objects bytes = IsBundleOf objects bytes × All (λ o. IsTileName o.0) objects
 
 -- The reply tells the objects of the step that made a line: the bundle has the line's digest, and is that of these objects.
-abbrev pub TellsObjects : StateLine → List ℕ → StepReply → Type 0
-TellsObjects line bundle reply =
-    (objects : List (List ℕ × List ℕ)) × (reply ≡ rolls_out line objects) × (sha256 bundle ≡ line.bundle) × IsBundleOfTiles objects bundle
+abbrev pub TellsObjectsBy : (List ℕ → List ℕ) → StateLine → List ℕ → StepReply → Type 0
+TellsObjectsBy H line bundle reply =
+    (objects : List (List ℕ × List ℕ)) × (reply ≡ rolls_out line objects) × (H bundle ≡ line.bundle) × IsBundleOfTiles objects bundle
 
 -- the bytes aren't the bundle of a line: they have another digest, or are the bundle of no objects under the names of tiles
+abbrev pub IsNotRolledOutBy : (List ℕ → List ℕ) → StateLine → List ℕ → Type 0
+IsNotRolledOutBy H line bundle =
+    (H bundle ≡ line.bundle → ⊥) ⊎ ((objects : List (List ℕ × List ℕ)) → IsBundleOfTiles objects bundle → ⊥)
+
+-- the same by SHA-256
 abbrev pub IsNotRolledOut : StateLine → List ℕ → Type 0
-IsNotRolledOut line bundle =
-    (sha256 bundle ≡ line.bundle → ⊥) ⊎ ((objects : List (List ℕ × List ℕ)) → IsBundleOfTiles objects bundle → ⊥)
+IsNotRolledOut line bundle = IsNotRolledOutBy sha256 line bundle
 
 -- what is replied where the objects of a line's step are asked for
+abbrev pub IsResumeReplyBy : (List ℕ → List ℕ) → StateLine → List ℕ → StepReply → Type 0
+IsResumeReplyBy H line bundle reply = TellsObjectsBy H line bundle reply ⊎ ((reply ≡ refuses name.Bundle) × IsNotRolledOutBy H line bundle)
+
+-- the same by SHA-256
 abbrev pub IsResumeReply : StateLine → List ℕ → StepReply → Type 0
-IsResumeReply line bundle reply = TellsObjects line bundle reply ⊎ ((reply ≡ refuses name.Bundle) × IsNotRolledOut line bundle)
+IsResumeReply line bundle reply = IsResumeReplyBy sha256 line bundle reply
 
 -- The reply tells the receipt of a submission's entry at a claimed place: a path leads from that entry's leaf to the root that the line names.
-abbrev pub TellsClaim : StateLine → Claim → List (List ℕ) → Submitted → StepReply → Type 0
-TellsClaim line claim path s reply =
-    (r : Receipt) × (reply ≡ stands (receipt_parts r)) × IsAnsweredAt sha256 (line_head line) (entry_of s) claim path r
+abbrev pub TellsClaimBy : (List ℕ → List ℕ) → StateLine → Claim → List (List ℕ) → Submitted → StepReply → Type 0
+TellsClaimBy H line claim path s reply =
+    (r : Receipt) × (reply ≡ stands (receipt_parts r)) × IsAnsweredAt H (line_head line) (entry_of s) claim path r
 
 -- what is replied to a place that is claimed for a submission: a refusal exactly where the path doesn't lead there
+abbrev pub IsClaimReplyBy : (List ℕ → List ℕ) → StateLine → Claim → List (List ℕ) → Submitted → StepReply → Type 0
+IsClaimReplyBy H line claim path s reply =
+    TellsClaimBy H line claim path s reply ⊎ ((reply ≡ refuses name.Claim) × (IsBelievedAt H (line_head line) (entry_of s) claim path → ⊥))
+
+-- the same by SHA-256
 abbrev pub IsClaimReply : StateLine → Claim → List (List ℕ) → Submitted → StepReply → Type 0
-IsClaimReply line claim path s reply =
-    TellsClaim line claim path s reply ⊎ ((reply ≡ refuses name.Claim) × (IsBelievedAt sha256 (line_head line) (entry_of s) claim path → ⊥))
+IsClaimReply line claim path s reply = IsClaimReplyBy sha256 line claim path s reply
 
 -- What is replied to what is asked: to each of these nothing else.
+abbrev pub IsReplyToBy : (List ℕ → List ℕ) → StepAsk → StepReply → Type 0
+IsReplyToBy H (for_begin moment) reply = reply ≡ begins (first_line_by H moment)
+IsReplyToBy H (for_needs state) reply = OfState state reply (λ line. reply ≡ names_edge (needed_names line.tree_size))
+IsReplyToBy H (for_step batch contents now state most) reply =
+    OfState state reply (λ line. IsBoundedReplyBy H line (edge_of line.tree_size contents) batch now most reply)
+IsReplyToBy H for_too_many reply = reply ≡ refuses name.TooMany
+IsReplyToBy H (for_resume bundle state) reply = OfState state reply (λ line. IsResumeReplyBy H line bundle reply)
+IsReplyToBy H (for_claim claim path state s) reply = OfState state reply (λ line. IsClaimReplyBy H line claim path s reply)
+IsReplyToBy H for_no_step reply = reply ≡ refuses name.BadLine
+
+-- the same by SHA-256
 abbrev pub IsReplyTo : StepAsk → StepReply → Type 0
-IsReplyTo (for_begin moment) reply = reply ≡ begins (first_line moment)
-IsReplyTo (for_needs state) reply = OfState state reply (λ line. reply ≡ names_edge (needed_names line.tree_size))
-IsReplyTo (for_step batch contents now state) reply = OfState state reply (λ line. IsStepReply line (edge_of line.tree_size contents) batch now reply)
-IsReplyTo for_too_many reply = reply ≡ refuses name.TooMany
-IsReplyTo (for_resume bundle state) reply = OfState state reply (λ line. IsResumeReply line bundle reply)
-IsReplyTo (for_claim claim path state s) reply = OfState state reply (λ line. IsClaimReply line claim path s reply)
-IsReplyTo for_no_step reply = reply ≡ refuses name.BadLine
+IsReplyTo ask reply = IsReplyToBy sha256 ask reply

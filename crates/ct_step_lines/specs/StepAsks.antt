@@ -12,13 +12,14 @@ use Rattle.ct_step_lines.specs.declared.request.Request.{Request}
 use Rattle.ct_step_lines.specs.declared.request.Request.TheVariants as request
 
 -- What a line asks for: the state of a log without leaves at a moment; the names of what a step from a state has to be handed; a step, of
--- submissions with their chains' fingerprints, the contents at the edge, a moment and a state; a step of more submissions than a line may
+-- submissions with their chains' fingerprints, the contents at the edge, a moment, a state and how many milliseconds the moment may be beyond that
+-- of the state; a step of more submissions than a line may
 -- have; the objects of a step that was decided, by its bundle and its state; the receipt of a submission's entry, by the place that is claimed for
 -- it, an audit path and a state; or nothing that there is. A state stands for its text.
 pub data StepAsk : Type 0 where
   for_begin : ℕ → StepAsk
   for_needs : List ℕ → StepAsk
-  for_step : List (Submitted × List (List ℕ)) → List (List ℕ) → ℕ → List ℕ → StepAsk
+  for_step : List (Submitted × List (List ℕ)) → List (List ℕ) → ℕ → List ℕ → ℕ → StepAsk
   for_too_many : StepAsk
   for_resume : List ℕ → List ℕ → StepAsk
   for_claim : Claim → List (List ℕ) → List ℕ → Submitted → StepAsk
@@ -32,7 +33,7 @@ entry_parts e = (e.submission, e.chain.items)
 abbrev pub step_ask_of : Request → StepAsk
 step_ask_of (request.Begin moment) = for_begin moment
 step_ask_of (request.Needs state) = for_needs state.items
-step_ask_of (request.Step batch edge now state) = for_step (map entry_parts batch.items) (map (λ b. b.items) edge.items) now state.items
+step_ask_of (request.Step batch edge now state most) = for_step (map entry_parts batch.items) (map (λ b. b.items) edge.items) now state.items most
 step_ask_of request.TooMany = for_too_many
 step_ask_of (request.Resume bundle state) = for_resume bundle.items state.items
 step_ask_of (request.Claim claim path state submission) = for_claim claim path.items state.items submission
@@ -83,8 +84,17 @@ abbrev pub batch_at : Data → Option (List (Submitted × List (List ℕ)))
 batch_at d = option_and_then batch_of_items (option_and_then as_array (get (codes "batch") d))
 
 -- a step of this batch, of at most 4,096 submissions
-abbrev pub step_of_batch : List (Submitted × List (List ℕ)) → List (List ℕ) → ℕ → List ℕ → StepAsk
-step_of_batch batch edge now state = if nat_lt 4096 (length batch) then for_too_many else for_step batch edge now state
+abbrev pub step_of_batch : List (Submitted × List (List ℕ)) → List (List ℕ) → ℕ → List ℕ → ℕ → StepAsk
+step_of_batch batch edge now state most = if nat_lt 4096 (length batch) then for_too_many else for_step batch edge now state most
+
+-- the bound where an object has none under its key: an hour, in milliseconds
+abbrev pub step_bound_or : Option Data → Option ℕ → Option ℕ
+step_bound_or None bound = Some 3600000
+step_bound_or (Some d) bound = bound
+
+-- how far a step's moment may be beyond that of its state, in milliseconds, by its object
+abbrev pub step_bound_at : Data → Option ℕ
+step_bound_at d = step_bound_or (get (codes "most_ahead") d) (number_at (codes "most_ahead") d)
 
 -- the first state of a log
 abbrev pub begin_ask : Data → Option StepAsk
@@ -97,8 +107,8 @@ needs_ask d = option_map (λ state. for_needs state) (text_at (codes "needs") d)
 -- a step
 abbrev pub step_ask : Data → Option StepAsk
 step_ask d = option_and_then
-    (λ batch. option_and_then (λ edge. option_and_then (λ now. option_map (λ state. step_of_batch batch edge now state)
-    (text_at (codes "state") d)) (number_at (codes "now") d)) (bytes_list_at (codes "edge") d)) (batch_at d)
+    (λ batch. option_and_then (λ edge. option_and_then (λ now. option_and_then (λ state. option_map (λ most. step_of_batch batch edge now state most)
+    (step_bound_at d)) (text_at (codes "state") d)) (number_at (codes "now") d)) (bytes_list_at (codes "edge") d)) (batch_at d)
 
 -- the objects of a step that was decided
 abbrev pub resume_ask : Data → Option StepAsk

@@ -1,6 +1,5 @@
--- What the replies are good for.
+-- What the replies are good for. H is any hash function on byte lists, and where hashes are compared each has 32 bytes; the program's is SHA-256.
 use Rattle.std.specs.Prelude.{◌≡◌, ◌⊎◌, ◌+◌, ◌<◌, ◌≤◌, ℕ, Bool, if◌then◌else◌, List, [], ◌∷◌, length, map, filter, take, slice_get, slice_index_or, Some, All, AllPairs, Contains}
-use Rattle.sha2.specs.Sha256.{sha256}
 use Rattle.ct_codec.specs.Submitted.{Submitted, entry_of, identity_of}
 use Rattle.ct_log_state.specs.Lines.{IsStateLine, state_line_text}
 use Rattle.ct_log_state.specs.declared.line.StateLine.{StateLine}
@@ -14,43 +13,47 @@ use Rattle.ct_step.specs.declared.step.Step.{Step}
 use Rattle.ct_data_tiles.specs.TileLeaf.{Tiled}
 use Rattle.ct_verify.specs.Laws.{SomeCollide}
 use Rattle.ct_step_lines.specs.StepAsks.{for_step, for_claim}
-use Rattle.ct_step_lines.specs.StepAnswers.{edge_of, first_line, IsReplyTo}
+use Rattle.ct_step_lines.specs.StepAnswers.{edge_of, first_line_by, IsReplyToBy}
 use Rattle.ct_step_lines.specs.StepRepeats.{BatchEntry, first_of_each, places_of_all, identities_of}
 use Rattle.ct_step_lines.specs.StepWords.{receipts_at, steps, stands}
 
 -- the line that a log begins with is that of a log without entries
 abbrev pub FirstLineBegins : Type 0
-FirstLineBegins = (moment : ℕ) → IsLog sha256 [] (first_line moment)
+FirstLineBegins = (H : List ℕ → List ℕ) (moment : ℕ) → IsLog H [] (first_line_by H moment)
 
--- A step that is replied to a line's text is one that an attempt of the laws over sequencers has (`TrueEdgesAgree`, and by
--- `HandedAttemptsAreAttempts` `LineSequencersAgree`), of the edge that the contents give and of the first entry of each identity in the batch,
--- whether the register took it or not.
-abbrev pub RepliedStepsAreAttempts : Type 0
-RepliedStepsAreAttempts =
-    (line : StateLine) (batch : List (Submitted × List (List ℕ))) (contents : List (List ℕ)) (now : ℕ) (step : Step) (places : List ℕ) (took : Bool)
-    → IsStateLine line → IsReplyTo (for_step batch contents now (state_line_text line)) (steps step places)
-    → (edge : List (List ℕ) × List ℕ) × (edge_of line.tree_size contents ≡ Some edge)
-    × IsMadeOfEdge sha256 (record {
+-- a step is one that an attempt of the laws over sequencers has (`TrueEdgesAgree`, and by `HandedAttemptsAreAttempts` `LineSequencersAgree`), of the
+-- edge that the contents give and of the first entry of each identity in the batch, whether the register took it or not
+abbrev pub IsStepAttempt : (List ℕ → List ℕ) → StateLine → List BatchEntry → List (List ℕ) → ℕ → Step → Bool → Type 0
+IsStepAttempt H line batch contents now step took =
+    (edge : List (List ℕ) × List ℕ) × (edge_of line.tree_size contents ≡ Some edge)
+    × IsMadeOfEdge H (record {
       edge = edge.0;
       entries = edge.1;
       attempt = record { seen = line; batch = first_of_each [] batch; now = now; step = step; took = took };
     })
 
+-- a step that is replied to a line's text is an attempt
+abbrev pub RepliedStepsAreAttempts : Type 0
+RepliedStepsAreAttempts =
+    (H : List ℕ → List ℕ) (line : StateLine) (batch : List BatchEntry) (contents : List (List ℕ)) (now most : ℕ) (step : Step) (places : List ℕ) (took : Bool)
+    → IsStateLine line → IsReplyToBy H (for_step batch contents now (state_line_text line) most) (steps step places)
+    → IsStepAttempt H line batch contents now step took
+
 -- A receipt (leaf index, moment in milliseconds, bytes to be signed) is a submission's at a claimed place of the log with the entries E. Its
 -- index and its moment are the claimed ones (index, moment); the bytes are the submission's leaf of these (signed), which has the submission's
--- identity (identity); and that leaf stands at that index of the log, or two different strings with one SHA-256 are given (there).
-pub record StandsAsClaimed (E : List Tiled) (claim : Claim) (s : Submitted) (r : ℕ × ℕ × List ℕ) : Type 0 where
+-- identity (identity); and that leaf stands at that index of the log, or two different strings with one hash are given (there).
+pub record StandsAsClaimed (H : List ℕ → List ℕ) (E : List Tiled) (claim : Claim) (s : Submitted) (r : ℕ × ℕ × List ℕ) : Type 0 where
   pub index : r.0 ≡ claim.leaf_index
   pub moment : r.1 ≡ claim.timestamp
   pub signed : r.2 ≡ claimed_leaf (entry_of s) claim
   pub identity : identity_of_leaf r.2 ≡ identity_of s
-  pub there : ((claim.leaf_index < length E) × (claimed_leaf (entry_of s) claim ≡ slice_index_or (tree_leaves E) claim.leaf_index [])) ⊎ SomeCollide sha256
+  pub there : ((claim.leaf_index < length E) × (claimed_leaf (entry_of s) claim ≡ slice_index_or (tree_leaves E) claim.leaf_index [])) ⊎ SomeCollide H
 
 -- a receipt that is replied to a claim is the submission's at the claimed place, in every log that has the state's line
 abbrev pub ClaimsStandThere : Type 0
 ClaimsStandThere =
-    (line : StateLine) (claim : Claim) (path : List (List ℕ)) (s : Submitted) (r : ℕ × ℕ × List ℕ) (E : List Tiled) → IsStateLine line
-    → IsReplyTo (for_claim claim path (state_line_text line) s) (stands r) → IsLog sha256 E line → StandsAsClaimed E claim s r
+    (H : List ℕ → List ℕ) → ((x : List ℕ) → length (H x) ≡ 32) → (line : StateLine) (claim : Claim) (path : List (List ℕ)) (s : Submitted) (r : ℕ × ℕ × List ℕ) (E : List Tiled) → IsStateLine line
+    → IsReplyToBy H (for_claim claim path (state_line_text line) s) (stands r) → IsLog H E line → StandsAsClaimed H E claim s r
 
 -- The first entries of a batch and the places of all. The first ones stand in the batch (entries) at these indexes, in its order (rising). No
 -- identity stands twice among them (once). Each entry of the batch has its place among these (within), where one of its identity stands
@@ -76,8 +79,8 @@ receipt_of_place E firsts now i = (length E + i, now, slice_index_or (tree_leave
 -- In a reply to a step each submission of the batch has the receipt of the entry at its identity's place, in every log that has the state's line.
 abbrev pub ReceiptsNameEntries : Type 0
 ReceiptsNameEntries =
-    (line : StateLine) (batch : List BatchEntry) (contents : List (List ℕ)) (now : ℕ) (step : Step) (places : List ℕ) (E : List Tiled) → IsStateLine line
-    → IsReplyTo (for_step batch contents now (state_line_text line)) (steps step places) → IsLog sha256 E line
+    (H : List ℕ → List ℕ) (line : StateLine) (batch : List BatchEntry) (contents : List (List ℕ)) (now most : ℕ) (step : Step) (places : List ℕ) (E : List Tiled)
+    → IsStateLine line → IsReplyToBy H (for_step batch contents now (state_line_text line) most) (steps step places) → IsLog H E line
     → receipts_at step places ≡ map (receipt_of_place E (first_of_each [] batch) now) (places_of_all [] batch)
 
 -- An attempt to carry on the log by lines, whose submissions were looked up first: the identities that the store had a place for then (stored);
@@ -119,10 +122,10 @@ abbrev pub logged_identities : List Tiled → List (List ℕ)
 logged_identities E = map identity_of_leaf (tree_leaves E)
 
 -- Where the misses of the steps that were taken were true, the line that the register holds in the end is that of a log that has at most one
--- entry to an identity behind those that were known, and no known one's; or two different strings with one SHA-256 are given.
+-- entry to an identity behind those that were known, and no known one's; or two different strings with one hash are given.
 abbrev pub OneEntryAnIdentityByLines : Type 0
 OneEntryAnIdentityByLines =
-    (held : StateLine) (known : List Tiled) (asked : List LookedUpLine) → IsLog sha256 known held
-    → AreLineAttempts sha256 held (line_attempts_of asked) → LineMissesWereTrue known (taken_of_lines asked)
-    → ((E : List Tiled) × IsLog sha256 E (held_behind held (line_attempts_of asked)) × (known ≡ take (length known) E)
-    × AreNewFrom (length known) (logged_identities E)) ⊎ SomeCollide sha256
+    (H : List ℕ → List ℕ) (held : StateLine) (known : List Tiled) (asked : List LookedUpLine) → IsLog H known held
+    → AreLineAttempts H held (line_attempts_of asked) → LineMissesWereTrue known (taken_of_lines asked)
+    → ((E : List Tiled) × IsLog H E (held_behind held (line_attempts_of asked)) × (known ≡ take (length known) E)
+    × AreNewFrom (length known) (logged_identities E)) ⊎ SomeCollide H

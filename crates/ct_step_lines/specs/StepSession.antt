@@ -39,7 +39,7 @@ GiveReplies origin (g ∷ given) input text = (0 < length input) × GivesReply o
 abbrev pub is_no_step : StepAsk → Bool
 is_no_step (for_begin moment) = false
 is_no_step (for_needs state) = false
-is_no_step (for_step batch edge now state) = false
+is_no_step (for_step batch edge now state most) = false
 is_no_step for_too_many = false
 is_no_step (for_resume bundle state) = false
 is_no_step (for_claim claim path state submission) = false

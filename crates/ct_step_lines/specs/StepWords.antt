@@ -13,7 +13,7 @@ use Rattle.ct_step.specs.declared.step.Step.{Step}
 use Rattle.ct_tile_names.specs.Names.{IsTile, name_text}
 use Rattle.ct_tile_names.specs.declared.tile.Tile.{Tile}
 use Rattle.ct_step_lines.specs.declared.replies.StepRefusal.{StepRefusal}
-use Rattle.ct_step_lines.specs.declared.replies.StepRefusal.TheVariants.{BadLine, BadState, TooMany, Edge, Entries, ClockBack, Full, TooLong, Bundle, Claim}
+use Rattle.ct_step_lines.specs.declared.replies.StepRefusal.TheVariants.{BadLine, BadState, TooMany, TooFar, Edge, Entries, ClockBack, Full, TooLong, Bundle, Claim}
 
 -- the bytes are the name of a tile (C2SP tlog-tiles, "Merkle Tree"; static-ct-api, "Log Entries")
 abbrev pub IsTileName : List ℕ → Type 0
@@ -24,6 +24,7 @@ abbrev pub step_refusal_name : StepRefusal → List ℕ
 step_refusal_name BadLine = codes "bad-line"
 step_refusal_name BadState = codes "bad-state"
 step_refusal_name TooMany = codes "too-many"
+step_refusal_name TooFar = codes "moment-too-far"
 step_refusal_name Edge = codes "edge"
 step_refusal_name Entries = codes "entries"
 step_refusal_name ClockBack = codes "clock-back"

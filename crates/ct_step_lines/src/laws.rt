@@ -1,8 +1,11 @@
 //! What follows of the definitions, each the contract of a function that does nothing.
 
+ghost use Rattle.ct_step_lines.specs.CutRuns.{CutStepsAreAttempts, BegunStepIsAttempt};
+ghost use Rattle.ct_step_lines.specs.RolledOut.{ResumedLinesAreRolledOut};
 ghost use Rattle.ct_step_lines.specs.StepLaws.{BatchesAreSplit, ClaimsStandThere, FirstLineBegins, OneEntryAnIdentityByLines, ReceiptsNameEntries, RepliedStepsAreAttempts};
 
-/// The line that a log begins with is that of a log without entries.
+/// The line that a log begins with is that of a log without entries. The laws are of every hash function, where two strings are given of those
+/// with hashes of 32 bytes; the program's is SHA-256.
 pub fn first_line_begins()
     ensures { FirstLineBegins }
 {}
@@ -10,6 +13,18 @@ pub fn first_line_begins()
 /// A step that is replied is one of the law over sequencers (`ct_step::laws::sequencers_over_lines`), whoever handed over the edge.
 pub fn replied_steps_are_attempts()
     ensures { RepliedStepsAreAttempts }
+{}
+
+/// Each step that a run replied is such a step, however the run ended: behind a fault those of the lines whose replies are written (`cut`), and that
+/// of the next line, of whose reply a beginning is (`begun`).
+pub fn cut_runs()
+    ensures cut { CutStepsAreAttempts }
+    ensures begun { BegunStepIsAttempt }
+{}
+
+/// Whoever rolls a step out by the line that a register holds puts what its maker would have put, or two different strings with one hash are given.
+pub fn rolled_out_by_lines()
+    ensures { ResumedLinesAreRolledOut }
 {}
 
 /// A claim's receipt has the claimed index and moment, and what is signed is the submission's leaf of these, which stands there in the log

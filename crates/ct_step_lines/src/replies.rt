@@ -31,11 +31,13 @@ pub enum StepRefusal {
     BadState,
     /// Its batch has more than 4,096 submissions.
     TooMany,
+    /// The moment is too far beyond that of the state.
+    TooFar,
     /// The partial tiles are not those of the state.
     Edge,
     /// The partial data tile is not that of the state.
     Entries,
-    /// The moment is before that of the state.
+    /// The moment is not later than that of the state.
     ClockBack,
     /// The log would have more than 2^40 leaves.
     Full,
@@ -55,6 +57,7 @@ fn refusal_name(refusal: StepRefusal) -> &'static str
         StepRefusal::BadLine => "bad-line",
         StepRefusal::BadState => "bad-state",
         StepRefusal::TooMany => "too-many",
+        StepRefusal::TooFar => "moment-too-far",
         StepRefusal::Edge => "edge",
         StepRefusal::Entries => "entries",
         StepRefusal::ClockBack => "clock-back",

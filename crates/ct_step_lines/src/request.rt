@@ -5,7 +5,7 @@ ghost use Rattle.serde_json.specs.View.{view, items_view};
 ghost use Rattle.ct_codec.specs.Submitted.{Submitted};
 ghost use Rattle.json_lines.specs.Fields.{text_at};
 ghost use Rattle.ct_step.specs.Entries.{AreShort};
-ghost use Rattle.ct_step_lines.specs.StepAsks.{entry_parts, step_ask_of, chain_hashes_at, certificate_at, precertificate_at, first_or, submitted_in, submission_in, batch_of_items, batch_at, step_of_batch, begin_ask, needs_ask, step_ask, resume_ask, claim_in, claim_at, submitted_at, claim_ask, step_asked_in, AsksStep};
+ghost use Rattle.ct_step_lines.specs.StepAsks.{entry_parts, step_ask_of, chain_hashes_at, certificate_at, precertificate_at, first_or, submitted_in, submission_in, batch_of_items, batch_at, step_of_batch, step_bound_at, begin_ask, needs_ask, step_ask, resume_ask, claim_in, claim_at, submitted_at, claim_ask, step_asked_in, AsksStep};
 
 use crate::entry::Entry;
 use ct_codec::Submission;
@@ -21,8 +21,8 @@ pub enum Request {
     Begin(u64),
     // The names of what a step from a state has to be handed.
     Needs(Vec<u8>),
-    // A step: a batch, the contents at the edge, a moment and a state.
-    Step(Vec<Entry>, Vec<Vec<u8>>, u64, Vec<u8>),
+    // A step: a batch, the contents at the edge, a moment, a state, and how many milliseconds the moment may be beyond the state's.
+    Step(Vec<Entry>, Vec<Vec<u8>>, u64, Vec<u8>, u64),
     // A step of too many submissions.
     TooMany,
     // The objects of a step that was decided: its bundle and its state.
@@ -38,6 +38,9 @@ pub(crate) const LONGEST: usize = 67_108_864;
 
 // How many submissions a batch has at most.
 const MOST: usize = 4096;
+
+// How far a step's moment may be beyond its state's where a line doesn't say: an hour, in milliseconds.
+const HOUR: u64 = 3_600_000;
 
 // The text under a key, copied.
 fn text(alloc: Global, value: &Value, key: &str) -> Result<Option<Vec<u8>>, AllocError>
@@ -162,14 +165,24 @@ fn needs_request(alloc: Global, value: &Value) -> Result<Option<Request>, AllocE
     Ok(Some(Request::Needs(state)))
 }
 
+// How far a step's moment may be beyond its state's.
+fn most_ahead(value: &Value) -> Option<u64>
+    ensures { result ≡ step_bound_at (view value.now) }
+{
+    match value.get("most_ahead") {
+        Some(_) => fields::number(value, "most_ahead"),
+        None => Some(HOUR),
+    }
+}
+
 // A step, if its batch isn't too long.
-fn step_of(batch: Vec<Entry>, edge: Vec<Vec<u8>>, now: u64, state: Vec<u8>) -> Request
-    ensures { step_ask_of result ≡ step_of_batch (map entry_parts batch.items) (map (λ b. b.items) edge.items) now state.items }
+fn step_of(batch: Vec<Entry>, edge: Vec<Vec<u8>>, now: u64, state: Vec<u8>, most: u64) -> Request
+    ensures { step_ask_of result ≡ step_of_batch (map entry_parts batch.items) (map (λ b. b.items) edge.items) now state.items most }
 {
     if batch.len() > MOST {
         return Request::TooMany;
     }
-    Request::Step(batch, edge, now, state)
+    Request::Step(batch, edge, now, state, most)
 }
 
 // A step.
@@ -188,7 +201,10 @@ fn step_request(alloc: Global, value: &Value) -> Result<Option<Request>, AllocEr
     let Some(state) = text(alloc, value, "state")? else {
         return Ok(None);
     };
-    Ok(Some(step_of(batch, edge, now, state)))
+    let Some(most) = most_ahead(value) else {
+        return Ok(None);
+    };
+    Ok(Some(step_of(batch, edge, now, state, most)))
 }
 
 // The objects of a step that was decided.

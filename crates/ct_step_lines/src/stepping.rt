@@ -1,11 +1,11 @@
 //! What is replied to a request.
 
-ghost use Rattle.std.specs.Prelude.{◌≡◌, ℕ, List, All, IfOk, map, option_map, string_bytes};
+ghost use Rattle.std.specs.Prelude.{◌≡◌, ◌+◌, ◌<◌, ◌≤◌, ℕ, List, All, IfOk, map, option_map, string_bytes};
 ghost use Rattle.std.specs.Bool.{MatchBool};
 ghost use Rattle.ct_log_state.specs.Resumed.{object_parts};
 ghost use Rattle.ct_log_state.specs.Lines.{IsStateLine};
 ghost use Rattle.ct_step_lines.specs.StepAsks.{entry_parts, step_ask_of, for_needs, for_step, for_resume, for_claim};
-ghost use Rattle.ct_step_lines.specs.StepAnswers.{first_line, edge_of, IsStepReply, IsResumeReply, IsClaimReply, IsReplyTo};
+ghost use Rattle.ct_step_lines.specs.StepAnswers.{first_line, edge_of, IsStepReply, IsBoundedReply, IsResumeReply, IsClaimReply, IsReplyTo};
 ghost use Rattle.ct_step_lines.specs.StepSession.{IsReplyText};
 ghost use Rattle.ct_step_lines.specs.StepWords.{IsTileName, names_edge, StepReply};
 ghost use Rattle.ct_log_state.specs.Needed.{needed_names};
@@ -106,6 +106,32 @@ fn stepped(
     }
 }
 
+// Whether a moment is more than so many milliseconds beyond a line's.
+fn is_too_far(line: &StateLine, now: u64, most: u64) -> bool
+    ensures { MatchBool result (line.now.timestamp + most < now) (now ≤ line.now.timestamp + most) }
+{
+    now > line.timestamp && now - line.timestamp > most
+}
+
+// Replies to a step from a line whose moment may be so many milliseconds beyond the line's.
+fn bounded(
+    alloc: Global,
+    origin: &Option<String>,
+    line: &StateLine,
+    batch: Vec<Entry>,
+    contents: &[Vec<u8>],
+    now: u64,
+    most: u64,
+) -> Result<Vec<u8>, AllocError>
+    ensures { IfOk result (λ t. IsReplyText (option_map string_bytes origin.now) t.items
+        (IsBoundedReply line.now (edge_of line.now.tree_size (map (λ b. b.items) contents.now)) (map entry_parts batch.items) now most)) }
+{
+    if is_too_far(line, now, most) {
+        return refused_line(alloc, StepRefusal::TooFar);
+    }
+    stepped(alloc, origin, line, batch, contents, now)
+}
+
 // Replies to the request for a step.
 fn step_reply(
     alloc: Global,
@@ -113,13 +139,14 @@ fn step_reply(
     batch: Vec<Entry>,
     contents: &[Vec<u8>],
     now: u64,
+    most: u64,
     state: &[u8],
 ) -> Result<Vec<u8>, AllocError>
     ensures { IfOk result (λ t. IsReplyText (option_map string_bytes origin.now) t.items
-        (IsReplyTo (for_step (map entry_parts batch.items) (map (λ b. b.items) contents.now) now state.now))) }
+        (IsReplyTo (for_step (map entry_parts batch.items) (map (λ b. b.items) contents.now) now state.now most))) }
 {
     match StateLine::read(state) {
-        Some(line) => stepped(alloc, origin, &line, batch, contents, now),
+        Some(line) => bounded(alloc, origin, &line, batch, contents, now, most),
         None => refused_line(alloc, StepRefusal::BadState),
     }
 }
@@ -242,8 +269,8 @@ pub(crate) fn reply_line(
     match request {
         Request::Begin(moment) => begun_line(alloc, &first_line(moment)),
         Request::Needs(state) => needs_reply(alloc, origin, &state),
-        Request::Step(batch, edge, now, state) => {
-            step_reply(alloc, origin, batch, &edge, now, &state)
+        Request::Step(batch, edge, now, state, most) => {
+            step_reply(alloc, origin, batch, &edge, now, most, &state)
         }
         Request::TooMany => refused_line(alloc, StepRefusal::TooMany),
         Request::Resume(bundle, state) => resume_reply(alloc, origin, &bundle, &state),

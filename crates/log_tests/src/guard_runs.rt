@@ -33,7 +33,7 @@ const FIRST_MOMENT: &str =
     "{\"consistency\":[],\"sha256_root_hash\":\"47DEQpj8HBSa+/TImW+5JCeuQeRkm5NMpJWZG3hSuFU=\",\"timestamp\":0,\"tree_size\":0}
 {\"consistency\":[],\"sha256_root_hash\":\"47DEQpj8HBSa+/TImW+5JCeuQeRkm5NMpJWZG3hSuFU=\",\"timestamp\":1,\"tree_size\":0}
 {\"consistency\":[],\"sha256_root_hash\":\"KvhQ5T2VCGlB+8g95YvHFQA+SHydXPy1vVsIWdVUI00=\",\"timestamp\":2,\"tree_size\":4}
-{\"consistency\":[\"1ceKgGTFOd69yRn7+sk+4wWqx12bgK0s+gsmUrfGxN0=\",\"nKCKZ7sB0pdowuRpeDlPuGfQ6Ng+2atm2rEgAod9h7o=\"],\"sha256_root_hash\":\"du7qhEIOEAlx4PW0CquqrFCQdYGOPWhEpj2aF749hls=\",\"timestamp\":18446744073709551615,\"tree_size\":9}
+{\"consistency\":[\"1ceKgGTFOd69yRn7+sk+4wWqx12bgK0s+gsmUrfGxN0=\",\"nKCKZ7sB0pdowuRpeDlPuGfQ6Ng+2atm2rEgAod9h7o=\"],\"sha256_root_hash\":\"du7qhEIOEAlx4PW0CquqrFCQdYGOPWhEpj2aF749hls=\",\"timestamp\":18446744073709551615,\"tree_size\":9,\"most_ahead\":18446744073709551613}
 ";
 
 const FIRST_MOMENT_TEXT: &str =
@@ -42,6 +42,31 @@ const FIRST_MOMENT_TEXT: &str =
 {\"sign\":\"AAEAAAAAAAAAAgAAAAAAAAAEKvhQ5T2VCGlB+8g95YvHFQA+SHydXPy1vVsIWdVUI00=\",\"state\":{\"guard\":1,\"last\":{\"sha256_root_hash\":\"KvhQ5T2VCGlB+8g95YvHFQA+SHydXPy1vVsIWdVUI00=\",\"timestamp\":2,\"tree_size\":4}}}
 {\"sign\":\"AAH//////////wAAAAAAAAAJdu7qhEIOEAlx4PW0CquqrFCQdYGOPWhEpj2aF749hls=\",\"state\":{\"guard\":1,\"last\":{\"sha256_root_hash\":\"du7qhEIOEAlx4PW0CquqrFCQdYGOPWhEpj2aF749hls=\",\"timestamp\":18446744073709551615,\"tree_size\":9}}}
 {\"guard\":1,\"last\":{\"sha256_root_hash\":\"du7qhEIOEAlx4PW0CquqrFCQdYGOPWhEpj2aF749hls=\",\"timestamp\":18446744073709551615,\"tree_size\":9}}
+";
+
+const TOO_FAR: &str =
+    "{\"consistency\":[],\"sha256_root_hash\":\"tC/H6/wngKBZT+R1LE6M9CmYJyFREld3ZJUnHyM+Mao=\",\"timestamp\":1000,\"tree_size\":3}
+{\"consistency\":[\"OIa9wvY0409SXbmSRB1WShj6+4VR4R9qNGlFwfemtV0=\",\"kJ7lVU9Uv4QMRjHA0xrLeOY5J+pwDGg8ul1aXGm+u1I=\",\"ICTSyBj4WUTC5AcFQqweauD2frL1HZEjEp+S9EMMDBI=\",\"7yJYS/QYboh+K6ENtg51g8NH8ZYaVsbfwYqteF9m4jE=\"],\"sha256_root_hash\":\"LBP/6HN+xoqfAqfl9xCZ49JGQb/r4mZM608IgF6PeJU=\",\"timestamp\":3601001,\"tree_size\":5}
+{\"consistency\":[],\"sha256_root_hash\":\"ICTSyBj4WUTC5AcFQqweauD2frL1HZEjEp+S9EMMDBI=\",\"timestamp\":3601001,\"tree_size\":2}
+{\"consistency\":[],\"sha256_root_hash\":\"LW4H9OJXMvRh4el4Z1azUPNn4JuV2havF4zTozlYYlM=\",\"timestamp\":18446744073709551615,\"tree_size\":5}
+{\"consistency\":[\"WLkJ1EMlnhas/il9fn13m8ePmiHCzRDLcQENWyi98tg=\",\"kJ7lVU9Uv4QMRjHA0xrLeOY5J+pwDGg8ul1aXGm+u1I=\",\"ICTSyBj4WUTC5AcFQqweauD2frL1HZEjEp+S9EMMDBI=\",\"7yJYS/QYboh+K6ENtg51g8NH8ZYaVsbfwYqteF9m4jE=\"],\"sha256_root_hash\":\"LW4H9OJXMvRh4el4Z1azUPNn4JuV2havF4zTozlYYlM=\",\"timestamp\":1001,\"tree_size\":5,\"most_ahead\":0}
+{\"consistency\":[\"WLkJ1EMlnhas/il9fn13m8ePmiHCzRDLcQENWyi98tg=\",\"kJ7lVU9Uv4QMRjHA0xrLeOY5J+pwDGg8ul1aXGm+u1I=\",\"ICTSyBj4WUTC5AcFQqweauD2frL1HZEjEp+S9EMMDBI=\",\"7yJYS/QYboh+K6ENtg51g8NH8ZYaVsbfwYqteF9m4jE=\"],\"sha256_root_hash\":\"LW4H9OJXMvRh4el4Z1azUPNn4JuV2havF4zTozlYYlM=\",\"timestamp\":3601001,\"tree_size\":5}
+{\"consistency\":[\"WLkJ1EMlnhas/il9fn13m8ePmiHCzRDLcQENWyi98tg=\",\"kJ7lVU9Uv4QMRjHA0xrLeOY5J+pwDGg8ul1aXGm+u1I=\",\"ICTSyBj4WUTC5AcFQqweauD2frL1HZEjEp+S9EMMDBI=\",\"7yJYS/QYboh+K6ENtg51g8NH8ZYaVsbfwYqteF9m4jE=\"],\"sha256_root_hash\":\"LW4H9OJXMvRh4el4Z1azUPNn4JuV2havF4zTozlYYlM=\",\"timestamp\":3601000,\"tree_size\":5}
+{\"consistency\":[\"7yJYS/QYboh+K6ENtg51g8NH8ZYaVsbfwYqteF9m4jE=\",\"/5/bu9L6hCbB5MRU+Vs/mGjZVnPSvrn5wzMO1Kp9Sog=\",\"1hDItcfCD64oPq6A6IpZbVKsrf+dhf6AfqaYb0ftB6g=\",\"KvhQ5T2VCGlB+8g95YvHFQA+SHydXPy1vVsIWdVUI00=\",\"nKCKZ7sB0pdowuRpeDlPuGfQ6Ng+2atm2rEgAod9h7o=\"],\"sha256_root_hash\":\"du7qhEIOEAlx4PW0CquqrFCQdYGOPWhEpj2aF749hls=\",\"timestamp\":3601009,\"tree_size\":9,\"most_ahead\":8}
+{\"consistency\":[\"7yJYS/QYboh+K6ENtg51g8NH8ZYaVsbfwYqteF9m4jE=\",\"/5/bu9L6hCbB5MRU+Vs/mGjZVnPSvrn5wzMO1Kp9Sog=\",\"1hDItcfCD64oPq6A6IpZbVKsrf+dhf6AfqaYb0ftB6g=\",\"KvhQ5T2VCGlB+8g95YvHFQA+SHydXPy1vVsIWdVUI00=\",\"nKCKZ7sB0pdowuRpeDlPuGfQ6Ng+2atm2rEgAod9h7o=\"],\"sha256_root_hash\":\"du7qhEIOEAlx4PW0CquqrFCQdYGOPWhEpj2aF749hls=\",\"timestamp\":3601009,\"tree_size\":9,\"most_ahead\":9}
+";
+
+const TOO_FAR_TEXT: &str =
+    "{\"sign\":\"AAEAAAAAAAAD6AAAAAAAAAADtC/H6/wngKBZT+R1LE6M9CmYJyFREld3ZJUnHyM+Mao=\",\"state\":{\"guard\":1,\"last\":{\"sha256_root_hash\":\"tC/H6/wngKBZT+R1LE6M9CmYJyFREld3ZJUnHyM+Mao=\",\"timestamp\":1000,\"tree_size\":3}}}
+{\"refused\":\"moment-too-far\"}
+{\"refused\":\"moment-too-far\"}
+{\"refused\":\"moment-too-far\"}
+{\"refused\":\"moment-too-far\"}
+{\"refused\":\"moment-too-far\"}
+{\"sign\":\"AAEAAAAAADbyaAAAAAAAAAAFLW4H9OJXMvRh4el4Z1azUPNn4JuV2havF4zTozlYYlM=\",\"state\":{\"guard\":1,\"last\":{\"sha256_root_hash\":\"LW4H9OJXMvRh4el4Z1azUPNn4JuV2havF4zTozlYYlM=\",\"timestamp\":3601000,\"tree_size\":5}}}
+{\"refused\":\"moment-too-far\"}
+{\"sign\":\"AAEAAAAAADbycQAAAAAAAAAJdu7qhEIOEAlx4PW0CquqrFCQdYGOPWhEpj2aF749hls=\",\"state\":{\"guard\":1,\"last\":{\"sha256_root_hash\":\"du7qhEIOEAlx4PW0CquqrFCQdYGOPWhEpj2aF749hls=\",\"timestamp\":3601009,\"tree_size\":9}}}
+{\"guard\":1,\"last\":{\"sha256_root_hash\":\"du7qhEIOEAlx4PW0CquqrFCQdYGOPWhEpj2aF749hls=\",\"timestamp\":3601009,\"tree_size\":9}}
 ";
 
 const REFUSALS: &str =
@@ -106,14 +131,18 @@ const BAD_LINES: &str = "hello
 {\"sha256_root_hash\":\"tC/H6/wngKBZT+R1LE6M9CmYJyFREld3ZJUnHyM+Mao=\",\"timestamp\":1000,\"tree_size\":3}
 {\"audit_path\":[\"G4v/RJyXOCuDizhm/Efa15/HuIiR7l92+pKY/RnKIa8=\",\"WLkJ1EMlnhas/il9fn13m8ePmiHCzRDLcQENWyi98tg=\"],\"leaf_input\":\"AAAAAAAAAAAABwAAAAABQQAA\"}
 {\"guard\":1,\"last\":null}
-{\"consistency\":\"\",\"sha256_root_hash\":\"tC/H6/wngKBZT+R1LE6M9CmYJyFREld3ZJUnHyM+Mao=\",\"timestamp\":1000,\"tree_size\":3,\"guard\":1}
+{\"consistency\":[],\"guard\":1,\"sha256_root_hash\":\"tC/H6/wngKBZT+R1LE6M9CmYJyFREld3ZJUnHyM+Mao=\",\"timestamp\":1000,\"tree_size\":3}
 {\"consistency\":[],\"sha256_root_hash\":\"tC/H6/wngKBZT+R1LE6M9CmYJyFREld3ZJUnHyM+Mao=\",\"timestamp\":-1,\"tree_size\":3}
 {\"consistency\":[],\"sha256_root_hash\":\"tC/H6/wngKBZT+R1LE6M9CmYJyFREld3ZJUnHyM+Mao=\",\"timestamp\":18446744073709551616,\"tree_size\":3}
 {\"consistency\":[],\"sha256_root_hash\":\"QQ==\",\"timestamp\":1000,\"tree_size\":3}
+{\"consistency\":[],\"sha256_root_hash\":\"tC/H6/wngKBZT+R1LE6M9CmYJyFREld3ZJUnHyM+Mao=\",\"timestamp\":1000,\"tree_size\":3,\"most_ahead\":-1}
+{\"consistency\":[],\"sha256_root_hash\":\"tC/H6/wngKBZT+R1LE6M9CmYJyFREld3ZJUnHyM+Mao=\",\"timestamp\":1000,\"tree_size\":3,\"most_ahead\":\"5\"}
 {\"consistency\":[],\"sha256_root_hash\":\"tC/H6/wngKBZT+R1LE6M9CmYJyFREld3ZJUnHyM+Mao=\",\"timestamp\":1000,\"tree_size\":3,\"tree_head_signature\":\"BAMAAA==\"}
 ";
 
 const BAD_LINES_TEXT: &str = "{\"refused\":\"bad-line\"}
+{\"refused\":\"bad-line\"}
+{\"refused\":\"bad-line\"}
 {\"refused\":\"bad-line\"}
 {\"refused\":\"bad-line\"}
 {\"refused\":\"bad-line\"}
@@ -237,9 +266,10 @@ fn answers<R: Read + Drop>(
 }
 
 // Command lines, the input and what is written for each, and the status.
-const RUNS: [(&str, &str, &str, u8); 12] = [
+const RUNS: [(&str, &str, &str, u8); 13] = [
     ("", GROWS, GROWS_TEXT, 0),
     ("", FIRST_MOMENT, FIRST_MOMENT_TEXT, 0),
+    ("", TOO_FAR, TOO_FAR_TEXT, 0),
     ("", REFUSALS, REFUSALS_TEXT, 0),
     ("--receipts in-head", BAD_LINES, BAD_LINES_TEXT, 4),
     ("--origin log.example/2026", TAKEN_UP, TAKEN_UP_TEXT, 0),
@@ -274,7 +304,7 @@ fn right_runs(alloc: Global) -> Result<usize, AllocError> {
 // wrong place.
 #[test]
 fn runs(rt: HostRuntime) {
-    assert!(rt; right_runs(rt.alloc()) == Ok(12));
+    assert!(rt; right_runs(rt.alloc()) == Ok(13));
 }
 
 // Command lines, what is written for each, and among the faults, and the status.

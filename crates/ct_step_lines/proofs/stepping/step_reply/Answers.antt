@@ -9,5 +9,5 @@ use Rattle.ct_step_lines.proofs.stepping.step_reply.Goals as goal
 
 pub returns-in-None : goal.returns-in-None
 returns-in-None c =
-    by_reply c.refused_line.result (option_map string_bytes c.args.origin.now) (refuses BadState) (IsReplyTo (for_step (map entry_parts c.args.batch.items) (map (λ b. b.items) c.args.contents.now) c.args.now c.args.state.now))
+    by_reply c.refused_line.result (option_map string_bytes c.args.origin.now) (refuses BadState) (IsReplyTo (for_step (map entry_parts c.args.batch.items) (map (λ b. b.items) c.args.contents.now) c.args.now c.args.state.now c.args.most))
     (inr (c.in-None.ensures, refl)) c.refused_line.ensures
