@@ -28,7 +28,7 @@ var (
 )
 
 const (
-	// asksWithin is how long a witness may take for one head, and mostAsked how often it is asked for it: what it cosigned last may be known wrong.
+	// asksWithin is how long a witness may take for one head by default, and mostAsked how often it is asked for it: what it cosigned last may be known wrong.
 	asksWithin = 5 * time.Second
 	mostAsked  = 3
 	// mostAnswer is how much of an answer is read.
@@ -65,6 +65,8 @@ type Circle struct {
 	quorums Quorums
 	client  *http.Client
 	members []*member
+	// within is how long a witness may take for one head.
+	within time.Duration
 	// ctx ends with Close, which waits for all that is asked.
 	ctx    context.Context
 	cancel context.CancelFunc
@@ -91,7 +93,7 @@ func NewCircle(all []One, quorums Quorums, client *http.Client) (*Circle, error)
 	if client == nil {
 		client = &http.Client{Transport: &http.Transport{MaxIdleConnsPerHost: 2, IdleConnTimeout: time.Minute, TLSHandshakeTimeout: asksWithin}}
 	}
-	c := &Circle{quorums: quorums, client: client}
+	c := &Circle{quorums: quorums, client: client, within: asksWithin}
 	c.ctx, c.cancel = context.WithCancel(context.Background())
 	for _, one := range all {
 		for _, own := range []string{one.Name, string(one.Key), one.URL} {
@@ -196,7 +198,7 @@ func (c *Circle) gather(ctx context.Context, least int, whole bool, signed []byt
 
 // ask has a witness cosign a head, and keeps how it stands.
 func (c *Circle) ask(m *member, enough <-chan struct{}, signed []byte, text string, size uint64, proof Proof) (string, error) {
-	ctx, cancel := context.WithTimeout(c.ctx, asksWithin)
+	ctx, cancel := context.WithTimeout(c.ctx, c.within)
 	defer cancel()
 	select {
 	case m.turn <- struct{}{}:

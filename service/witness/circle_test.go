@@ -75,6 +75,8 @@ func three(t testing.TB, by signing, quorums Quorums) ([]*server, *Circle) {
 	}
 	c, err := NewCircle(ones, quorums, nil)
 	must(t, err)
+	// (a slow machine isn't a silent witness)
+	c.within = 2 * time.Minute
 	t.Cleanup(func() { c.Close() })
 	return all, c
 }

@@ -325,6 +325,7 @@ func TestAsked(t *testing.T) {
 	s := serving(t, 1, a.by)
 	c, err := NewCircle([]One{s.One}, Quorums{Publish: 1, Start: 1}, nil)
 	must(t, err)
+	c.within = 2 * time.Minute
 	defer c.Close()
 	var mu sync.Mutex
 	var asked []uint64
@@ -406,6 +407,7 @@ func TestLongAnswers(t *testing.T) {
 	s := serving(t, 1, a.by)
 	c, err := NewCircle([]One{s.One}, Quorums{Publish: 1, Start: 1}, nil)
 	must(t, err)
+	c.within = 2 * time.Minute
 	defer c.Close()
 	signed, size, proof := a.head(t, 3)
 	text, err := TextOf(signed)
@@ -469,7 +471,10 @@ func TestSilent(t *testing.T) {
 	if fault := c.standing(all[1].Name).Fault; !strings.Contains(fault, "isn't done with the head before") || strings.Contains(fault, "deadline") {
 		t.Errorf("it went for %s", fault)
 	}
+	must(t, c.Close())
 	// All are silent: they are given up, and the context isn't over.
+	c, err := NewCircle([]One{all[0].One, all[1].One, all[2].One}, Quorums{Publish: 2, Start: 2}, nil)
+	must(t, err)
 	for _, s := range all {
 		s.before.Store(silent)
 	}

@@ -7,6 +7,7 @@ import (
 	"math/bits"
 	"sync"
 	"testing"
+	"time"
 
 	"golang.org/x/mod/sumdb/note"
 
@@ -182,7 +183,7 @@ func (p *parties) begins(t *testing.T, q Quorums, know uint) (began int) {
 			// (quorums that aren't safe would be refused)
 			c, err := NewCircle(ones, Quorums{Publish: 3, Start: 3}, nil)
 			must(t, err)
-			c.quorums = q
+			c.quorums, c.within = q, 2*time.Minute
 			signed, n, proof := old.head(t, size)
 			if err := c.Start(limited(t), signed, n, proof); err == nil {
 				began++
