@@ -359,6 +359,49 @@ func TestVouchedAnew(t *testing.T) {
 	}
 }
 
+// TestVouchedOverABentHead: where the newest head's object is gone, or another's, by the time that witnesses are to cosign it afresh, it is made again first.
+func TestVouchedOverABentHead(t *testing.T) {
+	t.Parallel()
+	p, ctx, got := newPlace(t), limited(t), &answers{}
+	w := newWitnessed(t, p, 3)
+	config := p.config(t)
+	register, witnesses := &parted{Register: config.Register}, &counting{Witnesses: w.circle(t)}
+	config.Register, config.Witnesses = register, witnesses
+	s := started(t, config, hooks{})
+	must(t, got.submitAll(ctx, s, 0, 3, 1))
+	for n, bend := range []func(newest, older string) error{
+		func(newest, _ string) error { return os.Remove(newest) },
+		func(newest, older string) error {
+			content, err := os.ReadFile(older)
+			must(t, err)
+			must(t, os.Remove(newest))
+			return os.WriteFile(newest, content, 0o600)
+		},
+	} {
+		number := 3 + n
+		comesBack(t, s, got, number)
+		register.on.Store(true)
+		eventually(t, "the register isn't read", func() bool { return strings.Contains(s.Figures().Fault, errTried.Error()) })
+		before := witnesses.starts.Load()
+		heads := headsOf(t, p)
+		at := func(name string) string { return filepath.Join(p.objects(), name) }
+		right, err := os.ReadFile(at(heads[len(heads)-1]))
+		must(t, err)
+		must(t, bend(at(heads[len(heads)-1]), at(heads[0])))
+		register.on.Store(false)
+		comesBack(t, s, got, 10+number)
+		if witnesses.starts.Load() == before {
+			t.Error("it isn't vouched for")
+		}
+		if made, err := os.ReadFile(at(heads[len(heads)-1])); err != nil || string(ownNote(made)) == "" || strings.SplitN(string(made), "\n\n", 2)[0] != strings.SplitN(string(right), "\n\n", 2)[0] {
+			t.Errorf("the head isn't made again: %s, %v", made, err)
+		}
+	}
+	if report := p.right(t, got); report.Leaves != 7 {
+		t.Errorf("%+v", report)
+	}
+}
+
 // TestWitnessedNodes has two nodes carry a log at once: what one of them is late with is no fault.
 func TestWitnessedNodes(t *testing.T) {
 	t.Parallel()
@@ -430,7 +473,8 @@ func TestProofs(t *testing.T) {
 		once := objects.gets.Load()
 		again, err := proof(ctx, from)
 		must(t, err)
-		if fmt.Sprint(first) != fmt.Sprint(again) || objects.gets.Load() != once || from == 1 && once == before {
+		// (what stands at the edge is known)
+		if fmt.Sprint(first) != fmt.Sprint(again) || objects.gets.Load() != once || from == 1 && once == before || from == 299 && once != before {
 			t.Errorf("from %d: read %d times, and %d times more", from, once-before, objects.gets.Load()-once)
 		}
 		var path tlog.TreeProof
