@@ -1,4 +1,4 @@
-.PHONY: help demo test check service service-test service-engines service-faults service-clients cluster cluster-status cluster-stop link install install-library install-ctlog install-ctlogd install-ctmonitor install-ctguard install-cttile install-ctproof install-ctwitness fuzz load sweep wrong sources serve serve-ctlogd serve-witness tiles interop release reproduce bare container
+.PHONY: help demo test check service service-test service-race service-engines service-faults service-clients cluster cluster-status cluster-stop link install install-library install-ctlog install-ctlogd install-ctmonitor install-ctguard install-cttile install-ctproof install-ctwitness fuzz load sweep wrong sources serve serve-ctlogd serve-witness tiles interop release reproduce bare container
 
 SECONDS ?= 60
 RUNS ?= 20
@@ -51,6 +51,9 @@ service-test: ## builds and tests the Go part, without engines; installs Debian'
 
 service-engines: ## the same with engines on loopback: those of etcd, PostgreSQL and Ceph that are installed
 	@service/test.sh engines
+
+service-race: ## the same as service-test, built to tell of data races (go test -race)
+	@service/test.sh race
 
 # RUNS=3 KILLS=100 MEMBERS=20 GATEWAYS=10 PAUSES=10 in the environment say how many.
 service-faults: ## kills and stops nodes, members of etcd and radosgw below a log, a quarter of an hour a run, and judges the log from its bucket

@@ -31,8 +31,8 @@ THIRDS = 3
 EACH, IN_TURN = "tried: by each gate", "tried: by every third gate"
 
 # What it says of what it doesn't try.
-SKIPPED = """It leaves out {} others (make wrong CRATE=..), the service over engines, kills and other programs (make service-engines,
-service-faults, service-clients, interop), and what runs longer (make fuzz, load, sweep, link, tiles)."""
+SKIPPED = """It leaves out {} others (make wrong CRATE=..), the service under the race detector, over engines, with kills and with other programs (make
+service-race, service-engines, service-faults, service-clients, interop), and what runs longer (make fuzz, load, sweep, link, tiles)."""
 
 # About the most memory that a proof was seen to take, in bytes.
 MEMORY = 4_000_000_000

@@ -1,7 +1,7 @@
 #!/usr/bin/env python3
 """Tries what scripts do around proofs, over a made-up repository and an `rt` that is a script: gate.py and build.py where they are ended, and gate.py
-without git; wrong_bodies.py behind a gate that was killed, and where it is ended; architecture.py where a crate stands over one of a later room; prove.py where a crate is changed during its proof; which crates
-build.py begins with; documents.py beside sockets and the folder of a log.
+without git; wrong_bodies.py behind a gate that was killed, and where it is ended; architecture.py where a crate stands over one of a later room;
+prove.py where a crate is changed during its proof; which crates build.py begins with; documents.py beside sockets and the folder of a log.
 
 It prints nothing where all is as it has to be; else it says what isn't, and ends with status 1.
 """
