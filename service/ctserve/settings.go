@@ -75,7 +75,7 @@ func parse(words []string, help io.Writer) (*settings, error) {
 		fmt.Fprint(help, "ctserve serves a Certificate Transparency log over HTTP. Each word may also stand as a line 'name value' in the file of --config.\n'ctserve signer --help' says what its signer takes; 'ctserve key FILE' makes a key, 'ctserve check FILE' looks at settings without starting, 'ctserve list-entry' writes a log list's entry, 'ctserve shards' a year's settings, 'ctserve nginx' a site of nginx, 'ctserve places FILE' builds the places anew, each with --help.\n\n")
 		flags.PrintDefaults()
 	}
-	config := flags.String("config", "", "`file` with a line 'name value' for each of these, and comments behind #")
+	flags.String("config", "", "`file` with a line 'name value' for each of these, and comments behind #")
 	flags.StringVar(&s.listen, "listen", "127.0.0.1:8618", "`address` for clients")
 	flags.StringVar(&s.operator, "operator-listen", "127.0.0.1:8619", "`address` for /metrics, /healthz and /readyz; none where it is empty")
 	flags.StringVar(&s.notice, "notice", "", "`text` that the log's page and /log.v3.json show")
@@ -158,21 +158,14 @@ func parse(words []string, help io.Writer) (*settings, error) {
 	flags.StringVar(&n.address, "nodes-address", "", "`URL` by which other nodes find this one")
 	flags.StringVar(&s.nodesSecretAt, "nodes-secret", "", "`file` with what the nodes show each other, 16 bytes or more, that none but its owner may read")
 
-	if err := flags.Parse(words); err != nil {
-		if errors.Is(err, flag.ErrHelp) {
-			return nil, err
-		}
-		return nil, fmt.Errorf("%w: %v", errUsage, err)
+	err := fileRules.Parse(flags, words)
+	if errors.Is(err, flag.ErrHelp) {
+		return nil, err
 	}
-	if flags.NArg() > 0 {
-		return nil, fmt.Errorf("%w: %q isn't expected", errUsage, flags.Arg(0))
+	if err == nil {
+		err = s.settle()
 	}
-	if *config != "" {
-		if err := fileRules.Read(flags, *config); err != nil {
-			return nil, fmt.Errorf("%w: %v", errUsage, err)
-		}
-	}
-	if err := s.settle(); err != nil {
+	if err != nil {
 		return nil, fmt.Errorf("%w: %v", errUsage, err)
 	}
 	return s, nil

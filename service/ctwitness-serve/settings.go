@@ -54,7 +54,7 @@ func parse(words []string, help io.Writer) (*settings, error) {
 		fmt.Fprint(help, "ctwitness-serve is a witness: it cosigns heads of logs, each where ctwitness decides that it follows the one before. Each word but --create and --verifier-key may also stand as a line 'name value' in the file of --config.\n\n")
 		flags.PrintDefaults()
 	}
-	config := flags.String("config", "", "`file` with a line 'name value' for each of these, and comments behind #; its logs are read anew at SIGHUP")
+	flags.String("config", "", "`file` with a line 'name value' for each of these, and comments behind #; its logs are read anew at SIGHUP")
 	flags.StringVar(&s.name, "name", "", "the witness's `name`, as witness.example")
 	flags.StringVar(&s.key, "key", "", "`file` with its private key of Ed25519 in PEM (openssl genpkey -algorithm ed25519), that none but its owner may read")
 	flags.StringVar(&s.state, "state", "", "`address` below which each log's state is kept: file:PATH, etcd://HOST:PORT/PREFIX, postgres://HOST/DATABASE?log=NAME")
@@ -76,21 +76,14 @@ func parse(words []string, help io.Writer) (*settings, error) {
 		return nil
 	})
 	flags.BoolVar(&s.verifierKey, "verifier-key", false, "writes the key that logs and clients know this witness by, and ends")
-	if err := flags.Parse(words); err != nil {
-		if errors.Is(err, flag.ErrHelp) {
-			return nil, err
-		}
-		return nil, fmt.Errorf("%w: %v", errUsage, err)
+	err := fileRules.Parse(flags, words)
+	if errors.Is(err, flag.ErrHelp) {
+		return nil, err
 	}
-	if flags.NArg() > 0 {
-		return nil, fmt.Errorf("%w: %q isn't expected", errUsage, flags.Arg(0))
+	if err == nil {
+		err = s.settle()
 	}
-	if *config != "" {
-		if err := fileRules.Read(flags, *config); err != nil {
-			return nil, fmt.Errorf("%w: %v", errUsage, err)
-		}
-	}
-	if err := s.settle(); err != nil {
+	if err != nil {
 		return nil, fmt.Errorf("%w: %v", errUsage, err)
 	}
 	return s, nil

@@ -1,4 +1,4 @@
-// Package settingsfile reads a program's file of settings: what its command line takes, a line each.
+// Package settingsfile reads a program's settings: its command line, and the file that this names, which has what it takes, a line each.
 package settingsfile
 
 import (
@@ -17,9 +17,24 @@ type Rules struct {
 	Several []string
 }
 
-// Read sets from a file, with a line 'name value' a flag and comments behind #, what the command line didn't. What a line sets, its flag
+// Parse sets flags by the words of a command line, of which none may be left over, and what these don't set by the file that the flag config
+// names, where it names one. Where help was asked for it gives flag.ErrHelp.
+func (r Rules) Parse(flags *flag.FlagSet, words []string) error {
+	if err := flags.Parse(words); err != nil {
+		return err
+	}
+	if flags.NArg() > 0 {
+		return fmt.Errorf("%q isn't expected", flags.Arg(0))
+	}
+	if path := flags.Lookup("config").Value.String(); path != "" {
+		return r.read(flags, path)
+	}
+	return nil
+}
+
+// read sets from a file, with a line 'name value' a flag and comments behind #, what the command line didn't. What a line sets, its flag
 // looks at.
-func (r Rules) Read(flags *flag.FlagSet, path string) error {
+func (r Rules) read(flags *flag.FlagSet, path string) error {
 	file, err := os.Open(path)
 	if err != nil {
 		return err

@@ -1,6 +1,7 @@
 package settingsfile
 
 import (
+	"errors"
 	"flag"
 	"fmt"
 	"io"
@@ -10,8 +11,8 @@ import (
 	"testing"
 )
 
-// TestRead: the command line counts before the file, several lines add up where they may, and each line that isn't one is named.
-func TestRead(t *testing.T) {
+// TestParse: the command line counts before the file, several lines add up where they may, and each line that isn't one is named.
+func TestParse(t *testing.T) {
 	rules := Rules{Only: []string{"config"}, Several: []string{"log"}}
 	for _, c := range []struct{ text, words, size, logs, fault string }{
 		{"size 3 # three\n\n# a comment\nlog a\nlog  b c ", "", "3", "[a b c]", ""},
@@ -21,25 +22,43 @@ func TestRead(t *testing.T) {
 		{"size 3\n\nsize 4", "", "3", "[]", "line 3: size stands in line 1 already"},
 		{"size three", "", "0", "[]", "line 1: size: "},
 		{"size 3\n" + strings.Repeat("x", 1<<17), "", "3", "[]", "token too long"},
+		{"size 3", "--size 4 more", "4", "[]", `"more" isn't expected`},
+		{"size 3", "--other", "0", "[]", "not defined: -other"},
 	} {
-		flags := flag.NewFlagSet("", flag.ContinueOnError)
-		flags.SetOutput(io.Discard)
-		size, logs := flags.Int("size", 0, ""), []string{}
-		flags.String("config", "", "")
-		flags.Func("log", "", func(text string) error { logs = append(logs, text); return nil })
-		if err := flags.Parse(strings.Fields(c.words)); err != nil {
-			t.Fatal(err)
-		}
+		flags, size, logs := made()
 		path := filepath.Join(t.TempDir(), "settings")
 		if err := os.WriteFile(path, []byte(c.text), 0o600); err != nil {
 			t.Fatal(err)
 		}
-		err := rules.Read(flags, path)
-		if (err == nil) != (c.fault == "") || err != nil && !strings.Contains(err.Error(), c.fault) || fmt.Sprint(*size) != c.size || fmt.Sprint(logs) != c.logs {
-			t.Errorf("%.40q: %v, %d, %v", c.text, err, *size, logs)
+		err := rules.Parse(flags, append([]string{"--config", path}, strings.Fields(c.words)...))
+		if (err == nil) != (c.fault == "") || err != nil && !strings.Contains(err.Error(), c.fault) || fmt.Sprint(*size) != c.size || fmt.Sprint(*logs) != c.logs {
+			t.Errorf("%.40q: %v, %d, %v", c.text, err, *size, *logs)
 		}
 	}
-	if err := rules.Read(flag.NewFlagSet("", flag.ContinueOnError), filepath.Join(t.TempDir(), "absent")); !os.IsNotExist(err) {
+}
+
+// TestParseAlone: without a file the words count alone, one that isn't there is told, and so is who asks for help.
+func TestParseAlone(t *testing.T) {
+	flags, size, _ := made()
+	if err := (Rules{}).Parse(flags, []string{"--size", "4"}); err != nil || *size != 4 {
+		t.Errorf("without a file: %v, %d", err, *size)
+	}
+	flags, _, _ = made()
+	if err := (Rules{}).Parse(flags, []string{"--config", filepath.Join(t.TempDir(), "absent")}); !os.IsNotExist(err) {
 		t.Errorf("a file that isn't there: %v", err)
 	}
+	flags, _, _ = made()
+	if err := (Rules{}).Parse(flags, []string{"--help"}); !errors.Is(err, flag.ErrHelp) {
+		t.Errorf("who asks for help is told: %v", err)
+	}
+}
+
+// made are flags, with what they set.
+func made() (flags *flag.FlagSet, size *int, logs *[]string) {
+	flags, logs = flag.NewFlagSet("", flag.ContinueOnError), &[]string{}
+	flags.SetOutput(io.Discard)
+	size = flags.Int("size", 0, "")
+	flags.String("config", "", "")
+	flags.Func("log", "", func(text string) error { *logs = append(*logs, text); return nil })
+	return flags, size, logs
 }
