@@ -1,0 +1,24 @@
+// # The states of a node
+//
+// A node starts, goes round after round, and ends. Beside its rounds it tends what is stored, asks for the time, and answers readers.
+//
+//   - Starting (New). The newest head that this machine knows of is no newer than the register's state, which is taken up, or made where that was
+//     asked for; the places and the witnesses know that state. What must not be taken up ends the start by its name: ErrSetBack, ErrDamaged, ErrPlaces.
+//   - Waiting: for a submission, for the interval between two steps, and behind a round that failed for longer each time.
+//   - In a round, from the newest state that the register has: handing over, where another node has the turn; rolling out, where that state isn't
+//     published yet, whoever set it; stepping from it; staged, with the step's bundle put and nothing decided; decided, by the swap; rolled out;
+//     answered. A node that dies in any of these leaves it to the next round, its own or another node's.
+//   - At fault, since a round failed: who submits is refused once that has stood for Patience, and at once where waiting mends nothing.
+//   - Ending (End): nothing more is taken, and who waits is answered first.
+//
+// # In which order to read it
+//
+//  1. sequencer.go has what a log stands on, and its calls; queue.go has who waits.
+//  2. To decide: round.go, register.go and order.go. Whether at all: clock.go, and latest.go, which knows a log that was set back.
+//  3. To roll out: rollout.go, objects.go, issuers.go, places.go, and before a head is published witnesses.go.
+//  4. To answer: repeats.go, over fetcher.go and entries.go, and signing.go; readers by readings.go.
+//  5. To tend: tend.go.
+//  6. Between nodes: peers.go and sealed.go.
+//
+// What wrong_order.go and phases_hooked.go have is built into tests alone.
+package sequencer
