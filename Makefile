@@ -1,4 +1,4 @@
-.PHONY: help demo test check service service-test service-race service-engines service-faults service-clients cluster cluster-status cluster-stop link install install-library install-ctlog install-ctlogd install-ctmonitor install-ctguard install-cttile install-ctproof install-ctwitness fuzz load sweep wrong sources serve serve-ctlogd serve-witness tiles interop release reproduce bare container
+.PHONY: help demo test check service service-test service-race service-engines service-faults service-clients cluster cluster-status cluster-stop link install install-library install-ctlog install-ctlogd install-ctmonitor install-ctguard install-cttile install-ctproof install-ctnode install-ctwitness fuzz load sweep wrong sources serve serve-ctlogd serve-witness tiles interop release reproduce bare container
 
 SECONDS ?= 60
 RUNS ?= 20
@@ -10,7 +10,7 @@ FOLDER ?= ct-log
 WITNESS ?= ct-witness
 WITNESS_PORT ?= 8640
 
-PROGRAMS := ctlog ctlogd ctmonitor ctguard cttile ctproof ctwitness
+PROGRAMS := ctlog ctlogd ctmonitor ctguard cttile ctproof ctnode ctwitness
 LIBRARY = $(BUILT)/libwagtenib/out/link/libwagtenib
 VERSION = $(shell cat VERSION)
 # (a shell expands no ~ in quotes)
@@ -36,7 +36,7 @@ check: ## for daily work: proves what changed
 	@PYTHONDONTWRITEBYTECODE=1 python3 checks/prove.py
 	@$(MAKE) --silent sources
 
-serve: ## serves a log over HTTP at PORT=8618 out of the folder FOLDER=ct-log, by ctserve over cttile, ctguard and ctproof; builds what isn't built
+serve: ## serves a log over HTTP at PORT=8618 out of the folder FOLDER=ct-log, by ctserve over cttile, ctnode, ctguard and ctproof; builds what isn't built
 	@service/serve.sh "$(FOLDER:~/%=$(HOME)/%)" "$(PORT)"
 
 serve-witness: ## serves a witness at WITNESS_PORT=8640 out of WITNESS=ct-witness, by ctwitness-serve over ctwitness, of the log of make serve in FOLDER=ct-log; builds what isn't built
@@ -83,13 +83,13 @@ link: ## builds libwagtenib, the proof checkers for C, and runs programs in C, R
 WATCHING := cosign=cosign.py cosignatures=cosignatures.sh from-end=from_end.py keep=keep.py log-list=log_list.py mail=mail.sh show=show.py signature=signature.sh watch=watch.sh
 
 # BUILT is the folder in which the crates' builds lie.
-install: $(PROGRAMS:%=install-%) install-library ## installs what is built, below PREFIX=/usr/local: ctlog, ctlogd, ctmonitor, ctguard, cttile, ctproof, ctwitness, with ctmonitor its scripts as ctmonitor-watch and so on, and libwagtenib
+install: $(PROGRAMS:%=install-%) install-library ## installs what is built, below PREFIX=/usr/local: ctlog, ctlogd, ctmonitor, ctguard, cttile, ctproof, ctnode, ctwitness, with ctmonitor its scripts as ctmonitor-watch and so on, and libwagtenib
 	@for program in $(PROGRAMS); do [ ! -e "$(BUILT)/$$program/out/$$program" ] || exit 0; done; \
 	[ -e "$(LIBRARY).a" ] || { echo "make install: nothing is built" >&2; exit 1; }
 
 $(PROGRAMS:%=install-%): install-%:
 	@if [ -x "$(BUILT)/$*/out/$*" ]; then install -d "$(TO)/bin" && install -m 755 "$(BUILT)/$*/out/$*" "$(TO)/bin" && echo "$(PREFIX)/bin/$*"; \
-	else echo "$* isn't built: make demo builds ctlog and ctmonitor, make serve cttile, ctguard and ctproof, make serve-ctlogd ctlogd, make serve-witness ctwitness, and rt run in its folder any other"; fi
+	else echo "$* isn't built: make demo builds ctlog and ctmonitor, make serve cttile, ctnode, ctguard and ctproof, make serve-ctlogd ctlogd, make serve-witness ctwitness, and rt run in its folder any other"; fi
 	@if [ $* = ctmonitor ] && [ -x "$(BUILT)/$*/out/$*" ]; then for script in $(WATCHING); do \
 	  install -m 755 "examples/monitor/$${script#*=}" "$(TO)/bin/ctmonitor-$${script%=*}" && echo "$(PREFIX)/bin/ctmonitor-$${script%=*}" || exit 1; done; fi
 

@@ -53,6 +53,7 @@ def program(name, model):
 PROGRAMS = {
     "step": program("cttile", "tiles/step.py"),
     "reader": program("ctproof", "tiles/step.py"),
+    "decider": program("ctnode", "node/ctnode.py"),
     "guard": program("ctguard", "guard/model.py"),
     "witness": program("ctwitness", "witness/model.py"),
 }
@@ -126,7 +127,7 @@ class Setup:
         self.port, operator = free_port(), free_port()
         words = {
             "origin": ORIGIN, "listen": f"127.0.0.1:{self.port}", "operator-listen": f"127.0.0.1:{operator}", "signing-key": folder / "log.key", "roots": folder / "roots.pem",
-            "folder": folder / "log", "step": PROGRAMS["step"], "guard": PROGRAMS["guard"], "reader": PROGRAMS["reader"], "interval": interval,
+            "folder": folder / "log", "step": PROGRAMS["step"], "guard": PROGRAMS["guard"], "reader": PROGRAMS["reader"], "decider": PROGRAMS["decider"], "interval": interval,
             "most-connections-by-address": 500,
         }  # fmt: skip
         kinds = [lambda url: url] * answering + [late] * late_ones + [silent] * silent_ones + [liar] * liars

@@ -123,7 +123,7 @@ processors=$(python3 -c 'import os; print(len(os.sched_getaffinity(0)))')
 [ "$processors" = 1 ] && on="one processor" || on="$processors processors"
 case $what in
   demo) first="ctlog, ctmonitor, libwagtenib, print_steps and the crates below them. Where nothing was proved before, that" ;;
-  serve) first="cttile, ctguard, ctproof and the crates below them. Where nothing was proved before, that" ;;
+  serve) first="cttile, ctnode, ctguard, ctproof and the crates below them. Where nothing was proved before, that" ;;
   serve-ctlogd) first="ctlogd, ctguard and the crates below them. Where nothing was proved before, that" ;;
   link) first="the library and the crates below it. Where nothing was proved before, that" ;;
   test) first="everything, from nothing. That" ;;

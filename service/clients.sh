@@ -18,6 +18,8 @@ guard=$here/../crates/ctguard/out/ctguard step=$here/../crates/cttile/out/cttile
 [ -x "$step" ] || step="python3 $here/../tests/tiles/step.py"
 proofs=$here/../crates/ctproof/out/ctproof
 [ -x "$proofs" ] || proofs="python3 $here/../tests/tiles/step.py"
+decider=$here/../crates/ctnode/out/ctnode
+[ -x "$decider" ] || decider="python3 $here/../tests/node/ctnode.py"
 export PYTHONDONTWRITEBYTECODE=1
 running=
 trap 'kill $running 2>/dev/null || true; wait; rm -rf "$work"' EXIT
@@ -44,7 +46,7 @@ text = "\n".join(textwrap.wrap(chain[-1], 64))
 END
 
 "$here/out/ctserve" --origin "$origin" --listen 127.0.0.1:0 --operator-listen "" --signing-key "$work/log.key" --guard "${GUARD:-$guard}" \
-  --step "${STEP:-$step}" --reader "${READER:-$proofs}" --roots "$work/roots.pem" --folder "$work/log" --interval 50ms --create 2>"$work/ctserve.told" &
+  --step "${STEP:-$step}" --decider "${DECIDER:-$decider}" --reader "${READER:-$proofs}" --roots "$work/roots.pem" --folder "$work/log" --interval 50ms --create 2>"$work/ctserve.told" &
 running=$!
 for _ in $(seq 600); do
   grep -q '"event":"serving"' "$work/ctserve.told" && break

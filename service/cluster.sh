@@ -85,6 +85,7 @@ signer-at        $folder/signer
 roots            $folder/roots.pem
 step             ${STEP:-$(command_of cttile tiles/step.py)}
 reader           ${READER:-$(command_of ctproof tiles/step.py)}
+decider          ${DECIDER:-$(command_of ctnode node/ctnode.py)}
 register         $register
 places           $register
 store            $bucket

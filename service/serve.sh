@@ -2,8 +2,8 @@
 # Serves one log of ctserve out of a folder, on loopback: serve.sh [FOLDER] [PORT] [SETTING..], by default ct-log and 8618; settings go to ctserve.
 # The first start makes the log in FOLDER: its key (log.key, log.pem), a root of its own to try it with (root.key, root.pem) and a chain that
 # leads there (chain.json); later ones go on with it. ROOTS is a file with the roots besides, in PEM; by default the system's.
-# STEP and GUARD are the log's programs, READER the one that makes readers' proofs; by default cttile, ctguard and ctproof, which are proved and
-# built where they aren't. Where the kit isn't there either, programs in Python stand in for those that lack. ORIGIN=ct-log.example is the log's name in checkpoints.
+# STEP, DECIDER and GUARD are the log's programs, READER the one that makes readers' proofs; by default cttile, ctnode, ctguard and ctproof, which are
+# proved and built where they aren't. Where the kit isn't there either, programs in Python stand in for those that lack. ORIGIN=ct-log.example is the log's name in checkpoints.
 set -eu
 here=$(cd "$(dirname "$0")" && pwd)
 folder=${1:-ct-log} port=${2:-8618}
@@ -12,6 +12,7 @@ crates=$here/../crates
 missing=
 [ -n "${STEP:-}" ] || [ -x "$crates/cttile/out/cttile" ] || missing+=" cttile"
 [ -n "${GUARD:-}" ] || [ -x "$crates/ctguard/out/ctguard" ] || missing+=" ctguard"
+[ -n "${DECIDER:-}" ] || [ -x "$crates/ctnode/out/ctnode" ] || missing+=" ctnode"
 [ -n "${READER:-}" ] || [ -x "$crates/ctproof/out/ctproof" ] || missing+=" ctproof"
 if [ -n "$missing" ] && ! command -v rt >/dev/null; then
   notice="In place of${missing} programs in Python serve this log: they are tested, and not proved."
@@ -20,6 +21,7 @@ if [ -n "$missing" ] && ! command -v rt >/dev/null; then
   tests=$(cd "$here/../tests" && pwd)
   [[ $missing != *cttile* ]] || STEP="python3 $tests/tiles/step.py"
   [[ $missing != *ctproof* ]] || READER="python3 $tests/tiles/step.py"
+  [[ $missing != *ctnode* ]] || DECIDER="python3 $tests/node/ctnode.py"
   [[ $missing != *ctguard* ]] || GUARD="python3 $tests/guard/model.py"
   missing=
 fi
@@ -37,7 +39,7 @@ mkdir -p "$folder"
 folder=$(cd "$folder" && pwd)
 settings=(--origin "${ORIGIN:-ct-log.example}" --listen "127.0.0.1:$port" --operator-listen "127.0.0.1:$((port + 1))" --signing-key "$folder/log.key"
   --roots "$folder/roots.pem" --folder "$folder/log" --step "${STEP:-$crates/cttile/out/cttile}" --guard "${GUARD:-$crates/ctguard/out/ctguard}"
-  --reader "${READER:-$crates/ctproof/out/ctproof}" "$@")
+  --decider "${DECIDER:-$crates/ctnode/out/ctnode}" --reader "${READER:-$crates/ctproof/out/ctproof}" "$@")
 
 # make: key, root and chain, and the log, which is ready once before it is served.
 make() {

@@ -75,7 +75,7 @@ class Page:
         for file in files():
             (self.copy / file).parent.mkdir(parents=True, exist_ok=True)
             shutil.copy(ROOT / file, self.copy / file)
-        self.around = {name: value for name, value in os.environ.items() if name not in ("MAKEFLAGS", "MFLAGS", "MAKELEVEL", "STEP", "GUARD", "READER")}
+        self.around = {name: value for name, value in os.environ.items() if name not in ("MAKEFLAGS", "MFLAGS", "MAKELEVEL", "STEP", "GUARD", "READER", "DECIDER")}
         self.around.update({"PATH": path_without_kit(), "no_proxy": "127.0.0.1", "PYTHONDONTWRITEBYTECODE": "1"})
         self.how = {"cwd": self.copy, "env": self.around, "text": True}
 
@@ -90,7 +90,7 @@ class Page:
                 break
         else:
             fail(f"{command} ended with status {self.log.wait()}: {''.join(said)}")
-        notice = "In place of cttile ctguard ctproof programs in Python serve this log: they are tested, and not proved."
+        notice = "In place of cttile ctguard ctnode ctproof programs in Python serve this log: they are tested, and not proved."
         if not said[0].startswith(notice) or "  a page " not in "".join(said):
             fail(f"{command} says {''.join(said)}")
         if json.loads(self.answer("log.v3.json"))["notice"] != notice or self.answer("key") != (self.copy / "ct-log" / "log.pem").read_bytes():

@@ -134,8 +134,8 @@ def make_install(folder, built):
 
 def try_models():
     """guard/model.py writes the stored output of ctguard over its words and input, and ends with its status; so does tiles/step.py for cttile
-    and ctproof, and witness/model.py for ctwitness. Where ctwitness is built, witness/fuzz.py compares the two."""
-    for script, program in (("guard/model.py", "ctguard"), ("tiles/step.py", "cttile"), ("tiles/step.py", "ctproof"), ("witness/model.py", "ctwitness")):
+    and ctproof, node/ctnode.py for ctnode, and witness/model.py for ctwitness. Where ctwitness is built, witness/fuzz.py compares the two."""
+    for script, program in (("guard/model.py", "ctguard"), ("tiles/step.py", "cttile"), ("tiles/step.py", "ctproof"), ("node/ctnode.py", "ctnode"), ("witness/model.py", "ctwitness")):
         crate = HERE.parent / "crates" / program
         words = (crate / "args").read_text().split("\n")[:-1] if (crate / "args").exists() else []
         ran = run(script, *words, given=(crate / "stdin").read_bytes())
@@ -243,7 +243,7 @@ def try_release(folder):
         fail(f"release.py, with nothing built: status {ran.returncode}: {ran.stdout}{ran.stderr}")
     if (folder / "none").exists():
         fail("release.py makes something of nothing")
-    programs = {name: folder / "built" / name / "out" / name for name in ("ctlog", "ctlogd", "ctmonitor", "ctguard", "cttile", "ctproof", "ctwitness")}
+    programs = {name: folder / "built" / name / "out" / name for name in ("ctlog", "ctlogd", "ctmonitor", "ctguard", "cttile", "ctproof", "ctnode", "ctwitness")}
     programs.update({name: folder / "service" / name for name in ("ctserve", "ctcheck", "ctread", "ctload", "ctwitness-serve")})
     library = {f"libwagtenib.{end}": folder / "built" / "libwagtenib" / "out" / "link" / f"libwagtenib.{end}" for end in ("a", "so")}
     for name, path in {**programs, **library}.items():
@@ -267,7 +267,7 @@ def try_release(folder):
         if subprocess.run(words).returncode:
             fail(f"release.py: {name} can't be unpacked")
     places = {"wagtenib-0.1.0-x86_64.tar.gz": ("wagtenib-0.1.0/bin", tuple(programs)),
-              "wagtenib_0.1.0_amd64.deb": ("usr/bin", ("ctserve", "cttile", "ctguard", "ctproof", "ctcheck", "ctwitness", "ctwitness-serve")), "ctmonitor_0.1.0_amd64.deb": ("usr/bin", ("ctmonitor",))}
+              "wagtenib_0.1.0_amd64.deb": ("usr/bin", ("ctserve", "cttile", "ctguard", "ctproof", "ctnode", "ctcheck", "ctwitness", "ctwitness-serve")), "ctmonitor_0.1.0_amd64.deb": ("usr/bin", ("ctmonitor",))}
     for name, (below, held) in places.items():
         for program in held:
             path = out / name / below / program

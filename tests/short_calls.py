@@ -18,7 +18,7 @@ import tempfile
 
 from sweep import CRATES, HERE, line
 
-PROGRAMS = ("ctlog", "ctlogd", "ctmonitor", "ctguard", "cttile", "ctproof", "ctwitness")
+PROGRAMS = ("ctlog", "ctlogd", "ctmonitor", "ctguard", "cttile", "ctproof", "ctnode", "ctwitness")
 
 
 def long_reply():

@@ -20,7 +20,7 @@ ctlogd has the same lines but for the shifts, and a `take` and a `close`. Its re
 wait for one another to write, and the whole is judged by check.py --live. With status 1, what was written before is whole replies, of each party
 without one left out, and those of the ample run up to the party's first line that waited in vain.
 
---stored takes a program that answers line by line (ctguard, ctmonitor, cttile, ctproof) over the run that is stored in crates/NAME. With ample memory its
+--stored takes a program that answers line by line (ctguard, ctmonitor, cttile, ctproof, ctnode) over the run that is stored in crates/NAME. With ample memory its
 output and status have to be the stored ones; with a growth refused, too, or the status 1, with `NAME: memory` or a beginning of that line, and whole replies.
 Before that an output that is full has to end it with status 1 and `NAME: write`, and an input that is a folder with `NAME: read`.
 

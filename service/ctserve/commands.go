@@ -313,7 +313,7 @@ func runCheck(words []string, answers, faults io.Writer) error {
 	for _, program := range []struct {
 		of      string
 		command []string
-	}{{"step", s.node.step}, {"reader", s.node.reader}, {"guard", s.node.guard}} {
+	}{{"step", s.node.step}, {"reader", s.node.reader}, {"decider", s.node.decider}, {"guard", s.node.guard}} {
 		if s.node.signerAt != "" && program.of == "guard" || program.command[0] == noGuard && program.of == "guard" {
 			continue
 		}

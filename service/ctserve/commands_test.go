@@ -39,14 +39,14 @@ func settingsFile(t *testing.T, lines ...string) (folder, file string) {
 	if status, _, told := does("key", filepath.Join(folder, "log.key")); status != 0 {
 		t.Fatalf("no key: %s", told)
 	}
-	for _, name := range []string{"cttile", "ctproof", "ctguard"} {
+	for _, name := range []string{"cttile", "ctproof", "ctnode", "ctguard"} {
 		script := fmt.Sprintf("#!/bin/sh\n[ \"$*\" = --version ] && echo %s 7.7.7\n", name)
 		if err := os.WriteFile(filepath.Join(folder, name), []byte(script), 0o700); err != nil {
 			t.Fatal(err)
 		}
 	}
 	text := []string{"origin log.example/2027h1", "signing-key " + folder + "/log.key", "roots " + folder + "/roots.pem", "folder " + folder + "/log",
-		"step " + folder + "/cttile", "reader " + folder + "/ctproof", "guard " + folder + "/ctguard", "not-after-from 2027-01-01", "not-after-to 2027-07-01"}
+		"step " + folder + "/cttile", "reader " + folder + "/ctproof", "decider " + folder + "/ctnode", "guard " + folder + "/ctguard", "not-after-from 2027-01-01", "not-after-to 2027-07-01"}
 	file = filepath.Join(folder, "settings")
 	if err := os.WriteFile(file, []byte(strings.Join(append(text, lines...), "\n")), 0o600); err != nil {
 		t.Fatal(err)
@@ -159,7 +159,7 @@ func TestCheck(t *testing.T) {
 	if status != 0 || told != "" {
 		t.Fatalf("status %d: %s%s", status, said, told)
 	}
-	for _, due := range []string{"log.example/2027h1", "1 roots", "cttile 7.7.7", "ctproof 7.7.7", "ctguard 7.7.7"} {
+	for _, due := range []string{"log.example/2027h1", "1 roots", "cttile 7.7.7", "ctproof 7.7.7", "ctnode 7.7.7", "ctguard 7.7.7"} {
 		if !strings.Contains(said, due) {
 			t.Errorf("%q isn't said: %s", due, said)
 		}
@@ -181,7 +181,7 @@ func TestCheck(t *testing.T) {
 			t.Errorf("%q: status %d, %s", c.line, status, said)
 		}
 	}
-	for _, name := range []string{"roots.pem", "log.key", "cttile", "ctproof", "ctguard"} {
+	for _, name := range []string{"roots.pem", "log.key", "cttile", "ctproof", "ctnode", "ctguard"} {
 		folder, file := settingsFile(t)
 		if err := os.Remove(filepath.Join(folder, name)); err != nil {
 			t.Fatal(err)

@@ -493,7 +493,7 @@ func (p *place) realWords(more ...string) []string {
 	}
 	return append([]string{"--listen", "127.0.0.1:0", "--operator-listen", "127.0.0.1:0", "--origin", "log.example/test", "--roots", p.path("roots.pem"),
 		"--folder", p.path("log"), "--step", python + " " + filepath.Join(here, "../../tests/tiles/step.py"),
-		"--reader", python + " " + filepath.Join(here, "../../tests/tiles/step.py"), "--interval", "50ms"}, more...)
+		"--reader", python + " " + filepath.Join(here, "../../tests/tiles/step.py"), "--decider", python + " " + filepath.Join(here, "../../tests/node/ctnode.py"), "--interval", "50ms"}, more...)
 }
 
 // Over the real log, on a folder: a start makes no log unasked; what was answered is there after a kill, and a repeat has its

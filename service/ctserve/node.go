@@ -4,6 +4,7 @@ import (
 	"context"
 	"path/filepath"
 
+	"wagtenib/service/decider"
 	"wagtenib/service/reader"
 	"wagtenib/service/sequencer"
 	"wagtenib/service/step"
@@ -59,6 +60,10 @@ func openNode(ctx context.Context, n node) (of *opened, err error) {
 		return nil, err
 	}
 	closers = append(closers, config.Step.Close)
+	if config.Decider, err = decider.NewClient(n.decider, n.stepWithin); err != nil {
+		return nil, err
+	}
+	closers = append(closers, config.Decider.Close)
 	// Readers have a process of their own: none of them keeps a step waiting.
 	reading, err := step.NewClient(n.reader, n.stepWithin)
 	if err != nil {

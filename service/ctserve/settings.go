@@ -46,7 +46,7 @@ type node struct {
 	latestHead                                string
 	mostSkew                                  time.Duration
 	synchronized                              bool
-	step, reader                              []string
+	step, reader, decider                     []string
 	stepWithin, interval, refresh, openWithin time.Duration
 	sweepAfter, sweepTilesAfter               time.Duration
 	readEvery, readAllWithin                  time.Duration
@@ -126,6 +126,7 @@ func parse(words []string, help io.Writer) (*settings, error) {
 	flags.StringVar(&n.latestHead, "latest-head", "", "`file` of this machine's own, apart from all stores and their backups, with the latest tree head that this node saw: a log that is older is refused (default FOLDER.latest-head, beside the folder)")
 	flags.Func("step", "the `command` of the program that makes the steps, with its words (default \"cttile\"); it is given --origin", command(&n.step))
 	flags.Func("reader", "the `command` of the program that makes proofs for readers out of the tiles, with its words (default \"ctproof\")", command(&n.reader))
+	flags.Func("decider", "the `command` of the program that says what a node does next, with its words (default \"ctnode\")", command(&n.decider))
 	flags.DurationVar(&n.stepWithin, "step-within", 30*time.Second, "how long a step may take, until its program is killed")
 	flags.DurationVar(&n.interval, "interval", 50*time.Millisecond, "how far two heads are apart at least: 50ms are twenty a second; over stores that aren't folders and files twice as long as a step takes there, up to 500ms")
 	flags.DurationVar(&n.refresh, "refresh", time.Hour, "how old a head gets before one without new entries is made")
@@ -208,6 +209,9 @@ func (s *settings) settle() error {
 	}
 	if len(n.reader) == 0 {
 		n.reader = []string{"ctproof"}
+	}
+	if len(n.decider) == 0 {
+		n.decider = []string{"ctnode"}
 	}
 	n.step = append(append([]string{}, n.step...), "--origin", n.origin)
 	for _, address := range []struct {

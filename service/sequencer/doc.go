@@ -14,7 +14,7 @@
 // # In which order to read it
 //
 //  1. sequencer.go has what a log stands on, and its calls; queue.go has who waits.
-//  2. To decide: round.go, register.go and order.go. Whether at all: clock.go, and latest.go, which knows a log that was set back.
+//  2. To decide: round.go, register.go, and commands.go, which carries out what the program says that comes next. Whether at all: clock.go, and latest.go, which knows a log that was set back.
 //  3. To roll out: rollout.go, objects.go, issuers.go, places.go, and before a head is published witnesses.go.
 //  4. To answer: repeats.go, over fetcher.go and entries.go, and signing.go; readers by readings.go.
 //  5. To tend: tend.go.

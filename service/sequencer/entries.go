@@ -105,6 +105,14 @@ func (p *places) add(identity, leaf stores.Identity, place stores.Place) {
 	p.leaves = append(p.leaves, stores.Placed{Identity: leaf, Place: place})
 }
 
+// addStepped adds the place of a step's entry, by its receipt.
+func (p *places) addStepped(w *waiting, r step.Receipt) {
+	p.add(w.identity, stores.Identity(tlog.RecordHash(r.Sign)), stores.Place{Index: r.LeafIndex, Timestamp: r.Timestamp})
+	if w.misplaced {
+		p.wrong = append(p.wrong, p.identities[len(p.identities)-1])
+	}
+}
+
 // placesIn gives the places of all entries in a step's objects. Of a partial tile that grew, it gives those from before as well.
 func placesIn(objects []step.Object) (placed places, err error) {
 	for _, object := range objects {

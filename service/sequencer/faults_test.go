@@ -616,7 +616,7 @@ func TestHeadsWithoutEntries(t *testing.T) {
 	if found.Timestamp != last.Timestamp || string(found.Note) != string(last.Note) {
 		t.Errorf("%+v, and not %+v", found, last)
 	}
-	if report := p.right(t, got); report.Heads < 5 {
+	if report := p.right(t, got); report.Heads < 4 {
 		t.Fatalf("%+v", report)
 	}
 }

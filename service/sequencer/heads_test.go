@@ -10,7 +10,6 @@ import (
 	"time"
 
 	"wagtenib/service/log"
-	"wagtenib/service/step"
 	"wagtenib/service/stores"
 )
 
@@ -228,7 +227,7 @@ func TestPastState(t *testing.T) {
 	must(t, os.Remove(filepath.Join(p.objects(), headName(past.state))))
 	for _, withBundle := range []bool{false, true} {
 		if withBundle {
-			must(t, os.WriteFile(filepath.Join(p.objects(), bundleName(step.Digest(past.line))), []byte("left"), 0o644))
+			must(t, os.WriteFile(filepath.Join(p.objects(), past.look.Seen.Bundle), []byte("left"), 0o644))
 		}
 		other := readingNode(s)
 		other.newest, other.heard = past, time.Now()

@@ -2,13 +2,13 @@ package sequencer
 
 import (
 	"context"
-	"crypto/rand"
 	"encoding/hex"
 	"errors"
 	"fmt"
 	"strings"
 	"time"
 
+	"wagtenib/service/decider"
 	"wagtenib/service/signer"
 	"wagtenib/service/step"
 	"wagtenib/service/stores"
@@ -22,32 +22,55 @@ const (
 	issuersPrefix = "issuer/"
 )
 
-// known is what stood in the register. Its text is three lines: the state's line, the node that set it, and a number of chance.
+// known is what stood in the register. Its text is three lines: the state's line, the node that set it, and the moment of the state before with a
+// number of chance, which are the program's that decides (docs/NODE.md).
 type known struct {
 	text, line string
 	state      step.State
+	// look is the command of who read the text; nil where nothing is to be done from it.
+	look *decider.Command
 	// node is where the node that set it is asked; empty where it isn't.
 	node string
 	seen time.Time
 }
 
 const (
-	nodeWord  = "node "
-	saltWord  = "salt "
-	nowhere   = "-"
-	saltBytes = 16
+	nodeWord = "node "
+	saltWord = "salt "
+	nowhere  = "-"
 )
 
-// textOf writes a register's text for a state's line.
-func textOf(line, node string) (string, error) {
-	var salt [saltBytes]byte
-	if _, err := rand.Read(salt[:]); err != nil {
-		return "", fmt.Errorf("sequencer: %w", err)
+// where is what a register's text says of where a node is asked.
+func (c *Config) where() string {
+	if c.Address == "" {
+		return nowhere
 	}
-	if node == "" {
-		node = nowhere
+	return c.Address
+}
+
+// firstText writes the register's text of a log that begins: no moment is before its own.
+func firstText(line, where string) (string, error) {
+	salt, err := saltOf()
+	return fmt.Sprintf("%s\n%s%s\n%s%016x%016x\n", line, nodeWord, where, saltWord, 0, salt), err
+}
+
+// knownOf reads a register's text, from which something may be done.
+func (s *Sequencer) knownOf(ctx context.Context, text string) (known, error) {
+	k, err := readText(text)
+	if err != nil {
+		return known{}, err
 	}
-	return line + "\n" + nodeWord + node + "\n" + saltWord + hex.EncodeToString(salt[:]) + "\n", nil
+	k.look, err = s.config.Decider.Next(ctx, decider.Begin(), decider.WasRead(text))
+	if errors.Is(err, decider.ErrRefused) {
+		return known{}, fmt.Errorf("%w: the register's text isn't one of a log: %.40q", ErrDamaged, text)
+	}
+	if err == nil && (k.look.Do != decider.Look || k.look.Seen.Text != text || k.look.Seen.Size != k.state.Size || k.look.Seen.Moment != k.state.Moment) {
+		err = fmt.Errorf("%w: %s behind a text that was read", errCommand, k.look.Do)
+	}
+	if err != nil {
+		return known{}, fmt.Errorf("sequencer: %w", err)
+	}
+	return k, nil
 }
 
 func readText(text string) (known, error) {
@@ -66,8 +89,8 @@ func readText(text string) (known, error) {
 	return k, nil
 }
 
-// bundleName is where the bundle of a state's line is.
-func bundleName(line [32]byte) string { return stagingPrefix + hex.EncodeToString(line[:]) }
+// oldBundleName is where versions before put the bundle of a state's line.
+func oldBundleName(line [32]byte) string { return stagingPrefix + hex.EncodeToString(line[:]) }
 
 // headName is where the head of a state is. Names are in the order of states.
 func headName(s step.State) string {
@@ -93,7 +116,7 @@ func (s *Sequencer) takeUp(ctx context.Context) error {
 		if err != nil {
 			return fmt.Errorf("sequencer: %w", err)
 		}
-		k, err := readText(text)
+		k, err := s.knownOf(ctx, text)
 		if err != nil {
 			return err
 		}
@@ -258,7 +281,7 @@ func (s *Sequencer) create(ctx context.Context) error {
 	if err != nil {
 		return fmt.Errorf("sequencer: %w", err)
 	}
-	text, err := textOf(line, s.config.Address)
+	text, err := firstText(line, s.config.where())
 	if err != nil {
 		return err
 	}
@@ -292,7 +315,7 @@ func (s *Sequencer) learn(ctx context.Context) (known, error) {
 	}
 	k := before
 	if text != before.text {
-		if k, err = readText(text); err != nil {
+		if k, err = s.knownOf(ctx, text); err != nil {
 			return known{}, err
 		}
 		if headOf(k.state) != headOf(before.state) && !later(k.state, before.state) {

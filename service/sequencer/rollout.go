@@ -109,8 +109,11 @@ func (s *Sequencer) see(head log.Head) {
 
 // resume reads the bundle of a state; errNoBundle where there is none.
 func (s *Sequencer) resume(ctx context.Context, k known) (*step.Resumed, error) {
-	name := bundleName(step.Digest(k.line))
+	name := k.look.Seen.Bundle
 	bundle, err := s.config.Objects.Get(ctx, name, stores.MostObject)
+	if errors.Is(err, stores.ErrAbsent) {
+		bundle, err = s.config.Objects.Get(ctx, oldBundleName(step.Digest(k.line)), stores.MostObject)
+	}
 	if errors.Is(err, stores.ErrAbsent) {
 		return nil, fault{errNoBundle, fmt.Errorf("%w: %s, the newest state's bundle, is missing", ErrDamaged, name)}
 	}
@@ -130,29 +133,6 @@ func (s *Sequencer) resume(ctx context.Context, k known) (*step.Resumed, error) 
 
 // errNoBundle: a state has no bundle.
 var errNoBundle = errors.New("sequencer: no bundle")
-
-// help rolls out a state from its bundle.
-func (s *Sequencer) help(ctx context.Context, k known) error {
-	resumed, err := s.resume(ctx, k)
-	if errors.Is(err, errNoBundle) {
-		if newest, learned := s.learn(ctx); learned != nil || newest.text != k.text {
-			// It was rolled out, and the state is past.
-			return learned
-		}
-	}
-	if err != nil {
-		return err
-	}
-	placed, err := placesIn(resumed.Objects)
-	if err != nil {
-		return err
-	}
-	if err := s.believe(ctx, k, freshOf(resumed.Objects)); err != nil {
-		return err
-	}
-	s.helped.Add(1)
-	return s.rollOut(ctx, k, resumed.Objects, resumed.Head, placed)
-}
 
 // errPast: a later state stands.
 var errPast = errors.New("sequencer: the state is past")
@@ -218,39 +198,6 @@ func (s *Sequencer) putRight(ctx context.Context, name string, content []byte) e
 	defer s.mu.Unlock()
 	s.mended++
 	s.lastMended = name
-	return nil
-}
-
-// rollOut publishes a state that stands, or stood, in the register: objects, places, head, published size. It may be done again.
-func (s *Sequencer) rollOut(ctx context.Context, k known, objects []step.Object, head step.Head, placed places) error {
-	if err := s.putAll(ctx, objects); err != nil {
-		return err
-	}
-	s.phase("tiles out")
-	if err := addPlaces(ctx, s.config.Places, placed.identities); err != nil {
-		return err
-	}
-	if err := addPlaces(ctx, s.config.Places.Leaves(), placed.leaves); err != nil {
-		return err
-	}
-	if len(placed.wrong) > 0 {
-		if err := s.config.Places.Replace(ctx, placed.wrong); err != nil {
-			return fmt.Errorf("sequencer: %w", err)
-		}
-	}
-	s.phase("places added")
-	published, err := s.putHead(ctx, k.state, head, freshOf(objects))
-	if err != nil {
-		return err
-	}
-	s.phase("head out")
-	if err := s.raise(ctx, stores.Published{}, published); err != nil {
-		return err
-	}
-	s.phase("published")
-	s.rolled = k.line
-	// The bundle before isn't needed any more. Where it stays, it is swept.
-	s.failed("a bundle isn't deleted", s.config.Objects.Delete(ctx, bundleName(k.state.Before)))
 	return nil
 }
 

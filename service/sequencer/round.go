@@ -8,8 +8,6 @@ import (
 	"strings"
 	"time"
 
-	"golang.org/x/mod/sumdb/tlog"
-
 	"wagtenib/service/log"
 	"wagtenib/service/step"
 	"wagtenib/service/stores"
@@ -178,14 +176,17 @@ func (s *Sequencer) round(ctx context.Context) error {
 	} else if s.handOver(k) {
 		return nil
 	}
-	ready, err := s.mayStep(ctx, k)
+	t, err := s.reach(ctx, k)
 	if err != nil {
 		return err
 	}
-	if !ready || skewed != nil {
+	if t == nil || skewed != nil {
 		return skewed
 	}
 	if err := s.vouched(ctx, k); err != nil {
+		return err
+	}
+	if err := s.deleteUnneeded(ctx, t); err != nil {
 		return err
 	}
 	most := s.config.MostBatch
@@ -202,7 +203,7 @@ func (s *Sequencer) round(ctx context.Context) error {
 		return nil
 	}
 	// (Behind a fault a step without entries says whether it is mended.)
-	return s.advance(ctx, k, batch)
+	return s.advance(ctx, t, batch)
 }
 
 // isStale says whether a head without new entries is due: none was ever published, or the newest is too old.
@@ -210,23 +211,15 @@ func (s *Sequencer) isStale(k known) bool {
 	return k.state.IsBegin() || s.clock.now().UnixMilli()-int64(k.state.Moment) > s.config.Refresh.Milliseconds()
 }
 
-// haveRolledOut sees to it that a state is rolled out: its own node does it, or this one. It says no where the next round is to
-// look again.
-func (s *Sequencer) haveRolledOut(ctx context.Context, k known) (bool, error) {
-	done, err := s.isRolledOut(ctx, k)
-	if done || err != nil {
-		return done, err
+// waitsFor says whether another node that set a state is waited for a little longer, until this one rolls it out.
+func (s *Sequencer) waitsFor(ctx context.Context, k known) (bool, error) {
+	if k.node == s.config.Address && k.node != "" {
+		return false, nil
 	}
-	if k.node != s.config.Address || k.node == "" {
-		if patience := helpsAfter + time.Duration(rand.Int63n(int64(helpsAfter))); time.Since(k.seen) < patience {
-			return false, wait(ctx, 10*time.Millisecond)
-		}
+	if patience := helpsAfter + time.Duration(rand.Int63n(int64(helpsAfter))); time.Since(k.seen) < patience {
+		return true, wait(ctx, 10*time.Millisecond)
 	}
-	s.phase("helping")
-	if err := s.help(ctx, k); err != nil {
-		return false, err
-	}
-	return s.rolled == k.line, nil
+	return false, nil
 }
 
 // group puts those with one identity together: the first of each is the entry, and the others get its place.
@@ -243,91 +236,6 @@ func group(batch []*waiting) [][]*waiting {
 		groups[i] = append(groups[i], w)
 	}
 	return groups
-}
-
-// advance makes a step from a state that is rolled out, and has it decided and published.
-func (s *Sequencer) advance(ctx context.Context, k known, batch []*waiting) (err error) {
-	groups := group(batch)
-	submissions := make([]step.Submission, 0, len(groups))
-	for _, g := range groups {
-		submissions = append(submissions, g[0].submission)
-	}
-	at := moment{}
-	if at.now, at.most, err = s.clock.moment(k.state.Moment, s.another(k)); err != nil {
-		return err
-	}
-	stepped, edge, err := s.step(ctx, k, submissions, at)
-	if err != nil {
-		return err
-	}
-	objects, err := step.Objects(stepped.Bundle)
-	if err != nil {
-		return fmt.Errorf("sequencer: %w", err)
-	}
-	text, err := textOf(stepped.Line, s.config.Address)
-	if err != nil {
-		return err
-	}
-	s.phase("stepped")
-	name := bundleName(step.Digest(stepped.Line))
-	// (what is in the bundle is put once more, as objects)
-	s.written = 2 * len(stepped.Bundle)
-	s.putBytes.Add(uint64(s.written))
-	if err := s.putBundle(ctx, name, stepped, groups); err != nil {
-		return fmt.Errorf("sequencer: %w", err)
-	}
-	s.phase("bundle put")
-	won, err := s.swap(ctx, k.text, text)
-	if err != nil {
-		return err
-	}
-	s.wrote = true
-	if !won {
-		s.lost.Add(1)
-		return s.lose(ctx, stepped.Line, name)
-	}
-	s.steps.Add(1)
-	s.phase("swapped")
-	s.keepEdge(edge, objects)
-	if k, err = s.learn(ctx); err != nil {
-		return err
-	}
-	if k.text != text {
-		// Another node was quick enough to roll it out and to go on. Who waits here is answered as a repeat.
-		return nil
-	}
-	return s.publish(ctx, k, stepped, objects, groups)
-}
-
-// lose takes the bundle of a step away that was never decided.
-func (s *Sequencer) lose(ctx context.Context, line, name string) error {
-	k, err := s.learn(ctx)
-	if err == nil && k.line != line {
-		// Two nodes may have made the same step. Behind the state that stands, it isn't needed by either.
-		s.failed("a bundle isn't deleted", s.config.Objects.Delete(ctx, name))
-	}
-	return err
-}
-
-// publish rolls out a step that was just decided, and answers.
-func (s *Sequencer) publish(ctx context.Context, k known, stepped *step.Stepped, objects []step.Object, groups [][]*waiting) error {
-	if err := s.believe(ctx, k, freshOf(objects)); err != nil {
-		return err
-	}
-	var placed places
-	for i, g := range groups {
-		r := stepped.Receipts[i]
-		placed.add(g[0].identity, stores.Identity(tlog.RecordHash(r.Sign)), stores.Place{Index: r.LeafIndex, Timestamp: r.Timestamp})
-		if g[0].misplaced {
-			placed.wrong = append(placed.wrong, placed.identities[i])
-		}
-	}
-	if s.config.BehindSwap {
-		if err := s.answer(ctx, groups, stepped.Receipts, freshOf(objects)); err != nil {
-			return err
-		}
-	}
-	return s.finish(ctx, k, stepped, objects, placed, groups)
 }
 
 // answer has the timestamps of a step signed, and answers who still waits for them.

@@ -12,7 +12,8 @@
 //  7. the published size is raised;
 //  8. the timestamps are signed and answered.
 //
-// Whatever is done behind 5 is done again by any node, from the bundle, with the same outcome.
+// Whatever is done behind 5 is done again by any node, from the bundle, with the same outcome. This order is the program's that decides
+// (wagtenib/service/decider; docs/NODE.md): what is to be done next, of which text, with which objects. Here it is carried out.
 package sequencer
 
 import (
@@ -26,6 +27,7 @@ import (
 	"sync/atomic"
 	"time"
 
+	"wagtenib/service/decider"
 	"wagtenib/service/log"
 	"wagtenib/service/signer"
 	"wagtenib/service/step"
@@ -59,8 +61,10 @@ type Config struct {
 	Register stores.Register
 	Places   stores.Places
 	// Step is the program, which was given Origin.
-	Step   *step.Client
-	Signer signer.Signer
+	Step *step.Client
+	// Decider is the program that says what this node does next.
+	Decider *decider.Client
+	Signer  signer.Signer
 	// Witnesses cosign each head before it is published, and the newest one at a start; nobody does where it is nil.
 	Witnesses Witnesses
 	// Origin is the log's name in checkpoints (C2SP tlog-checkpoint).
@@ -111,8 +115,8 @@ type Config struct {
 
 func (c *Config) settle() error {
 	switch {
-	case c.Objects == nil || c.Register == nil || c.Places == nil || c.Step == nil || c.Signer == nil:
-		return fmt.Errorf("%w: a store, the step or the signer isn't there", ErrConfig)
+	case c.Objects == nil || c.Register == nil || c.Places == nil || c.Step == nil || c.Decider == nil || c.Signer == nil:
+		return fmt.Errorf("%w: a store, the step, the decider or the signer isn't there", ErrConfig)
 	case c.Origin == "" || strings.ContainsAny(c.Origin, " +\n\r\t"):
 		return fmt.Errorf("%w: an origin has neither spaces nor a plus sign", ErrConfig)
 	case c.Interval < 0 || c.Refresh < 0 || c.Patience < 0 || c.SweepAfter < 0 || c.SweepTilesAfter < 0 || c.TendEvery < 0 || c.ReadAllWithin < 0 || c.MostWritten < 0 || c.MostSkew < 0 || c.MostQueue < 0 || c.MostQueueBytes < 0 || c.MostBatch < 0 || c.MostBatch > MostBatch:
@@ -169,6 +173,8 @@ type Sequencer struct {
 	// edge has tiles of the newest state that need not be read, and rolled is the line of the last state that is rolled out.
 	edge   map[string][]byte
 	rolled string
+	// unneeded are names of bundles that this node knows of, and that may be deleted once a step may be made from a later state.
+	unneeded []string
 	// wrote says that this round had a step decided, by this node or another: all that was to be written before was.
 	wrote bool
 	// written is how many bytes this round's step put, in its bundle and as objects.
@@ -189,6 +195,8 @@ type Sequencer struct {
 	// newest is what the register had when it was read last, and head the newest published one of those that were seen.
 	newest known
 	head   *log.Head
+	// stepping is the newest command to have a step made: what it says of bundles holds for ever.
+	stepping *decider.Command
 	// fault is what keeps the log from going on, and since when.
 	fault      error
 	faultSince time.Time
@@ -351,7 +359,7 @@ func (s *Sequencer) Figures() log.Figures {
 		Queue: s.queue.length(), MostQueue: s.config.MostQueue,
 		Steps: s.steps.Load(), LostSwaps: s.lost.Load(), Unknown: s.unknown.Load(),
 		Repeats: s.repeats.Load(), Helped: s.helped.Load(), HandedOver: s.handed.Load(),
-		StepStarts: s.config.Step.Starts(), Swept: s.swept.Load(), SweptHeads: s.sweptHeads.Load(), Scrubbed: s.scrubbed.Load(), Damaged: len(s.damage),
+		StepStarts: s.config.Step.Starts(), DeciderStarts: s.config.Decider.Starts(), Swept: s.swept.Load(), SweptHeads: s.sweptHeads.Load(), Scrubbed: s.scrubbed.Load(), Damaged: len(s.damage),
 	}
 	if counted, ok := s.config.Signer.(interface{ Starts() uint64 }); ok {
 		f.SignerStarts = counted.Starts()

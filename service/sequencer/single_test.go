@@ -163,18 +163,30 @@ func TestPublishedBehindAKill(t *testing.T) {
 	})
 }
 
-// sameStep is a register at which another node is quicker, once, with the same step.
+// sameStep is a register at which another node is quicker, once, with the same step, of which it put a bundle of its own.
 type sameStep struct {
 	stores.Register
-	once sync.Once
+	objects stores.Objects
+	once    sync.Once
 }
 
 func (r *sameStep) Swap(ctx context.Context, old, new string) (err error) {
 	lost := false
 	r.once.Do(func() {
 		lost = true
-		k, _ := readText(new)
-		text, _ := textOf(k.line, "")
+		const salt = "0123456789abcdef"
+		text := new[:len(new)-len(salt)-1] + salt + "\n"
+		var names []string
+		if names, err = r.objects.List(ctx, stagingPrefix, "", 1); err != nil {
+			return
+		}
+		var bundle []byte
+		if bundle, err = r.objects.Get(ctx, names[0], stores.MostObject); err != nil {
+			return
+		}
+		if err = r.objects.Put(ctx, names[0][:len(names[0])-len(salt)]+salt, bundle); err != nil {
+			return
+		}
 		if err = r.Register.Swap(ctx, old, text); err == nil {
 			err = stores.ErrLost
 		}
@@ -185,14 +197,15 @@ func (r *sameStep) Swap(ctx context.Context, old, new string) (err error) {
 	return r.Register.Swap(ctx, old, new)
 }
 
-// TestSameStep: who loses against another node that made the same step, which dies then, leaves the bundle.
+// TestSameStep: who loses against another node that made the same step, which dies then, leaves that one's bundle, and rolls it out. Its own one goes.
 func TestSameStep(t *testing.T) {
 	t.Parallel()
 	p, ctx, got := newPlace(t), limited(t), &answers{}
 	config := p.config(t)
-	config.Register = &sameStep{Register: config.Register}
+	config.Register = &sameStep{Register: config.Register, objects: config.Objects}
 	s := started(t, config, hooks{})
 	must(t, got.submitAll(ctx, s, 0, 5, 5))
+	eventually(t, "one bundle is left", func() bool { return len(staged(t, p)) == 1 })
 	p.right(t, got)
 }
 

@@ -3,6 +3,7 @@ package sequencer
 import (
 	"context"
 	"crypto/sha256"
+	"fmt"
 	"os"
 	"path/filepath"
 	"strings"
@@ -51,7 +52,7 @@ func TestSweptBundles(t *testing.T) {
 	s := started(t, config, hooks{})
 	must(t, got.submitAll(ctx, s, 0, 5, 5))
 	register.on.Store(true)
-	for number := 100; len(staged(t, p)) < 4; number++ {
+	for number := 100; len(staged(t, p)) < 5; number++ {
 		brief, cancel := context.WithTimeout(ctx, 200*time.Millisecond)
 		if _, err := s.Submit(brief, entryOf(number)); err == nil {
 			t.Fatal("it is answered")
@@ -59,12 +60,8 @@ func TestSweptBundles(t *testing.T) {
 		cancel()
 	}
 	register.on.Store(false)
-	for number := 1000; len(staged(t, p)) > 1; number++ {
-		if ctx.Err() != nil {
-			t.Fatalf("%v are left", staged(t, p))
-		}
-		_ = got.submitAll(ctx, s, number, number+1, 1)
-	}
+	must(t, got.submitAll(ctx, s, 1000, 1001, 1))
+	eventually(t, "one bundle is left", func() bool { return len(staged(t, p)) == 1 })
 	if f := s.Figures(); f.SweptBundles < 3 {
 		t.Errorf("%d bundles were swept", f.SweptBundles)
 	}
@@ -76,7 +73,7 @@ func TestSweptBundles(t *testing.T) {
 }
 
 // TestBundleThatMayBeDecided: as long as the text stands that a step was made from, its bundle stays, however old it is; and the newest state's
-// stays always.
+// stays always. What was made from an earlier text goes. So it is of the names that versions before gave, as far as they say anything.
 func TestBundleThatMayBeDecided(t *testing.T) {
 	t.Parallel()
 	p, ctx, got := newPlace(t), limited(t), &answers{}
@@ -84,12 +81,17 @@ func TestBundleThatMayBeDecided(t *testing.T) {
 	config.TendEvery, config.SweepAfter = time.Hour, time.Nanosecond
 	s := started(t, config, hooks{})
 	must(t, got.submitAll(ctx, s, 0, 5, 5))
-	tender := &tender{s: s}
-	newest, waits := staged(t, p), bundleName(sha256.Sum256([]byte("a step that isn't decided yet")))
-	if len(newest) != 1 {
-		t.Fatalf("%v are there", newest)
+	var newest []string
+	eventually(t, "the newest state's bundle is the only one", func() bool { newest = staged(t, p); return len(newest) == 1 })
+	moment := s.newestKnown().state.Moment
+	named := func(moment, before uint64) string {
+		return fmt.Sprintf("%s%016x%016x%016x", stagingPrefix, moment, before, 7)
 	}
-	must(t, os.WriteFile(filepath.Join(p.objects(), waits), []byte("bundle"), 0o644))
+	waits, old, past := named(moment+9, moment), oldBundleName(sha256.Sum256([]byte("a step that isn't decided yet"))), named(moment+9, moment-1)
+	for _, name := range []string{waits, old, past} {
+		must(t, os.WriteFile(filepath.Join(p.objects(), name), []byte("bundle"), 0o644))
+	}
+	tender := &tender{s: s}
 	sweep := func() {
 		t.Helper()
 		for turn := 0; turn < 3; turn++ {
@@ -97,12 +99,13 @@ func TestBundleThatMayBeDecided(t *testing.T) {
 		}
 	}
 	sweep()
-	if left := strings.Join(staged(t, p), " "); !strings.Contains(left, waits) || !strings.Contains(left, newest[0]) {
+	if left := strings.Join(staged(t, p), " "); !strings.Contains(left, waits) || !strings.Contains(left, old) || !strings.Contains(left, newest[0]) || strings.Contains(left, past) {
 		t.Errorf("%s are left", left)
 	}
 	must(t, got.submitAll(ctx, s, 5, 6, 1))
+	eventually(t, "a step may be made from the new state", func() bool { return s.isStepping().Seen.Moment > moment })
 	sweep()
-	if left := staged(t, p); len(left) != 1 || left[0] == waits {
+	if left := staged(t, p); len(left) != 1 || left[0] == waits || left[0] == old {
 		t.Errorf("%v are left", left)
 	}
 	if names := newestBundle(t, p); len(names) == 0 {

@@ -10,6 +10,7 @@ import (
 
 	"golang.org/x/mod/sumdb/tlog"
 
+	"wagtenib/service/decider"
 	"wagtenib/service/log"
 	"wagtenib/service/step"
 	"wagtenib/service/stores"
@@ -138,10 +139,12 @@ func (s *Sequencer) failed(what string, err error) {
 // mostBundles is how many bundles one turn deletes.
 const mostBundles = 64
 
-// sweepBundles lists staging/ every SweepAfter, and deletes what was there at the listing before, but for the newest state's, where the register
-// has moved since: a step is decided only as long as the text stands that it was made from, and that was there before its bundle.
+// sweepBundles lists staging/ every SweepAfter, and deletes what the program says is of no use any more. Of a name that isn't one of its own, as versions
+// before had them, that is what was there at the listing before, but for the newest state's, where the register has moved since: a step is decided only
+// as long as the text stands that it was made from, and that was there before its bundle.
 func (t *tender) sweepBundles(ctx context.Context) error {
-	if !t.listed.IsZero() && time.Since(t.listed) < t.s.config.SweepAfter {
+	stepping := t.s.isStepping()
+	if stepping == nil || !t.listed.IsZero() && time.Since(t.listed) < t.s.config.SweepAfter {
 		return nil
 	}
 	var names []string
@@ -162,7 +165,15 @@ func (t *tender) sweepBundles(ctx context.Context) error {
 	}
 	staged, left := map[string]bool{}, mostBundles
 	for _, name := range names {
-		if !t.staged[name] || text == t.text || name == bundleName(step.Digest(newest.line)) || left == 0 {
+		next, err := t.s.config.Decider.Next(ctx, stepping, decider.Listed(name))
+		goes := err == nil && next.Do == decider.Delete && next.Bundle == name
+		if errors.Is(err, decider.ErrRefused) {
+			goes, err = t.staged[name] && text != t.text && name != oldBundleName(step.Digest(newest.line)), nil
+		}
+		if err != nil {
+			return err
+		}
+		if !goes || left == 0 {
 			staged[name] = true
 			continue
 		}
@@ -180,6 +191,13 @@ func (t *tender) sweepBundles(ctx context.Context) error {
 	}
 	t.staged, t.text, t.listed = staged, text, time.Now()
 	return nil
+}
+
+// isStepping is the newest command to have a step made, or nil.
+func (s *Sequencer) isStepping() *decider.Command {
+	s.mu.Lock()
+	defer s.mu.Unlock()
+	return s.stepping
 }
 
 // readIssuers reads an issuer that is damaged again, and one that this node put.

@@ -28,6 +28,7 @@ import (
 	"wagtenib/service/chains"
 	"wagtenib/service/check"
 	"wagtenib/service/datatile"
+	"wagtenib/service/decider"
 	"wagtenib/service/log"
 	"wagtenib/service/signer"
 	"wagtenib/service/step"
@@ -37,7 +38,7 @@ import (
 const (
 	origin    = "log.example/tried"
 	quick     = 20 * time.Millisecond
-	longest   = 60 * time.Second
+	longest   = 4 * time.Minute
 	stepsFile = "../../tests/tiles/step.py"
 )
 
@@ -144,6 +145,9 @@ func (p place) openOnce(ctx context.Context) (config Config, err error) {
 		return config, err
 	}
 	config.Step = steps
+	if config.Decider, err = decided(); err != nil {
+		return config, err
+	}
 	return config, nil
 }
 
@@ -152,6 +156,21 @@ const (
 	guardBuilt = "../../crates/ctguard/out/ctguard"
 	guardFile  = "../../tests/guard/model.py"
 )
+
+// The program that decides is the proved one where it is built, and else a second one with the same lines.
+const (
+	deciderBuilt = "../../crates/ctnode/out/ctnode"
+	deciderFile  = "../../tests/node/ctnode.py"
+)
+
+// decided is a client of it.
+func decided() (*decider.Client, error) {
+	command := []string{deciderBuilt}
+	if _, err := os.Stat(deciderBuilt); err != nil {
+		command = []string{"python3", deciderFile}
+	}
+	return decider.NewClient(command, longest)
+}
 
 // guarded puts a guard before the log's key. Each node has one of its own, over one state.
 func (p place) guarded(ctx context.Context, receipts signer.Receipts) (signer.Signer, error) {
@@ -210,6 +229,9 @@ func closeAll(config Config) {
 	}
 	if config.Step != nil {
 		config.Step.Close()
+	}
+	if config.Decider != nil {
+		config.Decider.Close()
 	}
 	if config.Places != nil {
 		config.Places.Close()

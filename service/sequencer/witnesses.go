@@ -136,8 +136,8 @@ func (s *Sequencer) startsWithWitnesses(ctx context.Context) error {
 		return nil
 	}
 	for k := s.newestKnown(); ctx.Err() == nil && !k.state.IsBegin(); {
-		out, err := s.haveRolledOut(ctx, k)
-		if out && err == nil {
+		t, err := s.reach(ctx, k)
+		if t != nil && err == nil {
 			if err = s.vouched(ctx, k); err == nil {
 				return nil
 			}

@@ -1,0 +1,184 @@
+// Package decider asks the program that says what a node of a log does next, ctnode: a process at the other end of two pipes, with an object of
+// JSON a line (docs/NODE.md). It keeps nothing from one line to the next, so it is killed where it doesn't answer, started again, and asked once more.
+package decider
+
+import (
+	"bytes"
+	"context"
+	"encoding/json"
+	"errors"
+	"fmt"
+	"time"
+
+	"wagtenib/service/pipe"
+)
+
+// The bounds of lines, in bytes without their ends.
+const (
+	// MostLine is the program's own.
+	MostLine = 64 << 10
+	// mostReply is how much of a reply is read.
+	mostReply = 128 << 10
+)
+
+// What asking fails by, beside ErrGone. Each is found by errors.Is.
+var (
+	// ErrGone: the process doesn't start, ended, or gave no reply in time, twice.
+	ErrGone = pipe.ErrGone
+	// ErrReply: the reply isn't one.
+	ErrReply = errors.New("decider: not a reply")
+	// ErrRefused: the program doesn't take what was told: a text that isn't a register's, or a name that isn't a bundle's.
+	ErrRefused = errors.New("decider: refused")
+)
+
+// The commands.
+const (
+	Read    = "read"
+	Look    = "look"
+	Step    = "step"
+	Stage   = "stage"
+	Swap    = "swap"
+	Promise = "promise"
+	Put     = "put"
+	Place   = "place"
+	Head    = "head"
+	Answer  = "answer"
+	Delete  = "delete"
+)
+
+// Held is a register's text, and what it says.
+type Held struct {
+	Text string `json:"text"`
+	// Bundle is the name of the bundle of the text's step.
+	Bundle string `json:"bundle"`
+	// Moment and Size are the head's timestamp in milliseconds, and the number of entries.
+	Moment uint64 `json:"moment"`
+	Size   uint64 `json:"size"`
+}
+
+// Command is what a node does next, and all that is to be known of the node.
+type Command struct {
+	Do string `json:"do"`
+	// Seen is the text that is gone by, and New the one that is made of it, or is rolled out.
+	Seen Held `json:"seen"`
+	New  Held `json:"new"`
+	// Objects are those of New, each as it was told.
+	Objects []string `json:"objects"`
+	// Bundle is the name of the one that is to be deleted.
+	Bundle string `json:"bundle"`
+
+	said json.RawMessage
+}
+
+// Begin is the command of a node that starts.
+func Begin() *Command { return &Command{Do: Read, said: json.RawMessage(`{"do":"read"}`)} }
+
+// Told is what came of a command.
+type Told map[string]any
+
+// Done: it is done.
+func Done() Told { return Told{"came": "done"} }
+
+// Promised: it is done, and the log promises what the register took.
+func Promised() Told { return Told{"came": "promise"} }
+
+// Lost: it isn't done, or isn't known to be and isn't tried any more.
+func Lost() Told { return Told{"came": "lost"} }
+
+// Published: the head of the text that was looked at stands.
+func Published() Told { return Told{"came": "published"} }
+
+// Held by the register.
+func WasRead(text string) Told { return Told{"came": "read", "text": text} }
+
+// Bundled: the bundle of the text that was looked at has these objects.
+func Bundled(objects []string) Told { return Told{"came": "bundle", "objects": objects} }
+
+// Stepped: a step was made, to a state's line, with these objects, by the node that is asked there; the salt is a number of chance.
+func Stepped(line, node string, salt uint64, objects []string) Told {
+	return Told{"came": "stepped", "line": line, "node": node, "salt": salt, "objects": objects}
+}
+
+// Listed: there is a bundle of this name.
+func Listed(bundle string) Told { return Told{"came": "listed", "bundle": bundle} }
+
+// Client asks one process, one line at a time. Its methods may be called at once.
+type Client struct{ asked *pipe.Client }
+
+// NewClient takes the program's command, and how long a line may take. The process is started by the first line.
+func NewClient(command []string, limit time.Duration) (*Client, error) {
+	if len(command) == 0 {
+		return nil, fmt.Errorf("%w: there is no command", ErrGone)
+	}
+	return &Client{pipe.NewClient(func(context.Context) (*pipe.End, error) { return pipe.Start(command, mostReply) }, limit)}, nil
+}
+
+// Starts is how often the process was started.
+func (c *Client) Starts() uint64 { return c.asked.Opens() }
+
+// Close ends the process.
+func (c *Client) Close() error { return c.asked.Close() }
+
+// Next gives the command behind what came of one.
+func (c *Client) Next(ctx context.Context, command *Command, told Told) (*Command, error) {
+	for key, value := range told {
+		if objects, ok := value.([]string); ok && objects == nil {
+			told[key] = []string{}
+		}
+	}
+	line, err := json.Marshal(map[string]any{"node": command.said, "told": told})
+	if err != nil {
+		return nil, fmt.Errorf("decider: %w", err)
+	}
+	if len(line) > MostLine {
+		return nil, fmt.Errorf("%w: a line of %d bytes", ErrRefused, len(line))
+	}
+	line = append(line, '\n')
+	replies, err := c.asked.Exchange(ctx, line, 1)
+	if errors.Is(err, pipe.ErrGone) && ctx.Err() == nil {
+		replies, err = c.asked.Exchange(ctx, line, 1)
+	}
+	if err != nil {
+		return nil, fmt.Errorf("decider: %w", err)
+	}
+	return read(replies[0])
+}
+
+// read reads a reply.
+func read(line []byte) (*Command, error) {
+	if bytes.HasPrefix(line, []byte(`{"refused":`)) {
+		return nil, ErrRefused
+	}
+	var reply struct{ Node json.RawMessage }
+	if err := json.Unmarshal(line, &reply); err != nil {
+		return nil, fmt.Errorf("%w: %v", ErrReply, err)
+	}
+	command := &Command{said: reply.Node}
+	if err := json.Unmarshal(reply.Node, command); err != nil {
+		return nil, fmt.Errorf("%w: %v", ErrReply, err)
+	}
+	if !command.isWhole() {
+		return nil, fmt.Errorf("%w: %.80q", ErrReply, line)
+	}
+	return command, nil
+}
+
+// isWhole says whether a command is one, and has all that it is about.
+func (c *Command) isWhole() bool {
+	seen, new := c.Seen.Text != "" && c.Seen.Bundle != "", c.New.Text != "" && c.New.Bundle != ""
+	switch c.Do {
+	case Read:
+		return true
+	case Look, Step:
+		return seen
+	case Stage, Swap:
+		return seen && new && c.Objects != nil
+	case Promise, Put:
+		return new && c.Objects != nil
+	case Place, Head, Answer:
+		return new
+	case Delete:
+		return seen && c.Bundle != ""
+	}
+	return false
+}

@@ -1,0 +1,182 @@
+package decider
+
+import (
+	"context"
+	"errors"
+	"fmt"
+	"os"
+	"path/filepath"
+	"strings"
+	"testing"
+	"time"
+)
+
+// program is a second program beside the proved one, with the same lines.
+var program = []string{"python3", "../../tests/node/ctnode.py"}
+
+const longest = 4 * time.Minute
+
+func must(t *testing.T, err error) {
+	t.Helper()
+	if err != nil {
+		t.Fatal(err)
+	}
+}
+
+func client(t *testing.T, limit time.Duration, command ...string) *Client {
+	t.Helper()
+	c, err := NewClient(command, limit)
+	must(t, err)
+	t.Cleanup(func() { c.Close() })
+	return c
+}
+
+func within(t *testing.T) context.Context {
+	ctx, cancel := context.WithTimeout(context.Background(), longest)
+	t.Cleanup(cancel)
+	return ctx
+}
+
+// line is a state's, of so many entries at a moment.
+func line(size, moment uint64) string {
+	return fmt.Sprintf("growth %016x%016x%s", size, moment, strings.Repeat("0", 256))
+}
+
+func textOf(size, moment, before, salt uint64) string {
+	return fmt.Sprintf("%s\nnode -\nsalt %016x%016x\n", line(size, moment), before, salt)
+}
+
+// TestWay goes all the way of a node that has a step made, with what each command is about.
+func TestWay(t *testing.T) {
+	t.Parallel()
+	c, ctx := client(t, longest, program...), within(t)
+	seen, new := Held{Text: textOf(3, 7, 5, 1), Moment: 7, Size: 3}, Held{Text: textOf(4, 9, 7, 2), Moment: 9, Size: 4}
+	seen.Bundle, new.Bundle = "staging/000000000000000700000000000000050000000000000001", "staging/000000000000000900000000000000070000000000000002"
+	objects := []string{"tile/0/000.p/4 aa", "tile/data/000.p/4 bb"}
+	command := Begin()
+	for _, step := range []struct {
+		told Told
+		want Command
+	}{
+		{WasRead(seen.Text), Command{Do: Look, Seen: seen}},
+		{Published(), Command{Do: Step, Seen: seen}},
+		{Listed("staging/000000000000000800000000000000070000000000000001"), Command{Do: Step, Seen: seen}},
+		{Listed("staging/000000000000000600000000000000040000000000000001"), Command{Do: Delete, Seen: seen, Bundle: "staging/000000000000000600000000000000040000000000000001"}},
+		{Done(), Command{Do: Step, Seen: seen}},
+		{Stepped(line(4, 7), "-", 2, objects), Command{Do: Step, Seen: seen}},
+		{Stepped(line(4, 9), "-", 2, objects), Command{Do: Stage, Seen: seen, New: new, Objects: objects}},
+		{Done(), Command{Do: Swap, Seen: seen, New: new, Objects: objects}},
+		{Promised(), Command{Do: Promise, New: new, Objects: objects}},
+		{Done(), Command{Do: Put, New: new, Objects: objects}},
+		{Done(), Command{Do: Place, New: new}},
+		{Done(), Command{Do: Head, New: new}},
+		{Done(), Command{Do: Answer, New: new}},
+		{Done(), Command{Do: Read}},
+		{WasRead(seen.Text), Command{Do: Look, Seen: seen}},
+		{Bundled(nil), Command{Do: Put, New: seen, Objects: []string{}}},
+		{Lost(), Command{Do: Read}},
+	} {
+		next, err := c.Next(ctx, command, step.told)
+		must(t, err)
+		next.said, command = nil, next
+		if fmt.Sprintf("%q", *next) != fmt.Sprintf("%q", step.want) {
+			t.Fatalf("behind %v comes %+v, and not %+v", step.told, *next, step.want)
+		}
+		// (what was said is asked again)
+		if command, err = again(command); err != nil {
+			t.Fatal(err)
+		}
+	}
+	if c.Starts() != 1 {
+		t.Errorf("the process was started %d times", c.Starts())
+	}
+}
+
+// again is a command as its own fields say it.
+func again(command *Command) (*Command, error) {
+	said := fmt.Sprintf(`{"do":%q,"bundle":%q,"seen":{"text":%q},"new":{"text":%q},"objects":[`, command.Do, command.Bundle, command.Seen.Text, command.New.Text)
+	for i, object := range command.Objects {
+		if i > 0 {
+			said += ","
+		}
+		said += fmt.Sprintf("%q", object)
+	}
+	next := *command
+	next.said = []byte(said + "]}")
+	return &next, nil
+}
+
+// TestRefusals: what isn't a register's text or a bundle's name is refused, and the process goes on.
+func TestRefusals(t *testing.T) {
+	t.Parallel()
+	c, ctx := client(t, longest, program...), within(t)
+	look, err := c.Next(ctx, Begin(), WasRead(textOf(3, 7, 5, 1)))
+	must(t, err)
+	step, err := c.Next(ctx, look, Published())
+	must(t, err)
+	for _, err := range []error{
+		second(c.Next(ctx, Begin(), WasRead("a text"))), second(c.Next(ctx, step, Listed("staging/0"))), second(c.Next(ctx, step, Told{"came": "nothing"})),
+		second(c.Next(ctx, step, Stepped(strings.Repeat("x", MostLine), "-", 1, nil))),
+	} {
+		if !errors.Is(err, ErrRefused) {
+			t.Error(err)
+		}
+	}
+	if c.Starts() != 1 {
+		t.Errorf("the process was started %d times", c.Starts())
+	}
+}
+
+func second(_ *Command, err error) error { return err }
+
+// script makes a program of a shell's lines.
+func script(t *testing.T, lines string) []string {
+	path := filepath.Join(t.TempDir(), "program")
+	must(t, os.WriteFile(path, []byte(lines), 0o700))
+	return []string{"sh", path}
+}
+
+// TestWrongPrograms asks programs that don't reply, or reply what is no command.
+func TestWrongPrograms(t *testing.T) {
+	t.Parallel()
+	ctx := within(t)
+	text := `{"bundle":"staging/1","moment":1,"size":1,"text":"a"}`
+	for _, reply := range []string{
+		"no", "[]", "{}", `{"node":7}`, `{"node":{}}`, `{"node":{"do":"dance"}}`, `{"node":{"do":"look"}}`, `{"node":{"do":"look","seen":{"text":"a"}}}`,
+		`{"node":{"do":"look","seen":{"bundle":"a"}}}`, `{"node":{"do":"step","new":` + text + `}}`, `{"node":{"do":"stage","new":` + text + `,"objects":[]}}`,
+		`{"node":{"do":"swap","new":` + text + `,"seen":` + text + `}}`, `{"node":{"do":"stage","seen":` + text + `,"objects":[]}}`,
+		`{"node":{"do":"put","new":` + text + `}}`, `{"node":{"do":"put","objects":[]}}`, `{"node":{"do":"promise","seen":` + text + `,"objects":[]}}`,
+		`{"node":{"do":"head","seen":` + text + `}}`, `{"node":{"do":"place"}}`, `{"node":{"do":"answer","new":{}}}`, `{"node":{"do":"delete","seen":` + text + `}}`,
+		`{"node":{"do":"delete","bundle":"staging/1"}}`, `{"node":{"do":"read","objects":7}}`,
+	} {
+		c := client(t, longest, script(t, "read x; echo '"+reply+"'; exec cat >/dev/null\n")...)
+		if command, err := c.Next(ctx, Begin(), Lost()); !errors.Is(err, ErrReply) {
+			t.Errorf("%s: %+v, %v", reply, command, err)
+		}
+	}
+	for what, lines := range map[string]string{"is silent": "exec sleep 600", "ends": "exit 1", "isn't there": "exec /nowhere"} {
+		c := client(t, 300*time.Millisecond, script(t, lines)...)
+		if _, err := c.Next(ctx, Begin(), Lost()); !errors.Is(err, ErrGone) || c.Starts() != 2 {
+			t.Errorf("a program that %s: %v, started %d times", what, err, c.Starts())
+		}
+	}
+	if _, err := NewClient(nil, time.Second); !errors.Is(err, ErrGone) {
+		t.Error(err)
+	}
+}
+
+// TestAskedOnceMore: a program that ends without a reply is started again, and asked the same.
+func TestAskedOnceMore(t *testing.T) {
+	t.Parallel()
+	flag := filepath.Join(t.TempDir(), "flag")
+	c := client(t, longest, script(t, "read x; [ -e "+flag+" ] || { touch "+flag+"; exit 1; }; echo '{\"node\":{\"do\":\"read\"}}'; exec cat >/dev/null\n")...)
+	command, err := c.Next(within(t), Begin(), Lost())
+	if err != nil || command.Do != Read || c.Starts() != 2 {
+		t.Errorf("%+v, %v, started %d times", command, err, c.Starts())
+	}
+	ended, cancel := context.WithCancel(context.Background())
+	cancel()
+	if _, err := client(t, longest, "sleep", "600").Next(ended, Begin(), Lost()); !errors.Is(err, ErrGone) {
+		t.Error(err)
+	}
+}

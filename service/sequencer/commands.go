@@ -1,0 +1,396 @@
+package sequencer
+
+import (
+	"context"
+	"crypto/rand"
+	"crypto/sha256"
+	"encoding/binary"
+	"encoding/hex"
+	"errors"
+	"fmt"
+
+	"wagtenib/service/decider"
+	"wagtenib/service/step"
+	"wagtenib/service/stores"
+)
+
+// What a node does next is the program's to say (wagtenib/service/decider). Here stands how each of its commands is carried out, and what came of it.
+
+// turn is one way through the commands, from a text that the register had.
+type turn struct {
+	k       known
+	command *decider.Command
+	// contents are what may be put, by what the commands name it by; bundle is the step's.
+	contents map[string][]byte
+	bundle   []byte
+	head     step.Head
+	placed   places
+	// groups are who waits for the step, with receipts in their order, and edge are the tiles that it was made over. Nobody does where the step is another
+	// node's.
+	groups   [][]*waiting
+	receipts []step.Receipt
+	edge     map[string][]byte
+	// answered says that they were, by a head.
+	answered bool
+}
+
+// errCommand: the program gives a command that can't be carried out here.
+var errCommand = errors.New("sequencer: no command of this node")
+
+// goOn asks what comes behind what came.
+func (s *Sequencer) goOn(ctx context.Context, t *turn, told decider.Told) (err error) {
+	if t.command, err = s.config.Decider.Next(ctx, t.command, told); err != nil {
+		return fmt.Errorf("sequencer: %w", err)
+	}
+	return nil
+}
+
+// carryOut carries the turn's command out, and asks what comes behind it. It says no where the round is to end there.
+func (s *Sequencer) carryOut(ctx context.Context, t *turn) (bool, error) {
+	carry := map[string]func(context.Context, *turn) (decider.Told, error){
+		decider.Look: s.doLook, decider.Stage: s.doStage, decider.Swap: s.doSwap, decider.Promise: s.doAnswer, decider.Put: s.doPut,
+		decider.Place: s.doPlace, decider.Head: s.doHead, decider.Answer: s.doAnswer, decider.Delete: s.doDelete,
+	}[t.command.Do]
+	if carry == nil {
+		return false, fmt.Errorf("%w: %s", errCommand, t.command.Do)
+	}
+	told, err := carry(ctx, t)
+	if err != nil || told == nil {
+		return false, err
+	}
+	return true, s.goOn(ctx, t, told)
+}
+
+// reach gets to where a step may be made from a state: where it isn't rolled out, its own node does that, or this one. It gives no turn where the next
+// round is to look again.
+func (s *Sequencer) reach(ctx context.Context, k known) (*turn, error) {
+	t := &turn{k: k, command: k.look}
+	for t.command.Do != decider.Step {
+		if t.command.Do == decider.Read {
+			// It was rolled out here: what was read may be as old as may be.
+			t.command = k.look
+		}
+		if goes, err := s.carryOut(ctx, t); !goes || err != nil {
+			return nil, err
+		}
+	}
+	if t.command.Seen.Text != k.text {
+		return nil, fmt.Errorf("%w: a step from another text", errCommand)
+	}
+	s.mu.Lock()
+	s.stepping = t.command
+	s.mu.Unlock()
+	return t, nil
+}
+
+// nameIn names an object in commands: by its name, and the digest of its content.
+func nameIn(object step.Object) string {
+	digest := sha256.Sum256(object.Content)
+	return object.Name + " " + hex.EncodeToString(digest[:])
+}
+
+// keep takes a step's objects, and gives what they are named by.
+func (t *turn) keep(objects []step.Object) []string {
+	names := make([]string, len(objects))
+	t.contents = map[string][]byte{}
+	for i, object := range objects {
+		names[i] = nameIn(object)
+		t.contents[names[i]] = object.Content
+	}
+	return names
+}
+
+// objects are those that the command is about.
+func (t *turn) objects() ([]step.Object, error) {
+	objects := make([]step.Object, len(t.command.Objects))
+	for i, name := range t.command.Objects {
+		content, ok := t.contents[name]
+		if !ok || len(name) < hex.EncodedLen(sha256.Size)+1 {
+			return nil, fmt.Errorf("%w: %s %.200q, which isn't there", errCommand, t.command.Do, name)
+		}
+		objects[i] = step.Object{Name: name[:len(name)-hex.EncodedLen(sha256.Size)-1], Content: content}
+	}
+	return objects, nil
+}
+
+// fresh are all objects that the turn has.
+func (t *turn) fresh() fresh {
+	f := fresh{}
+	for name, content := range t.contents {
+		f[name[:len(name)-hex.EncodedLen(sha256.Size)-1]] = content
+	}
+	return f
+}
+
+// isOf says that the command is about the turn's state.
+func (t *turn) isOf() error {
+	if t.command.New.Text != t.k.text {
+		return fmt.Errorf("%w: %s of another text", errCommand, t.command.Do)
+	}
+	return nil
+}
+
+// doLook looks whether the head stands of the state that was read. Where it doesn't for a while, its bundle is read.
+func (s *Sequencer) doLook(ctx context.Context, t *turn) (decider.Told, error) {
+	if !s.mustLook() {
+		return decider.Published(), nil
+	}
+	done, err := s.isRolledOut(ctx, t.k)
+	if err != nil {
+		return nil, err
+	}
+	if done {
+		return decider.Published(), nil
+	}
+	if waits, err := s.waitsFor(ctx, t.k); waits || err != nil {
+		return nil, err
+	}
+	s.phase("helping")
+	resumed, err := s.resume(ctx, t.k)
+	if errors.Is(err, errNoBundle) {
+		if newest, learned := s.learn(ctx); learned != nil || newest.text != t.k.text {
+			// It was rolled out, and the state is past.
+			return nil, learned
+		}
+	}
+	if err != nil {
+		return nil, err
+	}
+	if t.placed, err = placesIn(resumed.Objects); err != nil {
+		return nil, err
+	}
+	if err := s.believe(ctx, t.k, freshOf(resumed.Objects)); err != nil {
+		return nil, err
+	}
+	s.helped.Add(1)
+	t.head = resumed.Head
+	return decider.Bundled(t.keep(resumed.Objects)), nil
+}
+
+// saltOf is a number of chance.
+func saltOf() (uint64, error) {
+	var salt [8]byte
+	if _, err := rand.Read(salt[:]); err != nil {
+		return 0, fmt.Errorf("sequencer: %w", err)
+	}
+	return binary.BigEndian.Uint64(salt[:]), nil
+}
+
+// doStep has a step made of who waits.
+func (s *Sequencer) doStep(ctx context.Context, t *turn, batch []*waiting) error {
+	t.groups = group(batch)
+	submissions := make([]step.Submission, 0, len(t.groups))
+	for _, g := range t.groups {
+		submissions = append(submissions, g[0].submission)
+	}
+	var at moment
+	var err error
+	if at.now, at.most, err = s.clock.moment(t.k.state.Moment, s.another(t.k)); err != nil {
+		return err
+	}
+	stepped, edge, err := s.step(ctx, t.k, submissions, at)
+	if err != nil {
+		return err
+	}
+	objects, err := step.Objects(stepped.Bundle)
+	if err != nil {
+		return fmt.Errorf("sequencer: %w", err)
+	}
+	salt, err := saltOf()
+	if err != nil {
+		return err
+	}
+	for i, g := range t.groups {
+		t.placed.addStepped(g[0], stepped.Receipts[i])
+	}
+	t.bundle, t.head, t.receipts, t.edge = stepped.Bundle, stepped.Head, stepped.Receipts, edge
+	s.phase("stepped")
+	told := decider.Stepped(stepped.Line, s.config.where(), salt, t.keep(objects))
+	if err := s.goOn(ctx, t, told); err != nil {
+		return err
+	}
+	if t.command.Do != decider.Stage {
+		return fmt.Errorf("%w: %s behind a step", errCommand, t.command.Do)
+	}
+	return nil
+}
+
+// doStage keeps what a step writes, before the register decides on it.
+func (s *Sequencer) doStage(ctx context.Context, t *turn) (decider.Told, error) {
+	// (what is in the bundle is put once more, as objects)
+	s.written = 2 * len(t.bundle)
+	s.putBytes.Add(uint64(s.written))
+	if err := s.putBundle(ctx, t); err != nil {
+		return nil, fmt.Errorf("sequencer: %w", err)
+	}
+	s.phase("bundle put")
+	return decider.Done(), nil
+}
+
+// doSwap has the register decide on a step.
+func (s *Sequencer) doSwap(ctx context.Context, t *turn) (decider.Told, error) {
+	if t.command.Seen.Text != t.k.text {
+		return nil, fmt.Errorf("%w: a swap from another text", errCommand)
+	}
+	won, err := s.swap(ctx, t.command.Seen.Text, t.command.New.Text)
+	if err != nil {
+		return nil, err
+	}
+	s.wrote = true
+	if !won {
+		s.lost.Add(1)
+		s.unneeded = append(s.unneeded, t.command.New.Bundle)
+		return decider.Lost(), nil
+	}
+	s.unneeded = append(s.unneeded, t.command.Seen.Bundle)
+	s.steps.Add(1)
+	s.phase("swapped")
+	objects, err := t.objects()
+	if err != nil {
+		return nil, err
+	}
+	s.keepEdge(t.edge, objects)
+	if t.k, err = s.learn(ctx); err != nil {
+		return nil, err
+	}
+	if t.k.text != t.command.New.Text {
+		// Another node was quick enough to roll it out and to go on. Who waits here is answered as a repeat.
+		return nil, nil
+	}
+	if err := s.believe(ctx, t.k, t.fresh()); err != nil {
+		return nil, err
+	}
+	if s.config.BehindSwap {
+		return decider.Promised(), nil
+	}
+	return decider.Done(), nil
+}
+
+// doPut puts a state's objects under their public names.
+func (s *Sequencer) doPut(ctx context.Context, t *turn) (decider.Told, error) {
+	if s.skips(t) {
+		return decider.Done(), nil
+	}
+	objects, err := t.objects()
+	if err == nil {
+		err = t.isOf()
+	}
+	if err == nil {
+		err = s.putAll(ctx, objects)
+	}
+	if err != nil {
+		return nil, err
+	}
+	s.phase("tiles out")
+	return decider.Done(), nil
+}
+
+// doPlace adds the places of a state's entries.
+func (s *Sequencer) doPlace(ctx context.Context, t *turn) (decider.Told, error) {
+	if s.skips(t) {
+		return decider.Done(), nil
+	}
+	if err := t.isOf(); err != nil {
+		return nil, err
+	}
+	if err := addPlaces(ctx, s.config.Places, t.placed.identities); err != nil {
+		return nil, err
+	}
+	if err := addPlaces(ctx, s.config.Places.Leaves(), t.placed.leaves); err != nil {
+		return nil, err
+	}
+	if len(t.placed.wrong) > 0 {
+		if err := s.config.Places.Replace(ctx, t.placed.wrong); err != nil {
+			return nil, fmt.Errorf("sequencer: %w", err)
+		}
+	}
+	s.phase("places added")
+	return decider.Done(), nil
+}
+
+// doHead has a state's head signed, puts it, and says that it is published.
+func (s *Sequencer) doHead(ctx context.Context, t *turn) (decider.Told, error) {
+	if s.skips(t) {
+		return decider.Done(), nil
+	}
+	if err := t.isOf(); err != nil {
+		return nil, err
+	}
+	published, err := s.putHead(ctx, t.k.state, t.head, t.fresh())
+	if err != nil {
+		return nil, err
+	}
+	s.phase("head out")
+	if err := s.raise(ctx, stores.Published{}, published); err != nil {
+		return nil, err
+	}
+	s.phase("published")
+	s.rolled = t.k.line
+	return decider.Done(), nil
+}
+
+// doAnswer answers who waits for a step.
+func (s *Sequencer) doAnswer(ctx context.Context, t *turn) (decider.Told, error) {
+	if len(t.groups) == 0 || s.skips(t) {
+		return decider.Done(), nil
+	}
+	if err := t.isOf(); err != nil {
+		return nil, err
+	}
+	if err := s.answer(ctx, t.groups, t.receipts, t.fresh()); err != nil {
+		return nil, err
+	}
+	if t.command.Do == decider.Answer {
+		t.answered = true
+		s.phase("answered")
+	}
+	return decider.Done(), nil
+}
+
+// doDelete deletes a bundle that isn't needed any more. Where it stays, it is swept.
+func (s *Sequencer) doDelete(ctx context.Context, t *turn) (decider.Told, error) {
+	err := s.config.Objects.Delete(ctx, t.command.Bundle)
+	s.failed("a bundle isn't deleted", err)
+	if err != nil {
+		return decider.Lost(), nil
+	}
+	return decider.Done(), nil
+}
+
+// advance takes who waits one step further from where one may be made, and has that decided and published.
+func (s *Sequencer) advance(ctx context.Context, t *turn, batch []*waiting) error {
+	if err := s.doStep(ctx, t, batch); err != nil {
+		return err
+	}
+	for t.command.Do != decider.Read {
+		if goes, err := s.carryOut(ctx, t); !goes || err != nil {
+			return err
+		}
+	}
+	if !t.answered {
+		return nil
+	}
+	// (it is published, and so may be stepped from: what is behind it goes)
+	t, err := s.reach(ctx, t.k)
+	if t == nil || err != nil {
+		return err
+	}
+	return s.deleteUnneeded(ctx, t)
+}
+
+// deleteUnneeded has the bundles deleted that this node knows of and that the program says are of no use any more, where a step may be made.
+func (s *Sequencer) deleteUnneeded(ctx context.Context, t *turn) error {
+	for _, name := range s.unneeded {
+		if err := s.goOn(ctx, t, decider.Listed(name)); err != nil {
+			return err
+		}
+		if t.command.Do == decider.Step {
+			continue
+		}
+		if _, err := s.carryOut(ctx, t); err != nil {
+			return err
+		}
+	}
+	s.unneeded = nil
+	return nil
+}

@@ -1,0 +1,114 @@
+package sequencer
+
+import (
+	"context"
+	"errors"
+	"fmt"
+	"os"
+	"path/filepath"
+	"strings"
+	"testing"
+	"time"
+
+	"wagtenib/service/decider"
+)
+
+// lying is a program that decides, and says something else where a command is DO.
+const lying = `
+import json, sys
+sys.path.insert(0, %q)
+from ctnode import reply
+from explore import Machine
+
+machine = Machine()
+for line in sys.stdin.buffer:
+    given = reply(line.rstrip(b"\n"), machine)
+    node = given.get("node", {})
+    if node.get("do") == %q:
+        other = lambda it: it.update(text=it["text"][:-2] + ("1" if it["text"][-2] == "0" else "0") + "\n")
+        %s
+    print(json.dumps(given), flush=True)
+`
+
+// liar is a client of it.
+func liar(t *testing.T, do, lie string) *decider.Client {
+	t.Helper()
+	// (the tests' folder is found by a link)
+	here, err := filepath.EvalSymlinks(os.Getenv("PWD"))
+	must(t, err)
+	folder := filepath.Join(here, filepath.Dir(deciderFile))
+	path := filepath.Join(t.TempDir(), "liar.py")
+	must(t, os.WriteFile(path, []byte(fmt.Sprintf(lying, folder, do, lie)), 0o600))
+	c, err := decider.NewClient([]string{"python3", path}, longest)
+	must(t, err)
+	t.Cleanup(func() { c.Close() })
+	return c
+}
+
+// TestLyingDecider: a command that isn't of what this node has isn't carried out, and is told to who waits. Behind a right one all goes on.
+func TestLyingDecider(t *testing.T) {
+	t.Parallel()
+	for what, lie := range map[string][3]string{
+		"a text that was read is of another size": {decider.Look, `node["seen"]["size"] += 1`, "behind a text that was read"},
+		"another text is looked at":               {decider.Look, `other(node["seen"])`, "behind a text that was read"},
+		"a step from another text":                {decider.Step, `other(node["seen"])`, "a step from another text"},
+		"no stage behind a step":                  {decider.Stage, `node["do"] = "swap"`, "swap behind a step"},
+		"a swap from another text":                {decider.Swap, `other(node["seen"])`, "a swap from another text"},
+		"an object that isn't the step's":         {decider.Put, `node["objects"][0] = "tile/0/999 " + "0" * 64`, "which isn't there"},
+		"objects are put of another text":         {decider.Put, `other(node["new"])`, "put of another text"},
+		"places of another text":                  {decider.Place, `other(node["new"])`, "place of another text"},
+		"a head of another text":                  {decider.Head, `other(node["new"])`, "head of another text"},
+		"a command that there isn't":              {decider.Put, `node["do"] = "dance"`, "not a reply"},
+	} {
+		what, lie := what, lie
+		t.Run(what, func(t *testing.T) {
+			t.Parallel()
+			p, ctx, got := newPlace(t), limited(t), &answers{}
+			config := p.config(t)
+			right := config.Decider
+			config.Decider, config.Patience = liar(t, lie[0], lie[1]), 200*time.Millisecond
+			s, err := New(ctx, config)
+			if err == nil {
+				brief, cancel := context.WithTimeout(ctx, longest)
+				_, err = s.Submit(brief, entryOf(1))
+				cancel()
+				ended(t, s)
+			}
+			if !errors.Is(err, errCommand) && !errors.Is(err, decider.ErrReply) || !strings.Contains(err.Error(), lie[2]) {
+				t.Fatal(err)
+			}
+			config.Decider = right
+			s = started(t, config, hooks{})
+			must(t, got.submitAll(ctx, s, 0, 5, 5))
+			p.right(t, got)
+		})
+	}
+}
+
+// TestDeciderThatIsGone: a program that doesn't start keeps a node from starting, and one that ends is started again.
+func TestDeciderThatIsGone(t *testing.T) {
+	t.Parallel()
+	p, ctx, got := newPlace(t), limited(t), &answers{}
+	config := p.config(t)
+	right := config.Decider
+	gone, err := decider.NewClient([]string{"/nowhere"}, longest)
+	must(t, err)
+	config.Decider = gone
+	if _, err := New(ctx, config); !errors.Is(err, decider.ErrGone) {
+		t.Error(err)
+	}
+	config.Decider = nil
+	if _, err := New(ctx, config); !errors.Is(err, ErrConfig) {
+		t.Error(err)
+	}
+	config.Decider = right
+	s := started(t, config, hooks{})
+	for number := 0; number < 20; number += 5 {
+		must(t, got.submitAll(ctx, s, number, number+5, 5))
+		right.Close()
+	}
+	if f := s.Figures(); f.DeciderStarts < 2 {
+		t.Errorf("it was started %d times", f.DeciderStarts)
+	}
+	p.right(t, got)
+}
