@@ -178,8 +178,13 @@ def written(path, content):
 def note_of(watched, size, root):
     """The newest checkpoint of this head as it came."""
     text = f"\n{size}\n{base64.b64encode(root).decode()}\n\n".encode()
-    notes = re.findall(rb"[^\n]+\n[0-9]+\n[A-Za-z0-9+/=]+\n\n(?:\xe2\x80\x94[^\n]*\n)+", (watched / "heads").read_bytes()) if (watched / "heads").exists() else []
-    return next((note for note in notes[::-1] if text in note), None)
+    # (a file of heads may have been turned over)
+    for path in (watched / "heads", watched / "heads.1"):
+        if path.exists():
+            for note in re.findall(rb"[^\n]+\n[0-9]+\n[A-Za-z0-9+/=]+\n\n(?:\xe2\x80\x94[^\n]*\n)+", path.read_bytes())[::-1]:
+                if text in note:
+                    return note
+    return None
 
 
 def cosign(address, watched, witness):

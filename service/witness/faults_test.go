@@ -329,7 +329,7 @@ func TestAsked(t *testing.T) {
 	defer c.Close()
 	var mu sync.Mutex
 	var asked []uint64
-	instead := []string{}
+	var instead []string
 	s.before.Store(before(func(w http.ResponseWriter, q *http.Request) bool {
 		body, err := io.ReadAll(q.Body)
 		if err != nil {
@@ -353,25 +353,33 @@ func TestAsked(t *testing.T) {
 	}))
 	cosigns := func(n int64, want error, from ...uint64) {
 		t.Helper()
-		asked = nil
 		signed, size, proof := a.head(t, n)
-		if _, err := c.Cosign(limited(t), signed, size, proof); !errors.Is(err, want) {
+		_, err := c.Cosign(limited(t), signed, size, proof)
+		mu.Lock()
+		defer mu.Unlock()
+		if !errors.Is(err, want) {
 			t.Errorf("%d entries: %v, and not %v", n, err, want)
 		}
 		if fmt.Sprint(asked) != fmt.Sprint(from) {
 			t.Errorf("%d entries: it is asked from %d, and not %d", n, asked, from)
 		}
+		asked = nil
+	}
+	says := func(sizes ...string) {
+		mu.Lock()
+		instead = sizes
+		mu.Unlock()
 	}
 	cosigns(2, nil, 0)
 	cosigns(3, nil, 2)
 	cosigns(4, nil, 3)
 	cosigns(4, nil, 4)
 	cosigns(3, ErrBehind, 3)
-	instead = []string{"1\n"}
+	says("1\n")
 	cosigns(5, nil, 4, 1, 4)
-	instead = []string{"1\n", "2\n", "3\n"}
+	says("1\n", "2\n", "3\n")
 	cosigns(6, ErrFew, 5, 1, 2)
-	instead = []string{"7\n"}
+	says("7\n")
 	cosigns(6, ErrBehind, 5)
 	if one := c.standing(s.Name); !one.SeenMore || one.Missed != 2 {
 		t.Errorf("%+v", one)

@@ -754,6 +754,7 @@ def try_cosign(watch, folder):
         if w.last != (size, answers.merkle.root(MANY[:size])) or w.asked[:1] != [0] or len(w.asked) != 2:
             fail(f"the witness was asked from {w.asked}, and has {w.last}")
     kept.unlink()
+    watch.path(log, "heads").rename(watch.path(log, "heads.1"))
     watch.ends("a cosignature that was lost", 0, log.url, "--cosign", w.word, says=f"{len(MANY)} leaves are cosigned")
     due = kept.read_text()
     for what, status, instead, says in [
