@@ -113,6 +113,9 @@ END_OF_CONF
   "$programs/ctwitness-serve" --config "$name.conf" --verifier-key >>"$folder/witnesses"
 }
 
+# last_of NUMBER: the size and the root of the tree that a witness cosigned last.
+last_of() { cat "$folder/witness-$1"/*/text | sed -n 's/^.*"last_root":"\([^"]*\)","last_size":\([0-9]*\),.*$/\2 \1/p'; }
+
 # judge: says who cosigned the last head that is published, and which trees the witnesses cosigned last. It fails where fewer than the half and one of them
 # cosigned it, or stand at it, or one stands elsewhere at its size or above it.
 judge() {
@@ -121,7 +124,7 @@ judge() {
   "$here/../examples/monitor/cosignatures.sh" "$folder/witnesses" "$due" <"$head" || status=1
   size=$(sed -n 2p "$head") root=$(sed -n 3p "$head")
   for i in $(witnesses); do
-    last=$(cat "$folder/witness-$i"/*/text | sed -n 's/^.*"last_root":"\([^"]*\)","last_size":\([0-9]*\),.*$/\2 \1/p')
+    last=$(last_of "$i")
     echo "witness-$i cosigned ${last% *} entries last"
     if [ "$last" = "$size $root" ]; then
       at=$((at + 1))
@@ -207,12 +210,16 @@ is_there() {
 
 # each NAME..: a line for each process.
 status() {
-  local name state names
+  local name state names said
   is_there
   for name in $(nodes | sed 's/^/node-/') $(witnesses | sed 's/^/witness-/') signer loader reader; do
     state=gone
     ! process "$name" >/dev/null || state=runs
-    echo "$name $state: $(tail -n 1 "$folder/$name.log" 2>/dev/null)"
+    case $name in
+      witness-*) said="cosigned $(last_of "${name#witness-}" | cut -d ' ' -f 1) entries last" ;;
+      *) said=$(tail -n 1 "$folder/$name.log" 2>/dev/null) || said= ;;
+    esac
+    echo "$name $state: $said"
   done
   mapfile -t names <"$folder/engines/names"
   for name in "${names[@]}"; do
@@ -227,8 +234,13 @@ stop() {
   is_there
   for name in loader reader; do end "$name"; done
   rm -f "$folder/checkpoint"
-  for i in $(nodes); do
-    curl -sf -o "$folder/checkpoint.new" "http://$(sed -n 's/^listen *//p' "$folder/node-$i.conf")/checkpoint" && mv "$folder/checkpoint.new" "$folder/checkpoint" && break
+  # (what was submitted last may still come into a head: it is the last one once nothing more is cosigned than is published)
+  for _ in $(seq 100); do
+    for i in $(nodes); do
+      curl -sf -o "$folder/checkpoint.new" "http://$(sed -n 's/^listen *//p' "$folder/node-$i.conf")/checkpoint" && mv "$folder/checkpoint.new" "$folder/checkpoint" && break
+    done
+    if [ ! -s "$folder/witnesses" ] || [ ! -e "$folder/checkpoint" ] || judge >/dev/null 2>&1; then break; fi
+    sleep 0.5
   done
   for name in $(nodes | sed 's/^/node-/') signer $(witnesses | sed 's/^/witness-/'); do end "$name"; done
   [ ! -s "$folder/witnesses" ] || [ ! -e "$folder/checkpoint" ] || judge || status=1

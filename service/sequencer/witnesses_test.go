@@ -489,6 +489,31 @@ func TestProofs(t *testing.T) {
 	}
 }
 
+// TestProofsOfARound: what a round has in hand isn't read.
+func TestProofsOfARound(t *testing.T) {
+	t.Parallel()
+	p, ctx, got := newPlace(t), limited(t), &answers{}
+	config := p.config(t)
+	objects := &counted{Objects: config.Objects}
+	config.Objects = objects
+	s := started(t, config, hooks{})
+	must(t, got.submitAll(ctx, s, 0, 300, 300))
+	must(t, s.End(ctx))
+	tile, err := os.ReadFile(filepath.Join(p.objects(), "tile/0/000"))
+	must(t, err)
+	before := objects.gets.Load()
+	in, err := s.proofsTo(s.newestKnown().state, fresh{"tile/0/000": tile})(ctx, 1)
+	must(t, err)
+	if objects.gets.Load() != before {
+		t.Error("what is in hand is read")
+	}
+	out, err := s.proofsTo(s.newestKnown().state, nil)(ctx, 1)
+	must(t, err)
+	if fmt.Sprint(in) != fmt.Sprint(out) || objects.gets.Load() == before {
+		t.Errorf("%x, and out of the store %x", in, out)
+	}
+}
+
 // readerOf has the hashes of a place's log, by its data tiles alone.
 func readerOf(t testing.TB, p place, size int) tlog.HashReader {
 	t.Helper()
