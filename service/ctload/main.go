@@ -33,6 +33,7 @@ type load struct {
 	nodes     []string
 	authority *standin.Authority
 	ends      time.Time
+	most      int
 	repeats   int
 	client    *http.Client
 	answers   *json.Encoder
@@ -80,6 +81,7 @@ func run() error {
 	clients := flag.Int("clients", 8, "submissions at once")
 	rate := flag.Float64("rate", 0, "submissions a second, altogether; as fast as they are answered where it is 0")
 	long := flag.Duration("for", 0, "for how long; until a signal where it is 0")
+	most := flag.Int("most", 0, "end once so many were answered, and those that wait are, too; 0 is no end")
 	repeats := flag.Int("repeats", 5, "of 100 submissions so many are sent again")
 	tell := flag.Duration("tell", time.Minute, "how far two lines with figures are apart")
 	flag.Parse()
@@ -109,7 +111,7 @@ func run() error {
 		return err
 	}
 	defer file.Close()
-	l := &load{nodes: strings.Split(*nodes, ","), authority: authority, ends: ends, repeats: *repeats, answers: json.NewEncoder(file), again: map[string]int{},
+	l := &load{nodes: strings.Split(*nodes, ","), authority: authority, ends: ends, most: *most, repeats: *repeats, answers: json.NewEncoder(file), again: map[string]int{},
 		client: &http.Client{Timeout: answersWithin, Transport: &http.Transport{MaxIdleConnsPerHost: *clients}}}
 	ctx, stop := signal.NotifyContext(context.Background(), syscall.SIGTERM, syscall.SIGINT)
 	defer stop()
@@ -195,7 +197,7 @@ func (l *load) all(ctx context.Context, clients int, tell time.Duration) error {
 // one is a client: it submits one after the other.
 func (l *load) one(ctx context.Context, number int) error {
 	chance := rand.New(rand.NewSource(time.Now().UnixNano() + int64(number)))
-	for ctx.Err() == nil {
+	for ctx.Err() == nil && !l.isDone() {
 		if l.pace != nil {
 			select {
 			case <-l.pace:
@@ -217,6 +219,13 @@ func (l *load) one(ctx context.Context, number int) error {
 		}
 	}
 	return nil
+}
+
+// isDone says whether as many were answered as it was to submit.
+func (l *load) isDone() bool {
+	l.mu.Lock()
+	defer l.mu.Unlock()
+	return l.most > 0 && l.count >= l.most
 }
 
 // next is a new submission, a precertificate's of three, or one that was answered before.

@@ -45,7 +45,7 @@ LOG, SITE = "http://127.0.0.1:8618", f"https://{HOST}"
 WITHIN = 900
 MADE = "# Ctrl-C once it says serving"
 # The programs that stand in where one isn't built: Python's, of tests/.
-MODELS = {"cttile": "tiles/step.py", "ctproof": "tiles/step.py", "ctnode": "node/ctnode.py", "ctguard": "guard/model.py", "ctwitness": "witness/model.py", "ctlog": "expected.py", "ctlogd": "expected.py", "ctmonitor": "../examples/monitor/stand_in.py"}
+MODELS = {"cttile": "tiles/step.py", "ctproof": "tiles/step.py", "ctnode": "node/ctnode.py", "ctguard": "guard/model.py", "ctnode": "node/ctnode.py", "ctwitness": "witness/model.py", "ctlog": "expected.py", "ctlogd": "expected.py", "ctmonitor": "../examples/monitor/stand_in.py"}
 NEW_NETWORK = 0x40000000
 
 
@@ -81,6 +81,8 @@ class Releases:
                 shutil.copy(built / name / "out" / name, to)
             else:
                 self.lacking.append(name)
+                if name not in MODELS:
+                    fail(f"{name} isn't built, and no program of tests/ stands in for it")
                 # (a model has no --version, by which ctserve check asks whether a program runs)
                 to.write_text(f'#!/bin/sh\n[ "$*" = --version ] && echo "{name}: a model in Python" && exit\nexec python3 /opt/tests/{MODELS[name]} "$@"\n')
             to.chmod(0o755)
@@ -115,7 +117,7 @@ class Bare:
 
     def make(self, debs, models):
         more = "systemd" + (",python3" if models else "")
-        words = ["mmdebstrap", "--variant=apt", "--quiet", f"--include={more}", "bookworm", self.folder]
+        words = ["mmdebstrap", "--variant=apt", "--quiet", "--dpkgopt=force-unsafe-io", f"--include={more}", "bookworm", self.folder]
         if subprocess.run(words, stdout=subprocess.DEVNULL, preexec_fn=self.network.leave).returncode:
             fail("mmdebstrap makes no Debian")
         for name, text in (("usr/sbin/policy-rc.d", "#!/bin/sh\nexit 101\n"), ("usr/local/sbin/systemctl", (ROOT / "tests/bare/systemctl").read_text())):
@@ -366,7 +368,7 @@ class Trial:
     def put_back(self):
         """The backup, behind which the log went on, is refused by a status of its own; what was there goes on."""
         run = self.bare.run
-        run(f'ctload --roots /etc/ctserve/roots/trial.pem --reload "systemctl reload ctserve@{NAME}" --not-after 2027-03-01 --answers answers --for 1s', quiet=True)
+        run(f'ctload --roots /etc/ctserve/roots/trial.pem --reload "systemctl reload ctserve@{NAME}" --not-after 2027-03-01 --answers answers --most 9', quiet=True)
         size, root = head()
         run(f"systemctl stop ctserve@{NAME} && mv /var/lib/ctserve/{NAME} /var/lib/ctserve/{NAME}.guard /root && cp -a /root/backup/{NAME} /root/backup/{NAME}.guard /var/lib/ctserve")
         said = run(f"systemctl start ctserve@{NAME}", status=3)
@@ -405,7 +407,6 @@ def main():
         if releases.lacking:
             print(f"In place of {', '.join(releases.lacking)}, which {'is' if len(releases.lacking) == 1 else 'are'}n't built here, programs in Python stand.", flush=True)
         debs = releases.make(work / "first")
-        lintian(debs)
         bare.make(debs + releases.make(work / "second", "0.1.1"), releases.lacking)
         trial = Trial(bare)
         trial.run(own)
@@ -415,6 +416,7 @@ def main():
         trial.all_seen()
         trial.put_back()
         trial.judge()
+        lintian(debs)
         print(f"bare.py: {len(lines)} lines, {len(own)} of them of {PAGE.name}, as typed: the log serves through nginx to certspotter, tlog and curl, is watched by Prometheus, reloads,"
               " is backed up, put back where that may be, and upgraded.")
     finally:

@@ -48,7 +48,7 @@ class Tool:
 def base(tool, work, more):
     """Debian's base of Debian's own packages, as an image."""
     tree = work / "base.tar"
-    run("mmdebstrap", "--variant=minbase", "--quiet", f"--include={more}", "bookworm", tree)
+    run("mmdebstrap", "--variant=minbase", "--quiet", "--dpkgopt=force-unsafe-io", f"--include={more}", "bookworm", tree)
     name = tool.buildah("from", "scratch")
     tool.buildah("add", name, tree, "/")
     tool.buildah("commit", "--rm", name, BASE)
