@@ -78,7 +78,7 @@ class Container:
         self.tool, self.at, self.data, self.port = tool, at, data, port
 
     def start(self, *more):
-        words = ["run", "--detach", "--network", "host", "--cgroups", "disabled", "--volume", f"{self.at}:/etc/ctserve:ro", "--volume", f"{self.data}:/var/lib/ctserve", IMAGE, *more]
+        words = ["run", "--detach", "--network", "host", "--cgroups", "disabled", "--ulimit", "host", "--volume", f"{self.at}:/etc/ctserve:ro", "--volume", f"{self.data}:/var/lib/ctserve", IMAGE, *more]
         self.name = self.tool.podman(*words)
         last = time.monotonic() + WITHIN
         while '"event":"serving"' not in self.said():
@@ -123,7 +123,7 @@ def trial(tool, work, given):
     port = free_port()
     at, data = settings(work, port), work / "data"
     data.mkdir()
-    number = tool.podman("run", "--rm", "--network", "host", "--cgroups", "disabled", "--entrypoint", "id", IMAGE, "-u")
+    number = tool.podman("run", "--rm", "--network", "host", "--cgroups", "disabled", "--ulimit", "host", "--entrypoint", "id", IMAGE, "-u")
     for path in (data, at / "log.key"):
         os.chown(path, int(number), -1)
     log = Container(tool, at, data, port)
