@@ -322,6 +322,10 @@ type counting struct {
 
 func (c *counting) Start(ctx context.Context, signed []byte, size uint64, proof witness.Proof) error {
 	c.starts.Add(1)
+	// (others' lines are no matter of a witness)
+	if n := strings.Count(string(signed), "\n— "); n != 1 {
+		return fmt.Errorf("it is shown %d lines of signatures", n)
+	}
 	if c.fails.Load() {
 		return fmt.Errorf("%w: tried", witness.ErrFew)
 	}
