@@ -77,10 +77,13 @@ func TestAccepted(t *testing.T) {
 	asks("a fork of the accepted", request(3, other.proof(t, 3, 5), signed(other, 5)), 503, "unread\n", "fork")
 	asks("from another size", request(2, one.proof(t, 2, 5), signed(one, 5)), 409, "3\n", "")
 	asks("without a proof", request(3, nil, signed(one, 5)), 422, "inconsistent ", "")
+	must(t, os.WriteFile(state, []byte(accepting(4, one.root(t, 5))), 0o600))
+	asks("another size with the accepted root", request(3, one.proof(t, 3, 5), signed(one, 5)), 503, "unread\n", "")
+	accept(5, one)
 	asks("the accepted, with its proof", request(3, one.proof(t, 3, 5), signed(one, 5)), 200, "— w.example ", "")
 	w := httptest.NewRecorder()
 	s.Operator().ServeHTTP(w, httptest.NewRequest("GET", "/metrics", nil))
-	if line := `ctwitness_refusals_total{origin="` + origin + `",refused="unread"} 5` + "\n"; !strings.Contains(w.Body.String(), line) {
+	if line := `ctwitness_refusals_total{origin="` + origin + `",refused="unread"} 6` + "\n"; !strings.Contains(w.Body.String(), line) {
 		t.Errorf("no %s", line)
 	}
 }
