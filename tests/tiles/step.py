@@ -5,7 +5,7 @@ slow and proved nowhere.
     step.py [--origin TEXT] < lines > replies
 
 A request is told apart by its keys: begin (a moment); needs (a state's line); batch, edge, now and state, most_ahead beside them or not; bundle and
-resume (a state's line); claim, path, state and submission; and those of a reader of the log's tiles, which reading.py lists. Each reply is handed on before the next line is read, and nothing is
+resume (a state's line); claim, path, state and submission; and those of a reader of the log, which reading.py and promises.py list. Each reply is handed on before the next line is read, and nothing is
 kept between lines. TEXT is the log's origin in checkpoints (C2SP tlog-checkpoint).
 
 It ends with status 0; 1 where memory was refused, or reading or writing failed; 2 for its command line; 4 where a line was no request.
@@ -22,7 +22,8 @@ sys.path.append(str(pathlib.Path(__file__).resolve().parent.parent))
 from expected import digest, mth, name  # noqa: E402
 from json_lines import is_bytes, is_hash, is_list_of, is_number, json_line, json_of, lines_of, text  # noqa: E402
 from leaves import Submission, signed_bytes, tile_leaf, vector  # noqa: E402
-from merkle import includes  # noqa: E402
+from merkle import fault_of_path, includes  # noqa: E402
+from promises import Unfit, entry_of as entry_of_precertificate, leaf_of as leaf_of_promise  # noqa: E402
 from reading import BadTile, Tree, path_tiles, proof_tiles, root_tiles  # noqa: E402
 from states import State, state_of, written  # noqa: E402
 
@@ -326,6 +327,29 @@ def root(size, contents, origin):
     return {"sha256_root_hash": text(tree_of(size, root_tiles(size), contents).root(0, size))}
 
 
+def promised(certificate, issuer, moment, extensions):
+    right(len(base64.b64decode(extensions)) < 1 << 16)
+    return leaf_of_promise(base64.b64decode(certificate), base64.b64decode(issuer), moment, base64.b64decode(extensions))
+
+
+def stands(certificate, issuer, moment, extensions, index, size, path, root, origin):
+    """Whether the leaf that a timestamp within a certificate stands for stands in a tree."""
+    leaf = promised(certificate, issuer, moment, extensions)
+    fault = fault_of_path(leaf, index, size, list(map(base64.b64decode, path)), base64.b64decode(root))
+    return {"fault": fault, "refused": "not-there"} if fault else {"stands": True}
+
+
+def leaf_of(certificate, issuer, moment, extensions, origin):
+    return {"leaf_input": text(promised(certificate, issuer, moment, extensions))}
+
+
+def precertificate(tbs, origin):
+    return {"tbs_certificate": text(entry_of_precertificate(base64.b64decode(tbs)))}
+
+
+PROMISE = {"issuer": is_bytes, "timestamp": is_number, "extensions": is_bytes}
+STANDING = {"leaf_index": is_number, "tree_size": is_number, "audit_path": is_list_of(is_hash), "sha256_root_hash": is_hash}
+
 # What each request does, and what has to stand under its keys.
 REQUESTS = (
     (begin, {"begin": is_number}),
@@ -339,6 +363,9 @@ REQUESTS = (
     (proof, {"proof": is_number, "tiles": is_list_of(is_bytes), "tree_size": is_number}),
     (needs_root, {"needs_root": is_number}),
     (root, {"root": is_number, "tiles": is_list_of(is_bytes)}),
+    (stands, {"stands": is_bytes, **PROMISE, **STANDING}),
+    (leaf_of, {"leaf_of": is_bytes, **PROMISE}),
+    (precertificate, {"precertificate": is_bytes}),
 )
 
 
@@ -352,6 +379,8 @@ def reply_to(line, origin):
                 return answer(*(value[key] for key in keys), origin)
     except Refused as refused:
         return {"refused": str(refused)}
+    except Unfit as unfit:
+        return unfit.args[0]
     except BadTile as bad:
         return dict(zip(("refused", "tile"), bad.args))
     except ValueError:

@@ -65,7 +65,7 @@ bytes_before x r h =
 tail_bytes : (a : ℕ) (x : List ℕ) → IsBytes (a ∷ x) → IsBytes x
 tail_bytes a x h i = h (suc i)
 
-content_bytes : (tag : ℕ) (c x : List ℕ) → IsTlv tag c x → IsBytes x → IsBytes c
+pub content_bytes : (tag : ℕ) (c x : List ℕ) → IsTlv tag c x → IsBytes x → IsBytes c
 content_bytes tag c x is h = bytes_behind is.size c (tail_bytes tag (is.size ++ c) (subst IsBytes is.text h))
 
 -- an element in front, what follows it, and that all are bytes

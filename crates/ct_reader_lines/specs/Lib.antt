@@ -4,3 +4,4 @@ pub mod ReaderAnswers
 pub mod ReaderSession
 pub mod ReaderOptions
 pub mod ReaderBroken
+pub mod PromiseWords

@@ -1,20 +1,29 @@
 -- What is replied to what is asked.
-use Rattle.std.specs.Prelude.{◌≡◌, ◌⊎◌, ◌<◌, ◌≤◌, ℕ, List, length, take, Some, None}
+use Rattle.std.specs.Prelude.{◌≡◌, ◌⊎◌, ◌<◌, ◌≤◌, ℕ, List, length, take, Some, None, Err}
 use Rattle.sha2.specs.Sha256.{sha256}
-use Rattle.ct_tree.specs.Tree.{mth, path, proof}
+use Rattle.ct_verify.specs.declared.fault.ProofFault.{ProofFault}
+use Rattle.ct_tree.specs.Tree.{hash_leaf, mth, path, proof}
 use Rattle.ct_verify.specs.ConsistencyEvidence.{IsAcceptedFor, IsBeginning}
 use Rattle.ct_verify.specs.Evidence.{IsAudited}
 use Rattle.ct_verify.specs.InclusionEvidence.{IsAccepted}
 use Rattle.ct_verify.specs.Laws.{SomeCollide}
+use Rattle.ct_verify.specs.Verdict.{RefusesInclusion}
 use Rattle.ct_tile_reader.specs.Needed.{root_tiles, path_tiles, proof_tiles}
 use Rattle.ct_tile_reader.specs.Handed.{handed_fault, AreTilesOf}
 use Rattle.ct_tile_reader.specs.declared.handed.HandedFault.{HandedFault}
 use Rattle.ct_tile_reader.specs.declared.handed.HandedFault.TheVariants.{Missing, BadLength, Memory}
 use Rattle.ct_tile_reader.specs.declared.needed.NeededTile.{NeededTile}
-use Rattle.ct_reader_lines.specs.ReaderAsks.{ReaderAsk, for_tiles, for_hashes, for_no_reading}
-use Rattle.ct_reader_lines.specs.ReaderWords.{ReaderReply, shows_tiles, shows_root, shows_path, shows_proof, refuses_line}
+use Rattle.ct_promise.specs.Promise.{promised_entry_at, promised_at, IsEntryOf, IsPromised, IsPromiseKept, StandsInAll}
+use Rattle.ct_promise.specs.declared.fault.PromiseFault.{PromiseFault}
+use Rattle.ct_promise.specs.declared.fault.PromiseFault.TheVariants as promise
+use Rattle.ct_promise.specs.declared.fault.Unfit.{Unfit}
+use Rattle.ct_promise.specs.declared.fault.Unkept.{Unkept}
+use Rattle.ct_promise.specs.declared.fault.Unkept.TheVariants as kept
+use Rattle.ct_reader_lines.specs.ReaderAsks.{PromiseAsked, StandingAsked, ReaderAsk, for_tiles, for_hashes, for_entry, for_leaf, for_kept, for_no_reading}
+use Rattle.ct_reader_lines.specs.ReaderWords.{ReaderReply, shows_tiles, shows_root, shows_path, shows_proof, shows_entry, shows_leaf, shows_stands, refuses_line}
 use Rattle.ct_reader_lines.specs.declared.answering.Refusal.{Refusal}
-use Rattle.ct_reader_lines.specs.declared.answering.Refusal.TheVariants.{BadLine, MissingTile, BadTile}
+use Rattle.ct_reader_lines.specs.declared.answering.Refusal.TheVariants.{BadLine, MissingTile, BadTile, NotThere}
+use Rattle.ct_reader_lines.specs.declared.answering.Refusal.TheVariants as refused
 use Rattle.ct_reader_lines.specs.declared.request.Reading.{Reading}
 use Rattle.ct_reader_lines.specs.declared.request.Reading.TheVariants.{Root, Path, Proof}
 
@@ -60,12 +69,52 @@ IsHandedReply reading contents reply =
     ⊎ ((fault : HandedFault) × (r : Refusal) × (handed_fault (reading_tiles reading) contents ≡ Some fault) × RefusesHanded fault r
     × (reply ≡ refuses_line r))
 
+-- how documents that give no entry and no leaf are refused; that memory was refused has no reply
+abbrev pub RefusesPromise : PromiseFault → Refusal → Type 0
+RefusesPromise (promise.Unfit u) r = r ≡ refused.Unfit u
+RefusesPromise promise.Memory r = ⊥
+
+-- how a leaf that isn't there is refused; that memory was refused has no reply
+abbrev pub RefusesKept : Unkept → Refusal → Type 0
+RefusesKept (kept.NoLeaf u) r = r ≡ refused.Unfit u
+RefusesKept (kept.NotThere f) r = r ≡ NotThere f
+RefusesKept kept.Memory r = ⊥
+
+-- the extensions of a timestamp have fewer than 2^16 bytes
+abbrev pub IsShortPromise : PromiseAsked → Type 0
+IsShortPromise p = length p.extensions < 65536
+
+-- What is replied to a precertificate's TBSCertificate: its entry, and else why there is none (RFC 6962, section 3.2).
+abbrev pub IsEntryReply : List ℕ → ReaderReply → Type 0
+IsEntryReply tbs reply = ((c : List ℕ) × IsEntryOf tbs c × (reply ≡ shows_entry c))
+    ⊎ ((u : Unfit) × (promised_entry_at tbs ≡ Err u) × (reply ≡ refuses_line (refused.Unfit u)))
+
+-- What is replied to a timestamp within a certificate: the leaf that it stands for, and else why there is none (RFC 6962, section 3.4).
+abbrev pub IsLeafReply : PromiseAsked → ReaderReply → Type 0
+IsLeafReply p reply =
+    ((leaf : List ℕ) × IsPromised p.certificate p.issuer p.timestamp p.extensions leaf × (reply ≡ shows_leaf leaf))
+    ⊎ ((u : Unfit) × (promised_at p.certificate p.issuer p.timestamp p.extensions ≡ Err u) × (reply ≡ refuses_line (refused.Unfit u)))
+
+-- What is replied to where that leaf may stand: that the path leads from it to the root, so that it stands in each list with this root, or two
+-- different strings with one hash are given; or why the path doesn't; or why there is no leaf.
+abbrev pub IsKeptReply : PromiseAsked → StandingAsked → ReaderReply → Type 0
+IsKeptReply p s reply =
+    (IsPromiseKept p.certificate p.issuer p.timestamp p.extensions s.index s.size s.path s.root
+    × StandsInAll p.certificate p.issuer p.timestamp p.extensions s.index s.size s.path s.root × (reply ≡ shows_stands))
+    ⊎ (((leaf : List ℕ) × (f : ProofFault) × IsPromised p.certificate p.issuer p.timestamp p.extensions leaf
+    × RefusesInclusion sha256 (hash_leaf sha256 leaf) s.index s.size s.path s.root f × (reply ≡ refuses_line (NotThere f)))
+    ⊎ ((u : Unfit) × (promised_at p.certificate p.issuer p.timestamp p.extensions ≡ Err u) × (reply ≡ refuses_line (refused.Unfit u))))
+
 -- What is replied to what is asked: to each of these nothing else; and that the line is none, where a tree has no such thing, or there are
--- more contents than tiles.
+-- more contents than tiles, or extensions are too long.
 abbrev pub IsReaderReply : ReaderAsk → ReaderReply → Type 0
 IsReaderReply (for_tiles reading) reply =
     (IsReading reading × (reply ≡ shows_tiles (reading_tiles reading))) ⊎ ((IsReading reading → ⊥) × (reply ≡ refuses_line BadLine))
 IsReaderReply (for_hashes reading contents) reply =
     (MayRead reading (length contents) × IsHandedReply reading contents reply)
     ⊎ ((MayRead reading (length contents) → ⊥) × (reply ≡ refuses_line BadLine))
+IsReaderReply (for_entry tbs) reply = IsEntryReply tbs reply
+IsReaderReply (for_leaf p) reply = (IsShortPromise p × IsLeafReply p reply) ⊎ ((IsShortPromise p → ⊥) × (reply ≡ refuses_line BadLine))
+IsReaderReply (for_kept p s) reply =
+    (IsShortPromise p × IsKeptReply p s reply) ⊎ ((IsShortPromise p → ⊥) × (reply ≡ refuses_line BadLine))
 IsReaderReply for_no_reading reply = reply ≡ refuses_line BadLine

@@ -4,18 +4,20 @@ ghost use Rattle.std.specs.Prelude.{◌≡◌, ◌<◌, All, IfOk};
 ghost use Rattle.std.specs.Bool.{MatchBool};
 ghost use Rattle.ct_tile_reader.specs.Handed.{contents_in};
 ghost use Rattle.ct_tile_reader.specs.Needed.{root_tiles, path_tiles, proof_tiles};
-ghost use Rattle.ct_reader_lines.specs.ReaderAsks.{reader_ask_of, for_tiles, for_hashes};
+ghost use Rattle.ct_reader_lines.specs.ReaderAsks.{reader_ask_of, promise_of, standing_of, for_tiles, for_hashes, for_entry, for_leaf, for_kept};
 ghost use Rattle.ct_reader_lines.specs.ReaderAnswers.{IsReading, MayRead, reading_tiles, IsHandedReply, IsReaderReply};
 ghost use Rattle.ct_reader_lines.specs.ReaderWords.{reader_reply_of, IsHashTile, NamesHashTiles};
 ghost use Rattle.ct_reader_lines.specs.declared.request.Reading.TheVariants.{Root, Path, Proof};
 
-use crate::fault::NotHanded;
-use crate::request::{Reading, Request};
+use crate::fault::{NotHanded, NotKept, NotPromised};
+use crate::request::{Promise, Reading, Request, Standing};
+use ct_promise::{Unfit, check_promise, entry_of_precertificate, promised_leaf};
 use ct_tile_reader::{
     NeededTile, path_of_handed, proof_of_handed, root_of_handed, tiles_for_path, tiles_for_proof,
     tiles_for_root,
 };
 use ct_tree::Sha256Hash;
+use ct_verify::ProofFault;
 use std::alloc::{AllocError, Global};
 
 // Why a line is refused.
@@ -27,6 +29,10 @@ pub enum Refusal {
     MissingTile(NeededTile),
     // The bytes of this tile aren't 32 for each of its hashes.
     BadTile(NeededTile),
+    // The certificate or its issuer's gives no entry and no leaf.
+    Unfit(Unfit),
+    // The audit path doesn't lead from the leaf to the root.
+    NotThere(ProofFault),
 }
 
 // What is answered.
@@ -40,6 +46,12 @@ pub enum Reply {
     Path(Vec<[u8; 32]>),
     // A consistency proof.
     Proof(Vec<[u8; 32]>),
+    // The entry of a precertificate.
+    Entry(Vec<u8>),
+    // The leaf that a timestamp stands for.
+    Leaf(Vec<u8>),
+    // That this leaf stands there.
+    Stands,
     // That the line is refused.
     Refused(Refusal),
 }
@@ -191,6 +203,61 @@ fn hashes_reply(alloc: Global, reading: Reading, contents: &[Vec<u8>]) -> Result
     }
 }
 
+// Answers the request for the entry of a precertificate.
+fn entry_reply(alloc: Global, tbs: &[u8]) -> Result<Reply, AllocError>
+    ensures reply { IfOk result (λ r. IsReaderReply (for_entry tbs.now) (reader_reply_of r)) }
+    ensures named { IfOk result (λ r. NamesHashTiles (reader_reply_of r)) }
+{
+    match entry_of_precertificate(alloc, tbs) {
+        Ok(entry) => Ok(Reply::Entry(entry)),
+        Err(fault) => Ok(Reply::Refused(NotPromised::from(fault).told?)),
+    }
+}
+
+// Answers the request for the leaf that a timestamp stands for.
+fn leaf_reply(alloc: Global, promise: &Promise) -> Result<Reply, AllocError>
+    ensures reply { IfOk result (λ r. IsReaderReply (for_leaf (promise_of promise.now)) (reader_reply_of r)) }
+    ensures named { IfOk result (λ r. NamesHashTiles (reader_reply_of r)) }
+{
+    if promise.extensions.len() >= 65_536 {
+        return Ok(Reply::Refused(Refusal::BadLine));
+    }
+    match promised_leaf(
+        alloc,
+        &promise.certificate,
+        &promise.issuer,
+        promise.timestamp,
+        &promise.extensions,
+    ) {
+        Ok(leaf) => Ok(Reply::Leaf(leaf)),
+        Err(fault) => Ok(Reply::Refused(NotPromised::from(fault).told?)),
+    }
+}
+
+// Answers the request whether that leaf stands there.
+fn kept_reply(alloc: Global, promise: &Promise, standing: &Standing) -> Result<Reply, AllocError>
+    ensures reply { IfOk result (λ r. IsReaderReply (for_kept (promise_of promise.now) (standing_of standing.now)) (reader_reply_of r)) }
+    ensures named { IfOk result (λ r. NamesHashTiles (reader_reply_of r)) }
+{
+    if promise.extensions.len() >= 65_536 {
+        return Ok(Reply::Refused(Refusal::BadLine));
+    }
+    match check_promise(
+        alloc,
+        &promise.certificate,
+        &promise.issuer,
+        promise.timestamp,
+        &promise.extensions,
+        standing.index,
+        standing.size,
+        &standing.path,
+        &standing.root,
+    ) {
+        Ok(()) => Ok(Reply::Stands),
+        Err(unkept) => Ok(Reply::Refused(NotKept::from(unkept).told?)),
+    }
+}
+
 // Answers a request.
 pub(crate) fn answer(alloc: Global, request: &Request) -> Result<Reply, AllocError>
     ensures reply { IfOk result (λ r. IsReaderReply (reader_ask_of request.now) (reader_reply_of r)) }
@@ -199,6 +266,9 @@ pub(crate) fn answer(alloc: Global, request: &Request) -> Result<Reply, AllocErr
     match request {
         Request::Tiles(reading) => tiles_reply(alloc, *reading),
         Request::Hashes(reading, contents) => hashes_reply(alloc, *reading, contents),
+        Request::Entry(tbs) => entry_reply(alloc, tbs),
+        Request::Leaf(promise) => leaf_reply(alloc, promise),
+        Request::Kept(promise, standing) => kept_reply(alloc, promise, standing),
         Request::Other => Ok(Reply::Refused(Refusal::BadLine)),
     }
 }

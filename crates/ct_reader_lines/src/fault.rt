@@ -2,9 +2,12 @@
 
 ghost use Rattle.std.specs.Prelude.{◌≡◌, MatchResult};
 ghost use Rattle.ct_tile_reader.specs.declared.handed.HandedFault.TheVariants.{Memory as HandedMemory};
-ghost use Rattle.ct_reader_lines.specs.ReaderAnswers.{RefusesHanded};
+ghost use Rattle.ct_reader_lines.specs.ReaderAnswers.{RefusesHanded, RefusesPromise, RefusesKept};
+ghost use Rattle.ct_promise.specs.declared.fault.PromiseFault.TheVariants.{Memory as PromiseMemory};
+ghost use Rattle.ct_promise.specs.declared.fault.Unkept.TheVariants.{Memory as KeptMemory};
 
 use crate::answering::Refusal;
+use ct_promise::{PromiseFault, Unkept};
 use ct_tile_reader::HandedFault;
 use std::alloc::AllocError;
 
@@ -24,5 +27,42 @@ impl From<HandedFault> for NotHanded {
             HandedFault::Memory => Err(AllocError),
         };
         NotHanded { told }
+    }
+}
+
+// Of a certificate that gives no entry and no leaf: how it is refused, unless a growth was refused.
+#[derive(Drop)]
+pub(crate) struct NotPromised {
+    pub(crate) told: Result<Refusal, AllocError>,
+}
+
+impl From<PromiseFault> for NotPromised {
+    ghost from_gives = { λ fault n. MatchResult n.told (λ r. RefusesPromise fault r) (λ _. fault ≡ PromiseMemory) };
+
+    fn from(fault: PromiseFault) -> NotPromised {
+        let told = match fault {
+            PromiseFault::Unfit(unfit) => Ok(Refusal::Unfit(unfit)),
+            PromiseFault::Memory => Err(AllocError),
+        };
+        NotPromised { told }
+    }
+}
+
+// Of a leaf that isn't seen to stand somewhere: how it is refused, unless a growth was refused.
+#[derive(Drop)]
+pub(crate) struct NotKept {
+    pub(crate) told: Result<Refusal, AllocError>,
+}
+
+impl From<Unkept> for NotKept {
+    ghost from_gives = { λ unkept n. MatchResult n.told (λ r. RefusesKept unkept r) (λ _. unkept ≡ KeptMemory) };
+
+    fn from(unkept: Unkept) -> NotKept {
+        let told = match unkept {
+            Unkept::NoLeaf(unfit) => Ok(Refusal::Unfit(unfit)),
+            Unkept::NotThere(fault) => Ok(Refusal::NotThere(fault)),
+            Unkept::Memory => Err(AllocError),
+        };
+        NotKept { told }
     }
 }

@@ -6,6 +6,7 @@ ghost use Rattle.ct_reader_lines.specs.ReaderWords.{hash_tile, hash_tile_name, I
 ghost use Rattle.json_lines.specs.Values.{bytes_data, hashes_data};
 
 use crate::answering::{Refusal, Reply};
+use crate::unfit::{path_fault_text, unfit_value};
 use ct_tile_names::{Content, Tile};
 use ct_tile_reader::NeededTile;
 use json_lines::{bytes_value, hashes_value};
@@ -72,6 +73,11 @@ fn refused_value(alloc: Global, refusal: &Refusal) -> Result<Value, AllocError>
         Refusal::BadLine => json!(in alloc; {"refused": "bad-line"}),
         Refusal::MissingTile(tile) => tile_refused_value(alloc, "missing-tile", tile),
         Refusal::BadTile(tile) => tile_refused_value(alloc, "bad-tile", tile),
+        Refusal::Unfit(unfit) => unfit_value(alloc, *unfit),
+        Refusal::NotThere(fault) => {
+            let name = path_fault_text(*fault);
+            json!(in alloc; {"fault": name, "refused": "not-there"})
+        }
     }
 }
 
@@ -84,6 +90,9 @@ fn reply_value(alloc: Global, reply: &Reply) -> Result<Value, AllocError>
         Reply::Root(root) => one_value(alloc, "sha256_root_hash", bytes_value(alloc, root)?),
         Reply::Path(path) => one_value(alloc, "audit_path", hashes_value(alloc, path)?),
         Reply::Proof(proof) => one_value(alloc, "consistency", hashes_value(alloc, proof)?),
+        Reply::Entry(entry) => one_value(alloc, "tbs_certificate", bytes_value(alloc, entry)?),
+        Reply::Leaf(leaf) => one_value(alloc, "leaf_input", bytes_value(alloc, leaf)?),
+        Reply::Stands => json!(in alloc; {"stands": true}),
         Reply::Refused(refusal) => refused_value(alloc, refusal),
     }
 }

@@ -1,0 +1,77 @@
+//! The entry of a precertificate (RFC 6962, section 3.2).
+
+ghost use Rattle.std.specs.Prelude.{◌≡◌, ◌++◌, ℕ, List, Ok, IfOk};
+ghost use Rattle.ct_der.specs.Reading.{Gives};
+ghost use Rattle.ct_tbs_cut.specs.Cuts.{parts_of, IsCutOf};
+ghost use Rattle.ct_tbs_cut.specs.Reading.{parts_cut_at, without};
+ghost use Rattle.ct_promise.specs.Promise.{poison_identifier, poison_text, in_document, promised_entry_at, GivesPromise, IsEntryOf};
+
+use crate::fault::{Document, PromiseFault, Unfit};
+use ct_tbs_cut::{Cut, cut_extension, push_without};
+use std::alloc::Global;
+
+// The contents of the object identifier of the poison, 1.3.6.1.4.1.11129.2.4.3.
+const POISON_IDENTIFIER: [u8; 10] = [43, 6, 1, 4, 1, 214, 121, 2, 4, 3];
+
+// The one form of the poison: its identifier, critical, and NULL in an OCTET STRING.
+const POISON: [u8; 21] = [
+    48, 19, 6, 10, 43, 6, 1, 4, 1, 214, 121, 2, 4, 3, 1, 1, 255, 4, 2, 5, 0,
+];
+
+// The cut of a document's TBSCertificate.
+pub(crate) fn cut_in<'a>(
+    document: Document,
+    identifier: &[u8],
+    tbs: &'a [u8],
+) -> Result<Cut<'a>, Unfit>
+    ensures gives { Gives (λ c. parts_of c) result (in_document document (parts_cut_at identifier.now tbs.now)) }
+    ensures cut { IfOk result (λ c. IsCutOf c) }
+{
+    match cut_extension(identifier, tbs) {
+        Ok(cut) => Ok(cut),
+        Err(fault) => Err(Unfit::Uncut(document, fault)),
+    }
+}
+
+// The TBSCertificate without what is cut out.
+pub(crate) fn without_cut(alloc: Global, cut: &Cut<'_>) -> Result<Vec<u8>, PromiseFault>
+    requires { IsCutOf cut.now }
+    ensures { GivesPromise (λ v. v.items) result (Ok (without (parts_of cut.now))) }
+{
+    let mut out = Vec::new(alloc);
+    push_without(alloc, &mut out, cut)?;
+    Ok(out)
+}
+
+// The entry, in the words of reading.
+#[tactic(auto, unfolding(crate::specs::Promise::promised_entry_at))]
+fn read_entry(alloc: Global, tbs: &[u8]) -> Result<Vec<u8>, PromiseFault>
+    ensures { GivesPromise (λ v. v.items) result (promised_entry_at tbs.now) }
+{
+    match cut_in(Document::Certificate, &POISON_IDENTIFIER, tbs) {
+        Ok(cut) => {
+            if cut.cut != POISON.as_slice() {
+                return Err(PromiseFault::Unfit(Unfit::BadPoison));
+            }
+            without_cut(alloc, &cut)
+        }
+        Err(unfit) => Err(PromiseFault::Unfit(unfit)),
+    }
+}
+
+/// The entry of the precertificate with this TBSCertificate: the same without the poison (RFC 6962, section 3.2). Who issues the final
+/// certificate is taken to be who issued this one: a precertificate signing certificate's name and key identifier are for the caller to replace.
+///
+/// # Errors
+///
+/// `Unfit`, the first fault that reading meets, or `BadPoison`; `Memory` where a growth is refused.
+pub fn entry_of_precertificate(alloc: Global, tbs: &[u8]) -> Result<Vec<u8>, PromiseFault>
+    // What is given is the entry.
+    ensures found { IfOk result (λ v. IsEntryOf tbs.now v.items) }
+    // Each precertificate's entry is given, unless memory is refused.
+    ensures every { (c : List ℕ) → IsEntryOf tbs.now c → GivesPromise (λ v. v.items) result (Ok c) }
+    // Which fault it is.
+    ensures exact { GivesPromise (λ v. v.items) result (promised_entry_at tbs.now) }
+{
+    read_entry(alloc, tbs)
+}

@@ -1,0 +1,95 @@
+//! Why there is no entry and no leaf.
+
+ghost use Rattle.std.specs.Prelude.{◌≡◌};
+ghost use Rattle.ct_promise.specs.declared.fault.PromiseFault.TheVariants.{Memory, Unfit as Refused};
+ghost use Rattle.ct_promise.specs.Unkept.{unkept_of};
+
+use ct_tbs_cut::CutFault;
+use ct_verify::ProofFault;
+use std::alloc::{AllocError, AllocFailed};
+use thiserror::Error;
+
+/// Which document a fault is in. Its text is its name.
+#[derive(Clone, Copy, Debug, PartialEq, Eq, Error)]
+pub enum Document {
+    /// The certificate or precertificate.
+    #[error("certificate")]
+    Certificate,
+    /// The certificate of its issuer.
+    #[error("issuer")]
+    Issuer,
+}
+
+/// Why a document gives no entry.
+#[derive(Clone, Copy, Debug, PartialEq, Eq, Error)]
+pub enum Unfit {
+    /// It can't be read, or has the extension not once: the first fault that reading meets.
+    #[error("{1} in the {0}")]
+    Uncut(Document, CutFault),
+    /// The poison isn't critical, or its value isn't NULL (RFC 6962, section 3.1).
+    #[error("bad-poison")]
+    BadPoison,
+    /// The TBSCertificate has 2^24 bytes or more (RFC 6962, section 3.2).
+    #[error("too-long")]
+    TooLong,
+}
+
+/// Why there is no entry and no leaf.
+#[derive(Clone, Copy, Debug, PartialEq, Eq, Error)]
+pub enum PromiseFault {
+    /// The documents give none.
+    #[error("{0}")]
+    Unfit(Unfit),
+    /// A growth was refused.
+    #[error("Memory")]
+    Memory,
+}
+
+impl From<Unfit> for PromiseFault {
+    ghost from_gives = { λ u e. e ≡ Refused u };
+
+    fn from(unfit: Unfit) -> PromiseFault {
+        PromiseFault::Unfit(unfit)
+    }
+}
+
+impl From<AllocError> for PromiseFault {
+    ghost from_gives = { λ _ e. e ≡ Memory };
+
+    fn from(_e: AllocError) -> PromiseFault {
+        PromiseFault::Memory
+    }
+}
+
+impl<T: Drop> From<AllocFailed<T>> for PromiseFault {
+    ghost from_gives = { λ _ e. e ≡ Memory };
+
+    fn from(_e: AllocFailed<T>) -> PromiseFault {
+        PromiseFault::Memory
+    }
+}
+
+/// Why a promise isn't seen to be kept.
+#[derive(Clone, Copy, Debug, PartialEq, Eq, Error)]
+pub enum Unkept {
+    /// There is no leaf.
+    #[error("{0}")]
+    NoLeaf(Unfit),
+    /// The audit path doesn't lead from the leaf to the root.
+    #[error("{0}")]
+    NotThere(ProofFault),
+    /// A growth was refused.
+    #[error("Memory")]
+    Memory,
+}
+
+impl From<PromiseFault> for Unkept {
+    ghost from_gives = { λ fault unkept. unkept ≡ unkept_of fault };
+
+    fn from(fault: PromiseFault) -> Unkept {
+        match fault {
+            PromiseFault::Unfit(unfit) => Unkept::NoLeaf(unfit),
+            PromiseFault::Memory => Unkept::Memory,
+        }
+    }
+}

@@ -1,0 +1,161 @@
+"""What a log promised of a certificate (RFC 6962, sections 3.1 to 3.4), by hashlib alone: the lines of ctproof about certificates, which
+step.py answers beside those of a reader of tiles (docs/TILES.md).
+
+    {"precertificate":TBS}                               {"tbs_certificate":BYTES}    the TBSCertificate without the poison
+    {"leaf_of":CERTIFICATE,"issuer":CERTIFICATE,         {"leaf_input":BYTES}         the leaf that a timestamp within the certificate
+     "timestamp":MOMENT,"extensions":BYTES}                                            stands for
+    the same with "stands" in place of "leaf_of",        {"stands":true}              that this leaf stands there
+     "leaf_index", "tree_size", "audit_path",
+     "sha256_root_hash"
+
+Refused: {"document":"certificate","refused":"no-extension"} or second-extension; a fault of DER with its field; bad-poison; too-long; and
+{"fault":NAME,"refused":"not-there"}. The document is the certificate (or precertificate) or its issuer's.
+"""
+import hashlib
+
+SEQUENCE, OCTETS, NAME, BITS, EXTENSIONS = 0x30, 0x04, 0x06, 0x03, 0xA3
+# 1.3.6.1.4.1.11129.2.4.3, the poison, in its one form, and .2, the list of timestamps.
+POISON_NAME = bytes.fromhex("2b06010401d679020403")
+POISON = bytes.fromhex("3013060a2b06010401d6790204030101ff04020500")
+LIST_NAME = bytes.fromhex("2b06010401d679020402")
+# The fields of a TBSCertificate before its extensions: the tag, whether it has to be there, and its name in a fault (RFC 5280, 4.1).
+BEFORE_KEY = [(0xA0, False, "version"), (0x02, True, "serial"), *((SEQUENCE, True, name) for name in ("algorithm", "issuer", "validity", "subject"))]
+KEY = (SEQUENCE, True, "key")
+FIELDS = [*BEFORE_KEY, KEY, (0x81, False, "issuer-id"), (0x82, False, "subject-id")]
+
+
+class Unfit(Exception):
+    """Why a certificate gives nothing: the members of the reply's object."""
+
+
+def unread(fault, place):
+    return Unfit({"fault": fault, "place": place, "refused": "unread"})
+
+
+def size_at(der, place):
+    """The length in front, and where its content begins (X.690, 8.1.3 and 10.1: the fewest bytes)."""
+    if not der:
+        raise unread("truncated", place)
+    first = der[0]
+    if first < 128:
+        return first, 1
+    if first == 128:
+        raise unread("indefinite-length", place)
+    if first > 132:
+        raise unread("long-length", place)
+    octets = der[1 : first - 127]
+    if len(octets) < first - 128:
+        raise unread("truncated", place)
+    size = int.from_bytes(octets, "big")
+    if size < 128 or octets[0] == 0:
+        raise unread("padded-length", place)
+    return size, first - 127
+
+
+def element(der, place):
+    """The tag and the content of the element in front, all its bytes, and what follows it."""
+    if not der:
+        raise unread("truncated", place)
+    if der[0] % 32 == 31:
+        raise unread("long-tag", place)
+    size, begin = size_at(der[1:], place)
+    end = 1 + begin + size
+    if len(der) < end:
+        raise unread("truncated", place)
+    return der[0], der[1 + begin : end], der[:end], der[end:]
+
+
+def expected(tag, der, place):
+    found, content, whole, rest = element(der, place)
+    if found != tag:
+        raise unread("other-tag", place)
+    return content, whole, rest
+
+
+def only(tag, der, place):
+    content, _, rest = expected(tag, der, place)
+    if rest:
+        raise unread("trailing", place)
+    return content
+
+
+def after(fields, der):
+    """What follows these fields."""
+    for tag, has_to, place in fields:
+        if has_to or der[:1] == bytes([tag]):
+            der = expected(tag, der, place)[2]
+    return der
+
+
+def extension_at(der):
+    """The name and the value of the extension in front, all its bytes, and what follows it."""
+    content, whole, rest = expected(SEQUENCE, der, "extensions")
+    name, _, behind = expected(NAME, content, "extensions")
+    behind = after([(0x01, False, "extensions")], behind)
+    return name, only(OCTETS, behind, "extensions"), whole, rest
+
+
+def written(tag, content):
+    size = len(content)
+    octets = size.to_bytes((size.bit_length() + 7) // 8, "big")
+    return bytes([tag]) + (bytes([size]) if size < 128 else bytes([128 + len(octets)]) + octets) + content
+
+
+def cut(tbs, name):
+    """The TBSCertificate without the one extension of a name, and that extension."""
+    fields = only(SEQUENCE, tbs, "tbs")
+    rest = after(FIELDS, fields)
+    listed = only(SEQUENCE, only(EXTENSIONS, rest, "extensions"), "extensions") if rest else b""
+    kept, found, der = b"", None, listed
+    while der:
+        called, _, whole, der = extension_at(der)
+        if called != name:
+            kept += whole
+        elif found is not None:
+            raise Unfit({"refused": "second-extension"})
+        else:
+            found = whole
+    if found is None:
+        raise Unfit({"refused": "no-extension"})
+    head = fields[: len(fields) - len(rest)]
+    return written(SEQUENCE, head + (written(EXTENSIONS, written(SEQUENCE, kept)) if kept else b"")), found
+
+
+def tbs_of(certificate):
+    fields = only(SEQUENCE, certificate, "certificate")
+    _, tbs, rest = expected(SEQUENCE, fields, "tbs")
+    only(BITS, expected(SEQUENCE, rest, "outer-algorithm")[2], "signature")
+    return tbs
+
+
+def key_of(tbs):
+    return expected(SEQUENCE, after(BEFORE_KEY, only(SEQUENCE, tbs, "tbs")), "key")[1]
+
+
+def of(document, call, *words):
+    """What a call gives of a document, whose name a fault gets."""
+    try:
+        return call(*words)
+    except Unfit as unfit:
+        raise Unfit({"document": document, **unfit.args[0]}) from None
+
+
+def entry_of(tbs):
+    """The entry of a precertificate."""
+    entry, found = of("certificate", cut, tbs, POISON_NAME)
+    if found != POISON:
+        raise Unfit({"refused": "bad-poison"})
+    return entry
+
+
+def vector(size, content):
+    return len(content).to_bytes(size, "big") + content
+
+
+def leaf_of(certificate, issuer, moment, extensions):
+    """The leaf that a timestamp within a certificate stands for."""
+    entry = of("certificate", cut, of("certificate", tbs_of, certificate), LIST_NAME)[0]
+    key_hash = hashlib.sha256(of("issuer", key_of, of("issuer", tbs_of, issuer))).digest()
+    if len(entry) >= 1 << 24:
+        raise Unfit({"refused": "too-long"})
+    return b"\0\0" + moment.to_bytes(8, "big") + b"\0\1" + key_hash + vector(3, entry) + vector(2, extensions)
