@@ -55,7 +55,7 @@ case $what in
     go list -deps -f '{{if not .Standard}}{{.Dir}}{{end}}' wagtenib/service/ctserve wagtenib/service/ctcheck wagtenib/service/ctload wagtenib/service/ctread wagtenib/service/ctwitness-serve | grep -v /wagtenib/
     ;;
   fuzz)
-    for target in FuzzPoison FuzzFinalIssuer FuzzChain FuzzRoots; do
+    for target in FuzzFinalIssuer FuzzChain FuzzRoots; do
       go test wagtenib/service/chains -run '^$' -fuzz "^$target\$" -fuzztime "${1:-60}s" -fuzzminimizetime 1s -parallel "${PROCESSORS:-2}"
     done
     for target in FuzzHandlers FuzzConnections; do

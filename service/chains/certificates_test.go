@@ -2,6 +2,7 @@ package chains
 
 import (
 	"bytes"
+	"context"
 	"crypto/ecdsa"
 	"crypto/rand"
 	"crypto/sha256"
@@ -64,7 +65,7 @@ func TestMisissuedAreShown(t *testing.T) {
 	if err != nil {
 		t.Fatal(err)
 	}
-	c := NewChecker(roots, Window{})
+	c := NewChecker(roots, Window{}, standIn(t))
 	same := func(tbs []byte) []byte { return tbs }
 	unknown := pkix.Extension{Id: asn1.ObjectIdentifier{1, 2, 3}, Value: []byte{5, 0}}
 	poisonous := pkix.Extension{Id: oidPoison, Critical: true, Value: []byte{5, 0}}
@@ -87,21 +88,21 @@ func TestMisissuedAreShown(t *testing.T) {
 		if _, err := x509.ParseCertificate(der); err == nil {
 			t.Errorf("%s: crypto/x509 reads it", test.what)
 		}
-		entry, err := c.Certificate([][]byte{der})
+		entry, err := c.Certificate(context.Background(), [][]byte{der})
 		if want := (&Entry{Type: X509Entry, Certificate: der, Issuers: roots.Certificates()}); err != nil || !reflect.DeepEqual(entry, want) {
 			t.Errorf("%s: %v", test.what, err)
 		}
 		damaged := append([]byte{}, der...)
 		damaged[len(damaged)-1] ^= 1
-		if _, err := c.Certificate([][]byte{damaged}); RefusalOf(err) != UnknownRoot {
+		if _, err := c.Certificate(context.Background(), [][]byte{damaged}); RefusalOf(err) != UnknownRoot {
 			t.Errorf("%s, damaged: %v", test.what, err)
 		}
-		if _, err := NewChecker(roots, Window{To: template.NotAfter}).Certificate([][]byte{der}); RefusalOf(err) != OutsideWindow {
+		if _, err := NewChecker(roots, Window{To: template.NotAfter}, byASN1{}).Certificate(context.Background(), [][]byte{der}); RefusalOf(err) != OutsideWindow {
 			t.Errorf("%s, outside of the window: %v", test.what, err)
 		}
 		template.ExtraExtensions = append(append([]pkix.Extension{}, test.extensions...), poisonous)
 		der = signed(t, signedBy(t, template, root, &newKey(t).PublicKey, key), key, test.change)
-		entry, err = c.Precertificate([][]byte{der})
+		entry, err = c.Precertificate(context.Background(), [][]byte{der})
 		if err != nil {
 			t.Errorf("%s, as a precertificate: %v", test.what, err)
 			continue
@@ -110,7 +111,7 @@ func TestMisissuedAreShown(t *testing.T) {
 		if err != nil {
 			t.Fatal(err)
 		}
-		want, _, err := plainly(t, parts[0].FullBytes)
+		want, _, err := plainly(parts[0].FullBytes)
 		if err != nil || !bytes.Equal(entry.TBSCertificate, want) || !bytes.Equal(entry.Precertificate, der) {
 			t.Errorf("%s, as a precertificate: another entry, %v", test.what, err)
 		}

@@ -11,6 +11,7 @@ package chains
 
 import (
 	"bytes"
+	"context"
 	"crypto/rsa"
 	"crypto/sha256"
 	"crypto/x509"
@@ -69,13 +70,14 @@ func (w Window) has(moment time.Time) bool {
 type Checker struct {
 	roots  atomic.Pointer[Roots]
 	window Window
+	cutter Cutter
 	// signed checks a signature; the fuzzer has another one.
 	signed func(certificate *certificate, issuer *x509.Certificate) error
 }
 
-// NewChecker makes a checker.
-func NewChecker(roots *Roots, window Window) *Checker {
-	c := &Checker{window: window, signed: checkSignature}
+// NewChecker makes a checker, whose cutter makes precertificates' entries.
+func NewChecker(roots *Roots, window Window, cutter Cutter) *Checker {
+	c := &Checker{window: window, cutter: cutter, signed: checkSignature}
 	c.roots.Store(roots)
 	return c
 }
@@ -94,7 +96,7 @@ func (c *Checker) Reload(files RootFiles) (added, removed int, err error) {
 }
 
 // Certificate checks a chain in DER whose first is a certificate (add-chain), and gives its entry. An error wraps a Refusal.
-func (c *Checker) Certificate(chain [][]byte) (*Entry, error) {
+func (c *Checker) Certificate(_ context.Context, chain [][]byte) (*Entry, error) {
 	first, issuers, err := c.check(chain)
 	if err != nil {
 		return nil, err
@@ -106,8 +108,8 @@ func (c *Checker) Certificate(chain [][]byte) (*Entry, error) {
 }
 
 // Precertificate checks a chain in DER whose first is a precertificate (add-pre-chain), and gives its entry. An error wraps a
-// Refusal.
-func (c *Checker) Precertificate(chain [][]byte) (*Entry, error) {
+// Refusal, or is the cutter's.
+func (c *Checker) Precertificate(ctx context.Context, chain [][]byte) (*Entry, error) {
 	first, issuers, err := c.check(chain)
 	if err != nil {
 		return nil, err
@@ -118,15 +120,17 @@ func (c *Checker) Precertificate(chain [][]byte) (*Entry, error) {
 	if len(issuers) < 1 {
 		return nil, fmt.Errorf("%w: a root is no precertificate", NoFinalIssuer)
 	}
-	issuer, final := issuers[0], (*finalIssuer)(nil)
+	issuer, tbs := issuers[0], first.tbs
 	if signsPrecertificates(issuers[0]) {
 		if len(issuers) < 2 {
 			return nil, fmt.Errorf("%w: the precertificate signing certificate is a root", NoFinalIssuer)
 		}
-		issuer, final = issuers[1], finalIssuerBehind(issuers[0])
+		issuer = issuers[1]
+		if tbs, err = withFinalIssuer(tbs, finalIssuerBehind(issuers[0])); err != nil {
+			return nil, err
+		}
 	}
-	tbs, err := withoutPoison(first.tbs, final)
-	if err != nil {
+	if tbs, err = c.entryOf(ctx, tbs); err != nil {
 		return nil, err
 	}
 	return &Entry{

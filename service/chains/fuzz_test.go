@@ -2,6 +2,7 @@ package chains
 
 import (
 	"bytes"
+	"context"
 	"crypto/sha256"
 	"crypto/x509"
 	"crypto/x509/pkix"
@@ -54,50 +55,15 @@ func inside(der []byte) ([]asn1.RawValue, error) {
 }
 
 // wrapped puts values into one.
-func wrapped(t *testing.T, class, tag int, inner []asn1.RawValue) asn1.RawValue {
-	t.Helper()
+func wrapped(class, tag int, inner []asn1.RawValue) asn1.RawValue {
 	var content []byte
 	for _, value := range inner {
 		content = append(content, value.FullBytes...)
 	}
 	whole := asn1.RawValue{Class: class, Tag: tag, IsCompound: true, Bytes: content}
-	der, err := asn1.Marshal(whole)
-	if err != nil {
-		t.Fatal(err)
-	}
-	whole.FullBytes = der
+	// A value whose tag is below 31 has an encoding.
+	whole.FullBytes, _ = asn1.Marshal(whole)
 	return whole
-}
-
-// plainly takes the poison extension out by encoding/asn1, and also gives the place where it was: a second way to the same.
-func plainly(t *testing.T, tbs []byte) (made []byte, place int, err error) {
-	fields, err := inside(tbs)
-	if err != nil || len(fields) == 0 {
-		return nil, 0, errors.New("no fields")
-	}
-	last := len(fields) - 1
-	lists, err := values(fields[last].Bytes)
-	if err != nil || len(lists) != 1 {
-		return nil, 0, errors.New("no list")
-	}
-	extensions, err := values(lists[0].Bytes)
-	if err != nil {
-		return nil, 0, err
-	}
-	var kept []asn1.RawValue
-	for i, whole := range extensions {
-		var extension pkix.Extension
-		if _, err := asn1.Unmarshal(whole.FullBytes, &extension); err == nil && extension.Id.Equal(oidPoison) {
-			place = i
-		} else {
-			kept = append(kept, whole)
-		}
-	}
-	fields = fields[:last]
-	if len(kept) > 0 {
-		fields = append(fields, wrapped(t, asn1.ClassContextSpecific, 3, []asn1.RawValue{wrapped(t, asn1.ClassUniversal, asn1.TagSequence, kept)}))
-	}
-	return wrapped(t, asn1.ClassUniversal, asn1.TagSequence, fields).FullBytes, place, nil
 }
 
 // poisoned puts the poison extension back to its place.
@@ -118,39 +84,13 @@ func poisoned(t *testing.T, tbs []byte, place int) []byte {
 		fields = fields[:last]
 	}
 	extensions = append(extensions[:place:place], append([]asn1.RawValue{{FullBytes: poison}}, extensions[place:]...)...)
-	list := wrapped(t, asn1.ClassUniversal, asn1.TagSequence, extensions)
-	fields = append(fields, wrapped(t, asn1.ClassContextSpecific, 3, []asn1.RawValue{list}))
-	return wrapped(t, asn1.ClassUniversal, asn1.TagSequence, fields).FullBytes
+	list := wrapped(asn1.ClassUniversal, asn1.TagSequence, extensions)
+	fields = append(fields, wrapped(asn1.ClassContextSpecific, 3, []asn1.RawValue{list}))
+	return wrapped(asn1.ClassUniversal, asn1.TagSequence, fields).FullBytes
 }
 
-// FuzzPoison: what is made of any bytes is what encoding/asn1 makes of them, and with the poison put back it is these bytes again.
-// Else they are refused.
-func FuzzPoison(f *testing.F) {
-	for _, der := range seeds(f) {
-		if certificate, err := x509.ParseCertificate(der); err == nil {
-			f.Add(certificate.RawTBSCertificate)
-		}
-	}
-	f.Fuzz(func(t *testing.T, tbs []byte) {
-		made, err := withoutPoison(tbs, nil)
-		if err != nil {
-			if RefusalOf(err) == "" {
-				t.Errorf("an error without a name: %v", err)
-			}
-			return
-		}
-		want, place, err := plainly(t, tbs)
-		if err != nil || !bytes.Equal(made, want) {
-			t.Errorf("made\n%x, and by encoding/asn1\n%x, %v", made, want, err)
-		}
-		if back := poisoned(t, made, place); !bytes.Equal(back, tbs) {
-			t.Errorf("%x\nwith the poison put back is\n%x", tbs, back)
-		}
-	})
-}
-
-// FuzzFinalIssuer: a TBSCertificate with another issuer is made, whose name and key are the ones that were given, or it is
-// refused.
+// FuzzFinalIssuer: a TBSCertificate with another issuer is made, whose name and key are the ones that were given, with the poison
+// where it was, or it is refused.
 func FuzzFinalIssuer(f *testing.F) {
 	for _, der := range seeds(f) {
 		if certificate, err := x509.ParseCertificate(der); err == nil {
@@ -161,16 +101,26 @@ func FuzzFinalIssuer(f *testing.F) {
 		if _, err := inside(name); err != nil || name[0] != 0x30 {
 			return // crypto/x509 reads no such name
 		}
-		made, err := withoutPoison(tbs, &finalIssuer{name, key})
+		made, err := withFinalIssuer(tbs, &finalIssuer{name, key})
 		if err != nil {
 			if RefusalOf(err) == "" {
 				t.Errorf("an error without a name: %v", err)
 			}
 			return
 		}
-		again, err := withoutPoison(poisoned(t, made, 0), nil)
+		again, err := withFinalIssuer(made, &finalIssuer{name, key})
 		if err != nil || !bytes.Equal(again, made) || !bytes.Contains(made, name) {
 			t.Errorf("%x, %v", made, err)
+		}
+		entry, place, err := plainly(tbs)
+		if err != nil {
+			return
+		}
+		if _, also, err := plainly(made); err != nil || also != place {
+			t.Errorf("%x: the poison is at %d, and was at %d: %v", made, also, place, err)
+		}
+		if back := poisoned(t, entry, place); !bytes.Equal(back, tbs) {
+			t.Errorf("%x\nwith the poison put back is\n%x", tbs, back)
 		}
 	})
 }
@@ -186,18 +136,18 @@ func FuzzChain(f *testing.F) {
 	for i := range all {
 		f.Add(all[i], all[(i+1)%len(all)])
 	}
-	c := NewChecker(roots, Window{})
+	c := NewChecker(roots, Window{}, byASN1{})
 	c.signed = func(*certificate, *x509.Certificate) error { return nil }
 	f.Fuzz(func(t *testing.T, first, second []byte) {
 		for _, chain := range [][][]byte{{first}, {first, second}} {
-			entry, err := c.Certificate(chain)
+			entry, err := c.Certificate(context.Background(), chain)
 			if (entry == nil) == (RefusalOf(err) == "") {
 				t.Errorf("a certificate: %v", err)
 			}
 			if entry != nil && !bytes.Equal(entry.Certificate, first) {
 				t.Error("another certificate")
 			}
-			entry, err = c.Precertificate(chain)
+			entry, err = c.Precertificate(context.Background(), chain)
 			if (entry == nil) == (RefusalOf(err) == "") {
 				t.Errorf("a precertificate: %v", err)
 			}

@@ -2,12 +2,16 @@ package chains
 
 import (
 	"bytes"
+	"context"
 	"crypto/x509"
 	"encoding/asn1"
+	"errors"
 	"fmt"
 
 	"golang.org/x/crypto/cryptobyte"
 	tags "golang.org/x/crypto/cryptobyte/asn1"
+
+	"wagtenib/service/step"
 )
 
 var (
@@ -17,9 +21,6 @@ var (
 	// The authority key identifier (RFC 5280, section 4.2.1.1).
 	oidAuthorityKey = asn1.ObjectIdentifier{2, 5, 29, 35}
 )
-
-// The one form of the poison extension: its OID, critical, and NULL in an OCTET STRING.
-var poison = []byte{0x30, 0x13, 0x06, 0x0a, 0x2b, 0x06, 0x01, 0x04, 0x01, 0xd6, 0x79, 0x02, 0x04, 0x03, 0x01, 0x01, 0xff, 0x04, 0x02, 0x05, 0x00}
 
 // The tags of a TBSCertificate's fields that may be left out (RFC 5280, section 4.1).
 var (
@@ -61,36 +62,52 @@ func noDER(what string) error {
 	return fmt.Errorf("%w: %s isn't as it has to be in DER", NoCertificate, what)
 }
 
-// withoutPoison gives a TBSCertificate without the poison extension and, where a precertificate signing certificate signed it,
-// with the name and the authority key identifier of the final issuer (RFC 6962, section 3.2). All other bytes stay as they are,
-// but for the lengths around them. Where no extension is left, it has none.
-func withoutPoison(tbs []byte, final *finalIssuer) ([]byte, error) {
+// Cutter makes of the TBSCertificate of a precertificate its entry: the same without the poison extension, and with all other bytes
+// as they are but for the lengths around them. A step.Client of ctproof is one, which is proved to.
+type Cutter interface {
+	WithoutPoison(ctx context.Context, tbs []byte) ([]byte, error)
+}
+
+// entryOf asks for the entry of a precertificate's TBSCertificate.
+func (c *Checker) entryOf(ctx context.Context, tbs []byte) ([]byte, error) {
+	entry, err := c.cutter.WithoutPoison(ctx, tbs)
+	switch {
+	case err == nil:
+		return entry, nil
+	case errors.Is(err, step.NoExtension), errors.Is(err, step.SecondExtension):
+		return nil, fmt.Errorf("%w: it has to be there once: %v", NoPoison, err)
+	case errors.Is(err, step.BadPoison):
+		return nil, fmt.Errorf("%w: it isn't critical, or its value isn't NULL", BadPoison)
+	case errors.Is(err, step.Unread), errors.Is(err, step.TooLong):
+		return nil, fmt.Errorf("%w: a TBSCertificate isn't as it has to be in DER: %v", NoCertificate, err)
+	}
+	return nil, err
+}
+
+// withFinalIssuer gives a TBSCertificate that a precertificate signing certificate signed with the name and the authority key
+// identifier of the final issuer (RFC 6962, section 3.2). All other bytes stay as they are, but for the lengths around them.
+func withFinalIssuer(tbs []byte, final *finalIssuer) ([]byte, error) {
 	input := cryptobyte.String(tbs)
 	var fields cryptobyte.String
 	if !input.ReadASN1(&fields, tags.SEQUENCE) || !input.Empty() {
 		return nil, noDER("a TBSCertificate")
 	}
-	before, issuer, behind, extensions, err := fieldsOf(fields)
+	before, behind, extensions, err := fieldsOf(fields)
 	if err != nil {
 		return nil, err
 	}
-	if final != nil {
-		issuer = final.name
-	}
-	kept, err := extensionsKept(extensions, final)
+	issued, err := extensionsOf(extensions, final)
 	if err != nil {
 		return nil, err
 	}
 	var b cryptobyte.Builder
 	b.AddASN1(tags.SEQUENCE, func(b *cryptobyte.Builder) {
 		b.AddBytes(before)
-		b.AddBytes(issuer)
+		b.AddBytes(final.name)
 		b.AddBytes(behind)
-		if len(kept) > 0 {
-			b.AddASN1(tagExtensions, func(b *cryptobyte.Builder) {
-				b.AddASN1(tags.SEQUENCE, func(b *cryptobyte.Builder) { b.AddBytes(kept) })
-			})
-		}
+		b.AddASN1(tagExtensions, func(b *cryptobyte.Builder) {
+			b.AddASN1(tags.SEQUENCE, func(b *cryptobyte.Builder) { b.AddBytes(issued) })
+		})
 	})
 	made, err := b.Bytes()
 	if err != nil {
@@ -99,9 +116,9 @@ func withoutPoison(tbs []byte, final *finalIssuer) ([]byte, error) {
 	return made, nil
 }
 
-// fieldsOf cuts the fields of a TBSCertificate: those before the issuer, the issuer, those behind it, each as all its bytes, and
-// the extensions one after the other.
-func fieldsOf(fields cryptobyte.String) (before, issuer, behind []byte, extensions cryptobyte.String, err error) {
+// fieldsOf cuts the fields of a TBSCertificate: those before the issuer and those behind it, each as all its bytes, and the
+// extensions one after the other.
+func fieldsOf(fields cryptobyte.String) (before, behind []byte, extensions cryptobyte.String, err error) {
 	read := func(into *[]byte, tag tags.Tag) bool {
 		var element cryptobyte.String
 		if !fields.ReadASN1Element(&element, tag) {
@@ -111,30 +128,30 @@ func fieldsOf(fields cryptobyte.String) (before, issuer, behind []byte, extensio
 		return true
 	}
 	if fields.PeekASN1Tag(tagVersion) && !read(&before, tagVersion) {
-		return nil, nil, nil, nil, noDER("a version")
+		return nil, nil, nil, noDER("a version")
 	}
+	var issuer []byte
 	// serialNumber, signature; issuer; validity, subject, subjectPublicKeyInfo
 	if !read(&before, tags.INTEGER) || !read(&before, tags.SEQUENCE) || !read(&issuer, tags.SEQUENCE) ||
 		!read(&behind, tags.SEQUENCE) || !read(&behind, tags.SEQUENCE) || !read(&behind, tags.SEQUENCE) {
-		return nil, nil, nil, nil, noDER("a TBSCertificate's field")
+		return nil, nil, nil, noDER("a TBSCertificate's field")
 	}
 	for _, tag := range []tags.Tag{tagIssuerUnique, tagSubjectUnique} {
 		if fields.PeekASN1Tag(tag) && !read(&behind, tag) {
-			return nil, nil, nil, nil, noDER("a unique identifier")
+			return nil, nil, nil, noDER("a unique identifier")
 		}
 	}
 	var explicit cryptobyte.String
 	if !fields.ReadASN1(&explicit, tagExtensions) || !fields.Empty() ||
 		!explicit.ReadASN1(&extensions, tags.SEQUENCE) || !explicit.Empty() {
-		return nil, nil, nil, nil, noDER("a list of extensions")
+		return nil, nil, nil, noDER("a list of extensions")
 	}
-	return before, issuer, behind, extensions, nil
+	return before, behind, extensions, nil
 }
 
-// extensionsKept gives the extensions without the poison extension, which has to be there once, one after the other.
-func extensionsKept(extensions cryptobyte.String, final *finalIssuer) ([]byte, error) {
-	var kept []byte
-	poisons := 0
+// extensionsOf gives the extensions with the authority key identifier of the final issuer, one after the other.
+func extensionsOf(extensions cryptobyte.String, final *finalIssuer) ([]byte, error) {
+	var issued []byte
 	for !extensions.Empty() {
 		var element, content, identifier cryptobyte.String
 		if !extensions.ReadASN1Element(&element, tags.SEQUENCE) {
@@ -144,26 +161,16 @@ func extensionsKept(extensions cryptobyte.String, final *finalIssuer) ([]byte, e
 		if !element.ReadASN1(&content, tags.SEQUENCE) || !content.ReadASN1(&identifier, tags.OBJECT_IDENTIFIER) {
 			return nil, noDER("an extension")
 		}
-		switch {
-		case bytes.Equal(identifier, identifierOf(oidPoison)):
-			if !bytes.Equal(whole, poison) {
-				return nil, fmt.Errorf("%w: it isn't critical, or its value isn't NULL", BadPoison)
-			}
-			poisons++
-		case final != nil && bytes.Equal(identifier, identifierOf(oidAuthorityKey)):
+		if bytes.Equal(identifier, identifierOf(oidAuthorityKey)) {
 			replaced, err := withValue(whole, final.authorityKey)
 			if err != nil {
 				return nil, err
 			}
-			kept = append(kept, replaced...)
-		default:
-			kept = append(kept, whole...)
+			whole = replaced
 		}
+		issued = append(issued, whole...)
 	}
-	if poisons != 1 {
-		return nil, fmt.Errorf("%w: it is there %d times", NoPoison, poisons)
-	}
-	return kept, nil
+	return issued, nil
 }
 
 // withValue gives an extension with another value; whether it is critical stays as it is.

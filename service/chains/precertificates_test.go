@@ -3,6 +3,7 @@ package chains
 import (
 	"bufio"
 	"bytes"
+	"context"
 	"encoding/base64"
 	"encoding/hex"
 	"encoding/json"
@@ -24,7 +25,7 @@ func inPEM(certificates ...[]byte) (text []byte) {
 // dates, the final certificate. The entry's TBSCertificate is the final one's, as openssl cuts it.
 func TestPrecertificatesAreTheirFinalCertificates(t *testing.T) {
 	a := madeByOpenssl(t)
-	c := NewChecker(a.roots(t, "root"), Window{})
+	c := NewChecker(a.roots(t, "root"), Window{}, standIn(t))
 	for _, test := range []struct {
 		final, issuer      string
 		submitted, issuers []string
@@ -37,7 +38,7 @@ func TestPrecertificatesAreTheirFinalCertificates(t *testing.T) {
 		{"final-of-signed-bare", "middle", []string{"signed-bare", "signing", "middle"}, []string{"signing", "middle", "root"}},
 		{"final-of-signed-of-root", "root", []string{"signed-of-root", "signing-of-root"}, []string{"signing-of-root", "root"}},
 	} {
-		entry, err := c.Precertificate(a.chain(t, test.submitted...))
+		entry, err := c.Precertificate(context.Background(), a.chain(t, test.submitted...))
 		if err != nil {
 			t.Errorf("%s: %v", test.submitted, err)
 			continue
@@ -140,7 +141,7 @@ print(json.dumps([made(decoded(chain), decoded(given["Roots"])) for chain in giv
 	return answers
 }
 
-func wantsPython(t *testing.T) {
+func wantsPython(t testing.TB) {
 	if _, err := exec.LookPath("python3"); err != nil {
 		t.Skip("python3 isn't installed")
 	}
@@ -169,9 +170,10 @@ func TestPrecertificatesAgreeWithTheExample(t *testing.T) {
 	for _, test := range tests {
 		chains = append(chains, a.chain(t, test.names...))
 	}
+	cutter := standIn(t)
 	for i, there := range askPython(t, chains, roots.Certificates()) {
 		test := tests[i]
-		entry, err := NewChecker(roots, Window{}).Precertificate(chains[i])
+		entry, err := NewChecker(roots, Window{}, cutter).Precertificate(context.Background(), chains[i])
 		if RefusalOf(err) != test.here || there.Refusal != test.there || (err == nil) != (test.here == "") {
 			t.Errorf("%s: %v here, %q there", test.names, err, there.Refusal)
 		}
@@ -212,13 +214,14 @@ type real struct {
 }
 
 func TestRealPrecertificates(t *testing.T) {
+	cutter := standIn(t)
 	for i, line := range realPrecertificates(t) {
 		roots, err := ParseRoots(inPEM(line.Chain[1]))
 		if err != nil {
 			t.Fatal(err)
 		}
 		for _, chain := range [][][]byte{line.Chain, line.Chain[:1]} {
-			entry, err := NewChecker(roots, Window{}).Precertificate(chain)
+			entry, err := NewChecker(roots, Window{}, cutter).Precertificate(context.Background(), chain)
 			if err != nil {
 				t.Errorf("number %d: %v", i, err)
 				continue
@@ -237,9 +240,9 @@ func BenchmarkRealPrecertificate(b *testing.B) {
 	if err != nil {
 		b.Fatal(err)
 	}
-	c := NewChecker(roots, Window{})
+	c := NewChecker(roots, Window{}, byASN1{})
 	for i := 0; i < b.N; i++ {
-		if _, err := c.Precertificate(line.Chain); err != nil {
+		if _, err := c.Precertificate(context.Background(), line.Chain); err != nil {
 			b.Fatal(err)
 		}
 	}

@@ -32,11 +32,12 @@ import (
 	"wagtenib/service/web"
 )
 
-// opened is a log that was opened, what makes proofs of its tiles, the handler of what other nodes ask it, its public key, and what closes
-// what it stands on.
+// opened is a log that was opened, what makes proofs of its tiles, what makes a precertificate's entry, the handler of what other nodes ask
+// it, its public key, and what closes what it stands on.
 type opened struct {
 	log    log.Log
 	proofs *reader.Reader
+	cutter chains.Cutter
 	nodes  http.Handler
 	key    []byte
 	close  func()
@@ -116,7 +117,7 @@ func serve(s *settings, lines *web.Lines, signals <-chan os.Signal, open opener)
 		return err
 	}
 	defer of.close()
-	checker := chains.NewChecker(roots, s.window)
+	checker := chains.NewChecker(roots, s.window, of.cutter)
 	awaitHead(s, of.log)
 	about, err := aboutOf(s, of.key)
 	if err != nil {

@@ -70,6 +70,12 @@ func openNode(ctx context.Context, n node) (of *opened, err error) {
 		return nil, err
 	}
 	closers = append(closers, reading.Close)
+	// .. nor a submission.
+	cutting, err := step.NewClient(n.reader, n.stepWithin)
+	if err != nil {
+		return nil, err
+	}
+	closers = append(closers, cutting.Close)
 	if len(n.witnesses) > 0 {
 		circle, err := witness.NewCircle(n.witnesses, n.quorums, nil)
 		if err != nil {
@@ -82,5 +88,5 @@ func openNode(ctx context.Context, n node) (of *opened, err error) {
 	if err != nil {
 		return nil, err
 	}
-	return &opened{log: s, proofs: reader.New(reading, s.Object, n.mostProofs), nodes: s.Handler(), key: asked.Key(), close: closeAll}, nil
+	return &opened{log: s, proofs: reader.New(reading, s.Object, n.mostProofs), cutter: cutting, nodes: s.Handler(), key: asked.Key(), close: closeAll}, nil
 }

@@ -11,7 +11,7 @@ import (
 
 // TestReadings reads a tree of three leaves, whose nodes are computed by hand (RFC 6962, section 2.1).
 func TestReadings(t *testing.T) {
-	c, ctx := client(t, 20*time.Second, program...), within(t)
+	c, ctx := client(t, 10*time.Minute, program...), within(t)
 	leaf := func(i byte) [32]byte { return sha256.Sum256([]byte{0, i}) }
 	node := func(a, b [32]byte) [32]byte { return sha256.Sum256(append(append([]byte{1}, a[:]...), b[:]...)) }
 	zero, one, two := leaf(0), leaf(1), leaf(2)

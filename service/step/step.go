@@ -84,10 +84,16 @@ func (c *Client) ask(ctx context.Context, request, reply any) error {
 		return err
 	}
 	answered := replies[0]
-	if bytes.HasPrefix(answered, []byte(`{"refused":`)) {
-		var refused struct{ Refused Refusal }
-		if err := json.Unmarshal(answered, &refused); err != nil {
-			return fmt.Errorf("%w: %v", ErrReply, err)
+	if isRefusal(answered) {
+		var refused struct {
+			Refused                Refusal
+			Document, Fault, Place string
+		}
+		if err := json.Unmarshal(answered, &refused); err != nil || refused.Refused == "" {
+			return fmt.Errorf("%w: %.200q: %v", ErrReply, answered, err)
+		}
+		if refused.Fault != "" {
+			return fmt.Errorf("%w: %s in %s of the %s", refused.Refused, refused.Fault, refused.Place, refused.Document)
 		}
 		return refused.Refused
 	}
@@ -95,6 +101,11 @@ func (c *Client) ask(ctx context.Context, request, reply any) error {
 		return fmt.Errorf("%w: %v", ErrReply, err)
 	}
 	return nil
+}
+
+// isRefusal says whether a reply is one: an object's keys are in the order of their bytes.
+func isRefusal(reply []byte) bool {
+	return bytes.HasPrefix(reply, []byte(`{"refused":`)) || bytes.HasPrefix(reply, []byte(`{"document":`))
 }
 
 // Submission is one entry of a batch, as the program reads it.

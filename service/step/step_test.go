@@ -32,14 +32,14 @@ func client(t *testing.T, limit time.Duration, command ...string) *Client {
 }
 
 func within(t *testing.T) context.Context {
-	ctx, cancel := context.WithTimeout(context.Background(), time.Minute)
+	ctx, cancel := context.WithTimeout(context.Background(), 10*time.Minute)
 	t.Cleanup(cancel)
 	return ctx
 }
 
 // TestSteps makes two steps, from nothing and over an edge, and reads the second one's bundle both ways.
 func TestSteps(t *testing.T) {
-	c, ctx := client(t, 20*time.Second, program...), within(t)
+	c, ctx := client(t, 10*time.Minute, program...), within(t)
 	line, err := c.Begin(ctx, 5)
 	must(t, err)
 	names, err := c.Needs(ctx, line)
@@ -154,7 +154,7 @@ func TestWrongPrograms(t *testing.T) {
 
 // TestWrongStates has a program reply a step's state that has one thing of it wrong: what it says must follow from the request.
 func TestWrongStates(t *testing.T) {
-	c, ctx := client(t, 20*time.Second, program...), within(t)
+	c, ctx := client(t, 10*time.Minute, program...), within(t)
 	line, err := c.Begin(ctx, 5)
 	must(t, err)
 	batch := []Submission{{LeafCertificate: []byte("one")}}
@@ -186,7 +186,7 @@ func TestWrongStates(t *testing.T) {
 }
 
 func TestLongRequest(t *testing.T) {
-	c := client(t, 20*time.Second, program...)
+	c := client(t, 10*time.Minute, program...)
 	if _, err := c.Resume(within(t), "growth "+strings.Repeat("0", 288), make([]byte, MostRequest)); !errors.Is(err, ErrTooLong) || c.Starts() != 0 {
 		t.Errorf("%v, %d", err, c.Starts())
 	}

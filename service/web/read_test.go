@@ -347,7 +347,7 @@ func TestPrecertificatesEntry(t *testing.T) {
 	if w := f.do("POST", "/ct/v1/add-pre-chain", standin.Submission(precertificate)); w.Code != 200 {
 		t.Fatal(w.Body)
 	}
-	wanted, err := f.checker.Precertificate([][]byte{precertificate})
+	wanted, err := f.checker.Precertificate(context.Background(), [][]byte{precertificate})
 	if err != nil {
 		t.Fatal(err)
 	}

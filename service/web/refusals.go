@@ -11,6 +11,7 @@ import (
 
 	"wagtenib/service/chains"
 	"wagtenib/service/log"
+	"wagtenib/service/step"
 	"wagtenib/service/stores"
 )
 
@@ -50,6 +51,8 @@ func refusalOf(err error) refusal {
 		r.name, r.after = "clock", 10
 	case errors.Is(err, log.ErrStore):
 		r.name, r.after = "store", 5
+	case errors.Is(err, step.ErrProcess):
+		r.name, r.after = "program", 5
 	case errors.Is(err, context.DeadlineExceeded):
 		r.name, r.after = "late", 5
 	case errors.Is(err, stores.ErrAbsent):

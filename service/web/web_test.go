@@ -73,7 +73,7 @@ func newFixture(t testing.TB, every time.Duration, change func(*Options)) *fixtu
 	}
 	t.Cleanup(func() { of.End(context.Background()) })
 	window := chains.Window{From: ends.AddDate(-1, 0, 0), To: ends.AddDate(1, 0, 0)}
-	f := &fixture{t: t, log: of, authority: authority, checker: chains.NewChecker(roots, window), lines: &text{}}
+	f := &fixture{t: t, log: of, authority: authority, lines: &text{}}
 	options := Options{Limits: DefaultLimits(), Lines: NewLines(f.lines)}
 	// (as long as a busy machine takes)
 	options.Limits.Reading = 5 * time.Minute
@@ -86,6 +86,7 @@ func newFixture(t testing.TB, every time.Duration, change func(*Options)) *fixtu
 	}
 	t.Cleanup(func() { program.Close() })
 	f.program = program
+	f.checker = chains.NewChecker(roots, window, program)
 	f.front = New(of, reader.New(program, of.Object, 4), f.checker, options)
 	return f
 }
@@ -143,12 +144,34 @@ func (f *fixture) verifies(signed, signature []byte) bool {
 		ecdsa.VerifyASN1(&f.log.Key.PublicKey, digest[:], signature[4:])
 }
 
+// withoutProgram is a cutter whose program is gone.
+type withoutProgram struct{}
+
+func (withoutProgram) WithoutPoison(context.Context, []byte) ([]byte, error) {
+	return nil, fmt.Errorf("it ended: %w", step.ErrProcess)
+}
+
+// TestPrecertificatesWithoutCutter: where the program that cuts the poison out is gone, precertificates are for later, and
+// certificates are taken.
+func TestPrecertificatesWithoutCutter(t *testing.T) {
+	f := newFixture(t, 10*time.Millisecond, nil)
+	checker := chains.NewChecker(f.checker.Roots(), chains.Window{}, withoutProgram{})
+	f.front = New(f.log, reader.New(f.program, f.log.Object, 4), checker, Options{Limits: DefaultLimits(), Lines: NewLines(f.lines)})
+	w := f.do("POST", "/ct/v1/add-pre-chain", standin.Submission(f.issue(true), f.authority.Root.Raw))
+	if w.Code != 503 || w.Header().Get("Retry-After") != "5" || !strings.Contains(w.Body.String(), `"program"`) {
+		t.Errorf("%d %v %s", w.Code, w.Header(), w.Body)
+	}
+	if w := f.do("POST", "/ct/v1/add-chain", standin.Submission(f.issue(false), f.authority.Root.Raw)); w.Code != 200 {
+		t.Errorf("%d %s", w.Code, w.Body)
+	}
+}
+
 func TestSubmissionsAreAnsweredWithTimestamps(t *testing.T) {
 	f := newFixture(t, 10*time.Millisecond, nil)
 	for number, test := range []struct {
 		path string
 		der  []byte
-		take func([][]byte) (*chains.Entry, error)
+		take func(context.Context, [][]byte) (*chains.Entry, error)
 	}{
 		{"/ct/v1/add-chain", f.issue(false), f.checker.Certificate},
 		{"/ct/v1/add-pre-chain", f.issue(true), f.checker.Precertificate},
@@ -165,7 +188,7 @@ func TestSubmissionsAreAnsweredWithTimestamps(t *testing.T) {
 		if err := json.Unmarshal(w.Body.Bytes(), &told); err != nil {
 			t.Fatal(err)
 		}
-		entry, err := test.take([][]byte{test.der})
+		entry, err := test.take(context.Background(), [][]byte{test.der})
 		if err != nil {
 			t.Fatal(err)
 		}
