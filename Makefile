@@ -80,7 +80,7 @@ link: ## builds libwagtenib, the proof checkers for C, and runs programs in C, R
 	@examples/link/link.sh
 
 # The scripts of examples/monitor that are installed beside ctmonitor: what follows ctmonitor- in their names there, and their files.
-WATCHING := cosign=cosign.py cosignatures=cosignatures.sh from-end=from_end.py keep=keep.py log-list=log_list.py mail=mail.sh show=show.py signature=signature.sh watch=watch.sh
+WATCHING := audit=audit.py cosign=cosign.py cosignatures=cosignatures.sh from-end=from_end.py keep=keep.py log-list=log_list.py mail=mail.sh show=show.py signature=signature.sh watch=watch.sh
 
 # BUILT is the folder in which the crates' builds lie.
 install: $(PROGRAMS:%=install-%) install-library ## installs what is built, below PREFIX=/usr/local: ctlog, ctlogd, ctmonitor, ctguard, cttile, ctproof, ctnode, ctwitness, with ctmonitor its scripts as ctmonitor-watch and so on, and libwagtenib

@@ -47,7 +47,7 @@ PACKAGES = {
     ),
     "ctmonitor": (
         "monitor and auditor of Certificate Transparency logs, proved",
-        "ctmonitor judges what a log answers: heads, entries and proofs. ctmonitor-watch fetches it with curl, from logs of RFC 6962 and from tiled ones.",
+        "ctmonitor judges what a log answers: heads, entries and proofs. ctmonitor-watch fetches it with curl, from logs of RFC 6962 and from tiled ones. ctmonitor-audit wants ctproof, of wagtenib.",
         "adduser, curl, python3",
         "logrotate, openssl",
     ),
@@ -126,7 +126,7 @@ once more and compares their bytes with SHA256SUMS.
     def watching(self):
         """The scripts beside ctmonitor by their installed names, which Makefile's WATCHING has too."""
         files = {
-            "cosign": "cosign.py", "cosignatures": "cosignatures.sh", "from-end": "from_end.py", "keep": "keep.py", "log-list": "log_list.py", "mail": "mail.sh",
+            "audit": "audit.py", "cosign": "cosign.py", "cosignatures": "cosignatures.sh", "from-end": "from_end.py", "keep": "keep.py", "log-list": "log_list.py", "mail": "mail.sh",
             "show": "show.py", "signature": "signature.sh", "watch": "watch.sh",
         }  # fmt: skip
         return {f"ctmonitor-{name}": ROOT / "examples" / "monitor" / file for name, file in files.items()}
