@@ -201,8 +201,14 @@ def is_serving(path):
 
 
 def until(holds, otherwise):
+    """Waits until something holds. Who doesn't listen yet may do so later."""
     last = time.monotonic() + WITHIN
-    while not holds():
+    while True:
+        try:
+            if holds():
+                return
+        except OSError:
+            pass
         if time.monotonic() > last:
             fail(otherwise)
         time.sleep(0.2)
