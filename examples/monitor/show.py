@@ -2,6 +2,7 @@
 """Prints what an entry of a log is, where it stands in the log's tree, and keeps its certificate.
 
     show.py [--keep FILE] LOG INDEX
+    show.py --found LINES < told
 
 LOG is a log's address, with tiled+ before it where it is read by tiles (C2SP static-ct-api) and not by the calls of RFC 6962. Names, issuer and
 what follows are those of the certificate, or of the TBSCertificate in a precertificate's leaf. --keep writes the certificate to FILE, in PEM; of
@@ -9,6 +10,10 @@ a precertificate what the log has beside the leaf, which no hash of the tree cov
 
 The entry's inclusion proof is checked at the head that the log answers, by libwagtenib where that is installed, and always by this script, which is
 proved nowhere. The head's signature isn't looked at. Characters that a terminal might take for its own are written by their numbers.
+
+With --found it reads what ctmonitor told on its standard input, and the lines that it read then in the file LINES, and prints each line of a watched
+name that was found, with what the certificate has: issuer, subject, serial_number, not_before, not_after, key_sha256, and certificate_sha256, of a
+precertificate the one beside the leaf. Of one that it can't read it prints the line as it came.
 
 It ends with status 0; with 3 where the proof doesn't lead to the head, which is an alarm, once the entry is printed; with 5 where the log doesn't
 answer; with 1 where its answer is none, the names can't be read, or FILE can't be written; and with 2 where the words are wrong.
@@ -119,6 +124,26 @@ class Entry:
         self.certificate = certificate if self.precertificate else self.signed
 
 
+def answered_entry(found):
+    """The entry of an answer of get-entries."""
+    leaf = from_base64(found["leaf_input"])
+    return Entry(leaf, Reader(from_base64(found["extra_data"])).vector(3) if leaf[10:12] == b"\0\1" else None)
+
+
+def next_of_tile(reader):
+    """The leaf that stands next in a data tile, and the precertificate beside it (TileLeaf, C2SP static-ct-api)."""
+    first = reader.place
+    reader.take(8)
+    precertificate = reader.take(2) == b"\0\1"
+    reader.take(32 if precertificate else 0)
+    reader.vector(3)
+    reader.vector(2)
+    leaf = b"\0\0" + reader.data[first : reader.place]
+    certificate = reader.vector(3) if precertificate else None
+    reader.vector(2)
+    return leaf, certificate
+
+
 class Calls:
     """A log by the calls of RFC 6962, section 4."""
 
@@ -134,9 +159,7 @@ class Calls:
 
     def entry(self, index, size):
         (found,) = self.call("get-entries", start=index, end=index)["entries"]
-        leaf = from_base64(found["leaf_input"])
-        precertificate = leaf[10:12] == b"\0\1"
-        return Entry(leaf, Reader(from_base64(found["extra_data"])).vector(3) if precertificate else None)
+        return answered_entry(found)
 
     def proof(self, index, size, leaf):
         found = self.call("get-proof-by-hash", hash=base64.b64encode(sha256(b"\0" + leaf)).decode(), tree_size=size)
@@ -174,17 +197,9 @@ class Tiles:
 
     def entry(self, index, size):
         reader = Reader(self.tile("data", index // WIDTH, min(WIDTH, size - index // WIDTH * WIDTH)))
-        for place in range(index % WIDTH + 1):
-            first = reader.place
-            reader.take(8)
-            precertificate = reader.take(2) == b"\0\1"
-            reader.take(32 if precertificate else 0)
-            reader.vector(3)
-            reader.vector(2)
-            leaf = b"\0\0" + reader.data[first : reader.place]
-            certificate = reader.vector(3) if precertificate else None
-            reader.vector(2)
-        return Entry(leaf, certificate)
+        for _ in range(index % WIDTH):
+            next_of_tile(reader)
+        return Entry(*next_of_tile(reader))
 
     def node(self, height, index, size):
         """The root of the perfect subtree of 2^height leaves at an index of such."""
@@ -390,13 +405,15 @@ def say_moment(moment):
         return f"{moment} milliseconds"
 
 
+def certificate_of(entry):
+    """The fields of an entry's certificate, or of a precertificate's TBSCertificate."""
+    return Certificate(entry.signed if entry.precertificate else elements(element(entry.signed)[1])[0][2])
+
+
 def say_certificate(entry):
     """Prints the certificate's fields. Whether they could be read."""
     try:
-        if entry.precertificate:
-            found = Certificate(entry.signed)
-        else:
-            found = Certificate(elements(element(entry.signed)[1])[0][2])
+        found = certificate_of(entry)
     except (NoAnswer, ValueError, IndexError) as fault:
         say("names", f"can't be read: {fault}")
         return False
@@ -465,6 +482,54 @@ def show(address, index, file):
     return 3 if not checked(log, index, size, root, entry.leaf) else 0 if was_read else 1
 
 
+def entries_read(lines, wanted):
+    """Of the wanted indexes those whose entries stand in lines that ctmonitor read, each with its entry."""
+    found = {}
+    for line in lines:
+        try:
+            value = json.loads(line)
+            if "tile" in value:
+                name = re.fullmatch(r"tile/data/((?:x[0-9]{3}/)*[0-9]{3})(?:\.p/[0-9]+)?", value["tile"])
+                first, reader = WIDTH * int(re.sub("[x/]", "", name[1])), Reader(from_base64(value["data"]))
+                while not reader.ended():
+                    leaf = next_of_tile(reader)
+                    if first in wanted:
+                        found[first] = Entry(*leaf)
+                    first += 1
+            elif "entries" in value:
+                start, entries = value["start"], value["entries"]
+                found.update({at: answered_entry(entries[at - start]) for at in wanted if start <= at < start + len(entries)})
+        except (NoAnswer, ValueError, KeyError, TypeError, IndexError, AttributeError):
+            continue
+    return found
+
+
+def told_of(entry):
+    """What is told of an entry's certificate beside the line of its name."""
+    found = certificate_of(entry)
+    not_before, not_after = found.validity
+    told = {"issuer": found.issuer, "subject": found.subject, "serial_number": found.serial.hex(), "not_before": not_before, "not_after": not_after}
+    told["key_sha256"] = sha256(found.key).hex()
+    return {**told, "certificate_sha256": sha256(entry.certificate).hex()} if entry.certificate else told
+
+
+def show_found(file):
+    """Prints the lines of names that were found, each with what its certificate has."""
+    lines = [line for line in sys.stdin if re.match(r'\{"entry":[0-9]+,(.*,)?"name":"', line)]
+    if not lines:
+        return
+    with open(file, encoding="utf-8") as read:
+        entries = entries_read(read, {json.loads(line)["entry"] for line in lines})
+    for line in lines:
+        value = json.loads(line)
+        try:
+            value.update(told_of(entries[value["entry"]]))
+        except (NoAnswer, ValueError, KeyError, IndexError, TypeError):
+            print(line, end="")
+            continue
+        print(json.dumps(value, ensure_ascii=False, separators=(",", ":")))
+
+
 def words(given):
     """The log, the index and the file."""
     file = None
@@ -482,6 +547,11 @@ def main():
     if sys.argv[1:] in (["-h"], ["--help"]):
         print(__doc__)
         return
+    if len(sys.argv) == 3 and sys.argv[1] == "--found":
+        try:
+            sys.exit(show_found(sys.argv[2]))
+        except (OSError, ValueError) as fault:
+            sys.exit(f"show.py: {shown(str(fault))}")
     address, index, file = words(sys.argv[1:])
     try:
         sys.exit(show(address, index, file))

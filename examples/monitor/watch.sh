@@ -2,7 +2,8 @@
 # Looks at logs once, for cron or a timer: fetches each log's head and the entries that its state lacks, and has ctmonitor judge them.
 #
 #   LOG="https://log.example tiled+https://tiles.example .." watch.sh [--logs LIST] [--at-once N] [--folder DIR] [--pieces N]
-#       [--older-than HOURS] [--name NAME].. [--name-file FILE] [--tell COMMAND] [--keep MIRROR] [--witnesses KEYS --quorum K] [--cosign WITNESS]
+#       [--older-than HOURS] [--name NAME].. [--name-file FILE] [--tell COMMAND] [--once] [--keep MIRROR] [--turn-over MB]
+#       [--witnesses KEYS --quorum K] [--cosign WITNESS]
 #
 # A log is read by the calls of RFC 6962; with tiled+ before its address, by its checkpoint and data tiles (C2SP static-ct-api).
 # LIST is a log list in JSON (version 3), a file or an address: its usable, qualified and read-only logs are watched beside those of LOG. It is read
@@ -13,17 +14,19 @@
 # MIRROR gets of each tiled log what was accepted, in a folder of its own that can be served: data tiles, hash tiles, issuers and the checkpoint.
 # Each has a folder of its own below DIR (ct-watch): its state, the verdicts, the heads as they came, and alarm.* with what an alarm was told of.
 # It fetches until the log's head is judged, N pieces at most (5000). It prints a line for each log, and one for each entry that has a watched name:
-# those of --name and of the lines of FILE. COMMAND gets each such entry, each alarm, and once a day a log that wasn't judged for a day.
+# those of --name and of the lines of FILE. COMMAND gets each such entry, each alarm, and once a day a log that wasn't judged for a day. With --once a
+# precertificate and its certificate (one issuer, serial number and key) are told once. A name with other letters than ASCII's is watched as in DNS too.
+# Files that grow are turned over at MB megabytes (64): verdicts.1 and heads.1 have what stood there before.
 # docs/MONITOR.md has the exit statuses, and what COMMAND is given.
 set -u
 # How many full data tiles are a piece.
 TILES=16
 # How long COMMAND may take, and after how long it is told that a log wasn't judged, in seconds.
 PATIENCE=60 DAY=86400
-folder=ct-watch pieces=5000 here=$PWD older='' tell='' name_file='' list='' at_once=4 mirror='' witnesses='' quorum='' cosigner=''
+folder=ct-watch pieces=5000 here=$PWD older='' tell='' name_file='' list='' at_once=4 mirror='' witnesses='' quorum='' cosigner='' once='' grown=64
 
 page() {
-  sed -n '2,17s/^# \{0,1\}//p' "$0"
+  sed -n '2,20s/^# \{0,1\}//p' "$0"
 }
 
 usage() {
@@ -36,7 +39,8 @@ left=$#
 while [ $left -gt 0 ]; do
   case $1 in
     -h | --help) page && exit 0 || exit 1 ;;
-    --folder | --pieces | --older-than | --tell | --name | --name-file | --logs | --at-once | --keep | --witnesses | --quorum | --cosign) [ $left -gt 1 ] || usage ;;
+    --once) once=yes && shift && left=$((left - 1)) && continue ;;
+    --folder | --pieces | --older-than | --tell | --name | --name-file | --logs | --at-once | --keep | --turn-over | --witnesses | --quorum | --cosign) [ $left -gt 1 ] || usage ;;
     *) set -- "$@" "$1" && shift && left=$((left - 1)) && continue ;;
   esac
   case $1 in
@@ -52,12 +56,13 @@ while [ $left -gt 0 ]; do
     --witnesses) witnesses=$2 ;;
     --quorum) quorum=$2 ;;
     --cosign) cosigner=$2 ;;
+    --turn-over) grown=$2 ;;
   esac
   shift 2
   left=$((left - 2))
 done
-case "${pieces:-none}$older${at_once:-none}" in *[!0-9]*) usage ;; esac
-[ "$at_once" -gt 0 ] || usage
+case "${pieces:-none}$older${at_once:-none}${grown:-none}" in *[!0-9]*) usage ;; esac
+[ "$at_once" -gt 0 ] && [ "$grown" -gt 0 ] || usage
 # A line of it is a name; what is empty or begins with # isn't.
 if [ -n "$name_file" ]; then
   if [ ! -f "$name_file" ] || [ ! -r "$name_file" ]; then
@@ -71,6 +76,37 @@ if [ -n "$name_file" ]; then
   done <"$name_file"
   [ $# -gt $had ] || { echo "watch.sh: there is no name in $name_file" >&2; exit 2; }
 fi
+# A name as in DNS (IDNA), and as it stands in small letters, which a common name may have; a dot in front stays.
+dns_names() {
+  python3 - "$1" <<'END'
+import sys, unicodedata
+name = unicodedata.normalize("NFC", sys.argv[1]).lower()
+host = name.strip(".")
+try:
+    import idna
+    host = idna.encode(host, uts46=True).decode()
+except ImportError:
+    # (Python's codec is of IDNA 2003, which has other names for these)
+    if set(host) & set("\u00df\u03c2\u200c\u200d"):
+        sys.exit("the module idna isn't installed")
+    host = host.encode("idna").decode()
+print("." * name.startswith(".") + host, name, sep="\n")
+END
+}
+left=$#
+while [ $left -gt 0 ]; do
+  case $(printf %s "$1" | LC_ALL=C tr -d '\0-\177') in
+    '') set -- "$@" "$1" ;;
+    *)
+      both=$(dns_names "$1" 2>&1) || { echo "watch.sh: $1 isn't a name as in DNS: $(echo "$both" | tail -n 1)" >&2; exit 2; }
+      set -- "$@" "${both%%
+*}" --name "${both#*
+}"
+      ;;
+  esac
+  shift
+  left=$((left - 1))
+done
 case ${LOG:-}$list in *[![:space:]]*) ;; *) usage ;; esac
 # In the repository ctmonitor needn't be on the PATH, and where it isn't built, a program in Python stands in for it.
 own=$(cd "$(dirname "$0")" && pwd) judge=ctmonitor
@@ -87,12 +123,13 @@ for tool in "$judge" curl flock; do
 done
 "$judge" "$@" </dev/null >/dev/null || exit 2
 # The other scripts stand beside this one, by the names of the repository or as installed.
-lister=$own/log_list.py signer=$own/signature.sh keeper=$own/keep.py counter=$own/cosignatures.sh asker=$own/cosign.py
+lister=$own/log_list.py signer=$own/signature.sh keeper=$own/keep.py counter=$own/cosignatures.sh asker=$own/cosign.py shower=$own/show.py
 [ -f "$lister" ] || lister=$own/ctmonitor-log-list
 [ -f "$signer" ] || signer=$own/ctmonitor-signature
 [ -f "$keeper" ] || keeper=$own/ctmonitor-keep
 [ -f "$counter" ] || counter=$own/ctmonitor-cosignatures
 [ -f "$asker" ] || asker=$own/ctmonitor-cosign
+[ -f "$shower" ] || shower=$own/ctmonitor-show
 if [ -n "$list" ]; then
   for tool in "$lister" "$signer"; do
     command -v "$tool" >/dev/null || { echo "watch.sh: $tool isn't there" >&2; exit 2; }
@@ -283,8 +320,11 @@ hand() {
     again=false WATCH_EVENT=$1 WATCH_AGAIN=$2 WATCH_SAYS="$log: $3" WATCH_LOG=$log
     [ "$2" = no ] || again=true
     WATCH_ENTRY=$(field entry "$4") WATCH_TIMESTAMP=$(field timestamp "$4") WATCH_TYPE=$(field type "$4") WATCH_NAME=$(field name "$4")
-    WATCH_WHERE=$(field where "$4")
+    WATCH_WHERE=$(field where "$4") WATCH_ISSUER=$(field issuer "$4") WATCH_SUBJECT=$(field subject "$4") WATCH_SERIAL_NUMBER=$(field serial_number "$4")
+    WATCH_NOT_BEFORE=$(field not_before "$4") WATCH_NOT_AFTER=$(field not_after "$4") WATCH_KEY_SHA256=$(field key_sha256 "$4")
+    WATCH_CERTIFICATE_SHA256=$(field certificate_sha256 "$4")
     export WATCH_EVENT WATCH_AGAIN WATCH_SAYS WATCH_LOG WATCH_ENTRY WATCH_TIMESTAMP WATCH_TYPE WATCH_NAME WATCH_WHERE
+    export WATCH_ISSUER WATCH_SUBJECT WATCH_SERIAL_NUMBER WATCH_NOT_BEFORE WATCH_NOT_AFTER WATCH_KEY_SHA256 WATCH_CERTIFICATE_SHA256
     cd "$here" && printf '{"again":%s,"event":"%s","log":"%s",%s\n' $again "$1" "$log" "${4#\{}" | timeout -k 5 $PATIENCE sh -c "$tell" 3<&- 6>&- 7>&- 8<&- 9>&-
   )
 }
@@ -294,10 +334,21 @@ field() {
   printf '%s\n' "$2" | sed -nE 's/.*"'"$1"'":("(([^"\]|\\.)*)"|([0-9]+)).*/\2\4/p' | sed 's/\\\(["\\/]\)/\1/g'
 }
 
-# Puts the entries that have a watched name into the file `untold`, before the state has them: so none is left out, whenever the run is killed.
+# Puts the entries that have a watched name into the file `untold`, before the state has them: so none is left out, whenever the run is killed. Where
+# show.py can read it, each has what its certificate has.
 keep_found() {
   grep -E '^\{"entry":[0-9]+,(.*,)?"name":"' told >text || return 0
-  add text untold && sync untold
+  "$shower" --found lines <text >shown 2>fault && [ "$(wc -l <shown)" = "$(wc -l <text)" ] || cp text shown || return
+  add shown untold && sync untold
+}
+
+# Whether the line is of the certificate of a precertificate that was told of for this name, or the other way round.
+is_told_once() {
+  : >pair
+  [ -n "$once" ] && [ -n "$(field key_sha256 "$line")" ] || return 1
+  printf '%s\n' "$line" | sed -E 's/.*("name":"([^"\]|\\.)*").*("issuer":.*"serial_number":"[^"]*").*("key_sha256":"[0-9a-f]*").*/\1,\3,\4/' >pair
+  touch pairs && ! grep -qxFf pair pairs || return 0
+  return 1
 }
 
 # Tells each line of `untold` that isn't in `found`, which has those that were told. One that is in `begun` was begun by a run that was killed, or
@@ -309,7 +360,11 @@ tell_found() {
   while IFS= read -r line <&3; do
     again=no
     ! grep -qxF -e "$line" before || again=yes
-    if printf '%s\n' "$line" >text && add text begun && sync begun && tell_line && add text found; then
+    if is_told_once; then
+      { printf '%s\n' "$line" >text && add text found; } || failed=$((failed + 1))
+      continue
+    fi
+    if printf '%s\n' "$line" >text && add text begun && sync begun && tell_line && add text found && { [ -z "$once" ] || [ ! -s pair ] || add pair pairs; }; then
       told=8
     else
       failed=$((failed + 1))
@@ -327,6 +382,8 @@ tell_line() {
   [ "$(field type "$line")" != precert ] || kind=precertificate
   says="FOUND $(field name "$line"): entry $(field entry "$line"), a $kind, $(date -u -d "@$((moment / 1000))" +%Y-%m-%dT%H:%M:%SZ 2>fault)"
   [ "$(field where "$line")" != bytes ] || says="$says, among its bytes alone"
+  issuer=$(field issuer "$line")
+  [ -z "$issuer" ] || says="$says, by $issuer, valid from $(field not_before "$line") to $(field not_after "$line")"
   [ $again = no ] || says="$says, told again"
   printf '%s\n' "$log: $says" && hand found $again "$says" "$line"
 }
@@ -490,6 +547,20 @@ read_tiles() {
   return $status
 }
 
+# Turns over the files that grow: what stood in them stands in another, and what stood in that is gone. Of what was told, the last 100,000 lines stay.
+turn_over() {
+  for file in verdicts heads; do
+    ! is_grown $file || mv -f $file $file.1 || return
+  done
+  for file in found pairs; do
+    ! is_grown $file || { tail -n 100000 $file >text && sync text && mv text $file; } || return
+  done
+}
+
+is_grown() {
+  [ -f "$1" ] && [ "$(wc -c <"$1")" -ge $((grown * 1000000)) ]
+}
+
 # Says how far it is, and answers 6 where the last accepted head is older than it may be.
 say_how_far() {
   accepted=$(sed -n 's/^{"accepted":{"sha256_root_hash":"[^"]*","timestamp":\([0-9]*\),"tree_size":\([0-9]*\)}.*/\1 \2/p' state)
@@ -516,6 +587,7 @@ watch() {
     say "the state is damaged, and is left as it was"
     return 4
   fi
+  turn_over || { say "files can't be turned over"; return 1; }
   read_head "$@" || return
   turn=0 most=$TILES
   until grep -q '"waiting":null}$' state || [ $turn = "$pieces" ]; do

@@ -1,5 +1,5 @@
 #!/usr/bin/env python3
-"""Tries show.py against logs of its own on 127.0.0.1, one that is called and one of tiles, over certificates that openssl makes: what it prints is held
+"""Tries show.py, and what watch.sh tells by it, against logs of its own on 127.0.0.1, one that is called and one of tiles, over certificates that openssl makes: what it prints is held
 against what openssl prints of them, and a log that is down, cut off, or answers with another entry, proof or head, has the status that is due.
 
 It prints what it tried, and ends with status 1 at the first thing that isn't as it has to be. Without openssl it tries nothing, and says so.
@@ -16,10 +16,10 @@ import tempfile
 import urllib.parse
 
 import answers
-from watch_check import MANY, MANY_TEXTS, MONITOR, PAGE, Log, Tiles, closed_port
+from watch_check import BUILT, MANY, MANY_TEXTS, MONITOR, PAGE, Command, Log, Tiles, Watch, closed_port
 
 # How long the chain of the log is, and at which indexes the certificates stand.
-SIZE, FINAL, PRE = 600, 5, 300
+SIZE, FINAL, PRE, LAST = 600, 5, 300, 400
 SETTINGS = """
 [req]
 distinguished_name = dn
@@ -34,6 +34,18 @@ subjectAltName = DNS:other.example.org
 1.3.6.1.4.1.11129.2.4.3 = critical,ASN1:NULL
 [final]
 subjectAltName = DNS:pre.example.org
+[ca]
+default_ca = own
+[own]
+database = FOLDER/database
+serial = FOLDER/serial
+new_certs_dir = FOLDER
+default_md = sha256
+policy = any
+unique_subject = no
+string_mask = utf8only
+[any]
+commonName = optional
 """
 
 
@@ -50,27 +62,22 @@ class Made:
 
     def __init__(self, folder):
         self.folder, self.key = folder, folder / "key"
-        (folder / "settings").write_text(SETTINGS)
+        (folder / "settings").write_text(SETTINGS.replace("FOLDER", str(folder)))
         openssl("ecparam", "-name", "prime256v1", "-genkey", "-noout", "-out", self.key)
 
-    def certificate(self, section, serial="0x0123456789abcdef0123"):
+    def certificate(self, section, serial="0123456789abcdef0123"):
         """A certificate in DER: its subject has a name with a comma and one of which a terminal could take characters for its own."""
         subject = "/C=CH/O=Example\\, and \u001b[2J others/CN=www.example.org"
-        words = ["-new", "-x509", "-utf8", "-config", self.folder / "settings", "-key", self.key, "-extensions", section, "-days", 30]
-        made = openssl("req", *words, "-subj", subject, "-set_serial", serial, "-outform", "DER")
-        return made
+        (self.folder / "database").write_text("")
+        (self.folder / "serial").write_text(f"{serial}\n")
+        words, request = ["-config", self.folder / "settings"], self.folder / "request"
+        openssl("req", "-new", "-utf8", *words, "-key", self.key, "-subj", subject, "-out", request)
+        words += ["-keyfile", self.key, "-selfsign", "-preserveDN", "-batch", "-notext", "-startdate", "20260101000000Z", "-enddate", "20260131000000Z"]
+        return openssl("x509", "-outform", "DER", given=openssl("ca", *words, "-extensions", section, "-in", request))
 
     def pair(self):
-        """A precertificate, and the TBSCertificate of the certificate that is equal but for the poison: found by the bytes that are between."""
-        pre, final = self.certificate("pre"), None
-        dates = openssl("x509", "-inform", "DER", "-noout", "-startdate", given=pre)
-        for _ in range(5):
-            final = self.certificate("final")
-            if openssl("x509", "-inform", "DER", "-noout", "-startdate", given=final) == dates:
-                return pre, tbs_of(final)
-            pre = self.certificate("pre")
-            dates = openssl("x509", "-inform", "DER", "-noout", "-startdate", given=pre)
-        return fail("openssl makes no two certificates in one second")
+        """A precertificate, and the certificate that is equal but for the poison and the signature."""
+        return self.certificate("pre"), self.certificate("final")
 
 
 def tbs_of(certificate):
@@ -83,10 +90,11 @@ def tbs_of(certificate):
 class Leaves:
     """The leaves of a log in which a certificate, and a precertificate's TBSCertificate, stand."""
 
-    def __init__(self, plain, pre, tbs):
+    def __init__(self, plain, pre, tbs, final):
         self.leaves, self.texts, self.pre = list(MANY[:SIZE]), list(MANY_TEXTS[:SIZE]), pre
         self.leaves[FINAL], self.texts[FINAL] = answers.tile_leaf(answers.MOMENT + 5, plain, None, FINAL)
         self.leaves[PRE] = answers.tile_leaf(answers.MOMENT + 300, tbs, bytes([7] * 32), PRE)[0]
+        self.leaves[LAST], self.texts[LAST] = answers.tile_leaf(answers.MOMENT + 400, final, None, LAST)
         self.texts[PRE] = self.leaves[PRE][2:] + len(pre).to_bytes(3, "big") + pre + b"\0\0"
 
     def tiles(self):
@@ -240,10 +248,10 @@ def try_faults(leaves, folder):
     shows("--help", 0, "--help", says="show.py [--keep FILE] LOG INDEX")
 
 
-def try_others(made, plain, tbs):
+def try_others(made, plain, tbs, final):
     """A precertificate beside the leaf that isn't its own is told, and so is one that is none."""
     for what, beside in (("another", made.certificate("other")), ("none", b"\0\1\2")):
-        found = shows(f"{what} beside the leaf", 0, Leaves(plain, beside, tbs).tiles().url, PRE)
+        found = shows(f"{what} beside the leaf", 0, Leaves(plain, beside, tbs, final).tiles().url, PRE)
         if "another TBSCertificate than the leaf's" not in found["certificate"][0]:
             fail(f"{what} beside the leaf: {found['certificate']}")
 
@@ -257,6 +265,95 @@ def try_library(leaves, folder):
         subprocess.run(["cc", "-shared", "-o", folder / "libwagtenib.so.0", folder / "made.c"], check=True)
         shows("a library", status, leaves.tiles().url, FINAL, says=due, library=str(folder))
     return "a line of C stood in for libwagtenib"
+
+
+def told_due(certificate, subject):
+    """What is told of a certificate beside the line of its name: the fields as openssl has them."""
+    due = {name.replace(" ", "_"): lines[0] for name, lines in due_of(certificate).items()}
+    not_before, not_after = due.pop("valid").split(" to ")
+    hashes = {"key_sha256": due.pop("key").removeprefix("SHA-256 "), "certificate_sha256": digest(given=certificate)}
+    return {**due, **hashes, "issuer": subject, "subject": subject, "not_before": not_before, "not_after": not_after}
+
+
+def is_told_of(what, told, due):
+    for name, value in due.items():
+        got = told.get(name)
+        if got is None or got.lstrip("0") != value.lstrip("0"):
+            fail(f"{what}: '{name}' is told as {got} where {value} is due")
+
+
+def try_told(leaves, plain, final, folder):
+    """watch.sh hands over what the certificate has, in JSON and in the environment; a certificate behind its precertificate is told too, but not with
+    --once; a line whose entry can't be read stays as it came."""
+    judge = BUILT if os.access(BUILT, os.X_OK) else f"{sys.executable} {MONITOR / 'stand_in.py'}"
+    subject = "C=CH, O=Example\\, and \\u001b[2J others, CN=www.example.org"
+    dues = {FINAL: told_due(plain, subject), PRE: told_due(leaves.pre, subject), LAST: told_due(final, subject)}
+    for once, words in ((False, ()), (True, ("--once",))):
+        (folder / f"once-{once}").mkdir()
+        watch, log = Watch(folder / f"once-{once}", judge), leaves.tiles()
+        command = Command(folder)
+        words = ("--tell", command.line, "--name", "www.example.org", "--name", "pre.example.org", *words)
+        output = watch.ends("certificates told", 8, log.url, *words, says=f", by {subject}, valid from {dues[FINAL]['not_before']} to ")
+        told = command.told()
+        indexes = [(line["entry"], line["name"]) for line in told]
+        names = ["www.example.org", "pre.example.org"]
+        due = [(index, name) for index in [FINAL, PRE] + [LAST] * (not once) for name in names]
+        if indexes != due or output.count("FOUND ") != len(due):
+            fail(f"certificates told: {indexes} where {due} is due: {output}")
+        for line in told:
+            is_told_of(f"entry {line['entry']}", line, dues[line["entry"]])
+        around = dict(line.removeprefix("WATCH_").split("=", 1) for line in command.around.read_text().splitlines()[-20:])
+        is_told_of("the environment", {name.lower(): value for name, value in around.items()}, dues[due[-1][0]])
+        if watch.ends("the same", 0, log.url, *words).count("FOUND"):
+            fail("certificates told: one is told once more")
+    mail, sendmail = folder / "mail", folder / "sendmail"
+    sendmail.write_text(f"#!/bin/sh\ncat >>'{mail}'\n")
+    sendmail.chmod(0o755)
+    (folder / "mailed").mkdir()
+    words = ("--tell", f"SENDMAIL='{sendmail}' '{MONITOR}/mail.sh' you@example.org", "--name", "pre.example.org")
+    Watch(folder / "mailed", judge).ends("a mail", 8, leaves.tiles().url, *words)
+    lines = mail.read_text().splitlines()
+    for line in (f"Issuer: {subject}", f"Key, SHA-256: {dues[PRE]['key_sha256']}", f"Valid: {dues[PRE]['not_before']} to {dues[PRE]['not_after']}"):
+        if line not in lines:
+            fail(f"a mail: it lacks '{line}': {lines}")
+
+
+def found_by_show(lines, told):
+    COUNT[0] += 1
+    ran = subprocess.run([sys.executable, MONITOR / "show.py", "--found", lines], input="".join(told), capture_output=True, text=True)
+    if ran.returncode or ran.stderr:
+        fail(f"show.py --found: status {ran.returncode}: {ran.stderr}")
+    return ran.stdout.splitlines(keepends=True)
+
+
+def try_found(leaves, folder):
+    """show.py --found reads the lines of both kinds of logs; what it can't read stays as it came, and lines of no name are left out."""
+    subject = "C=CH, O=Example\\, and \\u001b[2J others, CN=www.example.org"
+    lines = folder / "lines"
+    extra = answers.text(len(leaves.pre).to_bytes(3, "big") + leaves.pre + b"\0\0\0")
+    entries = [{"leaf_input": answers.text(one), "extra_data": extra} for one in leaves.leaves[PRE - 1 : PRE + 1]]
+    told = [answers.line({"entry": at, "name": "a", "timestamp": 1, "type": "x509", "where": "san"}) for at in (FINAL, PRE, PRE - 1, 4_000)]
+    others = ['{"accepted":null}\n', '{"entry":3,"field":"tbs","timestamp":1,"type":"x509","unread":"truncated"}\n']
+    for given, read in (
+        ([json.dumps({"start": PRE - 1, "entries": entries})], {PRE}),
+        ([json.dumps({"tile": "tile/data/000", "data": answers.text(b"".join(leaves.texts[:256]))})], {FINAL}),
+        ([json.dumps({"tile": "tile/data/001.p/44", "data": answers.text(b"".join(leaves.texts[256:301]))}), "{}"], {PRE}),
+        ([json.dumps({"tile": "tile/data/001", "data": answers.text(b"".join(leaves.texts[256:300])[:-1])}), "[]", "null", "no JSON"], set()),
+        ([json.dumps({"start": PRE, "entries": [{"leaf_input": "AAAA", "extra_data": ""}]})], set()),
+        ([json.dumps({"start": PRE, "entries": [{"leaf_input": answers.text(leaves.leaves[PRE]), "extra_data": "AAA="}]})], set()),
+    ):
+        lines.write_text("\n".join(given) + "\n")
+        found = found_by_show(lines, [*others, *told])
+        if len(found) != len(told):
+            fail(f"show.py --found: {len(found)} lines of {len(told)}")
+        for line, came in zip(found, told):
+            index = json.loads(came)["entry"]
+            if index not in read and line != came:
+                fail(f"show.py --found: entry {index} is told as {line}")
+            if index in read:
+                is_told_of(f"entry {index}", json.loads(line), {"subject": subject, "issuer": subject})
+    if found_by_show(folder / "none", others):
+        fail("show.py --found: lines of no name are told")
 
 
 def try_corpus():
@@ -287,12 +384,16 @@ def main():
     with tempfile.TemporaryDirectory() as name:
         folder = pathlib.Path(name)
         made = Made(folder)
-        plain, (pre, tbs) = made.certificate("plain"), made.pair()
-        leaves = Leaves(plain, pre, tbs)
+        plain, (pre, final) = made.certificate("plain", "7f01"), made.pair()
+        tbs = tbs_of(final)
+        leaves = Leaves(plain, pre, tbs, final)
         try_fields(leaves, plain, tbs, folder)
+        try_found(leaves, folder)
+        if all(map(shutil.which, ("curl", "flock"))):
+            try_told(leaves, plain, final, folder)
         try_sizes()
         try_faults(leaves, folder)
-        try_others(made, plain, tbs)
+        try_others(made, plain, tbs, final)
         library, corpus = try_library(leaves, folder), try_corpus()
     print(f"examples/monitor: show.py as expected in {COUNT[0]} runs ({library}), and as openssl has {corpus} real certificates.")
 

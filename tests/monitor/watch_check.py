@@ -1228,6 +1228,33 @@ def try_names_of_a_file(watch):
     watch.ends("a word without its value", 2, log.url, "--name", "a", "--tell", says="watch.sh [--logs LIST]")
 
 
+def try_other_letters(watch):
+    """A name with other letters than ASCII's is watched as in DNS, and as it stands in small letters."""
+    log = named_log(2, [answers.leaf(answers.MOMENT, text.encode(), None) for text in ("of xn--bcher-kva.example", "of bücher.example")])
+    output = watch.ends("a name of IDNA", 8, log.url, "--name", ".BÜCHER.example", says="FOUND .xn--bcher-kva.example: entry 0")
+    # (the stand-in writes the other letter by its number)
+    if "cher.example: entry 1" not in output or output.count("FOUND") != 2:
+        fail(f"a name of IDNA: {output}")
+    watch.ends("a name that is none of IDNA", 2, log.url, "--name", "\u00fc" * 80, says="isn't a name as in DNS")
+
+
+def try_turned_over(watch):
+    """Files that have grown are turned over before a run, and what was told isn't told again."""
+    log = named_log(6)
+    watch.ends("four entries", 8, log.url, "--name", "example.org")
+    verdicts, found = watch.path(log, "verdicts"), watch.path(log, "found")
+    kept = verdicts.read_text() + "x" * 1_000_000
+    verdicts.write_text(kept)
+    found.write_text("x\n" * 600_000 + found.read_text())
+    log.size, log.now = 7, log.now + 1
+    watch.ends("the next head", 0, log.url, "--name", "nobody", "--turn-over", "1", says="accepted 7 leaves")
+    if watch.path(log, "verdicts.1").read_text() != kept or verdicts.stat().st_size > 10_000 or found.read_text().count("\n") != 100_000:
+        fail("files that have grown aren't turned over")
+    if '"name":"example.org"' not in found.read_text():
+        fail("what was told is forgotten where a file is turned over")
+    watch.ends("no megabytes", 2, log.url, "--turn-over", "0", says="watch.sh [--logs LIST]")
+
+
 def from_end(log):
     words = [sys.executable, MONITOR / "from_end.py", log.url]
     return subprocess.run(words, capture_output=True, text=True, env={**os.environ, "no_proxy": "127.0.0.1"})
@@ -1407,6 +1434,8 @@ def main():
         try_alarms_told(watch)
         try_health(watch)
         try_names_of_a_file(watch)
+        try_other_letters(watch)
+        try_turned_over(watch)
         try_mail(watch)
         try_from_end(watch)
         try_slashes(watch)
