@@ -128,7 +128,7 @@ NOT_RUN = (KIT, ENGINES, NET, KEY)
 # The commands of the other pages, each by how it begins, and what runs it.
 ELSEWHERE = {
     "docs/OPERATING.md": {"": BARE},
-    "docs/MONITOR.md": {"apt-get": BARE, "LOG=tiled+": BARE, "ctmonitor-watch --logs https://": NET, "cat > /etc/ctmonitor-watch.conf": BARE, "systemctl": BARE, "mkdir -p ct-watch": BARE},
+    "docs/MONITOR.md": {"apt-get": BARE, "LOG=tiled+": BARE, "ctmonitor-watch --logs https://": NET, "ctmonitor-log-list https://": NET, "ctmonitor-audit": NET, "cat > /etc/ctmonitor-watch.conf": BARE, "systemctl": BARE, "mkdir -p ct-watch": BARE},
     "examples/README.md": {"examples/pem_lines.py": HERE, "examples/bad_lines.py": HERE},
     "release/README.md": {"make demo": KIT, "cd release/out && sha256sum": GATE, "apt-get install": BARE},
     "service/README.md": {"make service-engines": ENGINES, "make service-test": GATE, "make service": HERE, "openssl genpkey": BARE, "cp 2027h1.pem": BARE, "cat > /etc/ctwitness/a.conf": BARE,
