@@ -238,7 +238,7 @@ class Trial:
         self.before = {"cp -an /root/backup": self.lose_an_issuer}
         self.behind = {
             "nginx -t": lambda said: bare.run(f"echo 127.0.0.1 {HOST} >> /etc/hosts", quiet=True), "promtool": self.figures, "ctload": self.submitted, "rm /etc/ctserve/roots": self.root_went,
-            "curl -s --cacert": self.checkpoint, "systemctl stop": self.goes_on, "cp -an /root/backup": self.issuer_is_back, "apt-get install --yes ./wagtenib_0.1.1": self.upgraded,
+            "curl -s --cacert": self.checkpoint, "systemctl start": self.goes_on, "cp -an /root/backup": self.issuer_is_back, "systemctl restart ctserve": self.upgraded,
             "ctread": self.mirrored, "LOG=tiled+": self.watched, "systemctl enable --now ctmonitor": self.watched_by_units, "mkdir -p ct-watch": self.from_end,
             "systemctl enable --now ctwitness": self.witnessed,
         }
