@@ -103,7 +103,12 @@ func (r *reader) keepIssuer(ctx context.Context, fingerprint []byte) error {
 
 // keepHead keeps the hash tiles of a tree whose data tiles are kept, and then its checkpoint. The hashes were checked against its root.
 func (r *reader) keepHead(ctx context.Context, tree tlog.Tree, hashes tlog.HashReader, tiles *tiles, checkpoint []byte) error {
-	for _, tile := range tlog.NewTiles(tileHeight, r.last.N, tree.N) {
+	all := tlog.NewTiles(tileHeight, r.last.N, tree.N)
+	for i, tile := range all {
+		// (of a partial tile it gives each width on the way, of which no head that is kept has any but the last)
+		if i+1 < len(all) && all[i+1].L == tile.L && all[i+1].N == tile.N {
+			continue
+		}
 		content, err := tlog.ReadTileData(tile, hashes)
 		if err != nil || tiles.failed != nil {
 			return tiles.why(err)

@@ -118,6 +118,7 @@ func files(t *testing.T, folder string) (found []string) {
 func TestMirror(t *testing.T) {
 	g, first := newLog(t)
 	folder := filepath.Join(t.TempDir(), "a", "mirror")
+	ever := map[string]bool{}
 	sizes := []int64{0, 1, 3, 255, 256, 257, 300, 512, 700, 1300}
 	for i, size := range sizes {
 		tree := g.grow(size, uint64(10+i))
@@ -148,9 +149,15 @@ func TestMirror(t *testing.T) {
 			fingerprint := sha256.Sum256(issuerOf(k))
 			due = append(due, "issuer/"+hex.EncodeToString(fingerprint[:]))
 		}
-		// (partial tiles stay until their full one is there)
+		for _, name := range due {
+			ever[name] = true
+		}
+		// (partial tiles of the sizes before stay until their full one is there)
 		kept := map[string]bool{}
 		for _, name := range files(t, folder) {
+			if !ever[name] {
+				t.Errorf("at %d: %s is kept, which no size has", size, name)
+			}
 			content, err := os.ReadFile(filepath.Join(folder, name))
 			must(t, err)
 			if !bytes.Equal(content, g.objects["/"+name]) {

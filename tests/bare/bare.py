@@ -127,7 +127,7 @@ class Bare:
             (self.folder / "root" / path.name).write_bytes(path.read_bytes())
         if models:
             shutil.copytree(ROOT / "tests", self.folder / "opt" / "tests")
-            shutil.copytree(ROOT / "examples" / "monitor", self.folder / "opt" / "examples" / "monitor")
+            shutil.copytree(ROOT / "examples", self.folder / "opt" / "examples")
         shutil.copy("/etc/resolv.conf", self.folder / "etc/resolv.conf")
         subprocess.run(["mount", "-t", "proc", "proc", self.folder / "proc"], check=True)
 

@@ -12,6 +12,7 @@ import argparse
 import json
 import os
 import pathlib
+import resource
 import shutil
 import subprocess
 import sys
@@ -30,6 +31,12 @@ def run(*words, **how):
     if ran.returncode:
         fail(f"{' '.join(map(str, words))[:200]}: status {ran.returncode}: {ran.stdout[-2000:]}{ran.stderr[-2000:]}")
     return ran.stdout.strip()
+
+
+def limits():
+    """This machine's limits: one that may not raise them starts nothing with podman's own."""
+    of = {"nofile": resource.RLIMIT_NOFILE, "nproc": resource.RLIMIT_NPROC}
+    return [word for name, which in of.items() for word in ("--ulimit", "{}={}:{}".format(name, *resource.getrlimit(which)))]
 
 
 class Tool:
@@ -78,7 +85,7 @@ class Container:
         self.tool, self.at, self.data, self.port = tool, at, data, port
 
     def start(self, *more):
-        words = ["run", "--detach", "--network", "host", "--cgroups", "disabled", "--ulimit", "host", "--volume", f"{self.at}:/etc/ctserve:ro", "--volume", f"{self.data}:/var/lib/ctserve", IMAGE, *more]
+        words = ["run", "--detach", "--network", "host", "--cgroups", "disabled", *limits(), "--volume", f"{self.at}:/etc/ctserve:ro", "--volume", f"{self.data}:/var/lib/ctserve", IMAGE, *more]
         self.name = self.tool.podman(*words)
         last = time.monotonic() + WITHIN
         while '"event":"serving"' not in self.said():
@@ -123,7 +130,7 @@ def trial(tool, work, given):
     port = free_port()
     at, data = settings(work, port), work / "data"
     data.mkdir()
-    number = tool.podman("run", "--rm", "--network", "host", "--cgroups", "disabled", "--ulimit", "host", "--entrypoint", "id", IMAGE, "-u")
+    number = tool.podman("run", "--rm", "--network", "host", "--cgroups", "disabled", *limits(), "--entrypoint", "id", IMAGE, "-u")
     for path in (data, at / "log.key"):
         os.chown(path, int(number), -1)
     log = Container(tool, at, data, port)
