@@ -1,5 +1,5 @@
 #!/usr/bin/env bash
-# Looks through the documents, in seconds: links, names of files and functions, commands, quotations, the contracts of PROMISES.md, and their length.
+# Looks through the documents, in seconds: links, names of files and functions, commands, quotations, the contracts of PROMISES.md, pictures, and their length.
 # make test runs it before the proofs, and make check behind them.
 set -u
 cd "$(dirname "$0")/.."
@@ -8,5 +8,6 @@ status=0
 python3 checks/documents.py || status=1
 python3 checks/promises.py || status=1
 python3 checks/architecture.py || status=1
+python3 checks/pictures.py || status=1
 python3 checks/words.py --quiet || status=1
 exit $status
