@@ -35,6 +35,7 @@ var commands = map[string]func(words []string, answers, faults io.Writer) error{
 	"shards":     runShards,
 	"nginx":      runNginx,
 	"places":     runPlaces,
+	"clock":      runClock,
 }
 
 // runCommand does one of the commands, and gives the status: 0 where it is done, 1 where it isn't, 2 where the words aren't ones.
@@ -377,4 +378,22 @@ func runPlaces(words []string, answers, faults io.Writer) (err error) {
 	return sequencer.RebuildPlaces(context.Background(), config, func(left uint64) {
 		fmt.Fprintf(answers, "%d entries are left\n", left)
 	})
+}
+
+// runClock names the day to a log that stood for more than one, on a machine of which nothing else says what time it is. The log may run meanwhile.
+func runClock(words []string, answers, faults io.Writer) error {
+	flags := commandFlags("clock", "ctserve clock FILE DAY says that it is DAY (2026-11-27) by another clock than this machine's, to the log whose settings are FILE: on that day it goes on, though its newest head is older than a day and neither the kernel nor another machine says what time it is.", faults)
+	if err := parseFlags(flags, words, 2); err != nil {
+		return err
+	}
+	s, err := parse([]string{"--config", flags.Arg(0)}, faults)
+	if err != nil {
+		return err
+	}
+	now := time.Now()
+	if err := sequencer.NameDay(s.node.namedDay, flags.Arg(1), now); err != nil {
+		return err
+	}
+	fmt.Fprintf(answers, "%s: on %s it goes on; this machine's clock says %s\n", s.node.origin, flags.Arg(1), now.UTC().Format(time.RFC3339))
+	return nil
 }

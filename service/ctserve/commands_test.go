@@ -192,6 +192,47 @@ func TestCheck(t *testing.T) {
 	}
 }
 
+// TestClock: the day is named as the machine's clock has it, for the log of the settings, where its node reads it; no other day is, nor for settings
+// that don't hold.
+func TestClock(t *testing.T) {
+	folder, file := settingsFile(t)
+	now := time.Now().UTC()
+	today := now.Format("2006-01-02")
+	status, said, told := does("clock", file, today)
+	if status != 0 || told != "" || !strings.HasPrefix(said, "log.example/2027h1: on "+today+" it goes on; this machine's clock says "+now.Format("2006-01")) {
+		t.Fatalf("status %d: %s%s", status, said, told)
+	}
+	s, err := parse([]string{"--config", file}, io.Discard)
+	if err != nil || s.node.namedDay != folder+"/log.day" {
+		t.Fatalf("%v: %s", err, s.node.namedDay)
+	}
+	named, err := os.ReadFile(s.node.namedDay)
+	if err != nil || string(named) != today+"\n" {
+		t.Fatalf("%v: %q", err, named)
+	}
+	for _, c := range []struct {
+		words  []string
+		status int
+		due    string
+	}{
+		{[]string{file, now.AddDate(1, 0, 0).Format("2006-01-02")}, 1, "this machine's clock says " + now.Format("2006-01")},
+		{[]string{file, now.AddDate(0, 0, -3).Format("2006-01-02")}, 1, "this machine's clock says " + now.Format("2006-01")},
+		{[]string{file, "today"}, 1, "is no day"},
+		{[]string{file}, 2, "--help"},
+		{[]string{folder + "/absent", today}, 2, "absent"},
+	} {
+		if status, said, told := does(append([]string{"clock"}, c.words...)...); status != c.status || said != "" || !strings.Contains(told, c.due) {
+			t.Errorf("%q: status %d, %s%s", c.words, status, said, told)
+		}
+	}
+	if after, err := os.ReadFile(s.node.namedDay); err != nil || !bytes.Equal(after, named) {
+		t.Errorf("%v: %q", err, after)
+	}
+	if s, err := parse([]string{"--config", file, "--latest-head", folder + "/kept"}, io.Discard); err != nil || s.node.namedDay != folder+"/kept.day" {
+		t.Errorf("%v: %s", err, s.node.namedDay)
+	}
+}
+
 // TestCommandLine: the words lead to the commands, and the version is said on the standard output.
 func TestCommandLine(t *testing.T) {
 	for _, c := range []struct {

@@ -449,7 +449,7 @@ func TestSettings(t *testing.T) {
 	}
 	if s.node.origin != "z" || s.node.mostSkew != 3*time.Second || !s.node.synchronized || s.limits.Idle != 5*time.Second || fmt.Sprint(s.proxies) != "[127.0.0.1/32 10.0.0.0/8]" || !s.node.create ||
 		s.window.From.Year() != 2027 || s.node.secret != "sixteen bytes or more" || strings.Join(s.node.step, " ") != "a b --origin z" ||
-		s.node.guardState != "file:ct-log.guard" || s.node.latestHead != "ct-log.latest-head" || strings.Join(s.node.guard, " ") != "ctguard" || s.node.store != "folder:ct-log/objects" || s.node.register != "file:ct-log/register" || s.node.places != "sqlite:ct-log/places" {
+		s.node.guardState != "file:ct-log.guard" || s.node.latestHead != "ct-log.latest-head" || s.node.namedDay != "ct-log.day" || strings.Join(s.node.guard, " ") != "ctguard" || s.node.store != "folder:ct-log/objects" || s.node.register != "file:ct-log/register" || s.node.places != "sqlite:ct-log/places" {
 		t.Errorf("%+v", s)
 	}
 	if s, err := parse(file(needed+"submitters 203.0.113.9/24=512, 2001:db8::7=9"), io.Discard); err != nil || fmt.Sprint(s.limits.Submitters) != "[{203.0.113.0/24 512} {2001:db8::7/128 9}]" {
@@ -509,6 +509,9 @@ func TestRealLog(t *testing.T) {
 	p := started(t, "", append(words, "--create")...)
 	if p.serving["level"] != "info" || p.serving["entries"] != 0.0 {
 		t.Errorf("it serves before a head is published: %v", p.serving)
+	}
+	if at, err := time.Parse(time.RFC3339, fmt.Sprint(p.serving["head_of"])); err != nil || time.Since(at) < -time.Second || time.Since(at) > 10*time.Minute {
+		t.Errorf("who makes a log isn't told its first moment: %v", p.serving)
 	}
 	first := at.submission()
 	status, answer := post(p.clients, first)

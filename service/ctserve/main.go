@@ -4,7 +4,8 @@
 // who waits, and ends with status 0; where that isn't done within its time, with 1. A second one ends it at once.
 //
 // The key is read by a process of its own, `ctserve signer`, which it starts, or finds at a socket. `ctserve key`, `check` and
-// `list-entry` make a key, look at settings, and write a log list's entry; `places` builds a log's places anew out of its tiles.
+// `list-entry` make a key, look at settings, and write a log list's entry; `places` builds a log's places anew out of its tiles,
+// and `clock` names the day.
 package main
 
 import (
@@ -196,7 +197,7 @@ func tellHead(s *settings, of log.Log, lines *web.Lines) {
 		lines.Warn("serving", "origin", s.node.origin, "fault", err)
 		return
 	}
-	lines.Info("serving", "origin", s.node.origin, "entries", head.TreeSize, "root_hash", hex.EncodeToString(head.RootHash[:]))
+	lines.Info("serving", "origin", s.node.origin, "entries", head.TreeSize, "root_hash", hex.EncodeToString(head.RootHash[:]), "head_of", time.UnixMilli(int64(head.Timestamp)).UTC().Format(time.RFC3339))
 }
 
 // wait reloads at SIGHUP, and returns at a signal that ends, or where a server fails.

@@ -43,7 +43,7 @@ type node struct {
 	guard                                     []string
 	guardState, signerAt                      string
 	folder, store, register, places           string
-	latestHead                                string
+	latestHead, namedDay                      string
 	mostSkew                                  time.Duration
 	synchronized                              bool
 	step, reader, decider                     []string
@@ -72,7 +72,7 @@ func parse(words []string, help io.Writer) (*settings, error) {
 	flags := flag.NewFlagSet("ctserve", flag.ContinueOnError)
 	flags.SetOutput(help)
 	flags.Usage = func() {
-		fmt.Fprint(help, "ctserve serves a Certificate Transparency log over HTTP. Each word may also stand as a line 'name value' in the file of --config.\n'ctserve signer --help' says what its signer takes; 'ctserve key FILE' makes a key, 'ctserve check FILE' looks at settings without starting, 'ctserve list-entry' writes a log list's entry, 'ctserve shards' a year's settings, 'ctserve nginx' a site of nginx, 'ctserve places FILE' builds the places anew, each with --help.\n\n")
+		fmt.Fprint(help, "ctserve serves a Certificate Transparency log over HTTP. Each word may also stand as a line 'name value' in the file of --config.\n'ctserve signer --help' says what its signer takes; 'ctserve key FILE' makes a key, 'ctserve check FILE' looks at settings without starting, 'ctserve list-entry' writes a log list's entry, 'ctserve shards' a year's settings, 'ctserve nginx' a site of nginx, 'ctserve places FILE' builds the places anew, 'ctserve clock FILE DAY' names the day where nothing but the machine's clock does, each with --help.\n\n")
 		flags.PrintDefaults()
 	}
 	flags.String("config", "", "`file` with a line 'name value' for each of these, and comments behind #")
@@ -228,6 +228,7 @@ func (s *settings) settle() error {
 	if n.latestHead == "" {
 		n.latestHead = beside(n.folder, ".latest-head")
 	}
+	n.namedDay = strings.TrimSuffix(n.latestHead, ".latest-head") + ".day"
 	if (s.listenNodes == "") != (n.address == "") || (n.address == "") != (s.nodesSecretAt == "") {
 		return errors.New("--nodes-listen, --nodes-address and --nodes-secret go together")
 	}

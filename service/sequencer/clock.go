@@ -2,7 +2,10 @@ package sequencer
 
 import (
 	"context"
+	"errors"
 	"fmt"
+	"os"
+	"strings"
 	"sync"
 	"time"
 
@@ -54,6 +57,8 @@ const (
 	asksWithin = 3 * time.Second
 	// forgets is for how long an answer counts.
 	forgets = 10 * time.Minute
+	// mostStood is how far a node's first moment may be beyond the newest head's where its own machine's clock alone says what time it is.
+	mostStood = 24 * time.Hour
 )
 
 // teller is another machine that says what time it is.
@@ -74,12 +79,15 @@ type heard struct {
 //
 // The newest head's moment says how early it can't be, and nothing of how late it is: a log may have stood for long. The clocks of the stores'
 // machines, and of the node that makes the steps, say both. The machine's own count of time that elapsed says whether the time of day was set
-// since it was believed; then those clocks, or the kernel, have to say that it is right.
+// since it was believed; then those clocks, or the kernel, have to say that it is right. Where none of them does, a node begins no more than
+// mostStood behind the newest head, or on the day that the operator names.
 type clock struct {
 	of           Clock
 	most         time.Duration
 	synchronized bool
-	tellers      []teller
+	// day is the file in which the operator names it.
+	day     string
+	tellers []teller
 	// soon has the tellers be asked at once.
 	soon chan struct{}
 
@@ -93,7 +101,7 @@ type clock struct {
 }
 
 func newClock(config Config) *clock {
-	c := &clock{of: config.Clock, most: config.MostSkew, synchronized: config.Synchronized, soon: make(chan struct{}, 1), said: map[string]heard{}, node: map[string]heard{}}
+	c := &clock{of: config.Clock, most: config.MostSkew, synchronized: config.Synchronized, day: config.NamedDay, soon: make(chan struct{}, 1), said: map[string]heard{}, node: map[string]heard{}}
 	for _, of := range []struct {
 		name  string
 		store any
@@ -185,8 +193,75 @@ func (c *clock) check(last uint64, node string) error {
 	if !c.believed.IsZero() && !vouched {
 		return c.off(now.Sub(c.believed.Add(elapsed-c.since)), 0, "what elapsed since it was believed")
 	}
+	if c.believed.IsZero() && !vouched {
+		if err := c.begins(now, last); err != nil {
+			return err
+		}
+	}
 	c.believed, c.since = now, elapsed
 	return nil
+}
+
+// begins says whether a node may begin at a moment which its own machine's clock alone says. The first one of a log is believed: who makes it is
+// there, and told. (Who sets the file of the day looked at the clock.)
+func (c *clock) begins(now time.Time, last uint64) error {
+	ahead := now.Sub(time.UnixMilli(int64(last)))
+	if last == 0 || ahead <= mostStood {
+		return nil
+	}
+	day, err := readDay(c.day)
+	if err == nil && isOn(day, now) {
+		return nil
+	}
+	why := "the operator named no day"
+	if err == nil {
+		why = "the day that the operator named is " + day.Format(dayForm)
+	} else if !errors.Is(err, stores.ErrAbsent) {
+		why = err.Error()
+	}
+	return fmt.Errorf("%w: nothing else says what time it is, neither the kernel (it isn't synchronized) nor another machine, and %s (ctserve clock); and it is ahead of the log's newest head by %v", log.ErrClock, why, ahead.Round(time.Millisecond))
+}
+
+// dayForm is how a day is written.
+const dayForm = "2006-01-02"
+
+// isOn says whether a moment is on a day, anywhere on earth.
+func isOn(day, moment time.Time) bool {
+	since := moment.Sub(day)
+	return since >= -14*time.Hour && since < 36*time.Hour
+}
+
+// NameDay keeps the day in a file that nodes of this machine have as NamedDay, where the machine's clock says that it is that day: on it a node
+// begins though nothing else says what time it is, and the newest head is old.
+func NameDay(path, day string, now time.Time) error {
+	named, err := time.Parse(dayForm, day)
+	if err != nil {
+		return fmt.Errorf("%w: %q is no day: %s is one", ErrConfig, day, dayForm)
+	}
+	if !isOn(named, now) {
+		return fmt.Errorf("%w: this machine's clock says %s: set it right first", log.ErrClock, now.UTC().Format(time.RFC3339))
+	}
+	if err := stores.KeepFile(path, []byte(day+"\n")); err != nil {
+		return err
+	}
+	// (a node may run as another user than who names the day)
+	return os.Chmod(path, 0o644)
+}
+
+// readDay reads the day that NameDay kept; ErrAbsent where there is none.
+func readDay(path string) (time.Time, error) {
+	if path == "" {
+		return time.Time{}, stores.ErrAbsent
+	}
+	content, err := stores.KeptFile(path)
+	if err != nil {
+		return time.Time{}, err
+	}
+	day, err := time.Parse(dayForm, strings.TrimSuffix(string(content), "\n"))
+	if err != nil {
+		return time.Time{}, fmt.Errorf("%s names no day: %.80q", path, content)
+	}
+	return day, nil
 }
 
 // beside compares the time of day with what other machines said, and says whether one did. The caller has the lock.

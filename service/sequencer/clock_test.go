@@ -2,8 +2,10 @@ package sequencer
 
 import (
 	"context"
+	"errors"
 	"fmt"
 	"net/http/httptest"
+	"os"
 	"path/filepath"
 	"strings"
 	"sync"
@@ -87,7 +89,7 @@ func timely(t *testing.T, got *answers) {
 }
 
 // TestClockAtStart starts a log's node with a clock that is off: by more than the bound it takes nothing, and says by how much, whoever knows the
-// time; once the clock is right it goes on by itself.
+// time; once the clock is right it goes on by itself. Where nobody knows it, and the log may have stood, the bound is a day ahead.
 func TestClockAtStart(t *testing.T) {
 	t.Parallel()
 	for _, skew := range skews {
@@ -101,21 +103,27 @@ func TestClockAtStart(t *testing.T) {
 			for i, beside := range []string{"the objects' store", "the log's newest head"} {
 				config, clock := p.config(t), newAhead(skew.by)
 				config.Clock = clock
+				within := skew.within
 				if i == 0 {
 					config.Objects = timed{config.Objects, 0}
-				} else if skew.by > 0 {
-					// (of how late it is the newest head says nothing)
-					continue
+				} else if skew.by == 59*time.Minute {
+					// (a log that stood for an hour has such a newest head)
+					within = true
 				}
 				s := started(t, config, hooks{})
 				_, err := s.Submit(ctx, entryOf(10+i))
-				if skew.within {
+				if within {
 					must(t, err)
 				} else {
 					isSaid(t, err, skew.by, beside)
 					if fault := s.Figures().Fault; !strings.Contains(fault, beside) {
 						t.Errorf("its fault is %q", fault)
 					}
+				}
+				if within && !skew.within {
+					// (what was taken so is of the future, and the log takes nothing with the right clock until then: TestRanAhead)
+					must(t, s.End(ctx))
+					continue
 				}
 				clock.set(0, false)
 				comesBack(t, s, got, 20+i)
@@ -196,17 +204,163 @@ func TestClockPutRight(t *testing.T) {
 	isSaid(t, err, 24*time.Hour, "the objects' store")
 }
 
-// TestOldLog starts a log that stood still for days: its newest head says nothing of how late it is.
+// stood is a log of five entries that stood for so long.
+func stood(t *testing.T, by time.Duration) (place, *answers) {
+	p, got := newPlace(t), &answers{}
+	config := p.config(t)
+	config.Clock = newAhead(-by)
+	s := started(t, config, hooks{})
+	must(t, got.submitAll(limited(t), s, 0, 5, 5))
+	must(t, s.End(limited(t)))
+	return p, got
+}
+
+// TestOldLog starts a log that stood: its newest head says nothing of how late it is, and for a day it is believed that it did. Behind a day
+// something else has to say what time it is: the kernel, another machine, or the operator, who names the day, while the log runs or before.
 func TestOldLog(t *testing.T) {
 	t.Parallel()
-	p, ctx, got := newPlace(t), limited(t), &answers{}
-	config := p.config(t)
-	config.Clock = newAhead(-72 * time.Hour)
-	s := started(t, config, hooks{})
-	must(t, got.submitAll(ctx, s, 0, 5, 5))
-	must(t, s.End(ctx))
-	s = started(t, p.config(t), hooks{})
-	must(t, got.submitAll(ctx, s, 5, 10, 5))
+	const beside, week = "the log's newest head", 7 * 24 * time.Hour
+	today := func() string { return time.Now().UTC().Format(dayForm) }
+	for name, test := range map[string]struct {
+		by time.Duration
+		// before and while are what is done before the start, and once it is refused; none is refused where the latter is nil.
+		before, while func(t *testing.T, config *Config)
+	}{
+		"an hour":    {by: time.Hour},
+		"23 hours":   {by: 23 * time.Hour},
+		"the kernel": {by: week, while: func(t *testing.T, config *Config) { config.Clock.(*bent).set(0, true) }},
+		"a store":    {by: week, before: func(t *testing.T, config *Config) { config.Objects = timed{config.Objects, 0} }},
+		"the day":    {by: week, while: func(t *testing.T, config *Config) { must(t, NameDay(config.NamedDay, today(), time.Now())) }},
+		"before":     {by: week, before: func(t *testing.T, config *Config) { must(t, NameDay(config.NamedDay, today(), time.Now())) }},
+		"another day": {by: 2 * week, before: func(t *testing.T, config *Config) {
+			earlier := time.Now().Add(-week)
+			must(t, NameDay(config.NamedDay, earlier.UTC().Format(dayForm), earlier))
+		}, while: func(t *testing.T, config *Config) { must(t, NameDay(config.NamedDay, today(), time.Now())) }},
+		"a bent file": {by: week, before: func(t *testing.T, config *Config) {
+			must(t, os.WriteFile(config.NamedDay, []byte("tomorrow\n"), 0o600))
+		}, while: func(t *testing.T, config *Config) { must(t, NameDay(config.NamedDay, today(), time.Now())) }},
+	} {
+		name, test := name, test
+		t.Run(name, func(t *testing.T) {
+			t.Parallel()
+			p, got := stood(t, test.by)
+			config := p.config(t)
+			config.Clock, config.NamedDay = newAhead(0), filepath.Join(t.TempDir(), "day")
+			if test.before != nil {
+				test.before(t, &config)
+			}
+			s := started(t, config, hooks{})
+			if test.while == nil {
+				must(t, got.submitAll(limited(t), s, 5, 10, 5))
+			} else {
+				for i := 0; i < 3; i++ {
+					_, err := s.Submit(limited(t), entryOf(50))
+					isSaid(t, err, test.by, beside)
+					switch {
+					case name == "another day" && !strings.Contains(err.Error(), "the day that the operator named is "+time.Now().Add(-week).UTC().Format(dayForm)),
+						name == "a bent file" && !strings.Contains(err.Error(), config.NamedDay+" names no day: \"tomorrow"):
+						t.Error(err)
+					}
+				}
+				if f := s.Figures(); !strings.Contains(f.Fault, "ctserve clock") || f.Entries != 5 {
+					t.Errorf("%+v", f)
+				}
+				test.while(t, &config)
+				comesBack(t, s, got, 5)
+			}
+			timely(t, got)
+			p.right(t, got)
+		})
+	}
+}
+
+// TestClockFarAhead has a log that didn't stand start with a clock that is a day ahead and more, and has nobody who knows the time: it signs nothing,
+// whatever day of its own the operator named before; and no operator names another day than the clock's.
+func TestClockFarAhead(t *testing.T) {
+	t.Parallel()
+	for _, by := range []time.Duration{24 * time.Hour, 8 * 24 * time.Hour, 365 * 24 * time.Hour} {
+		by := by
+		t.Run(fmt.Sprint(by), func(t *testing.T) {
+			t.Parallel()
+			p, got := stood(t, 0)
+			heads, config, clock := headsOf(t, p), p.config(t), newAhead(by)
+			config.Clock, config.NamedDay, config.Refresh = clock, filepath.Join(t.TempDir(), "day"), time.Second
+			if by > 48*time.Hour {
+				must(t, NameDay(config.NamedDay, time.Now().UTC().Format(dayForm), time.Now()))
+				wants(t, NameDay(config.NamedDay, time.Now().UTC().Format(dayForm), clock.Now()), log.ErrClock)
+			}
+			s := started(t, config, hooks{})
+			eventually(t, "it says so", func() bool { return strings.Contains(s.Figures().Fault, "ahead of the log's newest head by ") })
+			_, err := s.Submit(limited(t), entryOf(7))
+			isSaid(t, err, by, "the log's newest head")
+			must(t, s.End(limited(t)))
+			if after := headsOf(t, p); len(after) != len(heads) {
+				t.Errorf("heads %v, and before %v", after, heads)
+			}
+			p.right(t, got)
+		})
+	}
+}
+
+// TestNameDay: a day is named as one of the clock's, in some part of the earth, and in no other form.
+func TestNameDay(t *testing.T) {
+	t.Parallel()
+	path, now := filepath.Join(t.TempDir(), "day"), time.Date(2026, 11, 27, 13, 0, 0, 0, time.UTC)
+	for day, due := range map[string]error{
+		"2026-11-27": nil, "2026-11-28": nil, "2026-11-26": log.ErrClock, "2026-11-29": log.ErrClock, "2025-11-27": log.ErrClock, "2027-11-27": log.ErrClock,
+		"": ErrConfig, "today": ErrConfig, "27.11.2026": ErrConfig, "2026-11-27T13:00:00Z": ErrConfig, "2026-11-31": ErrConfig,
+	} {
+		if err := NameDay(path, day, now); !errors.Is(err, due) || (err == nil) != (due == nil) {
+			t.Errorf("%q: %v, and not %v", day, err, due)
+		}
+	}
+	if err := NameDay(path, "2026-11-26", now.Add(-2*time.Hour)); err != nil {
+		t.Errorf("where it is an hour before midnight: %v", err)
+	}
+	if info, err := os.Stat(path); err != nil || info.Mode().Perm() != 0o644 {
+		t.Errorf("%v, %v", info, err)
+	}
+	if err := NameDay(filepath.Join(path, "below"), "2026-11-27", now); err == nil {
+		t.Error("a day is kept where there is no folder")
+	}
+	if day, err := readDay(path); err != nil || !day.Equal(time.Date(2026, 11, 26, 0, 0, 0, 0, time.UTC)) {
+		t.Errorf("%v, %v", day, err)
+	}
+}
+
+// TestClocksWrongAlike has two nodes of a log that stood start with clocks that are ahead alike: neither has the other one believe its own.
+func TestClocksWrongAlike(t *testing.T) {
+	t.Parallel()
+	p, got := stood(t, 7*24*time.Hour)
+	clocks, nodes := [2]*bent{newAhead(365 * 24 * time.Hour), newAhead(365 * 24 * time.Hour)}, [2]*Sequencer{}
+	for i := range nodes {
+		config, server := p.notHere(t), httptest.NewUnstartedServer(nil)
+		config.Clock, config.Address, config.Secret = clocks[i], "http://"+server.Listener.Addr().String()+"/sequence", "the secret of these nodes"
+		if i == 0 {
+			// (it made the newest head, so the other one asks it)
+			right := config
+			right.Clock = newAhead(-7 * 24 * time.Hour)
+			s := started(t, right, hooks{})
+			must(t, got.submitAll(limited(t), s, 5, 6, 1))
+			must(t, s.End(limited(t)))
+		}
+		nodes[i] = started(t, config, hooks{})
+		server.Config.Handler = nodes[i].Handler()
+		server.Start()
+		t.Cleanup(server.Close)
+	}
+	for _, s := range nodes {
+		s.askNode(limited(t))
+		eventually(t, "it says so", func() bool { return strings.Contains(s.Figures().Fault, "ahead of the log's newest head by ") })
+		_, err := s.Submit(limited(t), entryOf(7))
+		isSaid(t, err, (365+7)*24*time.Hour, "the log's newest head")
+	}
+	// Once one knows the time the other one has it from there.
+	clocks[1].set(0, false)
+	clocks[0].set(0, true)
+	comesBack(t, nodes[0], got, 8)
+	comesBack(t, nodes[1], got, 9)
+	timely(t, got)
 	p.right(t, got)
 }
 

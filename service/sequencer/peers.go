@@ -268,10 +268,22 @@ func (s *Sequencer) taking(take func(context.Context, []step.Submission) handedB
 			http.Error(w, err.Error(), http.StatusInternalServerError)
 			return
 		}
-		w.Header().Set(dateHeader, s.clock.now().UTC().Format(http.TimeFormat))
+		if s.knowsTime() {
+			w.Header().Set(dateHeader, s.clock.now().UTC().Format(http.TimeFormat))
+		} else {
+			// (and it isn't set by net/http)
+			w.Header()[dateHeader] = nil
+		}
 		w.Header().Set("Content-Type", "application/json")
 		sendSealed(s.config.Secret, w, r, reply)
 	})
+}
+
+// knowsTime says whether this node would make a step by its clock. Another one isn't told the time by it otherwise: where all clocks are wrong alike,
+// no two nodes have each other believe them.
+func (s *Sequencer) knowsTime() bool {
+	k := s.newestKnown()
+	return s.clock.check(k.state.Moment, s.another(k)) == nil
 }
 
 // fails says whether something keeps the log from going on at this node.

@@ -91,10 +91,13 @@ type Config struct {
 	// refused. None is kept where it is empty.
 	LatestHead string
 	// Clock is this machine's where it is nil. MostSkew is how far it may be off by what else is known, 10 s where it is 0; beyond it nothing is
-	// taken. Synchronized says that nothing is taken either where the kernel doesn't say that something keeps the clock right.
+	// taken. Synchronized says that nothing is taken either where the kernel doesn't say that something keeps the clock right. NamedDay is a
+	// file of this machine's own in which its operator names the day (NameDay): where nothing else says what time it is, and the newest head is
+	// older than a day, a node takes nothing on another one.
 	Clock        Clock
 	MostSkew     time.Duration
 	Synchronized bool
+	NamedDay     string
 }
 
 func (c *Config) settle() error {

@@ -105,16 +105,23 @@ func OpenPostgres(ctx context.Context, at Postgres) (Register, error) {
 	return &inPostgres{db, at.Log}, nil
 }
 
-// timeOf asks a server what time it is.
+// timeOf asks a server what time it is, and where it is.
 func timeOf(ctx context.Context, db *sql.DB) (time.Time, time.Duration, error) {
-	at, err := within(ctx, func() (at time.Time, err error) {
-		err = db.QueryRowContext(ctx, "select clock_timestamp()").Scan(&at)
-		return at, err
+	type told struct {
+		at           time.Time
+		server, here string
+	}
+	one, err := within(ctx, func() (one told, err error) {
+		err = db.QueryRowContext(ctx, "select clock_timestamp(), coalesce(host(inet_server_addr()), ''), coalesce(host(inet_client_addr()), '')").Scan(&one.at, &one.server, &one.here)
+		return one, err
 	})
 	if err != nil {
 		return time.Time{}, 0, fmt.Errorf("stores: PostgreSQL: time: %w", err)
 	}
-	return at, time.Millisecond, nil
+	if !isElsewhere(one.server, one.here) {
+		return one.at, time.Millisecond, ErrSameMachine
+	}
+	return one.at, time.Millisecond, nil
 }
 
 // Time is Timed's.

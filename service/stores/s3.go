@@ -9,6 +9,7 @@ import (
 	"fmt"
 	"io"
 	"net/http"
+	"net/http/httptrace"
 	"time"
 
 	"github.com/minio/minio-go/v7"
@@ -63,9 +64,15 @@ type date struct{}
 
 // Time is Timed's: by the Date of an answer (RFC 9110, section 6.6.1), also of one that refuses a request whose own date is far off.
 func (b *bucket) Time(ctx context.Context) (time.Time, time.Duration, error) {
-	said := ""
+	said, elsewhere := "", false
+	ctx = httptrace.WithClientTrace(ctx, &httptrace.ClientTrace{GotConn: func(got httptrace.GotConnInfo) {
+		elsewhere = isElsewhere(hostOf(got.Conn.RemoteAddr()), hostOf(got.Conn.LocalAddr()))
+	}})
 	_, err := b.core.BucketExists(context.WithValue(ctx, date{}, &said), b.name)
 	if at, unread := http.ParseTime(said); unread == nil {
+		if !elsewhere {
+			return at, time.Second, ErrSameMachine
+		}
 		return at, time.Second, nil
 	}
 	if err == nil {

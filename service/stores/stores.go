@@ -153,8 +153,8 @@ type Places interface {
 	Close() error
 }
 
-// Timed is a store on another machine that says what time it is there.
+// Timed is a store that says what time it is on its machine.
 type Timed interface {
-	// Time gives the time of day, and how far it is off at most by how it is said.
+	// Time gives the time of day, and how far it is off at most by how it is said; both beside ErrSameMachine, where it is this machine's own.
 	Time(ctx context.Context) (at time.Time, within time.Duration, err error)
 }
