@@ -1,9 +1,29 @@
-//! The program `ctnode`: what a node of a log does next, for a line on standard input each. What it does is `answer_words` of `ct_node_lines`, over the
-//! process's words, standard input, output and error.
+//! The program `ctnode`: what a node of a log does next, by lines of JSON: a node's command and what came of it in, its next command out.
+//!
+//! Nothing is kept between lines: what a node is stands in its line, so any process may go on for any node, and one line has one reply. What
+//! comes behind what is `ct_node`'s to say.
+//!
+//! - `request` reads a node and what came of its command, and `replies` writes the next command; `doing` has a command with its texts, and
+//!   `texts` what a register's text and a bundle's name say.
+//! - `command` reads the words of a command line.
+//! - `program` has `run`, over the loop of `line_program`, which reads lines from any reader and writes to any writer; and `answer_words`,
+//!   which does what the words of a command line ask for. `main` is `answer_words` over the process's words, standard input, output and error.
+//!   Behind a line `Noted` is kept.
+//! - `laws` has what the lines are of the machine.
 #![tactic(auto)]
 
-use ct_node_lines::{answer_words, fault_text};
-use json_lines::{RunFault, tell};
+mod command;
+mod doing;
+mod laws;
+mod noted;
+mod program;
+mod replies;
+mod request;
+mod texts;
+
+use json_lines::RunFault;
+use line_program::tell_fault;
+use program::answer_words;
 use std::io;
 use std::process::ExitCode;
 
@@ -22,7 +42,7 @@ fn main(rt: HostRuntime) -> ExitCode {
             answer_words(rt.alloc(), words, rt.reader(), &mut output, &mut faults)
         }
         Err(fault) => {
-            tell(&mut faults, fault_text(fault).as_bytes());
+            tell_fault("ctnode", fault, &mut faults);
             1
         }
     };

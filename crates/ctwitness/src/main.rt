@@ -1,9 +1,28 @@
-//! The program `ctwitness`: says what a witness cosigns, for requests on standard input, a line each. What it does is `answer_words` of
-//! `ct_witness_lines`, over the process's words, standard input, output and error.
+//! The program `ctwitness`: what a witness cosigns, a line of JSON for each request to cosign a checkpoint: the bytes to sign and the tree
+//! that was cosigned then, or why there are none.
+//!
+//! Nothing is kept between lines: each has the tree that was cosigned last of its log. Who asks swaps that tree for the reply's where it is
+//! kept, and signs behind that. What is let through is `ct_witness`'s to say, and what is signed `ct_checkpoint`'s.
+//!
+//! - `request` reads what a line asks for, `deciding` says what that comes to, and `replies` writes it.
+//! - `command` reads the words of a command line.
+//! - `program` has `run`, over the loop of `line_program`, which reads lines from any reader and writes to any writer; and `answer_words`,
+//!   which does what the words of a command line ask for. `main` is `answer_words` over the process's words, standard input, output and error.
+//!   Behind a line `Noted` is kept.
+//! - `laws` has what follows over many lines.
 #![tactic(auto)]
 
-use ct_witness_lines::{answer_words, fault_text};
-use json_lines::{RunFault, tell};
+mod command;
+mod deciding;
+mod laws;
+mod noted;
+mod program;
+mod replies;
+mod request;
+
+use json_lines::RunFault;
+use line_program::tell_fault;
+use program::answer_words;
 use std::io;
 use std::process::ExitCode;
 
@@ -22,7 +41,7 @@ fn main(rt: HostRuntime) -> ExitCode {
             answer_words(rt.alloc(), words, rt.reader(), &mut output, &mut faults)
         }
         Err(fault) => {
-            tell(&mut faults, fault_text(fault).as_bytes());
+            tell_fault("ctwitness", fault, &mut faults);
             1
         }
     };

@@ -1,5 +1,0 @@
-pub mod WrittenNodes
-pub mod Names
-pub mod NodeKept
-pub mod NodeRuns
-pub mod NodeBroken

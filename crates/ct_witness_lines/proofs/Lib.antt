@@ -1,5 +1,0 @@
-pub mod NoFloat
-pub mod CosignKept
-pub mod CosignRuns
-pub mod CosignBroken
-pub mod CosignHistory

@@ -1,9 +1,0 @@
-use Rattle.ct_witness_lines.proofs.CosignBroken.{RepliedSoFar}
-use Rattle.ct_witness_lines.proofs.CosignRuns.{RepliesOn}
-use Rattle.ct_witness_lines.proofs.program.take_lines.Given as goal
-
-abbrev pub invariant-loop-turn : goal.invariant-loop-turn
-invariant-loop-turn g l =
-    RepliesOn l.fn.bad l.bad (g.B.Read.remaining l.fn.input) (g.B.Read.remaining l.input)
-    (g.W.Write.contents l.fn.writer) (g.W.Write.contents l.writer)
-    × RepliedSoFar (g.B.Read.remaining l.fn.input) (g.B.Read.remaining l.input) (g.W.Write.contents l.fn.writer) (g.W.Write.contents l.writer)

@@ -1,0 +1,4 @@
+pub mod WrittenNodes
+pub mod Names
+pub mod NodeKept
+pub mod NodeRuns

@@ -1,0 +1,46 @@
+-- What the words of ctnode's command line ask for, the program's name left out: nothing, or help, or the version.
+use Rattle.std.specs.Prelude.{◌≡◌, ℕ, List, [], ◌∷◌, ◌++◌, Option, if◌then◌else◌, codes, bytes_eq}
+use Rattle.std.specs.Io.KnownBytes.{Appends}
+use Rattle.json_lines.specs.Sends.{SendsSome}
+use Rattle.ctnode.specs.NodeSession.{IsNodeRun, IsNodeStatus}
+use Rattle.ctnode.specs.declared.command.Command.{Command}
+use Rattle.ctnode.specs.declared.command.Command.TheVariants.{Answer, Help, Version, Refused}
+
+-- what a first word asks for: help or the version, whatever stands behind it; or nothing that there is
+abbrev pub node_option : List ℕ → Command
+node_option word =
+    if bytes_eq word (codes "--help") then Help
+    else (if bytes_eq word (codes "-h") then Help else (if bytes_eq word (codes "--version") then Version else Refused))
+
+-- what the words ask for: to answer lines, where there are none
+abbrev pub node_asked_of_words : List (List ℕ) → Command
+node_asked_of_words [] = Answer
+node_asked_of_words (word ∷ words) = node_option word
+
+-- how the program is called, the page with its lines, and its exit statuses
+abbrev pub node_usage : List ℕ
+node_usage = codes "usage: ctnode < lines > replies\n"
+    ++ codes "\n"
+    ++ codes "docs/NODE.md has the form of the lines.\n"
+    ++ codes "\n"
+    ++ codes "Exit status:\n"
+    ++ codes "  0  each line was a node's\n"
+    ++ codes "  1  memory was refused, or reading or writing failed\n"
+    ++ codes "  2  the words are refused\n"
+    ++ codes "  4  a line was none\n"
+
+-- its version
+abbrev pub node_version_text : List ℕ
+node_version_text = codes "ctnode 0.1.0\n"
+
+-- What was done where the words ask for this, and the exit status: a run over the input was written; or how the program is called, or its
+-- version, was written on the output; or how it is called among the faults, as far as it could be, where the words ask for nothing.
+abbrev pub IsNodeCall : Command → Option (List ℕ) → Option (List ℕ) → Option (List ℕ) → Option (List ℕ) → Option (List ℕ) → ℕ → Type 0
+IsNodeCall Answer source sink sink_next faults faults_next status =
+    IsNodeRun source sink sink_next status × IsNodeStatus status × (faults_next ≡ faults)
+IsNodeCall Help source sink sink_next faults faults_next status =
+    (status ≡ 0) × Appends sink sink_next node_usage × (faults_next ≡ faults)
+IsNodeCall Version source sink sink_next faults faults_next status =
+    (status ≡ 0) × Appends sink sink_next node_version_text × (faults_next ≡ faults)
+IsNodeCall Refused source sink sink_next faults faults_next status =
+    (status ≡ 2) × (sink_next ≡ sink) × SendsSome faults faults_next node_usage

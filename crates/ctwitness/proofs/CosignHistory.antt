@@ -1,0 +1,157 @@
+-- What follows over many lines that were answered with a cosignature's bytes: they are requests that a witness granted.
+use Rattle.std.proofs.Common.{inl, inr, ⊎_elim, ◌≡◌, ◌∙◌, refl, sym, subst, ℕ, List, [], ◌∷◌, length, Bool, true, false, Option, Some, None, map}
+use Rattle.std.specs.Prelude.{All, ⊤, ◌==◌, if◌then◌else◌, option_map, option_and_then, codes}
+use Rattle.std.proofs.lemmas.Bool.{eqb-true}
+use Rattle.std.proofs.lemmas.List.Elements.{All-nil, All-cons, All-head, All-tail}
+use Rattle.std.proofs.lemmas.Option.{same_Some, none-some}
+use Rattle.serde_json.specs.Data.{Data, Items, no_items, item}
+use Rattle.serde_json.specs.Find.{get, as_array}
+use Rattle.sha2.specs.Sha256.{sha256}
+use Rattle.sha2.proofs.Facts256.{length-sha256}
+use Rattle.json_lines.specs.Fields.{text_at, number_at, hash_of, hash_in, bytes_in, each_item, hashes_of_items, hashes_at}
+use Rattle.json_lines.specs.Values.{value_of_line}
+use Rattle.ct_verify.specs.Laws.{AreHashes, SomeCollide}
+use Rattle.ct_witness.proofs.Runs.{cosigned_go_back}
+use Rattle.ct_witness.specs.declared.tree.Tree.{Tree}
+use Rattle.ct_witness.specs.Witnessed.{PassesTree}
+use Rattle.ct_witness.specs.Runs.{Granted, no_tree, AreGranted, newest_tree, IsTreeOf, IsTreeOfFirst}
+use Rattle.ctwitness.specs.CosignAsks.{CosignAsk, last_tree_in, cosign_asked_in, AsksCosigning}
+use Rattle.ctwitness.specs.Cosigned.{DecidesCosigning, LineComesTo, CosignGave, gave_outcome}
+use Rattle.ctwitness.specs.CosignSession.{CosignGiven, GivesCosigning}
+use Rattle.ctwitness.specs.CosignHistory.{CosignStep, AreCosigned, last_cosigned, AsksGoBack, CosignedLine, AreCosignedLines, last_answered, LinesGoBack}
+use Rattle.ctwitness.specs.declared.deciding.Outcome.TheVariants.{LetThrough}
+
+-- ---- requests that were let through are requests that a witness granted
+
+granted_of : CosignStep → Granted
+granted_of s = record { old = s.ask.old; tree = s.tree; proof = s.ask.proof }
+
+module _ (H : List ℕ → List ℕ) where
+  are_granted : (last : Tree) (steps : List CosignStep) → AreCosigned H last steps → AreGranted H last (map granted_of steps)
+  unfolding granted_of AreCosigned AreGranted
+  are_granted last [] a = tt
+  are_granted last (s ∷ steps) a =
+      let passes = subst (λ (t : Tree). PassesTree H t s.ask.old s.tree s.ask.proof) a.0 a.1.1 in
+      (passes, a.2, are_granted s.tree steps a.3)
+
+  same_newest : (last : Tree) (steps : List CosignStep) → newest_tree last (map granted_of steps) ≡ last_cosigned last steps
+  unfolding granted_of newest_tree last_cosigned
+  same_newest last [] = refl
+  same_newest last (s ∷ steps) = same_newest s.tree steps
+
+  of_steps : (D : List (List ℕ)) (steps : List CosignStep) → All (λ (s : Granted). IsTreeOfFirst H D s.tree) (map granted_of steps)
+      → All (λ (s : CosignStep). IsTreeOfFirst H D s.tree) steps
+  unfolding granted_of
+  of_steps D [] all = All-nil (λ (s : CosignStep). IsTreeOfFirst H D s.tree)
+  of_steps D (s ∷ steps) all =
+      All-cons (λ (z : CosignStep). IsTreeOfFirst H D z.tree) s steps
+      (All-head (λ (z : Granted). IsTreeOfFirst H D z.tree) (granted_of s) (map granted_of steps) all)
+      (of_steps D steps (All-tail (λ (z : Granted). IsTreeOfFirst H D z.tree) (granted_of s) (map granted_of steps) all))
+
+pub asks_go_back : AsksGoBack
+asks_go_back H hash_length steps D a t =
+    let u : IsTreeOf H D (newest_tree (no_tree H) (map granted_of steps)) = subst (IsTreeOf H D) (sym (same_newest H (no_tree H) steps)) t in
+    ⊎_elim
+    (λ (all : All (λ (s : Granted). IsTreeOfFirst H D s.tree) (map granted_of steps)). inl (of_steps H D steps all))
+    (λ (pair : SomeCollide H). inr pair)
+    (cosigned_go_back H hash_length (map granted_of steps) D (are_granted H (no_tree H) steps a) u)
+
+-- ---- the proof that a request has is one of hashes
+
+abbrev OfHash : Option (List ℕ) → Type 0
+OfHash None = ⊤
+OfHash (Some h) = length h ≡ 32
+
+abbrev OfHashes : Option (List (List ℕ)) → Type 0
+OfHashes None = ⊤
+OfHashes (Some hs) = AreHashes hs
+
+if_hash : (b : Bool) (bytes : List ℕ) → b ≡ (length bytes == 32) → OfHash (if b then Some bytes else None)
+if_hash true bytes e = eqb-true (length bytes) 32 (sym e)
+if_hash false bytes e = tt
+
+of_hash : (o : Option (List ℕ)) → OfHash (option_and_then hash_of o)
+of_hash None = tt
+of_hash (Some bytes) = if_hash (length bytes == 32) bytes refl
+
+cons_hashes : (x : Option (List ℕ)) (y : Option (List (List ℕ))) → OfHash x → OfHashes y
+    → OfHashes (option_and_then (λ b. option_map (λ bs. b ∷ bs) y) x)
+cons_hashes None y h hs = tt
+cons_hashes (Some b) None h hs = tt
+cons_hashes (Some b) (Some bs) h hs = All-cons (λ s. length s ≡ 32) b bs h hs
+
+each_hash : (ds : Items) → OfHashes (each_item hash_in ds)
+each_hash no_items = All-nil (λ s. length s ≡ 32)
+each_hash (item d ds) = cons_hashes (hash_in d) (each_item hash_in ds) (of_hash (bytes_in d)) (each_hash ds)
+
+of_hashes : (o : Option Items) → OfHashes (option_and_then hashes_of_items o)
+of_hashes None = tt
+of_hashes (Some ds) = each_hash ds
+
+abbrev AskHashes : Option CosignAsk → Type 0
+AskHashes None = ⊤
+AskHashes (Some a) = AreHashes a.proof
+
+parts_hashes : (last : Option Tree) (proof : Option (List (List ℕ))) (old time : Option ℕ) (text : Option (List ℕ)) → OfHashes proof
+    → AskHashes (option_and_then
+    (λ last. option_and_then (λ proof. option_and_then (λ old. option_and_then (λ time. option_map
+    (λ text. record { last = last; old = old; proof = proof; checkpoint = text; time = time })
+    text) time) old) proof) last)
+parts_hashes None proof old time text h = tt
+parts_hashes (Some l) None old time text h = tt
+parts_hashes (Some l) (Some p) None time text h = tt
+parts_hashes (Some l) (Some p) (Some o) None text h = tt
+parts_hashes (Some l) (Some p) (Some o) (Some t) None h = tt
+parts_hashes (Some l) (Some p) (Some o) (Some t) (Some c) h = h
+
+asked_hashes : (v : Option Data) → AskHashes (option_and_then cosign_asked_in v)
+asked_hashes None = tt
+asked_hashes (Some d) =
+    parts_hashes (last_tree_in d) (hashes_at (codes "proof") d) (number_at (codes "old") d) (number_at (codes "time") d)
+    (text_at (codes "checkpoint") d) (of_hashes (option_and_then as_array (get (codes "proof") d)))
+
+line_hashes : (line : List ℕ) (a : CosignAsk) → AsksCosigning line (Some a) → AreHashes a.proof
+line_hashes line a is = subst AskHashes (sym is) (asked_hashes (value_of_line 1048576 line))
+
+-- ---- lines
+
+step_of : CosignedLine → CosignStep
+step_of l = l.step
+
+of_line : (line : List ℕ) (given : CosignGiven) (s : CosignStep) → GivesCosigning line given
+    → given.gave ≡ Some (gave_outcome s.ask (LetThrough s.tree)) → DecidesCosigning sha256 s.ask (LetThrough s.tree) × AreHashes s.ask.proof
+of_line [] given s g e = absurd (none-some (gave_outcome s.ask (LetThrough s.tree)) (sym g.0 ∙ e))
+of_line (b ∷ bs) given s g e =
+    let gave : CosignGave = gave_outcome s.ask (LetThrough s.tree) in
+    let same : g.gave ≡ gave = same_Some g.gave gave (sym g.noted ∙ e) in
+    let comes : LineComesTo (b ∷ bs) gave = subst (LineComesTo (b ∷ bs)) same g.comes in
+    (comes.1, line_hashes (b ∷ bs) s.ask comes.0)
+
+are_cosigned : (last : Tree) (lines : List CosignedLine) → AreCosignedLines last lines → AreCosigned sha256 last (map step_of lines)
+unfolding step_of AreCosignedLines AreCosigned
+are_cosigned last [] a = tt
+are_cosigned last (l ∷ lines) a =
+    let one = of_line l.line l.given l.step a.1.0 a.1.1 in
+    (a.0, one.0, one.1, are_cosigned l.step.tree lines a.2)
+
+same_last : (last : Tree) (lines : List CosignedLine) → last_cosigned last (map step_of lines) ≡ last_answered last lines
+unfolding step_of last_cosigned last_answered
+same_last last [] = refl
+same_last last (l ∷ lines) = same_last l.step.tree lines
+
+of_lines : (D : List (List ℕ)) (lines : List CosignedLine) → All (λ (s : CosignStep). IsTreeOfFirst sha256 D s.tree) (map step_of lines)
+    → All (λ (l : CosignedLine). IsTreeOfFirst sha256 D l.step.tree) lines
+unfolding step_of
+of_lines D [] all = All-nil (λ (l : CosignedLine). IsTreeOfFirst sha256 D l.step.tree)
+of_lines D (l ∷ lines) all =
+    All-cons (λ (z : CosignedLine). IsTreeOfFirst sha256 D z.step.tree) l lines
+    (All-head (λ (z : CosignStep). IsTreeOfFirst sha256 D z.tree) (step_of l) (map step_of lines) all)
+    (of_lines D lines (All-tail (λ (z : CosignStep). IsTreeOfFirst sha256 D z.tree) (step_of l) (map step_of lines) all))
+
+pub lines_go_back : LinesGoBack
+lines_go_back lines D a t =
+    let u : IsTreeOf sha256 D (last_cosigned (no_tree sha256) (map step_of lines)) = subst (IsTreeOf sha256 D) (sym (same_last (no_tree sha256) lines)) t in
+    ⊎_elim
+    (λ (all : All (λ (s : CosignStep). IsTreeOfFirst sha256 D s.tree) (map step_of lines)). inl (of_lines D lines all))
+    (λ (pair : SomeCollide sha256). inr pair)
+    (asks_go_back sha256 length-sha256 (map step_of lines) D (are_cosigned (no_tree sha256) lines a) u)

@@ -1,0 +1,4 @@
+pub mod NoFloat
+pub mod CosignKept
+pub mod CosignRuns
+pub mod CosignHistory

@@ -1,0 +1,61 @@
+-- What follows over many lines that were answered with a cosignature's bytes.
+use Rattle.std.specs.Prelude.{◌≡◌, ◌⊎◌, ⊤, ℕ, List, [], ◌∷◌, Some, All, length}
+use Rattle.sha2.specs.Sha256.{sha256}
+use Rattle.ct_verify.specs.Laws.{AreHashes, SomeCollide}
+use Rattle.ct_witness.specs.declared.tree.Tree.{Tree}
+use Rattle.ct_witness.specs.Runs.{no_tree, IsTreeOf, IsTreeOfFirst}
+use Rattle.ctwitness.specs.CosignAsks.{CosignAsk}
+use Rattle.ctwitness.specs.Cosigned.{DecidesCosigning, gave_outcome}
+use Rattle.ctwitness.specs.CosignSession.{CosignGiven, GivesCosigning}
+use Rattle.ctwitness.specs.declared.deciding.Outcome.TheVariants.{LetThrough}
+
+-- A request, and the tree whose checkpoint is cosigned.
+pub record CosignStep : Type 0 where
+  pub ask : CosignAsk
+  pub tree : Tree
+
+-- requests that were let through one after the other, each with the tree of the one before as the last, the first with the tree `last`;
+-- their proofs have elements of 32 bytes
+unfoldable pub AreCosigned : (List ℕ → List ℕ) → Tree → List CosignStep → Type 0
+AreCosigned H last [] = ⊤
+AreCosigned H last (s ∷ steps) =
+    (s.ask.last ≡ last) × DecidesCosigning H s.ask (LetThrough s.tree) × AreHashes s.ask.proof × AreCosigned H s.tree steps
+
+-- the tree of the last of them
+unfoldable pub last_cosigned : Tree → List CosignStep → Tree
+last_cosigned last [] = last
+last_cosigned last (s ∷ steps) = last_cosigned s.tree steps
+
+-- where the last tree of such requests is that of a list, the tree of each is that of a beginning of it; or two different strings with one
+-- hash are given. The hashes of H have 32 bytes
+abbrev pub AsksGoBack : Type 0
+AsksGoBack =
+    (H : List ℕ → List ℕ) → ((x : List ℕ) → length (H x) ≡ 32) → (steps : List CosignStep) (D : List (List ℕ)) → AreCosigned H (no_tree H) steps
+    → IsTreeOf H D (last_cosigned (no_tree H) steps) → All (λ s. IsTreeOfFirst H D s.tree) steps ⊎ SomeCollide H
+
+-- A line that a run answered, and what it gave: the request and the tree of a step.
+pub record CosignedLine : Type 0 where
+  pub line : List ℕ
+  pub given : CosignGiven
+  pub step : CosignStep
+
+-- the line gave that, as a run says of its lines, and its tree was let through
+abbrev pub IsCosignedLine : CosignedLine → Type 0
+IsCosignedLine l = GivesCosigning l.line l.given × (l.given.gave ≡ Some (gave_outcome l.step.ask (LetThrough l.step.tree)))
+
+-- lines that were answered so one after the other, in any runs, each with the tree of the reply before as the last; the first with the tree `last`
+unfoldable pub AreCosignedLines : Tree → List CosignedLine → Type 0
+AreCosignedLines last [] = ⊤
+AreCosignedLines last (l ∷ lines) = (l.step.ask.last ≡ last) × IsCosignedLine l × AreCosignedLines l.step.tree lines
+
+-- the tree of the last of them
+unfoldable pub last_answered : Tree → List CosignedLine → Tree
+last_answered last [] = last
+last_answered last (l ∷ lines) = last_answered l.step.tree lines
+
+-- where the last tree of such lines is that of a list, the tree of each is that of a beginning of it; or two different strings with one SHA-256
+-- are given
+abbrev pub LinesGoBack : Type 0
+LinesGoBack =
+    (lines : List CosignedLine) (D : List (List ℕ)) → AreCosignedLines (no_tree sha256) lines → IsTreeOf sha256 D (last_answered (no_tree sha256) lines)
+    → All (λ l. IsTreeOfFirst sha256 D l.step.tree) lines ⊎ SomeCollide sha256

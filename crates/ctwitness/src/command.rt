@@ -1,0 +1,39 @@
+//! The command line: `ctwitness`, without words.
+
+ghost use Rattle.std.specs.Prelude.{◌≡◌, map, string_bytes};
+ghost use Rattle.ctwitness.specs.CosignOptions.{cosign_word, cosign_asked_of_words};
+
+// What the command line asks for.
+#[derive(Clone, Copy, Debug)]
+pub enum Command {
+    // To answer lines.
+    Answer,
+    // Help.
+    Help,
+    // The version.
+    Version,
+    // Nothing that there is.
+    Refused,
+}
+
+// What a first word asks for.
+fn read_word(word: &str) -> Command
+    ensures { result ≡ cosign_word word.now }
+{
+    match word {
+        "--help" => Command::Help,
+        "-h" => Command::Help,
+        "--version" => Command::Version,
+        _ => Command::Refused,
+    }
+}
+
+// What the words ask for, the program's name left out.
+pub(crate) fn command_of(words: &[String]) -> Command
+    ensures { result ≡ cosign_asked_of_words (map string_bytes words.now) }
+{
+    match words.first() {
+        Some(word) => read_word(word.as_str()),
+        None => Command::Answer,
+    }
+}

@@ -1,0 +1,13 @@
+//! What follows of the definitions, the contract of a function that does nothing.
+
+ghost use Rattle.ctwitness.specs.CosignHistory.{AsksGoBack, LinesGoBack};
+
+/// However many requests for one log were answered with a cosignature's bytes, each of which began with the tree of the reply before,
+/// and the first with that of no leaves: where the last of these trees is that of a list of leaves, each of them is that of a beginning of
+/// that list, or two different strings with one digest are given (`asks`, for every hash function with digests of 32 bytes). So it is of
+/// lines that `run` answered, in any runs, over SHA-256 (`lines`).
+#[tactic(auto, using(crate::proofs::CosignHistory::asks_go_back, crate::proofs::CosignHistory::lines_go_back))]
+pub fn answered_go_back()
+    ensures asks { AsksGoBack }
+    ensures lines { LinesGoBack }
+{}
