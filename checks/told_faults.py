@@ -83,7 +83,6 @@ TOLD = {
     "ct_script/src/threads.rt": {"Threads": (1, "a front's thread didn't start")},
     "ct_data_tiles/src/entries.rt": {"Unwritten": (1, "of a leaf's bytes that weren't made, a conversion of its own")},
     "line_program/src/replying.rt": {"Read": (1, "behind the last turn over the lines")},
-    "ct_step_lines/src/program.rt": {"Read": (1, "behind the last turn over the lines")},
     "ct_versions/src/shelf.rt": {"NotAppended": (2, "`append` handed it back")},
     "ct_versions/src/viewer.rt": {"Closed": (3, "nothing is shown, or what is shown is behind what was learnt")},
 }

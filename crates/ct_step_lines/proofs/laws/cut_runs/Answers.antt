@@ -1,8 +1,0 @@
-use Rattle.ct_step_lines.proofs.CutRuns.{cut, begun}
-use Rattle.ct_step_lines.proofs.laws.cut_runs.Goals as goal
-
-pub returns-clause-cut : goal.returns-clause-cut
-returns-clause-cut c = cut
-
-pub returns-clause-begun : goal.returns-clause-begun
-returns-clause-begun c = begun
