@@ -25,9 +25,9 @@ type turn struct {
 	bundle   []byte
 	head     step.Head
 	placed   places
-	// groups are who waits for the step, with receipts in their order, and edge are the tiles that it was made over. Nobody does where the step is another
+	// batch is who waits for the step, with a receipt for each, and edge are the tiles that it was made over. Nobody does where the step is another
 	// node's.
-	groups   [][]*waiting
+	batch    []*waiting
 	receipts []step.Receipt
 	edge     map[string][]byte
 	// answered says that they were, by a head.
@@ -178,10 +178,10 @@ func saltOf() (uint64, error) {
 
 // doStep has a step made of who waits.
 func (s *Sequencer) doStep(ctx context.Context, t *turn, batch []*waiting) error {
-	t.groups = group(batch)
-	submissions := make([]step.Submission, 0, len(t.groups))
-	for _, g := range t.groups {
-		submissions = append(submissions, g[0].submission)
+	t.batch = batch
+	submissions := make([]step.Submission, 0, len(batch))
+	for _, w := range batch {
+		submissions = append(submissions, w.submission)
 	}
 	var at moment
 	var err error
@@ -200,8 +200,13 @@ func (s *Sequencer) doStep(ctx context.Context, t *turn, batch []*waiting) error
 	if err != nil {
 		return err
 	}
-	for i, g := range t.groups {
-		t.placed.addStepped(g[0], stepped.Receipts[i])
+	next := t.k.state.Size
+	for i, w := range batch {
+		// (a repeat has the receipt of the first)
+		if r := stepped.Receipts[i]; r.LeafIndex == next {
+			t.placed.addStepped(w, r)
+			next++
+		}
 	}
 	t.bundle, t.head, t.receipts, t.edge = stepped.Bundle, stepped.Head, stepped.Receipts, edge
 	s.phase("stepped")
@@ -331,13 +336,13 @@ func (s *Sequencer) doHead(ctx context.Context, t *turn) (decider.Told, error) {
 
 // doAnswer answers who waits for a step.
 func (s *Sequencer) doAnswer(ctx context.Context, t *turn) (decider.Told, error) {
-	if len(t.groups) == 0 || s.skips(t) {
+	if len(t.batch) == 0 || s.skips(t) {
 		return decider.Done(), nil
 	}
 	if err := t.isOf(); err != nil {
 		return nil, err
 	}
-	if err := s.answer(ctx, t.groups, t.receipts, t.fresh()); err != nil {
+	if err := s.answer(ctx, t.batch, t.receipts, t.fresh()); err != nil {
 		return nil, err
 	}
 	if t.command.Do == decider.Answer {

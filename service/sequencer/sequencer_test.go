@@ -2,6 +2,8 @@ package sequencer
 
 import (
 	"context"
+	"fmt"
+	"sync"
 	"testing"
 	"time"
 
@@ -38,6 +40,50 @@ func TestOneNode(t *testing.T) {
 			t.Errorf("%s: %v", name, err)
 		}
 	}
+}
+
+// TestRepeatsInABatch has each of ten entries wait three times for one step: it stands once in the log, and each who waits has its place.
+func TestRepeatsInABatch(t *testing.T) {
+	t.Parallel()
+	p, ctx, got := newPlace(t), limited(t), &answers{}
+	wait, release := make(chan struct{}), make(chan struct{})
+	var once sync.Once
+	s := started(t, p.config(t), hooks{phase: func(name string) {
+		if name == "stepped" {
+			once.Do(func() { close(wait); <-release })
+		}
+	}})
+	done := make(chan error, 31)
+	submit := func(n int) { go func() { done <- got.submitAll(ctx, s, n, n+1, 1) }() }
+	submit(0)
+	<-wait
+	for n := 0; n < 30; n++ {
+		submit(1 + n%10)
+	}
+	eventually(t, "all wait", func() bool { return s.Figures().Queue == 31 })
+	close(release)
+	for range make([]int, 31) {
+		must(t, <-done)
+	}
+	report := p.right(t, got)
+	if figures := s.Figures(); report.Leaves != 11 || report.Answers != 31 || figures.Repeats != 0 {
+		t.Fatalf("%+v, %d repeats", report, figures.Repeats)
+	}
+	of := map[string]map[string]bool{}
+	for _, one := range got.all {
+		place := fmt.Sprintf("%x at %d", one.Extensions, one.Timestamp)
+		if key := string(one.Certificate) + string(one.TBSCertificate); of[key] == nil {
+			of[key] = map[string]bool{place: true}
+		} else {
+			of[key][place] = true
+		}
+	}
+	for key, places := range of {
+		if len(places) != 1 {
+			t.Errorf("%x: %v", key, places)
+		}
+	}
+	leavesAreKnown(t, s, 11)
 }
 
 // TestBehindSwap has a node answer while its roll-out stands still; the head comes behind that. Without the option nothing is

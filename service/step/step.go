@@ -179,8 +179,9 @@ func (c *Client) Needs(ctx context.Context, line string) ([]string, error) {
 // Stepped is what a step gives.
 type Stepped struct {
 	Head
-	Line     string    `json:"state"`
-	Bundle   []byte    `json:"bundle"`
+	Line   string `json:"state"`
+	Bundle []byte `json:"bundle"`
+	// Receipts are one for each submission of the batch, in its order: of a repeat that of the first.
 	Receipts []Receipt `json:"receipts"`
 	// State is the line's.
 	State State `json:"-"`
@@ -212,16 +213,20 @@ func (c *Client) Step(ctx context.Context, line string, edge [][]byte, batch []S
 		return nil, fmt.Errorf("%w: %v", ErrReply, err)
 	}
 	s := reply.State
-	if s.Size != before.Size+uint64(len(batch)) || s.Moment != now || s.Before != Digest(line) || s.Bundle != sha256.Sum256(reply.Bundle) {
-		return nil, fmt.Errorf("%w: the state isn't the one behind this batch", ErrReply)
-	}
 	if len(reply.Receipts) != len(batch) {
 		return nil, fmt.Errorf("%w: %d receipts of %d entries", ErrReply, len(reply.Receipts), len(batch))
 	}
+	size := before.Size
 	for i, r := range reply.Receipts {
-		if r.LeafIndex != before.Size+uint64(i) || r.Timestamp != now || len(r.Sign) == 0 {
-			return nil, fmt.Errorf("%w: receipt %d isn't the entry's", ErrReply, i)
+		if r.LeafIndex == size {
+			size++
 		}
+		if r.LeafIndex < before.Size || r.LeafIndex >= size || r.Timestamp != now || len(r.Sign) == 0 {
+			return nil, fmt.Errorf("%w: receipt %d isn't an entry's of this batch", ErrReply, i)
+		}
+	}
+	if s.Size != size || s.Moment != now || s.Before != Digest(line) || s.Bundle != sha256.Sum256(reply.Bundle) {
+		return nil, fmt.Errorf("%w: the state isn't the one behind this batch", ErrReply)
 	}
 	return reply, reply.Head.check(s)
 }

@@ -185,6 +185,53 @@ func TestWrongStates(t *testing.T) {
 	}
 }
 
+// TestReceipts has a batch with repeats in it answered in its order, and a program reply other receipts than one for each submission.
+func TestReceipts(t *testing.T) {
+	c, ctx := client(t, 10*time.Minute, program...), within(t)
+	line, err := c.Begin(ctx, 5)
+	must(t, err)
+	of := func(leaf string) Submission { return Submission{LeafCertificate: []byte(leaf)} }
+	before, err := c.Step(ctx, line, nil, []Submission{of("zero")}, 6, MostAhead)
+	must(t, err)
+	objects, err := Objects(before.Bundle)
+	must(t, err)
+	edge := [][]byte{objects[0].Content, objects[1].Content}
+	batch := []Submission{of("one"), of("two"), of("one"), of("three"), of("two")}
+	right, err := c.Step(ctx, before.Line, edge, batch, 7, MostAhead)
+	must(t, err)
+	for i, index := range []uint64{1, 2, 1, 3, 2} {
+		first := map[uint64]int{1: 0, 2: 1, 3: 3}[index]
+		if r := right.Receipts[i]; r.LeafIndex != index || !bytes.Equal(r.Sign, right.Receipts[first].Sign) || !bytes.Contains(r.Sign, batch[i].LeafCertificate) {
+			t.Errorf("receipt %d is of entry %d", i, r.LeafIndex)
+		}
+	}
+	if right.State.Size != 4 {
+		t.Errorf("%d entries", right.State.Size)
+	}
+	for what, wrong := range map[string]func([]Receipt) []Receipt{
+		"none":                   func(r []Receipt) []Receipt { return nil },
+		"one too few":            func(r []Receipt) []Receipt { return r[:4] },
+		"one too many":           func(r []Receipt) []Receipt { return append(r, r[4]) },
+		"one of the log before":  func(r []Receipt) []Receipt { r[2].LeafIndex = 0; return r },
+		"one behind the entries": func(r []Receipt) []Receipt { r[4].LeafIndex = 4; return r },
+		"one out of turn":        func(r []Receipt) []Receipt { r[1], r[3] = r[3], r[1]; return r },
+		"an entry without one":   func(r []Receipt) []Receipt { r[3] = r[4]; return r },
+		"of another moment":      func(r []Receipt) []Receipt { r[0].Timestamp++; return r },
+		"nothing to be signed":   func(r []Receipt) []Receipt { r[4].Sign = nil; return r },
+	} {
+		reply := *right
+		reply.Receipts = wrong(append([]Receipt{}, right.Receipts...))
+		text, err := json.Marshal(reply)
+		must(t, err)
+		path := filepath.Join(t.TempDir(), "reply")
+		must(t, os.WriteFile(path, append(text, '\n'), 0o600))
+		liar := client(t, 20*time.Second, script(t, "read x; cat "+path)...)
+		if _, err = liar.Step(ctx, before.Line, edge, batch, 7, MostAhead); !errors.Is(err, ErrReply) {
+			t.Errorf("%s: %v", what, err)
+		}
+	}
+}
+
 func TestLongRequest(t *testing.T) {
 	c := client(t, 10*time.Minute, program...)
 	if _, err := c.Resume(within(t), "growth "+strings.Repeat("0", 288), make([]byte, MostRequest)); !errors.Is(err, ErrTooLong) || c.Starts() != 0 {
