@@ -56,11 +56,26 @@ func (o timed) Time(context.Context) (time.Time, time.Duration, error) {
 	return time.Now().Add(o.by), time.Second, nil
 }
 
-// skews are how far a clock may be off, and whether that is within the bound.
-var skews = []struct {
+// skew is how far a clock is off, and whether that is within the bound.
+type skew struct {
 	by     time.Duration
 	within bool
-}{{time.Second, true}, {59 * time.Minute, false}, {24 * time.Hour, false}, {365 * 24 * time.Hour, false}, {-time.Second, true}, {-59 * time.Minute, false}, {-24 * time.Hour, false}, {-365 * 24 * time.Hour, false}}
+}
+
+var skews = []skew{{time.Second, true}, {59 * time.Minute, false}, {24 * time.Hour, false}, {365 * 24 * time.Hour, false}, {-time.Second, true}, {-59 * time.Minute, false}, {-24 * time.Hour, false}, {-365 * 24 * time.Hour, false}}
+
+// eachSkew runs a test with each, on each ground that is there.
+func eachSkew(t *testing.T, test func(t *testing.T, on ground, skew skew)) {
+	onEach(t, func(t *testing.T, on ground) {
+		for _, skew := range skews {
+			skew := skew
+			t.Run(fmt.Sprint(skew.by), func(t *testing.T) {
+				t.Parallel()
+				test(t, on, skew)
+			})
+		}
+	})
+}
 
 // isSaid sees that a refusal says which way a clock is off, beside what, and by about how much.
 func isSaid(t *testing.T, err error, by time.Duration, beside string) {
@@ -92,83 +107,75 @@ func timely(t *testing.T, got *answers) {
 // time; once the clock is right it goes on by itself. Where nobody knows it, and the log may have stood, the bound is a day ahead.
 func TestClockAtStart(t *testing.T) {
 	t.Parallel()
-	for _, skew := range skews {
-		skew := skew
-		t.Run(fmt.Sprint(skew.by), func(t *testing.T) {
-			t.Parallel()
-			p, ctx, got := newPlace(t), limited(t), &answers{}
-			s := started(t, p.config(t), hooks{})
-			must(t, got.submitAll(ctx, s, 0, 5, 5))
-			must(t, s.End(ctx))
-			for i, beside := range []string{"the objects' store", "the log's newest head"} {
-				config, clock := p.config(t), newAhead(skew.by)
-				config.Clock = clock
-				within := skew.within
-				if i == 0 {
-					config.Objects = timed{config.Objects, 0}
-				} else if skew.by == 59*time.Minute {
-					// (a log that stood for an hour has such a newest head)
-					within = true
-				}
-				s := started(t, config, hooks{})
-				_, err := s.Submit(ctx, entryOf(10+i))
-				if within {
-					must(t, err)
-				} else {
-					isSaid(t, err, skew.by, beside)
-					if fault := s.Figures().Fault; !strings.Contains(fault, beside) {
-						t.Errorf("its fault is %q", fault)
-					}
-				}
-				if within && !skew.within {
-					// (what was taken so is of the future, and the log takes nothing with the right clock until then: TestRanAhead)
-					must(t, s.End(ctx))
-					continue
-				}
-				clock.set(0, false)
-				comesBack(t, s, got, 20+i)
-				must(t, s.End(ctx))
+	eachSkew(t, func(t *testing.T, on ground, skew skew) {
+		p, ctx, got := newPlaceOn(t, on), limited(t), &answers{}
+		s := started(t, p.config(t), hooks{})
+		must(t, got.submitAll(ctx, s, 0, 5, 5))
+		must(t, s.End(ctx))
+		for i, beside := range []string{"the objects' store", "the log's newest head"} {
+			config, clock := p.config(t), newAhead(skew.by)
+			config.Clock = clock
+			within := skew.within
+			if i == 0 {
+				config.Objects = timed{config.Objects, 0}
+			} else if skew.by == 59*time.Minute {
+				// (a log that stood for an hour has such a newest head)
+				within = true
 			}
-			timely(t, got)
-			p.right(t, &answers{})
-		})
-	}
+			s := started(t, config, hooks{})
+			_, err := s.Submit(ctx, entryOf(10+i))
+			if within {
+				must(t, err)
+			} else {
+				isSaid(t, err, skew.by, beside)
+				if fault := s.Figures().Fault; !strings.Contains(fault, beside) {
+					t.Errorf("its fault is %q", fault)
+				}
+			}
+			if within && !skew.within {
+				// (what was taken so is of the future, and the log takes nothing with the right clock until then: TestRanAhead)
+				must(t, s.End(ctx))
+				continue
+			}
+			clock.set(0, false)
+			comesBack(t, s, got, 20+i)
+			must(t, s.End(ctx))
+		}
+		timely(t, got)
+		p.right(t, &answers{})
+	})
 }
 
 // TestClockSet sets a node's clock while it runs, with nothing beside it that knows the time but what elapsed; with a store that does; and where
 // the kernel says that it is right now.
 func TestClockSet(t *testing.T) {
 	t.Parallel()
-	for _, skew := range skews {
-		skew := skew
-		t.Run(fmt.Sprint(skew.by), func(t *testing.T) {
-			t.Parallel()
-			p, ctx, got := newPlace(t), limited(t), &answers{}
-			for i, beside := range []string{"what elapsed since it was believed", "the objects' store"} {
-				config, clock := p.config(t), newAhead(0)
-				config.Clock = clock
-				if i == 1 {
-					config.Objects = timed{config.Objects, 0}
-				} else if skew.by < 0 {
-					beside = "the log's newest head"
-				}
-				s := started(t, config, hooks{})
-				must(t, got.submitAll(ctx, s, 10*i, 10*i+2, 1))
-				clock.set(skew.by, false)
-				_, err := s.Submit(ctx, entryOf(10*i+5))
-				if skew.within {
-					must(t, err)
-				} else {
-					isSaid(t, err, skew.by, beside)
-				}
-				clock.set(0, false)
-				comesBack(t, s, got, 10*i+6)
-				must(t, s.End(ctx))
+	eachSkew(t, func(t *testing.T, on ground, skew skew) {
+		p, ctx, got := newPlaceOn(t, on), limited(t), &answers{}
+		for i, beside := range []string{"what elapsed since it was believed", "the objects' store"} {
+			config, clock := p.config(t), newAhead(0)
+			config.Clock = clock
+			if i == 1 {
+				config.Objects = timed{config.Objects, 0}
+			} else if skew.by < 0 {
+				beside = "the log's newest head"
 			}
-			timely(t, got)
-			p.right(t, &answers{})
-		})
-	}
+			s := started(t, config, hooks{})
+			must(t, got.submitAll(ctx, s, 10*i, 10*i+2, 1))
+			clock.set(skew.by, false)
+			_, err := s.Submit(ctx, entryOf(10*i+5))
+			if skew.within {
+				must(t, err)
+			} else {
+				isSaid(t, err, skew.by, beside)
+			}
+			clock.set(0, false)
+			comesBack(t, s, got, 10*i+6)
+			must(t, s.End(ctx))
+		}
+		timely(t, got)
+		p.right(t, &answers{})
+	})
 }
 
 // TestClockPutRight has a machine begin with a clock that is behind, as one without a battery does, and has it put right: by the kernel's word it
@@ -439,37 +446,33 @@ func TestRanAhead(t *testing.T) {
 // on in its own time, and so do both once the clock is right.
 func TestClockOfOneNode(t *testing.T) {
 	t.Parallel()
-	for _, skew := range skews {
-		skew := skew
-		t.Run(fmt.Sprint(skew.by), func(t *testing.T) {
-			t.Parallel()
-			p, ctx, got := newPlace(t), limited(t), &answers{}
-			clocks, nodes := [2]*bent{newAhead(0), newAhead(skew.by)}, [2]*Sequencer{}
-			for i := range nodes {
-				config, server := p.notHere(t), httptest.NewUnstartedServer(nil)
-				config.Clock = clocks[i]
-				config.Address, config.Secret = "http://"+server.Listener.Addr().String()+"/sequence", "the secret of these nodes"
-				nodes[i] = started(t, config, hooks{})
-				server.Config.Handler = nodes[i].Handler()
-				server.Start()
-				t.Cleanup(server.Close)
-				if i == 0 {
-					must(t, got.submitAll(ctx, nodes[0], 0, 5, 5))
-				}
+	eachSkew(t, func(t *testing.T, on ground, skew skew) {
+		p, ctx, got := newPlaceOn(t, on), limited(t), &answers{}
+		clocks, nodes := [2]*bent{newAhead(0), newAhead(skew.by)}, [2]*Sequencer{}
+		for i := range nodes {
+			config, server := p.notHere(t), httptest.NewUnstartedServer(nil)
+			config.Clock = clocks[i]
+			config.Address, config.Secret = "http://"+server.Listener.Addr().String()+"/sequence", "the secret of these nodes"
+			nodes[i] = started(t, config, hooks{})
+			server.Config.Handler = nodes[i].Handler()
+			server.Start()
+			t.Cleanup(server.Close)
+			if i == 0 {
+				must(t, got.submitAll(ctx, nodes[0], 0, 5, 5))
 			}
-			_, err := nodes[1].Submit(ctx, entryOf(10))
-			if skew.within {
-				must(t, err)
-			} else {
-				isSaid(t, err, skew.by, "the node that makes the steps")
-			}
-			must(t, got.submitAll(ctx, nodes[0], 20, 25, 5))
-			clocks[1].set(0, false)
-			comesBack(t, nodes[1], got, 30)
-			timely(t, got)
-			p.right(t, &answers{})
-		})
-	}
+		}
+		_, err := nodes[1].Submit(ctx, entryOf(10))
+		if skew.within {
+			must(t, err)
+		} else {
+			isSaid(t, err, skew.by, "the node that makes the steps")
+		}
+		must(t, got.submitAll(ctx, nodes[0], 20, 25, 5))
+		clocks[1].set(0, false)
+		comesBack(t, nodes[1], got, 30)
+		timely(t, got)
+		p.right(t, &answers{})
+	})
 }
 
 // TestHandedBackAhead has a node be handed back timestamps of the future: nobody is answered by them.

@@ -59,14 +59,23 @@ var grounds = []ground{
 // newPlaceOn makes a place of a new log; a bucket, too.
 func newPlaceOn(t testing.TB, on ground) place {
 	p := newPlace(t)
-	if on.register == nil {
-		return p
+	if on.register != nil {
+		p.stands(t, on, "")
 	}
+	return p
+}
+
+// stands has a place stand on an engine, under a new name and in a new bucket; its places are at this address, or else there, too.
+func (p place) stands(t testing.TB, on ground, places string) {
+	t.Helper()
 	var chance [8]byte
 	_, err := rand.Read(chance[:])
 	must(t, err)
 	name := "log-" + hex.EncodeToString(chance[:])
-	at := addresses{"folder:" + p.objects(), on.register(name), on.register(name)}
+	at := addresses{"folder:" + p.objects(), on.register(name), places}
+	if places == "" {
+		at.Places = on.register(name)
+	}
 	if on.s3 {
 		at.Objects = strings.Replace(s3Address, "http:", "s3:", 1) + "/" + name + "?tls=no"
 		makeBucket(t, name)
@@ -74,7 +83,6 @@ func newPlaceOn(t testing.TB, on ground) place {
 	text, err := json.Marshal(at)
 	must(t, err)
 	must(t, os.WriteFile(p.addressFile(), text, 0o600))
-	return p
 }
 
 func makeBucket(t testing.TB, name string) {

@@ -4,6 +4,7 @@ import (
 	"context"
 	"errors"
 	"fmt"
+	"io/fs"
 	"os"
 	"os/exec"
 	"path/filepath"
@@ -380,4 +381,100 @@ func TestPutBack(t *testing.T) {
 	if len(atStart) != 27 {
 		t.Errorf("%d ways", len(atStart))
 	}
+}
+
+// kept is a copy of what a log's register and objects have.
+type kept struct {
+	text      string
+	published stores.Published
+	objects   string
+}
+
+// keeps copies them.
+func (p place) keeps(t *testing.T) (k kept) {
+	t.Helper()
+	ctx, config := limited(t), p.config(t)
+	var err error
+	k.text, err = config.Register.Read(ctx)
+	must(t, err)
+	k.published, err = config.Register.Published(ctx)
+	must(t, err)
+	k.objects = t.TempDir()
+	_, err = stores.Copy(ctx, config.Objects, k.objects, "conditional-put/")
+	must(t, err)
+	return k
+}
+
+// puts has the stores of a place, which are new, be as the copies of them are; those that are nil stay gone.
+func (p place) puts(t *testing.T, register, objects *kept) {
+	t.Helper()
+	ctx := limited(t)
+	at, err := p.addresses()
+	must(t, err)
+	if register != nil {
+		to, err := stores.RegisterAt(ctx, at.Register)
+		must(t, err)
+		defer to.Close()
+		must(t, to.Create(ctx, register.text))
+		must(t, to.Raise(ctx, register.published))
+	}
+	if objects != nil {
+		to, err := stores.ObjectsAt(ctx, at.Objects)
+		must(t, err)
+		defer to.Close()
+		must(t, filepath.WalkDir(objects.objects, func(path string, entry fs.DirEntry, err error) error {
+			if err != nil || entry.IsDir() {
+				return err
+			}
+			name, err := filepath.Rel(objects.objects, path)
+			must(t, err)
+			content, err := os.ReadFile(path)
+			must(t, err)
+			return to.Put(ctx, filepath.ToSlash(name), content)
+		}))
+	}
+}
+
+// TestPutBackOnEach is TestPutBack on each engine that is there: what comes of each of the 27 ways is the same.
+func TestPutBackOnEach(t *testing.T) {
+	t.Parallel()
+	onEach(t, func(t *testing.T, on ground) {
+		if on.register == nil {
+			t.Skip("TestPutBack has it")
+		}
+		inFile := func(p place) string { return "sqlite:" + filepath.Join(string(p), "places.db") }
+		p, ctx, got := newPlace(t), limited(t), &answers{}
+		p.stands(t, on, inFile(p))
+		copies := map[string]*kept{}
+		guards := map[string]place{}
+		for i, of := range []string{old, now} {
+			s := started(t, p.config(t), hooks{})
+			must(t, got.submitAll(ctx, s, 20*i, 20*i+20, 8))
+			must(t, s.End(ctx))
+			k := p.keeps(t)
+			copies[of], guards[of] = &k, p.copied(t, "guard")
+		}
+		for states, expected := range atStart {
+			for i, isThere := range []bool{true, false} {
+				states, expected, isThere := states, expected[i], isThere
+				t.Run(fmt.Sprintf("%v, file there %v", states, isThere), func(t *testing.T) {
+					t.Parallel()
+					to := p.copied(t, "places.db", "latest-head")
+					to.stands(t, on, inFile(to))
+					to.puts(t, copies[states[0]], copies[states[1]])
+					if from, isKept := guards[states[2]]; isKept {
+						if said, err := exec.Command("cp", "-a", from.guardState(), string(to)).CombinedOutput(); err != nil {
+							t.Fatalf("%v: %s", err, said)
+						}
+					}
+					if !isThere {
+						must(t, os.Remove(to.latestHead()))
+					}
+					if became := to.becomes(t, got); became != expected {
+						t.Errorf("%s, and expected was: %s", became, expected)
+					}
+				})
+			}
+		}
+	})
 }

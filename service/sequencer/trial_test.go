@@ -108,7 +108,7 @@ func newPlace(t testing.TB) place {
 func (p place) open(ctx context.Context) (config Config, err error) {
 	for {
 		config, err = p.openOnce(ctx)
-		if err == nil || !p.onEngines() || wait(ctx, 200*time.Millisecond) != nil {
+		if err == nil || !p.onEngines() || errors.Is(err, signer.ErrState) || wait(ctx, 200*time.Millisecond) != nil {
 			return config, err
 		}
 	}
