@@ -103,21 +103,13 @@ func Stepped(line, node string, salt uint64, objects []string) Told {
 func Listed(bundle string) Told { return Told{"came": "listed", "bundle": bundle} }
 
 // Client asks one process, one line at a time. Its methods may be called at once.
-type Client struct{ asked *pipe.Client }
+type Client struct{ *pipe.Program }
 
 // NewClient takes the program's command, and how long a line may take. The process is started by the first line.
 func NewClient(command []string, limit time.Duration) (*Client, error) {
-	if len(command) == 0 {
-		return nil, fmt.Errorf("%w: there is no command", ErrGone)
-	}
-	return &Client{pipe.NewClient(func(context.Context) (*pipe.End, error) { return pipe.Start(command, mostReply) }, limit)}, nil
+	program, err := pipe.NewProgram(command, MostLine, mostReply, limit)
+	return &Client{program}, err
 }
-
-// Starts is how often the process was started.
-func (c *Client) Starts() uint64 { return c.asked.Opens() }
-
-// Close ends the process.
-func (c *Client) Close() error { return c.asked.Close() }
 
 // Next gives the command behind what came of one.
 func (c *Client) Next(ctx context.Context, command *Command, told Told) (*Command, error) {
@@ -126,22 +118,18 @@ func (c *Client) Next(ctx context.Context, command *Command, told Told) (*Comman
 			told[key] = []string{}
 		}
 	}
-	line, err := json.Marshal(map[string]any{"node": command.said, "told": told})
-	if err != nil {
-		return nil, fmt.Errorf("decider: %w", err)
+	line := map[string]any{"node": command.said, "told": told}
+	reply, err := c.Ask(ctx, line)
+	if errors.Is(err, ErrGone) && ctx.Err() == nil {
+		reply, err = c.Ask(ctx, line)
 	}
-	if len(line) > MostLine {
-		return nil, fmt.Errorf("%w: a line of %d bytes", ErrRefused, len(line))
-	}
-	line = append(line, '\n')
-	replies, err := c.asked.Exchange(ctx, line, 1)
-	if errors.Is(err, pipe.ErrGone) && ctx.Err() == nil {
-		replies, err = c.asked.Exchange(ctx, line, 1)
+	if errors.Is(err, pipe.ErrTooLong) {
+		return nil, fmt.Errorf("%w: %v", ErrRefused, err)
 	}
 	if err != nil {
 		return nil, fmt.Errorf("decider: %w", err)
 	}
-	return read(replies[0])
+	return read(reply)
 }
 
 // read reads a reply.

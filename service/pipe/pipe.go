@@ -5,6 +5,7 @@ import (
 	"bufio"
 	"bytes"
 	"context"
+	"encoding/json"
 	"errors"
 	"fmt"
 	"io"
@@ -204,4 +205,44 @@ func (c *Client) Exchange(ctx context.Context, lines []byte, replies int) ([][]b
 	}
 	c.turn <- e
 	return came, err
+}
+
+// ErrTooLong: a line is longer than the program takes. It wasn't sent.
+var ErrTooLong = errors.New("pipe: line too long")
+
+// Program is a process that gets a line of JSON, and replies with another one. It is started by the first one, and again behind one that it didn't
+// reply to. Its methods may be called at once.
+type Program struct {
+	asked    *Client
+	mostLine int
+}
+
+// NewProgram takes a program's command, how many bytes its lines and its replies have at most without their ends, and how long a reply may take.
+func NewProgram(command []string, mostLine, mostReply int, limit time.Duration) (*Program, error) {
+	if len(command) == 0 {
+		return nil, fmt.Errorf("%w: there is no command", ErrGone)
+	}
+	return &Program{NewClient(func(context.Context) (*End, error) { return Start(command, mostReply) }, limit), mostLine}, nil
+}
+
+// Starts is how often the process was started.
+func (p *Program) Starts() uint64 { return p.asked.Opens() }
+
+// Close ends the process.
+func (p *Program) Close() error { return p.asked.Close() }
+
+// Ask sends a request, and gives the line that is replied.
+func (p *Program) Ask(ctx context.Context, request any) ([]byte, error) {
+	line, err := json.Marshal(request)
+	if err != nil {
+		return nil, fmt.Errorf("pipe: request: %w", err)
+	}
+	if len(line) > p.mostLine {
+		return nil, fmt.Errorf("%w: %d bytes", ErrTooLong, len(line))
+	}
+	replies, err := p.asked.Exchange(ctx, append(line, '\n'), 1)
+	if err != nil {
+		return nil, err
+	}
+	return replies[0], nil
 }

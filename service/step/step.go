@@ -28,7 +28,7 @@ const MostAhead = 3_600_000
 // What requests fail by, beside a Refusal. Each is found by errors.Is.
 var (
 	// ErrTooLong: a request is longer than MostRequest. It wasn't sent.
-	ErrTooLong = errors.New("step: request too long")
+	ErrTooLong = pipe.ErrTooLong
 	// ErrProcess: the process doesn't start, ended, or gave no reply in time. The next request starts another.
 	ErrProcess = pipe.ErrGone
 	// ErrReply: the reply isn't one to the request.
@@ -54,36 +54,20 @@ const (
 )
 
 // Client asks one process, one request at a time. Its methods may be called at once.
-type Client struct{ asked *pipe.Client }
+type Client struct{ *pipe.Program }
 
 // NewClient takes the program's command, and how long a request may take. The process is started by the first request.
 func NewClient(command []string, limit time.Duration) (*Client, error) {
-	if len(command) == 0 {
-		return nil, fmt.Errorf("%w: there is no command", ErrProcess)
-	}
-	return &Client{pipe.NewClient(func(context.Context) (*pipe.End, error) { return pipe.Start(command, MostReply) }, limit)}, nil
+	program, err := pipe.NewProgram(command, MostRequest, MostReply, limit)
+	return &Client{program}, err
 }
-
-// Starts is how often the process was started.
-func (c *Client) Starts() uint64 { return c.asked.Opens() }
-
-// Close ends the process.
-func (c *Client) Close() error { return c.asked.Close() }
 
 // ask sends a request, and reads its reply into an object.
 func (c *Client) ask(ctx context.Context, request, reply any) error {
-	line, err := json.Marshal(request)
-	if err != nil {
-		return fmt.Errorf("step: request: %w", err)
-	}
-	if len(line) > MostRequest {
-		return fmt.Errorf("%w: %d bytes", ErrTooLong, len(line))
-	}
-	replies, err := c.asked.Exchange(ctx, append(line, '\n'), 1)
+	answered, err := c.Ask(ctx, request)
 	if err != nil {
 		return err
 	}
-	answered := replies[0]
 	if isRefusal(answered) {
 		var refused struct {
 			Refused                Refusal
