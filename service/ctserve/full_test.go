@@ -50,41 +50,16 @@ func fill(t *testing.T, folder string, but int64) (room func()) {
 func TestFullDisk(t *testing.T) {
 	t.Parallel()
 	at := newPlace(t)
-	disk := at.path("log")
-	if err := os.Mkdir(disk, 0o755); err != nil {
-		t.Fatal(err)
-	}
-	if err := syscall.Mount("tmpfs", disk, "tmpfs", 0, fmt.Sprintf("size=%d", 8<<20)); err != nil {
-		t.Skipf("no small file system can be mounted here, which wants root: %v", err)
-	}
-	t.Cleanup(func() {
-		if err := syscall.Unmount(disk, syscall.MNT_DETACH); err != nil {
-			t.Error(err)
-		}
-	})
+	disk := at.mount(t)
 	words := at.realWords("--signing-key", at.path("log.pem"), "--guard-state", "file:"+at.path("log/guard"), "--latest-head", at.path("log/latest-head"))
 	p := started(t, "", append(words, "--guard", at.guard, "--create")...)
 	var answers []check.Answer
 	submit := func() (int, string) {
 		t.Helper()
-		der, err := at.authority.Issue(false, time.Date(2027, 1, 1, 0, 0, 0, 0, time.UTC))
-		if err != nil {
-			t.Fatal(err)
+		status, text, one := at.submitted(t, p)
+		if status == 200 {
+			answers = append(answers, one)
 		}
-		status, text := post(p.clients, standin.Submission(der))
-		if status != 200 {
-			return status, text
-		}
-		var read struct {
-			ID         []byte `json:"id"`
-			Timestamp  uint64 `json:"timestamp"`
-			Extensions []byte `json:"extensions"`
-			Signature  []byte `json:"signature"`
-		}
-		if err := json.Unmarshal([]byte(text), &read); err != nil {
-			t.Fatal(err)
-		}
-		answers = append(answers, check.Answer{Certificate: der, LogID: read.ID, Timestamp: read.Timestamp, Extensions: read.Extensions, Signature: read.Signature})
 		return status, text
 	}
 	again := func() {
@@ -113,20 +88,7 @@ func TestFullDisk(t *testing.T) {
 				t.Fatalf("with %d bytes: %d %s", but, status, text)
 			}
 		}
-		var head struct {
-			Size uint64 `json:"tree_size"`
-		}
-		if _, text := get(p.clients, "/ct/v1/get-sth"); json.Unmarshal([]byte(text), &head) != nil || head.Size < uint64(len(answers)) {
-			t.Errorf("with %d bytes: get-sth: %s", but, text)
-		}
-		partial := fmt.Sprintf("/tile/0/000.p/%d", head.Size)
-		hash := standin.LeafHash(leafOf(answers[2]))
-		proof := fmt.Sprintf("/ct/v1/get-proof-by-hash?tree_size=%d&hash=%s", head.Size, url.QueryEscape(base64.StdEncoding.EncodeToString(hash[:])))
-		for _, path := range []string{"/checkpoint", partial, "/ct/v1/get-entries?start=0&end=4", fmt.Sprint("/ct/v1/get-sth-consistency?first=3&second=", head.Size), proof, "/healthz"} {
-			if status, text := get(p.clients, path); status != 200 {
-				t.Errorf("with %d bytes: %s: %d %s", but, path, status, text)
-			}
-		}
+		readsAll(t, p, fmt.Sprintf("with %d bytes", but), answers)
 		if status, text := get(p.clients, "/readyz"); status != 503 {
 			t.Errorf("with %d bytes: /readyz: %d %s", but, status, text)
 		}
@@ -154,6 +116,64 @@ func TestFullDisk(t *testing.T) {
 	report, err := check.Folder(filepath.Join(disk, "objects"), key.Key(), answers)
 	if err != nil || report.Answers < 8 || report.Repeats != 0 {
 		t.Errorf("%+v, %v", report, err)
+	}
+}
+
+// mount mounts a small file system where the log is.
+func (at place) mount(t *testing.T) (disk string) {
+	t.Helper()
+	disk = at.path("log")
+	if err := os.Mkdir(disk, 0o755); err != nil {
+		t.Fatal(err)
+	}
+	if err := syscall.Mount("tmpfs", disk, "tmpfs", 0, fmt.Sprintf("size=%d", 8<<20)); err != nil {
+		t.Skipf("no small file system can be mounted here, which wants root: %v", err)
+	}
+	t.Cleanup(func() {
+		if err := syscall.Unmount(disk, syscall.MNT_DETACH); err != nil {
+			t.Error(err)
+		}
+	})
+	return disk
+}
+
+// submitted submits a new certificate, and gives what was answered.
+func (at place) submitted(t *testing.T, p *program) (status int, text string, one check.Answer) {
+	t.Helper()
+	der, err := at.authority.Issue(false, time.Date(2027, 1, 1, 0, 0, 0, 0, time.UTC))
+	if err != nil {
+		t.Fatal(err)
+	}
+	if status, text = post(p.clients, standin.Submission(der)); status != 200 {
+		return status, text, one
+	}
+	var read struct {
+		ID         []byte `json:"id"`
+		Timestamp  uint64 `json:"timestamp"`
+		Extensions []byte `json:"extensions"`
+		Signature  []byte `json:"signature"`
+	}
+	if err := json.Unmarshal([]byte(text), &read); err != nil {
+		t.Fatal(err)
+	}
+	return status, text, check.Answer{Certificate: der, LogID: read.ID, Timestamp: read.Timestamp, Extensions: read.Extensions, Signature: read.Signature}
+}
+
+// readsAll sees that all that readers ask is answered, by a head that has what was answered, and that the process lives.
+func readsAll(t *testing.T, p *program, when string, answers []check.Answer) {
+	t.Helper()
+	var head struct {
+		Size uint64 `json:"tree_size"`
+	}
+	if _, text := get(p.clients, "/ct/v1/get-sth"); json.Unmarshal([]byte(text), &head) != nil || head.Size < uint64(len(answers)) {
+		t.Errorf("%s: get-sth: %s", when, text)
+	}
+	hash := standin.LeafHash(leafOf(answers[2]))
+	proof := fmt.Sprintf("/ct/v1/get-proof-by-hash?tree_size=%d&hash=%s", head.Size, url.QueryEscape(base64.StdEncoding.EncodeToString(hash[:])))
+	for _, path := range []string{"/checkpoint", fmt.Sprintf("/tile/0/000.p/%d", head.Size), fmt.Sprintf("/tile/data/000.p/%d", head.Size), "/ct/v1/get-entries?start=0&end=4", fmt.Sprint("/ct/v1/get-sth-consistency?first=3&second=", head.Size), proof, "/healthz"} {
+		if status, text := get(p.clients, path); status != 200 {
+			t.Errorf("%s: %s: %d %s", when, path, status, text)
+		}
 	}
 }
 

@@ -74,6 +74,8 @@ type Figures struct {
 	Swept, SweptHeads, Scrubbed uint64
 	// Written counts the bytes that steps put, in their bundles and as objects.
 	Written uint64
+	// Phases are the parts of a step, in their order.
+	Phases []Phase
 	// SweptBundles counts bundles of steps that were deleted since nobody needs them, and Staged is how many there were when they were listed last.
 	SweptBundles, Staged uint64
 	// TendFailures counts what failed of sweeping, which is tried again, and TendFailure is the last of it, in one line.
@@ -92,6 +94,13 @@ type Figures struct {
 	Witnesses []Witness
 	// Fault is what keeps the log from going on, in one line; empty where nothing does.
 	Fault string
+}
+
+// Phase is a part of a step: how often it was done, or failed, and how long that took in all.
+type Phase struct {
+	Name  string
+	Count uint64
+	Took  time.Duration
 }
 
 // Witness is how a witness stands to a log whose heads it cosigns.

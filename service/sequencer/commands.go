@@ -8,6 +8,7 @@ import (
 	"encoding/hex"
 	"errors"
 	"fmt"
+	"time"
 
 	"wagtenib/service/decider"
 	"wagtenib/service/step"
@@ -54,7 +55,7 @@ func (s *Sequencer) carryOut(ctx context.Context, t *turn) (bool, error) {
 	if carry == nil {
 		return false, fmt.Errorf("%w: %s", errCommand, t.command.Do)
 	}
-	told, err := carry(ctx, t)
+	told, err := s.carryTimed(ctx, t, carry)
 	if err != nil || told == nil {
 		return false, err
 	}
@@ -178,6 +179,7 @@ func saltOf() (uint64, error) {
 
 // doStep has a step made of who waits.
 func (s *Sequencer) doStep(ctx context.Context, t *turn, batch []*waiting) error {
+	defer s.took(phaseStep, time.Now())
 	t.batch = batch
 	submissions := make([]step.Submission, 0, len(batch))
 	for _, w := range batch {

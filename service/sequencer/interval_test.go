@@ -1,12 +1,14 @@
 package sequencer
 
 import (
-	"fmt"
+	"context"
 	"os"
 	"path/filepath"
 	"sync/atomic"
 	"testing"
 	"time"
+
+	"wagtenib/service/log"
 )
 
 // TestInterval: where a node rests, a step has half of the time, as long as the next one begins within mostRest; never does it wait for longer than
@@ -71,31 +73,60 @@ func TestBatchBehindAStep(t *testing.T) {
 	p.right(t, got)
 }
 
-// TestLargeEdge: where each step puts large certificates again, the steps are as far apart as their bytes want, and everybody is answered.
+// TestLargeEdge: behind a step the next one begins no earlier than its bytes want, at a byte a second of what it put twice, in its bundle and as objects,
+// whatever waits.
 func TestLargeEdge(t *testing.T) {
 	t.Parallel()
 	p, ctx, got := newPlace(t), limited(t), &answers{}
+	// (the log's first step is made at another pace)
+	s := started(t, p.config(t), hooks{})
+	must(t, got.submitAll(ctx, s, 0, 5, 5))
+	must(t, s.End(ctx))
 	config := p.config(t)
-	config.TendEvery, config.Interval, config.MostWritten = time.Hour, time.Millisecond, 2<<10
-	s := started(t, config, hooks{})
+	config.TendEvery, config.MostWritten = time.Hour, 1
+	waits := make(chan time.Duration, 1000)
+	s2 := started(t, config, hooks{rests: func(until time.Duration) { waits <- until }})
 	began := time.Now()
-	for number := 0; number < 6; number++ {
-		must(t, got.submitAll(ctx, s, number, number+1, 1))
-	}
-	took, put := time.Since(began), int64(0)
-	for _, name := range []string{"tile/data/000.p"} {
-		for width := 1; width < 6; width++ {
-			info, err := os.Stat(filepath.Join(p.objects(), name, fmt.Sprint(width)))
-			must(t, err)
-			put += info.Size()
+	must(t, got.submitAll(ctx, s2, 5, 6, 1))
+	bundles, err := os.ReadDir(filepath.Join(p.objects(), "staging"))
+	must(t, err)
+	// (that of the step before may still be there)
+	put, newest := int64(0), time.Time{}
+	for _, one := range bundles {
+		info, err := one.Info()
+		must(t, err)
+		if info.ModTime().After(newest) {
+			put, newest = 2*info.Size(), info.ModTime()
 		}
 	}
-	if f := s.Figures(); f.Written < uint64(2*put) {
-		t.Errorf("%d bytes were put twice, and %d are told", put, f.Written)
+	if f := s2.Figures(); put == 0 || f.Written != uint64(put) {
+		t.Fatalf("%d bytes were put, and %d are told", put, f.Written)
 	}
-	// (the last step's bytes have the next one wait)
-	if least := time.Duration(float64(2*put) / float64(2<<10) * float64(time.Second)); took < least || least < time.Second {
-		t.Errorf("%d bytes were put twice in %v, and not in %v", put, took, least)
+	told := make(chan error, 1)
+	go func() {
+		_, err := s2.Submit(ctx, entryOf(7))
+		told <- err
+	}()
+	for waited := false; !waited; {
+		select {
+		case until := <-waits:
+			// (behind a round that puts nothing it isn't for as long)
+			least := time.Duration(put)*time.Second - time.Since(began)
+			if waited = until > time.Minute; waited && until < least {
+				t.Errorf("it waits for %v, and not for %v", until, least)
+			}
+		case err := <-told:
+			t.Fatalf("the next step is made at once: %v", err)
+		}
+	}
+	ending, cancel := context.WithCancel(ctx)
+	cancel()
+	if s2.End(ending) == nil {
+		t.Error("who waited is said to be answered")
+	}
+	wants(t, <-told, log.ErrEnded)
+	if steps := s2.Figures().Steps; steps != 1 {
+		t.Errorf("%d steps were made", steps)
 	}
 	p.right(t, got)
 }

@@ -41,12 +41,20 @@ func issuerName(fingerprint [32]byte) string {
 }
 
 func (i *issuers) put(ctx context.Context, certificates [][]byte) error {
+	var unknown [][]byte
 	for _, certificate := range certificates {
-		if err := i.one(ctx, certificate); err != nil {
-			return err
+		if !i.isPut(certificate) {
+			unknown = append(unknown, certificate)
 		}
 	}
-	return nil
+	return sideBySide(ctx, len(unknown), func(ctx context.Context, at int) error { return i.one(ctx, unknown[at]) })
+}
+
+// isPut says whether an issuer is remembered as put.
+func (i *issuers) isPut(certificate []byte) bool {
+	i.mu.Lock()
+	defer i.mu.Unlock()
+	return i.known[sha256.Sum256(certificate)] != nil
 }
 
 func (i *issuers) one(ctx context.Context, certificate []byte) error {

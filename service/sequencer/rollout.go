@@ -19,7 +19,7 @@ import (
 	"wagtenib/service/stores"
 )
 
-// mostPuts is how many objects are put at once.
+// mostPuts is how many objects are put or read at once.
 const mostPuts = 8
 
 // isRolledOut says whether a state's head is published; then all of the state is.
@@ -201,33 +201,40 @@ func (s *Sequencer) putRight(ctx context.Context, name string, content []byte) e
 	return nil
 }
 
-// putAll puts objects under their public names, some at once.
-func (s *Sequencer) putAll(ctx context.Context, objects []step.Object) error {
+// sideBySide does so many things, none of which stands on another one, at most mostPuts at once, and gives the first error; what began is waited for.
+func sideBySide(ctx context.Context, many int, do func(ctx context.Context, at int) error) error {
 	ctx, cancel := context.WithCancel(ctx)
 	defer cancel()
 	var all sync.WaitGroup
-	room, failed := make(chan struct{}, mostPuts), make(chan error, len(objects))
-	for _, object := range objects {
+	room, failed := make(chan struct{}, mostPuts), make(chan error, many)
+	for at := 0; at < many; at++ {
 		room <- struct{}{}
 		all.Add(1)
-		go func(object step.Object) {
+		go func(at int) {
 			defer all.Done()
-			if err := s.config.Objects.Put(ctx, object.Name, object.Content); err != nil {
+			if err := do(ctx, at); err != nil {
 				failed <- err
 				cancel()
 			}
 			<-room
-		}(object)
+		}(at)
 	}
 	all.Wait()
 	if len(failed) == 0 {
 		return nil
 	}
-	err := <-failed
+	return <-failed
+}
+
+// putAll puts objects under their public names.
+func (s *Sequencer) putAll(ctx context.Context, objects []step.Object) error {
+	err := sideBySide(ctx, len(objects), func(ctx context.Context, at int) error {
+		return s.config.Objects.Put(ctx, objects[at].Name, objects[at].Content)
+	})
 	if errors.Is(err, stores.ErrOther) {
 		return fmt.Errorf("%w: %v", ErrDamaged, err)
 	}
-	return fmt.Errorf("sequencer: %w", err)
+	return wrapped(err)
 }
 
 // putHead has a state's head signed, and puts it. Where another node put one, that is the head: signatures of one head differ. The

@@ -59,7 +59,7 @@ func (s *Sequencer) loop(ctx context.Context) {
 			s.idle(ctx)
 		}
 		if until := time.Until(next); until > 0 && (!ending || s.later) {
-			_ = wait(ctx, until)
+			s.rest(ctx, until)
 		}
 		began, before := time.Now(), s.achieved()
 		round, cancel := context.WithTimeout(ctx, mostRound)
@@ -158,6 +158,7 @@ func (s *Sequencer) settle(err error) {
 // round learns the newest state, has it rolled out, and takes who waits one step further.
 func (s *Sequencer) round(ctx context.Context) error {
 	s.later, s.wrote, s.written = false, false, 0
+	began := time.Now()
 	s.mu.Lock()
 	why := s.fault
 	s.mu.Unlock()
@@ -201,6 +202,7 @@ func (s *Sequencer) round(ctx context.Context) error {
 	if len(batch) == 0 && !s.isStale(k) && why == nil {
 		return nil
 	}
+	s.took(phaseTake, began)
 	// (Behind a fault a step without entries says whether it is mended.)
 	return s.advance(ctx, t, batch)
 }
@@ -252,14 +254,16 @@ func (s *Sequencer) step(ctx context.Context, k known, batch []step.Submission, 
 
 // stepOver asks the program over an edge. One that is missing or isn't the state's is ErrDamaged.
 func (s *Sequencer) stepOver(ctx context.Context, k known, names []string, batch []step.Submission, at moment) (*step.Stepped, map[string][]byte, error) {
-	edge, contents := map[string][]byte{}, make([][]byte, 0, len(names))
-	for _, name := range names {
-		content, err := s.read(ctx, name)
-		if err != nil {
-			return nil, nil, err
-		}
-		edge[name] = content
-		contents = append(contents, content)
+	edge, contents := map[string][]byte{}, make([][]byte, len(names))
+	err := sideBySide(ctx, len(names), func(ctx context.Context, at int) (err error) {
+		contents[at], err = s.read(ctx, names[at])
+		return err
+	})
+	if err != nil {
+		return nil, nil, err
+	}
+	for at, name := range names {
+		edge[name] = contents[at]
 	}
 	stepped, err := s.config.Step.Step(ctx, k.line, contents, batch, at.now, at.most)
 	if errors.Is(err, step.TooFar) {

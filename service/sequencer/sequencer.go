@@ -192,6 +192,8 @@ type Sequencer struct {
 	// mended counts objects that were made again, and lastMended names the last.
 	mended     uint64
 	lastMended string
+	// phases are how long each part of steps took, by its name.
+	phases map[string]log.Phase
 	// tendFailures counts what tending failed by, and tendFailure is the last of it.
 	tendFailures uint64
 	tendFailure  string
@@ -359,7 +361,7 @@ func (s *Sequencer) Figures() log.Figures {
 		f.Witnesses = s.config.Witnesses.Standings()
 	}
 	f.Mended, f.LastMended = s.mended, s.lastMended
-	f.Written = s.putBytes.Load()
+	f.Written, f.Phases = s.putBytes.Load(), s.phasesTook()
 	f.SweptBundles, f.Staged = s.sweptBundles.Load(), s.staged.Load()
 	f.TendFailures, f.TendFailure = s.tendFailures, s.tendFailure
 	if f.DamagedIssuers, f.Damage = s.issuers.damage(); len(s.damage) > 0 {

@@ -97,6 +97,7 @@ var (
 	descScrubbed   = described("ctserve_scrubbed_tiles_total", "Old data tiles that were read again and were right.")
 	descDamaged    = described("ctserve_damaged_tiles", "Data tiles that are missing, can't be read or aren't the log's, or stand below such hash tiles, by what was read last.")
 	descWritten    = described("ctserve_written_bytes_total", "Bytes that steps put, in their bundles and as objects.")
+	descPhase      = prometheus.NewDesc("ctserve_step_seconds", "How long the parts of a step took: take (the newest state is read, and repeats are answered), look (another node's step is rolled out), step (the program makes it), stage (its bundle is put), swap, put (its objects), place, sign (its head), answer, delete.", []string{"phase"}, nil)
 	descBundles    = described("ctserve_swept_bundles_total", "Bundles of steps that were deleted since nobody needs them.")
 	descStaged     = described("ctserve_staged_bundles", "Bundles of steps that were there when they were listed last.")
 	descTending    = described("ctserve_tend_failures_total", "What failed of sweeping partial tiles, heads and bundles.")
@@ -149,6 +150,9 @@ func (c figures) Collect(to chan<- prometheus.Metric) {
 	count(descScrubbed, f.Scrubbed)
 	gauge(descDamaged, float64(f.Damaged))
 	count(descWritten, f.Written)
+	for _, phase := range f.Phases {
+		to <- prometheus.MustNewConstSummary(descPhase, phase.Count, phase.Took.Seconds(), nil, phase.Name)
+	}
 	count(descBundles, f.SweptBundles)
 	gauge(descStaged, float64(f.Staged))
 	count(descTending, f.TendFailures)

@@ -1,0 +1,148 @@
+package sequencer
+
+import (
+	"context"
+	"sync/atomic"
+	"testing"
+	"time"
+
+	"wagtenib/service/log"
+	"wagtenib/service/stores"
+)
+
+// holdingSwaps is a register whose swaps wait until they are let, and holdingPlaces a store of places whose additions do.
+type holdingSwaps struct {
+	stores.Register
+	*holding
+}
+
+func (h holdingSwaps) Swap(ctx context.Context, old, new string) error {
+	h.reached <- struct{}{}
+	<-h.released
+	return h.Register.Swap(ctx, old, new)
+}
+
+func (h holdingSwaps) Close() error { return h.Register.Close() }
+
+type holdingPlaces struct {
+	stores.Places
+	*holding
+}
+
+func (h holdingPlaces) Add(ctx context.Context, placed []stores.Placed) error {
+	h.reached <- struct{}{}
+	<-h.released
+	return h.Places.Add(ctx, placed)
+}
+
+func (h holdingPlaces) Close() error { return h.Places.Close() }
+
+// TestPhases has a call stand still in one part of a step, for each of them: it is that part of which the figures say that it took so long.
+func TestPhases(t *testing.T) {
+	t.Parallel()
+	const stands = 3 * time.Second
+	for phase, hold := range map[string]func(*Config, *holding){
+		"stage": func(c *Config, h *holding) { h.Objects, h.prefix, c.Objects = c.Objects, stagingPrefix, h },
+		"put":   func(c *Config, h *holding) { h.Objects, h.prefix, c.Objects = c.Objects, tilesPrefix, h },
+		"sign":  func(c *Config, h *holding) { h.Objects, h.prefix, c.Objects = c.Objects, headsPrefix, h },
+		"swap":  func(c *Config, h *holding) { c.Register = holdingSwaps{c.Register, h} },
+		"place": func(c *Config, h *holding) { c.Places = holdingPlaces{c.Places, h} },
+	} {
+		phase, hold := phase, hold
+		t.Run(phase, func(t *testing.T) {
+			t.Parallel()
+			p, ctx, got := newPlace(t), limited(t), &answers{}
+			first := started(t, p.config(t), hooks{})
+			must(t, got.submitAll(ctx, first, 0, 5, 5))
+			must(t, first.End(ctx))
+			config, held := p.config(t), &holding{reached: make(chan struct{}, 100), released: make(chan struct{})}
+			hold(&config, held)
+			s := started(t, config, hooks{})
+			told := make(chan error, 1)
+			go func() { told <- got.submitAll(ctx, s, 5, 6, 1) }()
+			<-held.reached
+			time.Sleep(stands)
+			close(held.released)
+			must(t, <-told)
+			must(t, s.End(ctx))
+			found := map[string]log.Phase{}
+			for _, one := range s.Figures().Phases {
+				found[one.Name] = one
+			}
+			if one := found[phase]; one.Count != 1 || one.Took < stands {
+				t.Errorf("%+v", found)
+			}
+			for _, name := range phaseNames {
+				if _, told := found[name]; !told || name != "look" && name != "delete" && found[name].Count != 1 {
+					t.Errorf("%s: %+v", name, found[name])
+				}
+			}
+		})
+	}
+}
+
+// barrier is a store of objects whose calls for names below a prefix wait until so many are there at once.
+type barrier struct {
+	stores.Objects
+	prefix string
+	many   int64
+	here   atomic.Int64
+	whole  chan struct{}
+}
+
+func (b *barrier) arrive(ctx context.Context, name string) error {
+	if len(name) < len(b.prefix) || name[:len(b.prefix)] != b.prefix {
+		return nil
+	}
+	if b.here.Add(1) == b.many {
+		close(b.whole)
+	}
+	select {
+	case <-b.whole:
+		return nil
+	case <-ctx.Done():
+		return ctx.Err()
+	}
+}
+
+func (b *barrier) Put(ctx context.Context, name string, content []byte) error {
+	if err := b.arrive(ctx, name); err != nil {
+		return err
+	}
+	return b.Objects.Put(ctx, name, content)
+}
+
+func (b *barrier) Get(ctx context.Context, name string, most int64) ([]byte, error) {
+	if err := b.arrive(ctx, name); err != nil {
+		return nil, err
+	}
+	return b.Objects.Get(ctx, name, most)
+}
+
+// TestSideBySide: what doesn't stand on each other is asked of the store at once: each call waits until all are there. So are an entry's issuers put, a
+// step's tiles, and the tiles read at whose edge it goes on.
+func TestSideBySide(t *testing.T) {
+	t.Parallel()
+	for what, of := range map[string]struct {
+		prefix string
+		many   int64
+		before int
+	}{"issuers": {issuersPrefix, 2, 0}, "the edge, and the step's tiles": {tilesPrefix, 2, 5}, "tiles of a first step": {tilesPrefix, 2, 0}} {
+		of := of
+		t.Run(what, func(t *testing.T) {
+			t.Parallel()
+			p, ctx, got := newPlace(t), limited(t), &answers{}
+			if of.before > 0 {
+				s := started(t, p.config(t), hooks{})
+				must(t, got.submitAll(ctx, s, 0, of.before, 5))
+				must(t, s.End(ctx))
+			}
+			config := p.config(t)
+			config.Objects, config.TendEvery = &barrier{Objects: config.Objects, prefix: of.prefix, many: of.many, whole: make(chan struct{})}, time.Hour
+			s := started(t, config, hooks{})
+			must(t, got.submitAll(ctx, s, 10, 11, 1))
+			must(t, s.End(ctx))
+			p.right(t, got)
+		})
+	}
+}
