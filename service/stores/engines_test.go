@@ -97,7 +97,9 @@ var identityStores = []implementation[Places]{
 			return OpenSQLite(ctx, filepath.Join(place, "places.db"))
 		}},
 	{name: "etcd", missing: wants(etcdMembers, "etcd-server"),
-		open: func(_ context.Context, place string) (Places, error) { return OpenEtcdPlaces(etcdAt(place)) }},
+		open: func(_ context.Context, place string) (Places, error) {
+			return OpenEtcdPlaces(etcdAt(place), usualEntries)
+		}},
 	{name: "postgres", missing: wants(postgresURL, "postgresql"),
 		open: func(ctx context.Context, place string) (Places, error) {
 			return OpenPostgresPlaces(ctx, Postgres{postgresURL, place})

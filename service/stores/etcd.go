@@ -194,22 +194,29 @@ func (e *inEtcd) Raise(ctx context.Context, published Published) error {
 
 func (e *inEtcd) Close() error { return e.client.Close() }
 
-// placesInEtcd keeps a key for each identity. etcd holds all keys in memory and has a quota of 2 GB by default: this is for
-// small logs.
+// placesInEtcd keeps a key for each identity. etcd holds all keys in memory, and where its quota is full the register beside them takes no swap.
 type placesInEtcd struct {
 	client *members
 	// below is what the log's keys begin with, and prefix what these do.
 	below, prefix string
+	most          uint64
 }
 
-// OpenEtcdPlaces opens the places below a prefix.
-func OpenEtcdPlaces(at Etcd) (Places, error) {
+// usualEntries is of how many entries etcd's quota bears the places, as it is where nobody sets it: 2 GB, of which an entry takes some 234 bytes, a third of
+// it left for what else is there.
+const usualEntries = 6_000_000
+
+// OpenEtcdPlaces opens the places below a prefix, of so many entries at most.
+func OpenEtcdPlaces(at Etcd, most uint64) (Places, error) {
 	client, err := at.open()
 	if err != nil {
 		return nil, err
 	}
-	return &placesInEtcd{client, at.Prefix, at.Prefix + "/place/"}, nil
+	return &placesInEtcd{client, at.Prefix, at.Prefix + "/place/", most}, nil
 }
+
+// Most is Bounded's.
+func (e *placesInEtcd) Most() uint64 { return e.most }
 
 func (e *placesInEtcd) key(identity Identity) string { return e.prefix + string(identity[:]) }
 
@@ -291,7 +298,7 @@ func (e *placesInEtcd) Replace(ctx context.Context, placed []Placed) error {
 }
 
 func (e *placesInEtcd) Leaves() Places {
-	return &placesInEtcd{e.client, e.below, e.below + "/leaf/"}
+	return &placesInEtcd{e.client, e.below, e.below + "/leaf/", e.most}
 }
 
 func (e *placesInEtcd) Close() error { return e.client.Close() }

@@ -218,13 +218,15 @@ func TestSQLiteSyncs(t *testing.T) {
 	must(t, err)
 	defer places.Close()
 	for _, of := range []Places{places, places.Leaves()} {
-		var synchronous int
+		var synchronous, cache int
 		var journal string
 		db := of.(*inSQLite).db
 		must(t, db.QueryRowContext(limited(t), "pragma synchronous").Scan(&synchronous))
 		must(t, db.QueryRowContext(limited(t), "pragma journal_mode").Scan(&journal))
-		if synchronous != 2 || journal != "wal" {
-			t.Errorf("synchronous is %d, and the journal's mode %s", synchronous, journal)
+		must(t, db.QueryRowContext(limited(t), "pragma cache_size").Scan(&cache))
+		// (below 0 it is in KiB)
+		if synchronous != 2 || journal != "wal" || cache != -16384 {
+			t.Errorf("synchronous is %d, the journal's mode %s, and the cache %d", synchronous, journal, cache)
 		}
 	}
 }

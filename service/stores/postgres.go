@@ -49,6 +49,11 @@ func (at Postgres) open(ctx context.Context) (*sql.DB, error) {
 	return db, nil
 }
 
+// sessions is what each session has, whatever the server, its database or the address say: a commit waits until a standby that may take over has it on its
+// disk, too, and no timeout ends that wait, behind which it would be acknowledged.
+const sessions = `set lock_timeout = '10s'; set statement_timeout = 0;
+select set_config('synchronous_commit', 'on', false) where current_setting('synchronous_commit') <> 'remote_apply'`
+
 // brief opens sessions that don't wait for long for a row that another one has locked. Whose commit waits for a standby has it locked, and
 // the server forgets no session that waits for him.
 type brief struct{ driver.Connector }
@@ -63,7 +68,7 @@ func (b brief) Connect(ctx context.Context) (driver.Conn, error) {
 		connection.Close()
 		return nil, fmt.Errorf("%w: PostgreSQL: a session takes no settings", ErrUnsafe)
 	}
-	if _, err := session.ExecContext(ctx, "set lock_timeout = '10s'", nil); err != nil {
+	if _, err := session.ExecContext(ctx, sessions, nil); err != nil {
 		connection.Close()
 		return nil, err
 	}
@@ -73,7 +78,8 @@ func (b brief) Connect(ctx context.Context) (driver.Conn, error) {
 func prepare(ctx context.Context, db *sql.DB) error {
 	for _, setting := range []string{"fsync", "full_page_writes", "synchronous_commit"} {
 		var value string
-		if err := db.QueryRowContext(ctx, "select current_setting($1)", setting).Scan(&value); err != nil {
+		// (what a session would have that sets nothing itself)
+		if err := db.QueryRowContext(ctx, "select reset_val from pg_settings where name = $1", setting).Scan(&value); err != nil {
 			return fmt.Errorf("stores: PostgreSQL: %w", err)
 		}
 		if value == "off" {
@@ -88,9 +94,9 @@ func prepare(ctx context.Context, db *sql.DB) error {
 
 // inPostgres keeps the register in a row.
 //
-// It asks of the server: fsync, full_page_writes and synchronous_commit are on (all three are looked at), and where a standby
-// may take over, synchronous_standby_names names it, so that it has all that was acknowledged, and one server alone writes. No
-// statement_timeout is set, which would end a commit's wait for the standby, and have it acknowledged.
+// It asks of the server: fsync, full_page_writes and synchronous_commit aren't off (all three are looked at), and where a standby
+// may take over, synchronous_standby_names names it, so that it has all that was acknowledged, and one server alone writes. Of its own
+// sessions synchronous_commit is on, and no statement_timeout ends a commit's wait for the standby.
 type inPostgres struct {
 	db  *sql.DB
 	log string

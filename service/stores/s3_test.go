@@ -242,6 +242,28 @@ func TestPostgresSaysTheTime(t *testing.T) {
 	}
 }
 
+// TestPostgresSessions: whatever the server or the address says, a session of a store's waits for the standby's disk, and no timeout ends that.
+func TestPostgresSessions(t *testing.T) {
+	if why := wants(postgresURL, "postgresql"); why != "" {
+		t.Skip(why)
+	}
+	for said, due := range map[string]string{"": "on", "synchronous_commit=local": "on", "synchronous_commit=remote_write": "on", "synchronous_commit=remote_apply": "remote_apply", "statement_timeout=5000": "on"} {
+		register, err := OpenPostgres(limited(t), Postgres{postgresURL + " " + said, "sessions"})
+		must(t, err)
+		defer register.Close()
+		places, err := OpenPostgresPlaces(limited(t), Postgres{postgresURL + " " + said, "sessions"})
+		must(t, err)
+		defer places.Close()
+		for _, db := range []*sql.DB{register.(*inPostgres).db, places.(*placesInPostgres).db} {
+			var commit, timeout string
+			must(t, db.QueryRowContext(limited(t), "select current_setting('synchronous_commit'), current_setting('statement_timeout')").Scan(&commit, &timeout))
+			if commit != due || timeout != "0" {
+				t.Errorf("%q: synchronous_commit is %s, statement_timeout %s", said, commit, timeout)
+			}
+		}
+	}
+}
+
 func TestPostgresThatKeepsNothing(t *testing.T) {
 	if why := wants(postgresURL, "postgresql"); why != "" {
 		t.Skip(why)

@@ -26,6 +26,9 @@ type inSQLite struct {
 	table string
 }
 
+// mostCached is how many KiB of the file each connection remembers: the upper pages of a log of 10^8 entries. (By itself it remembers 2 MB.)
+const mostCached = 16 << 10
+
 // OpenSQLite opens the places in a file, and makes it where it isn't there.
 func OpenSQLite(ctx context.Context, path string) (Places, error) {
 	path, err := filepath.Abs(path)
@@ -35,7 +38,7 @@ func OpenSQLite(ctx context.Context, path string) (Places, error) {
 	if err := MakeFolder(filepath.Dir(path)); err != nil {
 		return nil, err
 	}
-	settings := url.Values{"_journal_mode": {"WAL"}, "_synchronous": {"FULL"}, "_busy_timeout": {"50"}, "_txlock": {"immediate"}}
+	settings := url.Values{"_journal_mode": {"WAL"}, "_synchronous": {"FULL"}, "_cache_size": {fmt.Sprint(-mostCached)}, "_busy_timeout": {"50"}, "_txlock": {"immediate"}}
 	source := url.URL{Scheme: "file", Path: path, RawQuery: settings.Encode()}
 	db, err := sql.Open("sqlite3", source.String())
 	if err != nil {
