@@ -190,6 +190,11 @@ func (c *Client) Exchange(ctx context.Context, lines []byte, replies int) ([][]b
 	case <-ctx.Done():
 		return nil, fmt.Errorf("%w: %v", ErrGone, ctx.Err())
 	}
+	// (whose context has ended may have had the turn all the same, and would have the end killed)
+	if ctx.Err() != nil {
+		c.turn <- e
+		return nil, fmt.Errorf("%w: %v", ErrGone, ctx.Err())
+	}
 	if e == nil {
 		opened, err := c.open(ctx)
 		if err != nil {

@@ -39,6 +39,62 @@ func TestRestart(t *testing.T) {
 	}
 }
 
+// TestWhoIsGoneAsksNothing: who asks with a context that has ended gets nothing, and no end is killed for that, nor opened.
+func TestWhoIsGoneAsksNothing(t *testing.T) {
+	c := NewClient(cat, 20*time.Second)
+	defer c.Close()
+	gone, cancel := context.WithCancel(context.Background())
+	cancel()
+	// (of two that can be chosen one is by chance)
+	for i := 0; i < 100; i++ {
+		if replies, err := c.Exchange(gone, []byte("one\n"), 1); !errors.Is(err, ErrGone) {
+			t.Fatalf("%q, %v", replies, err)
+		}
+	}
+	if replies, err := c.Exchange(context.Background(), []byte("two\n"), 1); err != nil || string(replies[0]) != "two" {
+		t.Fatalf("%q, %v", replies, err)
+	}
+	for i := 0; i < 100; i++ {
+		if _, err := c.Exchange(gone, []byte("three\n"), 1); !errors.Is(err, ErrGone) {
+			t.Fatal(err)
+		}
+	}
+	if replies, err := c.Exchange(context.Background(), []byte("four\n"), 1); err != nil || string(replies[0]) != "four" || c.Opens() != 1 {
+		t.Errorf("%q, %v, opened %d times", replies, err, c.Opens())
+	}
+}
+
+// TestProgram: a program's replies come a line each; a request that is longer than it takes isn't sent, and no command is none.
+func TestProgram(t *testing.T) {
+	ctx := context.Background()
+	p, err := NewProgram([]string{"cat"}, 20, 1<<20, 20*time.Second)
+	if err != nil {
+		t.Fatal(err)
+	}
+	defer p.Close()
+	if p.Starts() != 0 {
+		t.Errorf("started %d times before it is asked", p.Starts())
+	}
+	if reply, err := p.Ask(ctx, map[string]int{"one": 1}); err != nil || string(reply) != `{"one":1}` {
+		t.Errorf("%q, %v", reply, err)
+	}
+	if reply, err := p.Ask(ctx, strings.Repeat("x", 18)); err != nil || len(reply) != 20 {
+		t.Errorf("at the bound: %q, %v", reply, err)
+	}
+	if _, err := p.Ask(ctx, strings.Repeat("x", 19)); !errors.Is(err, ErrTooLong) {
+		t.Errorf("beyond the bound: %v", err)
+	}
+	if _, err := p.Ask(ctx, func() {}); err == nil || errors.Is(err, ErrGone) {
+		t.Errorf("what is no JSON: %v", err)
+	}
+	if p.Starts() != 1 {
+		t.Errorf("started %d times", p.Starts())
+	}
+	if _, err := NewProgram(nil, 20, 20, time.Second); !errors.Is(err, ErrGone) {
+		t.Errorf("without a command: %v", err)
+	}
+}
+
 // TestManyLines sends more than pipes hold, to a program that replies meanwhile.
 func TestManyLines(t *testing.T) {
 	c := NewClient(cat, 20*time.Second)
