@@ -726,6 +726,23 @@ func TestPlacesAnew(t *testing.T) {
 	}
 }
 
+// TestGuardStateAway: a start whose guard's state isn't answered says so, and of what kind that is.
+func TestGuardStateAway(t *testing.T) {
+	t.Parallel()
+	at := newPlace(t)
+	// (nobody answers there)
+	listener, err := net.Listen("tcp", "127.0.0.1:0")
+	if err != nil {
+		t.Fatal(err)
+	}
+	defer listener.Close()
+	words := at.realWords("--signing-key", at.path("log.pem"), "--guard-state", "etcd://"+listener.Addr().String()+"/guard", "--open-within", "10s", "--create")
+	var told strings.Builder
+	if status := run(append(words, "--guard", at.guard), &told, openNode); status != 1 || !strings.Contains(told.String(), "the guard's state (guard-state, of etcd) isn't read") {
+		t.Errorf("status %d: %s", status, told.String())
+	}
+}
+
 // A signer that is started again makes no state of the guard, where that is gone.
 func TestSignerIsCreatedOnce(t *testing.T) {
 	t.Parallel()

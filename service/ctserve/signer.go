@@ -40,6 +40,10 @@ func askSigner(ctx context.Context, n node) (*signer.Client, error) {
 			receipts = signer.Promised
 		}
 		words := []string{self, "signer", "--signing-key", n.signingKey, "--guard", strings.Join(n.guard, " "), "--receipts", string(receipts)}
+		if n.openWithin > 0 {
+			// (so that it says why before it is given up)
+			words = append(words, "--open-within", (n.openWithin * 4 / 5).String())
+		}
 		create := n.create
 		open = func(context.Context) (*pipe.End, error) {
 			these := append(append([]string{}, words...), "--create="+strconv.FormatBool(create))
@@ -65,6 +69,7 @@ func runSigner(given []string, from io.Reader, answers, to io.Writer) int {
 	state := flags.String("guard-state", os.Getenv(guardStateKey), "`address` of the register with the guard's state: file:PATH, etcd://.. or postgres://..")
 	receipts := flags.String("receipts", string(signer.InHead), "in-head: a timestamp's leaf has to be in the last head's tree; promised: for nodes that answer behind the swap")
 	create := flags.Bool("create", false, "make the guard's state where there is none")
+	openWithin := flags.Duration("open-within", signsWithin, "how long the guard's state may take to open")
 	listen := flags.String("listen", "", "`path` of a socket, for nodes of this user or group; without it, lines come by the standard input")
 	err := flags.Parse(given)
 	if errors.Is(err, flag.ErrHelp) {
@@ -74,14 +79,14 @@ func runSigner(given []string, from io.Reader, answers, to io.Writer) int {
 		fmt.Fprintln(to, "ctserve signer: --signing-key is needed, and only words that --help names")
 		return 2
 	}
-	if err := serveSigner(*key, guard, *state, signer.Receipts(*receipts), *create, *listen, from, answers); err != nil {
+	if err := serveSigner(*key, guard, *state, signer.Receipts(*receipts), *create, *openWithin, *listen, from, answers); err != nil {
 		fmt.Fprintln(to, err)
 		return 1
 	}
 	return 0
 }
 
-func serveSigner(keyAt string, guard []string, stateAt string, receipts signer.Receipts, create bool, listen string, from io.Reader, answers io.Writer) error {
+func serveSigner(keyAt string, guard []string, stateAt string, receipts signer.Receipts, create bool, openWithin time.Duration, listen string, from io.Reader, answers io.Writer) error {
 	ctx := context.Background()
 	key, err := signer.OpenKey(keyAt)
 	if err != nil {
@@ -94,7 +99,15 @@ func serveSigner(keyAt string, guard []string, stateAt string, receipts signer.R
 			return err
 		}
 		defer state.Close()
-		guarded, err := signer.Behind(ctx, key, signer.Guard{Command: guard, State: state, Create: create, Receipts: receipts})
+		opening, cancel := context.WithTimeout(ctx, openWithin)
+		guarded, err := signer.Behind(opening, key, signer.Guard{Command: guard, State: state, Create: create, Receipts: receipts})
+		late := opening.Err()
+		cancel()
+		if err != nil && late != nil {
+			// (who operates it knows what doesn't answer: an address may have a password)
+			kind, _, _ := strings.Cut(stateAt, ":")
+			return fmt.Errorf("the guard's state (guard-state, of %s) isn't read: %w", kind, err)
+		}
 		if errors.Is(err, signer.ErrState) && listen == "" {
 			if told := signer.ServeState(err, from, answers); told != nil {
 				return told

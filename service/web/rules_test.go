@@ -46,6 +46,11 @@ func TestRules(t *testing.T) {
 			t.Errorf("INCIDENTS.md doesn't say what to do at %s", alarm[1])
 		}
 	}
+	for _, named := range regexp.MustCompile("`(Ctserve\\w+)`").FindAllStringSubmatch(string(incidents), -1) {
+		if !strings.Contains(string(rules), "alert: "+named[1]+"\n") {
+			t.Errorf("INCIDENTS.md says what to do at %s, which is no alarm", named[1])
+		}
+	}
 	names := regexp.MustCompile(`\bctserve_[a-z_]+`).FindAllString(string(rules), -1)
 	if len(names) < 13 {
 		t.Errorf("%d figures are named", len(names))

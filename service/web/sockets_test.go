@@ -25,11 +25,17 @@ import (
 // listening serves a front on loopback, and gives its address and how it is ended.
 func (f *fixture) listening(over *tls.Config) (address string, server *Server) {
 	f.t.Helper()
+	server = f.front.Serve(f.front)
+	return f.listeningBy(server, over), server
+}
+
+// listeningBy has a server listen, and gives where.
+func (f *fixture) listeningBy(server *Server, over *tls.Config) (address string) {
+	f.t.Helper()
 	listener, err := net.Listen("tcp", "127.0.0.1:0")
 	if err != nil {
 		f.t.Fatal(err)
 	}
-	server = f.front.Serve(f.front)
 	done := make(chan error, 1)
 	go func() { done <- server.Listen(listener, over) }()
 	f.t.Cleanup(func() {
@@ -40,7 +46,7 @@ func (f *fixture) listening(over *tls.Config) (address string, server *Server) {
 			f.t.Errorf("the server ended by %v", err)
 		}
 	})
-	return listener.Addr().String(), server
+	return listener.Addr().String()
 }
 
 func dial(t testing.TB, address string) net.Conn {
@@ -271,6 +277,53 @@ func TestConnectionsAreBounded(t *testing.T) {
 				t.Fatalf("%s: where one went, none is taken", test.what)
 			}
 		}
+	}
+}
+
+// TestOperatorCountsApart: while one address has all the connections and requests that it may have, an operator at that address is answered; and who has all
+// of the operator's connections keeps no client out.
+func TestOperatorCountsApart(t *testing.T) {
+	f := newFixture(t, 0, func(o *Options) {
+		o.Limits.ConnectionsByAddress, o.Limits.Request, o.Limits.Headers, o.Limits.Idle = 3, time.Hour, time.Hour, time.Hour
+	})
+	clients, _ := f.listening(nil)
+	operator := f.listeningBy(f.front.ServeOthers(f.front.Operator()), nil)
+	status := func(address, path string) int {
+		t.Helper()
+		connection := dial(t, address)
+		fmt.Fprintf(connection, "GET %s HTTP/1.1\r\nHost: log\r\nConnection: close\r\n\r\n", path)
+		answer, err := http.ReadResponse(bufio.NewReader(connection), nil)
+		connection.Close()
+		if err != nil {
+			return 0
+		}
+		return answer.StatusCode
+	}
+	var open []net.Conn
+	for i := 0; i < 3; i++ {
+		connection := dial(t, clients)
+		fmt.Fprint(connection, "POST /ct/v1/add-chain HTTP/1.1\r\nHost: log\r\nContent-Length: 100\r\n\r\n{")
+		open = append(open, connection)
+	}
+	isAsked(f, 3)
+	if got := status(clients, "/healthz"); got == 200 {
+		t.Errorf("a fourth connection of the address is answered")
+	}
+	for _, path := range []string{"/healthz", "/readyz", "/metrics"} {
+		if got := status(operator, path); got != 200 {
+			t.Errorf("the operator's %s: %d", path, got)
+		}
+	}
+	for _, connection := range open {
+		connection.Close()
+	}
+	isAsked(f, 0)
+	for i := 0; i < mostOfOthers; i++ {
+		fmt.Fprint(dial(t, operator), "GET /healthz HTTP/1.1\r\nHost: log\r\n")
+	}
+	closed(t, "the operator's connections, one above the bound", dial(t, operator))
+	if got := status(clients, "/healthz"); got != 200 {
+		t.Errorf("a client beside an operator's connections: %d", got)
 	}
 }
 
