@@ -148,8 +148,9 @@ start() {
     rm -r "$folder/engines"
     exit 1
   fi
+  # (a first start that failed is made again)
+  [ -e "$folder/made" ] || create=--create
   if [ ! -e "$folder/log.key" ]; then
-    create=--create
     (umask 077 && openssl ecparam -name prime256v1 -genkey -noout -out "$folder/log.key" && openssl rand -hex 32 >"$folder/secret")
     openssl ec -in "$folder/log.key" -pubout -out "$folder/log.pem" 2>/dev/null
     who=${STORES_S3#http://} nothing=$(sha256sum </dev/null | cut -d ' ' -f 1)
@@ -169,6 +170,8 @@ start() {
     while [ "$loaded" = no ] && [ "$(stat -c %s "$folder/roots.pem" 2>/dev/null || echo 0)" = "$roots" ]; do sleep 0.05; done
     for i in $(nodes); do ! id=$(process "node-$i") || kill -HUP "$id"; done
   fi
+  # (the loader makes a root of its own)
+  [ -e "$folder/roots.pem" ] || openssl req -x509 -newkey rsa:2048 -nodes -days 3650 -subj "/CN=a root" -keyout "$folder/root.key" -out "$folder/roots.pem" 2>/dev/null
   process signer >/dev/null || rm -f "$folder/signer"
   launch signer "$programs/ctserve" signer --signing-key "$folder/log.key" --guard "${GUARD:-$(command_of ctguard guard/model.py)}" --guard-state "file:$folder/guard" --listen "$folder/signer" ${create:+"$create"}
   for _ in $(seq 300); do
@@ -187,6 +190,7 @@ start() {
     echo "cluster.sh: node-$i isn't ready: $(tail -n 1 "$folder/node-$i.log")" >&2
     exit 1
   done
+  touch "$folder/made"
   [ "${LOAD:-yes}" != yes ] || launch reader "$programs/ctread" --nodes "$all" --origin "$origin" --key "$folder/log.pem"
   cat <<END_OF_TEXT
 A log of ${all//,/, } runs:

@@ -35,8 +35,8 @@ launch() {
       echo "$! $(since $!)" >"$work/$name.id"
       disown
     fi
-    # (a gateway that waits for ever is tried again)
-    timeout 5 bash -c "$(cat "$work/$name.ready")" >/dev/null 2>&1 && return
+    # (a gateway that waits for ever is tried again; a question to Ceph takes seconds on a machine that has much else to do)
+    timeout 30 bash -c "$(cat "$work/$name.ready")" >/dev/null 2>&1 && return
     sleep 0.2
   done
   echo "engines.sh: $name doesn't start: $(tail -n 3 "$work/$name.log")" >&2
