@@ -227,7 +227,7 @@ func (s *Sequencer) doStage(ctx context.Context, t *turn) (decider.Told, error) 
 	// (what is in the bundle is put once more, as objects)
 	s.written = 2 * len(t.bundle)
 	s.putBytes.Add(uint64(s.written))
-	if err := s.putBundle(ctx, t); err != nil {
+	if err := s.deleteBundles(ctx, func(ctx context.Context) error { return s.putBundle(ctx, t) }); err != nil {
 		return nil, fmt.Errorf("sequencer: %w", err)
 	}
 	s.phase("bundle put")
@@ -354,14 +354,23 @@ func (s *Sequencer) doAnswer(ctx context.Context, t *turn) (decider.Told, error)
 	return decider.Done(), nil
 }
 
-// doDelete deletes a bundle that isn't needed any more. Where it stays, it is swept.
-func (s *Sequencer) doDelete(ctx context.Context, t *turn) (decider.Told, error) {
-	err := s.config.Objects.Delete(ctx, t.command.Bundle)
-	s.failed("a bundle isn't deleted", err)
-	if err != nil {
-		return decider.Lost(), nil
-	}
-	return decider.Done(), nil
+// doDelete has a bundle deleted that isn't needed any more: beside the next one's being put, or once nobody waits. Where it stays, it is swept.
+func (s *Sequencer) doDelete(_ context.Context, t *turn) (decider.Told, error) {
+	s.deletes = append(s.deletes, t.command.Bundle)
+	return decider.Lost(), nil
+}
+
+// deleteBundles deletes those, beside something else that is to be done, whose error it gives.
+func (s *Sequencer) deleteBundles(ctx context.Context, beside func(context.Context) error) error {
+	names := s.deletes
+	s.deletes = nil
+	return sideBySide(ctx, 1+len(names), func(part context.Context, at int) error {
+		if at == 0 {
+			return beside(part)
+		}
+		s.failed("a bundle isn't deleted", s.config.Objects.Delete(ctx, names[at-1]))
+		return nil
+	})
 }
 
 // advance takes who waits one step further from where one may be made, and has that decided and published.

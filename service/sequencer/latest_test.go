@@ -478,3 +478,129 @@ func TestPutBackOnEach(t *testing.T) {
 		}
 	})
 }
+
+// headsIn are the names of a place's heads, whatever store they are in.
+func headsIn(t *testing.T, p place) string {
+	t.Helper()
+	names, err := p.config(t).Objects.List(limited(t), headsPrefix, "", stores.MostListed)
+	must(t, err)
+	return strings.Join(names, " ")
+}
+
+// TestPausedOnEach is TestPausedNode on each ground that is there, with the register's text alone put back beside the guard's state.
+func TestPausedOnEach(t *testing.T) {
+	t.Parallel()
+	onEach(t, func(t *testing.T, on ground) {
+		p, ctx, got := newPlaceOn(t, on), limited(t), &answers{}
+		here := started(t, p.notHere(t), hooks{})
+		must(t, got.submitAll(ctx, here, 0, 10, 4))
+		stopped, goes := make(chan struct{}), make(chan struct{})
+		var stops atomic.Bool
+		var once sync.Once
+		config := p.notHere(t)
+		config.Patience = time.Second
+		there := started(t, config, hooks{phase: func(name string) {
+			if name == "bundle put" && stops.Load() {
+				once.Do(func() { close(stopped); <-goes })
+			}
+		}})
+		must(t, got.submitAll(ctx, there, 10, 20, 4))
+		text := func() string {
+			t.Helper()
+			text, err := config.Register.Read(ctx)
+			must(t, err)
+			return text
+		}
+		old, oldGuard := text(), p.copied(t, "guard")
+		stops.Store(true)
+		told := make(chan error, 1)
+		go func() {
+			_, err := there.Submit(ctx, entryOf(100))
+			told <- err
+		}()
+		<-stopped
+		must(t, got.submitAll(ctx, here, 20, 40, 4))
+		must(t, here.End(ctx))
+		newest, newestGuard, before := text(), p.copied(t, "guard"), headsIn(t, p)
+		must(t, config.Register.Swap(ctx, newest, old))
+		p.putBack(t, oldGuard, "guard")
+		close(goes)
+		wants(t, <-told, log.ErrStore, ErrSetBack)
+		if after := headsIn(t, p); after != before {
+			t.Errorf("heads %v, and before %v", after, before)
+		}
+		must(t, config.Register.Swap(ctx, text(), newest))
+		p.putBack(t, newestGuard, "guard")
+		comesBack(t, there, got, 41)
+		if report := p.rightTwice(t, got); report.Leaves != 41 {
+			t.Fatalf("%+v", report)
+		}
+	})
+}
+
+// TestOutgrownOnEach is TestOutgrown on each engine that is there: another log's stores are made of copies, their history outgrows the first one's, and what
+// they have comes over it.
+func TestOutgrownOnEach(t *testing.T) {
+	t.Parallel()
+	onEach(t, func(t *testing.T, on ground) {
+		if on.register == nil {
+			t.Skip("TestOutgrown has it")
+		}
+		inFile := func(p place) string { return "sqlite:" + filepath.Join(string(p), "places.db") }
+		p, ctx, got := newPlace(t), limited(t), &answers{}
+		p.stands(t, on, inFile(p))
+		config := p.config(t)
+		register := &parted{Register: config.Register}
+		config.Register, config.Patience = register, time.Second
+		here := started(t, config, hooks{})
+		must(t, got.submitAll(ctx, here, 0, 20, 4))
+		old, other := p.keeps(t), p.copied(t, "places.db", "guard")
+		must(t, got.submitAll(ctx, here, 20, 40, 4))
+		register.on.Store(true)
+		other.stands(t, on, inFile(other))
+		other.puts(t, &old, &old)
+		second := started(t, other.config(t), hooks{})
+		must(t, (&answers{}).submitAll(ctx, second, 200, 260, 4))
+		must(t, second.End(ctx))
+		grown, heads := other.keeps(t), headsIn(t, p)
+		must(t, filepath.WalkDir(grown.objects, func(path string, entry fs.DirEntry, err error) error {
+			if err != nil || entry.IsDir() {
+				return err
+			}
+			name, err := filepath.Rel(grown.objects, path)
+			must(t, err)
+			content, err := os.ReadFile(path)
+			must(t, err)
+			// (where the first one's stands, it stays)
+			if err := config.Objects.Put(ctx, filepath.ToSlash(name), content); !errors.Is(err, stores.ErrOther) {
+				return err
+			}
+			return nil
+		}))
+		whole := headsIn(t, p)
+		text, err := register.Register.Read(ctx)
+		must(t, err)
+		must(t, register.Register.Swap(ctx, text, grown.text))
+		must(t, register.Register.Raise(ctx, grown.published))
+		p.putBack(t, other, "guard")
+		register.on.Store(false)
+		eventually(t, "it sees that it was set back", func() bool { return strings.Contains(here.Figures().Fault, ErrSetBack.Error()) })
+		_, err = here.Submit(ctx, entryOf(100))
+		wants(t, err, log.ErrStore, ErrSetBack)
+		must(t, here.End(ctx))
+		for what, config := range map[string]Config{"its file": p.config(t), "no file": p.notHere(t)} {
+			config.Places, config.Patience = other.config(t).Places, time.Second
+			again, err := start(limited(t), config, hooks{})
+			if err == nil {
+				_, err = again.Submit(ctx, entryOf(100))
+				must(t, again.End(ctx))
+			}
+			if !errors.Is(err, ErrSetBack) {
+				t.Errorf("with %s: %v", what, err)
+			}
+		}
+		if after := headsIn(t, p); after != whole || len(whole) <= len(heads) {
+			t.Errorf("heads %v, and before %v", after, whole)
+		}
+	})
+}

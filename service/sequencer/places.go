@@ -45,9 +45,21 @@ func (s *Sequencer) knowsPlaces(ctx context.Context, k known) error {
 	return nil
 }
 
+// bears says whether the places' store bears those of one entry more than a state has: where it is full it may take the register with it.
+func (s *Sequencer) bears(k known) error {
+	bounded, ok := s.config.Places.(stores.Bounded)
+	if !ok || k.state.Size < bounded.Most() {
+		return nil
+	}
+	return fmt.Errorf("%w: the log has %d entries, and where they are (places) the places of %d are borne: they go to another store, as PostgreSQL, which ctserve places fills", ErrPlaces, k.state.Size, bounded.Most())
+}
+
 // startsWithPlaces is knowsPlaces at a start, where the newest state is published.
 func (s *Sequencer) startsWithPlaces(ctx context.Context) error {
 	k := s.newestKnown()
+	if err := s.bears(k); err != nil {
+		return err
+	}
 	published, err := s.config.Register.Published(ctx)
 	if err != nil {
 		return fmt.Errorf("sequencer: %w", err)

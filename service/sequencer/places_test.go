@@ -3,6 +3,7 @@ package sequencer
 import (
 	"os"
 	"path/filepath"
+	"strings"
 	"testing"
 
 	"wagtenib/service/log"
@@ -104,4 +105,47 @@ func TestPlacesOfDamagedTiles(t *testing.T) {
 		t.Fatal(killed, err)
 	}
 	wants(t, RebuildPlaces(ctx, p.config(t), func(uint64) { t.Error("it went on") }), ErrPlaces)
+}
+
+// bounded are places that bear so many entries.
+type bounded struct {
+	stores.Places
+	most uint64
+}
+
+func (b bounded) Most() uint64 { return b.most }
+
+// TestPlacesThatBearNoMore: a log whose places' store bears no more entries takes none, says so, and doesn't start; over another one, into which the places
+// were built anew, it goes on.
+func TestPlacesThatBearNoMore(t *testing.T) {
+	t.Parallel()
+	p, ctx, got := newPlace(t), limited(t), &answers{}
+	config := p.config(t)
+	config.Places = bounded{config.Places, 10}
+	s := started(t, config, hooks{})
+	must(t, got.submitAll(ctx, s, 0, 10, 10))
+	before, err := s.Checkpoint(ctx)
+	must(t, err)
+	_, err = s.Submit(ctx, entryOf(11))
+	wants(t, err, log.ErrStore, ErrPlaces)
+	if !strings.Contains(err.Error(), "the log has 10 entries, and where they are (places) the places of 10 are borne") {
+		t.Error(err)
+	}
+	if head, err := s.Checkpoint(ctx); err != nil || head.TreeSize != before.TreeSize {
+		t.Errorf("%+v, %v", head, err)
+	}
+	must(t, s.End(ctx))
+	config = p.config(t)
+	config.Places = bounded{config.Places, 10}
+	_, err = New(ctx, config)
+	wants(t, err, ErrPlaces)
+	other := p.config(t)
+	other.Places, err = stores.OpenSQLite(ctx, filepath.Join(string(p), "other.db"))
+	must(t, err)
+	t.Cleanup(func() { other.Places.Close() })
+	must(t, RebuildPlaces(ctx, other, func(uint64) {}))
+	other.Places = bounded{other.Places, 12}
+	s = started(t, other, hooks{})
+	must(t, got.submitAll(ctx, s, 10, 12, 2))
+	p.right(t, got)
 }

@@ -52,6 +52,9 @@ func (s *Sequencer) loop(ctx context.Context) {
 	backoff, next, owes := s.config.Interval, time.Time{}, s.config.BehindSwap
 	for ctx.Err() == nil {
 		some, ending := s.queue.state()
+		if !some && len(s.deletes) > 0 {
+			_ = s.deleteBundles(ctx, func(context.Context) error { return nil })
+		}
 		if !some && ending && !owes && s.queue.length() == 0 {
 			return
 		}
@@ -187,6 +190,9 @@ func (s *Sequencer) round(ctx context.Context) error {
 		return err
 	}
 	if err := s.deleteUnneeded(ctx, t); err != nil {
+		return err
+	}
+	if err := s.bears(k); err != nil {
 		return err
 	}
 	most := s.config.MostBatch

@@ -162,6 +162,8 @@ type Sequencer struct {
 	rolled string
 	// unneeded are names of bundles that this node knows of, and that may be deleted once a step may be made from a later state.
 	unneeded []string
+	// deletes are names of bundles that are to be deleted.
+	deletes []string
 	// wrote says that this round had a step decided, by this node or another: all that was to be written before was.
 	wrote bool
 	// written is how many bytes this round's step put, in its bundle and as objects.

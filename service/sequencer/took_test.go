@@ -2,6 +2,9 @@ package sequencer
 
 import (
 	"context"
+	"os"
+	"path/filepath"
+	"strings"
 	"sync/atomic"
 	"testing"
 	"time"
@@ -117,6 +120,71 @@ func (b *barrier) Get(ctx context.Context, name string, most int64) ([]byte, err
 		return nil, err
 	}
 	return b.Objects.Get(ctx, name, most)
+}
+
+// deleting is a store of objects whose deletions below a prefix wait until they are let.
+type deleting struct {
+	stores.Objects
+	*holding
+	puts *atomic.Int64
+}
+
+func (d deleting) Delete(ctx context.Context, name string) error {
+	if strings.HasPrefix(name, d.prefix) {
+		d.reached <- struct{}{}
+		<-d.released
+	}
+	return d.Objects.Delete(ctx, name)
+}
+
+func (d deleting) Put(ctx context.Context, name string, content []byte) error {
+	if strings.HasPrefix(name, d.prefix) && d.puts.Add(1) == 2 {
+		// The deletion of the bundle before and this one's put wait for each other.
+		select {
+		case <-d.reached:
+		case <-ctx.Done():
+			return ctx.Err()
+		}
+		defer func() { d.released <- struct{}{} }()
+	}
+	return d.Objects.Put(ctx, name, content)
+}
+
+func (d deleting) Close() error { return d.Objects.Close() }
+
+// TestDeletionsBesideAStep: a bundle that isn't needed any more is deleted while the next one is put, and no step waits for it alone; the last one is deleted
+// once nobody waits.
+func TestDeletionsBesideAStep(t *testing.T) {
+	t.Parallel()
+	p, ctx, got := newPlace(t), limited(t), &answers{}
+	first := started(t, p.config(t), hooks{})
+	must(t, got.submitAll(ctx, first, 0, 5, 5))
+	must(t, first.End(ctx))
+	config := p.config(t)
+	held := &holding{prefix: stagingPrefix, reached: make(chan struct{}, 100), released: make(chan struct{}, 100)}
+	config.Objects, config.TendEvery = deleting{config.Objects, held, &atomic.Int64{}}, time.Hour
+	var s *Sequencer
+	var more atomic.Bool
+	told := make(chan error, 1)
+	s = started(t, config, hooks{phase: func(name string) {
+		// Somebody waits for the step behind this one before it is told.
+		if name == "published" && !more.Swap(true) {
+			go func() { told <- got.submitAll(ctx, s, 6, 7, 1) }()
+			for s.queue.length() < 2 {
+				time.Sleep(quick)
+			}
+		}
+	}})
+	must(t, got.submitAll(ctx, s, 5, 6, 1))
+	must(t, <-told)
+	// (the second one's, where nobody waits)
+	<-held.reached
+	held.released <- struct{}{}
+	must(t, s.End(ctx))
+	if bundles, err := os.ReadDir(filepath.Join(p.objects(), "staging")); err != nil || len(bundles) != 1 {
+		t.Errorf("%d bundles are left, %v", len(bundles), err)
+	}
+	p.right(t, got)
 }
 
 // TestSideBySide: what doesn't stand on each other is asked of the store at once: each call waits until all are there. So are an entry's issuers put, a
