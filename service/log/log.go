@@ -121,6 +121,9 @@ type Log interface {
 	Submit(ctx context.Context, entry Entry) (Place, error)
 	// Checkpoint is the newest published head.
 	Checkpoint(ctx context.Context) (Head, error)
+	// HeadOf is a published head of at least so many entries: the newest that is known, without a look at what is newer, where that has them; else it is
+	// the newest one, which may have fewer.
+	HeadOf(ctx context.Context, entries uint64) (Head, error)
 	// Object reads a published object by its name (tile/.., issuer/..); stores.TooLong where it has more than most bytes, of which none is read; stores.ErrAbsent where there is none, stores.ErrName
 	// where none can be. A full tile is the newest head's tree's; where it isn't, or the tree lacks one, it is ErrStore.
 	Object(ctx context.Context, name string, most int64) ([]byte, error)

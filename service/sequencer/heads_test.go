@@ -6,6 +6,7 @@ import (
 	"path/filepath"
 	"strings"
 	"sync"
+	"sync/atomic"
 	"testing"
 	"time"
 
@@ -172,6 +173,20 @@ func TestHeadWithoutARegister(t *testing.T) {
 		head, err := reader.Checkpoint(ctx)
 		if err != nil || goesBack(head, newest) {
 			t.Errorf("%s: %+v, %v", what, head, err)
+		}
+		// Who reads below a head that is known asks no register.
+		var asked atomic.Int64
+		reader.config.Register = unreadRegister{s.config.Register, func(ctx context.Context) error {
+			asked.Add(1)
+			return fails(ctx)
+		}}
+		for _, entries := range []uint64{0, 3, newest.TreeSize} {
+			if head, err := reader.HeadOf(ctx, entries); err != nil || head.TreeSize != newest.TreeSize || asked.Load() != 0 {
+				t.Errorf("%s, %d entries: %+v, %v, the register was asked %d times", what, entries, head, err, asked.Load())
+			}
+		}
+		if head, err := reader.HeadOf(ctx, newest.TreeSize+1); err != nil || head.TreeSize != newest.TreeSize || asked.Load() == 0 {
+			t.Errorf("%s, more entries: %+v, %v, the register was asked %d times", what, head, err, asked.Load())
 		}
 	}
 }

@@ -93,3 +93,11 @@ func (s *Sequencer) Checkpoint(ctx context.Context) (log.Head, error) {
 	}
 	return shared.head, nil
 }
+
+// HeadOf is log.Log's. Who reads what stands below some head doesn't wait for the register.
+func (s *Sequencer) HeadOf(ctx context.Context, entries uint64) (log.Head, error) {
+	if seen := s.seen(); seen != nil && seen.TreeSize >= entries {
+		return *seen, nil
+	}
+	return s.Checkpoint(ctx)
+}

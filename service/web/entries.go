@@ -91,7 +91,7 @@ func parameter(query url.Values, name string) (uint64, error) {
 }
 
 func (f *Front) entries(ctx context.Context, start, end uint64) ([]entryOf, error) {
-	leaves, err := f.dataTile(ctx, start)
+	leaves, err := f.dataTile(ctx, start, end)
 	if err != nil {
 		return nil, err
 	}
@@ -111,11 +111,14 @@ func (f *Front) entries(ctx context.Context, start, end uint64) ([]entryOf, erro
 	return entries, nil
 }
 
-// dataTile reads the tile of an entry as the newest head has it. A partial tile may go between the head and the read, where the
-// full one came to stand.
-func (f *Front) dataTile(ctx context.Context, index uint64) ([]datatile.Leaf, error) {
+// dataTile reads the tile of an entry as a head has it that has all of it up to an end, or as the newest. A partial tile may go between the head and the
+// read, where the full one came to stand.
+func (f *Front) dataTile(ctx context.Context, index, end uint64) ([]datatile.Leaf, error) {
+	if last := index - index%fullWidth + fullWidth - 1; end > last {
+		end = last
+	}
 	for again := false; ; again = true {
-		head, err := f.log.Checkpoint(ctx)
+		head, err := f.headOf(ctx, end+1, again)
 		if err != nil {
 			return nil, err
 		}

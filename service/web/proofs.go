@@ -130,7 +130,7 @@ func numbersOf(r *http.Request, names ...string) (query url.Values, numbers []ui
 	return query, numbers, nil
 }
 
-// underHead has something made of the tiles of the newest head, of which a tree of size leaves is a beginning. A partial tile may go
+// underHead has something made of the tiles of a head, of which a tree of size leaves is a beginning. A partial tile may go
 // meanwhile, where the full one came to stand: then it is made anew.
 func (f *Front) underHead(r *http.Request, size uint64, ask func(context.Context, log.Head) error) error {
 	client := f.clientOf(r)
@@ -141,7 +141,7 @@ func (f *Front) underHead(r *http.Request, size uint64, ask func(context.Context
 	ctx, cancel := f.reading(r)
 	defer cancel()
 	for again := false; ; again = true {
-		head, err := f.log.Checkpoint(ctx)
+		head, err := f.headOf(ctx, size, again)
 		if err != nil {
 			return err
 		}
@@ -152,6 +152,14 @@ func (f *Front) underHead(r *http.Request, size uint64, ask func(context.Context
 			return faultOf(err)
 		}
 	}
+}
+
+// headOf is a head of so many entries, where there is one: one that is known, or the newest.
+func (f *Front) headOf(ctx context.Context, entries uint64, newest bool) (log.Head, error) {
+	if newest {
+		return f.log.Checkpoint(ctx)
+	}
+	return f.log.HeadOf(ctx, entries)
 }
 
 // faultOf says of what proofs fail by whose it is.

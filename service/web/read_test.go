@@ -532,6 +532,8 @@ func (l *late) Checkpoint(ctx context.Context) (log.Head, error) {
 	return l.Log.Checkpoint(ctx)
 }
 
+func (l *late) HeadOf(ctx context.Context, _ uint64) (log.Head, error) { return l.Checkpoint(ctx) }
+
 // A partial tile that went since the head was read is no fault, where a newer head has the full one.
 func TestPartialTileThatWent(t *testing.T) {
 	f := newFixture(t, 0, nil)
@@ -545,6 +547,59 @@ func TestPartialTileThatWent(t *testing.T) {
 	}
 	f.front.log = &late{f.log, head, 2}
 	refused(t, "an older head again", f.get("/ct/v1/get-entries?start=0&end=1"), 503, "store")
+}
+
+// unasked is a log that knows a head, and whose newest one isn't answered.
+type unasked struct {
+	log.Log
+	head  log.Head
+	asked atomic.Int64
+}
+
+func (u *unasked) Checkpoint(ctx context.Context) (log.Head, error) {
+	u.asked.Add(1)
+	<-ctx.Done()
+	return log.Head{}, ctx.Err()
+}
+
+func (u *unasked) HeadOf(ctx context.Context, entries uint64) (log.Head, error) {
+	if entries <= u.head.TreeSize {
+		return u.head, nil
+	}
+	return u.Checkpoint(ctx)
+}
+
+// TestReadersAskForNoNewerHead: entries and proofs that stand below a head that is known are answered while nobody says what the newest one is; who asks for
+// more waits for that.
+func TestReadersAskForNoNewerHead(t *testing.T) {
+	f := newFixture(t, 0, func(o *Options) { o.Limits.Reading = time.Minute })
+	f.fill(300)
+	head, err := f.log.Checkpoint(context.Background())
+	if err != nil {
+		t.Fatal(err)
+	}
+	var told struct {
+		Entries []struct {
+			Leaf []byte `json:"leaf_input"`
+		}
+	}
+	f.reads("get-entries?start=299&end=299", &told)
+	hash := standin.LeafHash(told.Entries[0].Leaf)
+	of := &unasked{Log: f.log, head: head}
+	f.front.log = of
+	for _, path := range []string{"get-entries?start=0&end=299", "get-entries?start=256&end=299", "get-entries?start=7&end=7", "get-sth-consistency?first=7&second=300", "get-entry-and-proof?leaf_index=299&tree_size=300",
+		"get-proof-by-hash?tree_size=300&hash=" + url.QueryEscape(base64.StdEncoding.EncodeToString(hash[:]))} {
+		if w := f.get("/ct/v1/" + path); w.Code != 200 {
+			t.Errorf("%s: %d %s", path, w.Code, w.Body)
+		}
+	}
+	if asked := of.asked.Load(); asked != 0 {
+		t.Errorf("the newest head is asked for %d times", asked)
+	}
+	f.front.limits.Reading = 100 * time.Millisecond
+	for _, path := range []string{"/checkpoint", "/ct/v1/get-sth", "/ct/v1/get-entries?start=256&end=300", "/ct/v1/get-sth-consistency?first=7&second=301"} {
+		refused(t, path, f.get(path), 503, "late")
+	}
 }
 
 // What a store gives that can't be is a fault of the store, and no entry.

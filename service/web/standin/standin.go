@@ -233,6 +233,9 @@ func (l *Log) Checkpoint(ctx context.Context) (log.Head, error) {
 	return l.head, l.Fault
 }
 
+// HeadOf is log.Log's.
+func (l *Log) HeadOf(ctx context.Context, _ uint64) (log.Head, error) { return l.Checkpoint(ctx) }
+
 // Object is log.Log's.
 func (l *Log) Object(ctx context.Context, name string, most int64) ([]byte, error) {
 	if err := l.slowly(ctx); err != nil {
