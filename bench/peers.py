@@ -1,0 +1,277 @@
+#!/usr/bin/env python3
+"""Times ctserve beside CTFE over Trillian and MariaDB, by turns, on loopback: the same loader, the same chains (bench/peers.md).
+
+    peers.py fetch FOLDER                  has apt fetch what is needed of Debian 13 and of this machine's Debian, and builds it in FOLDER
+    peers.py FOLDER [--turns 2] [--seconds 12] [--clients 16,64,256,1024] [--crates CRATES] [--settle 0]
+
+Nothing is installed: all lies in FOLDER. With FOLDER alone it makes three logs, of CTFE, of ctserve, and of ctserve with answer-behind-swap, and has ctload submit
+to each in turn, in each turn with so many clients for so many seconds. CRATES has the builds of the log's programs; what isn't built there a program in Python
+stands in for, which it says. It prints timestamps a second, the median and 99th percentile of the time to one, the processor time of the log's processes an entry
+until a signed head has all of them, and how many processors others had meanwhile; then what each log's files and processes take. With --settle it looks at the
+files once more after so many seconds: what was written for a while is gone then. `make service` builds ctserve and ctload.
+"""
+import argparse
+import json
+import os
+import pathlib
+import re
+import signal
+import subprocess
+import sys
+import tempfile
+import time
+import urllib.request
+
+from served import CRATES, Log, busy_time, disk_used, free_port, listens, load, memory, processor_time, run, stop, until
+
+SUITE, GO = "trixie", "golang-1.24-go"
+WANTED = ["golang-github-google-trillian-dev", "golang-github-google-certificate-transparency-dev", GO]
+MARIADB = ["mariadb-server-core", "mariadb-client-core", "mariadb-common", "mysql-common", "libmariadb3", "liburing2"]
+COMMANDS = [f"github.com/google/{name}" for name in (
+    "trillian/cmd/trillian_log_server", "trillian/cmd/trillian_log_signer", "trillian/cmd/createtree", "certificate-transparency-go/trillian/ctfe/ct_server")]
+# What Debian has not, and a log over MariaDB doesn't call: packages that answer with an error.
+STUBS = {
+    "contrib.go.opencensus.io/exporter/stackdriver": """package stackdriver
+
+import (
+	"errors"
+
+	"go.opencensus.io/stats/view"
+	"go.opencensus.io/trace"
+)
+
+type Options struct{ ProjectID string }
+
+type Exporter struct{}
+
+func NewExporter(Options) (*Exporter, error) { return nil, errors.New("it isn't here") }
+
+func (*Exporter) ExportView(*view.Data)      {}
+func (*Exporter) ExportSpan(*trace.SpanData) {}
+""",
+    "github.com/tomasen/realip": """package realip
+
+import "net/http"
+
+func FromRequest(r *http.Request) string { return r.RemoteAddr }
+""",
+    "github.com/jackc/pgx/v5/pgconn": """package pgconn
+
+import "errors"
+
+type PgError struct{ Code string }
+
+func (*PgError) Error() string { return "it isn't here" }
+
+func ParseConfig(string) (any, error) { return nil, errors.New("it isn't here") }
+""",
+    "github.com/jackc/pgx/v5/stdlib": "package stdlib\n",
+    "github.com/jackc/pgerrcode": 'package pgerrcode\n\nconst UniqueViolation = "23505"\n',
+}
+# What is edited in the sources: a storage that Debian lacks a package for, and a chain of interceptors, which gRPC has itself now.
+EDITS = {
+    "trillian/cmd/trillian_log_server/main.go": [('\t_ "github.com/google/trillian/storage/cloudspanner"\n', "")],
+    "trillian/cmd/trillian_log_signer/main.go": [('\t_ "github.com/google/trillian/storage/cloudspanner"\n', "")],
+    "trillian/cmd/internal/serverutil/main.go": [
+        ('\tgrpc_middleware "github.com/grpc-ecosystem/go-grpc-middleware"\n', ""),
+        ("grpc.UnaryInterceptor(grpc_middleware.ChainUnaryServer(", "grpc.ChainUnaryInterceptor("),
+        ("\t\t\tti.UnaryInterceptor,\n\t\t)),\n", "\t\t\tti.UnaryInterceptor,\n\t\t),\n"),
+    ],
+}
+SETTINGS = """Dir::Etc::sourcelist "{0}/suite.sources";
+Dir::Etc::sourceparts "-";
+Dir::State::lists "{0}/lists";
+Dir::State::status "{0}/status";
+Dir::Cache::archives "{0}/archives";
+Dir::Cache::pkgcache "{0}/pkgcache.bin";
+Dir::Cache::srcpkgcache "{0}/srcpkgcache.bin";
+"""
+
+
+def unpack(packages, root):
+    for package in sorted(packages.glob("*.deb")):
+        run("dpkg-deb", "-x", package, root)
+
+
+def fetch(folder):
+    """Fetches by apt, and builds."""
+    apt, packages = folder / "apt", folder / "packages"
+    for made in (apt / "lists" / "partial", apt / "archives" / "partial", packages / SUITE, packages / "own", folder / "source"):
+        made.mkdir(parents=True, exist_ok=True)
+    (apt / "status").touch()
+    mirrors = [line.split()[0] for line in run("apt-get", "indextargets", "--format", "$(REPO_URI) $(ORIGIN)", "Created-By: Packages").splitlines() if line.endswith(" Debian")]
+    if not mirrors:
+        stop("apt knows no mirror of Debian")
+    (apt / "suite.sources").write_text(f"Types: deb deb-src\nURIs: {mirrors[0]}\nSuites: {SUITE}\nComponents: main\nSigned-By: /usr/share/keyrings/debian-archive-keyring.gpg\n")
+    (apt / "settings").write_text(SETTINGS.format(apt))
+    there = {**os.environ, "APT_CONFIG": str(apt / "settings"), "LC_ALL": "C.UTF-8"}
+    run("apt-get", "update", env=there)
+    planned = run("apt-get", "install", "--simulate", "--no-install-recommends", *WANTED, env=there)
+    names = re.findall(r"^Inst (golang-\S+)", planned, re.M)
+    run("apt-get", "download", *names, env=there, cwd=packages / SUITE)
+    run("apt-get", "source", "--download-only", "--tar-only", "trillian", env=there, cwd=folder / "source")
+    run("apt-get", "download", *MARIADB, cwd=packages / "own")
+    unpack(packages / SUITE, folder / "go")
+    unpack(packages / "own", folder / "mariadb")
+    (tarball,) = (folder / "source").glob("trillian_*.orig.tar.*")
+    run("tar", "-xf", tarball, "-C", folder / "source", "--strip-components=1", "--wildcards", "*/storage/mysql/schema/storage.sql")
+    sources = folder / "go" / "usr" / "share" / "gocode" / "src"
+    for name, text in STUBS.items():
+        (sources / name).mkdir(parents=True, exist_ok=True)
+        (sources / name / "stub.go").write_text(text)
+    for name, edits in EDITS.items():
+        path = sources / "github.com" / "google" / name
+        text = path.read_text()
+        for old, new in edits:
+            if text.count(old) != 1:
+                stop(f"{name} isn't as it was")
+            text = text.replace(old, new)
+        path.write_text(text)
+    kit = folder / "go" / "usr" / "lib" / GO.removesuffix("-go").replace("golang", "go")
+    build = {**os.environ, "GOROOT": str(kit), "GOPATH": str(sources.parent), "GO111MODULE": "off", "GOPROXY": "off", "GOTOOLCHAIN": "local", "CGO_ENABLED": "0",
+             "GOCACHE": str(folder / "cache"), "GOFLAGS": "-trimpath"}  # fmt: skip
+    (folder / "bin").mkdir(exist_ok=True)
+    run(kit / "bin" / "go", "build", "-o", folder / "bin", *COMMANDS, env=build)
+    print(run(kit / "bin" / "go", "version", env=build).strip() + "".join(f", {name}" for name in sorted(path.name for path in (packages / SUITE).glob("golang-github-google-[tc]*"))))
+
+
+class Ctfe:
+    """A log of CTFE over Trillian and MariaDB, in a folder, out of what was fetched; with the settings that these programs have by themselves."""
+
+    def __init__(self, folder, fetched):
+        self.folder, self.models, self.processes = folder, [], []
+        folder.mkdir()
+        maria, self.bin = fetched / "mariadb", fetched / "bin"
+        libraries = {**os.environ, "LD_LIBRARY_PATH": ":".join(map(str, sorted((maria / "usr" / "lib").glob("*-linux-gnu"))))}
+        self.data, socket = folder / "data", folder / "socket"
+        run("sh", maria / "usr/bin/mariadb-install-db", "--no-defaults", "--user=root", f"--basedir={maria}/usr", f"--datadir={self.data}", "--auth-root-authentication-method=normal",
+            "--skip-test-db", env=libraries)  # fmt: skip
+        database, rpc, http, self.port = (free_port() for _ in range(4))
+        self.start("mariadbd", maria / "usr/sbin/mariadbd", "--no-defaults", "--user=root", f"--basedir={maria}/usr", f"--datadir={self.data}", f"--socket={socket}",
+                   f"--port={database}", "--bind-address=127.0.0.1", "--max-connections=2000", env=libraries)  # fmt: skip
+        until(lambda: listens(database), "mariadbd doesn't listen", *self.newest())
+        schema = "create database trillian; create user 'trillian'@'127.0.0.1' identified by 'trillian'; grant all on trillian.* to 'trillian'@'127.0.0.1'; use trillian;\n"
+        schema += (fetched / "source" / "storage" / "mysql" / "schema" / "storage.sql").read_text()
+        run(maria / "usr/bin/mariadb", "--no-defaults", f"--socket={socket}", "--user=root", input=schema, env=libraries)
+        uri = f"--mysql_uri=trillian:trillian@tcp(127.0.0.1:{database})/trillian"
+        self.start("trillian_log_server", self.bin / "trillian_log_server", "--logtostderr", uri, f"--rpc_endpoint=127.0.0.1:{rpc}", "--http_endpoint=")
+        until(lambda: listens(rpc), "trillian_log_server doesn't listen", *self.newest())
+        self.start("trillian_log_signer", self.bin / "trillian_log_signer", "--logtostderr", uri, "--force_master", f"--rpc_endpoint=127.0.0.1:{free_port()}", "--http_endpoint=")
+        tree = run(self.bin / "createtree", f"--admin_server=127.0.0.1:{rpc}").strip().split()[-1]
+        self.roots, key = folder / "roots.pem", folder / "log.key"
+        run("openssl", "genpkey", "-algorithm", "EC", "-pkeyopt", "ec_paramgen_curve:P-256", "-out", key)
+        run("openssl", "req", "-x509", "-key", key, "-subj", "/CN=a root", "-days", 30, "-out", self.roots)
+        der = subprocess.run(["openssl", "pkcs8", "-topk8", "-nocrypt", "-in", key, "-outform", "DER"], check=True, capture_output=True).stdout
+        private = "".join(f"\\{byte:03o}" for byte in der)
+        (folder / "logs.cfg").write_text(f'config {{ log_id: {tree} prefix: "log" roots_pem_file: "{self.roots}" max_merge_delay_sec: 86400 expected_merge_delay_sec: 120\n'
+                                         f'private_key: {{ [type.googleapis.com/keyspb.PrivateKey] {{ der: "{private}" }} }} }}\n')  # fmt: skip
+        self.url, self.id = f"http://127.0.0.1:{self.port}/log", folder / "ct_server.id"
+        words = f"--logtostderr --log_config={folder}/logs.cfg --log_rpc_server=127.0.0.1:{rpc} --http_endpoint=127.0.0.1:{self.port} --metrics_endpoint=127.0.0.1:{http}"
+        (folder / "restart").write_text(f'cd {folder} && [ ! -e ct_server.id ] || {{ kill $(cat ct_server.id); while kill -0 $(cat ct_server.id) 2>/dev/null; do sleep 0.05; done; }}\n'
+                                        f"nohup {self.bin}/ct_server {words} >>ct_server.log 2>&1 </dev/null &\necho $! >ct_server.id\n")  # fmt: skip
+        run("sh", folder / "restart")
+        until(lambda: listens(self.port), "ct_server doesn't listen", None, folder / "ct_server.log")
+
+    def start(self, name, *words, **more):
+        log = self.folder / f"{name}.log"
+        with log.open("w") as to:
+            self.processes.append((subprocess.Popen([str(word) for word in words], stdout=to, stderr=subprocess.STDOUT, **more), log))
+
+    def newest(self):
+        return self.processes[-1]
+
+    def reload(self):
+        """The command that has it read its roots anew: ct_server does so at a start."""
+        return f"sh {self.folder}/restart"
+
+    def ids(self):
+        return [process.pid for process, _ in self.processes] + [int(self.id.read_text())]
+
+    def stored(self):
+        return self.data
+
+    def end(self):
+        if self.id.exists():
+            os.kill(int(self.id.read_text()), signal.SIGTERM)
+        for process, _ in self.processes[::-1]:
+            process.terminate()
+            process.wait()
+
+
+def size_of(log):
+    with urllib.request.urlopen(f"{log.url}/ct/v1/get-sth", timeout=60) as answer:
+        return json.load(answer)["tree_size"]
+
+
+def turn(log, clients, seconds):
+    """Timestamps a second, the median and 99th percentile of the time to one, the processor time an entry, each in ms, and how many processors others had."""
+    had, before = size_of(log), {one: processor_time(one) for one in log.ids()}
+    began, busy, own = time.monotonic(), busy_time(), sum(before.values())
+    loader = sum(os.times()[2:4])
+    count, took, middle, high, again = load(log, clients, "--for", f"{seconds}s")
+    loader = sum(os.times()[2:4]) - loader
+    # (those that ctload gave up at its end may come in too)
+    until(lambda: size_of(log) >= had + count, "no head has all entries")
+    spent = sum(processor_time(one) - before.get(one, 0) for one in log.ids())
+    others = (busy_time() - busy - spent - loader) / (time.monotonic() - began)
+    return count / took, 1000 * middle, 1000 * high, 1000 * spent / max(size_of(log) - had, 1), max(others, 0), again
+
+
+def measure(folder, words):
+    clients = [int(one) for one in words.clients.split(",")]
+    with tempfile.TemporaryDirectory(dir=os.environ.get("TMPDIR")) as work:
+        work, logs = pathlib.Path(work), {}
+        try:
+            logs["CTFE over Trillian"] = Ctfe(work / "ctfe", folder)
+            logs["ctserve"] = Log(work / "one", words.crates)
+            logs["ctserve, answer-behind-swap"] = Log(work / "two", words.crates, answer_behind_swap="true")
+            began = {name: (size_of(log), disk_used(log.stored())) for name, log in logs.items()}
+            models = logs["ctserve"].models
+            print(f"{words.turns} turns of {words.seconds} s on {os.cpu_count()} processors, at a load of {os.getloadavg()[0]:.1f} before" +
+                  (f"; in Python: {', '.join(models)}" if models else "; ctserve's programs are the built ones"), flush=True)  # fmt: skip
+            print("| Clients | Log | Timestamps a second | Median, ms | 99th percentile, ms | Processor, ms an entry | Processors that others had |\n|---|---|---|---|---|---|---|")
+            for count in clients:
+                figures = {name: [] for name in logs}
+                for number in range(words.turns):
+                    for name, log in list(logs.items())[:: 1 if number % 2 == 0 else -1]:
+                        figures[name].append(turn(log, count, words.seconds))
+                for name, turns in figures.items():
+                    rate, middle, high, spent, others, again = zip(*turns)
+                    cells = (", ".join(f"{one:,.{digits}f}" for one in column) for column, digits in ((rate, 0), (middle, 0), (high, 0), (spent, 2), (others, 1)))
+                    print(f"| {count:,} | {name}{' (some were refused, and sent again)' if any(again) else ''} | {' | '.join(cells)} |", flush=True)
+            told(logs, began, "at the end")
+            if words.settle:
+                time.sleep(words.settle)
+                told(logs, began, f"{words.settle} s later")
+        finally:
+            for log in logs.values():
+                log.end()
+
+
+def told(logs, began, when):
+    print(f"\n| Log, {when} | Entries | Disk, bytes an entry | Memory, MB |\n|---|---|---|---|")
+    for name, log in logs.items():
+        (size, used), now = began[name], size_of(log)
+        print(f"| {name} | {now - size:,} | {(disk_used(log.stored()) - used) / max(now - size, 1):,.0f} | {memory(*log.ids()) / 1e6:.0f} |", flush=True)
+
+
+def main():
+    parser = argparse.ArgumentParser(description=__doc__, formatter_class=argparse.RawDescriptionHelpFormatter)
+    parser.add_argument("words", nargs="+", metavar="FOLDER")
+    parser.add_argument("--turns", type=int, default=2)
+    parser.add_argument("--seconds", type=int, default=12)
+    parser.add_argument("--clients", default="16,64,256,1024")
+    parser.add_argument("--crates", default=CRATES)
+    parser.add_argument("--settle", type=int, default=0)
+    words = parser.parse_args()
+    folder = pathlib.Path(words.words[-1]).resolve()
+    if len(words.words) == 2 and words.words[0] == "fetch":
+        fetch(folder)
+    elif len(words.words) == 1 and (folder / "bin" / "ct_server").exists():
+        measure(folder, words)
+    else:
+        sys.exit(__doc__)
+
+
+if __name__ == "__main__":
+    main()

@@ -1,0 +1,155 @@
+"""A log of ctserve out of a folder, on loopback, for what times it from outside; and what processes took of the processors."""
+import os
+import pathlib
+import re
+import signal
+import socket
+import subprocess
+import sys
+import time
+
+HERE = pathlib.Path(__file__).resolve().parent
+SERVICE, CRATES, TESTS = (HERE.parent / name for name in ("service", "crates", "tests"))
+ORIGIN = "bench.example/log"
+# The log's programs: the setting, the proved one, and its model in Python.
+PROGRAMS = {"step": ("cttile", "tiles/step.py"), "reader": ("ctproof", "tiles/step.py"), "decider": ("ctnode", "node/ctnode.py"), "guard": ("ctguard", "guard/model.py")}
+TICK = os.sysconf("SC_CLK_TCK")
+# How long a process may take to serve, in seconds.
+PATIENCE = 120
+
+
+def stop(why):
+    sys.exit(f"{pathlib.Path(sys.argv[0]).name}: {why}")
+
+
+def free_port():
+    with socket.socket() as free:
+        free.bind(("127.0.0.1", 0))
+        return free.getsockname()[1]
+
+
+def run(*words, **more):
+    """The output of a command that has to end well."""
+    ran = subprocess.run([str(word) for word in words], capture_output=True, text=True, **more)
+    if ran.returncode:
+        stop(f"{words[0]} ended with status {ran.returncode}: {ran.stdout[-1000:]}{ran.stderr[-1000:]}")
+    return ran.stdout
+
+
+def until(is_so, what, process=None, log=None):
+    """Waits until something is so; what it is, who it is asked of, and where that says why it ended."""
+    ends = time.monotonic() + PATIENCE
+    while not is_so():
+        if (process and process.poll() is not None) or time.monotonic() > ends:
+            stop(f"{what}: {log.read_text()[-2000:] if log else ''}")
+        time.sleep(0.05)
+
+
+def listens(port):
+    with socket.socket() as asked:
+        return asked.connect_ex(("127.0.0.1", port)) == 0
+
+
+def processes():
+    """Of each process its parent and the processor time, in seconds, of it and of its children that ended."""
+    found = {}
+    for stat in pathlib.Path("/proc").glob("[0-9]*/stat"):
+        try:
+            fields = stat.read_text().rpartition(")")[2].split()
+        except OSError:
+            continue
+        found[int(stat.parent.name)] = int(fields[1]), sum(map(int, fields[11:15])) / TICK
+    return found
+
+
+def processor_time(*roots):
+    """The processor time, in seconds, of these processes and those below them."""
+    found, of, grown = processes(), set(roots), True
+    while grown:
+        grown = {process for process, (parent, _) in found.items() if parent in of} - of
+        of |= grown
+    return sum(found[process][1] for process in of if process in found)
+
+
+def memory(*roots):
+    """The memory, in bytes, that these processes and those below them hold."""
+    found, of, grown = processes(), set(roots), True
+    while grown:
+        grown = {process for process, (parent, _) in found.items() if parent in of} - of
+        of |= grown
+    held = 0
+    for process in of & set(found):
+        try:
+            held += int(re.search(r"VmRSS:\s+(\d+)", pathlib.Path(f"/proc/{process}/status").read_text())[1]) * 1024
+        except (OSError, TypeError):
+            continue
+    return held
+
+
+def busy_time():
+    """The processor time, in seconds, that the machine spent on anything."""
+    fields = list(map(int, pathlib.Path("/proc/stat").read_text().split("\n")[0].split()[1:9]))
+    return (sum(fields) - fields[3] - fields[4]) / TICK
+
+
+def disk_used(folder):
+    """The bytes of disk that a folder's files take."""
+    return int(run("du", "-s", "--block-size=1", folder).split()[0])
+
+
+def programs(crates):
+    """The commands of the log's programs, proved where they are built below a folder of crates, and else in Python; and which these are."""
+    commands, models = {}, []
+    for setting, (name, model) in PROGRAMS.items():
+        built = pathlib.Path(crates) / name / "out" / name
+        if not built.exists():
+            models.append(name)
+        commands[setting] = built if built.exists() else f"{sys.executable} {TESTS / model}"
+    return commands, models
+
+
+class Log:
+    """A log of ctserve in a folder, which is made."""
+
+    def __init__(self, folder, crates=CRATES, **settings):
+        self.folder, self.port, self.operator = folder, free_port(), free_port()
+        folder.mkdir()
+        for name in ("log", "root"):
+            run("openssl", "ecparam", "-name", "prime256v1", "-genkey", "-noout", "-out", folder / f"{name}.key")
+            os.chmod(folder / f"{name}.key", 0o600)
+        (folder / "log.pem").write_text(run("openssl", "ec", "-in", folder / "log.key", "-pubout"))
+        self.roots = folder / "roots.pem"
+        run("openssl", "req", "-x509", "-key", folder / "root.key", "-subj", "/CN=a root", "-days", 30, "-out", self.roots)
+        commands, self.models = programs(crates)
+        words = {"origin": ORIGIN, "listen": f"127.0.0.1:{self.port}", "operator-listen": f"127.0.0.1:{self.operator}", "signing-key": folder / "log.key",
+                 "roots": self.roots, "folder": folder / "log", "most-connections-by-address": 5000, **commands, **settings}  # fmt: skip
+        self.settings = folder / "bench.conf"
+        self.settings.write_text("".join(f"{name.replace('_', '-')} {value}\n" for name, value in words.items()))
+        self.url, self.said = f"http://127.0.0.1:{self.port}", folder / "ctserve.log"
+        with self.said.open("w") as to:
+            self.process = subprocess.Popen([SERVICE / "out" / "ctserve", "--config", self.settings, "--create"], stdout=to, stderr=subprocess.STDOUT)
+        until(lambda: '"event":"serving"' in self.said.read_text(), "ctserve doesn't serve", self.process, self.said)
+
+    def reload(self):
+        """The command that has it read its roots anew."""
+        return f"kill -HUP {self.process.pid}"
+
+    def ids(self):
+        return [self.process.pid]
+
+    def stored(self):
+        return self.folder / "log"
+
+    def end(self):
+        self.process.send_signal(signal.SIGTERM)
+        self.process.wait()
+
+
+def load(log, clients, *words):
+    """What ctload says of a log that it loads: timestamps, over how many seconds, and the median and 99th percentile of the time to one, in seconds."""
+    command = [SERVICE / "out" / "ctload", "--nodes", log.url, "--roots", log.roots, "--answers", log.folder / "answers", "--repeats", 0, "--clients", clients, "--reload", log.reload()]
+    said = run(*command, *words)
+    found = re.search(r"(\d+) answered in ([0-9.]+) s: .* median ([0-9.]+) s, 99th percentile ([0-9.]+) s[^\n]*$", said.strip())
+    if not found:
+        stop(f"ctload says {said}")
+    return int(found[1]), *map(float, found.groups()[1:]), "sent again" in said
