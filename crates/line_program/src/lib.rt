@@ -10,6 +10,8 @@
 mod answerer;
 mod faults;
 mod replying;
+#[cfg(test)]
+mod tests;
 
 pub use answerer::Answerer;
 pub use faults::tell_fault;

@@ -1,5 +1,5 @@
-//! Tests of `ct_codec`, `ct_core`, `ct_sequencing`, `ct_lines`, `ct_monitor_lines` and `ct_guard_lines`, in a crate of their own so that
-//! each of those crates is proved once.
+//! Tests of `ct_codec`, `ct_core`, `ct_sequencing`, `ct_lines` and `ct_monitor_lines`, in a crate of their own so that each of those crates is
+//! proved once.
 #![tactic(auto)]
 
 #[cfg(test)]
@@ -10,8 +10,6 @@ mod core_answers;
 mod core_log;
 #[cfg(test)]
 mod failing_calls;
-#[cfg(test)]
-mod guard_runs;
 #[cfg(test)]
 mod hostile_bytes;
 #[cfg(test)]

@@ -1,0 +1,9 @@
+pub mod Plain
+pub mod ReadBack
+pub mod Short
+pub mod NoFloat
+pub mod Kept
+pub mod GuardRuns
+pub mod GivenRuns
+pub mod CutRuns
+pub mod WordsRead

@@ -1,0 +1,81 @@
+-- What a line asks of a guard.
+use Rattle.std.specs.Prelude.{◌≡◌, ℕ, List, Option, Some, None, option_map, option_and_then, codes, unwrap_or}
+use Rattle.serde_json.specs.Data.{Data}
+use Rattle.serde_json.specs.Find.{get}
+use Rattle.ct_tree.specs.declared.head.Head.{Head}
+use Rattle.json_lines.specs.Fields.{number_at, bytes_at, hashes_at}
+use Rattle.json_lines.specs.Values.{value_of_line}
+use Rattle.ctguard.specs.GuardState.{head_fields}
+use Rattle.ctguard.specs.declared.request.Request.{Request}
+use Rattle.ctguard.specs.declared.request.Request.TheVariants as request
+use Rattle.ctguard.specs.declared.settings.Receipts.{Receipts}
+use Rattle.ctguard.specs.declared.settings.Receipts.TheVariants.{InHead, Promised}
+
+-- What a line asks for: the bytes of a tree head, with a consistency proof from the last one, where its moment is at most so many milliseconds beyond
+-- that one's; those of a receipt, by its leaf's bytes, its
+-- leaf index and an audit path in the last head's tree; those of a receipt by its leaf's bytes alone; or nothing that there is.
+pub data Ask : Type 0 where
+  for_head : Head → List (List ℕ) → ℕ → Ask
+  for_receipt : List ℕ → ℕ → List (List ℕ) → Ask
+  for_promise : List ℕ → Ask
+  for_nothing : Ask
+
+-- what the code's request asks for
+abbrev pub ask_of : Request → Ask
+ask_of (request.Head head proof most) = for_head head proof.items most
+ask_of (request.Receipt leaf index path) = for_receipt leaf.items index path.items
+ask_of (request.Promise leaf) = for_promise leaf.items
+ask_of request.Other = for_nothing
+
+-- the bound where an object has none under its key: an hour, in milliseconds
+abbrev pub head_bound_or : Option Data → Option ℕ → Option ℕ
+head_bound_or None bound = Some 3600000
+head_bound_or (Some d) bound = bound
+
+-- how far a head's moment may be beyond the last one's, in milliseconds, by its object
+abbrev pub head_bound_at : Data → Option ℕ
+head_bound_at d = head_bound_or (get (codes "most_ahead") d) (number_at (codes "most_ahead") d)
+
+-- a tree head, the consistency proof from the last one (RFC 6962, sections 4.3 and 4.4), and how far it may be beyond that one
+abbrev pub head_ask : Data → Option Ask
+head_ask d = option_and_then
+    (λ head. option_and_then (λ proof. option_map (λ most. for_head head proof most)
+    (head_bound_at d)) (hashes_at (codes "consistency") d)) (head_fields d)
+
+-- a leaf, its leaf index and an audit path (RFC 6962, sections 4.5 and 4.6)
+abbrev pub receipt_ask : Data → Option Ask
+receipt_ask d = option_and_then
+    (λ leaf. option_and_then (λ index. option_map (λ path. for_receipt leaf index path)
+    (hashes_at (codes "audit_path") d)) (number_at (codes "leaf_index") d)) (bytes_at (codes "leaf_input") d)
+
+-- a leaf alone (RFC 6962, section 4.6)
+abbrev pub promise_ask : Data → Option Ask
+promise_ask d = option_map (λ leaf. for_promise leaf) (bytes_at (codes "leaf_input") d)
+
+-- what is asked of a receipt: a path in the last head's tree, or, of a log that promises a merge, its leaf alone
+abbrev pub leaf_ask : Receipts → Data → Option Ask
+leaf_ask InHead d = receipt_ask d
+leaf_ask Promised d = promise_ask d
+
+-- the ask, or nothing that there is
+abbrev pub ask_or_nothing : Option Ask → Ask
+ask_or_nothing None = for_nothing
+ask_or_nothing (Some ask) = ask
+
+-- the first ask, or else the second
+abbrev pub ask_or : Option Ask → Option Ask → Option Ask
+ask_or None other = other
+ask_or (Some ask) other = Some ask
+
+-- nothing where a state stands, or else the ask
+abbrev pub no_state_or : Option Data → Option Ask → Option Ask
+no_state_or None other = other
+no_state_or (Some d) other = None
+
+-- what a JSON value asks for, by its keys: nothing where it has the key `guard`; then a head; then a receipt
+abbrev pub ask_in : Receipts → Data → Ask
+ask_in receipts d = ask_or_nothing (no_state_or (get (codes "guard") d) (ask_or (head_ask d) (leaf_ask receipts d)))
+
+-- the line asks for this: what the JSON value that it is, of at most 1,048,576 bytes, asks for; or nothing that there is
+abbrev pub Requests : Receipts → List ℕ → Ask → Type 0
+Requests receipts line a = a ≡ unwrap_or (option_map (ask_in receipts) (value_of_line 1048576 line)) for_nothing
