@@ -15,8 +15,9 @@ import sys
 from source import CRATES, ROOT, crates
 
 PAGE = ROOT / "docs" / "ARCHITECTURE.md"
+ROOMS = ROOT / "docs" / "plots" / "rooms.dot"
 MADE = "<!-- Made by checks/architecture.py --write: {}. -->\n\n"
-TABLE = re.compile(MADE.format("([a-z ]+)") + r"(```mermaid\n[^`]*```\n|(?:It may use .*\n\n)?(?:\|.*\n)*)")
+TABLE = re.compile(MADE.format("([a-z ]+)") + r"((?:It may use .*\n\n)?(?:\|.*\n)*)")
 ROOM = re.compile(r"# Room ([a-z ]+?)(?: over ([a-z ,]+))?")
 
 
@@ -63,11 +64,12 @@ def table(over, words):
 
 
 def picture(found):
-    """The rooms, with an arrow from each to those that it may use, where no way leads there over a third."""
-    names = {room: f'{room.split()[0]}["{room}"]' if " " in room else room for room in found}
+    """The text of the picture of the rooms (pictures.py), with an arrow from each to those that it may use, where no way leads there over a third."""
+    names = {room: room.replace(" ", "_") for room in found}
+    boxes = "".join(f'    {name} [label="{room}"]\n' for room, name in names.items())
     through = {room: {other for third in over for other in found[third][0]} for room, (over, _) in found.items()}
-    arrows = (f"    {names[room]} --> {names[other]}\n" for room, (over, _) in found.items() for other in over if other not in through[room])
-    return "".join(["```mermaid\n", "flowchart LR\n", *arrows, "```\n"])
+    arrows = "".join(f"    {names[room]} -> {names[other]}\n" for room, (over, _) in found.items() for other in over if other not in through[room])
+    return f"// The rooms of the crates. Made by checks/architecture.py --write.\ndigraph rooms {{\n{boxes}\n{arrows}}}\n"
 
 
 def main():
@@ -75,17 +77,19 @@ def main():
     found, faults = rooms((ROOT / "crates.txt").read_text())
     faults += [*arrows_back(found), *(f"crates/{crate} doesn't begin with a page that says what it is" for crate, said in words.items() if not said)]
     wanted = {room: table(over, {crate: words[crate] for crate in listed}) for room, (over, listed) in found.items()}
-    wanted["rooms"] = picture(found)
     page = PAGE.read_text()
     stands = dict(TABLE.findall(page))
     if set(stands) != set(wanted):
         sys.exit(f"docs/ARCHITECTURE.md has the tables {sorted(stands)}, and not one behind each line {MADE.strip()} for {sorted(wanted)}")
     if sys.argv[1:] == ["--write"]:
+        ROOMS.write_text(picture(found))
         PAGE.write_text(TABLE.sub(lambda one: MADE.format(one.group(1)) + wanted[one.group(1)], page))
     for room in wanted if sys.argv[1:] != ["--write"] else ():
         if stands[room] != wanted[room]:
             line = next((one for one in wanted[room].splitlines() if one not in stands[room].splitlines()), "fewer or other rows")
             faults.append(f"docs/ARCHITECTURE.md: what is made of {room} isn't as checks/architecture.py --write writes it: {line}")
+    if ROOMS.read_text() != picture(found):
+        faults.append("docs/plots/rooms.dot isn't as checks/architecture.py --write writes it")
     for fault in faults:
         print(fault)
     sys.exit(1 if faults else 0)

@@ -6,7 +6,7 @@ examples/http/, examples/link/, release/, service/ and tests/. A link has to lea
 (spans and blocks) a path has to be a file of this repository, `Type::name` a function or a case, `name()` a function, `make name` a target; a
 name with a capital inside or an underscore, and a span of one word, have to stand in the code outside of comments, or in elsewhere.txt. And
 `make help` has to tell each target but the parts of `make install`. A block below a comment `<!-- from FILE -->` has only text of that file, in its order (a line of `..` stands
-for what is left out, and lines may be broken otherwise). A picture of mermaid's has lines of nodes and links alone.
+for what is left out, and lines may be broken otherwise).
 It prints each thing that isn't so, and ends with status 1 where there is one. Before that it tries itself on a page where each of these is wrong.
 """
 import os
@@ -25,11 +25,6 @@ CALL = re.compile(r"(?<![\w.])([a-z]\w*)\(\)")
 NAME = re.compile(r"\b(?:[A-Z][a-z0-9]+(?:[A-Z][a-z0-9]*)+|[a-z]+(?:_[a-z0-9]+)+)\b")
 MAKE = re.compile(r"\bmake ([a-z]+(?:-[a-z]+)*)")
 QUOTED = re.compile(r"^<!-- from (\S+) -->\n+(```.*?^```$|(?:^ {4}[^\n]*\n)+)", re.M | re.S)
-# A picture of mermaid's, and what its lines may be: nodes with links between them. (No renderer is in Debian.)
-PICTURE = re.compile(r"^```mermaid\n(.*?)^```$", re.M | re.S)
-NODE = r'(?!end\b)\w+(?:\["[^"]+"\]|\[\("[^"]+"\)\]|\[[\w ]+\])?'
-ARROW = r'(?:<?-->|---|-\.->|<?-- (?:"[^"]+"|[\w ,]+) -->|<?-\. (?:"[^"]+"|[\w ,]+) \.->)'
-DRAWN = {"flowchart LR": re.compile(rf" *{NODE}(?: {ARROW} {NODE})*"), "stateDiagram-v2": re.compile(r" *(?:\w+|\[\*\]) --> (?:\w+|\[\*\])(?:: [^:;#]+)?")}
 # No code: this script's own page of faults, and the words of elsewhere.
 OWN = ("documents.py", "elsewhere.txt")
 # Words of the kit, of std, of the C library, of other crates and of standards, which stand in no code here.
@@ -153,17 +148,8 @@ class Repository:
                 if line not in ("", "..") and not line.startswith("```") and not any(line in whole for whole in lines):
                     yield f"on more than one line of {file}: {line[:80]} .."
 
-    def faults_of_pictures(self, text):
-        for picture in PICTURE.findall(text):
-            first, *lines = picture.splitlines()
-            if first not in DRAWN:
-                yield f"a picture begins with {first}"
-            drawn = DRAWN.get(first, DRAWN["flowchart LR"])
-            yield from (f"a line of a picture isn't nodes and links: {line.strip()}" for line in lines if not drawn.fullmatch(line))
-
     def faults(self, text, page):
         yield from self.faults_of_quotations(text)
-        yield from self.faults_of_pictures(text)
         yield from self.faults_of_links(re.sub(BLOCK, "", text), page)
         prose = re.sub(BLOCK, "", text)
         for code in BLOCK.findall(text) + SPAN.findall(re.sub(r"\s*\n(?:> )?\s*", " ", prose)):
@@ -178,16 +164,11 @@ WRONG = """# A page
 <!-- from Makefile -->
     no line of it
 
-```mermaid
-flowchart RL
-    a["text] --> b
-```
-
 <!-- from Makefile -->
     RUNS ?= 20 PREFIX ?= /usr/local
 """
 WRONG_IN = ["no-such-page.md leads", "#no-such-heading leads", "src/absent.rt is", "Front::absent stands", "absent() is", "AbsentWord stands"]
-WRONG_IN += ["a picture begins with flowchart RL", 'nodes and links: a["text] --> b', "make nothing is", "make neither is", "not in Makefile", "on more than one line of Makefile: RUNS"]
+WRONG_IN += ["make nothing is", "make neither is", "not in Makefile", "on more than one line of Makefile: RUNS"]
 
 
 # How a crate states the version of its program: a text that is proved to be printed can't be read out of a file.

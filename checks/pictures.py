@@ -4,7 +4,8 @@
     pictures.py [--write]
 
 --write draws them anew by dot (Debian's package graphviz), with colours of their own for a dark screen. Else it draws nothing: it sees that a picture was
-drawn of the text that is there (it has the text's SHA-256), that it has the text's boxes, arrows and words, no more and no fewer, and that a page shows it.
+drawn of the text that is there (it has the text's SHA-256), that it has the text's boxes, arrows and words, no more and no fewer, that what these name is
+there, as on a page, and that a page shows it.
 It ends with status 1 where one isn't so. Before that it tries itself on a picture of its own in which each of these is wrong.
 """
 import collections
@@ -15,11 +16,17 @@ import subprocess
 import sys
 import xml.etree.ElementTree as xml
 
-from documents import pages
+from documents import Repository, pages
 from source import ROOT
 
 PLOTS = ROOT / "docs" / "plots"
 SVG = "{http://www.w3.org/2000/svg}"
+# How all are drawn, where a text says nothing else: what stands behind its first {.
+FONT = 'fontname="DejaVu Sans,Verdana,sans-serif"'
+HOW = f"""
+    rankdir=LR nodesep=0.3 ranksep=0.35
+    node [shape=box, style="rounded,filled", fillcolor="#ffffff", margin="0.14,0.07", height=0.3, fontsize=12, {FONT}]
+    edge [fontsize=10, arrowsize=0.7, {FONT}]"""
 DRAWN = '<!-- Drawn by checks/pictures.py of a text with the SHA-256 {}. -->\n'
 # What a dark screen has in place of a colour: the ground, what is proved, and lines.
 DARK = {"white": "#0d1117", "#ffffff": "#161b22", "#d7efd7": "#1c4a2a", "black": "#c9d1d9"}
@@ -30,13 +37,13 @@ def parts(text):
     """A text's boxes and arrows by their names, and the lines of what is written on them."""
     boxes, arrows = re.findall(r"^    (\w+) \[.*\]$", text, re.M), re.findall(r"^    (\w+) -> (\w+)", text, re.M)
     named = [name for name in boxes if name not in ("node", "edge")] + [f"{left}->{right}" for left, right in arrows]
-    written = [line for label in re.findall(r'\blabel="([^"]*)"', text) for line in label.split(r"\n")]
+    written = [line for label in re.findall(r'\blabel="([^"]*)"', text) for line in label.strip().split(r"\n")]
     return collections.Counter(named), collections.Counter(written)
 
 
 def drawn(text):
     """The picture of a text."""
-    ran = subprocess.run(["dot", "-Tsvg"], input=text, capture_output=True, text=True)
+    ran = subprocess.run(["dot", "-Tsvg"], input=text.replace("{", "{" + HOW, 1), capture_output=True, text=True)
     if ran.returncode:
         sys.exit(f"dot: {ran.stderr}")
     svg = re.sub(r"<\?xml.*?(?=<svg)|<!--.*?-->\n", "", ran.stdout, flags=re.S)
@@ -51,7 +58,7 @@ def faults(text, svg):
     top = xml.fromstring(svg)
     named, written = parts(text)
     shown = collections.Counter(group.findtext(f"{SVG}title") for group in top.iter(f"{SVG}g") if group.get("class") in ("node", "edge"))
-    said = collections.Counter(one.text for one in top.iter(f"{SVG}text"))
+    said = collections.Counter(one.text.strip() for one in top.iter(f"{SVG}text"))
     for due, found in ((named, shown), (written, said)):
         yield from (f"lacks {one}" for one in due - found)
         yield from (f"has {one}, which isn't in its text" for one in found - due)
@@ -72,13 +79,14 @@ def main():
             sys.exit("checks/pictures.py: dot isn't on the PATH (Debian: graphviz)")
         for path in texts:
             path.with_suffix(".svg").write_text(drawn(path.read_text()))
-    shown = "".join(page.read_text() for page in pages())
+    shown, repository = "".join(page.read_text() for page in pages()), Repository()
     for path in texts:
         picture = path.with_suffix(".svg")
         if not picture.exists():
             found.append(f"{picture.relative_to(ROOT)} isn't here: checks/pictures.py --write draws it")
             continue
         found += [f"{picture.relative_to(ROOT)} {fault}" for fault in faults(path.read_text(), picture.read_text())]
+        found += [f"{path.relative_to(ROOT)}: {fault}" for label in parts(path.read_text())[1] for fault in repository.faults_of_code(f"{label} ", path)]
         found += [] if f"plots/{picture.name})" in shown else [f"no page shows {picture.relative_to(ROOT)}"]
     for fault in found:
         print(fault)

@@ -4,8 +4,9 @@
     release.py [--built FOLDER] [--service FOLDER] [--to FOLDER] [--quickly]
 
 By default the programs are taken from crates/NAME/out, the service from service/out, and all goes to release/out. Nothing is built: what lacks is named,
-with the command that builds it. --quickly packs less tightly, for trials. The same files give the same bytes each time, whatever the folder and the hour: moments are the commit's, owners are root,
-and names are sorted.
+with the command that builds it. Each program has to say at --version that it is of VERSION, those in Go also that they are of this commit. --quickly packs
+less tightly, and asks no program, for trials. The same files give the same bytes each time, whatever the folder and the hour: moments are the commit's, owners
+are root, and names are sorted.
 """
 import argparse
 import gzip
@@ -107,14 +108,21 @@ class Release:
         found = [f"{name} ({PROGRAMS.get(name, 'make service')})" for name, path in self.programs.items() if not path.is_file()]
         return found + [f"{path.name} (make link)" for path in (self.linked.with_suffix(".a"), self.linked.with_suffix(".so")) if not path.is_file()]
 
-    def proved(self):
-        """What PROVED says: by which logic, of which commit, and how to see it again."""
-        return f"""{", ".join(PROGRAMS)} and libwagtenib of Wagtenib {self.version} were built by the Rattle kit, which builds no crate that isn't proved.
-commit {self.commit}
-logic {self.logic}
-{", ".join(SERVICE)} are in Go, and not proved. With a kit of this logic, `make test` proves all of it anew, and `make reproduce` builds the programs
-once more and compares their bytes with SHA256SUMS.
-"""
+    def others(self):
+        """The programs that say at --version that they are of another version than VERSION, or in Go of another commit than this one."""
+        for name, path in self.programs.items():
+            said = run(path, "--version").stdout.strip()
+            of_commit = f" (commit {self.commit[:12]}" if name in SERVICE else ""
+            if not f"{said} ".startswith(f"{name} {self.version}{of_commit or ' '}"):
+                yield f"{name} ({said or 'nothing'})"
+
+    def proved(self, files):
+        """What PROVED says of a release's files: of which commit and by which logic they were built, and their SHA-256, as sha256sum checks them."""
+        held = {path: it[0] for path, it in files.items() if isinstance(it, tuple)}
+        by_kit = {path: data for path, data in held.items() if path.split("/")[-1] in PROGRAMS or path.split("/")[-1].startswith("libwagtenib.")}
+        in_go = {path: data for path, data in held.items() if path.split("/")[-1] in SERVICE}
+        text = f"# Wagtenib {self.version}, commit {self.commit}, logic {self.logic}\n# Built by the Rattle kit, which builds no crate that isn't proved:\n{sums_of(by_kit)}"
+        return text + (f"# In Go, and not proved:\n{sums_of(in_go)}" if in_go else "")
 
     def documents(self):
         """Pages by their names."""
@@ -157,7 +165,7 @@ once more and compares their bytes with SHA256SUMS.
         found.update({f"lib/systemd/system/{unit}": ((ROOT / "service" / unit).read_bytes(), 0o644) for unit in UNITS})
         found.update({f"share/wagtenib/{name}": (path.read_bytes(), 0o644) for name, path in self.shared().items()})
         found.update({f"share/doc/wagtenib/{name}": (path.read_bytes(), 0o644) for name, path in self.documents().items()})
-        found["PROVED"] = (self.proved().encode(), 0o644)
+        found["PROVED"] = (self.proved(found).encode(), 0o644)
         found["SBOM.spdx.json"] = (sbom(self).encode(), 0o644)
         found["SHA256SUMS"] = (sums_of({path: it[0] for path, it in found.items() if isinstance(it, tuple)}).encode(), 0o644)
         return found
@@ -182,8 +190,8 @@ once more and compares their bytes with SHA256SUMS.
             found.update(installed_units("service", UNITS))
             found.update({f"usr/share/wagtenib/{file}": (path.read_bytes(), 0o644) for file, path in self.shared().items()})
             found.update({f"{doc}/{page}": (path.read_bytes(), 0o644) for page, path in self.documents().items() if page != "LICENSE"})
-            found[f"{doc}/PROVED"] = (self.proved().encode(), 0o644)
             found.update({"etc/ctserve": None, "etc/ctwitness": None})
+        found[f"usr/share/{name}/PROVED"] = (self.proved(found).encode(), 0o644)
         overrides = "".join(f"# {why}\n{name}: {tag}\n" for tag, why in OVERRIDES[name].items())
         found[f"usr/share/lintian/overrides/{name}"] = (overrides.encode(), 0o644)
         return found
@@ -387,7 +395,7 @@ def main():
     words.add_argument("--built", default=ROOT / "crates", help="the folder in which the crates' builds lie")
     words.add_argument("--service", default=ROOT / "service" / "out", help="the folder of the programs in Go")
     words.add_argument("--to", default=ROOT / "release" / "out", help="where the release is put")
-    words.add_argument("--quickly", action="store_true", help="pack less tightly, for trials")
+    words.add_argument("--quickly", action="store_true", help="pack less tightly, and ask no program for its version, for trials")
     given = words.parse_args()
     for tool in ("dpkg-deb", "objdump"):
         if not shutil.which(tool):
@@ -395,6 +403,8 @@ def main():
     release = Release(given.built, given.service, given.to, given.quickly)
     if lacking := release.lacking():
         stop(f"this isn't built: {', '.join(lacking)}")
+    if not given.quickly and (others := list(release.others())):
+        stop(f"of another version than {release.version}, or another commit than {release.commit[:12]}: {', '.join(others)}")
     shutil.rmtree(release.to, ignore_errors=True)
     release.to.mkdir(parents=True)
     top = f"wagtenib-{release.version}"

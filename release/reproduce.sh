@@ -37,8 +37,9 @@ if [ $# -eq 0 ]; then
   done
   copy "$first"
   copy "$second"
-  PROCESSORS=1 "$first/service/build.sh" build
-  PROCESSORS=$(nproc) "$second/service/build.sh" build
+  # (each compiles all, Go's own library too: what one has compiled the other doesn't take)
+  GOCACHE=$work/go-a PROCESSORS=1 "$first/service/build.sh" build
+  GOCACHE=$work/go-b PROCESSORS=$(nproc) "$second/service/build.sh" build
   for path in "$first"/service/out/*; do
     compare "${path##*/}" "$path" "$second/service/out/${path##*/}"
   done

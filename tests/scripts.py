@@ -246,9 +246,18 @@ def try_release(folder):
     programs = {name: folder / "built" / name / "out" / name for name in ("ctlog", "ctlogd", "ctmonitor", "ctguard", "cttile", "ctproof", "ctnode", "ctwitness")}
     programs.update({name: folder / "service" / name for name in ("ctserve", "ctcheck", "ctread", "ctload", "ctwitness-serve")})
     library = {f"libwagtenib.{end}": folder / "built" / "libwagtenib" / "out" / "link" / f"libwagtenib.{end}" for end in ("a", "so")}
+    commit = subprocess.run(["git", "log", "-1", "--format=%H"], cwd=HERE, capture_output=True, text=True).stdout[:12]
+    texts = {name: f"#!/bin/sh\necho '{name} 0.1.0{f' (commit {commit})' if path.parent.name == 'service' else ''}'\n" for name, path in programs.items()}
     for name, path in {**programs, **library}.items():
         path.parent.mkdir(parents=True, exist_ok=True)
-        path.write_text(f"made up: {name}")
+        path.write_text(texts.get(name, f"made up: {name}"))
+        path.chmod(0o755)
+    for name, other in (("ctguard", "ctguard 0.1.1"), ("ctcheck", f"ctcheck 0.1.0 (commit {commit[::-1]})")):
+        programs[name].write_text(f"#!/bin/sh\necho '{other}'\n")
+        ran = make("none")
+        if ran.returncode != 1 or f"of another version than 0.1.0, or another commit than {commit}: {name} ({other})" not in ran.stderr or (folder / "none").exists():
+            fail(f"release.py, with a program that says {other}: status {ran.returncode}: {ran.stdout}{ran.stderr}")
+        programs[name].write_text(texts[name])
     ran = make("first")
     again = make("a-second-folder")
     names = sorted(path.name for path in (folder / "first").iterdir())
@@ -271,13 +280,20 @@ def try_release(folder):
     for name, (below, held) in places.items():
         for program in held:
             path = out / name / below / program
-            if not path.exists() or path.read_text() != f"made up: {program}" or not os.access(path, os.X_OK):
+            if not path.exists() or path.read_text() != texts[program] or not os.access(path, os.X_OK):
                 fail(f"release.py: {name} has no {program} that is as it was built and can be run")
     unit = (out / "wagtenib_0.1.0_amd64.deb" / "lib" / "systemd" / "system" / "ctserve@.service").read_text()
     if "ExecStart=/usr/bin/ctserve " not in unit:
         fail("release.py: the package's unit starts another ctserve than its own")
     if subprocess.run(["sha256sum", "--check", "--quiet", "SHA256SUMS"], cwd=out / names[4] / "wagtenib-0.1.0").returncode:
         fail("release.py: SHA256SUMS in the tarball isn't that of its files")
+    for name, (below, held) in {**places, "libwagtenib-dev_0.1.0_amd64.deb": ("usr/lib/x86_64-linux-gnu", ("libwagtenib.a", "libwagtenib.so.0.1.0"))}.items():
+        top, proved = (out / name / "wagtenib-0.1.0", "PROVED") if name.endswith(".gz") else (out / name, f"usr/share/{name.split('_')[0]}/PROVED")
+        if subprocess.run(["sha256sum", "--check", "--quiet", "--strict", proved], cwd=top).returncode:
+            fail(f"release.py: PROVED of {name} isn't of its files")
+        named = {line.split("/")[-1] for line in (top / proved).read_text().splitlines() if line[0] != "#"}
+        if not set(held) <= named:
+            fail(f"release.py: PROVED of {name} names {sorted(named)}")
     bill = json.loads((folder / "first" / "SBOM.spdx.json").read_text())
     named = {package["name"] for package in bill["packages"]}
     if bill["spdxVersion"] != "SPDX-2.3" or not {"ctserve", "cttile", "sha2", "std"} <= named or len({it["SPDXID"] for it in bill["packages"]}) != len(bill["packages"]):
