@@ -239,7 +239,7 @@ class Trial:
         self.behind = {
             "nginx -t": lambda said: bare.run(f"echo 127.0.0.1 {HOST} >> /etc/hosts", quiet=True), "promtool": self.figures, "ctload": self.submitted, "rm /etc/ctserve/roots": self.root_went,
             "curl -s --cacert": self.checkpoint, "systemctl start": self.goes_on, "cp -an /root/backup": self.issuer_is_back, "systemctl restart ctserve": self.upgraded,
-            "ctread": self.mirrored, "LOG=tiled+": self.watched, "systemctl enable --now ctmonitor": self.watched_by_units, "mkdir -p ct-watch": self.from_end,
+            "ctread": self.mirrored, "ctcheck": self.judged, "LOG=tiled+": self.watched, "systemctl enable --now ctmonitor": self.watched_by_units, "mkdir -p ct-watch": self.from_end,
             "systemctl enable --now ctwitness": self.witnessed,
         }
 
@@ -330,6 +330,10 @@ class Trial:
         for path in tiles:
             if (mirror / path).read_bytes() != (own / path).read_bytes():
                 fail(f"the mirror's {path} is another one than the log's")
+
+    def judged(self, said):
+        if f" {self.size} leaves " not in said or not said.endswith(": all as they have to be\n"):
+            fail(f"ctcheck says of the backup {said}")
 
     def certspotter(self):
         """certspotter follows the log by RFC 6962's calls, through nginx over TLS, to a verified head."""

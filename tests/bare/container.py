@@ -4,7 +4,7 @@ status 0, and goes on.
 
     container.py [--built FOLDER] [--base IMAGE]
 
-As root, with buildah, podman and mmdebstrap. IMAGE is Debian's slim base, docker.io/library/debian:bookworm-slim say. Without it nothing is fetched from a
+As root, with buildah, podman and mmdebstrap, and runc where the machine has both versions of cgroups. IMAGE is Debian's slim base, docker.io/library/debian:bookworm-slim say. Without it nothing is fetched from a
 registry: the base is made here of Debian's own packages, which is said. The programs are those of bare.py. It prints what it saw, and ends with status 1
 where something is wrong.
 """
@@ -34,9 +34,13 @@ def run(*words, **how):
 
 
 def limits():
-    """This machine's limits: one that may not raise them starts nothing with podman's own."""
-    of = {"nofile": resource.RLIMIT_NOFILE, "nproc": resource.RLIMIT_NPROC}
-    return [word for name, which in of.items() for word in ("--ulimit", "{}={}:{}".format(name, *resource.getrlimit(which)))]
+    """This machine's limits: one that may not raise them (without CAP_SYS_RESOURCE) starts nothing with podman's own. That of processes podman sets to pid_max."""
+    of, most = {"nofile": resource.RLIMIT_NOFILE, "nproc": resource.RLIMIT_NPROC}, int(pathlib.Path("/proc/sys/kernel/pid_max").read_text())
+    return [word for name, which in of.items() for word in ("--ulimit", "{}={}:{}".format(name, *(min(one, most) if name == "nproc" and one >= 0 else one for one in resource.getrlimit(which))))]
+
+
+# Where both versions of cgroups are mounted crun, which podman takes, starts nothing, and runc does; runc doesn't start without any.
+BOTH = pathlib.Path("/sys/fs/cgroup/unified").exists()
 
 
 class Tool:
@@ -49,7 +53,11 @@ class Tool:
         return run("buildah", *self.store, *words)
 
     def podman(self, *words):
-        return run("podman", *self.store, "--cgroup-manager", "cgroupfs", *words)
+        return run("podman", *self.store, "--cgroup-manager", "cgroupfs", *(["--runtime", "runc"] if BOTH else []), *words)
+
+    def start(self, *words):
+        """Runs an image on this machine's network, with its limits."""
+        return self.podman("run", "--network", "host", "--cgroups", "enabled" if BOTH else "disabled", *limits(), *words)
 
 
 def base(tool, work, more):
@@ -85,8 +93,7 @@ class Container:
         self.tool, self.at, self.data, self.port = tool, at, data, port
 
     def start(self, *more):
-        words = ["run", "--detach", "--network", "host", "--cgroups", "disabled", *limits(), "--volume", f"{self.at}:/etc/ctserve:ro", "--volume", f"{self.data}:/var/lib/ctserve", IMAGE, *more]
-        self.name = self.tool.podman(*words)
+        self.name = self.tool.start("--detach", "--volume", f"{self.at}:/etc/ctserve:ro", "--volume", f"{self.data}:/var/lib/ctserve", IMAGE, *more)
         last = time.monotonic() + WITHIN
         while '"event":"serving"' not in self.said():
             if self.tool.podman("inspect", "--format", "{{.State.Running}}", self.name) != "true" or time.monotonic() > last:
@@ -130,7 +137,7 @@ def trial(tool, work, given):
     port = free_port()
     at, data = settings(work, port), work / "data"
     data.mkdir()
-    number = tool.podman("run", "--rm", "--network", "host", "--cgroups", "disabled", *limits(), "--entrypoint", "id", IMAGE, "-u")
+    number = tool.start("--rm", "--entrypoint", "id", IMAGE, "-u")
     for path in (data, at / "log.key"):
         os.chown(path, int(number), -1)
     log = Container(tool, at, data, port)
@@ -151,7 +158,7 @@ def main():
     words.add_argument("--built", type=pathlib.Path, default=ROOT / "crates", help="the folder in which the crates' builds lie")
     words.add_argument("--base", help="Debian's slim base")
     given = words.parse_args()
-    lacking = [tool for tool in ("buildah", "podman", "mmdebstrap", "openssl") if not shutil.which(tool)]
+    lacking = [tool for tool in ("buildah", "podman", "mmdebstrap", "openssl", *(["runc"] if BOTH else [])) if not shutil.which(tool)]
     if os.geteuid() or lacking:
         fail(f"the container's trial wants root, and lacks {', '.join(lacking) or 'nothing else'}")
     work = pathlib.Path(tempfile.mkdtemp(prefix="container-"))

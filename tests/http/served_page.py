@@ -1,12 +1,12 @@
 #!/usr/bin/env python3
 """Looks at the page of a log of ctserve in a headless Chromium: empty, with three entries, and with as many more as are asked for.
 
-    served_page.py [--screenshots FOLDER] [--more SECONDS]
+    served_page.py [--screenshots FOLDER] [--more ENTRIES]
 
 It serves a log of its own by service/serve.sh at a port that is free. The page has to tell what the log answers: its size, names, key and notice; that the
 head's signature is the key's, and a changed head's isn't; that an audit path leads to the head's root, and a changed one doesn't; it may not be wider
-than a phone, and without JavaScript it says so. With --more ctload submits for so long before it looks once more. It ends with a line of what it saw, and
-with status 1 where something is wrong.
+than a phone, and without JavaScript it says so. With --more ctload has so many taken before it looks once more. Screenshots are of a light and of a dark
+screen. It ends with a line of what it saw, and with status 1 where something is wrong.
 """
 import argparse
 import base64
@@ -75,10 +75,10 @@ class Served:
         given = json.dumps({"chain": [base64.b64encode(one).decode() for one in chain]}).encode()
         urllib.request.urlopen(self.base + "ct/v1/add-chain", given).read()
 
-    def load(self, seconds):
-        """Entries of an authority of ctload's own, whose root the log is given."""
+    def load(self, entries):
+        """So many entries of an authority of ctload's own, whose root the log is given."""
         roots = self.folder / "roots.pem"
-        words = [ROOT / "service/out/ctload", "-nodes", self.base.rstrip("/"), "-roots", roots, "-answers", self.folder / "answers", "-clients", "48", "-for", f"{seconds}s"]
+        words = [ROOT / "service/out/ctload", "-nodes", self.base.rstrip("/"), "-roots", roots, "-answers", self.folder / "answers", "-clients", "48", "-most", str(entries)]
         had, loading = roots.stat().st_size, subprocess.Popen(words, stdout=subprocess.DEVNULL)
         while roots.stat().st_size == had and loading.poll() is None:
             time.sleep(0.1)
@@ -108,8 +108,9 @@ class Look:
         sys.exit(f"served_page.py: {what}")
 
     def picture(self, name):
-        if self.pictures:
-            (self.pictures / f"{name}.png").write_bytes(base64.b64decode(self.browser.call("Page.captureScreenshot")["data"]))
+        for scheme in ("light", "dark") if self.pictures else ():
+            self.browser.call("Emulation.setEmulatedMedia", features=[{"name": "prefers-color-scheme", "value": scheme}])
+            (self.pictures / f"{name}-{scheme}.png").write_bytes(base64.b64decode(self.browser.call("Page.captureScreenshot")["data"]))
 
     def size(self, size):
         """Waits until the page shows so many entries, with the notice and a signed head."""
@@ -164,6 +165,8 @@ class Look:
                 break
             time.sleep(0.1)
         self.picture("without-script")
+        self.browser.call("Emulation.setDeviceMetricsOverride", width=390, height=844, deviceScaleFactor=1, mobile=True)
+        self.picture("without-script-phone")
         hold("needs JavaScript" in said and "Growth" not in said, f"without JavaScript the page says {said}")
 
 
@@ -182,6 +185,7 @@ def main():
         try:
             look = Look(work, served.base, options.screenshots)
             look.size(0)
+            look.picture("empty")
             look.phone("empty")
             for number, name in enumerate(NAMES):
                 served.submit(number, name)
@@ -196,6 +200,7 @@ def main():
             if options.more:
                 served.load(options.more)
                 size = served.size()
+                hold(size >= options.more, f"the log has {size} entries of {options.more}")
                 look.size(size)
                 look.entries(size)
                 look.rate(size)
