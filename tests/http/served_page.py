@@ -78,7 +78,7 @@ class Served:
     def load(self, entries):
         """So many entries of an authority of ctload's own, whose root the log is given."""
         roots = self.folder / "roots.pem"
-        words = [ROOT / "service/out/ctload", "-nodes", self.base.rstrip("/"), "-roots", roots, "-answers", self.folder / "answers", "-clients", "48", "-most", str(entries)]
+        words = [ROOT / "service/out/ctload", "-nodes", self.base.rstrip("/"), "-roots", roots, "-answers", self.folder / "answers", "-clients", "48", "-repeats", "0", "-most", str(entries)]
         had, loading = roots.stat().st_size, subprocess.Popen(words, stdout=subprocess.DEVNULL)
         while roots.stat().st_size == had and loading.poll() is None:
             time.sleep(0.1)
@@ -148,7 +148,7 @@ class Look:
         self.run("(() => { const s = document.getElementById('search'); s.value = ''; s.oninput(); })()")
 
     def phone(self, name):
-        self.browser.call("Emulation.setDeviceMetricsOverride", width=390, height=844, deviceScaleFactor=1, mobile=True)
+        self.browser.call("Emulation.setDeviceMetricsOverride", width=390, height=1600, deviceScaleFactor=1, mobile=True)
         hold(not self.run("document.documentElement.scrollWidth > 390"), f"the page is wider than a phone, with {name}")
         self.picture(f"{name}-phone")
         self.browser.call("Emulation.setDeviceMetricsOverride", width=1000, height=900, deviceScaleFactor=1, mobile=False)
