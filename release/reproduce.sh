@@ -49,18 +49,22 @@ if [ -n "$crates" ] && ! command -v rt >/dev/null; then
   crates=
 fi
 
-# build CRATE: in both folders. What is proved of the crates below, and of the program itself, goes along; rt looks whether it is of these sources.
+# build CRATE: in both folders, in the first on one processor. What is proved of the crates below, and of the program itself, goes along; rt looks whether it
+# is of these sources. No code of machines does: a crate's library has none, and a program's is made of all that it stands on.
+one=$(taskset -cp $$ | sed 's/.*: *\([0-9]*\).*/\1/')
 build() {
-  local top it
+  local top it on
   for top in "$first" "$second"; do
+    on=()
+    [ "$top" = "$second" ] || on=(taskset -c "$one")
     [ -d "$top/crates" ] || copy "$top"
     (cd crates && for it in */out; do [ ! -d "$it/rlib" ] || { mkdir -p "$top/crates/$it" && cp -a "$it/rlib" "$top/crates/$it/"; }; done)
     mkdir -p "$top/crates/$1/out"
     [ ! -d "crates/$1/out/incremental" ] || cp -a "crates/$1/out/incremental" "$top/crates/$1/out/"
     if [ "$1" = libwagtenib ]; then
-      (cd "$top" && examples/build.py libwagtenib >/dev/null && examples/link/library.sh)
+      (cd "$top" && "${on[@]}" examples/build.py libwagtenib >/dev/null && "${on[@]}" examples/link/library.sh)
     else
-      (cd "$top/crates/$1" && rt run -- --version </dev/null >/dev/null)
+      (cd "$top/crates/$1" && "${on[@]}" rt run -- --version </dev/null >/dev/null)
     fi
   done
 }
