@@ -1,4 +1,5 @@
 pub mod WrittenNodes
+pub mod LineLogs
 pub mod Names
 pub mod NodeKept
 pub mod NodeRuns

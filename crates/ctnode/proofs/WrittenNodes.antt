@@ -16,6 +16,7 @@ use Rattle.ct_node.specs.Nodes.{after, follows, is_behind, on_reading, on_lookin
 use Rattle.ctnode.specs.NodeTexts.{text_state, name_state}
 use Rattle.ctnode.specs.NodeDoings.{NodeTexts, NodeDoing, NodeCame, texts_after}
 use Rattle.ctnode.specs.NodeAsks.{NodeAsked, node_texts_in, came_texts_in, objects_count, of_seen, of_new, of_objects, of_step, deleting_in, node_of_text, node_of_word, node_in, doing_in, outcome_of_word, outcome_with, came_in, seen_moment, came_of, node_asked_in}
+use Rattle.ctnode.specs.LineLog.{AreCommandTexts}
 use Rattle.ctnode.specs.NodeWords.{node_data, node_reply_data, objects_list}
 use Rattle.ct_node.specs.Worlds.{Has}
 use Rattle.ctnode.specs.NodeLaws.{LinesAreTheMachine, LinesAreHistories, GivesCommands, asked_data}
@@ -50,11 +51,11 @@ reply_no_float (Some d) = or_no (has_float (node_data d.node d.texts)) (node_no_
 
 -- ---- what a line says is read as the machine's
 
-some_map : {A B : Type 0} (f : A → B) (x : Option A) (y : B) → option_map f x ≡ Some y → (a : A) × (x ≡ Some a) × (f a ≡ y)
+pub some_map : {A B : Type 0} (f : A → B) (x : Option A) (y : B) → option_map f x ≡ Some y → (a : A) × (x ≡ Some a) × (f a ≡ y)
 some_map f (Some a) y e = (a, refl, same_Some (f a) y e)
 some_map f None y e = absurd (none-some y e)
 
-some_then : {A B : Type 0} (f : A → Option B) (x : Option A) (y : B) → option_and_then f x ≡ Some y → (a : A) × (x ≡ Some a) × (f a ≡ Some y)
+pub some_then : {A B : Type 0} (f : A → Option B) (x : Option A) (y : B) → option_and_then f x ≡ Some y → (a : A) × (x ≡ Some a) × (f a ≡ Some y)
 some_then f (Some a) y e = (a, refl, e)
 some_then f None y e = absurd (none-some y e)
 
@@ -64,26 +65,19 @@ either true x y n f g e = f e
 either false x y n f g e = g e
 
 -- the texts are those of the node's states
-abbrev Dressed : Node → NodeTexts → Type 0
-Dressed Reading t = ⊤
-Dressed (Looking k) t = text_state t.seen ≡ Some k
-Dressed (Stepping k) t = text_state t.seen ≡ Some k
-Dressed (Staging k l n) t = (text_state t.seen ≡ Some k) × (text_state t.new ≡ Some l) × (objects_count t ≡ Some n)
-Dressed (Swapping k l n) t = (text_state t.seen ≡ Some k) × (text_state t.new ≡ Some l) × (objects_count t ≡ Some n)
-Dressed (Promising l n) t = (text_state t.new ≡ Some l) × (objects_count t ≡ Some n)
-Dressed (Deleting k l) t = (text_state t.seen ≡ Some k) × (name_state t.bundle ≡ Some l)
-Dressed (Putting l n) t = (text_state t.new ≡ Some l) × (objects_count t ≡ Some n)
-Dressed (Placing l) t = text_state t.new ≡ Some l
-Dressed (Heading l) t = text_state t.new ≡ Some l
-Dressed (Answering l) t = text_state t.new ≡ Some l
+abbrev pub Dressed : Node → NodeTexts → Type 0
+Dressed n t = AreCommandTexts (λ l text. text_state text ≡ Some l) n t
 
 -- the texts are those of what came
-abbrev TextsOf : Outcome → NodeTexts → Type 0
-TextsOf (Read k) t = text_state t.seen ≡ Some k
-TextsOf (Bundle n) t = objects_count t ≡ Some n
-TextsOf (Stepped l n) t = (text_state t.new ≡ Some l) × (objects_count t ≡ Some n)
-TextsOf (Listed l) t = name_state t.bundle ≡ Some l
-TextsOf o t = ⊤
+abbrev pub TextsBy : (State → List ℕ → Type 0) → Outcome → NodeTexts → Type 0
+TextsBy P (Read k) t = P k t.seen
+TextsBy P (Bundle n) t = objects_count t ≡ Some n
+TextsBy P (Stepped l n) t = P l t.new × (objects_count t ≡ Some n)
+TextsBy P (Listed l) t = name_state t.bundle ≡ Some l
+TextsBy P o t = ⊤
+
+abbrev pub TextsOf : Outcome → NodeTexts → Type 0
+TextsOf o t = TextsBy (λ l text. text_state text ≡ Some l) o t
 
 is_seen : (P : Node → Type 0) (f : State → Node) (t : NodeTexts) (n : Node) → ((k : State) → text_state t.seen ≡ Some k → P (f k)) → of_seen f t ≡ Some n → P n
 is_seen P f t n g e = let m = some_map f (text_state t.seen) n e in subst P m.2 (g m.0 m.1)
@@ -147,93 +141,95 @@ told_texts word t o e =
 
 -- ---- the next command's texts are those of its states
 
-looking_dressed : (k : State) (o : Outcome) (t u : NodeTexts) → Dressed (Looking k) t → TextsOf o u → Dressed (on_looking k o) (texts_after (Looking k) o t u)
-looking_dressed k Published t u d c = d
-looking_dressed k (Bundle n) t u d c = (d, c)
-looking_dressed k Lost t u d c = tt
-looking_dressed k Done t u d c = d
-looking_dressed k Promise t u d c = d
-looking_dressed k (Read l) t u d c = d
-looking_dressed k (Stepped l n) t u d c = d
-looking_dressed k (Listed l) t u d c = d
+module _ (P : State → List ℕ → Type 0)
+  where
+    looking_dressed : (k : State) (o : Outcome) (t u : NodeTexts) → AreCommandTexts P (Looking k) t → TextsBy P o u → AreCommandTexts P (on_looking k o) (texts_after (Looking k) o t u)
+    looking_dressed k Published t u d c = d
+    looking_dressed k (Bundle n) t u d c = (d, c)
+    looking_dressed k Lost t u d c = tt
+    looking_dressed k Done t u d c = d
+    looking_dressed k Promise t u d c = d
+    looking_dressed k (Read l) t u d c = d
+    looking_dressed k (Stepped l n) t u d c = d
+    looking_dressed k (Listed l) t u d c = d
 
-choice : (b : Bool) (x y : Node) (t : NodeTexts) → Dressed x t → Dressed y t → Dressed (if b then x else y) t
-choice true x y t p q = p
-choice false x y t p q = q
+    choice : (b : Bool) (x y : Node) (t : NodeTexts) → AreCommandTexts P x t → AreCommandTexts P y t → AreCommandTexts P (if b then x else y) t
+    choice true x y t p q = p
+    choice false x y t p q = q
 
-stepping_dressed : (k : State) (o : Outcome) (t u : NodeTexts) → Dressed (Stepping k) t → TextsOf o u → Dressed (on_stepping k o) (texts_after (Stepping k) o t u)
-stepping_dressed k (Stepped l n) t u d c = choice (follows k l) (Staging k l n) (Stepping k) _ (d, c.0, c.1) d
-stepping_dressed k (Listed l) t u d c = choice (is_behind k l) (Deleting k l) (Stepping k) _ (d, c) d
-stepping_dressed k Lost t u d c = tt
-stepping_dressed k Done t u d c = d
-stepping_dressed k Promise t u d c = d
-stepping_dressed k (Read l) t u d c = d
-stepping_dressed k Published t u d c = d
-stepping_dressed k (Bundle n) t u d c = d
+    stepping_dressed : (k : State) (o : Outcome) (t u : NodeTexts) → AreCommandTexts P (Stepping k) t → TextsBy P o u → AreCommandTexts P (on_stepping k o) (texts_after (Stepping k) o t u)
+    stepping_dressed k (Stepped l n) t u d c = choice (follows k l) (Staging k l n) (Stepping k) _ (d, c.0, c.1) d
+    stepping_dressed k (Listed l) t u d c = choice (is_behind k l) (Deleting k l) (Stepping k) _ (d, c) d
+    stepping_dressed k Lost t u d c = tt
+    stepping_dressed k Done t u d c = d
+    stepping_dressed k Promise t u d c = d
+    stepping_dressed k (Read l) t u d c = d
+    stepping_dressed k Published t u d c = d
+    stepping_dressed k (Bundle n) t u d c = d
 
-reading_dressed : (o : Outcome) (t u : NodeTexts) → TextsOf o u → Dressed (on_reading o) (texts_after Reading o t u)
-reading_dressed (Read k) t u c = c
-reading_dressed Done t u c = tt
-reading_dressed Promise t u c = tt
-reading_dressed Lost t u c = tt
-reading_dressed Published t u c = tt
-reading_dressed (Bundle n) t u c = tt
-reading_dressed (Stepped l n) t u c = tt
-reading_dressed (Listed l) t u c = tt
+    reading_dressed : (o : Outcome) (t u : NodeTexts) → TextsBy P o u → AreCommandTexts P (on_reading o) (texts_after Reading o t u)
+    reading_dressed (Read k) t u c = c
+    reading_dressed Done t u c = tt
+    reading_dressed Promise t u c = tt
+    reading_dressed Lost t u c = tt
+    reading_dressed Published t u c = tt
+    reading_dressed (Bundle n) t u c = tt
+    reading_dressed (Stepped l n) t u c = tt
+    reading_dressed (Listed l) t u c = tt
 
-staging_dressed : (k l : State) (n : ℕ) (o : Outcome) (t : NodeTexts) → Dressed (Staging k l n) t → Dressed (on_staging k l n o) t
-staging_dressed k l n Done t d = d
-staging_dressed k l n Lost t d = tt
-staging_dressed k l n o t d = d
+    staging_dressed : (k l : State) (n : ℕ) (o : Outcome) (t : NodeTexts) → AreCommandTexts P (Staging k l n) t → AreCommandTexts P (on_staging k l n o) t
+    staging_dressed k l n Done t d = d
+    staging_dressed k l n Lost t d = tt
+    staging_dressed k l n o t d = d
 
-swapping_dressed : (k l : State) (n : ℕ) (o : Outcome) (t : NodeTexts) → Dressed (Swapping k l n) t → Dressed (on_swapping k l n o) t
-swapping_dressed k l n Done t d = (d.1, d.2)
-swapping_dressed k l n Promise t d = (d.1, d.2)
-swapping_dressed k l n Lost t d = tt
-swapping_dressed k l n o t d = d
+    swapping_dressed : (k l : State) (n : ℕ) (o : Outcome) (t : NodeTexts) → AreCommandTexts P (Swapping k l n) t → AreCommandTexts P (on_swapping k l n o) t
+    swapping_dressed k l n Done t d = (d.1, d.2)
+    swapping_dressed k l n Promise t d = (d.1, d.2)
+    swapping_dressed k l n Lost t d = tt
+    swapping_dressed k l n o t d = d
 
-promising_dressed : (l : State) (n : ℕ) (o : Outcome) (t : NodeTexts) → Dressed (Promising l n) t → Dressed (on_promising l n o) t
-promising_dressed l n Done t d = d
-promising_dressed l n Lost t d = tt
-promising_dressed l n o t d = d
+    promising_dressed : (l : State) (n : ℕ) (o : Outcome) (t : NodeTexts) → AreCommandTexts P (Promising l n) t → AreCommandTexts P (on_promising l n o) t
+    promising_dressed l n Done t d = d
+    promising_dressed l n Lost t d = tt
+    promising_dressed l n o t d = d
 
-deleting_dressed : (k l : State) (o : Outcome) (t : NodeTexts) → Dressed (Deleting k l) t → Dressed (on_deleting k l o) t
-deleting_dressed k l Done t d = d.0
-deleting_dressed k l Lost t d = d.0
-deleting_dressed k l o t d = d
+    deleting_dressed : (k l : State) (o : Outcome) (t : NodeTexts) → AreCommandTexts P (Deleting k l) t → AreCommandTexts P (on_deleting k l o) t
+    deleting_dressed k l Done t d = d.0
+    deleting_dressed k l Lost t d = d.0
+    deleting_dressed k l o t d = d
 
-putting_dressed : (l : State) (n : ℕ) (o : Outcome) (t : NodeTexts) → Dressed (Putting l n) t → Dressed (on_putting l n o) t
-putting_dressed l n Done t d = d.0
-putting_dressed l n Lost t d = tt
-putting_dressed l n o t d = d
+    putting_dressed : (l : State) (n : ℕ) (o : Outcome) (t : NodeTexts) → AreCommandTexts P (Putting l n) t → AreCommandTexts P (on_putting l n o) t
+    putting_dressed l n Done t d = d.0
+    putting_dressed l n Lost t d = tt
+    putting_dressed l n o t d = d
 
-placing_dressed : (l : State) (o : Outcome) (t : NodeTexts) → Dressed (Placing l) t → Dressed (on_placing l o) t
-placing_dressed l Done t d = d
-placing_dressed l Lost t d = tt
-placing_dressed l o t d = d
+    placing_dressed : (l : State) (o : Outcome) (t : NodeTexts) → AreCommandTexts P (Placing l) t → AreCommandTexts P (on_placing l o) t
+    placing_dressed l Done t d = d
+    placing_dressed l Lost t d = tt
+    placing_dressed l o t d = d
 
-heading_dressed : (l : State) (o : Outcome) (t : NodeTexts) → Dressed (Heading l) t → Dressed (on_heading l o) t
-heading_dressed l Done t d = d
-heading_dressed l Lost t d = tt
-heading_dressed l o t d = d
+    heading_dressed : (l : State) (o : Outcome) (t : NodeTexts) → AreCommandTexts P (Heading l) t → AreCommandTexts P (on_heading l o) t
+    heading_dressed l Done t d = d
+    heading_dressed l Lost t d = tt
+    heading_dressed l o t d = d
 
-answering_dressed : (l : State) (o : Outcome) (t : NodeTexts) → Dressed (Answering l) t → Dressed (on_answering l o) t
-answering_dressed l Done t d = tt
-answering_dressed l Lost t d = tt
-answering_dressed l o t d = d
+    answering_dressed : (l : State) (o : Outcome) (t : NodeTexts) → AreCommandTexts P (Answering l) t → AreCommandTexts P (on_answering l o) t
+    answering_dressed l Done t d = tt
+    answering_dressed l Lost t d = tt
+    answering_dressed l o t d = d
 
-after_dressed : (n : Node) (o : Outcome) (t u : NodeTexts) → Dressed n t → TextsOf o u → Dressed (after n o) (texts_after n o t u)
-after_dressed Reading o t u d c = reading_dressed o t u c
-after_dressed (Looking k) o t u d c = looking_dressed k o t u d c
-after_dressed (Stepping k) o t u d c = stepping_dressed k o t u d c
-after_dressed (Staging k l n) o t u d c = staging_dressed k l n o t d
-after_dressed (Swapping k l n) o t u d c = swapping_dressed k l n o t d
-after_dressed (Promising l n) o t u d c = promising_dressed l n o t d
-after_dressed (Deleting k l) o t u d c = deleting_dressed k l o t d
-after_dressed (Putting l n) o t u d c = putting_dressed l n o t d
-after_dressed (Placing l) o t u d c = placing_dressed l o t d
-after_dressed (Heading l) o t u d c = heading_dressed l o t d
-after_dressed (Answering l) o t u d c = answering_dressed l o t d
+    pub after_dressed : (n : Node) (o : Outcome) (t u : NodeTexts) → AreCommandTexts P n t → TextsBy P o u → AreCommandTexts P (after n o) (texts_after n o t u)
+    after_dressed Reading o t u d c = reading_dressed o t u c
+    after_dressed (Looking k) o t u d c = looking_dressed k o t u d c
+    after_dressed (Stepping k) o t u d c = stepping_dressed k o t u d c
+    after_dressed (Staging k l n) o t u d c = staging_dressed k l n o t d
+    after_dressed (Swapping k l n) o t u d c = swapping_dressed k l n o t d
+    after_dressed (Promising l n) o t u d c = promising_dressed l n o t d
+    after_dressed (Deleting k l) o t u d c = deleting_dressed k l o t d
+    after_dressed (Putting l n) o t u d c = putting_dressed l n o t d
+    after_dressed (Placing l) o t u d c = placing_dressed l o t d
+    after_dressed (Heading l) o t u d c = heading_dressed l o t d
+    after_dressed (Answering l) o t u d c = answering_dressed l o t d
 
 -- ---- what is written is read
 
@@ -241,7 +237,7 @@ texts_read : (os : List (List ℕ)) → each_item as_str (items_of (map string o
 texts_read [] = refl
 texts_read (o ∷ os) = ap (λ z. option_map (λ bs. o ∷ bs) z) (texts_read os)
 
-objects_read : (os : Option (List (List ℕ))) (n : ℕ) → option_map length os ≡ Some n
+pub objects_read : (os : Option (List (List ℕ))) (n : ℕ) → option_map length os ≡ Some n
     → option_map length (each_item as_str (items_of (map string (objects_list os)))) ≡ Some n
 objects_read None n e = absurd (none-some n e)
 objects_read (Some os) n e = ap (option_map length) (texts_read os) ∙ e
@@ -261,7 +257,7 @@ step_read : (f : State → State → ℕ → Node) (k l : State) (n : ℕ) (w x 
 step_read f k l n w x c p q r =
     then_read (λ k. option_and_then (λ l. option_map (λ n. f k l n) c) x) w k (f k l n) p (put_read (λ l n. f k l n) l n x c q r)
 
-written_read : (n : Node) (t : NodeTexts) → Dressed n t → node_in (node_data n t) ≡ Some n
+pub written_read : (n : Node) (t : NodeTexts) → Dressed n t → node_in (node_data n t) ≡ Some n
 written_read Reading t d = refl
 written_read (Looking k) t d = map_read (λ k. Looking k) (text_state t.seen) k d
 written_read (Stepping k) t d = map_read (λ k. Stepping k) (text_state t.seen) k d
@@ -278,7 +274,7 @@ written_read (Answering l) t d = map_read (λ l. Answering l) (text_state t.new)
 
 -- ---- what an object says
 
-said_dressed : (d : Data) (x : NodeDoing) → doing_in d ≡ Some x → Dressed x.node x.texts
+pub said_dressed : (d : Data) (x : NodeDoing) → doing_in d ≡ Some x → Dressed x.node x.texts
 said_dressed d x e =
     let m = some_map (λ n. record { node = n; texts = node_texts_in d }) (node_in d) x e in
     let w = some_then (λ word. node_of_word word (node_texts_in d)) (text_at (codes "do") d) m.0 m.1 in
@@ -290,7 +286,7 @@ came_told before d c e =
     let w = some_then (λ word. outcome_of_word word (came_texts_in before d)) (text_at (codes "came") d) m.0 m.1 in
     subst (λ (z : NodeCame). TextsOf z.outcome z.texts) m.2 (told_texts w.0 (came_texts_in before d) m.0 w.2)
 
-asked_told : (d : Data) (x : NodeDoing) (a : NodeAsked) → Dressed x.node x.texts → came_of d x ≡ Some a
+pub asked_told : (d : Data) (x : NodeDoing) (a : NodeAsked) → Dressed x.node x.texts → came_of d x ≡ Some a
     → Dressed a.doing.node a.doing.texts × TextsOf a.came.outcome a.came.texts
 asked_told d x a dressed e =
     let m = some_then (λ v. option_map (λ c. record { doing = x; came = c }) (came_in (seen_moment x.texts) v)) (get (codes "told") d) a e in
@@ -304,11 +300,11 @@ lines_are_the_machine d a e =
     let v = some_then (λ v. doing_in v) (get (codes "node") d) m.0 m.1 in
     let told = asked_told d m.0 a (said_dressed v.0 m.0 v.2) m.2 in
     written_read (after a.doing.node a.came.outcome) (texts_after a.doing.node a.came.outcome a.doing.texts a.came.texts)
-    (after_dressed a.doing.node a.came.outcome a.doing.texts a.came.texts told.0 told.1)
+    (after_dressed (λ l text. text_state text ≡ Some l) a.doing.node a.came.outcome a.doing.texts a.came.texts told.0 told.1)
 
 -- ---- histories
 
-given_is_sent : (given : List Data) (sent : List Node) (d : Data) (n : Node) → GivesCommands given sent → Has d given → node_in d ≡ Some n → Has n sent
+pub given_is_sent : (given : List Data) (sent : List Node) (d : Data) (n : Node) → GivesCommands given sent → Has d given → node_in d ≡ Some n → Has n sent
 given_is_sent [] sent d n g h e = absurd h
 given_is_sent (x ∷ ds) [] d n g h e = absurd g
 given_is_sent (x ∷ ds) (m ∷ ns) d n g h e =

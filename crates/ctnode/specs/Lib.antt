@@ -4,6 +4,7 @@ pub mod NodeAsks
 pub mod NodeAskedView
 pub mod NodeWords
 pub mod NodeLaws
+pub mod LineLog
 pub mod NodeSession
 pub mod NodeOptions
 pub mod NodeBroken

@@ -1,5 +1,6 @@
 //! What follows of the definitions, each a clause of a function that does nothing.
 
+ghost use Rattle.ctnode.specs.LineLog.{LinesWriteOneLog, LinesNameOneContent, CommandsHaveTexts};
 ghost use Rattle.ctnode.specs.NodeLaws.{LinesAreTheMachine, LinesAreHistories, NamesSayTheirState, TextsSayTheirState};
 
 /// Behind whatever a line says comes the machine's next command (`machine`), so whatever becomes of commands by lines is a history of the machine
@@ -12,3 +13,16 @@ pub fn lines()
     ensures names { NamesSayTheirState }
     ensures texts { TextsSayTheirState }
 {}
+
+/// Whatever becomes of commands by lines, where the texts that are told begin with their states' lines, and steps are `take_step`'s: there is
+/// one list of entries, of which all is that stands. Of each text whose waiting a reply says to answer the head stands, and its line is that of a
+/// beginning of the list (`one_log`). Of any two objects that replies say to put under one name the content is one (`one_content`). Or two
+/// different strings with one digest are given. Each command's texts begin with its states' lines (`texts`).
+pub fn one_log()
+    ensures one_log { LinesWriteOneLog }
+    ensures one_content { LinesNameOneContent }
+    ensures texts { CommandsHaveTexts }
+{
+    ct_node_log::laws::nodes();
+    ct_node::laws::worlds();
+}
