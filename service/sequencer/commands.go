@@ -3,7 +3,6 @@ package sequencer
 import (
 	"context"
 	"crypto/rand"
-	"crypto/sha256"
 	"encoding/binary"
 	"encoding/hex"
 	"errors"
@@ -22,7 +21,7 @@ type turn struct {
 	k       known
 	command *decider.Command
 	// contents are what may be put, by what the commands name it by; bundle is the step's.
-	contents map[string][]byte
+	contents map[string]step.Object
 	bundle   []byte
 	head     step.Head
 	placed   places
@@ -86,17 +85,16 @@ func (s *Sequencer) reach(ctx context.Context, k known) (*turn, error) {
 
 // nameIn names an object in commands: by its name, and the digest of its content.
 func nameIn(object step.Object) string {
-	digest := sha256.Sum256(object.Content)
-	return object.Name + " " + hex.EncodeToString(digest[:])
+	return object.Name + " " + hex.EncodeToString(object.Digest[:])
 }
 
 // keep takes a step's objects, and gives what they are named by.
 func (t *turn) keep(objects []step.Object) []string {
 	names := make([]string, len(objects))
-	t.contents = map[string][]byte{}
+	t.contents = map[string]step.Object{}
 	for i, object := range objects {
 		names[i] = nameIn(object)
-		t.contents[names[i]] = object.Content
+		t.contents[names[i]] = object
 	}
 	return names
 }
@@ -105,11 +103,10 @@ func (t *turn) keep(objects []step.Object) []string {
 func (t *turn) objects() ([]step.Object, error) {
 	objects := make([]step.Object, len(t.command.Objects))
 	for i, name := range t.command.Objects {
-		content, ok := t.contents[name]
-		if !ok || len(name) < hex.EncodedLen(sha256.Size)+1 {
+		var ok bool
+		if objects[i], ok = t.contents[name]; !ok {
 			return nil, fmt.Errorf("%w: %s %.200q, which isn't there", errCommand, t.command.Do, name)
 		}
-		objects[i] = step.Object{Name: name[:len(name)-hex.EncodedLen(sha256.Size)-1], Content: content}
 	}
 	return objects, nil
 }
@@ -117,8 +114,8 @@ func (t *turn) objects() ([]step.Object, error) {
 // fresh are all objects that the turn has.
 func (t *turn) fresh() fresh {
 	f := fresh{}
-	for name, content := range t.contents {
-		f[name[:len(name)-hex.EncodedLen(sha256.Size)-1]] = content
+	for _, object := range t.contents {
+		f[object.Name] = object.Content
 	}
 	return f
 }
@@ -194,10 +191,6 @@ func (s *Sequencer) doStep(ctx context.Context, t *turn, batch []*waiting) error
 	if err != nil {
 		return err
 	}
-	objects, err := step.Objects(stepped.Bundle)
-	if err != nil {
-		return fmt.Errorf("sequencer: %w", err)
-	}
 	salt, err := saltOf()
 	if err != nil {
 		return err
@@ -212,7 +205,7 @@ func (s *Sequencer) doStep(ctx context.Context, t *turn, batch []*waiting) error
 	}
 	t.bundle, t.head, t.receipts, t.edge = stepped.Bundle, stepped.Head, stepped.Receipts, edge
 	s.phase("stepped")
-	told := decider.Stepped(stepped.Line, s.config.where(), salt, t.keep(objects))
+	told := decider.Stepped(stepped.Line, s.config.where(), salt, t.keep(stepped.Objects))
 	if err := s.goOn(ctx, t, told); err != nil {
 		return err
 	}

@@ -125,9 +125,9 @@ func newestBundle(t *testing.T, p place) (names []string) {
 	must(t, err)
 	bundle, err := config.Objects.Get(limited(t), k.look.Seen.Bundle, stores.MostObject)
 	must(t, err)
-	objects, err := step.Objects(bundle)
+	resumed, err := config.Step.Resume(limited(t), k.line, bundle)
 	must(t, err)
-	for _, object := range objects {
+	for _, object := range resumed.Objects {
 		names = append(names, object.Name)
 	}
 	return append(names, headName(k.state))

@@ -154,7 +154,7 @@ func (c *Client) Needs(ctx context.Context, line string) ([]string, error) {
 	}
 	for _, name := range reply.Names {
 		if err := checkTile(name); err != nil {
-			return nil, fmt.Errorf("%w: %v", ErrReply, err)
+			return nil, err
 		}
 	}
 	return reply.Names, nil
@@ -167,8 +167,9 @@ type Stepped struct {
 	Bundle []byte `json:"bundle"`
 	// Receipts are one for each submission of the batch, in its order: of a repeat that of the first.
 	Receipts []Receipt `json:"receipts"`
-	// State is the line's.
-	State State `json:"-"`
+	// State is the line's, and Objects are what is published, out of the bundle.
+	State   State    `json:"-"`
+	Objects []Object `json:"-"`
 }
 
 // Step gives the state behind a batch, with the objects that it publishes. The edge are the contents of the names that Needs
@@ -185,10 +186,14 @@ func (c *Client) Step(ctx context.Context, line string, edge [][]byte, batch []S
 			batch[i].Chain = [][]byte{}
 		}
 	}
-	reply := &Stepped{}
-	if err := c.ask(ctx, map[string]any{"state": line, "edge": edge, "batch": batch, "now": now, "most_ahead": most}, reply); err != nil {
+	var told struct {
+		Stepped
+		References []reference `json:"objects"`
+	}
+	if err := c.ask(ctx, map[string]any{"state": line, "edge": edge, "batch": batch, "now": now, "most_ahead": most}, &told); err != nil {
 		return nil, err
 	}
+	reply := &told.Stepped
 	before, err := ParseState(line)
 	if err != nil {
 		return nil, err
@@ -211,6 +216,9 @@ func (c *Client) Step(ctx context.Context, line string, edge [][]byte, batch []S
 	}
 	if s.Size != size || s.Moment != now || s.Before != Digest(line) || s.Bundle != sha256.Sum256(reply.Bundle) {
 		return nil, fmt.Errorf("%w: the state isn't the one behind this batch", ErrReply)
+	}
+	if reply.Objects, err = objectsIn(reply.Bundle, told.References); err != nil {
+		return nil, err
 	}
 	return reply, reply.Head.check(s)
 }
@@ -250,24 +258,14 @@ func (c *Client) Resume(ctx context.Context, line string, bundle []byte) (*Resum
 	}
 	var reply struct {
 		Head
-		Objects [][2]json.RawMessage `json:"objects"`
+		References []reference `json:"objects"`
 	}
 	if err := c.ask(ctx, map[string]any{"resume": line, "bundle": bundle}, &reply); err != nil {
 		return nil, err
 	}
-	resumed := &Resumed{Head: reply.Head}
-	for _, pair := range reply.Objects {
-		var object Object
-		if err := json.Unmarshal(pair[0], &object.Name); err != nil {
-			return nil, fmt.Errorf("%w: %v", ErrReply, err)
-		}
-		if err := json.Unmarshal(pair[1], &object.Content); err != nil {
-			return nil, fmt.Errorf("%w: %v", ErrReply, err)
-		}
-		if err := checkTile(object.Name); err != nil {
-			return nil, fmt.Errorf("%w: %v", ErrReply, err)
-		}
-		resumed.Objects = append(resumed.Objects, object)
+	objects, err := objectsIn(bundle, reply.References)
+	if err != nil {
+		return nil, err
 	}
-	return resumed, reply.Head.check(s)
+	return &Resumed{reply.Head, objects}, reply.Head.check(s)
 }

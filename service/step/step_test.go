@@ -57,20 +57,18 @@ func TestSteps(t *testing.T) {
 	if err != nil || strings.Join(names, " ") != "tile/0/000.p/1 tile/data/000.p/1" {
 		t.Fatalf("%v, %v", names, err)
 	}
-	objects, err := Objects(one.Bundle)
-	must(t, err)
+	objects := one.Objects
 	edge := [][]byte{objects[0].Content, objects[1].Content}
 	two, err := c.Step(ctx, one.Line, edge, []Submission{{IssuerKeyHash: make([]byte, 32), PreCertificate: []byte("p"), TBSCertificate: []byte("t")}}, 8, MostAhead)
 	must(t, err)
 	resumed, err := c.Resume(ctx, two.Line, two.Bundle)
 	must(t, err)
-	objects, err = Objects(two.Bundle)
-	must(t, err)
+	objects = two.Objects
 	if len(objects) != 2 || len(resumed.Objects) != 2 || resumed.Checkpoint != two.Checkpoint || !bytes.Equal(resumed.Sign, two.Sign) {
 		t.Fatalf("%+v and %+v", objects, resumed)
 	}
 	for i := range objects {
-		if objects[i].Name != resumed.Objects[i].Name || !bytes.Equal(objects[i].Content, resumed.Objects[i].Content) {
+		if one, other := objects[i], resumed.Objects[i]; one.Name != other.Name || !bytes.Equal(one.Content, other.Content) || one.Digest != other.Digest || one.Digest != sha256.Sum256(one.Content) {
 			t.Errorf("%s and %s", objects[i].Name, resumed.Objects[i].Name)
 		}
 	}
@@ -193,9 +191,7 @@ func TestReceipts(t *testing.T) {
 	of := func(leaf string) Submission { return Submission{LeafCertificate: []byte(leaf)} }
 	before, err := c.Step(ctx, line, nil, []Submission{of("zero")}, 6, MostAhead)
 	must(t, err)
-	objects, err := Objects(before.Bundle)
-	must(t, err)
-	edge := [][]byte{objects[0].Content, objects[1].Content}
+	edge := [][]byte{before.Objects[0].Content, before.Objects[1].Content}
 	batch := []Submission{of("one"), of("two"), of("one"), of("three"), of("two")}
 	right, err := c.Step(ctx, before.Line, edge, batch, 7, MostAhead)
 	must(t, err)
@@ -232,6 +228,61 @@ func TestReceipts(t *testing.T) {
 	}
 }
 
+// TestReferences has a program tell other places in a bundle than an object's: each is told apart from a reply.
+func TestReferences(t *testing.T) {
+	c, ctx := client(t, 10*time.Minute, program...), within(t)
+	line, err := c.Begin(ctx, 5)
+	must(t, err)
+	batch := []Submission{{LeafCertificate: []byte("one")}}
+	one, err := c.Step(ctx, line, nil, batch, 7, MostAhead)
+	must(t, err)
+	digest := func(content string) []byte { sum := sha256.Sum256([]byte(content)); return sum[:] }
+	bundle := string(one.Bundle)
+	for what, wrong := range map[string]reference{
+		"none that is published":  {At: 3, Length: 4, Name: "heads/1", Digest: digest(bundle[3:7])},
+		"behind the end":          {At: uint64(len(bundle)), Length: 1, Name: "tile/0/000.p/1", Digest: digest("")},
+		"farther than a number":   {At: 1, Length: 1<<64 - 1, Name: "tile/0/000.p/1", Digest: digest("")},
+		"begins behind the end":   {At: 1<<64 - 1, Length: 1, Name: "tile/0/000.p/1", Digest: digest("")},
+		"one byte further":        {At: one.at(0) + 1, Length: 32, Name: "tile/0/000.p/1", Digest: one.Objects[0].Digest[:]},
+		"one byte less":           {At: one.at(0), Length: 31, Name: "tile/0/000.p/1", Digest: one.Objects[0].Digest[:]},
+		"another object's digest": {At: one.at(0), Length: 32, Name: "tile/0/000.p/1", Digest: one.Objects[1].Digest[:]},
+		"no digest":               {At: one.at(0), Length: 32, Name: "tile/0/000.p/1"},
+	} {
+		for _, reply := range []any{
+			struct {
+				Stepped
+				References []reference `json:"objects"`
+			}{*one, []reference{wrong}},
+			struct {
+				Head
+				References []reference `json:"objects"`
+			}{one.Head, []reference{wrong}},
+		} {
+			text, err := json.Marshal(reply)
+			must(t, err)
+			path := filepath.Join(t.TempDir(), "reply")
+			must(t, os.WriteFile(path, append(text, '\n'), 0o600))
+			liar := client(t, 20*time.Second, script(t, "read x; cat "+path)...)
+			if _, ok := reply.(struct {
+				Head
+				References []reference `json:"objects"`
+			}); ok {
+				_, err = liar.Resume(ctx, one.Line, one.Bundle)
+			} else {
+				_, err = liar.Step(ctx, line, nil, batch, 7, MostAhead)
+			}
+			if !errors.Is(err, ErrReply) {
+				t.Errorf("%s: %v", what, err)
+			}
+		}
+	}
+}
+
+// at is where an object's content stands in the bundle.
+func (s *Stepped) at(object int) uint64 {
+	return uint64(bytes.Index(s.Bundle, s.Objects[object].Content))
+}
+
 func TestLongRequest(t *testing.T) {
 	c := client(t, 10*time.Minute, program...)
 	if _, err := c.Resume(within(t), "growth "+strings.Repeat("0", 288), make([]byte, MostRequest)); !errors.Is(err, ErrTooLong) || c.Starts() != 0 {
@@ -248,15 +299,6 @@ func TestTexts(t *testing.T) {
 	for _, line := range []string{"", "growth ", zeros, "growth " + zeros + "0", "growth " + zeros[1:] + "g", "growth " + zeros[1:] + "A", "Growth " + zeros, "growth " + zeros + "\n", "growth f" + zeros[1:]} {
 		if s, err := ParseState(line); !errors.Is(err, ErrState) {
 			t.Errorf("%q: %+v, %v", line, s, err)
-		}
-	}
-	good := "\x00\x06tile/0\x00\x00\x00\x01a"
-	if objects, err := Objects([]byte(good)); err != nil || len(objects) != 1 || objects[0].Name != "tile/0" || string(objects[0].Content) != "a" {
-		t.Errorf("%+v, %v", objects, err)
-	}
-	for _, bundle := range []string{"\x00", "\x00\x06tile", good[:8], good[:11], good[:12], good + "\x00", "\x00\x06heads/\x00\x00\x00\x01a"} {
-		if objects, err := Objects([]byte(bundle)); !errors.Is(err, ErrBundle) {
-			t.Errorf("%q: %+v, %v", bundle, objects, err)
 		}
 	}
 }

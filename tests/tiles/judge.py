@@ -193,6 +193,7 @@ class Judge:
         batch = firsts_of(batch)[0]
         self.size, self.moment = before + len(batch), now
         objects = bundled(base64.b64decode(reply["bundle"]))
+        hold_places(reply, base64.b64decode(reply["bundle"]))
         tiles = [(tile_named(called), content) for called, content in objects]
         found = [(tile, content) for tile, content in tiles if tile[0] != "data"]
         due = [(tile, self.content(*tile)) for tile in self.changed(before)]
@@ -207,6 +208,13 @@ class Judge:
         hold(reply["state"] == line, "the state is", reply["state"], "and has to be", line)
         self.line = line
         return dict(objects)
+
+
+def hold_places(reply, bundle):
+    """Holds where a reply says that a bundle's objects stand in it."""
+    told = [(one["name"], bundle[one["at"] : one["at"] + one["length"]], base64.b64decode(one["sha256"])) for one in reply["objects"]]
+    hold(told == [(called, content, sha256(content)) for called, content in bundled(bundle)], "the objects stand elsewhere than", reply["objects"])
+    hold(all(one["at"] + one["length"] <= len(bundle) for one in reply["objects"]), "an object ends behind its bundle")
 
 
 def bundled(bundle):

@@ -68,6 +68,8 @@ FAULTS = (
     ("full a leaf too early", "step.py", "> MOST:", ">= MOST:"),
     ("bundle of another line", "step.py", "if digest(bundle) != state.bundle:", "if not state.bundle:"),
     ("part of an object", "step.py", "if end > len(bundle) or", "if"),
+    ("object at its length", "step.py", "parts.append((at + width, end))", "parts.append((at + (0 if parts else width), end))"),
+    ("digest of an object's name", "step.py", "text(digest(bundle[start:end]))", "text(digest(called.encode()))"),
     (
         "clock looked at before the edge",
         "step.py",

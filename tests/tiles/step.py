@@ -147,22 +147,29 @@ def is_name(called):
     return (level == "data" or level < 64) and index < 1 << 64 and 0 < width <= 256 and name(level, index, width) == called
 
 
-def objects_of(bundle):
-    """The objects of a bundle."""
+def places_in(bundle):
+    """Where the objects of a bundle stand in it: each one's name, and where its content begins and ends."""
     objects, parts, at = [], [], 0
     while at < len(bundle):
         width = 4 if parts else 2
         end = at + width + int.from_bytes(bundle[at : at + width], "big")
         if end > len(bundle) or at + width > len(bundle):
             raise Refused("bundle")
-        parts.append(bundle[at + width : end])
+        parts.append((at + width, end))
         if len(parts) == 2:
-            objects.append((parts[0].decode("latin-1"), parts[1]))
+            objects.append((bundle[slice(*parts[0])].decode("latin-1"), *parts[1]))
             parts = []
         at = end
-    if parts or not all(is_name(called) for called, _ in objects):
+    if parts or not all(is_name(called) for called, _, _ in objects):
         raise Refused("bundle")
     return objects
+
+
+def references(bundle):
+    """The same as a reply has it, with the digest of each content."""
+    return [
+        {"at": start, "length": end - start, "name": called, "sha256": text(digest(bundle[start:end]))} for called, start, end in places_in(bundle)
+    ]
 
 
 # ---- requests and replies
@@ -246,25 +253,25 @@ def split(batch):
 
 
 def step(batch, edge, now, line, most, origin):
-    """A step: a receipt for each submission, its objects as a bundle, its head, and the state behind it."""
+    """A step: a receipt for each submission, its objects as a bundle, where they stand in it, its head, and the state behind it."""
     if len(batch) > MOST_SUBMISSIONS:
         raise Refused("too-many")
     entries, places = split(list(map(submission_of, batch)))
     signed, objects, after = stepped(line, map(base64.b64decode, edge), now, most, entries)
     first = after.tree_size - len(signed)
     receipts = [{"leaf_index": first + place, "sign": text(signed[place]), "timestamp": now} for place in places]
-    return {"bundle": text(bundle_of(objects)), "receipts": receipts, "state": written(after), **head_reply(after, origin)}
+    bundle = bundle_of(objects)
+    return {"bundle": text(bundle), "objects": references(bundle), "receipts": receipts, "state": written(after), **head_reply(after, origin)}
 
 
 def resume(bundle, line, origin):
-    """The objects of a step that was decided, and its head."""
+    """Where the objects of a step that was decided stand in its bundle, and its head."""
     state, bundle = state_of(line), base64.b64decode(bundle)
     if state is None:
         raise Refused("bad-state")
     if digest(bundle) != state.bundle:
         raise Refused("bundle")
-    objects = [[called, text(content)] for called, content in objects_of(bundle)]
-    return {"objects": objects, **head_reply(state, origin)}
+    return {"objects": references(bundle), **head_reply(state, origin)}
 
 
 def claim(place, path, line, submission, origin):

@@ -1,13 +1,11 @@
 -- Steps that were replied by runs that were cut off behind any line.
-use Rattle.std.proofs.Common.{◌≡◌, ◌∙◌, ℕ, List, [], ◌∷◌, Option, Some, None, All, sym, ap, subst}
+use Rattle.std.proofs.Common.{◌≡◌, ◌∙◌, [], ◌∷◌, Some, None, sym, subst}
 use Rattle.std.proofs.lemmas.List.Elements.{All-nil, All-cons}
 use Rattle.std.specs.Io.BufRead.{first_piece, drop_through}
 use Rattle.sha2.specs.Sha256.{sha256}
-use Rattle.cttile.specs.BrokenOff.{GiveFirstReplies}
 use Rattle.cttile.specs.CutRuns.{GaveAttempt, CutStepsAreAttempts, FirstLinesGave, BegunStepIsAttempt}
 use Rattle.cttile.specs.StepAnswers.{IsReplyTo}
 use Rattle.cttile.specs.StepAsks.{StepAsk}
-use Rattle.cttile.specs.StepSession.{LineGiven, GivesReply}
 use Rattle.cttile.specs.StepWords.{StepReply}
 use Rattle.cttile.proofs.Attempts.{replied_steps_are_attempts}
 use Rattle.cttile.proofs.StepLines.{given_first}
@@ -19,10 +17,10 @@ same_gave : (a b : StepAsk × StepReply) → Some a ≡ Some b → a ≡ b
 same_gave a b e = cc
 
 pub begun : BegunStepIsAttempt
-begun origin [] g is line batch contents now most step places took known gave = absurd (none_some _ (sym is.0 ∙ gave))
-begun origin (y ∷ ys) g is line batch contents now most step places took known gave =
+begun origin [] g is line batch contents now most step places objects took known gave = absurd (none_some _ (sym is.0 ∙ gave))
+begun origin (y ∷ ys) g is line batch contents now most step places objects took known gave =
     let same = same_gave (is.ask, is.reply) _ (sym is.noted ∙ gave) in
-    replied_steps_are_attempts sha256 line batch contents now most step places took known
+    replied_steps_are_attempts sha256 line batch contents now most step places objects took known
     (subst (λ (p : StepAsk × StepReply). IsReplyTo p.0 p.1) same is.replies)
 
 pub cut : CutStepsAreAttempts

@@ -19,3 +19,5 @@ pub mod AddedOnce
 pub mod BrokenOff
 pub mod CutRuns
 pub mod RolledOut
+pub mod Standing
+pub mod NamedObjects

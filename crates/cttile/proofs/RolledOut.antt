@@ -15,13 +15,13 @@ use Rattle.ct_verify.specs.Laws.{SomeCollide}
 use Rattle.cttile.specs.RolledOut.{ResumedLinesAreRolledOut}
 use Rattle.cttile.specs.StepAnswers.{IsResumeReplyBy}
 use Rattle.cttile.specs.StepRepeats.{BatchEntry}
-use Rattle.cttile.specs.StepWords.{rolls_out, refuses}
+use Rattle.cttile.specs.StepWords.{Reference, references_of, rolls_out, refuses}
 use Rattle.cttile.specs.declared.replies.StepRefusal.{StepRefusal}
 
-no_refusal : (line : StateLine) (objects : List (List ℕ × List ℕ)) (r : StepRefusal) → rolls_out line objects ≡ refuses r → ⊥
+no_refusal : (line : StateLine) (objects : List Reference) (r : StepRefusal) → rolls_out line objects ≡ refuses r → ⊥
 no_refusal line objects r e = cc
 
-same_reply : (a b : StateLine) (x y : List (List ℕ × List ℕ)) → rolls_out a x ≡ rolls_out b y → x ≡ y
+same_reply : (a b : StateLine) (x y : List Reference) → rolls_out a x ≡ rolls_out b y → x ≡ y
 same_reply a b x y e = cc
 
 -- an object isn't nothing
@@ -41,18 +41,18 @@ none : (more : List (List ℕ × List ℕ)) → [] ≡ bundle_text more → more
 none [] e = refl
 none (o ∷ more) e = absurd (omega (arith, ap length e, some_object o (bundle_text more)))
 
-one_list : (a b : List (List ℕ × List ℕ)) (bytes : List ℕ) → IsBundleOf a bytes → IsBundleOf b bytes → a ≡ b
+pub one_list : (a b : List (List ℕ × List ℕ)) (bytes : List ℕ) → IsBundleOf a bytes → IsBundleOf b bytes → a ≡ b
 one_list a b bytes p q =
     let more = begun b a [] q.fit p.fit (append-nil (bundle_text b) ∙ sym q.text ∙ p.text) in
     more.1 ∙ ap (λ (x : List (List ℕ × List ℕ)). b ++ x) (none more.0 more.2) ∙ append-nil b
 
 told : (H : List ℕ → List ℕ) (seen : StateLine) (E : List Tiled) (batch : List BatchEntry) (now : ℕ) (s : Step) (bytes : List ℕ) (line : StateLine)
-    (objects : List (List ℕ × List ℕ)) → IsTiledStep H seen E batch now s → IsResumeReplyBy H s.line bytes (rolls_out line objects)
-    → (bytes ≡ s.bundle.items → objects ≡ step_objects H E (new_entries E batch now)) × (bytes ≢ s.bundle.items → SomeCollide H)
+    (objects : List Reference) → IsTiledStep H seen E batch now s → IsResumeReplyBy H s.line bytes (rolls_out line objects)
+    → (bytes ≡ s.bundle.items → objects ≡ references_of H (step_objects H E (new_entries E batch now))) × (bytes ≢ s.bundle.items → SomeCollide H)
 told H seen E batch now s bytes line objects made (inl tells) =
     let own = step_objects H E (new_entries E batch now) in (
-      (λ (e : bytes ≡ s.bundle.items). same_reply line s.line objects tells.0 tells.1
-          ∙ one_list tells.0 own bytes tells.3.0 (subst (IsBundleOf own) (sym e) made.bundle)),
+      (λ (e : bytes ≡ s.bundle.items). same_reply line s.line objects (references_of H tells.0) tells.1
+          ∙ ap (references_of H) (one_list tells.0 own bytes tells.3.0 (subst (IsBundleOf own) (sym e) made.bundle))),
       (λ (other : bytes ≢ s.bundle.items). bundles_tell H s.line bytes s.bundle.items tells.2 (sym made.digest) other),
     )
 told H seen E batch now s bytes line objects made (inr none) = absurd (no_refusal line objects _ none.0)

@@ -19,7 +19,7 @@ use Rattle.ct_data_tiles.specs.TileLeaf.{Tiled}
 use Rattle.cttile.specs.StepAnswers.{edge_of, IsStepReplyBy, IsBoundedReplyBy}
 use Rattle.cttile.specs.StepLaws.{BatchesAreSplit, ReceiptsNameEntries, receipt_of_place}
 use Rattle.cttile.specs.StepRepeats.{BatchEntry, is_known, with_identity, first_of_each, places_of_all, identities_of}
-use Rattle.cttile.specs.StepWords.{steps, refuses, receipts_at}
+use Rattle.cttile.specs.StepWords.{Reference, steps, refuses, receipts_at}
 use Rattle.cttile.specs.declared.replies.StepRefusal.{StepRefusal}
 use Rattle.cttile.proofs.FirstIndexes.{indexes_from, entries_there, indexes_rise, none_before}
 use Rattle.cttile.proofs.Splitting.{known_behind}
@@ -144,11 +144,11 @@ all_there f g n (i ∷ P) each inside =
     one : (o : Option (ℕ × ℕ × List ℕ)) (r : ℕ × ℕ × List ℕ) → o ≡ Some r → cons_option o (filter_map f P) ≡ r ∷ filter_map f P
     one o r e = ap (λ x. cons_option x (filter_map f P)) e
 
-no_refusal : (s : Step) (p : List ℕ) (r : StepRefusal) → steps s p ≡ refuses r → ⊥
-no_refusal s p r e = cc
+no_refusal : (s : Step) (p : List ℕ) (o : List Reference) (r : StepRefusal) → steps s p o ≡ refuses r → ⊥
+no_refusal s p o r e = cc
 
-same_step : (s t : Step) (p q : List ℕ) → steps s p ≡ steps t q → (s ≡ t) × (p ≡ q)
-same_step s t p q e = (cc, cc)
+same_step : (s t : Step) (p q : List ℕ) (a b : List Reference) → steps s p a ≡ steps t q b → (s ≡ t) × (p ≡ q)
+same_step s t p q a b e = (cc, cc)
 
 abbrev Named : StateLine → List BatchEntry → ℕ → List Tiled → Step → List ℕ → Type 0
 Named line batch now E step places = receipts_at step places ≡ map (receipt_of_place E (first_of_each [] batch) now) (places_of_all [] batch)
@@ -162,25 +162,25 @@ named H line batch now E step is size =
     ∙ all_there (slice_get (receipts_from now (length E) (map (λ e. entry_of e.0) F))) (receipt_of_place E F now) (length F) P
     (receipt_there now (length E) F) (places_within batch)
 
-told : (H : List ℕ → List ℕ) (line : StateLine) (batch : List BatchEntry) (now : ℕ) (step : Step) (places : List ℕ) (E : List Tiled) (edge : Option (List (List ℕ) × List ℕ))
-    → IsStepReplyBy H line edge batch now (steps step places) → IsLog H E line → Named line batch now E step places
-told H line batch now step places E None is log = absurd (no_refusal step places _ is)
-told H line batch now step places E (Some edge) (inl tells) log =
-    let same = same_step step tells.0 places (places_of_all [] batch) tells.1 in
+told : (H : List ℕ → List ℕ) (line : StateLine) (batch : List BatchEntry) (now : ℕ) (step : Step) (places : List ℕ) (objects : List Reference) (E : List Tiled) (edge : Option (List (List ℕ) × List ℕ))
+    → IsStepReplyBy H line edge batch now (steps step places objects) → IsLog H E line → Named line batch now E step places
+told H line batch now step places objects E None is log = absurd (no_refusal step places objects _ is)
+told H line batch now step places objects E (Some edge) (inl tells) log =
+    let same = same_step step tells.0 places (places_of_all [] batch) objects _ tells.2 in
     subst (λ (p : List ℕ). Named line batch now E step p) (sym same.1)
     (subst (λ (s : Step). Named line batch now E s (places_of_all [] batch)) (sym same.0)
-    (named H line batch now E tells.0 tells.3 log.size))
-told H line batch now step places E (Some edge) (inr none) log = absurd (no_refusal step places none.1 none.2)
+    (named H line batch now E tells.0 tells.5 log.size))
+told H line batch now step places objects E (Some edge) (inr none) log = absurd (no_refusal step places objects none.1 none.2)
 
-told_near : (H : List ℕ → List ℕ) (line : StateLine) (batch : List BatchEntry) (now most : ℕ) (step : Step) (places : List ℕ) (E : List Tiled)
-    (edge : Option (List (List ℕ) × List ℕ)) → IsBoundedReplyBy H line edge batch now most (steps step places) → IsLog H E line
+told_near : (H : List ℕ → List ℕ) (line : StateLine) (batch : List BatchEntry) (now most : ℕ) (step : Step) (places : List ℕ) (objects : List Reference) (E : List Tiled)
+    (edge : Option (List (List ℕ) × List ℕ)) → IsBoundedReplyBy H line edge batch now most (steps step places objects) → IsLog H E line
     → Named line batch now E step places
-told_near H line batch now most step places E edge (inl far) log = absurd (no_refusal step places _ far.1)
-told_near H line batch now most step places E edge (inr near) log = told H line batch now step places E edge near.1 log
+told_near H line batch now most step places objects E edge (inl far) log = absurd (no_refusal step places objects _ far.1)
+told_near H line batch now most step places objects E edge (inr near) log = told H line batch now step places objects E edge near.1 log
 
 pub receipts_name_entries : ReceiptsNameEntries
-receipts_name_entries H line batch contents now most step places E known (inl of) log =
+receipts_name_entries H line batch contents now most step places objects E known (inl of) log =
     let same : of.0 ≡ line = state_lines_differ of.0 line of.1 known of.2 in
-    told_near H line batch now most step places E (edge_of line.tree_size contents)
-    (subst (λ (l : StateLine). IsBoundedReplyBy H l (edge_of l.tree_size contents) batch now most (steps step places)) same of.3) log
-receipts_name_entries H line batch contents now most step places E known (inr none) log = absurd (no_refusal step places _ none.1)
+    told_near H line batch now most step places objects E (edge_of line.tree_size contents)
+    (subst (λ (l : StateLine). IsBoundedReplyBy H l (edge_of l.tree_size contents) batch now most (steps step places objects)) same of.3) log
+receipts_name_entries H line batch contents now most step places objects E known (inr none) log = absurd (no_refusal step places objects _ none.1)

@@ -76,6 +76,12 @@ pub by_reply : {F : Type 0} (r : Result (Vec ℕ Global) F) (origin : Option (Li
 by_reply (Ok t) origin reply P p e = (reply, p, e)
 by_reply (Err f) origin reply P p e = tt
 
+-- what a reply's text says, said of less
+pub by_less : {F : Type 0} (r : Result (Vec ℕ Global) F) (origin : Option (List ℕ)) (P Q : StepReply → Type 0) → ((reply : StepReply) → P reply → Q reply)
+    → IfOk r (λ t. IsReplyText origin t.items P) → IfOk r (λ t. IsReplyText origin t.items Q)
+by_less (Ok t) origin P Q less e = (e.0, less e.0 e.1, e.2)
+by_less (Err f) origin P Q less e = tt
+
 -- the same of a line that isn't empty
 pub gives_reply : {F : Type 0} (r : Result (Vec ℕ Global) F) (origin : Option (List ℕ)) (before after : Bool) (line : List ℕ) (ask : StepAsk) (e : Bool)
     → e ≡ (length line == 0) → e ≡ false → AsksStep line ask → after ≡ before || is_no_step ask → IfOk r (λ t. IsReplyText origin t.items (IsReplyTo ask))

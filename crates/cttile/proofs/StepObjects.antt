@@ -12,7 +12,7 @@ use Rattle.ct_log_state.specs.declared.rolling_out.ResumeFault.{ResumeFault}
 use Rattle.ct_log_state.specs.declared.rolling_out.ResumeFault.TheVariants.{Bundle}
 use Rattle.ct_log_state.proofs.Bundles.{bundles_are_resumed}
 use Rattle.ct_log_state.specs.declared.line.StateLine.{StateLine}
-use Rattle.cttile.specs.StepAnswers.{IsNotRolledOut}
+use Rattle.cttile.specs.StepAnswers.{AreObjectsIn, IsBundleOfTiles, IsNotRolledOut}
 use Rattle.cttile.specs.StepWords.{IsTileName}
 
 abbrev pub name_in : Object → List ℕ
@@ -70,3 +70,25 @@ not_rolled_out line bundle fault is stops = either (subst (λ (f : ResumeFault).
     either : StopsResume sha256 line bundle Bundle → IsNotRolledOut line bundle
     either (inl other) = inl other
     either (inr none) = inr (λ objects b. none objects b.0)
+
+-- the bytes are the bundle of no objects under the names of tiles, and none are found
+pub none_found : (line : StateLine) (bundle : List ℕ) (fault : ResumeFault) (found : List Object) → found ≡ [] → sha256 bundle ≡ line.bundle → fault ≡ Bundle
+    → StopsResume sha256 line bundle fault → AreObjectsIn bundle (map object_parts found)
+none_found line bundle fault found nil digest is stops =
+    inr (ap (map object_parts) nil, either (subst (λ (f : ResumeFault). StopsResume sha256 line bundle f) is stops))
+  where
+    either : StopsResume sha256 line bundle Bundle → (others : List (List ℕ × List ℕ)) → IsBundleOfTiles others bundle → ⊥
+    either (inl other) = absurd (other digest)
+    either (inr none) = λ others b. none others b.0
+
+-- so where they aren't all under the names of tiles
+pub none_named_in : (line : StateLine) (bundle : List ℕ) (read : Vec Object Global) (found : List Object) → found ≡ [] → sha256 bundle ≡ line.bundle
+    → IsBundleOf (map object_parts read.items) bundle → (All IsTileName (map name_in read.items) → ⊥) → AreObjectsIn bundle (map object_parts found)
+none_named_in line bundle read found nil digest is none =
+    inr (
+      ap (map object_parts) nil,
+      λ others b.
+          let r : Result (Vec Object Global) ResumeFault = Ok read in
+          let same : map object_parts read.items ≡ others = bundles_are_resumed sha256 line others bundle r b.0 (sym digest) (digest, is) in
+          none (parts_named read.items (subst (λ (l : List (List ℕ × List ℕ)). All HasName l) (sym same) b.1)),
+    )

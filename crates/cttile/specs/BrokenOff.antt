@@ -1,5 +1,5 @@
 -- What a run wrote that a fault broke off.
-use Rattle.std.specs.Prelude.{◌≡◌, ◌<◌, ℕ, Bool, false, List, [], ◌∷◌, ◌++◌, length, Option}
+use Rattle.std.specs.Prelude.{◌≡◌, ◌<◌, ℕ, false, List, [], ◌∷◌, ◌++◌, length, Option}
 use Rattle.std.specs.Io.BufRead.{first_piece, drop_through}
 use Rattle.json_lines.specs.Sends.{SendsSome}
 use Rattle.line_program.specs.Replied.{nothing_behind, IsBroken}

@@ -11,13 +11,13 @@ use Rattle.cttile.specs.StepAsks.{for_step}
 use Rattle.cttile.specs.StepLaws.{IsStepAttempt}
 use Rattle.cttile.specs.StepRepeats.{BatchEntry}
 use Rattle.cttile.specs.StepSession.{LineGiven, GivesReply, step_gives}
-use Rattle.cttile.specs.StepWords.{steps}
+use Rattle.cttile.specs.StepWords.{Reference, steps}
 
 -- where a line gave a step, it is an attempt from the line that it was asked of, whether the register took it or not
 abbrev pub GaveAttempt : LineGiven → Type 0
 GaveAttempt g =
-    (line : StateLine) (batch : List BatchEntry) (contents : List (List ℕ)) (now most : ℕ) (step : Step) (places : List ℕ) (took : Bool)
-    → IsStateLine line → g.gave ≡ Some (for_step batch contents now (state_line_text line) most, steps step places)
+    (line : StateLine) (batch : List BatchEntry) (contents : List (List ℕ)) (now most : ℕ) (step : Step) (places : List ℕ) (objects : List Reference)
+    (took : Bool) → IsStateLine line → g.gave ≡ Some (for_step batch contents now (state_line_text line) most, steps step places objects)
     → IsStepAttempt sha256 line batch contents now step took
 
 -- the lines whose replies are written, where a fault broke a run off behind them, gave attempts alone

@@ -18,7 +18,7 @@ use Rattle.ct_step.specs.declared.step.StepFault.TheVariants.{Edge, Entries, Gro
 use Rattle.ct_data_tiles.specs.TileLeaf.{Tiled}
 use Rattle.cttile.specs.StepAsks.{StepAsk, for_begin, for_needs, for_step, for_too_many, for_resume, for_claim, for_no_step}
 use Rattle.cttile.specs.StepRepeats.{first_of_each, places_of_all}
-use Rattle.cttile.specs.StepWords.{IsTileName, StepReply, begins, names_edge, steps, rolls_out, stands, refuses}
+use Rattle.cttile.specs.StepWords.{IsTileName, StepReply, references_of, begins, names_edge, steps, rolls_out, stands, refuses}
 use Rattle.cttile.specs.declared.replies.StepRefusal.{StepRefusal}
 use Rattle.cttile.specs.declared.replies.StepRefusal.TheVariants as name
 
@@ -82,12 +82,26 @@ NamesStepFault (Growth Full) r = r ≡ name.Full
 NamesStepFault (Growth (Refused refusal)) r = ⊥
 NamesStepFault TooLong r = r ≡ name.TooLong
 
+-- the bytes are the bundle of these objects, each of them under the name of a tile
+abbrev pub IsBundleOfTiles : List (List ℕ × List ℕ) → List ℕ → Type 0
+IsBundleOfTiles objects bytes = IsBundleOf objects bytes × All (λ o. IsTileName o.0) objects
+
+-- these are the objects of a bundle, where it is one of objects under the names of tiles; where it is none, there are no objects
+abbrev pub AreObjectsIn : List ℕ → List (List ℕ × List ℕ) → Type 0
+AreObjectsIn bytes objects = IsBundleOfTiles objects bytes
+    ⊎ ((objects ≡ []) × ((others : List (List ℕ × List ℕ)) → IsBundleOfTiles others bytes → ⊥))
+
+-- the reply tells this step, the receipts at these places of it, and where the objects stand in its bundle
+abbrev pub TellsObjects : Step → List ℕ → StepReply → Type 0
+TellsObjects s places reply = (objects : List (List ℕ × List ℕ)) × (reply ≡ steps s places (references_of sha256 objects)) × AreObjectsIn s.bundle.items objects
+
 -- The reply tells a step from a line with these partial tiles and this partial data tile, a batch and a moment: the first entry of each
 -- identity in it may be taken in, it is a step of these from the line, and of every log whose edge was handed in the step of that log. Each
--- submission of the batch has the receipt at the place of its identity.
+-- submission of the batch has the receipt at the place of its identity, and it is told where the objects stand in the bundle.
 abbrev pub TellsStepBy : (List ℕ → List ℕ) → StateLine → List (List ℕ) × List ℕ → List (Submitted × List (List ℕ)) → ℕ → StepReply → Type 0
 TellsStepBy H line edge batch now reply =
-    (s : Step) × (reply ≡ steps s (places_of_all [] batch)) × MayStep H line edge.0 edge.1 (first_of_each [] batch) now
+    (s : Step) × (objects : List (List ℕ × List ℕ)) × (reply ≡ steps s (places_of_all [] batch) (references_of H objects))
+    × AreObjectsIn s.bundle.items objects × MayStep H line edge.0 edge.1 (first_of_each [] batch) now
     × IsStepFrom H line (first_of_each [] batch) now s
     × ((E : List Tiled) → IsEdgeOf H E line.tree_size edge.0 edge.1 → IsTiledStep H line E (first_of_each [] batch) now s)
 
@@ -115,14 +129,10 @@ IsBoundedReplyBy H line edge batch now most reply =
 abbrev pub IsBoundedReply : StateLine → Option (List (List ℕ) × List ℕ) → List (Submitted × List (List ℕ)) → ℕ → ℕ → StepReply → Type 0
 IsBoundedReply line edge batch now most reply = IsBoundedReplyBy sha256 line edge batch now most reply
 
--- the bytes are the bundle of these objects, each of them under the name of a tile
-abbrev pub IsBundleOfTiles : List (List ℕ × List ℕ) → List ℕ → Type 0
-IsBundleOfTiles objects bytes = IsBundleOf objects bytes × All (λ o. IsTileName o.0) objects
-
--- The reply tells the objects of the step that made a line: the bundle has the line's digest, and is that of these objects.
+-- The reply tells where the objects of the step that made a line stand in its bundle: that has the line's digest, and is that of these objects.
 abbrev pub TellsObjectsBy : (List ℕ → List ℕ) → StateLine → List ℕ → StepReply → Type 0
 TellsObjectsBy H line bundle reply =
-    (objects : List (List ℕ × List ℕ)) × (reply ≡ rolls_out line objects) × (H bundle ≡ line.bundle) × IsBundleOfTiles objects bundle
+    (objects : List (List ℕ × List ℕ)) × (reply ≡ rolls_out line (references_of H objects)) × (H bundle ≡ line.bundle) × IsBundleOfTiles objects bundle
 
 -- the bytes aren't the bundle of a line: they have another digest, or are the bundle of no objects under the names of tiles
 abbrev pub IsNotRolledOutBy : (List ℕ → List ℕ) → StateLine → List ℕ → Type 0

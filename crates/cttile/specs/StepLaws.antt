@@ -15,7 +15,7 @@ use Rattle.ct_verify.specs.Laws.{SomeCollide}
 use Rattle.cttile.specs.StepAsks.{for_step, for_claim}
 use Rattle.cttile.specs.StepAnswers.{edge_of, first_line_by, IsReplyToBy}
 use Rattle.cttile.specs.StepRepeats.{BatchEntry, first_of_each, places_of_all, identities_of}
-use Rattle.cttile.specs.StepWords.{receipts_at, steps, stands}
+use Rattle.cttile.specs.StepWords.{Reference, receipts_at, steps, stands}
 
 -- the line that a log begins with is that of a log without entries
 abbrev pub FirstLineBegins : Type 0
@@ -35,8 +35,8 @@ IsStepAttempt H line batch contents now step took =
 -- a step that is replied to a line's text is an attempt
 abbrev pub RepliedStepsAreAttempts : Type 0
 RepliedStepsAreAttempts =
-    (H : List ℕ → List ℕ) (line : StateLine) (batch : List BatchEntry) (contents : List (List ℕ)) (now most : ℕ) (step : Step) (places : List ℕ) (took : Bool)
-    → IsStateLine line → IsReplyToBy H (for_step batch contents now (state_line_text line) most) (steps step places)
+    (H : List ℕ → List ℕ) (line : StateLine) (batch : List BatchEntry) (contents : List (List ℕ)) (now most : ℕ) (step : Step) (places : List ℕ) (objects : List Reference) (took : Bool)
+    → IsStateLine line → IsReplyToBy H (for_step batch contents now (state_line_text line) most) (steps step places objects)
     → IsStepAttempt H line batch contents now step took
 
 -- A receipt (leaf index, moment in milliseconds, bytes to be signed) is a submission's at a claimed place of the log with the entries E. Its
@@ -79,8 +79,8 @@ receipt_of_place E firsts now i = (length E + i, now, slice_index_or (tree_leave
 -- In a reply to a step each submission of the batch has the receipt of the entry at its identity's place, in every log that has the state's line.
 abbrev pub ReceiptsNameEntries : Type 0
 ReceiptsNameEntries =
-    (H : List ℕ → List ℕ) (line : StateLine) (batch : List BatchEntry) (contents : List (List ℕ)) (now most : ℕ) (step : Step) (places : List ℕ) (E : List Tiled)
-    → IsStateLine line → IsReplyToBy H (for_step batch contents now (state_line_text line) most) (steps step places) → IsLog H E line
+    (H : List ℕ → List ℕ) (line : StateLine) (batch : List BatchEntry) (contents : List (List ℕ)) (now most : ℕ) (step : Step) (places : List ℕ) (objects : List Reference) (E : List Tiled)
+    → IsStateLine line → IsReplyToBy H (for_step batch contents now (state_line_text line) most) (steps step places objects) → IsLog H E line
     → receipts_at step places ≡ map (receipt_of_place E (first_of_each [] batch) now) (places_of_all [] batch)
 
 -- An attempt to carry on the log by lines, whose submissions were looked up first: the identities that the store had a place for then (stored);

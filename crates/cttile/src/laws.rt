@@ -1,7 +1,7 @@
 //! What follows of the definitions, each the contract of a function that does nothing.
 
 ghost use Rattle.cttile.specs.CutRuns.{CutStepsAreAttempts, FirstLinesGave, BegunStepIsAttempt};
-ghost use Rattle.cttile.specs.RolledOut.{ResumedLinesAreRolledOut};
+ghost use Rattle.cttile.specs.RolledOut.{ReferencesAreSlices, RepliedObjectsChange, ResumedLinesAreRolledOut};
 ghost use Rattle.cttile.specs.StepLaws.{BatchesAreSplit, ClaimsStandThere, FirstLineBegins, OneEntryAnIdentityByLines, ReceiptsNameEntries, RepliedStepsAreAttempts};
 
 /// The line that a log begins with is that of a log without entries. The laws are of every hash function, where two strings are given of those
@@ -22,6 +22,15 @@ pub fn cut_runs()
     ensures given { FirstLinesGave }
     ensures begun { BegunStepIsAttempt }
 {}
+
+/// Where a reply says that objects stand in a bundle, they stand (`slices`): of a step the tiles and data tiles that change by it, or two different
+/// strings with one hash are given (`change`).
+pub fn objects_stand_there()
+    ensures slices { ReferencesAreSlices }
+    ensures change { RepliedObjectsChange }
+{
+    ct_step::laws::edges();
+}
 
 /// Whoever rolls a step out by the line that a register holds puts what its maker would have put, or two different strings with one hash are given.
 pub fn rolled_out_by_lines()

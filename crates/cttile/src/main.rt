@@ -7,7 +7,7 @@
 //! - `request` reads what a line asks for, and `entry` is one of a batch.
 //! - `repeats` takes the repeats out of a batch.
 //! - `edge` sets the contents at a log's edge out as a step takes them.
-//! - `stepping` replies to a request, and `replies` writes what is replied.
+//! - `stepping` replies to a request, `places` says where a step's objects stand in its bundle, and `replies` writes what is replied.
 //! - `command` reads the words of a command line, and `fault` has what an error of a crate below says of a run.
 //! - `laws` says that the steps are those of the law over sequencers.
 //! - `program` has `run`, over the loop of `line_program`, and `answer_words`, which does what the words of a command line ask for; behind a
@@ -20,6 +20,7 @@ mod entry;
 mod fault;
 pub mod laws;
 mod noted;
+mod places;
 mod program;
 mod repeats;
 mod replies;

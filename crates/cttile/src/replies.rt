@@ -1,23 +1,23 @@
 //! What is replied to a line.
 //!
-//! A reply is written piece by piece, each behind what stands there, so that a step's bundle and its objects are copied once: as base64.
+//! A reply is written piece by piece, each behind what stands there, so that a step's bundle is copied once: as base64.
 
 ghost use Rattle.std.specs.Prelude.{◌≡◌, ◌++◌, Some, None, OnOk, IfOk, All, map, filter_map, slice_get, option_map, string_bytes};
 ghost use Rattle.serde_json.specs.Data.{string, array};
 ghost use Rattle.serde_json.specs.View.{items_of};
 ghost use Rattle.serde_json.specs.Written.{compact_text, comma_if};
-ghost use Rattle.ct_log_state.specs.Resumed.{object_parts};
 ghost use Rattle.ct_codec.specs.Signed.{tree_head_text};
 ghost use Rattle.ct_growth.specs.Leaves.{receipt_parts};
 ghost use Rattle.json_lines.specs.Values.{bytes_data, number_data};
-ghost use Rattle.cttile.specs.StepWords.{IsTileName, step_refusal_name, step_refused_data, begun_data, names_data, line_head_data, receipt_data, claimed_data, bundled_data, stepped_data, resumed_data, step_line, head_text};
+ghost use Rattle.cttile.specs.StepWords.{IsTileName, step_refusal_name, step_refused_data, begun_data, names_data, line_head_data, receipt_data, claimed_data, place_parts, reference_data, stepped_data, resumed_data, step_line, head_text};
 
 use crate::fault::NotMade;
+use crate::places::Place;
 use base64::engine::general_purpose::STANDARD;
 use ct_checkpoint::write_checkpoint;
 use ct_codec::tree_head_signature_input;
 use ct_growth::Receipt;
-use ct_log_state::{Object, StateLine};
+use ct_log_state::StateLine;
 use ct_step::Step;
 use serde_json::Value;
 use std::alloc::{AllocError, Global};
@@ -164,27 +164,32 @@ fn push_receipts(
     Ok(())
 }
 
-fn push_object(alloc: Global, text: &mut String, object: &Object<'_>) -> Result<(), AllocError>
-    requires { IsTileName (object_parts object.now).0 }
-    ensures { OnOk result (string_bytes text.new ≡ string_bytes text.old ++ compact_text (bundled_data (object_parts object.now))) }
+// Where an object stands in its bundle, as an object.
+fn push_place(alloc: Global, text: &mut String, place: &Place<'_>) -> Result<(), AllocError>
+    requires { IsTileName (place_parts place.now).name }
+    ensures { OnOk result (string_bytes text.new ≡ string_bytes text.old ++ compact_text (reference_data (place_parts place.now))) }
 {
-    text.push_str("[")?;
-    push_name(alloc, text, object.name)?;
-    text.push_str(",")?;
-    push_bytes(text, object.content)?;
-    text.push_str("]")?;
+    text.push_str("{\"at\":")?;
+    push_number(text, place.start)?;
+    text.push_str(",\"length\":")?;
+    push_number(text, place.length)?;
+    text.push_str(",\"name\":")?;
+    push_name(alloc, text, place.name)?;
+    text.push_str(",\"sha256\":")?;
+    push_bytes(text, &place.digest)?;
+    text.push_str("}")?;
     Ok(())
 }
 
-fn push_objects(alloc: Global, text: &mut String, objects: &[Object<'_>]) -> Result<(), AllocError>
-    requires { All IsTileName (map (λ o. (object_parts o).0) objects.now) }
-    ensures { OnOk result (string_bytes text.new ≡ string_bytes text.old ++ compact_text (array (items_of (map bundled_data (map object_parts objects.now))))) }
+fn push_places(alloc: Global, text: &mut String, places: &[Place<'_>]) -> Result<(), AllocError>
+    requires { All IsTileName (map (λ p. (place_parts p).name) places.now) }
+    ensures { OnOk result (string_bytes text.new ≡ string_bytes text.old ++ compact_text (array (items_of (map reference_data (map place_parts places.now))))) }
 {
     text.push_str("[")?;
     let mut later = false;
-    for object in objects {
+    for place in places {
         push_comma(text, later)?;
-        push_object(alloc, text, object)?;
+        push_place(alloc, text, place)?;
         later = true;
     }
     text.push_str("]")?;
@@ -282,20 +287,25 @@ pub(crate) fn names_line(alloc: Global, names: &[Vec<u8>]) -> Result<Vec<u8>, Al
     Ok(text.into_bytes())
 }
 
-/// The line of a step, of a log with this origin where it is known, with the receipt at each of these places of its own.
+/// The line of a step, of a log with this origin where it is known, with the receipt at each of these places of its own, and where its objects
+/// stand in its bundle.
 pub(crate) fn stepped_line(
     alloc: Global,
     origin: &Option<String>,
     step: &Step,
     places: &[usize],
+    objects: &[Place<'_>],
 ) -> Result<Vec<u8>, AllocError>
-    ensures { IfOk result (λ t. t.items ≡ step_line (stepped_data (option_map string_bytes origin.now) step.now places.now)) }
+    requires { All IsTileName (map (λ p. (place_parts p).name) objects.now) }
+    ensures { IfOk result (λ t. t.items ≡ step_line (stepped_data (option_map string_bytes origin.now) step.now places.now (map place_parts objects.now))) }
 {
     let mut text = String::with_capacity(alloc, step.bundle.len())?;
     text.push_str("{\"bundle\":")?;
     push_bytes(&mut text, &step.bundle)?;
     text.push_str(",")?;
     push_head(alloc, &mut text, origin, &step.line)?;
+    text.push_str(",\"objects\":")?;
+    push_places(alloc, &mut text, objects)?;
     text.push_str(",\"receipts\":")?;
     push_receipts(&mut text, &step.receipts, places)?;
     text.push_str(",\"sign\":")?;
@@ -307,21 +317,21 @@ pub(crate) fn stepped_line(
     Ok(text.into_bytes())
 }
 
-/// The line of the objects of a step that was decided, of a log with this origin where it is known.
+/// The line of a step that was decided, of a log with this origin where it is known: where its objects stand in its bundle.
 pub(crate) fn resumed_line(
     alloc: Global,
     origin: &Option<String>,
     line: &StateLine,
-    objects: &[Object<'_>],
+    objects: &[Place<'_>],
 ) -> Result<Vec<u8>, AllocError>
-    requires { All IsTileName (map (λ o. (object_parts o).0) objects.now) }
-    ensures { IfOk result (λ t. t.items ≡ step_line (resumed_data (option_map string_bytes origin.now) line.now (map object_parts objects.now))) }
+    requires { All IsTileName (map (λ p. (place_parts p).name) objects.now) }
+    ensures { IfOk result (λ t. t.items ≡ step_line (resumed_data (option_map string_bytes origin.now) line.now (map place_parts objects.now))) }
 {
     let mut text = String::with_capacity(alloc, 1024)?;
     text.push_str("{")?;
     push_head(alloc, &mut text, origin, line)?;
     text.push_str(",\"objects\":")?;
-    push_objects(alloc, &mut text, objects)?;
+    push_places(alloc, &mut text, objects)?;
     text.push_str(",\"sign\":")?;
     push_bytes(&mut text, &head_input(alloc, line)?)?;
     text.push_str("}")?;

@@ -1,19 +1,21 @@
 //! What is replied to a request.
 
-ghost use Rattle.std.specs.Prelude.{◌≡◌, ◌+◌, ◌<◌, ◌≤◌, ℕ, List, All, IfOk, map, option_map, string_bytes};
+ghost use Rattle.std.specs.Prelude.{◌≡◌, ◌+◌, ◌^◌, ◌<◌, ◌≤◌, ℕ, List, All, IfOk, map, option_map, string_bytes};
 ghost use Rattle.std.specs.Bool.{MatchBool};
+ghost use Rattle.sha2.specs.Sha256.{sha256};
 ghost use Rattle.ct_log_state.specs.Resumed.{object_parts};
 ghost use Rattle.ct_log_state.specs.Lines.{IsStateLine};
 ghost use Rattle.cttile.specs.StepAsks.{entry_parts, step_ask_of, for_needs, for_step, for_resume, for_claim};
-ghost use Rattle.cttile.specs.StepAnswers.{first_line, edge_of, IsStepReply, IsBoundedReply, IsResumeReply, IsClaimReply, IsReplyTo};
+ghost use Rattle.cttile.specs.StepAnswers.{first_line, edge_of, AreObjectsIn, IsStepReply, TellsObjects, IsBoundedReply, IsResumeReply, IsClaimReply, IsReplyTo};
 ghost use Rattle.cttile.specs.StepSession.{IsReplyText};
-ghost use Rattle.cttile.specs.StepWords.{IsTileName, names_edge, StepReply};
+ghost use Rattle.cttile.specs.StepWords.{IsTileName, bundle_size, names_edge, StepReply};
 ghost use Rattle.ct_log_state.specs.Needed.{needed_names};
 ghost use Rattle.std.specs.Prelude.{Some};
 
 use crate::edge::edge_of;
 use crate::entry::Entry;
 use crate::fault::{NoName, NotBelieved, NotRolledOut, NotTaken};
+use crate::places::places_of;
 use crate::repeats::split_batch;
 use crate::replies::{
     StepRefusal, begun_line, claimed_line, names_line, refused_line, resumed_line, stepped_line,
@@ -22,7 +24,7 @@ use crate::request::Request;
 use ct_codec::Submission;
 use ct_growth::{Claim, answer_repeat};
 use ct_log_state::{Object, StateLine, needed, resume};
-use ct_step::take_step;
+use ct_step::{Step, take_step};
 use ct_tile_names::Tile;
 use ct_tree::{Head, NodeHash, Sha256Hash};
 use std::alloc::{AllocError, Global};
@@ -65,6 +67,72 @@ fn needs_reply(alloc: Global, origin: &Option<String>, state: &[u8]) -> Result<V
     }
 }
 
+// Whether a text is the name of a tile.
+fn is_tile_name(alloc: Global, name: &[u8]) -> Result<bool, AllocError>
+    ensures { IfOk result (λ b. MatchBool b (IsTileName name.now) (IsTileName name.now → ⊥)) }
+{
+    match Tile::from_name(alloc, name) {
+        Ok(_) => Ok(true),
+        Err(fault) => {
+            NoName::from(fault).told?;
+            Ok(false)
+        }
+    }
+}
+
+// Whether each of the objects stands under the name of a tile.
+fn are_tiles(alloc: Global, objects: &[Object<'_>]) -> Result<bool, AllocError>
+    ensures { IfOk result (λ b. MatchBool b (All IsTileName (map (λ o. (object_parts o).0) objects.now))
+        (All IsTileName (map (λ o. (object_parts o).0) objects.now) → ⊥)) }
+{
+    for object in objects {
+        if !is_tile_name(alloc, object.name)? {
+            return Ok(false);
+        }
+    }
+    Ok(true)
+}
+
+// The objects of the bundle of a line, where it is one of objects under the names of tiles, and else none.
+fn objects_in<'a>(
+    alloc: Global,
+    line: &StateLine,
+    bundle: &'a [u8],
+) -> Result<Vec<Object<'a>>, AllocError>
+    requires { sha256 bundle.now ≡ line.now.bundle }
+    ensures found { IfOk result (λ objects. AreObjectsIn bundle.now (map object_parts objects.items)) }
+    ensures named { IfOk result (λ objects. All IsTileName (map (λ o. (object_parts o).0) objects.items)) }
+    ensures few { IfOk result (λ objects. bundle_size (map object_parts objects.items) < 2 ^ 64) }
+{
+    let objects = match resume(alloc, &Sha256Hash, line, bundle) {
+        Ok(objects) => objects,
+        Err(fault) => {
+            NotRolledOut::from(fault).told?;
+            return Ok(Vec::new(alloc));
+        }
+    };
+    if are_tiles(alloc, &objects)? {
+        Ok(objects)
+    } else {
+        Ok(Vec::new(alloc))
+    }
+}
+
+// Replies with a step and the places of a batch's submissions among its entries.
+fn step_made(
+    alloc: Global,
+    origin: &Option<String>,
+    step: &Step,
+    places: &[usize],
+) -> Result<Vec<u8>, AllocError>
+    requires { sha256 step.now.bundle.items ≡ step.now.line.bundle }
+    ensures { IfOk result (λ t. IsReplyText (option_map string_bytes origin.now) t.items (TellsObjects step.now places.now)) }
+{
+    let objects = objects_in(alloc, &step.line, &step.bundle)?;
+    let standing = places_of(alloc, &objects)?;
+    stepped_line(alloc, origin, step, places, &standing)
+}
+
 // Replies to a step from a line with its edge.
 fn taken(
     alloc: Global,
@@ -80,7 +148,7 @@ fn taken(
 {
     let split = split_batch(alloc, batch)?;
     match take_step(alloc, &Sha256Hash, line, edge, entries, &split.firsts, now) {
-        Ok(step) => stepped_line(alloc, origin, &step, &split.places),
+        Ok(step) => step_made(alloc, origin, &step, &split.places),
         Err(fault) => match NotTaken::from(fault).told? {
             Some(refusal) => refused_line(alloc, refusal),
             None => unreachable!(),
@@ -151,32 +219,6 @@ fn step_reply(
     }
 }
 
-// Whether a text is the name of a tile.
-fn is_tile_name(alloc: Global, name: &[u8]) -> Result<bool, AllocError>
-    ensures { IfOk result (λ b. MatchBool b (IsTileName name.now) (IsTileName name.now → ⊥)) }
-{
-    match Tile::from_name(alloc, name) {
-        Ok(_) => Ok(true),
-        Err(fault) => {
-            NoName::from(fault).told?;
-            Ok(false)
-        }
-    }
-}
-
-// Whether each of the objects stands under the name of a tile.
-fn are_tiles(alloc: Global, objects: &[Object<'_>]) -> Result<bool, AllocError>
-    ensures { IfOk result (λ b. MatchBool b (All IsTileName (map (λ o. (object_parts o).0) objects.now))
-        (All IsTileName (map (λ o. (object_parts o).0) objects.now) → ⊥)) }
-{
-    for object in objects {
-        if !is_tile_name(alloc, object.name)? {
-            return Ok(false);
-        }
-    }
-    Ok(true)
-}
-
 // Replies to the request for the objects of a line's step.
 fn resumed(
     alloc: Global,
@@ -193,11 +235,11 @@ fn resumed(
             return refused_line(alloc, StepRefusal::Bundle);
         }
     };
-    if are_tiles(alloc, &objects)? {
-        resumed_line(alloc, origin, line, &objects)
-    } else {
-        refused_line(alloc, StepRefusal::Bundle)
+    if !are_tiles(alloc, &objects)? {
+        return refused_line(alloc, StepRefusal::Bundle);
     }
+    let standing = places_of(alloc, &objects)?;
+    resumed_line(alloc, origin, line, &standing)
 }
 
 // Replies to the request for the objects of a step that was decided.

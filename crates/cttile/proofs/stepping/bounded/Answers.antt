@@ -1,4 +1,4 @@
-use Rattle.std.proofs.Common.{inl, inr, refl, map}
+use Rattle.std.proofs.Common.{inl, refl, map}
 use Rattle.std.specs.Prelude.{option_map, string_bytes}
 use Rattle.cttile.specs.StepAnswers.{IsBoundedReply, edge_of}
 use Rattle.cttile.specs.StepAsks.{entry_parts}

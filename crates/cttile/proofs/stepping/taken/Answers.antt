@@ -1,19 +1,26 @@
-use Rattle.std.proofs.Common.{[], inl, inr, refl, map, Some}
+use Rattle.std.proofs.Common.{[], inl, inr, refl, sym, map, Some}
 use Rattle.std.specs.Prelude.{option_map, string_bytes}
-use Rattle.cttile.specs.StepAnswers.{IsStepReply}
+use Rattle.cttile.specs.StepAnswers.{IsStepReply, TellsObjects}
 use Rattle.cttile.specs.StepAsks.{entry_parts}
 use Rattle.cttile.specs.StepRepeats.{places_of_all}
-use Rattle.cttile.specs.StepWords.{refuses, steps}
-use Rattle.cttile.proofs.StepKept.{by_reply}
+use Rattle.cttile.specs.StepWords.{refuses}
+use Rattle.cttile.proofs.StepKept.{by_less, by_reply}
 use Rattle.cttile.proofs.stepping.taken.Goals as goal
+
+pub step_made-requires : goal.step_made-requires
+step_made-requires c = sym c.in-Ok.ensures.from.digest
 
 pub returns-in-Ok : goal.returns-in-Ok
 returns-in-Ok c =
     let batch = map entry_parts c.args.batch.items in
-    let places = rw (c.deref.ensures.value, c.in_ok-split.ensures.places) at c.stepped_line.ensures in
-    by_reply c.stepped_line.result (option_map string_bytes c.args.origin.now) (steps c.in-Ok.step (places_of_all [] batch))
+    let step = c.in-Ok.step in
+    let made = rw (c.deref.ensures.value, c.in_ok-split.ensures.places) at c.step_made.ensures in
+    let may = rw c.in_ok-split.ensures.firsts at c.in-Ok.ensures.may in
+    let from = rw c.in_ok-split.ensures.firsts at c.in-Ok.ensures.from in
+    let tiled = rw c.in_ok-split.ensures.firsts at c.in-Ok.ensures.step in
+    by_less c.step_made.result (option_map string_bytes c.args.origin.now) (TellsObjects step (places_of_all [] batch))
     (IsStepReply c.args.line.now (Some (map (λ b. b.items) c.args.edge.now, c.args.entries.now)) batch c.args.now)
-    (inl (c.in-Ok.step, refl, rw c.in_ok-split.ensures.firsts at c.in-Ok.ensures.may, rw c.in_ok-split.ensures.firsts at c.in-Ok.ensures.from, rw c.in_ok-split.ensures.firsts at c.in-Ok.ensures.step)) places
+    (λ reply told. inl (step, told.0, told.1, told.2, may, from, tiled)) made
 
 pub returns-in-Some : goal.returns-in-Some
 returns-in-Some c =
