@@ -43,7 +43,6 @@ WAITS = {
 }
 # How often each file tells each of these faults, and where.
 TOLD = {
-    "ct_monitor_lines/src/program.rt": {"Read": (1, "behind the last turn over the lines")},
     "json_lines/src/lines.rt": {
         "Error": (2, "behind the last turn over a line's pieces, and the last line's number"),
         "ErrorKind::Other": (2, "of these"),

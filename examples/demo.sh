@@ -171,7 +171,7 @@ END
 
 show_watched() {
   echo "== ctlog | ctmonitor: the head and the entries of that log, as they were replied, and a watched name =="
-  proved crates/ct_monitor_lines/src/program.rt "where the exit status isn't 1, what is written, and the status, are what a run over these answers of a log gives" <<'END'
+  proved crates/ctmonitor/src/program.rt "where the exit status isn't 1, what is written, and the status, are what a run over these answers of a log gives" <<'END'
 ensures answered { result ≢ 1 → IsAnswered (monitor_call (map string_bytes words.now)) (R.remaining input)
     (W.contents output.old) (W.contents output.new) (E.contents faults.old) (E.contents faults.new) result }
 END

@@ -1,8 +1,12 @@
 """The names of certificates, and where a watched one is found (docs/MONITOR.md): plain, slow, and no code of ctmonitor."""
+import ipaddress
+import re
 
 LENGTHS = {0x81: 1, 0x82: 2, 0x83: 3, 0x84: 4}
 COMMON_NAME, ALT_NAMES = bytes([85, 4, 3]), bytes([85, 29, 17])
 WIDTHS = {30: 2, 28: 4}
+# The kinds of names of subjectAltName that are looked for, by their tag (RFC 5280, section 4.2.1.6).
+KINDS = {0x81: "mail", 0x82: "dns", 0x86: "uri", 0x87: "address"}
 
 
 class Unread(Exception):
@@ -73,7 +77,7 @@ def common_names(subject):
 
 
 def alt_names(extensions):
-    """The dNSNames of the list of extensions (RFC 5280, section 4.2.1.6)."""
+    """The names of subjectAltName in the list of extensions, each with its kind."""
     while extensions:
         extension, extensions = expected(48, extensions, "extensions")
         identifier, rest = expected(6, extension, "extensions")
@@ -83,12 +87,12 @@ def alt_names(extensions):
             tag, text, names = element(names, "alt-names")
             if tag in (0xA1, 0xA2, 0xA6, 0xA7):
                 raise Unread("other-tag", "alt-names")
-            if tag == 0x82:
-                yield text
+            if tag in KINDS:
+                yield KINDS[tag], text
 
 
 def names_of(data, bare):
-    """The dNSNames and the common names of a certificate, or of a TBSCertificate alone (RFC 5280, section 4.1)."""
+    """The names of subjectAltName, each with its kind, and the common names of a certificate, or of a TBSCertificate alone (RFC 5280, section 4.1)."""
     if bare:
         rest = only(48, data, "tbs")
     else:
@@ -114,6 +118,32 @@ def holds_for(name, watched):
     return name[:2] == b"*." and b"." in watched and name[2:] == watched.partition(b".")[2]
 
 
+def host_of(kind, name):
+    """The host in a name of subjectAltName, where it has one."""
+    if kind == "dns":
+        return name
+    if kind == "mail":
+        return name.rpartition(b"@")[2] if b"@" in name else None
+    authority = re.match(rb"[^:]*://([^/?#]*)", name) if kind == "uri" else None
+    return authority and authority[1].rpartition(b"@")[2].partition(b":")[0]
+
+
+def address_text(name):
+    """An address's text (RFC 5952), where it has four octets or sixteen."""
+    if len(name) == 16 and name[:12] == bytes(10) + b"\xff\xff":
+        return "::ffff:" + str(ipaddress.IPv4Address(name[12:]))
+    return str(ipaddress.ip_address(name)) if len(name) in (4, 16) else None
+
+
+def is_told(kind, name, watched):
+    """Whether a name of subjectAltName is told for a watched one, which has no dot at its end."""
+    if kind == "address":
+        text = address_text(name)
+        return text is not None and text.encode() == watched
+    host = host_of(kind, name)
+    return host is not None and holds_for(host, watched)
+
+
 def found(data, bare, watched):
     """Why the names can't be read, or none, and where each watched name is found that is."""
     fault, alt, common = None, [], []
@@ -124,7 +154,7 @@ def found(data, bare, watched):
     places = {}
     for name in watched:
         sought = name.encode().lower().removesuffix(b".")
-        if any(holds_for(one, sought) for one in alt):
+        if any(is_told(*one, sought) for one in alt):
             places[name] = "san"
         elif any(holds_for(one, sought) for one in common):
             places[name] = "cn"

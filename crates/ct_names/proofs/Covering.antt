@@ -95,7 +95,7 @@ cut_tells (x ∷ w) =
       | inr p ↦ rw p.0 (longer x w (behind_first 46 w) p.1 (cut_tells w))
     ]
 
-behind_here : (l r : List ℕ) → IsLabel l → behind_first 46 (l ++ (46 ∷ r)) ≡ Some r
+pub behind_here : (l r : List ℕ) → IsLabel l → behind_first 46 (l ++ (46 ∷ r)) ≡ Some r
 behind_here [] r is = refl
 behind_here (x ∷ l) r is = rw (ne_eqb x 46 is.0) (behind_here l r is.1)
 

@@ -1,17 +1,17 @@
 -- What telling says, by labels.
 use Rattle.std.proofs.Common.{◌≡◌, ℕ, Bool, true, false, List, [], ◌∷◌, ◌++◌, Option, Some, None, Result, Ok, Err, refl, sym, ap, subst, ◌∙◌, ◌⊎◌, inl, inr}
-use Rattle.std.specs.Prelude.{◌&&◌, ◌||◌, not, IfOk}
+use Rattle.std.specs.Prelude.{◌&&◌, IfOk}
 use Rattle.std.specs.Bool.{Decides}
 use Rattle.std.specs.Str.{str_eq_ignore_ascii_case}
 use Rattle.std.proofs.lemmas.Bool.Decides.{eqb_tells}
 use Rattle.ct_names.specs.declared.name.NameKind.{NameKind}
 use Rattle.ct_names.specs.declared.name.NameKind.TheVariants.{Common, WideCommon, WidestCommon, Dns, Mail, Uri, Address}
 use Rattle.ct_names.specs.declared.watched.FoundIn.{FoundIn}
-use Rattle.ct_names.specs.declared.watched.FoundIn.TheVariants.{AltName, CommonName}
 use Rattle.ct_names.specs.Names.{Named}
-use Rattle.ct_names.specs.Covers.{Same, IsWildcardOver, Covers, covered, plain_of, narrow, wildcard_over}
-use Rattle.ct_names.specs.Watched.{held, told_for, narrow_wide, kind_told, is_sought, some_told, found_in, HoldsFor, IsToldFor, KindToldFor, SomeToldFor, IsFound}
-use Rattle.ct_names.proofs.Covering.{and_true, same_tells, wildcard_tells, no_truth, either_tells, covering_is_by_labels}
+use Rattle.ct_names.specs.Covers.{plain_of, narrow, wildcard_over}
+use Rattle.ct_names.specs.Watched.{held, told_for, narrow_wide, kind_told, is_sought, some_told, found_in, HoldsFor, IsToldFor, host_told, HostToldFor, IsGivenText, KindToldFor, SomeToldFor, IsFound}
+use Rattle.ct_names.specs.Hosts.{mail_host, uri_host, address_text, is_text}
+use Rattle.ct_names.proofs.Covering.{same_tells, wildcard_tells, no_truth, either_tells, covering_is_by_labels}
 
 holding_tells : (name w : List ℕ) → Decides (held name w) (HoldsFor name w)
 unfolding held
@@ -33,15 +33,23 @@ telling_is_by_labels name (x ∷ w) =
       )
     ]
 
+host_tells : (host : Option (List ℕ)) (w : List ℕ) → Decides (host_told host w) (HostToldFor host w)
+host_tells None w = (λ t. absurd (no_truth t), λ e. absurd e)
+host_tells (Some h) w = telling_is_by_labels h w
+
+text_tells : (text : Option (List ℕ)) (w : List ℕ) → Decides (is_text text w) (IsGivenText text w)
+text_tells None w = (λ t. absurd (no_truth t), λ e. absurd e)
+text_tells (Some t) w = same_tells t w
+
 kind_tells : (kind : NameKind) (b w : List ℕ) → Decides (kind_told kind b w) (KindToldFor kind b w)
 unfolding kind_told
 kind_tells Common b w = telling_is_by_labels b w
 kind_tells WideCommon b w = telling_is_by_labels (narrow b) w
 kind_tells WidestCommon b w = telling_is_by_labels (narrow_wide b) w
 kind_tells Dns b w = telling_is_by_labels b w
-kind_tells Mail b w = (λ t. no_truth t, λ e. absurd e)
-kind_tells Uri b w = (λ t. no_truth t, λ e. absurd e)
-kind_tells Address b w = (λ t. no_truth t, λ e. absurd e)
+kind_tells Mail b w = host_tells (mail_host b) w
+kind_tells Uri b w = host_tells (uri_host b) w
+kind_tells Address b w = text_tells (address_text b) w
 
 both_tell : {P : Type 0} (a b : Bool) → Decides b P → Decides (a && b) ((a ≡ true) × P)
 both_tell true b d = (λ t. (refl, d.0 t), λ e. d.1 e.1)

@@ -7,6 +7,7 @@ use Rattle.ct_names.specs.declared.watched.FoundIn.{FoundIn}
 use Rattle.ct_names.specs.declared.watched.FoundIn.TheVariants.{AltName, CommonName}
 use Rattle.ct_names.specs.Names.{Named}
 use Rattle.ct_names.specs.Covers.{Same, IsWildcardOver, Covers, covered, plain_of, narrow, wildcard_over}
+use Rattle.ct_names.specs.Hosts.{mail_host, uri_host, address_text, is_text}
 
 -- whether a name, without one dot at its end, is that very name, or a wildcard over it
 unfoldable pub held : List ℕ → List ℕ → Bool
@@ -25,15 +26,21 @@ narrow_wide (a ∷ b ∷ []) = []
 narrow_wide (a ∷ b ∷ c ∷ []) = []
 narrow_wide (a ∷ b ∷ c ∷ l ∷ r) = (if (a == 0) && ((b == 0) && (c == 0)) then l else 255) ∷ narrow_wide r
 
--- whether a name of this kind with these bytes is told for a watched one: a common name or a dNSName, by its characters
+-- whether a host is there, and is told for a watched name
+abbrev pub host_told : Option (List ℕ) → List ℕ → Bool
+host_told None w = false
+host_told (Some h) w = told_for h w
+
+-- whether a name of this kind with these bytes is told for a watched one: a common name or a dNSName by its characters, a mail address and a URI
+-- by their host, and an address by its text
 unfoldable pub kind_told : NameKind → List ℕ → List ℕ → Bool
 kind_told Common b w = told_for b w
 kind_told WideCommon b w = told_for (narrow b) w
 kind_told WidestCommon b w = told_for (narrow_wide b) w
 kind_told Dns b w = told_for b w
-kind_told Mail b w = false
-kind_told Uri b w = false
-kind_told Address b w = false
+kind_told Mail b w = host_told (mail_host b) w
+kind_told Uri b w = host_told (uri_host b) w
+kind_told Address b w = is_text (address_text b) w
 
 -- whether a kind is one of subjectAltName
 abbrev pub is_alt_kind : NameKind → Bool
@@ -70,15 +77,25 @@ abbrev pub IsToldFor : List ℕ → List ℕ → Type 0
 IsToldFor name [] = HoldsFor name []
 IsToldFor name (x ∷ w) = ((x ≡ 46) × Covers name w) ⊎ ((x ≡ 46 → ⊥) × HoldsFor name (x ∷ w))
 
+-- the host is there, and is told for the watched name
+abbrev pub HostToldFor : Option (List ℕ) → List ℕ → Type 0
+HostToldFor None w = ⊥
+HostToldFor (Some h) w = IsToldFor h w
+
+-- the text is there, and is the watched name but for the case of letters
+abbrev pub IsGivenText : Option (List ℕ) → List ℕ → Type 0
+IsGivenText None w = ⊥
+IsGivenText (Some t) w = Same t w
+
 -- a name of this kind, with these bytes, is told for the watched one
 abbrev pub KindToldFor : NameKind → List ℕ → List ℕ → Type 0
 KindToldFor Common b w = IsToldFor b w
 KindToldFor WideCommon b w = IsToldFor (narrow b) w
 KindToldFor WidestCommon b w = IsToldFor (narrow_wide b) w
 KindToldFor Dns b w = IsToldFor b w
-KindToldFor Mail b w = ⊥
-KindToldFor Uri b w = ⊥
-KindToldFor Address b w = ⊥
+KindToldFor Mail b w = HostToldFor (mail_host b) w
+KindToldFor Uri b w = HostToldFor (uri_host b) w
+KindToldFor Address b w = IsGivenText (address_text b) w
 
 -- one of the names is told for the watched one: of those of subjectAltName, where that is asked, or else of the common names
 abbrev pub SomeToldFor : Bool → List Named → List ℕ → Type 0

@@ -2,12 +2,12 @@
 
 ghost use Rattle.std.specs.Prelude.{◌≡◌, IfOk, IfSome, IfNone};
 ghost use Rattle.std.specs.Str.{str_eq_ignore_ascii_case};
-ghost use Rattle.ct_names.specs.Covers.{behind_first, ends_label, at_or_below, wildcard_over, plain_of, covered, narrow, star_parent};
+ghost use Rattle.ct_names.specs.Covers.{behind_first, ends_label, at_or_below, wildcard_over, plain_of, covered, narrow, star_parent, behind_dot};
 
 use std::alloc::{AllocError, Global};
 
 // The bytes behind the first byte of this value.
-fn bytes_behind(byte: u8, bytes: &[u8]) -> Option<&[u8]>
+pub(crate) fn bytes_behind(byte: u8, bytes: &[u8]) -> Option<&[u8]>
     ensures some { IfSome result (λ r. behind_first byte bytes.now ≡ Some r.now) }
     ensures none { IfNone result (behind_first byte bytes.now ≡ None) }
 {
@@ -40,6 +40,21 @@ pub fn without_dot(name: &[u8]) -> &[u8]
         [front @ .., last] => {
             if *last == 46 {
                 return front;
+            }
+            name
+        }
+        [] => name,
+    }
+}
+
+/// The name without one dot in front.
+pub fn behind_dot(name: &[u8]) -> &[u8]
+    ensures { result.now ≡ behind_dot name.now }
+{
+    match name {
+        [first, behind @ ..] => {
+            if *first == 46 {
+                return behind;
             }
             name
         }

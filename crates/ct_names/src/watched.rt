@@ -1,10 +1,12 @@
 //! Which watched names a certificate is told for.
 
 ghost use Rattle.std.specs.Prelude.{◌≡◌, IfOk};
+ghost use Rattle.std.specs.Option.{option_map};
 ghost use Rattle.ct_names.specs.Covers.{plain_of};
 ghost use Rattle.ct_names.specs.Names.{standing, named_all};
-ghost use Rattle.ct_names.specs.Watched.{held, told_for, narrow_wide, kind_told, is_alt_kind, is_sought, some_told, found_in, IsFound};
+ghost use Rattle.ct_names.specs.Watched.{held, host_told, told_for, narrow_wide, kind_told, is_alt_kind, is_sought, some_told, found_in, IsFound};
 
+use crate::hosts::{behind_last, host_of_uri, is_address};
 use crate::matching::{covers, is_wildcard_over, narrowed, without_dot};
 use crate::name::{Name, NameKind};
 use std::alloc::{AllocError, Global};
@@ -46,7 +48,7 @@ pub fn is_told_for(name: &[u8], watched: &[u8]) -> bool
 }
 
 // The characters of a UniversalString (X.690, section 8.23), a byte each: 255 for those that are above 255.
-fn narrowed_wide(alloc: Global, bytes: &[u8]) -> Result<Vec<u8>, AllocError>
+pub(crate) fn narrowed_wide(alloc: Global, bytes: &[u8]) -> Result<Vec<u8>, AllocError>
     ensures { IfOk result (λ v. v.items ≡ narrow_wide bytes.now) }
 {
     let mut out = Vec::new(alloc);
@@ -60,6 +62,16 @@ fn narrowed_wide(alloc: Global, bytes: &[u8]) -> Result<Vec<u8>, AllocError>
         rest = after;
     }
     Ok(out)
+}
+
+// Whether there is a host, and it is told for a watched name.
+fn is_host_told(host: Option<&[u8]>, watched: &[u8]) -> bool
+    ensures { result ≡ host_told (option_map (λ h. h.now) host.entry) watched.now }
+{
+    match host {
+        Some(host) => is_told_for(host, watched),
+        None => false,
+    }
 }
 
 // Whether a name is told for a watched one.
@@ -82,7 +94,9 @@ fn is_kind_told(
             let text = narrowed_wide(alloc, bytes)?;
             Ok(is_told_for(&text, watched))
         }
-        NameKind::Mail | NameKind::Uri | NameKind::Address => Ok(false),
+        NameKind::Mail => Ok(is_host_told(behind_last(64, bytes), watched)),
+        NameKind::Uri => Ok(is_host_told(host_of_uri(bytes), watched)),
+        NameKind::Address => is_address(alloc, bytes, watched),
     }
 }
 
@@ -149,13 +163,13 @@ fn found_among(
     }
 }
 
-/// In which of a certificate's names a watched one is found, as [`is_told_for`] says: in a dNSName, else in a common name, in whatever string
-/// that is, or in none. One dot at the watched name's end is left out. Mail addresses, URIs and addresses aren't compared.
+/// In which of a certificate's names a watched one is found: in one of subjectAltName, else in a common name, in whatever string that is, or in
+/// none. As [`is_told_for`] says, a dNSName and a common name by their characters, a mail address by what stands behind its last `@` and a URI by
+/// its host (RFC 3986, section 3.2.2). An address of 4 or 16 octets by its text (RFC 5952). One dot at the watched name's end is left out.
 ///
 /// # Errors
 ///
 /// Where a growth is refused.
-
 pub fn find_watched(
     alloc: Global,
     names: &[Name<'_>],

@@ -1,5 +1,4 @@
-//! Tests of `ct_codec`, `ct_core`, `ct_sequencing`, `ct_lines` and `ct_monitor_lines`, in a crate of their own so that each of those crates is
-//! proved once.
+//! Tests of `ct_codec`, `ct_core`, `ct_sequencing` and `ct_lines`, in a crate of their own so that each of those crates is proved once.
 #![tactic(auto)]
 
 #[cfg(test)]
@@ -13,11 +12,7 @@ mod failing_calls;
 #[cfg(test)]
 mod hostile_bytes;
 #[cfg(test)]
-mod monitor_runs;
-#[cfg(test)]
 mod precertificates;
-#[cfg(test)]
-mod programs;
 #[cfg(test)]
 mod request_lines;
 #[cfg(test)]

@@ -1,0 +1,15 @@
+pub mod NoFloat
+pub mod NoneFound
+pub mod Told
+pub mod EntryTold
+pub mod Lines
+pub mod RunLines
+pub mod Taken
+pub mod Runs
+pub mod Words
+pub mod StateTexts
+pub mod Fitting
+pub mod PlainTexts
+pub mod TextRuns
+pub mod CutRuns
+pub mod BrokenOff

@@ -1,0 +1,14 @@
+pub mod Answers
+pub mod Seen
+pub mod Names
+pub mod Texts
+pub mod VerdictText
+pub mod WatchedText
+pub mod EntryText
+pub mod StateText
+pub mod Session
+pub mod Watching
+pub mod History
+pub mod CutRuns
+pub mod CommandWords
+pub mod BrokenOff
