@@ -2,7 +2,7 @@
 # Looks at logs once, for cron or a timer: fetches each log's head and the entries that its state lacks, and has ctmonitor judge them.
 #
 #   LOG="https://log.example tiled+https://tiles.example .." watch.sh [--logs LIST] [--at-once N] [--folder DIR] [--pieces N]
-#       [--older-than HOURS] [--name NAME].. [--name-file FILE] [--tell COMMAND] [--once] [--keep MIRROR] [--turn-over MB]
+#       [--older-than HOURS] [--name NAME].. [--name-file FILE] [--tell COMMAND] [--once] [--keep MIRROR | --from-end] [--turn-over MB]
 #       [--witnesses KEYS --quorum K] [--cosign WITNESS]
 #
 # A log is read by the calls of RFC 6962; with tiled+ before its address, by its checkpoint and data tiles (C2SP static-ct-api).
@@ -13,6 +13,7 @@
 # WITNESS, its URL, a comma and its verifier key, is asked to cosign the head that was accepted, once all its entries are read (docs/WITNESS.md).
 # MIRROR gets of each tiled log what was accepted, in a folder of its own that can be served: data tiles, hash tiles, issuers and the checkpoint.
 # Each has a folder of its own below DIR (ct-watch): its state, the verdicts, the heads as they came, and alarm.* with what an alarm was told of.
+# With --from-end a log that has no state yet is begun at its newest head: what stands before isn't looked at, which is said.
 # It fetches until the log's head is judged, N pieces at most (5000). It prints a line for each log, and one for each entry that has a watched name:
 # those of --name and of the lines of FILE. COMMAND gets each such entry, each alarm, and once a day a log that wasn't judged for a day. With --once a
 # precertificate and its certificate (one issuer, serial number and key) are told once. A name with other letters than ASCII's is watched as in DNS too.
@@ -23,10 +24,10 @@ set -u
 TILES=16
 # How long COMMAND may take, and after how long it is told that a log wasn't judged, in seconds.
 PATIENCE=60 DAY=86400
-folder=ct-watch pieces=5000 here=$PWD older='' tell='' name_file='' list='' at_once=4 mirror='' witnesses='' quorum='' cosigner='' once='' grown=64
+folder=ct-watch pieces=5000 here=$PWD older='' tell='' name_file='' list='' at_once=4 mirror='' witnesses='' quorum='' cosigner='' once='' grown=64 from_end=''
 
 page() {
-  sed -n '2,20s/^# \{0,1\}//p' "$0"
+  sed -n '2,22s/^# \{0,1\}//p' "$0"
 }
 
 usage() {
@@ -40,6 +41,7 @@ while [ $left -gt 0 ]; do
   case $1 in
     -h | --help) page && exit 0 || exit 1 ;;
     --once) once=yes && shift && left=$((left - 1)) && continue ;;
+    --from-end) from_end=yes && shift && left=$((left - 1)) && continue ;;
     --folder | --pieces | --older-than | --tell | --name | --name-file | --logs | --at-once | --keep | --turn-over | --witnesses | --quorum | --cosign) [ $left -gt 1 ] || usage ;;
     *) set -- "$@" "$1" && shift && left=$((left - 1)) && continue ;;
   esac
@@ -123,13 +125,18 @@ for tool in "$judge" curl flock; do
 done
 "$judge" "$@" </dev/null >/dev/null || exit 2
 # The other scripts stand beside this one, by the names of the repository or as installed.
-lister=$own/log_list.py signer=$own/signature.sh keeper=$own/keep.py counter=$own/cosignatures.sh asker=$own/cosign.py shower=$own/show.py
+lister=$own/log_list.py signer=$own/signature.sh keeper=$own/keep.py counter=$own/cosignatures.sh asker=$own/cosign.py shower=$own/show.py ender=$own/from_end.py
 [ -f "$lister" ] || lister=$own/ctmonitor-log-list
 [ -f "$signer" ] || signer=$own/ctmonitor-signature
 [ -f "$keeper" ] || keeper=$own/ctmonitor-keep
 [ -f "$counter" ] || counter=$own/ctmonitor-cosignatures
 [ -f "$asker" ] || asker=$own/ctmonitor-cosign
 [ -f "$shower" ] || shower=$own/ctmonitor-show
+[ -f "$ender" ] || ender=$own/ctmonitor-from-end
+if [ -n "$from_end" ]; then
+  [ -z "$mirror" ] || { echo "watch.sh: --keep keeps a log from its first entry on: not with --from-end" >&2; exit 2; }
+  command -v "$ender" >/dev/null || { echo "watch.sh: $ender isn't there" >&2; exit 2; }
+fi
 if [ -n "$list" ]; then
   for tool in "$lister" "$signer"; do
     command -v "$tool" >/dev/null || { echo "watch.sh: $tool isn't there" >&2; exit 2; }
@@ -581,8 +588,24 @@ name_of() {
   echo "${1#*://}" | tr -c 'A-Za-z0-9.\n-' _
 }
 
+# Makes the state of a log that has none of its newest head.
+begin_at_end() {
+  "$ender" "$log" >text 2>fault
+  status=$?
+  if [ $status != 0 ]; then
+    echo '{"error":"unreachable"}' >>verdicts
+    say "can't be begun at its end: $(tail -n 1 fault)"
+    return 5
+  fi
+  sync text && mv text state && sync . || { say "the state can't be written"; return 1; }
+  say "begins at its end: the $(leaves) entries before aren't looked at"
+}
+
 # Watches the log whose folder this is.
 watch() {
+  if [ -n "$from_end" ] && [ ! -e state ]; then
+    begin_at_end || return
+  fi
   if [ -e state ] && ! grep -q '^{"accepted":' state; then
     say "the state is damaged, and is left as it was"
     return 4

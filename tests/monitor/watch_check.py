@@ -63,6 +63,12 @@ class Log:
     def text_of(self, call, query):
         if call == "get-sth":
             return answers.line(answers.head(self.leaves[: self.size], self.now))
+        if call == "get-proof-by-hash":
+            index = [answers.text(answers.merkle.leaf_hash(one)) for one in self.leaves].index(query["hash"][0])
+            path = answers.merkle.path(index, self.leaves[: int(query["tree_size"][0])])
+            return json.dumps({"leaf_index": index, "audit_path": [answers.text(one) for one in path]})
+        if "start" not in query:
+            return None
         start, end = int(query["start"][0]), int(query["end"][0])
         self.asked.append(start)
         if start == self.hold_at:
@@ -1290,9 +1296,52 @@ def try_from_end(watch):
         ran = from_end(log)
         if ran.returncode != status or ran.stdout or not ran.stderr.startswith("from_end.py: "):
             fail(f"from_end.py over {what}: status {ran.returncode} where {status} is due: {ran.stdout}{ran.stderr}")
+    for size in (1, 2, 3, 4, 7, 8, 11, 24, len(LEAVES)):
+        log, other = Log(), Log()
+        log.size = other.size = size
+        watch.ends(f"by calls all of {size} entries", 0, log.url, says=f"accepted {size} leaves")
+        ran = from_end(other)
+        if ran.returncode or ran.stdout.encode() != watch.path(log).read_bytes():
+            fail(f"from_end.py behind {size} entries by calls: {ran.stdout}{ran.stderr} where the state is {watch.path(log).read_text()}")
+    path = json.loads(Log().text_of("get-proof-by-hash", {"hash": [answers.text(answers.merkle.leaf_hash(LEAVES[7]))], "tree_size": ["8"]}))
+    for what, status, instead in [
+        ("another path", 1, {"get-proof-by-hash": json.dumps({**path, "audit_path": path["audit_path"][::-1]})}),
+        ("a path that is cut short", 1, {"get-proof-by-hash": json.dumps({**path, "audit_path": path["audit_path"][1:]})}),
+        ("another entry's path", 1, {"get-proof-by-hash": json.dumps({**path, "leaf_index": 3})}),
+        ("no path", 1, {"get-proof-by-hash": json.dumps({"leaf_index": 7})}),
+        ("two entries", 1, {"get-entries": json.dumps({"entries": answers.entries(LEAVES, 6, 8)["entries"]})}),
+        ("no size", 1, {"get-sth": json.dumps({**answers.head(LEAVES[:8], 1), "tree_size": True})}),
+        ("a page for a head", 1, {"get-sth": PAGE}),
+        ("a path that isn't there", 5, {"get-proof-by-hash": {"status": 404}}),
+        ("a checkpoint that can't be had", 5, {"checkpoint": {"status": 503}}),
+    ]:
+        log = Log()
+        log.instead = instead
+        ran = from_end(log)
+        if ran.returncode != status or ran.stdout or not ran.stderr.startswith("from_end.py: "):
+            fail(f"from_end.py by calls over {what}: status {ran.returncode} where {status} is due: {ran.stdout}{ran.stderr}")
     ran = subprocess.run([sys.executable, MONITOR / "from_end.py"], capture_output=True, text=True)
     if ran.returncode != 1 or "from_end.py ADDRESS > state" not in ran.stderr:
         fail(f"from_end.py without words: {ran.returncode}, {ran.stderr}")
+
+
+def try_watching_from_end(watch):
+    """With --from-end a log is begun at its end, once, by tiles and by calls, and what comes then is told; where it can't be, there is no state."""
+    for kind, had, has in ((Log, 7, 20), (Tiles, 300, 530)):
+        log = kind()
+        for what, instead in (("no answer", {"checkpoint": {"status": 503}}), ("a page", {"checkpoint": PAGE})):
+            log.instead = instead
+            watch.leaves_unchanged(f"a log's end with {what}", 5, log, "--from-end", says="can't be begun at its end")
+        log.instead, log.size = {}, had
+        names = ["--name", f"ficate {had - 1}", "--name", f"ficate {had}"]
+        said = watch.ends("from a log's end", 0, log.url, "--from-end", *names, says=f"accepted {had} leaves")
+        if f"{log.url}: begins at its end: the {had} entries before aren't looked at\n" not in said:
+            fail(f"from a log's end it says {said}")
+        log.size, log.now = has, log.now + 1
+        said = watch.ends("behind a log's end", 8, log.url, "--from-end", *names, says=f"FOUND ficate {had}: entry {had}")
+        if "begins" in said or f"FOUND ficate {had - 1}" in said:
+            fail(f"behind a log's end it says {said}")
+    watch.ends("a mirror from a log's end", 2, log.url, "--from-end", "--keep", watch.folder / "mirror", says="not with --from-end")
 
 
 def try_mail(watch):
@@ -1438,6 +1487,7 @@ def main():
         try_turned_over(watch)
         try_mail(watch)
         try_from_end(watch)
+        try_watching_from_end(watch)
         try_slashes(watch)
         try_several(watch, followed, forked)
         try_judges(watch, followed, judge)
