@@ -132,7 +132,7 @@ def fetch(folder):
              "GOCACHE": str(folder / "cache"), "GOFLAGS": "-trimpath"}  # fmt: skip
     (folder / "bin").mkdir(exist_ok=True)
     run(kit / "bin" / "go", "build", "-o", folder / "bin", *COMMANDS, env=build)
-    print(run(kit / "bin" / "go", "version", env=build).strip() + "".join(f", {name}" for name in sorted(path.name for path in (packages / SUITE).glob("golang-github-google-[tc]*"))))
+    print(run(kit / "bin" / "go", "version", env=build).strip() + "".join(f", {path.name}" for name in WANTED[:2] for path in (packages / SUITE).glob(f"{name}_*")))
 
 
 class Ctfe:
