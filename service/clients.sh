@@ -2,7 +2,8 @@
 # Has clients of others use a log of ctserve over HTTP: certspotter follows it by RFC 6962's calls to verified heads of 30 and, from there,
 # of 50 entries; tests/http/client.go submits five more by Google's client library, and checks what is answered; and meanwhile ctread
 # follows its tiles, which golang.org/x/mod/sumdb/tlog reads, to the last leaf and head. ctmonitor (where it isn't built, its stand-in) watches it by
-# its tiles and by its calls, at 30 entries and at the end, and openssl checks the signatures of the checkpoints that are kept. At the end ctcheck
+# its tiles and by its calls, at 30 entries and at the end, and openssl checks the signatures of the checkpoints that are kept. Which certificates
+# certspotter and watch.sh tell an owner of is compared with examples/monitor/CERTSPOTTER.md, over a log of tests/names/table.py's. At the end ctcheck
 # judges the log from its folder. It wants certspotter, openssl and curl, and for Google's library golang-github-google-certificate-transparency-dev, g++ and libssl-dev; it
 # says what it leaves out. STEP, READER and GUARD are the log's programs, as in cluster.sh.
 set -eu
@@ -127,6 +128,7 @@ END
   grep -q 'DNS Name = cryptography.io' "$work/watched.30.told" || fail "certspotter doesn't tell of the precertificate"
   version=$(certspotter -version 2>&1 | grep -o '[0-9][0-9.]*' | head -n 1)
   echo "certspotter $version verified the heads of 30 and, from there, of 50 entries, and told of all 49 certificates and the precertificate that it watched for."
+  "$here/../tests/names/table.py" --certspotter || fail "certspotter or watch.sh tells of others than their table has"
 else
   echo "certspotter isn't installed, and wasn't tried."
   submit 31 50

@@ -454,10 +454,11 @@ def main():
         if watched.returncode:
             fail(f"monitor/{script}: {watched.stderr.decode()}")
         sys.stdout.write(watched.stdout.decode())
-    named = run("names/compare.py")
-    if named.returncode:
-        fail(f"names/compare.py: {named.stderr.decode()}")
-    sys.stdout.write(named.stdout.decode())
+    for script in ("compare.py", "table.py", "damaged.py"):
+        named = run(f"names/{script}")
+        if named.returncode:
+            fail(f"names/{script}: {named.stderr.decode()}")
+        sys.stdout.write(named.stdout.decode())
     stored = len(lines_of("bad-lines"))
     rest = f"{chains} chains, {len(INPUTS)} inputs, {outputs} damaged outputs, {quotations} quotations, {files} installed files and a release ({released})"
     print(f"tests/scripts.py: as expected, over {stored} stored lines, {DAMAGED} damaged ones, {rest}.")

@@ -1,0 +1,104 @@
+#!/usr/bin/env python3
+"""Reads the names of certificates that are cut off anywhere, or of which one byte is another, by four programs.
+
+    damaged.py [EVERY]
+
+Of a certificate with each kind of name, each beginning is taken, and each byte set to EVERY'th (64) value from a first one that depends on the
+place, and to those that DER's lengths and tags turn on. Each of them Go's golang.org/x/crypto/cryptobyte (names.go) and
+../monitor/certificate_names.py have to read alike, dNSNames and common names or a refusal; where python's `cryptography` reads names at all, it
+reads these; and the built ctmonitor, or else stand_in.py, says of them what certificate_names.py does. Where Go, x/crypto (Debian's golang-go and golang-golang-x-crypto-dev) or `cryptography` isn't installed, it says so. It ends with status 1 where
+something differs.
+"""
+import base64
+import ipaddress
+import json
+import os
+import pathlib
+import shutil
+import subprocess
+import sys
+import tempfile
+import warnings
+
+HERE = pathlib.Path(__file__).resolve().parent
+sys.path.append(str(HERE))
+
+import compare  # noqa: E402
+from compare import kinds, x509  # noqa: E402
+
+PACKAGES = pathlib.Path("/usr/share/gocode")
+# What a byte of DER is set to besides: tags and lengths that are near to others, 0x80 (indefinite), and 31 (a tag of more bytes).
+TOLD = [0x00, 0x01, 0x1F, 0x30, 0x31, 0x7F, 0x80, 0x81, 0x82, 0x84, 0x85, 0xA2, 0xA6, 0xFF]
+PIECE = 2000
+
+
+def certificate():
+    """A certificate with each kind of name of subjectAltName, and common names in two types."""
+    subject = compare.common("www.example.org", kinds.BMPString) + [(compare.NameOID.COMMON_NAME, "example.org", kinds.UTF8String)]
+    names = [*compare.hosts("www.example.org", "*.example.org"), x509.RFC822Name("admin@example.org"), x509.UniformResourceIdentifier("https://www.example.org/"),
+             *(x509.IPAddress(ipaddress.ip_address(text)) for text in ("192.0.2.1", "2001:db8::1")), x509.RegisteredID(x509.ObjectIdentifier("1.2.3")), x509.DirectoryName(x509.Name([]))]
+    return compare.make(subject, names, extensions=[compare.LISTS]).public_bytes(compare.serialization.Encoding.DER)
+
+
+def damaged(data, every):
+    """Each beginning, and each byte as it isn't."""
+    for size in range(len(data)):
+        yield data[:size]
+    for place, byte in enumerate(data):
+        for value in sorted({*TOLD, byte ^ 1, byte ^ 0x20, *range(place % every, 256, every)} - {byte}):
+            yield data[:place] + bytes([value]) + data[place + 1 :]
+
+
+def hosts(names):
+    """Of names that were read the dNSNames, and the common names."""
+    if names is None:
+        return None
+    alt, common = names
+    return [one if isinstance(one, bytes) else one[1] for one in alt if isinstance(one, bytes) or one[0] == "dns"], common
+
+
+def read_by_go(program, all_data):
+    """What names.go reads of each."""
+    given = b"".join(base64.b64encode(data) + b"\n" for data in all_data)
+    ran = subprocess.run([program], input=given, capture_output=True, check=True)
+    for text in ran.stdout.splitlines():
+        found = json.loads(text)
+        yield found and ([(one["kind"], base64.b64decode(one["name"])) for one in found["alt"]], [base64.b64decode(one) for one in found["common"]])
+
+
+def main():
+    warnings.simplefilter("ignore")
+    every = int(sys.argv[1]) if len(sys.argv) > 1 else 64
+    data = certificate()
+    everything = [data, *damaged(data, every)]
+    ours = [hosts(compare.read_here(one)) for one in everything]
+    if ours[0] != ([b"www.example.org", b"*.example.org"], [b"www.example.org", b"example.org"]):
+        compare.fail(f"the whole certificate's names are {ours[0]}")
+    others = 0
+    for one, names in zip(everything, ours):
+        theirs = hosts(compare.read_by_cryptography(one))
+        others += theirs is not None
+        if theirs is not None and theirs != names:
+            compare.fail(f"other names are read: {names}, where cryptography reads {theirs}: {base64.b64encode(one).decode()}")
+    gos = "Go or x/crypto isn't installed: cryptobyte hasn't read them"
+    if shutil.which("go") and (PACKAGES / "src/golang.org/x/crypto/cryptobyte").is_dir():
+        with tempfile.TemporaryDirectory() as work:
+            there = {**os.environ, "GO111MODULE": "off", "GOPATH": str(PACKAGES)}
+            if not there.get("HOME"):
+                there.setdefault("GOCACHE", f"{work}/cache")
+            subprocess.run(["go", "build", "-o", f"{work}/names", HERE / "names.go"], env=there, check=True)
+            for one, names, theirs in zip(everything, ours, read_by_go(f"{work}/names", everything), strict=True):
+                if names != hosts(theirs):
+                    compare.fail(f"other names are read: {names}, where cryptobyte reads {theirs}: {base64.b64encode(one).decode()}")
+        gos = "Go's cryptobyte reads the same names, and refuses the same"
+    judge = [str(compare.BUILT)] if os.access(compare.BUILT, os.X_OK) else [sys.executable, str(compare.ROOT / "examples" / "monitor" / "stand_in.py")]
+    entries = [(one, False) for one in everything]
+    for start in range(0, len(entries), PIECE):
+        compare.is_said(f"the damaged certificates from {start} on", judge, entries[start : start + PIECE], [compare.BELOW, compare.ALONE, "192.0.2.1"])
+    which = "ctmonitor" if len(judge) == 1 else "its stand-in"
+    print(f"tests/names: of {len(everything) - 1} damaged certificates (each beginning, each byte) {sum(names is not None for names in ours) - 1} are read by {which}; {gos};")
+    print(f"cryptography reads {others - 1} of them, with the same names.")
+
+
+if __name__ == "__main__":
+    main()
