@@ -245,6 +245,99 @@ func TestIssuerIsPutAgain(t *testing.T) {
 	p.right(t, got)
 }
 
+// replaced has an object of a store have another content, or be away where that is nil.
+func replaced(t *testing.T, in stores.Objects, name string, content []byte) {
+	t.Helper()
+	must(t, in.Delete(limited(t), name))
+	if content != nil {
+		must(t, in.Put(limited(t), name, content))
+	}
+}
+
+// TestDamageOnEach damages, on each engine that is there and while no node runs: an issuer, which the next submission with it puts right; a full tile, which isn't
+// given until it is right again; and the newest head, which an older one's file replaces, or nothing: none older is given, and it is made again.
+func TestDamageOnEach(t *testing.T) {
+	t.Parallel()
+	onEach(t, func(t *testing.T, on ground) {
+		if on.register == nil {
+			t.Skip("other tests have it")
+		}
+		p, ctx, got := newPlaceOn(t, on), limited(t), &answers{}
+		s := started(t, p.config(t), hooks{})
+		must(t, got.submitAll(ctx, s, 0, 10, 10))
+		must(t, got.submitAll(ctx, s, 10, 300, 290))
+		newest, err := s.Checkpoint(ctx)
+		must(t, err)
+		must(t, s.End(ctx))
+		objects := p.config(t).Objects
+		get := func(name string) []byte {
+			t.Helper()
+			content, err := objects.Get(ctx, name, stores.MostObject)
+			must(t, err)
+			return content
+		}
+		starts := func() *Sequencer {
+			t.Helper()
+			config := p.config(t)
+			config.TendEvery, config.Patience = 5*time.Millisecond, time.Second
+			return started(t, config, hooks{})
+		}
+		number := 1000
+		for _, how := range []string{"bent", "removed"} {
+			issuer := entryOf(number).Issuers[0]
+			name := issuerName(sha256.Sum256(issuer))
+			bent := append([]byte("x"), issuer...)
+			if how == "removed" {
+				bent = nil
+			}
+			replaced(t, objects, name, bent)
+			s := starts()
+			eventually(t, how+": it is seen", func() bool { f := s.Figures(); return f.DamagedIssuers == 1 && strings.Contains(f.Damage, name) })
+			must(t, got.submitAll(ctx, s, number, number+1, 1))
+			if content, err := s.Object(ctx, name, stores.MostObject); err != nil || !bytes.Equal(content, issuer) {
+				t.Errorf("%s: %v", how, err)
+			}
+			newest, err = s.Checkpoint(ctx)
+			must(t, err)
+			must(t, s.End(ctx))
+			number += 5
+		}
+		tile := get("tile/data/000")
+		bent := append([]byte{}, tile...)
+		bent[20] ^= 1
+		replaced(t, objects, "tile/data/000", bent)
+		s = starts()
+		if _, err := s.Object(ctx, "tile/data/000", stores.MostObject); !errors.Is(err, log.ErrStore) || !errors.Is(err, ErrDamaged) {
+			t.Errorf("a bent tile: %v", err)
+		}
+		eventually(t, "it counts as damaged", func() bool { return s.Figures().Damaged == 1 })
+		replaced(t, objects, "tile/data/000", tile)
+		eventually(t, "it is right again", func() bool {
+			content, err := s.Object(ctx, "tile/data/000", stores.MostObject)
+			return err == nil && bytes.Equal(content, tile) && s.Figures().Damaged == 0
+		})
+		must(t, s.End(ctx))
+		for what, older := range map[string][]byte{"an older head": get(strings.Fields(headsIn(t, p))[0]), "nothing": nil} {
+			heads := strings.Fields(headsIn(t, p))
+			replaced(t, objects, heads[len(heads)-1], older)
+			s := starts()
+			eventually(t, what+": the newest head is given", func() bool {
+				head, err := s.Checkpoint(ctx)
+				if err == nil && goesBack(head, newest) {
+					t.Fatalf("%s: %d entries were published, and the head of %d is given", what, newest.TreeSize, head.TreeSize)
+				}
+				return err == nil
+			})
+			must(t, got.submitAll(ctx, s, number, number+1, 1))
+			newest, err = s.Checkpoint(ctx)
+			must(t, err)
+			must(t, s.End(ctx))
+			number++
+		}
+		p.right(t, got)
+	})
+}
+
 // TestAnotherLogsSettings starts a node by another key, and by another origin: it says so, and touches nothing.
 func TestAnotherLogsSettings(t *testing.T) {
 	t.Parallel()
