@@ -5,6 +5,7 @@ import (
 	"errors"
 	"fmt"
 	"os"
+	"sort"
 	"strings"
 	"sync"
 	"time"
@@ -78,7 +79,7 @@ type heard struct {
 // compared with all else that is known, and where it is off by more than a bound, there is no moment until it isn't.
 //
 // The newest head's moment says how early it can't be, and nothing of how late it is: a log may have stood for long. The clocks of the stores'
-// machines, and of the node that makes the steps, say both. The machine's own count of time that elapsed says whether the time of day was set
+// machines, of the node that makes the steps, and, at a start, of most witnesses, say both. The machine's own count of time that elapsed says whether the time of day was set
 // since it was believed; then those clocks, or the kernel, have to say that it is right. Where none of them does, a node begins no more than
 // mostStood behind the newest head, or on the day that the operator names.
 type clock struct {
@@ -95,6 +96,10 @@ type clock struct {
 	// said is what tellers said last, by their names, and node what the node with that address did.
 	said map[string]heard
 	node map[string]heard
+	// cosigned are the moments at which witnesses cosigned a head, in their order, how far each may be off, and when that was.
+	cosigned       []time.Time
+	cosignedWithin time.Duration
+	cosignedAt     time.Duration
 	// believed is the time of day that was believed, and since how much had elapsed then.
 	believed time.Time
 	since    time.Duration
@@ -154,6 +159,35 @@ func (c *clock) hearNode(address string, at time.Time, before time.Duration) {
 	c.hear(c.node, address, at, time.Second, before)
 }
 
+// hearWitnesses keeps the moments at which witnesses cosigned a head, which they were asked for before.
+func (c *clock) hearWitnesses(moments []time.Time, before time.Duration) {
+	if len(moments) == 0 {
+		return
+	}
+	sort.Slice(moments, func(i, j int) bool { return moments[i].Before(moments[j]) })
+	took := c.of.Elapsed() - before
+	c.mu.Lock()
+	defer c.mu.Unlock()
+	c.cosigned, c.cosignedWithin, c.cosignedAt = moments, time.Second+took/2, before+took/2
+}
+
+// forgetsWitnesses says whether what the witnesses said soon counts no more.
+func (c *clock) forgetsWitnesses() bool {
+	c.mu.Lock()
+	defer c.mu.Unlock()
+	return len(c.cosigned) > 0 && c.of.Elapsed()-c.cosignedAt > forgets/2
+}
+
+// byWitnesses compares the time of day with the witnesses', of whom the one in the middle counts: of the others some may lie, or have wrong clocks. The caller has
+// the lock.
+func (c *clock) byWitnesses(now time.Time, elapsed time.Duration) (said bool, err error) {
+	if len(c.cosigned) == 0 || elapsed-c.cosignedAt > forgets {
+		return false, nil
+	}
+	middle := c.cosigned[(len(c.cosigned)-1)/2].Add(elapsed - c.cosignedAt)
+	return true, c.off(now.Sub(middle), c.cosignedWithin, "the witnesses")
+}
+
 // keep asks the tellers, and another one, every so often until the context ends.
 func (c *clock) keep(ctx context.Context, another func(context.Context)) {
 	for ctx.Err() == nil {
@@ -182,7 +216,9 @@ func (c *clock) check(last uint64, node string) error {
 	if err != nil {
 		return err
 	}
-	vouched = vouched || is && known
+	// (by itself no witness stops a log that runs: its clock may be wrong)
+	witnessed, off := c.byWitnesses(now, elapsed)
+	vouched = vouched || is && known || witnessed && off == nil
 	newest := "the log's newest head"
 	if vouched {
 		newest += ", which is in the future by another clock, too"
@@ -194,6 +230,9 @@ func (c *clock) check(last uint64, node string) error {
 		return c.off(now.Sub(c.believed.Add(elapsed-c.since)), 0, "what elapsed since it was believed")
 	}
 	if c.believed.IsZero() && !vouched {
+		if off != nil {
+			return off
+		}
 		if err := c.begins(now, last); err != nil {
 			return err
 		}

@@ -183,6 +183,9 @@ func (s *Sequencer) round(ctx context.Context) error {
 	if err != nil {
 		return err
 	}
+	if t != nil && skewed != nil {
+		s.askWitnesses(ctx, k)
+	}
 	if t == nil || skewed != nil {
 		return skewed
 	}

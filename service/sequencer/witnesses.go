@@ -5,6 +5,7 @@ import (
 	"context"
 	"errors"
 	"fmt"
+	"strings"
 	"sync"
 	"time"
 
@@ -22,8 +23,10 @@ import (
 type Witnesses interface {
 	// Cosign gives the lines of as many cosignatures as a published head has. The note has the log's own line alone.
 	Cosign(ctx context.Context, note []byte, size uint64, proof witness.Proof) ([]byte, error)
-	// Start has the head cosigned afresh with which a node begins.
-	Start(ctx context.Context, note []byte, size uint64, proof witness.Proof) error
+	// Start has the head cosigned afresh with which a node begins, and gives the lines.
+	Start(ctx context.Context, note []byte, size uint64, proof witness.Proof) ([]byte, error)
+	// IsElsewhere says whether the witness with a name is on another machine.
+	IsElsewhere(name string) bool
 	// Standings are how the witnesses stand to the log.
 	Standings() []log.Witness
 }
@@ -36,10 +39,12 @@ func (s *Sequencer) cosigned(ctx context.Context, state step.State, note []byte,
 	if s.config.Witnesses == nil {
 		return note, nil
 	}
+	asked := s.config.Clock.Elapsed()
 	lines, err := s.config.Witnesses.Cosign(ctx, note, state.Size, s.proofsTo(state, objects))
 	if err != nil {
 		return nil, s.unwitnessed(ctx, state, err)
 	}
+	s.hearWitnesses(lines, asked)
 	s.phase("cosigned")
 	return append(note, lines...), nil
 }
@@ -59,11 +64,37 @@ func (s *Sequencer) vouched(ctx context.Context, k known) error {
 		s.rolled = ""
 		return err
 	}
-	if err := s.config.Witnesses.Start(ctx, ownNote(head.Note), k.state.Size, s.proofsTo(k.state, nil)); err != nil {
+	asked := s.config.Clock.Elapsed()
+	lines, err := s.config.Witnesses.Start(ctx, ownNote(head.Note), k.state.Size, s.proofsTo(k.state, nil))
+	if err != nil {
 		return s.unwitnessed(ctx, k.state, err)
 	}
+	s.hearWitnesses(lines, asked)
 	s.isVouched = true
 	return nil
+}
+
+// hearWitnesses keeps the moments at which witnesses on other machines cosigned a head.
+func (s *Sequencer) hearWitnesses(lines []byte, asked time.Duration) {
+	var moments []time.Time
+	for _, line := range strings.Split(string(lines), "\n") {
+		if name, at, ok := witness.MomentOf(line); ok && s.config.Witnesses.IsElsewhere(name) {
+			moments = append(moments, at)
+		}
+	}
+	s.clock.hearWitnesses(moments, asked)
+}
+
+// askWitnesses has a node that takes nothing for its clock's sake ask the witnesses again what time it is, where what they said is old.
+func (s *Sequencer) askWitnesses(ctx context.Context, k known) {
+	if s.config.Witnesses == nil {
+		return
+	}
+	if s.clock.forgetsWitnesses() {
+		s.isVouched = false
+	}
+	// (what keeps them from it is told once the clock is right)
+	_ = s.vouched(ctx, k)
 }
 
 // ownNote is a note with the log's own line of a signature alone: the first.

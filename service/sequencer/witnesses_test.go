@@ -14,6 +14,7 @@ import (
 	"strings"
 	"sync/atomic"
 	"testing"
+	"time"
 
 	"golang.org/x/mod/sumdb/note"
 	"golang.org/x/mod/sumdb/tlog"
@@ -320,14 +321,14 @@ type counting struct {
 	fails  atomic.Bool
 }
 
-func (c *counting) Start(ctx context.Context, signed []byte, size uint64, proof witness.Proof) error {
+func (c *counting) Start(ctx context.Context, signed []byte, size uint64, proof witness.Proof) ([]byte, error) {
 	c.starts.Add(1)
 	// (others' lines are no matter of a witness)
 	if n := strings.Count(string(signed), "\n— "); n != 1 {
-		return fmt.Errorf("it is shown %d lines of signatures", n)
+		return nil, fmt.Errorf("it is shown %d lines of signatures", n)
 	}
 	if c.fails.Load() {
-		return fmt.Errorf("%w: tried", witness.ErrFew)
+		return nil, fmt.Errorf("%w: tried", witness.ErrFew)
 	}
 	return c.Witnesses.Start(ctx, signed, size, proof)
 }
@@ -544,4 +545,81 @@ func readerOf(t testing.TB, p place, size int) tlog.HashReader {
 		}
 	}
 	return reader
+}
+
+// elsewhere are witnesses, of whom some are said to be on other machines.
+type elsewhere struct {
+	Witnesses
+	names map[string]bool
+}
+
+func (e elsewhere) IsElsewhere(name string) bool { return e.names[name] }
+
+// TestWitnessesSayTheTime starts a log that stood for a week, or whose clock is ahead, beside witnesses: by those on other machines it goes on where its clock
+// is right, and takes nothing where it isn't, also once they come later. Those on its own machine have its clock, and say nothing.
+func TestWitnessesSayTheTime(t *testing.T) {
+	t.Parallel()
+	const week = 7 * 24 * time.Hour
+	for what, test := range map[string]struct {
+		stood, ahead time.Duration
+		here, later  bool
+		beside       string
+	}{
+		"a week":                        {stood: week},
+		"a week, and they come later":   {stood: week, later: true},
+		"a week, on this machine":       {stood: week, here: true, beside: "the log's newest head"},
+		"an hour ahead":                 {ahead: 59 * time.Minute, beside: "the witnesses"},
+		"a year ahead":                  {ahead: 365 * 24 * time.Hour, beside: "the witnesses"},
+		"an hour ahead, they are here":  {ahead: 59 * time.Minute, here: true},
+		"an hour behind, a week's head": {stood: week, ahead: -59 * time.Minute, beside: "the witnesses"},
+	} {
+		what, test := what, test
+		t.Run(what, func(t *testing.T) {
+			t.Parallel()
+			p, ctx, got := newPlace(t), limited(t), &answers{}
+			w := newWitnessed(t, p, 3)
+			names := map[string]bool{}
+			for _, one := range w.ones {
+				names[one.Name] = !test.here
+			}
+			config := p.config(t)
+			config.Clock, config.Witnesses = newAhead(-test.stood), elsewhere{w.circle(t), names}
+			first := started(t, config, hooks{})
+			must(t, got.submitAll(ctx, first, 0, 5, 5))
+			must(t, first.End(ctx))
+			config = p.config(t)
+			clock := newAhead(test.ahead)
+			config.Clock, config.Witnesses = clock, elsewhere{w.circle(t), names}
+			if test.later {
+				for i := range w.ones {
+					w.isAway(i)
+				}
+			}
+			s := started(t, config, hooks{})
+			if test.later {
+				_, err := s.Submit(ctx, entryOf(50))
+				isSaid(t, err, test.stood, "the log's newest head")
+				for i := range w.ones {
+					w.answers(t, i)
+				}
+				comesBack(t, s, got, 6)
+			} else if test.beside == "" {
+				_, err := s.Submit(ctx, entryOf(6))
+				must(t, err)
+			} else {
+				_, err := s.Submit(ctx, entryOf(50))
+				by := test.ahead
+				if by == 0 {
+					by = test.stood
+				}
+				isSaid(t, err, by, test.beside)
+				clock.set(0, test.here)
+				comesBack(t, s, got, 6)
+			}
+			if !test.here || test.ahead == 0 {
+				timely(t, got)
+			}
+			p.right(t, &answers{})
+		})
+	}
 }

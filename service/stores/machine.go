@@ -32,6 +32,11 @@ func isElsewhere(store, here string) bool {
 	return true
 }
 
+// IsElsewhere says whether who answers over a connection is on another machine.
+func IsElsewhere(over net.Conn) bool {
+	return isElsewhere(hostOf(over.RemoteAddr()), hostOf(over.LocalAddr()))
+}
+
 // hostOf is the address of a connection's end, without its port; nothing where it has none.
 func hostOf(end net.Addr) string {
 	if at, ok := end.(*net.TCPAddr); ok {

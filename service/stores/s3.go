@@ -66,7 +66,7 @@ type date struct{}
 func (b *bucket) Time(ctx context.Context) (time.Time, time.Duration, error) {
 	said, elsewhere := "", false
 	ctx = httptrace.WithClientTrace(ctx, &httptrace.ClientTrace{GotConn: func(got httptrace.GotConnInfo) {
-		elsewhere = isElsewhere(hostOf(got.Conn.RemoteAddr()), hostOf(got.Conn.LocalAddr()))
+		elsewhere = IsElsewhere(got.Conn)
 	}})
 	_, err := b.core.BucketExists(context.WithValue(ctx, date{}, &said), b.name)
 	if at, unread := http.ParseTime(said); unread == nil {

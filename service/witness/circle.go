@@ -8,6 +8,7 @@ import (
 	"fmt"
 	"io"
 	"net/http"
+	"net/http/httptrace"
 	"strings"
 	"sync"
 	"time"
@@ -15,6 +16,7 @@ import (
 	"golang.org/x/mod/sumdb/note"
 
 	"wagtenib/service/log"
+	"wagtenib/service/stores"
 )
 
 // What a log's witnesses are refused by. Each is found by errors.Is.
@@ -82,6 +84,8 @@ type member struct {
 	mu    sync.Mutex
 	size  uint64
 	state log.Witness
+	// elsewhere says that it answered from another machine.
+	elsewhere bool
 }
 
 // NewCircle takes a log's witnesses, each of which has a name, a key and a URL of its own. A client that is nil is one with limits.
@@ -115,6 +119,19 @@ func (c *Circle) Close() error {
 	return nil
 }
 
+// IsElsewhere says whether the witness with a name answered from another machine, and so has another clock.
+func (c *Circle) IsElsewhere(name string) bool {
+	for _, m := range c.members {
+		m.mu.Lock()
+		found := m.Name == name && m.elsewhere
+		m.mu.Unlock()
+		if found {
+			return true
+		}
+	}
+	return false
+}
+
 // Standings are those of all witnesses.
 func (c *Circle) Standings() []log.Witness {
 	var all []log.Witness
@@ -135,11 +152,10 @@ func (c *Circle) Cosign(ctx context.Context, signed []byte, size uint64, proof P
 	return c.gather(ctx, c.quorums.Publish, false, signed, size, proof)
 }
 
-// Start has the head cosigned with which a node begins: by Start witnesses, afresh, so that it is the one that each of them cosigned last. All
-// are waited for, and none may say that it has seen more.
-func (c *Circle) Start(ctx context.Context, signed []byte, size uint64, proof Proof) error {
-	_, err := c.gather(ctx, c.quorums.Start, true, signed, size, proof)
-	return err
+// Start has the head cosigned with which a node begins: by Start witnesses, afresh, so that it is the one that each of them cosigned last, and gives the
+// lines. All are waited for, and none may say that it has seen more.
+func (c *Circle) Start(ctx context.Context, signed []byte, size uint64, proof Proof) ([]byte, error) {
+	return c.gather(ctx, c.quorums.Start, true, signed, size, proof)
 }
 
 // came is what asking a witness came to.
@@ -247,7 +263,7 @@ func (c *Circle) cosigned(ctx context.Context, m *member, signed []byte, text st
 				return "", err
 			}
 		}
-		status, answer, err := c.post(ctx, m.One, r.body())
+		status, answer, err := c.post(ctx, m, r.body())
 		if err != nil {
 			return "", fmt.Errorf("%w: %s: %v", ErrFew, m.Name, err)
 		}
@@ -275,8 +291,13 @@ func (c *Circle) cosigned(ctx context.Context, m *member, signed []byte, text st
 }
 
 // post asks a witness once.
-func (c *Circle) post(ctx context.Context, one One, body []byte) (int, string, error) {
-	q, err := http.NewRequestWithContext(ctx, http.MethodPost, one.URL+"/add-checkpoint", bytes.NewReader(body))
+func (c *Circle) post(ctx context.Context, m *member, body []byte) (int, string, error) {
+	ctx = httptrace.WithClientTrace(ctx, &httptrace.ClientTrace{GotConn: func(got httptrace.GotConnInfo) {
+		m.mu.Lock()
+		defer m.mu.Unlock()
+		m.elsewhere = stores.IsElsewhere(got.Conn)
+	}})
+	q, err := http.NewRequestWithContext(ctx, http.MethodPost, m.URL+"/add-checkpoint", bytes.NewReader(body))
 	if err != nil {
 		return 0, "", err
 	}

@@ -188,7 +188,7 @@ func TestSeenMore(t *testing.T) {
 			t.Fatalf("%d %s", w.Code, w.Body)
 		}
 		head, size, proof := test.of.head(t, test.size)
-		if err := c.Start(limited(t), head, size, proof); !errors.Is(err, ErrBehind) {
+		if _, err := c.Start(limited(t), head, size, proof); !errors.Is(err, ErrBehind) {
 			t.Errorf("%s: a start: %v", name, err)
 		}
 		if standing := c.standing(all[2].Name); !standing.SeenMore || standing.Fault == "" {
@@ -204,7 +204,7 @@ func TestSeenMore(t *testing.T) {
 		all[1].answersItself()
 		// (a later head that goes on from what it saw puts it right)
 		right, n, leads := one.head(t, 7)
-		err := c.Start(limited(t), right, n, leads)
+		_, err := c.Start(limited(t), right, n, leads)
 		if test.of.of != one.of && !errors.Is(err, ErrBehind) || test.of.of == one.of && err != nil {
 			t.Errorf("%s: behind it: %v", name, err)
 		}
@@ -256,7 +256,8 @@ func TestFailingProof(t *testing.T) {
 	a := asking{headKey(t, origin), grown(t, "a", "b", "c")}
 	_, c := three(t, a.by, Quorums{Publish: 2, Start: 2})
 	signed, size, proof := a.head(t, 2)
-	must(t, c.Start(limited(t), signed, size, proof))
+	_, err := c.Start(limited(t), signed, size, proof)
+	must(t, err)
 	signed, size, _ = a.head(t, 3)
 	broken := func(context.Context, uint64) ([][32]byte, error) { return nil, errors.New("a tile is missing") }
 	if _, err := c.Cosign(limited(t), signed, size, broken); !errors.Is(err, ErrFew) || !strings.Contains(err.Error(), "a tile is missing") {
@@ -300,6 +301,41 @@ func TestQuorums(t *testing.T) {
 	for _, wrong := range []string{"", key, "https://w.example", "https://w.example,", "w.example," + key, "https://w.example,x"} {
 		if _, err := ReadOne(wrong); !errors.Is(err, ErrKey) {
 			t.Errorf("%q: %v", wrong, err)
+		}
+	}
+}
+
+// TestMoments: what is cosigned says by whom and when; no other line does. Witnesses of this machine aren't said to be elsewhere.
+func TestMoments(t *testing.T) {
+	by, key := plainKey(t, origin), newKey(t)
+	all, c := three(t, by, Quorums{Publish: 3, Start: 3})
+	head, size, proof := asking{by, grown(t, "a", "b", "c")}.head(t, 3)
+	before := time.Now().Add(-time.Second)
+	lines, err := c.Start(limited(t), head, size, proof)
+	must(t, err)
+	names := map[string]bool{}
+	for _, line := range strings.Split(strings.TrimSuffix(string(lines), "\n"), "\n") {
+		name, at, ok := MomentOf(line)
+		if names[name] = true; !ok || at.Before(before) || at.After(time.Now()) {
+			t.Errorf("%q: %s at %v, %v", line, name, at, ok)
+		}
+		if c.IsElsewhere(name) {
+			t.Errorf("%s is on another machine", name)
+		}
+	}
+	for _, one := range all {
+		if !names[one.Name] {
+			t.Errorf("%s isn't among %v", one.Name, names)
+		}
+	}
+	line := strings.TrimSuffix(cosignatureLine("w.example", key.Public().(ed25519.PublicKey), 1234567890, ed25519.Sign(key, []byte("x"))), "\n")
+	if name, at, ok := MomentOf(line); !ok || name != "w.example" || at.Unix() != 1234567890 {
+		t.Errorf("%s at %v, %v", name, at, ok)
+	}
+	own := strings.Split(strings.TrimSuffix(string(head), "\n"), "\n")
+	for _, line := range []string{"", "— ", "— w.example", "— w.example AAAA", line[4:], line + "A", strings.Replace(line, " ", "", 2), own[len(own)-1]} {
+		if name, at, ok := MomentOf(line); ok {
+			t.Errorf("%q: %s at %v", line, name, at)
 		}
 	}
 }

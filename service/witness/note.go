@@ -17,6 +17,7 @@ import (
 	"fmt"
 	"strconv"
 	"strings"
+	"time"
 
 	"golang.org/x/mod/sumdb/note"
 
@@ -210,6 +211,16 @@ func cosignatureLine(name string, key ed25519.PublicKey, seconds uint64, signatu
 	blob := binary.BigEndian.AppendUint32(nil, idOf(name, algCosignature, key))
 	blob = append(binary.BigEndian.AppendUint64(blob, seconds), signature...)
 	return "— " + name + " " + base64.StdEncoding.EncodeToString(blob) + "\n"
+}
+
+// MomentOf reads whose a cosignature's line is, and its moment; nothing where it is none.
+func MomentOf(line string) (name string, at time.Time, ok bool) {
+	name, text, _ := strings.Cut(strings.TrimPrefix(line, "— "), " ")
+	blob, err := base64.StdEncoding.DecodeString(text)
+	if err != nil || len(blob) != 4+8+ed25519.SignatureSize || !strings.HasPrefix(line, "— ") {
+		return "", time.Time{}, false
+	}
+	return name, time.Unix(int64(binary.BigEndian.Uint64(blob[4:12])), 0), true
 }
 
 // VerifierKey writes a witness's key: its name, its key's four bytes in hexadecimal, and base64 of the type and the key.

@@ -185,7 +185,7 @@ func (p *parties) begins(t *testing.T, q Quorums, know uint) (began int) {
 			must(t, err)
 			c.quorums, c.within = q, 2*time.Minute
 			signed, n, proof := old.head(t, size)
-			if err := c.Start(limited(t), signed, n, proof); err == nil {
+			if _, err := c.Start(limited(t), signed, n, proof); err == nil {
 				began++
 			} else if !errors.Is(err, ErrBehind) && !errors.Is(err, ErrFew) {
 				t.Error(err)
