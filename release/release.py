@@ -128,7 +128,7 @@ class Release:
         """Pages by their names."""
         found = {name: ROOT / name for name in ("README.md", "CHANGELOG.md", "LICENSE")}
         found.update({f"{page}.md": ROOT / "docs" / f"{page}.md" for page in PAGES if (ROOT / "docs" / f"{page}.md").exists()})
-        pages = {"service.md": "service/README.md", "INCIDENTS.md": "service/INCIDENTS.md", "LINKING.md": "examples/link/README.md"}
+        pages = {"service.md": "service/README.md", "INCIDENTS.md": "service/INCIDENTS.md", "LINKING.md": "examples/link/README.md", "CERTSPOTTER.md": "examples/monitor/CERTSPOTTER.md"}
         return {**found, **{name: ROOT / path for name, path in pages.items()}}
 
     def watching(self):
@@ -177,7 +177,7 @@ class Release:
         if name == "ctmonitor":
             found["usr/bin/ctmonitor"] = (self.programs["ctmonitor"].read_bytes(), 0o755)
             found.update({f"usr/bin/{command}": (path.read_bytes(), 0o755) for command, path in self.watching().items()})
-            found.update({f"{doc}/MONITOR.md": (self.documents()["MONITOR.md"].read_bytes(), 0o644)})
+            found.update({f"{doc}/{page}": (self.documents()[page].read_bytes(), 0o644) for page in ("MONITOR.md", "CERTSPOTTER.md")})
             found.update(installed_units("examples/monitor", WATCHING_UNITS))
             found["etc/logrotate.d/ctmonitor-watch"] = ((ROOT / "examples" / "monitor" / LOGROTATE).read_bytes(), 0o644)
         elif name == "libwagtenib-dev":
