@@ -49,6 +49,7 @@ STRINGS = {"UTF8String": ("0x2000", "UTF8"), "PrintableString": ("0x2", "PRINTAB
            "IA5String": (None, "IA5"), "UniversalString": (None, "UNIV")}
 WHERE = {"s": "san", "c": "cn", "b": "bytes", ".": None}
 # Why the two differ.
+KINDS = "certspotter reads dNSNames and common names alone"
 BYTES = "its bytes have it, and none of its names does; certspotter looks at names alone"
 STAR = "a star is a whole first label (RFC 9525, section 6.3); certspotter takes one anywhere"
 
@@ -82,6 +83,8 @@ ROWS = [
     Row("commonName `www.example.org`", "cc.", "xx.", common="www.example.org"),
     host("WWW.EXAMPLE.ORG", "ss.", "xx."),
     host("example.org.", "s..", "x.."),
+    Row("mail `admin@example.org`", "s..", "...", alt=(("email", "admin@example.org"),), why=KINDS),
+    Row("URI `https://www.example.org/`", "ss.", "...", alt=(("URI", "https://www.example.org/"),), why=KINDS),
     Row("emailAddress `admin@example.org` of the subject", "b..", "...", subject=(("emailAddress", "admin@example.org"),), why=BYTES),
     Row("500 names, the last `shop.example.org`", "s..", "x..", alt=(*(("DNS", f"host-{n}.other.net") for n in range(499)), ("DNS", "shop.example.org"))),
     host("pre.example.org", "s..", "x..", poison=True),
