@@ -265,6 +265,8 @@ func TestDamageOnEach(t *testing.T) {
 		p, ctx, got := newPlaceOn(t, on), limited(t), &answers{}
 		s := started(t, p.config(t), hooks{})
 		must(t, got.submitAll(ctx, s, 0, 10, 10))
+		first, err := s.Checkpoint(ctx)
+		must(t, err)
 		must(t, got.submitAll(ctx, s, 10, 300, 290))
 		newest, err := s.Checkpoint(ctx)
 		must(t, err)
@@ -334,9 +336,25 @@ func TestDamageOnEach(t *testing.T) {
 			must(t, s.End(ctx))
 			number++
 		}
+		config := p.config(t)
+		config.Register = olderPublished{config.Register, stores.Published{Size: first.TreeSize, Moment: first.Timestamp}}
+		s = started(t, config, hooks{})
+		must(t, got.submitAll(ctx, s, number, number+1, 1))
+		if head, err := s.Checkpoint(ctx); err == nil && goesBack(head, newest) {
+			t.Errorf("%d entries were published, and the head of %d is given", newest.TreeSize, head.TreeSize)
+		}
+		must(t, s.End(ctx))
 		p.right(t, got)
 	})
 }
+
+// olderPublished is a register that says of how far the log is published what it said before.
+type olderPublished struct {
+	stores.Register
+	older stores.Published
+}
+
+func (r olderPublished) Published(context.Context) (stores.Published, error) { return r.older, nil }
 
 // TestAnotherLogsSettings starts a node by another key, and by another origin: it says so, and touches nothing.
 func TestAnotherLogsSettings(t *testing.T) {
