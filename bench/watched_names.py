@@ -27,7 +27,7 @@ ENDS = ("com", "org", "net", "de", "co.uk", "example")
 
 def certificates():
     for line in (ROOT / "examples" / "real-chains.jsonl").read_text().splitlines():
-        chain = json.loads(line).get("chain")
+        chain = json.loads(line).get("chain") if line.startswith("{") else None
         if chain:
             yield base64.b64decode(chain[0])
 
@@ -66,7 +66,7 @@ def run(program, count, path):
         _, status, used = os.wait4(pid, 0)
         out.seek(0)
         said = out.read()
-    assert status == 0 and b'"accepted"' in said and said.count(b"\n") < 10, said[:400]
+    assert status == 0 and b'"accepted"' in said and b'"name"' not in said, said[:400]
     return used.ru_utime + used.ru_stime, used.ru_maxrss
 
 
