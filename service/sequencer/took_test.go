@@ -170,7 +170,7 @@ func TestDeletionsBesideAStep(t *testing.T) {
 		// Somebody waits for the step behind this one before it is told.
 		if name == "published" && !more.Swap(true) {
 			go func() { told <- got.submitAll(ctx, s, 6, 7, 1) }()
-			for s.queue.length() < 2 {
+			for some := false; !some && ctx.Err() == nil; some, _ = s.queue.state() {
 				time.Sleep(quick)
 			}
 		}
