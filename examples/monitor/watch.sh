@@ -171,8 +171,18 @@ say() {
 }
 
 # Fetches what the log has at each of these paths into got/1, got/2 and so on, over one connection, up to the first that doesn't come or is empty:
-# then it answers with curl's status, or with 1.
+# then it answers with curl's status, or with 1. Where the connection breaks (a server's bound of time was met on the way, or the server begins anew),
+# it is tried once more.
 fetch() {
+  fetch_once "$@"
+  came=$?
+  case $came in
+    16 | 18 | 35 | 52 | 55 | 56 | 92) fetch_once "$@" ;;
+    *) return $came ;;
+  esac
+}
+
+fetch_once() {
   { rm -rf got && mkdir got && run_curl "$@"; } 2>fault || return
   place=0
   while [ $place -lt $# ]; do

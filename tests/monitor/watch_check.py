@@ -15,6 +15,7 @@ import re
 import shutil
 import signal
 import socket
+import ssl
 import struct
 import subprocess
 import sys
@@ -39,12 +40,28 @@ LEAVES = [answers.leaf(answers.MOMENT + i, b"certificate %d of example.org" % i,
 FORKED = LEAVES[:2] + [answers.leaf(answers.MOMENT, b"another", None)] + LEAVES[3:]
 
 
+# How a connection ends that breaks.
+CLOSED, RESET, CUT_SHORT = "closed", "reset", "cut short"
+
+
+def break_off(connection, how):
+    """Ends a connection without an answer, or in the midst of one."""
+    if how == RESET:
+        connection.setsockopt(socket.SOL_SOCKET, socket.SO_LINGER, struct.pack("ii", 1, 0))
+    if how == CUT_SHORT:
+        connection.sendall(b"HTTP/1.1 200 OK\r\nContent-Length: 99\r\n\r\n{")
+    if how != RESET:
+        connection.shutdown(socket.SHUT_RDWR)
+    connection.close()
+
+
 class Log:
     """A log that answers `size` of its leaves at the moment `now`, `most` in one answer. `instead` has what a call is answered in place of that: a
-    text, a status of HTTP before the right text, or how many bytes behind the right text are announced and never come."""
+    text, a status of HTTP before the right text, or how many bytes behind the right text are announced and never come. `broken` has how the next
+    connections for a call end before that."""
 
     def __init__(self):
-        self.leaves, self.size, self.now, self.most, self.instead = LEAVES, 8, answers.MOMENT + 1000, 256, {}
+        self.leaves, self.size, self.now, self.most, self.instead, self.broken, self.calls = LEAVES, 8, answers.MOMENT + 1000, 256, {}, {}, []
         self.asked, self.held, self.hold_at = [], threading.Event(), None
         log = self
 
@@ -83,6 +100,11 @@ class Log:
     def answer(self, handler):
         url = urllib.parse.urlsplit(handler.path)
         call = self.call_of(url.path)
+        self.calls.append(call)
+        if self.broken.get(call):
+            break_off(handler.connection, self.broken[call].pop(0))
+            handler.close_connection = True
+            return
         other = self.instead.get(call)
         body = other if isinstance(other, (str, bytes)) else self.text_of(call, urllib.parse.parse_qs(url.query))
         status, missing = {"status": 404 if body is None else 200, "missing": 0, **(other if isinstance(other, dict) else {})}.values()
@@ -311,6 +333,63 @@ def tiles_asked(what, log, *names):
     if log.asked != due:
         fail(f"{what}: the tiles {log.asked} were asked for where {due} are due")
     log.asked.clear()
+
+
+def try_broken(watch):
+    """A connection that breaks is made once more, and no answer of HTTP is asked for again."""
+    for log, head, piece in ((Log(), "get-sth", "get-entries"), (Tiles(), "checkpoint", "tile/data/000.p/8")):
+        for how in (CLOSED, RESET, CUT_SHORT):
+            log.broken, log.now = {head: [how], piece: [how]}, log.now + 1
+            watch.ends(f"connections are {how} once", 0, log.url, says="accepted 8 leaves")
+            log.broken, log.now = {head: [how, how]}, log.now + 1
+            watch.leaves_unchanged(f"a connection is {how} twice", 5, log, says="can't be reached: ")
+            if log.broken[head]:
+                fail(f"a connection that is {how} isn't made once more")
+            shutil.rmtree(watch.path(log, ""))
+        for status in (404, 429, 503):
+            log.calls.clear()
+            log.instead = {head: {"status": status}}
+            watch.ends(f"an answer of {status}", 5, log.url, says="can't be reached: ")
+            if log.calls != [head]:
+                fail(f"an answer of {status} is asked for again: {log.calls}")
+
+
+def try_broken_handshakes(watch, folder):
+    """A connection that is reset in TLS's handshake, or behind it, is made once more."""
+    key, certificate = folder / "tls.key", folder / "tls.pem"
+    words = ["openssl", "req", "-x509", "-newkey", "rsa:2048", "-nodes", "-days", "9", "-subj", "/CN=127.0.0.1", "-addext", "subjectAltName=IP:127.0.0.1"]
+    subprocess.run([*words, "-keyout", key, "-out", certificate], check=True, capture_output=True)
+    log, listening, left = Log(), socket.create_server(("127.0.0.1", 0)), ["behind", "in"]
+
+    def tls(connection, protocol):
+        context = ssl.SSLContext(ssl.PROTOCOL_TLS_SERVER)
+        context.load_cert_chain(certificate, key)
+        context.set_alpn_protocols([protocol])
+        return context.wrap_socket(connection, server_side=True)
+
+    def serve():
+        while True:
+            connection, address = listening.accept()
+            which = left.pop(0) if left else None
+            if which == "behind":
+                break_off(tls(connection, "h2"), RESET)
+            elif which:
+                # (a client that says nothing yet isn't told a reset from a port where nobody listens)
+                connection.recv(1)
+                break_off(connection, RESET)
+            else:
+                log.server.process_request(tls(connection, "http/1.1"), address)
+
+    threading.Thread(target=serve, daemon=True).start()
+    os.environ["CURL_CA_BUNDLE"] = str(certificate)
+    address = f"https://127.0.0.1:{listening.getsockname()[1]}"
+    watch.ends("handshakes that break twice", 5, address, says="can't be reached: get-sth: ")
+    for which in ("behind", "in"):
+        left.append(which)
+        watch.ends(f"a connection that is reset {which} its handshake", 0, address, says="accepted 8 leaves")
+    del os.environ["CURL_CA_BUNDLE"]
+    if left:
+        fail(f"of connections that break {left} weren't made")
 
 
 def try_tiles_days(watch):
@@ -1473,6 +1552,7 @@ def main():
         try_interrupted(watch)
         forked = try_alarms(watch)
         try_no_answers(watch)
+        try_broken(watch)
         try_tiles_days(watch)
         try_tiles_alarms(watch)
         try_no_tiles(watch)
@@ -1495,6 +1575,7 @@ def main():
         try_mirror(watch, pathlib.Path(folder))
         try_mirror_faults(watch, pathlib.Path(folder))
         if shutil.which("openssl"):
+            try_broken_handshakes(watch, pathlib.Path(folder))
             try_lists(watch, pathlib.Path(folder))
             try_first_list(watch, pathlib.Path(folder))
             try_heads_signed(watch, pathlib.Path(folder))
