@@ -1,4 +1,4 @@
-.PHONY: help demo test check service service-test service-race service-engines service-faults service-clients cluster cluster-status cluster-stop link install install-library install-ctlog install-ctlogd install-ctmonitor install-ctguard install-cttile install-ctproof install-ctnode install-ctwitness fuzz load sweep wrong sources serve serve-ctlogd serve-witness tiles interop release reproduce bare container
+.PHONY: help demo test check service service-test service-race service-engines service-faults service-clients cluster cluster-status cluster-stop link install install-library install-ctlog install-ctlogd install-ctmonitor install-ctguard install-cttile install-ctproof install-ctnode install-ctwitness fuzz load sweep wrong sources serve serve-ctlogd serve-witness tiles interop programs release reproduce bare container pages
 
 SECONDS ?= 60
 RUNS ?= 20
@@ -105,7 +105,14 @@ install-library:
 	  echo "$(PREFIX)/lib/libwagtenib.so.$(VERSION), libwagtenib.a, wagtenib.h and wagtenib.pc"; \
 	else echo "libwagtenib isn't built: make link builds it"; fi
 
-# After make demo, make serve, make serve-ctlogd, make link and make service, which build what it takes.
+programs: ## proves and builds all programs and libwagtenib, and builds the service: what a release is made of
+	@checks/needs.sh programs
+	@checks/needs.sh service
+	@examples/build.py $(PROGRAMS) libwagtenib
+	@examples/link/library.sh
+	@service/build.sh build
+
+# After make programs, which builds what it takes.
 release: ## puts what is built into release/out: a tarball, Debian packages, SHA256SUMS and what they are made of
 	@PYTHONDONTWRITEBYTECODE=1 release/release.py --built "$(BUILT)"
 
@@ -118,6 +125,11 @@ bare: ## makes a release's packages, installs them on a bare Debian, and runs th
 container: ## builds the image of service/Containerfile out of a release's package, and runs a log in it
 	@checks/needs.sh service
 	@PYTHONDONTWRITEBYTECODE=1 tests/bare/container.py --built "$(BUILT)"
+
+# As root, with the kit. What it lists beside it isn't run by it, with the reason or what runs it.
+pages: ## runs the commands of README.md and of the other pages in a fresh clone, as they stand and in their order: what is quick without the kit, the gate runs
+	@checks/needs.sh test
+	@PYTHONDONTWRITEBYTECODE=1 tests/pages.py
 
 reproduce: ## builds the programs of the Go part, and those of the crates that are proved here, twice in folders of other names, and compares their bytes
 	@release/reproduce.sh

@@ -6,8 +6,9 @@ command of the other pages what runs it.
 else that of expected.py. A command of README.md that this script doesn't know is a fault. It prints one line, and ends with status 1 at the first thing
 that isn't as README.md has it. Where Go or one of its packages isn't installed, it says so, and runs none that needs them.
 
-A command of another page stands in ELSEWHERE, with what runs it: this script, in that copy; bare/bare.py, on a bare Debian with the packages of a release;
-or nothing here, with the reason. One that doesn't is a fault, and so is one that stands there and on no page.
+A command of another page stands in ELSEWHERE, and a target of the Makefile that a page names in its text in TARGETS, each with what runs it: this
+script, in that copy; bare/bare.py, on a bare Debian with the packages of a release; pages.py, in a fresh clone with the kit; or nothing, with the reason.
+One that doesn't is a fault, and so is one that stands there and on no page.
 """
 import json
 import os
@@ -24,7 +25,7 @@ import urllib.request
 ROOT = pathlib.Path(__file__).resolve().parent.parent
 sys.path.append(str(ROOT / "checks"))
 
-from documents import BLOCK, files, pages  # noqa: E402
+from documents import BLOCK, SPAN, files, pages  # noqa: E402
 
 
 def fail(why):
@@ -123,17 +124,35 @@ class Page:
             self.log.communicate()
 
 
-HERE, BARE, KIT, GATE, ENGINES, NET, KEY = "this script", "make bare", "the kit, for an hour", "make test", "engines", "the net", "a key of somebody's witness"
-NOT_RUN = (KIT, ENGINES, NET, KEY)
+HERE, BARE, PAGES, GATE = "this script", "make bare", "make pages", "make test"
+# What isn't run by a test, and why.
+NET, KEY, USERS, HAND, ANY = "the net", "a key of somebody's witness", "users, or a token, of an operator's own", "a quarter of an hour or more", "a crate's name"
+NOT_RUN = (NET, KEY, USERS, HAND, ANY)
 # The commands of the other pages, each by how it begins, and what runs it.
 ELSEWHERE = {
     "docs/OPERATING.md": {"": BARE},
     "docs/MONITOR.md": {"apt-get": BARE, "LOG=tiled+": BARE, "ctmonitor-watch --logs https://": NET, "ctmonitor-log-list https://": NET, "ctmonitor-audit": NET, "cat > /etc/ctmonitor-watch.conf": BARE, "systemctl": BARE, "mkdir -p ct-watch": BARE},
+    "docs/TILES.md": {"(cd crates/print_tiles && rt run)": PAGES, "make tiles": PAGES},
     "examples/README.md": {"examples/pem_lines.py": HERE, "examples/bad_lines.py": HERE},
-    "release/README.md": {"make demo": KIT, "cd release/out && sha256sum": GATE, "apt-get install": BARE},
-    "service/README.md": {"make service-engines": ENGINES, "make service-test": GATE, "make service": HERE, "openssl genpkey": BARE, "cp 2027h1.pem": BARE, "cat > /etc/ctwitness/a.conf": BARE,
+    "examples/http/README.md": {"runuser": USERS, "examples/http/front.py --key": USERS},
+    "examples/link/README.md": {"make link": PAGES, "make install": PAGES, "ldconfig": PAGES, "cc program.c": PAGES},
+    "release/README.md": {"make programs release": PAGES, "cd release/out && sha256sum": PAGES, "apt-get install": BARE},
+    "service/README.md": {"make service-engines": PAGES, "make service-test": GATE, "make service": HERE, "openssl genpkey": BARE, "cp 2027h1.pem": BARE, "cat > /etc/ctwitness/a.conf": BARE,
                           "runuser -u ctwitness": BARE, "systemctl": BARE, "LOG=tiled+https://log.example ctmonitor-watch --cosign": KEY},
 }
+# What the pages name in their text, README.md's tables too.
+TARGETS = {
+    "make test": GATE, "make test TURN=0": GATE, "make sources": GATE, "make service-test": GATE, "make bare": "itself", "make container": "itself", "make pages": "itself", "make wrong CRATE=..": ANY,
+    "make cluster": HAND, "make service-faults": HAND, "make service-race": HAND, "make load": HAND, "make sweep": HAND, "make fuzz SECONDS=180": HAND,
+    **dict.fromkeys(("make serve", "make demo", "make install", "make check", "make wrong CRATE=ct_guard", "make release", "make programs", "make link", "make service", "make service-clients",
+                     "make service-engines", "make serve-witness", "make serve-ctlogd", "make interop", "make fuzz", "make reproduce", "make demo install"), PAGES),
+}
+
+
+def targets(page):
+    """What a page's text names of the Makefile, with its words, in order, each once."""
+    text = BLOCK.sub("", re.sub(r"<!-- Made by .*?<!-- Made until here. -->", "", page.read_text(), flags=re.S))
+    return list(dict.fromkeys(span for span in SPAN.findall(re.sub(r"\s*\n(?:> )?\s*", " ", text)) if span.startswith("make ")))
 
 
 def run_by(page, command):
@@ -145,9 +164,10 @@ def run_by(page, command):
 def elsewhere():
     """Each command of the other pages with its page, in order. All of them are known, and nothing else is."""
     found = {page: commands(page) for page in pages() if page != ROOT / "README.md"}
-    unknown = [f"{page.name}: {command}" for page, given in found.items() for command in given if run_by(page, command) is None]
+    named = {target for page in pages() for target in targets(page)}
+    unknown = [f"{page.name}: {command}" for page, given in found.items() for command in given if run_by(page, command) is None] + sorted(named - {*TARGETS})
     beginnings = [(name, beginning) for name, known in ELSEWHERE.items() for beginning in known]
-    gone = [f"{name}: {beginning}" for name, beginning in beginnings if not any(command.startswith(beginning) for command in found.get(ROOT / name, []))]
+    gone = [f"{name}: {beginning}" for name, beginning in beginnings if not any(command.startswith(beginning) for command in found.get(ROOT / name, []))] + sorted({*TARGETS} - named)
     if unknown or gone:
         fail(f"commands of pages that ELSEWHERE hasn't, or that no page has: {unknown + gone}")
     return found
@@ -218,9 +238,11 @@ def main():
     for name, known in others.items():
         for command in known:
             by.setdefault(run_by(name, command), []).append(command)
+    for target, runs in TARGETS.items():
+        by.setdefault(runs, []).append(target)
     print(f"README.md: {page.count} commands do what it says, in its order, where nothing is built{left_out}.")
-    print(f"The other pages have {sum(map(len, by.values()))} commands: " + ", ".join(f"{len(given)} by {runs}" for runs, given in by.items() if runs not in NOT_RUN)
-          + "; not run here: " + "; ".join(f"{command} (wants {runs})" for runs in NOT_RUN for command in by.get(runs, [])) + ".")
+    print(f"The other pages have {sum(map(len, others.values()))} commands, and all name {len(TARGETS)} targets: " + ", ".join(f"{len(given)} by {runs}" for runs, given in by.items() if runs not in NOT_RUN)
+          + "; run by no test: " + "; ".join(f"{command} (wants {runs})" for runs in NOT_RUN for command in by.get(runs, [])) + ".")
 
 
 if __name__ == "__main__":

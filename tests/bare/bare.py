@@ -45,7 +45,7 @@ LOG, SITE = "http://127.0.0.1:8618", f"https://{HOST}"
 WITHIN = 900
 MADE = "# Ctrl-C once it says serving"
 # The programs that stand in where one isn't built: Python's, of tests/.
-MODELS = {"cttile": "tiles/step.py", "ctproof": "tiles/step.py", "ctnode": "node/ctnode.py", "ctguard": "guard/model.py", "ctnode": "node/ctnode.py", "ctwitness": "witness/model.py", "ctlog": "expected.py", "ctlogd": "expected.py", "ctmonitor": "../examples/monitor/stand_in.py"}
+MODELS = {"cttile": "tiles/step.py", "ctproof": "tiles/step.py", "ctnode": "node/ctnode.py", "ctguard": "guard/model.py", "ctwitness": "witness/model.py", "ctlog": "expected.py", "ctlogd": "expected.py", "ctmonitor": "../examples/monitor/stand_in.py"}
 NEW_NETWORK = 0x40000000
 
 

@@ -1,0 +1,204 @@
+#!/usr/bin/env python3
+"""Runs the commands of README.md and of the other pages as they stand there, in the order of the pages, in a fresh clone of this checkout's commit, with
+the kit: all of README.md's but the gate, of the other pages those that readme.py leaves to it, and of the Makefile's targets that their text names the same.
+
+    pages.py [--only WORD].. [--keep]
+
+As root: it runs in a network of its own, which has loopback alone, so that ports are as typed, and over /usr/local, /etc and /var lies what goes at the
+end, so that `make install` and `ldconfig` are, too. What a command serves stays until its page ends, or another one serves; then it is
+interrupted, as by Ctrl-C. rt proves what no checkout of this machine has proved: where none has, that takes hours. With --only it runs the
+commands that have one of these words. It prints each command with its seconds, and what isn't run with the reason, and ends with status 1 at the first that
+does something else than its page says.
+"""
+import argparse
+import ctypes
+import os
+import pathlib
+import re
+import shutil
+import signal
+import subprocess
+import sys
+import tempfile
+import time
+
+ROOT = pathlib.Path(__file__).resolve().parent.parent
+sys.path += [str(ROOT / "tests" / "bare"), str(ROOT / "checks")]
+
+from bare import Network  # noqa: E402
+from documents import pages  # noqa: E402
+from readme import BLOCK, CHECKPOINT, FOUND, NOT_RUN, PAGES, SIGNED, TARGETS, commands, elsewhere, run_by, targets  # noqa: E402
+
+README = ROOT / "README.md"
+NEW_MOUNTS = 0x00020000
+# How long a command may take, in seconds, that proves; and one that doesn't.
+PROVES, WITHIN = 4 * 3600, 1800
+PROVING = ("make demo", "make programs", "make serve", "make link", "make check", "make wrong", "(cd crates", "make reproduce", "make service-engines")
+# What serves until it is interrupted, by what it says once it does.
+SERVING = {"make serve-ctlogd": "http://127.0.0.1:8618 with ", "make serve-witness": '"event":"serving"', "make serve": '"event":"serving"'}
+# The status and the form of what others print, by how they begin; else any with status 0.
+DUE = {
+    "curl -s -d @ct-log/chain.json": (0, SIGNED), "curl -s 127.0.0.1:8618/checkpoint": (0, CHECKPOINT), "LOG=tiled+http://127.0.0.1:8618": (8, FOUND),
+    "cd release/out && sha256sum": (0, r"(?:\S+: OK\n){5}"), "make install PREFIX": (0, r"(?s:.*)/usr/local/lib/libwagtenib\.so\.(?s:.*)"),
+    "make reproduce": (0, r"(?s:.*)the same twice: SHA256SUMS (?s:.*)"), "make release": (0, r"(?s:.*)\nTo tag it, (?s:.*)"),
+    "make service-clients": (0, r"(?s:.*)all as they have to be(?s:.*)"),
+}
+
+
+def fail(why):
+    sys.exit(f"pages.py: {why}")
+
+
+def own_mounts(work):
+    """Gives this process mounts of its own: what is written below these folders goes with it."""
+    libc = ctypes.CDLL(None, use_errno=True)
+    if libc.unshare(NEW_MOUNTS):
+        fail(f"no mounts of its own: {os.strerror(ctypes.get_errno())} (it wants root)")
+    subprocess.run(["mount", "--make-rprivate", "/"], check=True)
+    over = work / "over"
+    over.mkdir()
+    subprocess.run(["mount", "-t", "tmpfs", "tmpfs", over], check=True)
+    for folder in ("/usr/local", "/etc", "/var/cache"):
+        upper, use = over / folder.replace("/", "_"), over / f"{folder.replace('/', '_')}.work"
+        upper.mkdir()
+        use.mkdir()
+        subprocess.run(["mount", "-t", "overlay", "overlay", "-o", f"lowerdir={folder},upperdir={upper},workdir={use}", folder], check=True)
+
+
+def in_order():
+    """All commands, page by page, each with what runs it: README.md's with the targets that its text names between them; behind those of the other pages
+    the targets that these name, for which more has to be built."""
+    text = re.sub(r"\s*\n(?:> )?\s*", " ", README.read_text())
+    own = {command: text.find(command) for command in commands(README)}
+    own.update({target: text.find(f"`{target}`") for target in targets(README) if target not in own})
+    found = [[(command, TARGETS.get(command, PAGES)) for command in sorted(own, key=own.get)]]
+    others = [page for page in pages() if page != README]
+    found += [[(command, run_by(page, command)) for command in commands(page)] for page in others]
+    return found + [[(target, TARGETS[target]) for page in others for target in targets(page)]]
+
+
+class Clone:
+    """A fresh clone, and what runs in it."""
+
+    def __init__(self, work):
+        self.top, self.told, self.serving, self.count = work / "wagtenib", work / "told", None, 0
+        subprocess.run(["git", "clone", "--quiet", ROOT, self.top], check=True)
+        self.around = {name: value for name, value in os.environ.items() if name not in ("MAKEFLAGS", "MFLAGS", "MAKELEVEL", "DESTDIR", "PREFIX", "PORT", "BUILT", "LOG")}
+
+    def start(self, command, output):
+        how = {"cwd": self.top, "env": self.around, "stdin": subprocess.DEVNULL, "stdout": output, "stderr": subprocess.STDOUT, "start_new_session": True}
+        return subprocess.Popen(["bash", "-c", command], **how)
+
+    def run(self, command):
+        """Runs a command, or starts it, and sees that it does what is due."""
+        print(f"$ {command}", flush=True)
+        self.count += 1
+        begun = time.monotonic()
+        if command.startswith("cc program.c"):
+            self.program_in_c()
+        serves = next((says for beginning, says in SERVING.items() if command.split("#")[0].strip() == beginning), None)
+        if serves:
+            self.serve(command, serves)
+        else:
+            self.await_end(command)
+        if command.startswith("cc program.c"):
+            self.program_ran()
+        elif command.startswith("crates/ctlog/out/ctlog"):
+            self.first_session()
+        print(f"    ({int(time.monotonic() - begun)} s)", flush=True)
+
+    def await_end(self, command):
+        with open(self.told, "wb") as output:
+            ran = self.start(command, output)
+        try:
+            ended = ran.wait(PROVES if command.startswith(PROVING) else WITHIN)
+        except subprocess.TimeoutExpired:
+            self.interrupt(ran)
+            ended = "none in time"
+        said = self.told.read_text(errors="replace")
+        status, form = next((due for beginning, due in DUE.items() if command.startswith(beginning)), (0, r"(?s:.*)"))
+        if ended != status or not re.fullmatch(form, said):
+            fail(f"{command}: status {ended} where {status} is due: {said[-6000:]}")
+
+    def serve(self, command, says):
+        self.end()
+        with open(self.told, "wb") as output:
+            self.serving = self.start(command, output)
+        last = time.monotonic() + PROVES
+        while says not in self.told.read_text(errors="replace"):
+            if self.serving.poll() is not None or time.monotonic() > last:
+                fail(f"{command} doesn't serve: {self.told.read_text(errors='replace')[-6000:]}")
+            time.sleep(0.3)
+
+    def interrupt(self, process):
+        """As by Ctrl-C; who stays is killed."""
+        try:
+            os.killpg(process.pid, signal.SIGINT)
+            process.wait(60)
+        except (ProcessLookupError, subprocess.TimeoutExpired):
+            pass
+        try:
+            os.killpg(process.pid, signal.SIGKILL)
+        except ProcessLookupError:
+            pass
+        process.wait()
+
+    def end(self):
+        if self.serving:
+            self.interrupt(self.serving)
+            self.serving = None
+
+    def program_in_c(self):
+        """Writes program.c: the block in C of the page on linking, of a tree of one leaf."""
+        page = (ROOT / "examples" / "link" / "README.md").read_text()
+        block = next(block for block in BLOCK.findall(page) if "wagtenib_verify_inclusion" in block)
+        before = "uint8_t leaf[] = {1}, root[32], path[1][32]; size_t leaf_length = 1, path_length = 0; uint64_t leaf_index = 0, tree_size = 1;"
+        (self.top / "program.c").write_text(f"#include <stdint.h>\n#include <stdio.h>\n#include <wagtenib.h>\n\nint main(void) {{\n    {before}\n    wagtenib_leaf_hash(leaf, leaf_length, root);\n{block}}}\n")
+
+    def program_ran(self):
+        ran = subprocess.run([self.top / "a.out"], capture_output=True, text=True)
+        if ran.stdout != "the path leads from this leaf to the root\n":
+            fail(f"the program that was linked says {ran.stdout}{ran.stderr}")
+
+    def first_session(self):
+        if self.told.read_bytes() != (ROOT / "examples" / "first-session.expected.jsonl").read_bytes():
+            fail(f"ctlog's first session: {self.told.read_text()}")
+
+
+def main():
+    words = argparse.ArgumentParser(description="Runs the commands of the pages in a fresh clone, with the kit.")
+    words.add_argument("--only", action="append", metavar="WORD", help="run the commands alone that have this word")
+    words.add_argument("--keep", action="store_true", help="leave the clone")
+    given = words.parse_args()
+    if os.geteuid() or not shutil.which("rt"):
+        fail("it wants root, and the kit on the PATH")
+    elsewhere()
+    work = pathlib.Path(tempfile.mkdtemp(prefix="pages-"))
+    Network()
+    own_mounts(work)
+    clone = Clone(work)
+    done, left = set(), {}
+    try:
+        for page in in_order():
+            for command, by in page:
+                if by != PAGES:
+                    left.setdefault(command.splitlines()[0], by)
+                elif command not in done and (not given.only or any(word in command for word in given.only)):
+                    clone.run(command)
+                    done.add(command)
+            clone.end()
+        for by in dict.fromkeys(left.values()):
+            print(f"{'run by no test, wants' if by in NOT_RUN else 'run by'} {by}: {'; '.join(command for command, runs in left.items() if runs == by)}")
+        of, kit = (subprocess.run(words, cwd=ROOT, capture_output=True, text=True).stdout.strip() for words in (["git", "rev-parse", "--short=12", "HEAD"], ["rt", "version"]))
+        print(f"pages.py: {clone.count} commands do what their pages say, in a fresh clone of {of}, with {kit}.")
+    finally:
+        clone.end()
+        if given.keep:
+            print(f"It is left in {work}.")
+        else:
+            subprocess.run(["umount", work / "over"], stderr=subprocess.DEVNULL)
+            subprocess.run(["rm", "-rf", "--one-file-system", work])
+
+
+if __name__ == "__main__":
+    main()
