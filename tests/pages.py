@@ -2,12 +2,12 @@
 """Runs the commands of README.md and of the other pages as they stand there, in the order of the pages, in a fresh clone of this checkout's commit, with
 the kit: all of README.md's but the gate, of the other pages those that readme.py leaves to it, and of the Makefile's targets that their text names the same.
 
-    pages.py [--only WORD].. [--keep]
+    pages.py [--only WORD].. [--anew] [--keep]
 
 As root: it runs in a network of its own, which has loopback alone, so that ports are as typed, and over /usr/local, /etc and /var lies what goes at the
 end, so that `make install` and `ldconfig` are, too. What a command serves stays until its page ends, or another one serves; then it is
-interrupted, as by Ctrl-C. rt proves what no checkout of this machine has proved: where none has, that takes hours. With --only it runs the
-commands that have one of these words. It prints each command with its seconds, and what isn't run with the reason, and ends with status 1 at the first that
+interrupted, as by Ctrl-C. What is proved in this checkout goes along, and rt looks whether it is of these sources; with --anew it doesn't, and all is
+proved, in hours. With --only it runs the commands that have one of these words. It prints each command with its seconds, and what isn't run with the reason, and ends with status 1 at the first that
 does something else than its page says.
 """
 import argparse
@@ -36,6 +36,8 @@ PROVES, WITHIN = 4 * 3600, 1800
 PROVING = ("make demo", "make programs", "make serve", "make link", "make check", "make wrong", "(cd crates", "make reproduce", "make service-engines")
 # What serves until it is interrupted, by what it says once it does.
 SERVING = {"make serve-ctlogd": "http://127.0.0.1:8618 with ", "make serve-witness": '"event":"serving"', "make serve": '"event":"serving"'}
+# What ends what goes on behind a command, and is run right behind it.
+ENDS = {"make cluster": "make cluster-stop"}
 # The status and the form of what others print, by how they begin; else any with status 0.
 DUE = {
     "curl -s -d @ct-log/chain.json": (0, SIGNED), "curl -s 127.0.0.1:8618/checkpoint": (0, CHECKPOINT), "LOG=tiled+http://127.0.0.1:8618": (8, FOUND),
@@ -80,9 +82,13 @@ def in_order():
 class Clone:
     """A fresh clone, and what runs in it."""
 
-    def __init__(self, work):
+    def __init__(self, work, anew):
         self.top, self.told, self.serving, self.count = work / "wagtenib", work / "told", None, 0
         subprocess.run(["git", "clone", "--quiet", ROOT, self.top], check=True)
+        for proved in [] if anew else [*ROOT.glob("crates/*/out/rlib"), *ROOT.glob("crates/*/out/incremental")]:
+            to = self.top / proved.relative_to(ROOT)
+            to.parent.mkdir(parents=True, exist_ok=True)
+            subprocess.run(["cp", "-a", proved, to], check=True)
         self.around = {name: value for name, value in os.environ.items() if name not in ("MAKEFLAGS", "MFLAGS", "MAKELEVEL", "DESTDIR", "PREFIX", "PORT", "BUILT", "LOG")}
 
     def start(self, command, output):
@@ -105,6 +111,8 @@ class Clone:
             self.program_ran()
         elif command.startswith("crates/ctlog/out/ctlog"):
             self.first_session()
+        elif command in ENDS:
+            self.run(ENDS[command])
         print(f"    ({int(time.monotonic() - begun)} s)", flush=True)
 
     def await_end(self, command):
@@ -168,6 +176,7 @@ class Clone:
 def main():
     words = argparse.ArgumentParser(description="Runs the commands of the pages in a fresh clone, with the kit.")
     words.add_argument("--only", action="append", metavar="WORD", help="run the commands alone that have this word")
+    words.add_argument("--anew", action="store_true", help="take over no proofs")
     words.add_argument("--keep", action="store_true", help="leave the clone")
     given = words.parse_args()
     if os.geteuid() or not shutil.which("rt"):
@@ -176,7 +185,7 @@ def main():
     work = pathlib.Path(tempfile.mkdtemp(prefix="pages-"))
     Network()
     own_mounts(work)
-    clone = Clone(work)
+    clone = Clone(work, given.anew)
     done, left = set(), {}
     try:
         for page in in_order():

@@ -143,9 +143,9 @@ ELSEWHERE = {
 # What the pages name in their text, README.md's tables too.
 TARGETS = {
     "make test": GATE, "make test TURN=0": GATE, "make sources": GATE, "make service-test": GATE, "make bare": "itself", "make container": "itself", "make pages": "itself", "make wrong CRATE=..": ANY,
-    "make cluster": HAND, "make service-faults": HAND, "make service-race": HAND, "make load": HAND, "make sweep": HAND, "make fuzz SECONDS=180": HAND,
+    "make service-faults": HAND, "make service-race": HAND, "make load": HAND, "make sweep": HAND, "make fuzz SECONDS=180": HAND,
     **dict.fromkeys(("make serve", "make demo", "make install", "make check", "make wrong CRATE=ct_guard", "make release", "make programs", "make link", "make service", "make service-clients",
-                     "make service-engines", "make serve-witness", "make serve-ctlogd", "make interop", "make fuzz", "make reproduce", "make demo install"), PAGES),
+                     "make service-engines", "make serve-witness", "make serve-ctlogd", "make interop", "make cluster", "make fuzz", "make reproduce", "make demo install"), PAGES),
 }
 
 
