@@ -2,12 +2,12 @@
 """Runs the commands of README.md and of the other pages as they stand there, in the order of the pages, in a fresh clone of this checkout's commit, with
 the kit: all of README.md's but the gate, of the other pages those that readme.py leaves to it, and of the Makefile's targets that their text names the same.
 
-    pages.py [--only WORD].. [--anew] [--keep]
+    pages.py [--only WORD].. [--long] [--anew] [--keep]
 
 As root: it runs in a network of its own, which has loopback alone, so that ports are as typed, and over /usr/local, /etc and /var lies what goes at the
 end, so that `make install` and `ldconfig` are, too. What a command serves stays until its page ends, or another one serves; then it is
 interrupted, as by Ctrl-C. What is proved in this checkout goes along, and rt looks whether it is of these sources; with --anew it doesn't, and all is
-proved, in hours. With --only it runs the commands that have one of these words. It prints each command with its seconds, and what isn't run with the reason, and ends with status 1 at the first that
+proved, in hours. With --long it runs those that take a quarter of an hour and more, too; with --only the commands that have one of these words. It prints each command with its seconds, and what isn't run with the reason, and ends with status 1 at the first that
 does something else than its page says.
 """
 import argparse
@@ -27,16 +27,17 @@ sys.path += [str(ROOT / "tests" / "bare"), str(ROOT / "checks")]
 
 from bare import Network  # noqa: E402
 from documents import pages  # noqa: E402
-from readme import BLOCK, CHECKPOINT, FOUND, NOT_RUN, PAGES, SIGNED, TARGETS, commands, elsewhere, run_by, targets  # noqa: E402
+from readme import BLOCK, CHECKPOINT, FOUND, LONG, NOT_RUN, PAGES, SIGNED, TARGETS, commands, elsewhere, run_by, targets  # noqa: E402
 
 README = ROOT / "README.md"
 NEW_MOUNTS = 0x00020000
 # How long a command may take, in seconds, that proves; and one that doesn't.
 PROVES, WITHIN = 4 * 3600, 1800
-PROVING = ("make demo", "make programs", "make serve", "make link", "make check", "make wrong", "(cd crates", "make reproduce", "make service-engines")
+PROVING = ("make demo", "make programs", "make serve", "make link", "make check", "make wrong", "(cd crates", "make reproduce", "make service-", "make load", "make sweep")
 # What serves until it is interrupted, by what it says once it does.
 SERVING = {"make serve-ctlogd": "http://127.0.0.1:8618 with ", "make serve-witness": '"event":"serving"', "make serve": '"event":"serving"'}
-# What ends what goes on behind a command, and is run right behind it.
+# What a page says is built before a command, and what ends what goes on behind one.
+BEFORE = {"make load": "(cd crates/house_tests && rt test)", "make sweep": "(cd crates/memory_tests && rt test)"}
 ENDS = {"make cluster": "make cluster-stop"}
 # The status and the form of what others print, by how they begin; else any with status 0.
 DUE = {
@@ -97,6 +98,8 @@ class Clone:
 
     def run(self, command):
         """Runs a command, or starts it, and sees that it does what is due."""
+        if command in BEFORE:
+            self.run(BEFORE[command])
         print(f"$ {command}", flush=True)
         self.count += 1
         begun = time.monotonic()
@@ -176,6 +179,7 @@ class Clone:
 def main():
     words = argparse.ArgumentParser(description="Runs the commands of the pages in a fresh clone, with the kit.")
     words.add_argument("--only", action="append", metavar="WORD", help="run the commands alone that have this word")
+    words.add_argument("--long", action="store_true", help="run what takes a quarter of an hour or more, too")
     words.add_argument("--anew", action="store_true", help="take over no proofs")
     words.add_argument("--keep", action="store_true", help="leave the clone")
     given = words.parse_args()
@@ -190,14 +194,15 @@ def main():
     try:
         for page in in_order():
             for command, by in page:
-                if by != PAGES:
+                if by != PAGES and not (by == LONG and given.long):
                     left.setdefault(command.splitlines()[0], by)
                 elif command not in done and (not given.only or any(word in command for word in given.only)):
                     clone.run(command)
                     done.add(command)
             clone.end()
-        for by in dict.fromkeys(left.values()):
-            print(f"{'run by no test, wants' if by in NOT_RUN else 'run by'} {by}: {'; '.join(command for command, runs in left.items() if runs == by)}")
+        by = {runs: [command for command, other in left.items() if other == runs] for runs in dict.fromkeys(left.values())}
+        print("Not run here: " + ", ".join(f"{len(given)} by {runs}" for runs, given in by.items() if runs not in NOT_RUN) + "; and by no test:")
+        print("".join(f"    {command} (wants {runs})\n" for runs in NOT_RUN for command in by.get(runs, [])), end="")
         of, kit = (subprocess.run(words, cwd=ROOT, capture_output=True, text=True).stdout.strip() for words in (["git", "rev-parse", "--short=12", "HEAD"], ["rt", "version"]))
         print(f"pages.py: {clone.count} commands do what their pages say, in a fresh clone of {of}, with {kit}.")
     finally:

@@ -124,10 +124,10 @@ class Page:
             self.log.communicate()
 
 
-HERE, BARE, PAGES, GATE = "this script", "make bare", "make pages", "make test"
+HERE, BARE, PAGES, LONG, GATE = "readme.py", "make bare", "make pages", "pages.py --long", "make test"
 # What isn't run by a test, and why.
-NET, KEY, USERS, HAND, ANY = "the net", "a key of somebody's witness", "users, or a token, of an operator's own", "a quarter of an hour or more", "a crate's name"
-NOT_RUN = (NET, KEY, USERS, HAND, ANY)
+NET, KEY, USERS, ANY = "the net", "a key of somebody's witness", "users, or a token, of an operator's own", "a crate's name"
+NOT_RUN = (NET, KEY, USERS, ANY)
 # The commands of the other pages, each by how it begins, and what runs it.
 ELSEWHERE = {
     "docs/OPERATING.md": {"": BARE},
@@ -143,8 +143,8 @@ ELSEWHERE = {
 # What the pages name in their text, README.md's tables too.
 TARGETS = {
     "make test": GATE, "make test TURN=0": GATE, "make sources": GATE, "make service-test": GATE, "make bare": "itself", "make container": "itself", "make pages": "itself", "make wrong CRATE=..": ANY,
-    "make service-faults": HAND, "make service-race": HAND, "make load": HAND, "make sweep": HAND, "make fuzz SECONDS=180": HAND,
-    **dict.fromkeys(("make serve", "make demo", "make install", "make check", "make wrong CRATE=ct_guard", "make release", "make programs", "make link", "make service", "make service-clients",
+    **dict.fromkeys(("make check", "make wrong CRATE=ct_guard", "make service-race", "make service-faults", "make load", "make sweep", "make fuzz SECONDS=180"), LONG),
+    **dict.fromkeys(("make serve", "make demo", "make install", "make release", "make programs", "make link", "make service", "make service-clients",
                      "make service-engines", "make serve-witness", "make serve-ctlogd", "make interop", "make cluster", "make fuzz", "make reproduce", "make demo install"), PAGES),
 }
 
