@@ -1,12 +1,12 @@
 -- What is in the grammar is read.
-use Rattle.std.proofs.Common.{◌≡◌, ◌<◌, ◌≤◌, ℕ, zero, suc, Bool, true, false, cond, eqb, List, [], ◌∷◌, ◌++◌, length, Option, Some, None, Result, Ok, Err, refl, sym, ap, subst, ◌∙◌, inl, inr, arith}
-use Rattle.std.proofs.lemmas.Bool.{ne_eqb}
+use Rattle.std.proofs.Common.{◌≡◌, ◌<◌, ◌≤◌, ℕ, zero, suc, Bool, true, false, cond, List, [], ◌∷◌, ◌++◌, length, Option, Some, None, Result, Ok, Err, refl, sym, ap, subst, ◌∙◌, inl, inr, arith}
 use Rattle.std.proofs.lemmas.List.{append-nil, length-append}
 use Rattle.ct_der.specs.declared.fault.DerFault.TheVariants.{Truncated}
 use Rattle.ct_der.specs.Element.{IsTlv}
 use Rattle.ct_der.specs.Reading.{◌>>=◌, element_at, expected_at, only_at, optional_at}
 use Rattle.ct_der.proofs.Elements.{elements_are_read}
 use Rattle.ct_der.proofs.Prefixes.{beginnings_are_truncated}
+use Rattle.ct_der.proofs.Readings.{NotFirst, absent, expected_here, only_here, other_first, present, some_bytes}
 use Rattle.ct_names.specs.declared.fault.Place.TheVariants as at
 use Rattle.ct_names.specs.declared.fault.Unread.{Unread}
 use Rattle.ct_names.specs.Names.{Named, is_alt}
@@ -15,38 +15,8 @@ use Rattle.ct_names.specs.Certificate.{names_in_all, text_of_all, Each, Many, Is
 use Rattle.ct_names.specs.Laws.{CertificatesAreRead, BareCertificatesAreRead, CertificatesHaveOneReading, BeginningsAreRefused, BareBeginningsAreRefused}
 use Rattle.ct_names.proofs.Loops.{Item, next}
 
-same_tag : (n : ℕ) → eqb n n ≡ true
-same_tag n = grind arith
-
 element_end : (tag : ℕ) (c x : List ℕ) → IsTlv tag c x → element_at x ≡ Ok (tag, c, [])
 element_end tag c x is = ap element_at (sym (append-nil x)) ∙ elements_are_read tag c x [] is
-
-expected_here : (tag : ℕ) (c x r : List ℕ) → IsTlv tag c x → expected_at tag (x ++ r) ≡ Ok (c, r)
-unfolding expected_at
-expected_here tag c x r is = rw (elements_are_read tag c x r is, same_tag tag) refl
-
-only_here : (tag : ℕ) (c x : List ℕ) → IsTlv tag c x → only_at tag x ≡ Ok c
-unfolding only_at
-only_here tag c x is =
-    let e : expected_at tag x ≡ Ok (c, []) = ap (expected_at tag) (sym (append-nil x)) ∙ expected_here tag c x [] is in
-    rw e refl
-
--- the bytes don't begin with this tag
-abbrev NotFirst : ℕ → List ℕ → Type 0
-NotFirst tag [] = Unit {0}
-NotFirst tag (x ∷ b) = x ≡ tag → ⊥
-
-absent : (tag : ℕ) (r : List ℕ) → NotFirst tag r → optional_at tag r ≡ Ok (None, r)
-unfolding optional_at
-absent tag [] h = refl
-absent tag (x ∷ b) h = rw (ne_eqb x tag h) refl
-
-present : (tag : ℕ) (c x r : List ℕ) → IsTlv tag c x → optional_at tag (x ++ r) ≡ Ok (Some c, r)
-unfolding optional_at
-present tag c x r is =
-    let first : x ++ r ≡ tag ∷ ((is.size ++ c) ++ r) = ap (λ (y : List ℕ). y ++ r) is.text in
-    let read : expected_at tag (tag ∷ ((is.size ++ c) ++ r)) ≡ Ok (c, r) = ap (expected_at tag) (sym first) ∙ expected_here tag c x r is in
-    ap (optional_at tag) first ∙ rw (same_tag tag, read) refl
 
 -- what is there of an optional element, and what follows
 abbrev Passed : ℕ → List ℕ → List ℕ → Type 0
@@ -56,13 +26,7 @@ optional_here : (tag : ℕ) (x r : List ℕ) → IsOptional tag x → NotFirst t
 optional_here tag x r (inl e) other = (None, ap (λ (y : List ℕ). optional_at tag (y ++ r)) e ∙ absent tag r other)
 optional_here tag x r (inr is) other = (Some is.0, present tag is.0 x r is.1)
 
-other_first : (tag t : ℕ) (c x r : List ℕ) → IsTlv t c x → (t ≡ tag → ⊥) → NotFirst tag (x ++ r)
-other_first tag t c x r is other = subst (λ (y : List ℕ). NotFirst tag (y ++ r)) (sym is.text) other
-
 -- ---- items
-
-pub some_bytes : (tag : ℕ) (c x : List ℕ) → IsTlv tag c x → 0 < length x
-some_bytes tag c x is = let e = ap length is.text in omega (arith, e)
 
 each_here : (item : Item) (Is : List Named → List ℕ → Type 0) → ((ns : List Named) (x r : List ℕ) → Is ns x → item (x ++ r) ≡ Ok (ns, r))
     → ((ns : List Named) (x : List ℕ) → Is ns x → 0 < length x) → (L : List (List Named × List ℕ)) (n : ℕ) → length (text_of_all L) ≤ n → Each Is L

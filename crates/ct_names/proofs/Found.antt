@@ -1,14 +1,14 @@
 -- What is read is in the grammar.
-use Rattle.std.proofs.Common.{◌≡◌, ◌<◌, ◌≤◌, ◌+◌, ℕ, zero, suc, Bool, true, false, cond, eqb, List, [], ◌∷◌, ◌++◌, length, take, drop, Option, Some, None, Result, Ok, Err, refl, sym, ap, subst, ◌∙◌, ◌⊎◌, inl, inr, arith}
-use Rattle.std.proofs.lemmas.Bool.{eqb-true, cases_lt}
-use Rattle.std.proofs.lemmas.List.{append-nil, length-append, nil_from_length, get_or-drop, get_or-take, get_or_past, length-take}
-use Rattle.std.proofs.Math.Seq.{take-append_seam, drop-append_seam}
+use Rattle.std.proofs.Common.{◌≡◌, ◌<◌, ◌≤◌, ℕ, zero, suc, Bool, true, false, cond, eqb, List, [], ◌∷◌, ◌++◌, length, Option, Result, Ok, Err, refl, sym, ap, subst, ◌∙◌, inl, inr, arith}
+use Rattle.std.proofs.lemmas.Bool.{eqb-true}
+use Rattle.std.proofs.lemmas.List.{append-nil, length-append, nil_from_length}
 use Rattle.ct_der.specs.declared.fault.DerFault.{DerFault}
 use Rattle.ct_der.specs.declared.fault.DerFault.TheVariants.{OtherTag, Trailing}
 use Rattle.ct_der.specs.Element.{IsTlv}
 use Rattle.ct_der.specs.Reading.{◌>>=◌, element_at, expected_at, only_at, optional_at}
 use Rattle.ct_der.specs.Laws.{IsBytes}
 use Rattle.ct_der.proofs.Elements.{read_elements_are_there, bind_ok}
+use Rattle.ct_der.proofs.Readings.{Front, Whole, bytes_behind, bytes_before, content_bytes, expected_found, only_found, optional_found, one_ok, some_bytes}
 use Rattle.ct_names.specs.declared.fault.Place.{Place}
 use Rattle.ct_names.specs.declared.fault.Place.TheVariants as at
 use Rattle.ct_names.specs.declared.fault.Unread.{Unread}
@@ -16,35 +16,7 @@ use Rattle.ct_names.specs.Names.{Named, is_alt, is_bad_alt, is_bad_common, alt_o
 use Rattle.ct_names.specs.Reading.{placed, each, all_of, alt_at, attribute_at, rdn_at, extension_at, extensions_at, front_at, behind_at, parts_at, tbs_at, tbs_names, certificate_names, bare_names}
 use Rattle.ct_names.specs.Certificate.{Many, IsOptional, IsField, IsAltName, IsAttribute, IsRdn, IsValue, IsExtension, AreExtensions, IsTbs, BareNamesOf}
 use Rattle.ct_names.specs.Laws.{ReadCertificatesAreThere}
-use Rattle.ct_names.proofs.Again.{some_bytes}
 use Rattle.ct_names.proofs.Loops.{Item}
-
-bytes_behind : (x r : List ℕ) → IsBytes (x ++ r) → IsBytes r
-bytes_behind x r h =
-    let all : IsBytes (drop (length x) (x ++ r)) = λ i. rw get_or-drop (h (length x + i)) in
-    subst IsBytes (drop-append_seam x r) all
-
-bytes_before : (x r : List ℕ) → IsBytes (x ++ r) → IsBytes x
-bytes_before x r h =
-    let all : IsBytes (take (length x) (x ++ r)) = λ i. elim (cases_lt i (length x)) [
-      | inl lt ↦ rw (get_or-take (length x) (x ++ r) i 0 lt) (h i)
-      | inr le ↦ rw (get_or_past (take (length x) (x ++ r)) i 0 (omega (arith, length-take (length x) (x ++ r), le))) (omega arith)
-    ] in
-    subst IsBytes (take-append_seam x r) all
-
-tail_bytes : (a : ℕ) (x : List ℕ) → IsBytes (a ∷ x) → IsBytes x
-tail_bytes a x h i = h (suc i)
-
-content_bytes : (tag : ℕ) (c x : List ℕ) → IsTlv tag c x → IsBytes x → IsBytes c
-content_bytes tag c x is h = bytes_behind is.size c (tail_bytes tag (is.size ++ c) (subst IsBytes is.text h))
-
--- an element in front, what follows it, and that all are bytes
-pub record Front (tag : ℕ) (b c r : List ℕ) : Type 0 where
-  pub x : List ℕ
-  pub is : IsTlv tag c x
-  pub text : b ≡ x ++ r
-  pub inner : IsBytes c
-  pub rest : IsBytes r
 
 element_found : (b c r : List ℕ) (tag : ℕ) → IsBytes b → element_at b ≡ Ok (tag, c, r) → Front tag b c r
 element_found b c r tag fits e =
@@ -52,64 +24,10 @@ element_found b c r tag fits e =
     let h : IsBytes (f.0 ++ r) = subst IsBytes f.2 fits in
     record { x = f.0; is = f.1; text = f.2; inner = content_bytes tag c f.0 f.1 (bytes_before f.0 r h); rest = bytes_behind f.0 r h }
 
-chosen_ok : {A F : Type 0} (b : Bool) (d : F) (x : A) (y : A) (r : Result A F) → r ≡ cond b (Ok x) (Err d) → r ≡ Ok y → (b ≡ true) × (x ≡ y)
-chosen_ok true d x y r e f = (refl, cc)
-chosen_ok false d x y r e f = absurd cc
-
-expected_found : (tag : ℕ) (b : List ℕ) (v : List ℕ × List ℕ) → IsBytes b → expected_at tag b ≡ Ok v → Front tag b v.0 v.1
-unfolding expected_at
-expected_found tag b v fits e =
-    let a = bind_ok (element_at b) (λ e. cond (eqb e.0 tag) (Ok (e.1, e.2)) (Err OtherTag)) v e in
-    let g = chosen_ok (eqb a.0.0 tag) OtherTag (a.0.1, a.0.2) v (cond (eqb a.0.0 tag) (Ok (a.0.1, a.0.2)) (Err OtherTag)) refl a.2 in
-    let front = element_found b a.0.1 a.0.2 a.0.0 fits a.1 in
-    subst (λ (p : List ℕ × List ℕ). Front tag b p.0 p.1) g.1 (subst (λ (t : ℕ). Front t b a.0.1 a.0.2) (eqb-true a.0.0 tag g.0) front)
-
--- the element that the bytes are
-pub record Whole (tag : ℕ) (b c : List ℕ) : Type 0 where
-  pub is : IsTlv tag c b
-  pub inner : IsBytes c
-
 whole_of : (tag : ℕ) (b c r : List ℕ) → Front tag b c r → length r ≡ 0 → Whole tag b c
 whole_of tag b c r f none =
     let same : b ≡ f.x = f.text ∙ ap (λ (y : List ℕ). f.x ++ y) (nil_from_length r none) ∙ append-nil f.x in
     record { is = subst (λ (y : List ℕ). IsTlv tag c y) (sym same) f.is; inner = f.inner }
-
-only_found : (tag : ℕ) (b c : List ℕ) → IsBytes b → only_at tag b ≡ Ok c → Whole tag b c
-unfolding only_at
-only_found tag b c fits e =
-    let a = bind_ok (expected_at tag b) (λ e. cond (eqb (length e.1) 0) (Ok e.0) (Err Trailing)) c e in
-    let g = chosen_ok (eqb (length a.0.1) 0) Trailing a.0.0 c (cond (eqb (length a.0.1) 0) (Ok a.0.0) (Err Trailing)) refl a.2 in
-    subst (λ (y : List ℕ). Whole tag b y) g.1 (whole_of tag b a.0.0 a.0.1 (expected_found tag b a.0 fits a.1) (eqb-true (length a.0.1) 0 g.0))
-
--- an optional element, and what follows it
-pub record Maybe (tag : ℕ) (b r : List ℕ) : Type 0 where
-  pub x : List ℕ
-  pub is : IsOptional tag x
-  pub text : b ≡ x ++ r
-  pub rest : IsBytes r
-
-if_here : {A F : Type 0} (b : Bool) (p q : Result A F) (y : A) → cond b p q ≡ Ok y → ((b ≡ true) × (p ≡ Ok y)) ⊎ ((b ≡ false) × (q ≡ Ok y))
-if_here true p q y e = inl (refl, e)
-if_here false p q y e = inr (refl, e)
-
-one_ok : {A F : Type 0} (x y : A) (r : Result A F) → r ≡ Ok x → r ≡ Ok y → x ≡ y
-one_ok x y r p q = cc
-
-nothing_there : (tag : ℕ) (b : List ℕ) → IsBytes b → Maybe tag b b
-nothing_there tag b fits = record { x = []; is = inl refl; text = refl; rest = fits }
-
-optional_found : (tag : ℕ) (b : List ℕ) (v : Option (List ℕ) × List ℕ) → IsBytes b → optional_at tag b ≡ Ok v → Maybe tag b v.1
-unfolding optional_at
-optional_found tag [] v fits e =
-    subst (λ (p : Option (List ℕ) × List ℕ). Maybe tag [] p.1) (one_ok (None, []) v (optional_at tag []) refl e) (nothing_there tag [] fits)
-optional_found tag (x ∷ b) v fits e =
-    elim (if_here (eqb x tag) (expected_at tag (x ∷ b) >>= λ e. Ok (Some e.0, e.1)) (Ok (None, x ∷ b)) v e) [
-      | inl p ↦ (let a = bind_ok (expected_at tag (x ∷ b)) (λ e. Ok (Some e.0, e.1)) v p.1 in
-          let f = expected_found tag (x ∷ b) a.0 fits a.1 in
-          subst (λ (p : Option (List ℕ) × List ℕ). Maybe tag (x ∷ b) p.1) (one_ok (Some a.0.0, a.0.1) v (Ok (Some a.0.0, a.0.1)) refl a.2)
-          (record { x = f.x; is = inr (a.0.0, f.is); text = f.text; rest = f.rest }))
-      | inr p ↦ subst (λ (p : Option (List ℕ) × List ℕ). Maybe tag (x ∷ b) p.1) (one_ok (None, x ∷ b) v (Ok (None, x ∷ b)) refl p.1) (nothing_there tag (x ∷ b) fits)
-    ]
 
 placed_ok : {X : Type 0} (p : Place) (r : Result X DerFault) (x : X) → placed p r ≡ Ok x → r ≡ Ok x
 placed_ok p (Ok y) x e = cc

@@ -1,8 +1,9 @@
 -- Laws of certificates' names.
-use Rattle.std.specs.Prelude.{◌≡◌, ◌<◌, ◌++◌, ℕ, List, length, Ok, Err}
+use Rattle.std.specs.Prelude.{◌≡◌, ◌<◌, ◌++◌, ℕ, List, length, false, Ok, Err}
 use Rattle.ct_der.specs.declared.fault.DerFault.TheVariants.{Truncated}
 use Rattle.ct_names.specs.declared.fault.Place.TheVariants as at
-use Rattle.ct_names.specs.Names.{Named}
+use Rattle.ct_tbs_cut.specs.Tbs.{Parts, IsParted, IsWithout, IsTbsOf}
+use Rattle.ct_names.specs.Names.{Named, is_alt}
 use Rattle.ct_names.specs.Reading.{certificate_names, bare_names}
 use Rattle.ct_der.specs.Laws.{IsBytes}
 use Rattle.std.specs.Bool.{Decides}
@@ -40,3 +41,13 @@ CoveringIsByLabels = (name watched : List ℕ) → Decides (covered name watched
 -- What is read as a certificate is one of the grammar, with these names.
 abbrev pub ReadCertificatesAreThere : Type 0
 ReadCertificatesAreThere = (ns : List Named) (b : List ℕ) → IsBytes b → certificate_names b ≡ Ok ns → NamesOf ns b
+
+-- A TBSCertificate of which one extension is cut out that isn't subjectAltName has the names that it had.
+abbrev pub NamesStayUnderTheCut : Type 0
+NamesStayUnderTheCut =
+    (identifier : List ℕ) (p : Parts) (b c : List ℕ) (ns : List Named) → is_alt identifier ≡ false → IsParted identifier p b → IsWithout p c
+    → BareNamesOf ns b → BareNamesOf ns c
+
+-- A certificate has the names of its TBSCertificate.
+abbrev pub NamesAreOfTheTbs : Type 0
+NamesAreOfTheTbs = (tbs b : List ℕ) (ns : List Named) → IsTbsOf tbs b → NamesOf ns b → BareNamesOf ns tbs

@@ -1,6 +1,6 @@
 //! Laws of names, each the contract of a function that does nothing.
 
-ghost use Rattle.ct_names.specs.Laws.{CertificatesAreRead, BareCertificatesAreRead, CertificatesHaveOneReading, BeginningsAreRefused, BareBeginningsAreRefused, CoveringIsByLabels, ReadCertificatesAreThere};
+ghost use Rattle.ct_names.specs.Laws.{CertificatesAreRead, BareCertificatesAreRead, CertificatesHaveOneReading, BeginningsAreRefused, BareBeginningsAreRefused, CoveringIsByLabels, ReadCertificatesAreThere, NamesStayUnderTheCut, NamesAreOfTheTbs};
 
 /// The names of each certificate of the grammar are read (RFC 5280, section 4.1).
 pub fn certificates_are_read()
@@ -35,4 +35,11 @@ pub fn covering_is_by_labels()
 /// What is read as a certificate is one of the grammar, with these names.
 pub fn read_certificates_are_there()
     ensures { ReadCertificatesAreThere }
+{}
+
+/// A certificate has the names of its TBSCertificate, and this has them still where one extension is cut out of it that isn't subjectAltName (RFC
+/// 6962, section 3.2): so the names that are found in an entry of a precertificate are those of the certificate.
+pub fn names_stay_under_the_cut()
+    ensures stay { NamesStayUnderTheCut }
+    ensures whole { NamesAreOfTheTbs }
 {}

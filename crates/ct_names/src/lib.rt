@@ -6,7 +6,8 @@
 //! - [`covers`] says whether a name is a watched one, is below it, or is a wildcard that stands for it, by labels.
 //! - [`find_watched`] says in which of a certificate's names a watched one is found, alone (`www.example.org`) or with what is below it
 //!   (`.example.org`).
-//! - [`laws`] shows that no bytes have two readings, and that each proper beginning of a certificate is refused.
+//! - [`laws`] shows that no bytes have two readings, that each proper beginning of a certificate is refused, and that names stay where another
+//!   extension than subjectAltName is cut out, as in an entry of a precertificate.
 //!
 //! Moments, keys, signatures, the order of a SET and the characters of strings aren't looked at: more is read than DER allows.
 #![tactic(auto)]
