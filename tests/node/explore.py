@@ -5,7 +5,7 @@
 
 A history is a world in which commands come late, twice or never, nodes are killed, told twice, or go on from what they were before, and readings are
 old. Of the right machine each history has to stay sound, and at its end a node that starts has to publish the newest state; each wrong machine has to be
-found out by the clause that it breaks. With a program, the right machine is that program, asked by lines (lines.py). It prints a line for each
+found out by the clause that it breaks, and so has a store in which a place is missing. With a program, the right machine is that program, asked by lines (lines.py). It prints a line for each
 machine, and ends with status 1 where one isn't as it should be.
 """
 import argparse
@@ -28,6 +28,8 @@ class State(typing.NamedTuple):
 READING = ("Reading",)
 FIRST = State(1, 0, 0)
 STEPS = 150
+# So many identities wait, again and again.
+IDENTITIES = 12
 
 
 def count(state):
@@ -147,7 +149,9 @@ WRONG = {
 class World:
     """What stands, and which commands were given and came."""
 
-    def __init__(self):
+    def __init__(self, forgets=False):
+        self.forgets = forgets
+        self.identities = {FIRST: frozenset({0})}
         self.held, self.past = FIRST, [FIRST]
         self.bundles, self.heads, self.places = {FIRST}, {FIRST}, {FIRST}
         self.answered, self.promised, self.objects = set(), set(), set()
@@ -181,8 +185,13 @@ class World:
             self.objects.add((node[1], chance.randrange(node[2])))
 
     def steps(self, chance, seen):
-        """A step that is made of a state, with any moments."""
+        """A step that is made of a state, with any moments, of identities for which no place was found; none where that state is of others."""
         new = State(seen.moment + chance.choice((0, 1, 2)), seen.moment - (chance.random() < 0.2), chance.choice((0, 1)))
+        places = [] if self.forgets and chance.random() < 0.5 else self.places
+        found = set().union(*(self.identities[state] for state in places))
+        some = frozenset(it for it in range(IDENTITIES) if it not in found and chance.random() < 0.3)
+        if self.identities.setdefault(new, some) & found:
+            return ("Lost",)
         self.made.add((seen, new))
         return ("Stepped", new, count(new))
 
@@ -233,6 +242,8 @@ class World:
             return "answered"
         if not self.promised <= set(past):
             return "promised"
+        if sum(len(self.identities[state]) for state in past) > len(set().union(*(self.identities[state] for state in past))):
+            return "others"
         return None if held in self.bundles else "bundle"
 
     def fault_of_all(self):
@@ -262,9 +273,9 @@ class World:
         return False
 
 
-def history(chance, machine):
+def history(chance, machine, forgets):
     """A history: the clause that doesn't hold behind it, or none, and the world."""
-    world = World()
+    world = World(forgets)
     for _ in range(STEPS):
         # (what was given last is likelier than what was given long ago)
         node = chance.choice(world.sent[-4:] if chance.random() < 0.8 else world.sent)
@@ -279,11 +290,11 @@ def history(chance, machine):
     return fault, world
 
 
-def histories(machine, seed, number):
+def histories(machine, seed, number, forgets=False):
     """How often each clause didn't hold, and how many histories answered somebody."""
     found, answered = Counter(), 0
     for at in range(number):
-        fault, world = history(random.Random(f"{seed} {at}"), machine)
+        fault, world = history(random.Random(f"{seed} {at}"), machine, forgets)
         found[fault] += 1
         answered += bool(world.answered or world.promised)
     return found, answered
@@ -299,12 +310,12 @@ def main():
     found, answered = histories(machine, words.seed, words.histories)
     print(f"the right machine: sound in {found.pop(None, 0)} of {words.histories} histories, of which {answered} answered somebody")
     missed = [f"the right machine breaks {clause}" for clause in found] + ["no history of the right machine answered anybody"] * (not answered)
-    for name, (clause, machine) in WRONG.items():
-        found, _ = histories(machine, words.seed, words.histories)
+    for name, (clause, machine) in [*WRONG.items(), ("a place is missing", ("others", Machine()))]:
+        found, _ = histories(machine, words.seed, words.histories, forgets=clause == "others")
         sound = found.pop(None, 0)
         print(f"{name}: {', '.join(f'{which} in {times}' for which, times in found.most_common())}, sound in {sound}")
         if not found[clause]:
-            missed.append(f"the machine '{name}' isn't found out by the clause {clause}")
+            missed.append(f"'{name}' isn't found out by the clause {clause}")
     for fault in missed:
         print(f"explore.py: {fault}", file=sys.stderr)
     sys.exit(1 if missed else 0)

@@ -60,6 +60,11 @@ MACHINES = {
         ("on_staging k l n Done = Swapping k l n", "on_staging k l n Done = Promising l n"),
         ("(Node::Staging(seen, new, count), Outcome::Done) => Node::Swapping(seen, new, count)", "(Node::Staging(_, new, count), Outcome::Done) => Node::Promising(new, count)"),
     ),
+    "places given up taken as added": (
+        "tell_placing",
+        ("on_placing l Lost = Reading", "on_placing l Lost = Heading l"),
+        ("(Node::Placing(_), Outcome::Lost) => Node::Reading", "(Node::Placing(taken), Outcome::Lost) => Node::Heading(taken)"),
+    ),
     "lost swap taken as won": (
         "tell_swapping",
         ("on_swapping k l n Lost = Reading", "on_swapping k l n Lost = Putting l n"),

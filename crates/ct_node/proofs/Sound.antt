@@ -7,18 +7,18 @@ use Rattle.ct_node.specs.declared.node.Node.TheVariants.{Reading, Looking, Stepp
 use Rattle.ct_node.specs.declared.node.Outcome.{Outcome}
 use Rattle.ct_node.specs.declared.node.Outcome.TheVariants.{Done, Promise, Lost, Read, Published, Bundle, Stepped, Listed}
 use Rattle.ct_node.specs.Nodes.{after, follows, is_behind, on_reading, on_looking, on_stepping, on_staging, on_swapping, on_promising, on_deleting, on_putting, on_placing, on_heading, on_answering}
-use Rattle.ct_node.specs.Worlds.{Has, Object, Made, World, beginning, Happening, Comes, Makes, Puts, Goes, Told, IsChain, PastsAreChains, StepsFindAll, CanBePublished, comes, happens, MayCome, MayBeTold, MayHappen, LeadTo, IsSoundWorld, IsFirstState, WorldsAreSound, HeadsAreWhole, NamesHaveOneContent}
+use Rattle.ct_node.specs.Worlds.{Has, Object, Made, World, beginning, Happening, Comes, Makes, Puts, Goes, Told, IsChain, PastsAreChains, StepsFindAll, CanBePublished, comes, happens, MayCome, MayBeTold, MayHappen, LeadTo, IsSoundWorld, IsFirstState, WorldsAreSound, HeadsAreWhole, NamesHaveOneContent, HoldsNewest}
 
 -- the object at a place of a state's bundle
-abbrev at : State → ℕ → Object
+abbrev pub at : State → ℕ → Object
 at l i = record { state = l; index = i }
 
 -- a step
-abbrev step : State → State → Made
+abbrev pub step : State → State → Made
 step k l = record { seen = k; new = l }
 
 -- ---- chains
-IsNewest : State → List State → Type 0
+pub IsNewest : State → List State → Type 0
 IsNewest h [] = ⊥
 IsNewest h (l ∷ rest) = h ≡ l
 
@@ -75,24 +75,24 @@ same_state l k e =
 
 module _ (count : State → ℕ) (b : State) where
   -- the state isn't the newest one and never will be
-  abbrev Dead : World → State → Type 0
+  abbrev pub Dead : World → State → Type 0
   Dead w l = (l ≡ w.held → ⊥) × (l.before < w.held.moment)
 
   -- the first objects of the state stand
-  abbrev Out : World → State → ℕ → Type 0
+  abbrev pub Out : World → State → ℕ → Type 0
   Out w l n = (i : ℕ) → i < n → Has (at l i) w.objects
 
-  abbrev Rolled : World → State → Type 0
+  abbrev pub Rolled : World → State → Type 0
   Rolled w k = Has k w.past × Has k w.heads
 
-  abbrev May : State → State → Type 0
+  abbrev pub May : State → State → Type 0
   May k l = (l.before ≡ k.moment) × (k.moment < l.moment)
 
-  abbrev Stands : World → State → Type 0
+  abbrev pub Stands : World → State → Type 0
   Stands w l = Has l w.bundles ⊎ Dead w l
 
   -- what holds of a command that was given
-  abbrev Knows : World → Node → Type 0
+  abbrev pub Knows : World → Node → Type 0
   Knows w Reading = ⊤
   Knows w (Looking k) = Has k w.past
   Knows w (Stepping k) = Rolled w k
@@ -106,7 +106,7 @@ module _ (count : State → ℕ) (b : State) where
   Knows w (Answering l) = Has l w.heads
 
   -- what holds of a command that came
-  abbrev Did : World → Node → Type 0
+  abbrev pub Did : World → Node → Type 0
   Did w (Staging k l n) = Stands w l
   Did w (Swapping k l n) = Has l w.past
   Did w (Putting l n) = Out w l n
@@ -151,14 +151,14 @@ module _ (count : State → ℕ) (b : State) where
   did_on w v (Answering l) g k = tt
 
   -- what is kept
-  record Kept (w : World) : Type 0 where
-    sound : IsSoundWorld count w
-    newest : Has w.held w.past
-    top : IsNewest w.held w.past
-    reads : Has Reading w.sent
-    chain : IsChain b w.made w.past
-    sent : (s : Node) → Has s w.sent → Knows w s
-    came : (s : Node) → Has s w.came → Did w s
+  pub record Kept (w : World) : Type 0 where
+    pub sound : IsSoundWorld count w
+    pub newest : Has w.held w.past
+    pub top : IsNewest w.held w.past
+    pub reads : Has Reading w.sent
+    pub chain : IsChain b w.made w.past
+    pub sent : (s : Node) → Has s w.sent → Knows w s
+    pub came : (s : Node) → Has s w.came → Did w s
 
   -- ---- a node goes on
   tell_reading : (w : World) (o : Outcome) → Kept w → MayBeTold count w Reading o → Knows w (on_reading o)
@@ -687,14 +687,14 @@ module _ (count : State → ℕ) (b : State) where
         came = λ x h. did_on w v x g (a.came x h);
       }
 
-  keep : (w : World) (h : Happening) → Kept w → MayHappen count w h → Kept (happens w h)
+  pub keep : (w : World) (h : Happening) → Kept w → MayHappen count w h → Kept (happens w h)
   keep w (Comes s) a m = come w s a (a.sent s m.0) m.1
   keep w (Makes k l) a m = makes w k l a
   keep w (Puts l n i) a m = puts w l n i a m
   keep w (Goes k l left) a m = goes w k l left a m
   keep w (Told s o) a m = told w s o a m
 
-  begin : IsFirstState count b → Kept (beginning b)
+  pub begin : IsFirstState count b → Kept (beginning b)
   begin i =
       record {
         sound =
@@ -779,7 +779,7 @@ pub worlds_are_sound : WorldsAreSound
 worlds_are_sound count b hs w i m = (led count b (beginning b) hs w (begin count b i) m).sound
 
 -- what has a published head, and what came before it
-before_head : (count : State → ℕ) (w : World) (l n : State) → IsSoundWorld count w → Has l w.heads → Has n w.past → n.moment ≤ l.moment → Has n w.heads
+pub before_head : (count : State → ℕ) (w : World) (l n : State) → IsSoundWorld count w → Has l w.heads → Has n w.past → n.moment ≤ l.moment → Has n w.heads
 before_head count w l n s head past order =
     ⊎_elim
     (λ (e : n ≡ w.held).
@@ -804,6 +804,14 @@ steps_find_all count b hs w i m k l sent past order =
 
 pub pasts_are_chains : PastsAreChains
 pasts_are_chains count b hs w i m = (led count b (beginning b) hs w (begin count b i) m).chain
+
+newest_first : (h : State) (past : List State) → IsNewest h past → (rest : List State) × (past ≡ h ∷ rest)
+unfolding IsNewest
+newest_first h [] n = absurd n
+newest_first h (l ∷ rest) n = (rest, ap (λ z. z ∷ rest) (sym n))
+
+pub holds_newest : HoldsNewest
+holds_newest count b hs w i m = newest_first w.held w.past (led count b (beginning b) hs w (begin count b i) m).top
 
 pub names_have_one_content : NamesHaveOneContent
 names_have_one_content count b hs w i m plan agree o p ho hp same =

@@ -187,6 +187,12 @@ PastsAreChains =
     (count : State → ℕ) (b : State) (hs : List Happening) (w : World) → IsFirstState count b → LeadTo count (beginning b) hs w
     → IsChain b w.made w.past
 
+-- the register holds the newest of the states that it took
+abbrev pub HoldsNewest : Type 0
+HoldsNewest =
+    (count : State → ℕ) (b : State) (hs : List Happening) (w : World) → IsFirstState count b → LeadTo count (beginning b) hs w
+    → (rest : List State) × (w.past ≡ w.held ∷ rest)
+
 -- who has a step made from a state finds the places of all entries of it and of the states before it, and all their objects
 abbrev pub StepsFindAll : Type 0
 StepsFindAll =

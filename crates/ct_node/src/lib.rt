@@ -11,11 +11,15 @@
 //!
 //! The premises are the definition `MayHappen`: a command comes only if it was given; the register takes a state only in place of the one that it
 //! holds; what is deleted is that bundle and no other; and nobody is told what isn't so.
+//!
+//! [`start`] says whether a node that starts goes on from what the register has, and [`show`] which head it shows ([`laws::starts`]).
 #![tactic(auto)]
 
 pub mod laws;
 mod node;
+mod starting;
 mod state;
 
 pub use node::{Node, Outcome};
+pub use starting::{Beginning, Found, Other, Point, show, start};
 pub use state::State;

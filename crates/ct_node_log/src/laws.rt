@@ -2,6 +2,7 @@
 
 ghost use Rattle.ct_node_log.specs.Logs.{NodesWriteOneLog};
 ghost use Rattle.ct_node_log.specs.Names.{StepsHaveOneContent};
+ghost use Rattle.ct_node_log.specs.Once.{NodesAddOnce};
 
 /// Whatever becomes of the commands of any number of nodes, where their steps are `take_step`'s and what they put of a state is `resume`'s of
 /// its line, and of any bytes: there is one list of entries. The line of each state that the register took is that of a beginning of it. Each
@@ -22,4 +23,14 @@ pub fn names()
 {
     ct_tiles::laws::tiles();
     ct_tile_names::laws::names();
+}
+
+/// Whatever becomes of the commands of any number of nodes, where who waits is looked up before each step, and no place is missing of those that
+/// were added: the register's line is that of a log which begins with the entries that were known, and has behind these no identity that
+/// stands before. Or two different strings with one digest are given.
+pub fn no_identity_twice()
+    ensures { NodesAddOnce }
+{
+    ct_node::laws::worlds();
+    ct_growth::laws::leaves();
 }
